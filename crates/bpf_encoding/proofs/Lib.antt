@@ -1,0 +1,3 @@
+pub mod NoFault
+pub mod Growing
+pub mod Written

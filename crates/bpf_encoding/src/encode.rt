@@ -1,0 +1,298 @@
+//! From code to bytes.
+
+ghost use Rattle.std.specs.Prelude.{◌≡◌, ◌<◌, ◌≤◌, ◌+◌, ◌*◌, pos, length, IfOk};
+ghost use Rattle.bpf_encoding.specs.Spelling.{number_of, fields, alu_class, jump_class, operation_code, operation_offset, extension_opcode, extension_bits, order_opcode, order_bits, condition_code, size_code, signed_size_code, source_bit, source_register, source_imm, fields_of, place_fields, high_behind, fields_of_code};
+ghost use Rattle.bpf_encoding.specs.Fields.{fields_of_bytes, slots_of};
+ghost use Rattle.bpf_encoding.specs.Viewed.{viewed};
+ghost use Rattle.bpf_encoding.specs.Spells.{Spells};
+
+use crate::code::Code;
+use crate::insn::{
+    ByteOrder, Condition, Extension, Insn, Operation, OrderWidth, Place, Register, SignedSize,
+    Size, Source, Width,
+};
+use crate::slot::Slot;
+use std::alloc::{AllocError, Global};
+
+fn alu_class(width: Width) -> u8
+    ensures { result ≡ alu_class width }
+{
+    match width {
+        Width::Bits32 => 4,
+        Width::Bits64 => 7,
+    }
+}
+
+fn jump_class(width: Width) -> u8
+    ensures { result ≡ jump_class width }
+{
+    match width {
+        Width::Bits32 => 6,
+        Width::Bits64 => 5,
+    }
+}
+
+fn operation_code(operation: Operation) -> u8
+    ensures { result ≡ operation_code operation }
+{
+    match operation {
+        Operation::Add => 0,
+        Operation::Sub => 1,
+        Operation::Mul => 2,
+        Operation::Div | Operation::SignedDiv => 3,
+        Operation::Or => 4,
+        Operation::And => 5,
+        Operation::LeftShift => 6,
+        Operation::RightShift => 7,
+        Operation::Mod | Operation::SignedMod => 9,
+        Operation::Xor => 10,
+        Operation::Mov => 11,
+        Operation::SignedRightShift => 12,
+    }
+}
+
+fn operation_offset(operation: Operation) -> i16
+    ensures { result ≡ operation_offset operation }
+{
+    match operation {
+        Operation::SignedDiv | Operation::SignedMod => 1,
+        _ => 0,
+    }
+}
+
+fn extension_opcode(extension: Extension) -> u8
+    ensures { result ≡ extension_opcode extension }
+{
+    match extension {
+        Extension::Byte64 | Extension::Half64 | Extension::Word64 => 0xbf,
+        Extension::Byte32 | Extension::Half32 => 0xbc,
+    }
+}
+
+fn extension_bits(extension: Extension) -> i16
+    ensures { result ≡ pos (extension_bits extension) }
+{
+    match extension {
+        Extension::Byte64 | Extension::Byte32 => 8,
+        Extension::Half64 | Extension::Half32 => 16,
+        Extension::Word64 => 32,
+    }
+}
+
+fn order_opcode(order: ByteOrder) -> u8
+    ensures { result ≡ order_opcode order }
+{
+    match order {
+        ByteOrder::Little => 0xd4,
+        ByteOrder::Big => 0xdc,
+        ByteOrder::Swap => 0xd7,
+    }
+}
+
+fn order_bits(width: OrderWidth) -> i32
+    ensures { result ≡ pos (order_bits width) }
+{
+    match width {
+        OrderWidth::Order16 => 16,
+        OrderWidth::Order32 => 32,
+        OrderWidth::Order64 => 64,
+    }
+}
+
+fn condition_code(condition: Condition) -> u8
+    ensures { result ≡ condition_code condition }
+{
+    match condition {
+        Condition::Equal => 1,
+        Condition::Greater => 2,
+        Condition::GreaterOrEqual => 3,
+        Condition::AnyBit => 4,
+        Condition::NotEqual => 5,
+        Condition::SignedGreater => 6,
+        Condition::SignedGreaterOrEqual => 7,
+        Condition::Less => 10,
+        Condition::LessOrEqual => 11,
+        Condition::SignedLess => 12,
+        Condition::SignedLessOrEqual => 13,
+    }
+}
+
+fn size_code(size: Size) -> u8
+    ensures { result ≡ size_code size }
+{
+    match size {
+        Size::Word => 0,
+        Size::Half => 1,
+        Size::Byte => 2,
+        Size::Double => 3,
+    }
+}
+
+fn signed_size_code(size: SignedSize) -> u8
+    ensures { result ≡ signed_size_code size }
+{
+    match size {
+        SignedSize::SignedWord => 0,
+        SignedSize::SignedHalf => 1,
+        SignedSize::SignedByte => 2,
+    }
+}
+
+// A slot with these fields, all others 0.
+fn slot(opcode: u8, dst: u8, src: u8, offset: i16, imm: i32) -> Slot
+    ensures { result ≡ record { opcode = opcode; dst = dst; src = src; offset = offset; imm = imm } }
+{
+    Slot {
+        opcode,
+        dst,
+        src,
+        offset,
+        imm,
+    }
+}
+
+fn number(register: Register) -> u8
+    ensures { (result ≡ number_of register) × (result < 16) }
+{
+    register.index() as u8
+}
+
+// The slot of an operation or a jump with two operands.
+fn two_operands(row: u8, dst: Register, source: Source, offset: i16) -> Slot
+    requires { row < 240 }
+    ensures fields { viewed result ≡ fields (row + 8 * source_bit source) (number_of dst) (source_register source) offset (source_imm source) }
+    ensures registers { (result.dst < 16) × (result.src < 16) }
+{
+    match source {
+        Source::Imm(imm) => slot(row, number(dst), 0, offset, imm),
+        Source::Reg(src) => slot(row + 8, number(dst), number(src), offset, 0),
+    }
+}
+
+// The slot of an instruction, of a wide one its first.
+fn slot_of(insn: &Insn) -> Slot
+    ensures fields { viewed result ≡ fields_of insn.now }
+    ensures registers { (result.dst < 16) × (result.src < 16) }
+{
+    match *insn {
+        Insn::Alu {
+            width,
+            operation,
+            dst,
+            source,
+        } => {
+            let row = 16 * operation_code(operation) + alu_class(width);
+            two_operands(row, dst, source, operation_offset(operation))
+        }
+        Insn::Negate { width, dst } => slot(0x80 + alu_class(width), number(dst), 0, 0, 0),
+        Insn::MoveSigned {
+            extension,
+            dst,
+            src,
+        } => slot(
+            extension_opcode(extension),
+            number(dst),
+            number(src),
+            extension_bits(extension),
+            0,
+        ),
+        Insn::Order { order, width, dst } => {
+            slot(order_opcode(order), number(dst), 0, 0, order_bits(width))
+        }
+        Insn::LoadWide { dst, value } => {
+            let low = (value % 0x1_0000_0000) as u32;
+            slot(0x18, number(dst), 0, 0, low.cast_signed())
+        }
+        Insn::Jump { offset } => slot(0x05, 0, 0, offset, 0),
+        Insn::JumpLong { offset } => slot(0x06, 0, 0, 0, offset),
+        Insn::JumpIf {
+            width,
+            condition,
+            dst,
+            source,
+            offset,
+        } => {
+            let row = 16 * condition_code(condition) + jump_class(width);
+            two_operands(row, dst, source, offset)
+        }
+        Insn::Load {
+            size,
+            dst,
+            base,
+            offset,
+        } => slot(
+            0x61 + 8 * size_code(size),
+            number(dst),
+            number(base),
+            offset,
+            0,
+        ),
+        Insn::LoadSigned {
+            size,
+            dst,
+            base,
+            offset,
+        } => slot(
+            0x81 + 8 * signed_size_code(size),
+            number(dst),
+            number(base),
+            offset,
+            0,
+        ),
+        Insn::StoreImm {
+            size,
+            base,
+            offset,
+            imm,
+        } => slot(0x62 + 8 * size_code(size), number(base), 0, offset, imm),
+        Insn::Store {
+            size,
+            base,
+            src,
+            offset,
+        } => slot(
+            0x63 + 8 * size_code(size),
+            number(base),
+            number(src),
+            offset,
+            0,
+        ),
+        Insn::Call { helper } => slot(0x85, 0, 0, 0, helper),
+        Insn::Exit => slot(0x95, 0, 0, 0, 0),
+    }
+}
+
+// The slot of a place; high is the half that a second slot here has.
+fn slot_at(place: &Place, high: u32) -> Slot
+    ensures fields { viewed result ≡ place_fields high place.now }
+    ensures registers { (result.dst < 16) × (result.src < 16) }
+{
+    match place {
+        Place::Insn(insn) => slot_of(insn),
+        Place::Second => slot(0, 0, 0, 0, high.cast_signed()),
+    }
+}
+
+// The half that a second slot behind this place has.
+fn high_behind(place: &Place) -> u32
+    ensures { result ≡ high_behind place.now }
+{
+    match place {
+        Place::Insn(Insn::LoadWide { value, .. }) => (*value / 0x1_0000_0000) as u32,
+        _ => 0,
+    }
+}
+
+/// The bytes that spell the code, eight for each slot (RFC 9669, section 3).
+pub fn encode(alloc: Global, code: &Code) -> Result<Vec<u8>, AllocError>
+    ensures { IfOk result (λ bytes. Spells bytes.items code.now) }
+{
+    let places = code.places();
+    let mut bytes = Vec::with_capacity(alloc, 8 * places.len())?;
+    let mut high = 0;
+    for place in places {
+        bytes.extend_from_slice(&slot_at(place, high).to_bytes())?;
+        high = high_behind(place);
+    }
+    Ok(bytes)
+}
