@@ -1,0 +1,46 @@
+//! Operations on records, and what is said to them.
+
+ghost use Rattle.std.specs.Prelude.{◌≡◌};
+ghost use Rattle.access_slots.specs.Access.{fits};
+
+use crate::slot::{Record, Value};
+
+/// An operation on one record, as a transaction component sends it (Lomet, Fekete, Weikum,
+/// Zwilling, CIDR 2009).
+#[derive(Clone, Copy, Debug, PartialEq, Eq)]
+pub enum Op {
+    Read(Record),
+    Insert(Record, Value),
+    Update(Record, Value),
+    Delete(Record),
+}
+
+/// What is said to an operation.
+#[derive(Clone, Copy, Debug, PartialEq, Eq)]
+pub enum Said {
+    /// The record's value, to a read.
+    Value(Value),
+    /// There is no such record, to a read.
+    Absent,
+    /// The write was performed; with the former value, if there was one.
+    Done(Option<Value>),
+    /// The record is there already, to an insert.
+    Duplicate,
+    /// There is no such record, to an update or a delete.
+    Missing,
+    /// No further record has room, to an insert.
+    NoRoom,
+    /// The number was answered long ago.
+    Old,
+}
+
+/// Whether the answer can be one to the operation. Old is none to any.
+pub fn fits(op: &Op, said: &Said) -> bool
+    ensures { result ≡ fits op.now said.now }
+{
+    match op {
+        Op::Read(_) => matches!(said, Said::Value(_) | Said::Absent),
+        Op::Insert(..) => matches!(said, Said::Done(None) | Said::Duplicate | Said::NoRoom),
+        Op::Update(..) | Op::Delete(_) => matches!(said, Said::Done(Some(_)) | Said::Missing),
+    }
+}

@@ -1,0 +1,37 @@
+//! Records, and the slots by which a procedure declares its accesses.
+
+/// A record's value: 64 bytes.
+pub type Value = [u8; 64];
+
+/// A record's name, ordered by its fields in this order.
+#[derive(Clone, Copy, Debug, PartialEq, Eq, PartialOrd, Ord)]
+pub struct Record {
+    /// The data component that keeps it.
+    pub dc: u16,
+    pub table: u16,
+    pub key: u64,
+}
+
+/// How a record is accessed; Read is the lesser.
+#[derive(Clone, Copy, Debug, PartialEq, Eq, PartialOrd, Ord)]
+pub enum Mode {
+    Read,
+    Write,
+}
+
+/// A record's key: an argument of the call, or fixed.
+#[derive(Clone, Copy, Debug, PartialEq, Eq)]
+pub enum Key {
+    /// The argument of this number, from 0.
+    Arg(u8),
+    Fixed(u64),
+}
+
+/// A declared access: the record that a call names with its arguments.
+#[derive(Clone, Copy, Debug, PartialEq, Eq)]
+pub struct Slot {
+    pub mode: Mode,
+    pub dc: u16,
+    pub table: u16,
+    pub key: Key,
+}
