@@ -1,5 +1,5 @@
 -- Operations, their records and what may be said to them (Lomet, Fekete, Weikum, Zwilling, CIDR 2009; this profile).
-use Rattle.std.specs.Prelude.{ℕ, Bool, true, false, List, slice_index, Option, Some, None}
+use Rattle.std.specs.Prelude.{ℕ, Bool, true, false, List, slice_index, Some, None}
 use Rattle.access_slots.specs.declared.slot.Record.{Record}
 use Rattle.access_slots.specs.declared.slot.Mode.{Mode}
 use Rattle.access_slots.specs.declared.slot.Mode.TheVariants as mode
@@ -9,7 +9,7 @@ use Rattle.access_slots.specs.declared.slot.Slot.{Slot}
 use Rattle.access_slots.specs.declared.op.Op.{Op}
 use Rattle.access_slots.specs.declared.op.Op.TheVariants.{Read, Insert, Update, Delete}
 use Rattle.access_slots.specs.declared.op.Said.{Said}
-use Rattle.access_slots.specs.declared.op.Said.TheVariants.{Value, Absent, Done, Duplicate, Missing, NoRoom, Old}
+use Rattle.access_slots.specs.declared.op.Said.TheVariants.{Value, Absent, Done, Duplicate, Missing, NoRoom}
 
 abbrev pub key_of : List ℕ → Key → ℕ
 key_of args (Arg argument) = slice_index args argument

@@ -1,5 +1,5 @@
 -- A procedure's declaration, and what is wrong with one.
-use Rattle.std.specs.Prelude.{ℕ, suc, Bool, true, false, nat_lt, if◌then◌else◌, List, [], ◌∷◌, length, Option, Some, None}
+use Rattle.std.specs.Prelude.{ℕ, suc, Bool, true, nat_lt, if◌then◌else◌, List, [], ◌∷◌, length, Option, Some, None}
 use Rattle.access_slots.specs.declared.slot.Key.{Key}
 use Rattle.access_slots.specs.declared.slot.Key.TheVariants.{Arg, Fixed}
 use Rattle.access_slots.specs.declared.slot.Slot.{Slot}

@@ -64,15 +64,15 @@ takes_wide places dst value f due is dst_is low_is = record {
 }
 
 -- the second
-pub takes_second : (places : List Place) (due : Due) (value : ℕ) (imm : ℤ) → value % 2 ^ 32 ≡ due.low → value / 2 ^ 32 ≡ cast_unsigned w32 imm → FitsSigned w32 imm → TakesSlot places (Some due) (fields 0 0 0 (pos 0) imm) ((places ++ place.Insn (LoadWide due.dst value) ∷ []) ++ place.Second ∷ []) None
+pub takes_second : (places : List Place) (due : Due) (value : ℕ) (imm : ℤ) → value % 2 ^ 32 ≡ due.low → value / 2 ^ 32 % 2 ^ 32 ≡ cast_unsigned w32 imm → FitsSigned w32 imm → TakesSlot places (Some due) (fields 0 0 0 (pos 0) imm) ((places ++ place.Insn (LoadWide due.dst value) ∷ []) ++ place.Second ∷ []) None
 takes_second places due value imm low_is high_is fits =
     let both = append_assoc places (place.Insn (LoadWide due.dst value) ∷ []) (place.Second ∷ []) in
     let first : fields_of (LoadWide due.dst value) ≡ fields 0x18 (number_of due.dst) 0 (pos 0) (cast_signed w32 due.low) = ap (λ (n : ℕ). fields 0x18 (number_of due.dst) 0 (pos 0) (cast_signed w32 n)) low_is in
-    let second : second_fields (value / 2 ^ 32) ≡ fields 0 0 0 (pos 0) imm = ap second_fields high_is ∙ ap (fields 0 0 0 (pos 0)) (to_z-of_z w32 imm fits) in
+    let second : second_fields (value / 2 ^ 32 % 2 ^ 32) ≡ fields 0 0 0 (pos 0) imm = ap second_fields high_is ∙ ap (fields 0 0 0 (pos 0)) (to_z-of_z w32 imm fits) in
     record {
       fields =
           append-nil (fields_of_code ((places ++ place.Insn (LoadWide due.dst value) ∷ []) ++ place.Second ∷ [])) ∙ ap fields_of_code both ∙ fields_behind-append 0 places (LoadWide due.dst value) (place.Second ∷ [])
-          ∙ ap (λ (g : Fields). fields_of_code places ++ g ∷ second_fields (value / 2 ^ 32) ∷ []) first ∙ ap (λ (g : Fields). fields_of_code places ++ fields 0x18 (number_of due.dst) 0 (pos 0) (cast_signed w32 due.low) ∷ g ∷ []) second
+          ∙ ap (λ (g : Fields). fields_of_code places ++ g ∷ second_fields (value / 2 ^ 32 % 2 ^ 32) ∷ []) first ∙ ap (λ (g : Fields). fields_of_code places ++ fields 0x18 (number_of due.dst) 0 (pos 0) (cast_signed w32 due.low) ∷ g ∷ []) second
           ∙ sym (append_assoc (fields_of_code places) (fields 0x18 (number_of due.dst) 0 (pos 0) (cast_signed w32 due.low) ∷ []) (fields 0 0 0 (pos 0) imm ∷ []));
       whole = λ h. ap (is_whole false) both ∙ is_whole-append false places (place.Insn (LoadWide due.dst value) ∷ place.Second ∷ []) h;
       faults = λ place fs. refl;

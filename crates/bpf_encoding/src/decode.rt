@@ -95,7 +95,7 @@ fn take_first(places: &mut Vec<Place>, slot: &Slot, at: usize) -> Result<Option<
 // The value of a wide instruction: its low half, and the high half in the second slot's imm.
 fn wide_value(low: u32, imm: i32) -> u64
     ensures low { result % 2 ^ 32 ≡ low }
-    ensures high { result / 2 ^ 32 ≡ cast_unsigned w32 imm }
+    ensures high { result / 2 ^ 32 % 2 ^ 32 ≡ cast_unsigned w32 imm }
 {
     u64::from(low) + 0x1_0000_0000 * u64::from(imm.cast_unsigned())
 }

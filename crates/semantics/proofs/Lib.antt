@@ -1,0 +1,6 @@
+pub mod Bridge
+pub mod Rows
+pub mod CFunctionsRows
+pub mod DpdkRows
+pub mod KernelTestBpfRows
+pub mod KernelVerifierProgsRows

@@ -1,0 +1,81 @@
+-- Worked rows: the definitions, computed by the prover, give these answers and counts.
+use Rattle.std.proofs.Common.{◌≡◌, [], ◌∷◌, Some, None, refl}
+use Rattle.semantics.specs.Row.{outcome_of, bytes_of_slots}
+
+-- mov r0, 7; mov r1, 5; add r0, r1; exit
+seven_and_five : outcome_of (0xb7 ∷ 0 ∷ 0 ∷ 0 ∷ 7 ∷ 0 ∷ 0 ∷ 0 ∷ 0xb7 ∷ 1 ∷ 0 ∷ 0 ∷ 5 ∷ 0 ∷ 0 ∷ 0 ∷ 0x0f ∷ 0x10 ∷ 0 ∷ 0 ∷ 0 ∷ 0 ∷ 0 ∷ 0 ∷ 0x95 ∷ 0 ∷ 0 ∷ 0 ∷ 0 ∷ 0 ∷ 0 ∷ 0 ∷ []) [] ≡ Some (12, 4)
+seven_and_five = refl
+
+-- the same number divided by 0 is 0, modulo 0 is itself
+divided_by_zero : outcome_of (bytes_of_slots (0x7000000b7 ∷ 0x1b7 ∷ 0x103f ∷ 0x95 ∷ [])) [] ≡ Some (0, 4)
+divided_by_zero = refl
+
+modulo_zero : outcome_of (bytes_of_slots (0x7000000b7 ∷ 0x1b7 ∷ 0x109f ∷ 0x95 ∷ [])) [] ≡ Some (7, 4)
+modulo_zero = refl
+
+-- lddw r0, 0x0000000100000007; mov r1, 0; mod32 r0, r1: the upper half becomes zero
+modulo_zero_narrow : outcome_of (bytes_of_slots (0x700000018 ∷ 0x100000000 ∷ 0x1b7 ∷ 0x109c ∷ 0x95 ∷ [])) [] ≡ Some (7, 4)
+modulo_zero_narrow = refl
+
+-- lddw r0, 0x8000000000000000; then sdiv r0, -1; smod r0, -1; lsh r0, 64
+least_divided : outcome_of (bytes_of_slots (0x18 ∷ 0x8000000000000000 ∷ 0xffffffff00010037 ∷ 0x95 ∷ [])) [] ≡ Some (9223372036854775808, 3)
+least_divided = refl
+
+least_modulo : outcome_of (bytes_of_slots (0x18 ∷ 0x8000000000000000 ∷ 0xffffffff00010097 ∷ 0x95 ∷ [])) [] ≡ Some (0, 3)
+least_modulo = refl
+
+shifted_by_the_width : outcome_of (bytes_of_slots (0x18 ∷ 0x8000000000000000 ∷ 0x4000000067 ∷ 0x95 ∷ [])) [] ≡ Some (9223372036854775808, 3)
+shifted_by_the_width = refl
+
+-- mov r0, 4660; be16 r0; exit
+big_endian : outcome_of (bytes_of_slots (0x1234000000b7 ∷ 0x10000000dc ∷ 0x95 ∷ [])) [] ≡ Some (13330, 3)
+big_endian = refl
+
+-- mov32 r0, -1; exit
+narrow_move : outcome_of (bytes_of_slots (0xffffffff000000b4 ∷ 0x95 ∷ [])) [] ≡ Some (4294967295, 2)
+narrow_move = refl
+
+-- mov r0, 0; exit; mov r0, r5; exit
+not_reached : outcome_of (bytes_of_slots (0xb7 ∷ 0x95 ∷ 0x50bf ∷ 0x95 ∷ [])) [] ≡ Some (0, 2)
+not_reached = refl
+
+-- mov r0, 7; jeq r0, 7, +1; mov r0, 1; exit
+jump_taken : outcome_of (bytes_of_slots (0x7000000b7 ∷ 0x700010015 ∷ 0x1000000b7 ∷ 0x95 ∷ [])) [] ≡ Some (7, 3)
+jump_taken = refl
+
+-- mov r0, 128; movs8 r0, r0; exit, and with movs8_32
+extended_byte : outcome_of (bytes_of_slots (0x80000000b7 ∷ 0x800bf ∷ 0x95 ∷ [])) [] ≡ Some (18446744073709551488, 3)
+extended_byte = refl
+
+extended_byte_narrow : outcome_of (bytes_of_slots (0x80000000b7 ∷ 0x800bc ∷ 0x95 ∷ [])) [] ≡ Some (4294967168, 3)
+extended_byte_narrow = refl
+
+-- mov r0, -7; sdiv r0, 2; exit, and with smod
+towards_zero : outcome_of (bytes_of_slots (0xfffffff9000000b7 ∷ 0x200010037 ∷ 0x95 ∷ [])) [] ≡ Some (18446744073709551613, 3)
+towards_zero = refl
+
+sign_of_the_dividend : outcome_of (bytes_of_slots (0xfffffff9000000b7 ∷ 0x200010097 ∷ 0x95 ∷ [])) [] ≡ Some (18446744073709551615, 3)
+sign_of_the_dividend = refl
+
+-- mov32 r0, -8; arsh32 r0, 1; exit
+narrow_sign_shifted : outcome_of (bytes_of_slots (0xfffffff8000000b4 ∷ 0x1000000c4 ∷ 0x95 ∷ [])) [] ≡ Some (4294967292, 3)
+narrow_sign_shifted = refl
+
+-- mov r0, -1; jslt32 r0, 0, +1; mov r0, 9; exit
+narrow_signed_jump : outcome_of (bytes_of_slots (0xffffffff000000b7 ∷ 0x100c6 ∷ 0x9000000b7 ∷ 0x95 ∷ [])) [] ≡ Some (18446744073709551615, 3)
+narrow_signed_jump = refl
+
+-- mov r0, r10; xor r0, 0; exit: the stack's end
+stack_end : outcome_of (bytes_of_slots (0xa0bf ∷ 0xa7 ∷ 0x95 ∷ [])) [] ≡ Some (66048, 3)
+stack_end = refl
+
+-- ldxdw r0, [r1+8]; exit with arguments 5 and 6; with 5 alone the access isn't within the arguments
+second_argument : outcome_of (bytes_of_slots (0x81079 ∷ 0x95 ∷ [])) (5 ∷ 6 ∷ []) ≡ Some (6, 2)
+second_argument = refl
+
+no_second_argument : outcome_of (bytes_of_slots (0x81079 ∷ 0x95 ∷ [])) (5 ∷ []) ≡ None
+no_second_argument = refl
+
+-- stxdw [r10-4], r1: a store past the stack's end
+past_the_stack : outcome_of (bytes_of_slots (0xfffc1a7b ∷ 0xb7 ∷ 0x95 ∷ [])) (5 ∷ []) ≡ None
+past_the_stack = refl
