@@ -1,0 +1,5 @@
+//! What is known of each register at each slot, before code is run.
+#![tactic(auto)]
+
+pub mod kind;
+pub mod transfer;
