@@ -69,15 +69,15 @@ arriving code (suc n) at = along_from n (slice_get code n) (arriving code n n) a
 abbrev pub kinds_at : List Place → ℕ → Option Kinds
 kinds_at code at = arriving code at at
 
+abbrev pub violation_of : Result Ways Violation → Option Violation
+violation_of (Ok ways) = None
+violation_of (Err v) = Some v
+
 abbrev pub violation_by : Option Place → Option Kinds → Option Violation
 violation_by None kinds = None
 violation_by (Some place.Second) kinds = None
 violation_by (Some (place.Insn i)) None = None
-violation_by (Some (place.Insn i)) (Some ks) = fault (transfer_of i ks)
-  where
-    fault : Result Ways Violation → Option Violation
-    fault (Ok ways) = None
-    fault (Err v) = Some v
+violation_by (Some (place.Insn i)) (Some ks) = violation_of (transfer_of i ks)
 
 -- what the instruction at a reached slot may not do
 abbrev pub violation_at : List Place → ℕ → Option Violation

@@ -1,0 +1,4 @@
+pub mod Flow
+pub mod Verdict
+pub mod Checked
+pub mod Table

@@ -1,0 +1,104 @@
+//! The verifier.
+
+ghost use Rattle.std.specs.Prelude.{◌≡◌, ◌≤◌, ◌<◌, length, IfOk, IfErr, None};
+ghost use Rattle.semantics.specs.Reach.{IsSafe};
+ghost use Rattle.semantics.specs.Instruction.{program_of};
+ghost use Rattle.bpf_encoding.specs.Spells.{IsCode};
+ghost use Rattle.verifier.specs.Verdict.{verdict, first_flaw, first_violation, IsVerdict};
+
+use crate::flow::first_flaw;
+use crate::pass::first_violation;
+use access_slots::decl::Decl;
+use bpf_encoding::code::Code;
+use bpf_encoding::insn::Place;
+use register_kinds::kind::Violation;
+use std::alloc::{AllocError, Global};
+use std::marker::Model;
+
+/// Why code was refused.
+#[derive(Debug, Drop)]
+pub enum VerifyFault {
+    /// What the instruction at this slot, counted from 0, may not do.
+    At(usize, Violation),
+    /// Memory ran out.
+    Memory,
+}
+
+/// Code that never goes wrong, with its declaration. Only [`verify`] makes one: a value of this
+/// type is the evidence.
+#[derive(Drop)]
+pub struct Verified {
+    code: Code,
+    decl: Decl,
+}
+
+impl Model for Verified {
+    ghost use Rattle.verifier.specs.Checked.{Checked, IsAccepted};
+
+    ghost Value = { Checked };
+
+    ghost view = { λ v. record { code = v.code; decl = v.decl } };
+
+    ghost invariant = { λ v. IsAccepted v.code };
+}
+
+// The first violation by the kinds, in a table that is made for it.
+fn violation_in(alloc: Global, code: &[Place]) -> Result<Option<(usize, Violation)>, AllocError>
+    requires some { 0 < length code.now }
+    requires short { length code.now ≤ 4096 }
+    ensures { IfOk result (λ found. found ≡ first_violation code.now) }
+{
+    let mut table = vec![in alloc; None; code.len()]?;
+    Ok(first_violation(&mut table, code))
+}
+
+// What is wrong with the code, the first pass before the second.
+fn check(alloc: Global, code: &[Place]) -> Result<(), VerifyFault>
+    requires some { 0 < length code.now }
+    requires short { length code.now ≤ 4096 }
+    ensures ok { IfOk result (λ _. verdict code.now ≡ None) }
+    ensures err { IfErr result (IsVerdict code.now) }
+{
+    if let Some((slot, violation)) = first_flaw(code) {
+        return Err(VerifyFault::At(slot, violation));
+    }
+    match violation_in(alloc, code) {
+        Err(_) => Err(VerifyFault::Memory),
+        Ok(Some((slot, violation))) => Err(VerifyFault::At(slot, violation)),
+        Ok(None) => Ok(()),
+    }
+}
+
+/// Accepts code that never goes wrong, and else says the first thing that is wrong: first where
+/// jumps lead and whether the code is left, slot by slot; then what the kinds at each reached
+/// slot forbid. On a refusal code and declaration are dropped.
+pub fn verify(alloc: Global, code: Code, decl: Decl) -> Result<Verified, VerifyFault>
+    // What is accepted is what was handed in, and nothing is wrong with it.
+    ensures value { IfOk result (λ v. (v.code ≡ code) × (v.decl ≡ decl)) }
+    ensures accepted { IfOk result (λ v. verdict code ≡ None) }
+    // Which fault it is; want of memory comes after the first pass alone.
+    ensures err { IfErr result (IsVerdict code) }
+    // No layout, arguments or answers make it trap.
+    ensures safe { IfOk result (λ v. IsSafe (program_of v.code v.decl)) }
+{
+    check(alloc, code.places())?;
+    Ok(Verified { code, decl })
+}
+
+impl Verified {
+    /// The code that was verified.
+    pub fn code(&self) -> &Code
+        ensures value { result.now ≡ self.now.code }
+        ensures code { IsCode self.now.code }
+        ensures safe { IsSafe (program_of self.now.code self.now.decl) }
+    {
+        &self.code
+    }
+
+    /// Its declaration.
+    pub fn decl(&self) -> &Decl
+        ensures { result.now ≡ self.now.decl }
+    {
+        &self.decl
+    }
+}
