@@ -7,9 +7,9 @@ use Rattle.std.proofs.lemmas.Bool.Decides.{nat_tests}
 use Rattle.std.proofs.lemmas.Option.{slice_get_within, slice_get-get_or}
 use Rattle.access_slots.specs.Declaration.{Declaration}
 use Rattle.access_slots.specs.declared.op.Said.{Said}
-use Rattle.bpf_encoding.specs.Spelling.{is_wide, is_whole}
+use Rattle.bpf_encoding.specs.Spelling.{number_of, is_wide, is_whole}
 use Rattle.bpf_encoding.specs.declared.insn.Insn.{Insn}
-use Rattle.bpf_encoding.specs.declared.insn.Insn.TheVariants.{Jump, JumpLong, Exit}
+use Rattle.bpf_encoding.specs.declared.insn.Insn.TheVariants.{Jump, JumpLong, Load, LoadSigned, StoreImm, Store, Call, Exit}
 use Rattle.bpf_encoding.specs.declared.insn.Place.{Place}
 use Rattle.bpf_encoding.specs.declared.insn.Place.TheVariants as place
 use Rattle.semantics.specs.Step.{Config, Step, Next, Ask, Done, Trap, Bases, Setting, place_of, step}
@@ -20,8 +20,8 @@ use Rattle.register_kinds.specs.declared.kind.Kind.{Kind}
 use Rattle.register_kinds.specs.declared.kind.Kind.TheVariants.{Empty}
 use Rattle.register_kinds.specs.declared.kind.Ways.{Ways}
 use Rattle.register_kinds.specs.declared.kind.Violation.{Violation}
-use Rattle.register_kinds.specs.declared.kind.Violation.TheVariants.{Backward, OutOfCode, IntoWide, FallsOff, EmptyRegister}
-use Rattle.register_kinds.specs.Kinds.{Kinds, entry_kinds, join_kinds, kind_at, is_present, check, transfer_of}
+use Rattle.register_kinds.specs.declared.kind.Violation.TheVariants.{Backward, OutOfCode, IntoWide, FallsOff, EmptyRegister, WritesR10, NotAPointer, UnknownHelper}
+use Rattle.register_kinds.specs.Kinds.{Kinds, entry_kinds, join_kinds, kind_at, is_present, is_writable, check, transfer_of}
 use Rattle.register_kinds.specs.Arriving.{next_place, jump_offset, target_by, jump_place, merge, along, along_ways, along_from, arriving, kinds_at, violation_of, violation_by, violation_at}
 use Rattle.register_kinds.specs.Fitting.{Fits, AllFit, IsWeaker, IsSound, Lands}
 use Rattle.register_kinds.proofs.Joins.{weaker_trans, weaker_left, weaker_merge}
@@ -29,6 +29,7 @@ use Rattle.register_kinds.proofs.Sound.{step_sound}
 use Rattle.verifier.specs.Flow.{is_second_slot, target_flaw, jump_flaw, goes_on, fall_flaw, call_flaw, or_else, flow_violation, flow_by, flow_at}
 use Rattle.verifier.specs.Verdict.{first_flaw, first_violation, or_first}
 use Rattle.verifier.specs.Checked.{IsAccepted}
+use Rattle.verifier.specs.Quiet.{is_quiet, IsQuietPlace, QuietAfter, QuietFor, IsNoQuestion, setting, IsQuiet}
 use Rattle.verifier.proofs.Firsts.{all_none}
 
 -- ---- what is known of a slot only grows weaker
@@ -211,6 +212,26 @@ split_verdict : (a b : Option (ℕ × Violation)) → or_first a b ≡ None → 
 split_verdict None b h = (refl, h)
 split_verdict (Some p) b h = absurd cc
 
+-- no load, store or call has a way on
+abbrev bad : Violation → Result Ways Violation
+bad v = Err v
+
+never : (b : Bool) (v u : Violation) (w : Ways) → check b v (bad u) ≡ ok w → ⊥
+never true v u w e = cc
+never false v u w e = cc
+
+never_twice : (a b : Bool) (u v x : Violation) (w : Ways) → check a u (check b v (bad x)) ≡ ok w → ⊥
+never_twice true b u v x w e = never b v x w e
+never_twice false b u v x w e = cc
+
+transfer_quiet : (i : Insn) (ks : Kinds) (w : Ways) → transfer_of i ks ≡ Ok w → is_quiet i ≡ true
+transfer_quiet (Load size dst base offset) ks w e = absurd (never_twice (is_present (kind_at ks (number_of base))) (is_writable dst) EmptyRegister WritesR10 NotAPointer w e)
+transfer_quiet (LoadSigned size dst base offset) ks w e = absurd (never_twice (is_present (kind_at ks (number_of base))) (is_writable dst) EmptyRegister WritesR10 NotAPointer w e)
+transfer_quiet (StoreImm size base offset imm) ks w e = absurd (never (is_present (kind_at ks (number_of base))) EmptyRegister NotAPointer w e)
+transfer_quiet (Store size base src offset) ks w e = absurd (never (is_present (kind_at ks (number_of base)) && is_present (kind_at ks (number_of src))) EmptyRegister NotAPointer w e)
+transfer_quiet (Call helper) ks w e = absurd (never (is_present (kind_at ks 1)) EmptyRegister UnknownHelper w e)
+transfer_quiet i ks w e = refl
+
 all_empty : (n r : ℕ) → kind_at (replicate n Empty) r ≡ Empty
 all_empty zero r = refl
 all_empty (suc n) zero = refl
@@ -345,6 +366,35 @@ module _ (code : List Place) (decl : Declaration) (accepted : IsAccepted code) (
   after_stop (Trapped cause) later h = h
   after_stop Unfinished later h = h
 
+  no_question : (s : Stop) → SafeStop s → IsNoQuestion s
+  no_question (Asked slot operation c) h = h
+  no_question (Exited v c) h = tt
+  no_question (Trapped cause) h = tt
+  no_question Unfinished h = tt
+
+  no_question_after : (s : Stop) (later : ℕ → Config → Stop) → SafeStop s → IsNoQuestion (on_from here s later)
+  no_question_after (Asked slot operation c) later h = absurd h
+  no_question_after (Exited v c) later h = tt
+  no_question_after (Trapped cause) later h = tt
+  no_question_after Unfinished later h = tt
+
+  insn_quiet : (c : Config) (at : FitsAt code c) → is_quiet at.insn ≡ true
+  insn_quiet c at =
+      let lt = slice_get_within code c.place (place.Insn at.insn) at.stands in
+      let quiet : violation_of (transfer_of at.insn at.kinds) ≡ None = sym (ap₂ violation_by at.stands at.known) ∙ kinds_none c.place lt in
+      let w = transfer_ok (transfer_of at.insn at.kinds) quiet in
+      transfer_quiet at.insn at.kinds w.0 w.1
+
+  quiet_after : (n at : ℕ) (s : Step) → ((c : Config) → FitsAt code c → QuietFor code here n c) → SafeStep at s → QuietAfter s (QuietFor code here n)
+  quiet_after n at (Next c) more safe = more c safe.0
+  quiet_after n at (Ask slot operation c) more safe = tt
+  quiet_after n at (Done v c) more safe = tt
+  quiet_after n at (Trap cause) more safe = tt
+
+  quiet_for : (n : ℕ) (c : Config) → FitsAt code c → QuietFor code here n c
+  quiet_for zero c at = tt
+  quiet_for (suc n) c at = (subst IsQuietPlace (sym at.stands) (insn_quiet c at), quiet_after n c.place (step here c) (quiet_for n) (safe_step c at))
+
   entry_fits : FitsAt code (entry here)
   entry_fits =
       let first = head_insn code accepted.whole.whole accepted.whole.some in
@@ -356,6 +406,16 @@ module _ (code : List Place) (decl : Declaration) (accepted : IsAccepted code) (
   run_safe : (answers : List Said) → IsFineStop here (reach here answers)
   run_safe [] = stop_fine (onwards here (entry here)) (whole_safe (entry here) entry_fits)
   run_safe (a ∷ later) = after_stop (onwards here (entry here)) _ (whole_safe (entry here) entry_fits)
+
+  run_quiet : (answers : List Said) → IsNoQuestion (reach here answers)
+  run_quiet [] = no_question (onwards here (entry here)) (whole_safe (entry here) entry_fits)
+  run_quiet (a ∷ later) = no_question_after (onwards here (entry here)) _ (whole_safe (entry here) entry_fits)
+
+pub accepted_is_quiet : (code : List Place) (decl : Declaration) → IsAccepted code → IsQuiet code decl
+accepted_is_quiet code decl accepted = record {
+  steps = λ args b. quiet_for code decl accepted args b (length code) (entry (setting code decl args b)) (entry_fits code decl accepted args b);
+  stops = λ args b answers. run_quiet code decl accepted args b answers;
+}
 
 pub accepted_is_safe : (code : List Place) (decl : Declaration) → IsAccepted code → IsSafe (program_of code decl)
 accepted_is_safe code decl accepted = record { always = λ args b answers layout arguments fit. run_safe code decl accepted args b answers }

@@ -4,6 +4,7 @@ ghost use Rattle.std.specs.Prelude.{◌≡◌, ◌≤◌, ◌<◌, length, IfOk,
 ghost use Rattle.semantics.specs.Reach.{IsSafe};
 ghost use Rattle.semantics.specs.Instruction.{program_of};
 ghost use Rattle.bpf_encoding.specs.Spells.{IsCode};
+ghost use Rattle.verifier.specs.Quiet.{IsQuiet};
 ghost use Rattle.verifier.specs.Verdict.{verdict, first_flaw, first_violation, IsVerdict};
 
 use crate::flow::first_flaw;
@@ -91,6 +92,8 @@ impl Verified {
         ensures value { result.now ≡ self.now.code }
         ensures code { IsCode self.now.code }
         ensures safe { IsSafe (program_of self.now.code self.now.decl) }
+        // Until registers can have addresses, no load, store or call is met.
+        ensures quiet { IsQuiet self.now.code self.now.decl }
     {
         &self.code
     }

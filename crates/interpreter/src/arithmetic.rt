@@ -1,0 +1,222 @@
+//! Operations and comparisons (RFC 9669, section 4), on 64 bits or on the low 32.
+
+ghost use Rattle.std.specs.Prelude.{◌≡◌, false};
+ghost use Rattle.std.specs.Int.{w32, w64};
+ghost use Rattle.semantics.specs.Arithmetic.{signed_quotient, signed_remainder, negation, low, width_of, kept, reversed};
+ghost use Rattle.semantics.specs.Instruction.{compute_of, result_of, extension_of, order_width, order_of, test_of, is_taken};
+ghost use Rattle.bpf_encoding.specs.Reading.{is_64};
+
+use bpf_encoding::insn::{ByteOrder, Condition, Extension, Operation, OrderWidth, Width};
+
+#[inline(always)]
+fn low32(value: u64) -> u32
+    ensures { result ≡ low false value }
+{
+    (value % 0x1_0000_0000) as u32
+}
+
+#[inline(always)]
+fn signed_quotient64(a: u64, b: u64) -> u64
+    ensures { result ≡ signed_quotient w64 a b }
+{
+    if b == 0 {
+        return 0;
+    }
+    a.cast_signed().wrapping_div(b.cast_signed()).cast_unsigned()
+}
+
+#[inline(always)]
+fn signed_remainder64(a: u64, b: u64) -> u64
+    ensures { result ≡ signed_remainder w64 a b }
+{
+    if b == 0 {
+        return a;
+    }
+    a.cast_signed().wrapping_rem(b.cast_signed()).cast_unsigned()
+}
+
+#[inline(always)]
+fn signed_quotient32(a: u32, b: u32) -> u32
+    ensures { result ≡ signed_quotient w32 a b }
+{
+    if b == 0 {
+        return 0;
+    }
+    a.cast_signed().wrapping_div(b.cast_signed()).cast_unsigned()
+}
+
+#[inline(always)]
+fn signed_remainder32(a: u32, b: u32) -> u32
+    ensures { result ≡ signed_remainder w32 a b }
+{
+    if b == 0 {
+        return a;
+    }
+    a.cast_signed().wrapping_rem(b.cast_signed()).cast_unsigned()
+}
+
+#[inline(always)]
+fn compute64(operation: Operation, a: u64, b: u64) -> u64
+    ensures { result ≡ compute_of operation w64 a b }
+{
+    match operation {
+        Operation::Add => a.wrapping_add(b),
+        Operation::Sub => a.wrapping_sub(b),
+        Operation::Mul => a.wrapping_mul(b),
+        Operation::Div => if b == 0 { 0 } else { a / b },
+        Operation::SignedDiv => signed_quotient64(a, b),
+        Operation::Or => a | b,
+        Operation::And => a & b,
+        Operation::LeftShift => a.wrapping_shl((b % 64) as u32),
+        Operation::RightShift => a >> (b % 64),
+        Operation::Mod => if b == 0 { a } else { a % b },
+        Operation::SignedMod => signed_remainder64(a, b),
+        Operation::Xor => a ^ b,
+        Operation::Mov => b,
+        Operation::SignedRightShift => (a.cast_signed() >> (b % 64)).cast_unsigned(),
+    }
+}
+
+#[inline(always)]
+fn compute32(operation: Operation, a: u32, b: u32) -> u32
+    ensures { result ≡ compute_of operation w32 a b }
+{
+    match operation {
+        Operation::Add => a.wrapping_add(b),
+        Operation::Sub => a.wrapping_sub(b),
+        Operation::Mul => a.wrapping_mul(b),
+        Operation::Div => if b == 0 { 0 } else { a / b },
+        Operation::SignedDiv => signed_quotient32(a, b),
+        Operation::Or => a | b,
+        Operation::And => a & b,
+        Operation::LeftShift => a.wrapping_shl(b % 32),
+        Operation::RightShift => a >> (b % 32),
+        Operation::Mod => if b == 0 { a } else { a % b },
+        Operation::SignedMod => signed_remainder32(a, b),
+        Operation::Xor => a ^ b,
+        Operation::Mov => b,
+        Operation::SignedRightShift => (a.cast_signed() >> (b % 32)).cast_unsigned(),
+    }
+}
+
+/// What the operation gives; at 32 bits the upper half of the result is 0.
+#[inline(always)]
+pub fn compute(width: Width, operation: Operation, a: u64, b: u64) -> u64
+    ensures { result ≡ result_of (is_64 width) operation a b }
+{
+    match width {
+        Width::Bits64 => compute64(operation, a, b),
+        Width::Bits32 => u64::from(compute32(operation, low32(a), low32(b))),
+    }
+}
+
+/// The number negated.
+#[inline(always)]
+pub fn negate(width: Width, a: u64) -> u64
+    ensures { result ≡ negation (width_of (is_64 width)) (low (is_64 width) a) }
+{
+    match width {
+        Width::Bits64 => a.wrapping_neg(),
+        Width::Bits32 => u64::from(low32(a).wrapping_neg()),
+    }
+}
+
+/// The low bits with their sign.
+#[inline(always)]
+pub fn extend(extension: Extension, a: u64) -> u64
+    ensures { result ≡ extension_of extension a }
+{
+    match extension {
+        Extension::Byte64 => i64::from(((a % 0x100) as u8).cast_signed()).cast_unsigned(),
+        Extension::Half64 => i64::from(((a % 0x1_0000) as u16).cast_signed()).cast_unsigned(),
+        Extension::Word64 => i64::from(low32(a).cast_signed()).cast_unsigned(),
+        Extension::Byte32 => {
+            u64::from(i32::from(((a % 0x100) as u8).cast_signed()).cast_unsigned())
+        }
+        Extension::Half32 => {
+            u64::from(i32::from(((a % 0x1_0000) as u16).cast_signed()).cast_unsigned())
+        }
+    }
+}
+
+#[inline(always)]
+fn keep(width: OrderWidth, a: u64) -> u64
+    ensures { result ≡ kept (order_width width) a }
+{
+    match width {
+        OrderWidth::Order16 => a % 0x1_0000,
+        OrderWidth::Order32 => a % 0x1_0000_0000,
+        OrderWidth::Order64 => a,
+    }
+}
+
+#[inline(always)]
+fn reverse(width: OrderWidth, a: u64) -> u64
+    ensures { result ≡ reversed (order_width width) a }
+{
+    match width {
+        OrderWidth::Order16 => u64::from(((a % 0x1_0000) as u16).swap_bytes()),
+        OrderWidth::Order32 => u64::from(low32(a).swap_bytes()),
+        OrderWidth::Order64 => a.swap_bytes(),
+    }
+}
+
+/// The low bits in another byte order, on a little-endian machine.
+#[inline(always)]
+pub fn reorder(order: ByteOrder, width: OrderWidth, a: u64) -> u64
+    ensures { result ≡ order_of order width a }
+{
+    match order {
+        ByteOrder::Little => keep(width, a),
+        ByteOrder::Big | ByteOrder::Swap => reverse(width, a),
+    }
+}
+
+#[inline(always)]
+fn holds64(condition: Condition, a: u64, b: u64) -> bool
+    ensures { result ≡ test_of condition w64 a b }
+{
+    match condition {
+        Condition::Equal => a == b,
+        Condition::Greater => a > b,
+        Condition::GreaterOrEqual => a >= b,
+        Condition::AnyBit => a & b != 0,
+        Condition::NotEqual => a != b,
+        Condition::SignedGreater => a.cast_signed() > b.cast_signed(),
+        Condition::SignedGreaterOrEqual => a.cast_signed() >= b.cast_signed(),
+        Condition::Less => a < b,
+        Condition::LessOrEqual => a <= b,
+        Condition::SignedLess => a.cast_signed() < b.cast_signed(),
+        Condition::SignedLessOrEqual => a.cast_signed() <= b.cast_signed(),
+    }
+}
+
+#[inline(always)]
+fn holds32(condition: Condition, a: u32, b: u32) -> bool
+    ensures { result ≡ test_of condition w32 a b }
+{
+    match condition {
+        Condition::Equal => a == b,
+        Condition::Greater => a > b,
+        Condition::GreaterOrEqual => a >= b,
+        Condition::AnyBit => a & b != 0,
+        Condition::NotEqual => a != b,
+        Condition::SignedGreater => a.cast_signed() > b.cast_signed(),
+        Condition::SignedGreaterOrEqual => a.cast_signed() >= b.cast_signed(),
+        Condition::Less => a < b,
+        Condition::LessOrEqual => a <= b,
+        Condition::SignedLess => a.cast_signed() < b.cast_signed(),
+        Condition::SignedLessOrEqual => a.cast_signed() <= b.cast_signed(),
+    }
+}
+
+/// Whether the condition holds of the two numbers.
+#[inline(always)]
+pub fn holds(width: Width, condition: Condition, a: u64, b: u64) -> bool
+    ensures { result ≡ is_taken (is_64 width) condition a b }
+{
+    match width {
+        Width::Bits64 => holds64(condition, a, b),
+        Width::Bits32 => holds32(condition, low32(a), low32(b)),
+    }
+}

@@ -1,0 +1,6 @@
+//! Runs verified code: a machine that can't go wrong.
+#![tactic(auto)]
+
+pub mod arithmetic;
+
+
