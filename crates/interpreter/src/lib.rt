@@ -2,5 +2,5 @@
 #![tactic(auto)]
 
 pub mod arithmetic;
-
-
+pub mod layout;
+pub mod machine;
