@@ -3,7 +3,7 @@
 ghost use Rattle.std.specs.Prelude.{◌≡◌, ◌≤◌, Some, None, true, map, if◌then◌else◌};
 ghost use Rattle.std.specs.List.{list_all};
 ghost use Rattle.semantics.specs.Row.{plain_bases};
-ghost use Rattle.semantics.specs.Reach.{is_layout, is_apart, is_in_reach, are_apart, buffer_extents};
+ghost use Rattle.semantics.specs.Reach.{is_layout, is_apart, is_in_reach, are_apart, buffer_extents, IsLayout};
 
 use std::marker::Model;
 
@@ -114,5 +114,21 @@ impl Layout {
                 199168, 199424, 199680, 199936, 200192, 200448,
             ],
         }
+    }
+
+    /// The stack's first address.
+    pub fn stack(&self) -> u64
+        ensures value { result ≡ self.now.stack }
+        ensures layout { IsLayout self.now }
+    {
+        self.stack
+    }
+
+    /// The arguments' first address.
+    pub fn args(&self) -> u64
+        ensures value { result ≡ self.now.arguments }
+        ensures layout { IsLayout self.now }
+    {
+        self.args
     }
 }
