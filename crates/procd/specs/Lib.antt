@@ -1,0 +1,4 @@
+pub mod Hex
+pub mod Execution
+pub mod Said
+pub mod Wanted

@@ -1,0 +1,164 @@
+//! The program, over readers and writers that are handed in.
+
+ghost use Rattle.std.specs.Prelude.{◌≡◌, ℕ, Bool, List, map, codes};
+ghost use Rattle.procd.specs.Said.{SaysExec, RunsInput, Writes};
+ghost use Rattle.clap.specs.Words.{kind_of};
+
+use crate::execute::execute_text;
+use crate::lines::{lines, status};
+use crate::reading::{ReadFault, read_all};
+use crate::words::{Wanted, WordFault, wanted_of};
+use clap::Error;
+use clap::error::ErrorKind;
+use std::alloc::Global;
+use std::convert::AsStr;
+use std::fs::File;
+use std::io::{Read, Write};
+use std::rt::Files;
+
+/// The command line is wrong.
+const MISUSE: u8 = 2;
+
+/// A file can't be read, or standard output can't be written.
+const FILE_FAULT: u8 = 3;
+
+/// Memory ran out.
+const MEMORY: u8 = 4;
+
+// Says on the standard error why nothing was done. What can't be written there is lost.
+fn complain<E: Write>(err: &mut E, text: &str) {
+    let _ = err.write_all(text.as_bytes());
+}
+
+fn no_memory<E: Write>(err: &mut E) -> u8
+    ensures { result ≡ 4 }
+{
+    complain(err, "memory\n");
+    MEMORY
+}
+
+fn cannot_write<E: Write>(err: &mut E) -> u8
+    ensures { result ≡ 3 }
+{
+    complain(err, "cannot write\n");
+    FILE_FAULT
+}
+
+fn cannot_read<E: Write>(err: &mut E, name: &str) -> u8
+    ensures { result ≡ 3 }
+{
+    complain(err, "cannot read ");
+    complain(err, name);
+    complain(err, "\n");
+    FILE_FAULT
+}
+
+// Runs the code that was read, and writes what it came to.
+fn run_text<W: Write, E: Write>(
+    alloc: Global,
+    raw: bool,
+    text: &[u8],
+    numbers: &[u64],
+    out: &mut W,
+    err: &mut E,
+) -> u8
+    ensures { Writes raw text.now numbers.now (W.contents out.old) (W.contents out.new) result }
+{
+    let Ok(execution) = execute_text(alloc, raw, text, numbers) else {
+        return no_memory(err);
+    };
+    let Ok(said) = lines(alloc, &execution) else {
+        return no_memory(err);
+    };
+    if out.write_all(said.as_bytes()).is_err() {
+        return cannot_write(err);
+    }
+    status(&execution)
+}
+
+// Reads all of the code, and runs it.
+fn run_input<R: Read, W: Write, E: Write>(
+    alloc: Global,
+    name: &str,
+    raw: bool,
+    numbers: &[u64],
+    input: &mut R,
+    out: &mut W,
+    err: &mut E,
+) -> u8
+    ensures { RunsInput raw numbers.now (R.remaining input.old) (W.contents out.old) (W.contents out.new) result }
+{
+    match read_all(alloc, input) {
+        Ok(text) => run_text(alloc, raw, text.as_slice(), numbers, out, err),
+        Err(ReadFault::Memory) => no_memory(err),
+        Err(ReadFault::Read) => cannot_read(err, name),
+    }
+}
+
+// Opens the file, and runs the code in it.
+fn run_file<F: Files, W: Write, E: Write>(
+    rt: &F,
+    alloc: Global,
+    wanted: &Wanted,
+    out: &mut W,
+    err: &mut E,
+) -> u8 {
+    let name = wanted.file;
+    let numbers = wanted.numbers.as_slice();
+    match File::open(rt, name) {
+        Ok(mut file) => run_input(alloc, name, wanted.raw, numbers, &mut file, out, err),
+        Err(_) => cannot_read(err, name),
+    }
+}
+
+// A command line that asks for help, or is wrong.
+fn misuse<W: Write, E: Write>(error: Error, out: &mut W, err: &mut E) -> u8
+    ensures { kind_of error ≡ ErrorKind.OutOfMemory → result ≡ 4 }
+{
+    if error.kind() == ErrorKind::OutOfMemory {
+        return no_memory(err);
+    }
+    if error.use_stderr() {
+        let _ = write!(err, "{error}");
+        return MISUSE;
+    }
+    if write!(out, "{error}").is_err() {
+        return cannot_write(err);
+    }
+    0
+}
+
+fn wrong_words<E: Write>(err: &mut E, text: &str) -> u8 {
+    complain(err, text);
+    complain(err, "\n\nFor more information, try 'procd --help'.\n");
+    MISUSE
+}
+
+/// Runs the program with these words, its name first, and answers its exit status: 0 done, 1
+/// refused, 2 wrong command line, 3 file fault, 4 want of memory.
+pub fn program<F: Files, S: AsStr, R: Read, W: Write, E: Write>(
+    rt: &F,
+    alloc: Global,
+    words: &[S],
+    input: &mut R,
+    out: &mut W,
+    err: &mut E,
+) -> u8
+    ensures { (raw : Bool) (numbers : List ℕ) → SaysExec (map S.text words.now) (codes "-") raw numbers → RunsInput raw numbers (R.remaining input.old) (W.contents out.old) (W.contents out.new) result }
+{
+    match wanted_of(alloc, words) {
+        Ok(wanted) => {
+            if wanted.file == "-" {
+                let numbers = wanted.numbers.as_slice();
+                return run_input(alloc, "-", wanted.raw, numbers, input, out, err);
+            }
+            run_file(rt, alloc, &wanted, out, err)
+        }
+        Err(WordFault::Clap(error)) => misuse(error, out, err),
+        Err(WordFault::Memory) => no_memory(err),
+        Err(WordFault::NotNumber) => {
+            wrong_words(err, "error: an ARG is no number of 64 bits in decimal")
+        }
+        Err(WordFault::NoCommand) => wrong_words(err, "error: a command is missing, as exec"),
+    }
+}
