@@ -1,8 +1,7 @@
-use Rattle.std.proofs.Common.{◌≡◌, ℕ, List, [], ◌∙◌, sym, refl, subst}
+use Rattle.std.proofs.Common.{◌≡◌, ℕ, List, [], ◌∙◌, sym, refl}
 use Rattle.semantics.specs.Step.{Bases}
 use Rattle.semantics.specs.Reach.{reach, entry, Asked, Exited}
 use Rattle.semantics.specs.Row.{plain_bases}
-use Rattle.interpreter.specs.Gives.{Pauses}
 use Rattle.interpreter.specs.Runs.{setting_of}
 use Rattle.procd.proofs.Answered.{exits, never_asks, plain_layout, at_same}
 use Rattle.procd.proofs.execute.answer.Goals as goal

@@ -1,4 +1,4 @@
-use Rattle.std.proofs.Common.{◌≡◌, codes, subst}
+use Rattle.std.proofs.Common.{codes}
 use Rattle.std.proofs.lemmas.Bool.{false≢true}
 use Rattle.procd.proofs.Faults.{no_memory_fits}
 use Rattle.procd.proofs.program.program.Goals as goal

@@ -1,6 +1,6 @@
-use Rattle.std.proofs.Common.{◌≡◌, ◌∙◌, ap₂, rules, codes}
+use Rattle.std.proofs.Common.{◌≡◌, ◌∙◌, ap₂, rules}
 use Rattle.std.proofs.lemmas.Result.{IfOk-weaker}
-use Rattle.clap.specs.Words.{app_of, new_app, rule_of, with_rule}
+use Rattle.clap.specs.Words.{rule_of, with_rule}
 use Rattle.procd.proofs.Faults.{still_local}
 use Rattle.procd.specs.Said.{raw_rule, file_rule, arg_rule}
 use Rattle.procd.proofs.words.exec_command.Goals as goal

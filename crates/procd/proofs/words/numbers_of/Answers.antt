@@ -1,4 +1,4 @@
-use Rattle.std.proofs.Common.{◌≡◌, ◌∙◌, ◌<◌, ℕ, ap, refl, sym, Some, None, List, [], length, option_map, rules}
+use Rattle.std.proofs.Common.{◌∙◌, ◌<◌, ℕ, ap, List, [], length, option_map, rules}
 use Rattle.std.proofs.lemmas.Option.{slice_get-map, slice_get-get_or}
 use Rattle.std.specs.Borrow.{Bor}
 use Rattle.procd.proofs.words.numbers_of.Goals as goal

@@ -1,5 +1,5 @@
-use Rattle.std.proofs.Common.{◌≡◌, ◌∙◌, ap, ap₂, rules, codes}
-use Rattle.clap.specs.Words.{App, app_of, new_app, with_subcommand}
+use Rattle.std.proofs.Common.{◌≡◌, ◌∙◌, ap, ap₂}
+use Rattle.clap.specs.Words.{App, app_of, with_subcommand}
 use Rattle.clap.specs.Simple.{app_of_fields}
 use Rattle.procd.specs.Said.{procd_app, exec_app}
 use Rattle.procd.proofs.words.procd_command.Goals as goal

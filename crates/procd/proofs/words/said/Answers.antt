@@ -1,6 +1,6 @@
 use Rattle.std.proofs.Common.{◌≡◌, ◌∙◌, ap, refl, true, map}
 use Rattle.std.proofs.lemmas.Result.{IfErr-weaker, IfOk-weaker}
-use Rattle.clap.specs.Words.{App, app_of, is_simple, subcommand_of, takes}
+use Rattle.clap.specs.Words.{App, is_simple, subcommand_of, takes}
 use Rattle.clap.proofs.OnLiterals.{clap_on_literals}
 use Rattle.procd.specs.Said.{procd_app}
 use Rattle.procd.proofs.words.said.Goals as goal

@@ -1,5 +1,5 @@
-use Rattle.std.proofs.Common.{◌≡◌, ◌∙◌, ap, sym, codes, List, option_map}
-use Rattle.clap.specs.Words.{Row, Text, first_of, one_of, one_text, found_of, rows_of}
+use Rattle.std.proofs.Common.{◌∙◌, ap, sym, codes, List, option_map}
+use Rattle.clap.specs.Words.{Row, Text, first_of, one_of, found_of, rows_of}
 use Rattle.clap.specs.Walk.{all_of}
 use Rattle.clap.proofs.WalkLemmas.{first_value-rows, raw_values-rows, one_text-rows}
 use Rattle.procd.proofs.Faults.{some_some, flag_is}
