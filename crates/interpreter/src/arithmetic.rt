@@ -22,7 +22,9 @@ fn signed_quotient64(a: u64, b: u64) -> u64
     if b == 0 {
         return 0;
     }
-    a.cast_signed().wrapping_div(b.cast_signed()).cast_unsigned()
+    a.cast_signed()
+        .wrapping_div(b.cast_signed())
+        .cast_unsigned()
 }
 
 #[inline(always)]
@@ -32,7 +34,9 @@ fn signed_remainder64(a: u64, b: u64) -> u64
     if b == 0 {
         return a;
     }
-    a.cast_signed().wrapping_rem(b.cast_signed()).cast_unsigned()
+    a.cast_signed()
+        .wrapping_rem(b.cast_signed())
+        .cast_unsigned()
 }
 
 #[inline(always)]
@@ -42,7 +46,9 @@ fn signed_quotient32(a: u32, b: u32) -> u32
     if b == 0 {
         return 0;
     }
-    a.cast_signed().wrapping_div(b.cast_signed()).cast_unsigned()
+    a.cast_signed()
+        .wrapping_div(b.cast_signed())
+        .cast_unsigned()
 }
 
 #[inline(always)]
@@ -52,7 +58,9 @@ fn signed_remainder32(a: u32, b: u32) -> u32
     if b == 0 {
         return a;
     }
-    a.cast_signed().wrapping_rem(b.cast_signed()).cast_unsigned()
+    a.cast_signed()
+        .wrapping_rem(b.cast_signed())
+        .cast_unsigned()
 }
 
 #[inline(always)]
