@@ -30,7 +30,8 @@ fn complain<E: Write>(err: &mut E, text: &str) {
     let _ = err.write_all(text.as_bytes());
 }
 
-fn no_memory<E: Write>(err: &mut E) -> u8
+/// Says that memory ran out, and answers the status for it.
+pub fn no_memory<E: Write>(err: &mut E) -> u8
     ensures { result ≡ 4 }
 {
     complain(err, "memory\n");

@@ -1,0 +1,318 @@
+use crate::program::program;
+use std::alloc::{AllocError, Global};
+use std::io;
+use std::io::{Read, Write};
+use std::test::Fail;
+
+// What a run of the program wrote, and its status.
+#[derive(Drop)]
+struct Ended {
+    out: Vec<u8>,
+    err: Vec<u8>,
+    status: u8,
+}
+
+fn run(rt: &HostRuntime, words: &[&str], mut input: &[u8]) -> Ended {
+    let mut out = Vec::new(rt.alloc());
+    let mut err = Vec::new(rt.alloc());
+    let status = program(rt, rt.alloc(), words, &mut input, &mut out, &mut err);
+    Ended { out, err, status }
+}
+
+const EXEC: [&str; 3] = ["procd", "exec", "-"];
+
+// Slots as their eight bytes in one number, the lowest byte first.
+fn bytes_of(alloc: Global, slots: &[u64]) -> Result<Vec<u8>, AllocError> {
+    let mut bytes = Vec::new(alloc);
+    for slot in slots {
+        bytes.extend_from_slice(&slot.to_le_bytes())?;
+    }
+    Ok(bytes)
+}
+
+#[test]
+fn answers(rt: HostRuntime) -> Result<(), Fail> {
+    let cases = [
+        // mov r0, 7; mov r1, 5; add r0, r1; exit
+        (
+            "b7 00 00 00 07 00 00 00\nb7 01 00 00 05 00 00 00\n0f 10 00 00 00 00 00 00\n95 00 00 00 00 00 00 00\n",
+            "answer 12\nexecuted 4\n",
+        ),
+        // mov r0, 7; jeq r0, 7, +1; mov r0, 1; exit
+        (
+            "b700000007000000 1500010007000000 b700000001000000 9500000000000000",
+            "answer 7\nexecuted 3\n",
+        ),
+        // 7 / 0 and 7 mod 0
+        (
+            "b700000007000000 b701000000000000 3f10000000000000 9500000000000000",
+            "answer 0\nexecuted 4\n",
+        ),
+        (
+            "b700000007000000 b701000000000000 9F10000000000000 9500000000000000",
+            "answer 7\nexecuted 4\n",
+        ),
+        // lddw r0, 0x0000000100000007; mod32 r0, r1 with r1 = 0
+        (
+            "1800000007000000 0000000001000000 b701000000000000 9c10000000000000 9500000000000000",
+            "answer 7\nexecuted 4\n",
+        ),
+        // lddw r0, 0x8000000000000000; sdiv r0, -1
+        (
+            "1800000000000000 0000000000000080 37000100ffffffff 9500000000000000",
+            "answer 9223372036854775808\nexecuted 3\n",
+        ),
+        // mov r0, 4660; be16 r0
+        (
+            "b700000034120000 dc00000010000000 9500000000000000",
+            "answer 13330\nexecuted 3\n",
+        ),
+        // mov32 r0, -1
+        (
+            "b4000000ffffffff 9500000000000000",
+            "answer 4294967295\nexecuted 2\n",
+        ),
+        // mov r0, 0; exit; mov r0, r5; exit
+        (
+            "b700000000000000 9500000000000000 bf50000000000000 9500000000000000",
+            "answer 0\nexecuted 2\n",
+        ),
+    ];
+    for (text, want) in cases {
+        let ended = run(&rt, &EXEC, text.as_bytes());
+        assert_eq!(rt; ended.out.as_slice(), want.as_bytes(), "of {text}");
+        assert_eq!(rt; ended.status, 0);
+        assert!(rt; ended.err.is_empty());
+    }
+    Ok(())
+}
+
+#[test]
+fn refusals(rt: HostRuntime) -> Result<(), Fail> {
+    let cases = [
+        ("b7 0", "H1 NotHex at 3"),
+        ("95 0 0", "H1 NotHex at 3"),
+        ("", "E1 NoCode"),
+        ("180100008877665500000000443322", "E2 Length"),
+        ("1801000088776655", "E4 WideCut slot 0"),
+        ("1801000088776655 0000010044332211", "E5 UnusedField slot 1"),
+        ("9500000001000000", "E5 UnusedField slot 0"),
+        ("8f00000000000000", "E6 Undefined slot 0"),
+        ("b70b000000000000", "E6 Undefined slot 0"),
+        ("3000000000000000", "E7 OutsideProfile slot 0 Packet"),
+        ("1810000000000000", "E7 OutsideProfile slot 0 WideSubtype"),
+        ("8510000001000000", "E7 OutsideProfile slot 0 LocalCall"),
+        ("8520000001000000", "E7 OutsideProfile slot 0 BtfCall"),
+        ("db10000000000000", "E7 OutsideProfile slot 0 Atomic"),
+        ("0500ffff00000000", "V1 Backward slot 0"),
+        ("0500070000000000 9500000000000000", "V2 OutOfCode slot 0"),
+        // ja +1; lddw r0, 0; exit
+        (
+            "0500010000000000 1800000000000000 0000000000000000 9500000000000000",
+            "V3 IntoWide slot 0",
+        ),
+        ("b700000000000000", "V4 FallsOff slot 0"),
+        (
+            "bf20000000000000 9500000000000000",
+            "V5 EmptyRegister slot 0",
+        ),
+        ("b70a000000000000 9500000000000000", "V6 WritesR10 slot 0"),
+        (
+            "b700000000000000 8500000006000000 9500000000000000",
+            "V11 UnknownHelper slot 1",
+        ),
+    ];
+    for (text, want) in cases {
+        let want = format!(in rt.alloc(); "refused {want}\n")?;
+        let ended = run(&rt, &EXEC, text.as_bytes());
+        assert_eq!(rt; ended.out.as_slice(), want.as_bytes(), "of {text}");
+        assert_eq!(rt; ended.status, 1);
+    }
+    Ok(())
+}
+
+#[test]
+fn the_longest_code(rt: HostRuntime) -> Result<(), Fail> {
+    let raw = ["procd", "exec", "--raw", "-"];
+    let mut slots = Vec::new(rt.alloc());
+    for _ in 0..4095 {
+        slots.push(0xb7)?;
+    }
+    slots.push(0x95)?;
+    let ended = run(
+        &rt,
+        &raw,
+        bytes_of(rt.alloc(), slots.as_slice())?.as_slice(),
+    );
+    assert_eq!(rt;
+        ended.out.as_slice(),
+        b"answer 0\nexecuted 4096\n".as_slice()
+    );
+    slots.push(0x95)?;
+    let ended = run(
+        &rt,
+        &raw,
+        bytes_of(rt.alloc(), slots.as_slice())?.as_slice(),
+    );
+    assert_eq!(rt; ended.out.as_slice(), b"refused E3 TooLong\n".as_slice());
+    assert_eq!(rt; ended.status, 1);
+    Ok(())
+}
+
+// Too many arguments come behind what is wrong with the text and the code, and before what the
+// verifier says.
+#[test]
+fn arguments(rt: HostRuntime) -> Result<(), Fail> {
+    let nine = [
+        "procd", "exec", "-", "1", "2", "3", "4", "5", "6", "7", "8", "9",
+    ];
+    let cases = [
+        ("b7 0", "refused H1 NotHex at 3\n"),
+        ("", "refused E1 NoCode\n"),
+        ("b700000000000000", "refused S1 TooManyArgs\n"),
+    ];
+    for (text, want) in cases {
+        let ended = run(&rt, &nine, text.as_bytes());
+        assert_eq!(rt; ended.out.as_slice(), want.as_bytes(), "of {text}");
+        assert_eq!(rt; ended.status, 1);
+    }
+    let eight = run(&rt, &nine[..11], b"b700000000000000 9500000000000000");
+    assert_eq!(rt; eight.out.as_slice(), b"answer 0\nexecuted 2\n".as_slice());
+    Ok(())
+}
+
+#[test]
+fn wrong_command_lines(rt: HostRuntime) -> Result<(), Fail> {
+    let cases: [(&[&str], &str); 4] = [
+        (&["procd"], "error: a command is missing"),
+        (&["procd", "dance"], "error: "),
+        (&["procd", "exec"], "error: "),
+        (
+            &["procd", "exec", "-", "18446744073709551616"],
+            "error: an ARG is no number of 64 bits in decimal",
+        ),
+    ];
+    for (words, want) in cases {
+        let ended = run(&rt, words, b"b700000000000000 9500000000000000");
+        assert_eq!(rt; ended.status, 2, "at {want}");
+        assert!(rt; ended.out.is_empty());
+        assert!(rt; ended.err.starts_with(want.as_bytes()), "at {want}");
+    }
+    Ok(())
+}
+
+#[test]
+fn help(rt: HostRuntime) {
+    for words in [
+        ["procd", "--help"].as_slice(),
+        ["procd", "exec", "--help"].as_slice(),
+    ] {
+        let ended = run(&rt, words, b"");
+        assert_eq!(rt; ended.status, 0);
+        assert!(rt; !ended.out.is_empty());
+        assert!(rt; ended.err.is_empty());
+    }
+}
+
+#[test]
+fn no_such_file(rt: HostRuntime) {
+    let ended = run(&rt, &["procd", "exec", "no-such-file"], b"");
+    assert_eq!(rt;
+        ended.err.as_slice(),
+        b"cannot read no-such-file\n".as_slice()
+    );
+    assert_eq!(rt; ended.status, 3);
+    assert!(rt; ended.out.is_empty());
+}
+
+// Hands out one byte a call; every second call is interrupted, and the one after `left` bytes
+// fails.
+#[derive(Drop)]
+struct Halting<'a> {
+    rest: &'a [u8],
+    left: usize,
+    interrupted: bool,
+}
+
+impl<'a> Read for Halting<'a> {
+    fn read(&mut self, buf: &mut [u8]) -> io::Result<usize> {
+        self.interrupted = !self.interrupted;
+        if self.interrupted {
+            return Err(io::Error::from(io::ErrorKind::Interrupted));
+        }
+        if self.left == 0 {
+            return Err(io::Error::from(io::ErrorKind::BrokenPipe));
+        }
+        self.left -= 1;
+        let count = buf.len().min(1);
+        self.rest.read(&mut buf[..count])
+    }
+}
+
+// Takes this many bytes, one a call, and then fails.
+#[derive(Drop)]
+struct Full {
+    taken: Vec<u8>,
+    room: usize,
+}
+
+impl Write for Full {
+    fn write(&mut self, buf: &[u8]) -> io::Result<usize> {
+        if self.taken.len() >= self.room {
+            return Err(io::Error::from(io::ErrorKind::BrokenPipe));
+        }
+        let count = buf.len().min(1);
+        self.taken.extend_from_slice(&buf[..count])?;
+        Ok(count)
+    }
+
+    fn flush(&mut self) -> io::Result<()> {
+        Ok(())
+    }
+}
+
+const TWO: &[u8] = b"b700000007000000 9500000000000000";
+
+#[test]
+fn reads_that_fail(rt: HostRuntime) {
+    // The last of these reads finds the end.
+    for left in 0..TWO.len() + 2 {
+        let mut input = Halting {
+            rest: TWO,
+            left,
+            interrupted: false,
+        };
+        let mut out = Vec::new(rt.alloc());
+        let mut err = Vec::new(rt.alloc());
+        let status = program(&rt, rt.alloc(), &EXEC, &mut input, &mut out, &mut err);
+        if left == TWO.len() + 1 {
+            assert_eq!(rt; out.as_slice(), b"answer 7\nexecuted 2\n".as_slice());
+            assert_eq!(rt; status, 0);
+        } else {
+            assert!(rt; out.is_empty());
+            assert_eq!(rt; err.as_slice(), b"cannot read -\n".as_slice());
+            assert_eq!(rt; status, 3);
+        }
+    }
+}
+
+#[test]
+fn writes_that_fail(rt: HostRuntime) {
+    let want = b"answer 7\nexecuted 2\n".as_slice();
+    for room in 0..want.len() + 1 {
+        let mut out = Full {
+            taken: Vec::new(rt.alloc()),
+            room,
+        };
+        let mut err = Vec::new(rt.alloc());
+        let mut input = TWO;
+        let status = program(&rt, rt.alloc(), &EXEC, &mut input, &mut out, &mut err);
+        assert_eq!(rt; out.taken.as_slice(), &want[..room]);
+        if room == want.len() {
+            assert_eq!(rt; status, 0);
+        } else {
+            assert_eq!(rt; err.as_slice(), b"cannot write\n".as_slice());
+            assert_eq!(rt; status, 3);
+        }
+    }
+}
