@@ -1,17 +1,18 @@
 //! The verifier.
 
-ghost use Rattle.std.specs.Prelude.{◌≡◌, ◌≤◌, ◌<◌, length, IfOk, IfErr, None};
+ghost use Rattle.std.specs.Prelude.{◌≡◌, ◌≤◌, ◌<◌, length, IfOk, IfErr, None, count_by};
 ghost use Rattle.semantics.specs.Reach.{IsSafe};
 ghost use Rattle.semantics.specs.Instruction.{program_of};
 ghost use Rattle.bpf_encoding.specs.Spells.{IsCode};
 ghost use Rattle.verifier.specs.Quiet.{IsQuiet};
+ghost use Rattle.verifier.specs.Calls.{is_call_place};
 ghost use Rattle.verifier.specs.Verdict.{verdict, first_flaw, first_violation, IsVerdict};
 
 use crate::flow::first_flaw;
 use crate::pass::first_violation;
 use access_slots::decl::Decl;
 use bpf_encoding::code::Code;
-use bpf_encoding::insn::Place;
+use bpf_encoding::insn::{Insn, Place};
 use register_kinds::kind::Violation;
 use std::alloc::{AllocError, Global};
 use std::marker::Model;
@@ -86,6 +87,24 @@ pub fn verify(alloc: Global, code: Code, decl: Decl) -> Result<Verified, VerifyF
     Ok(Verified { code, decl })
 }
 
+fn is_call(place: &Place) -> bool
+    ensures { result ≡ is_call_place place.now }
+{
+    matches!(place, Place::Insn(Insn::Call { .. }))
+}
+
+fn calls_in(places: &[Place]) -> usize
+    ensures { result ≡ count_by is_call_place places.now }
+{
+    let mut calls = 0;
+    for place in places {
+        if is_call(place) {
+            calls += 1;
+        }
+    }
+    calls
+}
+
 impl Verified {
     /// The code that was verified.
     pub fn code(&self) -> &Code
@@ -103,5 +122,12 @@ impl Verified {
         ensures { result.now ≡ self.now.decl }
     {
         &self.decl
+    }
+
+    /// How many of its instructions call a helper.
+    pub fn calls(&self) -> usize
+        ensures { result ≡ count_by is_call_place self.now.code }
+    {
+        calls_in(self.code.places())
     }
 }
