@@ -1,10 +1,12 @@
 -- A row of places that grows, and its slots.
-use Rattle.std.proofs.Common.{◌≡◌, ℕ, zero, suc, ◌+◌, ◌-◌, ◌/◌, ◌%◌, ◌<◌, ◌≤◌, ◌^◌, Bool, true, false, List, [], ◌∷◌, ◌++◌, length, take, drop, Option, Some, None, refl, sym, ap, subst, ◌∙◌, arith, append_assoc, add-one}
+use Rattle.std.proofs.Common.{◌≡◌, ℕ, zero, suc, ◌+◌, ◌-◌, ◌/◌, ◌%◌, ◌<◌, ◌≤◌, ◌^◌, Bool, true, false, if◌then◌else◌, List, [], ◌∷◌, ◌++◌, length, take, drop, Option, Some, None, refl, sym, ap, subst, ◌∙◌, arith, append_assoc, add-one}
 use Rattle.std.specs.Prelude.{ℤ, pos, is_some}
 use Rattle.std.specs.Int.{w32, cast_signed, cast_unsigned}
 use Rattle.std.specs.Int.RustNames.{FitsSigned}
 use Rattle.std.proofs.lemmas.List.{append-nil}
-use Rattle.std.proofs.lemmas.Int.{to_z-of_z}
+use Rattle.std.proofs.lemmas.Int.{to_z-of_z, of_z-to_z}
+use Rattle.bpf_encoding.specs.Named.{register_named, insn_named, wide_named, named_from}
+use Rattle.bpf_encoding.proofs.Named.{register_named-number_of, insn_named-fields_of}
 use Rattle.bpf_encoding.specs.Fields.{Fields, fields_of_bytes, slots_from, slots_of}
 use Rattle.bpf_encoding.specs.Spelling.{number_of, fields, fields_of, second_fields, high_half, is_wide, fields_behind, fields_of_code, is_whole}
 use Rattle.bpf_encoding.specs.Faults.{fault_of}
@@ -46,6 +48,9 @@ takes_insn places i f narrow is = record {
       append-nil (fields_of_code (places ++ place.Insn i ∷ [])) ∙ fields_behind-append 0 places i [] ∙ ap (λ (g : Fields). fields_of_code places ++ g ∷ []) is
       ∙ ap (λ (fs : List Fields). fs ++ f ∷ []) (sym (append-nil (fields_of_code places)));
   whole = λ h. is_whole-append false places (place.Insn i ∷ []) h ∙ ap (λ (b : Bool). is_whole b []) narrow;
+  named = λ fs.
+      append_assoc places (place.Insn i ∷ []) (named_from None fs) ∙ ap (λ (j : Insn). places ++ place.Insn j ∷ named_from None fs) (sym (ap insn_named (sym is) ∙ insn_named-fields_of i narrow))
+      ∙ ap (λ (b : Bool). places ++ (if b then named_from (Some (register_named f.dst, cast_unsigned w32 f.imm)) fs else place.Insn (insn_named f) ∷ named_from None fs)) (sym (ap is_wide_opcode (sym is) ∙ is_wide_opcode-fields_of i ∙ narrow));
   faults = λ place fs.
       ap (λ (o : Option SlotFault). or_later place o (first_fault (is_wide_opcode f) (suc place) fs)) (ap fault_of (sym is) ∙ fault_of-fields_of i)
       ∙ ap (λ (b : Bool). first_fault b (suc place) fs) (ap is_wide_opcode (sym is) ∙ is_wide_opcode-fields_of i ∙ narrow);
@@ -58,14 +63,18 @@ takes_wide places dst value f due is dst_is low_is = record {
       ap (λ (g : Fields). fields_of_code places ++ g ∷ []) (ap (λ (r : Register). fields 0x18 (number_of r) 0 (pos 0) (cast_signed w32 due.low)) dst_is ∙ ap (λ (n : ℕ). fields 0x18 (number_of dst) 0 (pos 0) (cast_signed w32 n)) low_is ∙ is)
       ∙ ap (λ (fs : List Fields). fs ++ f ∷ []) (sym (append-nil (fields_of_code places)));
   whole = λ h. h;
+  named = λ fs.
+      ap (λ (r : Register). places ++ named_from (Some (r, due.low)) fs) (dst_is ∙ sym (register_named-number_of dst))
+      ∙ ap (λ (n : ℕ). places ++ named_from (Some (register_named (number_of dst), n)) fs) (low_is ∙ sym (of_z-to_z w32 (value % 2 ^ 32) (omega arith)))
+      ∙ ap (λ (g : Fields). places ++ named_from None (g ∷ fs)) is;
   faults = λ place fs.
       ap (λ (o : Option SlotFault). or_later place o (first_fault (is_wide_opcode f) (suc place) fs)) (ap fault_of (sym is) ∙ fault_of-fields_of (LoadWide dst value))
       ∙ ap (λ (b : Bool). first_fault b (suc place) fs) (ap is_wide_opcode (sym is));
 }
 
 -- the second
-pub takes_second : (places : List Place) (due : Due) (value : ℕ) (imm : ℤ) → value % 2 ^ 32 ≡ due.low → value / 2 ^ 32 % 2 ^ 32 ≡ cast_unsigned w32 imm → FitsSigned w32 imm → TakesSlot places (Some due) (fields 0 0 0 (pos 0) imm) ((places ++ place.Insn (LoadWide due.dst value) ∷ []) ++ place.Second ∷ []) None
-takes_second places due value imm low_is high_is fits =
+pub takes_second : (places : List Place) (due : Due) (value : ℕ) (imm : ℤ) → value % 2 ^ 32 ≡ due.low → value / 2 ^ 32 % 2 ^ 32 ≡ cast_unsigned w32 imm → value ≡ wide_named due.low (cast_unsigned w32 imm) → FitsSigned w32 imm → TakesSlot places (Some due) (fields 0 0 0 (pos 0) imm) ((places ++ place.Insn (LoadWide due.dst value) ∷ []) ++ place.Second ∷ []) None
+takes_second places due value imm low_is high_is value_is fits =
     let both = append_assoc places (place.Insn (LoadWide due.dst value) ∷ []) (place.Second ∷ []) in
     let first : fields_of (LoadWide due.dst value) ≡ fields 0x18 (number_of due.dst) 0 (pos 0) (cast_signed w32 due.low) = ap (λ (n : ℕ). fields 0x18 (number_of due.dst) 0 (pos 0) (cast_signed w32 n)) low_is in
     let second : second_fields (value / 2 ^ 32 % 2 ^ 32) ≡ fields 0 0 0 (pos 0) imm = ap second_fields high_is ∙ ap (fields 0 0 0 (pos 0)) (to_z-of_z w32 imm fits) in
@@ -75,6 +84,9 @@ takes_second places due value imm low_is high_is fits =
           ∙ ap (λ (g : Fields). fields_of_code places ++ g ∷ second_fields (value / 2 ^ 32 % 2 ^ 32) ∷ []) first ∙ ap (λ (g : Fields). fields_of_code places ++ fields 0x18 (number_of due.dst) 0 (pos 0) (cast_signed w32 due.low) ∷ g ∷ []) second
           ∙ sym (append_assoc (fields_of_code places) (fields 0x18 (number_of due.dst) 0 (pos 0) (cast_signed w32 due.low) ∷ []) (fields 0 0 0 (pos 0) imm ∷ []));
       whole = λ h. ap (is_whole false) both ∙ is_whole-append false places (place.Insn (LoadWide due.dst value) ∷ place.Second ∷ []) h;
+      named = λ fs.
+          ap (λ (ps : List Place). ps ++ named_from None fs) both ∙ append_assoc places (place.Insn (LoadWide due.dst value) ∷ place.Second ∷ []) (named_from None fs)
+          ∙ ap (λ (n : ℕ). places ++ place.Insn (LoadWide due.dst n) ∷ place.Second ∷ named_from None fs) value_is;
       faults = λ place fs. refl;
     }
 
@@ -97,6 +109,13 @@ faults_go_on count at due due' rest total lt is so_far =
     let k : count - at ≡ suc (count - (at + 1)) = omega arith in
     let tail = slots_from (count - (at + 1)) (drop 8 rest) in
     ap (λ (n : ℕ). first_fault due' n tail) (add-one at) ∙ sym (is at tail) ∙ ap (λ (n : ℕ). first_fault due at (slots_from n rest)) (sym k) ∙ so_far
+
+pub named_goes_on : (count at : ℕ) (half half' : Option (Register × ℕ)) (before after : List Place) (rest : List ℕ) (total : List Place) → at < count
+    → ((fs : List Fields) → after ++ named_from half' fs ≡ before ++ named_from half (fields_of_bytes (take 8 rest) ∷ fs))
+    → before ++ named_from half (slots_from (count - at) rest) ≡ total → after ++ named_from half' (slots_from (count - (at + 1)) (drop 8 rest)) ≡ total
+named_goes_on count at half half' before after rest total lt is so_far =
+    let k : count - at ≡ suc (count - (at + 1)) = omega arith in
+    is (slots_from (count - (at + 1)) (drop 8 rest)) ∙ ap (λ (n : ℕ). before ++ named_from half (slots_from n rest)) (sym k) ∙ so_far
 
 pub fault_is_first : (count at : ℕ) (due : Option Due) (rest : List ℕ) (total : Option DecodeFault) (e : DecodeFault) → at < count → IsFaultHere due at (fields_of_bytes (take 8 rest)) e
     → first_fault (is_some due) at (slots_from (count - at) rest) ≡ total → IsFirstFault total e

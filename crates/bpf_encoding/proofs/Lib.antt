@@ -1,3 +1,4 @@
 pub mod NoFault
 pub mod Growing
 pub mod Written
+pub mod Named

@@ -5,3 +5,4 @@ pub mod Viewed
 pub mod Reading
 pub mod Taking
 pub mod Spells
+pub mod Named

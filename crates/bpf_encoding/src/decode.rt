@@ -7,6 +7,7 @@ ghost use Rattle.bpf_encoding.specs.Spelling.{fields_of_code, is_whole};
 ghost use Rattle.bpf_encoding.specs.Spells.{Spells, at_slot, first_fault, fault_in, IsFirstFault};
 ghost use Rattle.bpf_encoding.specs.Taking.{TakesSlot, IsFaultHere};
 ghost use Rattle.bpf_encoding.specs.Viewed.{viewed};
+ghost use Rattle.bpf_encoding.specs.Named.{wide_named, code_named};
 ghost use Rattle.bpf_encoding.specs.declared.insn.Place.{Place};
 
 use crate::code::Code;
@@ -96,6 +97,7 @@ fn take_first(places: &mut Vec<Place>, slot: &Slot, at: usize) -> Result<Option<
 fn wide_value(low: u32, imm: i32) -> u64
     ensures low { result % 2 ^ 32 ≡ low }
     ensures high { result / 2 ^ 32 % 2 ^ 32 ≡ cast_unsigned w32 imm }
+    ensures whole { result ≡ wide_named low (cast_unsigned w32 imm) }
 {
     u64::from(low) + 0x1_0000_0000 * u64::from(imm.cast_unsigned())
 }
@@ -140,6 +142,7 @@ fn take(
 fn places_of(alloc: Global, bytes: &[u8]) -> Result<Vec<Place>, DecodeFault>
     requires { (n : ℕ) × (length bytes.now ≡ 8 * n) }
     ensures fields { IfOk result (λ places. fields_of_code places.items ≡ slots_of bytes.now) }
+    ensures named { IfOk result (λ places. places.items ≡ code_named bytes.now) }
     ensures whole { IfOk result (λ places. is_whole false places.items ≡ true) }
     ensures err { IfErr result (IsFirstFault (first_fault false 0 (slots_of bytes.now))) }
 {
@@ -166,6 +169,8 @@ fn places_of(alloc: Global, bytes: &[u8]) -> Result<Vec<Place>, DecodeFault>
 pub fn decode(alloc: Global, bytes: &[u8]) -> Result<Code, DecodeFault>
     // What is read is spelled so.
     ensures spelled { IfOk result (λ code. Spells bytes.now code) }
+    // It is the one row of places that these bytes name.
+    ensures named { IfOk result (λ code. code ≡ code_named bytes.now) }
     // What is spelled so is read, unless memory runs out.
     ensures only { (code : List Place) → Spells bytes.now code → IfErr result (λ e. e ≡ DecodeFault.Memory) }
     // Which fault it is.

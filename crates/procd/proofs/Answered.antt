@@ -9,6 +9,7 @@ use Rattle.semantics.specs.Reach.{Stop, Asked, Exited, reach, IsFineStop, IsLayo
 use Rattle.semantics.specs.Row.{outcome, plain_bases}
 use Rattle.semantics.specs.Instruction.{program_of}
 use Rattle.bpf_encoding.specs.Fields.{Fields}
+use Rattle.bpf_encoding.specs.Named.{code_named}
 use Rattle.bpf_encoding.specs.Spells.{Spells}
 use Rattle.bpf_encoding.specs.declared.insn.Place.{Place}
 use Rattle.verifier.specs.Checked.{Checked}
@@ -60,14 +61,17 @@ runs_to v code args (Code fault) ec en es few none h = absurd h
 runs_to v code args TooManyArgs ec en es few none h = absurd h
 runs_to v code args (Refused slot violation) ec en es few none h = absurd h
 
+named_runs_to : (bytes args : List ℕ) (e : Execution) → Spells bytes (code_named bytes) → RunsTo (code_named bytes) args e → IsExecution bytes args e
+named_runs_to bytes args (Answer value executed) spells h =
+    (spells, (h.0, h.1, subst (λ (fs : List Fields). outcome (reach (record { program = record { code = fs; decl = declaration (length args) [] }; args = args; bases = plain_bases }) []) ≡ Some (value, executed)) (sym spells.fields) h.2))
+named_runs_to bytes args (NotHex at) spells h = h
+named_runs_to bytes args (Code fault) spells h = absurd h
+named_runs_to bytes args TooManyArgs spells h = (spells, h)
+named_runs_to bytes args (Refused slot violation) spells h = (spells, h)
+
 -- and what the bytes that spell it run to
-pub spelled_runs_to : (bytes : List ℕ) (code : List Place) (args : List ℕ) (e : Execution) → Spells bytes code → RunsTo code args e → IsExecution bytes args e
-spelled_runs_to bytes code args (Answer value executed) spells h =
-    (code, spells, (h.0, h.1, subst (λ (fs : List Fields). outcome (reach (record { program = record { code = fs; decl = declaration (length args) [] }; args = args; bases = plain_bases }) []) ≡ Some (value, executed)) (sym spells.fields) h.2))
-spelled_runs_to bytes code args (NotHex at) spells h = h
-spelled_runs_to bytes code args (Code fault) spells h = absurd h
-spelled_runs_to bytes code args TooManyArgs spells h = (code, spells, h)
-spelled_runs_to bytes code args (Refused slot violation) spells h = (code, spells, h)
+pub spelled_runs_to : (bytes : List ℕ) (code : List Place) (args : List ℕ) (e : Execution) → code ≡ code_named bytes → Spells bytes code → RunsTo code args e → IsExecution bytes args e
+spelled_runs_to bytes code args e named spells h = named_runs_to bytes args e (subst (Spells bytes) named spells) (subst (λ (places : List Place). RunsTo places args e) named h)
 
 -- of hex text
 pub hex_runs_to : (text bytes args : List ℕ) (e : Execution) → hex_of text ≡ Ok bytes → IsExecution bytes args e → IsHexExecution text args e

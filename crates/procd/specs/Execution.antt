@@ -1,5 +1,6 @@
 -- What a run of code from its text comes to, and the lines that say it.
 use Rattle.std.specs.Prelude.{◌≡◌, ℕ, ◌<◌, ◌≤◌, Bool, true, false, List, [], ◌++◌, length, Some, None, Ok, Err, codes, decimal}
+use Rattle.bpf_encoding.specs.Named.{code_named}
 use Rattle.bpf_encoding.specs.Spells.{Spells, fault_in}
 use Rattle.bpf_encoding.specs.declared.insn.Place.{Place}
 use Rattle.bpf_encoding.specs.declared.decode.DecodeFault.{DecodeFault}
@@ -33,7 +34,7 @@ RunsTo code args (Code fault) = ⊥
 RunsTo code args TooManyArgs = 8 < length args
 RunsTo code args (Refused slot violation) = (length args ≤ 8) × (verdict code ≡ Some (slot, violation))
 
--- of the code that these bytes spell, with these arguments
+-- of the row of places that these bytes name, with these arguments
 abbrev pub IsCodeExecution : List ℕ → List Place → List ℕ → Execution → Type 0
 IsCodeExecution bytes code args (Answer value executed) = (length args ≤ 8) × (verdict code ≡ None) × (outcome_of bytes args ≡ Some (value, executed))
 IsCodeExecution bytes code args (NotHex at) = ⊥
@@ -41,8 +42,9 @@ IsCodeExecution bytes code args (Code fault) = ⊥
 IsCodeExecution bytes code args TooManyArgs = 8 < length args
 IsCodeExecution bytes code args (Refused slot violation) = (length args ≤ 8) × (verdict code ≡ Some (slot, violation))
 
+-- of the code that these bytes spell
 abbrev pub IsSpelledExecution : List ℕ → List ℕ → Execution → Type 0
-IsSpelledExecution bytes args e = (code : List Place) × Spells bytes code × IsCodeExecution bytes code args e
+IsSpelledExecution bytes args e = Spells bytes (code_named bytes) × IsCodeExecution bytes (code_named bytes) args e
 
 -- of bytes: the first fault where they spell no code
 abbrev pub IsExecution : List ℕ → List ℕ → Execution → Type 0
