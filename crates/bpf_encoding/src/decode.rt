@@ -85,7 +85,7 @@ fn take_first(places: &mut Vec<Place>, slot: &Slot, at: usize) -> Result<Option<
         Ok(insn) => insn,
         Err(fault) => return Err(fault_at(at, fault)),
     };
-    if let Insn::LoadWide { dst, value } = insn {
+    if let Insn::LoadWide(dst, value) = insn {
         let low = (value % 0x1_0000_0000) as u32;
         return Ok(Some(Due { dst, low }));
     }
@@ -116,10 +116,7 @@ fn take_second(
         return Err(DecodeFault::UnusedField(at));
     }
     let value = wide_value(due.low, slot.imm);
-    places.push(Place::Insn(Insn::LoadWide {
-        dst: due.dst,
-        value,
-    }))?;
+    places.push(Place::Insn(Insn::LoadWide(due.dst, value)))?;
     places.push(Place::Second)?;
     Ok(None)
 }
@@ -143,6 +140,7 @@ fn places_of(alloc: Global, bytes: &[u8]) -> Result<Vec<Place>, DecodeFault>
     requires { (n : ℕ) × (length bytes.now ≡ 8 * n) }
     ensures fields { IfOk result (λ places. fields_of_code places.items ≡ slots_of bytes.now) }
     ensures named { IfOk result (λ places. places.items ≡ code_named bytes.now) }
+    ensures faultless { IfOk result (λ _. first_fault false 0 (slots_of bytes.now) ≡ None) }
     ensures whole { IfOk result (λ places. is_whole false places.items ≡ true) }
     ensures err { IfErr result (IsFirstFault (first_fault false 0 (slots_of bytes.now))) }
 {
@@ -171,6 +169,8 @@ pub fn decode(alloc: Global, bytes: &[u8]) -> Result<Code, DecodeFault>
     ensures spelled { IfOk result (λ code. Spells bytes.now code) }
     // It is the one row of places that these bytes name.
     ensures named { IfOk result (λ code. code ≡ code_named bytes.now) }
+    // Nothing is wrong with what is read.
+    ensures faultless { IfOk result (λ _. fault_in bytes.now ≡ None) }
     // What is spelled so is read, unless memory runs out.
     ensures only { (code : List Place) → Spells bytes.now code → IfErr result (λ e. e ≡ DecodeFault.Memory) }
     // Which fault it is.

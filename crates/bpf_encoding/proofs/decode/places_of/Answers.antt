@@ -62,6 +62,12 @@ returns-in-None-clause-named c =
     sym (append-nil l.places.items) ∙ ap (λ (half : Option (Register × ℕ)). l.places.items ++ named_from half []) (sym none)
     ∙ ap (λ (k : ℕ). l.places.items ++ named_from (half_of l.due) (slots_from k l.rest.now)) (sym n) ∙ l.invariant.named
 
+pub returns-in-None-clause-faultless : goal.returns-in-None-clause-faultless
+returns-in-None-clause-faultless c =
+    let l = c.loop-at in
+    let n : length c.args.bytes.now / 8 - l.at ≡ 0 = omega arith in
+    sym l.invariant.faults ∙ ap (λ (k : ℕ). first_fault (is_some l.due) l.at (slots_from k l.rest.now)) n ∙ ap (λ (o : Option Due). first_fault (is_some o) l.at []) c.in-None.is
+
 pub returns-in-Some-clause-err : goal.returns-in-Some-clause-err
 returns-in-Some-clause-err c =
     let l = c.loop-at in
