@@ -138,6 +138,30 @@ fn signed_size_code(size: SignedSize) -> u8
     }
 }
 
+fn load_opcode(size: Size) -> u8
+    ensures { result ≡ 0x61 + 8 * size_code size }
+{
+    0x61 + 8 * size_code(size)
+}
+
+fn signed_opcode(size: SignedSize) -> u8
+    ensures { result ≡ 0x81 + 8 * signed_size_code size }
+{
+    0x81 + 8 * signed_size_code(size)
+}
+
+fn imm_opcode(size: Size) -> u8
+    ensures { result ≡ 0x62 + 8 * size_code size }
+{
+    0x62 + 8 * size_code(size)
+}
+
+fn store_opcode(size: Size) -> u8
+    ensures { result ≡ 0x63 + 8 * size_code size }
+{
+    0x63 + 8 * size_code(size)
+}
+
 // A slot with these fields, all others 0.
 fn slot(opcode: u8, dst: u8, src: u8, offset: i16, imm: i32) -> Slot
     ensures { result ≡ record { opcode = opcode; dst = dst; src = src; offset = offset; imm = imm } }
@@ -157,6 +181,14 @@ fn number(register: Register) -> u8
     register.index() as u8
 }
 
+// The slot of two registers and an offset.
+fn pair(opcode: u8, dst: Register, src: Register, offset: i16) -> Slot
+    ensures fields { viewed result ≡ fields opcode (number_of dst) (number_of src) offset (pos 0) }
+    ensures registers { (result.dst < 16) × (result.src < 16) }
+{
+    slot(opcode, number(dst), number(src), offset, 0)
+}
+
 // The slot of an operation or a jump with two operands.
 fn two_operands(row: u8, dst: Register, source: Source, offset: i16) -> Slot
     requires { row < 240 }
@@ -165,7 +197,7 @@ fn two_operands(row: u8, dst: Register, source: Source, offset: i16) -> Slot
 {
     match source {
         Source::Imm(imm) => slot(row, number(dst), 0, offset, imm),
-        Source::Reg(src) => slot(row + 8, number(dst), number(src), offset, 0),
+        Source::Reg(src) => pair(row + 8, dst, src, offset),
     }
 }
 
@@ -175,89 +207,35 @@ fn slot_of(insn: &Insn) -> Slot
     ensures registers { (result.dst < 16) × (result.src < 16) }
 {
     match *insn {
-        Insn::Alu {
-            width,
-            operation,
-            dst,
-            source,
-        } => {
+        Insn::Alu(width, operation, dst, source) => {
             let row = 16 * operation_code(operation) + alu_class(width);
             two_operands(row, dst, source, operation_offset(operation))
         }
-        Insn::Negate { width, dst } => slot(0x80 + alu_class(width), number(dst), 0, 0, 0),
-        Insn::MoveSigned {
-            extension,
-            dst,
-            src,
-        } => slot(
-            extension_opcode(extension),
-            number(dst),
-            number(src),
-            extension_bits(extension),
-            0,
-        ),
-        Insn::Order { order, width, dst } => {
+        Insn::Negate(width, dst) => slot(0x80 + alu_class(width), number(dst), 0, 0, 0),
+        Insn::MoveSigned(extension, dst, src) => {
+            let bits = extension_bits(extension);
+            pair(extension_opcode(extension), dst, src, bits)
+        }
+        Insn::Order(order, width, dst) => {
             slot(order_opcode(order), number(dst), 0, 0, order_bits(width))
         }
-        Insn::LoadWide { dst, value } => {
+        Insn::LoadWide(dst, value) => {
             let low = (value % 0x1_0000_0000) as u32;
             slot(0x18, number(dst), 0, 0, low.cast_signed())
         }
-        Insn::Jump { offset } => slot(0x05, 0, 0, offset, 0),
-        Insn::JumpLong { offset } => slot(0x06, 0, 0, 0, offset),
-        Insn::JumpIf {
-            width,
-            condition,
-            dst,
-            source,
-            offset,
-        } => {
+        Insn::Jump(offset) => slot(0x05, 0, 0, offset, 0),
+        Insn::JumpLong(offset) => slot(0x06, 0, 0, 0, offset),
+        Insn::JumpIf(width, condition, dst, source, offset) => {
             let row = 16 * condition_code(condition) + jump_class(width);
             two_operands(row, dst, source, offset)
         }
-        Insn::Load {
-            size,
-            dst,
-            base,
-            offset,
-        } => slot(
-            0x61 + 8 * size_code(size),
-            number(dst),
-            number(base),
-            offset,
-            0,
-        ),
-        Insn::LoadSigned {
-            size,
-            dst,
-            base,
-            offset,
-        } => slot(
-            0x81 + 8 * signed_size_code(size),
-            number(dst),
-            number(base),
-            offset,
-            0,
-        ),
-        Insn::StoreImm {
-            size,
-            base,
-            offset,
-            imm,
-        } => slot(0x62 + 8 * size_code(size), number(base), 0, offset, imm),
-        Insn::Store {
-            size,
-            base,
-            src,
-            offset,
-        } => slot(
-            0x63 + 8 * size_code(size),
-            number(base),
-            number(src),
-            offset,
-            0,
-        ),
-        Insn::Call { helper } => slot(0x85, 0, 0, 0, helper),
+        Insn::Load(size, dst, base, offset) => pair(load_opcode(size), dst, base, offset),
+        Insn::LoadSigned(size, dst, base, offset) => pair(signed_opcode(size), dst, base, offset),
+        Insn::StoreImm(size, base, offset, imm) => {
+            slot(imm_opcode(size), number(base), 0, offset, imm)
+        }
+        Insn::Store(size, base, src, offset) => pair(store_opcode(size), base, src, offset),
+        Insn::Call(helper) => slot(0x85, 0, 0, 0, helper),
         Insn::Exit => slot(0x95, 0, 0, 0, 0),
     }
 }
@@ -278,7 +256,7 @@ fn high_behind(place: &Place) -> u32
     ensures { result ≡ high_behind place.now }
 {
     match place {
-        Place::Insn(Insn::LoadWide { value, .. }) => (*value / 0x1_0000_0000) as u32,
+        Place::Insn(Insn::LoadWide(_, value)) => (*value / 0x1_0000_0000) as u32,
         _ => 0,
     }
 }

@@ -1,6 +1,6 @@
 //! The instructions of the profile: base32, base64, divmul32 and divmul64 (RFC 9669, section 2.4).
 
-/// One of the eleven registers (RFC 9669, section 2.3).
+/// One of the eleven registers (RFC 9669, section 3.1).
 #[derive(Clone, Copy, Debug, PartialEq, Eq)]
 pub enum Register {
     R0,
@@ -113,77 +113,38 @@ pub enum Condition {
 }
 
 /// One instruction. Each value has a spelling: its variants and enums carry just what the
-/// tables of RFC 9669, sections 3 to 5, allow in this profile.
+/// tables of RFC 9669, sections 3 to 5, allow in this profile. Operands stand in the order in
+/// which each variant names them; an offset of a jump counts slots from the slot behind it, one
+/// of a load or store counts bytes from the address in `base`.
 #[derive(Clone, Copy, Debug, PartialEq, Eq)]
 pub enum Insn {
-    Alu {
-        width: Width,
-        operation: Operation,
-        dst: Register,
-        source: Source,
-    },
-    Negate {
-        width: Width,
-        dst: Register,
-    },
-    MoveSigned {
-        extension: Extension,
-        dst: Register,
-        src: Register,
-    },
-    Order {
-        order: ByteOrder,
-        width: OrderWidth,
-        dst: Register,
-    },
-    /// Takes two slots.
-    LoadWide {
-        dst: Register,
-        value: u64,
-    },
-    /// The offset counts slots from the slot behind the jump.
-    Jump {
-        offset: i16,
-    },
+    /// `dst = dst operation source`: width, operation, dst, source.
+    Alu(Width, Operation, Register, Source),
+    /// `dst = -dst`: width, dst.
+    Negate(Width, Register),
+    /// `dst = src`, its low bits with their sign: extension, dst, src.
+    MoveSigned(Extension, Register, Register),
+    /// `dst` in another byte order: order, width, dst.
+    Order(ByteOrder, OrderWidth, Register),
+    /// `dst = value`, in two slots: dst, value.
+    LoadWide(Register, u64),
+    /// On at the offset.
+    Jump(i16),
     /// The same with 32 bits of offset.
-    JumpLong {
-        offset: i32,
-    },
-    JumpIf {
-        width: Width,
-        condition: Condition,
-        dst: Register,
-        source: Source,
-        offset: i16,
-    },
-    Load {
-        size: Size,
-        dst: Register,
-        base: Register,
-        offset: i16,
-    },
-    LoadSigned {
-        size: SignedSize,
-        dst: Register,
-        base: Register,
-        offset: i16,
-    },
-    StoreImm {
-        size: Size,
-        base: Register,
-        offset: i16,
-        imm: i32,
-    },
-    Store {
-        size: Size,
-        base: Register,
-        src: Register,
-        offset: i16,
-    },
+    JumpLong(i32),
+    /// On at the offset if `dst condition source`: width, condition, dst, source, offset.
+    JumpIf(Width, Condition, Register, Source, i16),
+    /// `dst = *(base + offset)`: size, dst, base, offset.
+    Load(Size, Register, Register, i16),
+    /// The same with the sign of what is read: size, dst, base, offset.
+    LoadSigned(SignedSize, Register, Register, i16),
+    /// `*(base + offset) = imm`: size, base, offset, imm.
+    StoreImm(Size, Register, i16, i32),
+    /// `*(base + offset) = src`: size, base, src, offset.
+    Store(Size, Register, Register, i16),
     /// Calls a helper by its number.
-    Call {
-        helper: i32,
-    },
+    Call(i32),
+    /// The end, with the value of register 0.
     Exit,
 }
 
@@ -217,7 +178,7 @@ impl Insn {
     pub fn is_wide(&self) -> bool
         ensures { result ≡ is_wide self.now }
     {
-        matches!(self, Insn::LoadWide { .. })
+        matches!(self, Insn::LoadWide(..))
     }
 
     /// How many slots it takes, 1 or 2.

@@ -84,21 +84,11 @@ fn binary(width: Width, operation: Operation, slot: &Slot) -> Result<Insn, SlotF
         let register = used(slot.src)?;
         blank(is_signed || slot.offset == 0)?;
         blank(slot.imm == 0)?;
-        return Ok(Insn::Alu {
-            width,
-            operation,
-            dst,
-            source: Source::Reg(register),
-        });
+        return Ok(Insn::Alu(width, operation, dst, Source::Reg(register)));
     }
     blank(slot.src == 0)?;
     blank(is_signed || slot.offset == 0)?;
-    Ok(Insn::Alu {
-        width,
-        operation,
-        dst,
-        source: Source::Imm(slot.imm),
-    })
+    Ok(Insn::Alu(width, operation, dst, Source::Imm(slot.imm)))
 }
 
 // NEG, with no second operand.
@@ -115,7 +105,7 @@ fn negate(width: Width, slot: &Slot) -> Result<Insn, SlotFault>
     blank(slot.src == 0)?;
     blank(slot.offset == 0)?;
     blank(slot.imm == 0)?;
-    Ok(Insn::Negate { width, dst })
+    Ok(Insn::Negate(width, dst))
 }
 
 // MOVSX of this form.
@@ -128,11 +118,7 @@ fn move_signed(extension: Extension, slot: &Slot) -> Result<Insn, SlotFault>
     let dst = used(slot.dst)?;
     let src = used(slot.src)?;
     blank(slot.imm == 0)?;
-    Ok(Insn::MoveSigned {
-        extension,
-        dst,
-        src,
-    })
+    Ok(Insn::MoveSigned(extension, dst, src))
 }
 
 // MOVSX: the offset says how many bits are extended.
@@ -164,7 +150,7 @@ fn order(order: ByteOrder, width: OrderWidth, slot: &Slot) -> Result<Insn, SlotF
     let dst = used(slot.dst)?;
     blank(slot.src == 0)?;
     blank(slot.offset == 0)?;
-    Ok(Insn::Order { order, width, dst })
+    Ok(Insn::Order(order, width, dst))
 }
 
 // END: the imm says how many bits are kept.
@@ -240,13 +226,7 @@ fn jump_if(width: Width, condition: Condition, slot: &Slot) -> Result<Insn, Slot
         blank(slot.src == 0)?;
         Source::Imm(slot.imm)
     };
-    Ok(Insn::JumpIf {
-        width,
-        condition,
-        dst,
-        source,
-        offset: slot.offset,
-    })
+    Ok(Insn::JumpIf(width, condition, dst, source, slot.offset))
 }
 
 // JA: the offset of JMP, the imm of JMP32.
@@ -264,13 +244,11 @@ fn jump_always(width: Width, slot: &Slot) -> Result<Insn, SlotFault>
     match width {
         Width::Bits64 => {
             blank(slot.imm == 0)?;
-            Ok(Insn::Jump {
-                offset: slot.offset,
-            })
+            Ok(Insn::Jump(slot.offset))
         }
         Width::Bits32 => {
             blank(slot.offset == 0)?;
-            Ok(Insn::JumpLong { offset: slot.imm })
+            Ok(Insn::JumpLong(slot.imm))
         }
     }
 }
@@ -285,7 +263,7 @@ fn call(slot: &Slot) -> Result<Insn, SlotFault>
     }
     blank(slot.dst == 0)?;
     blank(slot.offset == 0)?;
-    Ok(Insn::Call { helper: slot.imm })
+    Ok(Insn::Call(slot.imm))
 }
 
 fn exit(slot: &Slot) -> Result<Insn, SlotFault>
@@ -333,12 +311,7 @@ fn load(size: Size, slot: &Slot) -> Result<Insn, SlotFault>
     let dst = used(slot.dst)?;
     let base = used(slot.src)?;
     blank(slot.imm == 0)?;
-    Ok(Insn::Load {
-        size,
-        dst,
-        base,
-        offset: slot.offset,
-    })
+    Ok(Insn::Load(size, dst, base, slot.offset))
 }
 
 fn load_signed(size: SignedSize, slot: &Slot) -> Result<Insn, SlotFault>
@@ -349,12 +322,7 @@ fn load_signed(size: SignedSize, slot: &Slot) -> Result<Insn, SlotFault>
     let dst = used(slot.dst)?;
     let base = used(slot.src)?;
     blank(slot.imm == 0)?;
-    Ok(Insn::LoadSigned {
-        size,
-        dst,
-        base,
-        offset: slot.offset,
-    })
+    Ok(Insn::LoadSigned(size, dst, base, slot.offset))
 }
 
 fn store_imm(size: Size, slot: &Slot) -> Result<Insn, SlotFault>
@@ -364,12 +332,7 @@ fn store_imm(size: Size, slot: &Slot) -> Result<Insn, SlotFault>
 {
     let base = used(slot.dst)?;
     blank(slot.src == 0)?;
-    Ok(Insn::StoreImm {
-        size,
-        base,
-        offset: slot.offset,
-        imm: slot.imm,
-    })
+    Ok(Insn::StoreImm(size, base, slot.offset, slot.imm))
 }
 
 fn store(size: Size, slot: &Slot) -> Result<Insn, SlotFault>
@@ -380,12 +343,7 @@ fn store(size: Size, slot: &Slot) -> Result<Insn, SlotFault>
     let base = used(slot.dst)?;
     let src = used(slot.src)?;
     blank(slot.imm == 0)?;
-    Ok(Insn::Store {
-        size,
-        base,
-        src,
-        offset: slot.offset,
-    })
+    Ok(Insn::Store(size, base, src, slot.offset))
 }
 
 // The classes LDX, ST and STX.
@@ -425,10 +383,7 @@ fn wide(slot: &Slot) -> Result<Insn, SlotFault>
     }
     let dst = used(slot.dst)?;
     blank(slot.offset == 0)?;
-    Ok(Insn::LoadWide {
-        dst,
-        value: u64::from(slot.imm.cast_unsigned()),
-    })
+    Ok(Insn::LoadWide(dst, u64::from(slot.imm.cast_unsigned())))
 }
 
 /// The instruction of a slot, or its first fault. Of a wide instruction this is the first slot,

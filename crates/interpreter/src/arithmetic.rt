@@ -2,7 +2,7 @@
 
 ghost use Rattle.std.specs.Prelude.{◌≡◌, false};
 ghost use Rattle.std.specs.Int.{w32, w64};
-ghost use Rattle.semantics.specs.Arithmetic.{signed_quotient, signed_remainder, negation, low, width_of, kept, reversed};
+ghost use Rattle.semantics.specs.Arithmetic.{negation, low, width_of, kept, reversed};
 ghost use Rattle.semantics.specs.Instruction.{compute_of, result_of, extension_of, order_width, order_of, test_of, is_taken};
 ghost use Rattle.bpf_encoding.specs.Reading.{is_64};
 
@@ -15,96 +15,48 @@ fn low32(value: u64) -> u32
     (value % 0x1_0000_0000) as u32
 }
 
-#[inline(always)]
-fn signed_quotient64(a: u64, b: u64) -> u64
-    ensures { result ≡ signed_quotient w64 a b }
-{
-    if b == 0 {
-        return 0;
-    }
-    a.cast_signed()
-        .wrapping_div(b.cast_signed())
-        .cast_unsigned()
-}
-
-#[inline(always)]
-fn signed_remainder64(a: u64, b: u64) -> u64
-    ensures { result ≡ signed_remainder w64 a b }
-{
-    if b == 0 {
-        return a;
-    }
-    a.cast_signed()
-        .wrapping_rem(b.cast_signed())
-        .cast_unsigned()
-}
-
-#[inline(always)]
-fn signed_quotient32(a: u32, b: u32) -> u32
-    ensures { result ≡ signed_quotient w32 a b }
-{
-    if b == 0 {
-        return 0;
-    }
-    a.cast_signed()
-        .wrapping_div(b.cast_signed())
-        .cast_unsigned()
-}
-
-#[inline(always)]
-fn signed_remainder32(a: u32, b: u32) -> u32
-    ensures { result ≡ signed_remainder w32 a b }
-{
-    if b == 0 {
-        return a;
-    }
-    a.cast_signed()
-        .wrapping_rem(b.cast_signed())
-        .cast_unsigned()
+// What an operation gives on two numbers of this many bits.
+macro_rules! computed {
+    ($bits:literal, $operation:expr, $a:expr, $b:expr) => {
+        match $operation {
+            Operation::Add => $a.wrapping_add($b),
+            Operation::Sub => $a.wrapping_sub($b),
+            Operation::Mul => $a.wrapping_mul($b),
+            Operation::Div => if $b == 0 { 0 } else { $a / $b },
+            Operation::SignedDiv => if $b == 0 {
+                0
+            } else {
+                $a.cast_signed().wrapping_div($b.cast_signed()).cast_unsigned()
+            },
+            Operation::Or => $a | $b,
+            Operation::And => $a & $b,
+            Operation::LeftShift => $a.wrapping_shl(($b % $bits) as u32),
+            Operation::RightShift => $a >> ($b % $bits),
+            Operation::Mod => if $b == 0 { $a } else { $a % $b },
+            Operation::SignedMod => if $b == 0 {
+                $a
+            } else {
+                $a.cast_signed().wrapping_rem($b.cast_signed()).cast_unsigned()
+            },
+            Operation::Xor => $a ^ $b,
+            Operation::Mov => $b,
+            Operation::SignedRightShift => ($a.cast_signed() >> ($b % $bits)).cast_unsigned(),
+        }
+    };
 }
 
 #[inline(always)]
 fn compute64(operation: Operation, a: u64, b: u64) -> u64
     ensures { result ≡ compute_of operation w64 a b }
 {
-    match operation {
-        Operation::Add => a.wrapping_add(b),
-        Operation::Sub => a.wrapping_sub(b),
-        Operation::Mul => a.wrapping_mul(b),
-        Operation::Div => if b == 0 { 0 } else { a / b },
-        Operation::SignedDiv => signed_quotient64(a, b),
-        Operation::Or => a | b,
-        Operation::And => a & b,
-        Operation::LeftShift => a.wrapping_shl((b % 64) as u32),
-        Operation::RightShift => a >> (b % 64),
-        Operation::Mod => if b == 0 { a } else { a % b },
-        Operation::SignedMod => signed_remainder64(a, b),
-        Operation::Xor => a ^ b,
-        Operation::Mov => b,
-        Operation::SignedRightShift => (a.cast_signed() >> (b % 64)).cast_unsigned(),
-    }
+    computed!(64, operation, a, b)
 }
 
 #[inline(always)]
 fn compute32(operation: Operation, a: u32, b: u32) -> u32
     ensures { result ≡ compute_of operation w32 a b }
 {
-    match operation {
-        Operation::Add => a.wrapping_add(b),
-        Operation::Sub => a.wrapping_sub(b),
-        Operation::Mul => a.wrapping_mul(b),
-        Operation::Div => if b == 0 { 0 } else { a / b },
-        Operation::SignedDiv => signed_quotient32(a, b),
-        Operation::Or => a | b,
-        Operation::And => a & b,
-        Operation::LeftShift => a.wrapping_shl(b % 32),
-        Operation::RightShift => a >> (b % 32),
-        Operation::Mod => if b == 0 { a } else { a % b },
-        Operation::SignedMod => signed_remainder32(a, b),
-        Operation::Xor => a ^ b,
-        Operation::Mov => b,
-        Operation::SignedRightShift => (a.cast_signed() >> (b % 32)).cast_unsigned(),
-    }
+    computed!(32, operation, a, b)
 }
 
 /// What the operation gives; at 32 bits the upper half of the result is 0.
@@ -180,42 +132,37 @@ pub fn reorder(order: ByteOrder, width: OrderWidth, a: u64) -> u64
     }
 }
 
+// Whether a condition holds of two numbers of one width.
+macro_rules! held {
+    ($condition:expr, $a:expr, $b:expr) => {
+        match $condition {
+            Condition::Equal => $a == $b,
+            Condition::Greater => $a > $b,
+            Condition::GreaterOrEqual => $a >= $b,
+            Condition::AnyBit => $a & $b != 0,
+            Condition::NotEqual => $a != $b,
+            Condition::SignedGreater => $a.cast_signed() > $b.cast_signed(),
+            Condition::SignedGreaterOrEqual => $a.cast_signed() >= $b.cast_signed(),
+            Condition::Less => $a < $b,
+            Condition::LessOrEqual => $a <= $b,
+            Condition::SignedLess => $a.cast_signed() < $b.cast_signed(),
+            Condition::SignedLessOrEqual => $a.cast_signed() <= $b.cast_signed(),
+        }
+    };
+}
+
 #[inline(always)]
 fn holds64(condition: Condition, a: u64, b: u64) -> bool
     ensures { result ≡ test_of condition w64 a b }
 {
-    match condition {
-        Condition::Equal => a == b,
-        Condition::Greater => a > b,
-        Condition::GreaterOrEqual => a >= b,
-        Condition::AnyBit => a & b != 0,
-        Condition::NotEqual => a != b,
-        Condition::SignedGreater => a.cast_signed() > b.cast_signed(),
-        Condition::SignedGreaterOrEqual => a.cast_signed() >= b.cast_signed(),
-        Condition::Less => a < b,
-        Condition::LessOrEqual => a <= b,
-        Condition::SignedLess => a.cast_signed() < b.cast_signed(),
-        Condition::SignedLessOrEqual => a.cast_signed() <= b.cast_signed(),
-    }
+    held!(condition, a, b)
 }
 
 #[inline(always)]
 fn holds32(condition: Condition, a: u32, b: u32) -> bool
     ensures { result ≡ test_of condition w32 a b }
 {
-    match condition {
-        Condition::Equal => a == b,
-        Condition::Greater => a > b,
-        Condition::GreaterOrEqual => a >= b,
-        Condition::AnyBit => a & b != 0,
-        Condition::NotEqual => a != b,
-        Condition::SignedGreater => a.cast_signed() > b.cast_signed(),
-        Condition::SignedGreaterOrEqual => a.cast_signed() >= b.cast_signed(),
-        Condition::Less => a < b,
-        Condition::LessOrEqual => a <= b,
-        Condition::SignedLess => a.cast_signed() < b.cast_signed(),
-        Condition::SignedLessOrEqual => a.cast_signed() <= b.cast_signed(),
-    }
+    held!(condition, a, b)
 }
 
 /// Whether the condition holds of the two numbers.

@@ -2,7 +2,7 @@
 
 ghost use Rattle.std.specs.Prelude.{◌≡◌, Ok, Err};
 ghost use Rattle.bpf_encoding.specs.Spelling.{number_of};
-ghost use Rattle.register_kinds.specs.Kinds.{kind_at, check, is_source_present, is_left_present, written_kinds, transfer_of};
+ghost use Rattle.register_kinds.specs.Kinds.{kind_at, check, is_present, is_source_present, is_left_present, is_writable, written_kinds, transfer_of};
 
 use crate::kind::{Kind, Violation, Ways};
 use bpf_encoding::insn::{Insn, Operation, Register, Source};
@@ -22,19 +22,40 @@ fn kind_at(kinds: &[Kind; 11], register: Register) -> Kind
     kinds[register.index()]
 }
 
-fn is_source_present(kinds: &[Kind; 11], source: Source) -> bool
-    ensures { result ≡ is_source_present kinds.now source }
+// The register is read.
+fn read(kinds: &[Kind; 11], register: Register) -> Result<(), Violation>
+    ensures { result ≡ check (is_present (kind_at kinds.now (number_of register))) Violation.EmptyRegister (Ok tt) }
+{
+    require(
+        kind_at(kinds, register).is_present(),
+        Violation::EmptyRegister,
+    )
+}
+
+fn read_source(kinds: &[Kind; 11], source: Source) -> Result<(), Violation>
+    ensures { result ≡ check (is_source_present kinds.now source) Violation.EmptyRegister (Ok tt) }
 {
     match source {
-        Source::Imm(_) => true,
-        Source::Reg(register) => kind_at(kinds, register).is_present(),
+        Source::Imm(_) => Ok(()),
+        Source::Reg(register) => read(kinds, register),
     }
 }
 
-fn is_left_present(kinds: &[Kind; 11], operation: Operation, dst: Register) -> bool
-    ensures { result ≡ is_left_present kinds.now operation dst }
+// The first operand; a move reads none.
+fn read_left(kinds: &[Kind; 11], operation: Operation, dst: Register) -> Result<(), Violation>
+    ensures { result ≡ check (is_left_present kinds.now operation dst) Violation.EmptyRegister (Ok tt) }
 {
-    operation == Operation::Mov || kind_at(kinds, dst).is_present()
+    if operation == Operation::Mov {
+        return Ok(());
+    }
+    read(kinds, dst)
+}
+
+// Goes on with these kinds at the next slot, the jump's target, or both.
+fn onwards(next: Option<[Kind; 11]>, jump: Option<[Kind; 11]>) -> Result<Ways, Violation>
+    ensures { result ≡ Ok (record { next = next; jump = jump }) }
+{
+    Ok(Ways { next, jump })
 }
 
 // A number is written into the register.
@@ -46,17 +67,31 @@ fn written(kinds: &[Kind; 11], dst: Register) -> Result<Ways, Violation>
     }
     let mut after = *kinds;
     after[dst.index()] = Kind::Number;
-    Ok(Ways {
-        next: Some(after),
-        jump: None,
-    })
+    onwards(Some(after), None)
 }
 
-// A load or store: no register has an address yet.
-fn no_access(present: bool) -> Result<Ways, Violation>
-    ensures { result ≡ check present Violation.EmptyRegister (Err Violation.NotAPointer) }
+// A number is computed from one register into another.
+fn computed(kinds: &[Kind; 11], src: Register, dst: Register) -> Result<Ways, Violation>
+    ensures { result ≡ check (is_present (kind_at kinds.now (number_of src))) Violation.EmptyRegister (written_kinds kinds.now dst) }
 {
-    require(present, Violation::EmptyRegister)?;
+    read(kinds, src)?;
+    written(kinds, dst)
+}
+
+// A load: no register has an address yet.
+fn loaded(kinds: &[Kind; 11], dst: Register, base: Register) -> Result<Ways, Violation>
+    ensures { result ≡ check (is_present (kind_at kinds.now (number_of base))) Violation.EmptyRegister (check (is_writable dst) Violation.WritesR10 (Err Violation.NotAPointer)) }
+{
+    read(kinds, base)?;
+    require(dst != Register::R10, Violation::WritesR10)?;
+    Err(Violation::NotAPointer)
+}
+
+// A store: no register has an address yet.
+fn no_access(kinds: &[Kind; 11], base: Register) -> Result<Ways, Violation>
+    ensures { result ≡ check (is_present (kind_at kinds.now (number_of base))) Violation.EmptyRegister (Err Violation.NotAPointer) }
+{
+    read(kinds, base)?;
     Err(Violation::NotAPointer)
 }
 
@@ -65,63 +100,33 @@ pub fn transfer(insn: &Insn, kinds: &[Kind; 11]) -> Result<Ways, Violation>
     ensures { result ≡ transfer_of insn.now kinds.now }
 {
     match *insn {
-        Insn::Alu {
-            operation,
-            dst,
-            source,
-            ..
-        } => {
-            let present = is_left_present(kinds, operation, dst)
-                && is_source_present(kinds, source);
-            require(present, Violation::EmptyRegister)?;
+        Insn::Alu(_, operation, dst, source) => {
+            read_left(kinds, operation, dst)?;
+            read_source(kinds, source)?;
             written(kinds, dst)
         }
-        Insn::Negate { dst, .. } | Insn::Order { dst, .. } => {
-            require(kind_at(kinds, dst).is_present(), Violation::EmptyRegister)?;
-            written(kinds, dst)
+        Insn::MoveSigned(_, dst, src) => computed(kinds, src, dst),
+        Insn::Negate(_, dst) | Insn::Order(_, _, dst) => computed(kinds, dst, dst),
+        Insn::LoadWide(dst, _) => written(kinds, dst),
+        Insn::Jump(..) | Insn::JumpLong(..) => onwards(None, Some(*kinds)),
+        Insn::JumpIf(_, _, dst, source, _) => {
+            read(kinds, dst)?;
+            read_source(kinds, source)?;
+            onwards(Some(*kinds), Some(*kinds))
         }
-        Insn::MoveSigned { dst, src, .. } => {
-            require(kind_at(kinds, src).is_present(), Violation::EmptyRegister)?;
-            written(kinds, dst)
+        Insn::Load(_, dst, base, _) | Insn::LoadSigned(_, dst, base, _) => loaded(kinds, dst, base),
+        Insn::StoreImm(_, base, _, _) => no_access(kinds, base),
+        Insn::Store(_, base, src, _) => {
+            read(kinds, src)?;
+            no_access(kinds, base)
         }
-        Insn::LoadWide { dst, .. } => written(kinds, dst),
-        Insn::Jump { .. } | Insn::JumpLong { .. } => Ok(Ways {
-            next: None,
-            jump: Some(*kinds),
-        }),
-        Insn::JumpIf { dst, source, .. } => {
-            let present = kind_at(kinds, dst).is_present() && is_source_present(kinds, source);
-            require(present, Violation::EmptyRegister)?;
-            Ok(Ways {
-                next: Some(*kinds),
-                jump: Some(*kinds),
-            })
-        }
-        Insn::Load { dst, base, .. } | Insn::LoadSigned { dst, base, .. } => {
-            require(kind_at(kinds, base).is_present(), Violation::EmptyRegister)?;
-            require(dst != Register::R10, Violation::WritesR10)?;
-            Err(Violation::NotAPointer)
-        }
-        Insn::StoreImm { base, .. } => no_access(kind_at(kinds, base).is_present()),
-        Insn::Store { base, src, .. } => {
-            no_access(kind_at(kinds, base).is_present() && kind_at(kinds, src).is_present())
-        }
-        Insn::Call { .. } => {
-            require(
-                kind_at(kinds, Register::R1).is_present(),
-                Violation::EmptyRegister,
-            )?;
+        Insn::Call(..) => {
+            read(kinds, Register::R1)?;
             Err(Violation::UnknownHelper)
         }
         Insn::Exit => {
-            require(
-                kind_at(kinds, Register::R0).is_present(),
-                Violation::EmptyRegister,
-            )?;
-            Ok(Ways {
-                next: None,
-                jump: None,
-            })
+            read(kinds, Register::R0)?;
+            onwards(None, None)
         }
     }
 }

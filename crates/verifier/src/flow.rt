@@ -13,9 +13,9 @@ fn jump_offset(insn: &Insn) -> Option<i32>
     ensures { result ≡ jump_offset insn.now }
 {
     match *insn {
-        Insn::Jump { offset } => Some(i32::from(offset)),
-        Insn::JumpIf { offset, .. } => Some(i32::from(offset)),
-        Insn::JumpLong { offset } => Some(offset),
+        Insn::Jump(offset) => Some(i32::from(offset)),
+        Insn::JumpIf(_, _, _, _, offset) => Some(i32::from(offset)),
+        Insn::JumpLong(offset) => Some(offset),
         _ => None,
     }
 }
@@ -63,7 +63,7 @@ fn fall_flaw(code: &[Place], at: usize, insn: &Insn) -> Option<Violation>
     ensures { result ≡ fall_flaw code.now at insn.now }
 {
     match insn {
-        Insn::Jump { .. } | Insn::JumpLong { .. } | Insn::Exit => None,
+        Insn::Jump(..) | Insn::JumpLong(..) | Insn::Exit => None,
         _ if at + insn.slots() >= code.len() => Some(Violation::FallsOff),
         _ => None,
     }
@@ -73,7 +73,7 @@ fn fall_flaw(code: &[Place], at: usize, insn: &Insn) -> Option<Violation>
 fn call_flaw(insn: &Insn) -> Option<Violation>
     ensures { result ≡ call_flaw insn.now }
 {
-    matches!(insn, Insn::Call { .. }).then_some(Violation::UnknownHelper)
+    matches!(insn, Insn::Call(..)).then_some(Violation::UnknownHelper)
 }
 
 fn flow_violation(code: &[Place], at: usize, insn: &Insn) -> Option<Violation>

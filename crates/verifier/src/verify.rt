@@ -90,7 +90,7 @@ pub fn verify(alloc: Global, code: Code, decl: Decl) -> Result<Verified, VerifyF
 fn is_call(place: &Place) -> bool
     ensures { result ≡ is_call_place place.now }
 {
-    matches!(place, Place::Insn(Insn::Call { .. }))
+    matches!(place, Place::Insn(Insn::Call(..)))
 }
 
 fn calls_in(places: &[Place]) -> usize
