@@ -10,3 +10,5 @@ pub mod encode;
 pub mod insn;
 mod read;
 pub mod slot;
+#[cfg(test)]
+mod tests;

@@ -1,24 +1,25 @@
 -- A run of verified code without slots.
-use Rattle.std.proofs.Common.{◌≡◌, ◌≤◌, ℕ, ◌∙◌, ap, ap₂, sym, length, Ok, refl, subst, Some, None, Option, List, []}
-use Rattle.std.specs.Prelude.{slice_get}
+use Rattle.std.proofs.Common.{rules, ◌≡◌, ◌≤◌, ℕ, ◌∙◌, ap, ap₂, sym, length, refl, subst, Some, None, Option, List, []}
+use Rattle.std.specs.Prelude.{slice_get, nat_lt, Bool, true, false, ◌<◌}
 use Rattle.access_slots.specs.Declaration.{Declaration}
 use Rattle.access_slots.specs.declared.op.Op.{Op}
 use Rattle.access_slots.specs.declared.slot.Slot.{Slot}
 use Rattle.semantics.specs.Step.{Config, Setting, Bases}
 use Rattle.semantics.specs.Reach.{Stop, Asked, Exited, reach, IsFineStop, IsLayout, IsBySlot}
-use Rattle.semantics.specs.Row.{outcome, plain_bases}
+use Rattle.semantics.specs.Row.{outcome, outcome_of, plain_bases}
 use Rattle.semantics.specs.Instruction.{program_of}
 use Rattle.bpf_encoding.specs.Fields.{Fields}
 use Rattle.bpf_encoding.specs.Named.{code_named}
-use Rattle.bpf_encoding.specs.Spells.{Spells}
+use Rattle.bpf_encoding.specs.Spells.{Spells, fault_in}
+use Rattle.bpf_encoding.specs.declared.decode.DecodeFault.{DecodeFault}
+use Rattle.register_kinds.specs.declared.kind.Violation.{Violation}
 use Rattle.bpf_encoding.specs.declared.insn.Place.{Place}
 use Rattle.verifier.specs.Checked.{Checked}
 use Rattle.verifier.specs.Verdict.{verdict}
 use Rattle.interpreter.specs.Runs.{setting_of}
-use Rattle.procd.specs.Hex.{hex_of}
-use Rattle.procd.specs.Execution.{IsAnswer, RunsTo, IsExecution, IsHexExecution}
+use Rattle.procd.specs.Execution.{answered, execution_by_verdict, execution_by_count, execution_by_fault, execution_of}
 use Rattle.procd.specs.declared.execute.Execution.{Execution}
-use Rattle.procd.specs.declared.execute.Execution.TheVariants.{Answer, NotHex, Code, TooManyArgs, Refused}
+use Rattle.procd.specs.declared.execute.Execution.TheVariants.{TooManyArgs, Refused}
 
 pub plain_layout : IsLayout plain_bases
 plain_layout = record { sixteen = refl; apart = refl }
@@ -51,32 +52,40 @@ same_program : (v : Checked) (code : List Place) (args : List ℕ) → v.code �
 same_program v code args ec en es =
     ap (λ (x : List Place). program x v.decl args) ec ∙ ap₂ (λ (n : ℕ) (ss : List Slot). program code (declaration n ss) args) en es
 
--- what was answered is what the code runs to
-pub runs_to : (v : Checked) (code : List Place) (args : List ℕ) (e : Execution) → v.code ≡ code → v.decl.args ≡ length args → v.decl.slots ≡ [] → length args ≤ 8 → verdict code ≡ None
-    → IsAnswer (reach (setting_of v args plain_bases) []) e → RunsTo code args e
-runs_to v code args (Answer value executed) ec en es few none h =
-    (few, none, subst (λ (s : Setting). outcome (reach s []) ≡ Some (value, executed)) (same_program v code args ec en es) h)
-runs_to v code args (NotHex at) ec en es few none h = h
-runs_to v code args (Code fault) ec en es few none h = absurd h
-runs_to v code args TooManyArgs ec en es few none h = absurd h
-runs_to v code args (Refused slot violation) ec en es few none h = absurd h
+-- ---- what bytes that name this code come to
 
-named_runs_to : (bytes args : List ℕ) (e : Execution) → Spells bytes (code_named bytes) → RunsTo (code_named bytes) args e → IsExecution bytes args e
-named_runs_to bytes args (Answer value executed) spells h =
-    (spells, (h.0, h.1, subst (λ (fs : List Fields). outcome (reach (record { program = record { code = fs; decl = declaration (length args) [] }; args = args; bases = plain_bases }) []) ≡ Some (value, executed)) (sym spells.fields) h.2))
-named_runs_to bytes args (NotHex at) spells h = h
-named_runs_to bytes args (Code fault) spells h = absurd h
-named_runs_to bytes args TooManyArgs spells h = (spells, h)
-named_runs_to bytes args (Refused slot violation) spells h = (spells, h)
+few_args : (n : ℕ) → n ≤ 8 → nat_lt 8 n ≡ false
+few_args n few = search rules
 
--- and what the bytes that spell it run to
-pub spelled_runs_to : (bytes : List ℕ) (code : List Place) (args : List ℕ) (e : Execution) → code ≡ code_named bytes → Spells bytes code → RunsTo code args e → IsExecution bytes args e
-spelled_runs_to bytes code args e named spells h = named_runs_to bytes args e (subst (Spells bytes) named spells) (subst (λ (places : List Place). RunsTo places args e) named h)
+many_args : (n : ℕ) → 8 < n → nat_lt 8 n ≡ true
+many_args n many = search rules
 
--- of hex text
-pub hex_runs_to : (text bytes args : List ℕ) (e : Execution) → hex_of text ≡ Ok bytes → IsExecution bytes args e → IsHexExecution text args e
-hex_runs_to text bytes args (Answer value executed) is h = (bytes, is, h)
-hex_runs_to text bytes args (NotHex at) is h = absurd h
-hex_runs_to text bytes args (Code fault) is h = (bytes, is, h)
-hex_runs_to text bytes args TooManyArgs is h = (bytes, is, h)
-hex_runs_to text bytes args (Refused slot violation) is h = (bytes, is, h)
+-- as many arguments as are allowed
+with_few : (bytes args : List ℕ) → fault_in bytes ≡ None → length args ≤ 8 → execution_of bytes args ≡ execution_by_verdict (verdict (code_named bytes)) bytes args
+with_few bytes args none few =
+    ap (λ (o : Option DecodeFault). execution_by_fault o bytes args) none
+    ∙ ap (λ (b : Bool). execution_by_count b bytes args) (few_args (length args) few)
+
+pub too_many : (bytes args : List ℕ) → fault_in bytes ≡ None → 8 < length args → execution_of bytes args ≡ Some TooManyArgs
+too_many bytes args none many =
+    ap (λ (o : Option DecodeFault). execution_by_fault o bytes args) none
+    ∙ ap (λ (b : Bool). execution_by_count b bytes args) (many_args (length args) many)
+
+pub refused : (bytes args : List ℕ) (code : List Place) (slot : ℕ) (violation : Violation) → fault_in bytes ≡ None → code ≡ code_named bytes → length args ≤ 8
+    → verdict code ≡ Some (slot, violation) → execution_of bytes args ≡ Some (Refused slot violation)
+refused bytes args code slot violation none named few is =
+    with_few bytes args none few
+    ∙ ap (λ (o : Option (ℕ × Violation)). execution_by_verdict o bytes args) (ap verdict (sym named) ∙ is)
+
+outcome_spelled : (bytes : List ℕ) (code : List Place) (args : List ℕ) → Spells bytes code → outcome_of bytes args ≡ outcome (reach (program code (declaration (length args) []) args) [])
+outcome_spelled bytes code args spells =
+    ap (λ (fs : List Fields). outcome (reach (record { program = record { code = fs; decl = declaration (length args) [] }; args = args; bases = plain_bases }) [])) spells.fields
+
+pub accepted : (v : Checked) (bytes : List ℕ) (code : List Place) (args : List ℕ) (e : Execution) → v.code ≡ code → v.decl.args ≡ length args → v.decl.slots ≡ []
+    → fault_in bytes ≡ None → code ≡ code_named bytes → Spells bytes code → length args ≤ 8 → verdict code ≡ None
+    → answered (outcome (reach (setting_of v args plain_bases) [])) ≡ Some e → execution_of bytes args ≡ Some e
+accepted v bytes code args e ec en es none named spells few is h =
+    with_few bytes args none few
+    ∙ ap (λ (o : Option (ℕ × Violation)). execution_by_verdict o bytes args) (ap verdict (sym named) ∙ is)
+    ∙ ap answered (outcome_spelled bytes code args spells ∙ ap (λ (s : Setting). outcome (reach s [])) (sym (same_program v code args ec en es)))
+    ∙ h

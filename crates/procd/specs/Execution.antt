@@ -1,70 +1,50 @@
 -- What a run of code from its text comes to, and the lines that say it.
-use Rattle.std.specs.Prelude.{◌≡◌, ℕ, ◌<◌, ◌≤◌, Bool, true, false, List, [], ◌++◌, length, Some, None, Ok, Err, codes, decimal}
+use Rattle.std.specs.Prelude.{ℕ, nat_lt, Bool, true, false, List, ◌++◌, length, Option, Some, None, Ok, Err, codes, decimal}
 use Rattle.bpf_encoding.specs.Named.{code_named}
-use Rattle.bpf_encoding.specs.Spells.{Spells, fault_in}
-use Rattle.bpf_encoding.specs.declared.insn.Place.{Place}
+use Rattle.bpf_encoding.specs.Spells.{fault_in}
 use Rattle.bpf_encoding.specs.declared.decode.DecodeFault.{DecodeFault}
 use Rattle.bpf_encoding.specs.declared.decode.DecodeFault.TheVariants as decode
 use Rattle.bpf_encoding.specs.declared.slot.Outside.{Outside}
 use Rattle.bpf_encoding.specs.declared.slot.Outside.TheVariants.{Packet, WideSubtype, LocalCall, BtfCall, Atomic}
-use Rattle.semantics.specs.Reach.{Stop, reach}
-use Rattle.semantics.specs.Instruction.{program_of}
-use Rattle.semantics.specs.Row.{outcome, outcome_of, plain_bases}
+use Rattle.semantics.specs.Row.{outcome_of}
 use Rattle.register_kinds.specs.declared.kind.Violation.{Violation}
 use Rattle.register_kinds.specs.declared.kind.Violation.TheVariants.{Backward, OutOfCode, IntoWide, FallsOff, EmptyRegister, WritesR10, NotAPointer, OutOfBounds, ReadOnly, MaybeNull, UnknownHelper, SlotUnknown, ModeTooWeak, PointerReturned}
 use Rattle.verifier.specs.Verdict.{verdict}
-use Rattle.procd.specs.Hex.{hex_of}
+use Rattle.procd.specs.Hex.{Hex, hex_of}
 use Rattle.procd.specs.declared.execute.Execution.{Execution}
 use Rattle.procd.specs.declared.execute.Execution.TheVariants.{Answer, NotHex, Code, TooManyArgs, Refused}
 
--- the answer and the count of a run that exits
-abbrev pub IsAnswer : Stop → Execution → Type 0
-IsAnswer stop (Answer value executed) = outcome stop ≡ Some (value, executed)
-IsAnswer stop (NotHex at) = ⊥
-IsAnswer stop (Code fault) = ⊥
-IsAnswer stop TooManyArgs = ⊥
-IsAnswer stop (Refused slot violation) = ⊥
+-- what a run that ends comes to
+abbrev pub answered : Option (ℕ × ℕ) → Option Execution
+answered None = None
+answered (Some (value, executed)) = Some (Answer value executed)
 
--- of code, with these arguments
-abbrev pub RunsTo : List Place → List ℕ → Execution → Type 0
-RunsTo code args (Answer value executed) =
-    (length args ≤ 8) × (verdict code ≡ None) × (outcome (reach (record { program = program_of code (record { args = length args; slots = [] }); args = args; bases = plain_bases }) []) ≡ Some (value, executed))
-RunsTo code args (NotHex at) = ⊥
-RunsTo code args (Code fault) = ⊥
-RunsTo code args TooManyArgs = 8 < length args
-RunsTo code args (Refused slot violation) = (length args ≤ 8) × (verdict code ≡ Some (slot, violation))
+-- the bytes are code: what the verifier says of it decides
+abbrev pub execution_by_verdict : Option (ℕ × Violation) → List ℕ → List ℕ → Option Execution
+execution_by_verdict (Some (slot, violation)) bytes args = Some (Refused slot violation)
+execution_by_verdict None bytes args = answered (outcome_of bytes args)
 
--- of the row of places that these bytes name, with these arguments
-abbrev pub IsCodeExecution : List ℕ → List Place → List ℕ → Execution → Type 0
-IsCodeExecution bytes code args (Answer value executed) = (length args ≤ 8) × (verdict code ≡ None) × (outcome_of bytes args ≡ Some (value, executed))
-IsCodeExecution bytes code args (NotHex at) = ⊥
-IsCodeExecution bytes code args (Code fault) = ⊥
-IsCodeExecution bytes code args TooManyArgs = 8 < length args
-IsCodeExecution bytes code args (Refused slot violation) = (length args ≤ 8) × (verdict code ≡ Some (slot, violation))
+-- with at most eight arguments
+abbrev pub execution_by_count : Bool → List ℕ → List ℕ → Option Execution
+execution_by_count true bytes args = Some TooManyArgs
+execution_by_count false bytes args = execution_by_verdict (verdict (code_named bytes)) bytes args
 
--- of the code that these bytes spell
-abbrev pub IsSpelledExecution : List ℕ → List ℕ → Execution → Type 0
-IsSpelledExecution bytes args e = Spells bytes (code_named bytes) × IsCodeExecution bytes (code_named bytes) args e
+abbrev pub execution_by_fault : Option DecodeFault → List ℕ → List ℕ → Option Execution
+execution_by_fault (Some fault) bytes args = Some (Code fault)
+execution_by_fault None bytes args = execution_by_count (nat_lt 8 (length args)) bytes args
 
--- of bytes: the first fault where they spell no code
-abbrev pub IsExecution : List ℕ → List ℕ → Execution → Type 0
-IsExecution bytes args (Code fault) = fault_in bytes ≡ Some fault
-IsExecution bytes args (Answer value executed) = IsSpelledExecution bytes args (Answer value executed)
-IsExecution bytes args (NotHex at) = ⊥
-IsExecution bytes args TooManyArgs = IsSpelledExecution bytes args TooManyArgs
-IsExecution bytes args (Refused slot violation) = IsSpelledExecution bytes args (Refused slot violation)
+-- what the bytes of code come to with these arguments
+abbrev pub execution_of : List ℕ → List ℕ → Option Execution
+execution_of bytes args = execution_by_fault (fault_in bytes) bytes args
 
-abbrev pub IsHexExecution : List ℕ → List ℕ → Execution → Type 0
-IsHexExecution text args (NotHex at) = hex_of text ≡ Err at
-IsHexExecution text args (Answer value executed) = (bytes : List ℕ) × (hex_of text ≡ Ok bytes) × IsExecution bytes args (Answer value executed)
-IsHexExecution text args (Code fault) = (bytes : List ℕ) × (hex_of text ≡ Ok bytes) × IsExecution bytes args (Code fault)
-IsHexExecution text args TooManyArgs = (bytes : List ℕ) × (hex_of text ≡ Ok bytes) × IsExecution bytes args TooManyArgs
-IsHexExecution text args (Refused slot violation) = (bytes : List ℕ) × (hex_of text ≡ Ok bytes) × IsExecution bytes args (Refused slot violation)
+abbrev pub hex_execution : Hex → List ℕ → Option Execution
+hex_execution (Err at) args = Some (NotHex at)
+hex_execution (Ok bytes) args = execution_of bytes args
 
--- of what was read: the bytes themselves, or hex text
-abbrev pub IsTextExecution : Bool → List ℕ → List ℕ → Execution → Type 0
-IsTextExecution true text args e = IsExecution text args e
-IsTextExecution false text args e = IsHexExecution text args e
+-- what was read is the bytes themselves, or hex text that says them
+abbrev pub text_execution : Bool → List ℕ → List ℕ → Option Execution
+text_execution true text args = execution_of text args
+text_execution false text args = hex_execution (hex_of text) args
 
 -- ---- lines
 

@@ -4,7 +4,7 @@ use Rattle.std.specs.Io.KnownBytes.{Appends}
 use Rattle.clap.specs.Words.{App, Row, Rule, Text, all_of, first_of, one_of, new_app, new_rule, subcommand_of, takes, with_rule, with_subcommand}
 use Rattle.clap.specs.declared.builder.ArgAction.TheVariants.{Set, SetTrue, Append}
 use Rattle.std.specs.Str.Parse.{IsNumeral, digits_value, without_leading_plus}
-use Rattle.procd.specs.Execution.{IsTextExecution, lines_of, status_of}
+use Rattle.procd.specs.Execution.{text_execution, lines_of, status_of}
 use Rattle.procd.specs.declared.execute.Execution.{Execution}
 use Rattle.procd.specs.declared.words.Texts.{Texts}
 
@@ -58,14 +58,20 @@ pub record SaysExec (words : List Text) (file : Text) (raw : Bool) (numbers : Li
   pub texts_are : AllNumbers (unwrap_or (all_of (codes "arg") rows) [])
   pub numbers_are : numbers ≡ map value_of (unwrap_or (all_of (codes "arg") rows) [])
 
--- a read or write failed, memory ran out, or the lines of this execution were written and the status is its
-abbrev pub WritesOf : Execution → Option (List ℕ) → Option (List ℕ) → ℕ → Type 0
-WritesOf e old new result = (result ≡ status_of e) × Appends old new (lines_of e)
+-- the lines of this execution are written, and the status is its
+abbrev pub WritesOf : Option Execution → Option (List ℕ) → Option (List ℕ) → ℕ → Type 0
+WritesOf execution old new result = (e : Execution) × (execution ≡ Some e) × (result ≡ status_of e) × Appends old new (lines_of e)
 
-abbrev pub Writes : Bool → List ℕ → List ℕ → Option (List ℕ) → Option (List ℕ) → ℕ → Type 0
-Writes raw text numbers old new result =
-    (result ≡ 3) ⊎ ((result ≡ 4) ⊎ ((e : Execution) × IsTextExecution raw text numbers e × WritesOf e old new result))
+-- a file can't be read or written, or memory ran out with nothing written, or what was read is done
+abbrev pub Writes : Option Execution → Option (List ℕ) → Option (List ℕ) → ℕ → Type 0
+Writes execution old new result = (result ≡ 3) ⊎ (((result ≡ 4) × (new ≡ old)) ⊎ WritesOf execution old new result)
 
--- what a run of `exec -` gives, where the bytes that are read are known
+-- the same of some text, which is what is there to be read, where that is known
 abbrev pub RunsInput : Bool → List ℕ → Option (List ℕ) → Option (List ℕ) → Option (List ℕ) → ℕ → Type 0
-RunsInput raw numbers input old new result = IfSome input (λ text. Writes raw text numbers old new result)
+RunsInput raw numbers input old new result =
+    (text : List ℕ) × IfSome input (λ known. text ≡ known) × Writes (text_execution raw text numbers) old new result
+
+-- the same of a file, which may be standard input
+abbrev pub Runs : Text → Bool → List ℕ → Option (List ℕ) → Option (List ℕ) → Option (List ℕ) → ℕ → Type 0
+Runs file raw numbers input old new result =
+    (text : List ℕ) × (file ≡ codes "-" → IfSome input (λ known. text ≡ known)) × Writes (text_execution raw text numbers) old new result

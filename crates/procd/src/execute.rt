@@ -1,11 +1,13 @@
 //! Code run from its bytes: decoded, verified, and run to its end.
 
-ghost use Rattle.std.specs.Prelude.{◌≡◌, ◌≤◌, ◌↔◌, [], length, IfOk, IfSome, IsSome};
-ghost use Rattle.semantics.specs.Row.{plain_bases};
+ghost use Rattle.std.specs.Prelude.{◌≡◌, ◌≤◌, ◌↔◌, ℕ, List, [], length, Some, None, IfOk, IfSome, IsSome};
+ghost use Rattle.bpf_encoding.specs.Named.{code_named};
+ghost use Rattle.bpf_encoding.specs.Spells.{Spells, fault_in};
+ghost use Rattle.semantics.specs.Row.{outcome, plain_bases};
 ghost use Rattle.semantics.specs.Reach.{reach, IsSafe};
 ghost use Rattle.semantics.specs.Instruction.{program_of};
 ghost use Rattle.interpreter.specs.Runs.{setting_of};
-ghost use Rattle.procd.specs.Execution.{IsExecution, IsTextExecution, RunsTo, IsAnswer};
+ghost use Rattle.procd.specs.Execution.{answered, execution_of, text_execution};
 
 use crate::hex::{HexFault, bytes_of};
 use access_slots::decl::Decl;
@@ -37,7 +39,7 @@ fn answer(verified: &Verified, args: &[u64]) -> Execution
     requires count { length args.now ≡ verified.now.decl.args }
     requires slots { verified.now.decl.slots ≡ [] }
     requires safe { IsSafe (program_of verified.now.code verified.now.decl) }
-    ensures { IsAnswer (reach (setting_of verified.now args.now plain_bases) []) result }
+    ensures { answered (outcome (reach (setting_of verified.now args.now plain_bases) [])) ≡ Some result }
 {
     let mut machine = Machine::start(verified, args, Layout::plain());
     match machine.resume(verified, None) {
@@ -59,7 +61,7 @@ fn declared(args: &[u64]) -> Option<Decl>
 
 // Verifies the code, and runs it.
 fn run_code(alloc: Global, code: Code, args: &[u64]) -> Result<Execution, AllocError>
-    ensures { IfOk result (RunsTo code args.now) }
+    ensures { (bytes : List ℕ) → fault_in bytes ≡ None → code ≡ code_named bytes → Spells bytes code → IfOk result (λ e. execution_of bytes args.now ≡ Some e) }
 {
     let Some(decl) = declared(args) else {
         return Ok(Execution::TooManyArgs);
@@ -73,7 +75,7 @@ fn run_code(alloc: Global, code: Code, args: &[u64]) -> Result<Execution, AllocE
 
 /// Decodes, verifies and runs the code that these bytes spell, with these arguments.
 pub fn execute(alloc: Global, bytes: &[u8], args: &[u64]) -> Result<Execution, AllocError>
-    ensures { IfOk result (IsExecution bytes.now args.now) }
+    ensures { IfOk result (λ e. execution_of bytes.now args.now ≡ Some e) }
 {
     match decode(alloc, bytes) {
         Ok(code) => run_code(alloc, code, args),
@@ -89,7 +91,7 @@ pub fn execute_text(
     text: &[u8],
     args: &[u64],
 ) -> Result<Execution, AllocError>
-    ensures { IfOk result (IsTextExecution raw text.now args.now) }
+    ensures { IfOk result (λ e. text_execution raw text.now args.now ≡ Some e) }
 {
     if raw {
         return execute(alloc, text, args);

@@ -1,7 +1,8 @@
 //! The program, over readers and writers that are handed in.
 
-ghost use Rattle.std.specs.Prelude.{◌≡◌, ℕ, Bool, List, map, codes};
-ghost use Rattle.procd.specs.Said.{SaysExec, RunsInput, Writes};
+ghost use Rattle.std.specs.Prelude.{◌≡◌, ℕ, Bool, List, None, map, codes};
+ghost use Rattle.procd.specs.Said.{SaysExec, Runs, RunsInput, Writes};
+ghost use Rattle.procd.specs.Execution.{text_execution};
 ghost use Rattle.clap.specs.Words.{kind_of};
 
 use crate::execute::execute_text;
@@ -63,7 +64,7 @@ fn run_text<W: Write, E: Write>(
     out: &mut W,
     err: &mut E,
 ) -> u8
-    ensures { Writes raw text.now numbers.now (W.contents out.old) (W.contents out.new) result }
+    ensures { Writes (text_execution raw text.now numbers.now) (W.contents out.old) (W.contents out.new) result }
 {
     let Ok(execution) = execute_text(alloc, raw, text, numbers) else {
         return no_memory(err);
@@ -103,7 +104,9 @@ fn run_file<F: Files, W: Write, E: Write>(
     wanted: &Wanted,
     out: &mut W,
     err: &mut E,
-) -> u8 {
+) -> u8
+    ensures { RunsInput wanted.now.raw wanted.now.numbers.items None (W.contents out.old) (W.contents out.new) result }
+{
     let name = wanted.file;
     let numbers = wanted.numbers.as_slice();
     match File::open(rt, name) {
@@ -112,9 +115,28 @@ fn run_file<F: Files, W: Write, E: Write>(
     }
 }
 
+// Runs what the words want.
+fn run_wanted<F: Files, R: Read, W: Write, E: Write>(
+    rt: &F,
+    alloc: Global,
+    wanted: &Wanted,
+    input: &mut R,
+    out: &mut W,
+    err: &mut E,
+) -> u8
+    ensures { Runs wanted.now.file.now wanted.now.raw wanted.now.numbers.items (R.remaining input.old) (W.contents out.old) (W.contents out.new) result }
+{
+    if wanted.file == "-" {
+        let numbers = wanted.numbers.as_slice();
+        return run_input(alloc, "-", wanted.raw, numbers, input, out, err);
+    }
+    run_file(rt, alloc, wanted, out, err)
+}
+
 // A command line that asks for help, or is wrong.
 fn misuse<W: Write, E: Write>(error: Error, out: &mut W, err: &mut E) -> u8
-    ensures { kind_of error ≡ ErrorKind.OutOfMemory → result ≡ 4 }
+    ensures memory { kind_of error ≡ ErrorKind.OutOfMemory → (result ≡ 4) × (W.contents out.new ≡ W.contents out.old) }
+    ensures wrong { result ≡ 2 → W.contents out.new ≡ W.contents out.old }
 {
     if error.kind() == ErrorKind::OutOfMemory {
         return no_memory(err);
@@ -129,7 +151,9 @@ fn misuse<W: Write, E: Write>(error: Error, out: &mut W, err: &mut E) -> u8
     0
 }
 
-fn wrong_words<E: Write>(err: &mut E, text: &str) -> u8 {
+fn wrong_words<E: Write>(err: &mut E, text: &str) -> u8
+    ensures { result ≡ 2 }
+{
     complain(err, text);
     complain(err, "\n\nFor more information, try 'procd --help'.\n");
     MISUSE
@@ -145,16 +169,13 @@ pub fn program<F: Files, S: AsStr, R: Read, W: Write, E: Write>(
     out: &mut W,
     err: &mut E,
 ) -> u8
-    ensures { (raw : Bool) (numbers : List ℕ) → SaysExec (map S.text words.now) (codes "-") raw numbers → RunsInput raw numbers (R.remaining input.old) (W.contents out.old) (W.contents out.new) result }
+    // The file or standard input is run: what is written is what its text comes to.
+    ensures exec { (file : List ℕ) (raw : Bool) (numbers : List ℕ) → SaysExec (map S.text words.now) file raw numbers → Runs file raw numbers (R.remaining input.old) (W.contents out.old) (W.contents out.new) result }
+    // At a wrong command line nothing is written.
+    ensures wrong { result ≡ 2 → W.contents out.new ≡ W.contents out.old }
 {
     match wanted_of(alloc, words) {
-        Ok(wanted) => {
-            if wanted.file == "-" {
-                let numbers = wanted.numbers.as_slice();
-                return run_input(alloc, "-", wanted.raw, numbers, input, out, err);
-            }
-            run_file(rt, alloc, &wanted, out, err)
-        }
+        Ok(wanted) => run_wanted(rt, alloc, &wanted, input, out, err),
         Err(WordFault::Clap(error)) => misuse(error, out, err),
         Err(WordFault::Memory) => no_memory(err),
         Err(WordFault::NotNumber) => {

@@ -30,55 +30,57 @@ fn bytes_of(alloc: Global, slots: &[u64]) -> Result<Vec<u8>, AllocError> {
     Ok(bytes)
 }
 
+// Code, and what is printed for it.
+const ANSWERS: [(&str, &str); 9] = [
+    // mov r0, 7; mov r1, 5; add r0, r1; exit
+    (
+        "b7 00 00 00 07 00 00 00\nb7 01 00 00 05 00 00 00\n0f 10 00 00 00 00 00 00\n95 00 00 00 00 00 00 00\n",
+        "answer 12\nexecuted 4\n",
+    ),
+    // mov r0, 7; jeq r0, 7, +1; mov r0, 1; exit
+    (
+        "b700000007000000 1500010007000000 b700000001000000 9500000000000000",
+        "answer 7\nexecuted 3\n",
+    ),
+    // 7 / 0 and 7 mod 0
+    (
+        "b700000007000000 b701000000000000 3f10000000000000 9500000000000000",
+        "answer 0\nexecuted 4\n",
+    ),
+    (
+        "b700000007000000 b701000000000000 9F10000000000000 9500000000000000",
+        "answer 7\nexecuted 4\n",
+    ),
+    // lddw r0, 0x0000000100000007; mod32 r0, r1 with r1 = 0
+    (
+        "1800000007000000 0000000001000000 b701000000000000 9c10000000000000 9500000000000000",
+        "answer 7\nexecuted 4\n",
+    ),
+    // lddw r0, 0x8000000000000000; sdiv r0, -1
+    (
+        "1800000000000000 0000000000000080 37000100ffffffff 9500000000000000",
+        "answer 9223372036854775808\nexecuted 3\n",
+    ),
+    // mov r0, 4660; be16 r0
+    (
+        "b700000034120000 dc00000010000000 9500000000000000",
+        "answer 13330\nexecuted 3\n",
+    ),
+    // mov32 r0, -1
+    (
+        "b4000000ffffffff 9500000000000000",
+        "answer 4294967295\nexecuted 2\n",
+    ),
+    // mov r0, 0; exit; mov r0, r5; exit
+    (
+        "b700000000000000 9500000000000000 bf50000000000000 9500000000000000",
+        "answer 0\nexecuted 2\n",
+    ),
+];
+
 #[test]
 fn answers(rt: HostRuntime) -> Result<(), Fail> {
-    let cases = [
-        // mov r0, 7; mov r1, 5; add r0, r1; exit
-        (
-            "b7 00 00 00 07 00 00 00\nb7 01 00 00 05 00 00 00\n0f 10 00 00 00 00 00 00\n95 00 00 00 00 00 00 00\n",
-            "answer 12\nexecuted 4\n",
-        ),
-        // mov r0, 7; jeq r0, 7, +1; mov r0, 1; exit
-        (
-            "b700000007000000 1500010007000000 b700000001000000 9500000000000000",
-            "answer 7\nexecuted 3\n",
-        ),
-        // 7 / 0 and 7 mod 0
-        (
-            "b700000007000000 b701000000000000 3f10000000000000 9500000000000000",
-            "answer 0\nexecuted 4\n",
-        ),
-        (
-            "b700000007000000 b701000000000000 9F10000000000000 9500000000000000",
-            "answer 7\nexecuted 4\n",
-        ),
-        // lddw r0, 0x0000000100000007; mod32 r0, r1 with r1 = 0
-        (
-            "1800000007000000 0000000001000000 b701000000000000 9c10000000000000 9500000000000000",
-            "answer 7\nexecuted 4\n",
-        ),
-        // lddw r0, 0x8000000000000000; sdiv r0, -1
-        (
-            "1800000000000000 0000000000000080 37000100ffffffff 9500000000000000",
-            "answer 9223372036854775808\nexecuted 3\n",
-        ),
-        // mov r0, 4660; be16 r0
-        (
-            "b700000034120000 dc00000010000000 9500000000000000",
-            "answer 13330\nexecuted 3\n",
-        ),
-        // mov32 r0, -1
-        (
-            "b4000000ffffffff 9500000000000000",
-            "answer 4294967295\nexecuted 2\n",
-        ),
-        // mov r0, 0; exit; mov r0, r5; exit
-        (
-            "b700000000000000 9500000000000000 bf50000000000000 9500000000000000",
-            "answer 0\nexecuted 2\n",
-        ),
-    ];
-    for (text, want) in cases {
+    for (text, want) in ANSWERS {
         let ended = run(&rt, &EXEC, text.as_bytes());
         assert_eq!(rt; ended.out.as_slice(), want.as_bytes(), "of {text}");
         assert_eq!(rt; ended.status, 0);
@@ -87,42 +89,44 @@ fn answers(rt: HostRuntime) -> Result<(), Fail> {
     Ok(())
 }
 
+// Code, and why it is refused.
+const REFUSALS: [(&str, &str); 21] = [
+    ("b7 0", "H1 NotHex at 3"),
+    ("95 0 0", "H1 NotHex at 3"),
+    ("", "E1 NoCode"),
+    ("180100008877665500000000443322", "E2 Length"),
+    ("1801000088776655", "E4 WideCut slot 0"),
+    ("1801000088776655 0000010044332211", "E5 UnusedField slot 1"),
+    ("9500000001000000", "E5 UnusedField slot 0"),
+    ("8f00000000000000", "E6 Undefined slot 0"),
+    ("b70b000000000000", "E6 Undefined slot 0"),
+    ("3000000000000000", "E7 OutsideProfile slot 0 Packet"),
+    ("1810000000000000", "E7 OutsideProfile slot 0 WideSubtype"),
+    ("8510000001000000", "E7 OutsideProfile slot 0 LocalCall"),
+    ("8520000001000000", "E7 OutsideProfile slot 0 BtfCall"),
+    ("db10000000000000", "E7 OutsideProfile slot 0 Atomic"),
+    ("0500ffff00000000", "V1 Backward slot 0"),
+    ("0500070000000000 9500000000000000", "V2 OutOfCode slot 0"),
+    // ja +1; lddw r0, 0; exit
+    (
+        "0500010000000000 1800000000000000 0000000000000000 9500000000000000",
+        "V3 IntoWide slot 0",
+    ),
+    ("b700000000000000", "V4 FallsOff slot 0"),
+    (
+        "bf20000000000000 9500000000000000",
+        "V5 EmptyRegister slot 0",
+    ),
+    ("b70a000000000000 9500000000000000", "V6 WritesR10 slot 0"),
+    (
+        "b700000000000000 8500000006000000 9500000000000000",
+        "V11 UnknownHelper slot 1",
+    ),
+];
+
 #[test]
 fn refusals(rt: HostRuntime) -> Result<(), Fail> {
-    let cases = [
-        ("b7 0", "H1 NotHex at 3"),
-        ("95 0 0", "H1 NotHex at 3"),
-        ("", "E1 NoCode"),
-        ("180100008877665500000000443322", "E2 Length"),
-        ("1801000088776655", "E4 WideCut slot 0"),
-        ("1801000088776655 0000010044332211", "E5 UnusedField slot 1"),
-        ("9500000001000000", "E5 UnusedField slot 0"),
-        ("8f00000000000000", "E6 Undefined slot 0"),
-        ("b70b000000000000", "E6 Undefined slot 0"),
-        ("3000000000000000", "E7 OutsideProfile slot 0 Packet"),
-        ("1810000000000000", "E7 OutsideProfile slot 0 WideSubtype"),
-        ("8510000001000000", "E7 OutsideProfile slot 0 LocalCall"),
-        ("8520000001000000", "E7 OutsideProfile slot 0 BtfCall"),
-        ("db10000000000000", "E7 OutsideProfile slot 0 Atomic"),
-        ("0500ffff00000000", "V1 Backward slot 0"),
-        ("0500070000000000 9500000000000000", "V2 OutOfCode slot 0"),
-        // ja +1; lddw r0, 0; exit
-        (
-            "0500010000000000 1800000000000000 0000000000000000 9500000000000000",
-            "V3 IntoWide slot 0",
-        ),
-        ("b700000000000000", "V4 FallsOff slot 0"),
-        (
-            "bf20000000000000 9500000000000000",
-            "V5 EmptyRegister slot 0",
-        ),
-        ("b70a000000000000 9500000000000000", "V6 WritesR10 slot 0"),
-        (
-            "b700000000000000 8500000006000000 9500000000000000",
-            "V11 UnknownHelper slot 1",
-        ),
-    ];
-    for (text, want) in cases {
+    for (text, want) in REFUSALS {
         let want = format!(in rt.alloc(); "refused {want}\n")?;
         let ended = run(&rt, &EXEC, text.as_bytes());
         assert_eq!(rt; ended.out.as_slice(), want.as_bytes(), "of {text}");

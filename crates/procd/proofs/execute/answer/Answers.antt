@@ -1,8 +1,9 @@
-use Rattle.std.proofs.Common.{◌≡◌, ℕ, List, [], ◌∙◌, sym, refl}
+use Rattle.std.proofs.Common.{◌≡◌, ℕ, List, [], ◌∙◌, ap, sym, refl}
 use Rattle.semantics.specs.Step.{Bases}
 use Rattle.semantics.specs.Reach.{reach, entry, Asked, Exited}
 use Rattle.semantics.specs.Row.{plain_bases}
 use Rattle.interpreter.specs.Runs.{setting_of}
+use Rattle.procd.specs.Execution.{answered}
 use Rattle.procd.proofs.Answered.{exits, never_asks, plain_layout, at_same}
 use Rattle.procd.proofs.execute.answer.Goals as goal
 
@@ -24,4 +25,4 @@ returns c =
     let e = c.start-machine.ensures in
     let at_entry = at_same (λ (a : List ℕ) (b : Bases). m.config ≡ entry (setting_of v a b)) m.args c.args.args.now m.bases c.plain.result (sym e.args.0) (sym e.args.1) e.entry in
     let there = at_same (λ (a : List ℕ) (b : Bases). reach (setting_of v a b) [] ≡ Exited c.in-Exit.value c.resume.new.self.config) c.args.args.now m.args plain_bases m.bases e.args.0 (e.args.1 ∙ c.plain.ensures) (c.in-Exit.ensures.stops [] (at_entry, refl)) in
-    exits (reach (setting_of v c.args.args.now plain_bases) []) c.in-Exit.value c.executed.result c.resume.new.self.config there c.executed.ensures
+    ap answered (exits (reach (setting_of v c.args.args.now plain_bases) []) c.in-Exit.value c.executed.result c.resume.new.self.config there c.executed.ensures)

@@ -1,12 +1,12 @@
 use Rattle.std.proofs.Common.{◌∙◌, refl, ap}
 use Rattle.access_slots.specs.Declaration.{Declaration}
-use Rattle.procd.proofs.Answered.{runs_to}
+use Rattle.procd.proofs.Answered.{accepted}
 use Rattle.procd.proofs.execute.run_code.Goals as goal
 
 pub returns-in-Ok : goal.returns-in-Ok
-returns-in-Ok c =
+returns-in-Ok c = λ bytes none named spells.
     let v = c.in-Ok.verified in
     let same = c.in-Ok.ensures.value in
     let decl = c.in-Some.ensures.some in
-    runs_to v c.args.code c.args.args.now c.answer.result same.0 (ap (λ (d : Declaration). d.args) same.1 ∙ decl.0) (ap (λ (d : Declaration). d.slots) same.1 ∙ decl.1)
-    (c.in-Some.ensures.few.0 refl) c.in-Ok.ensures.accepted c.answer.ensures
+    accepted v bytes c.args.code c.args.args.now c.answer.result same.0 (ap (λ (d : Declaration). d.args) same.1 ∙ decl.0) (ap (λ (d : Declaration). d.slots) same.1 ∙ decl.1)
+    none named spells (c.in-Some.ensures.few.0 refl) c.in-Ok.ensures.accepted c.answer.ensures

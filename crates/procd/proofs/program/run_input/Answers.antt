@@ -1,5 +1,9 @@
-use Rattle.procd.proofs.Faults.{read_in}
+use Rattle.procd.proofs.Faults.{cannot_read_fits, no_memory_fits}
+use Rattle.std.proofs.Common.{refl}
 use Rattle.procd.proofs.program.run_input.Goals as goal
 
-pub returns-in-Ok : goal.returns-in-Ok
-returns-in-Ok g c = read_in c.args.raw c.args.numbers.now c.in-Ok.text.items _ _ _ _ c.in-Ok.ensures (rw c.as_slice.ensures.value at c.run_text.ensures)
+pub returns-in-Err-Memory : goal.returns-in-Err-Memory
+returns-in-Err-Memory g c = no_memory_fits c.args.raw c.args.numbers.now _ _ _ _ c.no_memory.ensures refl
+
+pub returns-in-Err-Read : goal.returns-in-Err-Read
+returns-in-Err-Read g c = cannot_read_fits c.args.raw c.args.numbers.now _ _ _ _ c.cannot_read.ensures
