@@ -1,0 +1,7 @@
+pub mod Cutting
+pub mod Mnemonics
+pub mod Numbers
+pub mod Operand
+pub mod Lines
+pub mod Texts
+pub mod Refused

@@ -1,0 +1,13 @@
+//! The text of BPF code: an instruction a line.
+//!
+//! [`assemble::assemble`] reads it, [`disassemble::disassemble`] writes it, and
+//! [`line::insn_of`] reads one line.
+#![tactic(auto)]
+
+pub mod assemble;
+mod cut;
+pub mod disassemble;
+pub mod line;
+mod mnemonic;
+mod number;
+mod operand;

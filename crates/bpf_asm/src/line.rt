@@ -1,0 +1,99 @@
+//! One line of assembly text.
+
+ghost use Rattle.std.specs.Prelude.{◌≡◌};
+ghost use Rattle.bpf_asm.specs.Lines.{insn_with, insn_said, line_said};
+
+use crate::cut::{before, split_operands, split_word, trim};
+use crate::mnemonic::{Mnemonic, mnemonic_said};
+use crate::number::{jump, jump_long, number, wide};
+use crate::operand::{memory, register_said, source};
+use bpf_encoding::insn::Insn;
+
+/// What is wrong with a line.
+#[derive(Clone, Copy, Debug, PartialEq, Eq)]
+pub enum LineFault {
+    /// Its first word names no instruction.
+    UnknownWord,
+    /// A register isn't `r0` to `r10`.
+    BadRegister,
+    /// A number has no digits, or something else than digits.
+    BadNumber,
+    /// A number is too large or too small for its place.
+    OutOfRange,
+    /// There are more or fewer operands, or a memory operand isn't `[register+offset]`.
+    Operands,
+}
+
+// The instruction of this mnemonic with these operands, as many as it takes.
+fn insn_with(mnemonic: Mnemonic, a: &[u8], b: &[u8], c: &[u8]) -> Result<Insn, LineFault>
+    ensures { result ≡ insn_with mnemonic a.now b.now c.now }
+{
+    match mnemonic {
+        Mnemonic::Alu(width, operation) => Ok(Insn::Alu(
+            width,
+            operation,
+            register_said(a)?,
+            source(b)?,
+        )),
+        Mnemonic::Negate(width) => Ok(Insn::Negate(width, register_said(a)?)),
+        Mnemonic::MoveSigned(extension) => Ok(Insn::MoveSigned(
+            extension,
+            register_said(a)?,
+            register_said(b)?,
+        )),
+        Mnemonic::Order(order, width) => Ok(Insn::Order(order, width, register_said(a)?)),
+        Mnemonic::LoadWide => Ok(Insn::LoadWide(register_said(a)?, wide(b)?)),
+        Mnemonic::Jump => Ok(Insn::Jump(jump(a)?)),
+        Mnemonic::JumpLong => Ok(Insn::JumpLong(jump_long(a)?)),
+        Mnemonic::JumpIf(width, condition) => {
+            Ok(Insn::JumpIf(width, condition, register_said(a)?, source(b)?, jump(c)?))
+        }
+        Mnemonic::Load(size) => {
+            let dst = register_said(a)?;
+            let (base, offset) = memory(b)?;
+            Ok(Insn::Load(size, dst, base, offset))
+        }
+        Mnemonic::LoadSigned(size) => {
+            let dst = register_said(a)?;
+            let (base, offset) = memory(b)?;
+            Ok(Insn::LoadSigned(size, dst, base, offset))
+        }
+        Mnemonic::StoreImm(size) => {
+            let (base, offset) = memory(a)?;
+            Ok(Insn::StoreImm(size, base, offset, number(b)?))
+        }
+        Mnemonic::Store(size) => {
+            let (base, offset) = memory(a)?;
+            Ok(Insn::Store(size, base, register_said(b)?, offset))
+        }
+        Mnemonic::Call => Ok(Insn::Call(number(a)?)),
+        Mnemonic::Exit => Ok(Insn::Exit),
+    }
+}
+
+// The instruction that a text says which isn't empty.
+fn insn_said(text: &[u8]) -> Result<Insn, LineFault>
+    ensures { result ≡ insn_said text.now }
+{
+    let (first, rest) = split_word(text);
+    let mnemonic = mnemonic_said(first)?;
+    match split_operands(rest) {
+        Some(operands) if operands.count == mnemonic.operand_count() => {
+            insn_with(mnemonic, operands.first, operands.second, operands.third)
+        }
+        _ => Err(LineFault::Operands),
+    }
+}
+
+/// The instruction that a line says, or `None` where it is empty but for blanks and a comment.
+/// Of several faults it is the first of: the word, the count of operands, the operands from the
+/// left.
+pub fn insn_of(line: &[u8]) -> Result<Option<Insn>, LineFault>
+    ensures { result ≡ line_said line.now }
+{
+    let text = trim(before(line, b';'));
+    if text.is_empty() {
+        return Ok(None);
+    }
+    Ok(Some(insn_said(text)?))
+}
