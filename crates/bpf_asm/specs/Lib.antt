@@ -5,3 +5,4 @@ pub mod Operand
 pub mod Lines
 pub mod Texts
 pub mod Refused
+pub mod Parts

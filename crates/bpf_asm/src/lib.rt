@@ -11,3 +11,4 @@ pub mod line;
 mod mnemonic;
 mod number;
 mod operand;
+mod parts;

@@ -1,0 +1,92 @@
+-- An instruction as its mnemonic and its operands, and the text of both.
+use Rattle.std.specs.Prelude.{ℕ, zero, suc, ◌/◌, ◌%◌, ℤ, pos, negsuc, List, [], ◌∷◌, ◌++◌, Option, Some, None, codes}
+use Rattle.std.specs.Fmt.{decimal, signed_decimal}
+use Rattle.std.specs.Char.{digit_char}
+use Rattle.bpf_encoding.specs.declared.insn.Insn.{Insn}
+use Rattle.bpf_encoding.specs.declared.insn.Insn.TheVariants as insn
+use Rattle.bpf_encoding.specs.declared.insn.Source.{Source}
+use Rattle.bpf_encoding.specs.declared.insn.Source.TheVariants.{Imm, Reg}
+use Rattle.bpf_encoding.specs.declared.insn.Place.{Place}
+use Rattle.bpf_encoding.specs.declared.insn.Place.TheVariants as place
+use Rattle.bpf_asm.specs.declared.mnemonic.Mnemonic.{Mnemonic}
+use Rattle.bpf_asm.specs.declared.mnemonic.Mnemonic.TheVariants as mnemonic
+use Rattle.bpf_asm.specs.declared.parts.Operand.{Operand}
+use Rattle.bpf_asm.specs.declared.parts.Operand.TheVariants.{Register, Number, Wide, Jump, JumpLong, Memory}
+use Rattle.bpf_asm.specs.declared.parts.Parts.{Parts}
+use Rattle.bpf_asm.specs.Mnemonics.{mnemonic_name}
+use Rattle.bpf_asm.specs.Operand.{register_name}
+
+abbrev pub with_none : Mnemonic → Parts
+with_none m = record { mnemonic = m; first = None; second = None; third = None }
+
+abbrev pub with_one : Mnemonic → Operand → Parts
+with_one m a = record { mnemonic = m; first = Some a; second = None; third = None }
+
+abbrev pub with_two : Mnemonic → Operand → Operand → Parts
+with_two m a b = record { mnemonic = m; first = Some a; second = Some b; third = None }
+
+abbrev pub with_three : Mnemonic → Operand → Operand → Operand → Parts
+with_three m a b c = record { mnemonic = m; first = Some a; second = Some b; third = Some c }
+
+abbrev pub source_operand : Source → Operand
+source_operand (Imm n) = Number n
+source_operand (Reg r) = Register r
+
+abbrev pub parts_of : Insn → Parts
+parts_of (insn.Alu width operation dst source) = with_two (mnemonic.Alu width operation) (Register dst) (source_operand source)
+parts_of (insn.Negate width dst) = with_one (mnemonic.Negate width) (Register dst)
+parts_of (insn.MoveSigned extension dst src) = with_two (mnemonic.MoveSigned extension) (Register dst) (Register src)
+parts_of (insn.Order order width dst) = with_one (mnemonic.Order order width) (Register dst)
+parts_of (insn.LoadWide dst value) = with_two mnemonic.LoadWide (Register dst) (Wide value)
+parts_of (insn.Jump offset) = with_one mnemonic.Jump (Jump offset)
+parts_of (insn.JumpLong offset) = with_one mnemonic.JumpLong (JumpLong offset)
+parts_of (insn.JumpIf width condition dst source offset) = with_three (mnemonic.JumpIf width condition) (Register dst) (source_operand source) (Jump offset)
+parts_of (insn.Load size dst base offset) = with_two (mnemonic.Load size) (Register dst) (Memory base offset)
+parts_of (insn.LoadSigned size dst base offset) = with_two (mnemonic.LoadSigned size) (Register dst) (Memory base offset)
+parts_of (insn.StoreImm size base offset imm) = with_two (mnemonic.StoreImm size) (Memory base offset) (Number imm)
+parts_of (insn.Store size base src offset) = with_two (mnemonic.Store size) (Memory base offset) (Register src)
+parts_of (insn.Call helper) = with_one mnemonic.Call (Number helper)
+parts_of insn.Exit = with_none mnemonic.Exit
+
+-- ---- text
+
+-- the lowest digits, this many, in lower case
+abbrev pub hex_text : ℕ → ℕ → List ℕ
+hex_text zero n = []
+hex_text (suc k) n = hex_text k (n / 16) ++ digit_char (n % 16) ∷ []
+
+unfoldable pub wide_text : ℕ → List ℕ
+wide_text value = codes "0x" ++ hex_text 16 value
+
+-- the sign is always there
+abbrev pub offset_text : ℤ → List ℕ
+offset_text (pos n) = 43 ∷ decimal n
+offset_text (negsuc n) = 45 ∷ decimal (suc n)
+
+abbrev pub operand_text : Operand → List ℕ
+operand_text (Register r) = register_name r
+operand_text (Number n) = signed_decimal n
+operand_text (Wide value) = wide_text value
+operand_text (Jump offset) = offset_text offset
+operand_text (JumpLong offset) = offset_text offset
+operand_text (Memory base offset) = ((codes "[" ++ register_name base) ++ offset_text offset) ++ codes "]"
+
+-- behind this separator
+abbrev pub placed : List ℕ → Option Operand → List ℕ
+placed separator None = []
+placed separator (Some o) = separator ++ operand_text o
+
+-- the mnemonic, a space, and the operands with `, ` between
+abbrev pub line_of_parts : Parts → List ℕ
+line_of_parts p = ((mnemonic_name p.mnemonic ++ placed (codes " ") p.first) ++ placed (codes ", ") p.second) ++ placed (codes ", ") p.third
+
+abbrev pub line_of : Insn → List ℕ
+line_of i = line_of_parts (parts_of i)
+
+-- ---- code
+
+-- each line ends with LF; the second slot of a wide instruction has none
+abbrev pub text_of : List Place → List ℕ
+text_of [] = []
+text_of (place.Insn i ∷ places) = (line_of i ++ codes "\n") ++ text_of places
+text_of (place.Second ∷ places) = text_of places
