@@ -1,9 +1,17 @@
 -- A fault is always among what a run may give.
-use Rattle.std.proofs.Common.{arith, ◌≡◌, ℕ, Bool, List, Option, Some, None, [], map, option_map, unwrap_or, refl, inl, inr, true, false, codes, ◌||◌, ◌∙◌, ap₂, sym}
-use Rattle.std.specs.Prelude.{IfSome}
+use Rattle.std.proofs.Common.{arith, ◌≡◌, ℕ, Bool, List, Option, Some, None, [], map, option_map, unwrap_or, refl, inl, inr, true, false, codes, ◌||◌, ◌∙◌, ap₂}
+use Rattle.std.specs.Prelude.{IfSome, Result, Ok, Err, ◌≤◌}
 use Rattle.std.specs.Borrow.{Bor}
 use Rattle.procd.specs.Said.{IsFlag, Runs, RunsInput}
 use Rattle.procd.specs.Execution.{status_of}
+use Rattle.procd.specs.Hex.{Hex, hex_of}
+use Rattle.procd.specs.Task.{Wish, Exec, Asm, Dis}
+use Rattle.procd.specs.Report.{IsReport, IsAssembly, IsDisassembly, IsDisassemblyOf, IsHexDisassembly}
+use Rattle.bpf_asm.specs.Lines.{assembled}
+use Rattle.bpf_asm.specs.declared.assemble.AsmFault.{AsmFault}
+use Rattle.bpf_encoding.specs.Spells.{fault_in}
+use Rattle.bpf_encoding.specs.declared.decode.DecodeFault.{DecodeFault}
+use Rattle.bpf_encoding.specs.declared.insn.Place.{Place}
 use Rattle.procd.specs.declared.execute.Execution.{Execution}
 use Rattle.procd.specs.declared.execute.Execution.TheVariants.{Answer, NotHex, Code, TooManyArgs, Refused}
 
@@ -30,39 +38,58 @@ known_is : (input : Option (List ℕ)) → IfSome input (λ text. known input �
 known_is None = tt
 known_is (Some text) = refl
 
-pub cannot_read_fits : (raw : Bool) (numbers : List ℕ) (input old new : Option (List ℕ)) (result : ℕ) → result ≡ 3 → RunsInput raw numbers input old new result
-cannot_read_fits raw numbers input old new result is = (known input, known_is input, inl is)
+pub cannot_read_fits : (wish : Wish) (input old new : Option (List ℕ)) (result : ℕ) → result ≡ 3 → RunsInput wish input old new result
+cannot_read_fits wish input old new result is = (known input, known_is input, inl is)
 
-pub no_memory_fits : (raw : Bool) (numbers : List ℕ) (input old new : Option (List ℕ)) (result : ℕ) → result ≡ 4 → new ≡ old → RunsInput raw numbers input old new result
-no_memory_fits raw numbers input old new result is kept = (known input, known_is input, inr (inl (is, kept)))
+pub no_memory_fits : (wish : Wish) (input old new : Option (List ℕ)) (result : ℕ) → result ≡ 4 → new ≡ old → RunsInput wish input old new result
+no_memory_fits wish input old new result is kept = (known input, known_is input, inr (inl (is, kept)))
 
-pub some_file_runs : (file : List ℕ) (raw : Bool) (numbers : List ℕ) (input old new : Option (List ℕ)) (result : ℕ) → RunsInput raw numbers input old new result → Runs file raw numbers input old new result
-some_file_runs file raw numbers input old new result h = (h.0, (λ e. h.1), h.2)
+pub no_memory_runs : (file : List ℕ) (wish : Wish) (input old new : Option (List ℕ)) (result : ℕ) → result ≡ 4 → new ≡ old → Runs file wish input old new result
+no_memory_runs file wish input old new result is kept = (known input, (λ e. known_is input), inr (inl (is, kept)))
 
--- a file that isn't standard input
-pub other_file_runs : (file : List ℕ) (raw : Bool) (numbers : List ℕ) (input input' old new : Option (List ℕ)) (result : ℕ) → (file ≡ codes "-" → ⊥) → RunsInput raw numbers input' old new result → Runs file raw numbers input old new result
-other_file_runs file raw numbers input input' old new result other h = (h.0, (λ e. absurd (other e)), h.2)
+-- ---- a command's status is 0 or 1
 
-pub no_memory_runs : (file : List ℕ) (raw : Bool) (numbers : List ℕ) (input old new : Option (List ℕ)) (result : ℕ) → result ≡ 4 → new ≡ old → Runs file raw numbers input old new result
-no_memory_runs file raw numbers input old new result is kept = some_file_runs file raw numbers input old new result (no_memory_fits raw numbers input old new result is kept)
+execution_low : (e : Execution) → status_of e ≤ 1
+execution_low (Answer value executed) = omega arith
+execution_low (NotHex at) = omega arith
+execution_low (Code fault) = omega arith
+execution_low TooManyArgs = omega arith
+execution_low (Refused slot violation) = omega arith
 
-not_wrong : (e : Execution) → status_of e ≡ 2 → ⊥
-not_wrong (Answer value executed) h = cc
-not_wrong (NotHex at) h = cc
-not_wrong (Code fault) h = cc
-not_wrong TooManyArgs h = cc
-not_wrong (Refused slot violation) h = cc
+assembly_low : (r : Result (List Place) AsmFault) (status : ℕ) (lines : List ℕ) → IsAssembly r status lines → status ≤ 1
+assembly_low (Ok code) status lines h = omega (arith, h.0)
+assembly_low (Err e) status lines h = omega (arith, h.0)
+
+disassembly_of_low : (fault : Option DecodeFault) (bytes : List ℕ) (status : ℕ) (lines : List ℕ) → IsDisassemblyOf fault bytes status lines → status ≤ 1
+disassembly_of_low (Some fault) bytes status lines h = omega (arith, h.0)
+disassembly_of_low None bytes status lines h = omega (arith, h.0)
+
+hex_low : (hex : Hex) (status : ℕ) (lines : List ℕ) → IsHexDisassembly hex status lines → status ≤ 1
+hex_low (Err at) status lines h = omega (arith, h.0)
+hex_low (Ok bytes) status lines h = disassembly_of_low (fault_in bytes) bytes status lines h
+
+disassembly_low : (raw : Bool) (text : List ℕ) (status : ℕ) (lines : List ℕ) → IsDisassembly raw text status lines → status ≤ 1
+disassembly_low true text status lines h = disassembly_of_low (fault_in text) text status lines h
+disassembly_low false text status lines h = hex_low (hex_of text) status lines h
+
+report_low : (wish : Wish) (text : List ℕ) (status : ℕ) (lines : List ℕ) → IsReport wish text status lines → status ≤ 1
+report_low (Exec raw numbers) text status lines h = omega (arith, h.2, execution_low h.0)
+report_low Asm text status lines h = assembly_low (assembled text) status lines h
+report_low (Dis raw) text status lines h = disassembly_low raw text status lines h
 
 not_three : (result : ℕ) → result ≡ 3 → result ≡ 2 → ⊥
-not_three result three two = omega arith
+not_three result three two = omega (arith, three, two)
 
 not_four : (result : ℕ) → result ≡ 4 → result ≡ 2 → ⊥
-not_four result four two = omega arith
+not_four result four two = omega (arith, four, two)
 
--- a run never ends as a wrong command line does
-pub never_wrong : (file : List ℕ) (raw : Bool) (numbers : List ℕ) (input old new : Option (List ℕ)) (result : ℕ) → Runs file raw numbers input old new result → result ≡ 2 → ⊥
-never_wrong file raw numbers input old new result h is =
-    elim h.2 [ inl three ↦ not_three result three is | inr rest ↦ elim rest [ inl four ↦ not_four result four.0 is | inr said ↦ not_wrong said.0 (sym said.2 ∙ is) ] ]
+not_low : (result : ℕ) → result ≤ 1 → result ≡ 2 → ⊥
+not_low result low two = omega (arith, low, two)
+
+-- a command never ends as a wrong command line does
+pub never_wrong : (file : List ℕ) (wish : Wish) (input old new : Option (List ℕ)) (result : ℕ) → Runs file wish input old new result → result ≡ 2 → ⊥
+never_wrong file wish input old new result h is =
+    elim h.2 [ inl three ↦ not_three result three is | inr rest ↦ elim rest [ inl four ↦ not_four result four.0 is | inr said ↦ not_low result (report_low wish h.0 result said.0 said.1) is ] ]
 
 -- a command with one argument more that isn't global
 pub still_local : (new old : Bool) (global : Bool) → new ≡ (old || global) → old ≡ false → global ≡ false → new ≡ false

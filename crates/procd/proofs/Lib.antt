@@ -1,3 +1,4 @@
 pub mod HexLemmas
 pub mod Answered
 pub mod Faults
+pub mod Wishes

@@ -1,15 +1,34 @@
 -- What was read of the words.
-use Rattle.std.specs.Prelude.{◌≡◌, ℕ, Bool, List, Result, Ok, Err}
+use Rattle.std.specs.Prelude.{◌≡◌, ℕ, List, Result, Ok, Err}
+use Rattle.std.specs.Global.{Vec}
 use Rattle.clap.specs.Words.{Text, kind_of}
 use Rattle.clap.specs.declared.error.kind.ErrorKind.TheVariants.{OutOfMemory}
+use Rattle.procd.specs.Task.{Wish, wish_of}
+use Rattle.procd.specs.declared.words.Task.{Task}
 use Rattle.procd.specs.declared.words.Wanted.{Wanted}
 use Rattle.procd.specs.declared.words.WordFault.{WordFault}
 use Rattle.procd.specs.declared.words.WordFault.TheVariants.{Clap, NotNumber, NoCommand, Memory}
 
--- this file, flag and these numbers, or want of memory
-abbrev pub WantsOrNoMemory : Text → Bool → List ℕ → Result Wanted WordFault → Type 0
-WantsOrNoMemory file raw numbers (Ok w) = (w.file.now ≡ file) × (w.raw ≡ raw) × (w.numbers.items ≡ numbers)
-WantsOrNoMemory file raw numbers (Err (Clap e)) = kind_of e ≡ OutOfMemory
-WantsOrNoMemory file raw numbers (Err NotNumber) = ⊥
-WantsOrNoMemory file raw numbers (Err NoCommand) = ⊥
-WantsOrNoMemory file raw numbers (Err Memory) = Unit {0}
+-- these numbers, or want of memory
+abbrev pub IsNumbersOrNoMemory : List ℕ → Result (Vec ℕ) WordFault → Type 0
+IsNumbersOrNoMemory numbers (Ok v) = v.items ≡ numbers
+IsNumbersOrNoMemory numbers (Err (Clap e)) = ⊥
+IsNumbersOrNoMemory numbers (Err NotNumber) = ⊥
+IsNumbersOrNoMemory numbers (Err NoCommand) = ⊥
+IsNumbersOrNoMemory numbers (Err Memory) = Unit {0}
+
+-- this wish, or want of memory
+abbrev pub IsTaskOrNoMemory : Wish → Result Task WordFault → Type 0
+IsTaskOrNoMemory wish (Ok task) = wish_of task ≡ wish
+IsTaskOrNoMemory wish (Err (Clap e)) = ⊥
+IsTaskOrNoMemory wish (Err NotNumber) = ⊥
+IsTaskOrNoMemory wish (Err NoCommand) = ⊥
+IsTaskOrNoMemory wish (Err Memory) = Unit {0}
+
+-- this file and wish, or want of memory
+abbrev pub WantsOrNoMemory : Text → Wish → Result Wanted WordFault → Type 0
+WantsOrNoMemory file wish (Ok w) = (w.file.now ≡ file) × (wish_of w.task ≡ wish)
+WantsOrNoMemory file wish (Err (Clap e)) = kind_of e ≡ OutOfMemory
+WantsOrNoMemory file wish (Err NotNumber) = ⊥
+WantsOrNoMemory file wish (Err NoCommand) = ⊥
+WantsOrNoMemory file wish (Err Memory) = Unit {0}

@@ -1,11 +1,13 @@
 //! `procd`: a transaction component that runs verified BPF procedures.
 #![tactic(auto)]
 
+mod assembly;
 mod execute;
 mod hex;
 mod lines;
 mod program;
 mod reading;
+mod report;
 mod words;
 
 use program::{no_memory, program};

@@ -1,13 +1,12 @@
 //! The program, over readers and writers that are handed in.
 
-ghost use Rattle.std.specs.Prelude.{◌≡◌, ℕ, Bool, List, None, map, codes};
-ghost use Rattle.procd.specs.Said.{SaysExec, Runs, RunsInput, Writes};
-ghost use Rattle.procd.specs.Execution.{text_execution};
+ghost use Rattle.std.specs.Prelude.{◌≡◌, ℕ, List, None, map};
+ghost use Rattle.procd.specs.Said.{Says, Runs, RunsInput, Writes};
+ghost use Rattle.procd.specs.Task.{Wish, wish_of};
 ghost use Rattle.clap.specs.Words.{kind_of};
 
-use crate::execute::execute_text;
-use crate::lines::{lines, status};
 use crate::reading::{ReadFault, read_all};
+use crate::report::{ReportFault, report_on};
 use crate::words::{Wanted, WordFault, wanted_of};
 use clap::Error;
 use clap::error::ErrorKind;
@@ -55,49 +54,45 @@ fn cannot_read<E: Write>(err: &mut E, name: &str) -> u8
     FILE_FAULT
 }
 
-// Runs the code that was read, and writes what it came to.
+// Does the task with what was read, and writes its lines.
 fn run_text<W: Write, E: Write>(
     alloc: Global,
-    raw: bool,
+    wanted: &Wanted,
     text: &[u8],
-    numbers: &[u64],
     out: &mut W,
     err: &mut E,
 ) -> u8
-    ensures { Writes (text_execution raw text.now numbers.now) (W.contents out.old) (W.contents out.new) result }
+    ensures { Writes (wish_of wanted.now.task) text.now (W.contents out.old) (W.contents out.new) result }
 {
-    let Ok(execution) = execute_text(alloc, raw, text, numbers) else {
-        return no_memory(err);
+    let report = match report_on(alloc, &wanted.task, text) {
+        Ok(report) => report,
+        Err(ReportFault::Memory) => return no_memory(err),
+        Err(ReportFault::NotText) => return cannot_read(err, wanted.file),
     };
-    let Ok(said) = lines(alloc, &execution) else {
-        return no_memory(err);
-    };
-    if out.write_all(said.as_bytes()).is_err() {
+    if out.write_all(report.lines.as_bytes()).is_err() {
         return cannot_write(err);
     }
-    status(&execution)
+    report.status
 }
 
-// Reads all of the code, and runs it.
+// Reads all that is there, and does the task with it.
 fn run_input<R: Read, W: Write, E: Write>(
     alloc: Global,
-    name: &str,
-    raw: bool,
-    numbers: &[u64],
+    wanted: &Wanted,
     input: &mut R,
     out: &mut W,
     err: &mut E,
 ) -> u8
-    ensures { RunsInput raw numbers.now (R.remaining input.old) (W.contents out.old) (W.contents out.new) result }
+    ensures { RunsInput (wish_of wanted.now.task) (R.remaining input.old) (W.contents out.old) (W.contents out.new) result }
 {
     match read_all(alloc, input) {
-        Ok(text) => run_text(alloc, raw, text.as_slice(), numbers, out, err),
+        Ok(text) => run_text(alloc, wanted, text.as_slice(), out, err),
         Err(ReadFault::Memory) => no_memory(err),
-        Err(ReadFault::Read) => cannot_read(err, name),
+        Err(ReadFault::Read) => cannot_read(err, wanted.file),
     }
 }
 
-// Opens the file, and runs the code in it.
+// Opens the file, and does the task with what is in it.
 fn run_file<F: Files, W: Write, E: Write>(
     rt: &F,
     alloc: Global,
@@ -105,17 +100,15 @@ fn run_file<F: Files, W: Write, E: Write>(
     out: &mut W,
     err: &mut E,
 ) -> u8
-    ensures { RunsInput wanted.now.raw wanted.now.numbers.items None (W.contents out.old) (W.contents out.new) result }
+    ensures { RunsInput (wish_of wanted.now.task) None (W.contents out.old) (W.contents out.new) result }
 {
-    let name = wanted.file;
-    let numbers = wanted.numbers.as_slice();
-    match File::open(rt, name) {
-        Ok(mut file) => run_input(alloc, name, wanted.raw, numbers, &mut file, out, err),
-        Err(_) => cannot_read(err, name),
+    match File::open(rt, wanted.file) {
+        Ok(mut file) => run_input(alloc, wanted, &mut file, out, err),
+        Err(_) => cannot_read(err, wanted.file),
     }
 }
 
-// Runs what the words want.
+// Does what the words want.
 fn run_wanted<F: Files, R: Read, W: Write, E: Write>(
     rt: &F,
     alloc: Global,
@@ -124,11 +117,10 @@ fn run_wanted<F: Files, R: Read, W: Write, E: Write>(
     out: &mut W,
     err: &mut E,
 ) -> u8
-    ensures { Runs wanted.now.file.now wanted.now.raw wanted.now.numbers.items (R.remaining input.old) (W.contents out.old) (W.contents out.new) result }
+    ensures { Runs wanted.now.file.now (wish_of wanted.now.task) (R.remaining input.old) (W.contents out.old) (W.contents out.new) result }
 {
     if wanted.file == "-" {
-        let numbers = wanted.numbers.as_slice();
-        return run_input(alloc, "-", wanted.raw, numbers, input, out, err);
+        return run_input(alloc, wanted, input, out, err);
     }
     run_file(rt, alloc, wanted, out, err)
 }
@@ -169,8 +161,8 @@ pub fn program<F: Files, S: AsStr, R: Read, W: Write, E: Write>(
     out: &mut W,
     err: &mut E,
 ) -> u8
-    // The file or standard input is run: what is written is what its text comes to.
-    ensures exec { (file : List ℕ) (raw : Bool) (numbers : List ℕ) → SaysExec (map S.text words.now) file raw numbers → Runs file raw numbers (R.remaining input.old) (W.contents out.old) (W.contents out.new) result }
+    // What is written is what the command makes of the text of its file or of standard input.
+    ensures runs { (file : List ℕ) (wish : Wish) → Says (map S.text words.now) file wish → Runs file wish (R.remaining input.old) (W.contents out.old) (W.contents out.new) result }
     // At a wrong command line nothing is written.
     ensures wrong { result ≡ 2 → W.contents out.new ≡ W.contents out.old }
 {
@@ -181,6 +173,9 @@ pub fn program<F: Files, S: AsStr, R: Read, W: Write, E: Write>(
         Err(WordFault::NotNumber) => {
             wrong_words(err, "error: an ARG is no number of 64 bits in decimal")
         }
-        Err(WordFault::NoCommand) => wrong_words(err, "error: a command is missing, as exec"),
+        Err(WordFault::NoCommand) => wrong_words(
+            err,
+            "error: a command is missing: exec, asm or dis",
+        ),
     }
 }

@@ -1,25 +1,34 @@
 //! The command line.
 
-ghost use Rattle.std.specs.Prelude.{◌≡◌, ℕ, Bool, List, true, false, Some, map, IfOk, IfErr, option_map, codes};
-ghost use Rattle.clap.specs.Words.{Row, app_of, kind_of, subcommand_of, subcommand_rows_of, takes};
+ghost use Rattle.std.specs.Prelude.{◌≡◌, ℕ, Bool, List, [], true, false, Some, map, unwrap_or, IfOk, IfErr, option_map, codes};
+ghost use Rattle.clap.specs.Words.{Row, app_of, rule_of, kind_of, subcommand_of, subcommand_rows_of, takes, rows_of, found_of, all_of};
 ghost use Rattle.clap.specs.declared.builder.command.Command.TheViews.{out-Command};
-ghost use Rattle.procd.specs.Wanted.{WantsOrNoMemory};
-ghost use Rattle.procd.specs.Said.{procd_app, exec_app, SaysExec, AllNumbers, IsTextsOf, value_of};
+ghost use Rattle.procd.specs.Wanted.{WantsOrNoMemory, IsTaskOrNoMemory, IsNumbersOrNoMemory};
+ghost use Rattle.procd.specs.Task.{Wish, command_name};
+ghost use Rattle.procd.specs.Said.{procd_app, exec_app, asm_app, dis_app, file_rule, raw_rule, Says, SaysWish, SaysNumbers, AllNumbers, value_of};
 
 use clap::error::ErrorKind;
 use clap::{Arg, ArgAction, ArgMatches, Command, Error};
 use std::alloc::{AllocError, Global};
 use std::convert::AsStr;
 
-/// What `exec` is asked for.
+/// A command, but for its file.
+#[derive(Drop)]
+pub enum Task {
+    /// Run code with these arguments; raw code is bytes, other is hex text.
+    Exec { raw: bool, numbers: Vec<u64> },
+    /// Assemble text.
+    Asm,
+    /// Disassemble code.
+    Dis { raw: bool },
+}
+
+/// What the words ask for.
 #[derive(Drop)]
 pub struct Wanted<'a> {
     /// A path, or `-` for standard input.
     pub file: &'a str,
-    /// Whether the file has the bytes themselves, and not hex text.
-    pub raw: bool,
-    /// The arguments of the code.
-    pub numbers: Vec<u64>,
+    pub task: Task,
 }
 
 /// Why nothing is wanted.
@@ -32,25 +41,62 @@ pub enum WordFault {
     Memory,
 }
 
+// FILE
+fn file_arg<'a>(alloc: Global, help: &'a str) -> Arg<'a>
+    ensures rule { rule_of result ≡ file_rule }
+    ensures local { result.global ≡ false }
+{
+    Arg::new(alloc, "file")
+        .required(true)
+        .action(ArgAction::Set)
+        .value_name("FILE")
+        .help(help)
+}
+
+// --raw
+fn raw_arg<'a>(alloc: Global) -> Arg<'a>
+    ensures rule { rule_of result ≡ raw_rule }
+    ensures local { result.global ≡ false }
+{
+    Arg::new(alloc, "raw")
+        .long("raw")
+        .action(ArgAction::SetTrue)
+        .help("Read the code's bytes themselves, not hex text")
+}
+
+const CODE_HELP: &str = "The code: a path, or - for standard input. Hex text is pairs of digits";
+
 // `exec [--raw] FILE [ARG]...`
 fn exec_command<'a>(alloc: Global) -> Result<Command<'a>, AllocError>
     ensures app { IfOk result (λ c. app_of c ≡ exec_app) }
     ensures local { IfOk result (λ c. (out-Command c).has_globals ≡ false) }
 {
-    let raw = Arg::new(alloc, "raw")
-        .long("raw")
-        .action(ArgAction::SetTrue)
-        .help("Read the code's bytes themselves, not hex text");
-    let file = Arg::new(alloc, "file")
-        .required(true)
-        .action(ArgAction::Set)
-        .value_name("FILE")
-        .help("The code: a path, or - for standard input. Hex text is pairs of digits");
     let arg = Arg::new(alloc, "arg")
         .action(ArgAction::Append)
         .value_name("ARG")
         .help("The code's arguments, at most 8: numbers of 64 bits in decimal");
-    Command::new(alloc, "exec").arg(raw)?.arg(file)?.arg(arg)
+    Command::new(alloc, "exec")
+        .arg(raw_arg(alloc))?
+        .arg(file_arg(alloc, CODE_HELP))?
+        .arg(arg)
+}
+
+// `asm FILE`
+fn asm_command<'a>(alloc: Global) -> Result<Command<'a>, AllocError>
+    ensures app { IfOk result (λ c. app_of c ≡ asm_app) }
+    ensures local { IfOk result (λ c. (out-Command c).has_globals ≡ false) }
+{
+    Command::new(alloc, "asm").arg(file_arg(alloc, "The text: a path, or - for standard input"))
+}
+
+// `dis [--raw] FILE`
+fn dis_command<'a>(alloc: Global) -> Result<Command<'a>, AllocError>
+    ensures app { IfOk result (λ c. app_of c ≡ dis_app) }
+    ensures local { IfOk result (λ c. (out-Command c).has_globals ≡ false) }
+{
+    Command::new(alloc, "dis")
+        .arg(raw_arg(alloc))?
+        .arg(file_arg(alloc, CODE_HELP))
 }
 
 // The command line of the program.
@@ -60,7 +106,14 @@ fn procd_command<'a>(alloc: Global) -> Result<Command<'a>, AllocError>
     let exec = exec_command(alloc)?.about(
         "Verify code and run it: prints `answer V` and `executed N`, or `refused ..` with status 1",
     );
-    let procd = Command::new(alloc, "procd").subcommand(exec)?;
+    let asm = asm_command(alloc)?.about(
+        "Assemble text, an instruction a line: prints its slots in hex, one a line",
+    );
+    let dis = dis_command(alloc)?.about("Disassemble code: prints its text, an instruction a line");
+    let procd = Command::new(alloc, "procd")
+        .subcommand(exec)?
+        .subcommand(asm)?
+        .subcommand(dis)?;
     Ok(procd.about("A transaction component that runs verified BPF procedures"))
 }
 
@@ -71,27 +124,6 @@ fn said<'a, S: AsStr>(alloc: Global, words: &'a [S]) -> Result<ArgMatches<'a>, E
 {
     let command = procd_command(alloc)?;
     command.try_get_matches_from(words)
-}
-
-/// The file of `exec`, whether `--raw` is there, and the arguments' texts.
-#[derive(Clone, Copy)]
-struct Texts<'a, 'm> {
-    file: &'a str,
-    raw: bool,
-    args: Option<&'m [&'a str]>,
-}
-
-// The texts of `exec`, where the matches have them.
-fn texts_in<'a, 'm>(matches: &'m ArgMatches<'a>) -> Option<Texts<'a, 'm>>
-    ensures { (rows : List Row) → subcommand_rows_of matches.now ≡ Some (codes "exec", rows) → IsTextsOf rows result }
-{
-    let inner = matches.subcommand_matches("exec")?;
-    let file = inner.get_str("file")?;
-    Some(Texts {
-        file,
-        raw: inner.get_flag("raw"),
-        args: inner.get_strs("arg"),
-    })
 }
 
 // The numbers that texts say, or `None` where one says none.
@@ -108,24 +140,48 @@ fn numbers_of(alloc: Global, texts: &[&str]) -> Result<Option<Vec<u64>>, AllocEr
     Ok(Some(numbers))
 }
 
+// The numbers that the arguments say.
+fn numbers_in(alloc: Global, matches: &ArgMatches) -> Result<Vec<u64>, WordFault>
+    ensures { (numbers : List ℕ) → SaysNumbers (rows_of (found_of matches.now)) numbers → IsNumbersOrNoMemory numbers result }
+{
+    match numbers_of(alloc, matches.get_strs("arg").unwrap_or(&[])) {
+        Ok(Some(numbers)) => Ok(numbers),
+        Ok(None) => Err(WordFault::NotNumber),
+        Err(AllocError) => Err(WordFault::Memory),
+    }
+}
+
+// The task of the command of this name.
+fn task_of(alloc: Global, name: &str, matches: &ArgMatches) -> Result<Task, WordFault>
+    ensures { (wish : Wish) → name.now ≡ command_name wish → SaysWish (rows_of (found_of matches.now)) wish → IsTaskOrNoMemory wish result }
+{
+    match name {
+        "exec" => Ok(Task::Exec {
+            raw: matches.get_flag("raw"),
+            numbers: numbers_in(alloc, matches)?,
+        }),
+        "asm" => Ok(Task::Asm),
+        "dis" => Ok(Task::Dis {
+            raw: matches.get_flag("raw"),
+        }),
+        _ => Err(WordFault::NoCommand),
+    }
+}
+
 /// What the words want.
 pub fn wanted_of<'a, S: AsStr>(alloc: Global, words: &'a [S]) -> Result<Wanted<'a>, WordFault>
-    ensures { (file : List ℕ) (raw : Bool) (numbers : List ℕ) → SaysExec (map S.text words.entry.now) file raw numbers → WantsOrNoMemory file raw numbers result }
+    ensures { (file : List ℕ) (wish : Wish) → Says (map S.text words.entry.now) file wish → WantsOrNoMemory file wish result }
 {
     let matches = match said(alloc, words) {
         Ok(matches) => matches,
         Err(error) => return Err(WordFault::Clap(error)),
     };
-    let Some(texts) = texts_in(&matches) else {
+    let Some((name, inner)) = matches.subcommand() else {
         return Err(WordFault::NoCommand);
     };
-    match numbers_of(alloc, texts.args.unwrap_or(&[])) {
-        Ok(Some(numbers)) => Ok(Wanted {
-            file: texts.file,
-            raw: texts.raw,
-            numbers,
-        }),
-        Ok(None) => Err(WordFault::NotNumber),
-        Err(AllocError) => Err(WordFault::Memory),
-    }
+    let Some(file) = inner.get_str("file") else {
+        return Err(WordFault::NoCommand);
+    };
+    let task = task_of(alloc, name, inner)?;
+    Ok(Wanted { file, task })
 }

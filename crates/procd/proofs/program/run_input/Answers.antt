@@ -1,9 +1,10 @@
-use Rattle.procd.proofs.Faults.{cannot_read_fits, no_memory_fits}
 use Rattle.std.proofs.Common.{refl}
+use Rattle.procd.specs.Task.{wish_of}
+use Rattle.procd.proofs.Faults.{cannot_read_fits, no_memory_fits}
 use Rattle.procd.proofs.program.run_input.Goals as goal
 
 pub returns-in-Err-Memory : goal.returns-in-Err-Memory
-returns-in-Err-Memory g c = no_memory_fits c.args.raw c.args.numbers.now _ _ _ _ c.no_memory.ensures refl
+returns-in-Err-Memory g c = no_memory_fits (wish_of c.args.wanted.now.task) _ _ _ _ c.no_memory.ensures refl
 
 pub returns-in-Err-Read : goal.returns-in-Err-Read
-returns-in-Err-Read g c = cannot_read_fits c.args.raw c.args.numbers.now _ _ _ _ c.cannot_read.ensures
+returns-in-Err-Read g c = cannot_read_fits (wish_of c.args.wanted.now.task) _ _ _ _ c.cannot_read.ensures

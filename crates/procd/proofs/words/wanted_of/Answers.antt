@@ -1,19 +1,29 @@
-use Rattle.std.proofs.Common.{◌≡◌, ◌∙◌, ap, refl, sym, subst, Option, List, [], ℕ, map, unwrap_or, codes}
-use Rattle.std.specs.Borrow.{Bor}
-use Rattle.clap.specs.Words.{Text}
-use Rattle.clap.specs.Walk.{all_of}
-use Rattle.procd.specs.Said.{AllNumbers, value_of}
-use Rattle.procd.proofs.Faults.{some_some, texts_or_none}
+use Rattle.std.proofs.Common.{◌≡◌, ◌∙◌, ap, sym, subst, Some, None, List, option_map, codes}
+use Rattle.clap.specs.Words.{Row, Text, first_of, found_of, rows_of}
+use Rattle.clap.proofs.WalkLemmas.{first_value-rows}
+use Rattle.procd.specs.Said.{SaysWish}
+use Rattle.procd.specs.Task.{command_name}
+use Rattle.procd.proofs.Faults.{some_some}
+use Rattle.procd.proofs.Wishes.{name_of_rows}
 use Rattle.procd.proofs.words.wanted_of.Goals as goal
 
-pub returns-in-Ok-Some : goal.returns-in-Ok-Some
-returns-in-Ok-Some g c = λ file raw numbers says.
-    let t = c.in-Some.ensures says.rows (c.in-Ok.ensures.ok ∙ says.entered) in
-    let texts : map (λ (s : Bor (List ℕ)). s.now) c.unwrap_or.result.now ≡ unwrap_or (all_of (codes "arg") says.rows) [] =
-    ap (λ (r : Bor (List (Bor (List ℕ)))). map (λ (s : Bor (List ℕ)). s.now) r.now) c.unwrap_or.ensures
-    ∙ (texts_or_none c.in-Some.texts.args _ refl ∙ ap (λ (o : Option (List Text)). unwrap_or o []) (sym t.1)) in
-    let read = rw c.in-Ok-Some.field-0-is at (c.in-Ok-Some.ensures (subst AllNumbers (sym texts) says.texts_are)) in (
-      some_some c.in-Some.texts.file.now file (sym t.0 ∙ says.file_is),
-      t.2 raw says.raw_is,
-      some_some _ _ read ∙ (ap (map value_of) texts ∙ sym says.numbers_are),
+none_some : {X : Type 0} (x : X) → None ≡ Some x → ⊥
+none_some x e = cc
+
+pub returns-in_default-get_str : goal.returns-in_default-get_str
+returns-in_default-get_str g c = λ file wish says.
+    let found = found_of c.in-Some.inner.now in
+    let entered = c.in-Ok.ensures.ok ∙ says.entered in
+    let rows_is : rows_of found ≡ says.rows = some_some _ _ (ap (option_map (λ p. rows_of (found_of p.1.now))) (sym c.in-Some.is) ∙ c.subcommand.ensures.rows ∙ ap (option_map (λ (p : Text × List Row). p.1)) entered) in
+    none_some file (ap (option_map (λ s. s.now)) (sym c.in_default-get_str.is) ∙ c.get_str.ensures ∙ first_value-rows found (codes "file") ∙ ap (first_of (codes "file")) rows_is ∙ says.file_is)
+
+pub returns : goal.returns
+returns g c = λ file wish says.
+    let found = found_of c.in-Some.inner.now in
+    let m = c.in-Ok.matches in
+    let entered = c.in-Ok.ensures.ok ∙ says.entered in
+    let rows_is : rows_of found ≡ says.rows = some_some _ _ (ap (option_map (λ p. rows_of (found_of p.1.now))) (sym c.in-Some.is) ∙ c.subcommand.ensures.rows ∙ ap (option_map (λ (p : Text × List Row). p.1)) entered) in
+    let name_is : c.in-Some.name.now ≡ command_name wish = some_some _ _ (ap (option_map (λ p. p.0.now)) (sym c.in-Some.is) ∙ c.subcommand.ensures.name ∙ name_of_rows m ∙ ap (option_map (λ (p : Text × List Row). p.0)) entered) in (
+      some_some _ _ (ap (option_map (λ s. s.now)) (sym c.in-Some-get_str.is) ∙ c.get_str.ensures ∙ first_value-rows found (codes "file") ∙ ap (first_of (codes "file")) rows_is ∙ says.file_is),
+      c.in_ok-task.ensures wish name_is (subst (λ (rs : List Row). SaysWish rs wish) (sym rows_is) says.wish_is),
     )

@@ -1,0 +1,20 @@
+-- What the program can be asked for.
+use Rattle.std.specs.Prelude.{ℕ, Bool, List, codes}
+use Rattle.procd.specs.declared.words.Task.{Task}
+use Rattle.procd.specs.declared.words.Task.TheVariants as task
+
+-- a command, but for its file
+pub data Wish : Type 0 where
+  Exec : (raw : Bool) (numbers : List ℕ) → Wish
+  Asm : Wish
+  Dis : (raw : Bool) → Wish
+
+abbrev pub command_name : Wish → List ℕ
+command_name (Exec raw numbers) = codes "exec"
+command_name Asm = codes "asm"
+command_name (Dis raw) = codes "dis"
+
+abbrev pub wish_of : Task → Wish
+wish_of (task.Exec raw numbers) = Exec raw numbers.items
+wish_of task.Asm = Asm
+wish_of (task.Dis raw) = Dis raw

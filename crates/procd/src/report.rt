@@ -1,0 +1,58 @@
+//! What a command says of the text that was read.
+
+ghost use Rattle.std.specs.Prelude.{◌≡◌, IfOk, string_bytes};
+ghost use Rattle.procd.specs.Execution.{text_execution};
+ghost use Rattle.procd.specs.Report.{IsReport, IsExecution};
+ghost use Rattle.procd.specs.Task.{wish_of};
+
+use crate::assembly::{assembly, disassembly};
+use crate::execute::execute_text;
+use crate::lines::{lines, status};
+use crate::words::Task;
+use std::alloc::{AllocError, Global};
+
+/// The lines to print, and the exit status.
+#[derive(Drop)]
+pub struct Report {
+    pub status: u8,
+    pub lines: String,
+}
+
+/// Why there is no report.
+#[derive(Clone, Copy, Debug, PartialEq, Eq)]
+pub enum ReportFault {
+    /// What was read is no text in UTF-8.
+    NotText,
+    Memory,
+}
+
+impl From<AllocError> for ReportFault {
+    fn from(_e: AllocError) -> ReportFault {
+        ReportFault::Memory
+    }
+}
+
+// Runs code.
+fn execution(alloc: Global, raw: bool, text: &[u8], numbers: &[u64]) -> Result<Report, AllocError>
+    ensures { IfOk result (λ r. IsExecution (text_execution raw text.now numbers.now) r.status (string_bytes r.lines)) }
+{
+    let execution = execute_text(alloc, raw, text, numbers)?;
+    Ok(Report {
+        status: status(&execution),
+        lines: lines(alloc, &execution)?,
+    })
+}
+
+/// What the task makes of the text.
+pub fn report_on(alloc: Global, task: &Task, text: &[u8]) -> Result<Report, ReportFault>
+    ensures { IfOk result (λ r. IsReport (wish_of task.now) text.now r.status (string_bytes r.lines)) }
+{
+    match task {
+        Task::Exec { raw, numbers } => Ok(execution(alloc, *raw, text, numbers.as_slice())?),
+        Task::Asm => match str::from_utf8(text) {
+            Ok(text) => Ok(assembly(alloc, text)?),
+            Err(_) => Err(ReportFault::NotText),
+        },
+        Task::Dis { raw } => Ok(disassembly(alloc, *raw, text)?),
+    }
+}
