@@ -5,13 +5,13 @@ use Rattle.std.specs.Char.{digit_char}
 use Rattle.bpf_encoding.specs.declared.insn.Insn.{Insn}
 use Rattle.bpf_encoding.specs.declared.insn.Insn.TheVariants as insn
 use Rattle.bpf_encoding.specs.declared.insn.Source.{Source}
-use Rattle.bpf_encoding.specs.declared.insn.Source.TheVariants.{Imm, Reg}
+use Rattle.bpf_encoding.specs.declared.insn.Source.TheVariants as source
 use Rattle.bpf_encoding.specs.declared.insn.Place.{Place}
 use Rattle.bpf_encoding.specs.declared.insn.Place.TheVariants as place
 use Rattle.bpf_asm.specs.declared.mnemonic.Mnemonic.{Mnemonic}
 use Rattle.bpf_asm.specs.declared.mnemonic.Mnemonic.TheVariants as mnemonic
 use Rattle.bpf_asm.specs.declared.parts.Operand.{Operand}
-use Rattle.bpf_asm.specs.declared.parts.Operand.TheVariants.{Register, Number, Wide, Jump, JumpLong, Memory}
+use Rattle.bpf_asm.specs.declared.parts.Operand.TheVariants.{Reg, Number, Wide, Jump, JumpLong, Memory}
 use Rattle.bpf_asm.specs.declared.parts.Parts.{Parts}
 use Rattle.bpf_asm.specs.Mnemonics.{mnemonic_name}
 use Rattle.bpf_asm.specs.Operand.{register_name}
@@ -29,22 +29,22 @@ abbrev pub with_three : Mnemonic → Operand → Operand → Operand → Parts
 with_three m a b c = record { mnemonic = m; first = Some a; second = Some b; third = Some c }
 
 abbrev pub source_operand : Source → Operand
-source_operand (Imm n) = Number n
-source_operand (Reg r) = Register r
+source_operand (source.Imm n) = Number n
+source_operand (source.Reg r) = Reg r
 
 abbrev pub parts_of : Insn → Parts
-parts_of (insn.Alu width operation dst source) = with_two (mnemonic.Alu width operation) (Register dst) (source_operand source)
-parts_of (insn.Negate width dst) = with_one (mnemonic.Negate width) (Register dst)
-parts_of (insn.MoveSigned extension dst src) = with_two (mnemonic.MoveSigned extension) (Register dst) (Register src)
-parts_of (insn.Order order width dst) = with_one (mnemonic.Order order width) (Register dst)
-parts_of (insn.LoadWide dst value) = with_two mnemonic.LoadWide (Register dst) (Wide value)
+parts_of (insn.Alu width operation dst second) = with_two (mnemonic.Alu width operation) (Reg dst) (source_operand second)
+parts_of (insn.Negate width dst) = with_one (mnemonic.Negate width) (Reg dst)
+parts_of (insn.MoveSigned extension dst src) = with_two (mnemonic.MoveSigned extension) (Reg dst) (Reg src)
+parts_of (insn.Order order width dst) = with_one (mnemonic.Order order width) (Reg dst)
+parts_of (insn.LoadWide dst value) = with_two mnemonic.LoadWide (Reg dst) (Wide value)
 parts_of (insn.Jump offset) = with_one mnemonic.Jump (Jump offset)
 parts_of (insn.JumpLong offset) = with_one mnemonic.JumpLong (JumpLong offset)
-parts_of (insn.JumpIf width condition dst source offset) = with_three (mnemonic.JumpIf width condition) (Register dst) (source_operand source) (Jump offset)
-parts_of (insn.Load size dst base offset) = with_two (mnemonic.Load size) (Register dst) (Memory base offset)
-parts_of (insn.LoadSigned size dst base offset) = with_two (mnemonic.LoadSigned size) (Register dst) (Memory base offset)
+parts_of (insn.JumpIf width condition dst second offset) = with_three (mnemonic.JumpIf width condition) (Reg dst) (source_operand second) (Jump offset)
+parts_of (insn.Load size dst base offset) = with_two (mnemonic.Load size) (Reg dst) (Memory base offset)
+parts_of (insn.LoadSigned size dst base offset) = with_two (mnemonic.LoadSigned size) (Reg dst) (Memory base offset)
 parts_of (insn.StoreImm size base offset imm) = with_two (mnemonic.StoreImm size) (Memory base offset) (Number imm)
-parts_of (insn.Store size base src offset) = with_two (mnemonic.Store size) (Memory base offset) (Register src)
+parts_of (insn.Store size base src offset) = with_two (mnemonic.Store size) (Memory base offset) (Reg src)
 parts_of (insn.Call helper) = with_one mnemonic.Call (Number helper)
 parts_of insn.Exit = with_none mnemonic.Exit
 
@@ -64,7 +64,7 @@ offset_text (pos n) = 43 ∷ decimal n
 offset_text (negsuc n) = 45 ∷ decimal (suc n)
 
 abbrev pub operand_text : Operand → List ℕ
-operand_text (Register r) = register_name r
+operand_text (Reg r) = register_name r
 operand_text (Number n) = signed_decimal n
 operand_text (Wide value) = wide_text value
 operand_text (Jump offset) = offset_text offset

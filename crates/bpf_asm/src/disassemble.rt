@@ -41,7 +41,7 @@ fn write_operand(text: &mut String, operand: Operand) -> Result<(), AllocError>
     ensures { OnOk result (string_bytes text.new ≡ string_bytes text.old ++ operand_text operand) }
 {
     match operand {
-        Operand::Register(register) => text.push_str(register_name(register)),
+        Operand::Reg(register) => text.push_str(register_name(register)),
         Operand::Number(n) => write!(text, "{n}"),
         Operand::Wide(value) => write_wide(text, value),
         Operand::Jump(offset) => write_offset(text, i32::from(offset)),

@@ -6,7 +6,7 @@ ghost use Rattle.bpf_asm.specs.Lines.{insn_with, insn_said, line_said};
 use crate::cut::{before, split_operands, split_word, trim};
 use crate::mnemonic::{Mnemonic, mnemonic_said};
 use crate::number::{jump, jump_long, number, wide};
-use crate::operand::{memory, register_said, source};
+use crate::operand::{memory, register, source};
 use bpf_encoding::insn::Insn;
 
 /// What is wrong with a line.
@@ -29,33 +29,26 @@ fn insn_with(mnemonic: Mnemonic, a: &[u8], b: &[u8], c: &[u8]) -> Result<Insn, L
     ensures { result ≡ insn_with mnemonic a.now b.now c.now }
 {
     match mnemonic {
-        Mnemonic::Alu(width, operation) => Ok(Insn::Alu(
-            width,
-            operation,
-            register_said(a)?,
-            source(b)?,
-        )),
-        Mnemonic::Negate(width) => Ok(Insn::Negate(width, register_said(a)?)),
-        Mnemonic::MoveSigned(extension) => Ok(Insn::MoveSigned(
-            extension,
-            register_said(a)?,
-            register_said(b)?,
-        )),
-        Mnemonic::Order(order, width) => Ok(Insn::Order(order, width, register_said(a)?)),
-        Mnemonic::LoadWide => Ok(Insn::LoadWide(register_said(a)?, wide(b)?)),
+        Mnemonic::Alu(width, operation) => {
+            Ok(Insn::Alu(width, operation, register(a)?, source(b)?))
+        }
+        Mnemonic::Negate(width) => Ok(Insn::Negate(width, register(a)?)),
+        Mnemonic::MoveSigned(extension) => {
+            Ok(Insn::MoveSigned(extension, register(a)?, register(b)?))
+        }
+        Mnemonic::Order(order, width) => Ok(Insn::Order(order, width, register(a)?)),
+        Mnemonic::LoadWide => Ok(Insn::LoadWide(register(a)?, wide(b)?)),
         Mnemonic::Jump => Ok(Insn::Jump(jump(a)?)),
         Mnemonic::JumpLong => Ok(Insn::JumpLong(jump_long(a)?)),
         Mnemonic::JumpIf(width, condition) => {
-            Ok(Insn::JumpIf(width, condition, register_said(a)?, source(b)?, jump(c)?))
+            Ok(Insn::JumpIf(width, condition, register(a)?, source(b)?, jump(c)?))
         }
         Mnemonic::Load(size) => {
-            let dst = register_said(a)?;
-            let (base, offset) = memory(b)?;
+            let (dst, (base, offset)) = (register(a)?, memory(b)?);
             Ok(Insn::Load(size, dst, base, offset))
         }
         Mnemonic::LoadSigned(size) => {
-            let dst = register_said(a)?;
-            let (base, offset) = memory(b)?;
+            let (dst, (base, offset)) = (register(a)?, memory(b)?);
             Ok(Insn::LoadSigned(size, dst, base, offset))
         }
         Mnemonic::StoreImm(size) => {
@@ -64,7 +57,7 @@ fn insn_with(mnemonic: Mnemonic, a: &[u8], b: &[u8], c: &[u8]) -> Result<Insn, L
         }
         Mnemonic::Store(size) => {
             let (base, offset) = memory(a)?;
-            Ok(Insn::Store(size, base, register_said(b)?, offset))
+            Ok(Insn::Store(size, base, register(b)?, offset))
         }
         Mnemonic::Call => Ok(Insn::Call(number(a)?)),
         Mnemonic::Exit => Ok(Insn::Exit),

@@ -57,7 +57,7 @@ fn first_named(registers: &[Register], text: &[u8]) -> Result<Register, LineFaul
 }
 
 /// The register of this name.
-pub fn register_said(text: &[u8]) -> Result<Register, LineFault>
+pub fn register(text: &[u8]) -> Result<Register, LineFault>
     ensures { result ≡ register_said text.now }
 {
     first_named(&REGISTERS, text)
@@ -68,7 +68,7 @@ pub fn source(text: &[u8]) -> Result<Source, LineFault>
     ensures { result ≡ source_said text.now }
 {
     match text {
-        [b'r', ..] => Ok(Source::Reg(register_said(text)?)),
+        [b'r', ..] => Ok(Source::Reg(register(text)?)),
         _ => Ok(Source::Imm(number(text)?)),
     }
 }
@@ -95,7 +95,7 @@ fn address(inner: &[u8]) -> Result<(Register, i16), LineFault>
     let Some((base, offset)) = split_at_sign(inner) else {
         return Err(LineFault::Operands);
     };
-    Ok((register_said(base)?, jump(offset)?))
+    Ok((register(base)?, jump(offset)?))
 }
 
 /// `[register+offset]`, or with `-`.

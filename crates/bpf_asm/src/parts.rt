@@ -1,15 +1,16 @@
 //! An instruction as its mnemonic and its operands.
 
 ghost use Rattle.std.specs.Prelude.{◌≡◌};
-ghost use Rattle.bpf_asm.specs.Parts.{parts_of, source_operand, with_one, with_two};
+ghost use Rattle.bpf_asm.specs.Parts.{parts_of, source_operand, with_none, with_one, with_two, with_three};
 
 use crate::mnemonic::Mnemonic;
+use Operand::{Jump, JumpLong, Memory, Number, Reg, Wide};
 use bpf_encoding::insn::{Insn, Register, Source};
 
 /// What stands between commas.
 #[derive(Clone, Copy, Debug, PartialEq, Eq)]
 pub enum Operand {
-    Register(Register),
+    Reg(Register),
     Number(i32),
     /// A number of 64 bits, written with 16 hexadecimal digits.
     Wide(u64),
@@ -28,14 +29,23 @@ pub struct Parts {
     pub third: Option<Operand>,
 }
 
+fn none(mnemonic: Mnemonic) -> Parts
+    ensures { result ≡ with_none mnemonic }
+{
+    Parts {
+        mnemonic,
+        first: None,
+        second: None,
+        third: None,
+    }
+}
+
 fn one(mnemonic: Mnemonic, first: Operand) -> Parts
     ensures { result ≡ with_one mnemonic first }
 {
     Parts {
-        mnemonic,
         first: Some(first),
-        second: None,
-        third: None,
+        ..none(mnemonic)
     }
 }
 
@@ -48,12 +58,21 @@ fn two(mnemonic: Mnemonic, first: Operand, second: Operand) -> Parts
     }
 }
 
+fn three(mnemonic: Mnemonic, first: Operand, second: Operand, third: Operand) -> Parts
+    ensures { result ≡ with_three mnemonic first second third }
+{
+    Parts {
+        third: Some(third),
+        ..two(mnemonic, first, second)
+    }
+}
+
 fn source_operand(source: Source) -> Operand
     ensures { result ≡ source_operand source }
 {
     match source {
-        Source::Imm(n) => Operand::Number(n),
-        Source::Reg(register) => Operand::Register(register),
+        Source::Imm(n) => Number(n),
+        Source::Reg(register) => Reg(register),
     }
 }
 
@@ -61,61 +80,38 @@ fn source_operand(source: Source) -> Operand
 pub fn parts_of(insn: &Insn) -> Parts
     ensures { result ≡ parts_of insn.now }
 {
-    use Operand::{Jump, JumpLong, Memory, Number, Wide};
     match *insn {
         Insn::Alu(width, operation, dst, source) => {
             let mnemonic = Mnemonic::Alu(width, operation);
-            two(mnemonic, Operand::Register(dst), source_operand(source))
+            two(mnemonic, Reg(dst), source_operand(source))
         }
-        Insn::Negate(width, dst) => one(Mnemonic::Negate(width), Operand::Register(dst)),
+        Insn::Negate(width, dst) => one(Mnemonic::Negate(width), Reg(dst)),
         Insn::MoveSigned(extension, dst, src) => {
-            let mnemonic = Mnemonic::MoveSigned(extension);
-            two(mnemonic, Operand::Register(dst), Operand::Register(src))
+            two(Mnemonic::MoveSigned(extension), Reg(dst), Reg(src))
         }
-        Insn::Order(order, width, dst) => one(
-            Mnemonic::Order(order, width),
-            Operand::Register(dst),
-        ),
-        Insn::LoadWide(dst, value) => two(Mnemonic::LoadWide, Operand::Register(dst), Wide(value)),
+        Insn::Order(order, width, dst) => one(Mnemonic::Order(order, width), Reg(dst)),
+        Insn::LoadWide(dst, value) => two(Mnemonic::LoadWide, Reg(dst), Wide(value)),
         Insn::Jump(offset) => one(Mnemonic::Jump, Jump(offset)),
         Insn::JumpLong(offset) => one(Mnemonic::JumpLong, JumpLong(offset)),
         Insn::JumpIf(width, condition, dst, source, offset) => {
             let mnemonic = Mnemonic::JumpIf(width, condition);
-            Parts {
-                third: Some(Jump(offset)),
-                ..two(mnemonic, Operand::Register(dst), source_operand(source))
-            }
+            three(mnemonic, Reg(dst), source_operand(source), Jump(offset))
         }
         Insn::Load(size, dst, base, offset) => {
-            two(
-                Mnemonic::Load(size),
-                Operand::Register(dst),
-                Memory(base, offset),
-            )
+            two(Mnemonic::Load(size), Reg(dst), Memory(base, offset))
         }
         Insn::LoadSigned(size, dst, base, offset) => {
-            two(
-                Mnemonic::LoadSigned(size),
-                Operand::Register(dst),
-                Memory(base, offset),
-            )
+            let mnemonic = Mnemonic::LoadSigned(size);
+            two(mnemonic, Reg(dst), Memory(base, offset))
         }
         Insn::StoreImm(size, base, offset, imm) => {
-            two(Mnemonic::StoreImm(size), Memory(base, offset), Number(imm))
+            let mnemonic = Mnemonic::StoreImm(size);
+            two(mnemonic, Memory(base, offset), Number(imm))
         }
         Insn::Store(size, base, src, offset) => {
-            two(
-                Mnemonic::Store(size),
-                Memory(base, offset),
-                Operand::Register(src),
-            )
+            two(Mnemonic::Store(size), Memory(base, offset), Reg(src))
         }
         Insn::Call(helper) => one(Mnemonic::Call, Number(helper)),
-        Insn::Exit => Parts {
-            mnemonic: Mnemonic::Exit,
-            first: None,
-            second: None,
-            third: None,
-        },
+        Insn::Exit => none(Mnemonic::Exit),
     }
 }

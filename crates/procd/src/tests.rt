@@ -135,6 +135,142 @@ fn refusals(rt: HostRuntime) -> Result<(), Fail> {
     Ok(())
 }
 
+// Assembly text, and what its code prints when it is run.
+const ASSEMBLED: [(&str, &str); 7] = [
+    (
+        "mov r0, 128\nmovs8 r0, r0\nexit",
+        "answer 18446744073709551488\nexecuted 3\n",
+    ),
+    (
+        "mov r0, 128\nmovs8_32 r0, r0\nexit",
+        "answer 4294967168\nexecuted 3\n",
+    ),
+    (
+        "mov r0, -7\nsdiv r0, 2\nexit",
+        "answer 18446744073709551613\nexecuted 3\n",
+    ),
+    (
+        "mov r0, -7\nsmod r0, 2\nexit",
+        "answer 18446744073709551615\nexecuted 3\n",
+    ),
+    (
+        "mov32 r0, -8\narsh32 r0, 1\nexit",
+        "answer 4294967292\nexecuted 3\n",
+    ),
+    (
+        "mov r0, -1\njslt32 r0, 0, +1\nmov r0, 9\nexit",
+        "answer 18446744073709551615\nexecuted 3\n",
+    ),
+    (
+        "; twice a number\n\n  mov r0, 0x15 ; 21\n\tadd\tr0 , r0\r\nexit\n",
+        "answer 42\nexecuted 3\n",
+    ),
+];
+
+const ASM: [&str; 3] = ["procd", "asm", "-"];
+
+const DIS: [&str; 3] = ["procd", "dis", "-"];
+
+#[test]
+fn assembled_code(rt: HostRuntime) {
+    for (text, want) in ASSEMBLED {
+        let hex = run(&rt, &ASM, text.as_bytes());
+        assert_eq!(rt; hex.status, 0, "of {text}");
+        let ended = run(&rt, &EXEC, hex.out.as_slice());
+        assert_eq!(rt; ended.out.as_slice(), want.as_bytes(), "of {text}");
+    }
+}
+
+// Assembly text, and its code in hex.
+const SPELLED: [(&str, &str); 5] = [
+    (
+        "mov r0, 128\nmovs8 r0, r0",
+        "b7 00 00 00 80 00 00 00\nbf 00 08 00 00 00 00 00\n",
+    ),
+    ("movs8_32 r0, r0", "bc 00 08 00 00 00 00 00\n"),
+    ("ja32 +1", "06 00 00 00 01 00 00 00\n"),
+    ("add r1, 287454020", "07 01 00 00 44 33 22 11\n"),
+    (
+        "lddw r1, 0x1122334455667788",
+        "18 01 00 00 88 77 66 55\n00 00 00 00 44 33 22 11\n",
+    ),
+];
+
+#[test]
+fn text_and_hex(rt: HostRuntime) {
+    for (text, hex) in SPELLED {
+        let assembled = run(&rt, &ASM, text.as_bytes());
+        assert_eq!(rt; assembled.out.as_slice(), hex.as_bytes(), "of {text}");
+        let shown = run(&rt, &DIS, hex.as_bytes());
+        assert!(rt; shown.out.starts_with(text.as_bytes()), "of {text}");
+        assert!(rt; shown.out.ends_with(b"\n"));
+        assert_eq!(rt; shown.out.len(), text.len() + 1);
+    }
+}
+
+// Assembly text, and why it is refused.
+const MISSPELLED: [(&str, &str); 21] = [
+    ("foo r1", "A1 UnknownWord line 1"),
+    ("exit\n\nexit\r", "A1 UnknownWord line 3"),
+    ("mov r11, 0", "A2 BadRegister line 1"),
+    ("ldxdw r0, [r11+0]", "A2 BadRegister line 1"),
+    ("ldxdw r0, [r1 +0]", "A2 BadRegister line 1"),
+    ("mov r0, x", "A3 BadNumber line 1"),
+    ("mov r0, +1", "A3 BadNumber line 1"),
+    ("mov r0, -0x5", "A3 BadNumber line 1"),
+    ("mov r0, 0X5", "A3 BadNumber line 1"),
+    ("mov r0, 0x", "A3 BadNumber line 1"),
+    ("ja 1", "A3 BadNumber line 1"),
+    ("ldxdw r0, [r1+]", "A3 BadNumber line 1"),
+    ("ldxdw r0, [r1--1]", "A3 BadNumber line 1"),
+    ("ldxdw r0, [r1+8]]", "A3 BadNumber line 1"),
+    ("mov r0, 2147483648", "A4 OutOfRange line 1"),
+    ("lddw r0, 18446744073709551616", "A4 OutOfRange line 1"),
+    ("ja -32769", "A4 OutOfRange line 1"),
+    ("add r1", "A5 Operands line 1"),
+    ("ldxdw r0, [r1]", "A5 Operands line 1"),
+    ("exit r0", "A5 Operands line 1"),
+    ("; nothing", "A8 NoCode line 0"),
+];
+
+#[test]
+fn misspelled_text(rt: HostRuntime) -> Result<(), Fail> {
+    for (text, want) in MISSPELLED {
+        let want = format!(in rt.alloc(); "refused {want}\n")?;
+        let ended = run(&rt, &ASM, text.as_bytes());
+        assert_eq!(rt; ended.out.as_slice(), want.as_bytes(), "of {text}");
+        assert_eq!(rt; ended.status, 1);
+    }
+    Ok(())
+}
+
+#[test]
+fn the_longest_text(rt: HostRuntime) -> Result<(), Fail> {
+    let mut text = String::new(rt.alloc());
+    for _ in 0..2048 {
+        text.push_str("lddw r0, 1\n")?;
+    }
+    let longest = run(&rt, &ASM, text.as_bytes());
+    assert_eq!(rt; longest.status, 0);
+    assert_eq!(rt; longest.out.len(), 4096 * 24);
+    text.push_str("\nexit\n")?;
+    let ended = run(&rt, &ASM, text.as_bytes());
+    assert_eq!(rt;
+        ended.out.as_slice(),
+        b"refused A7 TooLong line 2050\n".as_slice()
+    );
+    assert_eq!(rt; ended.status, 1);
+    Ok(())
+}
+
+#[test]
+fn text_that_is_no_utf8(rt: HostRuntime) {
+    let ended = run(&rt, &ASM, b"exit ; \xff\n");
+    assert!(rt; ended.out.is_empty());
+    assert_eq!(rt; ended.err.as_slice(), b"cannot read -\n".as_slice());
+    assert_eq!(rt; ended.status, 3);
+}
+
 #[test]
 fn the_longest_code(rt: HostRuntime) -> Result<(), Fail> {
     let raw = ["procd", "exec", "--raw", "-"];
