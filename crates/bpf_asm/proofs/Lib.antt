@@ -2,3 +2,8 @@ pub mod Cuts
 pub mod Numerals
 pub mod Names
 pub mod Assembling
+pub mod Plain
+pub mod Back
+pub mod NumbersBack
+pub mod Again
+pub mod Lines

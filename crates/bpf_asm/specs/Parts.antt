@@ -1,5 +1,6 @@
 -- An instruction as its mnemonic and its operands, and the text of both.
-use Rattle.std.specs.Prelude.{ℕ, zero, suc, ◌/◌, ◌%◌, ℤ, pos, negsuc, List, [], ◌∷◌, ◌++◌, Option, Some, None, codes}
+use Rattle.std.specs.Prelude.{FitsSigned, IfSome, ◌<◌, ◌^◌, ℕ, zero, suc, ◌/◌, ◌%◌, ℤ, pos, negsuc, List, [], ◌∷◌, ◌++◌, Option, Some, None, codes}
+use Rattle.std.specs.Int.{w16, w32}
 use Rattle.std.specs.Fmt.{decimal, signed_decimal}
 use Rattle.std.specs.Char.{digit_char}
 use Rattle.bpf_encoding.specs.declared.insn.Insn.{Insn}
@@ -48,6 +49,20 @@ parts_of (insn.Store size base src offset) = with_two (mnemonic.Store size) (Mem
 parts_of (insn.Call helper) = with_one mnemonic.Call (Number helper)
 parts_of insn.Exit = with_none mnemonic.Exit
 
+-- ---- numbers
+
+-- each number is one of its type
+abbrev pub IsOperand : Operand → Type 0
+IsOperand (Reg r) = Unit {0}
+IsOperand (Number n) = FitsSigned w32 n
+IsOperand (Wide value) = value < 2 ^ 64
+IsOperand (Jump offset) = FitsSigned w16 offset
+IsOperand (JumpLong offset) = FitsSigned w32 offset
+IsOperand (Memory base offset) = FitsSigned w16 offset
+
+abbrev pub AreOperands : Parts → Type 0
+AreOperands p = IfSome p.first IsOperand × IfSome p.second IsOperand × IfSome p.third IsOperand
+
 -- ---- text
 
 -- the lowest digits, this many, in lower case
@@ -86,7 +101,15 @@ line_of i = line_of_parts (parts_of i)
 -- ---- code
 
 -- each line ends with LF; the second slot of a wide instruction has none
+abbrev pub place_text : Place → List ℕ
+place_text (place.Insn i) = line_of i ++ codes "\n"
+place_text place.Second = []
+
 abbrev pub text_of : List Place → List ℕ
 text_of [] = []
-text_of (place.Insn i ∷ places) = (line_of i ++ codes "\n") ++ text_of places
-text_of (place.Second ∷ places) = text_of places
+text_of (p ∷ places) = place_text p ++ text_of places
+
+-- the operands at this place are what their types have
+abbrev pub AreOperandsAt : Place → Type 0
+AreOperandsAt (place.Insn i) = AreOperands (parts_of i)
+AreOperandsAt place.Second = Unit {0}

@@ -1,7 +1,7 @@
 //! From code to text.
 
 ghost use Rattle.std.specs.Prelude.{◌≡◌, ◌++◌, ◌≤◌, Ok, OnOk, IfOk, string_bytes, codes};
-ghost use Rattle.bpf_asm.specs.Parts.{hex_text, wide_text, offset_text, operand_text, placed, line_of, text_of};
+ghost use Rattle.bpf_asm.specs.Parts.{hex_text, wide_text, offset_text, operand_text, placed, AreOperands, parts_of, line_of, place_text, AreOperandsAt, text_of};
 ghost use Rattle.bpf_asm.specs.Lines.{assembled};
 
 use crate::operand::register_name;
@@ -70,7 +70,8 @@ fn write_placed(
 }
 
 fn write_line(text: &mut String, insn: &Insn) -> Result<(), AllocError>
-    ensures { OnOk result (string_bytes text.new ≡ string_bytes text.old ++ (line_of insn.now ++ codes "\n")) }
+    ensures text { OnOk result (string_bytes text.new ≡ string_bytes text.old ++ (line_of insn.now ++ codes "\n")) }
+    ensures fits { AreOperands (parts_of insn.now) }
 {
     let parts = parts_of(insn);
     let (stem, suffix) = parts.mnemonic.name();
@@ -82,15 +83,24 @@ fn write_line(text: &mut String, insn: &Insn) -> Result<(), AllocError>
     text.push_str("\n")
 }
 
+fn write_place(text: &mut String, place: &Place) -> Result<(), AllocError>
+    ensures text { OnOk result (string_bytes text.new ≡ string_bytes text.old ++ place_text place.now) }
+    ensures fits { AreOperandsAt place.now }
+{
+    match place {
+        Place::Insn(insn) => write_line(text, insn),
+        Place::Second => Ok(()),
+    }
+}
+
 /// The text of the code, an instruction a line, which says the code again.
 pub fn disassemble(alloc: Global, code: &Code) -> Result<String, AllocError>
     ensures text { IfOk result (λ text. string_bytes text ≡ text_of code.now) }
+    ensures says { IfOk result (λ text. assembled (string_bytes text) ≡ Ok code.now) }
 {
     let mut text = String::new(alloc);
     for place in code.places() {
-        if let Place::Insn(insn) = place {
-            write_line(&mut text, insn)?;
-        }
+        write_place(&mut text, place)?;
     }
     Ok(text)
 }

@@ -1,7 +1,7 @@
 //! An instruction as its mnemonic and its operands.
 
 ghost use Rattle.std.specs.Prelude.{◌≡◌};
-ghost use Rattle.bpf_asm.specs.Parts.{parts_of, source_operand, with_none, with_one, with_two, with_three};
+ghost use Rattle.bpf_asm.specs.Parts.{IsOperand, AreOperands, parts_of, source_operand, with_none, with_one, with_two, with_three};
 
 use crate::mnemonic::Mnemonic;
 use Operand::{Jump, JumpLong, Memory, Number, Reg, Wide};
@@ -68,7 +68,8 @@ fn three(mnemonic: Mnemonic, first: Operand, second: Operand, third: Operand) ->
 }
 
 fn source_operand(source: Source) -> Operand
-    ensures { result ≡ source_operand source }
+    ensures value { result ≡ source_operand source }
+    ensures fits { IsOperand result }
 {
     match source {
         Source::Imm(n) => Number(n),
@@ -78,7 +79,8 @@ fn source_operand(source: Source) -> Operand
 
 /// The parts of an instruction.
 pub fn parts_of(insn: &Insn) -> Parts
-    ensures { result ≡ parts_of insn.now }
+    ensures value { result ≡ parts_of insn.now }
+    ensures fits { AreOperands result }
 {
     match *insn {
         Insn::Alu(width, operation, dst, source) => {
