@@ -1,8 +1,10 @@
 //! A procedure's declaration: how many arguments it takes, and its access slots.
 
-ghost use Rattle.std.specs.Prelude.{◌≡◌, Some, None, MatchResult};
+ghost use Rattle.std.specs.Prelude.{◌≡◌, Some, None, MatchResult, length};
 ghost use Rattle.access_slots.specs.Declaration.{decl_fault, names_argument, first_bad};
+ghost use Rattle.access_slots.specs.Locks.{AreLocksOf};
 
+use crate::lock::LockSet;
 use crate::slot::{Key, Mode, Slot};
 use std::marker::Model;
 
@@ -104,5 +106,18 @@ impl Decl {
         ensures declared { decl_fault self.now.args self.now.slots ≡ None }
     {
         &self.slots[..self.used]
+    }
+
+    /// The locks of a call with these arguments, as many as declared: each record that a slot
+    /// names, in the greatest mode of the slots that name it. It takes no memory.
+    pub fn resolve(&self, args: &[u64]) -> LockSet
+        requires { length args.now ≡ self.now.args }
+        ensures { AreLocksOf args.now self.now.slots result }
+    {
+        let mut locks = LockSet::new();
+        'slots: for slot in self.slots() {
+            locks.add(slot.record(args), slot.mode);
+        }
+        locks
     }
 }

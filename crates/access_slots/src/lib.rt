@@ -2,5 +2,8 @@
 #![tactic(auto)]
 
 pub mod decl;
+pub mod lock;
 pub mod op;
 pub mod slot;
+#[cfg(test)]
+mod tests;

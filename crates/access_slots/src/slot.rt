@@ -1,10 +1,14 @@
 //! Records, and the slots by which a procedure declares its accesses.
 
+ghost use Rattle.std.specs.Prelude.{◌≡◌, true, length};
+ghost use Rattle.access_slots.specs.Access.{record_of};
+ghost use Rattle.access_slots.specs.Declaration.{names_argument};
+
 /// A record's value: 64 bytes.
 pub type Value = [u8; 64];
 
 /// A record's name, ordered by its fields in this order.
-#[derive(Clone, Copy, Debug, PartialEq, Eq, PartialOrd, Ord)]
+#[derive(Clone, Copy, Debug, Default, PartialEq, Eq, PartialOrd, Ord)]
 pub struct Record {
     /// The data component that keeps it.
     pub dc: u16,
@@ -13,8 +17,9 @@ pub struct Record {
 }
 
 /// How a record is accessed; Read is the lesser.
-#[derive(Clone, Copy, Debug, PartialEq, Eq, PartialOrd, Ord)]
+#[derive(Clone, Copy, Debug, Default, PartialEq, Eq, PartialOrd, Ord)]
 pub enum Mode {
+    #[default]
     Read,
     Write,
 }
@@ -34,4 +39,22 @@ pub struct Slot {
     pub dc: u16,
     pub table: u16,
     pub key: Key,
+}
+
+impl Slot {
+    /// The record that it names in a call with these arguments.
+    pub fn record(&self, args: &[u64]) -> Record
+        requires { names_argument (length args.now) self.now.key ≡ true }
+        ensures { result ≡ record_of args.now self.now }
+    {
+        let key = match self.key {
+            Key::Arg(argument) => args[usize::from(argument)],
+            Key::Fixed(key) => key,
+        };
+        Record {
+            dc: self.dc,
+            table: self.table,
+            key,
+        }
+    }
 }

@@ -1,0 +1,194 @@
+//! The locks of a call.
+
+ghost use Rattle.std.specs.Prelude.{◌≡◌, ◌<◌, length, slice_get};
+ghost use Rattle.std.specs.List.{prefix_len};
+ghost use Rattle.access_slots.specs.Locks.{record_eq, record_less, greater, target, is_read, conflict, mode_in, covered, added, locked_at, raised};
+
+use crate::op::Op;
+use crate::slot::{Mode, Record};
+use arrayvec::ArrayVec;
+use std::marker::Model;
+
+/// A lock on one record.
+#[derive(Clone, Copy, Debug, Default, PartialEq, Eq)]
+pub struct Lock {
+    pub record: Record,
+    pub mode: Mode,
+}
+
+/// The locks of a call: at most 16 distinct records, ascending, each with its greatest mode.
+#[derive(Drop)]
+pub struct LockSet {
+    locks: ArrayVec<Lock, 16>,
+}
+
+impl Model for LockSet {
+    ghost use Rattle.std.specs.Prelude.{List};
+    ghost use Rattle.access_slots.specs.Locks.{Rising};
+    ghost use Rattle.access_slots.specs.declared.lock.Lock.{Lock};
+
+    ghost Value = { List Lock };
+
+    ghost view = { λ s. s.locks.items };
+
+    ghost invariant = { λ s. Rising s.locks.items };
+}
+
+impl Record {
+    /// Whether it comes before the other: by data component, then by table, then by key.
+    pub fn is_before(&self, other: &Record) -> bool
+        ensures { result ≡ record_less self.now other.now }
+    {
+        self.dc < other.dc
+            || (self.dc == other.dc
+                && (self.table < other.table
+                    || (self.table == other.table && self.key < other.key)))
+    }
+}
+
+fn is_same(a: &Record, b: &Record) -> bool
+    ensures { result ≡ record_eq a.now b.now }
+{
+    a.dc == b.dc && a.table == b.table && a.key == b.key
+}
+
+fn greater(a: Mode, b: Mode) -> Mode
+    ensures { result ≡ greater a b }
+{
+    match a {
+        Mode::Read => b,
+        Mode::Write => Mode::Write,
+    }
+}
+
+impl Op {
+    ghost use Rattle.std.specs.Prelude.{◌≡◌};
+    ghost use Rattle.access_slots.specs.Locks.{target, is_read};
+
+    /// The record that it is for.
+    pub fn record(&self) -> &Record
+        ensures { result.now ≡ target self.now }
+    {
+        match self {
+            Op::Read(record) | Op::Delete(record) => record,
+            Op::Insert(record, _) | Op::Update(record, _) => record,
+        }
+    }
+
+    /// Whether it changes nothing.
+    pub fn is_read(&self) -> bool
+        ensures { result ≡ is_read self.now }
+    {
+        matches!(self, Op::Read(_))
+    }
+}
+
+/// Whether two operations are for one record, and at least one of them isn't Read.
+pub fn conflicts(a: &Op, b: &Op) -> bool
+    ensures { result ≡ conflict a.now b.now }
+{
+    is_same(a.record(), b.record()) && !(a.is_read() && b.is_read())
+}
+
+// How many of the locks come before the record.
+fn count_before(locks: &[Lock], record: &Record) -> usize
+    ensures { result ≡ prefix_len (λ l. record_less l.«record» record.now) locks.now }
+{
+    locks
+        .iter()
+        .take_while(|lock| lock.record.is_before(record))
+        .count()
+}
+
+// Whether the record is locked at this place.
+fn is_locked_at(locks: &[Lock], place: usize, record: &Record) -> bool
+    ensures { result ≡ locked_at (slice_get locks.now place) record.now }
+{
+    match locks.get(place) {
+        Some(lock) => is_same(&lock.record, record),
+        None => false,
+    }
+}
+
+// A lock that is there gets the greater mode.
+fn raise(locks: &mut ArrayVec<Lock, 16>, place: usize, mode: Mode)
+    requires { place < length locks.old.items }
+    ensures { locks.new.items ≡ raised locks.old.items place mode }
+{
+    if let Some(lock) = locks.get_mut(place) {
+        lock.mode = greater(lock.mode, mode);
+    }
+}
+
+// One lock more; a record that is locked gets the greater mode.
+fn add_to(locks: &mut ArrayVec<Lock, 16>, record: Record, mode: Mode)
+    requires { length locks.old.items < 16 }
+    ensures { locks.new.items ≡ added «record» mode locks.old.items }
+{
+    let place = count_before(locks.as_slice(), &record);
+    if is_locked_at(locks.as_slice(), place, &record) {
+        raise(locks, place, mode);
+    } else {
+        locks.insert(place, Lock { record, mode });
+    }
+}
+
+impl LockSet {
+    ghost use Rattle.std.specs.Prelude.{◌≡◌, ◌<◌, ◌≤◌, [], length};
+    ghost use Rattle.access_slots.specs.Locks.{covered, Rising, added};
+
+    /// No lock.
+    pub(crate) fn new() -> LockSet
+        ensures { result ≡ [] }
+    {
+        LockSet {
+            locks: ArrayVec::new(),
+        }
+    }
+
+    /// One lock more, or the greater mode.
+    pub(crate) fn add(&mut self, record: Record, mode: Mode)
+        requires { length self.old < 16 }
+        ensures { self.new ≡ added «record» mode self.old }
+    {
+        add_to(&mut self.locks, record, mode);
+    }
+
+    /// The locks, by rising record.
+    pub fn locks(&self) -> &[Lock]
+        ensures value { result.now ≡ self.now }
+        ensures rising { Rising self.now }
+        ensures few { length self.now ≤ 16 }
+    {
+        self.locks.as_slice()
+    }
+
+    /// Whether the operation's record is locked, and in Write unless it reads.
+    pub fn covers(&self, op: &Op) -> bool
+        ensures { result ≡ covered self.now op.now }
+    {
+        covers_op(self.locks.as_slice(), op)
+    }
+}
+
+// The mode in which a record is locked.
+fn mode_in(locks: &[Lock], record: &Record) -> Option<Mode>
+    ensures { result ≡ mode_in locks.now record.now }
+{
+    for lock in locks {
+        if is_same(&lock.record, record) {
+            return Some(lock.mode);
+        }
+    }
+    None
+}
+
+fn covers_op(locks: &[Lock], op: &Op) -> bool
+    ensures { result ≡ covered locks.now op.now }
+{
+    match mode_in(locks, op.record()) {
+        None => false,
+        Some(Mode::Read) => op.is_read(),
+        Some(Mode::Write) => true,
+    }
+}
