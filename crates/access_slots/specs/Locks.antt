@@ -1,4 +1,4 @@
--- The locks of a call, and which operations they cover (Lomet, Fekete, Weikum, Zwilling, CIDR 2009, section 3).
+-- The locks of a call, and which operations they cover (Lomet, Fekete, Weikum, Zwilling, CIDR 2009).
 use Rattle.std.specs.Prelude.{◌≡◌, slice_get, slice_set, ℕ, Bool, true, false, not, ◌&&◌, ◌||◌, ◌==◌, nat_lt, if◌then◌else◌, List, [], ◌∷◌, Option, Some, None}
 use Rattle.access_slots.specs.declared.slot.Record.{Record}
 use Rattle.access_slots.specs.declared.slot.Mode.{Mode}

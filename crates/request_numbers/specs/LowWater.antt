@@ -1,4 +1,4 @@
--- The low-water mark (Lomet, Fekete, Weikum, Zwilling, CIDR 2009, section 4.2).
+-- The low-water mark (Lomet, Fekete, Weikum, Zwilling, CIDR 2009).
 use Rattle.std.specs.Prelude.{◌≡◌, ℕ, ◌<◌, ◌≤◌, false, List}
 use Rattle.request_numbers.specs.Given.{holds}
 

@@ -14,8 +14,7 @@ pub struct Spent;
 const MOST: u64 = 1 << 62;
 
 /// Numbers of requests: given out from 1 on, rising by one, and open until they are answered
-/// (unique request IDs and the low-water mark of Lomet, Fekete, Weikum, Zwilling, CIDR 2009,
-/// section 4.2).
+/// (unique request IDs and the low-water mark of Lomet, Fekete, Weikum, Zwilling, CIDR 2009).
 #[derive(Drop)]
 pub struct Numbers {
     last: u64,

@@ -1,0 +1,8 @@
+//! The logical log of a transaction component: what happened, in order.
+#![tactic(auto)]
+
+pub mod event;
+pub mod log;
+mod print;
+#[cfg(test)]
+mod tests;

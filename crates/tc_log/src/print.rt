@@ -1,0 +1,224 @@
+//! The log as bytes: 96 an event.
+
+ghost use Rattle.std.specs.Prelude.{◌≡◌, true, ◌≤◌, ◌++◌, length, IfOk, IfSome, OnOk};
+ghost use Rattle.std.specs.List.{flat_map};
+ghost use Rattle.tc_log.specs.Printed.{op_cells, said_cells, outcome_cells, args_bytes, zeros, cells_of, cells_bytes, head_bytes, number_bytes, printed};
+ghost use Rattle.tc_log.specs.Laid.{laid, laid_if, laid_parts, admit_cells, body_bytes, is_printable};
+
+use crate::event::{Args, Event, Outcome};
+use crate::log::Log;
+use access_slots::op::{Op, Said};
+use access_slots::slot::{Record, Value};
+use std::alloc::{AllocError, Global};
+
+// The last 64 bytes.
+#[derive(Clone, Copy)]
+enum Body<'a> {
+    Zeros,
+    Value(&'a Value),
+    Args(&'a [u64]),
+}
+
+// What stands in the bytes of an event.
+#[derive(Clone, Copy)]
+struct Cells<'a> {
+    kind: u8,
+    sub: u8,
+    dc: u16,
+    table: u16,
+    txn: u64,
+    word: u64,
+    key: u64,
+    body: Body<'a>,
+}
+
+const NO_RECORD: Record = Record {
+    dc: 0,
+    table: 0,
+    key: 0,
+};
+
+fn cells_at<'a>(
+    kind: u8,
+    sub: u8,
+    txn: u64,
+    word: u64,
+    record: &Record,
+    body: Body<'a>,
+) -> Cells<'a>
+    ensures cells { laid result ≡ laid_parts kind sub txn word «record».now (body_bytes body.entry) }
+    ensures body { is_printable result.body ≡ is_printable body.entry }
+{
+    Cells {
+        kind,
+        sub,
+        dc: record.dc,
+        table: record.table,
+        txn,
+        word,
+        key: record.key,
+        body,
+    }
+}
+
+fn op_cells(kind: u8, txn: u64, number: u64, op: &Op) -> Cells<'_>
+    ensures cells { laid result ≡ op_cells kind txn number op.now }
+    ensures printable { is_printable result.body ≡ true }
+{
+    match op {
+        Op::Read(record) => cells_at(kind, 1, txn, number, record, Body::Zeros),
+        Op::Insert(record, value) => cells_at(kind, 2, txn, number, record, Body::Value(value)),
+        Op::Update(record, value) => cells_at(kind, 3, txn, number, record, Body::Value(value)),
+        Op::Delete(record) => cells_at(kind, 4, txn, number, record, Body::Zeros),
+    }
+}
+
+fn said_cells(txn: u64, number: u64, said: &Said) -> Option<Cells<'_>>
+    ensures cells { laid_if result ≡ said_cells txn number said.now }
+    ensures printable { IfSome result (λ c. is_printable c.body ≡ true) }
+{
+    let (sub, body) = match said {
+        Said::Value(value) => (1, Body::Value(value)),
+        Said::Absent => (2, Body::Zeros),
+        Said::Done(None) => (3, Body::Zeros),
+        Said::Done(Some(value)) => (4, Body::Value(value)),
+        Said::Duplicate => (5, Body::Zeros),
+        Said::Missing => (6, Body::Zeros),
+        Said::NoRoom => (7, Body::Zeros),
+        Said::Old => return None,
+    };
+    Some(cells_at(3, sub, txn, number, &NO_RECORD, body))
+}
+
+fn outcome_cells(txn: u64, outcome: Outcome) -> Option<Cells<'static>>
+    ensures cells { laid_if result ≡ outcome_cells txn outcome }
+    ensures printable { IfSome result (λ c. is_printable c.body ≡ true) }
+{
+    let (sub, word) = match outcome {
+        Outcome::Committed => (1, 0),
+        Outcome::Aborted(0) => return None,
+        Outcome::Aborted(value) => (2, value),
+        Outcome::NoRoom => (3, 0),
+    };
+    Some(cells_at(5, sub, txn, word, &NO_RECORD, Body::Zeros))
+}
+
+fn admit_cells(txn: u64, proc: usize, args: &Args) -> Option<Cells<'_>>
+    ensures cells { laid_if result ≡ admit_cells txn proc args.now }
+    ensures printable { IfSome result (λ c. is_printable c.body ≡ true) }
+{
+    let args = args.as_slice();
+    if args.len() > 8 {
+        return None;
+    }
+    let body = Body::Args(args);
+    Some(cells_at(1, args.len() as u8, txn, proc as u64, &NO_RECORD, body))
+}
+
+fn cells_of(event: &Event) -> Option<Cells<'_>>
+    ensures cells { laid_if result ≡ cells_of event.now }
+    ensures printable { IfSome result (λ c. is_printable c.body ≡ true) }
+{
+    match event {
+        Event::Admit { txn, proc, args } => admit_cells(*txn, *proc, args),
+        Event::Ask { txn, number, op } => Some(op_cells(2, *txn, *number, op)),
+        Event::Answer { txn, number, said } => said_cells(*txn, *number, said),
+        Event::Undo { txn, number, op } => Some(op_cells(4, *txn, *number, op)),
+        Event::End { txn, outcome } => outcome_cells(*txn, *outcome),
+    }
+}
+
+fn write_zeros(out: &mut Vec<u8>, count: usize) -> Result<(), AllocError>
+    ensures { OnOk result (out.new.items ≡ out.old.items ++ zeros count) }
+{
+    'zeros: for _ in 0..count {
+        out.push(0)?;
+    }
+    Ok(())
+}
+
+// Eight bytes for each argument, and zeros behind them.
+fn write_args(out: &mut Vec<u8>, args: &[u64]) -> Result<(), AllocError>
+    requires { length args.now ≤ 8 }
+    ensures { OnOk result (out.new.items ≡ out.old.items ++ args_bytes args.now) }
+{
+    'numbers: for arg in args {
+        out.extend_from_slice(&arg.to_le_bytes())?;
+    }
+    write_zeros(out, 64 - 8 * args.len())
+}
+
+fn write_body(out: &mut Vec<u8>, body: &Body) -> Result<(), AllocError>
+    requires { is_printable body.now ≡ true }
+    ensures { OnOk result (out.new.items ≡ out.old.items ++ body_bytes body.now) }
+{
+    match *body {
+        Body::Zeros => out.extend_from_slice(&[0; 64]),
+        Body::Value(value) => out.extend_from_slice(value),
+        Body::Args(args) => write_args(out, args),
+    }
+}
+
+// The first eight bytes.
+#[tactic(auto, unfolding(crate::specs::Printed::head_bytes))]
+fn write_head(out: &mut Vec<u8>, cells: &Cells) -> Result<(), AllocError>
+    ensures { OnOk result (out.new.items ≡ out.old.items ++ head_bytes cells.now.kind cells.now.sub cells.now.dc cells.now.table) }
+{
+    out.extend_from_slice(&[cells.kind, cells.sub])?;
+    out.extend_from_slice(&cells.dc.to_le_bytes())?;
+    out.extend_from_slice(&cells.table.to_le_bytes())?;
+    out.extend_from_slice(&[0; 2])
+}
+
+// The three numbers behind them.
+#[tactic(auto, unfolding(crate::specs::Printed::number_bytes))]
+fn write_numbers(out: &mut Vec<u8>, cells: &Cells) -> Result<(), AllocError>
+    ensures { OnOk result (out.new.items ≡ out.old.items ++ number_bytes cells.now.txn cells.now.word cells.now.key) }
+{
+    out.extend_from_slice(&cells.txn.to_le_bytes())?;
+    out.extend_from_slice(&cells.word.to_le_bytes())?;
+    out.extend_from_slice(&cells.key.to_le_bytes())
+}
+
+// The cells as bytes.
+fn write_cells(out: &mut Vec<u8>, cells: &Cells) -> Result<(), AllocError>
+    requires { is_printable cells.now.body ≡ true }
+    ensures { OnOk result (out.new.items ≡ out.old.items ++ cells_bytes (laid cells.now)) }
+{
+    write_head(out, cells)?;
+    write_numbers(out, cells)?;
+    write_body(out, &cells.body)
+}
+
+fn write_event(out: &mut Vec<u8>, event: &Event) -> Result<(), AllocError>
+    ensures { OnOk result (out.new.items ≡ out.old.items ++ printed event.now) }
+{
+    match cells_of(event) {
+        Some(cells) => write_cells(out, &cells),
+        None => write_zeros(out, 96),
+    }
+}
+
+impl Log {
+    ghost use Rattle.std.specs.Prelude.{◌≡◌, reverse, IfOk};
+    ghost use Rattle.std.specs.List.{flat_map};
+    ghost use Rattle.tc_log.specs.Printed.{printed};
+
+    /// The events in order, 96 bytes each. An answer Old, an abort with 0 and a call with more
+    /// than 8 arguments are 96 zeros, which no event is.
+    pub fn print(&self, alloc: Global) -> Result<Vec<u8>, AllocError>
+        ensures { IfOk result (λ bytes. bytes.items ≡ flat_map printed (reverse self.now.events)) }
+    {
+        print_events(alloc, self.events())
+    }
+}
+
+fn print_events(alloc: Global, events: &[Event]) -> Result<Vec<u8>, AllocError>
+    ensures { IfOk result (λ bytes. bytes.items ≡ flat_map printed events.now) }
+{
+    let mut out = Vec::new(alloc);
+    'events: for event in events {
+        write_event(&mut out, event)?;
+    }
+    Ok(out)
+}
