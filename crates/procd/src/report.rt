@@ -1,9 +1,10 @@
 //! What a command says of the text that was read.
 
-ghost use Rattle.std.specs.Prelude.{◌≡◌, IfOk, string_bytes};
+ghost use Rattle.std.specs.Prelude.{◌≡◌, IfOk, IfErr, string_bytes};
+ghost use Rattle.std.specs.Str.{IsUtf8};
 ghost use Rattle.procd.specs.Execution.{text_execution};
 ghost use Rattle.procd.specs.Report.{IsReport, IsExecution};
-ghost use Rattle.procd.specs.Task.{wish_of};
+ghost use Rattle.procd.specs.Task.{wish_of, Asm};
 
 use crate::assembly::{assembly, disassembly};
 use crate::execute::execute_text;
@@ -27,6 +28,11 @@ pub enum ReportFault {
 }
 
 impl From<AllocError> for ReportFault {
+    ghost use Rattle.std.specs.Prelude.{◌≡◌};
+    ghost use Rattle.procd.specs.declared.report.ReportFault.TheVariants.{Memory};
+
+    ghost from_gives = { λ _ e. e ≡ Memory };
+
     fn from(_e: AllocError) -> ReportFault {
         ReportFault::Memory
     }
@@ -45,7 +51,9 @@ fn execution(alloc: Global, raw: bool, text: &[u8], numbers: &[u64]) -> Result<R
 
 /// What the task makes of the text.
 pub fn report_on(alloc: Global, task: &Task, text: &[u8]) -> Result<Report, ReportFault>
-    ensures { IfOk result (λ r. IsReport (wish_of task.now) text.now r.status (string_bytes r.lines)) }
+    ensures ok { IfOk result (λ r. IsReport (wish_of task.now) text.now r.status (string_bytes r.lines)) }
+    // Only assembly text has to be UTF-8.
+    ensures not_text { IfErr result (λ e. e ≡ ReportFault.NotText → (wish_of task.now ≡ Asm) × ¬ (IsUtf8 text.now)) }
 {
     match task {
         Task::Exec { raw, numbers } => Ok(execution(alloc, *raw, text, numbers.as_slice())?),
