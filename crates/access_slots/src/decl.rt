@@ -1,8 +1,8 @@
 //! A procedure's declaration: how many arguments it takes, and its access slots.
 
-ghost use Rattle.std.specs.Prelude.{◌≡◌, Some, None, MatchResult, length};
+ghost use Rattle.std.specs.Prelude.{◌≡◌, ◌≤◌, Some, None, MatchResult, length};
 ghost use Rattle.access_slots.specs.Declaration.{decl_fault, names_argument, first_bad};
-ghost use Rattle.access_slots.specs.Locks.{AreLocksOf};
+ghost use Rattle.access_slots.specs.Locks.{AreLocksOf, Rising};
 
 use crate::lock::LockSet;
 use crate::slot::{Key, Mode, Slot};
@@ -95,6 +95,7 @@ impl Decl {
     /// How many arguments a call takes, 0 to 8.
     pub fn args(&self) -> usize
         ensures value { result ≡ self.now.args }
+        ensures few { result ≤ 8 }
         ensures declared { decl_fault self.now.args self.now.slots ≡ None }
     {
         usize::from(self.args)
@@ -103,6 +104,7 @@ impl Decl {
     /// The declared slots, at most 16.
     pub fn slots(&self) -> &[Slot]
         ensures value { result.now ≡ self.now.slots }
+        ensures few { length result.now ≤ 16 }
         ensures declared { decl_fault self.now.args self.now.slots ≡ None }
     {
         &self.slots[..self.used]
@@ -112,7 +114,9 @@ impl Decl {
     /// names, in the greatest mode of the slots that name it. It takes no memory.
     pub fn resolve(&self, args: &[u64]) -> LockSet
         requires { length args.now ≡ self.now.args }
-        ensures { AreLocksOf args.now self.now.slots result }
+        ensures value { AreLocksOf args.now self.now.slots result }
+        ensures rising { Rising result }
+        ensures few { length result ≤ 16 }
     {
         let mut locks = LockSet::new();
         'slots: for slot in self.slots() {

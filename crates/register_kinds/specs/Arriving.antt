@@ -1,14 +1,17 @@
 -- The kinds at a slot: at slot 0 those of the entry, and the join over the reached slots below it and each of their ways to it.
 use Rattle.std.specs.Prelude.{ℕ, zero, suc, ◌+◌, ℤ, pos, ◌+ℤ◌, ◌==◌, if◌then◌else◌, List, Option, Some, None, Result, Ok, Err, slice_get}
+use Rattle.access_slots.specs.Declaration.{Declaration}
 use Rattle.semantics.specs.Step.{place_of}
 use Rattle.bpf_encoding.specs.Spelling.{is_wide}
 use Rattle.bpf_encoding.specs.declared.insn.Insn.{Insn}
 use Rattle.bpf_encoding.specs.declared.insn.Insn.TheVariants.{Alu, Negate, MoveSigned, Order, LoadWide, Jump, JumpLong, JumpIf, Load, LoadSigned, StoreImm, Store, Call, Exit}
 use Rattle.bpf_encoding.specs.declared.insn.Place.{Place}
 use Rattle.bpf_encoding.specs.declared.insn.Place.TheVariants as place
-use Rattle.register_kinds.specs.declared.kind.Ways.{Ways}
 use Rattle.register_kinds.specs.declared.kind.Violation.{Violation}
-use Rattle.register_kinds.specs.Kinds.{Kinds, entry_kinds, join_kinds, transfer_of}
+use Rattle.register_kinds.specs.declared.kinds.Kinds.{Kinds}
+use Rattle.register_kinds.specs.declared.kinds.Ways.{Ways}
+use Rattle.register_kinds.specs.Kinds.{entry_kinds, join_kinds}
+use Rattle.register_kinds.specs.Transfer.{transfer_of}
 
 -- the slot behind an instruction
 abbrev pub next_place : ℕ → Insn → ℕ
@@ -54,31 +57,31 @@ abbrev pub along_ways : ℕ → Insn → Result Ways Violation → ℕ → Optio
 along_ways from i (Err v) at before = before
 along_ways from i (Ok ways) at before = along (jump_place from i) ways.jump at (along (Some (next_place from i)) ways.next at before)
 
-abbrev pub along_from : ℕ → Option Place → Option Kinds → ℕ → Option Kinds → Option Kinds
-along_from from None kinds at before = before
-along_from from (Some place.Second) kinds at before = before
-along_from from (Some (place.Insn i)) None at before = before
-along_from from (Some (place.Insn i)) (Some ks) at before = along_ways from i (transfer_of i ks) at before
+abbrev pub along_from : Declaration → ℕ → Option Place → Option Kinds → ℕ → Option Kinds → Option Kinds
+along_from decl from None kinds at before = before
+along_from decl from (Some place.Second) kinds at before = before
+along_from decl from (Some (place.Insn i)) None at before = before
+along_from decl from (Some (place.Insn i)) (Some ks) at before = along_ways from i (transfer_of decl i ks) at before
 
 -- what is known at a slot by the ways from the first n slots
-abbrev pub arriving : List Place → ℕ → ℕ → Option Kinds
-arriving code zero at = if at == 0 then Some entry_kinds else None
-arriving code (suc n) at = along_from n (slice_get code n) (arriving code n n) at (arriving code n at)
+abbrev pub arriving : Declaration → List Place → ℕ → ℕ → Option Kinds
+arriving decl code zero at = if at == 0 then Some entry_kinds else None
+arriving decl code (suc n) at = along_from decl n (slice_get code n) (arriving decl code n n) at (arriving decl code n at)
 
 -- what is known at a slot; None where it isn't reached
-abbrev pub kinds_at : List Place → ℕ → Option Kinds
-kinds_at code at = arriving code at at
+abbrev pub kinds_at : Declaration → List Place → ℕ → Option Kinds
+kinds_at decl code at = arriving decl code at at
 
 abbrev pub violation_of : Result Ways Violation → Option Violation
 violation_of (Ok ways) = None
 violation_of (Err v) = Some v
 
-abbrev pub violation_by : Option Place → Option Kinds → Option Violation
-violation_by None kinds = None
-violation_by (Some place.Second) kinds = None
-violation_by (Some (place.Insn i)) None = None
-violation_by (Some (place.Insn i)) (Some ks) = violation_of (transfer_of i ks)
+abbrev pub violation_by : Declaration → Option Place → Option Kinds → Option Violation
+violation_by decl None kinds = None
+violation_by decl (Some place.Second) kinds = None
+violation_by decl (Some (place.Insn i)) None = None
+violation_by decl (Some (place.Insn i)) (Some ks) = violation_of (transfer_of decl i ks)
 
 -- what the instruction at a reached slot may not do
-abbrev pub violation_at : List Place → ℕ → Option Violation
-violation_at code at = violation_by (slice_get code at) (kinds_at code at)
+abbrev pub violation_at : Declaration → List Place → ℕ → Option Violation
+violation_at decl code at = violation_by decl (slice_get code at) (kinds_at decl code at)

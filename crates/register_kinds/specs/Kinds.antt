@@ -1,92 +1,67 @@
--- What each instruction does to the kinds of the registers.
-use Rattle.std.specs.Prelude.{ℕ, Bool, true, false, ◌&&◌, not, ◌==◌, List, [], ◌∷◌, Some, None, Result, Ok, Err, slice_set}
+-- The kinds of the eleven registers.
+use Rattle.std.specs.Prelude.{ℕ, ◌==◌, ℤ, pos, Bool, true, false, ◌&&◌, if◌then◌else◌, List, [], ◌∷◌, Option, Some, None, Result, Err, slice_set}
 use Rattle.std.specs.List.{slice_index_or}
-use Rattle.bpf_encoding.specs.Spelling.{number_of}
-use Rattle.bpf_encoding.specs.declared.insn.Register.{Register}
-use Rattle.bpf_encoding.specs.declared.insn.Source.{Source}
-use Rattle.bpf_encoding.specs.declared.insn.Source.TheVariants.{Imm, Reg}
-use Rattle.bpf_encoding.specs.declared.insn.Operation.{Operation}
-use Rattle.bpf_encoding.specs.declared.insn.Operation.TheVariants.{Add, Sub, Mul, Div, SignedDiv, Or, And, LeftShift, RightShift, Mod, SignedMod, Xor, Mov, SignedRightShift}
-use Rattle.bpf_encoding.specs.declared.insn.Insn.{Insn}
-use Rattle.bpf_encoding.specs.declared.insn.Insn.TheVariants.{Alu, Negate, MoveSigned, Order, LoadWide, Jump, JumpLong, JumpIf, Load, LoadSigned, StoreImm, Store, Call, Exit}
+use Rattle.std.specs.Ordering.{int_eq}
 use Rattle.register_kinds.specs.declared.kind.Kind.{Kind}
-use Rattle.register_kinds.specs.declared.kind.Kind.TheVariants.{Empty, Number}
-use Rattle.register_kinds.specs.declared.kind.Ways.{Ways}
+use Rattle.register_kinds.specs.declared.kind.Kind.TheVariants.{Empty, Number, Const, Stack, Args, Buffer, MaybeBuffer}
 use Rattle.register_kinds.specs.declared.kind.Violation.{Violation}
-use Rattle.register_kinds.specs.declared.kind.Violation.TheVariants.{EmptyRegister, WritesR10, NotAPointer, UnknownHelper}
+use Rattle.register_kinds.specs.declared.kinds.Kinds.{Kinds}
 
-abbrev pub Kinds : Type 0
-Kinds = List Kind
-
+-- register 1 has the arguments' address, register 10 that of the end of the stack of 512 bytes
 abbrev pub entry_kinds : Kinds
-entry_kinds = Empty ∷ Empty ∷ Empty ∷ Empty ∷ Empty ∷ Empty ∷ Empty ∷ Empty ∷ Empty ∷ Empty ∷ Empty ∷ []
+entry_kinds = record { registers = Empty ∷ Args (pos 0) ∷ Empty ∷ Empty ∷ Empty ∷ Empty ∷ Empty ∷ Empty ∷ Empty ∷ Empty ∷ Stack (pos 512) ∷ [] }
+
+abbrev pub kind_at : Kinds → ℕ → Kind
+kind_at ks r = slice_index_or ks.registers r Empty
+
+abbrev pub with_kind : Kinds → ℕ → Kind → Kinds
+with_kind ks r k = record { registers = slice_set ks.registers r k }
+
+-- register 0 has the answer, and registers 1 to 5 are empty
+abbrev pub after_call : Kinds → Kind → Kinds
+after_call ks answer =
+    with_kind (with_kind (with_kind (with_kind (with_kind (with_kind ks 0 answer) 1 Empty) 2 Empty) 3 Empty) 4 Empty) 5 Empty
+
+abbrev pub is_present : Kind → Bool
+is_present Empty = false
+is_present k = true
+
+-- a number, and no address
+abbrev pub is_plain : Kind → Bool
+is_plain Number = true
+is_plain (Const n) = true
+is_plain k = false
+
+abbrev pub same_or_number : Bool → Kind → Kind
+same_or_number true k = k
+same_or_number false k = Number
 
 -- equal kinds stay, Empty with anything is Empty, all else is Number
 abbrev pub join_of : Kind → Kind → Kind
 join_of Empty b = Empty
-join_of Number Empty = Empty
-join_of Number Number = Number
+join_of (Const m) (Const n) = same_or_number (m == n) (Const m)
+join_of (Stack o) (Stack p) = same_or_number (int_eq o p) (Stack o)
+join_of (Args o) (Args p) = same_or_number (int_eq o p) (Args o)
+join_of (Buffer k o) (Buffer l p) = same_or_number ((k == l) && int_eq o p) (Buffer k o)
+join_of (MaybeBuffer k) (MaybeBuffer l) = same_or_number (k == l) (MaybeBuffer k)
+join_of a Empty = Empty
+join_of a b = Number
 
 -- register by register
+abbrev pub join_all : List Kind → List Kind → List Kind
+join_all [] ls = []
+join_all (k ∷ ks) [] = []
+join_all (k ∷ ks) (l ∷ ls) = join_of k l ∷ join_all ks ls
+
 abbrev pub join_kinds : Kinds → Kinds → Kinds
-join_kinds [] ls = []
-join_kinds (k ∷ ks) [] = []
-join_kinds (k ∷ ks) (l ∷ ls) = join_of k l ∷ join_kinds ks ls
+join_kinds a b = record { registers = join_all a.registers b.registers }
 
-abbrev pub kind_at : Kinds → ℕ → Kind
-kind_at ks r = slice_index_or ks r Empty
-
-abbrev pub is_present : Kind → Bool
-is_present Empty = false
-is_present Number = true
-
-abbrev pub is_source_present : Kinds → Source → Bool
-is_source_present ks (Imm n) = true
-is_source_present ks (Reg r) = is_present (kind_at ks (number_of r))
-
--- the first operand; a move reads none
-abbrev pub is_left_present : Kinds → Operation → Register → Bool
-is_left_present ks Add dst = is_present (kind_at ks (number_of dst))
-is_left_present ks Sub dst = is_present (kind_at ks (number_of dst))
-is_left_present ks Mul dst = is_present (kind_at ks (number_of dst))
-is_left_present ks Div dst = is_present (kind_at ks (number_of dst))
-is_left_present ks SignedDiv dst = is_present (kind_at ks (number_of dst))
-is_left_present ks Or dst = is_present (kind_at ks (number_of dst))
-is_left_present ks And dst = is_present (kind_at ks (number_of dst))
-is_left_present ks LeftShift dst = is_present (kind_at ks (number_of dst))
-is_left_present ks RightShift dst = is_present (kind_at ks (number_of dst))
-is_left_present ks Mod dst = is_present (kind_at ks (number_of dst))
-is_left_present ks SignedMod dst = is_present (kind_at ks (number_of dst))
-is_left_present ks Xor dst = is_present (kind_at ks (number_of dst))
-is_left_present ks Mov dst = true
-is_left_present ks SignedRightShift dst = is_present (kind_at ks (number_of dst))
-
+-- goes on where it holds, and else is refused so
 abbrev pub check : {A : Type 0} → Bool → Violation → Result A Violation → Result A Violation
 check true v r = r
 check false v r = Err v
 
-abbrev pub is_writable : Register → Bool
-is_writable r = not (number_of r == 10)
-
--- a number is written into the register
-abbrev pub written_kinds : Kinds → Register → Result Ways Violation
-written_kinds ks dst = check (is_writable dst) WritesR10 (Ok (record { next = Some (slice_set ks (number_of dst) Number); jump = None }))
-
--- the kinds at the next slot and at the jump's target, or the first thing that the instruction may not do
-abbrev pub transfer_of : Insn → Kinds → Result Ways Violation
-transfer_of (Alu width operation dst source) ks =
-    check (is_left_present ks operation dst && is_source_present ks source) EmptyRegister (written_kinds ks dst)
-transfer_of (Negate width dst) ks = check (is_present (kind_at ks (number_of dst))) EmptyRegister (written_kinds ks dst)
-transfer_of (MoveSigned extension dst src) ks = check (is_present (kind_at ks (number_of src))) EmptyRegister (written_kinds ks dst)
-transfer_of (Order order width dst) ks = check (is_present (kind_at ks (number_of dst))) EmptyRegister (written_kinds ks dst)
-transfer_of (LoadWide dst value) ks = written_kinds ks dst
-transfer_of (Jump offset) ks = Ok (record { next = None; jump = Some ks })
-transfer_of (JumpLong offset) ks = Ok (record { next = None; jump = Some ks })
-transfer_of (JumpIf width condition dst source offset) ks =
-    check (is_present (kind_at ks (number_of dst)) && is_source_present ks source) EmptyRegister (Ok (record { next = Some ks; jump = Some ks }))
-transfer_of (Load size dst base offset) ks = check (is_present (kind_at ks (number_of base))) EmptyRegister (check (is_writable dst) WritesR10 (Err NotAPointer))
-transfer_of (LoadSigned size dst base offset) ks = check (is_present (kind_at ks (number_of base))) EmptyRegister (check (is_writable dst) WritesR10 (Err NotAPointer))
-transfer_of (StoreImm size base offset imm) ks = check (is_present (kind_at ks (number_of base))) EmptyRegister (Err NotAPointer)
-transfer_of (Store size base src offset) ks = check (is_present (kind_at ks (number_of base)) && is_present (kind_at ks (number_of src))) EmptyRegister (Err NotAPointer)
-transfer_of (Call helper) ks = check (is_present (kind_at ks 1)) EmptyRegister (Err UnknownHelper)
-transfer_of Exit ks = check (is_present (kind_at ks 0)) EmptyRegister (Ok (record { next = None; jump = None }))
+-- goes on where nothing is wrong
+abbrev pub refuse : {A : Type 0} → Option Violation → Result A Violation → Result A Violation
+refuse None r = r
+refuse (Some v) r = Err v

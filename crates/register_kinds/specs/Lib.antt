@@ -1,3 +1,7 @@
 pub mod Kinds
+pub mod Computed
+pub mod Access
+pub mod Calls
+pub mod Transfer
 pub mod Arriving
 pub mod Fitting

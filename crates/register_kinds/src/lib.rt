@@ -2,4 +2,5 @@
 #![tactic(auto)]
 
 pub mod kind;
+pub mod kinds;
 pub mod transfer;

@@ -1,0 +1,19 @@
+use Rattle.std.proofs.Common.{◌≡◌, ◌≢◌, ◌<◌, length, arith, below_more, get_or-set_same, get_or-set_other, ◌∙◌, rules}
+use Rattle.std.proofs.lemmas.List.{length-set}
+use Rattle.register_kinds.proofs.Rows.{joined_is}
+use Rattle.register_kinds.proofs.kinds.Kinds.join.Goals as goal
+
+pub loop-r-preserved : goal.loop-r-preserved
+loop-r-preserved c = record {
+  long = length-set c.loop-r.registers c.loop-r.r c.join.result ∙ c.loop-r.invariant.long;
+  done =
+      below_more _ _
+      (λ k h. let ne : k ≢ c.loop-r.r = omega arith in rw get_or-set_other (c.loop-r.invariant.done k h))
+      (let lt : c.loop-r.r < length c.loop-r.registers = omega (arith, c.loop-r.invariant.long) in rw get_or-set_same c.join.ensures);
+}
+
+pub returns : goal.returns
+returns c =
+    let la : length c.args.self.now.registers ≡ 11 = search rules in
+    let lb : length c.args.other.now.registers ≡ 11 = search rules in
+    joined_is c.args.self.now c.args.other.now (record { registers = c.loop-r.registers }) la lb c.loop-r.invariant.long (λ k lt. c.loop-r.invariant.done k (omega arith))

@@ -1,0 +1,76 @@
+//! The kinds of the eleven registers.
+
+ghost use Rattle.std.specs.Prelude.{◌≡◌};
+ghost use Rattle.bpf_encoding.specs.Spelling.{number_of};
+ghost use Rattle.register_kinds.specs.Kinds.{entry_kinds, kind_at, with_kind, join_kinds, after_call};
+
+use crate::kind::Kind;
+use access_slots::decl::Decl;
+use bpf_encoding::insn::Register;
+
+/// What is known of each register.
+#[derive(Clone, Copy, Debug, PartialEq, Eq)]
+pub struct Kinds {
+    registers: [Kind; 11],
+}
+
+/// The kinds at the next slot and at the jump's target, where the run may go there.
+#[derive(Clone, Copy, Debug, PartialEq, Eq)]
+pub struct Ways {
+    pub next: Option<Kinds>,
+    pub jump: Option<Kinds>,
+}
+
+impl Kinds {
+    /// The kinds at the first slot: register 1 has the arguments' address and register 10 that
+    /// of the stack's end, whatever is declared.
+    pub fn entry(_decl: &Decl) -> Kinds
+        ensures { result ≡ entry_kinds }
+    {
+        let mut registers = [Kind::Empty; 11];
+        registers[1] = Kind::Args(0);
+        registers[10] = Kind::Stack(512);
+        Kinds { registers }
+    }
+
+    /// The register's kind.
+    pub fn at(&self, register: Register) -> Kind
+        ensures { result ≡ kind_at self.now (number_of register) }
+    {
+        self.registers[register.index()]
+    }
+
+    /// These kinds but for one register.
+    pub(crate) fn with(&self, register: Register, kind: Kind) -> Kinds
+        ensures { result ≡ with_kind self.now (number_of register) kind }
+    {
+        let mut registers = self.registers;
+        registers[register.index()] = kind;
+        Kinds { registers }
+    }
+
+    /// The kinds after a call with this kind of answer: registers 1 to 5 are empty.
+    pub(crate) fn after_call(&self, answer: Kind) -> Kinds
+        ensures { result ≡ after_call self.now answer }
+    {
+        let mut registers = self.registers;
+        registers[0] = answer;
+        registers[1] = Kind::Empty;
+        registers[2] = Kind::Empty;
+        registers[3] = Kind::Empty;
+        registers[4] = Kind::Empty;
+        registers[5] = Kind::Empty;
+        Kinds { registers }
+    }
+
+    /// What is known where two ways meet, register by register.
+    pub fn join(&self, other: &Kinds) -> Kinds
+        ensures { result ≡ join_kinds self.now other.now }
+    {
+        let mut registers = self.registers;
+        for r in 0..11 {
+            registers[r] = self.registers[r].join(other.registers[r]);
+        }
+        Kinds { registers }
+    }
+}
