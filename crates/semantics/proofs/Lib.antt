@@ -1,3 +1,4 @@
+pub mod Extended
 pub mod Bridge
 pub mod Rows
 pub mod CFunctionsRows
