@@ -1,17 +1,15 @@
 -- An access that the kind of its base allows lies within a region.
-use Rattle.std.proofs.Common.{◌≡◌, ℕ, zero, suc, ◌+◌, ◌*◌, ◌<◌, ◌≤◌, ◌^◌, Bool, true, false, ◌&&◌, cond, Option, Some, None, List, length, leb, refl, subst, sym, ap, ◌∙◌, inl, inr, arith}
+use Rattle.std.proofs.Common.{◌≡◌, ℕ, ◌+◌, ◌*◌, ◌<◌, ◌≤◌, ◌^◌, Bool, true, false, cond, Some, None, List, length, leb, refl, ap, ◌∙◌, arith}
 use Rattle.std.specs.Prelude.{ℤ, pos, negsuc, ◌+ℤ◌}
-use Rattle.std.specs.Int.RustNames.{int_le}
 use Rattle.std.proofs.lemmas.Bool.Decides.{nat_tests}
 use Rattle.semantics.specs.Memory.{Memory, bytes_at, written}
 use Rattle.semantics.specs.Step.{Setting, address, buffer_base}
 use Rattle.semantics.proofs.Extended.{address_at}
 use Rattle.register_kinds.specs.declared.kind.Kind.{Kind}
 use Rattle.register_kinds.specs.declared.kind.Kind.TheVariants.{Empty, Number, Const, Stack, Args, Buffer, MaybeBuffer}
-use Rattle.register_kinds.specs.declared.kind.Violation.{Violation}
 use Rattle.register_kinds.specs.declared.kind.Violation.TheVariants.{OutOfBounds}
 use Rattle.register_kinds.specs.Access.{is_within, bounds, access}
-use Rattle.register_kinds.specs.Fitting.{Fits, IsDeclared, shapes, shapes_of, IsSetting}
+use Rattle.register_kinds.specs.Fitting.{Fits, shapes, shapes_of, IsSetting}
 use Rattle.register_kinds.proofs.Memory.{both, HasBytes, IsWritten, readable, laid_of, stack_at, arguments_at, buffer_at, stack_written, buffer_written}
 
 -- an offset within a region of this length

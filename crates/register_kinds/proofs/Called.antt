@@ -1,25 +1,22 @@
 -- A call of a helper at a declared slot whose mode suffices.
-use Rattle.std.proofs.Common.{◌≡◌, ℕ, zero, suc, ◌+◌, ◌<◌, ◌≤◌, ◌^◌, ◌⊎◌, Bool, true, false, ◌||◌, Option, Some, None, Result, Ok, List, length, cond, leb, refl, subst, sym, ap, ap₂, ◌∙◌, inl, inr, arith}
-use Rattle.std.specs.Prelude.{ℤ, pos, negsuc, slice_get, slice_set, take, replicate, ◌++◌}
+use Rattle.std.proofs.Common.{◌≡◌, ℕ, zero, suc, ◌+◌, ◌<◌, ◌≤◌, Bool, true, false, ◌||◌, Option, Some, None, List, length, cond, leb, refl, subst, sym, ap, ◌∙◌, inl, inr, arith}
+use Rattle.std.specs.Prelude.{ℤ, pos, negsuc, slice_get, slice_set, ◌++◌}
 use Rattle.std.proofs.lemmas.Bool.Decides.{nat_tests}
 use Rattle.std.proofs.lemmas.Option.{slice_get_within}
 use Rattle.std.proofs.lemmas.List.{length-set, length-take-le, length-append, length-replicate}
-use Rattle.access_slots.specs.Access.{fits, is_no_room, record_of, writes}
+use Rattle.access_slots.specs.Access.{fits, record_of, writes}
 use Rattle.access_slots.specs.declared.slot.Slot.{Slot}
-use Rattle.access_slots.specs.declared.slot.Mode.{Mode}
 use Rattle.access_slots.specs.declared.op.Op.{Op}
 use Rattle.access_slots.specs.declared.op.Op.TheVariants as op
 use Rattle.access_slots.specs.declared.op.Said.{Said}
 use Rattle.access_slots.specs.declared.op.Said.TheVariants as said
-use Rattle.bpf_encoding.specs.declared.insn.Insn.{Insn}
 use Rattle.bpf_encoding.specs.declared.insn.Insn.TheVariants.{Call}
 use Rattle.semantics.specs.Memory.{Region, Memory}
-use Rattle.semantics.specs.Step.{Config, Step, Ask, Trap, ReadOnlySlot, EmptyRead, Setting, register, need, after_call as emptied, counted, on_slot, call, buffer_of, buffer_base}
+use Rattle.semantics.specs.Step.{Config, Ask, Trap, ReadOnlySlot, EmptyRead, Setting, register, need, after_call as emptied, counted, on_slot, call, buffer_of, buffer_base}
 use Rattle.semantics.specs.Reach.{IsBySlot, answered, with_region, buffer_bytes, zeros}
 use Rattle.semantics.proofs.Extended.{address_zero}
 use Rattle.register_kinds.specs.declared.kind.Kind.{Kind}
-use Rattle.register_kinds.specs.declared.kind.Kind.TheVariants.{Empty, Number, Const, Stack, Args, Buffer, MaybeBuffer}
-use Rattle.register_kinds.specs.declared.kind.Violation.{Violation}
+use Rattle.register_kinds.specs.declared.kind.Kind.TheVariants.{Empty, Number, Const, MaybeBuffer}
 use Rattle.register_kinds.specs.declared.kind.Violation.TheVariants.{EmptyRegister, UnknownHelper, SlotUnknown, ModeTooWeak}
 use Rattle.register_kinds.specs.declared.kinds.Kinds.{Kinds}
 use Rattle.register_kinds.specs.declared.kinds.Ways.{Ways}
@@ -28,7 +25,7 @@ use Rattle.register_kinds.specs.Calls.{is_helper, suffices, answer_kind, called_
 use Rattle.register_kinds.specs.Transfer.{called_ways}
 use Rattle.register_kinds.specs.Fitting.{Fits, AllFit, IsSetting, IsStanding, IsSound, WentOn, Shape, shape, shapes, shapes_of}
 use Rattle.register_kinds.proofs.Memory.{both, region_of, shapes-set, laid_of, buffer_at}
-use Rattle.register_kinds.proofs.Undoing.{ok, err, check_ok, refused, ok_is}
+use Rattle.register_kinds.proofs.Undoing.{ok, check_ok, refused, ok_is}
 use Rattle.register_kinds.proofs.Registers.{put_fits}
 
 -- ---- registers behind a call

@@ -9,9 +9,9 @@ use Rattle.semantics.specs.Step.{Setting}
 use Rattle.register_kinds.specs.declared.kind.Kind.{Kind}
 use Rattle.register_kinds.specs.declared.kind.Kind.TheVariants.{Empty, Number, Const, Stack, Args, Buffer, MaybeBuffer}
 use Rattle.register_kinds.specs.declared.kinds.Kinds.{Kinds}
-use Rattle.register_kinds.specs.Kinds.{join_of, join_all, join_kinds, kind_at, is_present, same_or_number}
+use Rattle.register_kinds.specs.Kinds.{join_of, join_all, join_kinds, is_present, same_or_number}
 use Rattle.register_kinds.specs.Arriving.{merge}
-use Rattle.register_kinds.specs.Fitting.{Fits, AllFit, IsWeaker}
+use Rattle.register_kinds.specs.Fitting.{Fits, IsWeaker}
 
 some_by : (v : Option ℕ) (n : ℕ) → v ≡ Some n → IsSome v
 some_by v n e = subst (λ (o : Option ℕ). IsSome o) (sym e) refl

@@ -1,5 +1,5 @@
 -- What operations give fits the kinds that they give.
-use Rattle.std.proofs.Common.{◌≡◌, ℕ, suc, ◌+◌, ◌-◌, ◌<◌, ◌≤◌, ◌^◌, ◌%◌, Bool, true, false, ◌&&◌, cond, Option, Some, None, refl, subst, sym, ap, ap₂, ◌∙◌, inl, inr, arith}
+use Rattle.std.proofs.Common.{◌≡◌, ℕ, ◌-◌, ◌<◌, ◌^◌, ◌%◌, true, false, ◌&&◌, cond, Some, None, refl, subst, sym, ap, ap₂, ◌∙◌, arith}
 use Rattle.std.specs.Prelude.{ℤ, pos, negsuc, ◌+ℤ◌, ◌-ℤ◌}
 use Rattle.std.specs.Int.{w64, cast_signed}
 use Rattle.std.specs.Int.RustNames.{int_le}
@@ -7,15 +7,15 @@ use Rattle.bpf_encoding.specs.Reading.{is_64}
 use Rattle.bpf_encoding.specs.declared.insn.Width.{Width}
 use Rattle.bpf_encoding.specs.declared.insn.Width.TheVariants.{Bits32, Bits64}
 use Rattle.bpf_encoding.specs.declared.insn.Operation.{Operation}
-use Rattle.bpf_encoding.specs.declared.insn.Operation.TheVariants.{Add, Sub, Mul, Div, SignedDiv, Or, And, LeftShift, RightShift, Mod, SignedMod, Xor, Mov, SignedRightShift}
+use Rattle.bpf_encoding.specs.declared.insn.Operation.TheVariants.{Add, Sub, Mov}
 use Rattle.semantics.specs.Arithmetic.{extended, sum, difference}
-use Rattle.semantics.specs.Step.{Setting, address}
+use Rattle.semantics.specs.Step.{Setting}
 use Rattle.semantics.specs.Instruction.{result_of}
 use Rattle.semantics.proofs.Extended.{extended-cast_signed, extended_back, address_sum}
 use Rattle.register_kinds.specs.declared.kind.Kind.{Kind}
 use Rattle.register_kinds.specs.declared.kind.Kind.TheVariants.{Empty, Number, Const, Stack, Args, Buffer, MaybeBuffer}
 use Rattle.register_kinds.specs.Computed.{near, or_number, moved_by, sum_kind, difference_kind, copied_kind, alu_kind}
-use Rattle.register_kinds.specs.Fitting.{Fits, IsDeclared}
+use Rattle.register_kinds.specs.Fitting.{Fits}
 
 some_is : (x y : ℕ) → Some x ≡ Some y → x ≡ y
 some_is x y e = cc

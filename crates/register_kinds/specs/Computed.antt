@@ -1,5 +1,5 @@
 -- What operations give on kinds.
-use Rattle.std.specs.Prelude.{ℕ, ◌%◌, ◌^◌, ℤ, pos, negsuc, ◌+ℤ◌, ◌-ℤ◌, ◌≤ℤ◌, Bool, true, false, ◌&&◌, Option, Some, None, if◌then◌else◌}
+use Rattle.std.specs.Prelude.{◌%◌, ◌^◌, ℤ, pos, negsuc, ◌+ℤ◌, ◌-ℤ◌, ◌≤ℤ◌, ◌&&◌, Option, Some, None, if◌then◌else◌}
 use Rattle.std.specs.Int.{w64, cast_signed}
 use Rattle.std.specs.Int.RustNames.{int_le}
 use Rattle.bpf_encoding.specs.Spelling.{number_of}
@@ -11,7 +11,7 @@ use Rattle.bpf_encoding.specs.declared.insn.Operation.{Operation}
 use Rattle.bpf_encoding.specs.declared.insn.Operation.TheVariants.{Add, Sub, Mov}
 use Rattle.semantics.specs.Arithmetic.{extended, sum, difference}
 use Rattle.register_kinds.specs.declared.kind.Kind.{Kind}
-use Rattle.register_kinds.specs.declared.kind.Kind.TheVariants.{Empty, Number, Const, Stack, Args, Buffer, MaybeBuffer}
+use Rattle.register_kinds.specs.declared.kind.Kind.TheVariants.{Number, Const, Stack, Args, Buffer}
 use Rattle.register_kinds.specs.declared.kinds.Kinds.{Kinds}
 use Rattle.register_kinds.specs.Kinds.{kind_at}
 

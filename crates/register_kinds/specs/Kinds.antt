@@ -1,5 +1,5 @@
 -- The kinds of the eleven registers.
-use Rattle.std.specs.Prelude.{ℕ, ◌==◌, ℤ, pos, Bool, true, false, ◌&&◌, if◌then◌else◌, List, [], ◌∷◌, Option, Some, None, Result, Err, slice_set}
+use Rattle.std.specs.Prelude.{ℕ, ◌==◌, pos, Bool, true, false, ◌&&◌, List, [], ◌∷◌, Option, Some, None, Result, Err, slice_set}
 use Rattle.std.specs.List.{slice_index_or}
 use Rattle.std.specs.Ordering.{int_eq}
 use Rattle.register_kinds.specs.declared.kind.Kind.{Kind}
