@@ -1,5 +1,5 @@
 -- The table holds what is known of each slot.
-use Rattle.std.proofs.Common.{◌≡◌, ◌≢◌, ℕ, zero, suc, ◌+◌, ◌<◌, ◌≤◌, Bool, true, false, Option, Some, None, List, [], ◌∷◌, length, cond, refl, sym, ap, ap₂, ◌∙◌, inl, inr, arith, add-one}
+use Rattle.std.proofs.Common.{◌≡◌, ◌≢◌, ℕ, ◌+◌, ◌<◌, ◌≤◌, Bool, true, false, Option, Some, None, List, [], ◌∷◌, length, cond, refl, sym, ap, ap₂, ◌∙◌, inl, inr, arith, add-one}
 use Rattle.std.specs.Prelude.{slice_get, slice_set}
 use Rattle.std.proofs.lemmas.List.{get_or-set_same, get_or-set_other, length-set}
 use Rattle.std.proofs.lemmas.Bool.{cases_eq, eq-eqb, ne_eqb}
@@ -7,26 +7,11 @@ use Rattle.bpf_encoding.specs.Spelling.{is_wide, places_from, places_of}
 use Rattle.bpf_encoding.specs.declared.insn.Insn.{Insn}
 use Rattle.bpf_encoding.specs.declared.insn.Place.{Place}
 use Rattle.bpf_encoding.specs.declared.insn.Place.TheVariants as place
-use Rattle.register_kinds.specs.declared.kind.Kind.{Kind}
-use Rattle.register_kinds.specs.Kinds.{Kinds, entry_kinds, join_of, join_kinds, kind_at}
+use Rattle.access_slots.specs.Declaration.{Declaration}
+use Rattle.register_kinds.specs.declared.kinds.Kinds.{Kinds}
+use Rattle.register_kinds.specs.Kinds.{entry_kinds}
 use Rattle.register_kinds.specs.Arriving.{next_place, merge, along, along_from, arriving}
 use Rattle.verifier.specs.Table.{Table, kept, HasArrived}
-
--- ---- joins, register by register
-
-join_at : (n : ℕ) (a b j : Kinds) → length a ≡ n → length b ≡ n → length j ≡ n → ((k : ℕ) → k < n → kind_at j k ≡ join_of (kind_at a k) (kind_at b k)) → j ≡ join_kinds a b
-join_at zero [] b [] la lb lj h = refl
-join_at zero [] b (j ∷ js) la lb lj h = absurd (omega arith)
-join_at zero (a ∷ as') b j la lb lj h = absurd (omega arith)
-join_at (suc n) [] b j la lb lj h = absurd (omega arith)
-join_at (suc n) (a ∷ as') [] j la lb lj h = absurd (omega arith)
-join_at (suc n) (a ∷ as') (b ∷ bs) [] la lb lj h = absurd (omega arith)
-join_at (suc n) (a ∷ as') (b ∷ bs) (j ∷ js) la lb lj h =
-    ap₂ (λ (k : Kind) (ks : Kinds). k ∷ ks) (h 0 (omega arith))
-    (join_at n as' bs js (omega arith) (omega arith) (omega arith) (λ k lt. h (suc k) (omega arith)))
-
-pub joined_is : (a b j : Kinds) → length a ≡ 11 → length b ≡ 11 → length j ≡ 11 → ((k : ℕ) → k < 11 → kind_at j k ≡ join_of (kind_at a k) (kind_at b k)) → j ≡ join_kinds a b
-joined_is a b j la lb lj h = join_at 11 a b j la lb lj h
 
 -- ---- ways
 
@@ -49,23 +34,23 @@ past_is_along table to at after le lt = let ne : at ≢ to = (λ e. omega arith)
 
 -- ---- one slot more
 
-pub arrived_on : (code : List Place) (at : ℕ) (old new : Table) (p : Option Place) (ks : Option Kinds) → at < length code → slice_get code at ≡ p → kept old at ≡ ks → HasArrived code at old → length new ≡ length old
-    → ((k : ℕ) → k < length code → kept new k ≡ along_from at p ks k (kept old k)) → HasArrived code (at + 1) new
-arrived_on code at old new p ks lt here known old_is same h = record {
+pub arrived_on : (decl : Declaration) (code : List Place) (at : ℕ) (old new : Table) (p : Option Place) (ks : Option Kinds) → at < length code → slice_get code at ≡ p → kept old at ≡ ks → HasArrived decl code at old → length new ≡ length old
+    → ((k : ℕ) → k < length code → kept new k ≡ along_from decl at p ks k (kept old k)) → HasArrived decl code (at + 1) new
+arrived_on decl code at old new p ks lt here known old_is same h = record {
   long = same ∙ old_is.long;
   each = λ k lt'.
-      h k lt' ∙ ap₂ (λ (q : Option Place) (ls : Option Kinds). along_from at q ls k (kept old k)) (sym here) (sym known ∙ old_is.each at lt)
-      ∙ ap (along_from at (slice_get code at) (arriving code at at) k) (old_is.each k lt') ∙ ap (λ (n : ℕ). arriving code n k) (sym (add-one at));
+      h k lt' ∙ ap₂ (λ (q : Option Place) (ls : Option Kinds). along_from decl at q ls k (kept old k)) (sym here) (sym known ∙ old_is.each at lt)
+      ∙ ap (along_from decl at (slice_get code at) (arriving decl code at at) k) (old_is.each k lt') ∙ ap (λ (n : ℕ). arriving decl code n k) (sym (add-one at));
 }
 
 -- ---- the entry
 
-pub entered : (code : List Place) (table : Table) → 0 < length code → length table ≡ length code → ((at : ℕ) → kept table at ≡ None) → HasArrived code 0 (slice_set table 0 (Some entry_kinds))
-entered code table some long blank = record {
+pub entered : (decl : Declaration) (code : List Place) (table : Table) → 0 < length code → length table ≡ length code → ((at : ℕ) → kept table at ≡ None) → HasArrived decl code 0 (slice_set table 0 (Some entry_kinds))
+entered decl code table some long blank = record {
   long = length-set table 0 (Some entry_kinds) ∙ long;
   each = λ at lt.
       elim (cases_eq at 0) [
-        | inl same ↦ (ap (kept (slice_set table 0 (Some entry_kinds))) same ∙ get_or-set_same table 0 (Some entry_kinds) None (omega arith) ∙ ap (λ (n : ℕ). arriving code 0 n) (sym same))
+        | inl same ↦ (ap (kept (slice_set table 0 (Some entry_kinds))) same ∙ get_or-set_same table 0 (Some entry_kinds) None (omega arith) ∙ ap (λ (n : ℕ). arriving decl code 0 n) (sym same))
         | inr ne ↦ (get_or-set_other table 0 at (Some entry_kinds) None ne ∙ blank at ∙ ap (λ (b : Bool). cond b (Some entry_kinds) None) (sym (ne_eqb at 0 ne)))
       ];
 }

@@ -1,3 +1,4 @@
 pub mod Firsts
 pub mod Arrived
+pub mod Behind
 pub mod Run

@@ -1,5 +1,5 @@
 -- Code that was accepted, with its declaration.
-use Rattle.std.specs.Prelude.{◌≡◌, List, None}
+use Rattle.std.specs.Prelude.{◌≡◌, ◌≤◌, List, length, None}
 use Rattle.access_slots.specs.Declaration.{Declaration}
 use Rattle.bpf_encoding.specs.Spells.{IsCode}
 use Rattle.bpf_encoding.specs.declared.insn.Place.{Place}
@@ -9,7 +9,9 @@ pub record Checked : Type 0 where
   pub code : List Place
   pub decl : Declaration
 
--- nothing is wrong with it
-pub record IsAccepted (code : List Place) : Type 0 where
+-- nothing is wrong with it, and memory has room for its arguments and buffers
+pub record IsAccepted (decl : Declaration) (code : List Place) : Type 0 where
   pub whole : IsCode code
-  pub nothing : verdict code ≡ None
+  pub nothing : verdict decl code ≡ None
+  pub few_args : decl.args ≤ 8
+  pub few_slots : length decl.slots ≤ 16

@@ -7,6 +7,7 @@ use Rattle.bpf_encoding.specs.declared.insn.Place.{Place}
 use Rattle.bpf_encoding.specs.declared.insn.Place.TheVariants as place
 use Rattle.register_kinds.specs.declared.kind.Violation.{Violation}
 use Rattle.register_kinds.specs.declared.kind.Violation.TheVariants.{Backward, OutOfCode, IntoWide, FallsOff, UnknownHelper}
+use Rattle.register_kinds.specs.Calls.{is_helper}
 use Rattle.register_kinds.specs.Arriving.{next_place, jump_offset}
 
 abbrev pub is_second_slot : Option Place → Bool
@@ -36,9 +37,9 @@ goes_on i = true
 abbrev pub fall_flaw : List Place → ℕ → Insn → Option Violation
 fall_flaw code at i = if goes_on i && nat_le (length code) (next_place at i) then Some FallsOff else None
 
--- no helper can be called yet
+-- of a call of a helper that there isn't
 abbrev pub call_flaw : Insn → Option Violation
-call_flaw (Call helper) = Some UnknownHelper
+call_flaw (Call helper) = if is_helper helper then None else Some UnknownHelper
 call_flaw i = None
 
 abbrev pub or_else : Option Violation → Option Violation → Option Violation

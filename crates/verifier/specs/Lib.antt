@@ -2,5 +2,4 @@ pub mod Flow
 pub mod Verdict
 pub mod Checked
 pub mod Table
-pub mod Quiet
 pub mod Calls

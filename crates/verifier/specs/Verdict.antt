@@ -1,5 +1,6 @@
 -- The first thing that is wrong with code.
 use Rattle.std.specs.Prelude.{◌≡◌, ℕ, zero, suc, List, length, Option, Some, None}
+use Rattle.access_slots.specs.Declaration.{Declaration}
 use Rattle.bpf_encoding.specs.declared.insn.Place.{Place}
 use Rattle.register_kinds.specs.declared.kind.Violation.{Violation}
 use Rattle.register_kinds.specs.Arriving.{violation_at}
@@ -21,17 +22,17 @@ abbrev pub first_flaw : List Place → Option (ℕ × Violation)
 first_flaw code = first_from (flow_at code) 0 (length code)
 
 -- the second pass: what the kinds at reached slots forbid
-abbrev pub first_violation : List Place → Option (ℕ × Violation)
-first_violation code = first_from (violation_at code) 0 (length code)
+abbrev pub first_violation : Declaration → List Place → Option (ℕ × Violation)
+first_violation decl code = first_from (violation_at decl code) 0 (length code)
 
 abbrev pub or_first : Option (ℕ × Violation) → Option (ℕ × Violation) → Option (ℕ × Violation)
 or_first None later = later
 or_first (Some p) later = Some p
 
-abbrev pub verdict : List Place → Option (ℕ × Violation)
-verdict code = or_first (first_flaw code) (first_violation code)
+abbrev pub verdict : Declaration → List Place → Option (ℕ × Violation)
+verdict decl code = or_first (first_flaw code) (first_violation decl code)
 
 -- want of memory comes after the first pass alone
-abbrev pub IsVerdict : List Place → VerifyFault → Type 0
-IsVerdict code (At slot v) = verdict code ≡ Some (slot, v)
-IsVerdict code Memory = first_flaw code ≡ None
+abbrev pub IsVerdict : Declaration → List Place → VerifyFault → Type 0
+IsVerdict decl code (At slot v) = verdict decl code ≡ Some (slot, v)
+IsVerdict decl code Memory = first_flaw code ≡ None

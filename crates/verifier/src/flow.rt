@@ -7,6 +7,7 @@ ghost use Rattle.verifier.specs.Verdict.{first_flaw};
 
 use bpf_encoding::insn::{Insn, Place};
 use register_kinds::kind::Violation;
+use register_kinds::transfer::is_helper;
 
 // The offset of a jump.
 fn jump_offset(insn: &Insn) -> Option<i32>
@@ -69,11 +70,14 @@ fn fall_flaw(code: &[Place], at: usize, insn: &Insn) -> Option<Violation>
     }
 }
 
-// No helper can be called yet.
+// What is wrong with a call of a helper that there isn't.
 fn call_flaw(insn: &Insn) -> Option<Violation>
     ensures { result ≡ call_flaw insn.now }
 {
-    matches!(insn, Insn::Call(..)).then_some(Violation::UnknownHelper)
+    match *insn {
+        Insn::Call(helper) if !is_helper(helper) => Some(Violation::UnknownHelper),
+        _ => None,
+    }
 }
 
 fn flow_violation(code: &[Place], at: usize, insn: &Insn) -> Option<Violation>

@@ -1,37 +1,28 @@
 //! The second pass: the kinds at each reached slot, from the first to the last.
 
 ghost use Rattle.std.specs.Prelude.{◌≡◌, ◌<◌, ◌≤◌, ◌+◌, ℕ, Some, None, length};
-ghost use Rattle.register_kinds.specs.Kinds.{join_kinds};
 ghost use Rattle.register_kinds.specs.Arriving.{merge, along, violation_at};
 ghost use Rattle.verifier.specs.Table.{kept, HasArrived};
 ghost use Rattle.verifier.specs.Verdict.{first_violation};
 
 use crate::flow::jump_place;
+use access_slots::decl::Decl;
 use bpf_encoding::insn::Place;
-use register_kinds::kind::{Kind, Violation};
-use register_kinds::transfer::{ENTRY, transfer};
+use register_kinds::kind::Violation;
+use register_kinds::kinds::Kinds;
+use register_kinds::transfer::transfer;
 
-fn join_kinds(a: &[Kind; 11], b: &[Kind; 11]) -> [Kind; 11]
-    ensures { result ≡ join_kinds a.now b.now }
-{
-    let mut joined = *a;
-    for r in 0..11 {
-        joined[r] = a[r].join(b[r]);
-    }
-    joined
-}
-
-fn merge(before: &Option<[Kind; 11]>, after: &[Kind; 11]) -> [Kind; 11]
+fn merge(before: &Option<Kinds>, after: &Kinds) -> Kinds
     ensures { result ≡ merge before.now after.now }
 {
     match before {
         None => *after,
-        Some(kinds) => join_kinds(kinds, after),
+        Some(kinds) => kinds.join(after),
     }
 }
 
 // These kinds come along a way to there.
-fn flow(table: &mut [Option<[Kind; 11]>], to: Option<usize>, after: &Option<[Kind; 11]>)
+fn flow(table: &mut [Option<Kinds>], to: Option<usize>, after: &Option<Kinds>)
     ensures { (at : ℕ) → at < length table.old → kept table.new at ≡ along to after.now at (kept table.old at) }
 {
     let (Some(to), Some(after)) = (to, after) else {
@@ -45,12 +36,17 @@ fn flow(table: &mut [Option<[Kind; 11]>], to: Option<usize>, after: &Option<[Kin
 }
 
 // One slot: what its instruction may not do, or the ways on from it.
-fn visit(table: &mut [Option<[Kind; 11]>], code: &[Place], at: usize) -> Option<Violation>
+fn visit(
+    table: &mut [Option<Kinds>],
+    code: &[Place],
+    decl: &Decl,
+    at: usize,
+) -> Option<Violation>
     requires within { at < length code.now }
     requires short { length code.now ≤ 4096 }
-    requires arrived { HasArrived code.now at table.old }
-    ensures violation { result ≡ violation_at code.now at }
-    ensures arrived { result ≡ None → HasArrived code.now (at + 1) table.new }
+    requires arrived { HasArrived decl.now code.now at table.old }
+    ensures violation { result ≡ violation_at decl.now code.now at }
+    ensures arrived { result ≡ None → HasArrived decl.now code.now (at + 1) table.new }
 {
     let Place::Insn(insn) = &code[at] else {
         return None;
@@ -58,7 +54,7 @@ fn visit(table: &mut [Option<[Kind; 11]>], code: &[Place], at: usize) -> Option<
     let Some(kinds) = table[at] else {
         return None;
     };
-    let ways = match transfer(insn, &kinds) {
+    let ways = match transfer(insn, &kinds, decl) {
         Ok(ways) => ways,
         Err(violation) => return Some(violation),
     };
@@ -70,18 +66,19 @@ fn visit(table: &mut [Option<[Kind; 11]>], code: &[Place], at: usize) -> Option<
 /// The first reached slot whose instruction does what its kinds forbid. The table has a place
 /// for each slot.
 pub(crate) fn first_violation(
-    table: &mut [Option<[Kind; 11]>],
+    table: &mut [Option<Kinds>],
     code: &[Place],
+    decl: &Decl,
 ) -> Option<(usize, Violation)>
     requires some { 0 < length code.now }
     requires short { length code.now ≤ 4096 }
     requires long { length table.old ≡ length code.now }
     requires blank { (at : ℕ) → kept table.old at ≡ None }
-    ensures { result ≡ first_violation code.now }
+    ensures { result ≡ first_violation decl.now code.now }
 {
-    table[0] = Some(ENTRY);
+    table[0] = Some(Kinds::entry(decl));
     for at in 0..code.len() {
-        if let Some(violation) = visit(table, code, at) {
+        if let Some(violation) = visit(table, code, decl, at) {
             return Some((at, violation));
         }
     }

@@ -4,7 +4,6 @@ ghost use Rattle.std.specs.Prelude.{◌≡◌, ◌≤◌, ◌<◌, length, IfOk,
 ghost use Rattle.semantics.specs.Reach.{IsSafe};
 ghost use Rattle.semantics.specs.Instruction.{program_of};
 ghost use Rattle.bpf_encoding.specs.Spells.{IsCode};
-ghost use Rattle.verifier.specs.Quiet.{IsQuiet};
 ghost use Rattle.verifier.specs.Calls.{is_call_place};
 ghost use Rattle.verifier.specs.Verdict.{verdict, first_flaw, first_violation, IsVerdict};
 
@@ -41,30 +40,34 @@ impl Model for Verified {
 
     ghost view = { λ v. record { code = v.code; decl = v.decl } };
 
-    ghost invariant = { λ v. IsAccepted v.code };
+    ghost invariant = { λ v. IsAccepted v.decl v.code };
 }
 
 // The first violation by the kinds, in a table that is made for it.
-fn violation_in(alloc: Global, code: &[Place]) -> Result<Option<(usize, Violation)>, AllocError>
+fn violation_in(
+    alloc: Global,
+    code: &[Place],
+    decl: &Decl,
+) -> Result<Option<(usize, Violation)>, AllocError>
     requires some { 0 < length code.now }
     requires short { length code.now ≤ 4096 }
-    ensures { IfOk result (λ found. found ≡ first_violation code.now) }
+    ensures { IfOk result (λ found. found ≡ first_violation decl.now code.now) }
 {
     let mut table = vec![in alloc; None; code.len()]?;
-    Ok(first_violation(&mut table, code))
+    Ok(first_violation(&mut table, code, decl))
 }
 
 // What is wrong with the code, the first pass before the second.
-fn check(alloc: Global, code: &[Place]) -> Result<(), VerifyFault>
+fn check(alloc: Global, code: &[Place], decl: &Decl) -> Result<(), VerifyFault>
     requires some { 0 < length code.now }
     requires short { length code.now ≤ 4096 }
-    ensures ok { IfOk result (λ _. verdict code.now ≡ None) }
-    ensures err { IfErr result (IsVerdict code.now) }
+    ensures ok { IfOk result (λ _. verdict decl.now code.now ≡ None) }
+    ensures err { IfErr result (IsVerdict decl.now code.now) }
 {
     if let Some((slot, violation)) = first_flaw(code) {
         return Err(VerifyFault::At(slot, violation));
     }
-    match violation_in(alloc, code) {
+    match violation_in(alloc, code, decl) {
         Err(_) => Err(VerifyFault::Memory),
         Ok(Some((slot, violation))) => Err(VerifyFault::At(slot, violation)),
         Ok(None) => Ok(()),
@@ -77,13 +80,16 @@ fn check(alloc: Global, code: &[Place]) -> Result<(), VerifyFault>
 pub fn verify(alloc: Global, code: Code, decl: Decl) -> Result<Verified, VerifyFault>
     // What is accepted is what was handed in, and nothing is wrong with it.
     ensures value { IfOk result (λ v. (v.code ≡ code) × (v.decl ≡ decl)) }
-    ensures accepted { IfOk result (λ v. verdict code ≡ None) }
+    ensures accepted { IfOk result (λ v. verdict decl code ≡ None) }
     // Which fault it is; want of memory comes after the first pass alone.
-    ensures err { IfErr result (IsVerdict code) }
+    ensures err { IfErr result (IsVerdict decl code) }
     // No layout, arguments or answers make it trap.
     ensures safe { IfOk result (λ v. IsSafe (program_of v.code v.decl)) }
 {
-    check(alloc, code.places())?;
+    // Memory has room for the arguments and the slots' buffers.
+    prove!(decl.args() <= 8);
+    prove!(decl.slots().len() <= 16);
+    check(alloc, code.places(), &decl)?;
     Ok(Verified { code, decl })
 }
 
@@ -111,8 +117,6 @@ impl Verified {
         ensures value { result.now ≡ self.now.code }
         ensures code { IsCode self.now.code }
         ensures safe { IsSafe (program_of self.now.code self.now.decl) }
-        // Until registers can have addresses, no load, store or call is met.
-        ensures quiet { IsQuiet self.now.code self.now.decl }
     {
         &self.code
     }

@@ -1,5 +1,8 @@
-use Rattle.std.proofs.Common.{◌≡◌, ◌-◌, length, refl, arith, ap, sym, ◌∙◌}
+use Rattle.std.proofs.Common.{◌≡◌, ◌-◌, length, Some, refl, arith, ap, subst, sym, ◌∙◌}
+use Rattle.std.specs.Prelude.{slice_set}
+use Rattle.register_kinds.specs.declared.kinds.Kinds.{Kinds}
 use Rattle.register_kinds.specs.Arriving.{violation_at}
+use Rattle.verifier.specs.Table.{HasArrived}
 use Rattle.verifier.specs.Verdict.{first_from}
 use Rattle.verifier.proofs.Firsts.{goes_on, is_here, is_none}
 use Rattle.verifier.proofs.Arrived.{entered}
@@ -8,16 +11,17 @@ use Rattle.verifier.proofs.pass.first_violation.Goals as goal
 pub loop-at-init : goal.loop-at-init
 loop-at-init c =
     let none_less : length c.args.code.now - 0 ≡ length c.args.code.now = omega arith in
-    record { arrived = entered c.args.code.now c.args.table.now c.requires.some c.requires.long c.requires.blank; none = ap (first_from (violation_at c.args.code.now) 0) none_less }
+    let entry = entered c.args.decl.now c.args.code.now c.args.table.now c.requires.some c.requires.long c.requires.blank in
+    record { arrived = subst (λ (ks : Kinds). HasArrived c.args.decl.now c.args.code.now 0 (slice_set c.args.table.now 0 (Some ks))) (sym c.entry.ensures) entry; none = ap (first_from (violation_at c.args.decl.now c.args.code.now) 0) none_less }
 
 pub loop-at-preserved : goal.loop-at-preserved
 loop-at-preserved c = record {
   arrived = c.in_default.ensures.arrived refl;
-  none = goes_on (violation_at c.args.code.now) c.loop-at.at (length c.args.code.now) _ c.loop-at-test.true (sym c.visit.ensures.violation ∙ c.in_default.is) c.loop-at.invariant.none;
+  none = goes_on (violation_at c.args.decl.now c.args.code.now) c.loop-at.at (length c.args.code.now) _ c.loop-at-test.true (sym c.visit.ensures.violation ∙ c.in_default.is) c.loop-at.invariant.none;
 }
 
 pub returns-in-Some : goal.returns-in-Some
-returns-in-Some c = sym (is_here (violation_at c.args.code.now) c.loop-at.at (length c.args.code.now) c.in-Some.violation _ c.loop-at-test.true (sym c.in-Some.ensures.violation) c.loop-at.invariant.none)
+returns-in-Some c = sym (is_here (violation_at c.args.decl.now c.args.code.now) c.loop-at.at (length c.args.code.now) c.in-Some.violation _ c.loop-at-test.true (sym c.in-Some.ensures.violation) c.loop-at.invariant.none)
 
 pub returns : goal.returns
-returns c = sym (is_none (violation_at c.args.code.now) c.loop-at.at (length c.args.code.now) _ c.loop-at-test.false c.loop-at.invariant.none)
+returns c = sym (is_none (violation_at c.args.decl.now c.args.code.now) c.loop-at.at (length c.args.code.now) _ c.loop-at-test.false c.loop-at.invariant.none)

@@ -3,7 +3,7 @@ use Rattle.std.specs.Prelude.{slice_get}
 use Rattle.std.proofs.lemmas.Option.{slice_get-get_or}
 use Rattle.bpf_encoding.specs.declared.insn.Place.{Place}
 use Rattle.bpf_encoding.specs.declared.insn.Place.TheVariants as place
-use Rattle.register_kinds.specs.declared.kind.Ways.{Ways}
+use Rattle.register_kinds.specs.declared.kinds.Ways.{Ways}
 use Rattle.register_kinds.specs.declared.kind.Violation.{Violation}
 use Rattle.register_kinds.specs.Arriving.{jump_place, along, along_ways}
 use Rattle.verifier.specs.Table.{kept}
@@ -20,7 +20,7 @@ returns-clause-arrived c = λ none.
     let second : length c.flow-2.new.table ≡ length c.flow.new.table = search rules in
     let next = ap (λ (n : ℕ). at + n) c.slots.ensures.value ∙ next_is at i in
     let is = sym c.transfer.ensures ∙ c.in-Ok.is in
-    arrived_on c.args.code.now at c.args.table.now c.flow-2.new.table (Some (place.Insn i)) (Some ks) c.requires.within here c.in-Some.is c.requires.arrived (second ∙ first) (λ k lt.
+    arrived_on c.args.decl.now c.args.code.now at c.args.table.now c.flow-2.new.table (Some (place.Insn i)) (Some ks) c.requires.within here c.in-Some.is c.requires.arrived (second ∙ first) (λ k lt.
     let lt1 : k < length c.args.table.now = omega (arith, c.requires.arrived.long) in
     let lt2 : k < length c.flow.new.table = omega (arith, first) in
     c.flow-2.ensures k lt2
