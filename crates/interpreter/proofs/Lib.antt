@@ -1,1 +1,1 @@
-pub mod Good
+pub mod Regions

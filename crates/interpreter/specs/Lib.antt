@@ -1,3 +1,1 @@
-pub mod Standing
-pub mod Gives
-pub mod Runs
+pub mod Held

@@ -1,6 +1,6 @@
 //! Where the regions of memory lie.
 
-ghost use Rattle.std.specs.Prelude.{◌≡◌, ◌≤◌, Some, None, true, map, if◌then◌else◌};
+ghost use Rattle.std.specs.Prelude.{◌≡◌, ◌<◌, ◌≤◌, Some, None, true, map, slice_index, if◌then◌else◌};
 ghost use Rattle.std.specs.List.{list_all};
 ghost use Rattle.semantics.specs.Row.{plain_bases};
 ghost use Rattle.semantics.specs.Reach.{is_layout, is_apart, is_in_reach, are_apart, buffer_extents, IsLayout};
@@ -130,5 +130,14 @@ impl Layout {
         ensures layout { IsLayout self.now }
     {
         self.args
+    }
+
+    /// The first address of the buffer of this slot, 0 to 15.
+    pub fn buffer(&self, slot: usize) -> u64
+        requires { slot < 16 }
+        ensures value { result ≡ slice_index self.now.buffers slot }
+        ensures layout { IsLayout self.now }
+    {
+        self.buffers[slot]
     }
 }

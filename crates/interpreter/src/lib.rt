@@ -3,4 +3,4 @@
 
 pub mod arithmetic;
 pub mod layout;
-pub mod machine;
+pub mod memory;
