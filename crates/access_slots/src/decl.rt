@@ -1,11 +1,12 @@
 //! A procedure's declaration: how many arguments it takes, and its access slots.
 
-ghost use Rattle.std.specs.Prelude.{◌≡◌, ◌≤◌, Some, None, MatchResult, length};
+ghost use Rattle.std.specs.Prelude.{◌≡◌, ◌<◌, ◌≤◌, Some, None, MatchResult, IfSome, length, slice_get};
+ghost use Rattle.access_slots.specs.Access.{record_of};
 ghost use Rattle.access_slots.specs.Declaration.{decl_fault, names_argument, first_bad};
 ghost use Rattle.access_slots.specs.Locks.{AreLocksOf, Rising};
 
 use crate::lock::LockSet;
-use crate::slot::{Key, Mode, Slot};
+use crate::slot::{Key, Mode, Record, Slot};
 use std::marker::Model;
 
 /// Why a declaration is refused.
@@ -108,6 +109,15 @@ impl Decl {
         ensures declared { decl_fault self.now.args self.now.slots ≡ None }
     {
         &self.slots[..self.used]
+    }
+
+    /// The record that a declared slot names in a call with these arguments, as many as declared.
+    pub fn record(&self, slot: usize, args: &[u64]) -> Record
+        requires within { slot < length self.now.slots }
+        requires count { length args.now ≡ self.now.args }
+        ensures { IfSome (slice_get self.now.slots slot) (λ s. result ≡ record_of args.now s) }
+    {
+        self.slots()[slot].record(args)
     }
 
     /// The locks of a call with these arguments, as many as declared: each record that a slot

@@ -1,1 +1,3 @@
 pub mod Regions
+pub mod Steps
+pub mod Good

@@ -1,1 +1,5 @@
 pub mod Held
+pub mod Standing
+pub mod Gives
+pub mod Runs
+pub mod Asking

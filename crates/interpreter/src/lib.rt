@@ -3,4 +3,5 @@
 
 pub mod arithmetic;
 pub mod layout;
+pub mod machine;
 pub mod memory;
