@@ -1,3 +1,4 @@
 pub mod Regions
 pub mod Steps
 pub mod Good
+pub mod Resumed
