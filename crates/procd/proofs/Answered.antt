@@ -17,7 +17,7 @@ use Rattle.bpf_encoding.specs.declared.insn.Place.{Place}
 use Rattle.verifier.specs.Checked.{Checked}
 use Rattle.verifier.specs.Verdict.{verdict}
 use Rattle.interpreter.specs.Runs.{setting_of}
-use Rattle.procd.specs.Execution.{answered, execution_by_verdict, execution_by_count, execution_by_fault, execution_of}
+use Rattle.procd.specs.Execution.{answered, without_slots, execution_by_verdict, execution_by_count, execution_by_fault, execution_of}
 use Rattle.procd.specs.declared.execute.Execution.{Execution}
 use Rattle.procd.specs.declared.execute.Execution.TheVariants.{TooManyArgs, Refused}
 
@@ -42,15 +42,11 @@ never_asks s stop slot operation c none fine e = no_slot s.args (slice_get s.pro
 pub at_same : (P : List ℕ → Bases → Type 0) (args args' : List ℕ) (b b' : Bases) → args' ≡ args → b' ≡ b → P args' b' → P args b
 at_same P args args' b b' ea eb h = subst (λ (a : List ℕ). P a b) ea (subst (P args') eb h)
 
-abbrev declaration : ℕ → List Slot → Declaration
-declaration args slots = record { args = args; slots = slots }
-
 abbrev program : List Place → Declaration → List ℕ → Setting
 program code decl args = record { program = program_of code decl; args = args; bases = plain_bases }
 
-same_program : (v : Checked) (code : List Place) (args : List ℕ) → v.code ≡ code → v.decl.args ≡ length args → v.decl.slots ≡ [] → program v.code v.decl args ≡ program code (declaration (length args) []) args
-same_program v code args ec en es =
-    ap (λ (x : List Place). program x v.decl args) ec ∙ ap₂ (λ (n : ℕ) (ss : List Slot). program code (declaration n ss) args) en es
+same_program : (v : Checked) (code : List Place) (args : List ℕ) → v.code ≡ code → v.decl ≡ without_slots (length args) → program v.code v.decl args ≡ program code (without_slots (length args)) args
+same_program v code args ec ed = ap₂ (λ (x : List Place) (d : Declaration). program x d args) ec ed
 
 -- ---- what bytes that name this code come to
 
@@ -61,7 +57,7 @@ many_args : (n : ℕ) → 8 < n → nat_lt 8 n ≡ true
 many_args n many = search rules
 
 -- as many arguments as are allowed
-with_few : (bytes args : List ℕ) → fault_in bytes ≡ None → length args ≤ 8 → execution_of bytes args ≡ execution_by_verdict (verdict (code_named bytes)) bytes args
+with_few : (bytes args : List ℕ) → fault_in bytes ≡ None → length args ≤ 8 → execution_of bytes args ≡ execution_by_verdict (verdict (without_slots (length args)) (code_named bytes)) bytes args
 with_few bytes args none few =
     ap (λ (o : Option DecodeFault). execution_by_fault o bytes args) none
     ∙ ap (λ (b : Bool). execution_by_count b bytes args) (few_args (length args) few)
@@ -71,21 +67,21 @@ too_many bytes args none many =
     ap (λ (o : Option DecodeFault). execution_by_fault o bytes args) none
     ∙ ap (λ (b : Bool). execution_by_count b bytes args) (many_args (length args) many)
 
-pub refused : (bytes args : List ℕ) (code : List Place) (slot : ℕ) (violation : Violation) → fault_in bytes ≡ None → code ≡ code_named bytes → length args ≤ 8
-    → verdict code ≡ Some (slot, violation) → execution_of bytes args ≡ Some (Refused slot violation)
-refused bytes args code slot violation none named few is =
+pub refused : (bytes args : List ℕ) (code : List Place) (decl : Declaration) (slot : ℕ) (violation : Violation) → fault_in bytes ≡ None → code ≡ code_named bytes → length args ≤ 8 → decl ≡ without_slots (length args)
+    → verdict decl code ≡ Some (slot, violation) → execution_of bytes args ≡ Some (Refused slot violation)
+refused bytes args code decl slot violation none named few declared is =
     with_few bytes args none few
-    ∙ ap (λ (o : Option (ℕ × Violation)). execution_by_verdict o bytes args) (ap verdict (sym named) ∙ is)
+    ∙ ap (λ (o : Option (ℕ × Violation)). execution_by_verdict o bytes args) (ap₂ verdict (sym declared) (sym named) ∙ is)
 
-outcome_spelled : (bytes : List ℕ) (code : List Place) (args : List ℕ) → Spells bytes code → outcome_of bytes args ≡ outcome (reach (program code (declaration (length args) []) args) [])
+outcome_spelled : (bytes : List ℕ) (code : List Place) (args : List ℕ) → Spells bytes code → outcome_of bytes args ≡ outcome (reach (program code (without_slots (length args)) args) [])
 outcome_spelled bytes code args spells =
-    ap (λ (fs : List Fields). outcome (reach (record { program = record { code = fs; decl = declaration (length args) [] }; args = args; bases = plain_bases }) [])) spells.fields
+    ap (λ (fs : List Fields). outcome (reach (record { program = record { code = fs; decl = without_slots (length args) }; args = args; bases = plain_bases }) [])) spells.fields
 
-pub accepted : (v : Checked) (bytes : List ℕ) (code : List Place) (args : List ℕ) (e : Execution) → v.code ≡ code → v.decl.args ≡ length args → v.decl.slots ≡ []
-    → fault_in bytes ≡ None → code ≡ code_named bytes → Spells bytes code → length args ≤ 8 → verdict code ≡ None
+pub accepted : (v : Checked) (bytes : List ℕ) (code : List Place) (args : List ℕ) (e : Execution) → v.code ≡ code → v.decl ≡ without_slots (length args)
+    → fault_in bytes ≡ None → code ≡ code_named bytes → Spells bytes code → length args ≤ 8 → verdict v.decl code ≡ None
     → answered (outcome (reach (setting_of v args plain_bases) [])) ≡ Some e → execution_of bytes args ≡ Some e
-accepted v bytes code args e ec en es none named spells few is h =
+accepted v bytes code args e ec ed none named spells few is h =
     with_few bytes args none few
-    ∙ ap (λ (o : Option (ℕ × Violation)). execution_by_verdict o bytes args) (ap verdict (sym named) ∙ is)
-    ∙ ap answered (outcome_spelled bytes code args spells ∙ ap (λ (s : Setting). outcome (reach s [])) (sym (same_program v code args ec en es)))
+    ∙ ap (λ (o : Option (ℕ × Violation)). execution_by_verdict o bytes args) (ap₂ verdict (sym ed) (sym named) ∙ is)
+    ∙ ap answered (outcome_spelled bytes code args spells ∙ ap (λ (s : Setting). outcome (reach s [])) (sym (same_program v code args ec ed)))
     ∙ h

@@ -1,5 +1,6 @@
 -- What a run of code from its text comes to, and the lines that say it.
-use Rattle.std.specs.Prelude.{ℕ, nat_lt, Bool, true, false, List, ◌++◌, length, Option, Some, None, Ok, Err, codes, decimal}
+use Rattle.std.specs.Prelude.{ℕ, nat_lt, Bool, true, false, List, [], ◌++◌, length, Option, Some, None, Ok, Err, codes, decimal}
+use Rattle.access_slots.specs.Declaration.{Declaration}
 use Rattle.bpf_encoding.specs.Named.{code_named}
 use Rattle.bpf_encoding.specs.Spells.{fault_in}
 use Rattle.bpf_encoding.specs.declared.decode.DecodeFault.{DecodeFault}
@@ -24,10 +25,14 @@ abbrev pub execution_by_verdict : Option (ℕ × Violation) → List ℕ → Lis
 execution_by_verdict (Some (slot, violation)) bytes args = Some (Refused slot violation)
 execution_by_verdict None bytes args = answered (outcome_of bytes args)
 
+-- so many arguments and no slots
+abbrev pub without_slots : ℕ → Declaration
+without_slots args = record { args = args; slots = [] }
+
 -- with at most eight arguments
 abbrev pub execution_by_count : Bool → List ℕ → List ℕ → Option Execution
 execution_by_count true bytes args = Some TooManyArgs
-execution_by_count false bytes args = execution_by_verdict (verdict (code_named bytes)) bytes args
+execution_by_count false bytes args = execution_by_verdict (verdict (without_slots (length args)) (code_named bytes)) bytes args
 
 abbrev pub execution_by_fault : Option DecodeFault → List ℕ → List ℕ → Option Execution
 execution_by_fault (Some fault) bytes args = Some (Code fault)

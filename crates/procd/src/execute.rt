@@ -7,7 +7,7 @@ ghost use Rattle.semantics.specs.Row.{outcome, plain_bases};
 ghost use Rattle.semantics.specs.Reach.{reach, IsSafe};
 ghost use Rattle.semantics.specs.Instruction.{program_of};
 ghost use Rattle.interpreter.specs.Runs.{setting_of};
-ghost use Rattle.procd.specs.Execution.{answered, execution_of, text_execution};
+ghost use Rattle.procd.specs.Execution.{answered, without_slots, execution_of, text_execution};
 
 use crate::hex::{HexFault, bytes_of};
 use access_slots::decl::Decl;
@@ -50,7 +50,7 @@ fn answer(verified: &Verified, args: &[u64]) -> Execution
 
 // The declaration of as many arguments as are given, and no slots.
 fn declared(args: &[u64]) -> Option<Decl>
-    ensures some { IfSome result (λ d. (d.args ≡ length args.now) × (d.slots ≡ [])) }
+    ensures some { IfSome result (λ d. d ≡ without_slots (length args.now)) }
     ensures few { IsSome result ↔ (length args.now ≤ 8) }
 {
     if args.len() > 8 {
