@@ -1,8 +1,8 @@
 -- Locks put in, one after another.
-use Rattle.std.proofs.Common.{arith, ◌≡◌, ℕ, zero, suc, nat_lt, ◌+◌, ◌<◌, ◌≤◌, Bool, true, false, cond, if◌then◌else◌, List, [], ◌∷◌, ◌++◌, length, sym, refl, ap, ap₂, ◌∙◌, one-add, inl, inr}
-use Rattle.std.specs.Prelude.{Option, Some, None, slice_get, slice_set, slice_index_or}
+use Rattle.std.proofs.Common.{arith, ◌≡◌, ℕ, zero, suc, nat_lt, ◌+◌, ◌<◌, ◌≤◌, Bool, true, false, if◌then◌else◌, List, [], ◌∷◌, ◌++◌, length, sym, refl, ap, ap₂, ◌∙◌, one-add}
+use Rattle.std.specs.Prelude.{Option, Some, None, slice_get, slice_index_or}
 use Rattle.std.specs.List.{prefix_len, insert}
-use Rattle.std.proofs.lemmas.Bool.{false≢true, cond-true, cond-false, ltb-false}
+use Rattle.std.proofs.lemmas.Bool.{cond-true, cond-false, ltb-false}
 use Rattle.access_slots.specs.declared.slot.Record.{Record}
 use Rattle.access_slots.specs.declared.slot.Mode.{Mode}
 use Rattle.access_slots.specs.declared.slot.Mode.TheVariants as mode
@@ -13,7 +13,7 @@ use Rattle.access_slots.specs.Locks.{record_eq, record_less, greater, greatest, 
 use Rattle.access_slots.specs.Declaration.{decl_fault, first_bad, names_argument}
 use Rattle.access_slots.specs.declared.decl.DeclFault.{DeclFault}
 use Rattle.access_slots.specs.declared.decl.DeclFault.TheVariants.{TooManyArgs, TooManySlots, NoSuchArg}
-use Rattle.access_slots.proofs.Records.{eq_same, eq_sym, eq_trans, less_not_eq, less_trans, less_else, eq_turned, eq_apart, eq_swap}
+use Rattle.access_slots.proofs.Records.{eq_same, less_not_eq, less_trans, less_else, eq_turned, eq_apart, eq_swap}
 
 -- ---- where a lock is put
 

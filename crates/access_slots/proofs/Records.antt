@@ -1,5 +1,5 @@
 -- Records in order.
-use Rattle.std.proofs.Common.{arith, sym, refl, ◌≡◌, ℕ, ◌<◌, Bool, true, false, ◌&&◌, ◌||◌, ◌==◌, nat_lt}
+use Rattle.std.proofs.Common.{arith, sym, refl, ◌≡◌, Bool, true, false}
 use Rattle.std.proofs.lemmas.Bool.Decides.{nat_tests}
 use Rattle.access_slots.specs.declared.slot.Record.{Record}
 use Rattle.access_slots.specs.Locks.{record_eq, record_less}

@@ -181,6 +181,95 @@ fn assembled_code(rt: HostRuntime) {
     }
 }
 
+// Assembly text that uses memory, the arguments it is run with, and what is printed.
+const WITH_MEMORY: [(&str, &[&str], &str); 15] = [
+    (
+        "mov r0, r10\nexit",
+        &[],
+        "refused V14 PointerReturned slot 1\n",
+    ),
+    (
+        "mov r0, r10\nxor r0, 0\nexit",
+        &[],
+        "answer 66048\nexecuted 3\n",
+    ),
+    (
+        "stxdw [r10-512], r1\nmov r0, 0\nexit",
+        &[],
+        "answer 0\nexecuted 3\n",
+    ),
+    (
+        "stxdw [r10-513], r1\nmov r0, 0\nexit",
+        &[],
+        "refused V8 OutOfBounds slot 0\n",
+    ),
+    (
+        "stxdw [r10-4], r1\nmov r0, 0\nexit",
+        &[],
+        "refused V8 OutOfBounds slot 0\n",
+    ),
+    (
+        "ldxdw r0, [r1+8]\nexit",
+        &["5", "6"],
+        "answer 6\nexecuted 2\n",
+    ),
+    (
+        "ldxdw r0, [r1+8]\nexit",
+        &["5"],
+        "refused V8 OutOfBounds slot 0\n",
+    ),
+    (
+        "stdw [r10-8], -2\nldxh r0, [r10-7]\nexit",
+        &[],
+        "answer 65535\nexecuted 3\n",
+    ),
+    (
+        "stb [r10-1], 128\nldxsb r0, [r10-1]\nexit",
+        &[],
+        "answer 18446744073709551488\nexecuted 3\n",
+    ),
+    (
+        "mov r2, 65536\nldxdw r0, [r2+0]\nexit",
+        &[],
+        "refused V7 NotAPointer slot 1\n",
+    ),
+    (
+        "stdw [r1+0], 1\nmov r0, 0\nexit",
+        &["5"],
+        "refused V9 ReadOnly slot 0\n",
+    ),
+    (
+        "mov r10, 0\nmov r0, 0\nexit",
+        &[],
+        "refused V6 WritesR10 slot 0\n",
+    ),
+    (
+        "ldxdw r1, [r1+0]\ncall 1\nexit",
+        &["5"],
+        "refused V12 SlotUnknown slot 1\n",
+    ),
+    (
+        "mov r1, 0\ncall 1\nexit",
+        &[],
+        "refused V12 SlotUnknown slot 1\n",
+    ),
+    ("call 6\nexit", &[], "refused V11 UnknownHelper slot 0\n"),
+];
+
+#[test]
+fn memory(rt: HostRuntime) -> Result<(), Fail> {
+    for (text, args, want) in WITH_MEMORY {
+        let hex = run(&rt, &ASM, text.as_bytes());
+        assert_eq!(rt; hex.status, 0, "of {text}");
+        let mut words = Vec::new(rt.alloc());
+        words.extend_from_slice(&EXEC)?;
+        words.extend_from_slice(args)?;
+        let ended = run(&rt, words.as_slice(), hex.out.as_slice());
+        assert_eq!(rt; ended.out.as_slice(), want.as_bytes(), "of {text}");
+    }
+    Ok(())
+}
+
 // Assembly text, and its code in hex.
 const SPELLED: [(&str, &str); 5] = [
     (

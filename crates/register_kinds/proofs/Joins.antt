@@ -100,8 +100,8 @@ right_fits s (Buffer k o) (Args p) v f = some_of s (Args p) v refl f
 right_fits s (Buffer k o) (Buffer l p) v f =
     same_fits s ((k == l) && int_eq o p) (Buffer k o) v
     (λ e.
-        let t = both (k == l) (int_eq o p) e in
-        subst (λ (z : ℤ). Fits s (Buffer k z) v) (sym (int_is o p t.1)) (subst (λ (j : ℕ). Fits s (Buffer j p) v) (sym (eqb-true k l t.0)) f))
+    let t = both (k == l) (int_eq o p) e in
+    subst (λ (z : ℤ). Fits s (Buffer k z) v) (sym (int_is o p t.1)) (subst (λ (j : ℕ). Fits s (Buffer j p) v) (sym (eqb-true k l t.0)) f))
     (some_of s (Buffer l p) v refl f)
 right_fits s (Buffer k o) (MaybeBuffer l) v f = some_of s (MaybeBuffer l) v refl f
 right_fits s (MaybeBuffer k) Empty v f = tt

@@ -8,7 +8,7 @@ ghost use Rattle.register_kinds.specs.Kinds.{kind_at, check, refuse, is_present}
 ghost use Rattle.register_kinds.specs.Computed.{source_kind, alu_kind};
 ghost use Rattle.register_kinds.specs.Access.{is_within, bounds, access};
 ghost use Rattle.register_kinds.specs.Calls.{is_helper, writes_by, suffices, answer_kind, called_at, called_slot};
-ghost use Rattle.register_kinds.specs.Transfer.{is_left_present, written_kinds, alu_ways, converted_ways, filled_kinds, loaded_kinds, stored_kinds, stored_register_kinds, null_test, branch_ways, compared_ways, called_ways, exit_ways, transfer_of};
+ghost use Rattle.register_kinds.specs.Transfer.{is_left_present, is_writable, written_kinds, alu_ways, converted_ways, filled_kinds, loaded_kinds, stored_kinds, stored_register_kinds, null_test, branch_ways, compared_ways, called_ways, exit_ways, transfer_of};
 
 use crate::kind::{Kind, Violation};
 use crate::kinds::{Kinds, Ways};
@@ -26,10 +26,7 @@ fn require(holds: bool, violation: Violation) -> Result<(), Violation>
 fn read(kinds: &Kinds, register: Register) -> Result<(), Violation>
     ensures { result ≡ check (is_present (kind_at kinds.now (number_of register))) Violation.EmptyRegister (Ok tt) }
 {
-    require(
-        kinds.at(register).is_present(),
-        Violation::EmptyRegister,
-    )
+    require(kinds.at(register).is_present(), Violation::EmptyRegister)
 }
 
 // The kind of the second operand; a number in the slot counts as its constant.
@@ -73,6 +70,13 @@ fn computed(width: Width, operation: Operation, left: Kind, right: Kind) -> Kind
     }
 }
 
+// The register isn't register 10.
+fn writable(dst: Register) -> Result<(), Violation>
+    ensures { result ≡ check (is_writable dst) Violation.WritesR10 (Ok tt) }
+{
+    require(dst != Register::R10, Violation::WritesR10)
+}
+
 // Goes on at the next slot alone.
 fn falls(kinds: Kinds) -> Result<Ways, Violation>
     ensures { result ≡ Ok (record { next = Some kinds; jump = None }) }
@@ -97,7 +101,7 @@ fn unless(violation: Option<Violation>, kinds: Kinds) -> Result<Ways, Violation>
 fn written(kinds: &Kinds, dst: Register, kind: Kind) -> Result<Ways, Violation>
     ensures { result ≡ written_kinds kinds.now dst kind }
 {
-    require(dst != Register::R10, Violation::WritesR10)?;
+    writable(dst)?;
     falls(kinds.with(dst, kind))
 }
 
@@ -183,7 +187,7 @@ fn signed_bytes_of(size: SignedSize) -> u8
 fn filled(kinds: &Kinds, dst: Register, violation: Option<Violation>) -> Result<Ways, Violation>
     ensures { result ≡ filled_kinds kinds.now dst violation }
 {
-    require(dst != Register::R10, Violation::WritesR10)?;
+    writable(dst)?;
     unless(violation, kinds.with(dst, Kind::Number))
 }
 

@@ -36,12 +36,7 @@ fn flow(table: &mut [Option<Kinds>], to: Option<usize>, after: &Option<Kinds>)
 }
 
 // One slot: what its instruction may not do, or the ways on from it.
-fn visit(
-    table: &mut [Option<Kinds>],
-    code: &[Place],
-    decl: &Decl,
-    at: usize,
-) -> Option<Violation>
+fn visit(table: &mut [Option<Kinds>], code: &[Place], decl: &Decl, at: usize) -> Option<Violation>
     requires within { at < length code.now }
     requires short { length code.now ≤ 4096 }
     requires arrived { HasArrived decl.now code.now at table.old }

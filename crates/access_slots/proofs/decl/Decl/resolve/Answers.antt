@@ -1,12 +1,11 @@
-use Rattle.std.proofs.Common.{rules, arith, ◌≡◌, ◌≤◌, ◌+◌, ◌∷◌, [], ◌++◌, List, ℕ, Some, None, true, length, take, ap, sym, subst, ◌∙◌}
+use Rattle.std.proofs.Common.{arith, ◌≡◌, ◌+◌, List, None, length, take, ap, sym, subst, ◌∙◌}
 use Rattle.std.specs.Prelude.{slice_index_or}
 use Rattle.std.proofs.lemmas.List.{take_more}
 use Rattle.access_slots.specs.Access.{record_of}
-use Rattle.access_slots.specs.Declaration.{first_bad, names_argument}
+use Rattle.access_slots.specs.Declaration.{first_bad}
 use Rattle.access_slots.specs.Locks.{AreLocksOf, Rising, added}
 use Rattle.access_slots.specs.declared.slot.Slot.{Slot}
 use Rattle.access_slots.specs.declared.slot.Record.{Record}
-use Rattle.access_slots.specs.declared.lock.Lock.{Lock}
 use Rattle.access_slots.proofs.Locking.{named_with, declared, locks_more, rising_added, one_more}
 use Rattle.access_slots.proofs.decl.Decl.resolve.Goals as goal
 

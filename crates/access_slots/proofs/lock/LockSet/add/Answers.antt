@@ -1,4 +1,4 @@
-use Rattle.std.proofs.Common.{subst, sym, List}
+use Rattle.std.proofs.Common.{subst, sym}
 use Rattle.access_slots.specs.Locks.{Rising}
 use Rattle.access_slots.proofs.Locking.{rising_added}
 use Rattle.access_slots.proofs.lock.LockSet.add.Goals as goal
