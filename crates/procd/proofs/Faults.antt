@@ -5,7 +5,7 @@ use Rattle.std.specs.Borrow.{Bor}
 use Rattle.procd.specs.Said.{IsFlag, Runs, RunsInput}
 use Rattle.procd.specs.Execution.{status_of}
 use Rattle.procd.specs.Hex.{Hex, hex_of}
-use Rattle.procd.specs.Task.{Wish, Exec, Asm, Dis}
+use Rattle.procd.specs.Task.{Wish, Exec, Asm, Dis, Verify}
 use Rattle.procd.specs.Report.{IsReport, IsAssembly, IsDisassembly, IsDisassemblyOf, IsHexDisassembly}
 use Rattle.bpf_asm.specs.Lines.{assembled}
 use Rattle.bpf_asm.specs.declared.assemble.AsmFault.{AsmFault}
@@ -76,6 +76,7 @@ report_low : (wish : Wish) (text : List ℕ) (status : ℕ) (lines : List ℕ) �
 report_low (Exec raw numbers) text status lines h = omega (arith, h.2, execution_low h.0)
 report_low Asm text status lines h = assembly_low (assembled text) status lines h
 report_low (Dis raw) text status lines h = disassembly_low raw text status lines h
+report_low Verify text status lines h = h
 
 not_three : (result : ℕ) → result ≡ 3 → result ≡ 2 → ⊥
 not_three result three two = omega (arith, three, two)

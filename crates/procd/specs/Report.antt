@@ -1,5 +1,5 @@
 -- What is printed, and the exit status.
-use Rattle.std.specs.Prelude.{◌≡◌, ℕ, ◌+◌, ◌/◌, ◌%◌, Bool, true, false, ◌==◌, if◌then◌else◌, List, [], ◌∷◌, ◌++◌, Option, Some, None, Result, Ok, Err, codes, decimal}
+use Rattle.std.specs.Prelude.{◌≡◌, ℕ, ◌≤◌, ◌+◌, ◌/◌, ◌%◌, Bool, true, false, ◌==◌, if◌then◌else◌, List, [], ◌∷◌, ◌++◌, Option, Some, None, Result, Ok, Err, codes, decimal}
 use Rattle.std.specs.Char.{digit_char}
 use Rattle.bpf_encoding.specs.Named.{code_named}
 use Rattle.bpf_encoding.specs.Spells.{Spells, fault_in}
@@ -15,7 +15,7 @@ use Rattle.procd.specs.Hex.{Hex, hex_of}
 use Rattle.procd.specs.Execution.{text_execution, lines_of, status_of}
 use Rattle.procd.specs.declared.execute.Execution.{Execution}
 use Rattle.procd.specs.declared.execute.Execution.TheVariants.{NotHex, Code}
-use Rattle.procd.specs.Task.{Wish, Exec, Asm, Dis}
+use Rattle.procd.specs.Task.{Wish, Exec, Asm, Dis, Verify}
 
 -- ---- assembling
 
@@ -68,6 +68,12 @@ abbrev pub IsDisassembly : Bool → List ℕ → ℕ → List ℕ → Type 0
 IsDisassembly true text status lines = IsDisassemblyOf (fault_in text) text status lines
 IsDisassembly false text status lines = IsHexDisassembly (hex_of text) status lines
 
+-- ---- scripts
+
+-- what the lines are of a script isn't defined yet: the status is 0 or 1
+abbrev pub IsVerification : ℕ → Type 0
+IsVerification status = status ≤ 1
+
 -- ---- all commands
 
 abbrev pub IsExecution : Option Execution → ℕ → List ℕ → Type 0
@@ -78,3 +84,4 @@ abbrev pub IsReport : Wish → List ℕ → ℕ → List ℕ → Type 0
 IsReport (Exec raw numbers) text status lines = IsExecution (text_execution raw text numbers) status lines
 IsReport Asm text status lines = IsAssembly (assembled text) status lines
 IsReport (Dis raw) text status lines = IsDisassembly raw text status lines
+IsReport Verify text status lines = IsVerification status

@@ -5,7 +5,7 @@ use Rattle.clap.specs.Words.{App, Row, Rule, Text, all_of, first_of, one_of, new
 use Rattle.clap.specs.declared.builder.ArgAction.TheVariants.{Set, SetTrue, Append}
 use Rattle.std.specs.Str.Parse.{IsNumeral, digits_value, without_leading_plus}
 use Rattle.procd.specs.Report.{IsReport}
-use Rattle.procd.specs.Task.{Wish, Exec, Asm, Dis, command_name}
+use Rattle.procd.specs.Task.{Wish, Exec, Asm, Dis, Verify, command_name}
 
 abbrev pub raw_rule : Rule
 raw_rule = record (new_rule (codes "raw")) { long = Some (codes "raw"); action = Some SetTrue }
@@ -28,9 +28,13 @@ asm_app = with_rule (new_app (codes "asm")) file_rule
 abbrev pub dis_app : App
 dis_app = with_rule (with_rule (new_app (codes "dis")) raw_rule) file_rule
 
+-- verify FILE
+abbrev pub verify_app : App
+verify_app = with_rule (new_app (codes "verify")) file_rule
+
 -- the command line of the program
 unfoldable pub procd_app : App
-procd_app = with_subcommand (with_subcommand (with_subcommand (new_app (codes "procd")) exec_app.top) asm_app.top) dis_app.top
+procd_app = with_subcommand (with_subcommand (with_subcommand (with_subcommand (new_app (codes "procd")) exec_app.top) asm_app.top) dis_app.top) verify_app.top
 
 -- the number that a text says in decimal, and whether it says one of 64 bits
 abbrev pub value_of : Text → ℕ
@@ -57,6 +61,7 @@ abbrev pub SaysWish : List Row → Wish → Type 0
 SaysWish rows (Exec raw numbers) = IsFlag raw (one_of (codes "raw") rows) × SaysNumbers rows numbers
 SaysWish rows Asm = Unit {0}
 SaysWish rows (Dis raw) = IsFlag raw (one_of (codes "raw") rows)
+SaysWish rows Verify = Unit {0}
 
 -- the words are a command line of the program, and say this command with this file
 pub record Says (words : List Text) (file : Text) (wish : Wish) : Type 0 where

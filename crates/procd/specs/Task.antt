@@ -8,13 +8,16 @@ pub data Wish : Type 0 where
   Exec : (raw : Bool) (numbers : List ℕ) → Wish
   Asm : Wish
   Dis : (raw : Bool) → Wish
+  Verify : Wish
 
 abbrev pub command_name : Wish → List ℕ
 command_name (Exec raw numbers) = codes "exec"
 command_name Asm = codes "asm"
 command_name (Dis raw) = codes "dis"
+command_name Verify = codes "verify"
 
 abbrev pub wish_of : Task → Wish
 wish_of (task.Exec raw numbers) = Exec raw numbers.items
 wish_of task.Asm = Asm
 wish_of (task.Dis raw) = Dis raw
+wish_of task.Verify = Verify

@@ -18,7 +18,8 @@ use bpf_encoding::decode::{DecodeFault, decode};
 use bpf_encoding::encode::encode;
 use std::alloc::{AllocError, Global};
 
-fn line_fault_name(fault: LineFault) -> &'static str
+/// A fault of a line, by its code and its name.
+pub fn line_fault_name(fault: LineFault) -> &'static str
     ensures { result.now ≡ line_fault_name fault }
 {
     match fault {

@@ -21,7 +21,8 @@ fn outside_name(which: Outside) -> &'static str
     }
 }
 
-fn violation_name(violation: Violation) -> &'static str
+/// A violation, by its code and its name.
+pub fn violation_name(violation: Violation) -> &'static str
     ensures { result.now ≡ violation_name violation }
 {
     match violation {

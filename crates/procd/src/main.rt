@@ -8,6 +8,8 @@ mod lines;
 mod program;
 mod reading;
 mod report;
+mod script;
+mod verification;
 mod words;
 
 use program::{no_memory, program};
@@ -28,5 +30,7 @@ fn main(rt: HostRuntime) -> ExitCode {
     ExitCode::from(program(&rt, alloc, words.as_slice(), &mut input, &mut out, &mut err))
 }
 
+#[cfg(test)]
+mod script_tests;
 #[cfg(test)]
 mod tests;

@@ -1,14 +1,15 @@
 //! What a command says of the text that was read.
 
-ghost use Rattle.std.specs.Prelude.{◌≡◌, IfOk, IfErr, string_bytes};
+ghost use Rattle.std.specs.Prelude.{◌≡◌, ◌⊎◌, IfOk, IfErr, string_bytes};
 ghost use Rattle.std.specs.Str.{IsUtf8};
 ghost use Rattle.procd.specs.Execution.{text_execution};
 ghost use Rattle.procd.specs.Report.{IsReport, IsExecution};
-ghost use Rattle.procd.specs.Task.{wish_of, Asm};
+ghost use Rattle.procd.specs.Task.{wish_of, Asm, Verify};
 
 use crate::assembly::{assembly, disassembly};
 use crate::execute::execute_text;
 use crate::lines::{lines, status};
+use crate::verification::verification;
 use crate::words::Task;
 use std::alloc::{AllocError, Global};
 
@@ -52,13 +53,17 @@ fn execution(alloc: Global, raw: bool, text: &[u8], numbers: &[u64]) -> Result<R
 /// What the task makes of the text.
 pub fn report_on(alloc: Global, task: &Task, text: &[u8]) -> Result<Report, ReportFault>
     ensures ok { IfOk result (λ r. IsReport (wish_of task.now) text.now r.status (string_bytes r.lines)) }
-    // Only assembly text has to be UTF-8.
-    ensures not_text { IfErr result (λ e. e ≡ ReportFault.NotText → (wish_of task.now ≡ Asm) × ¬ (IsUtf8 text.now)) }
+    // Only assembly text and scripts have to be UTF-8.
+    ensures not_text { IfErr result (λ e. e ≡ ReportFault.NotText → ((wish_of task.now ≡ Asm) ⊎ (wish_of task.now ≡ Verify)) × ¬ (IsUtf8 text.now)) }
 {
     match task {
         Task::Exec { raw, numbers } => Ok(execution(alloc, *raw, text, numbers.as_slice())?),
         Task::Asm => match str::from_utf8(text) {
             Ok(text) => Ok(assembly(alloc, text)?),
+            Err(_) => Err(ReportFault::NotText),
+        },
+        Task::Verify => match str::from_utf8(text) {
+            Ok(text) => Ok(verification(alloc, text)?),
             Err(_) => Err(ReportFault::NotText),
         },
         Task::Dis { raw } => Ok(disassembly(alloc, *raw, text)?),

@@ -6,13 +6,13 @@ use std::test::Fail;
 
 // What a run of the program wrote, and its status.
 #[derive(Drop)]
-struct Ended {
-    out: Vec<u8>,
-    err: Vec<u8>,
-    status: u8,
+pub(crate) struct Ended {
+    pub out: Vec<u8>,
+    pub err: Vec<u8>,
+    pub status: u8,
 }
 
-fn run(rt: &HostRuntime, words: &[&str], mut input: &[u8]) -> Ended {
+pub(crate) fn run(rt: &HostRuntime, words: &[&str], mut input: &[u8]) -> Ended {
     let mut out = Vec::new(rt.alloc());
     let mut err = Vec::new(rt.alloc());
     let status = program(rt, rt.alloc(), words, &mut input, &mut out, &mut err);

@@ -5,7 +5,7 @@ ghost use Rattle.clap.specs.Words.{Row, app_of, rule_of, kind_of, subcommand_of,
 ghost use Rattle.clap.specs.declared.builder.command.Command.TheViews.{out-Command};
 ghost use Rattle.procd.specs.Wanted.{WantsOrNoMemory, IsTaskOrNoMemory, IsNumbersOrNoMemory};
 ghost use Rattle.procd.specs.Task.{Wish, command_name};
-ghost use Rattle.procd.specs.Said.{procd_app, exec_app, asm_app, dis_app, file_rule, raw_rule, Says, SaysWish, SaysNumbers, AllNumbers, value_of};
+ghost use Rattle.procd.specs.Said.{procd_app, exec_app, asm_app, dis_app, verify_app, file_rule, raw_rule, Says, SaysWish, SaysNumbers, AllNumbers, value_of};
 
 use clap::error::ErrorKind;
 use clap::{Arg, ArgAction, ArgMatches, Command, Error};
@@ -21,6 +21,8 @@ pub enum Task {
     Asm,
     /// Disassemble code.
     Dis { raw: bool },
+    /// Verify the procedures of a script.
+    Verify,
 }
 
 /// What the words ask for.
@@ -99,6 +101,17 @@ fn dis_command<'a>(alloc: Global) -> Result<Command<'a>, AllocError>
         .arg(file_arg(alloc, CODE_HELP))
 }
 
+// `verify FILE`
+fn verify_command<'a>(alloc: Global) -> Result<Command<'a>, AllocError>
+    ensures app { IfOk result (λ c. app_of c ≡ verify_app) }
+    ensures local { IfOk result (λ c. (out-Command c).has_globals ≡ false) }
+{
+    Command::new(alloc, "verify").arg(file_arg(
+        alloc,
+        "The script: a path, or - for standard input",
+    ))
+}
+
 // The command line of the program.
 fn procd_command<'a>(alloc: Global) -> Result<Command<'a>, AllocError>
     ensures { IfOk result (λ c. app_of c ≡ procd_app) }
@@ -110,10 +123,14 @@ fn procd_command<'a>(alloc: Global) -> Result<Command<'a>, AllocError>
         "Assemble text, an instruction a line: prints its slots in hex, one a line",
     );
     let dis = dis_command(alloc)?.about("Disassemble code: prints its text, an instruction a line");
+    let verify = verify_command(alloc)?.about(
+        "Verify the procedures of a script: prints `NAME accepted SLOTS` or `NAME V.. slot N` for each",
+    );
     let procd = Command::new(alloc, "procd")
         .subcommand(exec)?
         .subcommand(asm)?
-        .subcommand(dis)?;
+        .subcommand(dis)?
+        .subcommand(verify)?;
     Ok(procd.about("A transaction component that runs verified BPF procedures"))
 }
 
@@ -164,6 +181,7 @@ fn task_of(alloc: Global, name: &str, matches: &ArgMatches) -> Result<Task, Word
         "dis" => Ok(Task::Dis {
             raw: matches.get_flag("raw"),
         }),
+        "verify" => Ok(Task::Verify),
         _ => Err(WordFault::NoCommand),
     }
 }

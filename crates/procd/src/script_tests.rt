@@ -1,0 +1,163 @@
+use crate::tests::run;
+use std::test::Fail;
+
+const VERIFY: [&str; 3] = ["procd", "verify", "-"];
+
+// Scripts, what is printed for their procedures, and the status.
+const VERIFIED: [(&str, &str, u8); 10] = [
+    (
+        "dc 4 100\nproc put 2\nslot write 0 0 $0\n  ldxdw r6, [r1+8]\n  mov r1, 0\n  call 5\n  stxdw [r0+0], r6\n  mov r1, 0\n  call 2\n  exit\nend\nproc get 1\nslot read 0 0 $0\n  mov r1, 0\n  call 1\n  jeq r0, 0, +2\n  mov r0, 0\n  exit\n  mov r0, 1\n  exit\nend\nproc move 3\nslot write 0 0 $0\nslot write 0 0 $1\n  ldxdw r6, [r1+16]\n  mov r1, 0\n  call 1\n  jeq r0, 0, +16\n  mov r7, r0\n  mov r1, 1\n  call 1\n  jeq r0, 0, +12\n  mov r8, r0\n  ldxdw r2, [r7+0]\n  sub r2, r6\n  stxdw [r7+0], r2\n  ldxdw r2, [r8+0]\n  add r2, r6\n  stxdw [r8+0], r2\n  mov r1, 0\n  call 3\n  mov r1, 1\n  call 3\n  exit\n  mov r0, 1\n  exit\nend\n",
+        "put accepted 7\nget accepted 7\nmove accepted 22\n",
+        0,
+    ),
+    (
+        "dc 1 1\nproc a 1\nslot read 0 0 0\nmov r1, 0\ncall 1\nldxdw r1, [r0+0]\nmov r0, 0\nexit\nend\n",
+        "a V10 MaybeNull slot 2\n",
+        1,
+    ),
+    (
+        "dc 1 1\nproc a 1\nslot read 0 0 0\nmov r1, 0\ncall 1\njeq r0, 0, +1\nldxdw r1, [r0+56]\nmov r0, 0\nexit\nend\n",
+        "a accepted 6\n",
+        0,
+    ),
+    (
+        "dc 1 1\nproc a 1\nslot read 0 0 0\nmov r1, 0\ncall 1\njeq r0, 0, +1\nldxdw r1, [r0+57]\nmov r0, 0\nexit\nend\n",
+        "a V8 OutOfBounds slot 3\n",
+        1,
+    ),
+    (
+        "dc 1 1\nproc a 1\nslot read 0 0 0\nmov r1, 0\ncall 1\nmov r6, r0\njeq r0, 0, +1\nldxdw r1, [r6+0]\nmov r0, 0\nexit\nend\n",
+        "a V10 MaybeNull slot 4\n",
+        1,
+    ),
+    (
+        "dc 1 1\nproc a 1\nslot read 0 0 0\nmov r1, 0\ncall 3\nexit\nend\n",
+        "a V13 ModeTooWeak slot 1\n",
+        1,
+    ),
+    (
+        "dc 1 1\nproc a 1\nslot read 0 0 0\nmov r1, 1\ncall 1\nexit\nend\n",
+        "a V12 SlotUnknown slot 1\n",
+        1,
+    ),
+    (
+        "dc 1 1\nproc a 1\nslot read 0 0 0\nmov r1, 0\ncall 1\nmov r0, r1\nexit\nend\n",
+        "a V5 EmptyRegister slot 2\n",
+        1,
+    ),
+    (
+        "\tdc  1 1 ; rows and operations\r\n\nproc a_1 0\nmov r0, 0\nexit\nend\nproc b 0\nexit\nend",
+        "a_1 accepted 2\nb V5 EmptyRegister slot 0\n",
+        1,
+    ),
+    ("dc 1 1\n", "", 0),
+];
+
+#[test]
+fn scripts(rt: HostRuntime) {
+    for (script, want, status) in VERIFIED {
+        let ended = run(&rt, &VERIFY, script.as_bytes());
+        assert_eq!(rt; ended.out.as_slice(), want.as_bytes(), "of {script}");
+        assert_eq!(rt; ended.status, status, "of {script}");
+    }
+}
+
+// Scripts that are refused, at which line and why.
+const MISWRITTEN: [(&str, usize, &str); 35] = [
+    ("", 0, "F9 Order"),
+    ("; nothing\n; at all\n", 2, "F9 Order"),
+    ("proc a 0\n", 1, "F9 Order"),
+    ("dc 4 100\nproc a 0\n  exit\n\n", 4, "F1 BadLine"),
+    ("dc 4\n", 1, "F1 BadLine"),
+    ("dc 4 100 1\n", 1, "F1 BadLine"),
+    ("dc x 1\n", 1, "F2 BadNumber"),
+    ("dc 65537 1\n", 1, "F2 BadNumber"),
+    ("dc 4 1048577\n", 1, "F2 BadNumber"),
+    ("dc +4 1\n", 1, "F2 BadNumber"),
+    ("dc 18446744073709551616 1\n", 1, "F2 BadNumber"),
+    ("foo 1\n", 1, "F1 BadLine"),
+    ("dc 1 1\nproc A 0\n", 2, "F1 BadLine"),
+    (
+        "dc 1 1\nproc abcdefghijklmnopqrstuvwxyz0123456 0\n",
+        2,
+        "F1 BadLine",
+    ),
+    ("dc 1 1\nproc a 256\n", 2, "F2 BadNumber"),
+    (
+        "dc 1 1\nproc a 0\nmov r0, 0\nexit\nend\nproc a 0\n",
+        6,
+        "F3 NameTaken",
+    ),
+    (
+        "dc 1 1\nproc a 9\nmov r0, 0\nexit\nend\n",
+        5,
+        "F5 Decl S1 TooManyArgs",
+    ),
+    (
+        "dc 1 1\nproc a 1\nslot read 0 0 1\nslot write 0 0 $1\nexit\nend\n",
+        6,
+        "F5 Decl S3 NoSuchArg slot 1",
+    ),
+    (
+        "dc 1 1\nproc a 0\nmov r0, 4294967296\n",
+        3,
+        "F6 Asm A4 OutOfRange",
+    ),
+    ("dc 1 1\nproc a 0\nfoo\n", 3, "F6 Asm A1 UnknownWord"),
+    ("dc 1 1\nproc a 0\nend\n", 3, "F6 Asm A8 NoCode"),
+    ("dc 1 1\nproc a 0\nslot read 1 0 1\n", 3, "F8 DcUnknown"),
+    ("dc 1 1\nproc a 0\nslot reed 0 0 1\n", 3, "F1 BadLine"),
+    ("dc 1 1\nproc a 0\nslot read 0 65536 1\n", 3, "F2 BadNumber"),
+    ("dc 1 1\nproc a 0\nslot read 0 0 $256\n", 3, "F2 BadNumber"),
+    (
+        "dc 1 1\nproc a 0\nmov r0, 0\nslot read 0 0 1\n",
+        4,
+        "F9 Order",
+    ),
+    ("dc 1 1\nproc a 0\nend 1\n", 3, "F1 BadLine"),
+    ("dc 1 1\nproc a 0\ndc 1 1\n", 3, "F9 Order"),
+    ("dc 1 1\nproc a 0\nask 1\n", 3, "F1 BadLine"),
+    ("dc 1 1\ncall 1\n", 2, "F1 BadLine"),
+    ("dc 1 1\nmov r0, 0\n", 2, "F9 Order"),
+    ("dc 1 1\nend\n", 2, "F9 Order"),
+    ("dc 1 1\nslot read 0 0 1\n", 2, "F9 Order"),
+    (
+        "dc 1 1\nproc a 0\nmov r0, 0\nexit\nend\ndc 1 1\n",
+        6,
+        "F9 Order",
+    ),
+    (
+        "dc 1 1\ndc 1 1\ndc 1 1\ndc 1 1\ndc 1 1\ndc 1 1\ndc 1 1\ndc 1 1\ndc 1 1\ndc 1 1\ndc 1 1\ndc 1 1\ndc 1 1\ndc 1 1\ndc 1 1\ndc 1 1\ndc 1 1\n",
+        17,
+        "F9 Order",
+    ),
+];
+
+#[test]
+fn miswritten_scripts(rt: HostRuntime) -> Result<(), Fail> {
+    for (script, line, why) in MISWRITTEN {
+        let ended = run(&rt, &VERIFY, script.as_bytes());
+        let want = format!(in rt.alloc(); "refused line {line} {why}\n")?;
+        assert_eq!(rt; ended.out.as_slice(), want.as_bytes(), "of {script}");
+        assert_eq!(rt; ended.status, 1, "of {script}");
+    }
+    Ok(())
+}
+
+// 16 slots are declared, and not 17.
+#[test]
+fn many_slots(rt: HostRuntime) -> Result<(), Fail> {
+    for (count, want) in [
+        (16, "a accepted 2\n"),
+        (17, "refused line 22 F5 Decl S2 TooManySlots\n"),
+    ] {
+        let mut script = String::from_str(rt.alloc(), "dc 1 1\nproc a 0\n")?;
+        for _ in 0..count {
+            script.push_str("slot read 0 0 1\n")?;
+        }
+        script.push_str("mov r0, 0\nexit\nend\n")?;
+        let ended = run(&rt, &VERIFY, script.as_bytes());
+        assert_eq!(rt; ended.out.as_slice(), want.as_bytes());
+    }
+    Ok(())
+}
