@@ -1,3 +1,4 @@
 pub mod Access
 pub mod Declaration
 pub mod Locks
+pub mod Adding

@@ -1,5 +1,5 @@
 -- The locks of a call, and which operations they cover (Lomet, Fekete, Weikum, Zwilling, CIDR 2009).
-use Rattle.std.specs.Prelude.{◌≡◌, slice_get, slice_set, ℕ, Bool, true, false, not, ◌&&◌, ◌||◌, ◌==◌, nat_lt, if◌then◌else◌, List, [], ◌∷◌, Option, Some, None}
+use Rattle.std.specs.Prelude.{◌≡◌, ℕ, Bool, true, false, not, ◌&&◌, ◌||◌, ◌==◌, nat_lt, if◌then◌else◌, List, [], ◌∷◌, Option, Some, None}
 use Rattle.access_slots.specs.declared.slot.Record.{Record}
 use Rattle.access_slots.specs.declared.slot.Mode.{Mode}
 use Rattle.access_slots.specs.declared.slot.Mode.TheVariants as mode
@@ -79,28 +79,3 @@ allows (Some mode.Write) reads = true
 -- the operation's record is locked, and in Write unless it reads
 abbrev pub covered : List Lock → Op → Bool
 covered locks o = allows (mode_in locks (target o)) (is_read o)
-
--- ---- a lock more
-
-abbrev pub lock : Record → Mode → Lock
-lock r m = record { «record» = r; mode = m }
-
--- these locks and one more, or the greater mode where the record is locked
-abbrev pub added : Record → Mode → List Lock → List Lock
-added r m [] = lock r m ∷ []
-added r m (l ∷ locks) =
-    if record_less l.«record» r then l ∷ added r m locks else
-    if record_eq l.«record» r then lock l.«record» (greater l.mode m) ∷ locks else lock r m ∷ l ∷ locks
-
--- whether this lock, where there is one, is on the record
-abbrev pub locked_at : Option Lock → Record → Bool
-locked_at None r = false
-locked_at (Some l) r = record_eq l.«record» r
-
--- the lock at this place with the greater mode
-abbrev pub raised_by : Option Lock → List Lock → ℕ → Mode → List Lock
-raised_by None locks place m = locks
-raised_by (Some l) locks place m = slice_set locks place (lock l.«record» (greater l.mode m))
-
-abbrev pub raised : List Lock → ℕ → Mode → List Lock
-raised locks place m = raised_by (slice_get locks place) locks place m

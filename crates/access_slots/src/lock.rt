@@ -2,7 +2,8 @@
 
 ghost use Rattle.std.specs.Prelude.{◌≡◌, ◌<◌, length, slice_get};
 ghost use Rattle.std.specs.List.{prefix_len};
-ghost use Rattle.access_slots.specs.Locks.{record_eq, record_less, greater, target, is_read, conflict, mode_in, covered, added, locked_at, raised};
+ghost use Rattle.access_slots.specs.Adding.{added, locked_at, raised};
+ghost use Rattle.access_slots.specs.Locks.{record_eq, record_less, greater, target, is_read, conflict, mode_in, covered};
 
 use crate::op::Op;
 use crate::slot::{Mode, Record};
@@ -135,7 +136,8 @@ fn add_to(locks: &mut ArrayVec<Lock, 16>, record: Record, mode: Mode)
 
 impl LockSet {
     ghost use Rattle.std.specs.Prelude.{◌≡◌, ◌<◌, ◌≤◌, [], length};
-    ghost use Rattle.access_slots.specs.Locks.{covered, Rising, added};
+    ghost use Rattle.access_slots.specs.Adding.{added};
+    ghost use Rattle.access_slots.specs.Locks.{covered, Rising};
 
     /// No lock.
     pub(crate) fn new() -> LockSet
