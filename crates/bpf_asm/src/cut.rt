@@ -5,8 +5,8 @@ ghost use Rattle.std.specs.List.{before_first};
 ghost use Rattle.bpf_asm.specs.Cutting.{is_blank, trim, word_of, rest_of, operand_texts};
 ghost use Rattle.bpf_asm.specs.Texts.{AreOperands};
 
-// Spaces and tabs alone; a form feed is part of a word.
-fn is_blank(byte: u8) -> bool
+/// Whether it is a space or a tab; a form feed is part of a word.
+pub fn is_blank(byte: u8) -> bool
     ensures { result ≡ is_blank byte }
 {
     byte == b' ' || byte == b'\t'

@@ -5,7 +5,7 @@
 #![tactic(auto)]
 
 pub mod assemble;
-mod cut;
+pub mod cut;
 pub mod disassemble;
 pub mod line;
 mod mnemonic;

@@ -2,6 +2,7 @@
 
 use access_slots::decl::DeclFault;
 use access_slots::slot::{Key, Mode, Slot};
+use bpf_asm::cut::{before, is_blank};
 use bpf_asm::line::LineFault;
 use std::alloc::{AllocError, AllocFailed};
 
@@ -81,22 +82,10 @@ struct Words<'a> {
     count: usize,
 }
 
-fn is_blank(byte: u8) -> bool {
-    byte == b' ' || byte == b'\t'
-}
-
-// What stands before a comment.
-fn before_comment(line: &[u8]) -> &[u8] {
-    match line.iter().position(|&b| b == b';') {
-        Some(end) => &line[..end],
-        None => line,
-    }
-}
-
 fn words_of(line: &[u8]) -> Words<'_> {
     let mut words: [&[u8]; 5] = [&[]; 5];
     let mut count = 0;
-    'parts: for part in before_comment(line).split(|&b| is_blank(b)) {
+    'parts: for part in before(line, b';').split(|&b| is_blank(b)) {
         if part.is_empty() {
             continue;
         }
@@ -139,17 +128,11 @@ fn number_to(word: &[u8], most: u64) -> Result<(), ScriptFault> {
 }
 
 fn small_number(word: &[u8]) -> Result<u8, ScriptFault> {
-    match u8::try_from(number(word)?) {
-        Ok(n) => Ok(n),
-        Err(_) => Err(ScriptFault::BadNumber),
-    }
+    u8::try_from(number(word)?).map_err(|_| ScriptFault::BadNumber)
 }
 
 fn short_number(word: &[u8]) -> Result<u16, ScriptFault> {
-    match u16::try_from(number(word)?) {
-        Ok(n) => Ok(n),
-        Err(_) => Err(ScriptFault::BadNumber),
-    }
+    u16::try_from(number(word)?).map_err(|_| ScriptFault::BadNumber)
 }
 
 fn is_name_byte(byte: u8) -> bool {
