@@ -61,6 +61,16 @@ sign_of_the_dividend = refl
 narrow_sign_shifted : outcome_of (bytes_of_slots (0xfffffff8000000b4 ∷ 0x1000000c4 ∷ 0x95 ∷ [])) [] ≡ Some (4294967292, 3)
 narrow_sign_shifted = refl
 
+-- at 32 bits a count of 33 is 1: mov r0, 1; lsh32 r0, 33; then mov32 r0, -8 with rsh32, with arsh32
+narrow_left_by_33 : outcome_of (bytes_of_slots (0x1000000b7 ∷ 0x2100000064 ∷ 0x95 ∷ [])) [] ≡ Some (2, 3)
+narrow_left_by_33 = refl
+
+narrow_right_by_33 : outcome_of (bytes_of_slots (0xfffffff8000000b4 ∷ 0x2100000074 ∷ 0x95 ∷ [])) [] ≡ Some (2147483644, 3)
+narrow_right_by_33 = refl
+
+narrow_signed_right_by_33 : outcome_of (bytes_of_slots (0xfffffff8000000b4 ∷ 0x21000000c4 ∷ 0x95 ∷ [])) [] ≡ Some (4294967292, 3)
+narrow_signed_right_by_33 = refl
+
 -- mov r0, -1; jslt32 r0, 0, +1; mov r0, 9; exit
 narrow_signed_jump : outcome_of (bytes_of_slots (0xffffffff000000b7 ∷ 0x100c6 ∷ 0x9000000b7 ∷ 0x95 ∷ [])) [] ≡ Some (18446744073709551615, 3)
 narrow_signed_jump = refl
