@@ -1,11 +1,12 @@
 #!/bin/sh
-# failing_allocations.sh PROCD FILE: `procd exec FILE` once for each allocation that can fail.
+# failing_allocations.sh PROCD WORD..: `procd WORD..` once for each allocation that can fail, as
+# in `failing_allocations.sh crates/procd/out/procd exec code.hex`.
 #
 # Each such run has to end with status 4, `memory` on standard error and nothing on standard
 # output, or, where the program does without that memory, as the run with all of it. Needs a C compiler and a dynamic linker that reads LD_PRELOAD.
 set -e
 procd=$1
-file=$2
+shift
 work=$(mktemp -d)
 trap 'rm -r "$work"' EXIT
 cat > "$work/failing.c" <<'C'
@@ -35,13 +36,13 @@ __attribute__((destructor)) static void count(void) {
 }
 C
 cc -shared -fPIC -o "$work/failing.so" "$work/failing.c" -ldl
-COUNT_TO="$work/count" LD_PRELOAD="$work/failing.so" "$procd" exec "$file" > "$work/whole"
+COUNT_TO="$work/count" LD_PRELOAD="$work/failing.so" "$procd" "$@" > "$work/whole" || [ $? -eq 1 ]
 count=$(cat "$work/count")
 refused=0
 for at in $(seq "$count"); do
     status=0
-    FAIL_AT=$at LD_PRELOAD="$work/failing.so" "$procd" exec "$file" > "$work/out" 2> "$work/err" || status=$?
-    if [ "$status" -eq 0 ] && cmp -s "$work/out" "$work/whole"; then
+    FAIL_AT=$at LD_PRELOAD="$work/failing.so" "$procd" "$@" > "$work/out" 2> "$work/err" || status=$?
+    if [ "$status" -le 1 ] && cmp -s "$work/out" "$work/whole"; then
         continue
     fi
     if [ "$status" -ne 4 ] || [ -s "$work/out" ] || [ "$(cat "$work/err")" != memory ]; then
