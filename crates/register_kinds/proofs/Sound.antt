@@ -1,8 +1,9 @@
 -- A step from a configuration that fits the kinds is no trap, and fits the kinds behind it.
-use Rattle.std.proofs.Common.{◌≡◌, ℕ, ◌+◌, ◌<◌, Bool, true, false, Option, Some, None, Ok, List, length, eqb, cond, refl, subst, sym, ap, ◌∙◌, inl, inr, arith}
-use Rattle.std.specs.Prelude.{ℤ, pos, slice_set}
+use Rattle.std.proofs.Common.{◌≡◌, ℕ, ◌+◌, ◌<◌, Bool, true, false, Option, Some, None, Ok, List, length, eqb, cond, refl, subst, sym, ap, ◌∙◌, inl, inr, arith, Result, Err}
+use Rattle.std.specs.Prelude.{ℤ, pos, slice_set, IfOk}
 use Rattle.std.specs.Int.{Width, byte_len, to_le_bytes}
 use Rattle.std.proofs.lemmas.List.{length-set}
+use Rattle.access_slots.specs.Declaration.{Declaration}
 use Rattle.bpf_encoding.specs.Spelling.{number_of}
 use Rattle.bpf_encoding.specs.Reading.{is_64}
 use Rattle.bpf_encoding.specs.declared.insn.Register.{Register}
@@ -16,6 +17,7 @@ use Rattle.semantics.specs.Step.{Config, Cause, Step, Next, Trap, EmptyRead, Wro
 use Rattle.semantics.specs.Instruction.{value_of, result_of, extension_of, order_of, is_taken, size_width, signed_size_width, load_step, instruction_step}
 use Rattle.register_kinds.specs.declared.kind.Kind.{Kind}
 use Rattle.register_kinds.specs.declared.kind.Kind.TheVariants.{Number, Const}
+use Rattle.register_kinds.specs.declared.kind.Violation.{Violation}
 use Rattle.register_kinds.specs.declared.kind.Violation.TheVariants.{EmptyRegister, WritesR10, PointerReturned}
 use Rattle.register_kinds.specs.declared.kinds.Kinds.{Kinds}
 use Rattle.register_kinds.specs.declared.kinds.Ways.{Ways}
@@ -24,7 +26,7 @@ use Rattle.register_kinds.specs.Computed.{source_kind, alu_kind}
 use Rattle.register_kinds.specs.Access.{access}
 use Rattle.register_kinds.specs.Transfer.{is_left_present, is_writable, falls, written_kinds, converted_ways, filled_kinds, loaded_kinds, stored_kinds, null_test, branch_ways, transfer_of}
 use Rattle.register_kinds.specs.Arriving.{next_place, jump_offset, target_by}
-use Rattle.register_kinds.specs.Fitting.{Fits, AllFit, IsSetting, IsStanding, IsSound, Lands}
+use Rattle.register_kinds.specs.Fitting.{Fits, AllFit, IsSetting, IsStanding, IsSound, KeepsKinds, Lands}
 use Rattle.register_kinds.proofs.Memory.{IsWritten}
 use Rattle.register_kinds.proofs.Values.{alu_fits}
 use Rattle.register_kinds.proofs.Accesses.{loadable, storable}
@@ -156,3 +158,8 @@ step_sound s ks c (Call helper) ways is all stands lands e = call_sound s is ks 
 step_sound s ks c Exit ways is all stands lands e =
     let p = check_ok (is_present (kind_at ks 0)) EmptyRegister (check (is_plain (kind_at ks 0)) PointerReturned (ok (record { next = None; jump = None }))) ways e in
     need_is (IsSound s c.place c.taken Exit ways) EmptyRead (register c 0) _ (has_register s ks c all 0 p.0) (λ v h. refl)
+
+-- the same of an answer that is the table's
+pub keeps_kinds : (decl : Declaration) (i : Insn) (ks : Kinds) (r : Result Ways Violation) → r ≡ transfer_of decl i ks → IfOk r (KeepsKinds decl i ks)
+keeps_kinds decl i ks (Ok ways) e = λ s c same is all stands lands. step_sound s ks c i ways is all stands lands (ap (λ (d : Declaration). transfer_of d i ks) same ∙ sym e)
+keeps_kinds decl i ks (Err v) e = tt

@@ -2,17 +2,19 @@
 use Rattle.std.specs.Prelude.{◌≡◌, ℕ, ◌+◌, ◌*◌, ◌<◌, ◌≤◌, ◌^◌, ℤ, pos, ◌+ℤ◌, ◌⊎◌, Bool, true, false, List, ◌∷◌, length, map, take, Option, Some, None, IsSome, slice_get}
 use Rattle.std.specs.List.{slice_index_or}
 use Rattle.access_slots.specs.Access.{fits, is_no_room}
+use Rattle.access_slots.specs.Declaration.{Declaration}
 use Rattle.access_slots.specs.declared.op.Said.{Said}
 use Rattle.bpf_encoding.specs.declared.insn.Insn.{Insn}
 use Rattle.semantics.specs.Memory.{Region, Memory}
 use Rattle.semantics.specs.Step.{Config, Step, Next, Ask, Done, Trap, Setting, place_of, address, buffer_base}
 use Rattle.semantics.specs.Reach.{IsLayout, IsBySlot, answered}
+use Rattle.semantics.specs.Instruction.{instruction_step}
 use Rattle.register_kinds.specs.declared.kind.Kind.{Kind}
 use Rattle.register_kinds.specs.declared.kind.Kind.TheVariants.{Empty, Number, Const, Stack, Args, Buffer, MaybeBuffer}
 use Rattle.register_kinds.specs.declared.kinds.Kinds.{Kinds}
 use Rattle.register_kinds.specs.declared.kinds.Ways.{Ways}
 use Rattle.register_kinds.specs.Kinds.{kind_at}
-use Rattle.register_kinds.specs.Arriving.{next_place, jump_place}
+use Rattle.register_kinds.specs.Arriving.{next_place, jump_offset, jump_place}
 
 -- ---- registers
 
@@ -95,3 +97,8 @@ IsSound s at taken i ways (Trap cause) = ⊥
 abbrev pub Lands : ℕ → Option ℤ → Type 0
 Lands at None = Unit {0}
 Lands at (Some offset) = (to : ℕ) × (place_of (pos (at + 1) +ℤ offset) ≡ Some to)
+
+-- with each layout and arguments of this declaration, a step of the instruction from what fits these kinds is sound
+abbrev pub KeepsKinds : Declaration → Insn → Kinds → Ways → Type 0
+KeepsKinds decl i ks ways =
+    (s : Setting) (c : Config) → s.program.decl ≡ decl → IsSetting s → AllFit s ks c.registers → IsStanding s c → Lands c.place (jump_offset i) → IsSound s c.place c.taken i ways (instruction_step s c i)

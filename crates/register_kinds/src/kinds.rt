@@ -2,6 +2,7 @@
 
 ghost use Rattle.std.specs.Prelude.{◌≡◌};
 ghost use Rattle.bpf_encoding.specs.Spelling.{number_of};
+ghost use Rattle.register_kinds.specs.Fitting.{IsWeaker};
 ghost use Rattle.register_kinds.specs.Kinds.{entry_kinds, kind_at, with_kind, join_kinds, after_call};
 
 use crate::kind::Kind;
@@ -65,7 +66,9 @@ impl Kinds {
 
     /// What is known where two ways meet, register by register.
     pub fn join(&self, other: &Kinds) -> Kinds
-        ensures { result ≡ join_kinds self.now other.now }
+        ensures value { result ≡ join_kinds self.now other.now }
+        // What fits either fits the join.
+        ensures weaker { IsWeaker self.now result × IsWeaker other.now result }
     {
         let mut registers = self.registers;
         for r in 0..11 {

@@ -1,6 +1,6 @@
 //! What an instruction does to the kinds.
 
-ghost use Rattle.std.specs.Prelude.{◌≡◌, ◌%◌, ◌^◌, ◌+ℤ◌, Ok, Some, None, slice_get};
+ghost use Rattle.std.specs.Prelude.{◌≡◌, IfOk, ◌%◌, ◌^◌, ◌+ℤ◌, Ok, Some, None, slice_get};
 ghost use Rattle.bpf_encoding.specs.Spelling.{number_of};
 ghost use Rattle.std.specs.Int.{byte_len};
 ghost use Rattle.semantics.specs.Instruction.{size_width, signed_size_width};
@@ -8,6 +8,7 @@ ghost use Rattle.register_kinds.specs.Kinds.{kind_at, check, refuse, is_present}
 ghost use Rattle.register_kinds.specs.Computed.{source_kind, alu_kind};
 ghost use Rattle.register_kinds.specs.Access.{is_within, bounds, access};
 ghost use Rattle.register_kinds.specs.Calls.{is_helper, writes_by, suffices, answer_kind, called_at, called_slot};
+ghost use Rattle.register_kinds.specs.Fitting.{KeepsKinds};
 ghost use Rattle.register_kinds.specs.Transfer.{is_left_present, is_writable, written_kinds, alu_ways, converted_ways, filled_kinds, loaded_kinds, stored_kinds, stored_register_kinds, null_test, branch_ways, compared_ways, called_ways, exit_ways, transfer_of};
 
 use crate::kind::{Kind, Violation};
@@ -370,8 +371,11 @@ fn constant(value: u64) -> Kind
 }
 
 /// The kinds at the next slot and at the jump's target, or what the instruction may not do.
+#[tactic(auto, using(crate::proofs::Sound::keeps_kinds))]
 pub fn transfer(insn: &Insn, kinds: &Kinds, decl: &Decl) -> Result<Ways, Violation>
-    ensures { result ≡ transfer_of decl.now insn.now kinds.now }
+    ensures value { result ≡ transfer_of decl.now insn.now kinds.now }
+    // What fits the kinds doesn't trap, and fits the kinds of the way that it takes.
+    ensures sound { IfOk result (KeepsKinds decl.now insn.now kinds.now) }
 {
     match *insn {
         Insn::Alu(width, operation, dst, source) => alu(kinds, width, operation, dst, source),

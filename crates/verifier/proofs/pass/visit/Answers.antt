@@ -19,7 +19,7 @@ returns-clause-arrived c = λ none.
     let first : length c.flow.new.table ≡ length c.args.table.now = search rules in
     let second : length c.flow-2.new.table ≡ length c.flow.new.table = search rules in
     let next = ap (λ (n : ℕ). at + n) c.slots.ensures.value ∙ next_is at i in
-    let is = sym c.transfer.ensures ∙ c.in-Ok.is in
+    let is = sym c.transfer.ensures.value ∙ c.in-Ok.is in
     arrived_on c.args.decl.now c.args.code.now at c.args.table.now c.flow-2.new.table (Some (place.Insn i)) (Some ks) c.requires.within here c.in-Some.is c.requires.arrived (second ∙ first) (λ k lt.
     let lt1 : k < length c.args.table.now = omega (arith, c.requires.arrived.long) in
     let lt2 : k < length c.flow.new.table = omega (arith, first) in

@@ -1,5 +1,7 @@
-use Rattle.std.proofs.Common.{◌≡◌, ◌≢◌, ◌<◌, length, arith, below_more, get_or-set_same, get_or-set_other, ◌∙◌, rules}
+use Rattle.std.proofs.Common.{◌≡◌, ◌≢◌, ◌<◌, length, arith, below_more, get_or-set_same, get_or-set_other, ◌∙◌, sym, subst, rules}
 use Rattle.std.proofs.lemmas.List.{length-set}
+use Rattle.register_kinds.specs.Fitting.{IsWeaker}
+use Rattle.register_kinds.proofs.Joins.{weaker_left, weaker_right}
 use Rattle.register_kinds.proofs.Rows.{joined_is}
 use Rattle.register_kinds.proofs.kinds.Kinds.join.Goals as goal
 
@@ -12,8 +14,15 @@ loop-r-preserved c = record {
       (let lt : c.loop-r.r < length c.loop-r.registers = omega (arith, c.loop-r.invariant.long) in rw get_or-set_same c.join.ensures);
 }
 
-pub returns : goal.returns
-returns c =
+pub returns-clause-value : goal.returns-clause-value
+returns-clause-value c =
     let la : length c.args.self.now.registers ≡ 11 = search rules in
     let lb : length c.args.other.now.registers ≡ 11 = search rules in
     joined_is c.args.self.now c.args.other.now (record { registers = c.loop-r.registers }) la lb c.loop-r.invariant.long (λ k lt. c.loop-r.invariant.done k (omega arith))
+
+pub returns-clause-weaker : goal.returns-clause-weaker
+returns-clause-weaker c =
+    let a = c.args.self.now in
+    let b = c.args.other.now in
+    let is = sym (returns-clause-value c) in
+    (subst (IsWeaker a) is (weaker_left a b), subst (IsWeaker b) is (weaker_right a b))
