@@ -91,11 +91,11 @@ abbrev pub after : Option Mode → Mode → Mode
 after None m = m
 after (Some n) m = greater n m
 
-rising_lower : (a b : Record) (locks : List Lock) → record_less a b ≡ true → RisingFrom b locks → RisingFrom a locks
+pub rising_lower : (a b : Record) (locks : List Lock) → record_less a b ≡ true → RisingFrom b locks → RisingFrom a locks
 rising_lower a b [] less h = tt
 rising_lower a b (l ∷ locks) less h = (less_trans a b l.«record» less h.0, h.1)
 
-none_above : (r : Record) (locks : List Lock) → RisingFrom r locks → mode_in locks r ≡ None
+pub none_above : (r : Record) (locks : List Lock) → RisingFrom r locks → mode_in locks r ≡ None
 none_above r [] h = refl
 none_above r (l ∷ locks) h =
     cond-false _ _ _ (eq_turned l.«record» r ∙ less_not_eq r l.«record» h.0) ∙ none_above r locks (rising_lower r l.«record» locks h.0 h.1)
@@ -110,7 +110,7 @@ same_choice false false r m l locks rest less eq h later =
     let gone = none_above r (l ∷ locks) (less_else l.«record» r less eq, h) in
     cond-true _ _ _ (eq_same r) ∙ ap (λ (o : Option Mode). Some (after o m)) (sym gone)
 
-rising_rest : (l : Lock) (locks : List Lock) → RisingFrom l.«record» locks → Rising locks
+pub rising_rest : (l : Lock) (locks : List Lock) → RisingFrom l.«record» locks → Rising locks
 rising_rest l [] h = tt
 rising_rest l (k ∷ locks) h = h.1
 

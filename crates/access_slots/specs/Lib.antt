@@ -1,4 +1,5 @@
 pub mod Access
 pub mod Declaration
 pub mod Locks
+pub mod Held
 pub mod Adding

@@ -1,6 +1,6 @@
 //! The locks of a call.
 
-ghost use Rattle.std.specs.Prelude.{◌≡◌, ◌<◌, length, slice_get};
+ghost use Rattle.std.specs.Prelude.{◌≡◌, ◌<◌, ◌≤◌, length, slice_get};
 ghost use Rattle.std.specs.List.{prefix_len};
 ghost use Rattle.access_slots.specs.Adding.{added, locked_at, raised};
 ghost use Rattle.access_slots.specs.Locks.{record_eq, record_less, greater, target, is_read, conflict, mode_in, covered};
@@ -134,8 +134,19 @@ fn add_to(locks: &mut ArrayVec<Lock, 16>, record: Record, mode: Mode)
     }
 }
 
+fn copy_of(locks: &[Lock]) -> ArrayVec<Lock, 16>
+    requires { length locks.now ≤ 16 }
+    ensures { result.items ≡ locks.now }
+{
+    let mut copy = ArrayVec::new();
+    'locks: for lock in locks {
+        copy.push(*lock);
+    }
+    copy
+}
+
 impl LockSet {
-    ghost use Rattle.std.specs.Prelude.{◌≡◌, ◌<◌, ◌≤◌, [], length};
+    ghost use Rattle.std.specs.Prelude.{◌≡◌, ◌↔◌, ◌<◌, ◌≤◌, true, [], length};
     ghost use Rattle.access_slots.specs.Adding.{added};
     ghost use Rattle.access_slots.specs.Locks.{covered, Rising};
 
@@ -163,6 +174,22 @@ impl LockSet {
         ensures few { length self.now ≤ 16 }
     {
         self.locks.as_slice()
+    }
+
+    /// These locks once more. It takes no memory.
+    pub fn copied(&self) -> LockSet
+        ensures { result ≡ self.now }
+    {
+        LockSet {
+            locks: copy_of(self.locks.as_slice()),
+        }
+    }
+
+    /// Whether these are the very locks of the other set.
+    pub fn is_same(&self, other: &LockSet) -> bool
+        ensures { (result ≡ true) ↔ (self.now ≡ other.now) }
+    {
+        self.locks.as_slice() == other.locks.as_slice()
     }
 
     /// Whether the operation's record is locked, and in Write unless it reads.

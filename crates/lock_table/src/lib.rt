@@ -1,0 +1,6 @@
+//! Which transaction holds which locks, and whether a call's locks can be granted.
+#![tactic(auto)]
+
+pub mod table;
+#[cfg(test)]
+mod tests;
