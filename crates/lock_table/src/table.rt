@@ -1,6 +1,7 @@
 //! The table of locks.
 
-ghost use Rattle.std.specs.Prelude.{◌≡◌, ◌↔◌, ◌+◌, ◌≤◌, ◌++◌, Some, None, true, length, IfErr, IfSome, IfNone, OnErr, OnOk, vec_len, vec_capacity};
+ghost use Rattle.std.specs.Prelude.{ℕ, ◌≡◌, ◌==◌, false, ◌↔◌, ◌+◌, ◌≤◌, ◌++◌, Some, None, true, length, IfErr, IfSome, IfNone, OnErr, OnOk, vec_len, vec_capacity};
+ghost use Rattle.access_slots.specs.declared.slot.Record.{Record};
 ghost use Rattle.access_slots.specs.Locks.{mode_in};
 ghost use Rattle.access_slots.specs.Held.{Compatible, IsFirstInTheWay};
 ghost use Rattle.lock_table.specs.Facts.{held_by, nobody, granted, released, AreHeld, HoldsNothing};
@@ -98,6 +99,7 @@ impl LockTable {
         requires nothing { HoldsNothing (held_by self.old.claims) txn }
         ensures compatible { OnOk result (Compatible (held_by self.old.claims) (mode_in set.now)) }
         ensures held { OnOk result (AreHeld self.new.claims (granted (held_by self.old.claims) txn (mode_in set.now))) }
+        ensures others { (t : ℕ) (r : Record) → (t == txn) ≡ false → held_by self.new.claims t r ≡ held_by self.old.claims t r }
         ensures spent { OnOk result (self.new.reserved ≡ None) }
         ensures err { OnErr result (self.new ≡ self.old) }
         ensures busy { IfErr result (λ b. IsFirstInTheWay (held_by self.old.claims) (mode_in set.now) b.name b.holder) }

@@ -1,5 +1,5 @@
 use crate::table::{Busy, LockTable};
-use access_slots::decl::Decl;
+use access_slots::decl::{Decl, DeclFault};
 use access_slots::lock::LockSet;
 use access_slots::slot::{Key, Mode, Record, Slot};
 use std::test::Fail;
@@ -13,11 +13,12 @@ fn slot(mode: Mode, key: u64) -> Slot {
     }
 }
 
-fn set(slots: &[Slot]) -> LockSet {
-    match Decl::new(0, slots) {
-        Ok(decl) => decl.resolve(&[]),
-        Err(_) => panic!("no declaration"),
+fn set(slots: &[Slot]) -> Result<LockSet, DeclFault> {
+    let decl = Decl::new(0, slots)?;
+    if decl.args() != 0 {
+        return Err(DeclFault::TooManyArgs);
     }
+    Ok(decl.resolve(&[]))
 }
 
 fn busy(key: u64, holder: u64) -> Busy {
@@ -34,9 +35,9 @@ fn busy(key: u64, holder: u64) -> Busy {
 // Two readers, a writer of another record, and a set that waits for all of them.
 #[test]
 fn the_least_record_and_its_least_holder(rt: HostRuntime) -> Result<(), Fail> {
-    let reader = set(&[slot(Mode::Read, 5)]);
-    let writer = set(&[slot(Mode::Write, 4)]);
-    let both = set(&[slot(Mode::Write, 4), slot(Mode::Write, 5)]);
+    let reader = set(&[slot(Mode::Read, 5)])?;
+    let writer = set(&[slot(Mode::Write, 4)])?;
+    let both = set(&[slot(Mode::Write, 4), slot(Mode::Write, 5)])?;
     let mut table = LockTable::new(rt.alloc());
     table.reserve(&reader)?;
     assert!(rt; table.ready(&reader));

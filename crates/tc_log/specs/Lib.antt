@@ -1,3 +1,4 @@
 pub mod History
 pub mod Printed
 pub mod Laid
+pub mod Reading

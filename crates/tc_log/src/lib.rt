@@ -4,5 +4,6 @@
 pub mod event;
 pub mod log;
 mod print;
+pub mod read;
 #[cfg(test)]
 mod tests;

@@ -32,6 +32,13 @@ impl Log {
         }
     }
 
+    /// These events, the oldest first.
+    pub(crate) fn from_events(events: Vec<Event>) -> Log
+        ensures { result.events ≡ reverse events.items }
+    {
+        Log { events }
+    }
+
     /// How many events there are.
     pub fn len(&self) -> usize
         ensures { result ≡ length self.now.events }

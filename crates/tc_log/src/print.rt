@@ -128,13 +128,12 @@ fn cells_of(event: &Event) -> Option<Cells<'_>>
     }
 }
 
+#[tactic(auto, using(crate::proofs::Again::first_zeros))]
 fn write_zeros(out: &mut Vec<u8>, count: usize) -> Result<(), AllocError>
+    requires { count ≤ 96 }
     ensures { OnOk result (out.new.items ≡ out.old.items ++ zeros count) }
 {
-    'zeros: for _ in 0..count {
-        out.push(0)?;
-    }
-    Ok(())
+    out.extend_from_slice(&[0; 96][..count])
 }
 
 // Eight bytes for each argument, and zeros behind them.
@@ -190,7 +189,8 @@ fn write_cells(out: &mut Vec<u8>, cells: &Cells) -> Result<(), AllocError>
     write_body(out, &cells.body)
 }
 
-fn write_event(out: &mut Vec<u8>, event: &Event) -> Result<(), AllocError>
+// One event's 96 bytes.
+pub(crate) fn write_event(out: &mut Vec<u8>, event: &Event) -> Result<(), AllocError>
     ensures { OnOk result (out.new.items ≡ out.old.items ++ printed event.now) }
 {
     match cells_of(event) {
@@ -216,7 +216,7 @@ impl Log {
 fn print_events(alloc: Global, events: &[Event]) -> Result<Vec<u8>, AllocError>
     ensures { IfOk result (λ bytes. bytes.items ≡ flat_map printed events.now) }
 {
-    let mut out = Vec::new(alloc);
+    let mut out = Vec::with_capacity(alloc, events.len().saturating_mul(96))?;
     'events: for event in events {
         write_event(&mut out, event)?;
     }

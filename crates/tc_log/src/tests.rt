@@ -1,5 +1,6 @@
 use crate::event::{Args, Event, Outcome};
 use crate::log::Log;
+use crate::read::LogFault;
 use access_slots::op::{Op, Said};
 use access_slots::slot::{Record, Value};
 use std::test::Fail;
@@ -71,4 +72,77 @@ fn events_in_order(rt: HostRuntime) -> Result<(), Fail> {
     want[208] = 2;
     assert_eq!(rt; log.print(rt.alloc())?.as_slice(), want.as_slice());
     Ok(())
+}
+
+// A call of procedure 0 by transaction 1 with the arguments 5 and 100.
+fn call() -> [u8; 96] {
+    let mut record = [0u8; 96];
+    record[0] = 1;
+    record[1] = 2;
+    record[8] = 1;
+    record[32] = 5;
+    record[40] = 100;
+    record
+}
+
+#[test]
+fn a_call_is_read(rt: HostRuntime) -> Result<(), Fail> {
+    let log = Log::read(rt.alloc(), &call())?;
+    assert_eq!(rt; log.len(), 1);
+    match log.at(0) {
+        Some(Event::Admit { txn, proc, args }) => {
+            assert_eq!(rt; (*txn, *proc), (1, 0));
+            assert_eq!(rt; args.as_slice(), [5, 100].as_slice());
+        }
+        _ => panic!(rt; "another event"),
+    }
+    assert_eq!(rt; log.print(rt.alloc())?.as_slice(), call().as_slice());
+    Ok(())
+}
+
+// What `read` says of these bytes: how many events, or the fault.
+fn read_len(rt: HostRuntime, bytes: &[u8]) -> Result<usize, LogFault> {
+    Ok(Log::read(rt.alloc(), bytes)?.len())
+}
+
+#[test]
+fn what_no_event_prints(rt: HostRuntime) -> Result<(), Fail> {
+    let record = call();
+    assert_eq!(rt; read_len(rt, &[]), Ok(0));
+    assert_eq!(rt; read_len(rt, &record[..95]), Err(LogFault::Length));
+    assert_eq!(rt; read_len(rt, &[0; 96]), Err(LogFault::Kind(0)));
+    let mut other_kind = record;
+    other_kind[0] = 6;
+    assert_eq!(rt; read_len(rt, &other_kind), Err(LogFault::Kind(0)));
+    let mut third_argument = record;
+    third_argument[48] = 1;
+    assert_eq!(rt; read_len(rt, &third_argument), Err(LogFault::Kind(0)));
+    let mut nine_arguments = record;
+    nine_arguments[1] = 9;
+    assert_eq!(rt; read_len(rt, &nine_arguments), Err(LogFault::Kind(0)));
+    let mut both = Vec::from_slice(rt.alloc(), &record)?;
+    both.extend_from_slice(&third_argument)?;
+    assert_eq!(rt; read_len(rt, both.as_slice()), Err(LogFault::Kind(1)));
+    Ok(())
+}
+
+// An abort with 0, and the other ends.
+#[test]
+fn ends(rt: HostRuntime) {
+    for (sub, word, ok) in [
+        (1, 0, true),
+        (1, 1, false),
+        (2, 0, false),
+        (2, 7, true),
+        (3, 0, true),
+        (3, 1, false),
+        (4, 0, false),
+    ] {
+        let mut record = [0u8; 96];
+        record[0] = 5;
+        record[1] = sub;
+        record[8] = 3;
+        record[16] = word;
+        assert_eq!(rt; read_len(rt, &record).is_ok(), ok);
+    }
 }

@@ -1,0 +1,10 @@
+use Rattle.std.proofs.Common.{◌≡◌, ◌*◌, take, drop, length}
+use Rattle.tc_log.specs.Reading.{ArePrinted}
+use Rattle.tc_log.proofs.read.events_in.Given as goal
+
+abbrev pub invariant-records : goal.invariant-records
+invariant-records l = record {
+  rest : l.rest ≡ drop (96 * l.place) l.bytes;
+  events : ArePrinted l.events.items (take (96 * l.place) l.bytes);
+  count : length l.events.items ≡ l.place;
+}

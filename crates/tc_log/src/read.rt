@@ -1,0 +1,242 @@
+//! The log from bytes.
+
+ghost use Rattle.std.specs.Prelude.{◌≡◌, ◌↔◌, ℕ, ◌<◌, ◌≤◌, ◌%◌, List, true, length, drop, slice_index, reverse, IfErr, IfNone, IfOk, IfSome, OnOk};
+ghost use Rattle.std.specs.Int.{w16, w64, from_le_bytes};
+ghost use Rattle.tc_log.specs.Reading.{u16_at, u64_at, cells_in, record_in, op_in, said_in, outcome_in, call_in, event_in, numbers_in, has_row, IsPrinted, ArePrinted, IsReadFault};
+ghost use Rattle.tc_log.specs.Printed.{printed};
+
+use crate::event::{Args, Event, Outcome};
+use crate::log::Log;
+use crate::print::write_event;
+use access_slots::op::{Op, Said};
+use access_slots::slot::{Record, Value};
+use std::alloc::{AllocError, AllocFailed, Global};
+
+/// Why bytes are no log.
+#[derive(Clone, Copy, Debug, PartialEq, Eq)]
+pub enum LogFault {
+    /// They are no whole number of 96-byte records (L1).
+    Length,
+    /// This record, counted from 0, is the first that no event prints (L2).
+    Kind(usize),
+    /// Memory ran out (L3).
+    Memory,
+}
+
+impl<T: Drop> From<AllocFailed<T>> for LogFault {
+    ghost use Rattle.std.specs.Prelude.{◌≡◌};
+    ghost use Rattle.tc_log.specs.declared.read.LogFault.TheVariants.{Memory};
+
+    ghost from_gives = { λ _ e. e ≡ Memory };
+
+    fn from(_e: AllocFailed<T>) -> LogFault {
+        LogFault::Memory
+    }
+}
+
+impl From<AllocError> for LogFault {
+    ghost use Rattle.std.specs.Prelude.{◌≡◌};
+    ghost use Rattle.tc_log.specs.declared.read.LogFault.TheVariants.{Memory};
+
+    ghost from_gives = { λ _ e. e ≡ Memory };
+
+    fn from(_e: AllocError) -> LogFault {
+        LogFault::Memory
+    }
+}
+
+// A number of two bytes.
+fn short(bytes: &[u8]) -> u16
+    requires { length bytes.now ≡ 2 }
+    ensures { result ≡ from_le_bytes w16 bytes.now }
+{
+    u16::from_le_bytes([bytes[0], bytes[1]])
+}
+
+// A number of eight bytes.
+fn long(b: &[u8]) -> u64
+    requires { length b.now ≡ 8 }
+    ensures { result ≡ from_le_bytes w64 b.now }
+{
+    u64::from_le_bytes([b[0], b[1], b[2], b[3], b[4], b[5], b[6], b[7]])
+}
+
+fn record_in(bytes: &[u8]) -> Record
+    requires { length bytes.now ≡ 96 }
+    ensures { result ≡ record_in (cells_in bytes.now) }
+{
+    Record {
+        dc: short(&bytes[2..4]),
+        table: short(&bytes[4..6]),
+        key: long(&bytes[24..32]),
+    }
+}
+
+fn value_in(bytes: &[u8]) -> Value
+    requires { length bytes.now ≡ 96 }
+    ensures { result ≡ drop 32 bytes.now }
+{
+    let mut value = [0; 64];
+    value.copy_from_slice(&bytes[32..]);
+    value
+}
+
+fn op_in(bytes: &[u8]) -> Option<Op>
+    requires { length bytes.now ≡ 96 }
+    ensures { result ≡ op_in (cells_in bytes.now) }
+{
+    let record = record_in(bytes);
+    match bytes[1] {
+        1 => Some(Op::Read(record)),
+        2 => Some(Op::Insert(record, value_in(bytes))),
+        3 => Some(Op::Update(record, value_in(bytes))),
+        4 => Some(Op::Delete(record)),
+        _ => None,
+    }
+}
+
+fn said_in(bytes: &[u8]) -> Option<Said>
+    requires { length bytes.now ≡ 96 }
+    ensures { result ≡ said_in (cells_in bytes.now) }
+{
+    match bytes[1] {
+        1 => Some(Said::Value(value_in(bytes))),
+        2 => Some(Said::Absent),
+        3 => Some(Said::Done(None)),
+        4 => Some(Said::Done(Some(value_in(bytes)))),
+        5 => Some(Said::Duplicate),
+        6 => Some(Said::Missing),
+        7 => Some(Said::NoRoom),
+        _ => None,
+    }
+}
+
+fn outcome_in(bytes: &[u8]) -> Option<Outcome>
+    requires { length bytes.now ≡ 96 }
+    ensures { result ≡ outcome_in (cells_in bytes.now) }
+{
+    match bytes[1] {
+        1 => Some(Outcome::Committed),
+        2 => Some(Outcome::Aborted(long(&bytes[16..24]))),
+        3 => Some(Outcome::NoRoom),
+        _ => None,
+    }
+}
+
+// So many numbers of eight bytes.
+fn numbers_in(alloc: Global, count: usize, body: &[u8]) -> Result<Vec<u64>, AllocError>
+    requires few { count ≤ 8 }
+    requires long { length body.now ≡ 64 }
+    ensures { IfOk result (λ numbers. numbers.items ≡ numbers_in count body.now) }
+{
+    let mut numbers = Vec::with_capacity(alloc, count)?;
+    let mut rest = body;
+    'numbers: for _ in 0..count {
+        let (front, after) = rest.split_at(8);
+        numbers.push(long(front))?;
+        rest = after;
+    }
+    Ok(numbers)
+}
+
+fn call_in(alloc: Global, bytes: &[u8]) -> Result<Option<Event>, AllocError>
+    requires { length bytes.now ≡ 96 }
+    ensures { IfOk result (λ e. e ≡ call_in (cells_in bytes.now)) }
+{
+    let count = usize::from(bytes[1]);
+    if count > 8 {
+        return Ok(None);
+    }
+    let numbers = numbers_in(alloc, count, &bytes[32..])?;
+    Ok(Some(Event::Admit {
+        txn: long(&bytes[8..16]),
+        proc: long(&bytes[16..24]) as usize,
+        args: Args::from_vec(numbers),
+    }))
+}
+
+// The event that the 96 bytes may be, by their fields.
+fn event_in(alloc: Global, bytes: &[u8]) -> Result<Option<Event>, AllocError>
+    requires { length bytes.now ≡ 96 }
+    ensures { IfOk result (λ e. e ≡ event_in (cells_in bytes.now)) }
+{
+    let txn = long(&bytes[8..16]);
+    let number = long(&bytes[16..24]);
+    Ok(match bytes[0] {
+        1 => call_in(alloc, bytes)?,
+        2 => op_in(bytes).map(|op| Event::Ask { txn, number, op }),
+        3 => said_in(bytes).map(|said| Event::Answer { txn, number, said }),
+        4 => op_in(bytes).map(|op| Event::Undo { txn, number, op }),
+        5 => outcome_in(bytes).map(|outcome| Event::End { txn, outcome }),
+        _ => None,
+    })
+}
+
+// Whether the event is printed as these bytes; `again` is written over.
+fn prints(event: &Event, bytes: &[u8], again: &mut Vec<u8>) -> Result<bool, AllocError>
+    ensures { IfOk result (λ b. (b ≡ true) ↔ (printed event.now ≡ bytes.now)) }
+{
+    again.clear();
+    write_event(again, event)?;
+    Ok(again.as_slice() == bytes)
+}
+
+// The event that is printed as these 96 bytes.
+fn read_event(
+    alloc: Global,
+    bytes: &[u8],
+    again: &mut Vec<u8>,
+) -> Result<Option<Event>, AllocError>
+    requires { length bytes.now ≡ 96 }
+    ensures some { IfOk result (λ o. IfSome o (λ e. (has_row e ≡ true) × (printed e ≡ bytes.now))) }
+    ensures none { IfOk result (λ o. IfNone o (IsPrinted bytes.now → ⊥)) }
+{
+    let Some(event) = event_in(alloc, bytes)? else {
+        return Ok(None);
+    };
+    if prints(&event, bytes, again)? {
+        Ok(Some(event))
+    } else {
+        Ok(None)
+    }
+}
+
+fn events_in(alloc: Global, bytes: &[u8]) -> Result<Vec<Event>, LogFault>
+    requires { length bytes.now % 96 ≡ 0 }
+    ensures ok { IfOk result (λ events. ArePrinted events.items bytes.now) }
+    ensures err { IfErr result (IsReadFault bytes.now) }
+{
+    let count = bytes.len() / 96;
+    let mut events = Vec::with_capacity(alloc, count)?;
+    let mut again = Vec::with_capacity(alloc, 96)?;
+    let mut rest = bytes;
+    'records: for place in 0..count {
+        let (record, after) = rest.split_at(96);
+        match read_event(alloc, record, &mut again)? {
+            Some(event) => events.push(event)?,
+            None => return Err(LogFault::Kind(place)),
+        }
+        rest = after;
+    }
+    Ok(events)
+}
+
+impl Log {
+    ghost use Rattle.std.specs.Prelude.{reverse, IfOk, IfErr};
+    ghost use Rattle.tc_log.specs.Reading.{ArePrinted, IsReadFault};
+
+    /// The log that is printed as these bytes.
+    ///
+    /// Refused as [`LogFault::Length`] where they are no whole number of records, as
+    /// [`LogFault::Kind`] with the first record that no event is printed as, and as
+    /// [`LogFault::Memory`].
+    pub fn read(alloc: Global, bytes: &[u8]) -> Result<Log, LogFault>
+        ensures ok { IfOk result (λ log. ArePrinted (reverse log.events) bytes.now) }
+        ensures err { IfErr result (IsReadFault bytes.now) }
+    {
+        if bytes.len() % 96 != 0 {
+            return Err(LogFault::Length);
+        }
+        Ok(Log::from_events(events_in(alloc, bytes)?))
+    }
+}
