@@ -1,5 +1,5 @@
 -- Records in order.
-use Rattle.std.proofs.Common.{arith, sym, refl, subst, ap₂, ◌≡◌, ◌∙◌, ℕ, Bool, true, false, ◌&&◌, nat_eq}
+use Rattle.std.proofs.Common.{arith, sym, refl, subst, ap₂, ◌≡◌, ◌∙◌, ℕ, Bool, true, false, ◌&&◌}
 use Rattle.std.specs.Prelude.{◌==◌}
 use Rattle.std.specs.Bool.{Decides}
 use Rattle.std.proofs.lemmas.Bool.{eqb-true}

@@ -6,10 +6,10 @@ use Rattle.std.proofs.lemmas.Bool.Decides.{nat_tests}
 use Rattle.access_slots.specs.declared.slot.Record.{Record}
 use Rattle.access_slots.specs.declared.slot.Mode.{Mode}
 use Rattle.access_slots.specs.declared.lock.Lock.{Lock}
-use Rattle.access_slots.specs.Locks.{record_eq, record_less, mode_in, RisingFrom, Rising}
-use Rattle.access_slots.specs.Held.{Held, Wanted, excludes, in_the_way, Compatible, IsFirstInTheWay}
-use Rattle.access_slots.proofs.Records.{eq_same, eq_is, eq_turned, less_not_eq, less_trans}
-use Rattle.access_slots.proofs.Locking.{none_above, rising_rest, rising_lower}
+use Rattle.access_slots.specs.Locks.{record_eq, record_less, mode_in, Rising}
+use Rattle.access_slots.specs.Held.{excludes, in_the_way, Compatible, IsFirstInTheWay}
+use Rattle.access_slots.proofs.Records.{eq_same, eq_is}
+use Rattle.access_slots.proofs.Locking.{none_above, rising_rest}
 use Rattle.lock_table.specs.declared.table.Claim.{Claim}
 use Rattle.lock_table.specs.declared.table.Busy.{Busy}
 use Rattle.lock_table.specs.Facts.{held_by}

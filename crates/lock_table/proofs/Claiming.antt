@@ -1,19 +1,17 @@
 -- Claims one after another, and what is held.
-use Rattle.std.proofs.Common.{arith, ◌≡◌, ℕ, ◌<◌, nat_eq, nat_le, nat_lt, not, Bool, true, false, if◌then◌else◌, ◌&&◌, List, [], ◌∷◌, ◌++◌, sym, refl, ap, ap₂, subst, ◌∙◌}
-use Rattle.std.specs.Prelude.{Option, Some, None, ◌==◌, map, filter}
+use Rattle.std.proofs.Common.{arith, ◌≡◌, ℕ, nat_le, not, Bool, true, false, if◌then◌else◌, ◌&&◌, List, [], ◌∷◌, ◌++◌, sym, refl, ap, ap₂, subst, ◌∙◌}
+use Rattle.std.specs.Prelude.{Option, Some, None, ◌==◌}
 use Rattle.std.proofs.lemmas.Bool.{cond-true, cond-false, eqb-true, eq-eqb}
 use Rattle.std.proofs.lemmas.Bool.Decides.{nat_tests}
 use Rattle.access_slots.specs.declared.slot.Record.{Record}
 use Rattle.access_slots.specs.declared.slot.Mode.{Mode}
 use Rattle.access_slots.specs.declared.lock.Lock.{Lock}
-use Rattle.access_slots.specs.Locks.{record_eq, record_less, mode_in, RisingFrom, Rising}
-use Rattle.access_slots.specs.Held.{Wanted}
-use Rattle.access_slots.proofs.Records.{eq_same, eq_sym, eq_turned, eq_is, less_not_eq, less_trans}
-use Rattle.access_slots.proofs.Locking.{none_above, rising_rest, rising_lower}
+use Rattle.access_slots.specs.Locks.{record_eq, mode_in, Rising}
+use Rattle.access_slots.proofs.Records.{eq_same}
+use Rattle.access_slots.proofs.Locking.{none_above, rising_rest}
 use Rattle.lock_table.specs.declared.table.Claim.{Claim}
-use Rattle.lock_table.specs.declared.table.Busy.{Busy}
 use Rattle.lock_table.specs.Facts.{held_by, granted, released, AreHeld, HoldsNothing}
-use Rattle.lock_table.specs.Claims.{AreSingle, claim, claims_of, without, bars, least, least_holder, busy_at, first_busy}
+use Rattle.lock_table.specs.Claims.{AreSingle, claims_of, without, least}
 
 -- ---- the lesser of two holders
 

@@ -1,14 +1,13 @@
 -- Printing and reading give the event back.
-use Rattle.std.proofs.Common.{arith, ◌≡◌, ℕ, zero, suc, ◌<◌, ◌≤◌, ◌^◌, nat_le, Bool, true, false, List, [], ◌∷◌, ◌++◌, length, take, drop, sym, refl, ap, ap₂, subst, ◌∙◌}
-use Rattle.std.specs.Prelude.{Option, Some, None, if◌then◌else◌, ◌==◌, ◌+◌, ◌-◌, ◌*◌}
+use Rattle.std.proofs.Common.{arith, ◌≡◌, ℕ, suc, ◌<◌, ◌≤◌, ◌^◌, nat_le, Bool, true, false, List, [], ◌∷◌, ◌++◌, length, take, drop, sym, refl, ap, ap₂, subst, ◌∙◌}
+use Rattle.std.specs.Prelude.{Option, Some, None, ◌==◌, ◌+◌, ◌-◌, ◌*◌}
 use Rattle.std.specs.List.{flat_map}
-use Rattle.std.specs.Int.{w16, w64, to_le_bytes, from_le_bytes}
+use Rattle.std.specs.Int.{w64, to_le_bytes, from_le_bytes}
 use Rattle.std.proofs.lemmas.Bool.{cond-true, cond-false, le-leb}
 use Rattle.std.proofs.lemmas.List.{take_all, length-drop, append-nil, append_assoc, drop-drop, take-replicate}
 use Rattle.std.proofs.lemmas.List.Concat.{flat_map-append}
 use Rattle.std.proofs.Math.Seq.{take-add}
 use Rattle.std.proofs.lemmas.Nat.{from_le_bytes-to_le_bytes_2, from_le_bytes-to_le_bytes_8}
-use Rattle.access_slots.specs.declared.slot.Record.{Record}
 use Rattle.access_slots.specs.declared.op.Op.{Op}
 use Rattle.access_slots.specs.declared.op.Op.TheVariants.{Read, Insert, Update, Delete}
 use Rattle.access_slots.specs.declared.op.Said.{Said}
@@ -17,8 +16,8 @@ use Rattle.tc_log.specs.declared.event.Event.{Event}
 use Rattle.tc_log.specs.declared.event.Event.TheVariants.{Admit, Ask, Answer, Undo, End}
 use Rattle.tc_log.specs.declared.event.Outcome.{Outcome}
 use Rattle.tc_log.specs.declared.event.Outcome.TheVariants as outcome
-use Rattle.tc_log.specs.Printed.{Cells, cells_of, cells_bytes, head_bytes, number_bytes, printed, printed_cells, zeros, args_bytes, with_value, op_cells, said_cells, outcome_cells}
-use Rattle.tc_log.specs.Reading.{u16_at, u64_at, cells_in, event_in, call_in, numbers_in, IsEvent, IsOp, IsOutcome, AreNumbers, has_row, is_some, is_record, IsPrinted, ArePrinted, HaveRows}
+use Rattle.tc_log.specs.Printed.{Cells, cells_of, cells_bytes, head_bytes, number_bytes, printed, printed_cells, zeros, args_bytes, with_value, op_cells}
+use Rattle.tc_log.specs.Reading.{u16_at, u64_at, cells_in, event_in, call_in, numbers_in, IsEvent, IsOp, IsOutcome, AreNumbers, has_row, is_some, IsPrinted, ArePrinted, HaveRows}
 
 -- ---- the fields
 

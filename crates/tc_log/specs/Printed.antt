@@ -1,5 +1,5 @@
 -- Events as 96 bytes.
-use Rattle.std.specs.Prelude.{ℕ, ◌-◌, ◌*◌, Bool, ◌==◌, nat_le, if◌then◌else◌, List, [], ◌∷◌, ◌++◌, length, replicate, Option, Some, None}
+use Rattle.std.specs.Prelude.{ℕ, ◌-◌, ◌*◌, ◌==◌, nat_le, if◌then◌else◌, List, [], ◌∷◌, ◌++◌, length, replicate, Option, Some, None}
 use Rattle.std.specs.List.{flat_map}
 use Rattle.std.specs.Int.{w16, w64, to_le_bytes}
 use Rattle.access_slots.specs.declared.slot.Record.{Record}

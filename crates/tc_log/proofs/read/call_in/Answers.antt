@@ -1,4 +1,4 @@
-use Rattle.std.proofs.Common.{rules, arith, ◌≡◌, ◌∙◌, ap₂}
+use Rattle.std.proofs.Common.{rules, ◌∙◌, ap₂}
 use Rattle.tc_log.specs.Reading.{cells_in, numbers_in}
 use Rattle.tc_log.proofs.Again.{call_is, rest_is}
 use Rattle.tc_log.proofs.read.call_in.Goals as goal

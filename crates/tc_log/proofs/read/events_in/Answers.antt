@@ -1,4 +1,4 @@
-use Rattle.std.proofs.Common.{rules, arith, ◌≡◌, sym}
+use Rattle.std.proofs.Common.{rules}
 use Rattle.tc_log.proofs.Again.{printed_further, rest_further}
 use Rattle.tc_log.proofs.read.events_in.Goals as goal
 

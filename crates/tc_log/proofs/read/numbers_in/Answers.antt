@@ -1,4 +1,4 @@
-use Rattle.std.proofs.Common.{rules, arith, ◌≡◌}
+use Rattle.std.proofs.Common.{rules}
 use Rattle.tc_log.proofs.Again.{numbers_further}
 use Rattle.tc_log.proofs.read.numbers_in.Goals as goal
 

@@ -1,4 +1,4 @@
-use Rattle.std.proofs.Common.{◌≡◌, sym, ◌∙◌}
+use Rattle.std.proofs.Common.{sym, ◌∙◌}
 use Rattle.tc_log.proofs.Again.{not_printed, nothing_printed}
 use Rattle.tc_log.proofs.read.read_event.Goals as goal
 

@@ -1,4 +1,4 @@
-use Rattle.std.proofs.Common.{◌≡◌, ◌∙◌}
+use Rattle.std.proofs.Common.{◌∙◌}
 use Rattle.tc_log.proofs.Again.{rest_is}
 use Rattle.tc_log.proofs.read.value_in.Goals as goal
 

@@ -1,4 +1,4 @@
-use Rattle.std.proofs.Common.{◌≡◌, ap, ap₂, ◌∙◌, List}
+use Rattle.std.proofs.Common.{ap, ap₂, ◌∙◌, List}
 use Rattle.access_slots.specs.declared.lock.Lock.{Lock}
 use Rattle.lock_table.specs.declared.table.Claim.{Claim}
 use Rattle.lock_table.specs.Facts.{Table}

@@ -1,4 +1,4 @@
-use Rattle.std.proofs.Common.{◌≡◌, ◌∙◌, ap}
+use Rattle.std.proofs.Common.{◌∙◌, ap}
 use Rattle.std.proofs.lemmas.Bool.{cond-false}
 use Rattle.lock_table.specs.Facts.{Table}
 use Rattle.lock_table.proofs.Claiming.{now_granted, now_single}

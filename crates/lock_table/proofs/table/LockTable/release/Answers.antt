@@ -1,4 +1,4 @@
-use Rattle.std.proofs.Common.{◌≡◌, sym, ap, subst}
+use Rattle.std.proofs.Common.{sym, ap, subst}
 use Rattle.lock_table.specs.Facts.{Table}
 use Rattle.lock_table.specs.Claims.{AreSingle}
 use Rattle.lock_table.proofs.Claiming.{now_released, single_released}

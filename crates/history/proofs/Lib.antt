@@ -1,0 +1,3 @@
+pub mod Laws
+pub mod Placing
+pub mod Rows
