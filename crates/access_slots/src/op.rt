@@ -34,6 +34,22 @@ pub enum Said {
     Old,
 }
 
+/// An operation on its way to a data component, under its number, and the low-water mark: all
+/// numbers up to it were answered (Lomet, Fekete, Weikum, Zwilling, CIDR 2009).
+#[derive(Clone, Copy, Debug, PartialEq, Eq)]
+pub struct Wire {
+    pub number: u64,
+    pub low_water: u64,
+    pub op: Op,
+}
+
+/// What a data component says to a number.
+#[derive(Clone, Copy, Debug, PartialEq, Eq)]
+pub struct Reply {
+    pub number: u64,
+    pub said: Said,
+}
+
 /// Whether the answer can be one to the operation. Old is none to any.
 pub fn fits(op: &Op, said: &Said) -> bool
     ensures { result ≡ fits op.now said.now }

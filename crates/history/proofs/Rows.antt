@@ -60,6 +60,11 @@ insert_held : held procedures asked_for 1 five ≡ Some mode.Write
 unfolding asked_for procedures slot five
 insert_held = refl
 
+-- answered: it is held on
+answered_held : held procedures (Answer 1 1 (said.Done None) ∷ asked_for) 1 five ≡ Some mode.Write
+unfolding asked_for procedures slot five
+answered_held = refl
+
 -- answered and ended: nothing is held, and the mark is 1
 ended : List Event
 ended = End 1 outcome.Committed ∷ Answer 1 1 (said.Done None) ∷ asked_for

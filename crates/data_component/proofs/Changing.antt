@@ -1,0 +1,139 @@
+-- Each operation on sorted rows.
+use Rattle.std.proofs.Common.{arith, ◌≡◌, ℕ, zero, suc, ◌+◌, ◌-◌, ◌<◌, ◌≤◌, nat_lt, Bool, true, false, if◌then◌else◌, List, [], ◌∷◌, length, sym, refl, ap, ap₂, subst, ◌∙◌}
+use Rattle.std.specs.Prelude.{Option, Some, None, slice_get, slice_set, slice_index_or}
+use Rattle.std.specs.List.{insert, remove}
+use Rattle.std.proofs.lemmas.Bool.{cond-true, cond-false, lt-ltb}
+use Rattle.std.proofs.lemmas.Bool.Decides.{nat_tests}
+use Rattle.std.proofs.lemmas.Option.{slice_get_past, slice_get-get_or, get_or_from_slice_get}
+use Rattle.std.proofs.lemmas.List.{length-set}
+use Rattle.access_slots.specs.declared.slot.Record.{Record}
+use Rattle.access_slots.specs.declared.op.Op.{Op}
+use Rattle.access_slots.specs.declared.op.Op.TheVariants.{Read, Insert, Update, Delete}
+use Rattle.access_slots.specs.declared.op.Said.{Said}
+use Rattle.access_slots.specs.declared.op.Said.TheVariants.{Value, Absent, Done, Duplicate, Missing, NoRoom}
+use Rattle.access_slots.specs.Locks.{record_eq, record_less, target}
+use Rattle.data_component.specs.Performed.{left, counted, said_to, said_to_read, said_to_insert, said_to_change}
+use Rattle.data_component.specs.Sorted.{Rows, row_of, row_place, SortedRows, IsFoundAt, IsMissingAt}
+use Rattle.data_component.specs.Performing.{Performs}
+use Rattle.data_component.proofs.Finding.{value_at, find_at, sorted_inserted, find_inserted, sorted_set, find_set, sorted_removed, find_removed}
+use Rattle.data_component.proofs.Orders.{records}
+
+unchanged : (b : Bool) (o : Option (List ℕ)) → o ≡ (if b then o else o)
+unchanged true o = refl
+unchanged false o = refl
+
+-- an operation that leaves the rows as they are
+stays : (limit : ℕ) (rows : Rows) (o : Op) (said : Said) → said ≡ said_to limit (length rows) (row_of rows (target o)) o → ((was : Option (List ℕ)) → left o said was ≡ was) → counted o said (length rows) ≡ length rows → SortedRows rows
+    → Performs limit rows rows o said
+stays limit rows o said is same many sorted = record {
+  answer = is;
+  values = λ r. unchanged (record_eq (target o) r) (row_of rows r) ∙ ap (λ (w : Option (List ℕ)). if record_eq (target o) r then w else row_of rows r) (sym (same (row_of rows r)));
+  count = sym many;
+  sorted = sorted;
+  fits = λ few. few;
+}
+
+pub read_found : (limit : ℕ) (rows : Rows) (r : Record) (v : List ℕ) → row_of rows r ≡ Some v → SortedRows rows → Performs limit rows rows (Read r) (Value v)
+read_found limit rows r v is sorted = stays limit rows (Read r) (Value v) (ap said_to_read (sym is)) (λ was. refl) refl sorted
+
+pub read_absent : (limit : ℕ) (rows : Rows) (r : Record) → row_of rows r ≡ None → SortedRows rows → Performs limit rows rows (Read r) Absent
+read_absent limit rows r is sorted = stays limit rows (Read r) Absent (ap said_to_read (sym is)) (λ was. refl) refl sorted
+
+pub insert_duplicate : (limit : ℕ) (rows : Rows) (r : Record) (v : List ℕ) (i : ℕ) → IsFoundAt rows r i → SortedRows rows → Performs limit rows rows (Insert r v) Duplicate
+insert_duplicate limit rows r v i at sorted = stays limit rows (Insert r v) Duplicate (ap (λ (o : Option (List ℕ)). said_to_insert o (nat_lt (length rows) limit)) (sym (at.value (r, v)))) (λ was. refl) refl sorted
+
+no_room : (n limit : ℕ) → limit ≤ n → nat_lt n limit ≡ false
+no_room n limit full = grind (arith, nat_tests)
+
+pub insert_no_room : (limit : ℕ) (rows : Rows) (r : Record) (v : List ℕ) (i : ℕ) → IsMissingAt rows r i → limit ≤ length rows → SortedRows rows → Performs limit rows rows (Insert r v) NoRoom
+insert_no_room limit rows r v i at full sorted = stays limit rows (Insert r v) NoRoom (ap₂ (λ (o : Option (List ℕ)) (b : Bool). said_to_insert o b) (sym at.missing) (sym (no_room (length rows) limit full))) (λ was. refl) refl sorted
+
+pub update_missing : (limit : ℕ) (rows : Rows) (r : Record) (v : List ℕ) (i : ℕ) → IsMissingAt rows r i → SortedRows rows → Performs limit rows rows (Update r v) Missing
+update_missing limit rows r v i at sorted = stays limit rows (Update r v) Missing (ap said_to_change (sym at.missing)) (λ was. refl) refl sorted
+
+pub delete_missing : (limit : ℕ) (rows : Rows) (r : Record) (i : ℕ) → IsMissingAt rows r i → SortedRows rows → Performs limit rows rows (Delete r) Missing
+delete_missing limit rows r i at sorted = stays limit rows (Delete r) Missing (ap said_to_change (sym at.missing)) (λ was. refl) refl sorted
+
+length_inserted : (rows : Rows) (i : ℕ) (y : Record × List ℕ) → length (insert rows i y) ≡ length rows + 1
+length_inserted [] zero y = refl
+length_inserted [] (suc i) y = refl
+length_inserted (x ∷ rows) zero y = omega arith
+length_inserted (x ∷ rows) (suc i) y = omega (arith, length_inserted rows i y)
+
+inserted : (limit : ℕ) (rows : Rows) (r : Record) (v : List ℕ) → row_of rows r ≡ None → length rows < limit → SortedRows rows
+    → Performs limit rows (insert rows (row_place rows r) (r, v)) (Insert r v) (Done None)
+inserted limit rows r v is room sorted = record {
+  answer = ap₂ (λ (o : Option (List ℕ)) (b : Bool). said_to_insert o b) (sym is) (sym (lt-ltb (length rows) limit room));
+  values = λ q. find_inserted record_eq record_less records r q v rows;
+  count = length_inserted rows (row_place rows r) (r, v);
+  sorted = sorted_inserted record_eq record_less records r v rows is sorted;
+  fits = λ few. omega (arith, length_inserted rows (row_place rows r) (r, v), room);
+}
+
+pub insert_done : (limit : ℕ) (rows new : Rows) (r : Record) (v : List ℕ) (i : ℕ) → IsMissingAt rows r i → length rows < limit → SortedRows rows → new ≡ insert rows i (r, v) → Performs limit rows new (Insert r v) (Done None)
+insert_done limit rows new r v i at room sorted is =
+    subst (λ (xs : Rows). Performs limit rows xs (Insert r v) (Done None)) (sym (is ∙ ap (λ (j : ℕ). insert rows j (r, v)) at.is)) (inserted limit rows r v at.missing room sorted)
+
+changed : (limit : ℕ) (rows : Rows) (r : Record) (v w : List ℕ) → row_of rows r ≡ Some w → SortedRows rows
+    → Performs limit rows (slice_set rows (row_place rows r) (r, v)) (Update r v) (Done (Some w))
+changed limit rows r v w is sorted = record {
+  answer = ap said_to_change (sym is);
+  values = λ q. find_set record_eq record_less records r q v w rows is sorted;
+  count = length-set rows (row_place rows r) (r, v);
+  sorted = sorted_set record_eq record_less records r v w rows is sorted;
+  fits = λ few. omega (arith, few, length-set rows (row_place rows r) (r, v));
+}
+
+pub update_done : (limit : ℕ) (rows new : Rows) (r : Record) (v w : List ℕ) (i : ℕ) (d : Record × List ℕ) → IsFoundAt rows r i → SortedRows rows → w ≡ (slice_index_or rows i d).1 → new ≡ slice_set rows i (r, v)
+    → Performs limit rows new (Update r v) (Done (Some w))
+update_done limit rows new r v w i d at sorted former is =
+    subst (λ (xs : Rows). Performs limit rows xs (Update r v) (Done (Some w))) (sym (is ∙ ap (λ (j : ℕ). slice_set rows j (r, v)) at.is))
+    (changed limit rows r v w (at.value d ∙ ap Some (sym former)) sorted)
+
+length_removed : (rows : Rows) (i : ℕ) → i < length rows → length (remove rows i) ≡ length rows - 1
+length_removed [] i inside = absurd (omega (arith, inside))
+length_removed (x ∷ rows) zero inside = omega arith
+length_removed (x ∷ rows) (suc i) inside = omega (arith, inside, length_removed rows i (omega (arith, inside)))
+
+removed : (limit : ℕ) (rows : Rows) (r : Record) (w : List ℕ) → row_of rows r ≡ Some w → row_place rows r < length rows → SortedRows rows
+    → Performs limit rows (remove rows (row_place rows r)) (Delete r) (Done (Some w))
+removed limit rows r w is inside sorted = record {
+  answer = ap said_to_change (sym is);
+  values = λ q. find_removed record_eq record_less records r q w rows is sorted;
+  count = length_removed rows (row_place rows r) inside;
+  sorted = sorted_removed record_eq record_less records r w rows is sorted;
+  fits = λ few. omega (arith, few, length_removed rows (row_place rows r) inside);
+}
+
+pub delete_done : (limit : ℕ) (rows new : Rows) (r : Record) (row : Record × List ℕ) (i : ℕ) → IsFoundAt rows r i → SortedRows rows → row ≡ slice_index_or rows i row → new ≡ remove rows i
+    → Performs limit rows new (Delete r) (Done (Some row.1))
+delete_done limit rows new r row i at sorted former is =
+    let found : row_of rows r ≡ Some row.1 = at.value row ∙ ap (λ (x : Record × List ℕ). Some x.1) (sym former) in
+    subst (λ (xs : Rows). Performs limit rows xs (Delete r) (Done (Some row.1))) (sym (is ∙ ap (λ (j : ℕ). remove rows j) at.is))
+    (removed limit rows r row.1 found (subst (λ (j : ℕ). j < length rows) at.is at.inside) sorted)
+
+-- ---- what stands at a record's place
+
+seen : (o : Option (Record × List ℕ)) (rows : Rows) (r : Record) (i : ℕ) → SortedRows rows → i ≡ row_place rows r → slice_get rows i ≡ o → row_of rows r ≡ value_at record_eq record_less records o r
+seen o rows r i sorted is stands =
+    find_at record_eq record_less records r rows sorted
+    ∙ ap (λ (p : Option (Record × List ℕ)). value_at record_eq record_less records p r) (ap (slice_get rows) (sym is) ∙ stands)
+
+pub found_there : (rows : Rows) (r : Record) (i : ℕ) (d : Record × List ℕ) → SortedRows rows → i ≡ row_place rows r → i < length rows → record_eq (slice_index_or rows i d).0 r ≡ true → IsFoundAt rows r i
+found_there rows r i d sorted at inside same =
+    let stands = slice_get-get_or rows i d inside in
+    record {
+      inside = inside;
+      is = at;
+      value = λ e. seen (Some (slice_index_or rows i d)) rows r i sorted at stands ∙ cond-true _ _ _ same ∙ ap (λ (x : Record × List ℕ). Some x.1) (sym (get_or_from_slice_get rows i (slice_index_or rows i d) e stands));
+    }
+
+pub missing_there : (rows : Rows) (r : Record) (i : ℕ) (d : Record × List ℕ) → SortedRows rows → i ≡ row_place rows r → i < length rows → record_eq (slice_index_or rows i d).0 r ≡ false → IsMissingAt rows r i
+missing_there rows r i d sorted at inside other = record {
+  inside = omega (arith, inside);
+  is = at;
+  missing = seen (Some (slice_index_or rows i d)) rows r i sorted at (slice_get-get_or rows i d inside) ∙ cond-false _ _ _ other;
+}
+
+pub none_there : (rows : Rows) (r : Record) (i : ℕ) → SortedRows rows → i ≡ row_place rows r → i ≤ length rows → length rows ≤ i → IsMissingAt rows r i
+none_there rows r i sorted is few past = record { inside = few; is = is; missing = seen None rows r i sorted is (slice_get_past rows i past) }

@@ -1,0 +1,6 @@
+pub mod Finding
+pub mod Orders
+pub mod Changing
+pub mod Remembering
+pub mod Serving
+pub mod Worked

@@ -1,0 +1,22 @@
+use Rattle.std.proofs.Common.{◌∙◌, ap, refl, vec_capacity}
+use Rattle.data_component.proofs.Serving.{rows_next, kept_next, kept_still}
+use Rattle.data_component.proofs.dc.rebuild.Goals.{then-number-mark, else-number-mark}
+use Rattle.data_component.proofs.dc.rebuild.Goals as goal
+
+pub performed-preserved : goal.performed-preserved
+performed-preserved c = record {
+  rows = rows_next c.args.row_limit c.performed.rows.items c.perform.new.rows.items c.args.performed.now c.performed.place _ c.perform.result c.performed-test.true c.requires.right c.performed.invariant.rows c.perform.ensures.performs;
+  fits = c.perform.ensures.performs.fits c.performed.invariant.fits;
+  kept = elim c.if-number-mark.branch [
+    | then-number-mark w ↦
+      kept_next c.args.row_limit c.performed.kept.items c.if-number-mark.kept.items c.args.mark c.args.performed.now c.performed.place c.performed.place _ _ c.performed-test.true c.requires.right c.performed.invariant.kept refl w.if-number-mark.true
+      (ap (λ v. v.items) w.kept-is ∙ w.keep.ensures.items) refl
+    | else-number-mark w ↦
+      rw (w.kept-is) (kept_still c.performed.kept.items c.args.mark c.args.performed.now c.performed.place _ _ c.performed-test.true c.performed.invariant.kept refl w.if-number-mark.false)
+  ];
+  rows_room = c.perform.ensures.capacity ∙ c.performed.invariant.rows_room;
+  kept_room = elim c.if-number-mark.branch [
+    | then-number-mark w ↦ ap vec_capacity w.kept-is ∙ w.keep.ensures.capacity ∙ c.performed.invariant.kept_room
+    | else-number-mark w ↦ ap vec_capacity w.kept-is ∙ c.performed.invariant.kept_room
+  ];
+}

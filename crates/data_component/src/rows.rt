@@ -1,0 +1,135 @@
+//! Rows, sorted by record.
+
+ghost use Rattle.std.specs.Prelude.{ℕ, ◌≡◌, ◌<◌, ◌≤◌, true, length, option_copied, IfErr, IfOk, vec_capacity};
+ghost use Rattle.std.specs.List.{insert};
+ghost use Rattle.access_slots.specs.declared.op.Op.TheVariants.{Read, Insert, Update, Delete};
+ghost use Rattle.data_component.specs.Performing.{Performs};
+ghost use Rattle.data_component.specs.Sorted.{row_of, row_place, SortedRows, IsFoundAt, IsMissingAt};
+
+use access_slots::op::{Op, Said};
+use access_slots::slot::{Record, Value};
+
+/// A record and its value.
+pub(crate) type Row = (Record, Value);
+
+// How many rows are of lesser records.
+fn count_before(rows: &[Row], record: &Record) -> usize
+    requires { SortedRows rows.now }
+    ensures value { result ≡ row_place rows.now «record».now }
+    ensures few { result ≤ length rows.now }
+{
+    rows.partition_point(|row| row.0.is_before(record))
+}
+
+// The place of the record's row, or the one that it would have.
+#[tactic(auto, using(crate::proofs::Changing::found_there, crate::proofs::Changing::missing_there, crate::proofs::Changing::none_there))]
+fn find(rows: &[Row], record: &Record) -> Result<usize, usize>
+    requires { SortedRows rows.now }
+    ensures ok { IfOk result (IsFoundAt rows.now «record».now) }
+    ensures err { IfErr result (IsMissingAt rows.now «record».now) }
+{
+    let place = count_before(rows, record);
+    if place >= rows.len() {
+        return Err(place);
+    }
+    if rows[place].0 == *record {
+        Ok(place)
+    } else {
+        Err(place)
+    }
+}
+
+/// The record's value, if it is present.
+pub(crate) fn value_of<'a>(rows: &'a [Row], record: &Record) -> Option<&'a Value>
+    requires { SortedRows rows.now }
+    ensures { option_copied result ≡ row_of rows.now «record».now }
+{
+    match find(rows, record) {
+        Ok(place) => Some(&rows[place].1),
+        Err(_) => None,
+    }
+}
+
+#[tactic(auto, using(crate::proofs::Changing::read_found, crate::proofs::Changing::read_absent))]
+fn read(rows: &[Row], record: &Record) -> Said
+    requires { SortedRows rows.now }
+    ensures { (limit : ℕ) → Performs limit rows.now rows.now (Read «record».now) result }
+{
+    match value_of(rows, record) {
+        Some(value) => Said::Value(*value),
+        None => Said::Absent,
+    }
+}
+
+// One row more, where there is room for it.
+fn put_in(rows: &mut Vec<Row>, place: usize, row: Row)
+    requires place { place ≤ length rows.old.items }
+    requires room { length rows.old.items < vec_capacity rows.old }
+    ensures items { rows.new.items ≡ insert rows.old.items place row }
+    ensures capacity { vec_capacity rows.new ≡ vec_capacity rows.old }
+{
+    match rows.insert(place, row) {
+        Ok(()) => {}
+        Err(_) => unreachable!(),
+    }
+}
+
+#[tactic(auto, using(crate::proofs::Changing::insert_duplicate, crate::proofs::Changing::insert_no_room, crate::proofs::Changing::insert_done))]
+fn insert(rows: &mut Vec<Row>, limit: usize, record: &Record, value: &Value) -> Said
+    requires sorted { SortedRows rows.old.items }
+    requires room { limit ≤ vec_capacity rows.old }
+    ensures performs { Performs limit rows.old.items rows.new.items (Insert «record».now value.now) result }
+    ensures capacity { vec_capacity rows.new ≡ vec_capacity rows.old }
+{
+    match find(rows.as_slice(), record) {
+        Ok(_) => Said::Duplicate,
+        Err(_) if rows.len() >= limit => Said::NoRoom,
+        Err(place) => {
+            put_in(rows, place, (*record, *value));
+            Said::Done(None)
+        }
+    }
+}
+
+#[tactic(auto, using(crate::proofs::Changing::update_missing, crate::proofs::Changing::update_done))]
+fn update(rows: &mut Vec<Row>, record: &Record, value: &Value) -> Said
+    requires { SortedRows rows.old.items }
+    ensures performs { (limit : ℕ) → Performs limit rows.old.items rows.new.items (Update «record».now value.now) result }
+    ensures capacity { vec_capacity rows.new ≡ vec_capacity rows.old }
+{
+    match find(rows.as_slice(), record) {
+        Ok(place) => {
+            let former = rows[place].1;
+            rows[place] = (*record, *value);
+            Said::Done(Some(former))
+        }
+        Err(_) => Said::Missing,
+    }
+}
+
+#[tactic(auto, using(crate::proofs::Changing::delete_missing, crate::proofs::Changing::delete_done))]
+fn delete(rows: &mut Vec<Row>, record: &Record) -> Said
+    requires { SortedRows rows.old.items }
+    ensures performs { (limit : ℕ) → Performs limit rows.old.items rows.new.items (Delete «record».now) result }
+    ensures capacity { vec_capacity rows.new ≡ vec_capacity rows.old }
+{
+    match find(rows.as_slice(), record) {
+        Ok(place) => Said::Done(Some(rows.remove(place).1)),
+        Err(_) => Said::Missing,
+    }
+}
+
+/// Performs the operation where at most so many records may be present.
+pub(crate) fn perform(rows: &mut Vec<Row>, limit: usize, op: &Op) -> Said
+    requires sorted { SortedRows rows.old.items }
+    requires room { limit ≤ vec_capacity rows.old }
+    ensures performs { Performs limit rows.old.items rows.new.items op.now result }
+    ensures capacity { vec_capacity rows.new ≡ vec_capacity rows.old }
+{
+    match op {
+        Op::Read(record) => read(rows.as_slice(), record),
+        Op::Insert(record, value) => insert(rows, limit, record, value),
+        Op::Update(record, value) => update(rows, record, value),
+        Op::Delete(record) => delete(rows, record),
+    }
+}
