@@ -1,0 +1,105 @@
+//! Workloads of code: decoded, verified and run.
+
+ghost use Rattle.std.specs.Prelude.{◌≡◌, length, IfSome};
+
+use access_slots::decl::Decl;
+use bpf_encoding::decode::decode;
+use interpreter::layout::Layout;
+use interpreter::machine::{Machine, Pause};
+use std::alloc::Global;
+use verifier::verify::{Verified, verify};
+
+/// Code with its arguments, what it answers and how many instructions that takes.
+#[derive(Drop)]
+pub struct Workload {
+    bytes: Vec<u8>,
+    args: Vec<u64>,
+    answer: u64,
+    executed: u32,
+}
+
+/// How much was done.
+#[derive(Clone, Copy, Debug, Default, PartialEq, Eq)]
+pub struct Done {
+    /// Slots that were decoded and verified.
+    pub slots: u64,
+    /// Instructions that were executed.
+    pub instructions: u64,
+    /// Workloads that the verifier refuses.
+    pub refused: u64,
+    /// Runs that came to another answer or count than the workload says.
+    pub wrong: u64,
+}
+
+/// The workload that a line says. Its words are apart by tabs: a name, the code as hex text, how
+/// many arguments there are, the arguments, the answer, a number that isn't read, and how many
+/// instructions are executed.
+pub fn read_workload(alloc: Global, line: &str) -> Option<Workload> {
+    let mut words = line.split('\t');
+    let _ = words.next()?;
+    let bytes = hex::decode(alloc, words.next()?).ok()?;
+    let count: usize = words.next()?.parse().ok()?;
+    let mut args = Vec::new(alloc);
+    for _ in 0..count {
+        args.push(words.next()?.parse().ok()?).ok()?;
+    }
+    let answer = words.next()?.parse().ok()?;
+    let _ = words.next()?;
+    Some(Workload {
+        bytes,
+        args,
+        answer,
+        executed: words.next()?.parse().ok()?,
+    })
+}
+
+// Decodes and verifies code that takes so many arguments and declares no slots.
+fn load(alloc: Global, bytes: &[u8], args: &[u64]) -> Option<Verified>
+    ensures { IfSome result (λ v. length args.now ≡ v.decl.args) }
+{
+    if args.len() > 8 {
+        return None;
+    }
+    let Ok(decl) = Decl::new(args.len() as u8, &[]) else {
+        return None;
+    };
+    let code = decode(alloc, bytes).ok()?;
+    match verify(alloc, code, decl) {
+        Ok(verified) => Some(verified),
+        Err(_) => None,
+    }
+}
+
+// Runs the code to its end: its answer, and how many instructions it executed.
+fn run(verified: &Verified, args: &[u64]) -> Option<(u64, u32)>
+    requires { length args.now ≡ verified.now.decl.args }
+{
+    let mut machine = Machine::start(verified, args, Layout::plain());
+    match machine.resume(verified, None) {
+        Pause::Exit(answer) => Some((answer, machine.executed())),
+        Pause::Ask(_) => None,
+    }
+}
+
+impl Workload {
+    /// Decodes and verifies it so many times, and then runs it so many times.
+    pub fn repeat(&self, alloc: Global, loads: u64, runs: u64, done: &mut Done) -> Option<()> {
+        let args = self.args.as_slice();
+        let Some(verified) = load(alloc, self.bytes.as_slice(), args) else {
+            done.refused = done.refused.wrapping_add(1);
+            return Some(());
+        };
+        for _ in 0..loads {
+            let loaded = load(alloc, self.bytes.as_slice(), args)?;
+            done.slots = done.slots.wrapping_add(loaded.code().len() as u64);
+        }
+        for _ in 0..runs {
+            let (answer, executed) = run(&verified, args)?;
+            done.instructions = done.instructions.wrapping_add(u64::from(executed));
+            if answer != self.answer || executed != self.executed {
+                done.wrong = done.wrong.wrapping_add(1);
+            }
+        }
+        Some(())
+    }
+}

@@ -1,0 +1,77 @@
+//! `bench`: each hot path as often as it is told to, and how much was done. It prints counts alone,
+//! so that its output is the same every time; how long it takes is measured from outside.
+#![tactic(auto)]
+
+mod code;
+mod locks;
+mod log;
+mod numbers;
+mod store;
+
+use code::{Done, read_workload};
+use std::alloc::Global;
+use std::env;
+use std::io::{Read, Write};
+use std::process::ExitCode;
+
+const USAGE: &str = "usage:
+  bench code LOADS RUNS < WORKLOADS    decodes and verifies each workload LOADS times, runs it RUNS times
+  bench locks HELD TIMES               HELD transactions hold a lock; one more takes and gives back TIMES
+  bench numbers OPEN TIMES             OPEN numbers are open; one more is given out and answered TIMES
+  bench log EVENTS TIMES               prints and reads a log of EVENTS events TIMES
+  bench store ROWS UPDATES RESTARTS    inserts ROWS records, UPDATES them in turn, and RESTARTS
+";
+
+// The number that a word is.
+fn number(words: &[String], place: usize) -> Option<u64> {
+    words.get(place)?.as_str().parse().ok()
+}
+
+// Every workload of the text.
+fn run_all(alloc: Global, text: &str, loads: u64, runs: u64) -> Option<Done> {
+    let mut done = Done::default();
+    for line in text.lines() {
+        read_workload(alloc, line)?.repeat(alloc, loads, runs, &mut done)?;
+    }
+    Some(done)
+}
+
+fn report(alloc: Global, done: &Done) -> Option<String> {
+    format!(in alloc; "slots {} instructions {} refused {} wrong {}\n", done.slots, done.instructions, done.refused, done.wrong).ok()
+}
+
+// What one command did.
+fn line_of(alloc: Global, words: &[String], text: &str) -> Option<String> {
+    let (first, second) = (number(words, 2)?, number(words, 3)?);
+    let count = match words.get(1)?.as_str() {
+        "code" => return report(alloc, &run_all(alloc, text, first, second)?),
+        "locks" => locks::repeat(alloc, first, second)?,
+        "numbers" => numbers::repeat(alloc, first, second)?,
+        "log" => log::repeat(alloc, first, second)?,
+        "store" => store::repeat(alloc, first, second, number(words, 4)?)?,
+        _ => return None,
+    };
+    format!(in alloc; "count {}\n", count).ok()
+}
+
+fn main(rt: HostRuntime) -> ExitCode {
+    let alloc = rt.alloc();
+    let Ok(args) = env::args(&rt) else {
+        return ExitCode::from(4);
+    };
+    let Ok(words) = args.collect::<Vec<String>>(alloc) else {
+        return ExitCode::from(4);
+    };
+    let mut text = String::new(alloc);
+    if rt.stdin().read_to_string(&mut text).is_err() {
+        return ExitCode::from(3);
+    }
+    let Some(line) = line_of(alloc, words.as_slice(), text.as_str()) else {
+        let _ = rt.stderr().write_all(USAGE.as_bytes());
+        return ExitCode::from(2);
+    };
+    match rt.stdout().write_all(line.as_bytes()) {
+        Ok(()) => ExitCode::from(0),
+        Err(_) => ExitCode::from(3),
+    }
+}
