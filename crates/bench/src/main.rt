@@ -37,7 +37,11 @@ fn run_all(alloc: Global, text: &str, loads: u64, runs: u64) -> Option<Done> {
 }
 
 fn report(alloc: Global, done: &Done) -> Option<String> {
-    format!(in alloc; "slots {} instructions {} refused {} wrong {}\n", done.slots, done.instructions, done.refused, done.wrong).ok()
+    format!(in alloc;
+        "slots {} instructions {} refused {} wrong {}\n",
+        done.slots, done.instructions, done.refused, done.wrong
+    )
+    .ok()
 }
 
 // What one command did.

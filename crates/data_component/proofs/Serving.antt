@@ -98,12 +98,12 @@ pub more_kept : (kept : Kept) (mark : ℕ) (performed : List Performed) (n : ℕ
 more_kept kept mark performed n o said are above fresh = record {
   sorted = sorted_inserted number_eq nat_lt numbers n (length performed) kept (no_place kept mark performed n are above fresh) are.sorted;
   within = λ m place is. subst (λ (c : ℕ). place < c) (sym (length-append performed ((n, o, said) ∷ [])))
-    (within_more (n == m) kept n m place (length performed) refl are.within (sym (find_inserted number_eq nat_lt numbers n m (length performed) kept) ∙ is));
+      (within_more (n == m) kept n m place (length performed) refl are.within (sym (find_inserted number_eq nat_lt numbers n m (length performed) kept) ∙ is));
   few = omega (arith, are.few, length_inserted kept (kept_place kept n) (n, length performed), length-append performed ((n, o, said) ∷ []));
   found = λ m higher.
-    ap (said_in (performed ++ (n, o, said) ∷ [])) (find_inserted number_eq nat_lt numbers n m (length performed) kept)
-    ∙ found_more (n == m) kept performed n m mark o said refl are higher
-    ∙ ap (λ (list : List Performed). said_under list m) (sym (pushed (n, o, said) performed));
+      ap (said_in (performed ++ (n, o, said) ∷ [])) (find_inserted number_eq nat_lt numbers n m (length performed) kept)
+      ∙ found_more (n == m) kept performed n m mark o said refl are higher
+      ∙ ap (λ (list : List Performed). said_under list m) (sym (pushed (n, o, said) performed));
 }
 
 -- a number at or under the mark needs no place
@@ -113,9 +113,9 @@ same_kept kept mark performed e are low = record {
   within = λ m place is. omega (arith, are.within m place is, length-append performed (e ∷ []));
   few = omega (arith, are.few, length-append performed (e ∷ []));
   found = λ m above.
-    said_on (place_of kept m) kept m performed e refl are.within
-    ∙ are.found m above
-    ∙ sym (ap (λ (list : List Performed). said_under list m) (pushed e performed) ∙ cond-false _ _ _ (lower e.0 m mark low above));
+      said_on (place_of kept m) kept m performed e refl are.within
+      ∙ are.found m above
+      ∙ sym (ap (λ (list : List Performed). said_under list m) (pushed e performed) ∙ cond-false _ _ _ (lower e.0 m mark low above));
 }
   where
     lower : (n m high : ℕ) → n ≤ high → high < m → (n == m) ≡ false
@@ -163,7 +163,7 @@ keeps_next table new performed longer kept more mark limit ops n o said place wa
     let whole = put ∙ ap (λ (i : ℕ). insert kept (kept_place kept n) (n, i)) at in
     subst (λ (l : List Performed). Keeps new l more mark limit ops) (sym grown)
     (subst (λ (k : Kept). Keeps new (performed ++ (n, o, said) ∷ []) k mark limit ops) (sym whole)
-     (keeps_more table new performed kept mark limit ops n o said was above fresh room does))
+    (keeps_more table new performed kept mark limit ops n o said was above fresh room does))
 
 -- the rows behind one more entry of the list
 pub rows_next : (limit : ℕ) (table new : Rows) (performed : List Performed) (k : ℕ) (d : Performed) (said : Said) → k < length performed → IsRight limit (reverse performed) → AreRowsOf table (reverse (take k performed))
@@ -184,7 +184,7 @@ kept_next limit kept more mark performed k place n d inside right are number abo
     let whole : more ≡ insert kept (kept_place kept e.0) (e.0, length (take k performed)) = put ∙ ap₂ (λ (m i : ℕ). insert kept (kept_place kept m) (m, i)) number (at ∙ sym count) in
     subst (λ (x : Kept). AreKept x mark (take (k + 1) performed)) (sym whole)
     (subst (λ (l : List Performed). AreKept (insert kept (kept_place kept e.0) (e.0, length (take k performed))) mark l) (sym (taken_more performed k d inside))
-     (more_kept kept mark (take k performed) e.0 e.1 e.2 are (subst (λ (m : ℕ). mark < m) number above) next.0))
+    (more_kept kept mark (take k performed) e.0 e.1 e.2 are (subst (λ (m : ℕ). mark < m) number above) next.0))
 
 pub kept_still : (kept : Kept) (mark : ℕ) (performed : List Performed) (k n : ℕ) (d : Performed) → k < length performed → AreKept kept mark (take k performed) → n ≡ (slice_index_or performed k d).0 → n ≤ mark
     → AreKept kept mark (take (k + 1) performed)

@@ -1,9 +1,7 @@
 //! The data component.
 
 ghost use Rattle.std.specs.Prelude.{◌≡◌, ◌<◌, ◌≤◌, [], Some, None, length, reverse, IfOk, vec_capacity};
-
 ghost use Rattle.data_component.specs.Performed.{value_of, said_under, IsRight};
-
 ghost use Rattle.data_component.specs.Store.{marked, fate, fate_of_new, reply_by, store_by, replied, performed};
 ghost use Rattle.data_component.specs.Keeping.{AreRowsOf, AreKept};
 
@@ -42,8 +40,7 @@ impl Model for Dc {
 
     ghost invariant = { λ d.
         Keeps d.rows.items d.performed.items d.kept.items d.mark d.row_limit d.op_limit
-        × (d.row_limit ≤ vec_capacity d.rows) × (d.op_limit ≤ vec_capacity d.performed) × (d.op_limit ≤ vec_capacity d.kept)
-    };
+        × (d.row_limit ≤ vec_capacity d.rows) × (d.op_limit ≤ vec_capacity d.performed) × (d.op_limit ≤ vec_capacity d.kept) };
 }
 
 impl Dc {

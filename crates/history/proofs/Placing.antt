@@ -24,10 +24,10 @@ get_pushed xs y k x at =
     elim (cases_lt k (length xs)) [
       | inl lt ↦ inl (lt, sym (get_left xs (y ∷ []) k lt) ∙ at)
       | inr ge ↦
-        let within = slice_get_within (xs ++ y ∷ []) k x at in
-        let here : k ≡ length xs = omega (arith, length-append xs (y ∷ [])) in
-        let same : Some y ≡ Some x = sym (get_last xs y) ∙ (ap (λ n. slice_get (xs ++ y ∷ []) n) (sym here) ∙ at) in
-        inr (here, cc)
+          let within = slice_get_within (xs ++ y ∷ []) k x at in
+          let here : k ≡ length xs = omega (arith, length-append xs (y ∷ [])) in
+          let same : Some y ≡ Some x = sym (get_last xs y) ∙ (ap (λ n. slice_get (xs ++ y ∷ []) n) (sym here) ∙ at) in
+          inr (here, cc)
     ]
 
 reversed : (e : Event) (h : List Event) → reverse (e ∷ h) ≡ reverse h ++ e ∷ []
@@ -38,8 +38,8 @@ placed [] place e at = absurd (let bad : None ≡ Some e = at in cc)
 placed (x ∷ h) place e at =
     elim (get_pushed (reverse h) x place e (ap (λ (xs : List Event). slice_get xs place) (sym (reversed x h)) ∙ at)) [
       | inl before ↦
-        let there = placed h place e before.1 in
-        record { later = x ∷ there.later; earlier = there.earlier; is = ap (λ (xs : List Event). x ∷ xs) there.is; count = there.count }
+          let there = placed h place e before.1 in
+          record { later = x ∷ there.later; earlier = there.earlier; is = ap (λ (xs : List Event). x ∷ xs) there.is; count = there.count }
       | inr here ↦ record { later = []; earlier = h; is = ap (λ (y : Event). y ∷ h) here.1; count = sym (here.0 ∙ length-reverse h) }
     ]
 

@@ -13,35 +13,29 @@ ghost use Rattle.history.specs.Places.{StandsAt, Begins};
 /// The numbers that were given out and aren't answered are those with an operation in flight.
 pub fn open_numbers_are_in_flight()
     ensures { (h : List Event) (n : ℕ) → holds n (open_numbers h) ≡ is_open h n }
-{
-}
+{}
 
 /// The mark that is kept beside the open numbers is the history's low-water mark.
 pub fn kept_mark_is_low_water()
     ensures { (h : List Event) (n : ℕ) → IsMark (given h) (open_numbers h) n → IsLowWater h n }
-{
-}
+{}
 
 /// The mark that the definition computes is the low-water mark, and the only one.
 pub fn computed_mark_is_low_water()
     ensures { (h : List Event) (n : ℕ) → IsLowWater h n → n ≡ low_water h }
-{
-}
+{}
 
 /// What stands at a place of the log, counted from the oldest event, stands so in the history.
 pub fn place_in_the_log()
     ensures { (h : List Event) (place : ℕ) (e : Event) → slice_get (reverse h) place ≡ Some e → StandsAt h place e }
-{
-}
+{}
 
 /// And back.
 pub fn place_in_the_history()
     ensures { (h : List Event) (place : ℕ) (e : Event) → StandsAt h place e → slice_get (reverse h) place ≡ Some e }
-{
-}
+{}
 
 /// What stands at a place stays there when the history grows.
 pub fn places_stay()
     ensures { (first h : List Event) (place : ℕ) (e : Event) → Begins first h → StandsAt first place e → StandsAt h place e }
-{
-}
+{}

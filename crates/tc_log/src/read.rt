@@ -182,11 +182,7 @@ fn prints(event: &Event, bytes: &[u8], again: &mut Vec<u8>) -> Result<bool, Allo
 }
 
 // The event that is printed as these 96 bytes.
-fn read_event(
-    alloc: Global,
-    bytes: &[u8],
-    again: &mut Vec<u8>,
-) -> Result<Option<Event>, AllocError>
+fn read_event(alloc: Global, bytes: &[u8], again: &mut Vec<u8>) -> Result<Option<Event>, AllocError>
     requires { length bytes.now ≡ 96 }
     ensures some { IfOk result (λ o. IfSome o (λ e. (has_row e ≡ true) × (printed e ≡ bytes.now))) }
     ensures none { IfOk result (λ o. IfNone o (IsPrinted bytes.now → ⊥)) }

@@ -1,4 +1,4 @@
-use Rattle.std.proofs.Common.{◌≡◌, ◌≤◌, ℕ}
+use Rattle.std.proofs.Common.{◌≤◌, ℕ}
 use Rattle.lock_table.specs.Facts.{held_by, HoldsNothing}
 use Rattle.bench.proofs.locks.repeat.Given as goal
 

@@ -9,10 +9,10 @@ performed-preserved c = record {
   fits = c.perform.ensures.performs.fits c.performed.invariant.fits;
   kept = elim c.if-number-mark.branch [
     | then-number-mark w ↦
-      kept_next c.args.row_limit c.performed.kept.items c.if-number-mark.kept.items c.args.mark c.args.performed.now c.performed.place c.performed.place _ _ c.performed-test.true c.requires.right c.performed.invariant.kept refl w.if-number-mark.true
-      (ap (λ v. v.items) w.kept-is ∙ w.keep.ensures.items) refl
+        kept_next c.args.row_limit c.performed.kept.items c.if-number-mark.kept.items c.args.mark c.args.performed.now c.performed.place c.performed.place _ _ c.performed-test.true c.requires.right c.performed.invariant.kept refl w.if-number-mark.true
+        (ap (λ v. v.items) w.kept-is ∙ w.keep.ensures.items) refl
     | else-number-mark w ↦
-      rw (w.kept-is) (kept_still c.performed.kept.items c.args.mark c.args.performed.now c.performed.place _ _ c.performed-test.true c.performed.invariant.kept refl w.if-number-mark.false)
+        rw (w.kept-is) (kept_still c.performed.kept.items c.args.mark c.args.performed.now c.performed.place _ _ c.performed-test.true c.performed.invariant.kept refl w.if-number-mark.false)
   ];
   rows_room = c.perform.ensures.capacity ∙ c.performed.invariant.rows_room;
   kept_room = elim c.if-number-mark.branch [
