@@ -30,6 +30,11 @@ def seconds(words, text, tries):
     return least
 
 
+def is_refused(line):
+    done = subprocess.run([PROGRAM, "code", "0", "0"], input=line.encode() + b"\n", capture_output=True, check=True)
+    return b"refused 0" not in done.stdout
+
+
 def measured(line, slots, executed, tries):
     """ns a slot to load (decode and verify), and ns an instruction to start and run."""
     text = line.encode() + b"\n"
@@ -69,6 +74,9 @@ def main():
     print(f"{'workload':<22} {'slots':>5} {'ns/slot':>8} {'ratio':>6} {'ns/ins':>7} {'ratio':>6}")
     for line in lines:
         words = line.split("\t")
+        if is_refused(line):
+            print(f"{words[0]:<22} refused by the verifier", flush=True)
+            continue
         slots, executed = len(words[1]) // 16, int(words[-1])
         load, run = measured(line, slots, executed, options.tries)
         decode, enum, flat = theirs[words[0]]

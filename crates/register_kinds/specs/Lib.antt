@@ -3,5 +3,6 @@ pub mod Computed
 pub mod Access
 pub mod Calls
 pub mod Transfer
+pub mod Effects
 pub mod Arriving
 pub mod Fitting

@@ -42,7 +42,7 @@ impl Kinds {
     }
 
     /// These kinds but for one register.
-    pub(crate) fn with(&self, register: Register, kind: Kind) -> Kinds
+    pub fn with(&self, register: Register, kind: Kind) -> Kinds
         ensures { result ≡ with_kind self.now (number_of register) kind }
     {
         let mut registers = self.registers;
@@ -50,8 +50,15 @@ impl Kinds {
         Kinds { registers }
     }
 
+    /// The register has this kind from now on.
+    pub fn set(&mut self, register: Register, kind: Kind)
+        ensures { self.new ≡ with_kind self.old (number_of register) kind }
+    {
+        self.registers[register.index()] = kind;
+    }
+
     /// The kinds after a call with this kind of answer: registers 1 to 5 are empty.
-    pub(crate) fn after_call(&self, answer: Kind) -> Kinds
+    pub fn after_call(&self, answer: Kind) -> Kinds
         ensures { result ≡ after_call self.now answer }
     {
         let mut registers = self.registers;

@@ -1,373 +1,33 @@
-//! What an instruction does to the kinds.
+//! The kinds behind an instruction.
 
-ghost use Rattle.std.specs.Prelude.{◌≡◌, IfOk, ◌%◌, ◌^◌, ◌+ℤ◌, Ok, Some, None, slice_get};
-ghost use Rattle.bpf_encoding.specs.Spelling.{number_of};
-ghost use Rattle.std.specs.Int.{byte_len};
-ghost use Rattle.semantics.specs.Instruction.{size_width, signed_size_width};
-ghost use Rattle.register_kinds.specs.Kinds.{kind_at, check, refuse, is_present};
-ghost use Rattle.register_kinds.specs.Computed.{source_kind, alu_kind};
-ghost use Rattle.register_kinds.specs.Access.{is_within, bounds, access};
-ghost use Rattle.register_kinds.specs.Calls.{is_helper, writes_by, suffices, answer_kind, called_at, called_slot};
+ghost use Rattle.std.specs.Prelude.{◌≡◌, IfOk};
+ghost use Rattle.register_kinds.specs.Effects.{ways_by};
 ghost use Rattle.register_kinds.specs.Fitting.{KeepsKinds};
-ghost use Rattle.register_kinds.specs.Transfer.{is_left_present, is_writable, written_kinds, alu_ways, converted_ways, filled_kinds, loaded_kinds, stored_kinds, stored_register_kinds, null_test, branch_ways, compared_ways, called_ways, exit_ways, transfer_of};
+ghost use Rattle.register_kinds.specs.Transfer.{transfer_of};
 
-use crate::kind::{Kind, Violation};
+use crate::effect::{Effect, effect_of};
+use crate::kind::Violation;
 use crate::kinds::{Kinds, Ways};
 use access_slots::decl::Decl;
-use access_slots::slot::Mode;
-use bpf_encoding::insn::{Condition, Insn, Operation, Register, SignedSize, Size, Source, Width};
+use bpf_encoding::insn::Insn;
 
-fn require(holds: bool, violation: Violation) -> Result<(), Violation>
-    ensures { result ≡ check holds violation (Ok tt) }
+// The kinds on either way.
+fn ways(kinds: &Kinds, effect: Effect) -> Ways
+    ensures { result ≡ ways_by kinds.now effect }
 {
-    if holds { Ok(()) } else { Err(violation) }
-}
-
-// The register is read.
-fn read(kinds: &Kinds, register: Register) -> Result<(), Violation>
-    ensures { result ≡ check (is_present (kind_at kinds.now (number_of register))) Violation.EmptyRegister (Ok tt) }
-{
-    require(kinds.at(register).is_present(), Violation::EmptyRegister)
-}
-
-// The kind of the second operand; a number in the slot counts as its constant.
-fn source_kind(kinds: &Kinds, source: Source) -> Kind
-    ensures { result ≡ source_kind kinds.now source }
-{
-    match source {
-        Source::Imm(imm) => Kind::Const(i64::from(imm).cast_unsigned()),
-        Source::Reg(register) => kinds.at(register),
-    }
-}
-
-fn read_source(kinds: &Kinds, source: Source) -> Result<(), Violation>
-    ensures { result ≡ check (is_present (source_kind kinds.now source)) Violation.EmptyRegister (Ok tt) }
-{
-    require(
-        source_kind(kinds, source).is_present(),
-        Violation::EmptyRegister,
-    )
-}
-
-// The first operand; a move reads none.
-fn read_left(kinds: &Kinds, operation: Operation, dst: Register) -> Result<(), Violation>
-    ensures { result ≡ check (is_left_present kinds.now operation dst) Violation.EmptyRegister (Ok tt) }
-{
-    if operation == Operation::Mov {
-        return Ok(());
-    }
-    read(kinds, dst)
-}
-
-// What an operation gives.
-fn computed(width: Width, operation: Operation, left: Kind, right: Kind) -> Kind
-    ensures { result ≡ alu_kind width operation left right }
-{
-    match (width, operation) {
-        (_, Operation::Mov) => right.copied(width),
-        (Width::Bits64, Operation::Add) => left.sum(right),
-        (Width::Bits64, Operation::Sub) => left.difference(right),
-        _ => Kind::Number,
-    }
-}
-
-// The register isn't register 10.
-fn writable(dst: Register) -> Result<(), Violation>
-    ensures { result ≡ check (is_writable dst) Violation.WritesR10 (Ok tt) }
-{
-    require(dst != Register::R10, Violation::WritesR10)
-}
-
-// Goes on at the next slot alone.
-fn falls(kinds: Kinds) -> Result<Ways, Violation>
-    ensures { result ≡ Ok (record { next = Some kinds; jump = None }) }
-{
-    Ok(Ways {
-        next: Some(kinds),
-        jump: None,
-    })
-}
-
-// The same, where nothing is wrong.
-fn unless(violation: Option<Violation>, kinds: Kinds) -> Result<Ways, Violation>
-    ensures { result ≡ refuse violation (Ok (record { next = Some kinds; jump = None })) }
-{
-    match violation {
-        None => falls(kinds),
-        Some(violation) => Err(violation),
-    }
-}
-
-// Such a value is written into the register.
-fn written(kinds: &Kinds, dst: Register, kind: Kind) -> Result<Ways, Violation>
-    ensures { result ≡ written_kinds kinds.now dst kind }
-{
-    writable(dst)?;
-    falls(kinds.with(dst, kind))
-}
-
-// An operation.
-fn alu(
-    kinds: &Kinds,
-    width: Width,
-    operation: Operation,
-    dst: Register,
-    source: Source,
-) -> Result<Ways, Violation>
-    ensures { result ≡ alu_ways kinds.now width operation dst source }
-{
-    read_left(kinds, operation, dst)?;
-    read_source(kinds, source)?;
-    let kind = computed(width, operation, kinds.at(dst), source_kind(kinds, source));
-    written(kinds, dst, kind)
-}
-
-// A number is computed from one register into another.
-fn converted(kinds: &Kinds, src: Register, dst: Register) -> Result<Ways, Violation>
-    ensures { result ≡ converted_ways kinds.now src dst }
-{
-    read(kinds, src)?;
-    written(kinds, dst, Kind::Number)
-}
-
-// Whether so many bytes from there on lie within a region of this length.
-fn is_within(length: u16, at: i64, bytes: u8) -> bool
-    ensures { result ≡ is_within length at bytes }
-{
-    at >= 0 && at <= i64::from(length) - i64::from(bytes)
-}
-
-fn bounds(length: u16, from: i32, offset: i16, bytes: u8) -> Option<Violation>
-    ensures { result ≡ bounds length (from +ℤ offset) bytes }
-{
-    let at = i64::from(from) + i64::from(offset);
-    if is_within(length, at, bytes) {
-        None
-    } else {
-        Some(Violation::OutOfBounds)
-    }
-}
-
-// What is wrong with a load of so many bytes from there, or a store there.
-fn access(decl: &Decl, stores: bool, base: Kind, offset: i16, bytes: u8) -> Option<Violation>
-    ensures { result ≡ access decl.now stores base offset bytes }
-{
-    match base {
-        Kind::Empty | Kind::Number | Kind::Const(_) => Some(Violation::NotAPointer),
-        Kind::MaybeBuffer(_) => Some(Violation::MaybeNull),
-        Kind::Stack(from) => bounds(512, from, offset, bytes),
-        Kind::Args(_) if stores => Some(Violation::ReadOnly),
-        Kind::Args(from) => bounds(8 * decl.args() as u16, from, offset, bytes),
-        Kind::Buffer(_, from) => bounds(64, from, offset, bytes),
-    }
-}
-
-// How many bytes a load or store moves.
-fn bytes_of(size: Size) -> u8
-    ensures { result ≡ byte_len (size_width size) }
-{
-    match size {
-        Size::Word => 4,
-        Size::Half => 2,
-        Size::Byte => 1,
-        Size::Double => 8,
-    }
-}
-
-fn signed_bytes_of(size: SignedSize) -> u8
-    ensures { result ≡ byte_len (signed_size_width size) }
-{
-    match size {
-        SignedSize::SignedWord => 4,
-        SignedSize::SignedHalf => 2,
-        SignedSize::SignedByte => 1,
-    }
-}
-
-// A number from memory is written into the register, unless something is wrong with the access.
-fn filled(kinds: &Kinds, dst: Register, violation: Option<Violation>) -> Result<Ways, Violation>
-    ensures { result ≡ filled_kinds kinds.now dst violation }
-{
-    writable(dst)?;
-    unless(violation, kinds.with(dst, Kind::Number))
-}
-
-// A number of so many bytes is loaded.
-fn loaded(
-    decl: &Decl,
-    kinds: &Kinds,
-    dst: Register,
-    base: Register,
-    offset: i16,
-    bytes: u8,
-) -> Result<Ways, Violation>
-    ensures { result ≡ loaded_kinds decl.now kinds.now dst base offset bytes }
-{
-    read(kinds, base)?;
-    let violation = access(decl, false, kinds.at(base), offset, bytes);
-    filled(kinds, dst, violation)
-}
-
-// A number of so many bytes is stored.
-fn stored(
-    decl: &Decl,
-    kinds: &Kinds,
-    base: Register,
-    offset: i16,
-    bytes: u8,
-) -> Result<Ways, Violation>
-    ensures { result ≡ stored_kinds decl.now kinds.now base offset bytes }
-{
-    read(kinds, base)?;
-    unless(access(decl, true, kinds.at(base), offset, bytes), *kinds)
-}
-
-// A register's low bytes are stored.
-fn stored_register(
-    decl: &Decl,
-    kinds: &Kinds,
-    base: Register,
-    src: Register,
-    offset: i16,
-    bytes: u8,
-) -> Result<Ways, Violation>
-    ensures { result ≡ stored_register_kinds decl.now kinds.now base src offset bytes }
-{
-    read(kinds, src)?;
-    stored(decl, kinds, base, offset, bytes)
-}
-
-/// Whether there is a helper of this number: read 1, insert 2, update 3, delete 4, buffer 5.
-pub fn is_helper(helper: i32) -> bool
-    ensures { result ≡ is_helper helper }
-{
-    (1..=5).contains(&helper)
-}
-
-// Whether the helper writes: insert, update, delete.
-fn writes_by(helper: i32) -> bool
-    ensures { result ≡ writes_by helper }
-{
-    (2..=4).contains(&helper)
-}
-
-// Whether the helper may be called at a slot of this mode.
-fn suffices(mode: Mode, helper: i32) -> bool
-    ensures { result ≡ suffices mode helper }
-{
-    mode == Mode::Write || !writes_by(helper)
-}
-
-// What the helper answers at this slot.
-fn answer_kind(helper: i32, slot: u8) -> Kind
-    ensures { result ≡ answer_kind helper slot }
-{
-    match helper {
-        1 => Kind::MaybeBuffer(slot),
-        5 => Kind::Buffer(slot, 0),
-        _ => Kind::Number,
-    }
-}
-
-// A call at the slot of this number and mode.
-fn called_at(kinds: &Kinds, helper: i32, slot: u8, mode: Mode) -> Result<Ways, Violation>
-    ensures { result ≡ called_at kinds.now helper slot mode }
-{
-    require(suffices(mode, helper), Violation::ModeTooWeak)?;
-    falls(kinds.after_call(answer_kind(helper, slot)))
-}
-
-// The same where the slot is declared.
-fn called_slot(decl: &Decl, kinds: &Kinds, helper: i32, slot: u64) -> Result<Ways, Violation>
-    ensures { result ≡ called_slot kinds.now helper slot (slice_get decl.now.slots slot) }
-{
-    match decl.slots().get(slot as usize) {
-        None => Err(Violation::SlotUnknown),
-        Some(declared) => called_at(kinds, helper, slot as u8, declared.mode),
-    }
-}
-
-// A call, with the slot that register 1 has.
-fn called(decl: &Decl, kinds: &Kinds, helper: i32) -> Result<Ways, Violation>
-    ensures { result ≡ called_ways decl.now kinds.now helper }
-{
-    read(kinds, Register::R1)?;
-    require(is_helper(helper), Violation::UnknownHelper)?;
-    match kinds.at(Register::R1) {
-        Kind::Const(slot) => called_slot(decl, kinds, helper, slot),
-        _ => Err(Violation::SlotUnknown),
-    }
-}
-
-// The end, with the value of register 0.
-fn left(kinds: &Kinds) -> Result<Ways, Violation>
-    ensures { result ≡ exit_ways kinds.now }
-{
-    read(kinds, Register::R0)?;
-    let is_plain = kinds.at(Register::R0).is_plain();
-    require(is_plain, Violation::PointerReturned)?;
-    Ok(Ways {
-        next: None,
-        jump: None,
-    })
-}
-
-// Whether it tests a whole register against 0; and if so, whether it jumps where it is 0.
-fn null_test(width: Width, condition: Condition, source: Source) -> Option<bool>
-    ensures { result ≡ null_test width condition source }
-{
-    match (width, condition, source) {
-        (Width::Bits64, Condition::Equal, Source::Imm(0)) => Some(true),
-        (Width::Bits64, Condition::NotEqual, Source::Imm(0)) => Some(false),
-        _ => None,
-    }
-}
-
-// Both ways of a condition; a buffer's address that may be 0 is told apart by the test.
-fn branches(kinds: &Kinds, dst: Register, test: Option<bool>) -> Result<Ways, Violation>
-    ensures { result ≡ Ok (branch_ways test (kind_at kinds.now (number_of dst)) (number_of dst) kinds.now) }
-{
-    let (Some(jumps_at_null), Kind::MaybeBuffer(slot)) = (test, kinds.at(dst)) else {
-        return Ok(Ways {
-            next: Some(*kinds),
-            jump: Some(*kinds),
-        });
+    let (next, jump) = match effect {
+        Effect::Falls => (Some(*kinds), None),
+        Effect::Writes(register, kind) => (Some(kinds.with(register, kind)), None),
+        Effect::Returns(kind) => (Some(kinds.after_call(kind)), None),
+        Effect::Jumps => (None, Some(*kinds)),
+        Effect::Branches => (Some(*kinds), Some(*kinds)),
+        Effect::Splits(register, kind, there) => {
+            let next = kinds.with(register, kind);
+            (Some(next), Some(kinds.with(register, there)))
+        }
+        Effect::Ends => (None, None),
     };
-    let null = kinds.with(dst, Kind::Const(0));
-    let buffer = kinds.with(dst, Kind::Buffer(slot, 0));
-    Ok(if jumps_at_null {
-        Ways {
-            next: Some(buffer),
-            jump: Some(null),
-        }
-    } else {
-        Ways {
-            next: Some(null),
-            jump: Some(buffer),
-        }
-    })
-}
-
-// A condition on two operands.
-fn compared(
-    kinds: &Kinds,
-    width: Width,
-    condition: Condition,
-    dst: Register,
-    source: Source,
-) -> Result<Ways, Violation>
-    ensures { result ≡ compared_ways kinds.now width condition dst source }
-{
-    read(kinds, dst)?;
-    read_source(kinds, source)?;
-    branches(kinds, dst, null_test(width, condition, source))
-}
-
-// The number of a wide instruction.
-fn constant(value: u64) -> Kind
-    ensures { result ≡ Kind.Const (value % 2 ^ 64) }
-{
-    Kind::Const(value)
+    Ways { next, jump }
 }
 
 /// The kinds at the next slot and at the jump's target, or what the instruction may not do.
@@ -377,29 +37,8 @@ pub fn transfer(insn: &Insn, kinds: &Kinds, decl: &Decl) -> Result<Ways, Violati
     // What fits the kinds doesn't trap, and fits the kinds of the way that it takes.
     ensures sound { IfOk result (KeepsKinds decl.now insn.now kinds.now) }
 {
-    match *insn {
-        Insn::Alu(width, operation, dst, source) => alu(kinds, width, operation, dst, source),
-        Insn::MoveSigned(_, dst, src) => converted(kinds, src, dst),
-        Insn::Negate(_, dst) | Insn::Order(_, _, dst) => converted(kinds, dst, dst),
-        Insn::LoadWide(dst, value) => written(kinds, dst, constant(value)),
-        Insn::Jump(..) | Insn::JumpLong(..) => Ok(Ways {
-            next: None,
-            jump: Some(*kinds),
-        }),
-        Insn::JumpIf(width, condition, dst, source, _) => {
-            compared(kinds, width, condition, dst, source)
-        }
-        Insn::Load(size, dst, base, offset) => {
-            loaded(decl, kinds, dst, base, offset, bytes_of(size))
-        }
-        Insn::LoadSigned(size, dst, base, offset) => {
-            loaded(decl, kinds, dst, base, offset, signed_bytes_of(size))
-        }
-        Insn::StoreImm(size, base, offset, _) => stored(decl, kinds, base, offset, bytes_of(size)),
-        Insn::Store(size, base, src, offset) => {
-            stored_register(decl, kinds, base, src, offset, bytes_of(size))
-        }
-        Insn::Call(helper) => called(decl, kinds, helper),
-        Insn::Exit => left(kinds),
+    match effect_of(insn, kinds, decl) {
+        Ok(effect) => Ok(ways(kinds, effect)),
+        Err(violation) => Err(violation),
     }
 }

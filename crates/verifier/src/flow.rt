@@ -7,7 +7,7 @@ ghost use Rattle.verifier.specs.Verdict.{first_flaw};
 
 use bpf_encoding::insn::{Insn, Place};
 use register_kinds::kind::Violation;
-use register_kinds::transfer::is_helper;
+use register_kinds::effect::is_helper;
 
 // The offset of a jump.
 fn jump_offset(insn: &Insn) -> Option<i32>
