@@ -92,6 +92,11 @@ IsOp (Insert r v) = is_record r × (length v ≡ 64)
 IsOp (Update r v) = is_record r × (length v ≡ 64)
 IsOp (Delete r) = is_record r
 
+abbrev pub IsSaid : Said → Type 0
+IsSaid (Value v) = length v ≡ 64
+IsSaid (Done (Some v)) = length v ≡ 64
+IsSaid _ = Unit {0}
+
 abbrev pub AreNumbers : List ℕ → Type 0
 AreNumbers [] = Unit {0}
 AreNumbers (n ∷ ns) = (n < 2 ^ 64) × AreNumbers ns
@@ -104,7 +109,7 @@ IsOutcome outcome.NoRoom = Unit {0}
 abbrev pub IsEvent : Event → Type 0
 IsEvent (Admit txn proc args) = (txn < 2 ^ 64) × (proc < 2 ^ 64) × AreNumbers args
 IsEvent (Ask txn number o) = (txn < 2 ^ 64) × (number < 2 ^ 64) × IsOp o
-IsEvent (Answer txn number said) = (txn < 2 ^ 64) × (number < 2 ^ 64)
+IsEvent (Answer txn number said) = (txn < 2 ^ 64) × (number < 2 ^ 64) × IsSaid said
 IsEvent (Undo txn number o) = (txn < 2 ^ 64) × (number < 2 ^ 64) × IsOp o
 IsEvent (End txn o) = (txn < 2 ^ 64) × IsOutcome o
 
@@ -131,6 +136,14 @@ HaveRows (e ∷ events) = (has_row e ≡ true) × HaveRows events
 pub record ArePrinted (events : List Event) (bytes : List ℕ) : Type 0 where
   pub rows : HaveRows events
   pub prints : flat_map printed events ≡ bytes
+
+abbrev pub AreEvents : List Event → Type 0
+AreEvents [] = Unit {0}
+AreEvents (e ∷ events) = IsEvent e × AreEvents events
+
+-- whatever events are printed so are these
+abbrev pub AreOnlyOnes : List Event → List ℕ → Type 0
+AreOnlyOnes events bytes = (others : List Event) → AreEvents others → ArePrinted others bytes → others ≡ events
 
 -- the record at this place, of 96 bytes
 abbrev pub record_at : ℕ → List ℕ → List ℕ

@@ -1,8 +1,8 @@
 //! The log from bytes.
 
-ghost use Rattle.std.specs.Prelude.{◌≡◌, ◌↔◌, ℕ, ◌<◌, ◌≤◌, ◌%◌, List, true, length, drop, slice_index, reverse, IfErr, IfNone, IfOk, IfSome, OnOk};
+ghost use Rattle.std.specs.Prelude.{◌≡◌, ◌↔◌, Some, ℕ, ◌<◌, ◌≤◌, ◌%◌, List, true, length, drop, slice_index, reverse, IfErr, IfNone, IfOk, IfSome, OnOk};
 ghost use Rattle.std.specs.Int.{w16, w64, from_le_bytes};
-ghost use Rattle.tc_log.specs.Reading.{u16_at, u64_at, cells_in, record_in, op_in, said_in, outcome_in, call_in, event_in, numbers_in, has_row, IsPrinted, ArePrinted, IsReadFault};
+ghost use Rattle.tc_log.specs.Reading.{u16_at, u64_at, cells_in, record_in, op_in, said_in, outcome_in, call_in, event_in, numbers_in, has_row, IsPrinted, ArePrinted, AreOnlyOnes, IsReadFault};
 ghost use Rattle.tc_log.specs.Printed.{printed};
 
 use crate::event::{Args, Event, Outcome};
@@ -186,6 +186,7 @@ fn read_event(alloc: Global, bytes: &[u8], again: &mut Vec<u8>) -> Result<Option
     requires { length bytes.now ≡ 96 }
     ensures some { IfOk result (λ o. IfSome o (λ e. (has_row e ≡ true) × (printed e ≡ bytes.now))) }
     ensures none { IfOk result (λ o. IfNone o (IsPrinted bytes.now → ⊥)) }
+    ensures seen { IfOk result (λ o. IfSome o (λ e. event_in (cells_in bytes.now) ≡ Some e)) }
 {
     let Some(event) = event_in(alloc, bytes)? else {
         return Ok(None);
@@ -200,6 +201,7 @@ fn read_event(alloc: Global, bytes: &[u8], again: &mut Vec<u8>) -> Result<Option
 fn events_in(alloc: Global, bytes: &[u8]) -> Result<Vec<Event>, LogFault>
     requires { length bytes.now % 96 ≡ 0 }
     ensures ok { IfOk result (λ events. ArePrinted events.items bytes.now) }
+    ensures only { IfOk result (λ events. AreOnlyOnes events.items bytes.now) }
     ensures err { IfErr result (IsReadFault bytes.now) }
 {
     let count = bytes.len() / 96;
@@ -219,7 +221,7 @@ fn events_in(alloc: Global, bytes: &[u8]) -> Result<Vec<Event>, LogFault>
 
 impl Log {
     ghost use Rattle.std.specs.Prelude.{reverse, IfOk, IfErr};
-    ghost use Rattle.tc_log.specs.Reading.{ArePrinted, IsReadFault};
+    ghost use Rattle.tc_log.specs.Reading.{ArePrinted, AreOnlyOnes, IsReadFault};
 
     /// The log that is printed as these bytes.
     ///
@@ -228,6 +230,8 @@ impl Log {
     /// [`LogFault::Memory`].
     pub fn read(alloc: Global, bytes: &[u8]) -> Result<Log, LogFault>
         ensures ok { IfOk result (λ log. ArePrinted (reverse log.events) bytes.now) }
+        // No other events are printed so.
+        ensures only { IfOk result (λ log. AreOnlyOnes (reverse log.events) bytes.now) }
         ensures err { IfErr result (IsReadFault bytes.now) }
     {
         if bytes.len() % 96 != 0 {

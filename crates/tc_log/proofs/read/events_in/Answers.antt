@@ -1,5 +1,7 @@
-use Rattle.std.proofs.Common.{rules}
+use Rattle.std.proofs.Common.{rules, arith, ◌≡◌, ℕ, List, ◌*◌, subst}
+use Rattle.std.proofs.lemmas.List.{take_all}
 use Rattle.tc_log.proofs.Again.{printed_further, rest_further}
+use Rattle.tc_log.proofs.Only.{AreSeen, seen_further, only_these}
 use Rattle.tc_log.proofs.read.events_in.Goals as goal
 
 pub records-preserved : goal.records-preserved
@@ -7,4 +9,11 @@ records-preserved c = record {
   rest = rest_further c.args.bytes.now c.records.rest.now c.split_at.result.1.now c.records.place c.records.invariant.rest (search rules);
   events = printed_further c.records.events.items c.push.new.self.items c.in-Some.event c.args.bytes.now c.records.rest.now c.split_at.result.0.now c.records.place c.records.invariant.events (search rules) c.records.invariant.rest (search rules) (search rules) (search rules);
   count = search rules;
+  seen = seen_further c.records.events.items c.push.new.self.items c.in-Some.event c.args.bytes.now c.records.rest.now c.split_at.result.0.now c.records.place c.records.invariant.seen c.records.invariant.count (search rules) c.records.invariant.rest
+    (search rules) (search rules) (search rules) (search rules);
 }
+
+pub returns-clause-only : goal.returns-clause-only
+returns-clause-only c =
+    only_these c.records.events.items c.args.bytes.now
+    (subst (λ (b : List ℕ). AreSeen c.records.events.items b) (take_all (96 * c.records.place) c.args.bytes.now (search rules)) c.records.invariant.seen)

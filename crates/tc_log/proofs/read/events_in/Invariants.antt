@@ -1,5 +1,6 @@
 use Rattle.std.proofs.Common.{◌≡◌, ◌*◌, take, drop, length}
 use Rattle.tc_log.specs.Reading.{ArePrinted}
+use Rattle.tc_log.proofs.Only.{AreSeen}
 use Rattle.tc_log.proofs.read.events_in.Given as goal
 
 abbrev pub invariant-records : goal.invariant-records
@@ -7,4 +8,5 @@ invariant-records l = record {
   rest : l.rest ≡ drop (96 * l.place) l.bytes;
   events : ArePrinted l.events.items (take (96 * l.place) l.bytes);
   count : length l.events.items ≡ l.place;
+  seen : AreSeen l.events.items (take (96 * l.place) l.bytes);
 }
