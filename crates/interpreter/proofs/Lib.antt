@@ -2,3 +2,4 @@ pub mod Regions
 pub mod Steps
 pub mod Good
 pub mod Resumed
+pub mod Filling

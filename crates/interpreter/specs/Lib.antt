@@ -1,3 +1,4 @@
+pub mod Filled
 pub mod Held
 pub mod Standing
 pub mod Gives

@@ -5,3 +5,4 @@ pub mod arithmetic;
 pub mod layout;
 pub mod machine;
 pub mod memory;
+mod registers;
