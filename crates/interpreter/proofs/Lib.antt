@@ -3,3 +3,4 @@ pub mod Steps
 pub mod Good
 pub mod Resumed
 pub mod Filling
+pub mod Operating

@@ -1,6 +1,6 @@
 //! The eleven registers.
 
-ghost use Rattle.std.specs.Prelude.{◌≡◌, Some, None, IsSome, slice_set, replicate};
+ghost use Rattle.std.specs.Prelude.{ℕ, ◌≡◌, Some, None, IsSome, slice_set, replicate};
 ghost use Rattle.std.specs.List.{slice_index_or};
 ghost use Rattle.bpf_encoding.specs.Spelling.{number_of};
 ghost use Rattle.semantics.specs.Step.{after_call};
@@ -43,6 +43,14 @@ impl Registers {
     pub(crate) fn get(&self, register: Register) -> u64
         requires { IsSome (slice_index_or self.now (number_of register) None) }
         ensures { slice_index_or self.now (number_of register) None ≡ Some result }
+    {
+        self.values[register.index()]
+    }
+
+    /// The number in a filled register, and any number where it is empty.
+    #[inline(always)]
+    pub(crate) fn peek(&self, register: Register) -> u64
+        ensures { (v : ℕ) → slice_index_or self.now (number_of register) None ≡ Some v → result ≡ v }
     {
         self.values[register.index()]
     }
