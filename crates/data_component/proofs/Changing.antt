@@ -1,5 +1,5 @@
 -- Each operation on sorted rows.
-use Rattle.std.proofs.Common.{arith, ◌≡◌, ℕ, zero, suc, ◌+◌, ◌-◌, ◌<◌, ◌≤◌, nat_lt, Bool, true, false, if◌then◌else◌, List, [], ◌∷◌, length, sym, refl, ap, ap₂, subst, ◌∙◌}
+use Rattle.std.proofs.Common.{arith, ◌≡◌, ℕ, zero, suc, ◌-◌, ◌<◌, ◌≤◌, nat_lt, Bool, true, false, if◌then◌else◌, List, [], ◌∷◌, length, sym, refl, ap, ap₂, subst, ◌∙◌}
 use Rattle.std.specs.Prelude.{Option, Some, None, slice_get, slice_set, slice_index_or}
 use Rattle.std.specs.List.{insert, remove}
 use Rattle.std.proofs.lemmas.Bool.{cond-true, cond-false, lt-ltb}
@@ -15,7 +15,7 @@ use Rattle.access_slots.specs.Locks.{record_eq, record_less, target}
 use Rattle.data_component.specs.Performed.{left, counted, said_to, said_to_read, said_to_insert, said_to_change}
 use Rattle.data_component.specs.Sorted.{Rows, row_of, row_place, SortedRows, IsFoundAt, IsMissingAt}
 use Rattle.data_component.specs.Performing.{Performs}
-use Rattle.data_component.proofs.Finding.{value_at, find_at, sorted_inserted, find_inserted, sorted_set, find_set, sorted_removed, find_removed}
+use Rattle.data_component.proofs.Finding.{length_inserted, value_at, find_at, sorted_inserted, find_inserted, sorted_set, find_set, sorted_removed, find_removed}
 use Rattle.data_component.proofs.Orders.{records}
 
 unchanged : (b : Bool) (o : Option (List ℕ)) → o ≡ (if b then o else o)
@@ -53,12 +53,6 @@ update_missing limit rows r v i at sorted = stays limit rows (Update r v) Missin
 
 pub delete_missing : (limit : ℕ) (rows : Rows) (r : Record) (i : ℕ) → IsMissingAt rows r i → SortedRows rows → Performs limit rows rows (Delete r) Missing
 delete_missing limit rows r i at sorted = stays limit rows (Delete r) Missing (ap said_to_change (sym at.missing)) (λ was. refl) refl sorted
-
-length_inserted : (rows : Rows) (i : ℕ) (y : Record × List ℕ) → length (insert rows i y) ≡ length rows + 1
-length_inserted [] zero y = refl
-length_inserted [] (suc i) y = refl
-length_inserted (x ∷ rows) zero y = omega arith
-length_inserted (x ∷ rows) (suc i) y = omega (arith, length_inserted rows i y)
 
 inserted : (limit : ℕ) (rows : Rows) (r : Record) (v : List ℕ) → row_of rows r ≡ None → length rows < limit → SortedRows rows
     → Performs limit rows (insert rows (row_place rows r) (r, v)) (Insert r v) (Done None)

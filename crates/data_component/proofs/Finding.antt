@@ -1,10 +1,16 @@
 -- Pairs sorted by their first part: one more, one changed, one less.
-use Rattle.std.proofs.Common.{arith, ◌≡◌, ℕ, zero, suc, ◌<◌, ◌≤◌, Bool, true, false, if◌then◌else◌, List, [], ◌∷◌, length, sym, refl, ap, subst, ◌∙◌, one-add}
+use Rattle.std.proofs.Common.{◌+◌, arith, ◌≡◌, ℕ, zero, suc, ◌<◌, ◌≤◌, Bool, true, false, if◌then◌else◌, List, [], ◌∷◌, length, sym, refl, ap, subst, ◌∙◌, one-add}
 use Rattle.std.specs.Prelude.{Option, Some, None, slice_get, slice_set, slice_index_or}
 use Rattle.std.specs.List.{prefix_len, insert, remove}
 use Rattle.std.specs.List.Sorted.{IsPartitionedBy, IsPartitionPoint}
 use Rattle.std.proofs.lemmas.Bool.{cond-true, cond-false}
 use Rattle.data_component.specs.Sorted.{find, AllAbove, Sorted}
+
+pub length_inserted : {X : Type 0} (xs : List X) (i : ℕ) (y : X) → length (insert xs i y) ≡ length xs + 1
+length_inserted [] zero y = refl
+length_inserted [] (suc i) y = refl
+length_inserted (x ∷ xs) zero y = omega arith
+length_inserted (x ∷ xs) (suc i) y = omega (arith, length_inserted xs i y)
 
 -- an order of keys, and when two are equal
 pub record IsOrder {K : Type 0} (eq less : K → K → Bool) : Type 0 where

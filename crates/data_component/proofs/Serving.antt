@@ -13,7 +13,7 @@ use Rattle.data_component.specs.Performed.{Performed, left, counted, said_to, co
 use Rattle.data_component.specs.Sorted.{Rows, Kept, place_of, kept_place}
 use Rattle.data_component.specs.Performing.{Performs}
 use Rattle.data_component.specs.Keeping.{AreRowsOf, AreKept, AllBelow, Keeps, said_by, said_in}
-use Rattle.data_component.proofs.Finding.{find_inserted, sorted_inserted}
+use Rattle.data_component.proofs.Finding.{length_inserted, find_inserted, sorted_inserted}
 use Rattle.data_component.proofs.Orders.{numbers, number_eq}
 
 -- ---- rows
@@ -67,12 +67,6 @@ within_more true kept n m place count is within at = let same : Some count ≡ S
     some_below : (c p : ℕ) → Some c ≡ Some p → p < c + 1
     some_below c p e = let f : c ≡ p = cc in omega (arith, f)
 within_more false kept n m place count is within at = omega (arith, within m place (sym (cond-false _ _ _ is) ∙ at))
-
-length_inserted : (kept : Kept) (i : ℕ) (y : ℕ × ℕ) → length (insert kept i y) ≡ length kept + 1
-length_inserted [] zero y = refl
-length_inserted [] (suc i) y = refl
-length_inserted (x ∷ kept) zero y = omega arith
-length_inserted (x ∷ kept) (suc i) y = omega (arith, length_inserted kept i y)
 
 get_inside : {X : Type 0} (xs : List X) (k : ℕ) → k < length xs → slice_get xs k ≡ None → ⊥
 get_inside [] k inside at = omega (arith, inside)

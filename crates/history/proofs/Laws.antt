@@ -11,12 +11,12 @@ use Rattle.history.specs.Flight.{Flight, given, in_flight, is_flight, is_open, o
 
 -- ---- open numbers
 
+or_false : (b : Bool) → (b || false) ≡ b
+or_false true = refl
+or_false false = refl
+
 holds_last : (m n : ℕ) (ns : List ℕ) → holds m (ns ++ n ∷ []) ≡ (holds m ns || (n == m))
 holds_last m n [] = or_false (n == m)
-  where
-    or_false : (b : Bool) → (b || false) ≡ b
-    or_false true = refl
-    or_false false = refl
 holds_last m n (k ∷ ns) = ap (λ (b : Bool). (k == m) || b) (holds_last m n ns) ∙ assoc (k == m) (holds m ns) (n == m)
   where
     assoc : (x y z : Bool) → (x || (y || z)) ≡ ((x || y) || z)
@@ -30,10 +30,6 @@ asked true m n ns f o is was = holds_last m n ns ∙ ap (λ (b : Bool). holds m 
     or_true true = refl
     or_true false = refl
 asked false m n ns f o is was = holds_last m n ns ∙ ap (λ (b : Bool). holds m ns || b) is ∙ or_false (holds m ns) ∙ was ∙ sym (ap is_flight (cond-false _ _ _ is))
-  where
-    or_false : (b : Bool) → (b || false) ≡ b
-    or_false true = refl
-    or_false false = refl
 
 kept : (x : Bool) (m n k : ℕ) (ns rest : List ℕ) → (k == n) ≡ x → (n == m) ≡ false → holds m rest ≡ holds m ns → holds m (if not x then k ∷ rest else rest) ≡ holds m (k ∷ ns)
 kept false m n k ns rest own apart was = ap (λ (b : Bool). (k == m) || b) was

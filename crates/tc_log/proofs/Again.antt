@@ -169,7 +169,7 @@ row_of e bytes seen is = by_row (has_row e) refl
 seen_in : (bytes : List ℕ) (p : IsPrinted bytes) → event_in (cells_in bytes) ≡ Some p.event
 seen_in bytes p = subst (λ (b : List ℕ). event_in (cells_in b) ≡ Some p.event) p.prints (read_back p.event p.numbers p.row)
 
-some_is : (e f : Event) → Some e ≡ Some f → e ≡ f
+pub some_is : (e f : Event) → Some e ≡ Some f → e ≡ f
 some_is e f is = cc
 
 pub not_printed : (e : Event) (bytes : List ℕ) → event_in (cells_in bytes) ≡ Some e → (printed e ≡ bytes → ⊥) → IsPrinted bytes → ⊥

@@ -1,5 +1,5 @@
 -- Only these events are printed so.
-use Rattle.std.proofs.Common.{arith, ◌≡◌, ℕ, zero, suc, ◌<◌, ◌≤◌, nat_le, Bool, true, false, List, [], ◌∷◌, ◌++◌, length, take, drop, sym, refl, ap, ap₂, subst, ◌∙◌}
+use Rattle.std.proofs.Common.{arith, ◌≡◌, ℕ, ◌≤◌, nat_le, Bool, true, false, List, [], ◌∷◌, ◌++◌, length, take, drop, sym, refl, ap, ap₂, subst, ◌∙◌}
 use Rattle.std.specs.Prelude.{Option, Some, None, ◌==◌, ◌+◌, ◌-◌, ◌*◌}
 use Rattle.std.specs.List.{flat_map}
 use Rattle.std.specs.Int.{w64, to_le_bytes}
@@ -14,9 +14,9 @@ use Rattle.tc_log.specs.declared.event.Event.{Event}
 use Rattle.tc_log.specs.declared.event.Event.TheVariants.{Admit, Ask, Answer, Undo, End}
 use Rattle.tc_log.specs.declared.event.Outcome.{Outcome}
 use Rattle.tc_log.specs.declared.event.Outcome.TheVariants as outcome
-use Rattle.tc_log.specs.Printed.{Cells, cells_of, cells_bytes, head_bytes, number_bytes, printed, printed_cells, zeros, args_bytes, op_cells}
-use Rattle.tc_log.specs.Reading.{cells_in, event_in, IsEvent, IsOp, IsSaid, AreEvents, HaveRows, has_row, ArePrinted, AreOnlyOnes}
-use Rattle.tc_log.proofs.Again.{read_back}
+use Rattle.tc_log.specs.Printed.{Cells, cells_bytes, head_bytes, number_bytes, printed, printed_cells, zeros, args_bytes, op_cells}
+use Rattle.tc_log.specs.Reading.{cells_in, event_in, IsEvent, IsOp, IsSaid, AreEvents, HaveRows, has_row, AreOnlyOnes}
+use Rattle.tc_log.proofs.Again.{read_back, some_is}
 
 -- each record is read as its event
 abbrev pub AreSeen : List Event → List ℕ → Type 0
@@ -84,9 +84,6 @@ seen_of (e ∷ events) bytes are rows is =
     let front : take 96 bytes ≡ printed e = ap (λ (b : List ℕ). take 96 b) (sym is) ∙ take_at (printed e) (flat_map printed events) 96 (long e are.0 rows.0) in
     let back : flat_map printed events ≡ drop 96 bytes = sym (drop_at (printed e) (flat_map printed events) 96 (long e are.0 rows.0)) ∙ ap (λ (b : List ℕ). drop 96 b) is in
     (ap (λ (b : List ℕ). event_in (cells_in b)) front ∙ read_back e are.0 rows.0, seen_of events (drop 96 bytes) are.1 rows.1 back)
-
-some_is : (e f : Event) → Some e ≡ Some f → e ≡ f
-some_is e f is = cc
 
 nothing_left : (e : Event) (bytes : List ℕ) → length bytes ≡ 0 → event_in (cells_in (take 96 bytes)) ≡ Some e → ⊥
 nothing_left e [] none is = let bad : None ≡ Some e = is in cc

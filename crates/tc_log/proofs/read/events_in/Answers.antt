@@ -1,4 +1,4 @@
-use Rattle.std.proofs.Common.{rules, arith, ◌≡◌, ℕ, List, ◌*◌, subst}
+use Rattle.std.proofs.Common.{rules, ℕ, List, ◌*◌, subst}
 use Rattle.std.proofs.lemmas.List.{take_all}
 use Rattle.tc_log.proofs.Again.{printed_further, rest_further}
 use Rattle.tc_log.proofs.Only.{AreSeen, seen_further, only_these}
