@@ -35,24 +35,6 @@ impl Model for LockSet {
     ghost invariant = { λ s. Rising s.locks.items };
 }
 
-impl Record {
-    /// Whether it comes before the other: by data component, then by table, then by key.
-    pub fn is_before(&self, other: &Record) -> bool
-        ensures { result ≡ record_less self.now other.now }
-    {
-        self.dc < other.dc
-            || (self.dc == other.dc
-                && (self.table < other.table
-                    || (self.table == other.table && self.key < other.key)))
-    }
-}
-
-fn is_same(a: &Record, b: &Record) -> bool
-    ensures { result ≡ record_eq a.now b.now }
-{
-    a.dc == b.dc && a.table == b.table && a.key == b.key
-}
-
 fn greater(a: Mode, b: Mode) -> Mode
     ensures { result ≡ greater a b }
 {
@@ -88,7 +70,7 @@ impl Op {
 pub fn conflicts(a: &Op, b: &Op) -> bool
     ensures { result ≡ conflict a.now b.now }
 {
-    is_same(a.record(), b.record()) && !(a.is_read() && b.is_read())
+    a.record() == b.record() && !(a.is_read() && b.is_read())
 }
 
 // How many of the locks come before the record.
@@ -97,7 +79,7 @@ fn count_before(locks: &[Lock], record: &Record) -> usize
 {
     locks
         .iter()
-        .take_while(|lock| lock.record.is_before(record))
+        .take_while(|lock| lock.record < *record)
         .count()
 }
 
@@ -106,7 +88,7 @@ fn is_locked_at(locks: &[Lock], place: usize, record: &Record) -> bool
     ensures { result ≡ locked_at (slice_get locks.now place) record.now }
 {
     match locks.get(place) {
-        Some(lock) => is_same(&lock.record, record),
+        Some(lock) => lock.record == *record,
         None => false,
     }
 }
@@ -205,7 +187,7 @@ fn mode_in(locks: &[Lock], record: &Record) -> Option<Mode>
     ensures { result ≡ mode_in locks.now record.now }
 {
     for lock in locks {
-        if is_same(&lock.record, record) {
+        if lock.record == *record {
             return Some(lock.mode);
         }
     }

@@ -7,7 +7,7 @@ ghost use Rattle.bpf_asm.specs.Lines.{insns_from, assembled};
 ghost use Rattle.bpf_asm.specs.Refused.{IsAsmFault};
 
 use crate::line::{LineFault, insn_of};
-use bpf_encoding::code::Code;
+use bpf_encoding::code::{Code, MOST_SLOTS};
 use bpf_encoding::decode::DecodeFault;
 use bpf_encoding::insn::Insn;
 use std::alloc::{AllocFailed, Global};
@@ -35,8 +35,6 @@ impl<T: Drop> From<AllocFailed<T>> for AsmFault {
         AsmFault::Memory
     }
 }
-
-const MOST_SLOTS: usize = 4096;
 
 // The instructions that all lines say.
 fn insns_of(alloc: Global, text: &str) -> Result<Vec<Insn>, AsmFault>

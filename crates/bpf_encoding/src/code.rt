@@ -9,6 +9,9 @@ use crate::insn::{Insn, Place};
 use std::alloc::{AllocError, Global};
 use std::marker::Model;
 
+/// How many slots code has at most.
+pub const MOST_SLOTS: usize = 4096;
+
 /// Code of 1 to 4096 slots. Each wide instruction is followed by its second slot, and there is
 /// no other second slot. Contracts see the list of its places.
 #[derive(Drop)]
@@ -48,7 +51,7 @@ fn places_of(alloc: Global, insns: &[Insn]) -> Result<Vec<Place>, DecodeFault>
 {
     let mut places = Vec::new(alloc);
     for insn in insns {
-        if places.len() > 4096 - insn.slots() {
+        if places.len() > MOST_SLOTS - insn.slots() {
             return Err(DecodeFault::TooLong);
         }
         put(&mut places, *insn)?;

@@ -10,7 +10,7 @@ ghost use Rattle.bpf_encoding.specs.Viewed.{viewed};
 ghost use Rattle.bpf_encoding.specs.Named.{wide_named, code_named};
 ghost use Rattle.bpf_encoding.specs.declared.insn.Place.{Place};
 
-use crate::code::Code;
+use crate::code::{Code, MOST_SLOTS};
 use crate::insn::{Insn, Place, Register};
 use crate::read::insn_of;
 use crate::slot::{Outside, Slot, SlotFault};
@@ -182,7 +182,7 @@ pub fn decode(alloc: Global, bytes: &[u8]) -> Result<Code, DecodeFault>
     if bytes.len() % 8 != 0 {
         return Err(DecodeFault::Length);
     }
-    if bytes.len() > 8 * 4096 {
+    if bytes.len() > 8 * MOST_SLOTS {
         return Err(DecodeFault::TooLong);
     }
     let places = places_of(alloc, bytes)?;

@@ -18,7 +18,7 @@ fn count_before(rows: &[Row], record: &Record) -> usize
     ensures value { result ≡ row_place rows.now «record».now }
     ensures few { result ≤ length rows.now }
 {
-    rows.partition_point(|row| row.0.is_before(record))
+    rows.partition_point(|row| row.0 < *record)
 }
 
 // The place of the record's row, or the one that it would have.

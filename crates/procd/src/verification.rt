@@ -9,15 +9,13 @@ use crate::script::{Line, ScriptFault, said};
 use access_slots::decl::{Decl, DeclFault};
 use access_slots::slot::Slot;
 use bpf_asm::line::{LineFault, insn_of};
-use bpf_encoding::code::Code;
+use bpf_encoding::code::{Code, MOST_SLOTS};
 use bpf_encoding::insn::Insn;
 use std::alloc::{AllocError, Global};
 use std::collections::BTreeSet;
 use verifier::verify::{VerifyFault, verify};
 
 const MOST_DCS: usize = 16;
-
-const MOST_SLOTS: usize = 4096;
 
 // A procedure as far as it was read.
 #[derive(Drop)]

@@ -6,8 +6,8 @@ ghost use Rattle.verifier.specs.Flow.{target_flaw, jump_flaw, goes_on, fall_flaw
 ghost use Rattle.verifier.specs.Verdict.{first_flaw};
 
 use bpf_encoding::insn::{Insn, Place};
-use register_kinds::kind::Violation;
 use register_kinds::effect::is_helper;
+use register_kinds::kind::Violation;
 
 // The offset of a jump.
 fn jump_offset(insn: &Insn) -> Option<i32>

@@ -77,7 +77,13 @@ fn visit(table: &mut [Option<Kinds>], code: &[Place], decl: &Decl, at: usize) ->
         Ok(effect) => effect,
         Err(violation) => return Some(violation),
     };
-    go_on(table, at + insn.slots(), jump_place(insn, at), &mut kinds, effect);
+    go_on(
+        table,
+        at + insn.slots(),
+        jump_place(insn, at),
+        &mut kinds,
+        effect,
+    );
     None
 }
 
