@@ -45,9 +45,9 @@ impl Kinds {
     pub fn with(&self, register: Register, kind: Kind) -> Kinds
         ensures { result ≡ with_kind self.now (number_of register) kind }
     {
-        let mut registers = self.registers;
-        registers[register.index()] = kind;
-        Kinds { registers }
+        let mut kinds = *self;
+        kinds.set(register, kind);
+        kinds
     }
 
     /// The register has this kind from now on.
