@@ -109,19 +109,18 @@ seen_append [] e front back count seen is long =
     let none : front ≡ [] = nil_from_length front seen in
     subst (λ (f : List ℕ). AreSeen (e ∷ []) (f ++ back)) (sym none)
     (ap (λ (b : List ℕ). event_in (cells_in b)) (take_all 96 back (omega (arith, long))) ∙ is, length-drop 96 back ∙ omega (arith, long))
-seen_append (x ∷ events) e front back count seen is long =
-    (
-        ap (λ (b : List ℕ). event_in (cells_in b)) (take-append-le 96 front back (omega (arith, count))) ∙ seen.0,
-        subst (AreSeen (events ++ e ∷ [])) (sym (drop-append-le 96 front back (omega (arith, count))))
-        (seen_append events e (drop 96 front) back (length-drop 96 front ∙ omega (arith, count)) seen.1 is long),
-    )
+seen_append (x ∷ events) e front back count seen is long = (
+  ap (λ (b : List ℕ). event_in (cells_in b)) (take-append-le 96 front back (omega (arith, count))) ∙ seen.0,
+  subst (AreSeen (events ++ e ∷ [])) (sym (drop-append-le 96 front back (omega (arith, count))))
+      (seen_append events e (drop 96 front) back (length-drop 96 front ∙ omega (arith, count)) seen.1 is long),
+)
 
 pub seen_further : (events new : List Event) (e : Event) (bytes rest front : List ℕ) (place : ℕ) → AreSeen events (take (96 * place) bytes) → length events ≡ place → new ≡ events ++ e ∷ [] → rest ≡ drop (96 * place) bytes
     → front ≡ take 96 rest → length front ≡ 96 → 96 * place ≤ length bytes → event_in (cells_in front) ≡ Some e → AreSeen new (take (96 * (place + 1)) bytes)
 seen_further events new e bytes rest front place seen count grown left cut long few is =
     let at = length-take-le (96 * place) bytes few in
     let joined : take (96 * place) bytes ++ front ≡ take (96 * (place + 1)) bytes =
-        ap (λ (b : List ℕ). take (96 * place) bytes ++ b) (cut ∙ ap (λ (b : List ℕ). take 96 b) left) ∙ sym (take-add (96 * place) 96 bytes) ∙ ap (λ (n : ℕ). take n bytes) (one_further place) in
+    ap (λ (b : List ℕ). take (96 * place) bytes ++ b) (cut ∙ ap (λ (b : List ℕ). take 96 b) left) ∙ sym (take-add (96 * place) 96 bytes) ∙ ap (λ (n : ℕ). take n bytes) (one_further place) in
     subst (λ (es : List Event). AreSeen es (take (96 * (place + 1)) bytes)) (sym grown)
     (subst (AreSeen (events ++ e ∷ [])) joined (seen_append events e (take (96 * place) bytes) front (omega (arith, at, count)) seen is long))
   where

@@ -10,7 +10,7 @@ records-preserved c = record {
   events = printed_further c.records.events.items c.push.new.self.items c.in-Some.event c.args.bytes.now c.records.rest.now c.split_at.result.0.now c.records.place c.records.invariant.events (search rules) c.records.invariant.rest (search rules) (search rules) (search rules);
   count = search rules;
   seen = seen_further c.records.events.items c.push.new.self.items c.in-Some.event c.args.bytes.now c.records.rest.now c.split_at.result.0.now c.records.place c.records.invariant.seen c.records.invariant.count (search rules) c.records.invariant.rest
-    (search rules) (search rules) (search rules) (search rules);
+      (search rules) (search rules) (search rules) (search rules);
 }
 
 pub returns-clause-only : goal.returns-clause-only
