@@ -119,6 +119,14 @@ mark_is h (suc n) = by_test (mark_to h n == n) (is_open h (suc n)) refl refl (ma
             cc)
         below false k last few all = was.greatest k (grind (arith, nat_tests)) all
 
+pub computed_is : (h : List Event) → IsLowWater h (low_water h)
+computed_is h =
+    let mine = mark_is h (given h) in
+    record {
+      all = record { given_out = mine.few; answered = mine.answered };
+      greatest = λ m all. mine.greatest m all.given_out all.answered;
+    }
+
 pub low_water_is : (h : List Event) (n : ℕ) → IsLowWater h n → n ≡ low_water h
 low_water_is h n is =
     let mine = mark_is h (given h) in

@@ -4,9 +4,9 @@ use Rattle.std.specs.Prelude.{reverse}
 use Rattle.std.specs.List.{slice_get}
 use Rattle.std.proofs.lemmas.Bool.{cases_lt}
 use Rattle.std.proofs.lemmas.Option.{slice_get_within}
-use Rattle.std.proofs.lemmas.List.{length-append, length-reverse, append_assoc, reverse-append}
+use Rattle.std.proofs.lemmas.List.{length-append, length-reverse, append_assoc, reverse-append, reverse-reverse}
 use Rattle.tc_log.specs.declared.event.Event.{Event}
-use Rattle.history.specs.Places.{StandsAt, Begins}
+use Rattle.history.specs.Places.{StandsAt, Begins, StartsWith, Each}
 
 get_left : {X : Type 0} (xs ys : List X) (k : ℕ) → k < length xs → slice_get (xs ++ ys) k ≡ slice_get xs k
 get_left [] ys k lt = absurd (omega arith)
@@ -67,3 +67,17 @@ stays first h place e begins at = record {
   is = begins.is ∙ ap (λ (xs : List Event). begins.later ++ xs) at.is ∙ sym (append_assoc begins.later at.later (e ∷ at.earlier));
   count = at.count;
 }
+
+pub starts : (first h : List Event) → Begins first h → StartsWith (reverse first) (reverse h)
+starts first h begins = record { rest = reverse begins.later; is = ap reverse begins.is ∙ reverse-append begins.later first }
+
+pub begins : (first h : List Event) → StartsWith (reverse first) (reverse h) → Begins first h
+begins first h starts = record {
+  later = reverse starts.rest;
+  is = sym (reverse-reverse h) ∙ ap reverse starts.is ∙ reverse-append (reverse first) starts.rest ∙ ap (λ (xs : List Event). reverse starts.rest ++ xs) (reverse-reverse first);
+}
+
+-- what holds of each event behind those before it holds at each place
+pub each_at : (P : List Event → Event → Type 0) (later earlier : List Event) (e : Event) → Each P (later ++ e ∷ earlier) → P earlier e
+each_at P [] earlier e each = each.0
+each_at P (x ∷ later) earlier e each = each_at P later earlier e each.1

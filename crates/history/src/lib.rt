@@ -8,7 +8,7 @@ ghost use Rattle.tc_log.specs.declared.event.Event.{Event};
 ghost use Rattle.request_numbers.specs.Given.{holds};
 ghost use Rattle.request_numbers.specs.LowWater.{IsLowWater as IsMark};
 ghost use Rattle.history.specs.Flight.{given, is_open, open_numbers, low_water, IsLowWater};
-ghost use Rattle.history.specs.Places.{StandsAt, Begins};
+ghost use Rattle.history.specs.Places.{StandsAt, Begins, StartsWith};
 
 /// The numbers that were given out and aren't answered are those with an operation in flight.
 pub fn open_numbers_are_in_flight()
@@ -22,7 +22,8 @@ pub fn kept_mark_is_low_water()
 
 /// The mark that the definition computes is the low-water mark, and the only one.
 pub fn computed_mark_is_low_water()
-    ensures { (h : List Event) (n : ℕ) → IsLowWater h n → n ≡ low_water h }
+    ensures is { (h : List Event) → IsLowWater h (low_water h) }
+    ensures only { (h : List Event) (n : ℕ) → IsLowWater h n → n ≡ low_water h }
 {}
 
 /// What stands at a place of the log, counted from the oldest event, stands so in the history.
@@ -38,4 +39,11 @@ pub fn place_in_the_history()
 /// What stands at a place stays there when the history grows.
 pub fn places_stay()
     ensures { (first h : List Event) (place : ℕ) (e : Event) → Begins first h → StandsAt first place e → StandsAt h place e }
+{}
+
+/// A history begins with another exactly where its log, oldest event first, starts with the
+/// other's.
+pub fn beginning_in_the_log()
+    ensures log { (first h : List Event) → Begins first h → StartsWith (reverse first) (reverse h) }
+    ensures history { (first h : List Event) → StartsWith (reverse first) (reverse h) → Begins first h }
 {}
