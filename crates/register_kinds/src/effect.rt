@@ -97,22 +97,14 @@ fn writable(dst: Register) -> Result<(), Violation>
     require(dst != Register::R10, Violation::WritesR10)
 }
 
-// The effect, where nothing is wrong.
-fn unless(kinds: &Kinds, violation: Option<Violation>, effect: Effect) -> Result<Effect, Violation>
-    ensures { result_by kinds.now result ≡ refuse violation (Ok (ways_by kinds.now effect)) }
+// There is nothing wrong.
+fn permit(violation: Option<Violation>) -> Result<(), Violation>
+    ensures { result ≡ refuse violation (Ok tt) }
 {
     match violation {
-        None => Ok(effect),
+        None => Ok(()),
         Some(violation) => Err(violation),
     }
-}
-
-// Such a value is written into the register.
-fn written(kinds: &Kinds, dst: Register, kind: Kind) -> Result<Effect, Violation>
-    ensures { result_by kinds.now result ≡ written_kinds kinds.now dst kind }
-{
-    writable(dst)?;
-    Ok(Effect::Writes(dst, kind))
 }
 
 // An operation.
@@ -128,7 +120,8 @@ fn alu(
     read_left(kinds, operation, dst)?;
     read_source(kinds, source)?;
     let kind = computed(width, operation, kinds.at(dst), source_kind(kinds, source));
-    written(kinds, dst, kind)
+    writable(dst)?;
+    Ok(Effect::Writes(dst, kind))
 }
 
 // A number is computed from one register into another.
@@ -136,7 +129,8 @@ fn converted(kinds: &Kinds, src: Register, dst: Register) -> Result<Effect, Viol
     ensures { result_by kinds.now result ≡ converted_ways kinds.now src dst }
 {
     read(kinds, src)?;
-    written(kinds, dst, Kind::Number)
+    writable(dst)?;
+    Ok(Effect::Writes(dst, Kind::Number))
 }
 
 // Whether so many bytes from there on lie within a region of this length.
@@ -198,7 +192,8 @@ fn filled(kinds: &Kinds, dst: Register, violation: Option<Violation>) -> Result<
     ensures { result_by kinds.now result ≡ filled_kinds kinds.now dst violation }
 {
     writable(dst)?;
-    unless(kinds, violation, Effect::Writes(dst, Kind::Number))
+    permit(violation)?;
+    Ok(Effect::Writes(dst, Kind::Number))
 }
 
 // A number of so many bytes is loaded.
@@ -229,7 +224,8 @@ fn stored(
 {
     read(kinds, base)?;
     let violation = access(decl, true, kinds.at(base), offset, bytes);
-    unless(kinds, violation, Effect::Falls)
+    permit(violation)?;
+    Ok(Effect::Falls)
 }
 
 // A register's low bytes are stored.
@@ -376,7 +372,10 @@ pub fn effect_of(insn: &Insn, kinds: &Kinds, decl: &Decl) -> Result<Effect, Viol
         Insn::Alu(width, operation, dst, source) => alu(kinds, width, operation, dst, source),
         Insn::MoveSigned(_, dst, src) => converted(kinds, src, dst),
         Insn::Negate(_, dst) | Insn::Order(_, _, dst) => converted(kinds, dst, dst),
-        Insn::LoadWide(dst, value) => written(kinds, dst, constant(value)),
+        Insn::LoadWide(dst, value) => {
+            writable(dst)?;
+            Ok(Effect::Writes(dst, constant(value)))
+        }
         Insn::Jump(..) | Insn::JumpLong(..) => Ok(Effect::Jumps),
         Insn::JumpIf(width, condition, dst, source, _) => {
             compared(kinds, width, condition, dst, source)
