@@ -5,7 +5,8 @@ ghost use Rattle.std.specs.Prelude.{◌≡◌, length, IfSome};
 use access_slots::decl::Decl;
 use bpf_encoding::decode::decode;
 use interpreter::layout::Layout;
-use interpreter::machine::{Machine, Pause};
+use interpreter::machine::Machine;
+use interpreter::pause::Pause;
 use std::alloc::Global;
 use verifier::verify::{Verified, verify};
 

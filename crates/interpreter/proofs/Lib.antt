@@ -4,3 +4,4 @@ pub mod Good
 pub mod Resumed
 pub mod Filling
 pub mod Operating
+mod Stacked

@@ -4,3 +4,4 @@ pub mod Standing
 pub mod Gives
 pub mod Runs
 pub mod Asking
+pub mod Stepping

@@ -5,4 +5,6 @@ pub mod arithmetic;
 pub mod layout;
 pub mod machine;
 pub mod memory;
+pub mod pause;
 mod registers;
+mod state;

@@ -165,8 +165,8 @@ fn access(decl: &Decl, stores: bool, base: Kind, offset: i16, bytes: u8) -> Opti
     }
 }
 
-// How many bytes a load or store moves.
-fn bytes_of(size: Size) -> u8
+/// How many bytes a load or store moves, 1, 2, 4 or 8.
+pub fn bytes_of(size: Size) -> u8
     ensures { result ≡ byte_len (size_width size) }
 {
     match size {

@@ -3,3 +3,4 @@ pub mod Verdict
 pub mod Checked
 pub mod Table
 pub mod Calls
+pub mod Flat

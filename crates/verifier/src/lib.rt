@@ -2,6 +2,7 @@
 //! answers to its questions.
 #![tactic(auto)]
 
+pub mod flat;
 pub mod flow;
 pub mod pass;
 pub mod verify;

@@ -4,14 +4,15 @@ ghost use Rattle.std.specs.Prelude.{◌≡◌, ◌≤◌, ◌<◌, length, IfOk,
 ghost use Rattle.semantics.specs.Reach.{IsSafe};
 ghost use Rattle.semantics.specs.Instruction.{program_of};
 ghost use Rattle.bpf_encoding.specs.Spells.{IsCode};
-ghost use Rattle.verifier.specs.Calls.{is_call_place};
+ghost use Rattle.verifier.specs.Calls.{is_call_place, is_call_flat};
 ghost use Rattle.verifier.specs.Verdict.{verdict, first_flaw, first_violation, IsVerdict};
 
+use crate::flat::{FlatCode, FlatInsn};
 use crate::flow::first_flaw;
 use crate::pass::first_violation;
 use access_slots::decl::Decl;
 use bpf_encoding::code::Code;
-use bpf_encoding::insn::{Insn, Place};
+use bpf_encoding::insn::Place;
 use register_kinds::kind::Violation;
 use std::alloc::{AllocError, Global};
 use std::marker::Model;
@@ -29,7 +30,7 @@ pub enum VerifyFault {
 /// type is the evidence.
 #[derive(Drop)]
 pub struct Verified {
-    code: Code,
+    code: FlatCode,
     decl: Decl,
 }
 
@@ -90,21 +91,24 @@ pub fn verify(alloc: Global, code: Code, decl: Decl) -> Result<Verified, VerifyF
     prove!(decl.args() <= 8);
     prove!(decl.slots().len() <= 16);
     check(alloc, code.places(), &decl)?;
-    Ok(Verified { code, decl })
+    match FlatCode::new(alloc, &code) {
+        Ok(code) => Ok(Verified { code, decl }),
+        Err(_) => Err(VerifyFault::Memory),
+    }
 }
 
-fn is_call(place: &Place) -> bool
-    ensures { result ≡ is_call_place place.now }
+fn is_call(insn: &FlatInsn) -> bool
+    ensures { result ≡ is_call_flat insn.now }
 {
-    matches!(place, Place::Insn(Insn::Call(..)))
+    matches!(insn, FlatInsn::Call(..))
 }
 
-fn calls_in(places: &[Place]) -> usize
-    ensures { result ≡ count_by is_call_place places.now }
+fn calls_in(insns: &[FlatInsn]) -> usize
+    ensures { result ≡ count_by is_call_flat insns.now }
 {
     let mut calls = 0;
-    for place in places {
-        if is_call(place) {
+    for insn in insns {
+        if is_call(insn) {
             calls += 1;
         }
     }
@@ -112,8 +116,9 @@ fn calls_in(places: &[Place]) -> usize
 }
 
 impl Verified {
-    /// The code that was verified.
-    pub fn code(&self) -> &Code
+    /// The code that was verified, in the form in which it is run.
+    #[inline]
+    pub fn code(&self) -> &FlatCode
         ensures value { result.now ≡ self.now.code }
         ensures code { IsCode self.now.code }
         ensures safe { IsSafe (program_of self.now.code self.now.decl) }
@@ -122,6 +127,7 @@ impl Verified {
     }
 
     /// Its declaration.
+    #[inline]
     pub fn decl(&self) -> &Decl
         ensures { result.now ≡ self.now.decl }
     {
@@ -132,6 +138,6 @@ impl Verified {
     pub fn calls(&self) -> usize
         ensures { result ≡ count_by is_call_place self.now.code }
     {
-        calls_in(self.code.places())
+        calls_in(self.code.insns())
     }
 }
