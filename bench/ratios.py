@@ -38,8 +38,8 @@ def is_refused(line):
 def measured(line, slots, executed, tries):
     """ns a slot to load (decode and verify), and ns an instruction to start and run."""
     text = line.encode() + b"\n"
-    loads = 400_000 // slots + 1
-    runs = 20_000_000 // executed + 1
+    loads = 100_000 // slots + 1
+    runs = 4_000_000 // executed + 1
     base = seconds(["code", 0, 0], text, tries)
     load = (seconds(["code", loads, 0], text, tries) - base) / (loads * slots)
     run = (seconds(["code", 0, runs], text, tries) - base) / (runs * executed)
@@ -65,7 +65,7 @@ def main():
     parser = argparse.ArgumentParser()
     parser.add_argument("folder", type=pathlib.Path)
     parser.add_argument("--only", default="")
-    parser.add_argument("--tries", type=int, default=15)
+    parser.add_argument("--tries", type=int, default=40)
     options = parser.parse_args()
     if not PROGRAM.exists():
         sys.exit(f"{PROGRAM} isn't there: `rt run` in crates/bench builds it")

@@ -82,15 +82,15 @@ event_in c =
 
 -- ---- records of 96 bytes that are an event's
 
-abbrev pub is_record : Record → Type 0
-is_record r = (r.dc < 2 ^ 16) × (r.table < 2 ^ 16) × (r.key < 2 ^ 64)
+abbrev pub IsRecord : Record → Type 0
+IsRecord r = (r.dc < 2 ^ 16) × (r.table < 2 ^ 16) × (r.key < 2 ^ 64)
 
 -- the operation's and the answer's numbers and values are those of machines
 abbrev pub IsOp : Op → Type 0
-IsOp (Read r) = is_record r
-IsOp (Insert r v) = is_record r × (length v ≡ 64)
-IsOp (Update r v) = is_record r × (length v ≡ 64)
-IsOp (Delete r) = is_record r
+IsOp (Read r) = IsRecord r
+IsOp (Insert r v) = IsRecord r × (length v ≡ 64)
+IsOp (Update r v) = IsRecord r × (length v ≡ 64)
+IsOp (Delete r) = IsRecord r
 
 abbrev pub IsSaid : Said → Type 0
 IsSaid (Value v) = length v ≡ 64
