@@ -7,8 +7,8 @@ BASELINE_FOLDER has bench.rs and workloads.tsv: a plain Rust interpreter in two 
 for each workload how long it decodes (ns a slot) and executes (ns an instruction). It is built by
 `rustc -O`. The program `bench` has to be built: `rt run` in crates/bench does that.
 
-Each figure is the least of many short runs. The program is timed from outside: a run with the work
-less a run without it. Ratios are of times in this one run; below 1 the proved program is faster.
+Each figure is the least of many short runs, the two programs in turns. The proved one is timed from
+outside: a run with the work less a run without it. Below 1 the proved program is faster.
 """
 import argparse
 import pathlib
@@ -21,66 +21,64 @@ TOP = pathlib.Path(__file__).resolve().parent.parent
 PROGRAM = TOP / "crates" / "bench" / "out" / "bench"
 
 
-def seconds(words, text, tries):
-    least = float("inf")
-    for _ in range(tries):
-        begin = time.perf_counter()
-        subprocess.run([PROGRAM, *map(str, words)], input=text, stdout=subprocess.DEVNULL, check=True)
-        least = min(least, time.perf_counter() - begin)
-    return least
+def seconds(words, text):
+    begin = time.perf_counter()
+    subprocess.run([PROGRAM, *map(str, words)], input=text, stdout=subprocess.DEVNULL, check=True)
+    return time.perf_counter() - begin
 
 
-def is_refused(line):
-    done = subprocess.run([PROGRAM, "code", "0", "0"], input=line.encode() + b"\n", capture_output=True, check=True)
+def is_refused(text):
+    done = subprocess.run([PROGRAM, "code", "0", "0"], input=text, capture_output=True, check=True)
     return b"refused 0" not in done.stdout
 
 
-def measured(line, slots, executed, tries):
-    """ns a slot to load (decode and verify), and ns an instruction to start and run."""
-    text = line.encode() + b"\n"
+def plain(program, text, folder):
+    """What the plain program prints of a workload: ns a slot to decode, ns an instruction in each shape."""
+    kept = folder / "workload.tsv"
+    kept.write_bytes(text)
+    printed = subprocess.run([program, kept], capture_output=True, text=True, check=True).stdout
+    return [float(word) for word in printed.splitlines()[1].split()[-3:]]
+
+
+def measured(program, folder, text, slots, executed, rounds):
+    """ns a slot to load and to decode plainly, ns an instruction to run and to run plainly; the two in turns."""
     loads = 100_000 // slots + 1
     runs = 4_000_000 // executed + 1
-    base = seconds(["code", 0, 0], text, tries)
-    load = (seconds(["code", loads, 0], text, tries) - base) / (loads * slots)
-    run = (seconds(["code", 0, runs], text, tries) - base) / (runs * executed)
-    return load * 1e9, run * 1e9
-
-
-def plain(folder, lines):
-    """What the baseline prints, by workload: ns a slot, ns an instruction in each of two shapes."""
-    with tempfile.TemporaryDirectory() as build:
-        program = pathlib.Path(build) / "plain"
-        subprocess.run(["rustc", "--edition", "2021", "-O", "-A", "warnings", "-o", program, folder / "bench.rs"], check=True)
-        kept = pathlib.Path(build) / "workloads.tsv"
-        kept.write_text("".join(line + "\n" for line in lines))
-        printed = subprocess.run([program, kept], capture_output=True, text=True, check=True).stdout
-    rows = {}
-    for row in printed.splitlines()[1:]:
-        words = row.split()
-        rows[words[0]] = tuple(float(word) for word in words[-3:])
-    return rows
+    base = load = run = decode = execute = float("inf")
+    for _ in range(rounds):
+        for _ in range(10):
+            base = min(base, seconds(["code", 0, 0], text))
+            load = min(load, seconds(["code", loads, 0], text))
+            run = min(run, seconds(["code", 0, runs], text))
+        first, *shapes = plain(program, text, folder)
+        decode, execute = min(decode, first), min(execute, *shapes)
+    return (load - base) * 1e9 / (loads * slots), decode, (run - base) * 1e9 / (runs * executed), execute
 
 
 def main():
     parser = argparse.ArgumentParser()
     parser.add_argument("folder", type=pathlib.Path)
     parser.add_argument("--only", default="")
-    parser.add_argument("--tries", type=int, default=40)
+    parser.add_argument("--rounds", type=int, default=4)
     options = parser.parse_args()
     if not PROGRAM.exists():
         sys.exit(f"{PROGRAM} isn't there: `rt run` in crates/bench builds it")
-    lines = [line for line in (options.folder / "workloads.tsv").read_text().splitlines() if options.only in line.split("\t")[0]]
-    theirs = plain(options.folder, lines)
     print(f"{'workload':<22} {'slots':>5} {'ns/slot':>8} {'ratio':>6} {'ns/ins':>7} {'ratio':>6}")
-    for line in lines:
-        words = line.split("\t")
-        if is_refused(line):
-            print(f"{words[0]:<22} refused by the verifier", flush=True)
-            continue
-        slots, executed = len(words[1]) // 16, int(words[-1])
-        load, run = measured(line, slots, executed, options.tries)
-        decode, enum, flat = theirs[words[0]]
-        print(f"{words[0]:<22} {slots:>5} {load:>8.1f} {load / decode:>6.2f} {run:>7.2f} {run / min(enum, flat):>6.2f}", flush=True)
+    with tempfile.TemporaryDirectory() as build:
+        folder = pathlib.Path(build)
+        program = folder / "plain"
+        subprocess.run(["rustc", "--edition", "2021", "-O", "-A", "warnings", "-o", program, options.folder / "bench.rs"], check=True)
+        for line in (options.folder / "workloads.tsv").read_text().splitlines():
+            words = line.split("\t")
+            if options.only not in words[0]:
+                continue
+            text = line.encode() + b"\n"
+            if is_refused(text):
+                print(f"{words[0]:<22} refused by the verifier", flush=True)
+                continue
+            slots, executed = len(words[1]) // 16, int(words[-1])
+            load, decode, run, execute = measured(program, folder, text, slots, executed, options.rounds)
+            print(f"{words[0]:<22} {slots:>5} {load:>8.1f} {load / decode:>6.2f} {run:>7.2f} {run / execute:>6.2f}", flush=True)
 
 
 main()
