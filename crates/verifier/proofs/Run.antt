@@ -1,19 +1,24 @@
 -- Code with which nothing is wrong is safe.
-use Rattle.std.proofs.Common.{◌≡◌, ℕ, zero, suc, ◌+◌, ◌*◌, ◌<◌, ◌≤◌, ◌^◌, true, false, Option, Some, None, Result, Ok, Err, List, [], ◌∷◌, length, take, refl, sym, ap, ap₂, ◌∙◌, subst, inl, inr, arith}
-use Rattle.std.specs.Prelude.{pos, slice_get}
+use Rattle.std.proofs.Common.{◌≡◌, ℕ, zero, suc, ◌+◌, ◌-◌, ◌*◌, ◌<◌, ◌≤◌, ◌^◌, Bool, true, false, cond, ◌==◌, Option, Some, None, Result, Ok, Err, List, [], ◌∷◌, length, take, refl, sym, ap, ap₂, ◌∙◌, subst, inl, inr, arith}
+use Rattle.std.specs.Prelude.{ℤ, pos, ◌+ℤ◌, slice_get, slice_set, count_by}
+use Rattle.std.proofs.lemmas.List.Recursion.{is_count_by}
 use Rattle.std.specs.List.{slice_index_or, flat_map}
-use Rattle.std.specs.Int.{w64, to_le_bytes}
+use Rattle.std.specs.Int.{Width, w64, to_le_bytes}
 use Rattle.std.proofs.lemmas.List.{length-append, length-replicate}
 use Rattle.std.proofs.lemmas.Option.{slice_get_within}
 use Rattle.access_slots.specs.Access.{fits, is_no_room}
 use Rattle.access_slots.specs.Declaration.{Declaration}
 use Rattle.access_slots.specs.declared.op.Said.{Said}
+use Rattle.access_slots.specs.declared.op.Said.TheVariants as said
+use Rattle.bpf_encoding.specs.Spelling.{number_of}
 use Rattle.bpf_encoding.specs.declared.insn.Insn.{Insn}
+use Rattle.bpf_encoding.specs.declared.insn.Insn.TheVariants.{Alu, Negate, MoveSigned, Order, LoadWide, Jump, JumpLong, JumpIf, Load, LoadSigned, StoreImm, Store, Call, Exit}
 use Rattle.bpf_encoding.specs.declared.insn.Place.{Place}
 use Rattle.bpf_encoding.specs.declared.insn.Place.TheVariants as place
-use Rattle.semantics.specs.Step.{Config, Step, Next, Ask, Done, Trap, Bases, Setting, address, step}
+use Rattle.semantics.specs.Memory.{Memory}
+use Rattle.semantics.specs.Step.{Config, Cause, EmptyRead, WroteR10, Step, Next, Ask, Done, Trap, Bases, Setting, address, step, register, need, put, place_of, goes_to, if_taken, loaded, stored}
 use Rattle.semantics.specs.Reach.{Stop, Asked, Exited, Trapped, Unfinished, IsLayout, AreArguments, IsBySlot, AnswersFit, FitsStop, buffer_regions, entry_memory, advance, onwards, on_from, run, answered, reach, entry, from_step, IsFineStop, IsSafe}
-use Rattle.semantics.specs.Instruction.{instruction_step, program_of, setting}
+use Rattle.semantics.specs.Instruction.{instruction_step, program_of, setting, value_of, left_of}
 use Rattle.semantics.proofs.Bridge.{step-instruction, length-program}
 use Rattle.semantics.proofs.Extended.{address_zero}
 use Rattle.register_kinds.specs.declared.kind.Violation.{Violation}
@@ -28,6 +33,8 @@ use Rattle.register_kinds.proofs.Sound.{step_sound}
 use Rattle.verifier.specs.Flow.{jump_flaw, fall_flaw, call_flaw, or_else, flow_violation, flow_by, flow_at}
 use Rattle.verifier.specs.Verdict.{first_flaw, first_violation, or_first}
 use Rattle.verifier.specs.Checked.{IsAccepted}
+use Rattle.verifier.specs.Calls.{is_call, is_call_place}
+use Rattle.verifier.specs.Asks.{AsksAtMost}
 use Rattle.verifier.proofs.Firsts.{all_none}
 use Rattle.verifier.proofs.Behind.{KnownWeaker, known_on, known_later, arrives, HasInsn, head_insn, behind, or_none, both_none, lands, jump_leads, next_goes_on, falls_within, next_later}
 
@@ -77,6 +84,108 @@ entry_all s is = record { at = at }
     at (suc (suc (suc (suc (suc (suc (suc (suc (suc zero))))))))) = tt
     at (suc (suc (suc (suc (suc (suc (suc (suc (suc (suc zero)))))))))) = ap (λ (n : ℕ). Some n) (stack_end s.bases.stack (laid_of s is).stack)
     at (suc (suc (suc (suc (suc (suc (suc (suc (suc (suc (suc r))))))))))) = tt
+
+-- ---- only a call asks
+
+abbrev AsksOnly : Bool → Step → Type 0
+AsksOnly b (Next c) = Unit {0}
+AsksOnly b (Ask k operation c) = b ≡ true
+AsksOnly b (Done v c) = Unit {0}
+AsksOnly b (Trap cause) = Unit {0}
+
+call_asks : (s : Step) → AsksOnly true s
+call_asks (Next c) = tt
+call_asks (Ask k operation c) = refl
+call_asks (Done v c) = tt
+call_asks (Trap cause) = tt
+
+need_asks : (b : Bool) (cause : Cause) (o : Option ℕ) (go : ℕ → Step) → ((n : ℕ) → AsksOnly b (go n)) → AsksOnly b (need cause o go)
+need_asks b cause None go h = tt
+need_asks b cause (Some n) go h = h n
+
+put_asks : (b : Bool) (c : Config) (slots r v : ℕ) → AsksOnly b (put c slots r v)
+put_asks b c slots r v = elim (r == 10) as (λ t. AsksOnly b (cond t (Trap WroteR10) (Next (record { place = c.place + slots; registers = slice_set c.registers r (Some v); memory = c.memory; taken = c.taken + 1 })))) [ true ↦ tt | false ↦ tt ]
+
+goes_asks : (b : Bool) (c : Config) (o : Option ℕ) → AsksOnly b (goes_to c o)
+goes_asks b c None = tt
+goes_asks b c (Some n) = tt
+
+if_taken_asks : (b t : Bool) (c : Config) (offset : ℤ) → AsksOnly b (if_taken t c offset)
+if_taken_asks b true c offset = goes_asks b c (place_of (pos (c.place + 1) +ℤ offset))
+if_taken_asks b false c offset = goes_asks b c (place_of (pos (c.place + 1) +ℤ pos 0))
+
+loaded_asks : (b : Bool) (c : Config) (w : Width) (signed : Bool) (r : ℕ) (o : Option (List ℕ)) → AsksOnly b (loaded c w signed r o)
+loaded_asks b c w signed r None = tt
+loaded_asks b c w signed r (Some bytes) = put_asks b c 1 r _
+
+stored_asks : (b : Bool) (c : Config) (o : Option Memory) → AsksOnly b (stored c o)
+stored_asks b c None = tt
+stored_asks b c (Some m) = tt
+
+insn_asks : (s : Setting) (c : Config) (i : Insn) → AsksOnly (is_call i) (instruction_step s c i)
+insn_asks s c (Alu width operation dst source) =
+    need_asks false EmptyRead (value_of c source) _ (λ b. need_asks false EmptyRead (left_of c operation dst) _ (λ a. put_asks false c 1 (number_of dst) _))
+insn_asks s c (Negate width dst) = need_asks false EmptyRead (register c (number_of dst)) _ (λ a. put_asks false c 1 (number_of dst) _)
+insn_asks s c (MoveSigned extension dst src) = need_asks false EmptyRead (register c (number_of src)) _ (λ b. put_asks false c 1 (number_of dst) _)
+insn_asks s c (Order order width dst) = need_asks false EmptyRead (register c (number_of dst)) _ (λ a. put_asks false c 1 (number_of dst) _)
+insn_asks s c (LoadWide dst value) = put_asks false c 2 (number_of dst) _
+insn_asks s c (Jump offset) = goes_asks false c _
+insn_asks s c (JumpLong offset) = goes_asks false c _
+insn_asks s c (JumpIf width condition dst source offset) =
+    need_asks false EmptyRead (register c (number_of dst)) _ (λ a. need_asks false EmptyRead (value_of c source) _ (λ b. if_taken_asks false _ c offset))
+insn_asks s c (Load size dst base offset) = need_asks false EmptyRead (register c (number_of base)) _ (λ b. loaded_asks false c _ false (number_of dst) _)
+insn_asks s c (LoadSigned size dst base offset) = need_asks false EmptyRead (register c (number_of base)) _ (λ b. loaded_asks false c _ true (number_of dst) _)
+insn_asks s c (StoreImm size base offset imm) = need_asks false EmptyRead (register c (number_of base)) _ (λ b. stored_asks false c _)
+insn_asks s c (Store size base src offset) =
+    need_asks false EmptyRead (register c (number_of base)) _ (λ b. need_asks false EmptyRead (register c (number_of src)) _ (λ v. stored_asks false c _))
+insn_asks s c (Call helper) = call_asks (instruction_step s c (Call helper))
+insn_asks s c Exit = need_asks false EmptyRead (register c 0) _ (λ v. tt)
+
+-- ---- how many calls stand in the code from a place on
+
+abbrev calls_of : List Place → ℕ
+calls_of [] = 0
+calls_of (p ∷ ps) = cond (is_call_place p) (1 + calls_of ps) (calls_of ps)
+
+abbrev calls_from : List Place → ℕ → ℕ
+calls_from [] at = 0
+calls_from (p ∷ ps) zero = calls_of (p ∷ ps)
+calls_from (p ∷ ps) (suc at) = calls_from ps at
+
+from_first : (code : List Place) → calls_from code 0 ≡ calls_of code
+from_first [] = refl
+from_first (p ∷ ps) = refl
+
+from_call : (code : List Place) (at : ℕ) (i : Insn) → slice_get code at ≡ Some (place.Insn i) → is_call i ≡ true → calls_from code at ≡ suc (calls_from code (suc at))
+from_call [] at i e call = absurd cc
+from_call (p ∷ ps) zero i e call =
+    let same : p ≡ place.Insn i = cc in
+    let yes : is_call_place p ≡ true = ap is_call_place same ∙ call in
+    let f = from_first ps in
+    let one : cond (is_call_place p) (1 + calls_of ps) (calls_of ps) ≡ 1 + calls_of ps = ap (λ (b : Bool). cond b (1 + calls_of ps) (calls_of ps)) yes in
+    omega (arith, f, one)
+from_call (p ∷ ps) (suc at) i e call = from_call ps at i e call
+
+from_one : (code : List Place) (at : ℕ) → calls_from code (suc at) ≤ calls_from code at
+from_one [] at = omega arith
+from_one (p ∷ ps) zero = let f = from_first ps in elim (is_call_place p) as (λ b. calls_from ps 0 ≤ cond b (1 + calls_of ps) (calls_of ps)) [ true ↦ omega (arith, f) | false ↦ omega (arith, f) ]
+from_one (p ∷ ps) (suc at) = from_one ps at
+
+from_on : (code : List Place) (more at : ℕ) → calls_from code (more + at) ≤ calls_from code at
+from_on code zero at = (let e : 0 + at ≡ at = omega arith in subst (λ (k : ℕ). calls_from code k ≤ calls_from code at) (sym e) (omega arith))
+from_on code (suc more) at = (let e : suc more + at ≡ suc (more + at) = omega arith in subst (λ (k : ℕ). calls_from code k ≤ calls_from code at) (sym e) (omega (arith, from_on code more at, from_one code (more + at))))
+
+from_later : (code : List Place) (at to : ℕ) → at ≤ to → calls_from code to ≤ calls_from code at
+from_later code at to le = let e : to - at + at ≡ to = omega (arith, le) in subst (λ (k : ℕ). calls_from code k ≤ calls_from code at) e (from_on code (to - at) at)
+
+same_place : (s : Setting) (k : ℕ) (c : Config) (a : Said) → (answered s k c a).place ≡ c.place + 1
+same_place s k c (said.Value v) = refl
+same_place s k c said.Absent = refl
+same_place s k c (said.Done former) = refl
+same_place s k c said.Duplicate = refl
+same_place s k c said.Missing = refl
+same_place s k c said.NoRoom = refl
+same_place s k c said.Old = refl
 
 -- ---- a run
 
@@ -243,6 +352,104 @@ module _ (code : List Place) (decl : Declaration) (accepted : IsAccepted decl co
         standing = record { eleven = refl; memory = entry_shaped (length decl.slots) args b };
         few = omega arith;
       }
+
+  -- ---- each question is of a later call slot than the one before
+
+  -- a call stands at the place
+  abbrev IsCallAt : ℕ → Type 0
+  IsCallAt at = (i : Insn) × (slice_get code at ≡ Some (place.Insn i)) × (is_call i ≡ true)
+
+  abbrev CountedStep : ℕ → Step → Type 0
+  CountedStep at (Next c) = Unit {0}
+  CountedStep at (Ask slot operation c) = IsCallAt at
+  CountedStep at (Done v c) = Unit {0}
+  CountedStep at (Trap cause) = Unit {0}
+
+  insn_counted : (at : ℕ) (i : Insn) → slice_get code at ≡ Some (place.Insn i) → (s : Step) → AsksOnly (is_call i) s → CountedStep at s
+  insn_counted at i stands (Next c) h = tt
+  insn_counted at i stands (Ask slot operation c) h = (i, stands, h)
+  insn_counted at i stands (Done v c) h = tt
+  insn_counted at i stands (Trap cause) h = tt
+
+  counted_step : (c : Config) → FitsAt here code c → CountedStep c.place (step here c)
+  counted_step c at =
+      subst (CountedStep c.place) (sym (step-instruction code decl args b c at.insn accepted.whole.whole at.stands))
+      (insn_counted c.place at.insn at.stands (instruction_step here c at.insn) (insn_asks here c at.insn))
+
+  abbrev CountedStop : ℕ → Stop → Type 0
+  CountedStop from (Asked slot operation c) = (from ≤ c.place) × IsCallAt c.place
+  CountedStop from (Exited v c) = Unit {0}
+  CountedStop from (Trapped cause) = Unit {0}
+  CountedStop from Unfinished = Unit {0}
+
+  lower_stop : (at to : ℕ) → at ≤ to → (s : Stop) → CountedStop to s → CountedStop at s
+  lower_stop at to le (Asked slot operation c) h = (let p = h.0 in (omega (arith, le, p), h.1))
+  lower_stop at to le (Exited v c) h = tt
+  lower_stop at to le (Trapped cause) h = tt
+  lower_stop at to le Unfinished h = tt
+
+  go_counted : (n at : ℕ) (s : Step) → SafeStep at s → CountedStep at s → ((c : Config) → FitsAt here code c → CountedStop c.place (advance here n c)) → CountedStop at (from_step s (advance here n))
+  go_counted n at (Next c) safe h more = let later = safe.1 in lower_stop at c.place (omega (arith, later)) (advance here n c) (more c safe.0)
+  go_counted n at (Ask slot operation c) safe h more = let same : c.place ≡ at = safe.1 in (omega (arith, same), subst IsCallAt (sym same) h)
+  go_counted n at (Done v c) safe h more = tt
+  go_counted n at (Trap cause) safe h more = tt
+
+  advance_counted : (n : ℕ) (c : Config) → FitsAt here code c → CountedStop c.place (advance here n c)
+  advance_counted zero c at = tt
+  advance_counted (suc n) c at = go_counted n c.place (step here c) (safe_step c at) (counted_step c at) (advance_counted n)
+
+  whole_counted : (c : Config) → FitsAt here code c → CountedStop c.place (onwards here c)
+  whole_counted c at = subst (λ (n : ℕ). CountedStop c.place (advance here n c)) (sym slots_are) (advance_counted (length code) c at)
+
+  -- so many answers, and then a question: as many calls stand from here on, and one more
+  abbrev FewAnswers : ℕ → ℕ → Stop → Type 0
+  FewAnswers n from (Asked slot operation c) = n < calls_from code from
+  FewAnswers n from (Exited v c) = Unit {0}
+  FewAnswers n from (Trapped cause) = Unit {0}
+  FewAnswers n from Unfinished = Unit {0}
+
+  no_answers : (from : ℕ) (s : Stop) → CountedStop from s → FewAnswers 0 from s
+  no_answers from (Asked slot operation c) h =
+      let one = from_call code c.place h.1.0 h.1.1 h.1.2 in
+      let later = from_later code from c.place h.0 in
+      omega (arith, one, later)
+  no_answers from (Exited v c) h = tt
+  no_answers from (Trapped cause) h = tt
+  no_answers from Unfinished h = tt
+
+  one_more_answer : (n from at : ℕ) (s : Stop) → suc (calls_from code (suc at)) ≤ calls_from code from → FewAnswers n (suc at) s → FewAnswers (suc n) from s
+  one_more_answer n from at (Asked slot operation c) le h = omega (arith, le, h)
+  one_more_answer n from at (Exited v c) le h = tt
+  one_more_answer n from at (Trapped cause) le h = tt
+  one_more_answer n from at Unfinished le h = tt
+
+  after_counted : (from : ℕ) (s : Stop) (a : Said) (later : List Said) → SafeStop s → CountedStop from s → FitsStop s a (λ k c'. AnswersFit here (answered here k c' a) later)
+      → ((c : Config) → FitsAt here code c → AnswersFit here c later → FewAnswers (length later) c.place (run here c later))
+      → FewAnswers (suc (length later)) from (on_from here s (λ k c'. run here (answered here k c' a) later))
+  after_counted from (Asked slot operation c) a later safe h f more =
+      let one = from_call code c.place h.1.0 h.1.1 h.1.2 in
+      let below = from_later code from c.place h.0 in
+      let next : (answered here slot c a).place ≡ suc c.place = (let p = same_place here slot c a in omega (arith, p)) in
+      let rest = more (answered here slot c a) (safe.3 a f.0 f.1) f.2 in
+      one_more_answer (length later) from c.place (run here (answered here slot c a) later) (omega (arith, one, below))
+      (subst (λ (k : ℕ). FewAnswers (length later) k (run here (answered here slot c a) later)) next rest)
+  after_counted from (Exited v c) a later safe h f more = tt
+  after_counted from (Trapped cause) a later safe h f more = tt
+  after_counted from Unfinished a later safe h f more = tt
+
+  run_counted : (answers : List Said) (c : Config) → FitsAt here code c → AnswersFit here c answers → FewAnswers (length answers) c.place (run here c answers)
+  run_counted [] c at f = no_answers c.place (onwards here c) (whole_counted c at)
+  run_counted (a ∷ later) c at f = after_counted c.place (onwards here c) a later (whole_safe c at) (whole_counted c at) f (run_counted later)
+
+-- each question of a run is of another call slot, so there are more of these than answers before it
+pub accepted_asks_few : (code : List Place) (decl : Declaration) → IsAccepted decl code → AsksAtMost (program_of code decl) (count_by is_call_place code)
+accepted_asks_few code decl accepted = record {
+  few = λ args b answers slot operation c layout arguments fit asked.
+      let counted = run_counted code decl accepted args b layout arguments answers (entry (setting code decl args b)) (entry_fits code decl accepted args b layout arguments) fit in
+      let here : length answers < calls_from code 0 = subst (FewAnswers code decl accepted args b layout arguments (length answers) 0) asked counted in
+      let all = from_first code ∙ is_count_by calls_of is_call_place refl (λ p ps. refl) code in
+      omega (arith, here, all);
+}
 
 pub accepted_is_safe : (code : List Place) (decl : Declaration) → IsAccepted decl code → IsSafe (program_of code decl)
 accepted_is_safe code decl accepted = record {

@@ -4,3 +4,4 @@ pub mod Checked
 pub mod Table
 pub mod Calls
 pub mod Flat
+pub mod Asks

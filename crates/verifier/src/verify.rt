@@ -4,6 +4,7 @@ ghost use Rattle.std.specs.Prelude.{◌≡◌, ◌≤◌, ◌<◌, length, IfOk,
 ghost use Rattle.semantics.specs.Reach.{IsSafe};
 ghost use Rattle.semantics.specs.Instruction.{program_of};
 ghost use Rattle.bpf_encoding.specs.Spells.{IsCode};
+ghost use Rattle.verifier.specs.Asks.{AsksAtMost};
 ghost use Rattle.verifier.specs.Calls.{is_call_place, is_call_flat};
 ghost use Rattle.verifier.specs.Verdict.{verdict, first_flaw, first_violation, IsVerdict};
 
@@ -136,7 +137,8 @@ impl Verified {
 
     /// How many of its instructions call a helper.
     pub fn calls(&self) -> usize
-        ensures { result ≡ count_by is_call_place self.now.code }
+        ensures value { result ≡ count_by is_call_place self.now.code }
+        ensures few { AsksAtMost (program_of self.now.code self.now.decl) (count_by is_call_place self.now.code) }
     {
         calls_in(self.code.insns())
     }

@@ -1,0 +1,33 @@
+-- Where the machine of an open transaction stands.
+use Rattle.std.specs.Prelude.{◌≡◌, ℕ, List, [], Option, Some, None, true, false}
+use Rattle.access_slots.specs.Access.{fits, is_no_room}
+use Rattle.access_slots.specs.declared.op.Op.{Op}
+use Rattle.access_slots.specs.declared.op.Said.{Said}
+use Rattle.semantics.specs.Reach.{AreArguments}
+use Rattle.semantics.specs.Row.{plain_bases}
+use Rattle.verifier.specs.Checked.{Checked}
+use Rattle.interpreter.specs.Standing.{IsStarted}
+use Rattle.interpreter.specs.Gives.{Pauses}
+use Rattle.interpreter.specs.declared.pause.Pause.{Pause}
+use Rattle.interpreter.specs.declared.pause.Pause.TheVariants as pause
+use Rattle.transactions.specs.Reached.{Reached, Asks, Ends, reached_of, stop_at, Fitting}
+use Rattle.tc_core.specs.declared.transaction.Tx.{Tx}
+
+-- the machine, and what it stopped at, are where the procedure's run stands on these answers
+pub record Runs (q : Checked) (tx : Tx) (args : List ℕ) (answers : List Said) : Type 0 where
+  pub started : IsStarted q.decl tx.machine
+  pub call : tx.machine.args ≡ args
+  pub layout : tx.machine.bases ≡ plain_bases
+  pub pauses : Pauses tx.pause tx.machine.config (stop_at q args answers)
+
+-- it asked for the operation, and the answer fits it
+pub record MayResume (q : Checked) (tx : Tx) (args : List ℕ) (answers : List Said) (o : Op) (said : Said) : Type 0 where
+  pub runs : Runs q tx args answers
+  pub fit : Fitting q args answers
+  pub asks : reached_of (stop_at q args answers) ≡ Asks o
+  pub fits : fits o said ≡ true
+
+-- where a run stands that stopped so
+abbrev pub as_reached : Pause → Reached
+as_reached (pause.Ask o) = Asks o
+as_reached (pause.Exit v) = Ends v

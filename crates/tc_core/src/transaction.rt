@@ -1,0 +1,246 @@
+// An open transaction, as it is kept.
+
+ghost use Rattle.std.specs.Prelude.{◌≡◌, ◌+◌, ◌-◌, ◌<◌, ◌≤◌, ℕ, List, [], ◌∷◌, ◌++◌, length, Option, Some, None, true, false, ◌||◌, IfOk};
+ghost use Rattle.access_slots.specs.declared.op.Op.{Op};
+ghost use Rattle.access_slots.specs.declared.op.Said.{Said};
+ghost use Rattle.access_slots.specs.Access as Access;
+ghost use Rattle.access_slots.specs.Access.{is_no_room};
+ghost use Rattle.transactions.specs.Standing as Standings;
+ghost use Rattle.transactions.specs.Standing.{Standing, sent_as, rest_of, told_to, found_full, undo_done, tries_done, answered};
+ghost use Rattle.tc_core.specs.Hearing.{MayHear};
+ghost use Rattle.tc_core.specs.Kept.{Keeps};
+ghost use Rattle.semantics.specs.Reach.{AreArguments};
+ghost use Rattle.transactions.specs.Legal.{first_undo};
+ghost use Rattle.transactions.specs.Next.{next_by};
+ghost use Rattle.transactions.specs.Next as Nexts;
+ghost use Rattle.tc_core.specs.Running.{Runs, MayResume, as_reached};
+
+use crate::undos::Undos;
+use access_slots::op::{Op, Said};
+use access_slots::slot::Value;
+use interpreter::layout::Layout;
+use interpreter::machine::Machine;
+use interpreter::pause::Pause;
+use transactions::{Next, Sent};
+use tc_log::event::Outcome;
+use verifier::verify::Verified;
+
+/// An open transaction: its procedure's machine, and where that stands.
+#[derive(Drop)]
+pub struct Tx {
+    pub serial: u64,
+    pub proc: usize,
+    pub machine: Machine,
+    pub pause: Pause,
+    pub sent: Option<Sent>,
+    pub full: bool,
+    pub undo: Undos,
+    pub tries: u64,
+    pub last: u64,
+    pub left: u64,
+}
+
+impl Tx {
+    /// Its run goes on with what was said to its question.
+    pub fn resume(&mut self, code: &Verified, said: Said)
+        requires room { is_no_room said ≡ false }
+        requires asked { (args : List ℕ) × (answers : List Said) × (o : Op) × MayResume code.now self.old args answers o said }
+        ensures runs { (args : List ℕ) (answers : List Said) (o : Op) → MayResume code.now self.old args answers o said → Runs code.now self.new args (answers ++ said ∷ []) }
+        ensures rest { self.new ≡ record self.old { machine = self.new.machine; pause = self.new.pause } }
+    {
+        self.pause = self.machine.resume(code, Some(said));
+    }
+}
+
+// The end, or the next write to be undone, four times at most.
+fn ends_or_undoes(left: Option<Op>, tries: u64, last: u64, outcome: Outcome) -> Next
+    ensures { result ≡ Nexts.ends_or_undoes left tries last outcome }
+{
+    match left {
+        None => Next::Over(outcome),
+        Some(op) => {
+            if tries < 4 {
+                Next::Undoes(op)
+            } else {
+                Next::Stuck(last)
+            }
+        }
+    }
+}
+
+impl Tx {
+    /// What it does next.
+    pub fn next(&self) -> Next
+        ensures { next_by self.now.sent self.now.full (first_undo self.now.undo.ops) self.now.tries self.now.last (as_reached self.now.pause) ≡ Some result }
+    {
+        if let Some(sent) = self.sent {
+            return Next::Waits(sent.number);
+        }
+        let left = self.undo.first();
+        if self.full {
+            return ends_or_undoes(left, self.tries, self.last, Outcome::NoRoom);
+        }
+        match self.pause {
+            Pause::Ask(op) => Next::Asks(op),
+            Pause::Exit(value) => {
+                if value == 0 {
+                    Next::Over(Outcome::Committed)
+                } else {
+                    ends_or_undoes(left, self.tries, self.last, Outcome::Aborted(value))
+                }
+            }
+        }
+    }
+
+    /// It waits for the answer to its question.
+    pub fn send(&mut self, number: u64, op: Op)
+        requires { 1 ≤ self.old.left }
+        ensures { self.new ≡ record self.old { sent = sent_as number op false; last = number; left = self.old.left - 1 } }
+    {
+        self.sent = Some(Sent {
+            number,
+            op,
+            undoing: false,
+        });
+        self.last = number;
+        self.left -= 1;
+    }
+}
+
+fn is_no_room(said: &Said) -> bool
+    ensures { result ≡ Access.is_no_room said.now }
+{
+    matches!(said, Said::NoRoom)
+}
+
+// What undoes a write that was done.
+fn inverse(op: &Op, former: Option<Value>) -> Option<Op>
+    ensures { result ≡ Standings.inverse op.now former }
+{
+    match op {
+        Op::Read(_) => None,
+        Op::Insert(record, _) => Some(Op::Delete(*record)),
+        Op::Update(record, _) => match former {
+            None => None,
+            Some(value) => Some(Op::Update(*record, value)),
+        },
+        Op::Delete(record) => match former {
+            None => None,
+            Some(value) => Some(Op::Insert(*record, value)),
+        },
+    }
+}
+
+impl Tx {
+    // What undoes a write that was done is the first to be undone.
+    fn wrote(&mut self, op: Op, said: Said)
+        requires { 0 < self.old.undo.room }
+        ensures ops { self.new.undo.ops ≡ undo_done false op said self.old.undo.ops }
+        ensures room { length self.new.undo.ops + self.new.undo.room ≡ length self.old.undo.ops + self.old.undo.room }
+        ensures rest { self.new ≡ record self.old { undo = self.new.undo } }
+    {
+        if let Said::Done(former) = said {
+            if let Some(op) = inverse(&op, former) {
+                self.undo.push(op);
+            }
+        }
+    }
+
+    // A write was undone, or is to be tried again.
+    fn undo_heard(&mut self, said: Said)
+        ensures ops { (o : Op) → self.new.undo.ops ≡ undo_done true o said self.old.undo.ops }
+        ensures tries { self.new.tries ≡ tries_done true said self.old.tries }
+        ensures room { length self.new.undo.ops + self.new.undo.room ≡ length self.old.undo.ops + self.old.undo.room }
+        ensures rest { self.new ≡ record self.old { undo = self.new.undo; tries = self.new.tries } }
+    {
+        if let Said::Done(_) = said {
+            self.undo.pop();
+            self.tries = 0;
+        }
+    }
+
+    // The run goes on with what was said to its question, unless an insert found no room.
+    fn told(&mut self, code: &Verified, op: Op, said: Said)
+        requires room { 0 < self.old.undo.room }
+        requires asked { (args : List ℕ) × (answers : List Said) × MayResume code.now self.old args answers op said }
+        ensures runs { (args : List ℕ) (answers : List Said) → MayResume code.now self.old args answers op said → Runs code.now self.new args (told_to false said answers) }
+        ensures full { self.new.full ≡ (self.old.full || found_full false said) }
+        ensures ops { self.new.undo.ops ≡ undo_done false op said self.old.undo.ops }
+        ensures room { length self.new.undo.ops + self.new.undo.room ≡ length self.old.undo.ops + self.old.undo.room }
+        ensures rest { self.new ≡ record self.old { machine = self.new.machine; pause = self.new.pause; full = self.new.full; undo = self.new.undo } }
+    {
+        if is_no_room(&said) {
+            self.full = true;
+            return;
+        }
+        self.wrote(op, said);
+        self.resume(code, said);
+    }
+
+    /// Takes in what was said to the operation that it waits for.
+    pub fn hear(&mut self, code: &Verified, said: Said)
+        requires { (s : Standing) × MayHear code.now self.old s said }
+        ensures keeps { (s : Standing) → MayHear code.now self.old s said → Keeps code.now self.new (answered said s) }
+        ensures serial { self.new.serial ≡ self.old.serial }
+    {
+        let Some(sent) = self.sent else {
+            return;
+        };
+        self.sent = None;
+        if sent.undoing {
+            self.undo_heard(said);
+        } else {
+            self.told(code, sent.op, said);
+        }
+    }
+}
+
+impl Tx {
+    /// It waits for the answer to an undo.
+    pub fn send_undo(&mut self, number: u64, op: Op)
+        requires left { 1 ≤ self.old.left }
+        requires tries { self.old.tries < 4 }
+        ensures { self.new ≡ record self.old { sent = sent_as number op true; tries = self.old.tries + 1; last = number; left = self.old.left - 1 } }
+    {
+        self.sent = Some(Sent {
+            number,
+            op,
+            undoing: true,
+        });
+        self.tries += 1;
+        self.last = number;
+        self.left -= 1;
+    }
+}
+
+/// A transaction that begins, and has run to its first question or its end.
+pub fn begin(
+    code: &Verified,
+    serial: u64,
+    proc: usize,
+    args: &[u64],
+    undo: Undos,
+    left: u64,
+) -> Tx
+    requires { length args.now ≡ code.now.decl.args }
+    ensures runs { Runs code.now result args.now [] }
+    ensures takes { AreArguments code.now.decl args.now }
+    ensures names { (result.serial ≡ serial) × (result.proc ≡ proc) }
+    ensures fresh { (result.sent ≡ None) × (result.full ≡ false) × (result.tries ≡ 0) × (result.last ≡ 0) }
+    ensures room { (result.undo ≡ undo) × (result.left ≡ left) }
+{
+    let mut machine = Machine::start(code, args, Layout::plain());
+    let pause = machine.resume(code, None);
+    Tx {
+        serial,
+        proc,
+        machine,
+        pause,
+        sent: None,
+        full: false,
+        undo,
+        tries: 0,
+        last: 0,
+        left,
+    }
+}

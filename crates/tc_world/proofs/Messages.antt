@@ -1,0 +1,174 @@
+-- What requests and the log say of each other.
+use Rattle.std.proofs.Common.{◌≡◌, ◌≢◌, ℕ, ◌+◌, Bool, true, false, List, [], ◌∷◌, ◌++◌, length, Option, Some, None, arith, refl, sym, ◌∙◌, ap, subst}
+use Rattle.std.specs.Prelude.{slice_get, slice_index_or}
+use Rattle.access_slots.specs.Access.{fits}
+use Rattle.access_slots.specs.declared.op.Op.{Op}
+use Rattle.access_slots.specs.declared.op.Said.{Said}
+use Rattle.access_slots.specs.declared.op.Wire.{Wire}
+use Rattle.access_slots.specs.declared.op.Reply.{Reply}
+use Rattle.verifier.specs.Checked.{Checked}
+use Rattle.tc_log.specs.declared.event.Event.{Event}
+use Rattle.history.specs.Flight.{Flight, in_flight, given, low_water}
+use Rattle.transactions.specs.Legal.{Legal}
+use Rattle.transactions.specs.Standing.{Standing, standing}
+use Rattle.transactions.specs.declared.Sent.{Sent}
+use Rattle.transactions.specs.declared.Next.{Next}
+use Rattle.transactions.specs.declared.Next.TheVariants as next
+use Rattle.transactions.proofs.StandingLemmas.{some_same, none_some}
+use Rattle.transactions.proofs.Flights.{standing_flight, flight}
+use Rattle.transactions.proofs.Headline.{Awaits, awaited}
+use Rattle.tc_core.specs.Core.{Core, Asking}
+use Rattle.tc_core.specs.Replies.{asked_by, undo_by, undone, ask_reply, undo_reply, after_ask, after_undo, after_answer, with_event, IsAnswer}
+use Rattle.tc_core.specs.Lent.{named, named_by, wire_of}
+use Rattle.tc_core.specs.declared.state.Asked.{Asked}
+use Rattle.tc_core.specs.declared.state.Asked.TheVariants.{Request, Unknown}
+use Rattle.tc_core.specs.declared.state.TxnId.{TxnId}
+use Rattle.tc_core.proofs.ReplyLemmas.{next-unknown}
+use Rattle.tc_core.proofs.KeptLemmas.{slice_get-index}
+use Rattle.tc_log.specs.declared.event.Outcome.TheVariants as ending
+use Rattle.tc_world.specs.Whole.{Whole}
+use Rattle.tc_world.specs.Waiting.{asking, asking_by, request_of, AreWaiting}
+use Rattle.tc_world.specs.Steps.{Fate, Goes, Stops, asks, undoes, told, sends, resends, resends_by, resends_sent, takes_reply, takes_by, takes_fit, takes, with_core}
+use Rattle.tc_world.specs.declared.step.Illegal.TheVariants as illegal
+use Rattle.tc_world.specs.declared.step.Outcome.TheVariants as outcome
+use Rattle.tc_log.specs.declared.event.Event.TheVariants.{Answer}
+use Rattle.tc_world.proofs.Requests.{none_if, none_of, found_at, is_there, IsThere}
+
+-- ---- a transaction's name
+
+unnamed_by : (t : ℕ) (s : Option Standing) → named_by t s ≡ None → s ≡ None
+unnamed_by t None e = refl
+unnamed_by t (Some s) e = absurd cc
+
+pub unnamed : (c : Core) (t : ℕ) → named c t ≡ None → standing c.events t ≡ None
+unnamed c t e = unnamed_by t (standing c.events t) e
+
+pub record Stands (o : Option Standing) : Type 0 where
+  pub s : Standing
+  pub is : o ≡ Some s
+
+stands_by : (t : ℕ) (o : Option Standing) (id : TxnId) → named_by t o ≡ Some id → Stands o
+stands_by t None id e = absurd cc
+stands_by t (Some s) id e = record { s = s; is = refl }
+
+pub stands : (c : Core) (t : ℕ) (id : TxnId) → named c t ≡ Some id → Stands (standing c.events t)
+stands c t id e = stands_by t (standing c.events t) id e
+
+named_so : (t : ℕ) (o : Option Standing) (id : TxnId) → named_by t o ≡ Some id → id.serial ≡ t
+named_so t None id e = absurd cc
+named_so t (Some s) id e = (let this : TxnId = record { serial = t } in let same : this ≡ id = some_same this id e in sym (ap (λ (x : TxnId). x.serial) same))
+
+pub named_serial : (c : Core) (t : ℕ) (id : TxnId) → named c t ≡ Some id → id.serial ≡ t
+named_serial c t id e = named_so t (standing c.events t) id e
+
+-- ---- ask and undo
+
+pub no_txn_asks : (w : Whole) (t : ℕ) → named w.core t ≡ None → asks w t ≡ Stops illegal.NoTxn
+no_txn_asks w t none =
+    let unknown : ask_reply w.core t ≡ Unknown = ap (asked_by t (given w.core.events)) (next-unknown w.core t (unnamed w.core t none)) in
+    ap (λ (a : Asked). told w t (after_ask w.core a) a) unknown
+
+pub no_txn_undoes : (w : Whole) (t : ℕ) → named w.core t ≡ None → undoes w t ≡ Stops illegal.NoTxn
+no_txn_undoes w t none =
+    let unknown : undo_reply w.core t ≡ Unknown = ap (undo_by t (given w.core.events)) (next-unknown w.core t (unnamed w.core t none)) in
+    ap (λ (a : Asked). told w t (after_undo w.core a) a) unknown
+
+pub ask_number : (t last : ℕ) (n : Option Next) (r : Asking) → asked_by t last n ≡ Request r → r.number ≡ last + 1
+ask_number t last None r e = absurd cc
+ask_number t last (Some (next.Waits n)) r e = absurd cc
+ask_number t last (Some (next.Asks o)) r e = (let this : Asking = record { txn = t; number = last + 1; op = o } in let same : this ≡ r = cc in sym (ap (λ (x : Asking). x.number) same))
+ask_number t last (Some (next.Undoes o)) r e = absurd cc
+ask_number t last (Some (next.Stuck n)) r e = absurd cc
+ask_number t last (Some (next.Over o)) r e = absurd cc
+
+pub undo_number : (t last : ℕ) (n : Option Next) (r : Asking) → undo_by t last n ≡ Request r → r.number ≡ last + 1
+undo_number t last None r e = absurd cc
+undo_number t last (Some (next.Waits n)) r e = absurd cc
+undo_number t last (Some (next.Asks o)) r e = absurd cc
+undo_number t last (Some (next.Undoes o)) r e = (let this : Asking = record { txn = t; number = last + 1; op = o } in let same : this ≡ r = cc in sym (ap (λ (x : Asking). x.number) same))
+undo_number t last (Some (next.Stuck n)) r e = absurd cc
+undo_number t last (Some (next.Over ending.Committed)) r e = absurd cc
+undo_number t last (Some (next.Over (ending.Aborted v))) r e = absurd cc
+undo_number t last (Some (next.Over ending.NoRoom)) r e = absurd cc
+
+-- ---- a request, and what it waits for
+
+flown : (n : ℕ) (o : Option Flight) (r : Asking) → Some r ≡ asking_by n o → o ≡ Some (flight r.txn r.op)
+flown n None r e = absurd cc
+flown n (Some f) r e = (let same : r ≡ asking n f = some_same r (asking n f) e in ap (λ (a : Asking). Some (flight a.txn a.op)) (sym same))
+
+pub in_the_air : (rs : List Asking) (h : List Event) (k : ℕ) (r : Asking) → AreWaiting rs h → slice_get rs k ≡ Some r → in_flight h r.number ≡ Some (flight r.txn r.op)
+in_the_air rs h k r w at = flown r.number (in_flight h r.number) r (sym (found_at rs k r w.once at) ∙ w.each r.number)
+
+not_flown : (n : ℕ) (o : Option Flight) → asking_by n o ≡ None → o ≡ None
+not_flown n None e = refl
+not_flown n (Some f) e = absurd cc
+
+pub not_in_the_air : (rs : List Asking) (h : List Event) (n : ℕ) → AreWaiting rs h → ((k : ℕ) (r : Asking) → slice_get rs k ≡ Some r → r.number ≢ n) → in_flight h n ≡ None
+not_in_the_air rs h n w absent = not_flown n (in_flight h n) (sym (w.each n) ∙ none_of rs n absent)
+
+pub is_answer : (c : Core) (rs : List Asking) (k : ℕ) (r : Asking) (number : ℕ) (said : Said) → Legal c.procs c.events → AreWaiting rs c.events → slice_get rs k ≡ Some r → number ≡ r.number → fits r.op said ≡ true → IsAnswer c r number said
+is_answer c rs k r number said legal w at agree fit =
+    let a = awaited c.procs c.events legal r.number (flight r.txn r.op) (in_the_air rs c.events k r w at) in
+    record { s = a.s; is = a.is; sent = a.r; waits = a.waits; same_number = a.number; same_op = a.op; agree = agree; fit = fit }
+
+-- ---- resend
+
+nothing_sent : (ps : List Checked) (rs : List Asking) (h : List Event) (t : ℕ) (s : Standing) → Legal ps h → AreWaiting rs h → ((k : ℕ) (r : Asking) → slice_get rs k ≡ Some r → r.txn ≢ t) → standing h t ≡ Some s → s.sent ≡ None
+nothing_sent ps rs h t s legal w absent is = none_if s.sent (λ r waits.
+    let f = (standing_flight ps h legal t s r is waits).1 in
+    let there = is_there rs r.number (asking r.number (flight t r.op)) (w.each r.number ∙ ap (asking_by r.number) f) in
+    absent there.k (asking r.number (flight t r.op)) there.at refl)
+
+pub no_txn_resends : (w : Whole) (t : ℕ) → named w.core t ≡ None → resends w t ≡ Stops illegal.NoTxn
+no_txn_resends w t none = ap (resends_by w t) (unnamed w.core t none)
+
+pub resends_nothing : (w : Whole) (rs : List Asking) (t : ℕ) (id : TxnId) → Legal w.core.procs w.core.events → AreWaiting rs w.core.events → named w.core t ≡ Some id
+    → ((k : ℕ) (r : Asking) → slice_get rs k ≡ Some r → r.txn ≢ t) → resends w t ≡ Stops illegal.NothingOpen
+resends_nothing w rs t id legal waiting open_yet absent =
+    let st = stands w.core t id open_yet in
+    ap (resends_by w t) st.is ∙ ap (resends_sent w t) (nothing_sent w.core.procs rs w.core.events t st.s legal waiting absent st.is)
+
+pub resends_found : (w : Whole) (rs : List Asking) (t k : ℕ) (r : Asking) → Legal w.core.procs w.core.events → AreWaiting rs w.core.events → slice_get rs k ≡ Some r → r.txn ≡ t
+    → resends w t ≡ sends w (wire_of w.core r)
+resends_found w rs t k r legal waiting at own =
+    let a = awaited w.core.procs w.core.events legal r.number (flight r.txn r.op) (in_the_air rs w.core.events k r waiting at) in
+    let here : standing w.core.events t ≡ Some a.s = ap (standing w.core.events) (sym own) ∙ a.is in
+    let one : resends w t ≡ resends_sent w t (Some a.r) = ap (resends_by w t) here ∙ ap (resends_sent w t) a.waits in
+    let two = ap (λ (n : ℕ). let x : Wire = record { number = n; low_water = low_water w.core.events; op = a.r.op } in sends w x) a.number in
+    let three = ap (λ (o : Op). let x : Wire = record { number = r.number; low_water = low_water w.core.events; op = o } in sends w x) a.op in
+    one ∙ (two ∙ three)
+
+-- ---- take
+
+pub takes_stranger : (w : Whole) (rs : List Asking) (x : Reply) → AreWaiting rs w.core.events → ((k : ℕ) (r : Asking) → slice_get rs k ≡ Some r → r.number ≢ x.number) → takes_reply w (Some x) ≡ Stops illegal.Stranger
+takes_stranger w rs x waiting absent = ap (takes_by w x) (not_in_the_air rs w.core.events x.number waiting absent)
+
+pub takes_found : (w : Whole) (rs : List Asking) (k : ℕ) (r : Asking) (x : Reply) (b : Bool) → AreWaiting rs w.core.events → slice_get rs k ≡ Some r → r.number ≡ x.number → fits r.op x.said ≡ b
+    → takes_reply w (Some x) ≡ takes_fit w (flight r.txn r.op) x b
+takes_found w rs k r x b waiting at same fit =
+    let air : in_flight w.core.events x.number ≡ Some (flight r.txn r.op) = ap (in_flight w.core.events) (sym same) ∙ in_the_air rs w.core.events k r waiting at in
+    ap (takes_by w x) air ∙ ap (takes_fit w (flight r.txn r.op) x) fit
+
+pub takes_taken : (w : Whole) (rs : List Asking) (k : ℕ) (r : Asking) (x : Reply) → AreWaiting rs w.core.events → slice_get rs k ≡ Some r → r.number ≡ x.number → fits r.op x.said ≡ true
+    → takes_reply w (Some x) ≡ Goes (outcome.Took x.number) (with_core w (after_answer w.core r x.said))
+takes_taken w rs k r x waiting at same fit =
+    takes_found w rs k r x true waiting at same fit ∙ ap (λ (n : ℕ). Goes (outcome.Took x.number) (with_core w (with_event w.core (Answer r.txn n x.said)))) (sym same)
+
+-- ---- what an index reads
+
+pub record IsRead (rs : List Asking) (k : ℕ) (r q : Asking) : Type 0 where
+  pub at : slice_get rs k ≡ Some r
+  pub same : q ≡ r
+
+pub indexed : (rs ys : List Asking) (k : ℕ) (r q : Asking) → ys ≡ rs → slice_get ys k ≡ Some q → r ≡ slice_index_or rs k r → IsRead rs k r q
+indexed rs ys k r q one at read =
+    let here : slice_get rs k ≡ Some q = ap (λ (xs : List Asking). slice_get xs k) (sym one) ∙ at in
+    let same : q ≡ r = sym (read ∙ slice_get-index rs k q r here) in
+    record { at = here ∙ ap (λ (x : Asking). Some x) same; same = same }
+
+pub absent_in : (rs ys : List Asking) (n : ℕ) → ys ≡ rs → ((k : ℕ) (r : Asking) → slice_get ys k ≡ Some r → r.number ≢ n) → (k : ℕ) (r : Asking) → slice_get rs k ≡ Some r → r.number ≢ n
+absent_in rs ys n one absent k r at = absent k r (ap (λ (xs : List Asking). slice_get xs k) one ∙ at)
+
+pub none_of_txn : (rs ys : List Asking) (t : ℕ) → ys ≡ rs → ((k : ℕ) (r : Asking) → slice_get ys k ≡ Some r → r.txn ≢ t) → (k : ℕ) (r : Asking) → slice_get rs k ≡ Some r → r.txn ≢ t
+none_of_txn rs ys t one absent k r at = absent k r (ap (λ (xs : List Asking). slice_get xs k) one ∙ at)

@@ -1,0 +1,321 @@
+//! The world, and its steps.
+
+ghost use Rattle.std.specs.Prelude.{◌≡◌, ◌≢◌, ℕ, [], Some, true, false, slice_get, IfOk, OnOk, IfErr, OnErr};
+ghost use Rattle.access_slots.specs.Locks.{allows, target, is_read, conflict};
+ghost use Rattle.history.specs.Calls.{held};
+ghost use Rattle.history.specs.Flight.{Flight, in_flight};
+ghost use Rattle.transactions.specs.Legal.{Legal};
+ghost use Rattle.transactions.specs.Reached.{decls};
+ghost use Rattle.transactions.specs.Room.{each_one, total};
+ghost use Rattle.tc_world.specs.Steps.{Goes, Stops, StopsOr, Steps, IsIllegal, Runs, StopsAt};
+ghost use Rattle.tc_world.specs.Steps as Steps;
+
+use crate::asking::{find_number, find_txn};
+use crate::parts::{perform_at, reply_at, restart_at, target};
+use crate::step::{Illegal, Outcome, Step};
+use access_slots::op::{Reply, Wire, fits};
+use data_component::dc::Dc;
+use std::alloc::Global;
+use std::marker::Model;
+use tc_core::state::{Asked, Call, Request, TcState};
+
+/// A transaction component, its data components, and every wire and reply that was ever sent.
+pub struct World {
+    state: TcState,
+    dcs: Vec<Dc>,
+    copies: Vec<Wire>,
+    replies: Vec<Reply>,
+    requests: Vec<Request>,
+}
+
+impl Model for World {
+    ghost use Rattle.tc_world.specs.Whole.{Whole};
+    ghost use Rattle.tc_world.specs.Waiting.{AreWaiting};
+
+    ghost Value = { Whole };
+
+    ghost view = { λ w. record { core = w.state; dcs = w.dcs.items; copies = w.copies.items; replies = w.replies.items } };
+
+    ghost invariant = { λ w. AreWaiting w.requests.items w.state.events };
+}
+
+impl World {
+    /// A world in which nothing was sent. No transaction may be open. It takes no memory.
+    pub fn new(alloc: Global, state: TcState, dcs: Vec<Dc>) -> World
+        requires { total each_one state.events ≡ 0 }
+        ensures { result ≡ record { core = state; dcs = dcs.items; copies = []; replies = [] } }
+    {
+        state.known();
+        World {
+            state,
+            dcs,
+            copies: Vec::new(alloc),
+            replies: Vec::new(alloc),
+            requests: Vec::new(alloc),
+        }
+    }
+
+    /// The transaction component.
+    pub fn state(&self) -> &TcState
+        ensures { result.now ≡ self.now.core }
+    {
+        &self.state
+    }
+
+    /// The data components.
+    pub fn dcs(&self) -> &[Dc]
+        ensures { result.now ≡ self.now.dcs }
+    {
+        self.dcs.as_slice()
+    }
+
+    /// Ends the world: hands back its parts, with the open requests given up.
+    pub fn close(self) -> (TcState, Vec<Dc>)
+        ensures events { result.0.events ≡ self.core.events }
+        ensures procs { result.0.procs ≡ self.core.procs }
+        ensures dcs { result.1.items ≡ self.dcs }
+    {
+        let World {
+            mut state,
+            dcs,
+            copies: _,
+            replies: _,
+            mut requests,
+        } = self;
+        let count = requests.len();
+        for taken in 0..count {
+            if let Some(request) = requests.pop() {
+                let _ = state.give_up(request);
+            }
+        }
+        requests.destroy_empty();
+        (state, dcs)
+    }
+
+    fn ask(&mut self, serial: u64) -> Result<Outcome, Illegal>
+        ensures ok { IfOk result (λ o. Steps.asks self.old serial ≡ Goes o self.new) }
+        ensures err { OnErr result (self.new ≡ self.old) }
+        ensures why { IfErr result (λ i. StopsOr (Steps.asks self.old serial) i) }
+    {
+        self.state.known();
+        let Ok(()) = self.copies.reserve(1) else {
+            return Err(Illegal::Memory);
+        };
+        let Ok(()) = self.requests.reserve(1) else {
+            return Err(Illegal::Memory);
+        };
+        let Some(txn) = self.state.find_txn(serial) else {
+            return Err(Illegal::NoTxn);
+        };
+        match self.state.ask(txn) {
+            Asked::Request(request) => {
+                let place = self.copies.len();
+                let wire = self.state.wire(&request);
+                self.copies.push_reserved(wire);
+                self.requests.push_reserved(request);
+                Ok(Outcome::Sent(place, wire))
+            }
+            Asked::Undoing => Ok(Outcome::Undoing(serial)),
+            Asked::Over => Ok(Outcome::Over(serial)),
+            Asked::Stuck(number) => Ok(Outcome::Stuck(serial, number)),
+            Asked::Waits(number) => Err(Illegal::Waits(number)),
+            Asked::Running => Err(Illegal::Running),
+            Asked::Unknown => Err(Illegal::NoTxn),
+        }
+    }
+
+    fn undo(&mut self, serial: u64) -> Result<Outcome, Illegal>
+        ensures ok { IfOk result (λ o. Steps.undoes self.old serial ≡ Goes o self.new) }
+        ensures err { OnErr result (self.new ≡ self.old) }
+        ensures why { IfErr result (λ i. StopsOr (Steps.undoes self.old serial) i) }
+    {
+        self.state.known();
+        let Ok(()) = self.copies.reserve(1) else {
+            return Err(Illegal::Memory);
+        };
+        let Ok(()) = self.requests.reserve(1) else {
+            return Err(Illegal::Memory);
+        };
+        let Some(txn) = self.state.find_txn(serial) else {
+            return Err(Illegal::NoTxn);
+        };
+        match self.state.undo_next(txn) {
+            Asked::Request(request) => {
+                let place = self.copies.len();
+                let wire = self.state.wire(&request);
+                self.copies.push_reserved(wire);
+                self.requests.push_reserved(request);
+                Ok(Outcome::Sent(place, wire))
+            }
+            Asked::Undoing => Ok(Outcome::Undoing(serial)),
+            Asked::Over => Ok(Outcome::Over(serial)),
+            Asked::Stuck(number) => Ok(Outcome::Stuck(serial, number)),
+            Asked::Waits(number) => Err(Illegal::Waits(number)),
+            Asked::Running => Err(Illegal::Running),
+            Asked::Unknown => Err(Illegal::NoTxn),
+        }
+    }
+
+    fn end(&mut self, serial: u64) -> Result<Outcome, Illegal>
+        ensures ok { IfOk result (λ o. Steps.ends self.old serial ≡ Goes o self.new) }
+        ensures err { OnErr result (self.new ≡ self.old) }
+        ensures why { IfErr result (λ i. Steps.ends self.old serial ≡ Stops i) }
+    {
+        let Some(txn) = self.state.find_txn(serial) else {
+            return Err(Illegal::NoTxn);
+        };
+        match self.state.end(txn) {
+            Ok(receipt) => Ok(Outcome::Ended(receipt)),
+            Err(_) => Err(Illegal::NotOver),
+        }
+    }
+
+    fn resend(&mut self, serial: u64) -> Result<Outcome, Illegal>
+        ensures ok { IfOk result (λ o. Steps.resends self.old serial ≡ Goes o self.new) }
+        ensures err { OnErr result (self.new ≡ self.old) }
+        ensures why { IfErr result (λ i. StopsOr (Steps.resends self.old serial) i) }
+    {
+        self.state.known();
+        let Some(_) = self.state.find_txn(serial) else {
+            return Err(Illegal::NoTxn);
+        };
+        let Some(at) = find_txn(self.requests.as_slice(), serial) else {
+            return Err(Illegal::NothingOpen);
+        };
+        let Ok(()) = self.copies.reserve(1) else {
+            return Err(Illegal::Memory);
+        };
+        let place = self.copies.len();
+        let wire = self.state.wire(&self.requests[at]);
+        self.copies.push_reserved(wire);
+        Ok(Outcome::Sent(place, wire))
+    }
+
+    fn perform(&mut self, copy: usize) -> Result<Outcome, Illegal>
+        ensures ok { IfOk result (λ o. Steps.performs self.old copy ≡ Goes o self.new) }
+        ensures err { OnErr result (self.new ≡ self.old) }
+        ensures why { IfErr result (λ i. StopsOr (Steps.performs self.old copy) i) }
+    {
+        let Some(wire) = self.copies.get(copy).copied() else {
+            return Err(Illegal::NoCopy);
+        };
+        let dc = target(&wire.op).dc as usize;
+        if dc >= self.dcs.len() {
+            return Err(Illegal::NoDc);
+        }
+        let Ok(()) = self.replies.reserve(1) else {
+            return Err(Illegal::Memory);
+        };
+        match perform_at(&mut self.dcs, dc, &wire) {
+            Some(reply) => {
+                let place = self.replies.len();
+                self.replies.push_reserved(reply);
+                Ok(Outcome::Replied(place, reply))
+            }
+            None => Ok(Outcome::Silent),
+        }
+    }
+
+    fn take(&mut self, reply: usize) -> Result<Outcome, Illegal>
+        ensures ok { IfOk result (λ o. Steps.takes self.old reply ≡ Goes o self.new) }
+        ensures err { OnErr result (self.new ≡ self.old) }
+        ensures why { IfErr result (λ i. Steps.takes self.old reply ≡ Stops i) }
+    {
+        self.state.known();
+        let Some(reply) = reply_at(self.replies.as_slice(), reply) else {
+            return Err(Illegal::NoReply);
+        };
+        let Some(at) = find_number(self.requests.as_slice(), reply.number) else {
+            return Err(Illegal::Stranger);
+        };
+        if !fits(&self.requests[at].op(), &reply.said) {
+            return Err(Illegal::Stranger);
+        }
+        let request = self.requests.remove(at);
+        match self.state.answer(request, reply) {
+            Ok(()) => {}
+            Err(_) => unreachable!(),
+        }
+        Ok(Outcome::Took(reply.number))
+    }
+
+    fn restart(&mut self, dc: u16) -> Result<Outcome, Illegal>
+        ensures ok { IfOk result (λ o. Steps.restarts self.old dc ≡ Goes o self.new) }
+        ensures err { OnErr result (self.new ≡ self.old) }
+        ensures why { IfErr result (λ i. Steps.restarts self.old dc ≡ Stops i) }
+    {
+        if dc as usize >= self.dcs.len() {
+            return Err(Illegal::NoDc);
+        }
+        restart_at(&mut self.dcs, dc as usize);
+        Ok(Outcome::Restarted(dc))
+    }
+
+    fn forge(&mut self, reply: Reply) -> Result<Outcome, Illegal>
+        ensures ok { IfOk result (λ o. Steps.forges self.old reply ≡ Goes o self.new) }
+        ensures err { OnErr result (self.new ≡ self.old) }
+        ensures why { IfErr result (λ i. StopsOr (Steps.forges self.old reply) i) }
+    {
+        let place = self.replies.len();
+        match self.replies.push(reply) {
+            Ok(()) => Ok(Outcome::Forged(place)),
+            Err(_) => Err(Illegal::Memory),
+        }
+    }
+
+    fn admit(&mut self, call: &Call) -> Result<Outcome, Illegal>
+        ensures ok { IfOk result (λ o. Steps.Admits self.old call.now o self.new) }
+        ensures err { OnErr result (self.new ≡ self.old) }
+        ensures why { IfErr result (λ i. Steps.IsNotAdmitted self.old call.now i) }
+    {
+        let txn = match self.state.admit(call) {
+            Ok(txn) => txn,
+            Err(refusal) => return Err(Illegal::Refused(refusal)),
+        };
+        Ok(Outcome::Admitted(txn.serial()))
+    }
+
+    /// Takes one step. An illegal one changes nothing.
+    pub fn step(&mut self, step: &Step) -> Result<Outcome, Illegal>
+        ensures ok { IfOk result (λ o. Steps self.old step.now o self.new) }
+        ensures err { OnErr result (self.new ≡ self.old) }
+        ensures why { IfErr result (λ i. IsIllegal self.old step.now i) }
+    {
+        match step {
+            Step::Admit(call) => self.admit(call),
+            Step::Ask(serial) => self.ask(*serial),
+            Step::Undo(serial) => self.undo(*serial),
+            Step::End(serial) => self.end(*serial),
+            Step::Resend(serial) => self.resend(*serial),
+            Step::Perform(copy) => self.perform(*copy),
+            Step::Take(reply) => self.take(*reply),
+            Step::Restart(dc) => self.restart(*dc),
+            Step::Forge(reply) => self.forge(*reply),
+        }
+    }
+
+    /// Takes steps up to the first illegal one, and says its place. Whatever the steps were, the
+    /// history is legal, each operation in flight is covered by its transaction's locks, and no two
+    /// conflict.
+    pub fn run(&mut self, steps: &[Step]) -> Result<(), (usize, Illegal)>
+        ensures ok { OnOk result (Runs self.old steps.now self.new) }
+        ensures err { IfErr result (λ e. StopsAt self.old steps.now e.0 e.1 self.new) }
+        ensures legal { Legal self.new.core.procs self.new.core.events }
+        ensures covered { (n : ℕ) (f : Flight) → in_flight self.new.core.events n ≡ Some f
+            → allows (held (decls self.new.core.procs) self.new.core.events f.txn (target f.op)) (is_read f.op) ≡ true }
+        ensures apart { (m n : ℕ) (f g : Flight) → in_flight self.new.core.events m ≡ Some f → in_flight self.new.core.events n ≡ Some g
+            → m ≢ n → conflict f.op g.op ≡ false }
+    {
+        for (k, step) in steps.iter().enumerate() {
+            match self.step(step) {
+                Ok(_) => {}
+                Err(illegal) => {
+                    self.state.known();
+                    return Err((k, illegal));
+                }
+            }
+        }
+        self.state.known();
+        Ok(())
+    }
+}
