@@ -5,3 +5,5 @@ pub mod CFunctionsRows
 pub mod DpdkRows
 pub mod KernelTestBpfRows
 pub mod KernelVerifierProgsRows
+pub mod BoundariesRows
+pub mod EachOpcodeRows
