@@ -7,3 +7,6 @@ pub mod KernelTestBpfRows
 pub mod KernelVerifierProgsRows
 pub mod BoundariesRows
 pub mod EachOpcodeRows
+pub mod ProcedureRows
+pub mod HelperRows
+pub mod TrapRows
