@@ -33,7 +33,7 @@ def arithmetic():
 
 def shifts():
     for sign, name in SHIFTS.items():
-        for count in (0, 1, 31, 32, 33, 63, 64, 65, 2**32, 2**64 - 1):
+        for count in (0, 1, 31, 32, 33, 63, 64, 65, 95, 127):
             yield f"{name} by register {count:#x}", [number(0, WIDE), number(1, count), f"r0 {sign} r1"]
             yield f"{name}32 by register {count:#x}", [number(0, WIDE), number(1, count), f"w0 {sign} w1"]
         for count in (0, 1, 33, 63):

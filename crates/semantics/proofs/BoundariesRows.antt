@@ -467,20 +467,20 @@ boundaries_114 = refl
 boundaries_115 : answer_to (0x89abcdef00000018 ∷ 0x8123456700000000 ∷ 0x4100000118 ∷ 0x0 ∷ 0x106c ∷ 0x95 ∷ []) ([]) ≡ Some 324508638
 boundaries_115 = refl
 
--- lsh by register 0x100000000
-boundaries_116 : answer_to (0x89abcdef00000018 ∷ 0x8123456700000000 ∷ 0x118 ∷ 0x100000000 ∷ 0x106f ∷ 0x95 ∷ []) ([]) ≡ Some 9305357566071262703
+-- lsh by register 0x5f
+boundaries_116 : answer_to (0x89abcdef00000018 ∷ 0x8123456700000000 ∷ 0x5f00000118 ∷ 0x0 ∷ 0x106f ∷ 0x95 ∷ []) ([]) ≡ Some 14183496552152039424
 boundaries_116 = refl
 
--- lsh32 by register 0x100000000
-boundaries_117 : answer_to (0x89abcdef00000018 ∷ 0x8123456700000000 ∷ 0x118 ∷ 0x100000000 ∷ 0x106c ∷ 0x95 ∷ []) ([]) ≡ Some 2309737967
+-- lsh32 by register 0x5f
+boundaries_117 : answer_to (0x89abcdef00000018 ∷ 0x8123456700000000 ∷ 0x5f00000118 ∷ 0x0 ∷ 0x106c ∷ 0x95 ∷ []) ([]) ≡ Some 2147483648
 boundaries_117 = refl
 
--- lsh by register 0xffffffffffffffff
-boundaries_118 : answer_to (0x89abcdef00000018 ∷ 0x8123456700000000 ∷ 0xffffffff00000118 ∷ 0xffffffff00000000 ∷ 0x106f ∷ 0x95 ∷ []) ([]) ≡ Some 9223372036854775808
+-- lsh by register 0x7f
+boundaries_118 : answer_to (0x89abcdef00000018 ∷ 0x8123456700000000 ∷ 0x7f00000118 ∷ 0x0 ∷ 0x106f ∷ 0x95 ∷ []) ([]) ≡ Some 9223372036854775808
 boundaries_118 = refl
 
--- lsh32 by register 0xffffffffffffffff
-boundaries_119 : answer_to (0x89abcdef00000018 ∷ 0x8123456700000000 ∷ 0xffffffff00000118 ∷ 0xffffffff00000000 ∷ 0x106c ∷ 0x95 ∷ []) ([]) ≡ Some 2147483648
+-- lsh32 by register 0x7f
+boundaries_119 : answer_to (0x89abcdef00000018 ∷ 0x8123456700000000 ∷ 0x7f00000118 ∷ 0x0 ∷ 0x106c ∷ 0x95 ∷ []) ([]) ≡ Some 2147483648
 boundaries_119 = refl
 
 -- lsh by 0
@@ -575,20 +575,20 @@ boundaries_141 = refl
 boundaries_142 : answer_to (0x89abcdef00000018 ∷ 0x8123456700000000 ∷ 0x4100000118 ∷ 0x0 ∷ 0x107c ∷ 0x95 ∷ []) ([]) ≡ Some 1154868983
 boundaries_142 = refl
 
--- rsh by register 0x100000000
-boundaries_143 : answer_to (0x89abcdef00000018 ∷ 0x8123456700000000 ∷ 0x118 ∷ 0x100000000 ∷ 0x107f ∷ 0x95 ∷ []) ([]) ≡ Some 9305357566071262703
+-- rsh by register 0x5f
+boundaries_143 : answer_to (0x89abcdef00000018 ∷ 0x8123456700000000 ∷ 0x5f00000118 ∷ 0x0 ∷ 0x107f ∷ 0x95 ∷ []) ([]) ≡ Some 4333144783
 boundaries_143 = refl
 
--- rsh32 by register 0x100000000
-boundaries_144 : answer_to (0x89abcdef00000018 ∷ 0x8123456700000000 ∷ 0x118 ∷ 0x100000000 ∷ 0x107c ∷ 0x95 ∷ []) ([]) ≡ Some 2309737967
+-- rsh32 by register 0x5f
+boundaries_144 : answer_to (0x89abcdef00000018 ∷ 0x8123456700000000 ∷ 0x5f00000118 ∷ 0x0 ∷ 0x107c ∷ 0x95 ∷ []) ([]) ≡ Some 1
 boundaries_144 = refl
 
--- rsh by register 0xffffffffffffffff
-boundaries_145 : answer_to (0x89abcdef00000018 ∷ 0x8123456700000000 ∷ 0xffffffff00000118 ∷ 0xffffffff00000000 ∷ 0x107f ∷ 0x95 ∷ []) ([]) ≡ Some 1
+-- rsh by register 0x7f
+boundaries_145 : answer_to (0x89abcdef00000018 ∷ 0x8123456700000000 ∷ 0x7f00000118 ∷ 0x0 ∷ 0x107f ∷ 0x95 ∷ []) ([]) ≡ Some 1
 boundaries_145 = refl
 
--- rsh32 by register 0xffffffffffffffff
-boundaries_146 : answer_to (0x89abcdef00000018 ∷ 0x8123456700000000 ∷ 0xffffffff00000118 ∷ 0xffffffff00000000 ∷ 0x107c ∷ 0x95 ∷ []) ([]) ≡ Some 1
+-- rsh32 by register 0x7f
+boundaries_146 : answer_to (0x89abcdef00000018 ∷ 0x8123456700000000 ∷ 0x7f00000118 ∷ 0x0 ∷ 0x107c ∷ 0x95 ∷ []) ([]) ≡ Some 1
 boundaries_146 = refl
 
 -- rsh by 0
@@ -683,20 +683,20 @@ boundaries_168 = refl
 boundaries_169 : answer_to (0x89abcdef00000018 ∷ 0x8123456700000000 ∷ 0x4100000118 ∷ 0x0 ∷ 0x10cc ∷ 0x95 ∷ []) ([]) ≡ Some 3302352631
 boundaries_169 = refl
 
--- arsh by register 0x100000000
-boundaries_170 : answer_to (0x89abcdef00000018 ∷ 0x8123456700000000 ∷ 0x118 ∷ 0x100000000 ∷ 0x10cf ∷ 0x95 ∷ []) ([]) ≡ Some 9305357566071262703
+-- arsh by register 0x5f
+boundaries_170 : answer_to (0x89abcdef00000018 ∷ 0x8123456700000000 ∷ 0x5f00000118 ∷ 0x0 ∷ 0x10cf ∷ 0x95 ∷ []) ([]) ≡ Some 18446744069452761807
 boundaries_170 = refl
 
--- arsh32 by register 0x100000000
-boundaries_171 : answer_to (0x89abcdef00000018 ∷ 0x8123456700000000 ∷ 0x118 ∷ 0x100000000 ∷ 0x10cc ∷ 0x95 ∷ []) ([]) ≡ Some 2309737967
+-- arsh32 by register 0x5f
+boundaries_171 : answer_to (0x89abcdef00000018 ∷ 0x8123456700000000 ∷ 0x5f00000118 ∷ 0x0 ∷ 0x10cc ∷ 0x95 ∷ []) ([]) ≡ Some 4294967295
 boundaries_171 = refl
 
--- arsh by register 0xffffffffffffffff
-boundaries_172 : answer_to (0x89abcdef00000018 ∷ 0x8123456700000000 ∷ 0xffffffff00000118 ∷ 0xffffffff00000000 ∷ 0x10cf ∷ 0x95 ∷ []) ([]) ≡ Some 18446744073709551615
+-- arsh by register 0x7f
+boundaries_172 : answer_to (0x89abcdef00000018 ∷ 0x8123456700000000 ∷ 0x7f00000118 ∷ 0x0 ∷ 0x10cf ∷ 0x95 ∷ []) ([]) ≡ Some 18446744073709551615
 boundaries_172 = refl
 
--- arsh32 by register 0xffffffffffffffff
-boundaries_173 : answer_to (0x89abcdef00000018 ∷ 0x8123456700000000 ∷ 0xffffffff00000118 ∷ 0xffffffff00000000 ∷ 0x10cc ∷ 0x95 ∷ []) ([]) ≡ Some 4294967295
+-- arsh32 by register 0x7f
+boundaries_173 : answer_to (0x89abcdef00000018 ∷ 0x8123456700000000 ∷ 0x7f00000118 ∷ 0x0 ∷ 0x10cc ∷ 0x95 ∷ []) ([]) ≡ Some 4294967295
 boundaries_173 = refl
 
 -- arsh by 0
