@@ -8,8 +8,8 @@ ghost use Rattle.verifier.specs.Calls.{is_call_place};
 ghost use Rattle.verifier.specs.Verdict.{verdict, first_flaw, first_violation, IsVerdict};
 
 use crate::flat::FlatCode;
-use crate::flow::first_flaw;
-use crate::pass::first_violation;
+use crate::first_pass::first_flaw;
+use crate::second_pass::first_violation;
 use access_slots::decl::Decl;
 use bpf_encoding::code::Code;
 use bpf_encoding::insn::{Insn, Place};
