@@ -10,7 +10,6 @@ use Rattle.access_slots.specs.declared.slot.Mode.{Mode}
 use Rattle.access_slots.specs.declared.lock.Lock.{Lock}
 use Rattle.access_slots.specs.Locks.{AreLocksOf, mode_in, mode_named}
 use Rattle.access_slots.specs.Held.{Held, Wanted, Compatible, IsFirstInTheWay, excludes, in_the_way}
-use Rattle.lock_table.specs.declared.table.Claim.{Claim}
 use Rattle.access_slots.specs.declared.slot.Record.{Record}
 use Rattle.semantics.specs.Reach.{AreArguments}
 use Rattle.verifier.specs.Checked.{Checked}

@@ -24,7 +24,7 @@ overflow_add-serial c =
 pub claim-requires-clause-nothing : goal.claim-requires-clause-nothing
 claim-requires-clause-nothing c =
     let k = c.requires.book.kept in
-    nothing_new c.args.procs.now.codes c.args.self.now.log.events (c.args.self.now.serials + 1) c.args.self.now.locks.claims c.args.self.now.locks.claims k.legal (ap (λ (n : ℕ). n + 1) k.serials_are) k.locks_are (λ t r. refl)
+    nothing_new c.args.procs.now.codes c.args.self.now.log.events (c.args.self.now.serials + 1) c.args.self.now.locks c.args.self.now.locks k.legal (ap (λ (n : ℕ). n + 1) k.serials_are) k.locks_are (λ t r. refl)
 
 pub claim-requires-clause-free : goal.claim-requires-clause-free
 claim-requires-clause-free c =
