@@ -33,8 +33,9 @@ use Rattle.transactions.proofs.Running.{plain_layout}
 use Rattle.transactions.proofs.Sound.{standing_sound}
 use Rattle.tc_core.specs.Replies.{asked_by, ask_reply, over_in, end_of, end_reply, undo_by, undo_reply}
 use Rattle.tc_core.specs.declared.state.NotOver.{NotOver}
+use Rattle.tc_core.specs.declared.state.Asked.{Asked}
 use Rattle.tc_core.specs.declared.state.Asked.TheVariants.{Request, Undoing, Over, Stuck, Waits, Running, Unknown}
-use Rattle.worker_pool.specs.Answers.{StandsBehind, IsAdmitted, Sends, Asks as Asked, Undoes}
+use Rattle.worker_pool.specs.Answers.{StandsBehind, IsAdmitted, Sends, Asks as AsksHere, Undoes}
 use Rattle.worker_pool.specs.Kept.{IsOpen}
 use Rattle.worker_pool.specs.Doubts.{IsDoubtful, waits, stuck, IsGoing}
 use Rattle.worker_pool.proofs.Placed.{stands_more, stands_here}
@@ -50,7 +51,7 @@ behind_more : (first h : List Event) (e : Event) (place : ℕ) (x : Event) → S
 behind_more first h e place x at = record { behind = at.behind; stands = stands_more h e place x at.stands }
 
 pub sends_more : (first h : List Event) (e : Event) (t n : ℕ) → Sends first h t n → Sends first (e ∷ h) t n
-sends_more first h e t n (Asked place o at) = Asked place o (behind_more first h e place (Ask t n o) at)
+sends_more first h e t n (AsksHere place o at) = AsksHere place o (behind_more first h e place (Ask t n o) at)
 sends_more first h e t n (Undoes place o at) = Undoes place o (behind_more first h e place (Undo t n o) at)
 
 spoke_more : (first h : List Event) (e : Event) (t : ℕ) (s : Standing) → Spoke first h t s → Spoke first (e ∷ h) t s
@@ -82,9 +83,9 @@ spoke_moved first h (Ask u n o) t (Some q) s low own is before =
     let same : asked n o q ≡ s = cc in
     let last : n ≡ s.last = ap (λ (x : Standing). x.last) same in
     let here : StandsBehind first (Ask u n o ∷ h) (length h) (Ask t s.last o) =
-        subst (λ (v : ℕ). StandsBehind first (Ask u n o ∷ h) (length h) (Ask v s.last o)) own
-        (subst (λ (m : ℕ). StandsBehind first (Ask u n o ∷ h) (length h) (Ask u m o)) last (record { behind = low; stands = stands_here h (Ask u n o) })) in
-    Sent_last (Asked (length h) o here) (λ r waits. some_number _ r (ap (λ (x : Standing). x.sent) same ∙ waits) ∙ last)
+    subst (λ (v : ℕ). StandsBehind first (Ask u n o ∷ h) (length h) (Ask v s.last o)) own
+    (subst (λ (m : ℕ). StandsBehind first (Ask u n o ∷ h) (length h) (Ask u m o)) last (record { behind = low; stands = stands_here h (Ask u n o) })) in
+    Sent_last (AsksHere (length h) o here) (λ r waits. some_number _ r (ap (λ (x : Standing). x.sent) same ∙ waits) ∙ last)
 spoke_moved first h (Answer u n said) t None s low own is before = absurd (let bad : None ≡ Some s = is in cc)
 spoke_moved first h (Answer u n said) t (Some q) s low own is before =
     let same : answered said q ≡ s = cc in
@@ -94,8 +95,8 @@ spoke_moved first h (Undo u n o) t (Some q) s low own is before =
     let same : undone n o q ≡ s = cc in
     let last : n ≡ s.last = ap (λ (x : Standing). x.last) same in
     let here : StandsBehind first (Undo u n o ∷ h) (length h) (Undo t s.last o) =
-        subst (λ (v : ℕ). StandsBehind first (Undo u n o ∷ h) (length h) (Undo v s.last o)) own
-        (subst (λ (m : ℕ). StandsBehind first (Undo u n o ∷ h) (length h) (Undo u m o)) last (record { behind = low; stands = stands_here h (Undo u n o) })) in
+    subst (λ (v : ℕ). StandsBehind first (Undo u n o ∷ h) (length h) (Undo v s.last o)) own
+    (subst (λ (m : ℕ). StandsBehind first (Undo u n o ∷ h) (length h) (Undo u m o)) last (record { behind = low; stands = stands_here h (Undo u n o) })) in
     Sent_last (Undoes (length h) o here) (λ r waits. some_number _ r (ap (λ (x : Standing). x.sent) same ∙ waits) ∙ last)
 spoke_moved first h (End u o) t was s low own is before = absurd (let bad : None ≡ Some s = is in cc)
 
@@ -275,13 +276,22 @@ never_not_over c t e is bad =
     cc
 
 -- one that is to be undone sends what undoes its last write
-undoing_by : (t last : ℕ) (n : Option Next) → asked_by t last n ≡ Undoing → (o : Op) × (undo_by t last n ≡ Request (record { txn = t; number = last + 1; op = o }))
+abbrev pub IsRequest : Asked → Type 0
+IsRequest (Request r) = Unit {0}
+IsRequest Undoing = ⊥
+IsRequest Over = ⊥
+IsRequest (Stuck n) = ⊥
+IsRequest (Waits n) = ⊥
+IsRequest Running = ⊥
+IsRequest Unknown = ⊥
+
+undoing_by : (t last : ℕ) (n : Option Next) → asked_by t last n ≡ Undoing → IsRequest (undo_by t last n)
 undoing_by t last None is = absurd cc
 undoing_by t last (Some (next.Waits k)) is = absurd cc
 undoing_by t last (Some (next.Asks o)) is = absurd cc
-undoing_by t last (Some (next.Undoes o)) is = (o, refl)
+undoing_by t last (Some (next.Undoes o)) is = tt
 undoing_by t last (Some (next.Stuck k)) is = absurd cc
 undoing_by t last (Some (next.Over o)) is = absurd cc
 
-pub undo_sends : (c : Core) (t : ℕ) → ask_reply c t ≡ Undoing → (o : Op) × (undo_reply c t ≡ Request (record { txn = t; number = given c.events + 1; op = o }))
+pub undo_sends : (c : Core) (t : ℕ) → ask_reply c t ≡ Undoing → IsRequest (undo_reply c t)
 undo_sends c t is = undoing_by t (given c.events) (next_at c t) is

@@ -52,4 +52,3 @@ pub map_get : {X Y : Type 0} (f : X → Y) (xs : List X) (k : ℕ) (x : X) → s
 map_get f [] k x at = cc
 map_get f (y ∷ xs) zero x at = let same : y ≡ x = cc in ap (λ z. Some (f z)) same
 map_get f (y ∷ xs) (suc k) x at = map_get f xs k x at
-

@@ -260,7 +260,7 @@ heard start calls old new ps r said (Err s) ok err keeps = rw err keeps
 pub gave_up : (start : Core) (calls : List Call) (old new : Core) (ps : List Progress) → new.events ≡ old.events → new.procs ≡ old.procs → Keeps start calls old ps → Keeps start calls new ps
 gave_up start calls old new ps events procs keeps =
     let is : record old { given_up = new.given_up } ≡ new =
-        ap (λ (h : List Event). record new { procs = old.procs; events = h }) (sym events) ∙ ap (λ (v : List Checked). record new { procs = v }) (sym procs) in
+    ap (λ (h : List Event). record new { procs = old.procs; events = h }) (sym events) ∙ ap (λ (v : List Checked). record new { procs = v }) (sym procs) in
     let stays : StaysBut start (record old { given_up = new.given_up }) = ap (λ (s : Core). record s { events = old.events; given_up = new.given_up }) keeps.stays in
     let more : Keeps start calls (record old { given_up = new.given_up }) ps = record {
       stays = stays;
@@ -321,9 +321,9 @@ admitted_one start calls state ps k t c keeps at of there is =
         | inl x ↦
             let y = keeps.known place u proc args behind x in
             let other : y.k ≢ k = λ here.
-                (let both : Some Waiting ≡ Some y.progress = sym at ∙ (ap (λ (n : ℕ). slice_get ps n) (sym here) ∙ y.at) in
-                let w : Waiting ≡ y.progress = cc in
-                let bad : None ≡ Some u = ap txn_of w ∙ y.own in cc) in
+            (let both : Some Waiting ≡ Some y.progress = sym at ∙ (ap (λ (n : ℕ). slice_get ps n) (sym here) ∙ y.at) in
+            let w : Waiting ≡ y.progress = cc in
+            let bad : None ≡ Some u = ap txn_of w ∙ y.own in cc) in
             of_call calls ps (set ps k p') u proc args y (record { progress = y.progress; at = set_other ps k y.k p' other ∙ y.at; own = y.own })
         | inr x ↦
             let tu : t.serial ≡ u = cc in
@@ -409,6 +409,7 @@ ended_answer start h c t o low begun = by o
       admitted = is_admitted_more start.events h (End t how) c t begun.admitted;
       ended = record { behind = low; stands = stands_here h (End t how) };
     }
+
     by : (how : Outcome) → AnswerFits start (End t how ∷ h) c (answer_of how (length h)) (Some t)
     by outcome.Committed = it outcome.Committed
     by (outcome.Aborted v) = it (outcome.Aborted v)

@@ -1,6 +1,6 @@
 // What lies under the lock: the state, and how far each call has come.
 
-ghost use Rattle.std.specs.Prelude.{◌≡◌, List, ℕ, [], length, replicate, reverse, Some, None, slice_get, OnOk, OnErr, IfErr, vec_capacity, map, false};
+ghost use Rattle.std.specs.Prelude.{◌≡◌, ◌<◌, ◌≤◌, true, List, ℕ, [], length, replicate, reverse, Some, None, slice_get, OnOk, OnErr, IfErr, vec_capacity, map, false};
 ghost use Rattle.tc_core.specs.Core.{Core, Asking};
 ghost use Rattle.tc_core.specs.Replies.{ask_reply, after_ask, end_of};
 ghost use Rattle.tc_log.specs.declared.event.Outcome.{Outcome};
@@ -13,9 +13,7 @@ use crate::answer::{Answer, Progress};
 use crate::report::Report;
 use access_slots::op::{Reply, Wire};
 use std::marker::{Brand, Model, PhantomData};
-use tc_core::state::{
-    Asked, Call, NotOver, Receipt, Refusal, Request, Stranger, TcState, TxnId,
-};
+use tc_core::state::{Asked, Call, NotOver, Receipt, Refusal, Request, Stranger, TcState, TxnId};
 use tc_log::event::Outcome;
 
 /// The state that is handed to a run, and its calls. Each run picks them.
@@ -207,10 +205,11 @@ impl<J: Naming> Desk<J> {
         ensures same { self.new.progress ≡ self.old.progress }
     {
         self.touched = true;
-        let Asked::Request(request) = self.state.undo_next(txn) else {
-            unreachable!()
-        };
-        self.send(request)
+        match self.state.undo_next(txn) {
+            Asked::Request(request) => self.send(request),
+            Asked::Undoing | Asked::Over | Asked::Running | Asked::Unknown => unreachable!(),
+            Asked::Stuck(_) | Asked::Waits(_) => unreachable!(),
+        }
     }
 
     // An operation that nothing more is known of becomes the call's answer.
@@ -317,13 +316,7 @@ impl<J: Naming> Desk<J> {
 
     /// Takes in what came back for a request, and goes on with the call. A request that isn't
     /// answered is sent again, with the low-water mark of now, as often as is left, and then given up.
-    pub fn resume(
-        &mut self,
-        k: usize,
-        call: &Call,
-        sending: Sending,
-        reply: Option<Reply>,
-    ) -> Next
+    pub fn resume(&mut self, k: usize, call: &Call, sending: Sending, reply: Option<Reply>) -> Next
         requires { slice_get J.calls k ≡ Some call.now }
         ensures { MovesOn self.old.progress self.new.progress k result }
     {

@@ -18,6 +18,7 @@ use std::thread::Threads;
 use tc_core::state::{Call, TcState};
 
 const MOST_WORKERS: usize = 64;
+
 const MOST_TRIES: u64 = 1000;
 
 /// What carries a wire to its data component, and the reply back.

@@ -26,5 +26,8 @@ impl Report {
 fn is_end(answer: &Answer) -> bool
     ensures { result ≡ has_place answer.now }
 {
-    matches!(answer, Answer::Committed(_) | Answer::Aborted(..) | Answer::NoRoom(_))
+    matches!(
+        answer,
+        Answer::Committed(_) | Answer::Aborted(..) | Answer::NoRoom(_)
+    )
 }
