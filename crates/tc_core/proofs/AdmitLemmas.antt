@@ -1,5 +1,5 @@
 -- What an admission keeps.
-use Rattle.std.proofs.Common.{◌≡◌, ◌≢◌, ℕ, ◌+◌, ◌-◌, ◌*◌, ◌<◌, ◌≤◌, ◌^◌, true, false, List, [], ◌∷◌, ◌++◌, length, Option, Some, None, arith, refl, sym, ◌∙◌, ap, subst, zero, suc, inl, inr}
+use Rattle.std.proofs.Common.{◌≡◌, ◌≢◌, ℕ, ◌+◌, ◌-◌, ◌*◌, ◌<◌, ◌≤◌, ◌^◌, Bool, true, false, List, [], ◌∷◌, ◌++◌, length, Option, Some, None, arith, refl, sym, ◌∙◌, ap, subst, zero, suc, inl, inr}
 use Rattle.std.specs.Prelude.{slice_get, slice_index_or, count_by, is_some}
 use Rattle.std.proofs.lemmas.Bool.{cases_eq}
 use Rattle.std.specs.Prelude.{nat_lt}
@@ -31,38 +31,56 @@ use Rattle.transactions.proofs.StandingLemmas.{some_same, none_some, standing-sa
 use Rattle.slab.specs.Slab.{Slab, get, slab_len, Updates}
 use Rattle.tc_core.specs.Running.{Runs}
 use Rattle.tc_core.specs.declared.transaction.Tx.{Tx}
-use Rattle.tc_core.specs.Rooms.{OnlyRoom, HasRoom}
-use Rattle.tc_core.specs.Kept.{Keeps, Matches, IsOpen, StandsAt, HasKey, Places, Rooms, Kept}
+use Rattle.tc_core.specs.declared.book.Book.{Book}
+use Rattle.tc_core.specs.Rooms.{OnlyRoom, HasRoom, MayEnter}
+use Rattle.tc_core.specs.Core.{Core}
+use Rattle.tc_core.specs.Loaded.{Loaded}
+use Rattle.tc_core.specs.Admission.{IsCalled, Takes, needed, IsFree, IsAdmissible}
+use Rattle.tc_core.specs.declared.transaction.Own.{Own}
+use Rattle.tc_core.proofs.MarkedLemmas.{marked-room}
+use Rattle.tc_core.specs.Kept.{IsBook, core_of, Keeps, Matches, IsOpen, StandsAt, HasKey, Places, Rooms, Kept}
 use Rattle.tc_core.proofs.KeptLemmas.{calls_kept, held-admitted}
 
-pub kept-room : (ps : List Checked) (log log' : History) (table table' : Table) (numbers numbers' : Given) (txns txns' : Slab Tx) (serials owed promised : ℕ)
-    → Kept ps log table numbers txns serials owed promised → OnlyRoom log log' table table' numbers numbers' txns txns' → Kept ps log' table' numbers' txns' serials owed promised
-kept-room ps log log' table table' numbers numbers' txns txns' serials owed promised k o =
+pub book-room : (ps : List Checked) (b b' : Book) → IsBook ps b → OnlyRoom b b' → IsBook ps b'
+book-room ps b b' is o =
+    let k = is.kept in
+    let txns = b.txns in
+    let txns' = b'.txns in
     let same : (key : ℕ) → get txns' key ≡ get txns key = (λ key. ap (λ (xs : List (Option Tx)). slice_index_or xs key None) o.slots) in
     let same_len : slab_len txns' ≡ slab_len txns = ap (λ (xs : List (Option Tx)). count_by is_some xs) o.slots in
     let more = o.log_room in
     let wider = o.number_room in
-    let places : Places ps log.events txns' = record {
+    let owed = o.owed in
+    let promised = o.promised in
+    let most = is.most in
+    let more_given_up = o.most in
+    let fits = k.rooms.numbers_fit in
+    let given_same : given b'.log.events ≡ given b.log.events = ap given o.events in
+    let places : Places ps b.log.events txns' = record {
       stands = λ key tx at. k.places.stands key tx (sym (same key) ∙ at);
       each = λ t s is. (let has = k.places.each t s is in record { key = has.key; at = record { tx = has.at.tx; found = same has.key ∙ has.at.found; serial = has.at.serial } });
       once = λ key other tx ty at at' e. k.places.once key other tx ty (sym (same key) ∙ at) (sym (same other) ∙ at') e;
     } in
     record {
-      legal = rw (o.events) k.legal;
-      good = k.good;
-      places = rw (o.events) places;
-      serials_are = rw (o.events) k.serials_are;
-      locks_are = rw (o.events) (λ t r. o.claims t r ∙ k.locks_are t r);
-      last_is = rw (o.events) (o.last ∙ k.last_is);
-      pending_is = rw (o.events) (o.pending ∙ k.pending_is);
-      rooms = record {
-        count = rw (o.events) (same_len ∙ k.rooms.count);
-        owed_is = rw (o.events) k.rooms.owed_is;
-        promised_is = rw (o.events) k.rooms.promised_is;
-        places = rw (o.events) (omega (arith, k.rooms.places, wider));
-        events = omega (arith, k.rooms.events, more);
-        numbers_fit = rw (o.events) k.rooms.numbers_fit;
+      kept = record {
+        legal = rw (o.events) k.legal;
+        good = k.good;
+        places = rw (o.events) places;
+        serials_are = rw (o.events) (o.serials ∙ k.serials_are);
+        locks_are = rw (o.events) (λ t r. o.claims t r ∙ k.locks_are t r);
+        last_is = rw (o.events) (o.last ∙ k.last_is);
+        pending_is = rw (o.events) (o.pending ∙ k.pending_is);
+        rooms = record {
+          count = rw (o.events) (same_len ∙ k.rooms.count);
+          owed_is = rw (o.events) (owed ∙ k.rooms.owed_is);
+          promised_is = rw (o.events) (promised ∙ k.rooms.promised_is);
+          places = rw (o.events) (omega (arith, k.rooms.places, wider));
+          events = omega (arith, k.rooms.events, more, owed);
+          numbers_fit = omega (arith, fits, given_same, promised);
+        };
       };
+      most = omega (arith, most, given_same, promised, more_given_up);
+      marked = marked-room _ _ _ _ _ _ is.marked o.given_up o.events o.slots;
     }
 
 total_to-few : (h : List Event) (n : ℕ) → total_to places_left h n ≤ total_to each_one h n
@@ -154,8 +172,8 @@ kept-admit ps log log' table table' numbers txns txns' serials owed promised key
 
 -- a transaction that begins is kept as a fresh one
 pub keeps_fresh : (q : Checked) (tx : Tx) (p : ℕ) (args : List ℕ) → tx.proc ≡ p → tx.sent ≡ None → tx.full ≡ false → tx.undo.ops ≡ [] → tx.tries ≡ 0 → tx.last ≡ 0 → tx.left ≡ 5 * calls_in q → calls_in q ≤ tx.undo.room
-    → Runs q tx args [] → Keeps q tx (fresh (record { proc = p; args = args }))
-keeps_fresh q tx p args proc sent full undo tries last left room runs = record {
+    → ((r : Record) → mode_in tx.locks r ≡ mode_named args q.decl.slots r) → Runs q tx args [] → Keeps q tx (fresh (record { proc = p; args = args }))
+keeps_fresh q tx p args proc sent full undo tries last left room locks runs = record {
   proc = proc;
   sent = sent;
   full = full;
@@ -164,6 +182,7 @@ keeps_fresh q tx p args proc sent full undo tries last left room runs = record {
   last = last;
   left = omega (arith, left);
   room = omega (arith, room);
+  locks = locks;
   runs = runs;
 }
 
@@ -208,3 +227,52 @@ admitted-length (End t outcome ∷ h) = omega (arith, admitted-length h)
 
 pub within-from : (a b : ℕ) → true ≡ nat_lt a b → a < b
 within-from a b e = grind (arith, nat_tests)
+
+-- the locks that a call wants
+pub wanted_locks : (ps : List Checked) (call : Call) (q : Checked) (args : List ℕ) (set : List Lock) → IsCalled ps call q → args ≡ call.args → ((r : Record) → mode_in set r ≡ mode_named args q.decl.slots r)
+    → (r : Record) → mode_in set r ≡ locks_of (decls ps) call r
+wanted_locks ps call q args set called same are r =
+    are r ∙ (ap (λ (xs : List ℕ). mode_named xs q.decl.slots r) same ∙ ap (λ (d : Option Declaration). locks_by d call.args r) (sym (get_decl ps call.proc q called.loaded)))
+
+pub free-call : (ps : List Checked) (b : Book) (call : Call) (q : Checked) (args : List ℕ) (set : List Lock) → IsBook ps b → IsCalled ps call q → args ≡ call.args
+    → ((r : Record) → mode_in set r ≡ mode_named args q.decl.slots r) → Compatible (held_by b.locks.claims) (mode_in set) → Compatible (held (decls ps) b.log.events) (locks_of (decls ps) call)
+free-call ps b call q args set is called same are free =
+    free_same (held_by b.locks.claims) (held (decls ps) b.log.events) (mode_in set) (locks_of (decls ps) call) is.kept.locks_are (wanted_locks ps call q args set called same are) free
+
+pub busy-call : (ps : List Checked) (b : Book) (call : Call) (q : Checked) (args : List ℕ) (set : List Lock) (r : Record) (t : ℕ) → IsBook ps b → IsCalled ps call q → args ≡ call.args
+    → ((r : Record) → mode_in set r ≡ mode_named args q.decl.slots r) → IsFirstInTheWay (held_by b.locks.claims) (mode_in set) r t → IsFirstInTheWay (held (decls ps) b.log.events) (locks_of (decls ps) call) r t
+busy-call ps b call q args set r t is called same are first =
+    busy_same (held_by b.locks.claims) (held (decls ps) b.log.events) (mode_in set) (locks_of (decls ps) call) r t is.kept.locks_are (wanted_locks ps call q args set called same are) first
+
+pub needs : (l : Loaded) (b : Book) (q : Checked) (last calls : ℕ) → IsBook l.codes b → last ≡ b.numbers.last → calls ≡ calls_in q → last + 5 * calls + b.promised ≡ needed (core_of l b) q
+needs l b q last calls is same count = (let last_is = is.kept.last_is in let promised_is = is.kept.rooms.promised_is in omega (arith, same, count, last_is, promised_is))
+
+pub few-needed : (l : Loaded) (b : Book) (q : Checked) (last calls : ℕ) (spent : Bool) → IsBook l.codes b → last ≡ b.numbers.last → calls ≡ calls_in q → spent ≡ nat_lt (2 ^ 62) (last + 5 * calls + b.promised) → spent ≡ false
+    → needed (core_of l b) q ≤ 2 ^ 62
+few-needed l b q last calls spent is same count e f = few-from (needed (core_of l b) q) (ap (nat_lt (2 ^ 62)) (sym (needs l b q last calls is same count)) ∙ (sym e ∙ f))
+
+pub many-needed : (l : Loaded) (b : Book) (q : Checked) (last calls : ℕ) (spent : Bool) → IsBook l.codes b → last ≡ b.numbers.last → calls ≡ calls_in q → spent ≡ nat_lt (2 ^ 62) (last + 5 * calls + b.promised) → spent ≡ true
+    → 2 ^ 62 < needed (core_of l b) q
+many-needed l b q last calls spent is same count e f = many-from (needed (core_of l b) q) (ap (nat_lt (2 ^ 62)) (sym (needs l b q last calls is same count)) ∙ (sym e ∙ f))
+
+-- a call that is admissible has its room, and may be entered
+pub may-enter : (l : Loaded) (b b' : Book) (call : Call) (q : Checked) (args : List ℕ) (own : Own) (calls : ℕ)
+    → IsBook l.codes b → IsCalled l.codes call q → IsFree (core_of l b) call → needed (core_of l b) q ≤ 2 ^ 62 → args ≡ call.args
+    → ((r : Record) → mode_in own.locks r ≡ mode_named args q.decl.slots r) → own.args ≡ call.args → own.undo.ops ≡ [] → calls ≤ own.undo.room → calls ≡ calls_in q
+    → OnlyRoom b b' → HasRoom b' calls own.locks → MayEnter l.codes b' q call.proc own
+may-enter l b b' call q args own calls is called free few same are own_args ops room count o has =
+    let promised = o.promised in
+    let promised_is = is.kept.rooms.promised_is in
+    let given_same : given b'.log.events ≡ given b.log.events = ap given o.events in
+    let back : call.args ≡ own.args = sym own_args in
+    record {
+      book = book-room l.codes b b' is o;
+      called = record { loaded = called.loaded; count = ap (λ (xs : List ℕ). length xs) own_args ∙ called.count };
+      free = subst (λ (xs : List ℕ). Compatible (held (decls l.codes) b'.log.events) (locks_of (decls l.codes) (record { proc = call.proc; args = xs }))) back
+      (subst (λ (h : List Event). Compatible (held (decls l.codes) h) (locks_of (decls l.codes) call)) (sym o.events) free);
+      few = omega (arith, few, given_same, promised, promised_is);
+      room = subst (λ (n : ℕ). HasRoom b' n own.locks) count has;
+      locks = λ r. are r ∙ ap (λ (xs : List ℕ). mode_named xs q.decl.slots r) (same ∙ back);
+      ops = ops;
+      undo_room = omega (arith, room, count);
+    }

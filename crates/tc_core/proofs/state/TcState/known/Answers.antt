@@ -4,4 +4,4 @@ use Rattle.tc_core.specs.Core.{Core}
 use Rattle.tc_core.proofs.state.TcState.known.Goals as goal
 
 pub returns-clause-good : goal.returns-clause-good
-returns-clause-good c = subst (λ (x : Core). AllGood x.procs) c.self.view_is c.self.invariant.0.good
+returns-clause-good c = subst (λ (x : Core). AllGood x.procs) c.self.view_is c.known.ensures.good
