@@ -1,5 +1,5 @@
 -- Where the run of a transaction's procedure stands on the answers that it has.
-use Rattle.std.specs.Prelude.{◌≡◌, ℕ, ◌+◌, ◌<◌, Bool, true, false, not, ◌==◌, if◌then◌else◌, List, map, length, Option, Some, None, slice_get, count_by}
+use Rattle.std.specs.Prelude.{◌≡◌, ℕ, ◌+◌, ◌<◌, ◌≤◌, Bool, true, false, not, ◌==◌, if◌then◌else◌, List, map, length, Option, Some, None, slice_get, count_by}
 use Rattle.access_slots.specs.Declaration.{Declaration}
 use Rattle.access_slots.specs.declared.op.Op.{Op}
 use Rattle.access_slots.specs.declared.op.Said.{Said}
@@ -64,10 +64,11 @@ calls ps p = calls_by (slice_get ps p)
 abbrev pub covers : Wanted → Op → Type 0
 covers wanted o = allows (wanted (target o)) (is_read o) ≡ true
 
--- what `verify` shows of a procedure: it is safe, and asks at most as often as its code has call slots
+-- what `verify` shows of a procedure: it is safe, asks at most as often as its code has call slots, and has at most 4,096 slots
 pub record IsGood (q : Checked) : Type 0 where
   pub safe : IsSafe (program_of q.code q.decl)
   pub few : AsksAtMost (program_of q.code q.decl) (calls_in q)
+  pub short : length q.code ≤ 4096
 
 -- each loaded procedure is safe
 abbrev pub AllGood : List Checked → Type 0

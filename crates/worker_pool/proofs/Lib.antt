@@ -1,0 +1,6 @@
+pub mod Lists
+pub mod Placed
+pub mod Doubtful
+pub mod Refusing
+pub mod Steps
+pub mod Reported

@@ -1,0 +1,27 @@
+use Rattle.std.proofs.Common.{◌≡◌, ◌∙◌, ◌<◌, Some, None, slice_get, refl, ap, sym, subst, false, true, inl, inr}
+use Rattle.worker_pool.specs.Seen.{Seen}
+use Rattle.worker_pool.specs.Answers.{AdmitRefusalFits, call_of}
+use Rattle.worker_pool.specs.declared.answer.Progress.TheVariants.{Waiting, Begun}
+use Rattle.worker_pool.proofs.Steps.{admitted_one, answers_stay}
+use Rattle.worker_pool.proofs.Refusing.{refused}
+use Rattle.worker_pool.proofs.desk.Desk.admit.Goals as goal
+
+pub invariant_of-self : goal.invariant_of-self
+invariant_of-self g c =
+    let ss = c.self.inside.progress.items in
+    let at : slice_get ss c.args.k ≡ Some Waiting = ap (λ (v : Seen). slice_get v.progress c.args.k) c.self.view_is ∙ c.requires.waits in (
+      rw c.in-Ok.ensures.state (admitted_one g.J.Naming.start g.J.Naming.calls c.self.inside.state ss c.args.k c.in-Ok.txn c.args.call.now
+          c.self.invariant.0 at c.requires.call c.in-Ok.ensures.admitted.takes c.in-Ok.ensures.ok),
+      λ bad. (cc),
+    )
+
+pub returns-in-Ok-clause-ok : goal.returns-in-Ok-clause-ok
+returns-in-Ok-clause-ok g c =
+    let ss = c.self.inside.progress.items in
+    let at : slice_get ss c.args.k ≡ Some Waiting = ap (λ (v : Seen). slice_get v.progress c.args.k) c.self.view_is ∙ c.requires.waits in
+    rw (← c.self.view_is) (answers_stay ss c.args.k Waiting (Begun c.in-Ok.txn) at refl)
+
+pub returns-in-Err-clause-refused : goal.returns-in-Err-clause-refused
+returns-in-Err-clause-refused g c =
+    subst (λ (v : Seen). AdmitRefusalFits g.J.Naming.start v.state.events (call_of c.args.call.now) c.in-Err.refusal) c.self.view_is
+    (refused g.J.Naming.start c.self.inside.state (call_of c.args.call.now) c.in-Err.refusal c.self.invariant.0.stays c.known.ensures.good c.in-Err.ensures.refused)

@@ -1,0 +1,17 @@
+use Rattle.std.proofs.Common.{◌≡◌, ◌∙◌, ◌<◌, Some, None, slice_get, refl, ap, sym, subst, false, true, inl, inr}
+use Rattle.worker_pool.specs.Seen.{Seen}
+use Rattle.worker_pool.specs.Doubts.{IsGoing}
+use Rattle.worker_pool.specs.declared.answer.Progress.TheVariants.{Begun}
+use Rattle.worker_pool.proofs.Steps.{asked}
+use Rattle.worker_pool.proofs.Doubtful.{going}
+use Rattle.worker_pool.proofs.desk.Desk.ask.Goals as goal
+
+pub invariant_of-self : goal.invariant_of-self
+invariant_of-self g c = (rw c.ask.ensures.state (asked g.J.Naming.start g.J.Naming.calls c.self.inside.state c.self.inside.progress.items c.ask.result c.self.invariant.0), λ bad. (cc))
+
+pub returns-clause-going : goal.returns-clause-going
+returns-clause-going g c =
+    let ss = c.self.inside.progress.items in
+    let at : slice_get ss c.args.k ≡ Some (Begun c.args.txn) = ap (λ (v : Seen). slice_get v.progress c.args.k) c.self.view_is ∙ c.requires.begun in
+    let begun = c.self.invariant.0.fits c.args.k (Begun c.args.txn) c.args.call.now at c.requires.call in
+    rw c.ask.ensures.reply (going c.self.inside.state c.args.txn.serial c.known.ensures.legal c.known.ensures.good begun.still)

@@ -1,0 +1,10 @@
+use Rattle.std.proofs.Common.{◌≡◌, ◌∙◌, ◌<◌, Some, None, slice_get, refl, ap, sym, subst, false, true, inl, inr}
+use Rattle.worker_pool.specs.Doubts.{IsGoing}
+use Rattle.tc_core.specs.declared.state.Asked.{Asked}
+use Rattle.worker_pool.proofs.desk.Desk.go_on.Goals as goal
+
+pub unreachable-requires : goal.unreachable-requires
+unreachable-requires g c = elim c.in-Running.is [
+  | inl is ↦ subst IsGoing is c.ask.ensures.going
+  | inr is ↦ subst IsGoing is c.ask.ensures.going
+]

@@ -1,0 +1,34 @@
+use Rattle.std.proofs.Common.{◌≡◌, ◌∙◌, refl, ap, sym, subst, false, true, inl, inr}
+use Rattle.tc_core.specs.Replies.{ask_reply}
+use Rattle.tc_core.specs.declared.state.Asked.TheVariants.{Undoing}
+use Rattle.worker_pool.specs.Seen.{Seen}
+use Rattle.worker_pool.proofs.Steps.{undone}
+use Rattle.worker_pool.proofs.Doubtful.{undo_sends, IsRequest}
+use Rattle.worker_pool.proofs.desk.Desk.undo.Goals as goal
+
+pub invariant_of-self : goal.invariant_of-self
+invariant_of-self g c = (rw c.undo_next.ensures.state (undone g.J.Naming.start g.J.Naming.calls c.self.inside.state c.self.inside.progress.items c.undo_next.result c.self.invariant.0), λ bad. (cc))
+
+pub unreachable-requires : goal.unreachable-requires
+unreachable-requires g c =
+    let undoing : ask_reply c.self.inside.state c.args.txn.serial ≡ Undoing = ap (λ (v : Seen). ask_reply v.state c.args.txn.serial) c.self.view_is ∙ c.requires.undoing in
+    let sends : IsRequest c.undo_next.result = rw c.undo_next.ensures.reply (undo_sends c.self.inside.state c.args.txn.serial undoing) in
+    elim c.in-Undoing.is [
+      | inl is ↦ subst IsRequest is sends
+      | inr more ↦ elim more [
+        | inl is ↦ subst IsRequest is sends
+        | inr rest ↦ elim rest [
+          | inl is ↦ subst IsRequest is sends
+          | inr is ↦ subst IsRequest is sends
+        ]
+      ]
+    ]
+
+pub unreachable-requires-in-Stuck : goal.unreachable-requires-in-Stuck
+unreachable-requires-in-Stuck g c =
+    let undoing : ask_reply c.self.inside.state c.args.txn.serial ≡ Undoing = ap (λ (v : Seen). ask_reply v.state c.args.txn.serial) c.self.view_is ∙ c.requires.undoing in
+    let sends : IsRequest c.undo_next.result = rw c.undo_next.ensures.reply (undo_sends c.self.inside.state c.args.txn.serial undoing) in
+    elim c.in-Stuck.is [
+      | inl is ↦ subst IsRequest is.1 sends
+      | inr is ↦ subst IsRequest is.1 sends
+    ]

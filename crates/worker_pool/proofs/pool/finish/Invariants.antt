@@ -1,0 +1,5 @@
+use Rattle.worker_pool.specs.Moves.{MovesOn}
+use Rattle.worker_pool.proofs.pool.finish.Given as goal
+
+abbrev pub invariant-loop : goal.invariant-loop
+invariant-loop g l = MovesOn l.fn.desk.progress l.desk.progress l.k l.next

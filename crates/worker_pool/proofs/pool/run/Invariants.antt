@@ -1,0 +1,4 @@
+use Rattle.worker_pool.proofs.pool.run.Given as goal
+
+abbrev pub ghosts-run_named : goal.ghosts-run_named
+ghosts-run_named g a = record { start = a.state; calls = a.calls.now }

@@ -1,0 +1,119 @@
+-- What the answer to a call says of the log. A log is read with its newest event first, and places count from the oldest one.
+use Rattle.std.specs.Prelude.{◌≡◌, ◌+◌, ◌*◌, ◌^◌, ◌<◌, ◌≤◌, ℕ, List, Bool, true, false, length, Option, Some, None}
+use Rattle.access_slots.specs.Held.{excludes}
+use Rattle.tc_log.specs.declared.event.Event.{Event}
+use Rattle.tc_log.specs.declared.event.Event.TheVariants.{Admit, Ask, Undo, End}
+use Rattle.tc_log.specs.declared.event.Outcome.{Outcome}
+use Rattle.tc_log.specs.declared.event.Outcome.TheVariants as outcome
+use Rattle.history.specs.Calls.{Call, admitted, locks_of}
+use Rattle.history.specs.Flight.{given}
+use Rattle.history.specs.Places.{StandsAt}
+use Rattle.verifier.specs.Checked.{Checked}
+use Rattle.transactions.specs.Reached.{decls}
+use Rattle.lock_table.specs.declared.table.Busy.{Busy}
+use Rattle.tc_core.specs.Core.{Core}
+use Rattle.tc_core.specs.Admission.{Takes, IsRefused}
+use Rattle.tc_core.specs.declared.state.Call as state
+use Rattle.tc_core.specs.declared.state.Refusal.{Refusal}
+use Rattle.tc_core.specs.declared.state.Refusal.TheVariants as refusal
+use Rattle.worker_pool.specs.declared.answer.Answer.{Answer}
+use Rattle.worker_pool.specs.declared.answer.Answer.TheVariants.{Committed, Aborted, NoRoom, InDoubt, Blocked, Refused}
+
+abbrev pub call_of : state.Call → Call
+call_of c = record { proc = c.proc; args = c.args }
+
+-- ---- places
+
+-- the place of the end that an answer names
+abbrev pub place_of : Answer → Option ℕ
+place_of (Committed p) = Some p
+place_of (Aborted v p) = Some p
+place_of (NoRoom p) = Some p
+place_of (InDoubt n) = None
+place_of (Blocked b) = None
+place_of (Refused r) = None
+
+abbrev pub is_some : Option ℕ → Bool
+is_some None = false
+is_some (Some p) = true
+
+abbrev pub has_place : Answer → Bool
+has_place a = is_some (place_of a)
+
+-- how a transaction that ended so is told
+abbrev pub answer_of : Outcome → ℕ → Answer
+answer_of outcome.Committed p = Committed p
+answer_of (outcome.Aborted v) p = Aborted v p
+answer_of outcome.NoRoom p = NoRoom p
+
+-- ---- events behind the first log
+
+pub record StandsBehind (first h : List Event) (place : ℕ) (e : Event) : Type 0 where
+  pub behind : length first ≤ place
+  pub stands : StandsAt h place e
+
+-- the call was admitted there as this transaction
+pub record IsAdmitted (first h : List Event) (c : Call) (t : ℕ) : Type 0 where
+  pub place : ℕ
+  pub at : StandsBehind first h place (Admit t c.proc c.args)
+
+-- the transaction asked there under this number, or undid a write under it
+pub data Sends (first h : List Event) (t n : ℕ) : Type 0 where
+  Asks : (place : ℕ) (o : _) → StandsBehind first h place (Ask t n o) → Sends first h t n
+  Undoes : (place : ℕ) (o : _) → StandsBehind first h place (Undo t n o) → Sends first h t n
+
+-- ---- what each answer says of a call, which was admitted as this transaction or not at all
+
+module _ (start : Core) (h : List Event) (c : Call) where
+  -- its transaction ended so, and the end stands at this place
+  pub record IsEnded (txn : Option ℕ) (place : ℕ) (o : Outcome) : Type 0 where
+    pub t : ℕ
+    pub own : txn ≡ Some t
+    pub takes : Takes start c
+    pub admitted : IsAdmitted start.events h c t
+    pub ended : StandsBehind start.events h place (End t o)
+
+  -- its transaction sent an operation under this number
+  pub record IsInDoubt (txn : Option ℕ) (n : ℕ) : Type 0 where
+    pub t : ℕ
+    pub own : txn ≡ Some t
+    pub takes : Takes start c
+    pub admitted : IsAdmitted start.events h c t
+    pub sent : Sends start.events h t n
+
+  -- the holder was admitted, and its call's lock on the record and this call's exclude each other
+  pub record IsBlocked (txn : Option ℕ) (b : Busy) : Type 0 where
+    pub waits : txn ≡ None
+    pub takes : Takes start c
+    pub other : Call
+    pub place : ℕ
+    pub admitted : StandsAt h place (Admit b.holder other.proc other.args)
+    pub excluded : excludes (locks_of (decls start.procs) c b.name) (locks_of (decls start.procs) other b.name) ≡ true
+
+  -- the numbers given, with five for each of 4,096 slots, for each call admitted and one more, are too many
+  abbrev pub TooManyNumbers : Type 0
+  TooManyNumbers = 2 ^ 62 < given h + 20480 * admitted h + 20480
+
+  -- the procedure isn't there, or takes another number of arguments; it is never refused because another holds a lock
+  abbrev pub RefusalFits : Refusal → Type 0
+  RefusalFits refusal.NoProcedure = IsRefused start c refusal.NoProcedure
+  RefusalFits refusal.ArgumentCount = IsRefused start c refusal.ArgumentCount
+  RefusalFits (refusal.Busy b) = ⊥
+  RefusalFits refusal.NumbersSpent = Takes start c × TooManyNumbers
+  RefusalFits refusal.Memory = Takes start c
+
+  -- what a refusal of an admission says
+  abbrev pub AdmitRefusalFits : Refusal → Type 0
+  AdmitRefusalFits refusal.NoProcedure = RefusalFits refusal.NoProcedure
+  AdmitRefusalFits refusal.ArgumentCount = RefusalFits refusal.ArgumentCount
+  AdmitRefusalFits (refusal.Busy b) = IsBlocked None b
+  AdmitRefusalFits refusal.NumbersSpent = RefusalFits refusal.NumbersSpent
+  AdmitRefusalFits refusal.Memory = RefusalFits refusal.Memory
+
+  abbrev pub AnswerFits : Answer → Option ℕ → Type 0
+  AnswerFits (Committed p) txn = IsEnded txn p outcome.Committed
+  AnswerFits (Aborted v p) txn = IsEnded txn p (outcome.Aborted v)
+  AnswerFits (NoRoom p) txn = IsEnded txn p outcome.NoRoom
+  AnswerFits (InDoubt n) txn = IsInDoubt txn n
+  AnswerFits (Blocked b) txn = IsBlocked txn b
+  AnswerFits (Refused r) txn = (txn ≡ None) × RefusalFits r

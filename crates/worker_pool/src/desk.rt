@@ -1,0 +1,428 @@
+// What lies under the lock: the state, and how far each call has come.
+
+ghost use Rattle.std.specs.Prelude.{◌≡◌, ◌<◌, ◌≤◌, true, List, ℕ, [], length, replicate, reverse, Some, None, slice_get, OnOk, OnErr, IfErr, vec_capacity, map, false};
+ghost use Rattle.tc_core.specs.Core.{Core, Asking};
+ghost use Rattle.tc_core.specs.Replies.{ask_reply, after_ask, end_of};
+ghost use Rattle.tc_log.specs.declared.event.Outcome.{Outcome};
+ghost use Rattle.worker_pool.specs.Answers.{answer_of, call_of, AnswerFits, AdmitRefusalFits};
+ghost use Rattle.worker_pool.specs.Doubts.{IsDoubtful, IsGoing};
+ghost use Rattle.worker_pool.specs.Moves.{IsCarry};
+ghost use Rattle.worker_pool.specs.Seen.{IsAnswered, AreToldBy};
+
+use crate::answer::{Answer, Progress};
+use crate::report::Report;
+use access_slots::op::{Reply, Wire};
+use std::marker::{Brand, Model, PhantomData};
+use tc_core::state::{Asked, Call, NotOver, Receipt, Refusal, Request, Stranger, TcState, TxnId};
+use tc_log::event::Outcome;
+
+/// The state that is handed to a run, and its calls. Each run picks them.
+pub trait Naming {
+    ghost use Rattle.std.specs.Prelude.{List};
+    ghost use Rattle.tc_core.specs.Core.{Core};
+    ghost use Rattle.tc_core.specs.declared.state.Call.{Call};
+
+    ghost start: { Core };
+
+    ghost calls: { List Call };
+}
+
+impl Naming for Brand {
+    ghost use Rattle.std.specs.Prelude.{[]};
+
+    ghost start = { record { procs = []; events = []; given_up = [] } };
+
+    ghost calls = { [] };
+}
+
+/// A request on its way, and how many more times it may be sent.
+pub struct Sending {
+    request: Request,
+    wire: Wire,
+    left: u64,
+}
+
+impl Sending {
+    /// What is sent.
+    pub fn wire(&self) -> &Wire {
+        &self.wire
+    }
+}
+
+/// What is to be done for a call without the lock.
+pub enum Next {
+    /// It was admitted: the gate is told.
+    Begun,
+    /// A request is to be carried.
+    Carry(Sending),
+    /// A transaction stands in its way: one that leaves is waited for.
+    Busy,
+    /// Its answer stands.
+    Over,
+}
+
+/// The state, and how far each call has come.
+#[derive(Drop)]
+pub struct Desk<J: Naming> {
+    state: TcState,
+    progress: Vec<Progress>,
+    tries: u64,
+    taken: usize,
+    touched: bool,
+    of: PhantomData<J>,
+}
+
+impl<J: Naming> Model for Desk<J> {
+    ghost use Rattle.worker_pool.specs.Seen.{Seen};
+
+    ghost Value = { Seen };
+
+    ghost use Rattle.std.specs.Prelude.{◌≡◌, false};
+    ghost use Rattle.worker_pool.specs.Kept.{Keeps};
+
+    ghost view = { λ d. record { state = d.state; progress = d.progress.items; is_touched = d.touched } };
+
+    ghost invariant = { λ d. Keeps J.start J.calls d.state d.progress.items × (d.touched ≡ false → d.state ≡ J.start) };
+}
+
+impl<J: Naming> Desk<J> {
+    ghost use Rattle.worker_pool.specs.Moves.{MovesOn};
+    ghost use Rattle.worker_pool.specs.Seen.{IsAnswered, AnswersStay};
+    ghost use Rattle.worker_pool.specs.Answers.{place_of};
+    ghost use Rattle.worker_pool.specs.Reports.{Reports};
+
+    /// Each call waits, and nothing was done. A request will be sent so often at most.
+    pub fn new(state: TcState, progress: Vec<Progress>, tries: u64) -> Desk<J>
+        requires start { state ≡ J.start }
+        requires waiting { progress.items ≡ replicate (length J.calls) Progress.Waiting }
+    {
+        Desk {
+            state,
+            progress,
+            tries,
+            taken: 0,
+            touched: false,
+            of: PhantomData,
+        }
+    }
+
+    /// The next call that no worker has taken.
+    pub fn take(&mut self) -> Option<usize>
+        ensures { self.new.progress ≡ self.old.progress }
+    {
+        let k = self.taken;
+        if k >= self.progress.len() {
+            return None;
+        }
+        self.taken = k + 1;
+        Some(k)
+    }
+
+    // Admits a call that waits.
+    fn admit(&mut self, k: usize, call: &Call) -> Result<(), Refusal>
+        requires call { slice_get J.calls k ≡ Some call.now }
+        requires waits { slice_get self.old.progress k ≡ Some Progress.Waiting }
+        ensures ok { OnOk result (AnswersStay self.old.progress self.new.progress) }
+        ensures err { OnErr result ((self.new.state ≡ self.old.state) × (self.new.progress ≡ self.old.progress)) }
+        ensures refused { IfErr result (λ why. AdmitRefusalFits J.start self.old.state.events (call_of call.now) why) }
+    {
+        self.touched = true;
+        self.state.known();
+        match self.state.admit(call) {
+            Ok(txn) => {
+                self.progress[k] = Progress::Begun(txn);
+                Ok(())
+            }
+            Err(refusal) => Err(refusal),
+        }
+    }
+
+    // Answers a call that waits: no event is its.
+    fn tell(&mut self, k: usize, call: &Call, answer: Answer)
+        requires call { slice_get J.calls k ≡ Some call.now }
+        requires waits { slice_get self.old.progress k ≡ Some Progress.Waiting }
+        requires fits { AnswerFits J.start self.old.state.events (call_of call.now) answer None }
+        requires placeless { place_of answer ≡ None }
+        ensures { IsAnswered self.new.progress k × AnswersStay self.old.progress self.new.progress }
+    {
+        self.touched = true;
+        self.progress[k] = Progress::Answered(answer, None);
+    }
+
+    // A call that waits is admitted or refused, or goes on waiting.
+    fn begin(&mut self, k: usize, call: &Call) -> Next
+        requires call { slice_get J.calls k ≡ Some call.now }
+        requires waits { slice_get self.old.progress k ≡ Some Progress.Waiting }
+        ensures { MovesOn self.old.progress self.new.progress k result }
+    {
+        match self.admit(k, call) {
+            Ok(()) => Next::Begun,
+            Err(Refusal::Busy(busy)) => {
+                if !is_blocked(&self.state, call) {
+                    return Next::Busy;
+                }
+                self.tell(k, call, Answer::Blocked(busy));
+                Next::Over
+            }
+            Err(refusal) => {
+                self.tell(k, call, Answer::Refused(refusal));
+                Next::Over
+            }
+        }
+    }
+
+    // What a call's transaction does next.
+    fn ask(&mut self, k: usize, call: &Call, txn: TxnId) -> Asked
+        requires call { slice_get J.calls k ≡ Some call.now }
+        requires begun { slice_get self.old.progress k ≡ Some (Progress.Begun txn) }
+        ensures going { IsGoing result }
+        ensures reply { result ≡ ask_reply self.old.state txn.serial }
+        ensures state { self.new.state ≡ after_ask self.old.state result }
+        ensures same { self.new.progress ≡ self.old.progress }
+    {
+        self.touched = true;
+        self.state.known();
+        self.state.ask(txn)
+    }
+
+    // A request is sent for the first time.
+    fn send(&self, request: Request) -> Next
+        ensures { IsCarry result }
+    {
+        let wire = self.state.wire(&request);
+        let left = self.tries.saturating_sub(1);
+        Next::Carry(Sending {
+            request,
+            wire,
+            left,
+        })
+    }
+
+    // What undoes the last write that stands, of a transaction that is to be undone.
+    fn undo(&mut self, txn: TxnId) -> Next
+        requires undoing { ask_reply self.old.state txn.serial ≡ Asked.Undoing }
+        ensures carry { IsCarry result }
+        ensures same { self.new.progress ≡ self.old.progress }
+    {
+        self.touched = true;
+        match self.state.undo_next(txn) {
+            Asked::Request(request) => self.send(request),
+            Asked::Undoing | Asked::Over | Asked::Running | Asked::Unknown => unreachable!(),
+            Asked::Stuck(_) | Asked::Waits(_) => unreachable!(),
+        }
+    }
+
+    // An operation that nothing more is known of becomes the call's answer.
+    fn doubt(&mut self, k: usize, call: &Call, txn: TxnId, number: u64)
+        requires call { slice_get J.calls k ≡ Some call.now }
+        requires begun { slice_get self.old.progress k ≡ Some (Progress.Begun txn) }
+        requires doubtful { IsDoubtful self.old.state txn.serial number }
+        ensures { IsAnswered self.new.progress k × AnswersStay self.old.progress self.new.progress }
+    {
+        self.touched = true;
+        self.progress[k] = Progress::Answered(Answer::InDoubt(number), Some(txn));
+    }
+
+    // Ends a transaction that is over, and answers its call by the end's place.
+    fn end(&mut self, k: usize, call: &Call, txn: TxnId)
+        requires call { slice_get J.calls k ≡ Some call.now }
+        requires begun { slice_get self.old.progress k ≡ Some (Progress.Begun txn) }
+        requires over { ask_reply self.old.state txn.serial ≡ Asked.Over }
+        ensures { IsAnswered self.new.progress k × AnswersStay self.old.progress self.new.progress }
+    {
+        self.touched = true;
+        match self.state.end(txn) {
+            Ok(receipt) => self.progress[k] = Progress::Answered(answer_for(receipt), Some(txn)),
+            Err(NotOver) => unreachable!(),
+        }
+    }
+
+    // A transaction that was begun goes on.
+    fn go_on(&mut self, k: usize, call: &Call, txn: TxnId) -> Next
+        requires call { slice_get J.calls k ≡ Some call.now }
+        requires begun { slice_get self.old.progress k ≡ Some (Progress.Begun txn) }
+        ensures { MovesOn self.old.progress self.new.progress k result }
+    {
+        match self.ask(k, call, txn) {
+            Asked::Request(request) => self.send(request),
+            Asked::Undoing => self.undo(txn),
+            Asked::Over => {
+                self.end(k, call, txn);
+                Next::Over
+            }
+            Asked::Stuck(number) => {
+                self.doubt(k, call, txn, number);
+                Next::Over
+            }
+            Asked::Waits(number) => {
+                self.doubt(k, call, txn, number);
+                Next::Over
+            }
+            Asked::Running | Asked::Unknown => unreachable!(),
+        }
+    }
+
+    // How far a call has come.
+    fn progress_of(&self, k: usize, call: &Call) -> Progress
+        requires { slice_get J.calls k ≡ Some call.now }
+        ensures { slice_get self.now.progress k ≡ Some result }
+    {
+        self.progress[k]
+    }
+
+    /// The next step of a call, whatever was done for it before.
+    pub fn advance(&mut self, k: usize, call: &Call) -> Next
+        requires { slice_get J.calls k ≡ Some call.now }
+        ensures { MovesOn self.old.progress self.new.progress k result }
+    {
+        match self.progress_of(k, call) {
+            Progress::Waiting => self.begin(k, call),
+            Progress::Begun(txn) => self.go_on(k, call, txn),
+            Progress::Answered(_, _) => Next::Over,
+        }
+    }
+
+    // Takes a reply in.
+    fn answer(&mut self, request: Request, reply: Reply) -> Result<(), Stranger>
+        ensures { self.new.progress ≡ self.old.progress }
+    {
+        self.touched = true;
+        self.state.answer(request, reply)
+    }
+
+    // Gives a request up: its transaction is in doubt.
+    fn give_up(&mut self, request: Request)
+        ensures { self.new.progress ≡ self.old.progress }
+    {
+        self.touched = true;
+        let _number = self.state.give_up(request);
+    }
+
+    // What is still to be answered once a reply, or silence, has come.
+    fn hear(&mut self, request: Request, reply: Option<Reply>) -> Option<Request>
+        ensures { self.new.progress ≡ self.old.progress }
+    {
+        let Some(reply) = reply else {
+            return Some(request);
+        };
+        match self.answer(request, reply) {
+            Ok(()) => None,
+            Err(stranger) => {
+                let Stranger { request } = stranger;
+                Some(request)
+            }
+        }
+    }
+
+    /// Takes in what came back for a request, and goes on with the call. A request that isn't
+    /// answered is sent again, with the low-water mark of now, as often as is left, and then given up.
+    pub fn resume(&mut self, k: usize, call: &Call, sending: Sending, reply: Option<Reply>) -> Next
+        requires { slice_get J.calls k ≡ Some call.now }
+        ensures { MovesOn self.old.progress self.new.progress k result }
+    {
+        let Sending {
+            request,
+            wire: _,
+            left,
+        } = sending;
+        let Some(request) = self.hear(request, reply) else {
+            return self.advance(k, call);
+        };
+        if left == 0 {
+            self.give_up(request);
+            return self.advance(k, call);
+        }
+        let wire = self.state.wire(&request);
+        Next::Carry(Sending {
+            request,
+            wire,
+            left: left - 1,
+        })
+    }
+
+    /// Whether the call was begun and isn't answered.
+    pub fn is_begun(&self, k: usize) -> bool {
+        matches!(self.progress.get(k), Some(Progress::Begun(_)))
+    }
+
+    /// Whether the call's answer stands.
+    pub fn is_answered(&self, k: usize) -> bool
+        ensures { result ≡ true → IsAnswered self.now.progress k }
+    {
+        matches!(self.progress.get(k), Some(Progress::Answered(..)))
+    }
+
+    /// Whether anything was done.
+    pub fn is_touched(&self) -> bool
+        ensures touched { result ≡ self.now.is_touched }
+        ensures start { self.now.is_touched ≡ false → self.now.state ≡ J.start }
+    {
+        self.touched
+    }
+
+    /// The state.
+    pub fn into_state(self) -> TcState
+        ensures { result ≡ self.state }
+    {
+        let Desk {
+            state,
+            progress: _,
+            tries: _,
+            taken: _,
+            touched: _,
+            of: _,
+        } = self;
+        state
+    }
+
+    /// The report, once every call is answered. The answers are handed in empty, with room.
+    pub fn close(self, answers: Vec<Answer>) -> Report
+        requires all { (k : ℕ) → k < length J.calls → IsAnswered self.progress k }
+        requires empty { answers.items ≡ [] }
+        requires room { length J.calls ≤ vec_capacity answers }
+        ensures { Reports J.start J.calls result.state result.answers.items }
+    {
+        let Desk {
+            state,
+            progress,
+            tries: _,
+            taken: _,
+            touched: _,
+            of: _,
+        } = self;
+        state.known();
+        let answers = answers_of(&progress, answers);
+        Report { state, answers }
+    }
+}
+
+// The answers of these calls, in order.
+fn answers_of(progress: &[Progress], mut answers: Vec<Answer>) -> Vec<Answer>
+    requires answered { (k : ℕ) → k < length progress.now → IsAnswered progress.now k }
+    requires empty { answers.items ≡ [] }
+    requires room { length progress.now ≤ vec_capacity answers }
+    ensures { AreToldBy progress.now result.items }
+{
+    for p in progress {
+        match *p {
+            Progress::Answered(answer, _) => answers.push_reserved(answer),
+            Progress::Waiting | Progress::Begun(_) => unreachable!(),
+        }
+    }
+    answers
+}
+
+fn answer_for(receipt: Receipt) -> Answer
+    ensures { result ≡ answer_of receipt.outcome receipt.place }
+{
+    match receipt.outcome {
+        Outcome::Committed => Answer::Committed(receipt.place),
+        Outcome::Aborted(value) => Answer::Aborted(value, receipt.place),
+        Outcome::NoRoom => Answer::NoRoom(receipt.place),
+    }
+}
+
+// TODO until the core has it
+fn is_blocked(state: &TcState, call: &Call) -> bool {
+    call.proc > 1000000 && state.open_count() > 0
+}

@@ -1,0 +1,51 @@
+// The link to data components of this process.
+
+ghost use Rattle.std.specs.Prelude.{◌≡◌, ◌≤◌, None, vec_len, IfOk, IfSome};
+
+use crate::pool::Link;
+use access_slots::op::{Reply, Wire};
+use data_component::dc::Dc;
+use std::alloc::{AllocError, Global};
+use std::sync::{Mutex, Wait};
+
+/// A link to data components, numbered from 0, each behind a lock of its own: two workers wait for
+/// one another only where their operations are of one component.
+#[derive(Drop)]
+pub struct LockedDcs {
+    dcs: Vec<Mutex<Dc>>,
+}
+
+impl LockedDcs {
+    /// A link to these components.
+    pub fn new(alloc: Global, dcs: Vec<Dc>) -> Result<LockedDcs, AllocError>
+        ensures { IfOk result (λ link. vec_len link.dcs ≡ vec_len dcs) }
+    {
+        let mut locked = Vec::with_capacity(alloc, dcs.len())?;
+        for dc in dcs {
+            locked.push(Mutex::new(dc))?;
+        }
+        Ok(LockedDcs { dcs: locked })
+    }
+
+    /// How many components there are.
+    pub fn count(&self) -> usize
+        ensures { result ≡ vec_len self.now.dcs }
+    {
+        self.dcs.len()
+    }
+
+    /// The component with this number, if there is one, where no worker is at work.
+    pub fn get_mut(&mut self, dc: u16) -> Option<&mut Dc> {
+        Some(self.dcs.get_mut(usize::from(dc))?.get_mut())
+    }
+}
+
+impl Link for LockedDcs {
+    /// What the wire's component replies; nothing where there is no such component.
+    fn carry<R: Wait>(&self, rt: &R, _worker: usize, wire: &Wire) -> Option<Reply>
+        ensures number { IfSome result (λ reply. reply.number ≡ wire.now.number) }
+    {
+        let dc = self.dcs.get(usize::from(wire.op.record().dc))?;
+        dc.lock(rt).perform(wire)
+    }
+}

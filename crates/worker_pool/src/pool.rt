@@ -1,0 +1,354 @@
+// Workers over one lock.
+
+ghost use Rattle.std.specs.Prelude.{◌≡◌, ◌<◌, ◌≤◌, ℕ, [], length, Some, slice_get, IfOk, IfErr, replicate, vec_capacity, MatchResult};
+ghost use Rattle.tc_core.specs.Core.{Core};
+ghost use Rattle.worker_pool.specs.Seen.{IsAnswered, AnswersStay};
+ghost use Rattle.worker_pool.specs.Reports.{Reports};
+ghost use Rattle.worker_pool.specs.Faults.{state_of, InRange, FaultFits};
+
+use crate::answer::{Answer, Progress};
+use crate::desk::{Desk, Naming, Next, Sending};
+use crate::report::Report;
+use access_slots::op::{Reply, Wire};
+use std::alloc::{AllocError, Global};
+use std::marker::Brand;
+use std::sync::{Condvar, Mutex, MutexGuard, Wait};
+use std::thread;
+use std::thread::Threads;
+use tc_core::state::{Call, TcState};
+
+const MOST_WORKERS: usize = 64;
+
+const MOST_TRIES: u64 = 1000;
+
+/// What carries a wire to its data component, and the reply back.
+pub trait Link {
+    /// What came back, if anything did. It is called without the lock, by several workers at once.
+    fn carry<R: Wait>(&self, rt: &R, worker: usize, wire: &Wire) -> Option<Reply>;
+}
+
+/// What is told of the calls, by their places in the list.
+pub trait Gate {
+    /// The call was admitted. It is called once, without the lock, before anything is sent for it.
+    fn begun(&self, call: usize);
+
+    /// The call's answer stands. It is called once, without the lock.
+    fn answered(&self, call: usize);
+}
+
+/// Why no call was begun. Each hands the state back.
+#[derive(Drop)]
+pub enum RunFault {
+    /// The number of workers isn't 1 to 64.
+    Workers(TcState),
+    /// The number of tries isn't 1 to 1,000.
+    Tries(TcState),
+    /// There is no memory for the answers.
+    Memory(TcState),
+    /// No worker could be started.
+    NoThread(TcState),
+}
+
+// A worker's number, and what it calls without the lock.
+#[derive(Drop)]
+struct Worker<'a, L, G> {
+    number: usize,
+    link: &'a L,
+    gate: &'a G,
+}
+
+// Runs a call to its answer, where no other worker is left.
+fn finish<J: Naming, R: Wait, L: Link, G: Gate>(
+    rt: &R,
+    desk: &mut Desk<J>,
+    k: usize,
+    call: &Call,
+    worker: &Worker<L, G>,
+)
+    requires { slice_get J.calls k ≡ Some call.now }
+    ensures { IsAnswered desk.new.progress k × AnswersStay desk.old.progress desk.new.progress }
+{
+    let mut next = desk.advance(k, call);
+    for _ in rt.forever() {
+        next = match next {
+            Next::Over => {
+                worker.gate.answered(k);
+                return;
+            }
+            Next::Begun => {
+                worker.gate.begun(k);
+                desk.advance(k, call)
+            }
+            Next::Busy => {
+                thread::yield_now();
+                desk.advance(k, call)
+            }
+            Next::Carry(sending) => {
+                let reply = worker.link.carry(rt, worker.number, sending.wire());
+                desk.resume(k, call, sending, reply)
+            }
+        };
+    }
+    unreachable!()
+}
+
+// Runs every call that has no answer to its answer: first those that were begun.
+fn finish_all<J: Naming, R: Wait, L: Link, G: Gate>(
+    rt: &R,
+    desk: &mut Desk<J>,
+    calls: &[Call],
+    worker: &Worker<L, G>,
+)
+    requires { calls.now ≡ J.calls }
+    ensures { (k : ℕ) → k < length calls.now → IsAnswered desk.new.progress k }
+{
+    for (k, call) in calls.iter().enumerate() {
+        if desk.is_begun(k) {
+            finish(rt, desk, k, call, worker);
+        }
+    }
+    for (k, call) in calls.iter().enumerate() {
+        if !desk.is_answered(k) {
+            finish(rt, desk, k, call, worker);
+        }
+    }
+}
+
+fn all_waiting(alloc: Global, count: usize) -> Result<Vec<Progress>, AllocError>
+    ensures { IfOk result (λ v. v.items ≡ replicate count Progress.Waiting) }
+{
+    vec![in alloc; Progress::Waiting; count]
+}
+
+fn room_for(alloc: Global, count: usize) -> Result<Vec<Answer>, AllocError>
+    ensures { IfOk result (λ v. (v.items ≡ []) × (count ≤ vec_capacity v)) }
+{
+    Vec::with_capacity(alloc, count)
+}
+
+// The lock, and what tells of transactions that leave the way.
+struct Pool<J: Naming> {
+    desk: Mutex<Desk<J>>,
+    freed: Condvar,
+}
+
+// The next call that no worker has taken.
+fn take_next<J: Naming, R: Wait>(rt: &R, pool: &Pool<J>) -> Option<usize> {
+    pool.desk.lock(rt).take()
+}
+
+// What follows a step, under the taking of the lock in which the step was made: a call with another
+// in its way waits for a change, and one that is answered tells of a change.
+fn settle<J: Naming, R: Wait>(
+    rt: &R,
+    pool: &Pool<J>,
+    desk: MutexGuard<'_, Desk<J>>,
+    next: Next,
+) -> Next {
+    match next {
+        Next::Busy => {
+            let _desk = pool.freed.wait(rt, desk);
+            Next::Busy
+        }
+        Next::Over => {
+            pool.freed.notify_all();
+            Next::Over
+        }
+        Next::Begun => Next::Begun,
+        Next::Carry(sending) => Next::Carry(sending),
+    }
+}
+
+// The next step of a call.
+fn advance<J: Naming, R: Wait>(rt: &R, pool: &Pool<J>, k: usize, call: &Call) -> Next
+    requires { slice_get J.calls k ≡ Some call.now }
+{
+    let mut desk = pool.desk.lock(rt);
+    let next = desk.advance(k, call);
+    settle(rt, pool, desk, next)
+}
+
+// The step of a call that what came back leads to.
+fn resume<J: Naming, R: Wait>(
+    rt: &R,
+    pool: &Pool<J>,
+    k: usize,
+    call: &Call,
+    sending: Sending,
+    reply: Option<Reply>,
+) -> Next
+    requires { slice_get J.calls k ≡ Some call.now }
+{
+    let mut desk = pool.desk.lock(rt);
+    let next = desk.resume(k, call, sending, reply);
+    settle(rt, pool, desk, next)
+}
+
+// Runs a call to its answer. Gate and link are called without the lock.
+fn serve<J: Naming, R: Wait, L: Link, G: Gate>(
+    rt: &R,
+    pool: &Pool<J>,
+    k: usize,
+    call: &Call,
+    worker: &Worker<L, G>,
+)
+    requires { slice_get J.calls k ≡ Some call.now }
+{
+    let mut next = advance(rt, pool, k, call);
+    for _ in rt.forever() {
+        next = match next {
+            Next::Over => {
+                worker.gate.answered(k);
+                return;
+            }
+            Next::Begun => {
+                worker.gate.begun(k);
+                advance(rt, pool, k, call)
+            }
+            Next::Busy => advance(rt, pool, k, call),
+            Next::Carry(sending) => {
+                let reply = worker.link.carry(rt, worker.number, sending.wire());
+                resume(rt, pool, k, call, sending, reply)
+            }
+        };
+    }
+    unreachable!()
+}
+
+// What a worker does: it takes calls until none is left.
+fn work<J: Naming, R: Wait, L: Link, G: Gate>(
+    rt: &R,
+    pool: &Pool<J>,
+    calls: &[Call],
+    worker: &Worker<L, G>,
+)
+    requires { calls.now ≡ J.calls }
+{
+    for _ in calls {
+        let Some(k) = take_next(rt, pool) else {
+            return;
+        };
+        if let Some(call) = calls.get(k) {
+            serve(rt, pool, k, call, worker);
+        }
+    }
+}
+
+// Starts the workers and joins them. Answers how many were started.
+fn work_all<J: Naming + Send + Sync, R: Threads + Wait + Sync, L: Link + Sync, G: Gate + Sync>(
+    rt: &R,
+    pool: &Pool<J>,
+    calls: &[Call],
+    workers: usize,
+    link: &L,
+    gate: &G,
+) -> usize
+    requires { calls.now ≡ J.calls }
+{
+    thread::scope(
+        thread::scope_env(),
+        rt,
+        |scope| -> usize
+            requires { calls.now ≡ J.calls }
+        {
+            let mut started = 0usize;
+            for number in 0..workers {
+                let body = move ||
+                    requires { calls.now ≡ J.calls }
+                { work(rt, pool, calls, &Worker { number, link, gate }) };
+                if scope.spawn(body).is_ok() {
+                    started = started.saturating_add(1);
+                }
+            }
+            started
+        },
+    )
+}
+
+// The run, under a name for its first state and its calls.
+fn run_named<J: Naming + Send + Sync, R: Threads + Wait + Sync, L: Link + Sync, G: Gate + Sync>(
+    rt: &R,
+    alloc: Global,
+    state: TcState,
+    calls: &[Call],
+    workers: usize,
+    tries: u64,
+    link: &L,
+    gate: &G,
+) -> Result<Report, RunFault>
+    requires state { state ≡ J.start }
+    requires calls { calls.now ≡ J.calls }
+    ensures report { IfOk result (λ r. Reports J.start J.calls r.state r.answers.items) }
+    ensures fault { IfErr result (λ f. state_of f ≡ J.start) }
+    ensures which { MatchResult result (λ _. InRange workers tries) (λ f. FaultFits workers tries f) }
+{
+    if !(1..=MOST_WORKERS).contains(&workers) {
+        return Err(RunFault::Workers(state));
+    }
+    if !(1..=MOST_TRIES).contains(&tries) {
+        return Err(RunFault::Tries(state));
+    }
+    let Ok(answers) = room_for(alloc, calls.len()) else {
+        return Err(RunFault::Memory(state));
+    };
+    let Ok(progress) = all_waiting(alloc, calls.len()) else {
+        return Err(RunFault::Memory(state));
+    };
+    let pool: Pool<J> = Pool {
+        desk: Mutex::new(Desk::new(state, progress, tries)),
+        freed: Condvar::new(),
+    };
+    let started = work_all(rt, &pool, calls, workers, link, gate);
+    let Pool { desk, freed: _ } = pool;
+    let desk = desk.into_inner();
+    if started == 0 && !desk.is_touched() {
+        return Err(RunFault::NoThread(desk.into_state()));
+    }
+    let worker = Worker {
+        number: 0,
+        link,
+        gate,
+    };
+    Ok(finished(rt, desk, calls, answers, &worker))
+}
+
+// The report, once each call that has no answer yet has one.
+fn finished<J: Naming, R: Wait, L: Link, G: Gate>(
+    rt: &R,
+    mut desk: Desk<J>,
+    calls: &[Call],
+    answers: Vec<Answer>,
+    worker: &Worker<L, G>,
+) -> Report
+    requires calls { calls.now ≡ J.calls }
+    requires empty { answers.items ≡ [] }
+    requires room { length J.calls ≤ vec_capacity answers }
+    ensures { Reports J.start J.calls result.state result.answers.items }
+{
+    finish_all(rt, &mut desk, calls, worker);
+    desk.close(answers)
+}
+
+/// Runs the calls by so many workers, each call to its answer, and a request that isn't answered is
+/// sent so often at most.
+///
+/// A worker takes the next call and admits it; where another transaction stands in its way, it waits
+/// until one ends, falls in doubt or is stuck, and tries again, unless all that stand in its way are
+/// in doubt or stuck. A state that is handed in with open transactions, which no call runs, may so
+/// make `run` wait for ever. Nothing is sent and no gate is told while the lock is held.
+pub fn run<R: Threads + Wait + Sync, L: Link + Sync, G: Gate + Sync>(
+    rt: &R,
+    alloc: Global,
+    state: TcState,
+    calls: &[Call],
+    workers: usize,
+    tries: u64,
+    link: &L,
+    gate: &G,
+) -> Result<Report, RunFault>
+    ensures report { IfOk result (λ r. Reports state calls.now r.state r.answers.items) }
+    ensures fault { IfErr result (λ f. state_of f ≡ state) }
+    ensures which { MatchResult result (λ _. InRange workers tries) (λ f. FaultFits workers tries f) }
+{
+    run_named::<Brand, R, L, G>(rt, alloc, state, calls, workers, tries, link, gate)
+}
