@@ -18,21 +18,23 @@ use Rattle.transactions.proofs.StandingLemmas.{some_same, none_some}
 use Rattle.transactions.proofs.Flights.{standing_flight, flight}
 use Rattle.transactions.proofs.Headline.{Awaits, awaited}
 use Rattle.tc_core.specs.Core.{Core, Asking}
-use Rattle.tc_core.specs.Replies.{asked_by, undo_by, undone, ask_reply, undo_reply, after_ask, after_undo, after_answer, with_event, IsAnswer}
+use Rattle.tc_core.specs.Replies.{next_at, asked_by, undo_by, undone, ask_reply, undo_reply, after_ask, after_undo, after_answer, with_event, IsAnswer}
 use Rattle.tc_core.specs.Lent.{named, named_by, wire_of}
 use Rattle.tc_core.specs.declared.state.Asked.{Asked}
-use Rattle.tc_core.specs.declared.state.Asked.TheVariants.{Request, Unknown}
+use Rattle.tc_core.specs.declared.state.Asked.TheVariants.{Request, Undoing, Over, Stuck, Waits, Running, Unknown}
 use Rattle.tc_core.specs.declared.state.TxnId.{TxnId}
 use Rattle.tc_core.proofs.ReplyLemmas.{next-unknown}
 use Rattle.tc_core.proofs.KeptLemmas.{slice_get-index}
 use Rattle.tc_log.specs.declared.event.Outcome.TheVariants as ending
 use Rattle.tc_world.specs.Whole.{Whole}
 use Rattle.tc_world.specs.Waiting.{asking, asking_by, request_of, AreWaiting}
-use Rattle.tc_world.specs.Steps.{Fate, Goes, Stops, asks, undoes, told, sends, resends, resends_by, resends_sent, takes_reply, takes_by, takes_fit, takes, with_core}
+use Rattle.tc_world.specs.Telling.{requests_of}
+use Rattle.tc_world.specs.Steps.{Fate, Goes, Stops, MayGo, asks, undoes, told, sends, resends, resends_by, resends_sent, takes_reply, takes_by, takes_fit, takes, with_core}
 use Rattle.tc_world.specs.declared.step.Illegal.TheVariants as illegal
 use Rattle.tc_world.specs.declared.step.Outcome.TheVariants as outcome
 use Rattle.tc_log.specs.declared.event.Event.TheVariants.{Answer}
-use Rattle.tc_world.proofs.Requests.{none_if, none_of, found_at, is_there, IsThere}
+use Rattle.tc_world.proofs.Requests.{none_if, none_of, found_at, is_there, IsThere, waiting_asked, waiting_undone}
+use Rattle.std.proofs.lemmas.List.{append-nil}
 
 -- ---- a transaction's name
 
@@ -91,6 +93,27 @@ undo_number t last (Some (next.Over ending.Committed)) r e = absurd cc
 undo_number t last (Some (next.Over (ending.Aborted v))) r e = absurd cc
 undo_number t last (Some (next.Over ending.NoRoom)) r e = absurd cc
 
+nothing_more : (rs : List Asking) (h : List Event) → AreWaiting rs h → AreWaiting (rs ++ []) h
+nothing_more rs h w = subst (λ (xs : List Asking). AreWaiting xs h) (sym (append-nil rs)) w
+
+pub waiting_after_ask : (c : Core) (rs : List Asking) (t : ℕ) (a : Asked) → Legal c.procs c.events → AreWaiting rs c.events → a ≡ ask_reply c t → AreWaiting (rs ++ requests_of a) (after_ask c a).events
+waiting_after_ask c rs t (Request r) legal w is = waiting_asked c.procs rs c.events r legal w (ask_number t (given c.events) (next_at c t) r (sym is))
+waiting_after_ask c rs t Undoing legal w is = nothing_more rs c.events w
+waiting_after_ask c rs t Over legal w is = nothing_more rs c.events w
+waiting_after_ask c rs t (Stuck n) legal w is = nothing_more rs c.events w
+waiting_after_ask c rs t (Waits n) legal w is = nothing_more rs c.events w
+waiting_after_ask c rs t Running legal w is = nothing_more rs c.events w
+waiting_after_ask c rs t Unknown legal w is = nothing_more rs c.events w
+
+pub waiting_after_undo : (c : Core) (rs : List Asking) (t : ℕ) (a : Asked) → Legal c.procs c.events → AreWaiting rs c.events → a ≡ undo_reply c t → AreWaiting (rs ++ requests_of a) (after_undo c a).events
+waiting_after_undo c rs t (Request r) legal w is = waiting_undone c.procs rs c.events r legal w (undo_number t (given c.events) (next_at c t) r (sym is))
+waiting_after_undo c rs t Undoing legal w is = nothing_more rs c.events w
+waiting_after_undo c rs t Over legal w is = nothing_more rs c.events w
+waiting_after_undo c rs t (Stuck n) legal w is = nothing_more rs c.events w
+waiting_after_undo c rs t (Waits n) legal w is = nothing_more rs c.events w
+waiting_after_undo c rs t Running legal w is = nothing_more rs c.events w
+waiting_after_undo c rs t Unknown legal w is = nothing_more rs c.events w
+
 -- ---- a request, and what it waits for
 
 flown : (n : ℕ) (o : Option Flight) (r : Asking) → Some r ≡ asking_by n o → o ≡ Some (flight r.txn r.op)
@@ -138,6 +161,9 @@ resends_found w rs t k r legal waiting at own =
     let two = ap (λ (n : ℕ). let x : Wire = record { number = n; low_water = low_water w.core.events; op = a.r.op } in sends w x) a.number in
     let three = ap (λ (o : Op). let x : Wire = record { number = r.number; low_water = low_water w.core.events; op = o } in sends w x) a.op in
     one ∙ (two ∙ three)
+
+pub may_resend : (w : Whole) (rs : List Asking) (t k : ℕ) (r : Asking) → Legal w.core.procs w.core.events → AreWaiting rs w.core.events → slice_get rs k ≡ Some r → r.txn ≡ t → MayGo (resends w t)
+may_resend w rs t k r legal waiting at own = (_, _, resends_found w rs t k r legal waiting at own)
 
 -- ---- take
 
