@@ -31,38 +31,52 @@ use Rattle.transactions.proofs.StandingLemmas.{some_same, none_some, standing-sa
 use Rattle.slab.specs.Slab.{Slab, get, slab_len, Updates}
 use Rattle.tc_core.specs.Running.{Runs}
 use Rattle.tc_core.specs.declared.transaction.Tx.{Tx}
+use Rattle.tc_core.specs.declared.book.Book.{Book}
 use Rattle.tc_core.specs.Rooms.{OnlyRoom, HasRoom}
-use Rattle.tc_core.specs.Kept.{Keeps, Matches, IsOpen, StandsAt, HasKey, Places, Rooms, Kept}
+use Rattle.tc_core.proofs.MarkedLemmas.{marked-room}
+use Rattle.tc_core.specs.Kept.{IsBook, Keeps, Matches, IsOpen, StandsAt, HasKey, Places, Rooms, Kept}
 use Rattle.tc_core.proofs.KeptLemmas.{calls_kept, held-admitted}
 
-pub kept-room : (ps : List Checked) (log log' : History) (table table' : Table) (numbers numbers' : Given) (txns txns' : Slab Tx) (serials owed promised : ℕ)
-    → Kept ps log table numbers txns serials owed promised → OnlyRoom log log' table table' numbers numbers' txns txns' → Kept ps log' table' numbers' txns' serials owed promised
-kept-room ps log log' table table' numbers numbers' txns txns' serials owed promised k o =
+pub book-room : (ps : List Checked) (b b' : Book) → IsBook ps b → OnlyRoom b b' → IsBook ps b'
+book-room ps b b' is o =
+    let k = is.kept in
+    let txns = b.txns in
+    let txns' = b'.txns in
     let same : (key : ℕ) → get txns' key ≡ get txns key = (λ key. ap (λ (xs : List (Option Tx)). slice_index_or xs key None) o.slots) in
     let same_len : slab_len txns' ≡ slab_len txns = ap (λ (xs : List (Option Tx)). count_by is_some xs) o.slots in
     let more = o.log_room in
     let wider = o.number_room in
-    let places : Places ps log.events txns' = record {
+    let owed = o.owed in
+    let promised = o.promised in
+    let most = is.most in
+    let more_given_up = o.most in
+    let fits = k.rooms.numbers_fit in
+    let given_same : given b'.log.events ≡ given b.log.events = ap given o.events in
+    let places : Places ps b.log.events txns' = record {
       stands = λ key tx at. k.places.stands key tx (sym (same key) ∙ at);
       each = λ t s is. (let has = k.places.each t s is in record { key = has.key; at = record { tx = has.at.tx; found = same has.key ∙ has.at.found; serial = has.at.serial } });
       once = λ key other tx ty at at' e. k.places.once key other tx ty (sym (same key) ∙ at) (sym (same other) ∙ at') e;
     } in
     record {
-      legal = rw (o.events) k.legal;
-      good = k.good;
-      places = rw (o.events) places;
-      serials_are = rw (o.events) k.serials_are;
-      locks_are = rw (o.events) (λ t r. o.claims t r ∙ k.locks_are t r);
-      last_is = rw (o.events) (o.last ∙ k.last_is);
-      pending_is = rw (o.events) (o.pending ∙ k.pending_is);
-      rooms = record {
-        count = rw (o.events) (same_len ∙ k.rooms.count);
-        owed_is = rw (o.events) k.rooms.owed_is;
-        promised_is = rw (o.events) k.rooms.promised_is;
-        places = rw (o.events) (omega (arith, k.rooms.places, wider));
-        events = omega (arith, k.rooms.events, more);
-        numbers_fit = rw (o.events) k.rooms.numbers_fit;
+      kept = record {
+        legal = rw (o.events) k.legal;
+        good = k.good;
+        places = rw (o.events) places;
+        serials_are = rw (o.events) (o.serials ∙ k.serials_are);
+        locks_are = rw (o.events) (λ t r. o.claims t r ∙ k.locks_are t r);
+        last_is = rw (o.events) (o.last ∙ k.last_is);
+        pending_is = rw (o.events) (o.pending ∙ k.pending_is);
+        rooms = record {
+          count = rw (o.events) (same_len ∙ k.rooms.count);
+          owed_is = rw (o.events) (owed ∙ k.rooms.owed_is);
+          promised_is = rw (o.events) (promised ∙ k.rooms.promised_is);
+          places = rw (o.events) (omega (arith, k.rooms.places, wider));
+          events = omega (arith, k.rooms.events, more, owed);
+          numbers_fit = omega (arith, fits, given_same, promised);
+        };
       };
+      most = omega (arith, most, given_same, promised, more_given_up);
+      marked = marked-room _ _ _ _ _ _ is.marked o.given_up o.events o.slots;
     }
 
 total_to-few : (h : List Event) (n : ℕ) → total_to places_left h n ≤ total_to each_one h n
@@ -154,8 +168,8 @@ kept-admit ps log log' table table' numbers txns txns' serials owed promised key
 
 -- a transaction that begins is kept as a fresh one
 pub keeps_fresh : (q : Checked) (tx : Tx) (p : ℕ) (args : List ℕ) → tx.proc ≡ p → tx.sent ≡ None → tx.full ≡ false → tx.undo.ops ≡ [] → tx.tries ≡ 0 → tx.last ≡ 0 → tx.left ≡ 5 * calls_in q → calls_in q ≤ tx.undo.room
-    → Runs q tx args [] → Keeps q tx (fresh (record { proc = p; args = args }))
-keeps_fresh q tx p args proc sent full undo tries last left room runs = record {
+    → ((r : Record) → mode_in tx.locks r ≡ mode_named args q.decl.slots r) → Runs q tx args [] → Keeps q tx (fresh (record { proc = p; args = args }))
+keeps_fresh q tx p args proc sent full undo tries last left room locks runs = record {
   proc = proc;
   sent = sent;
   full = full;
@@ -164,6 +178,7 @@ keeps_fresh q tx p args proc sent full undo tries last left room runs = record {
   last = last;
   left = omega (arith, left);
   room = omega (arith, room);
+  locks = locks;
   runs = runs;
 }
 

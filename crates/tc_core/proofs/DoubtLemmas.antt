@@ -15,11 +15,11 @@ or_true : (b : Bool) → (b || true) ≡ true
 or_true true = refl
 or_true false = refl
 
-holds_other : (ns : List ℕ) (n m : ℕ) → n ≢ m → holds m (ns ++ n ∷ []) ≡ holds m ns
+pub holds_other : (ns : List ℕ) (n m : ℕ) → n ≢ m → holds m (ns ++ n ∷ []) ≡ holds m ns
 holds_other [] n m other = ap (λ (b : Bool). b || false) (eq-false n m other)
 holds_other (x ∷ ns) n m other = ap (λ (b : Bool). (x == m) || b) (holds_other ns n m other)
 
-holds_same : (ns : List ℕ) (n : ℕ) → holds n (ns ++ n ∷ []) ≡ true
+pub holds_same : (ns : List ℕ) (n : ℕ) → holds n (ns ++ n ∷ []) ≡ true
 holds_same [] n = ap (λ (b : Bool). b || false) (eq-true n n refl)
 holds_same (x ∷ ns) n = ap (λ (b : Bool). (x == n) || b) (holds_same ns n) ∙ or_true (x == n)
 

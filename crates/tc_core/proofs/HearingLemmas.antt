@@ -1,6 +1,7 @@
 -- What an answer makes of a transaction as it is kept.
 use Rattle.std.proofs.Common.{◌≡◌, ℕ, ◌+◌, ◌≤◌, Bool, true, false, ◌||◌, cond, List, [], ◌∷◌, ◌++◌, length, Option, Some, None, arith, refl, sym, subst, ap, ◌∙◌}
 use Rattle.access_slots.specs.Access.{fits, is_no_room}
+use Rattle.access_slots.specs.Locks.{mode_in}
 use Rattle.access_slots.specs.declared.op.Op.{Op}
 use Rattle.access_slots.specs.declared.op.Said.{Said}
 use Rattle.access_slots.specs.declared.op.Said.TheVariants.{Value, Absent, Done, Duplicate, Missing, NoRoom, Old}
@@ -36,7 +37,7 @@ pub waits_for : (q : Checked) (tx : Tx) (s : Standing) (said : Said) (r : Sent) 
 waits_for q tx s said r m e = some_same m.r r (sym m.waits ∙ (sym m.keeps.sent ∙ e))
 
 pub keeps_undone : (q : Checked) (tx tx1 : Tx) (s : Standing) (said : Said) (r : Sent) → MayHear q tx s said → tx.sent ≡ Some r → r.undoing ≡ true
-    → tx1 ≡ record tx { sent = None; undo = tx1.undo; tries = tx1.tries }
+    → tx1 ≡ record tx { sent = None; undo = tx1.undo; tries = tx1.tries; in_doubt = false }
     → tx1.undo.ops ≡ undo_done true r.op said tx.undo.ops → tx1.tries ≡ tries_done true said tx.tries → length tx1.undo.ops + tx1.undo.room ≡ length tx.undo.ops + tx.undo.room
     → Keeps q tx1 (answered said s)
 keeps_undone q tx tx1 s said r m e u rest ops tries room =
@@ -52,14 +53,15 @@ keeps_undone q tx tx1 s said r m e u rest ops tries room =
       last = ap (λ (x : Tx). x.last) rest ∙ k.last;
       left = ap (λ (x : Tx). x.left) rest ∙ k.left;
       room = omega (arith, room, kept_room);
+      locks = λ r. ap (λ (x : Tx). mode_in x.locks r) rest ∙ k.locks r;
       runs = subst (λ (x : Tx). Runs q x s.call.args s.answers) (sym rest) (record { started = k.runs.started; call = k.runs.call; layout = k.runs.layout; pauses = k.runs.pauses });
     })
 
 pub keeps_told : (q : Checked) (tx tx1 : Tx) (s : Standing) (said : Said) (r : Sent) → MayHear q tx s said → tx.sent ≡ Some r → r.undoing ≡ false
-    → ((args : List ℕ) (answers : List Said) → MayResume q (record tx { sent = None }) args answers r.op said → Runs q tx1 args (told_to false said answers))
+    → ((args : List ℕ) (answers : List Said) → MayResume q (record tx { sent = None; in_doubt = false }) args answers r.op said → Runs q tx1 args (told_to false said answers))
     → tx1.full ≡ (tx.full || found_full false said)
     → tx1.undo.ops ≡ undo_done false r.op said tx.undo.ops → length tx1.undo.ops + tx1.undo.room ≡ length tx.undo.ops + tx.undo.room
-    → tx1 ≡ record tx { sent = None; machine = tx1.machine; pause = tx1.pause; full = tx1.full; undo = tx1.undo }
+    → tx1 ≡ record tx { sent = None; machine = tx1.machine; pause = tx1.pause; full = tx1.full; undo = tx1.undo; in_doubt = false }
     → Keeps q tx1 (answered said s)
 keeps_told q tx tx1 s said r m e u runs full ops room rest =
     let k = m.keeps in
@@ -68,7 +70,7 @@ keeps_told q tx tx1 s said r m e u runs full ops room rest =
     let kept_room = k.room in
     let fit : fits r.op said ≡ true = subst (λ (x : Sent). fits x.op said ≡ true) same m.fit in
     let asks : reached_of (stop_at q s.call.args s.answers) ≡ Asks r.op = subst (λ (x : Sent). reached_of (stop_at q s.call.args s.answers) ≡ Asks x.op) same (m.asks (ap (λ (x : Sent). x.undoing) same ∙ u)) in
-    let may : MayResume q (record tx { sent = None }) s.call.args s.answers r.op said = record {
+    let may : MayResume q (record tx { sent = None; in_doubt = false }) s.call.args s.answers r.op said = record {
       runs = record { started = k.runs.started; call = k.runs.call; layout = k.runs.layout; pauses = k.runs.pauses };
       fit = m.fitting;
       asks = asks;
@@ -83,6 +85,7 @@ keeps_told q tx tx1 s said r m e u runs full ops room rest =
       last = ap (λ (x : Tx). x.last) rest ∙ k.last;
       left = ap (λ (x : Tx). x.left) rest ∙ k.left;
       room = omega (arith, room, kept_room);
+      locks = λ r. ap (λ (x : Tx). mode_in x.locks r) rest ∙ k.locks r;
       runs = runs s.call.args s.answers may;
     })
 

@@ -181,7 +181,7 @@ pub kept-ask : (ps : List Checked) (log log' : History) (table : Table) (numbers
     → get txns key ≡ Some tx → (w : Seen ps log.events tx.serial tx) → next_by tx.sent tx.full (first_undo tx.undo.ops) tx.tries tx.last (as_reached tx.pause) ≡ Some (next.Asks o)
     → n ≡ numbers.last + 1 → log'.events ≡ Ask tx.serial n o ∷ log.events → log'.room + 1 ≡ log.room
     → numbers'.last ≡ n → numbers'.pending ≡ numbers.pending ++ n ∷ [] → numbers'.room + 1 ≡ numbers.room
-    → Updates txns txns' key (Some tx') → slab_len txns' ≡ slab_len txns → tx' ≡ record tx { sent = sent_as n o false; last = n; left = tx.left - 1 }
+    → Updates txns txns' key (Some tx') → slab_len txns' ≡ slab_len txns → tx' ≡ record tx { sent = sent_as n o false; last = n; left = tx.left - 1; in_doubt = false }
     → Kept ps log' table numbers' txns' serials (owed - 1) (promised - 1)
 kept-ask ps log log' table numbers numbers' txns txns' serials owed promised key n tx tx' o k found w does num events room last pend places up len made =
     let s = w.s in
@@ -201,7 +201,7 @@ kept-ask ps log log' table numbers numbers' txns txns' serials owed promised key
     let owed_now = move (events_left ps) in
     let promised_now = move (numbers_left ps) in
     let calls_are = calls_kept ps s.call.proc m.q m.loaded in
-    let keeps : Keeps m.q (record tx { sent = sent_as n o false; last = n; left = tx.left - 1 }) s' = record {
+    let keeps : Keeps m.q (record tx { sent = sent_as n o false; last = n; left = tx.left - 1; in_doubt = false }) s' = record {
       proc = m.keeps.proc;
       sent = refl;
       full = m.keeps.full;
@@ -210,6 +210,7 @@ kept-ask ps log log' table numbers numbers' txns txns' serials owed promised key
       last = refl;
       left = omega (arith, m.keeps.left);
       room = m.keeps.room;
+      locks = m.keeps.locks;
       runs = record { started = m.keeps.runs.started; call = m.keeps.runs.call; layout = m.keeps.runs.layout; pauses = m.keeps.runs.pauses };
     } in
     let matches : Matches ps tx' s' = rw made (record { q = m.q; loaded = m.loaded; keeps = keeps }) in
@@ -297,7 +298,7 @@ pub kept-undo : (ps : List Checked) (log log' : History) (table : Table) (number
     → get txns key ≡ Some tx → (w : Seen ps log.events tx.serial tx) → next_by tx.sent tx.full (first_undo tx.undo.ops) tx.tries tx.last (as_reached tx.pause) ≡ Some (next.Undoes o)
     → n ≡ numbers.last + 1 → log'.events ≡ Undo tx.serial n o ∷ log.events → log'.room + 1 ≡ log.room
     → numbers'.last ≡ n → numbers'.pending ≡ numbers.pending ++ n ∷ [] → numbers'.room + 1 ≡ numbers.room
-    → Updates txns txns' key (Some tx') → slab_len txns' ≡ slab_len txns → tx' ≡ record tx { sent = sent_as n o true; tries = tx.tries + 1; last = n; left = tx.left - 1 }
+    → Updates txns txns' key (Some tx') → slab_len txns' ≡ slab_len txns → tx' ≡ record tx { sent = sent_as n o true; tries = tx.tries + 1; last = n; left = tx.left - 1; in_doubt = false }
     → Kept ps log' table numbers' txns' serials (owed - 1) (promised - 1)
 kept-undo ps log log' table numbers numbers' txns txns' serials owed promised key n tx tx' o k found w does num events room last pend places up len made =
     let s = w.s in
@@ -316,7 +317,7 @@ kept-undo ps log log' table numbers numbers' txns txns' serials owed promised ke
     let count_now = move each_one in
     let owed_now = move (events_left ps) in
     let promised_now = move (numbers_left ps) in
-    let keeps : Keeps m.q (record tx { sent = sent_as n o true; tries = tx.tries + 1; last = n; left = tx.left - 1 }) s' = record {
+    let keeps : Keeps m.q (record tx { sent = sent_as n o true; tries = tx.tries + 1; last = n; left = tx.left - 1; in_doubt = false }) s' = record {
       proc = m.keeps.proc;
       sent = refl;
       full = m.keeps.full;
@@ -325,6 +326,7 @@ kept-undo ps log log' table numbers numbers' txns txns' serials owed promised ke
       last = refl;
       left = omega (arith, m.keeps.left);
       room = m.keeps.room;
+      locks = m.keeps.locks;
       runs = record { started = m.keeps.runs.started; call = m.keeps.runs.call; layout = m.keeps.runs.layout; pauses = m.keeps.runs.pauses };
     } in
     let matches : Matches ps tx' s' = rw made (record { q = m.q; loaded = m.loaded; keeps = keeps }) in
@@ -571,14 +573,14 @@ kept-end ps log log' table table' numbers txns txns' serials owed promised key t
     }
 
 -- the empty log
-pub kept-none : (log : History) (table : Table) (numbers : Given) (txns : Slab Tx) → log.events ≡ [] → AreHeld table.claims nobody → numbers.last ≡ 0 → numbers.pending ≡ [] → txns.slots ≡ []
-    → Kept [] log table numbers txns 0 0 0
-kept-none log table numbers txns e l n p s =
+pub kept-none : (ps : List Checked) (log : History) (table : Table) (numbers : Given) (txns : Slab Tx) → log.events ≡ [] → AreHeld table.claims nobody → numbers.last ≡ 0 → numbers.pending ≡ [] → txns.slots ≡ [] → AllGood ps
+    → Kept ps log table numbers txns 0 0 0
+kept-none ps log table numbers txns e l n p s good =
     let total_none : (w : Standing → ℕ) → 0 ≡ total w log.events = (λ w. rw e (sym (total-none w))) in
     let none : (key : ℕ) → get txns key ≡ None = (λ key. rw s refl) in
     record {
       legal = rw e tt;
-      good = λ k q at. absurd (cc);
+      good = good;
       places = record {
         stands = λ key tx at. absurd (none_some _ tx (none key) at);
         each = λ t r at. absurd (let f : None ≡ Some r = (let g : standing [] t ≡ Some r = subst (λ (h : List Event). standing h t ≡ Some r) e at in g) in cc);
@@ -590,8 +592,8 @@ kept-none log table numbers txns e l n p s =
       pending_is = rw e p;
       rooms = record {
         count = (let c : slab_len txns ≡ 0 = rw s refl in c ∙ total_none each_one);
-        owed_is = total_none (events_left []);
-        promised_is = total_none (numbers_left []);
+        owed_is = total_none (events_left ps);
+        promised_is = total_none (numbers_left ps);
         places = omega (arith, total_none places_left);
         events = omega arith;
         numbers_fit = (let g : given log.events ≡ 0 = rw e refl in omega (arith, g));

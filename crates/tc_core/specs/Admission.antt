@@ -9,14 +9,29 @@ use Rattle.lock_table.specs.declared.table.Busy.{Busy}
 use Rattle.transactions.specs.Reached.{decls, calls_in}
 use Rattle.transactions.specs.Room.{numbers_left, total}
 use Rattle.tc_core.specs.Core.{Core}
+use Rattle.tc_core.specs.declared.state.Call as called
 use Rattle.tc_core.specs.declared.state.Refusal.{Refusal}
 use Rattle.tc_core.specs.declared.state.Refusal.TheVariants as refusal
 
+abbrev pub call_of : called.Call → Call
+call_of call = record { proc = call.proc; args = call.args.items }
+
 -- the procedure is loaded, and takes so many arguments
+pub record IsCalled (ps : List Checked) (call : Call) (q : Checked) : Type 0 where
+  pub loaded : slice_get ps call.proc ≡ Some q
+  pub count : length call.args ≡ q.decl.args
+
 pub record Takes (c : Core) (call : Call) : Type 0 where
   pub q : Checked
-  pub loaded : slice_get c.procs call.proc ≡ Some q
-  pub count : length call.args ≡ q.decl.args
+  pub is : IsCalled c.procs call q
+
+-- there is no such procedure, or it takes another number of arguments
+abbrev pub IsUncallable : List Checked → Call → Refusal → Type 0
+IsUncallable ps call refusal.NoProcedure = slice_get ps call.proc ≡ None
+IsUncallable ps call refusal.ArgumentCount = (q : Checked) × (slice_get ps call.proc ≡ Some q) × (length call.args ≢ q.decl.args)
+IsUncallable ps call (refusal.Busy b) = ⊥
+IsUncallable ps call refusal.NumbersSpent = ⊥
+IsUncallable ps call refusal.Memory = ⊥
 
 -- the numbers given, those that open transactions may still be given, and five for each call slot
 abbrev pub needed : Core → Checked → ℕ

@@ -35,4 +35,5 @@ pub record Heard (q : Checked) (txns txns' : Slab Tx) (key : ℕ) (tx : Tx) (sai
   pub after : Tx
   pub updates : Updates txns txns' key (Some after)
   pub serial : after.serial ≡ tx.serial
+  pub certain : after.in_doubt ≡ false
   pub keeps : (s : Standing) → MayHear q tx s said → Keeps q after (answered said s)

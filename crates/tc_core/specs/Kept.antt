@@ -1,5 +1,5 @@
 -- What the state keeps: the log is legal, and everything else is what the log says.
-use Rattle.std.specs.Prelude.{◌≡◌, ℕ, ◌+◌, ◌-◌, ◌*◌, ◌≤◌, ◌^◌, List, [], ◌∷◌, length, Option, Some, None, slice_get}
+use Rattle.std.specs.Prelude.{◌≡◌, ℕ, ◌<◌, Bool, true, false, ◌+◌, ◌-◌, ◌*◌, ◌≤◌, ◌^◌, List, [], ◌∷◌, length, Option, Some, None, slice_get}
 use Rattle.verifier.specs.Checked.{Checked}
 use Rattle.lock_table.specs.Facts.{Table, AreHeld}
 use Rattle.request_numbers.specs.Given.{Given}
@@ -13,7 +13,14 @@ use Rattle.transactions.specs.Room.{numbers_left, events_left, places_left, each
 use Rattle.transactions.specs.Legal.{Legal}
 use Rattle.slab.specs.Slab.{Slab, get, slab_len}
 use Rattle.tc_core.specs.Running.{Runs}
+use Rattle.access_slots.specs.declared.slot.Record.{Record}
+use Rattle.access_slots.specs.Locks.{mode_in, mode_named}
+use Rattle.request_numbers.specs.Given.{holds}
+use Rattle.transactions.specs.declared.Sent.{Sent}
+use Rattle.tc_core.specs.Core.{Core}
+use Rattle.tc_core.specs.Loaded.{Loaded}
 use Rattle.tc_core.specs.declared.transaction.Tx.{Tx}
+use Rattle.tc_core.specs.declared.book.Book.{Book}
 
 -- an open transaction of this procedure is kept as it stands
 pub record Keeps (q : Checked) (tx : Tx) (s : Standing) : Type 0 where
@@ -25,6 +32,7 @@ pub record Keeps (q : Checked) (tx : Tx) (s : Standing) : Type 0 where
   pub last : tx.last ≡ s.last
   pub left : tx.left ≡ 5 * calls_in q - s.used
   pub room : calls_in q ≤ length tx.undo.ops + tx.undo.room
+  pub locks : (r : Record) → mode_in tx.locks r ≡ mode_named s.call.args q.decl.slots r
   pub runs : Runs q tx s.call.args s.answers
 
 pub record Matches (ps : List Checked) (tx : Tx) (s : Standing) : Type 0 where
@@ -73,3 +81,22 @@ pub record Kept (ps : List Checked) (log : History) (table : Table) (numbers : G
   pub last_is : numbers.last ≡ given log.events
   pub pending_is : numbers.pending ≡ open_numbers log.events
   pub rooms : Rooms ps log numbers txns owed promised
+
+-- it waits for a number that was given up
+abbrev pub is_doubted : List ℕ → Option Sent → Bool
+is_doubted numbers None = false
+is_doubted numbers (Some r) = holds r.number numbers
+
+-- each transaction in doubt is marked, and no other; what was given up was given out
+pub record Marked (numbers : List ℕ) (h : List Event) (txns : Slab Tx) : Type 0 where
+  pub marks : (key : ℕ) (tx : Tx) → get txns key ≡ Some tx → tx.in_doubt ≡ is_doubted numbers tx.sent
+  pub early : (n : ℕ) → given h < n → holds n numbers ≡ false
+
+-- what is kept of these procedures' log
+pub record IsBook (ps : List Checked) (b : Book) : Type 0 where
+  pub kept : Kept ps b.log b.locks b.numbers b.txns b.serials b.owed b.promised
+  pub most : given b.log.events + b.promised ≤ b.given_up.most
+  pub marked : Marked b.given_up.numbers b.log.events b.txns
+
+abbrev pub core_of : Loaded → Book → Core
+core_of p b = record { procs = p.codes; names = p.names; dcs = p.dcs; events = b.log.events; given_up = b.given_up.numbers }

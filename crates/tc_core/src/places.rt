@@ -45,7 +45,7 @@ pub fn next_at(txns: &Slab<Tx>, key: usize) -> Next
 pub fn send_at(txns: &mut Slab<Tx>, key: usize, number: u64, op: Op)
     requires key { ContainsKey txns.old key }
     requires left { (tx : TxValue) → get txns.old key ≡ Some tx → 1 ≤ tx.left }
-    ensures updates { (tx : TxValue) → get txns.old key ≡ Some tx → Updates txns.old txns.new key (Some (record tx { sent = sent_as number op false; last = number; left = tx.left - 1 })) }
+    ensures updates { (tx : TxValue) → get txns.old key ≡ Some tx → Updates txns.old txns.new key (Some (record tx { sent = sent_as number op false; last = number; left = tx.left - 1; in_doubt = false })) }
     ensures capacity { txns.new.capacity ≡ txns.old.capacity }
     ensures len { slab_len txns.new ≡ slab_len txns.old }
 {
@@ -131,7 +131,7 @@ pub fn send_undo_at(txns: &mut Slab<Tx>, key: usize, number: u64, op: Op)
     requires key { ContainsKey txns.old key }
     requires left { (tx : TxValue) → get txns.old key ≡ Some tx → 1 ≤ tx.left }
     requires tries { (tx : TxValue) → get txns.old key ≡ Some tx → tx.tries < 4 }
-    ensures updates { (tx : TxValue) → get txns.old key ≡ Some tx → Updates txns.old txns.new key (Some (record tx { sent = sent_as number op true; tries = tx.tries + 1; last = number; left = tx.left - 1 })) }
+    ensures updates { (tx : TxValue) → get txns.old key ≡ Some tx → Updates txns.old txns.new key (Some (record tx { sent = sent_as number op true; tries = tx.tries + 1; last = number; left = tx.left - 1; in_doubt = false })) }
     ensures capacity { txns.new.capacity ≡ txns.old.capacity }
     ensures len { slab_len txns.new ≡ slab_len txns.old }
 {
@@ -154,4 +154,14 @@ pub fn awaits_at(txns: &Slab<Tx>, key: usize, number: u64, op: &Op) -> bool
     ensures { (tx : TxValue) → get txns.now key ≡ Some tx → IsTrue result ↔ Awaits tx number op.now }
 {
     awaits(&txns[key], number, op)
+}
+
+/// The transaction at a key is in doubt.
+pub fn doubt_at(txns: &mut Slab<Tx>, key: usize)
+    requires { ContainsKey txns.old key }
+    ensures updates { (tx : TxValue) → get txns.old key ≡ Some tx → Updates txns.old txns.new key (Some (record tx { in_doubt = true })) }
+    ensures capacity { txns.new.capacity ≡ txns.old.capacity }
+    ensures len { slab_len txns.new ≡ slab_len txns.old }
+{
+    txns[key].in_doubt = true;
 }

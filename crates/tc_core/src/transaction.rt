@@ -16,13 +16,15 @@ ghost use Rattle.transactions.specs.Next as Nexts;
 ghost use Rattle.tc_core.specs.Running.{Runs, MayResume, as_reached};
 
 use crate::undos::Undos;
+use access_slots::lock::LockSet;
 use access_slots::op::{Op, Said};
 use access_slots::slot::Value;
 use interpreter::layout::Layout;
 use interpreter::machine::Machine;
 use interpreter::pause::Pause;
 use transactions::{Next, Sent};
-use tc_log::event::Outcome;
+use std::alloc::{AllocError, Global};
+use tc_log::event::{Args, Outcome};
 use verifier::verify::Verified;
 
 /// An open transaction: its procedure's machine, and where that stands.
@@ -38,6 +40,8 @@ pub struct Tx {
     pub tries: u64,
     pub last: u64,
     pub left: u64,
+    pub in_doubt: bool,
+    pub locks: LockSet,
 }
 
 impl Tx {
@@ -95,7 +99,7 @@ impl Tx {
     /// It waits for the answer to its question.
     pub fn send(&mut self, number: u64, op: Op)
         requires { 1 ≤ self.old.left }
-        ensures { self.new ≡ record self.old { sent = sent_as number op false; last = number; left = self.old.left - 1 } }
+        ensures { self.new ≡ record self.old { sent = sent_as number op false; last = number; left = self.old.left - 1; in_doubt = false } }
     {
         self.sent = Some(Sent {
             number,
@@ -104,6 +108,7 @@ impl Tx {
         });
         self.last = number;
         self.left -= 1;
+        self.in_doubt = false;
     }
 }
 
@@ -182,7 +187,9 @@ impl Tx {
         requires { (s : Standing) × MayHear code.now self.old s said }
         ensures keeps { (s : Standing) → MayHear code.now self.old s said → Keeps code.now self.new (answered said s) }
         ensures serial { self.new.serial ≡ self.old.serial }
+        ensures certain { self.new.in_doubt ≡ false }
     {
+        self.in_doubt = false;
         let Some(sent) = self.sent else {
             return;
         };
@@ -200,7 +207,7 @@ impl Tx {
     pub fn send_undo(&mut self, number: u64, op: Op)
         requires left { 1 ≤ self.old.left }
         requires tries { self.old.tries < 4 }
-        ensures { self.new ≡ record self.old { sent = sent_as number op true; tries = self.old.tries + 1; last = number; left = self.old.left - 1 } }
+        ensures { self.new ≡ record self.old { sent = sent_as number op true; tries = self.old.tries + 1; last = number; left = self.old.left - 1; in_doubt = false } }
     {
         self.sent = Some(Sent {
             number,
@@ -210,6 +217,30 @@ impl Tx {
         self.tries += 1;
         self.last = number;
         self.left -= 1;
+        self.in_doubt = false;
+    }
+}
+
+/// What a transaction takes along: room for what undoes its writes, its arguments for the log, and
+/// its locks.
+#[derive(Drop)]
+pub struct Own {
+    pub undo: Undos,
+    pub args: Args,
+    pub locks: LockSet,
+}
+
+impl Own {
+    /// For so many calls.
+    pub fn new(alloc: Global, calls: usize, args: &[u64], locks: LockSet) -> Result<Own, AllocError>
+        ensures ops { IfOk result (λ own. own.undo.ops ≡ []) }
+        ensures room { IfOk result (λ own. calls ≤ own.undo.room) }
+        ensures args { IfOk result (λ own. own.args ≡ args.now) }
+        ensures locks { IfOk result (λ own. own.locks ≡ locks) }
+    {
+        let undo = Undos::with_room(alloc, calls)?;
+        let args = Args::copy_of(alloc, args)?;
+        Ok(Own { undo, args, locks })
     }
 }
 
@@ -221,6 +252,7 @@ pub fn begin(
     args: &[u64],
     undo: Undos,
     left: u64,
+    locks: LockSet,
 ) -> Tx
     requires { length args.now ≡ code.now.decl.args }
     ensures runs { Runs code.now result args.now [] }
@@ -228,6 +260,7 @@ pub fn begin(
     ensures names { (result.serial ≡ serial) × (result.proc ≡ proc) }
     ensures fresh { (result.sent ≡ None) × (result.full ≡ false) × (result.tries ≡ 0) × (result.last ≡ 0) }
     ensures room { (result.undo ≡ undo) × (result.left ≡ left) }
+    ensures locks { (result.locks ≡ locks) × (result.in_doubt ≡ false) }
 {
     let mut machine = Machine::start(code, args, Layout::plain());
     let pause = machine.resume(code, None);
@@ -242,5 +275,7 @@ pub fn begin(
         tries: 0,
         last: 0,
         left,
+        in_doubt: false,
+        locks,
     }
 }

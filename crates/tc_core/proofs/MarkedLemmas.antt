@@ -1,0 +1,159 @@
+-- Which transactions are in doubt, as events go on.
+use Rattle.std.proofs.Common.{◌≡◌, ◌≢◌, ℕ, ◌+◌, ◌<◌, ◌≤◌, Bool, true, false, List, [], ◌∷◌, ◌++◌, length, Option, Some, None, arith, refl, sym, ◌∙◌, ap, subst, inl, inr}
+use Rattle.std.specs.Prelude.{slice_index_or, count_by, is_some}
+use Rattle.std.proofs.lemmas.Bool.{cases_eq}
+use Rattle.request_numbers.specs.Given.{Given, holds}
+use Rattle.lock_table.specs.Facts.{Table}
+use Rattle.verifier.specs.Checked.{Checked}
+use Rattle.tc_log.specs.declared.event.Event.{Event}
+use Rattle.tc_log.specs.History.{History}
+use Rattle.history.specs.Flight.{Flight, given, in_flight}
+use Rattle.transactions.specs.declared.Sent.{Sent}
+use Rattle.transactions.specs.Legal.{Legal}
+use Rattle.transactions.specs.Standing.{Standing, standing}
+use Rattle.transactions.proofs.StandingLemmas.{some_same, none_some}
+use Rattle.transactions.proofs.Flights.{standing_flight, flight}
+use Rattle.slab.specs.Slab.{Slab, get, slab_len, Updates}
+use Rattle.tc_core.specs.Kept.{Keeps, Matches, IsOpen, StandsAt, Places, Kept, Marked, is_doubted}
+use Rattle.tc_core.specs.Running.{Runs}
+use Rattle.tc_core.specs.Doubts.{with_number, with_number_by}
+use Rattle.tc_core.specs.declared.transaction.Tx.{Tx}
+use Rattle.tc_core.proofs.DoubtLemmas.{holds_other, holds_same}
+
+-- the transaction at a key goes on
+pub marked-moved : (ns : List ℕ) (h h' : List Event) (txns txns' : Slab Tx) (key : ℕ) (tx' : Tx)
+    → Marked ns h txns → given h ≤ given h' → Updates txns txns' key (Some tx') → tx'.in_doubt ≡ is_doubted ns tx'.sent → Marked ns h' txns'
+marked-moved ns h h' txns txns' key tx' m more up here = record {
+  marks = λ k ty at. elim (cases_eq k key) [
+    | inl same ↦
+        let it : tx' ≡ ty = some_same tx' ty (sym up.changed ∙ (ap (get txns') (sym same) ∙ at)) in
+        subst (λ (x : Tx). x.in_doubt ≡ is_doubted ns x.sent) it here
+    | inr other ↦ m.marks k ty (sym (up.others k other) ∙ at)
+  ];
+  early = λ n late. m.early n (omega (arith, late, more));
+}
+
+-- it ends
+pub marked-ended : (ns : List ℕ) (h h' : List Event) (txns txns' : Slab Tx) (key : ℕ)
+    → Marked ns h txns → given h ≤ given h' → Updates txns txns' key None → Marked ns h' txns'
+marked-ended ns h h' txns txns' key m more up = record {
+  marks = λ k ty at. elim (cases_eq k key) [
+    | inl same ↦ absurd (none_some _ ty up.changed (ap (get txns') (sym same) ∙ at))
+    | inr other ↦ m.marks k ty (sym (up.others k other) ∙ at)
+  ];
+  early = λ n late. m.early n (omega (arith, late, more));
+}
+
+-- nothing but room changes
+pub marked-room : (ns ns' : List ℕ) (h h' : List Event) (txns txns' : Slab Tx) → Marked ns h txns → ns' ≡ ns → h' ≡ h → txns'.slots ≡ txns.slots → Marked ns' h' txns'
+marked-room ns ns' h h' txns txns' m same_numbers same_events same_slots =
+    let same : (key : ℕ) → get txns' key ≡ get txns key = (λ key. ap (λ (xs : List (Option Tx)). slice_index_or xs key None) same_slots) in
+    let it : Marked ns h txns' = record { marks = λ k ty at. m.marks k ty (sym (same k) ∙ at); early = m.early } in
+    subst (λ (x : List ℕ). Marked x h' txns') (sym same_numbers) (subst (λ (x : List Event). Marked ns x txns') (sym same_events) it)
+
+-- ---- a number is given up
+
+pub holds_with : (b : Bool) (n : ℕ) (ns : List ℕ) → holds n ns ≡ b → holds n (with_number_by b n ns) ≡ true
+holds_with true n ns e = e
+holds_with false n ns e = holds_same ns n
+
+pub holds_beside : (b : Bool) (n m : ℕ) (ns : List ℕ) → n ≢ m → holds m (with_number_by b n ns) ≡ holds m ns
+holds_beside true n m ns other = refl
+holds_beside false n m ns other = holds_other ns n m other
+
+-- two open transactions wait for two numbers
+apart : (ps : List Checked) (h : List Event) → Legal ps h → (t u : ℕ) (s v : Standing) (r q : Sent) → standing h t ≡ Some s → standing h u ≡ Some v → s.sent ≡ Some r → v.sent ≡ Some q → r.number ≡ q.number → t ≡ u
+apart ps h legal t u s v r q is is' waits waits' same =
+    let f = standing_flight ps h legal t s r is waits in
+    let g = standing_flight ps h legal u v q is' waits' in
+    let e : flight t r.op ≡ flight u q.op = some_same _ _ (sym f.1 ∙ (ap (in_flight h) same ∙ g.1)) in
+    ap (λ (x : Flight). x.txn) e
+
+-- it waits for another number than this one
+beside : (n : ℕ) (b : Bool) (ns : List ℕ) (sent : Option Sent) → ((r : Sent) → sent ≡ Some r → n ≢ r.number) → is_doubted (with_number_by b n ns) sent ≡ is_doubted ns sent
+beside n b ns None other = refl
+beside n b ns (Some r) other = holds_beside b n r.number ns (other r refl)
+
+pub marked-doubt : (ps : List Checked) (ns : List ℕ) (h : List Event) (txns txns' : Slab Tx) (key n : ℕ) (tx : Tx) (r : Sent)
+    → Legal ps h → Places ps h txns → Marked ns h txns → get txns key ≡ Some tx → tx.sent ≡ Some r → r.number ≡ n → n ≤ given h
+    → Updates txns txns' key (Some (record tx { in_doubt = true })) → Marked (with_number n ns) h txns'
+marked-doubt ps ns h txns txns' key n tx r legal p m found waits number few up = record {
+  marks = λ k ty at. elim (cases_eq k key) [
+    | inl same ↦
+        let it : record tx { in_doubt = true } ≡ ty = some_same _ ty (sym up.changed ∙ (ap (get txns') (sym same) ∙ at)) in
+        let yes_it : true ≡ is_doubted (with_number n ns) tx.sent =
+            sym (ap (is_doubted (with_number n ns)) waits ∙ (ap (λ (k : ℕ). holds k (with_number n ns)) number ∙ holds_with (holds n ns) n ns refl)) in
+        subst (λ (x : Tx). x.in_doubt ≡ is_doubted (with_number n ns) x.sent) it yes_it
+    | inr other ↦
+        let was : get txns k ≡ Some ty = sym (up.others k other) ∙ at in
+        let o = p.stands k ty was in
+        let mine = p.stands key tx found in
+        let differ : (q : Sent) → ty.sent ≡ Some q → n ≢ q.number = (λ q sent same.
+            other (p.once k key ty tx was found
+            (apart ps h legal ty.serial tx.serial o.s mine.s q r o.is mine.is (sym o.matches.keeps.sent ∙ sent) (sym mine.matches.keeps.sent ∙ waits) (sym (number ∙ same))))) in
+        m.marks k ty was ∙ sym (beside n (holds n ns) ns ty.sent differ)
+  ];
+  early = λ k late. holds_beside (holds n ns) n k ns (omega (arith, late, few)) ∙ m.early k late;
+}
+
+-- a transaction that is marked stands where it stood
+pub kept-doubt : (ps : List Checked) (log : History) (table : Table) (numbers : Given) (txns txns' : Slab Tx) (serials owed promised key : ℕ) (tx : Tx)
+    → Kept ps log table numbers txns serials owed promised → get txns key ≡ Some tx → Updates txns txns' key (Some (record tx { in_doubt = true })) → slab_len txns' ≡ slab_len txns
+    → Kept ps log table numbers txns' serials owed promised
+kept-doubt ps log table numbers txns txns' serials owed promised key tx k found up len =
+    let p = k.places in
+    let h = log.events in
+    let marked : Tx = record tx { in_doubt = true } in
+    let mine = p.stands key tx found in
+    let keeps = mine.matches.keeps in
+    let kept : Keeps mine.matches.q marked mine.s = record {
+      proc = keeps.proc;
+      sent = keeps.sent;
+      full = keeps.full;
+      undo = keeps.undo;
+      tries = keeps.tries;
+      last = keeps.last;
+      left = keeps.left;
+      room = keeps.room;
+      locks = keeps.locks;
+      runs = record { started = keeps.runs.started; call = keeps.runs.call; layout = keeps.runs.layout; pauses = keeps.runs.pauses };
+    } in
+    let here : (j : ℕ) (ty : Tx) → j ≡ key → get txns' j ≡ Some ty → marked ≡ ty = (λ j ty same at. some_same marked ty (sym up.changed ∙ (ap (get txns') (sym same) ∙ at))) in
+    let before : (j : ℕ) (ty : Tx) → get txns' j ≡ Some ty → (tz : Tx) × (get txns j ≡ Some tz) × (tz.serial ≡ ty.serial) = (λ j ty at. elim (cases_eq j key) [
+      | inl same ↦ (tx, ap (get txns) same ∙ found, ap (λ (x : Tx). x.serial) (here j ty same at))
+      | inr other ↦ (ty, sym (up.others j other) ∙ at, refl)
+    ]) in
+    record {
+      legal = k.legal;
+      good = k.good;
+      places = record {
+        stands = λ j ty at. elim (cases_eq j key) [
+          | inl same ↦ subst (λ (x : Tx). IsOpen ps h x) (here j ty same at) (record { s = mine.s; is = mine.is; matches = record { q = mine.matches.q; loaded = mine.matches.loaded; keeps = kept } })
+          | inr other ↦ p.stands j ty (sym (up.others j other) ∙ at)
+        ];
+        each = λ t s is.
+            let has = p.each t s is in
+            elim (cases_eq has.key key) [
+              | inl same ↦
+                  let it : tx ≡ has.at.tx = some_same tx has.at.tx (sym found ∙ (ap (get txns) (sym same) ∙ has.at.found)) in
+                  record { key = key; at = record { tx = marked; found = up.changed; serial = ap (λ (x : Tx). x.serial) it ∙ has.at.serial } }
+              | inr other ↦ record { key = has.key; at = record { tx = has.at.tx; found = up.others has.key other ∙ has.at.found; serial = has.at.serial } }
+            ];
+        once = λ i j ty tz at at' same.
+            let one = before i ty at in
+            let two = before j tz at' in
+            p.once i j one.0 two.0 one.1 two.1 (one.2 ∙ (same ∙ sym two.2));
+      };
+      serials_are = k.serials_are;
+      locks_are = k.locks_are;
+      last_is = k.last_is;
+      pending_is = k.pending_is;
+      rooms = record {
+        count = len ∙ k.rooms.count;
+        owed_is = k.rooms.owed_is;
+        promised_is = k.rooms.promised_is;
+        places = k.rooms.places;
+        events = k.rooms.events;
+        numbers_fit = k.rooms.numbers_fit;
+      };
+    }

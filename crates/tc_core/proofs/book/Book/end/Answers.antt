@@ -1,0 +1,98 @@
+use Rattle.std.proofs.Common.{rules, ◌≡◌, ◌+◌, ◌*◌, ◌<◌, ◌≤◌, ℕ, Some, None, arith, refl, sym, ◌∙◌, ap, subst, Option, true, false}
+use Rattle.tc_log.specs.declared.event.Outcome.{Outcome}
+use Rattle.tc_core.specs.Core.{Core, Asking}
+use Rattle.tc_core.specs.Kept.{core_of, IsBook}
+use Rattle.tc_core.specs.Replies.{end_of, end_reply, after_end}
+use Rattle.tc_core.proofs.ReplyLemmas.{end-unknown, end-known}
+use Rattle.history.specs.Flight.{given}
+use Rattle.tc_core.proofs.MarkedLemmas.{marked-ended}
+use Rattle.tc_core.proofs.KeptLemmas.{places-absent, seen, may-end, kept-end}
+use Rattle.tc_core.proofs.book.Book.end.Goals as goal
+
+pub returns-in_default-clause-reply : goal.returns-in_default-clause-reply
+returns-in_default-clause-reply c =
+    let core : Core = core_of c.args.procs.now c.args.self.now in
+    let none = end-unknown core c.args.txn.serial (places-absent _ _ _ c.requires.kept.places _ c.in_default.ensures.absent) in
+    rw (none) refl
+
+pub returns-in_default-clause-state : goal.returns-in_default-clause-state
+returns-in_default-clause-state c =
+    let core : Core = core_of c.args.procs.now c.args.self.now in
+    let none = end-unknown core c.args.txn.serial (places-absent _ _ _ c.requires.kept.places _ c.in_default.ensures.absent) in
+    rw (none) refl
+
+pub returns-in_default-over_at-clause-reply : goal.returns-in_default-over_at-clause-reply
+returns-in_default-over_at-clause-reply c =
+    let at = c.in-Some.ensures.found in
+    let core : Core = core_of c.args.procs.now c.args.self.now in
+    let w = seen _ _ _ _ _ _ _ _ _ _ at.tx c.requires.kept at.found at.serial in
+    let none : end_of core c.args.txn.serial ≡ None = end-known core c.args.txn.serial at.tx _ w (c.over_at.ensures at.tx at.found) ∙ c.in_default-over_at.is in
+    rw (none) refl
+
+pub returns-in_default-over_at-clause-state : goal.returns-in_default-over_at-clause-state
+returns-in_default-over_at-clause-state c =
+    let at = c.in-Some.ensures.found in
+    let core : Core = core_of c.args.procs.now c.args.self.now in
+    let w = seen _ _ _ _ _ _ _ _ _ _ at.tx c.requires.kept at.found at.serial in
+    let none : end_of core c.args.txn.serial ≡ None = end-known core c.args.txn.serial at.tx _ w (c.over_at.ensures at.tx at.found) ∙ c.in_default-over_at.is in
+    rw (none) refl
+
+pub push-requires : goal.push-requires
+push-requires c =
+    let at = c.in-Some.ensures.found in
+    (may-end _ _ _ _ _ _ _ _ _ at.tx c.requires.kept (seen _ _ _ _ _ _ _ _ _ _ at.tx c.requires.kept at.found at.serial)).room
+
+pub overflow_mul-self : goal.overflow_mul-self
+overflow_mul-self c =
+    let at = c.in-Some.ensures.found in
+    let left = c.left_at-left.ensures at.tx at.found in
+    omega (arith, left, (may-end _ _ _ _ _ _ _ _ _ at.tx c.requires.kept (seen _ _ _ _ _ _ _ _ _ _ at.tx c.requires.kept at.found at.serial)).owed_left)
+
+pub overflow_add-self : goal.overflow_add-self
+overflow_add-self c =
+    let at = c.in-Some.ensures.found in
+    let left = c.left_at-left.ensures at.tx at.found in
+    omega (arith, left, (may-end _ _ _ _ _ _ _ _ _ at.tx c.requires.kept (seen _ _ _ _ _ _ _ _ _ _ at.tx c.requires.kept at.found at.serial)).owed_left)
+
+pub overflow_sub-self : goal.overflow_sub-self
+overflow_sub-self c =
+    let at = c.in-Some.ensures.found in
+    let left = c.left_at-left.ensures at.tx at.found in
+    omega (arith, left, (may-end _ _ _ _ _ _ _ _ _ at.tx c.requires.kept (seen _ _ _ _ _ _ _ _ _ _ at.tx c.requires.kept at.found at.serial)).owed_left)
+
+pub overflow_sub-self-2 : goal.overflow_sub-self-2
+overflow_sub-self-2 c =
+    let at = c.in-Some.ensures.found in
+    let left = c.left_at-left.ensures at.tx at.found in
+    omega (arith, left, (may-end _ _ _ _ _ _ _ _ _ at.tx c.requires.kept (seen _ _ _ _ _ _ _ _ _ _ at.tx c.requires.kept at.found at.serial)).promised_left)
+
+pub returns-clause-kept : goal.returns-clause-kept
+returns-clause-kept c =
+    let at = c.in-Some.ensures.found in
+    let w = seen _ _ _ _ _ _ _ _ _ _ at.tx c.requires.kept at.found refl in
+    let left = c.left_at-left.ensures at.tx at.found in
+    let same : given c.push.new.self.events ≡ given c.args.self.now.log.events = ap given c.push.ensures.events in
+    record {
+      kept =
+      rw left
+      (kept-end _ _ _ _ _ _ _ _ _ _ _ _ at.tx c.in-Some-over_at.outcome c.requires.kept at.found w (sym (c.over_at.ensures at.tx at.found) ∙ c.in-Some-over_at.is)
+      (rw (← at.serial) at c.push.ensures.events) c.push.ensures.room (rw (← at.serial) at c.release.ensures.held) c.take_out.ensures.updates c.take_out.ensures.len);
+      most = omega (arith, c.requires.most, same);
+      marked = marked-ended _ c.args.self.now.log.events _ _ _ _ c.requires.marked (omega (arith, same)) c.take_out.ensures.updates;
+    }
+
+pub returns-clause-reply : goal.returns-clause-reply
+returns-clause-reply c =
+    let at = c.in-Some.ensures.found in
+    let core : Core = core_of c.args.procs.now c.args.self.now in
+    let w = seen _ _ _ _ _ _ _ _ _ _ at.tx c.requires.kept at.found at.serial in
+    let some : end_of core c.args.txn.serial ≡ Some c.in-Some-over_at.outcome = end-known core c.args.txn.serial at.tx _ w (c.over_at.ensures at.tx at.found) ∙ c.in-Some-over_at.is in
+    rw (some, c.len-place.ensures) refl
+
+pub returns-clause-state : goal.returns-clause-state
+returns-clause-state c =
+    let at = c.in-Some.ensures.found in
+    let core : Core = core_of c.args.procs.now c.args.self.now in
+    let w = seen _ _ _ _ _ _ _ _ _ _ at.tx c.requires.kept at.found at.serial in
+    let some : end_of core c.args.txn.serial ≡ Some c.in-Some-over_at.outcome = end-known core c.args.txn.serial at.tx _ w (c.over_at.ensures at.tx at.found) ∙ c.in-Some-over_at.is in
+    rw (some, c.push.ensures.events) refl

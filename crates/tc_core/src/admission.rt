@@ -1,0 +1,168 @@
+// How a call is admitted.
+
+ghost use Rattle.std.specs.Prelude.{◌≡◌, ◌↔◌, ◌+◌, ◌*◌, ◌≤◌, ◌^◌, ◌∷◌, nat_lt, [], length, Some, IsTrue, IfOk, OnOk, IfErr, OnErr};
+ghost use Rattle.access_slots.specs.declared.slot.Record.{Record};
+ghost use Rattle.access_slots.specs.Held.{Compatible};
+ghost use Rattle.access_slots.specs.Locks.{mode_in, mode_named};
+ghost use Rattle.lock_table.specs.Facts.{held_by, granted, AreHeld, HoldsNothing};
+ghost use Rattle.tc_log.specs.declared.event.Event.TheVariants.{Admit};
+ghost use Rattle.history.specs.Calls.{admitted};
+ghost use Rattle.transactions.specs.Reached.{calls_in};
+ghost use Rattle.tc_core.specs.Kept.{core_of, IsBook};
+ghost use Rattle.tc_core.specs.Replies.{with_event};
+ghost use Rattle.tc_core.specs.Admission.{call_of, IsCalled, IsUncallable, IsAdmissible, IsRefused};
+ghost use Rattle.tc_core.specs.Rooms.{OnlyRoom, HasRoom, MayEnter};
+ghost use Rattle.tc_core.specs.Blocked.{IsBlocked};
+
+use crate::book::Book;
+use crate::holders::all_stranded;
+use crate::procs::Procs;
+use crate::state::{Call, Refusal, TxnId};
+use crate::transaction::{Own, begin};
+use access_slots::lock::LockSet;
+use lock_table::table::LockTable;
+use std::alloc::{AllocError, Global};
+use tc_log::event::Event;
+use verifier::verify::Verified;
+
+// The procedure of a call that has as many arguments as it takes.
+fn procedure_of<'a>(procs: &'a Procs, call: &Call) -> Result<&'a Verified, Refusal>
+    ensures ok { IfOk result (λ code. IsCalled procs.now.codes (call_of call.now) code.now) }
+    ensures err { IfErr result (IsUncallable procs.now.codes (call_of call.now)) }
+{
+    let Some(code) = procs.get(call.proc) else {
+        return Err(Refusal::NoProcedure);
+    };
+    if call.args.len() != code.decl().args() {
+        return Err(Refusal::ArgumentCount);
+    }
+    Ok(code)
+}
+
+// The locks that a call takes.
+fn locks_of(code: &Verified, args: &[u64]) -> LockSet
+    requires { length args.now ≡ code.now.decl.args }
+    ensures { (r : Record) → mode_in result r ≡ mode_named args.now code.now.decl.slots r }
+{
+    code.decl().resolve(args)
+}
+
+// Gives the transaction locks that nothing stands in the way of.
+fn claim(locks: &mut LockTable, serial: u64, set: &LockSet)
+    requires ready { locks.old.reserved ≡ Some set.now }
+    requires nothing { HoldsNothing (held_by locks.old.claims) serial }
+    requires free { Compatible (held_by locks.old.claims) (mode_in set.now) }
+    ensures { AreHeld locks.new.claims (granted (held_by locks.old.claims) serial (mode_in set.now)) }
+{
+    match locks.grant(serial, set) {
+        Ok(()) => {}
+        Err(_) => unreachable!(),
+    }
+}
+
+// How many call slots the code has, at most as many as slots.
+fn calls_of(code: &Verified) -> usize
+    ensures calls { result ≡ calls_in code.now }
+    ensures few { result ≤ 4096 }
+{
+    let _code = code.code();
+    code.calls()
+}
+
+// Whether too few numbers are left for a call.
+fn is_spent(last: u64, promised: u64, calls: usize) -> bool
+    requires sum { last + promised ≤ 2 ^ 62 }
+    requires few { calls ≤ 4096 }
+    ensures { result ≡ nat_lt (2 ^ 62) (last + 5 * calls + promised) }
+{
+    5 * calls as u64 > (1 << 62) - (last + promised)
+}
+
+impl Book {
+    /// Makes room for a call. What is there stays.
+    fn make_room(&mut self, calls: usize, set: &LockSet) -> Result<(), AllocError>
+        requires sum { self.old.numbers.last + self.old.promised ≤ 2 ^ 62 }
+        requires few { calls ≤ 4096 }
+        ensures kept { OnlyRoom self.old self.new }
+        ensures room { OnOk result (HasRoom self.new calls set.now) }
+    {
+        let Some(events) = self.owed.checked_add(10 * calls + 2) else {
+            return Err(AllocError);
+        };
+        let most = self.numbers.last() + self.promised + 5 * calls as u64;
+        self.txns.reserve(1)?;
+        self.numbers.reserve(self.txns.capacity())?;
+        self.log.reserve(events)?;
+        self.given_up.reserve(most)?;
+        self.locks.reserve(set)
+    }
+
+    // A call that may be admitted, and has its room, is admitted.
+    fn enter(&mut self, procs: &Procs, code: &Verified, proc: usize, own: Own) -> TxnId
+        requires { MayEnter procs.now.codes self.old code.now proc own }
+        ensures kept { IsBook procs.now.codes self.new }
+        ensures serial { result.serial ≡ admitted self.old.log.events + 1 }
+        ensures events { self.new.log.events ≡ Admit result.serial proc own.args ∷ self.old.log.events }
+        ensures given_up { self.new.given_up ≡ self.old.given_up }
+    {
+        let _ = procs;
+        let serial = self.serials + 1;
+        let calls = calls_of(code);
+        claim(&mut self.locks, serial, &own.locks);
+        let Own { undo, args, locks } = own;
+        let tx = begin(code, serial, proc, args.as_slice(), undo, 5 * calls as u64, locks);
+        let _key = self.txns.insert_reserved(tx);
+        self.log.push(Event::Admit {
+            txn: serial,
+            proc,
+            args,
+        });
+        self.serials = serial;
+        self.owed += 10 * calls + 1;
+        self.promised += 5 * calls as u64;
+        TxnId { serial }
+    }
+
+    /// Admits a call: it holds its locks, and has room for all that it may log, from now on.
+    pub fn admit(&mut self, alloc: Global, procs: &Procs, call: &Call) -> Result<TxnId, Refusal>
+        requires { IsBook procs.now.codes self.old }
+        ensures kept { IsBook procs.now.codes self.new }
+        ensures ok { IfOk result (λ id. id.serial ≡ admitted self.old.log.events + 1) }
+        ensures state { IfOk result (λ id. core_of procs.now self.new ≡ with_event (core_of procs.now self.old) (Admit id.serial call.now.proc call.now.args.items)) }
+        ensures admitted { OnOk result (IsAdmissible (core_of procs.now self.old) (call_of call.now)) }
+        ensures err { OnErr result (core_of procs.now self.new ≡ core_of procs.now self.old) }
+        ensures refused { IfErr result (IsRefused (core_of procs.now self.old) (call_of call.now)) }
+    {
+        let code = procedure_of(procs, call)?;
+        let set = locks_of(code, call.args.as_slice());
+        if let Some(busy) = self.locks.busy(&set) {
+            return Err(Refusal::Busy(busy));
+        }
+        let calls = calls_of(code);
+        if is_spent(self.numbers.last(), self.promised, calls) {
+            return Err(Refusal::NumbersSpent);
+        }
+        let Ok(own) = Own::new(alloc, calls, call.args.as_slice(), set) else {
+            return Err(Refusal::Memory);
+        };
+        let Ok(()) = self.make_room(calls, &own.locks) else {
+            return Err(Refusal::Memory);
+        };
+        Ok(self.enter(procs, code, call.proc, own))
+    }
+
+    /// Whether other transactions stand in the way of a call, and all of them are in doubt or stuck.
+    pub fn blocked(&self, procs: &Procs, call: &Call) -> bool
+        requires { IsBook procs.now.codes self.now }
+        ensures { IsTrue result ↔ IsBlocked (core_of procs.now self.now) (call_of call.now) }
+    {
+        let Ok(code) = procedure_of(procs, call) else {
+            return false;
+        };
+        let set = locks_of(code, call.args.as_slice());
+        if self.locks.busy(&set).is_none() {
+            return false;
+        }
+        all_stranded(&self.txns, &set)
+    }
+}

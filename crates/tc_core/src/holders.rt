@@ -1,0 +1,64 @@
+// Open transactions that stand in the way of a call.
+
+ghost use Rattle.std.specs.Prelude.{◌≡◌, ◌||◌, ℕ, Some, true, false, IsTrue};
+ghost use Rattle.slab.specs.Slab.{get};
+ghost use Rattle.access_slots.specs.Held.{excludes};
+ghost use Rattle.access_slots.specs.Locks.{mode_in};
+ghost use Rattle.transactions.specs.Legal.{first_undo};
+ghost use Rattle.transactions.specs.Next.{next_by};
+ghost use Rattle.tc_core.specs.Running.{as_reached};
+ghost use Rattle.tc_core.specs.Clashes.{clashes};
+ghost use Rattle.tc_core.specs.Holders.{stuck_by, stands_still, HoldsUp};
+ghost use Rattle.tc_core.specs.declared.transaction.Tx.{Tx as TxValue};
+
+use crate::transaction::Tx;
+use access_slots::lock::{Lock, LockSet};
+use access_slots::op::Op;
+use access_slots::slot::Mode;
+use slab::Slab;
+use transactions::Next;
+
+// Whether the lock is excluded by one of those that are held.
+fn is_excluded(lock: &Lock, held: &LockSet) -> bool
+    ensures { result ≡ excludes (Some lock.now.mode) (mode_in held.now lock.now.«record») }
+{
+    match lock.mode {
+        Mode::Write => held.covers(&Op::Read(lock.record)),
+        Mode::Read => held.covers(&Op::Delete(lock.record)),
+    }
+}
+
+// Whether two sets of locks exclude each other.
+fn clash(wanted: &LockSet, held: &LockSet) -> bool
+    ensures { result ≡ clashes wanted.now held.now }
+{
+    wanted.locks().iter().any(|lock| is_excluded(lock, held))
+}
+
+fn is_stuck(next: Next) -> bool
+    ensures { result ≡ stuck_by (Some next) }
+{
+    matches!(next, Next::Stuck(_))
+}
+
+impl Tx {
+    // Whether it is in doubt or stuck.
+    fn is_stranded(&self) -> bool
+        ensures { result ≡ stands_still self.now }
+    {
+        self.in_doubt || is_stuck(self.next())
+    }
+}
+
+/// Whether each open transaction whose locks exclude these is in doubt or stuck.
+pub fn all_stranded(txns: &Slab<Tx>, wanted: &LockSet) -> bool
+    ensures all { IsTrue result → (key : ℕ) (tx : TxValue) → get txns.now key ≡ Some tx → clashes wanted.now tx.locks ≡ true → stands_still tx ≡ true }
+    ensures some { result ≡ false → HoldsUp txns.now wanted.now }
+{
+    for (_, tx) in txns.iter() {
+        if !tx.is_stranded() && clash(wanted, &tx.locks) {
+            return false;
+        }
+    }
+    true
+}

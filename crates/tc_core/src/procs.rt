@@ -1,0 +1,194 @@
+//! The loaded procedures, by number and by name.
+
+ghost use Rattle.std.specs.Prelude.{◌≡◌, ◌==◌, ◌++◌, [], ◌∷◌, ◌<◌, length, slice_get, option_copied, IfOk, OnOk, IfErr, OnErr, None, Some};
+ghost use Rattle.std.specs.Option.{option_map};
+ghost use Rattle.transactions.specs.Reached.{AllGood, IsGood};
+ghost use Rattle.tc_core.specs.Loaded.{number_of, unknown_dc, AllReach};
+ghost use Rattle.tc_core.specs.Loading.{load_refusal, IsFirstRefusal};
+
+use access_slots::slot::Slot;
+use indexmap::IndexMap;
+use std::alloc::Global;
+use std::marker::Model;
+use verifier::verify::Verified;
+
+/// Why a procedure isn't loaded, in the order in which it is looked for.
+#[derive(Clone, Copy, Debug, PartialEq, Eq)]
+pub enum LoadRefusal {
+    /// P1: another procedure has the name.
+    NameTaken,
+    /// P2: this access slot, counted from 0, is the first that names a data component that isn't
+    /// there.
+    DcUnknown(usize),
+    /// P3: memory ran out.
+    Memory,
+}
+
+/// A procedure that isn't loaded, handed back.
+#[derive(Drop)]
+pub struct LoadFault {
+    pub why: LoadRefusal,
+    pub code: Verified,
+}
+
+/// The procedures that calls name, in the order in which they were loaded, each under a name of its
+/// own. Contracts see the verified procedures by number, their names, and for how many data
+/// components they are.
+#[derive(Drop)]
+pub struct Procs {
+    alloc: Global,
+    dcs: u16,
+    by_name: IndexMap<String, Verified>,
+}
+
+impl Model for Procs {
+    ghost use Rattle.std.specs.Prelude.{map};
+    ghost use Rattle.std.specs.String.{string_bytes};
+    ghost use Rattle.indexmap.specs.IndexMap.{keys, values};
+    ghost use Rattle.transactions.specs.Reached.{AllGood};
+    ghost use Rattle.tc_core.specs.Loaded.{Loaded, AllReach};
+
+    ghost Value = { Loaded };
+
+    ghost view = { λ p. record { dcs = p.dcs; codes = values p.by_name; names = map string_bytes (keys p.by_name) } };
+
+    ghost invariant = { λ p. AllGood (values p.by_name) × AllReach p.dcs (values p.by_name) };
+}
+
+// What the verifier shows of code.
+fn good(code: &Verified)
+    ensures { IsGood code.now }
+{
+    let _calls = code.calls();
+    let _code = code.code();
+}
+
+// The first slot that names a data component that isn't there.
+fn unknown_dc(dcs: u16, slots: &[Slot]) -> Option<usize>
+    ensures { result ≡ unknown_dc dcs slots.now }
+{
+    slots.iter().position(|slot| slot.dc >= dcs)
+}
+
+impl Procs {
+    /// No procedure yet, for data components numbered below `dcs`.
+    pub(crate) fn new(alloc: Global, dcs: u16) -> Procs
+        ensures dcs { result.dcs ≡ dcs }
+        ensures codes { result.codes ≡ [] }
+        ensures names { result.names ≡ [] }
+    {
+        Procs {
+            alloc,
+            dcs,
+            by_name: IndexMap::new(alloc),
+        }
+    }
+
+    /// How many there are.
+    pub fn len(&self) -> usize
+        ensures { result ≡ length self.now.codes }
+    {
+        self.by_name.len()
+    }
+
+    /// Whether there is none.
+    pub fn is_empty(&self) -> bool
+        ensures { result ≡ (length self.now.codes == 0) }
+    {
+        self.by_name.is_empty()
+    }
+
+    /// For how many data components they are.
+    pub fn dcs(&self) -> u16
+        ensures { result ≡ self.now.dcs }
+    {
+        self.dcs
+    }
+
+    /// The procedure with this number.
+    pub fn get(&self, number: usize) -> Option<&Verified>
+        ensures { option_copied result ≡ slice_get self.now.codes number }
+    {
+        match self.by_name.get_index(number) {
+            Some((_name, code)) => Some(code),
+            None => None,
+        }
+    }
+
+    /// The procedure with this number, which there is.
+    pub(crate) fn at(&self, number: usize) -> &Verified
+        requires { number < length self.now.codes }
+        ensures { slice_get self.now.codes number ≡ Some result.now }
+    {
+        match self.get(number) {
+            Some(code) => code,
+            None => unreachable!(),
+        }
+    }
+
+    /// The name of the procedure with this number.
+    pub fn name(&self, number: usize) -> Option<&str>
+        ensures { option_copied result ≡ slice_get self.now.names number }
+    {
+        match self.by_name.get_index(number) {
+            Some((name, _code)) => Some(name.as_str()),
+            None => None,
+        }
+    }
+
+    /// The number of the procedure with this name.
+    pub fn find(&self, name: &str) -> Option<usize>
+        ensures { result ≡ number_of name.now self.now.names }
+    {
+        self.by_name.get_index_of(name)
+    }
+
+    /// What the type keeps, told to a caller.
+    pub fn known(&self)
+        ensures good { AllGood self.now.codes }
+        ensures reach { AllReach self.now.dcs self.now.codes }
+    {
+        let _ = &self.dcs;
+    }
+
+    /// One procedure more, under the next number.
+    pub(crate) fn load(&mut self, name: &str, code: Verified) -> Result<usize, LoadFault>
+        ensures allowed { OnOk result (load_refusal self.old.dcs self.old.names name.now code.decl.slots ≡ None) }
+        ensures number { IfOk result (λ n. n ≡ length self.old.codes) }
+        ensures ok { OnOk result (self.new ≡ record self.old { codes = self.old.codes ++ code ∷ []; names = self.old.names ++ name.now ∷ [] }) }
+        ensures refused { IfErr result (λ fault. IsFirstRefusal (load_refusal self.old.dcs self.old.names name.now code.decl.slots) fault.why) }
+        ensures err { OnErr result (self.new ≡ self.old) }
+        ensures back { IfErr result (λ fault. fault.code ≡ code) }
+    {
+        if self.find(name).is_some() {
+            return Err(LoadFault {
+                why: LoadRefusal::NameTaken,
+                code,
+            });
+        }
+        if let Some(slot) = unknown_dc(self.dcs, code.decl().slots()) {
+            return Err(LoadFault {
+                why: LoadRefusal::DcUnknown(slot),
+                code,
+            });
+        }
+        let Ok(owned) = String::from_str(self.alloc, name) else {
+            return Err(LoadFault {
+                why: LoadRefusal::Memory,
+                code,
+            });
+        };
+        good(&code);
+        let number = self.by_name.len();
+        match self.by_name.insert(owned, code) {
+            Ok(_none) => Ok(number),
+            Err(failed) => {
+                let (_name, code) = failed.value;
+                Err(LoadFault {
+                    why: LoadRefusal::Memory,
+                    code,
+                })
+            }
+        }
+    }
+}
