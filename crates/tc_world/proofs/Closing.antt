@@ -91,15 +91,13 @@ got_before (x ∷ rs) r q (suc k) at = got_before rs r q k at
 
 -- some requests are left, each open, and the numbers of the others are given up
 pub record GivesUp (was now : Core) (left : List Asking) : Type 0 where
-  pub events : now.events ≡ was.events
-  pub procs : now.procs ≡ was.procs
+  pub kept : now ≡ record was { given_up = now.given_up }
   pub given_up : (n : ℕ) → (holds n now.given_up || is_asked left n) ≡ (holds n was.given_up || is_open was.events n)
   pub open_yet : (k : ℕ) (r : Asking) → slice_get left k ≡ Some r → IsOpenHere was r
 
 pub none_yet : (c d : Core) (rs : List Asking) → c ≡ d → Legal c.procs c.events → AreWaiting rs c.events → GivesUp d c rs
 none_yet c d rs same legal w = subst (λ (x : Core). GivesUp x c rs) same (record {
-  events = refl;
-  procs = refl;
+  kept = refl;
   given_up = λ n. ap (λ (b : Bool). holds n c.given_up || b) (asked_open rs c.events n w);
   open_yet = λ k r at.
       let a = awaited c.procs c.events legal r.number (flight r.txn r.op) (in_the_air rs c.events k r w at) in
@@ -116,14 +114,19 @@ turned false true false = refl
 turned false false true = refl
 turned false false false = refl
 
+kept_still : (was now next : Core) (n : ℕ) → now ≡ record was { given_up = now.given_up } → next ≡ with_given_up now n → next ≡ record was { given_up = next.given_up }
+kept_still was now next n kept same =
+    let numbers : with_number n now.given_up ≡ next.given_up = sym (ap (λ (c : Core). c.given_up) same) in
+    let mine : next ≡ record now { given_up = next.given_up } = same ∙ ap (λ (ns : List ℕ). let c : Core = record now { given_up = ns } in c) numbers in
+    mine ∙ ap (λ (c : Core). let d : Core = record c { given_up = next.given_up } in d) kept
+
 pub one_more : (was now next : Core) (left rest : List Asking) (r : Asking) → GivesUp was now left → left ≡ rest ++ r ∷ [] → (IsOpenHere now r → next ≡ with_given_up now r.number) → GivesUp was next rest
 one_more was now next left rest r g is gives =
     let there = last_there rest r in
     let mine : IsOpenHere was r = g.open_yet there.k r (ap (λ (xs : List Asking). slice_get xs there.k) is ∙ there.at) in
-    let same : next ≡ with_given_up now r.number = gives (open_still was now r g.events mine) in
+    let same : next ≡ with_given_up now r.number = gives (open_still was now r (ap (λ (c : Core). c.events) g.kept) mine) in
     record {
-      events = ap (λ (c : Core). c.events) same ∙ g.events;
-      procs = ap (λ (c : Core). c.procs) same ∙ g.procs;
+      kept = kept_still was now next r.number g.kept same;
       given_up = λ n.
           let added : holds n next.given_up ≡ (holds n now.given_up || (r.number == n)) = ap (λ (c : Core). holds n c.given_up) same ∙ holds_with r.number n now.given_up in
           let split : is_asked left n ≡ (is_asked rest n || (r.number == n)) = ap (λ (xs : List Asking). is_asked xs n) is ∙ asked_push rest r n in

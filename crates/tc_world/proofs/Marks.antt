@@ -169,7 +169,7 @@ restarts_low w v d (Some s) o low goes = low_behind _ o w v low goes
 -- whatever the step is
 pub stay_low : (w v : Whole) (x : Step) (o : Outcome) → LegalCore v.core → Steps w x o v → AreMarksLow w → AreMarksLow v
 stay_low w v (step.Admit call) o legal goes low =
-    let e = event.Admit (admitted w.core.events + 1) call.proc call.args in
+    let e = event.Admit (admitted w.core.events + 1) call.proc call.args.items in
     let was : LegalCore (with_event w.core e) = subst (λ (y : Whole). LegalCore y.core) goes.next legal in
     subst AreMarksLow (sym goes.next) (risen w (with_event w.core e) (mark_rises w.core.procs w.core.events e was) low)
 stay_low w v (step.Ask t) o legal goes low = told_low w v t (after_ask w.core (ask_reply w.core t)) (ask_reply w.core t) o (ask_rises w.core (ask_reply w.core t)) legal low goes

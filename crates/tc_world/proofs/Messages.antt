@@ -1,6 +1,6 @@
 -- What requests and the log say of each other.
 use Rattle.std.proofs.Common.{◌≡◌, ◌≢◌, ℕ, ◌+◌, Bool, true, false, List, [], ◌∷◌, ◌++◌, length, Option, Some, None, arith, refl, sym, ◌∙◌, ap, subst}
-use Rattle.std.specs.Prelude.{slice_get, slice_index_or}
+use Rattle.std.specs.Prelude.{slice_get, slice_index_or, IsSome}
 use Rattle.access_slots.specs.Access.{fits}
 use Rattle.access_slots.specs.declared.op.Op.{Op}
 use Rattle.access_slots.specs.declared.op.Said.{Said}
@@ -19,10 +19,9 @@ use Rattle.transactions.proofs.Flights.{standing_flight, flight}
 use Rattle.transactions.proofs.Headline.{Awaits, awaited}
 use Rattle.tc_core.specs.Core.{Core, Asking}
 use Rattle.tc_core.specs.Replies.{next_at, asked_by, undo_by, undone, ask_reply, undo_reply, after_ask, after_undo, after_answer, with_event, IsAnswer}
-use Rattle.tc_core.specs.Lent.{named, named_by, wire_of}
+use Rattle.tc_core.specs.Lent.{wire_of}
 use Rattle.tc_core.specs.declared.state.Asked.{Asked}
 use Rattle.tc_core.specs.declared.state.Asked.TheVariants.{Request, Undoing, Over, Stuck, Waits, Running, Unknown}
-use Rattle.tc_core.specs.declared.state.TxnId.{TxnId}
 use Rattle.tc_core.proofs.ReplyLemmas.{next-unknown}
 use Rattle.tc_core.proofs.KeptLemmas.{slice_get-index}
 use Rattle.tc_log.specs.declared.event.Outcome.TheVariants as ending
@@ -36,43 +35,26 @@ use Rattle.tc_log.specs.declared.event.Event.TheVariants.{Answer}
 use Rattle.tc_world.proofs.Requests.{none_if, none_of, found_at, is_there, IsThere, waiting_asked, waiting_undone}
 use Rattle.std.proofs.lemmas.List.{append-nil}
 
--- ---- a transaction's name
-
-unnamed_by : (t : ℕ) (s : Option Standing) → named_by t s ≡ None → s ≡ None
-unnamed_by t None e = refl
-unnamed_by t (Some s) e = absurd cc
-
-pub unnamed : (c : Core) (t : ℕ) → named c t ≡ None → standing c.events t ≡ None
-unnamed c t e = unnamed_by t (standing c.events t) e
+-- ---- an open transaction
 
 pub record Stands (o : Option Standing) : Type 0 where
   pub s : Standing
   pub is : o ≡ Some s
 
-stands_by : (t : ℕ) (o : Option Standing) (id : TxnId) → named_by t o ≡ Some id → Stands o
-stands_by t None id e = absurd cc
-stands_by t (Some s) id e = record { s = s; is = refl }
-
-pub stands : (c : Core) (t : ℕ) (id : TxnId) → named c t ≡ Some id → Stands (standing c.events t)
-stands c t id e = stands_by t (standing c.events t) id e
-
-named_so : (t : ℕ) (o : Option Standing) (id : TxnId) → named_by t o ≡ Some id → id.serial ≡ t
-named_so t None id e = absurd cc
-named_so t (Some s) id e = (let this : TxnId = record { serial = t } in let same : this ≡ id = some_same this id e in sym (ap (λ (x : TxnId). x.serial) same))
-
-pub named_serial : (c : Core) (t : ℕ) (id : TxnId) → named c t ≡ Some id → id.serial ≡ t
-named_serial c t id e = named_so t (standing c.events t) id e
+pub stands : (o : Option Standing) → IsSome o → Stands o
+stands None some = absurd cc
+stands (Some s) some = record { s = s; is = refl }
 
 -- ---- ask and undo
 
-pub no_txn_asks : (w : Whole) (t : ℕ) → named w.core t ≡ None → asks w t ≡ Stops illegal.NoTxn
+pub no_txn_asks : (w : Whole) (t : ℕ) → standing w.core.events t ≡ None → asks w t ≡ Stops illegal.NoTxn
 no_txn_asks w t none =
-    let unknown : ask_reply w.core t ≡ Unknown = ap (asked_by t (given w.core.events)) (next-unknown w.core t (unnamed w.core t none)) in
+    let unknown : ask_reply w.core t ≡ Unknown = ap (asked_by t (given w.core.events)) (next-unknown w.core t none) in
     ap (λ (a : Asked). told w t (after_ask w.core a) a) unknown
 
-pub no_txn_undoes : (w : Whole) (t : ℕ) → named w.core t ≡ None → undoes w t ≡ Stops illegal.NoTxn
+pub no_txn_undoes : (w : Whole) (t : ℕ) → standing w.core.events t ≡ None → undoes w t ≡ Stops illegal.NoTxn
 no_txn_undoes w t none =
-    let unknown : undo_reply w.core t ≡ Unknown = ap (undo_by t (given w.core.events)) (next-unknown w.core t (unnamed w.core t none)) in
+    let unknown : undo_reply w.core t ≡ Unknown = ap (undo_by t (given w.core.events)) (next-unknown w.core t none) in
     ap (λ (a : Asked). told w t (after_undo w.core a) a) unknown
 
 pub ask_number : (t last : ℕ) (n : Option Next) (r : Asking) → asked_by t last n ≡ Request r → r.number ≡ last + 1
@@ -143,13 +125,13 @@ nothing_sent ps rs h t s legal w absent is = none_if s.sent (λ r waits.
     let there = is_there rs r.number (asking r.number (flight t r.op)) (w.each r.number ∙ ap (asking_by r.number) f) in
     absent there.k (asking r.number (flight t r.op)) there.at refl)
 
-pub no_txn_resends : (w : Whole) (t : ℕ) → named w.core t ≡ None → resends w t ≡ Stops illegal.NoTxn
-no_txn_resends w t none = ap (resends_by w t) (unnamed w.core t none)
+pub no_txn_resends : (w : Whole) (t : ℕ) → standing w.core.events t ≡ None → resends w t ≡ Stops illegal.NoTxn
+no_txn_resends w t none = ap (resends_by w t) none
 
-pub resends_nothing : (w : Whole) (rs : List Asking) (t : ℕ) (id : TxnId) → Legal w.core.procs w.core.events → AreWaiting rs w.core.events → named w.core t ≡ Some id
+pub resends_nothing : (w : Whole) (rs : List Asking) (t : ℕ) → Legal w.core.procs w.core.events → AreWaiting rs w.core.events → IsSome (standing w.core.events t)
     → ((k : ℕ) (r : Asking) → slice_get rs k ≡ Some r → r.txn ≢ t) → resends w t ≡ Stops illegal.NothingOpen
-resends_nothing w rs t id legal waiting open_yet absent =
-    let st = stands w.core t id open_yet in
+resends_nothing w rs t legal waiting open_yet absent =
+    let st = stands (standing w.core.events t) open_yet in
     ap (resends_by w t) st.is ∙ ap (resends_sent w t) (nothing_sent w.core.procs rs w.core.events t st.s legal waiting absent st.is)
 
 pub resends_found : (w : Whole) (rs : List Asking) (t k : ℕ) (r : Asking) → Legal w.core.procs w.core.events → AreWaiting rs w.core.events → slice_get rs k ≡ Some r → r.txn ≡ t

@@ -14,7 +14,7 @@ use Rattle.data_component.specs.Store.{Store, replied, performed}
 use Rattle.tc_core.specs.Core.{Core, Asking}
 use Rattle.tc_core.specs.Replies.{with_event, ask_reply, after_ask, undo_reply, after_undo, end_of}
 use Rattle.tc_core.specs.Lent.{wire_of}
-use Rattle.tc_core.specs.Admission.{IsAdmissible, IsRefused}
+use Rattle.tc_core.specs.Admission.{call_of, IsAdmissible, IsRefused}
 use Rattle.tc_core.specs.declared.state.Asked.{Asked}
 use Rattle.tc_core.specs.declared.state.Asked.TheVariants as reply
 use Rattle.tc_core.specs.declared.state.Call.{Call}
@@ -141,12 +141,12 @@ abbrev pub MayGo : Fate → Type 0
 MayGo fate = (o : Outcome) × (w : Whole) × (fate ≡ Goes o w)
 
 pub record Admits (w : Whole) (call : Call) (o : Outcome) (w' : Whole) : Type 0 where
-  pub may : IsAdmissible w.core (record { proc = call.proc; args = call.args })
+  pub may : IsAdmissible w.core (call_of call)
   pub outcome : o ≡ outcome.Admitted (admitted w.core.events + 1)
-  pub next : w' ≡ with_core w (with_event w.core (event.Admit (admitted w.core.events + 1) call.proc call.args))
+  pub next : w' ≡ with_core w (with_event w.core (event.Admit (admitted w.core.events + 1) call.proc call.args.items))
 
 abbrev pub IsNotAdmitted : Whole → Call → Illegal → Type 0
-IsNotAdmitted w call (illegal.Refused r) = IsRefused w.core (record { proc = call.proc; args = call.args }) r
+IsNotAdmitted w call (illegal.Refused r) = IsRefused w.core (call_of call) r
 IsNotAdmitted w call why = ⊥
 
 -- the step is possible, with this outcome, and the world is that one then

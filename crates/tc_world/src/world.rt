@@ -75,8 +75,7 @@ impl World {
 
     /// Ends the world: hands back its parts, with the open requests given up.
     pub fn close(self) -> (TcState, Vec<Dc>)
-        ensures events { result.0.events ≡ self.core.events }
-        ensures procs { result.0.procs ≡ self.core.procs }
+        ensures kept { result.0 ≡ record self.core { given_up = result.0.given_up } }
         ensures given_up { (n : ℕ) → holds n result.0.given_up ≡ (holds n self.core.given_up || is_open self.core.events n) }
         ensures dcs { result.1.items ≡ self.dcs }
     {

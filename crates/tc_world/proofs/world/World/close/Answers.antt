@@ -11,11 +11,8 @@ pub loop-request-preserved : goal.loop-request-preserved
 loop-request-preserved c =
     one_more c.args.self.core c.loop-request.state c.give_up-number.new.self c.loop-request.requests.items c.pop.new.self.items c.in-Some.request c.loop-request.invariant c.in-Some.ensures.items c.give_up-number.ensures.open_here
 
-pub returns-clause-events : goal.returns-clause-events
-returns-clause-events c = c.loop-request.invariant.events
-
-pub returns-clause-procs : goal.returns-clause-procs
-returns-clause-procs c = c.loop-request.invariant.procs
+pub returns-clause-kept : goal.returns-clause-kept
+returns-clause-kept c = c.loop-request.invariant.kept
 
 pub returns-clause-given_up : goal.returns-clause-given_up
 returns-clause-given_up c n = all_given_up c.args.self.core c.loop-request.state c.loop-request.requests.items n c.loop-request.invariant (sym c.loop-request.requests.ok.0 ∙ c.in_default.ensures.cases.0)
