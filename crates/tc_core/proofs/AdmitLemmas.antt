@@ -1,5 +1,5 @@
 -- What an admission keeps.
-use Rattle.std.proofs.Common.{◌≡◌, ◌≢◌, ℕ, ◌+◌, ◌-◌, ◌*◌, ◌<◌, ◌≤◌, ◌^◌, true, false, List, [], ◌∷◌, ◌++◌, length, Option, Some, None, arith, refl, sym, ◌∙◌, ap, subst, zero, suc, inl, inr}
+use Rattle.std.proofs.Common.{◌≡◌, ◌≢◌, ℕ, ◌+◌, ◌-◌, ◌*◌, ◌<◌, ◌≤◌, ◌^◌, Bool, true, false, List, [], ◌∷◌, ◌++◌, length, Option, Some, None, arith, refl, sym, ◌∙◌, ap, subst, zero, suc, inl, inr}
 use Rattle.std.specs.Prelude.{slice_get, slice_index_or, count_by, is_some}
 use Rattle.std.proofs.lemmas.Bool.{cases_eq}
 use Rattle.std.specs.Prelude.{nat_lt}
@@ -32,9 +32,13 @@ use Rattle.slab.specs.Slab.{Slab, get, slab_len, Updates}
 use Rattle.tc_core.specs.Running.{Runs}
 use Rattle.tc_core.specs.declared.transaction.Tx.{Tx}
 use Rattle.tc_core.specs.declared.book.Book.{Book}
-use Rattle.tc_core.specs.Rooms.{OnlyRoom, HasRoom}
+use Rattle.tc_core.specs.Rooms.{OnlyRoom, HasRoom, MayEnter}
+use Rattle.tc_core.specs.Core.{Core}
+use Rattle.tc_core.specs.Loaded.{Loaded}
+use Rattle.tc_core.specs.Admission.{IsCalled, Takes, needed, IsFree, IsAdmissible}
+use Rattle.tc_core.specs.declared.transaction.Own.{Own}
 use Rattle.tc_core.proofs.MarkedLemmas.{marked-room}
-use Rattle.tc_core.specs.Kept.{IsBook, Keeps, Matches, IsOpen, StandsAt, HasKey, Places, Rooms, Kept}
+use Rattle.tc_core.specs.Kept.{IsBook, core_of, Keeps, Matches, IsOpen, StandsAt, HasKey, Places, Rooms, Kept}
 use Rattle.tc_core.proofs.KeptLemmas.{calls_kept, held-admitted}
 
 pub book-room : (ps : List Checked) (b b' : Book) → IsBook ps b → OnlyRoom b b' → IsBook ps b'
@@ -223,3 +227,52 @@ admitted-length (End t outcome ∷ h) = omega (arith, admitted-length h)
 
 pub within-from : (a b : ℕ) → true ≡ nat_lt a b → a < b
 within-from a b e = grind (arith, nat_tests)
+
+-- the locks that a call wants
+pub wanted_locks : (ps : List Checked) (call : Call) (q : Checked) (args : List ℕ) (set : List Lock) → IsCalled ps call q → args ≡ call.args → ((r : Record) → mode_in set r ≡ mode_named args q.decl.slots r)
+    → (r : Record) → mode_in set r ≡ locks_of (decls ps) call r
+wanted_locks ps call q args set called same are r =
+    are r ∙ (ap (λ (xs : List ℕ). mode_named xs q.decl.slots r) same ∙ ap (λ (d : Option Declaration). locks_by d call.args r) (sym (get_decl ps call.proc q called.loaded)))
+
+pub free-call : (ps : List Checked) (b : Book) (call : Call) (q : Checked) (args : List ℕ) (set : List Lock) → IsBook ps b → IsCalled ps call q → args ≡ call.args
+    → ((r : Record) → mode_in set r ≡ mode_named args q.decl.slots r) → Compatible (held_by b.locks.claims) (mode_in set) → Compatible (held (decls ps) b.log.events) (locks_of (decls ps) call)
+free-call ps b call q args set is called same are free =
+    free_same (held_by b.locks.claims) (held (decls ps) b.log.events) (mode_in set) (locks_of (decls ps) call) is.kept.locks_are (wanted_locks ps call q args set called same are) free
+
+pub busy-call : (ps : List Checked) (b : Book) (call : Call) (q : Checked) (args : List ℕ) (set : List Lock) (r : Record) (t : ℕ) → IsBook ps b → IsCalled ps call q → args ≡ call.args
+    → ((r : Record) → mode_in set r ≡ mode_named args q.decl.slots r) → IsFirstInTheWay (held_by b.locks.claims) (mode_in set) r t → IsFirstInTheWay (held (decls ps) b.log.events) (locks_of (decls ps) call) r t
+busy-call ps b call q args set r t is called same are first =
+    busy_same (held_by b.locks.claims) (held (decls ps) b.log.events) (mode_in set) (locks_of (decls ps) call) r t is.kept.locks_are (wanted_locks ps call q args set called same are) first
+
+pub needs : (l : Loaded) (b : Book) (q : Checked) (last calls : ℕ) → IsBook l.codes b → last ≡ b.numbers.last → calls ≡ calls_in q → last + 5 * calls + b.promised ≡ needed (core_of l b) q
+needs l b q last calls is same count = (let last_is = is.kept.last_is in let promised_is = is.kept.rooms.promised_is in omega (arith, same, count, last_is, promised_is))
+
+pub few-needed : (l : Loaded) (b : Book) (q : Checked) (last calls : ℕ) (spent : Bool) → IsBook l.codes b → last ≡ b.numbers.last → calls ≡ calls_in q → spent ≡ nat_lt (2 ^ 62) (last + 5 * calls + b.promised) → spent ≡ false
+    → needed (core_of l b) q ≤ 2 ^ 62
+few-needed l b q last calls spent is same count e f = few-from (needed (core_of l b) q) (ap (nat_lt (2 ^ 62)) (sym (needs l b q last calls is same count)) ∙ (sym e ∙ f))
+
+pub many-needed : (l : Loaded) (b : Book) (q : Checked) (last calls : ℕ) (spent : Bool) → IsBook l.codes b → last ≡ b.numbers.last → calls ≡ calls_in q → spent ≡ nat_lt (2 ^ 62) (last + 5 * calls + b.promised) → spent ≡ true
+    → 2 ^ 62 < needed (core_of l b) q
+many-needed l b q last calls spent is same count e f = many-from (needed (core_of l b) q) (ap (nat_lt (2 ^ 62)) (sym (needs l b q last calls is same count)) ∙ (sym e ∙ f))
+
+-- a call that is admissible has its room, and may be entered
+pub may-enter : (l : Loaded) (b b' : Book) (call : Call) (q : Checked) (args : List ℕ) (own : Own) (calls : ℕ)
+    → IsBook l.codes b → IsCalled l.codes call q → IsFree (core_of l b) call → needed (core_of l b) q ≤ 2 ^ 62 → args ≡ call.args
+    → ((r : Record) → mode_in own.locks r ≡ mode_named args q.decl.slots r) → own.args ≡ call.args → own.undo.ops ≡ [] → calls ≤ own.undo.room → calls ≡ calls_in q
+    → OnlyRoom b b' → HasRoom b' calls own.locks → MayEnter l.codes b' q call.proc own
+may-enter l b b' call q args own calls is called free few same are own_args ops room count o has =
+    let promised = o.promised in
+    let promised_is = is.kept.rooms.promised_is in
+    let given_same : given b'.log.events ≡ given b.log.events = ap given o.events in
+    let back : call.args ≡ own.args = sym own_args in
+    record {
+      book = book-room l.codes b b' is o;
+      called = record { loaded = called.loaded; count = ap (λ (xs : List ℕ). length xs) own_args ∙ called.count };
+      free = subst (λ (xs : List ℕ). Compatible (held (decls l.codes) b'.log.events) (locks_of (decls l.codes) (record { proc = call.proc; args = xs }))) back
+      (subst (λ (h : List Event). Compatible (held (decls l.codes) h) (locks_of (decls l.codes) call)) (sym o.events) free);
+      few = omega (arith, few, given_same, promised, promised_is);
+      room = subst (λ (n : ℕ). HasRoom b' n own.locks) count has;
+      locks = λ r. are r ∙ ap (λ (xs : List ℕ). mode_named xs q.decl.slots r) (same ∙ back);
+      ops = ops;
+      undo_room = omega (arith, room, count);
+    }

@@ -12,7 +12,8 @@ use Rattle.transactions.proofs.StandingLemmas.{total-same}
 use Rattle.transactions.proofs.Grows.{get_grows, held_grows, calls_grow, legal_grows, good_grows}
 use Rattle.slab.specs.Slab.{Slab, get}
 use Rattle.tc_core.specs.declared.transaction.Tx.{Tx}
-use Rattle.tc_core.specs.Kept.{Matches, IsOpen, Places, Rooms, Kept}
+use Rattle.tc_core.specs.Kept.{Matches, IsOpen, Places, Rooms, Kept, IsBook}
+use Rattle.tc_core.specs.declared.book.Book.{Book}
 
 pub kept-load : (ps : List Checked) (q : Checked) (log : History) (table : Table) (numbers : Given) (txns : Slab Tx) (serials owed promised : ℕ)
     → Kept ps log table numbers txns serials owed promised → IsGood q → Kept (ps ++ q ∷ []) log table numbers txns serials owed promised
@@ -44,3 +45,6 @@ kept-load ps q log table numbers txns serials owed promised k one =
         numbers_fit = k.rooms.numbers_fit;
       };
     }
+
+pub book-load : (ps ps' : List Checked) (q : Checked) (b : Book) → IsBook ps b → IsGood q → ps' ≡ ps ++ q ∷ [] → IsBook ps' b
+book-load ps ps' q b is good more = subst (λ (xs : List Checked). IsBook xs b) (sym more) (record { kept = kept-load ps q _ _ _ _ _ _ _ is.kept good; most = is.most; marked = is.marked })

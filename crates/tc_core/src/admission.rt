@@ -3,7 +3,7 @@
 ghost use Rattle.std.specs.Prelude.{◌≡◌, ◌↔◌, ◌+◌, ◌*◌, ◌≤◌, ◌^◌, ◌∷◌, nat_lt, [], length, Some, IsTrue, IfOk, OnOk, IfErr, OnErr};
 ghost use Rattle.access_slots.specs.declared.slot.Record.{Record};
 ghost use Rattle.access_slots.specs.Held.{Compatible};
-ghost use Rattle.access_slots.specs.Locks.{mode_in, mode_named};
+ghost use Rattle.access_slots.specs.Locks.{mode_in, mode_named, Rising};
 ghost use Rattle.lock_table.specs.Facts.{held_by, granted, AreHeld, HoldsNothing};
 ghost use Rattle.tc_log.specs.declared.event.Event.TheVariants.{Admit};
 ghost use Rattle.history.specs.Calls.{admitted};
@@ -42,7 +42,8 @@ fn procedure_of<'a>(procs: &'a Procs, call: &Call) -> Result<&'a Verified, Refus
 // The locks that a call takes.
 fn locks_of(code: &Verified, args: &[u64]) -> LockSet
     requires { length args.now ≡ code.now.decl.args }
-    ensures { (r : Record) → mode_in result r ≡ mode_named args.now code.now.decl.slots r }
+    ensures locks { (r : Record) → mode_in result r ≡ mode_named args.now code.now.decl.slots r }
+    ensures rising { Rising result }
 {
     code.decl().resolve(args)
 }
@@ -160,9 +161,9 @@ impl Book {
             return false;
         };
         let set = locks_of(code, call.args.as_slice());
-        if self.locks.busy(&set).is_none() {
+        let Some(_busy) = self.locks.busy(&set) else {
             return false;
-        }
+        };
         all_stranded(&self.txns, &set)
     }
 }

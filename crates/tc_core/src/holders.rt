@@ -1,6 +1,6 @@
 // Open transactions that stand in the way of a call.
 
-ghost use Rattle.std.specs.Prelude.{◌≡◌, ◌||◌, ℕ, Some, true, false, IsTrue};
+ghost use Rattle.std.specs.Prelude.{◌≡◌, ◌≢◌, ◌&&◌, not, ℕ, Some, true, false, IsTrue};
 ghost use Rattle.slab.specs.Slab.{get};
 ghost use Rattle.access_slots.specs.Held.{excludes};
 ghost use Rattle.access_slots.specs.Locks.{mode_in};
@@ -48,15 +48,22 @@ impl Tx {
     {
         self.in_doubt || is_stuck(self.next())
     }
+
+    // Whether it stands in the way of these locks, and is neither.
+    fn holds_up(&self, wanted: &LockSet) -> bool
+        ensures { result ≡ (not (stands_still self.now) && clashes wanted.now self.now.locks) }
+    {
+        !self.is_stranded() && clash(wanted, &self.locks)
+    }
 }
 
 /// Whether each open transaction whose locks exclude these is in doubt or stuck.
 pub fn all_stranded(txns: &Slab<Tx>, wanted: &LockSet) -> bool
-    ensures all { IsTrue result → (key : ℕ) (tx : TxValue) → get txns.now key ≡ Some tx → clashes wanted.now tx.locks ≡ true → stands_still tx ≡ true }
+    ensures all { IsTrue result → (key : ℕ) (tx : TxValue) → get txns.now key ≡ Some tx → clashes wanted.now tx.locks ≡ true → stands_still tx ≢ false }
     ensures some { result ≡ false → HoldsUp txns.now wanted.now }
 {
-    for (_, tx) in txns.iter() {
-        if !tx.is_stranded() && clash(wanted, &tx.locks) {
+    for (_key, tx) in txns.iter() {
+        if tx.holds_up(wanted) {
             return false;
         }
     }

@@ -1,7 +1,8 @@
 //! The loaded procedures, by number and by name.
 
-ghost use Rattle.std.specs.Prelude.{◌≡◌, ◌==◌, ◌++◌, [], ◌∷◌, ◌<◌, length, slice_get, option_copied, IfOk, OnOk, IfErr, OnErr, None, Some};
-ghost use Rattle.std.specs.Option.{option_map};
+ghost use Rattle.std.specs.Prelude.{◌≡◌, ◌==◌, ◌++◌, [], ◌∷◌, ◌<◌, length, map, slice_get, option_copied, IfOk, OnOk, IfErr, OnErr, IfNone, None, Some};
+ghost use Rattle.std.specs.String.{string_bytes};
+ghost use Rattle.indexmap.specs.IndexMap.{keys, values, get_by_text};
 ghost use Rattle.transactions.specs.Reached.{AllGood, IsGood};
 ghost use Rattle.tc_core.specs.Loaded.{number_of, unknown_dc, AllReach};
 ghost use Rattle.tc_core.specs.Loading.{load_refusal, IsFirstRefusal};
@@ -61,6 +62,31 @@ fn good(code: &Verified)
 {
     let _calls = code.calls();
     let _code = code.code();
+}
+
+// The place of the procedure with this name.
+fn place_of(by_name: &IndexMap<String, Verified>, name: &str) -> Option<usize>
+    ensures place { result ≡ number_of name.now (map string_bytes (keys by_name.now)) }
+    ensures absent { IfNone result (get_by_text by_name.now name.now ≡ None) }
+{
+    by_name.get_index_of(name)
+}
+
+// One more procedure goes last, under a name that there isn't yet.
+fn put(by_name: &mut IndexMap<String, Verified>, name: String, code: Verified) -> Result<(), Verified>
+    requires { get_by_text by_name.old (string_bytes name) ≡ None }
+    ensures codes { OnOk result (values by_name.new ≡ values by_name.old ++ code ∷ []) }
+    ensures names { OnOk result (map string_bytes (keys by_name.new) ≡ map string_bytes (keys by_name.old) ++ string_bytes name ∷ []) }
+    ensures err { OnErr result (by_name.new.entries ≡ by_name.old.entries) }
+    ensures back { IfErr result (λ back. back ≡ code) }
+{
+    match by_name.insert(name, code) {
+        Ok(_replaced) => Ok(()),
+        Err(failed) => {
+            let (_name, code) = failed.value;
+            Err(code)
+        }
+    }
 }
 
 // The first slot that names a data component that isn't there.
@@ -140,7 +166,7 @@ impl Procs {
     pub fn find(&self, name: &str) -> Option<usize>
         ensures { result ≡ number_of name.now self.now.names }
     {
-        self.by_name.get_index_of(name)
+        place_of(&self.by_name, name)
     }
 
     /// What the type keeps, told to a caller.
@@ -159,8 +185,9 @@ impl Procs {
         ensures refused { IfErr result (λ fault. IsFirstRefusal (load_refusal self.old.dcs self.old.names name.now code.decl.slots) fault.why) }
         ensures err { OnErr result (self.new ≡ self.old) }
         ensures back { IfErr result (λ fault. fault.code ≡ code) }
+        ensures good { OnOk result (IsGood code) }
     {
-        if self.find(name).is_some() {
+        if place_of(&self.by_name, name).is_some() {
             return Err(LoadFault {
                 why: LoadRefusal::NameTaken,
                 code,
@@ -180,15 +207,12 @@ impl Procs {
         };
         good(&code);
         let number = self.by_name.len();
-        match self.by_name.insert(owned, code) {
-            Ok(_none) => Ok(number),
-            Err(failed) => {
-                let (_name, code) = failed.value;
-                Err(LoadFault {
-                    why: LoadRefusal::Memory,
-                    code,
-                })
-            }
+        match put(&mut self.by_name, owned, code) {
+            Ok(()) => Ok(number),
+            Err(code) => Err(LoadFault {
+                why: LoadRefusal::Memory,
+                code,
+            }),
         }
     }
 }

@@ -2,15 +2,23 @@
 //! Definitions are in `specs/`.
 #![tactic(auto)]
 
-ghost use Rattle.std.specs.Prelude.{◌≡◌, ◌≢◌, ◌*◌, ◌≤◌, ℕ, List, Some, true, false};
+ghost use Rattle.std.specs.Prelude.{◌≡◌, ◌≢◌, ◌↔◌, ◌+◌, ◌*◌, ◌<◌, ◌≤◌, ◌++◌, [], ◌∷◌, ℕ, List, Some, true, false};
+ghost use Rattle.access_slots.specs.declared.op.Op.{Op as Operation};
 ghost use Rattle.access_slots.specs.Locks.{allows, target, is_read, conflict};
 ghost use Rattle.history.specs.Calls.{held};
-ghost use Rattle.history.specs.Flight.{Flight, in_flight};
+ghost use Rattle.history.specs.Flight.{Flight, given, in_flight, AllAnswered, low_water};
+ghost use Rattle.history.specs.Places.{StandsAt};
 ghost use Rattle.tc_log.specs.declared.event.Event.{Event};
+ghost use Rattle.tc_log.specs.declared.event.Event.TheVariants.{Admit};
+ghost use Rattle.tc_log.specs.declared.event.Outcome.{Outcome as HowEnded};
 ghost use Rattle.verifier.specs.Checked.{Checked};
 ghost use Rattle.transactions.specs.Standing.{Standing, standing};
 ghost use Rattle.transactions.specs.Reached.{calls, decls, AllGood};
-ghost use Rattle.transactions.specs.Legal.{Legal};
+ghost use Rattle.transactions.specs.Legal.{Legal, Allowed, CanAsk, CanUndo, CanEnd};
+ghost use Rattle.transactions.specs.Next.{next_in};
+ghost use Rattle.transactions.specs.Sending.{IsSentBehind};
+ghost use Rattle.transactions.specs.declared.Sent.{Sent as SentValue};
+ghost use Rattle.transactions.specs.declared.Next.{Next as NextValue};
 
 use access_slots::op::Op;
 use tc_log::event::Outcome;
@@ -55,4 +63,52 @@ pub fn all_covered()
 #[tactic(auto, using(crate::proofs::Headline::flights_apart))]
 pub fn none_conflict()
     ensures { (ps : List Checked) (h : List Event) → AllGood ps → Legal ps h → (m n : ℕ) (f g : Flight) → in_flight h m ≡ Some f → in_flight h n ≡ Some g → m ≢ n → conflict f.op g.op ≡ false }
+{}
+
+/// A legal history stays legal when one more procedure is loaded.
+#[tactic(auto, using(crate::proofs::Grows::legal_grows))]
+pub fn loading_keeps_legal()
+    ensures { (ps : List Checked) (q : Checked) (h : List Event) → AllGood ps → Legal ps h → Legal (ps ++ q ∷ []) h }
+{}
+
+/// What a transaction waits for was sent behind its admission: where it was admitted at a place of
+/// the log, an Ask or an Undo of it with this number and operation stands at a later one.
+pub fn waiting_is_sent_behind()
+    ensures { (h : List Event) (place t p : ℕ) (args : List ℕ) (s : Standing) (r : SentValue) → StandsAt h place (Admit t p args) → standing h t ≡ Some s → s.sent ≡ Some r → IsSentBehind h place t r.number r.op }
+{}
+
+/// A transaction asks for an operation next exactly where the rule of the log allows the Ask.
+#[tactic(auto, using(crate::proofs::Allowing::asks_allowed))]
+pub fn asks_where_allowed()
+    ensures { (ps : List Checked) (h : List Event) (t : ℕ) (o : Operation) → (next_in ps (standing h t) ≡ Some (NextValue.Asks o)) ↔ CanAsk ps h t (given h + 1) o }
+{}
+
+/// It undoes a write next exactly where the rule of the log allows the Undo.
+#[tactic(auto, using(crate::proofs::Allowing::undoes_allowed))]
+pub fn undoes_where_allowed()
+    ensures { (ps : List Checked) (h : List Event) (t : ℕ) (o : Operation) → (next_in ps (standing h t) ≡ Some (NextValue.Undoes o)) ↔ CanUndo ps h t (given h + 1) o }
+{}
+
+/// It is over, with this outcome, exactly where the rule of the log allows the End.
+#[tactic(auto, using(crate::proofs::Allowing::ends_allowed))]
+pub fn ends_where_allowed()
+    ensures { (ps : List Checked) (h : List Event) (t : ℕ) (o : HowEnded) → (next_in ps (standing h t) ≡ Some (NextValue.Over o)) ↔ CanEnd ps h t o }
+{}
+
+/// Numbers that were all answered stay so, whatever event is allowed next.
+#[tactic(auto, using(crate::proofs::LowWater::answered_stay))]
+pub fn answered_numbers_stay()
+    ensures { (ps : List Checked) (h : List Event) (e : Event) (n : ℕ) → Allowed ps h e → AllAnswered h n → AllAnswered (e ∷ h) n }
+{}
+
+/// So the low-water mark never falls.
+#[tactic(auto, using(crate::proofs::LowWater::mark_rises))]
+pub fn low_water_never_falls()
+    ensures { (ps : List Checked) (h : List Event) (e : Event) → Allowed ps h e → low_water h ≤ low_water (e ∷ h) }
+{}
+
+/// Behind every legal history, each operation in flight has a number above the low-water mark.
+#[tactic(auto, using(crate::proofs::LowWater::flight_above))]
+pub fn in_flight_above_low_water()
+    ensures { (ps : List Checked) (h : List Event) → Legal ps h → (n : ℕ) (f : Flight) → in_flight h n ≡ Some f → low_water h < n }
 {}

@@ -14,5 +14,6 @@ returns-clause-updates c = λ tx found.
       after = c.hear.new.self;
       updates = Updates-with_value c.args.txns.now c.args.key c.hear.new.self c.requires.key;
       serial = c.hear.ensures.serial ∙ ap (λ (x : Tx). x.serial) same;
+      certain = c.hear.ensures.certain;
       keeps = λ s m. c.hear.ensures.keeps s (subst (λ (x : Tx). MayHear c.args.code.now x s c.args.said) (sym same) m);
     }

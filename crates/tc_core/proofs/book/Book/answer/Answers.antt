@@ -26,8 +26,8 @@ returns-then-not-accepts_at-clause-accepted c =
           sym c.if-not-accepts_at.true ∙ (c.accepts_at.ensures at.tx at.found).1 b',
     )
 
-pub at-requires : goal.at-requires
-at-requires c =
+pub at-code-requires : goal.at-code-requires
+at-code-requires c =
     let at = c.in-Some.ensures.found in
     let w = seen _ _ _ _ _ _ _ _ _ _ at.tx c.requires.kept at.found at.serial in
     let a = (c.accepts_at.ensures at.tx at.found).0 c.if-not-accepts_at.false in

@@ -1,4 +1,4 @@
-use Rattle.std.proofs.Common.{◌≡◌, ℕ, arith, refl, ap}
+use Rattle.std.proofs.Common.{◌≡◌, ℕ, Some, None, arith, refl, ap}
 use Rattle.history.specs.Flight.{given}
 use Rattle.request_numbers.specs.Given.{holds}
 use Rattle.tc_core.proofs.KeptLemmas.{kept-none}
@@ -9,7 +9,7 @@ returns-clause-kept c = λ codes good. record {
   kept = kept-none codes _ _ _ _ c.new-4.ensures c.new-2.ensures.held c.new-3.ensures.last c.new-3.ensures.pending c.new.ensures.empty good;
   most = (let none : given c.new-4.result.events ≡ 0 = ap given c.new-4.ensures in omega (arith, none));
   marked = record {
-    marks = λ key tx at. ?;
-    early = λ n late. rw c.new-5.ensures refl;
+    marks = λ key tx at. absurd (let none : None ≡ Some tx = rw c.new.ensures.empty at at in cc);
+    early = λ n late. rw c.new-5.ensures.numbers refl;
   };
 }

@@ -1,0 +1,67 @@
+use Rattle.std.proofs.Common.{◌≡◌, ℕ, ◌+◌, ◌*◌, ◌≤◌, ◌<◌, List, [], ◌∷◌, length, Option, arith, refl, sym, ◌∙◌, ap, subst}
+use Rattle.access_slots.specs.Declaration.{Declaration}
+use Rattle.access_slots.specs.declared.lock.Lock.{Lock}
+use Rattle.access_slots.specs.declared.slot.Record.{Record}
+use Rattle.access_slots.specs.Locks.{mode_in, mode_named}
+use Rattle.semantics.specs.Reach.{AreArguments}
+use Rattle.lock_table.specs.Facts.{held_by}
+use Rattle.history.specs.Calls.{Call, held, locks_of}
+use Rattle.history.specs.Flight.{given}
+use Rattle.transactions.specs.Reached.{calls_in, decls}
+use Rattle.tc_core.specs.Kept.{is_doubted}
+use Rattle.tc_core.specs.Running.{Runs}
+use Rattle.tc_core.specs.Writes.{Writes}
+use Rattle.tc_core.proofs.MarkedLemmas.{marked-moved}
+use Rattle.tc_core.proofs.AdmitLemmas.{kept-admit, keeps_fresh, free_same, nothing_new, admitted-length, wanted_locks}
+use Rattle.tc_core.proofs.book.Book.enter.Goals as goal
+
+pub overflow_add-serial : goal.overflow_add-serial
+overflow_add-serial c =
+    let fit = c.requires.room.events_fit in
+    let serials = c.requires.book.kept.serials_are in
+    omega (arith, fit, serials, admitted-length c.args.self.now.log.events)
+
+pub claim-requires-clause-nothing : goal.claim-requires-clause-nothing
+claim-requires-clause-nothing c =
+    let k = c.requires.book.kept in
+    nothing_new c.args.procs.now.codes c.args.self.now.log.events (c.args.self.now.serials + 1) c.args.self.now.locks.claims c.args.self.now.locks.claims k.legal (ap (λ (n : ℕ). n + 1) k.serials_are) k.locks_are (λ t r. refl)
+
+pub claim-requires-clause-free : goal.claim-requires-clause-free
+claim-requires-clause-free c =
+    let m = c.requires in
+    let ps = c.args.procs.now.codes in
+    let call : Call = record { proc = c.args.proc; args = c.args.own.args } in
+    free_same (held (decls ps) c.args.self.now.log.events) (held_by c.args.self.now.locks.claims) (locks_of (decls ps) call) (mode_in c.args.own.locks)
+    (λ t r. sym (m.book.kept.locks_are t r)) (λ r. sym (wanted_locks ps call c.args.code.now c.args.own.args c.args.own.locks m.called refl m.locks r)) m.free
+
+pub returns-clause-kept : goal.returns-clause-kept
+returns-clause-kept c =
+    let m = c.requires in
+    let b = c.args.self.now in
+    let ps = c.args.procs.now.codes in
+    let q = c.args.code.now in
+    let p = c.args.proc in
+    let args = c.args.own.args in
+    let call : Call = record { proc = p; args = args } in
+    let n : c.calls_of-calls.result ≡ calls_in q = c.calls_of-calls.ensures.calls in
+    let g = c.begin-tx.ensures in
+    let runs = subst (λ (xs : List ℕ). Runs q c.begin-tx.result xs []) c.as_slice.ensures g.runs in
+    let takes = subst (λ (xs : List ℕ). AreArguments q.decl xs) c.as_slice.ensures g.takes in
+    let ops : c.begin-tx.result.undo.ops ≡ [] = ap (λ (u : Writes). u.ops) g.room.0 ∙ m.ops in
+    let undo_room : calls_in q ≤ c.begin-tx.result.undo.room = (let u = ap (λ (u : Writes). u.room) g.room.0 in let r = m.undo_room in omega (arith, u, r)) in
+    let locks : (r : Record) → mode_in c.begin-tx.result.locks r ≡ mode_named args q.decl.slots r = (λ r. ap (λ (ls : List Lock). mode_in ls r) g.locks.0 ∙ m.locks r) in
+    let keeps = keeps_fresh q c.begin-tx.result p args g.names.1 g.fresh.0 g.fresh.1 ops g.fresh.2 g.fresh.3 (omega (arith, g.room.1, n)) undo_room locks runs in
+    let room : b.owed + (2 * (5 * calls_in q) + 2) ≤ b.log.room = (let r = m.room.events in omega (arith, r)) in
+    let it = kept-admit ps b.log c.push.new.self b.locks c.claim.new.locks b.numbers b.txns c.insert_reserved-key.new.self b.serials b.owed b.promised _ p args (mode_in c.args.own.locks) q c.begin-tx.result
+    m.book.kept m.called.loaded takes m.free m.few room m.room.numbers_fit keeps g.names.0 (wanted_locks ps call q args c.args.own.locks m.called refl m.locks) c.claim.ensures
+    c.insert_reserved-key.ensures.was_vacant c.insert_reserved-key.ensures.updates c.insert_reserved-key.ensures.len c.push.ensures.events c.push.ensures.room in
+    let one : b.owed + (10 * c.calls_of-calls.result + 1) ≡ b.owed + (2 * (5 * calls_in q) + 1) = omega (arith, n) in
+    let two : b.promised + 5 * c.calls_of-calls.result ≡ b.promised + 5 * calls_in q = omega (arith, n) in
+    let same : given c.push.new.self.events ≡ given b.log.events = ap given c.push.ensures.events in
+    let most = m.room.most in
+    let last = m.book.kept.last_is in
+    record {
+      kept = rw (one, two) it;
+      most = omega (arith, most, last, same, n);
+      marked = marked-moved _ b.log.events _ _ _ _ _ m.book.marked (omega (arith, same)) c.insert_reserved-key.ensures.updates (g.locks.1 ∙ sym (ap (is_doubted _) g.fresh.0));
+    }
