@@ -1,6 +1,6 @@
 -- What requests and the log say of each other.
 use Rattle.std.proofs.Common.{◌≡◌, ◌≢◌, ℕ, ◌+◌, Bool, true, false, List, [], ◌∷◌, ◌++◌, length, Option, Some, None, arith, refl, sym, ◌∙◌, ap, subst}
-use Rattle.std.specs.Prelude.{slice_get, slice_index_or}
+use Rattle.std.specs.Prelude.{slice_get, slice_index_or, IsSome}
 use Rattle.access_slots.specs.Access.{fits}
 use Rattle.access_slots.specs.declared.op.Op.{Op}
 use Rattle.access_slots.specs.declared.op.Said.{Said}
@@ -18,59 +18,43 @@ use Rattle.transactions.proofs.StandingLemmas.{some_same, none_some}
 use Rattle.transactions.proofs.Flights.{standing_flight, flight}
 use Rattle.transactions.proofs.Headline.{Awaits, awaited}
 use Rattle.tc_core.specs.Core.{Core, Asking}
-use Rattle.tc_core.specs.Replies.{asked_by, undo_by, undone, ask_reply, undo_reply, after_ask, after_undo, after_answer, with_event, IsAnswer}
-use Rattle.tc_core.specs.Lent.{named, named_by, wire_of}
+use Rattle.tc_core.specs.Replies.{next_at, asked_by, undo_by, undone, ask_reply, undo_reply, after_ask, after_undo, after_answer, with_event, IsAnswer}
+use Rattle.tc_core.specs.Lent.{wire_of}
 use Rattle.tc_core.specs.declared.state.Asked.{Asked}
-use Rattle.tc_core.specs.declared.state.Asked.TheVariants.{Request, Unknown}
-use Rattle.tc_core.specs.declared.state.TxnId.{TxnId}
+use Rattle.tc_core.specs.declared.state.Asked.TheVariants.{Request, Undoing, Over, Stuck, Waits, Running, Unknown}
 use Rattle.tc_core.proofs.ReplyLemmas.{next-unknown}
 use Rattle.tc_core.proofs.KeptLemmas.{slice_get-index}
 use Rattle.tc_log.specs.declared.event.Outcome.TheVariants as ending
 use Rattle.tc_world.specs.Whole.{Whole}
 use Rattle.tc_world.specs.Waiting.{asking, asking_by, request_of, AreWaiting}
-use Rattle.tc_world.specs.Steps.{Fate, Goes, Stops, asks, undoes, told, sends, resends, resends_by, resends_sent, takes_reply, takes_by, takes_fit, takes, with_core}
+use Rattle.tc_world.specs.Telling.{requests_of}
+use Rattle.tc_world.specs.Steps.{Fate, Goes, Stops, MayGo, asks, undoes, told, sends, resends, resends_by, resends_sent, takes_reply, takes_by, takes_fit, takes, with_core}
 use Rattle.tc_world.specs.declared.step.Illegal.TheVariants as illegal
 use Rattle.tc_world.specs.declared.step.Outcome.TheVariants as outcome
 use Rattle.tc_log.specs.declared.event.Event.TheVariants.{Answer}
-use Rattle.tc_world.proofs.Requests.{none_if, none_of, found_at, is_there, IsThere}
+use Rattle.tc_world.proofs.Requests.{none_if, none_of, found_at, is_there, IsThere, waiting_asked, waiting_undone}
+use Rattle.std.proofs.lemmas.List.{append-nil}
 
--- ---- a transaction's name
-
-unnamed_by : (t : ℕ) (s : Option Standing) → named_by t s ≡ None → s ≡ None
-unnamed_by t None e = refl
-unnamed_by t (Some s) e = absurd cc
-
-pub unnamed : (c : Core) (t : ℕ) → named c t ≡ None → standing c.events t ≡ None
-unnamed c t e = unnamed_by t (standing c.events t) e
+-- ---- an open transaction
 
 pub record Stands (o : Option Standing) : Type 0 where
   pub s : Standing
   pub is : o ≡ Some s
 
-stands_by : (t : ℕ) (o : Option Standing) (id : TxnId) → named_by t o ≡ Some id → Stands o
-stands_by t None id e = absurd cc
-stands_by t (Some s) id e = record { s = s; is = refl }
-
-pub stands : (c : Core) (t : ℕ) (id : TxnId) → named c t ≡ Some id → Stands (standing c.events t)
-stands c t id e = stands_by t (standing c.events t) id e
-
-named_so : (t : ℕ) (o : Option Standing) (id : TxnId) → named_by t o ≡ Some id → id.serial ≡ t
-named_so t None id e = absurd cc
-named_so t (Some s) id e = (let this : TxnId = record { serial = t } in let same : this ≡ id = some_same this id e in sym (ap (λ (x : TxnId). x.serial) same))
-
-pub named_serial : (c : Core) (t : ℕ) (id : TxnId) → named c t ≡ Some id → id.serial ≡ t
-named_serial c t id e = named_so t (standing c.events t) id e
+pub stands : (o : Option Standing) → IsSome o → Stands o
+stands None some = absurd cc
+stands (Some s) some = record { s = s; is = refl }
 
 -- ---- ask and undo
 
-pub no_txn_asks : (w : Whole) (t : ℕ) → named w.core t ≡ None → asks w t ≡ Stops illegal.NoTxn
+pub no_txn_asks : (w : Whole) (t : ℕ) → standing w.core.events t ≡ None → asks w t ≡ Stops illegal.NoTxn
 no_txn_asks w t none =
-    let unknown : ask_reply w.core t ≡ Unknown = ap (asked_by t (given w.core.events)) (next-unknown w.core t (unnamed w.core t none)) in
+    let unknown : ask_reply w.core t ≡ Unknown = ap (asked_by t (given w.core.events)) (next-unknown w.core t none) in
     ap (λ (a : Asked). told w t (after_ask w.core a) a) unknown
 
-pub no_txn_undoes : (w : Whole) (t : ℕ) → named w.core t ≡ None → undoes w t ≡ Stops illegal.NoTxn
+pub no_txn_undoes : (w : Whole) (t : ℕ) → standing w.core.events t ≡ None → undoes w t ≡ Stops illegal.NoTxn
 no_txn_undoes w t none =
-    let unknown : undo_reply w.core t ≡ Unknown = ap (undo_by t (given w.core.events)) (next-unknown w.core t (unnamed w.core t none)) in
+    let unknown : undo_reply w.core t ≡ Unknown = ap (undo_by t (given w.core.events)) (next-unknown w.core t none) in
     ap (λ (a : Asked). told w t (after_undo w.core a) a) unknown
 
 pub ask_number : (t last : ℕ) (n : Option Next) (r : Asking) → asked_by t last n ≡ Request r → r.number ≡ last + 1
@@ -90,6 +74,27 @@ undo_number t last (Some (next.Stuck n)) r e = absurd cc
 undo_number t last (Some (next.Over ending.Committed)) r e = absurd cc
 undo_number t last (Some (next.Over (ending.Aborted v))) r e = absurd cc
 undo_number t last (Some (next.Over ending.NoRoom)) r e = absurd cc
+
+nothing_more : (rs : List Asking) (h : List Event) → AreWaiting rs h → AreWaiting (rs ++ []) h
+nothing_more rs h w = subst (λ (xs : List Asking). AreWaiting xs h) (sym (append-nil rs)) w
+
+pub waiting_after_ask : (c : Core) (rs : List Asking) (t : ℕ) (a : Asked) → Legal c.procs c.events → AreWaiting rs c.events → a ≡ ask_reply c t → AreWaiting (rs ++ requests_of a) (after_ask c a).events
+waiting_after_ask c rs t (Request r) legal w is = waiting_asked c.procs rs c.events r legal w (ask_number t (given c.events) (next_at c t) r (sym is))
+waiting_after_ask c rs t Undoing legal w is = nothing_more rs c.events w
+waiting_after_ask c rs t Over legal w is = nothing_more rs c.events w
+waiting_after_ask c rs t (Stuck n) legal w is = nothing_more rs c.events w
+waiting_after_ask c rs t (Waits n) legal w is = nothing_more rs c.events w
+waiting_after_ask c rs t Running legal w is = nothing_more rs c.events w
+waiting_after_ask c rs t Unknown legal w is = nothing_more rs c.events w
+
+pub waiting_after_undo : (c : Core) (rs : List Asking) (t : ℕ) (a : Asked) → Legal c.procs c.events → AreWaiting rs c.events → a ≡ undo_reply c t → AreWaiting (rs ++ requests_of a) (after_undo c a).events
+waiting_after_undo c rs t (Request r) legal w is = waiting_undone c.procs rs c.events r legal w (undo_number t (given c.events) (next_at c t) r (sym is))
+waiting_after_undo c rs t Undoing legal w is = nothing_more rs c.events w
+waiting_after_undo c rs t Over legal w is = nothing_more rs c.events w
+waiting_after_undo c rs t (Stuck n) legal w is = nothing_more rs c.events w
+waiting_after_undo c rs t (Waits n) legal w is = nothing_more rs c.events w
+waiting_after_undo c rs t Running legal w is = nothing_more rs c.events w
+waiting_after_undo c rs t Unknown legal w is = nothing_more rs c.events w
 
 -- ---- a request, and what it waits for
 
@@ -120,13 +125,13 @@ nothing_sent ps rs h t s legal w absent is = none_if s.sent (λ r waits.
     let there = is_there rs r.number (asking r.number (flight t r.op)) (w.each r.number ∙ ap (asking_by r.number) f) in
     absent there.k (asking r.number (flight t r.op)) there.at refl)
 
-pub no_txn_resends : (w : Whole) (t : ℕ) → named w.core t ≡ None → resends w t ≡ Stops illegal.NoTxn
-no_txn_resends w t none = ap (resends_by w t) (unnamed w.core t none)
+pub no_txn_resends : (w : Whole) (t : ℕ) → standing w.core.events t ≡ None → resends w t ≡ Stops illegal.NoTxn
+no_txn_resends w t none = ap (resends_by w t) none
 
-pub resends_nothing : (w : Whole) (rs : List Asking) (t : ℕ) (id : TxnId) → Legal w.core.procs w.core.events → AreWaiting rs w.core.events → named w.core t ≡ Some id
+pub resends_nothing : (w : Whole) (rs : List Asking) (t : ℕ) → Legal w.core.procs w.core.events → AreWaiting rs w.core.events → IsSome (standing w.core.events t)
     → ((k : ℕ) (r : Asking) → slice_get rs k ≡ Some r → r.txn ≢ t) → resends w t ≡ Stops illegal.NothingOpen
-resends_nothing w rs t id legal waiting open_yet absent =
-    let st = stands w.core t id open_yet in
+resends_nothing w rs t legal waiting open_yet absent =
+    let st = stands (standing w.core.events t) open_yet in
     ap (resends_by w t) st.is ∙ ap (resends_sent w t) (nothing_sent w.core.procs rs w.core.events t st.s legal waiting absent st.is)
 
 pub resends_found : (w : Whole) (rs : List Asking) (t k : ℕ) (r : Asking) → Legal w.core.procs w.core.events → AreWaiting rs w.core.events → slice_get rs k ≡ Some r → r.txn ≡ t
@@ -138,6 +143,9 @@ resends_found w rs t k r legal waiting at own =
     let two = ap (λ (n : ℕ). let x : Wire = record { number = n; low_water = low_water w.core.events; op = a.r.op } in sends w x) a.number in
     let three = ap (λ (o : Op). let x : Wire = record { number = r.number; low_water = low_water w.core.events; op = o } in sends w x) a.op in
     one ∙ (two ∙ three)
+
+pub may_resend : (w : Whole) (rs : List Asking) (t k : ℕ) (r : Asking) → Legal w.core.procs w.core.events → AreWaiting rs w.core.events → slice_get rs k ≡ Some r → r.txn ≡ t → MayGo (resends w t)
+may_resend w rs t k r legal waiting at own = (_, _, resends_found w rs t k r legal waiting at own)
 
 -- ---- take
 

@@ -1,5 +1,5 @@
 -- The steps of a world: what each does, or why it isn't possible.
-use Rattle.std.specs.Prelude.{◌≡◌, ℕ, ◌+◌, take, Bool, true, false, if◌then◌else◌, List, [], ◌∷◌, ◌++◌, length, Option, Some, None, slice_get, slice_set}
+use Rattle.std.specs.Prelude.{◌≡◌, ◌≢◌, ℕ, ◌+◌, take, Bool, true, false, if◌then◌else◌, List, [], ◌∷◌, ◌++◌, length, Option, Some, None, slice_get, slice_set}
 use Rattle.access_slots.specs.Access.{fits}
 use Rattle.access_slots.specs.Locks.{target}
 use Rattle.access_slots.specs.declared.op.Wire.{Wire}
@@ -14,7 +14,7 @@ use Rattle.data_component.specs.Store.{Store, replied, performed}
 use Rattle.tc_core.specs.Core.{Core, Asking}
 use Rattle.tc_core.specs.Replies.{with_event, ask_reply, after_ask, undo_reply, after_undo, end_of}
 use Rattle.tc_core.specs.Lent.{wire_of}
-use Rattle.tc_core.specs.Admission.{IsAdmissible, IsRefused}
+use Rattle.tc_core.specs.Admission.{call_of, IsAdmissible, IsRefused}
 use Rattle.tc_core.specs.declared.state.Asked.{Asked}
 use Rattle.tc_core.specs.declared.state.Asked.TheVariants as reply
 use Rattle.tc_core.specs.declared.state.Call.{Call}
@@ -131,18 +131,22 @@ restarts w d = restarts_at w d (slice_get w.dcs d)
 abbrev pub forges : Whole → Reply → Fate
 forges w x = Goes (outcome.Forged (length w.replies)) (with_reply w x)
 
--- it stops so, or a list couldn't grow
-abbrev pub StopsOr : Fate → Illegal → Type 0
-StopsOr fate illegal.Memory = Unit {0}
-StopsOr fate why = fate ≡ Stops why
+-- it stops so; want of memory comes only where it may
+abbrev pub StopsOr : Type 0 → Fate → Illegal → Type 0
+StopsOr lacks fate illegal.Memory = lacks
+StopsOr lacks fate why = fate ≡ Stops why
+
+-- the step is possible
+abbrev pub MayGo : Fate → Type 0
+MayGo fate = (o : Outcome) × (w : Whole) × (fate ≡ Goes o w)
 
 pub record Admits (w : Whole) (call : Call) (o : Outcome) (w' : Whole) : Type 0 where
-  pub may : IsAdmissible w.core (record { proc = call.proc; args = call.args })
+  pub may : IsAdmissible w.core (call_of call)
   pub outcome : o ≡ outcome.Admitted (admitted w.core.events + 1)
-  pub next : w' ≡ with_core w (with_event w.core (event.Admit (admitted w.core.events + 1) call.proc call.args))
+  pub next : w' ≡ with_core w (with_event w.core (event.Admit (admitted w.core.events + 1) call.proc call.args.items))
 
 abbrev pub IsNotAdmitted : Whole → Call → Illegal → Type 0
-IsNotAdmitted w call (illegal.Refused r) = IsRefused w.core (record { proc = call.proc; args = call.args }) r
+IsNotAdmitted w call (illegal.Refused r) = IsRefused w.core (call_of call) r
 IsNotAdmitted w call why = ⊥
 
 -- the step is possible, with this outcome, and the world is that one then
@@ -157,17 +161,18 @@ Steps w (step.Take i) o w' = takes w i ≡ Goes o w'
 Steps w (step.Restart d) o w' = restarts w d ≡ Goes o w'
 Steps w (step.Forge x) o w' = forges w x ≡ Goes o w'
 
--- the step isn't possible, and this is why; where a list grows, want of memory may come instead
+-- the step isn't possible, and this is why; want of memory comes at a step that is possible and makes a list longer, and at an
+-- ask or undo of any open transaction, since its lists grow first
 abbrev pub IsIllegal : Whole → Step → Illegal → Type 0
 IsIllegal w (step.Admit call) why = IsNotAdmitted w call why
-IsIllegal w (step.Ask t) why = StopsOr (asks w t) why
-IsIllegal w (step.Undo t) why = StopsOr (undoes w t) why
+IsIllegal w (step.Ask t) why = StopsOr (standing w.core.events t ≢ None) (asks w t) why
+IsIllegal w (step.Undo t) why = StopsOr (standing w.core.events t ≢ None) (undoes w t) why
 IsIllegal w (step.End t) why = ends w t ≡ Stops why
-IsIllegal w (step.Resend t) why = StopsOr (resends w t) why
-IsIllegal w (step.Perform i) why = StopsOr (performs w i) why
+IsIllegal w (step.Resend t) why = StopsOr (MayGo (resends w t)) (resends w t) why
+IsIllegal w (step.Perform i) why = StopsOr (MayGo (performs w i)) (performs w i) why
 IsIllegal w (step.Take i) why = takes w i ≡ Stops why
 IsIllegal w (step.Restart d) why = restarts w d ≡ Stops why
-IsIllegal w (step.Forge x) why = StopsOr (forges w x) why
+IsIllegal w (step.Forge x) why = StopsOr (MayGo (forges w x)) (forges w x) why
 
 -- one step after another
 abbrev pub Runs : Whole → List Step → Whole → Type 0

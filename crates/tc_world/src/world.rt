@@ -1,23 +1,27 @@
 //! The world, and its steps.
 
-ghost use Rattle.std.specs.Prelude.{◌≡◌, ◌≢◌, ℕ, [], Some, true, false, slice_get, IfOk, OnOk, IfErr, OnErr};
+ghost use Rattle.std.specs.Prelude.{◌≡◌, ◌≢◌, ℕ, ◌||◌, [], Some, true, false, slice_get, IfOk, OnOk, IfErr, OnErr};
 ghost use Rattle.access_slots.specs.Locks.{allows, target, is_read, conflict};
 ghost use Rattle.history.specs.Calls.{held};
-ghost use Rattle.history.specs.Flight.{Flight, in_flight};
+ghost use Rattle.history.specs.Flight.{Flight, in_flight, is_open};
+ghost use Rattle.request_numbers.specs.Given.{holds};
 ghost use Rattle.transactions.specs.Legal.{Legal};
 ghost use Rattle.transactions.specs.Reached.{decls};
 ghost use Rattle.transactions.specs.Room.{each_one, total};
-ghost use Rattle.tc_world.specs.Steps.{Goes, Stops, StopsOr, Steps, IsIllegal, Runs, StopsAt};
+ghost use Rattle.tc_world.specs.Marks.{AreMarksLow, IsFresh, IsOpenAboveMarks};
+ghost use Rattle.tc_world.specs.Steps.{Goes, Stops, Steps, IsIllegal, Runs, StopsAt};
 ghost use Rattle.tc_world.specs.Steps as Steps;
+ghost use Rattle.tc_world.specs.declared.step.Step.TheVariants as step;
 
 use crate::asking::{find_number, find_txn};
-use crate::parts::{perform_at, reply_at, restart_at, target};
+use crate::parts::{at, perform_at, restart_at, target};
 use crate::step::{Illegal, Outcome, Step};
+use crate::telling::{make_room, tell};
 use access_slots::op::{Reply, Wire, fits};
 use data_component::dc::Dc;
 use std::alloc::Global;
 use std::marker::Model;
-use tc_core::state::{Asked, Call, Request, TcState};
+use tc_core::state::{Call, Request, TcState};
 
 /// A transaction component, its data components, and every wire and reply that was ever sent.
 pub struct World {
@@ -71,10 +75,11 @@ impl World {
 
     /// Ends the world: hands back its parts, with the open requests given up.
     pub fn close(self) -> (TcState, Vec<Dc>)
-        ensures events { result.0.events ≡ self.core.events }
-        ensures procs { result.0.procs ≡ self.core.procs }
+        ensures kept { result.0 ≡ record self.core { given_up = result.0.given_up } }
+        ensures given_up { (n : ℕ) → holds n result.0.given_up ≡ (holds n self.core.given_up || is_open self.core.events n) }
         ensures dcs { result.1.items ≡ self.dcs }
     {
+        self.state.known();
         let World {
             mut state,
             dcs,
@@ -82,11 +87,8 @@ impl World {
             replies: _,
             mut requests,
         } = self;
-        let count = requests.len();
-        for taken in 0..count {
-            if let Some(request) = requests.pop() {
-                let _ = state.give_up(request);
-            }
+        while let Some(request) = requests.pop() {
+            let _number = state.give_up(request);
         }
         requests.destroy_empty();
         (state, dcs)
@@ -95,65 +97,41 @@ impl World {
     fn ask(&mut self, serial: u64) -> Result<Outcome, Illegal>
         ensures ok { IfOk result (λ o. Steps.asks self.old serial ≡ Goes o self.new) }
         ensures err { OnErr result (self.new ≡ self.old) }
-        ensures why { IfErr result (λ i. StopsOr (Steps.asks self.old serial) i) }
+        ensures why { IfErr result (λ i. IsIllegal self.old (step.Ask serial) i) }
     {
         self.state.known();
-        let Ok(()) = self.copies.reserve(1) else {
-            return Err(Illegal::Memory);
-        };
-        let Ok(()) = self.requests.reserve(1) else {
-            return Err(Illegal::Memory);
-        };
         let Some(txn) = self.state.find_txn(serial) else {
             return Err(Illegal::NoTxn);
         };
-        match self.state.ask(txn) {
-            Asked::Request(request) => {
-                let place = self.copies.len();
-                let wire = self.state.wire(&request);
-                self.copies.push_reserved(wire);
-                self.requests.push_reserved(request);
-                Ok(Outcome::Sent(place, wire))
-            }
-            Asked::Undoing => Ok(Outcome::Undoing(serial)),
-            Asked::Over => Ok(Outcome::Over(serial)),
-            Asked::Stuck(number) => Ok(Outcome::Stuck(serial, number)),
-            Asked::Waits(number) => Err(Illegal::Waits(number)),
-            Asked::Running => Err(Illegal::Running),
-            Asked::Unknown => Err(Illegal::NoTxn),
-        }
+        make_room(&mut self.copies, &mut self.requests)?;
+        let asked = self.state.ask(txn);
+        tell(
+            serial,
+            asked,
+            &self.state,
+            &mut self.copies,
+            &mut self.requests,
+        )
     }
 
     fn undo(&mut self, serial: u64) -> Result<Outcome, Illegal>
         ensures ok { IfOk result (λ o. Steps.undoes self.old serial ≡ Goes o self.new) }
         ensures err { OnErr result (self.new ≡ self.old) }
-        ensures why { IfErr result (λ i. StopsOr (Steps.undoes self.old serial) i) }
+        ensures why { IfErr result (λ i. IsIllegal self.old (step.Undo serial) i) }
     {
         self.state.known();
-        let Ok(()) = self.copies.reserve(1) else {
-            return Err(Illegal::Memory);
-        };
-        let Ok(()) = self.requests.reserve(1) else {
-            return Err(Illegal::Memory);
-        };
         let Some(txn) = self.state.find_txn(serial) else {
             return Err(Illegal::NoTxn);
         };
-        match self.state.undo_next(txn) {
-            Asked::Request(request) => {
-                let place = self.copies.len();
-                let wire = self.state.wire(&request);
-                self.copies.push_reserved(wire);
-                self.requests.push_reserved(request);
-                Ok(Outcome::Sent(place, wire))
-            }
-            Asked::Undoing => Ok(Outcome::Undoing(serial)),
-            Asked::Over => Ok(Outcome::Over(serial)),
-            Asked::Stuck(number) => Ok(Outcome::Stuck(serial, number)),
-            Asked::Waits(number) => Err(Illegal::Waits(number)),
-            Asked::Running => Err(Illegal::Running),
-            Asked::Unknown => Err(Illegal::NoTxn),
-        }
+        make_room(&mut self.copies, &mut self.requests)?;
+        let asked = self.state.undo_next(txn);
+        tell(
+            serial,
+            asked,
+            &self.state,
+            &mut self.copies,
+            &mut self.requests,
+        )
     }
 
     fn end(&mut self, serial: u64) -> Result<Outcome, Illegal>
@@ -173,7 +151,7 @@ impl World {
     fn resend(&mut self, serial: u64) -> Result<Outcome, Illegal>
         ensures ok { IfOk result (λ o. Steps.resends self.old serial ≡ Goes o self.new) }
         ensures err { OnErr result (self.new ≡ self.old) }
-        ensures why { IfErr result (λ i. StopsOr (Steps.resends self.old serial) i) }
+        ensures why { IfErr result (λ i. IsIllegal self.old (step.Resend serial) i) }
     {
         self.state.known();
         let Some(_) = self.state.find_txn(serial) else {
@@ -182,9 +160,7 @@ impl World {
         let Some(at) = find_txn(self.requests.as_slice(), serial) else {
             return Err(Illegal::NothingOpen);
         };
-        let Ok(()) = self.copies.reserve(1) else {
-            return Err(Illegal::Memory);
-        };
+        self.copies.reserve(1)?;
         let place = self.copies.len();
         let wire = self.state.wire(&self.requests[at]);
         self.copies.push_reserved(wire);
@@ -194,18 +170,16 @@ impl World {
     fn perform(&mut self, copy: usize) -> Result<Outcome, Illegal>
         ensures ok { IfOk result (λ o. Steps.performs self.old copy ≡ Goes o self.new) }
         ensures err { OnErr result (self.new ≡ self.old) }
-        ensures why { IfErr result (λ i. StopsOr (Steps.performs self.old copy) i) }
+        ensures why { IfErr result (λ i. IsIllegal self.old (step.Perform copy) i) }
     {
-        let Some(wire) = self.copies.get(copy).copied() else {
+        let Some(wire) = at(self.copies.as_slice(), copy) else {
             return Err(Illegal::NoCopy);
         };
         let dc = target(&wire.op).dc as usize;
         if dc >= self.dcs.len() {
             return Err(Illegal::NoDc);
         }
-        let Ok(()) = self.replies.reserve(1) else {
-            return Err(Illegal::Memory);
-        };
+        self.replies.reserve(1)?;
         match perform_at(&mut self.dcs, dc, &wire) {
             Some(reply) => {
                 let place = self.replies.len();
@@ -222,7 +196,7 @@ impl World {
         ensures why { IfErr result (λ i. Steps.takes self.old reply ≡ Stops i) }
     {
         self.state.known();
-        let Some(reply) = reply_at(self.replies.as_slice(), reply) else {
+        let Some(reply) = at(self.replies.as_slice(), reply) else {
             return Err(Illegal::NoReply);
         };
         let Some(at) = find_number(self.requests.as_slice(), reply.number) else {
@@ -254,13 +228,11 @@ impl World {
     fn forge(&mut self, reply: Reply) -> Result<Outcome, Illegal>
         ensures ok { IfOk result (λ o. Steps.forges self.old reply ≡ Goes o self.new) }
         ensures err { OnErr result (self.new ≡ self.old) }
-        ensures why { IfErr result (λ i. StopsOr (Steps.forges self.old reply) i) }
+        ensures why { IfErr result (λ i. IsIllegal self.old (step.Forge reply) i) }
     {
         let place = self.replies.len();
-        match self.replies.push(reply) {
-            Ok(()) => Ok(Outcome::Forged(place)),
-            Err(_) => Err(Illegal::Memory),
-        }
+        self.replies.push(reply)?;
+        Ok(Outcome::Forged(place))
     }
 
     fn admit(&mut self, call: &Call) -> Result<Outcome, Illegal>
@@ -275,8 +247,7 @@ impl World {
         Ok(Outcome::Admitted(txn.serial()))
     }
 
-    /// Takes one step. An illegal one changes nothing.
-    pub fn step(&mut self, step: &Step) -> Result<Outcome, Illegal>
+    fn try_step(&mut self, step: &Step) -> Result<Outcome, Illegal>
         ensures ok { IfOk result (λ o. Steps self.old step.now o self.new) }
         ensures err { OnErr result (self.new ≡ self.old) }
         ensures why { IfErr result (λ i. IsIllegal self.old step.now i) }
@@ -294,6 +265,18 @@ impl World {
         }
     }
 
+    /// Takes one step. An illegal one changes nothing.
+    pub fn step(&mut self, step: &Step) -> Result<Outcome, Illegal>
+        ensures ok { IfOk result (λ o. Steps self.old step.now o self.new) }
+        ensures err { OnErr result (self.new ≡ self.old) }
+        ensures why { IfErr result (λ i. IsIllegal self.old step.now i) }
+        ensures marks { AreMarksLow self.old → AreMarksLow self.new }
+    {
+        let outcome = self.try_step(step)?;
+        self.state.known();
+        Ok(outcome)
+    }
+
     /// Takes steps up to the first illegal one, and says its place. Whatever the steps were, the
     /// history is legal, each operation in flight is covered by its transaction's locks, and no two
     /// conflict.
@@ -305,6 +288,8 @@ impl World {
             → allows (held (decls self.new.core.procs) self.new.core.events f.txn (target f.op)) (is_read f.op) ≡ true }
         ensures apart { (m n : ℕ) (f g : Flight) → in_flight self.new.core.events m ≡ Some f → in_flight self.new.core.events n ≡ Some g
             → m ≢ n → conflict f.op g.op ≡ false }
+        ensures marks { AreMarksLow self.old → AreMarksLow self.new }
+        ensures open_above { IsFresh self.old → IsOpenAboveMarks self.new }
     {
         for (k, step) in steps.iter().enumerate() {
             match self.step(step) {

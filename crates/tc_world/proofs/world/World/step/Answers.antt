@@ -1,0 +1,10 @@
+use Rattle.std.proofs.Common.{◌≡◌, ap}
+use Rattle.tc_world.specs.Whole.{Whole}
+use Rattle.tc_world.proofs.Running.{is_legal}
+use Rattle.tc_world.proofs.Marks.{stay_low}
+use Rattle.tc_world.proofs.world.World.step.Goals as goal
+
+pub returns-clause-marks : goal.returns-clause-marks
+returns-clause-marks c low =
+    let legal = is_legal _ _ (ap (λ (w : Whole). w.core) c.self.view_is) c.known.ensures.legal in
+    stay_low c.args.self.now c.try_step.new.self c.args.step.now c.in_ok-outcome.outcome legal c.in_ok-outcome.ensures.ok low
