@@ -37,6 +37,7 @@ use Rattle.tc_core.specs.Loaded.{Loaded}
 use Rattle.tc_core.specs.Admission.{IsCalled, Takes, needed, IsFree, IsAdmissible}
 use Rattle.tc_core.specs.declared.transaction.Own.{Own}
 use Rattle.tc_core.proofs.MarkedLemmas.{marked-room}
+use Rattle.tc_core.proofs.KeyLemmas.{keys-room}
 use Rattle.tc_core.specs.Kept.{IsBook, core_of, Keeps, Matches, IsOpen, StandsAt, HasKey, Places, Rooms, Kept}
 use Rattle.tc_core.proofs.KeptLemmas.{calls_kept, held-admitted}
 
@@ -80,6 +81,7 @@ book-room ps b b' is o =
       };
       most = omega (arith, most, given_same, promised, more_given_up);
       marked = marked-room _ _ _ _ _ _ is.marked o.given_up o.events o.slots;
+      keyed = keys-room _ _ _ _ is.keyed o.keys o.slots;
     }
 
 total_to-few : (h : List Event) (n : ℕ) → total_to places_left h n ≤ total_to each_one h n
@@ -268,7 +270,7 @@ may-enter l b b' call q args own calls is called free few same are own_args ops 
       book = book-room l.codes b b' is o;
       called = record { loaded = called.loaded; count = ap (λ (xs : List ℕ). length xs) own_args ∙ called.count };
       free = subst (λ (xs : List ℕ). Compatible (held (decls l.codes) b'.log.events) (locks_of (decls l.codes) (record { proc = call.proc; args = xs }))) back
-      (subst (λ (h : List Event). Compatible (held (decls l.codes) h) (locks_of (decls l.codes) call)) (sym o.events) free);
+          (subst (λ (h : List Event). Compatible (held (decls l.codes) h) (locks_of (decls l.codes) call)) (sym o.events) free);
       few = omega (arith, few, given_same, promised, promised_is);
       room = subst (λ (n : ℕ). HasRoom b' n own.locks) count has;
       locks = λ r. are r ∙ ap (λ (xs : List ℕ). mode_named xs q.decl.slots r) (same ∙ back);

@@ -66,7 +66,7 @@ clash_from (l ∷ locks) kept r e = by (record_eq l.«record» r) refl (λ later
         let same : l.«record» ≡ r = eq_is l.«record» r is in
         let mine : mode_in (l ∷ locks) r ≡ Some l.mode = cond-true _ (Some l.mode) (mode_in locks r) is in
         let here : excludes (Some l.mode) (mode_in kept l.«record») ≡ true =
-            ap (λ (x : Record). excludes (Some l.mode) (mode_in kept x)) same ∙ (ap (λ (m : Option Mode). excludes m (mode_in kept r)) (sym mine) ∙ e) in
+        ap (λ (x : Record). excludes (Some l.mode) (mode_in kept x)) same ∙ (ap (λ (m : Option Mode). excludes m (mode_in kept r)) (sym mine) ∙ e) in
         ap (λ (b : Bool). b || clashes locks kept) here
     by false is later =
         let other : mode_in (l ∷ locks) r ≡ mode_in locks r = cond-false _ (Some l.mode) (mode_in locks r) is in
@@ -192,7 +192,7 @@ holder_of_clash ps h t tx w set call are rising clash =
     record {
       name = at.name;
       stands = ap (λ (m : Option Mode). excludes m (held (decls ps) h t at.name)) (sym (are at.name))
-      ∙ (ap (excludes (mode_in set at.name)) (sym (locks_kept ps h t tx w at.name)) ∙ at.excluded);
+          ∙ (ap (excludes (mode_in set at.name)) (sym (locks_kept ps h t tx w at.name)) ∙ at.excluded);
     }
 
 not_false : (b : Bool) → b ≢ false → b ≡ true

@@ -82,15 +82,15 @@ marked-doubt ps ns h txns txns' key n tx r legal p m found waits number few up =
     | inl same ↦
         let it : record tx { in_doubt = true } ≡ ty = some_same _ ty (sym up.changed ∙ (ap (get txns') (sym same) ∙ at)) in
         let yes_it : true ≡ is_doubted (with_number n ns) tx.sent =
-            sym (ap (is_doubted (with_number n ns)) waits ∙ (ap (λ (k : ℕ). holds k (with_number n ns)) number ∙ holds_with (holds n ns) n ns refl)) in
+        sym (ap (is_doubted (with_number n ns)) waits ∙ (ap (λ (k : ℕ). holds k (with_number n ns)) number ∙ holds_with (holds n ns) n ns refl)) in
         subst (λ (x : Tx). x.in_doubt ≡ is_doubted (with_number n ns) x.sent) it yes_it
     | inr other ↦
         let was : get txns k ≡ Some ty = sym (up.others k other) ∙ at in
         let o = p.stands k ty was in
         let mine = p.stands key tx found in
         let differ : (q : Sent) → ty.sent ≡ Some q → n ≢ q.number = (λ q sent same.
-            other (p.once k key ty tx was found
-            (apart ps h legal ty.serial tx.serial o.s mine.s q r o.is mine.is (sym o.matches.keeps.sent ∙ sent) (sym mine.matches.keeps.sent ∙ waits) (sym (number ∙ same))))) in
+        other (p.once k key ty tx was found
+        (apart ps h legal ty.serial tx.serial o.s mine.s q r o.is mine.is (sym o.matches.keeps.sent ∙ sent) (sym mine.matches.keeps.sent ∙ waits) (sym (number ∙ same))))) in
         m.marks k ty was ∙ sym (beside n (holds n ns) ns ty.sent differ)
   ];
   early = λ k late. holds_beside (holds n ns) n k ns (omega (arith, late, few)) ∙ m.early k late;

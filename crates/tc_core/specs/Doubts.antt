@@ -25,4 +25,3 @@ marks ns (suc n) = marks ns n + one_if (holds (suc n) ns)
 pub record AreUpTo (ns : List ℕ) (most : ℕ) : Type 0 where
   pub count : length ns ≡ marks ns most
   pub past : (m : ℕ) → most < m → holds m ns ≡ false
-

@@ -1,5 +1,6 @@
 -- What the state keeps: the log is legal, and everything else is what the log says.
-use Rattle.std.specs.Prelude.{◌≡◌, ℕ, ◌<◌, Bool, true, false, ◌+◌, ◌-◌, ◌*◌, ◌≤◌, ◌^◌, List, [], ◌∷◌, length, Option, Some, None, slice_get}
+use Rattle.std.specs.Prelude.{◌≡◌, ℕ, ◌<◌, Bool, true, false, ◌+◌, ◌-◌, ◌*◌, ◌≤◌, ◌^◌, List, [], ◌∷◌, length, Option, Some, None, slice_get, nat_eq}
+use Rattle.indexmap.specs.IndexMap.{IndexMap, get as key_of}
 use Rattle.verifier.specs.Checked.{Checked}
 use Rattle.lock_table.specs.Facts.{Table, AreHeld}
 use Rattle.request_numbers.specs.Given.{Given}
@@ -92,11 +93,17 @@ pub record Marked (numbers : List ℕ) (h : List Event) (txns : Slab Tx) : Type 
   pub marks : (key : ℕ) (tx : Tx) → get txns key ≡ Some tx → tx.in_doubt ≡ is_doubted numbers tx.sent
   pub early : (n : ℕ) → given h < n → holds n numbers ≡ false
 
+-- the keys by serial number are those of the slab
+pub record AreKeys {S : Type 0} (keys : IndexMap ℕ ℕ S) (txns : Slab Tx) : Type 0 where
+  pub keyed : (key : ℕ) (tx : Tx) → get txns key ≡ Some tx → key_of nat_eq keys tx.serial ≡ Some key
+  pub listed : (t key : ℕ) → key_of nat_eq keys t ≡ Some key → StandsAt txns key t
+
 -- what is kept of these procedures' log
 pub record IsBook (ps : List Checked) (b : Book) : Type 0 where
   pub kept : Kept ps b.log b.locks b.numbers b.txns b.serials b.owed b.promised
   pub most : given b.log.events + b.promised ≤ b.given_up.most
   pub marked : Marked b.given_up.numbers b.log.events b.txns
+  pub keyed : AreKeys b.keys b.txns
 
 abbrev pub core_of : Loaded → Book → Core
 core_of p b = record { procs = p.codes; names = p.names; dcs = p.dcs; events = b.log.events; given_up = b.given_up.numbers }

@@ -76,7 +76,7 @@ abbrev pub end_of : Core → ℕ → Option Outcome
 end_of c t = over_in (next_at c t)
 
 abbrev pub end_reply : Core → ℕ → Option Outcome → Result Receipt NotOver
-end_reply c t None = Err (record { })
+end_reply c t None = Err (record {})
 end_reply c t (Some o) = Ok (record { place = length c.events; txn = t; outcome = o })
 
 abbrev pub after_end : Core → ℕ → Option Outcome → Core

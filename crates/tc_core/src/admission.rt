@@ -16,6 +16,7 @@ ghost use Rattle.tc_core.specs.Blocked.{IsBlocked};
 
 use crate::book::Book;
 use crate::holders::all_stranded;
+use crate::places::list_key;
 use crate::procs::Procs;
 use crate::state::{Call, Refusal, TxnId};
 use crate::transaction::{Own, begin};
@@ -92,6 +93,7 @@ impl Book {
         };
         let most = self.numbers.last() + self.promised + 5 * calls as u64;
         self.txns.reserve(1)?;
+        self.keys.reserve(1)?;
         self.numbers.reserve(self.txns.capacity())?;
         self.log.reserve(events)?;
         self.given_up.reserve(most)?;
@@ -111,8 +113,17 @@ impl Book {
         let calls = calls_of(code);
         claim(&mut self.locks, serial, &own.locks);
         let Own { undo, args, locks } = own;
-        let tx = begin(code, serial, proc, args.as_slice(), undo, 5 * calls as u64, locks);
-        let _key = self.txns.insert_reserved(tx);
+        let tx = begin(
+            code,
+            serial,
+            proc,
+            args.as_slice(),
+            undo,
+            5 * calls as u64,
+            locks,
+        );
+        let key = self.txns.insert_reserved(tx);
+        list_key(&mut self.keys, serial, key);
         self.log.push(Event::Admit {
             txn: serial,
             proc,

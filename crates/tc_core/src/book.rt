@@ -13,13 +13,14 @@ ghost use Rattle.tc_core.specs.GivingUp.{IsOpenHere, with_given_up};
 
 use crate::given_up::GivenUp;
 use crate::places::{
-    accepts_at, awaits_at, doubt_at, find, hear_at, left_at, next_at, over_at, procedure_at, send_at,
-    send_undo_at, take_out,
+    accepts_at, awaits_at, doubt_at, find, hear_at, left_at, next_at, over_at, procedure_at,
+    send_at, send_undo_at, take_out,
 };
 use crate::procs::Procs;
 use crate::state::{Asked, NotOver, Receipt, Request, Stranger, TxnId};
 use crate::transaction::Tx;
 use access_slots::op::{Reply, Wire};
+use indexmap::IndexMap;
 use lock_table::table::LockTable;
 use request_numbers::numbers::Numbers;
 use slab::Slab;
@@ -33,6 +34,7 @@ use transactions::Next;
 #[derive(Drop)]
 pub struct Book {
     pub txns: Slab<Tx>,
+    pub keys: IndexMap<u64, usize>,
     pub locks: LockTable,
     pub numbers: Numbers,
     pub log: Log,
@@ -76,6 +78,7 @@ impl Book {
     {
         Book {
             txns: Slab::new(alloc),
+            keys: IndexMap::new(alloc),
             locks: LockTable::new(alloc),
             numbers: Numbers::new(alloc),
             log: Log::new(alloc),
@@ -106,7 +109,7 @@ impl Book {
         ensures absent { IfNone result (standing self.now.log.events serial ≡ None) }
     {
         let _ = procs;
-        match find(&self.txns, serial) {
+        match find(&self.txns, &self.keys, serial) {
             Some(_) => Some(TxnId { serial }),
             None => None,
         }
@@ -136,7 +139,7 @@ impl Book {
         ensures state { core_of procs.now self.new ≡ after_ask (core_of procs.now self.old) result }
     {
         let _ = procs;
-        let Some(key) = find(&self.txns, txn.serial) else {
+        let Some(key) = find(&self.txns, &self.keys, txn.serial) else {
             return Asked::Unknown;
         };
         match next_at(&self.txns, key) {
@@ -171,7 +174,7 @@ impl Book {
         ensures state { core_of procs.now self.new ≡ after_undo (core_of procs.now self.old) result }
     {
         let _ = procs;
-        let Some(key) = find(&self.txns, txn.serial) else {
+        let Some(key) = find(&self.txns, &self.keys, txn.serial) else {
             return Asked::Unknown;
         };
         match next_at(&self.txns, key) {
@@ -207,7 +210,7 @@ impl Book {
         ensures err { OnErr result (core_of procs.now self.new ≡ core_of procs.now self.old) }
         ensures back { IfErr result (λ stranger. stranger.request ≡ request) }
     {
-        let Some(key) = find(&self.txns, request.txn) else {
+        let Some(key) = find(&self.txns, &self.keys, request.txn) else {
             return Err(Stranger { request });
         };
         if !accepts_at(&self.txns, key, request.number, &request.op, &reply) {
@@ -234,7 +237,7 @@ impl Book {
     {
         let _ = procs;
         let Request { txn, number, op } = request;
-        let Some(key) = find(&self.txns, txn) else {
+        let Some(key) = find(&self.txns, &self.keys, txn) else {
             return number;
         };
         if !awaits_at(&self.txns, key, number, &op) {
@@ -253,7 +256,7 @@ impl Book {
         ensures state { core_of procs.now self.new ≡ after_end (core_of procs.now self.old) txn.serial (end_of (core_of procs.now self.old) txn.serial) }
     {
         let _ = procs;
-        let Some(key) = find(&self.txns, txn.serial) else {
+        let Some(key) = find(&self.txns, &self.keys, txn.serial) else {
             return Err(NotOver);
         };
         let Some(outcome) = over_at(&self.txns, key) else {
@@ -268,6 +271,7 @@ impl Book {
         });
         self.locks.release(txn.serial);
         take_out(&mut self.txns, key);
+        self.keys.swap_remove(&txn.serial);
         self.owed = owed - (2 * left as usize + 1);
         self.promised -= left;
         Ok(Receipt {

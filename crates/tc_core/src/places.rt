@@ -1,12 +1,13 @@
 // The open transactions, each at a key of a slab.
 
-ghost use Rattle.std.specs.Prelude.{◌≡◌, ◌↔◌, IsTrue, ◌≢◌, ◌+◌, ◌-◌, ◌<◌, ◌≤◌, ℕ, Some, None, true, false, IfSome, IfNone};
+ghost use Rattle.std.specs.Prelude.{◌≡◌, ◌↔◌, IsTrue, ◌≢◌, ◌+◌, ◌-◌, ◌<◌, ◌≤◌, ℕ, Some, None, true, false, nat_eq, IfSome, IfNone};
 ghost use Rattle.slab.specs.Slab.{get, slab_len, Updates, ContainsKey};
 ghost use Rattle.transactions.specs.Standing.{sent_as};
 ghost use Rattle.transactions.specs.Next.{next_by};
 ghost use Rattle.transactions.specs.Legal.{first_undo};
 ghost use Rattle.transactions.specs.Standing.{Standing, answered};
-ghost use Rattle.tc_core.specs.Kept.{StandsAt, Keeps};
+ghost use Rattle.indexmap.specs.IndexMap.{spare, Updates as KeyUpdates};
+ghost use Rattle.tc_core.specs.Kept.{StandsAt, Keeps, AreKeys};
 ghost use Rattle.tc_core.specs.Hearing.{MayHear, Accepts, Heard};
 ghost use Rattle.tc_core.specs.GivingUp.{Awaits};
 ghost use Rattle.tc_core.specs.Running.{as_reached};
@@ -15,22 +16,31 @@ ghost use Rattle.tc_core.specs.declared.transaction.Tx.{Tx as TxValue};
 
 use crate::transaction::Tx;
 use access_slots::op::{Op, Reply, Said, fits};
-use transactions::Next;
+use indexmap::IndexMap;
 use slab::Slab;
 use tc_log::event::Outcome;
+use transactions::Next;
 use verifier::verify::Verified;
 
-/// The key of the transaction with this serial number.
-pub fn find(txns: &Slab<Tx>, serial: u64) -> Option<usize>
+/// The key of the transaction with this serial number, by one look.
+pub fn find(txns: &Slab<Tx>, keys: &IndexMap<u64, usize>, serial: u64) -> Option<usize>
+    requires { AreKeys keys.now txns.now }
     ensures found { IfSome result (λ key. StandsAt txns.now key serial) }
     ensures absent { IfNone result ((key : ℕ) (tx : TxValue) → get txns.now key ≡ Some tx → tx.serial ≢ serial) }
 {
-    for (key, tx) in txns.iter() {
-        if tx.serial == serial {
-            return Some(key);
-        }
+    let _ = txns;
+    keys.get(&serial).copied()
+}
+
+/// A new transaction is found at this key. There has to be room.
+pub fn list_key(keys: &mut IndexMap<u64, usize>, serial: u64, key: usize)
+    requires { 0 < spare keys.old }
+    ensures { KeyUpdates nat_eq keys.old keys.new serial (Some key) }
+{
+    match keys.insert(serial, key) {
+        Ok(_before) => {}
+        Err(_) => unreachable!(),
     }
-    None
 }
 
 /// What the transaction at a key does next.

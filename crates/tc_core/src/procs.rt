@@ -73,7 +73,11 @@ fn place_of(by_name: &IndexMap<String, Verified>, name: &str) -> Option<usize>
 }
 
 // One more procedure goes last, under a name that there isn't yet.
-fn put(by_name: &mut IndexMap<String, Verified>, name: String, code: Verified) -> Result<(), Verified>
+fn put(
+    by_name: &mut IndexMap<String, Verified>,
+    name: String,
+    code: Verified,
+) -> Result<(), Verified>
     requires { get_by_text by_name.old (string_bytes name) ≡ None }
     ensures codes { OnOk result (values by_name.new ≡ values by_name.old ++ code ∷ []) }
     ensures names { OnOk result (map string_bytes (keys by_name.new) ≡ map string_bytes (keys by_name.old) ++ string_bytes name ∷ []) }

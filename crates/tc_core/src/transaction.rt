@@ -22,9 +22,9 @@ use access_slots::slot::Value;
 use interpreter::layout::Layout;
 use interpreter::machine::Machine;
 use interpreter::pause::Pause;
-use transactions::{Next, Sent};
 use std::alloc::{AllocError, Global};
 use tc_log::event::{Args, Outcome};
+use transactions::{Next, Sent};
 use verifier::verify::Verified;
 
 /// An open transaction: its procedure's machine, and where that stands.

@@ -4,7 +4,7 @@ use Rattle.access_slots.specs.declared.slot.Record.{Record}
 use Rattle.access_slots.specs.Locks.{mode_in, mode_named}
 use Rattle.tc_core.specs.Kept.{core_of}
 use Rattle.tc_core.specs.Admission.{call_of}
-use Rattle.tc_core.proofs.AdmitLemmas.{free-call, busy-call, few-needed, many-needed, may-enter}
+use Rattle.tc_core.proofs.AdmitLemmas.{book-room, free-call, busy-call, few-needed, many-needed, may-enter}
 use Rattle.tc_core.proofs.book.Book.admit.Goals as goal
 
 pub returns-in-Some-clause-refused : goal.returns-in-Some-clause-refused
@@ -70,3 +70,6 @@ enter-requires c =
     (λ r. ap (λ (ls : List Lock). mode_in ls r) c.in-Ok.ensures.locks ∙ c.locks_of-set.ensures.locks r)
     (c.in-Ok.ensures.args ∙ c.as_slice-2.ensures.value) c.in-Ok.ensures.ops c.in-Ok.ensures.room c.calls_of-calls.ensures.calls
     c.make_room.ensures.kept c.in-Ok-make_room.ensures.room
+
+pub returns-in_default-make_room-clause-kept : goal.returns-in_default-make_room-clause-kept
+returns-in_default-make_room-clause-kept c = book-room c.args.procs.now.codes c.args.self.now c.make_room.new.self c.requires c.make_room.ensures.kept

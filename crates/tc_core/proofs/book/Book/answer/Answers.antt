@@ -9,6 +9,7 @@ use Rattle.tc_core.specs.declared.transaction.Tx.{Tx}
 use Rattle.transactions.proofs.StandingLemmas.{some_same}
 use Rattle.history.specs.Flight.{given}
 use Rattle.tc_core.specs.Kept.{is_doubted}
+use Rattle.tc_core.proofs.KeyLemmas.{keys-moved}
 use Rattle.tc_core.proofs.MarkedLemmas.{marked-moved}
 use Rattle.tc_core.proofs.KeptLemmas.{seen, Seen, may-answer, kept-answer, slice_get-short, is-answer, answer-accepts}
 use Rattle.tc_core.proofs.book.Book.answer.Goals as goal
@@ -80,10 +81,11 @@ returns-clause-kept c =
     let silent : heard.after.sent ≡ None = (heard.keeps w.s hears).sent in
     record {
       kept =
-      kept-answer _ _ _ _ _ _ _ _ _ _ _ _ c.request.inside.number c.args.reply.number at.tx c.request.inside.op c.at-code.result.now c.args.reply.said c.requires.kept at.found w a loaded hears
-      heard c.hear_at.ensures.len (rw (← at.serial) at c.push.ensures.events) c.push.ensures.room c.answered.ensures.last c.answered.ensures.pending c.answered.ensures.room;
+          kept-answer _ _ _ _ _ _ _ _ _ _ _ _ c.request.inside.number c.args.reply.number at.tx c.request.inside.op c.at-code.result.now c.args.reply.said c.requires.kept at.found w a loaded hears
+          heard c.hear_at.ensures.len (rw (← at.serial) at c.push.ensures.events) c.push.ensures.room c.answered.ensures.last c.answered.ensures.pending c.answered.ensures.room;
       most = rw more c.requires.most;
       marked = marked-moved _ c.args.self.now.log.events _ _ _ _ _ c.requires.marked (omega (arith, more)) heard.updates (heard.certain ∙ sym (ap (is_doubted _) silent));
+      keyed = keys-moved _ _ _ _ at.tx _ c.requires.keyed at.found heard.updates heard.serial;
     }
 
 pub returns-clause-accepted : goal.returns-clause-accepted

@@ -7,6 +7,7 @@ use Rattle.tc_core.specs.declared.transaction.Tx.{Tx}
 use Rattle.tc_core.proofs.ReplyLemmas.{next-unknown, next-known}
 use Rattle.transactions.proofs.StandingLemmas.{some_same}
 use Rattle.history.specs.Flight.{given}
+use Rattle.tc_core.proofs.KeyLemmas.{keys-moved}
 use Rattle.tc_core.proofs.MarkedLemmas.{marked-moved}
 use Rattle.tc_core.proofs.KeptLemmas.{places-absent, seen, may-send, kept-ask}
 use Rattle.tc_core.proofs.book.Book.ask.Goals as goal
@@ -59,11 +60,12 @@ returns-in-Asks-clause-kept c =
     let late : given h < c.next_number-number.result = omega (arith, c.next_number-number.ensures.number, c.requires.kept.last_is) in
     record {
       kept =
-      kept-ask _ _ _ _ _ _ _ _ _ _ _ _ c.next_number-number.result at.tx _ c.in-Asks.op c.requires.kept at.found (seen _ _ _ _ _ _ _ _ _ _ at.tx c.requires.kept at.found refl) (c.in-Asks.ensures at.tx at.found)
-      c.next_number-number.ensures.number (rw (← at.serial) at c.push.ensures.events) c.push.ensures.room c.next_number-number.ensures.last c.next_number-number.ensures.pending c.next_number-number.ensures.room
-      (c.send_at.ensures.updates at.tx at.found) c.send_at.ensures.len refl;
+          kept-ask _ _ _ _ _ _ _ _ _ _ _ _ c.next_number-number.result at.tx _ c.in-Asks.op c.requires.kept at.found (seen _ _ _ _ _ _ _ _ _ _ at.tx c.requires.kept at.found refl) (c.in-Asks.ensures at.tx at.found)
+          c.next_number-number.ensures.number (rw (← at.serial) at c.push.ensures.events) c.push.ensures.room c.next_number-number.ensures.last c.next_number-number.ensures.pending c.next_number-number.ensures.room
+          (c.send_at.ensures.updates at.tx at.found) c.send_at.ensures.len refl;
       most = omega (arith, c.requires.most, more, promised);
       marked = marked-moved _ h _ _ _ _ _ c.requires.marked (omega (arith, more)) (c.send_at.ensures.updates at.tx at.found) (sym (c.requires.marked.early _ late));
+      keyed = keys-moved _ _ _ _ at.tx _ c.requires.keyed at.found (c.send_at.ensures.updates at.tx at.found) refl;
     }
 
 pub returns-in-Waits-clause-reply : goal.returns-in-Waits-clause-reply

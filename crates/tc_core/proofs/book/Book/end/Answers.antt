@@ -5,6 +5,7 @@ use Rattle.tc_core.specs.Kept.{core_of, IsBook}
 use Rattle.tc_core.specs.Replies.{end_of, end_reply, after_end}
 use Rattle.tc_core.proofs.ReplyLemmas.{end-unknown, end-known}
 use Rattle.history.specs.Flight.{given}
+use Rattle.tc_core.proofs.KeyLemmas.{keys-ended}
 use Rattle.tc_core.proofs.MarkedLemmas.{marked-ended}
 use Rattle.tc_core.proofs.KeptLemmas.{places-absent, seen, may-end, kept-end}
 use Rattle.tc_core.proofs.book.Book.end.Goals as goal
@@ -74,11 +75,12 @@ returns-clause-kept c =
     let same : given c.push.new.self.events ≡ given c.args.self.now.log.events = ap given c.push.ensures.events in
     record {
       kept =
-      rw left
-      (kept-end _ _ _ _ _ _ _ _ _ _ _ _ at.tx c.in-Some-over_at.outcome c.requires.kept at.found w (sym (c.over_at.ensures at.tx at.found) ∙ c.in-Some-over_at.is)
-      (rw (← at.serial) at c.push.ensures.events) c.push.ensures.room (rw (← at.serial) at c.release.ensures.held) c.take_out.ensures.updates c.take_out.ensures.len);
+          rw left
+          (kept-end _ _ _ _ _ _ _ _ _ _ _ _ at.tx c.in-Some-over_at.outcome c.requires.kept at.found w (sym (c.over_at.ensures at.tx at.found) ∙ c.in-Some-over_at.is)
+          (rw (← at.serial) at c.push.ensures.events) c.push.ensures.room (rw (← at.serial) at c.release.ensures.held) c.take_out.ensures.updates c.take_out.ensures.len);
       most = omega (arith, c.requires.most, same);
       marked = marked-ended _ c.args.self.now.log.events _ _ _ _ c.requires.marked (omega (arith, same)) c.take_out.ensures.updates;
+      keyed = keys-ended _ _ _ _ _ at.tx c.requires.keyed at.found c.take_out.ensures.updates (rw (← at.serial) at c.swap_remove.ensures.updates);
     }
 
 pub returns-clause-reply : goal.returns-clause-reply

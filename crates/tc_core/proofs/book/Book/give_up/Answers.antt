@@ -5,6 +5,7 @@ use Rattle.transactions.proofs.StandingLemmas.{none_some}
 use Rattle.tc_core.specs.Core.{Core, Asking}
 use Rattle.tc_core.specs.Kept.{core_of, IsBook}
 use Rattle.tc_core.specs.GivingUp.{IsOpenHere, Awaits}
+use Rattle.tc_core.proofs.KeyLemmas.{keys-moved}
 use Rattle.tc_core.proofs.MarkedLemmas.{kept-doubt, marked-doubt}
 use Rattle.tc_core.proofs.KeptLemmas.{places-absent, seen, Seen}
 use Rattle.tc_core.proofs.GivingUpLemmas.{open-awaits, awaits-open, open-number}
@@ -68,4 +69,5 @@ returns-clause-kept c =
       kept = kept-doubt _ _ _ _ _ _ _ _ _ _ at.tx c.requires.kept at.found up c.doubt_at.ensures.len;
       most = rw c.add.ensures.most c.requires.most;
       marked = rw c.add.ensures.numbers (marked-doubt core.procs _ _ _ _ _ _ at.tx a.r c.requires.kept.legal c.requires.kept.places c.requires.marked at.found a.waits a.same_number few up);
+      keyed = keys-moved _ _ _ _ at.tx _ c.requires.keyed at.found up refl;
     }
