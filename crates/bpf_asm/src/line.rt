@@ -1,6 +1,7 @@
 //! One line of assembly text.
 
-ghost use Rattle.std.specs.Prelude.{◌≡◌};
+ghost use Rattle.std.specs.Prelude.{◌≡◌, is_ok};
+ghost use Rattle.bpf_asm.specs.Mnemonics.{mnemonic_said};
 ghost use Rattle.bpf_asm.specs.Lines.{insn_with, insn_of_word, line_said};
 
 use crate::cut::{before, split_operands, split_word, trim};
@@ -62,6 +63,13 @@ fn insn_with(mnemonic: Mnemonic, a: &[u8], b: &[u8], c: &[u8]) -> Result<Insn, L
         Mnemonic::Call => Ok(Insn::Call(number(a)?)),
         Mnemonic::Exit => Ok(Insn::Exit),
     }
+}
+
+/// Whether a word names an instruction.
+pub fn is_mnemonic(word: &[u8]) -> bool
+    ensures { result ≡ is_ok (mnemonic_said word.now) }
+{
+    mnemonic_said(word).is_ok()
 }
 
 /// The instruction of a word with what follows it. Of several faults it is the first of: the
