@@ -1,6 +1,6 @@
 -- A procedure as far as it was read.
 use Rattle.std.specs.Prelude.{ℕ, ◌+◌, ◌==◌, nat_lt, if◌then◌else◌, List, [], ◌∷◌, ◌++◌, length, Option, Some, None, Result, Ok, Err}
-use Rattle.access_slots.specs.Declaration.{Declaration, decl_fault}
+use Rattle.access_slots.specs.Declaration.{decl_fault}
 use Rattle.access_slots.specs.declared.decl.DeclFault.{DeclFault}
 use Rattle.access_slots.specs.declared.slot.Slot.{Slot}
 use Rattle.bpf_encoding.specs.Spelling.{places_of}

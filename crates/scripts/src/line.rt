@@ -4,7 +4,8 @@ ghost use Rattle.std.specs.Prelude.{◌≡◌};
 ghost use Rattle.scripts.specs.Words.{words_of};
 ghost use Rattle.scripts.specs.Numbers.{Gives, number_to};
 ghost use Rattle.scripts.specs.Lines.{value_of, dc_said, proc_said, mode_said, key_said, slot_said, end_said, one_number, restart_said, plain_answer, answer_said, forge_said};
-ghost use Rattle.scripts.specs.Lines.{fixed_by, named_said, known_said, foreign_fault, assembly_said, line_said};
+ghost use Rattle.scripts.specs.Lines.{fixed_by, named_said, known_said, foreign_fault, assembly_said, inside_said, outside_said, line_said};
+ghost use Rattle.scripts.specs.Keywords.{keyword_said};
 
 use crate::fault::{LineError, ScriptFault};
 use crate::keyword::{Command, Keyword};
@@ -277,6 +278,40 @@ fn foreign(word: &[u8]) -> ScriptFault
     }
 }
 
+// A line inside of a procedure, where `call`, and all that is no keyword, is assembly.
+fn inside<'a>(
+    alloc: Global,
+    command: Command,
+    word: &[u8],
+    rest: &'a [u8],
+) -> Result<Line<'a>, LineError>
+    ensures { Gives (inside_said command (keyword_said word.now) word.now rest.entry.now) result }
+{
+    match Keyword::parse(word) {
+        None | Some(Keyword::Call) => Ok(assembly(word, rest)?),
+        Some(keyword) if command.knows(keyword) => known(alloc, keyword, false, rest),
+        Some(_) => Err(LineError::Fault(ScriptFault::BadLine)),
+    }
+}
+
+// A line outside of procedures.
+fn outside<'a>(
+    alloc: Global,
+    command: Command,
+    word: &[u8],
+    rest: &'a [u8],
+) -> Result<Line<'a>, LineError>
+    ensures { Gives (outside_said command (keyword_said word.now) word.now rest.entry.now) result }
+{
+    match Keyword::parse(word) {
+        Some(keyword) if command.knows(keyword) => {
+            known(alloc, keyword, command == Command::World, rest)
+        }
+        Some(_) => Err(LineError::Fault(ScriptFault::BadLine)),
+        None => Err(LineError::Fault(foreign(word))),
+    }
+}
+
 impl<'a> Line<'a> {
     /// What a line of this command's scripts says by itself; `is_open` inside of a procedure,
     /// where assembly stands. Of several faults it is the one of the lowest code.
@@ -293,14 +328,10 @@ impl<'a> Line<'a> {
             return Ok(Line::Nothing);
         }
         let (word, rest) = split_word(text);
-        match Keyword::parse(word) {
-            Some(Keyword::Call) if is_open => Ok(assembly(word, rest)?),
-            Some(keyword) if command.knows(keyword) => {
-                known(alloc, keyword, command == Command::World && !is_open, rest)
-            }
-            Some(_) => Err(LineError::Fault(ScriptFault::BadLine)),
-            None if is_open => Ok(assembly(word, rest)?),
-            None => Err(LineError::Fault(foreign(word))),
+        if is_open {
+            inside(alloc, command, word, rest)
+        } else {
+            outside(alloc, command, word, rest)
         }
     }
 }

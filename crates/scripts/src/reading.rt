@@ -1,8 +1,8 @@
 //! A script's text read line by line, up to its first fault.
 
-ghost use Rattle.std.specs.Prelude.{◌≡◌, IfOk, IfErr, OnOk, OnErr, Ok};
+ghost use Rattle.std.specs.Prelude.{◌≡◌, [], ◌∷◌, ◌++◌, false, map, IfOk, IfErr, OnOk, OnErr, Ok};
 ghost use Rattle.scripts.specs.Numbers.{IsStop};
-ghost use Rattle.scripts.specs.Reading.{no_lines, parsed_of, script_said, may_go_on, has_no_further, call_of, next, stopped, taken};
+ghost use Rattle.scripts.specs.Reading.{no_lines, parsed_of, script_said, is_taken, may_go_on, has_no_further, call_of, next, stopped, taken};
 ghost use Rattle.scripts.specs.Reading.{dc_added, proc_added, slot_declared, insn_written, procedure_ended, step_added, first_added, call_added, end_fault};
 
 use crate::fault::{LineError, ScriptFault};
@@ -53,6 +53,16 @@ impl<'a> Model for Reading<'a> {
     ghost view = { λ r. record { contents = contents_of r.script; names = map (λ k. k.now) r.names.keys; current = r.current } };
 }
 
+// A name more, which isn't taken.
+fn take_name<'a>(names: &mut IndexSet<&'a str>, name: &Name<'a>) -> Result<(), LineError>
+    requires { is_taken (map (λ k. k.now) names.old.keys) name.now ≡ false }
+    ensures ok { OnOk result (map (λ k. k.now) names.new.keys ≡ map (λ k. k.now) names.old.keys ++ name.now ∷ []) }
+    ensures err { IfErr result (λ e. e ≡ LineError.Memory) }
+{
+    names.insert(name.as_str())?;
+    Ok(())
+}
+
 impl<'a> Reading<'a> {
     fn new(alloc: Global) -> Reading<'a>
         ensures { result ≡ no_lines }
@@ -69,6 +79,12 @@ impl<'a> Reading<'a> {
             names: IndexSet::new(alloc),
             current: None,
         }
+    }
+
+    fn is_taken(&self, name: &Name<'a>) -> bool
+        ensures { result ≡ is_taken self.now.names name.now }
+    {
+        self.names.contains(name.as_str())
     }
 
     // Whether no line of the last part was read.
@@ -103,13 +119,13 @@ impl<'a> Reading<'a> {
         ensures err { IfErr result (IsStop (proc_added self.old name.entry args)) }
         ensures kept { OnErr result (self.new.contents ≡ self.old.contents) }
     {
-        if self.names.contains(name.as_str()) {
+        if self.is_taken(&name) {
             return Err(LineError::Fault(ScriptFault::NameTaken));
         }
         if !self.may_go_on() || !self.has_no_further() {
             return Err(LineError::Fault(ScriptFault::Order));
         }
-        self.names.insert(name.as_str())?;
+        take_name(&mut self.names, &name)?;
         self.current = Some(Open::new(self.alloc, name, args));
         Ok(())
     }
