@@ -15,8 +15,6 @@ pub enum Outside {
     LocalCall,
     /// A call of a function by its BTF id.
     BtfCall,
-    /// An atomic operation.
-    Atomic,
 }
 
 /// What is wrong with a slot.
