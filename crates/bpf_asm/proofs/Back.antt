@@ -3,6 +3,7 @@ use Rattle.std.proofs.Common.{◌≡◌, true, Ok, refl}
 use Rattle.bpf_encoding.specs.declared.insn.Register.{Register}
 use Rattle.bpf_encoding.specs.declared.insn.Register.TheVariants.{R0, R1, R2, R3, R4, R5, R6, R7, R8, R9, R10}
 use Rattle.bpf_encoding.specs.declared.insn.Operation.TheVariants.{Add, Sub, Mul, Div, SignedDiv, Or, And, LeftShift, RightShift, Mod, SignedMod, Xor, Mov, SignedRightShift}
+use Rattle.bpf_encoding.specs.declared.insn.AtomicOperation.TheVariants as atomic
 use Rattle.bpf_encoding.specs.declared.insn.Condition.TheVariants.{Equal, Greater, GreaterOrEqual, AnyBit, NotEqual, SignedGreater, SignedGreaterOrEqual, Less, LessOrEqual, SignedLess, SignedLessOrEqual}
 use Rattle.bpf_encoding.specs.declared.insn.Width.TheVariants.{Bits64, Bits32}
 use Rattle.bpf_encoding.specs.declared.insn.Extension.TheVariants.{Byte64, Half64, Word64, Byte32, Half32}
@@ -101,6 +102,26 @@ mnemonic_back (m.Store Word) = refl
 mnemonic_back (m.Store Half) = refl
 mnemonic_back (m.Store Byte) = refl
 mnemonic_back (m.Store Double) = refl
+mnemonic_back (m.Atomic Bits32 atomic.Add) = refl
+mnemonic_back (m.Atomic Bits32 atomic.Or) = refl
+mnemonic_back (m.Atomic Bits32 atomic.And) = refl
+mnemonic_back (m.Atomic Bits32 atomic.Xor) = refl
+mnemonic_back (m.Atomic Bits32 atomic.FetchAdd) = refl
+mnemonic_back (m.Atomic Bits32 atomic.FetchOr) = refl
+mnemonic_back (m.Atomic Bits32 atomic.FetchAnd) = refl
+mnemonic_back (m.Atomic Bits32 atomic.FetchXor) = refl
+mnemonic_back (m.Atomic Bits32 atomic.Exchange) = refl
+mnemonic_back (m.Atomic Bits32 atomic.CompareExchange) = refl
+mnemonic_back (m.Atomic Bits64 atomic.Add) = refl
+mnemonic_back (m.Atomic Bits64 atomic.Or) = refl
+mnemonic_back (m.Atomic Bits64 atomic.And) = refl
+mnemonic_back (m.Atomic Bits64 atomic.Xor) = refl
+mnemonic_back (m.Atomic Bits64 atomic.FetchAdd) = refl
+mnemonic_back (m.Atomic Bits64 atomic.FetchOr) = refl
+mnemonic_back (m.Atomic Bits64 atomic.FetchAnd) = refl
+mnemonic_back (m.Atomic Bits64 atomic.FetchXor) = refl
+mnemonic_back (m.Atomic Bits64 atomic.Exchange) = refl
+mnemonic_back (m.Atomic Bits64 atomic.CompareExchange) = refl
 mnemonic_back m.Call = refl
 mnemonic_back m.Exit = refl
 
@@ -189,6 +210,26 @@ mnemonic_solid (m.Store Word) = refl
 mnemonic_solid (m.Store Half) = refl
 mnemonic_solid (m.Store Byte) = refl
 mnemonic_solid (m.Store Double) = refl
+mnemonic_solid (m.Atomic Bits32 atomic.Add) = refl
+mnemonic_solid (m.Atomic Bits32 atomic.Or) = refl
+mnemonic_solid (m.Atomic Bits32 atomic.And) = refl
+mnemonic_solid (m.Atomic Bits32 atomic.Xor) = refl
+mnemonic_solid (m.Atomic Bits32 atomic.FetchAdd) = refl
+mnemonic_solid (m.Atomic Bits32 atomic.FetchOr) = refl
+mnemonic_solid (m.Atomic Bits32 atomic.FetchAnd) = refl
+mnemonic_solid (m.Atomic Bits32 atomic.FetchXor) = refl
+mnemonic_solid (m.Atomic Bits32 atomic.Exchange) = refl
+mnemonic_solid (m.Atomic Bits32 atomic.CompareExchange) = refl
+mnemonic_solid (m.Atomic Bits64 atomic.Add) = refl
+mnemonic_solid (m.Atomic Bits64 atomic.Or) = refl
+mnemonic_solid (m.Atomic Bits64 atomic.And) = refl
+mnemonic_solid (m.Atomic Bits64 atomic.Xor) = refl
+mnemonic_solid (m.Atomic Bits64 atomic.FetchAdd) = refl
+mnemonic_solid (m.Atomic Bits64 atomic.FetchOr) = refl
+mnemonic_solid (m.Atomic Bits64 atomic.FetchAnd) = refl
+mnemonic_solid (m.Atomic Bits64 atomic.FetchXor) = refl
+mnemonic_solid (m.Atomic Bits64 atomic.Exchange) = refl
+mnemonic_solid (m.Atomic Bits64 atomic.CompareExchange) = refl
 mnemonic_solid m.Call = refl
 mnemonic_solid m.Exit = refl
 
