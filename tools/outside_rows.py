@@ -1,20 +1,31 @@
 #!/usr/bin/env python3
-"""outside_rows.py FOLDER: code and answers of others as rows for the definitions.
+"""outside_rows.py: code and answers of others as rows for the definitions.
 
-FOLDER has SUITE/cases.jsonl with the code as hex, its arguments and the answer that the
-suite's own tool gave (the kernel's and DPDK's tests, compiled functions). Each case without
-atomics becomes a lemma of crates/semantics/proofs/SUITERows.antt: the definitions, computed
-by the prover on these bytes, give that answer. Writes these files."""
+outside/SUITE/cases.jsonl has code as hex, its arguments and the answer that the suite's own tool
+gave; outside/README.md says where each suite comes from. Each case without atomics becomes a lemma
+of crates/semantics/proofs/SUITERows.antt: the definitions, computed by the prover on these bytes,
+give that answer. Writes these files."""
 import glob
 import json
 import os
-import sys
 
-HEAD = """-- Code and answers of others (the Linux kernel's and DPDK's tests, compiled functions): the definitions, computed, give these answers.
+HERE = os.path.dirname(os.path.abspath(__file__))
+PROOFS = os.path.join(HERE, "..", "crates", "semantics", "proofs")
+
+HEAD = """-- Code and answers of others ({said}): the definitions, computed, give these answers.
 -- A slot is written as the 64-bit number that its bytes are, little-endian. Made by tools/outside_rows.py.
-use Rattle.std.proofs.Common.{◌≡◌, List, [], ◌∷◌, Some, refl}
-use Rattle.semantics.specs.Row.{answer_to, low_answer_to}
+use Rattle.std.proofs.Common.{{◌≡◌, [], ◌∷◌, Some, refl}}
+use Rattle.semantics.specs.Row.{{{words}}}
 """
+
+SAID = {
+    "boundaries": "the Linux kernel's interpreter, on programs at the boundaries of each instruction",
+    "c-functions": "compiled C functions, and what the same functions answer on the host",
+    "dpdk": "DPDK's tests of its BPF library",
+    "each-opcode": "cases of the other suites' sources, chosen so that each opcode is there",
+    "kernel-test-bpf": "the Linux kernel's lib/test_bpf.c",
+    "kernel-verifier-progs": "the Linux kernel's programs for its verifier",
+}
 
 
 def slots(code):
@@ -26,29 +37,35 @@ def listed(items):
     return " ∷ ".join(list(items) + ["[]"])
 
 
+def is_row(case):
+    """Whether it is code of this profile whose answer is told."""
+    return not case["atomics"] and not case.get("note", "").startswith("reads before written")
+
+
 def rows(path, suite):
-    for number, line in enumerate(open(path)):
-        case = json.loads(line)
-        if case["atomics"] or case["compare"] == "reject":
-            continue
-        low = case["compare"] == "low32"
-        word = "low_answer_to" if low else "answer_to"
-        wanted = case["expected"] % 2**32 if low else case["expected"]
-        args = listed(str(a) for a in case["args"])
-        name = f"{suite.replace('-', '_')}_{number}"
-        yield f"-- {case['name']}\n{name} : {word} ({listed(slots(case['hex']))}) ({args}) ≡ Some {wanted}\n{name} = refl\n"
+    with open(path) as file:
+        for number, line in enumerate(file):
+            case = json.loads(line)
+            if not is_row(case):
+                continue
+            wanted = case["expected"] if case["compare"] == "u64" else case.get("whole")
+            word = "answer_to"
+            if wanted is None:
+                word, wanted = "low_answer_to", case["expected"] % 2**32
+            args = listed(str(a) for a in case["args"])
+            name = f"{suite.replace('-', '_')}_{number}"
+            yield word, f"-- {case['name']}\n{name} : {word} ({listed(slots(case['hex']))}) ({args}) ≡ Some {wanted}\n{name} = refl\n"
 
 
 def main():
-    out = os.path.join(os.path.dirname(os.path.abspath(__file__)), "..", "crates", "semantics", "proofs")
-    for path in sorted(glob.glob(os.path.join(sys.argv[1], "*", "cases.jsonl"))):
+    for path in sorted(glob.glob(os.path.join(HERE, "outside", "*", "cases.jsonl"))):
         suite = os.path.basename(os.path.dirname(path))
         made = list(rows(path, suite))
-        if made:
-            module = "".join(part.capitalize() for part in suite.split("-")) + "Rows"
-            with open(os.path.join(out, module + ".antt"), "w") as file:
-                file.write(HEAD + "\n" + "\n".join(made))
-            print(module, len(made))
+        words = [word for word in ("answer_to", "low_answer_to") if any(word == used for used, _ in made)]
+        module = "".join(part.capitalize() for part in suite.split("-")) + "Rows"
+        with open(os.path.join(PROOFS, module + ".antt"), "w") as file:
+            file.write(HEAD.format(said=SAID[suite], words=", ".join(words)) + "\n" + "\n".join(text for _, text in made))
+        print(module, len(made))
 
 
 main()

@@ -1,4 +1,4 @@
--- Code and answers of others (the Linux kernel's and DPDK's tests, compiled functions): the definitions, computed, give these answers.
+-- Code and answers of others (compiled C functions, and what the same functions answer on the host): the definitions, computed, give these answers.
 -- A slot is written as the 64-bit number that its bytes are, little-endian. Made by tools/outside_rows.py.
 use Rattle.std.proofs.Common.{◌≡◌, [], ◌∷◌, Some, refl}
 use Rattle.semantics.specs.Row.{answer_to}

@@ -5,3 +5,8 @@ pub mod CFunctionsRows
 pub mod DpdkRows
 pub mod KernelTestBpfRows
 pub mod KernelVerifierProgsRows
+pub mod BoundariesRows
+pub mod EachOpcodeRows
+pub mod ProcedureRows
+pub mod HelperRows
+pub mod TrapRows

@@ -89,3 +89,94 @@ no_second_argument = refl
 -- stxdw [r10-4], r1: a store past the stack's end
 past_the_stack : outcome_of (bytes_of_slots (0xfffc1a7b ∷ 0xb7 ∷ 0x95 ∷ [])) (5 ∷ []) ≡ None
 past_the_stack = refl
+
+-- ---- by 0 and by -1 (RFC 9669, section 4.1: a quotient by 0 is 0, a number modulo 0 stays, in class ALU with its upper half 0)
+-- The slots are what LLVM's assembler (llvm-mc 19) writes for the text beside them.
+
+-- r0 = 0x8123456789abcdef ll; r1 = 0; r0 /= r1; exit
+divided_by_zero_in_a_register : outcome_of (bytes_of_slots (0x89abcdef00000018 ∷ 0x8123456700000000 ∷ 0x1b7 ∷ 0x103f ∷ 0x95 ∷ [])) [] ≡ Some (0, 4)
+divided_by_zero_in_a_register = refl
+
+-- r0 = 0x8123456789abcdef ll; r0 /= 0; exit
+divided_by_the_number_zero : outcome_of (bytes_of_slots (0x89abcdef00000018 ∷ 0x8123456700000000 ∷ 0x37 ∷ 0x95 ∷ [])) [] ≡ Some (0, 3)
+divided_by_the_number_zero = refl
+
+-- r0 = 0x8123456789abcdef ll; r1 = 0x100000000 ll; w0 /= w1; exit
+narrow_divided_by_zero_in_a_register : outcome_of (bytes_of_slots (0x89abcdef00000018 ∷ 0x8123456700000000 ∷ 0x118 ∷ 0x100000000 ∷ 0x103c ∷ 0x95 ∷ [])) [] ≡ Some (0, 4)
+narrow_divided_by_zero_in_a_register = refl
+
+-- r0 = 0x8123456789abcdef ll; w0 /= 0; exit
+narrow_divided_by_the_number_zero : outcome_of (bytes_of_slots (0x89abcdef00000018 ∷ 0x8123456700000000 ∷ 0x34 ∷ 0x95 ∷ [])) [] ≡ Some (0, 3)
+narrow_divided_by_the_number_zero = refl
+
+-- r0 = 0x8123456789abcdef ll; r1 = 0; r0 s/= r1; exit
+signed_divided_by_zero_in_a_register : outcome_of (bytes_of_slots (0x89abcdef00000018 ∷ 0x8123456700000000 ∷ 0x1b7 ∷ 0x1103f ∷ 0x95 ∷ [])) [] ≡ Some (0, 4)
+signed_divided_by_zero_in_a_register = refl
+
+-- r0 = 0x8123456789abcdef ll; r0 s/= 0; exit
+signed_divided_by_the_number_zero : outcome_of (bytes_of_slots (0x89abcdef00000018 ∷ 0x8123456700000000 ∷ 0x10037 ∷ 0x95 ∷ [])) [] ≡ Some (0, 3)
+signed_divided_by_the_number_zero = refl
+
+-- r0 = 0x8123456789abcdef ll; r1 = 0x100000000 ll; w0 s/= w1; exit
+narrow_signed_divided_by_zero_in_a_register : outcome_of (bytes_of_slots (0x89abcdef00000018 ∷ 0x8123456700000000 ∷ 0x118 ∷ 0x100000000 ∷ 0x1103c ∷ 0x95 ∷ [])) [] ≡ Some (0, 4)
+narrow_signed_divided_by_zero_in_a_register = refl
+
+-- r0 = 0x8123456789abcdef ll; w0 s/= 0; exit
+narrow_signed_divided_by_the_number_zero : outcome_of (bytes_of_slots (0x89abcdef00000018 ∷ 0x8123456700000000 ∷ 0x10034 ∷ 0x95 ∷ [])) [] ≡ Some (0, 3)
+narrow_signed_divided_by_the_number_zero = refl
+
+-- r0 = 0x8123456789abcdef ll; r1 = 0; r0 %= r1; exit
+modulo_by_zero_in_a_register : outcome_of (bytes_of_slots (0x89abcdef00000018 ∷ 0x8123456700000000 ∷ 0x1b7 ∷ 0x109f ∷ 0x95 ∷ [])) [] ≡ Some (9305357566071262703, 4)
+modulo_by_zero_in_a_register = refl
+
+-- r0 = 0x8123456789abcdef ll; r0 %= 0; exit
+modulo_by_the_number_zero : outcome_of (bytes_of_slots (0x89abcdef00000018 ∷ 0x8123456700000000 ∷ 0x97 ∷ 0x95 ∷ [])) [] ≡ Some (9305357566071262703, 3)
+modulo_by_the_number_zero = refl
+
+-- r0 = 0x8123456789abcdef ll; r1 = 0x100000000 ll; w0 %= w1; exit
+narrow_modulo_by_zero_in_a_register : outcome_of (bytes_of_slots (0x89abcdef00000018 ∷ 0x8123456700000000 ∷ 0x118 ∷ 0x100000000 ∷ 0x109c ∷ 0x95 ∷ [])) [] ≡ Some (2309737967, 4)
+narrow_modulo_by_zero_in_a_register = refl
+
+-- r0 = 0x8123456789abcdef ll; w0 %= 0; exit
+narrow_modulo_by_the_number_zero : outcome_of (bytes_of_slots (0x89abcdef00000018 ∷ 0x8123456700000000 ∷ 0x94 ∷ 0x95 ∷ [])) [] ≡ Some (2309737967, 3)
+narrow_modulo_by_the_number_zero = refl
+
+-- r0 = 0x8123456789abcdef ll; r1 = 0; r0 s%= r1; exit
+signed_modulo_by_zero_in_a_register : outcome_of (bytes_of_slots (0x89abcdef00000018 ∷ 0x8123456700000000 ∷ 0x1b7 ∷ 0x1109f ∷ 0x95 ∷ [])) [] ≡ Some (9305357566071262703, 4)
+signed_modulo_by_zero_in_a_register = refl
+
+-- r0 = 0x8123456789abcdef ll; r0 s%= 0; exit
+signed_modulo_by_the_number_zero : outcome_of (bytes_of_slots (0x89abcdef00000018 ∷ 0x8123456700000000 ∷ 0x10097 ∷ 0x95 ∷ [])) [] ≡ Some (9305357566071262703, 3)
+signed_modulo_by_the_number_zero = refl
+
+-- r0 = 0x8123456789abcdef ll; r1 = 0x100000000 ll; w0 s%= w1; exit
+narrow_signed_modulo_by_zero_in_a_register : outcome_of (bytes_of_slots (0x89abcdef00000018 ∷ 0x8123456700000000 ∷ 0x118 ∷ 0x100000000 ∷ 0x1109c ∷ 0x95 ∷ [])) [] ≡ Some (2309737967, 4)
+narrow_signed_modulo_by_zero_in_a_register = refl
+
+-- r0 = 0x8123456789abcdef ll; w0 s%= 0; exit
+narrow_signed_modulo_by_the_number_zero : outcome_of (bytes_of_slots (0x89abcdef00000018 ∷ 0x8123456700000000 ∷ 0x10094 ∷ 0x95 ∷ [])) [] ≡ Some (2309737967, 3)
+narrow_signed_modulo_by_the_number_zero = refl
+
+-- r0 = 0x8000000000000000 ll; r1 = -1; r0 s/= r1; exit
+least_divided_by_a_register : outcome_of (bytes_of_slots (0x18 ∷ 0x8000000000000000 ∷ 0xffffffff000001b7 ∷ 0x1103f ∷ 0x95 ∷ [])) [] ≡ Some (9223372036854775808, 4)
+least_divided_by_a_register = refl
+
+-- r0 = 0x80000000 ll; w0 s/= -1; exit
+narrow_least_divided : outcome_of (bytes_of_slots (0x8000000000000018 ∷ 0x0 ∷ 0xffffffff00010034 ∷ 0x95 ∷ [])) [] ≡ Some (2147483648, 3)
+narrow_least_divided = refl
+
+-- r0 = 0x80000000 ll; r1 = -1; w0 s/= w1; exit
+narrow_least_divided_by_a_register : outcome_of (bytes_of_slots (0x8000000000000018 ∷ 0x0 ∷ 0xffffffff000001b7 ∷ 0x1103c ∷ 0x95 ∷ [])) [] ≡ Some (2147483648, 4)
+narrow_least_divided_by_a_register = refl
+
+-- r0 = 0x8000000000000000 ll; r1 = -1; r0 s%= r1; exit
+least_modulo_by_a_register : outcome_of (bytes_of_slots (0x18 ∷ 0x8000000000000000 ∷ 0xffffffff000001b7 ∷ 0x1109f ∷ 0x95 ∷ [])) [] ≡ Some (0, 4)
+least_modulo_by_a_register = refl
+
+-- r0 = 0x80000000 ll; w0 s%= -1; exit
+narrow_least_modulo : outcome_of (bytes_of_slots (0x8000000000000018 ∷ 0x0 ∷ 0xffffffff00010094 ∷ 0x95 ∷ [])) [] ≡ Some (0, 3)
+narrow_least_modulo = refl
+
+-- r0 = 0x80000000 ll; r1 = -1; w0 s%= w1; exit
+narrow_least_modulo_by_a_register : outcome_of (bytes_of_slots (0x8000000000000018 ∷ 0x0 ∷ 0xffffffff000001b7 ∷ 0x1109c ∷ 0x95 ∷ [])) [] ≡ Some (0, 4)
+narrow_least_modulo_by_a_register = refl

@@ -1,0 +1,70 @@
+#!/usr/bin/env python3
+"""kernel_answers.py KERNEL_INTERP [LLVM_MC]: whole answers, by the Linux kernel's interpreter.
+
+KERNEL_INTERP is the program that kernel/build.sh makes. The programs of boundaries.py are
+assembled by LLVM_MC (llvm-mc-19) and become boundaries/cases.jsonl with what the interpreter
+answers. The kernel's tests tell the low 32 bits of an answer alone: here each of these cases
+gets what the interpreter answers as `whole`, where it ends and agrees with the test's low bits.
+"""
+import glob
+import json
+import os
+import re
+import subprocess
+import sys
+
+from boundaries import programs
+
+HERE = os.path.dirname(os.path.abspath(__file__))
+
+
+def answers(program, cases):
+    text = "".join(" ".join([code, *map(str, args)]) + "\n" for code, args in cases)
+    printed = subprocess.run([program], input=text, capture_output=True, text=True, check=True).stdout
+    return [None if line == "trap" else int(line) for line in printed.splitlines()]
+
+
+def assembled(assembler, lines):
+    """The bytes of these lines, as hex digits."""
+    words = [assembler, "-triple", "bpfel", "-mcpu=v4", "-show-encoding"]
+    printed = subprocess.run(words, input="\n".join(lines) + "\n", capture_output=True, text=True, check=True).stdout
+    found = re.findall(r"encoding: \[([^]]*)\]", printed)
+    if len(found) != len(lines):
+        sys.exit(f"{assembler} did not encode each of {lines}")
+    return "".join(byte.strip()[2:] for encoding in found for byte in encoding.split(","))
+
+
+def write(suite, cases):
+    os.makedirs(os.path.join(HERE, suite), exist_ok=True)
+    with open(os.path.join(HERE, suite, "cases.jsonl"), "w") as file:
+        file.writelines(json.dumps(case) + "\n" for case in cases)
+
+
+def main():
+    program = sys.argv[1]
+    assembler = sys.argv[2] if len(sys.argv) > 2 else "llvm-mc-19"
+    texts = list(programs())
+    codes = [assembled(assembler, lines) for _, lines in texts]
+    found = answers(program, [(code, []) for code in codes])
+    # where the kernel's verifier would put a guard before a division, there is no answer
+    rows = [
+        {"name": name, "hex": code, "args": [], "expected": value, "compare": "u64", "atomics": False}
+        for (name, _), code, value in zip(texts, codes, found)
+        if value is not None
+    ]
+    write("boundaries", rows)
+    print("boundaries", len(rows), "of", len(texts))
+    for path in sorted(glob.glob(os.path.join(HERE, "*", "cases.jsonl"))):
+        suite = os.path.basename(os.path.dirname(path))
+        cases = [json.loads(line) for line in open(path)]
+        low = [case for case in cases if case["compare"] == "low32" and not case["atomics"]]
+        for case, value in zip(low, answers(program, [(case["hex"], case["args"]) for case in low])):
+            case.pop("whole", None)
+            if value is not None and value % 2**32 == case["expected"] % 2**32:
+                case["whole"] = value
+        if low:
+            write(suite, cases)
+            print(suite, sum("whole" in case for case in low), "of", len(low))
+
+
+main()
