@@ -76,6 +76,9 @@ allows None reads = false
 allows (Some mode.Read) reads = reads
 allows (Some mode.Write) reads = true
 
--- the operation's record is locked, and in Write unless it reads
+-- where records are locked in these modes, the operation's record is locked, and in Write unless it reads
+abbrev pub covers : (Record → Option Mode) → Op → Bool
+covers mode_of o = allows (mode_of (target o)) (is_read o)
+
 abbrev pub covered : List Lock → Op → Bool
-covered locks o = allows (mode_in locks (target o)) (is_read o)
+covered locks o = covers (mode_in locks) o

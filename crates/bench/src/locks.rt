@@ -26,8 +26,8 @@ fn one_lock(key: u64) -> Option<LockSet> {
 
 // Whether the transaction has got the locks.
 fn take(table: &mut LockTable, txn: u64, set: &LockSet) -> bool
-    requires { HoldsNothing (held_by table.old.claims) txn }
-    ensures others { (t : ℕ) (r : Record) → (t == txn) ≡ false → held_by table.new.claims t r ≡ held_by table.old.claims t r }
+    requires { HoldsNothing (held_by table.old) txn }
+    ensures others { (t : ℕ) (r : Record) → (t == txn) ≡ false → held_by table.new t r ≡ held_by table.old t r }
 {
     match table.reserve(set) {
         Ok(()) => table.grant(txn, set).is_ok(),

@@ -11,19 +11,26 @@ use bpf_encoding::code::{Code, MOST_SLOTS};
 use bpf_encoding::decode::DecodeFault;
 use bpf_encoding::insn::Insn;
 use std::alloc::{AllocFailed, Global};
+use thiserror::Error;
 
 /// Why a text is refused.
-#[derive(Clone, Copy, Debug, PartialEq, Eq)]
+#[derive(Clone, Copy, Debug, PartialEq, Eq, Error)]
 pub enum AsmFault {
     /// What is wrong with this line, counted from 1.
+    #[error("line {0}: {1}")]
     Line(usize, LineFault),
     /// The line that passes 4096 slots.
+    #[error("line {0}: more than {MOST_SLOTS} slots")]
     TooLong(usize),
     /// No line has an instruction.
+    #[error("there is no instruction")]
     NoCode,
     /// Memory ran out.
+    #[error("out of memory")]
     Memory,
 }
+
+// By hand, since contracts name what `?` makes of an error.
 
 impl<T: Drop> From<AllocFailed<T>> for AsmFault {
     ghost use Rattle.std.specs.Prelude.{◌≡◌};

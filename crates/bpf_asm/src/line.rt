@@ -8,19 +8,25 @@ use crate::mnemonic::{Mnemonic, mnemonic_said};
 use crate::number::{jump, jump_long, number, wide};
 use crate::operand::{memory, register, source};
 use bpf_encoding::insn::Insn;
+use thiserror::Error;
 
 /// What is wrong with a line.
-#[derive(Clone, Copy, Debug, PartialEq, Eq)]
+#[derive(Clone, Copy, Debug, PartialEq, Eq, Error)]
 pub enum LineFault {
     /// Its first word names no instruction.
+    #[error("the first word names no instruction")]
     UnknownWord,
     /// A register isn't `r0` to `r10`.
+    #[error("a register isn't r0 to r10")]
     BadRegister,
     /// A number has no digits, or something else than digits.
+    #[error("a number isn't digits")]
     BadNumber,
     /// A number is too large or too small for its place.
+    #[error("a number is out of range")]
     OutOfRange,
     /// There are more or fewer operands, or a memory operand isn't `[register+offset]`.
+    #[error("too many or too few operands, or a memory operand isn't [register+offset]")]
     Operands,
 }
 

@@ -13,29 +13,40 @@ ghost use Rattle.bpf_encoding.specs.declared.insn.Place.{Place};
 use crate::code::{Code, MOST_SLOTS};
 use crate::insn::{Insn, Place, Register};
 use crate::read::insn_of;
-use crate::slot::{Outside, Slot, SlotFault};
+use crate::slot::{Fields, Outside, SlotFault};
 use std::alloc::{AllocError, AllocFailed, Global};
+use thiserror::Error;
 
 /// Why bytes are no code. Slots are counted from 0.
-#[derive(Debug, Drop)]
+#[derive(Debug, Drop, Error)]
 pub enum DecodeFault {
     /// There are no bytes.
+    #[error("there are no bytes")]
     NoCode,
     /// The bytes are no whole number of slots.
+    #[error("the bytes are no whole number of slots")]
     Length,
     /// There are more than 4096 slots.
+    #[error("there are more than {MOST_SLOTS} slots")]
     TooLong,
     /// A wide instruction stands in the last slot.
+    #[error("slot {0}: a wide instruction without its second slot")]
     WideCut(usize),
     /// A field that the form doesn't use isn't 0.
+    #[error("slot {0}: a field that isn't used isn't 0")]
     UnusedField(usize),
     /// The opcode, a selecting field or a register is outside the tables.
+    #[error("slot {0}: an opcode, a selecting field or a register outside the tables")]
     Undefined(usize),
     /// Standard, but not of this profile.
+    #[error("slot {0}: outside this profile: {1}")]
     OutsideProfile(usize, Outside),
     /// Memory ran out.
+    #[error("out of memory")]
     Memory,
 }
+
+// By hand, since contracts name what `?` makes of an error.
 
 impl From<AllocError> for DecodeFault {
     ghost use Rattle.std.specs.Prelude.{◌≡◌};
@@ -77,7 +88,7 @@ fn fault_at(slot: usize, fault: SlotFault) -> DecodeFault
 }
 
 // A slot where no second one is due.
-fn take_first(places: &mut Vec<Place>, slot: &Slot, at: usize) -> Result<Option<Due>, DecodeFault>
+fn take_first(places: &mut Vec<Place>, slot: &Fields, at: usize) -> Result<Option<Due>, DecodeFault>
     ensures ok { IfOk result (λ due. TakesSlot places.old.items None (viewed slot.now) places.new.items due) }
     ensures err { IfErr result (IsFaultHere None at (viewed slot.now)) }
 {
@@ -106,7 +117,7 @@ fn wide_value(low: u32, imm: i32) -> u64
 fn take_second(
     places: &mut Vec<Place>,
     due: Due,
-    slot: &Slot,
+    slot: &Fields,
     at: usize,
 ) -> Result<Option<Due>, DecodeFault>
     ensures ok { IfOk result (λ due'. TakesSlot places.old.items (Some due) (viewed slot.now) places.new.items due') }
@@ -124,7 +135,7 @@ fn take_second(
 fn take(
     places: &mut Vec<Place>,
     due: Option<Due>,
-    slot: &Slot,
+    slot: &Fields,
     at: usize,
 ) -> Result<Option<Due>, DecodeFault>
     ensures ok { IfOk result (λ due'. TakesSlot places.old.items due (viewed slot.now) places.new.items due') }
@@ -150,7 +161,7 @@ fn places_of(alloc: Global, bytes: &[u8]) -> Result<Vec<Place>, DecodeFault>
     let mut rest = bytes;
     for at in 0..count {
         let (front, after) = rest.split_at(8);
-        let slot = Slot::from_bytes(front);
+        let slot = Fields::from_bytes(front);
         due = take(&mut places, due, &slot, at)?;
         rest = after;
     }

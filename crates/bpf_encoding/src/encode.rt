@@ -11,7 +11,7 @@ use crate::insn::{
     AtomicOperation, ByteOrder, Condition, Extension, Insn, Operation, OrderWidth, Place, Register,
     SignedSize, Size, Source, Width,
 };
-use crate::slot::Slot;
+use crate::slot::Fields;
 use std::alloc::{AllocError, Global};
 
 fn alu_class(width: Width) -> u8
@@ -189,10 +189,10 @@ fn atomic_imm(operation: AtomicOperation) -> i32
 }
 
 // A slot with these fields, all others 0.
-fn slot(opcode: u8, dst: u8, src: u8, offset: i16, imm: i32) -> Slot
+fn slot(opcode: u8, dst: u8, src: u8, offset: i16, imm: i32) -> Fields
     ensures { result ≡ record { opcode = opcode; dst = dst; src = src; offset = offset; imm = imm } }
 {
-    Slot {
+    Fields {
         opcode,
         dst,
         src,
@@ -208,7 +208,7 @@ fn number(register: Register) -> u8
 }
 
 // The slot of two registers and an offset.
-fn pair(opcode: u8, dst: Register, src: Register, offset: i16) -> Slot
+fn pair(opcode: u8, dst: Register, src: Register, offset: i16) -> Fields
     ensures fields { viewed result ≡ fields opcode (number_of dst) (number_of src) offset (pos 0) }
     ensures registers { (result.dst < 16) × (result.src < 16) }
 {
@@ -216,7 +216,7 @@ fn pair(opcode: u8, dst: Register, src: Register, offset: i16) -> Slot
 }
 
 // The slot of an operation or a jump with two operands.
-fn two_operands(row: u8, dst: Register, source: Source, offset: i16) -> Slot
+fn two_operands(row: u8, dst: Register, source: Source, offset: i16) -> Fields
     requires { row < 240 }
     ensures fields { viewed result ≡ fields (row + 8 * source_bit source) (number_of dst) (source_register source) offset (source_imm source) }
     ensures registers { (result.dst < 16) × (result.src < 16) }
@@ -228,7 +228,7 @@ fn two_operands(row: u8, dst: Register, source: Source, offset: i16) -> Slot
 }
 
 // The slot of an instruction, of a wide one its first.
-fn slot_of(insn: &Insn) -> Slot
+fn slot_of(insn: &Insn) -> Fields
     ensures fields { viewed result ≡ fields_of insn.now }
     ensures registers { (result.dst < 16) × (result.src < 16) }
 {
@@ -271,7 +271,7 @@ fn slot_of(insn: &Insn) -> Slot
 }
 
 // The slot of a place; high is the half that a second slot here has.
-fn slot_at(place: &Place, high: u32) -> Slot
+fn slot_at(place: &Place, high: u32) -> Fields
     ensures fields { viewed result ≡ place_fields high place.now }
     ensures registers { (result.dst < 16) × (result.src < 16) }
 {

@@ -11,7 +11,7 @@ use crate::insn::{
     AtomicOperation, ByteOrder, Condition, Extension, Insn, Operation, OrderWidth, Register,
     SignedSize, Size, Source, Width,
 };
-use crate::slot::{Outside, Slot, SlotFault};
+use crate::slot::{Fields, Outside, SlotFault};
 
 fn register(n: u8) -> Option<Register>
     ensures some { IfSome result (λ r. (number_of r ≡ n) × (n ≤ 10)) }
@@ -42,7 +42,7 @@ fn used(n: u8) -> Result<Register, SlotFault>
 }
 
 // What of the standard is left out here.
-fn outside(slot: &Slot) -> Option<Outside>
+fn outside(slot: &Fields) -> Option<Outside>
     ensures { result ≡ outside_of (viewed slot.now) }
 {
     let mode = slot.opcode / 32;
@@ -70,7 +70,7 @@ fn blank(is_blank: bool) -> Result<(), SlotFault>
 }
 
 // A binary operation.
-fn binary(width: Width, operation: Operation, slot: &Slot) -> Result<Insn, SlotFault>
+fn binary(width: Width, operation: Operation, slot: &Fields) -> Result<Insn, SlotFault>
     requires class { class_of slot.now.opcode ≡ alu_class width }
     requires code { code_of slot.now.opcode ≡ operation_code operation }
     requires offset { selects_offset operation ≡ true → slot.now.offset ≡ operation_offset operation }
@@ -91,7 +91,7 @@ fn binary(width: Width, operation: Operation, slot: &Slot) -> Result<Insn, SlotF
 }
 
 // NEG, with no second operand.
-fn negate(width: Width, slot: &Slot) -> Result<Insn, SlotFault>
+fn negate(width: Width, slot: &Fields) -> Result<Insn, SlotFault>
     requires class { class_of slot.now.opcode ≡ alu_class width }
     requires code { code_of slot.now.opcode ≡ 8 }
     ensures ok { IfOk result (λ i. fields_of i ≡ viewed slot.now) }
@@ -108,7 +108,7 @@ fn negate(width: Width, slot: &Slot) -> Result<Insn, SlotFault>
 }
 
 // MOVSX of this form.
-fn move_signed(extension: Extension, slot: &Slot) -> Result<Insn, SlotFault>
+fn move_signed(extension: Extension, slot: &Fields) -> Result<Insn, SlotFault>
     requires opcode { slot.now.opcode ≡ extension_opcode extension }
     requires offset { slot.now.offset ≡ pos (extension_bits extension) }
     ensures ok { IfOk result (λ i. fields_of i ≡ viewed slot.now) }
@@ -121,7 +121,7 @@ fn move_signed(extension: Extension, slot: &Slot) -> Result<Insn, SlotFault>
 }
 
 // MOVSX: the offset says how many bits are extended.
-fn extended_move(width: Width, slot: &Slot) -> Result<Insn, SlotFault>
+fn extended_move(width: Width, slot: &Fields) -> Result<Insn, SlotFault>
     requires class { class_of slot.now.opcode ≡ alu_class width }
     requires code { code_of slot.now.opcode ≡ 11 }
     requires register { takes_register slot.now.opcode ≡ true }
@@ -140,7 +140,7 @@ fn extended_move(width: Width, slot: &Slot) -> Result<Insn, SlotFault>
 }
 
 // END of this form.
-fn order(order: ByteOrder, width: OrderWidth, slot: &Slot) -> Result<Insn, SlotFault>
+fn order(order: ByteOrder, width: OrderWidth, slot: &Fields) -> Result<Insn, SlotFault>
     requires opcode { slot.now.opcode ≡ order_opcode order }
     requires imm { slot.now.imm ≡ pos (order_bits width) }
     ensures ok { IfOk result (λ i. fields_of i ≡ viewed slot.now) }
@@ -153,7 +153,7 @@ fn order(order: ByteOrder, width: OrderWidth, slot: &Slot) -> Result<Insn, SlotF
 }
 
 // END: the imm says how many bits are kept.
-fn ordered(kind: ByteOrder, slot: &Slot) -> Result<Insn, SlotFault>
+fn ordered(kind: ByteOrder, slot: &Fields) -> Result<Insn, SlotFault>
     requires { slot.now.opcode ≡ order_opcode kind }
     ensures ok { IfOk result (λ i. fields_of i ≡ viewed slot.now) }
     ensures err { IfErr result (λ e. fault_by (order_uses (viewed slot.now)) (viewed slot.now) ≡ Some e) }
@@ -167,7 +167,7 @@ fn ordered(kind: ByteOrder, slot: &Slot) -> Result<Insn, SlotFault>
 }
 
 // END: class and source say which order.
-fn byte_order(width: Width, slot: &Slot) -> Result<Insn, SlotFault>
+fn byte_order(width: Width, slot: &Fields) -> Result<Insn, SlotFault>
     requires class { class_of slot.now.opcode ≡ alu_class width }
     requires code { code_of slot.now.opcode ≡ 13 }
     ensures ok { IfOk result (λ i. fields_of i ≡ viewed slot.now) }
@@ -182,7 +182,7 @@ fn byte_order(width: Width, slot: &Slot) -> Result<Insn, SlotFault>
 }
 
 // The classes ALU and ALU64.
-fn alu(width: Width, slot: &Slot) -> Result<Insn, SlotFault>
+fn alu(width: Width, slot: &Fields) -> Result<Insn, SlotFault>
     requires class { class_of slot.now.opcode ≡ alu_class width }
     ensures ok { IfOk result (λ i. fields_of i ≡ viewed slot.now) }
     ensures err { IfErr result (λ e. fault_by (alu_uses (is_64 width) (code_of slot.now.opcode) (takes_register slot.now.opcode) (viewed slot.now)) (viewed slot.now) ≡ Some e) }
@@ -210,7 +210,7 @@ fn alu(width: Width, slot: &Slot) -> Result<Insn, SlotFault>
 }
 
 // A conditional jump.
-fn jump_if(width: Width, condition: Condition, slot: &Slot) -> Result<Insn, SlotFault>
+fn jump_if(width: Width, condition: Condition, slot: &Fields) -> Result<Insn, SlotFault>
     requires class { class_of slot.now.opcode ≡ jump_class width }
     requires code { code_of slot.now.opcode ≡ condition_code condition }
     ensures ok { IfOk result (λ i. fields_of i ≡ viewed slot.now) }
@@ -229,7 +229,7 @@ fn jump_if(width: Width, condition: Condition, slot: &Slot) -> Result<Insn, Slot
 }
 
 // JA: the offset of JMP, the imm of JMP32.
-fn jump_always(width: Width, slot: &Slot) -> Result<Insn, SlotFault>
+fn jump_always(width: Width, slot: &Fields) -> Result<Insn, SlotFault>
     requires class { class_of slot.now.opcode ≡ jump_class width }
     requires code { code_of slot.now.opcode ≡ 0 }
     ensures ok { IfOk result (λ i. fields_of i ≡ viewed slot.now) }
@@ -252,7 +252,7 @@ fn jump_always(width: Width, slot: &Slot) -> Result<Insn, SlotFault>
     }
 }
 
-fn call(slot: &Slot) -> Result<Insn, SlotFault>
+fn call(slot: &Fields) -> Result<Insn, SlotFault>
     requires { slot.now.opcode ≡ 0x85 }
     ensures ok { IfOk result (λ i. fields_of i ≡ viewed slot.now) }
     ensures err { IfErr result (λ e. fault_by (uses_of (viewed slot.now)) (viewed slot.now) ≡ Some e) }
@@ -265,7 +265,7 @@ fn call(slot: &Slot) -> Result<Insn, SlotFault>
     Ok(Insn::Call(slot.imm))
 }
 
-fn exit(slot: &Slot) -> Result<Insn, SlotFault>
+fn exit(slot: &Fields) -> Result<Insn, SlotFault>
     requires { slot.now.opcode ≡ 0x95 }
     ensures ok { IfOk result (λ i. fields_of i ≡ viewed slot.now) }
     ensures err { IfErr result (λ e. fault_by (uses_of (viewed slot.now)) (viewed slot.now) ≡ Some e) }
@@ -278,7 +278,7 @@ fn exit(slot: &Slot) -> Result<Insn, SlotFault>
 }
 
 // The classes JMP and JMP32.
-fn jump(width: Width, slot: &Slot) -> Result<Insn, SlotFault>
+fn jump(width: Width, slot: &Fields) -> Result<Insn, SlotFault>
     requires class { class_of slot.now.opcode ≡ jump_class width }
     ensures ok { IfOk result (λ i. fields_of i ≡ viewed slot.now) }
     ensures err { IfErr result (λ e. fault_by (jump_uses_of width (code_of slot.now.opcode) (takes_register slot.now.opcode) (viewed slot.now)) (viewed slot.now) ≡ Some e) }
@@ -302,7 +302,7 @@ fn jump(width: Width, slot: &Slot) -> Result<Insn, SlotFault>
     }
 }
 
-fn load(size: Size, slot: &Slot) -> Result<Insn, SlotFault>
+fn load(size: Size, slot: &Fields) -> Result<Insn, SlotFault>
     requires { slot.now.opcode ≡ 0x61 + 8 * size_code size }
     ensures ok { IfOk result (λ i. fields_of i ≡ viewed slot.now) }
     ensures err { IfErr result (λ e. fault_by (uses true true true false) (viewed slot.now) ≡ Some e) }
@@ -313,7 +313,7 @@ fn load(size: Size, slot: &Slot) -> Result<Insn, SlotFault>
     Ok(Insn::Load(size, dst, base, slot.offset))
 }
 
-fn load_signed(size: SignedSize, slot: &Slot) -> Result<Insn, SlotFault>
+fn load_signed(size: SignedSize, slot: &Fields) -> Result<Insn, SlotFault>
     requires { slot.now.opcode ≡ 0x81 + 8 * signed_size_code size }
     ensures ok { IfOk result (λ i. fields_of i ≡ viewed slot.now) }
     ensures err { IfErr result (λ e. fault_by (uses true true true false) (viewed slot.now) ≡ Some e) }
@@ -324,7 +324,7 @@ fn load_signed(size: SignedSize, slot: &Slot) -> Result<Insn, SlotFault>
     Ok(Insn::LoadSigned(size, dst, base, slot.offset))
 }
 
-fn store_imm(size: Size, slot: &Slot) -> Result<Insn, SlotFault>
+fn store_imm(size: Size, slot: &Fields) -> Result<Insn, SlotFault>
     requires { slot.now.opcode ≡ 0x62 + 8 * size_code size }
     ensures ok { IfOk result (λ i. fields_of i ≡ viewed slot.now) }
     ensures err { IfErr result (λ e. fault_by (uses true false true true) (viewed slot.now) ≡ Some e) }
@@ -334,7 +334,7 @@ fn store_imm(size: Size, slot: &Slot) -> Result<Insn, SlotFault>
     Ok(Insn::StoreImm(size, base, slot.offset, slot.imm))
 }
 
-fn store(size: Size, slot: &Slot) -> Result<Insn, SlotFault>
+fn store(size: Size, slot: &Fields) -> Result<Insn, SlotFault>
     requires { slot.now.opcode ≡ 0x63 + 8 * size_code size }
     ensures ok { IfOk result (λ i. fields_of i ≡ viewed slot.now) }
     ensures err { IfErr result (λ e. fault_by (uses true true true false) (viewed slot.now) ≡ Some e) }
@@ -346,7 +346,7 @@ fn store(size: Size, slot: &Slot) -> Result<Insn, SlotFault>
 }
 
 // An atomic operation of this form.
-fn atomic(width: Width, operation: AtomicOperation, slot: &Slot) -> Result<Insn, SlotFault>
+fn atomic(width: Width, operation: AtomicOperation, slot: &Fields) -> Result<Insn, SlotFault>
     requires opcode { slot.now.opcode ≡ atomic_opcode width }
     requires imm { slot.now.imm ≡ pos (atomic_imm operation) }
     ensures ok { IfOk result (λ i. fields_of i ≡ viewed slot.now) }
@@ -358,7 +358,7 @@ fn atomic(width: Width, operation: AtomicOperation, slot: &Slot) -> Result<Insn,
 }
 
 // An atomic operation: the imm says which.
-fn exchange(width: Width, slot: &Slot) -> Result<Insn, SlotFault>
+fn exchange(width: Width, slot: &Fields) -> Result<Insn, SlotFault>
     requires { slot.now.opcode ≡ atomic_opcode width }
     ensures ok { IfOk result (λ i. fields_of i ≡ viewed slot.now) }
     ensures err { IfErr result (λ e. fault_by (atomic_uses (viewed slot.now)) (viewed slot.now) ≡ Some e) }
@@ -379,7 +379,7 @@ fn exchange(width: Width, slot: &Slot) -> Result<Insn, SlotFault>
 }
 
 // The classes LDX, ST and STX.
-fn memory(slot: &Slot) -> Result<Insn, SlotFault>
+fn memory(slot: &Fields) -> Result<Insn, SlotFault>
     requires { (0 < class_of slot.now.opcode) × (class_of slot.now.opcode < 4) }
     ensures ok { IfOk result (λ i. fields_of i ≡ viewed slot.now) }
     ensures err { IfErr result (λ e. fault_by (uses_of (viewed slot.now)) (viewed slot.now) ≡ Some e) }
@@ -407,7 +407,7 @@ fn memory(slot: &Slot) -> Result<Insn, SlotFault>
 }
 
 // The first slot of a wide instruction: its value has the low half alone.
-fn wide(slot: &Slot) -> Result<Insn, SlotFault>
+fn wide(slot: &Fields) -> Result<Insn, SlotFault>
     requires { class_of slot.now.opcode ≡ 0 }
     ensures ok { IfOk result (λ i. fields_of i ≡ viewed slot.now) }
     ensures err { IfErr result (λ e. fault_by (wide_uses (viewed slot.now)) (viewed slot.now) ≡ Some e) }
@@ -422,7 +422,7 @@ fn wide(slot: &Slot) -> Result<Insn, SlotFault>
 
 /// The instruction of a slot, or its first fault. Of a wide instruction this is the first slot,
 /// and the value has the low half alone.
-pub(crate) fn insn_of(slot: &Slot) -> Result<Insn, SlotFault>
+pub(crate) fn insn_of(slot: &Fields) -> Result<Insn, SlotFault>
     ensures ok { IfOk result (λ i. fields_of i ≡ viewed slot.now) }
     ensures err { IfErr result (λ e. fault_of (viewed slot.now) ≡ Some e) }
 {

@@ -4,16 +4,23 @@ ghost use Rattle.std.specs.Prelude.{◌≡◌, ◌<◌, length};
 ghost use Rattle.bpf_encoding.specs.Fields.{fields_of_bytes};
 ghost use Rattle.bpf_encoding.specs.Viewed.{viewed};
 
+use byteorder::{ByteOrder, LittleEndian};
+use thiserror::Error;
+
 /// What of the standard this profile leaves out.
-#[derive(Clone, Copy, Debug, PartialEq, Eq)]
+#[derive(Clone, Copy, Debug, PartialEq, Eq, Error)]
 pub enum Outside {
     /// Packet access, modes ABS and IND.
+    #[error("packet access")]
     Packet,
     /// A 64-bit immediate of subtype 1 to 6.
+    #[error("a 64-bit immediate of a subtype")]
     WideSubtype,
     /// A call of a function in the program.
+    #[error("a call of a function in the program")]
     LocalCall,
     /// A call of a function by its BTF id.
+    #[error("a call by BTF id")]
     BtfCall,
 }
 
@@ -30,7 +37,7 @@ pub enum SlotFault {
 
 /// The fields of a slot: dst and src in four bits each.
 #[derive(Clone, Copy, Debug, PartialEq, Eq)]
-pub(crate) struct Slot {
+pub(crate) struct Fields {
     pub(crate) opcode: u8,
     pub(crate) dst: u8,
     pub(crate) src: u8,
@@ -38,36 +45,30 @@ pub(crate) struct Slot {
     pub(crate) imm: i32,
 }
 
-impl Slot {
-    pub(crate) fn from_bytes(bytes: &[u8]) -> Slot
+impl Fields {
+    #[tactic(auto, using(crate::proofs::Numbers::offset_is, crate::proofs::Numbers::imm_is))]
+    pub(crate) fn from_bytes(bytes: &[u8]) -> Fields
         requires { length bytes.now ≡ 8 }
         ensures { viewed result ≡ fields_of_bytes bytes.now }
     {
-        Slot {
+        Fields {
             opcode: bytes[0],
             dst: bytes[1] % 16,
             src: bytes[1] / 16,
-            offset: i16::from_le_bytes([bytes[2], bytes[3]]),
-            imm: i32::from_le_bytes([bytes[4], bytes[5], bytes[6], bytes[7]]),
+            offset: LittleEndian::read_i16(&bytes[2..4]),
+            imm: LittleEndian::read_i32(&bytes[4..]),
         }
     }
 
+    #[tactic(auto, using(crate::proofs::Numbers::offset_is, crate::proofs::Numbers::imm_is))]
     pub(crate) fn to_bytes(self) -> [u8; 8]
         requires dst { self.dst < 16 }
         requires src { self.src < 16 }
         ensures { fields_of_bytes result ≡ viewed self }
     {
-        let [offset_low, offset_high] = self.offset.to_le_bytes();
-        let [imm0, imm1, imm2, imm3] = self.imm.to_le_bytes();
-        [
-            self.opcode,
-            self.dst + 16 * self.src,
-            offset_low,
-            offset_high,
-            imm0,
-            imm1,
-            imm2,
-            imm3,
-        ]
+        let mut bytes = [self.opcode, self.dst + 16 * self.src, 0, 0, 0, 0, 0, 0];
+        LittleEndian::write_i16(&mut bytes[2..4], self.offset);
+        LittleEndian::write_i32(&mut bytes[4..], self.imm);
+        bytes
     }
 }

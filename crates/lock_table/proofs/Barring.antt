@@ -12,14 +12,14 @@ use Rattle.access_slots.proofs.Records.{eq_same, eq_is}
 use Rattle.access_slots.proofs.Locking.{none_above, rising_rest}
 use Rattle.lock_table.specs.declared.table.Claim.{Claim}
 use Rattle.lock_table.specs.declared.table.Busy.{Busy}
-use Rattle.lock_table.specs.Facts.{held_by}
+use Rattle.lock_table.specs.Facts.{claimed_by}
 use Rattle.lock_table.specs.Claims.{AreSingle, bars, least, least_holder, busy_at, first_busy}
 use Rattle.lock_table.proofs.Claiming.{is_on}
 
 -- ---- who bars a lock
 
 abbrev pub stands : List Claim → Lock → ℕ → Bool
-stands claims l t = excludes (Some l.mode) (held_by claims t l.«record»)
+stands claims l t = excludes (Some l.mode) (claimed_by claims t l.«record»)
 
 -- a claim that isn't the transaction's on this record
 passed : (c : Claim) (claims : List Claim) (l : Lock) (t : ℕ) → is_on c t l.«record» ≡ false → stands (c ∷ claims) l t ≡ stands claims l t
@@ -88,13 +88,13 @@ first_barring c claims l (Some u) is o later = by_order (nat_le c.txn u) refl
     }
 
 -- who bars the lock by a later claim has none here
-not_shadowed : (b : Bool) (c : Claim) (claims : List Claim) (l : Lock) (h : ℕ) → is_on c h l.«record» ≡ b → held_by claims c.txn c.lock.«record» ≡ None → stands claims l h ≡ true
+not_shadowed : (b : Bool) (c : Claim) (claims : List Claim) (l : Lock) (h : ℕ) → is_on c h l.«record» ≡ b → claimed_by claims c.txn c.lock.«record» ≡ None → stands claims l h ≡ true
     → stands (c ∷ claims) l h ≡ true
 not_shadowed false c claims l h is single stood = passed c claims l h is ∙ stood
 not_shadowed true c claims l h is single stood = absurd (
     let same_txn = eqb-true c.txn h (first (c.txn == h) _ is) in
     let same_record = eq_is c.lock.«record» l.«record» (second (c.txn == h) _ is) in
-    let none : held_by claims h l.«record» ≡ None = ap₂ (λ (t : ℕ) (r : Record). held_by claims t r) (sym same_txn) (sym same_record) ∙ single in
+    let none : claimed_by claims h l.«record» ≡ None = ap₂ (λ (t : ℕ) (r : Record). claimed_by claims t r) (sym same_txn) (sym same_record) ∙ single in
     let bad : true ≡ false = sym stood ∙ ap (excludes (Some l.mode)) none in
     cc)
 
@@ -123,43 +123,43 @@ none_later None r later h = (refl, h)
 none_later (Some t) r later h = absurd (let busy : Busy = record { name = r; holder = t } in let bad : Some busy ≡ None = h in cc)
 
 free_choice : (b : Bool) (claims : List Claim) (l : Lock) (locks : List Lock) (r : Record) (t : ℕ) → record_eq l.«record» r ≡ b → stands claims l t ≡ false
-    → in_the_way (held_by claims) (mode_in locks) r t ≡ false → in_the_way (held_by claims) (mode_in (l ∷ locks)) r t ≡ false
+    → in_the_way (claimed_by claims) (mode_in locks) r t ≡ false → in_the_way (claimed_by claims) (mode_in (l ∷ locks)) r t ≡ false
 free_choice true claims l locks r t is free later =
-    ap (λ (o : Option Mode). excludes o (held_by claims t r)) (cond-true _ _ _ is)
-    ∙ ap (λ (q : Record). excludes (Some l.mode) (held_by claims t q)) (sym (eq_is l.«record» r is))
+    ap (λ (o : Option Mode). excludes o (claimed_by claims t r)) (cond-true _ _ _ is)
+    ∙ ap (λ (q : Record). excludes (Some l.mode) (claimed_by claims t q)) (sym (eq_is l.«record» r is))
     ∙ free
-free_choice false claims l locks r t is free later = ap (λ (o : Option Mode). excludes o (held_by claims t r)) (cond-false _ _ _ is) ∙ later
+free_choice false claims l locks r t is free later = ap (λ (o : Option Mode). excludes o (claimed_by claims t r)) (cond-false _ _ _ is) ∙ later
 
-pub none_in_the_way : (claims : List Claim) (locks : List Lock) → first_busy claims locks ≡ None → Compatible (held_by claims) (mode_in locks)
+pub none_in_the_way : (claims : List Claim) (locks : List Lock) → first_busy claims locks ≡ None → Compatible (claimed_by claims) (mode_in locks)
 none_in_the_way claims [] h = λ r t. refl
 none_in_the_way claims (l ∷ locks) h = λ r t.
     let parts = none_later (least_holder claims l) l.«record» (first_busy claims locks) h in
     free_choice (record_eq l.«record» r) claims l locks r t refl (nobody_bars claims l parts.0 t) (none_in_the_way claims locks parts.1 r t)
 
 abbrev pub IsBusy : List Claim → List Lock → Busy → Type 0
-IsBusy claims locks b = IsFirstInTheWay (held_by claims) (mode_in locks) b.name b.holder
+IsBusy claims locks b = IsFirstInTheWay (claimed_by claims) (mode_in locks) b.name b.holder
 
 -- below the first lock nothing is wanted
 below_first : (l : Lock) (locks : List Lock) (q : Record) → Rising (l ∷ locks) → record_less q l.«record» ≡ true → mode_in (l ∷ locks) q ≡ None
 below_first l locks q rises below = none_above q (l ∷ locks) (below, rises)
 
-at_first : (claims : List Claim) (l : Lock) (locks : List Lock) (t : ℕ) → in_the_way (held_by claims) (mode_in (l ∷ locks)) l.«record» t ≡ stands claims l t
-at_first claims l locks t = ap (λ (o : Option Mode). excludes o (held_by claims t l.«record»)) (cond-true _ _ _ (eq_same l.«record»))
+at_first : (claims : List Claim) (l : Lock) (locks : List Lock) (t : ℕ) → in_the_way (claimed_by claims) (mode_in (l ∷ locks)) l.«record» t ≡ stands claims l t
+at_first claims l locks t = ap (λ (o : Option Mode). excludes o (claimed_by claims t l.«record»)) (cond-true _ _ _ (eq_same l.«record»))
 
-busy_first : (claims : List Claim) (l : Lock) (locks : List Lock) (h : ℕ) → Rising (l ∷ locks) → IsLeast claims l h → IsFirstInTheWay (held_by claims) (mode_in (l ∷ locks)) l.«record» h
+busy_first : (claims : List Claim) (l : Lock) (locks : List Lock) (h : ℕ) → Rising (l ∷ locks) → IsLeast claims l h → IsFirstInTheWay (claimed_by claims) (mode_in (l ∷ locks)) l.«record» h
 busy_first claims l locks h rises is = record {
   stands = at_first claims l locks h ∙ is.bars;
-  least_record = λ q u below. ap (λ (o : Option Mode). excludes o (held_by claims u q)) (below_first l locks q rises below);
+  least_record = λ q u below. ap (λ (o : Option Mode). excludes o (claimed_by claims u q)) (below_first l locks q rises below);
   least_holder = λ u below. at_first claims l locks u ∙ is.least u below;
 }
 
 -- a wanted record of the later locks isn't the first one
 not_first : (b : Bool) (claims : List Claim) (l : Lock) (locks : List Lock) (r : Record) (t : ℕ) → record_eq l.«record» r ≡ b → Rising (l ∷ locks)
-    → in_the_way (held_by claims) (mode_in locks) r t ≡ true → record_eq l.«record» r ≡ false
+    → in_the_way (claimed_by claims) (mode_in locks) r t ≡ true → record_eq l.«record» r ≡ false
 not_first false claims l locks r t is rises way = is
 not_first true claims l locks r t is rises way = absurd (
     let none : mode_in locks r ≡ None = ap (mode_in locks) (sym (eq_is l.«record» r is)) ∙ none_above l.«record» locks rises in
-    let bad : true ≡ false = sym way ∙ ap (λ (o : Option Mode). excludes o (held_by claims t r)) none in
+    let bad : true ≡ false = sym way ∙ ap (λ (o : Option Mode). excludes o (claimed_by claims t r)) none in
     cc)
 
 busy_later : (claims : List Claim) (l : Lock) (locks : List Lock) (b : Busy) → Rising (l ∷ locks) → least_holder claims l ≡ None → IsBusy claims locks b → IsBusy claims (l ∷ locks) b
@@ -167,9 +167,9 @@ busy_later claims l locks b rises free is =
     let other = not_first (record_eq l.«record» b.name) claims l locks b.name b.holder refl rises is.stands in
     let wanted : mode_in (l ∷ locks) b.name ≡ mode_in locks b.name = cond-false _ _ _ other in
     record {
-      stands = ap (λ (o : Option Mode). excludes o (held_by claims b.holder b.name)) wanted ∙ is.stands;
+      stands = ap (λ (o : Option Mode). excludes o (claimed_by claims b.holder b.name)) wanted ∙ is.stands;
       least_record = λ q u below. free_choice (record_eq l.«record» q) claims l locks q u refl (nobody_bars claims l free u) (is.least_record q u below);
-      least_holder = λ u below. ap (λ (o : Option Mode). excludes o (held_by claims u b.name)) wanted ∙ is.least_holder u below;
+      least_holder = λ u below. ap (λ (o : Option Mode). excludes o (claimed_by claims u b.name)) wanted ∙ is.least_holder u below;
     }
 
 busy_choice : (o : Option ℕ) (claims : List Claim) (l : Lock) (locks : List Lock) (b : Busy) → AreSingle claims → Rising (l ∷ locks) → least_holder claims l ≡ o
@@ -185,7 +185,7 @@ some_in_the_way claims [] b single rises h = absurd (let bad : None ≡ Some b =
 some_in_the_way claims (l ∷ locks) b single rises h =
     busy_choice (least_holder claims l) claims l locks b single rises refl h (some_in_the_way claims locks b single (rising_rest l locks rises))
 
-pub none_is : (o : Option Busy) (claims : List Claim) (locks : List Lock) → o ≡ first_busy claims locks → IfNone o (Compatible (held_by claims) (mode_in locks))
+pub none_is : (o : Option Busy) (claims : List Claim) (locks : List Lock) → o ≡ first_busy claims locks → IfNone o (Compatible (claimed_by claims) (mode_in locks))
 none_is None claims locks is = none_in_the_way claims locks (sym is)
 none_is (Some b) claims locks is = tt
 

@@ -6,12 +6,12 @@ use Rattle.access_slots.specs.Locks.{record_eq}
 use Rattle.access_slots.specs.Held.{excludes}
 use Rattle.lock_table.specs.declared.table.Claim.{Claim}
 use Rattle.lock_table.specs.declared.table.Busy.{Busy}
-use Rattle.lock_table.specs.Facts.{held_by}
+use Rattle.lock_table.specs.Facts.{claimed_by}
 
 -- no transaction has two claims on one record
 abbrev pub AreSingle : List Claim → Type 0
 AreSingle [] = Unit {0}
-AreSingle (c ∷ claims) = (held_by claims c.txn c.lock.«record» ≡ None) × AreSingle claims
+AreSingle (c ∷ claims) = (claimed_by claims c.txn c.lock.«record» ≡ None) × AreSingle claims
 
 abbrev pub claim : ℕ → Lock → Claim
 claim t l = record { txn = t; lock = l }

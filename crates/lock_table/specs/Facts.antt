@@ -1,5 +1,5 @@
--- A table of locks, as facts: who holds which record in which mode, and which set is ready to be granted. The claims stand in any
--- order; contracts read them by `held_by` alone.
+-- A table of locks, as facts: who holds which record in which mode, and which set is ready to be granted. Contracts read the
+-- claims by `held_by` alone: how the table keeps them is its own matter.
 use Rattle.std.specs.Prelude.{◌≡◌, ℕ, ◌&&◌, ◌==◌, if◌then◌else◌, List, [], ◌∷◌, Option, Some, None}
 use Rattle.access_slots.specs.declared.slot.Record.{Record}
 use Rattle.access_slots.specs.declared.lock.Lock.{Lock}
@@ -12,13 +12,17 @@ pub record Table : Type 0 where
   pub reserved : Option (List Lock)
 
 -- the mode in which the transaction has claimed the record, where it has
-abbrev pub held_by : List Claim → Held
-held_by [] t r = None
-held_by (c ∷ claims) t r = if (c.txn == t) && record_eq c.lock.«record» r then Some c.lock.mode else held_by claims t r
+abbrev pub claimed_by : List Claim → Held
+claimed_by [] t r = None
+claimed_by (c ∷ claims) t r = if (c.txn == t) && record_eq c.lock.«record» r then Some c.lock.mode else claimed_by claims t r
+
+-- the mode in which the transaction holds the record, where it does
+abbrev pub held_by : Table → Held
+held_by table = claimed_by table.claims
 
 -- this is what is held
-abbrev pub AreHeld : List Claim → Held → Type 0
-AreHeld claims held = (t : ℕ) (r : Record) → held_by claims t r ≡ held t r
+abbrev pub AreHeld : Table → Held → Type 0
+AreHeld table held = (t : ℕ) (r : Record) → held_by table t r ≡ held t r
 
 -- the transaction holds these locks, and the others what they held
 abbrev pub granted : Held → ℕ → Wanted → Held

@@ -20,11 +20,11 @@ pub struct Busy {
     pub holder: u64,
 }
 
-/// A lock that a transaction holds.
-#[derive(Clone, Copy, Debug, PartialEq, Eq)]
-pub struct Claim {
-    pub txn: u64,
-    pub lock: Lock,
+// A lock that a transaction holds.
+#[derive(Clone, Copy)]
+struct Claim {
+    txn: u64,
+    lock: Lock,
 }
 
 /// The locks that transactions hold, by their serial numbers (Lomet, Fekete, Weikum, Zwilling,
@@ -51,7 +51,7 @@ impl Model for LockTable {
 impl LockTable {
     /// Nobody holds a lock. It takes no memory.
     pub fn new(alloc: Global) -> LockTable
-        ensures held { AreHeld result.claims nobody }
+        ensures held { AreHeld result nobody }
         ensures reserved { result.reserved ≡ None }
     {
         LockTable {
@@ -63,8 +63,8 @@ impl LockTable {
     /// What stands in the way of these locks, ready or not: nothing exactly where each record is
     /// free or held for reading alone and wanted for reading.
     pub fn busy(&self, set: &LockSet) -> Option<Busy>
-        ensures none { IfNone result (Compatible (held_by self.now.claims) (mode_in set.now)) }
-        ensures some { IfSome result (λ b. IsFirstInTheWay (held_by self.now.claims) (mode_in set.now) b.name b.holder) }
+        ensures none { IfNone result (Compatible (held_by self.now) (mode_in set.now)) }
+        ensures some { IfSome result (λ b. IsFirstInTheWay (held_by self.now) (mode_in set.now) b.name b.holder) }
     {
         first_busy(self.claims.as_slice(), set.locks())
     }
@@ -72,7 +72,7 @@ impl LockTable {
     /// Makes the set ready until the next grant or release. No lock is changed; a refusal leaves
     /// the table as it was.
     pub fn reserve(&mut self, set: &LockSet) -> Result<(), AllocError>
-        ensures held { AreHeld self.new.claims (held_by self.old.claims) }
+        ensures held { AreHeld self.new (held_by self.old) }
         ensures ok { OnOk result (self.new.reserved ≡ Some set.now) }
         ensures err { OnErr result (self.new.reserved ≡ self.old.reserved) }
     {
@@ -96,13 +96,13 @@ impl LockTable {
     /// to be ready.
     pub fn grant(&mut self, txn: u64, set: &LockSet) -> Result<(), Busy>
         requires ready { self.old.reserved ≡ Some set.now }
-        requires nothing { HoldsNothing (held_by self.old.claims) txn }
-        ensures compatible { OnOk result (Compatible (held_by self.old.claims) (mode_in set.now)) }
-        ensures held { OnOk result (AreHeld self.new.claims (granted (held_by self.old.claims) txn (mode_in set.now))) }
-        ensures others { (t : ℕ) (r : Record) → (t == txn) ≡ false → held_by self.new.claims t r ≡ held_by self.old.claims t r }
+        requires nothing { HoldsNothing (held_by self.old) txn }
+        ensures compatible { OnOk result (Compatible (held_by self.old) (mode_in set.now)) }
+        ensures held { OnOk result (AreHeld self.new (granted (held_by self.old) txn (mode_in set.now))) }
+        ensures others { (t : ℕ) (r : Record) → (t == txn) ≡ false → held_by self.new t r ≡ held_by self.old t r }
         ensures spent { OnOk result (self.new.reserved ≡ None) }
         ensures err { OnErr result (self.new ≡ self.old) }
-        ensures busy { IfErr result (λ b. IsFirstInTheWay (held_by self.old.claims) (mode_in set.now) b.name b.holder) }
+        ensures busy { IfErr result (λ b. IsFirstInTheWay (held_by self.old) (mode_in set.now) b.name b.holder) }
     {
         if let Some(busy) = self.busy(set) {
             return Err(busy);
@@ -114,7 +114,7 @@ impl LockTable {
 
     /// Takes away the transaction's locks alone. It takes no memory.
     pub fn release(&mut self, txn: u64)
-        ensures held { AreHeld self.new.claims (released (held_by self.old.claims) txn) }
+        ensures held { AreHeld self.new (released (held_by self.old) txn) }
         ensures spent { self.new.reserved ≡ None }
     {
         self.reserved = None;

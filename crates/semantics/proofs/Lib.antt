@@ -1,5 +1,6 @@
 pub mod Extended
 pub mod Bridge
+pub mod Asking
 pub mod Rows
 pub mod CFunctionsRows
 pub mod DpdkRows

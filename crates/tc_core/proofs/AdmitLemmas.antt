@@ -121,7 +121,7 @@ pub kept-admit : (ps : List Checked) (log log' : History) (table table' : Table)
     → slice_get ps p ≡ Some q → AreArguments q.decl args → Compatible (held (decls ps) log.events) (locks_of (decls ps) (record { proc = p; args = args }))
     → given log.events + 5 * calls_in q + promised ≤ 2 ^ 62 → owed + (2 * (5 * calls_in q) + 2) ≤ log.room → slab_len txns + 1 ≤ numbers.room
     → Keeps q tx (fresh (record { proc = p; args = args })) → tx.serial ≡ serials + 1
-    → ((r : Record) → wanted r ≡ locks_of (decls ps) (record { proc = p; args = args }) r) → AreHeld table'.claims (granted (held_by table.claims) (serials + 1) wanted)
+    → ((r : Record) → wanted r ≡ locks_of (decls ps) (record { proc = p; args = args }) r) → AreHeld table' (granted (held_by table) (serials + 1) wanted)
     → get txns key ≡ None → Updates txns txns' key (Some tx) → slab_len txns' ≡ slab_len txns + 1
     → log'.events ≡ Admit (serials + 1) p args ∷ log.events → log'.room + 1 ≡ log.room
     → Kept ps log' table' numbers txns' (serials + 1) (owed + (2 * (5 * calls_in q) + 1)) (promised + 5 * calls_in q)
@@ -139,7 +139,7 @@ kept-admit ps log log' table table' numbers txns txns' serials owed promised key
       good = k.good;
       places = rw events places;
       serials_are = rw events next;
-      locks_are = rw events (held-admitted ps h t p args wanted table.claims table'.claims k.locks_are are claims);
+      locks_are = rw events (held-admitted ps h t p args wanted table table' k.locks_are are claims);
       last_is = rw events k.last_is;
       pending_is = rw events k.pending_is;
       rooms = record {
@@ -194,7 +194,7 @@ pub many-from : (n : ℕ) → nat_lt (2 ^ 62) n ≡ true → 2 ^ 62 < n
 many-from n e = grind (arith, nat_tests)
 
 -- a number above the last has no lock
-pub nothing_new : (ps : List Checked) (h : List Event) (t : ℕ) (claims claims' : List Claim) → Legal ps h → t ≡ admitted h + 1 → AreHeld claims (held (decls ps) h) → AreHeld claims' (held_by claims) → (r : Record) → held_by claims' t r ≡ None
+pub nothing_new : (ps : List Checked) (h : List Event) (t : ℕ) (claims claims' : Table) → Legal ps h → t ≡ admitted h + 1 → AreHeld claims (held (decls ps) h) → AreHeld claims' (held_by claims) → (r : Record) → held_by claims' t r ≡ None
 nothing_new ps h t claims claims' legal next are same r =
     same t r ∙ (are t r ∙ ap (λ (c : Option Call). held_for (decls ps) c r) (no_call ps h t (standing-above ps h legal t (omega (arith, next)))))
 

@@ -514,7 +514,7 @@ over_next (Some (next.Stuck n)) o e = absurd cc
 over_next (Some (next.Over p)) o e = (let same : p ≡ o = cc in ap (λ (x : Outcome). Some (next.Over x)) same)
 
 -- who held what before, and all but this transaction now
-held-ended : (ps : List Checked) (h : List Event) (t : ℕ) (outcome : Outcome) (claims claims' : List Claim)
+held-ended : (ps : List Checked) (h : List Event) (t : ℕ) (outcome : Outcome) (claims claims' : Table)
     → AreHeld claims (held (decls ps) h) → AreHeld claims' (released (held_by claims) t) → AreHeld claims' (held (decls ps) (End t outcome ∷ h))
 held-ended ps h t outcome claims claims' was now = λ u r.
     elim (cases_eq u t) [
@@ -532,7 +532,7 @@ pub kept-end : (ps : List Checked) (log log' : History) (table table' : Table) (
     → Kept ps log table numbers txns serials owed promised
     → get txns key ≡ Some tx → (w : Seen ps log.events tx.serial tx) → over_in (next_by tx.sent tx.full (first_undo tx.undo.ops) tx.tries tx.last (as_reached tx.pause)) ≡ Some outcome
     → log'.events ≡ End tx.serial outcome ∷ log.events → log'.room + 1 ≡ log.room
-    → AreHeld table'.claims (released (held_by table.claims) tx.serial)
+    → AreHeld table' (released (held_by table) tx.serial)
     → Updates txns txns' key None → slab_len txns' + 1 ≡ slab_len txns
     → Kept ps log' table' numbers txns' serials (owed - (2 * tx.left + 1)) (promised - tx.left)
 kept-end ps log log' table table' numbers txns txns' serials owed promised key tx outcome k found w does events room claims up len =
@@ -557,7 +557,7 @@ kept-end ps log log' table table' numbers txns txns' serials owed promised key t
       good = k.good;
       places = rw events p;
       serials_are = rw events k.serials_are;
-      locks_are = rw events (held-ended ps h tx.serial outcome table.claims table'.claims k.locks_are claims);
+      locks_are = rw events (held-ended ps h tx.serial outcome table table' k.locks_are claims);
       last_is = rw events k.last_is;
       pending_is = rw events k.pending_is;
       rooms = record {
@@ -571,7 +571,7 @@ kept-end ps log log' table table' numbers txns txns' serials owed promised key t
     }
 
 -- the empty log
-pub kept-none : (log : History) (table : Table) (numbers : Given) (txns : Slab Tx) → log.events ≡ [] → AreHeld table.claims nobody → numbers.last ≡ 0 → numbers.pending ≡ [] → txns.slots ≡ []
+pub kept-none : (log : History) (table : Table) (numbers : Given) (txns : Slab Tx) → log.events ≡ [] → AreHeld table nobody → numbers.last ≡ 0 → numbers.pending ≡ [] → txns.slots ≡ []
     → Kept [] log table numbers txns 0 0 0
 kept-none log table numbers txns e l n p s =
     let total_none : (w : Standing → ℕ) → 0 ≡ total w log.events = (λ w. rw e (sym (total-none w))) in
@@ -601,7 +601,7 @@ kept-none log table numbers txns e l n p s =
 -- ---- an admission
 
 -- who held what before, and this transaction its call's locks
-pub held-admitted : (ps : List Checked) (h : List Event) (t p : ℕ) (args : List ℕ) (wanted : Wanted) (claims claims' : List Claim)
+pub held-admitted : (ps : List Checked) (h : List Event) (t p : ℕ) (args : List ℕ) (wanted : Wanted) (claims claims' : Table)
     → AreHeld claims (held (decls ps) h) → ((r : Record) → wanted r ≡ locks_of (decls ps) (record { proc = p; args = args }) r) → AreHeld claims' (granted (held_by claims) t wanted) → AreHeld claims' (held (decls ps) (Admit t p args ∷ h))
 held-admitted ps h t p args wanted claims claims' was are now = λ u r.
     let call : Call = record { proc = p; args = args } in

@@ -69,7 +69,7 @@ pub record Kept (ps : List Checked) (log : History) (table : Table) (numbers : G
   pub good : AllGood ps
   pub places : Places ps log.events txns
   pub serials_are : serials ≡ admitted log.events
-  pub locks_are : AreHeld table.claims (held (decls ps) log.events)
+  pub locks_are : AreHeld table (held (decls ps) log.events)
   pub last_is : numbers.last ≡ given log.events
   pub pending_is : numbers.pending ≡ open_numbers log.events
   pub rooms : Rooms ps log numbers txns owed promised

@@ -462,9 +462,9 @@ fn undone(outcome: Outcome) -> Asked
 // Gives the transaction locks that nothing stands in the way of.
 fn claim(locks: &mut LockTable, serial: u64, set: &LockSet)
     requires ready { locks.old.reserved ≡ Some set.now }
-    requires nothing { HoldsNothing (held_by locks.old.claims) serial }
-    requires free { Compatible (held_by locks.old.claims) (mode_in set.now) }
-    ensures { AreHeld locks.new.claims (granted (held_by locks.old.claims) serial (mode_in set.now)) }
+    requires nothing { HoldsNothing (held_by locks.old) serial }
+    requires free { Compatible (held_by locks.old) (mode_in set.now) }
+    ensures { AreHeld locks.new (granted (held_by locks.old) serial (mode_in set.now)) }
 {
     match locks.grant(serial, set) {
         Ok(()) => {}

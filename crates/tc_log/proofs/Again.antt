@@ -1,9 +1,9 @@
 -- Printing and reading give the event back.
-use Rattle.std.proofs.Common.{arith, ◌≡◌, ℕ, suc, ◌<◌, ◌≤◌, ◌^◌, nat_le, Bool, true, false, List, [], ◌∷◌, ◌++◌, length, take, drop, sym, refl, ap, ap₂, subst, ◌∙◌}
+use Rattle.std.proofs.Common.{arith, ◌≡◌, ℕ, suc, ◌<◌, ◌≤◌, ◌^◌, nat_le, Bool, true, false, List, [], ◌∷◌, ◌++◌, length, take, drop, sym, refl, ap, ap₂, subst, inl, inr, ◌∙◌}
 use Rattle.std.specs.Prelude.{Option, Some, None, ◌==◌, ◌+◌, ◌-◌, ◌*◌}
 use Rattle.std.specs.List.{flat_map}
 use Rattle.std.specs.Int.{w64, to_le_bytes, from_le_bytes}
-use Rattle.std.proofs.lemmas.Bool.{cond-true, cond-false, le-leb}
+use Rattle.std.proofs.lemmas.Bool.{cases_lt, cond-true, cond-false, le-leb}
 use Rattle.std.proofs.lemmas.List.{take_all, length-drop, append-nil, append_assoc, drop-drop, take-replicate}
 use Rattle.std.proofs.lemmas.List.Concat.{flat_map-append}
 use Rattle.std.proofs.Math.Seq.{take-add}
@@ -17,7 +17,7 @@ use Rattle.tc_log.specs.declared.event.Event.TheVariants.{Admit, Ask, Answer, Un
 use Rattle.tc_log.specs.declared.event.Outcome.{Outcome}
 use Rattle.tc_log.specs.declared.event.Outcome.TheVariants as outcome
 use Rattle.tc_log.specs.Printed.{Cells, cells_of, cells_bytes, head_bytes, number_bytes, printed, printed_cells, zeros, args_bytes, with_value, op_cells}
-use Rattle.tc_log.specs.Reading.{u16_at, u64_at, cells_in, event_in, call_in, numbers_in, IsEvent, IsOp, IsOutcome, AreNumbers, has_row, is_some, IsPrinted, ArePrinted, HaveRows}
+use Rattle.tc_log.specs.Reading.{record_at, u16_at, u64_at, cells_in, event_in, call_in, numbers_in, IsEvent, IsOp, IsOutcome, AreNumbers, has_row, is_some, IsPrinted, ArePrinted, HaveRows}
 
 -- ---- the fields
 
@@ -202,6 +202,20 @@ pub printed_further : (events new : List Event) (e : Event) (bytes rest front : 
 printed_further events new e bytes rest front place so_far grown left cut row is =
     subst (λ (es : List Event). ArePrinted es (take (96 * (place + 1)) bytes)) (sym grown)
     (one_more events e bytes place so_far row (is ∙ cut ∙ ap (λ (b : List ℕ). take 96 b) left))
+
+-- the first 96 bytes of the rest are the record at this place
+pub record_is : (P : List ℕ → Type 0) (bytes rest front : List ℕ) (place : ℕ) → rest ≡ drop (96 * place) bytes → front ≡ take 96 rest → P (record_at place bytes) → P front
+record_is P bytes rest front place left cut is = subst P (sym (cut ∙ ap (λ (b : List ℕ). take 96 b) left)) is
+
+pub read_further : (e : Event) (bytes rest front : List ℕ) (place : ℕ) → ((earlier : ℕ) → earlier < place → IsPrinted (record_at earlier bytes)) → rest ≡ drop (96 * place) bytes
+    → front ≡ take 96 rest → IsEvent e → has_row e ≡ true → printed e ≡ front → (earlier : ℕ) → earlier < place + 1 → IsPrinted (record_at earlier bytes)
+read_further e bytes rest front place before left cut machine row is earlier within = elim (cases_lt earlier place) [
+  | inl below ↦ before earlier below
+  | inr at ↦
+      let same : place ≡ earlier = omega (arith, within, at) in
+      subst (λ (k : ℕ). IsPrinted (record_at k bytes)) same
+      (record { event = e; numbers = machine; row = row; prints = is ∙ cut ∙ ap (λ (b : List ℕ). take 96 b) left })
+]
 
 pub rest_further : (bytes rest back : List ℕ) (place : ℕ) → rest ≡ drop (96 * place) bytes → back ≡ drop 96 rest → back ≡ drop (96 * (place + 1)) bytes
 rest_further bytes rest back place left cut = cut ∙ ap (λ (b : List ℕ). drop 96 b) left ∙ drop-drop 96 (96 * place) bytes ∙ ap (λ (n : ℕ). drop n bytes) (turned place)

@@ -152,9 +152,7 @@ record_at place bytes = take 96 (drop (96 * place) bytes)
 -- this is the first record that no event is printed as
 pub record IsFirstUnread (place : ℕ) (bytes : List ℕ) : Type 0 where
   pub inside : 96 * place + 96 ≤ length bytes
-  pub before : List Event
-  pub count : length before ≡ place
-  pub printed : ArePrinted before (take (96 * place) bytes)
+  pub before : (earlier : ℕ) → earlier < place → IsPrinted (record_at earlier bytes)
   pub unread : IsPrinted (record_at place bytes) → ⊥
 
 -- what is wrong with the bytes

@@ -2,6 +2,7 @@
 
 ghost use Rattle.std.specs.Prelude.{◌≡◌, true, ◌≤◌, ◌++◌, length, IfOk, IfSome, OnOk};
 ghost use Rattle.std.specs.List.{flat_map};
+ghost use Rattle.std.specs.Int.{w16, w64, to_le_bytes};
 ghost use Rattle.tc_log.specs.Printed.{op_cells, said_cells, outcome_cells, args_bytes, zeros, cells_of, cells_bytes, head_bytes, number_bytes, printed};
 ghost use Rattle.tc_log.specs.Laid.{laid, laid_if, laid_parts, admit_cells, body_bytes, is_printable};
 
@@ -9,6 +10,7 @@ use crate::event::{Args, Event, Outcome};
 use crate::log::Log;
 use access_slots::op::{Op, Said};
 use access_slots::slot::{Record, Value};
+use byteorder::{ByteOrder, LittleEndian};
 use std::alloc::{AllocError, Global};
 
 // The last 64 bytes.
@@ -136,13 +138,31 @@ fn write_zeros(out: &mut Vec<u8>, count: usize) -> Result<(), AllocError>
     out.extend_from_slice(&[0; 96][..count])
 }
 
+// A number of two bytes.
+fn write_short(out: &mut Vec<u8>, number: u16) -> Result<(), AllocError>
+    ensures { OnOk result (out.new.items ≡ out.old.items ++ to_le_bytes w16 number) }
+{
+    let mut bytes = [0; 2];
+    LittleEndian::write_u16(&mut bytes, number);
+    out.extend_from_slice(&bytes)
+}
+
+// A number of eight bytes.
+fn write_long(out: &mut Vec<u8>, number: u64) -> Result<(), AllocError>
+    ensures { OnOk result (out.new.items ≡ out.old.items ++ to_le_bytes w64 number) }
+{
+    let mut bytes = [0; 8];
+    LittleEndian::write_u64(&mut bytes, number);
+    out.extend_from_slice(&bytes)
+}
+
 // Eight bytes for each argument, and zeros behind them.
 fn write_args(out: &mut Vec<u8>, args: &[u64]) -> Result<(), AllocError>
     requires { length args.now ≤ 8 }
     ensures { OnOk result (out.new.items ≡ out.old.items ++ args_bytes args.now) }
 {
     'numbers: for arg in args {
-        out.extend_from_slice(&arg.to_le_bytes())?;
+        write_long(out, *arg)?;
     }
     write_zeros(out, 64 - 8 * args.len())
 }
@@ -164,8 +184,8 @@ fn write_head(out: &mut Vec<u8>, cells: &Cells) -> Result<(), AllocError>
     ensures { OnOk result (out.new.items ≡ out.old.items ++ head_bytes cells.now.kind cells.now.sub cells.now.dc cells.now.table) }
 {
     out.extend_from_slice(&[cells.kind, cells.sub])?;
-    out.extend_from_slice(&cells.dc.to_le_bytes())?;
-    out.extend_from_slice(&cells.table.to_le_bytes())?;
+    write_short(out, cells.dc)?;
+    write_short(out, cells.table)?;
     out.extend_from_slice(&[0; 2])
 }
 
@@ -174,9 +194,9 @@ fn write_head(out: &mut Vec<u8>, cells: &Cells) -> Result<(), AllocError>
 fn write_numbers(out: &mut Vec<u8>, cells: &Cells) -> Result<(), AllocError>
     ensures { OnOk result (out.new.items ≡ out.old.items ++ number_bytes cells.now.txn cells.now.word cells.now.key) }
 {
-    out.extend_from_slice(&cells.txn.to_le_bytes())?;
-    out.extend_from_slice(&cells.word.to_le_bytes())?;
-    out.extend_from_slice(&cells.key.to_le_bytes())
+    write_long(out, cells.txn)?;
+    write_long(out, cells.word)?;
+    write_long(out, cells.key)
 }
 
 // The cells as bytes.

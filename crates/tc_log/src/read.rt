@@ -2,7 +2,7 @@
 
 ghost use Rattle.std.specs.Prelude.{◌≡◌, ◌↔◌, Some, ℕ, ◌<◌, ◌≤◌, ◌%◌, List, true, length, drop, slice_index, reverse, IfErr, IfNone, IfOk, IfSome, OnOk};
 ghost use Rattle.std.specs.Int.{w16, w64, from_le_bytes};
-ghost use Rattle.tc_log.specs.Reading.{u16_at, u64_at, cells_in, record_in, op_in, said_in, outcome_in, call_in, event_in, numbers_in, has_row, IsPrinted, ArePrinted, AreOnlyOnes, IsReadFault};
+ghost use Rattle.tc_log.specs.Reading.{u16_at, u64_at, cells_in, record_in, op_in, said_in, outcome_in, call_in, event_in, numbers_in, has_row, IsRecord, IsOp, IsSaid, IsOutcome, AreNumbers, IsEvent, IsPrinted, ArePrinted, AreOnlyOnes, IsReadFault};
 ghost use Rattle.tc_log.specs.Printed.{printed};
 
 use crate::event::{Args, Event, Outcome};
@@ -10,6 +10,7 @@ use crate::log::Log;
 use crate::print::write_event;
 use access_slots::op::{Op, Said};
 use access_slots::slot::{Record, Value};
+use byteorder::{ByteOrder, LittleEndian};
 use std::alloc::{AllocError, AllocFailed, Global};
 
 /// Why bytes are no log.
@@ -46,24 +47,27 @@ impl From<AllocError> for LogFault {
 }
 
 // A number of two bytes.
+#[tactic(auto, using(crate::proofs::Numbers::short_is))]
 fn short(bytes: &[u8]) -> u16
     requires { length bytes.now ≡ 2 }
     ensures { result ≡ from_le_bytes w16 bytes.now }
 {
-    u16::from_le_bytes([bytes[0], bytes[1]])
+    LittleEndian::read_u16(bytes)
 }
 
 // A number of eight bytes.
-fn long(b: &[u8]) -> u64
-    requires { length b.now ≡ 8 }
-    ensures { result ≡ from_le_bytes w64 b.now }
+#[tactic(auto, using(crate::proofs::Numbers::long_is))]
+fn long(bytes: &[u8]) -> u64
+    requires { length bytes.now ≡ 8 }
+    ensures { result ≡ from_le_bytes w64 bytes.now }
 {
-    u64::from_le_bytes([b[0], b[1], b[2], b[3], b[4], b[5], b[6], b[7]])
+    LittleEndian::read_u64(bytes)
 }
 
 fn record_in(bytes: &[u8]) -> Record
     requires { length bytes.now ≡ 96 }
-    ensures { result ≡ record_in (cells_in bytes.now) }
+    ensures value { result ≡ record_in (cells_in bytes.now) }
+    ensures machine { IsRecord result }
 {
     Record {
         dc: short(&bytes[2..4]),
@@ -74,7 +78,8 @@ fn record_in(bytes: &[u8]) -> Record
 
 fn value_in(bytes: &[u8]) -> Value
     requires { length bytes.now ≡ 96 }
-    ensures { result ≡ drop 32 bytes.now }
+    ensures value { result ≡ drop 32 bytes.now }
+    ensures long { length result ≡ 64 }
 {
     let mut value = [0; 64];
     value.copy_from_slice(&bytes[32..]);
@@ -83,7 +88,8 @@ fn value_in(bytes: &[u8]) -> Value
 
 fn op_in(bytes: &[u8]) -> Option<Op>
     requires { length bytes.now ≡ 96 }
-    ensures { result ≡ op_in (cells_in bytes.now) }
+    ensures value { result ≡ op_in (cells_in bytes.now) }
+    ensures machine { IfSome result IsOp }
 {
     let record = record_in(bytes);
     match bytes[1] {
@@ -97,7 +103,8 @@ fn op_in(bytes: &[u8]) -> Option<Op>
 
 fn said_in(bytes: &[u8]) -> Option<Said>
     requires { length bytes.now ≡ 96 }
-    ensures { result ≡ said_in (cells_in bytes.now) }
+    ensures value { result ≡ said_in (cells_in bytes.now) }
+    ensures machine { IfSome result IsSaid }
 {
     match bytes[1] {
         1 => Some(Said::Value(value_in(bytes))),
@@ -113,7 +120,8 @@ fn said_in(bytes: &[u8]) -> Option<Said>
 
 fn outcome_in(bytes: &[u8]) -> Option<Outcome>
     requires { length bytes.now ≡ 96 }
-    ensures { result ≡ outcome_in (cells_in bytes.now) }
+    ensures value { result ≡ outcome_in (cells_in bytes.now) }
+    ensures machine { IfSome result IsOutcome }
 {
     match bytes[1] {
         1 => Some(Outcome::Committed),
@@ -127,7 +135,8 @@ fn outcome_in(bytes: &[u8]) -> Option<Outcome>
 fn numbers_in(alloc: Global, count: usize, body: &[u8]) -> Result<Vec<u64>, AllocError>
     requires few { count ≤ 8 }
     requires long { length body.now ≡ 64 }
-    ensures { IfOk result (λ numbers. numbers.items ≡ numbers_in count body.now) }
+    ensures value { IfOk result (λ numbers. numbers.items ≡ numbers_in count body.now) }
+    ensures machine { IfOk result (λ numbers. AreNumbers numbers.items) }
 {
     let mut numbers = Vec::with_capacity(alloc, count)?;
     let mut rest = body;
@@ -141,7 +150,8 @@ fn numbers_in(alloc: Global, count: usize, body: &[u8]) -> Result<Vec<u64>, Allo
 
 fn call_in(alloc: Global, bytes: &[u8]) -> Result<Option<Event>, AllocError>
     requires { length bytes.now ≡ 96 }
-    ensures { IfOk result (λ e. e ≡ call_in (cells_in bytes.now)) }
+    ensures value { IfOk result (λ e. e ≡ call_in (cells_in bytes.now)) }
+    ensures machine { IfOk result (λ e. IfSome e IsEvent) }
 {
     let count = usize::from(bytes[1]);
     if count > 8 {
@@ -158,7 +168,8 @@ fn call_in(alloc: Global, bytes: &[u8]) -> Result<Option<Event>, AllocError>
 // The event that the 96 bytes may be, by their fields.
 fn event_in(alloc: Global, bytes: &[u8]) -> Result<Option<Event>, AllocError>
     requires { length bytes.now ≡ 96 }
-    ensures { IfOk result (λ e. e ≡ event_in (cells_in bytes.now)) }
+    ensures value { IfOk result (λ e. e ≡ event_in (cells_in bytes.now)) }
+    ensures machine { IfOk result (λ e. IfSome e IsEvent) }
 {
     let txn = long(&bytes[8..16]);
     let number = long(&bytes[16..24]);
@@ -187,6 +198,7 @@ fn read_event(alloc: Global, bytes: &[u8], again: &mut Vec<u8>) -> Result<Option
     ensures some { IfOk result (λ o. IfSome o (λ e. (has_row e ≡ true) × (printed e ≡ bytes.now))) }
     ensures none { IfOk result (λ o. IfNone o (IsPrinted bytes.now → ⊥)) }
     ensures seen { IfOk result (λ o. IfSome o (λ e. event_in (cells_in bytes.now) ≡ Some e)) }
+    ensures machine { IfOk result (λ o. IfSome o IsEvent) }
 {
     let Some(event) = event_in(alloc, bytes)? else {
         return Ok(None);

@@ -11,7 +11,7 @@ use Rattle.semantics.specs.Instruction.{program_of, setting}
 use Rattle.semantics.specs.Row.{plain_bases}
 use Rattle.verifier.specs.Checked.{Checked}
 use Rattle.verifier.specs.Calls.{is_call_place}
-use Rattle.verifier.specs.Asks.{AsksAtMost}
+use Rattle.semantics.specs.Reach.{AsksAtMost}
 use Rattle.history.specs.Calls.{Call, locks_of}
 use Rattle.transactions.specs.Standing.{Standing}
 

@@ -1,5 +1,5 @@
 -- Code with which nothing is wrong is safe.
-use Rattle.std.proofs.Common.{◌≡◌, ℕ, zero, suc, ◌+◌, ◌-◌, ◌*◌, ◌<◌, ◌≤◌, ◌^◌, Bool, true, false, cond, ◌==◌, Option, Some, None, Result, Ok, Err, List, [], ◌∷◌, length, take, refl, sym, ap, ap₂, ◌∙◌, subst, inl, inr, arith}
+use Rattle.std.proofs.Common.{◌≡◌, ℕ, zero, suc, ◌+◌, ◌-◌, ◌*◌, ◌<◌, ◌≤◌, ◌^◌, Bool, true, false, cond, ◌==◌, Option, Some, None, Result, Ok, Err, List, [], ◌∷◌, ◌++◌, length, take, refl, sym, ap, ap₂, ◌∙◌, subst, inl, inr, arith}
 use Rattle.std.specs.Prelude.{ℤ, pos, ◌+ℤ◌, slice_get, slice_set, count_by}
 use Rattle.std.proofs.lemmas.List.Recursion.{is_count_by}
 use Rattle.std.specs.List.{slice_index_or, flat_map}
@@ -9,9 +9,11 @@ use Rattle.std.proofs.lemmas.List.{length-append, length-replicate}
 use Rattle.std.proofs.lemmas.Option.{slice_get_within}
 use Rattle.access_slots.specs.Access.{fits, is_no_room}
 use Rattle.access_slots.specs.Declaration.{Declaration}
+use Rattle.access_slots.specs.declared.op.Op.{Op}
 use Rattle.access_slots.specs.declared.op.Said.{Said}
 use Rattle.access_slots.specs.declared.op.Said.TheVariants as said
-use Rattle.bpf_encoding.specs.Spelling.{number_of}
+use Rattle.bpf_encoding.specs.Fields.{Fields}
+use Rattle.bpf_encoding.specs.Spelling.{number_of, fields_of}
 use Rattle.bpf_encoding.specs.Reading.{is_64}
 use Rattle.bpf_encoding.specs.declared.insn.Insn.{Insn}
 use Rattle.bpf_encoding.specs.declared.insn.Insn.TheVariants.{Alu, Negate, MoveSigned, Order, LoadWide, Jump, JumpLong, JumpIf, Load, LoadSigned, StoreImm, Store, Atomic, Call, Exit}
@@ -20,9 +22,9 @@ use Rattle.bpf_encoding.specs.declared.insn.Place.TheVariants as place
 use Rattle.semantics.specs.Arithmetic.{width_of}
 use Rattle.semantics.specs.Memory.{Memory, bytes_at, written}
 use Rattle.semantics.specs.Step.{Config, Cause, EmptyRead, WroteR10, Step, Next, Ask, Done, Trap, Bases, Setting, address, step, register, need, put, place_of, goes_to, if_taken, loaded, stored, fetched, replaced}
-use Rattle.semantics.specs.Reach.{Stop, Asked, Exited, Trapped, Unfinished, IsLayout, AreArguments, IsBySlot, AnswersFit, FitsStop, buffer_regions, entry_memory, advance, onwards, on_from, run, answered, reach, entry, from_step, IsFineStop, IsSafe}
+use Rattle.semantics.specs.Reach.{Stop, Asked, Exited, Trapped, Unfinished, IsLayout, AreArguments, IsBySlot, AnswersFit, FitsStop, buffer_regions, entry_memory, advance, onwards, on_from, run, answered, reach, entry, from_step, IsFineStop, IsSafe, calls_helper, AsksAtMost, AsksOnceByEach}
 use Rattle.semantics.specs.Instruction.{instruction_step, program_of, setting, value_of, left_of, receiver, expected_of, exchanged_by}
-use Rattle.semantics.proofs.Bridge.{step-instruction, length-program}
+use Rattle.semantics.proofs.Bridge.{slot_at, step-instruction, length-program}
 use Rattle.semantics.proofs.Extended.{address_zero}
 use Rattle.register_kinds.specs.declared.kind.Violation.{Violation}
 use Rattle.register_kinds.specs.declared.kinds.Kinds.{Kinds}
@@ -37,7 +39,6 @@ use Rattle.verifier.specs.Flow.{jump_flaw, fall_flaw, call_flaw, or_else, flow_v
 use Rattle.verifier.specs.Verdict.{first_flaw, first_violation, or_first}
 use Rattle.verifier.specs.Checked.{IsAccepted}
 use Rattle.verifier.specs.Calls.{is_call, is_call_place}
-use Rattle.verifier.specs.Asks.{AsksAtMost}
 use Rattle.verifier.proofs.Firsts.{all_none}
 use Rattle.verifier.proofs.Behind.{KnownWeaker, known_on, known_later, arrives, HasInsn, head_insn, behind, or_none, both_none, lands, jump_leads, next_goes_on, falls_within, next_later}
 
@@ -455,6 +456,67 @@ module _ (code : List Place) (decl : Declaration) (accepted : IsAccepted decl co
   run_counted : (answers : List Said) (c : Config) → FitsAt here code c → AnswersFit here c answers → FewAnswers (length answers) c.place (run here c answers)
   run_counted [] c at f = no_answers c.place (onwards here c) (whole_counted c at)
   run_counted (a ∷ later) c at f = after_counted c.place (onwards here c) a later (whole_safe c at) (whole_counted c at) f (run_counted later)
+
+  -- ---- each question stands at a call, further on than the questions before it
+
+  later_on : (from : ℕ) (s : Stop) (a : Said) (later : List Said) → SafeStop s → CountedStop from s → FitsStop s a (λ k c'. AnswersFit here (answered here k c' a) later)
+      → ((c : Config) → FitsAt here code c → AnswersFit here c later → CountedStop c.place (run here c later)) → CountedStop from (on_from here s (λ k c'. run here (answered here k c' a) later))
+  later_on from (Asked slot operation c) a later safe h f more =
+      let on = h.0 in
+      let next = same_place here slot c a in
+      lower_stop from (answered here slot c a).place (omega (arith, on, next)) (run here (answered here slot c a) later) (more (answered here slot c a) (safe.3 a f.0 f.1) f.2)
+  later_on from (Exited v c) a later safe h f more = tt
+  later_on from (Trapped cause) a later safe h f more = tt
+  later_on from Unfinished a later safe h f more = tt
+
+  run_later : (answers : List Said) (c : Config) → FitsAt here code c → AnswersFit here c answers → CountedStop c.place (run here c answers)
+  run_later [] c at f = whole_counted c at
+  run_later (a ∷ later) c at f = later_on c.place (onwards here c) a later (whole_safe c at) (whole_counted c at) f (run_later later)
+
+  module _ (slot slot' : ℕ) (operation operation' : Op) (there there' : Config) where
+    next_further : (s : Stop) (a : Said) (later : List Said) → SafeStop s → FitsStop s a (λ k c'. AnswersFit here (answered here k c' a) later)
+        → s ≡ Asked slot operation there → on_from here s (λ k c'. run here (answered here k c' a) later) ≡ Asked slot' operation' there' → there.place < there'.place
+    next_further (Asked k o c) a later safe f e e' =
+        let same : c ≡ there = cc in
+        let counted = subst (CountedStop (answered here k c a).place) e' (run_later later (answered here k c a) (safe.3 a f.0 f.1) f.2) in
+        let on = counted.0 in
+        let next = same_place here k c a in
+        let place = ap (λ (x : Config). x.place) same in
+        omega (arith, on, next, place)
+    next_further (Exited v c) a later safe f e e' = absurd cc
+    next_further (Trapped cause) a later safe f e e' = absurd cc
+    next_further Unfinished a later safe f e e' = absurd cc
+
+    on_further : (s : Stop) (x : Said) (earlier answers : List Said) → SafeStop s → FitsStop s x (λ k c'. AnswersFit here (answered here k c' x) answers)
+        → on_from here s (λ k c'. run here (answered here k c' x) earlier) ≡ Asked slot operation there → on_from here s (λ k c'. run here (answered here k c' x) answers) ≡ Asked slot' operation' there'
+        → ((c : Config) → FitsAt here code c → AnswersFit here c answers → run here c earlier ≡ Asked slot operation there → run here c answers ≡ Asked slot' operation' there' → there.place < there'.place)
+        → there.place < there'.place
+    on_further (Asked k o c) x earlier answers safe f e e' more = more (answered here k c x) (safe.3 x f.0 f.1) f.2 e e'
+    on_further (Exited v c) x earlier answers safe f e e' more = next_further (Exited v c) x answers safe tt e e'
+    on_further (Trapped cause) x earlier answers safe f e e' more = absurd safe
+    on_further Unfinished x earlier answers safe f e e' more = absurd safe
+
+    further : (earlier : List Said) (a : Said) (later : List Said) (c : Config) → FitsAt here code c → AnswersFit here c (earlier ++ a ∷ later)
+        → run here c earlier ≡ Asked slot operation there → run here c (earlier ++ a ∷ later) ≡ Asked slot' operation' there' → there.place < there'.place
+    further [] a later c at f e e' = next_further (onwards here c) a later (whole_safe c at) f e e'
+    further (x ∷ earlier) a later c at f e e' = on_further (onwards here c) x earlier (earlier ++ a ∷ later) (whole_safe c at) f e e' (further earlier a later)
+
+call_opcode : (i : Insn) → is_call i ≡ true → calls_helper (Some (fields_of i)) ≡ true
+call_opcode (Call helper) e = refl
+call_opcode i e = absurd cc
+
+-- each question of a run is of another call, further on
+pub accepted_asks_once : (code : List Place) (decl : Declaration) → IsAccepted decl code → AsksOnceByEach (program_of code decl)
+accepted_asks_once code decl accepted = record {
+  by_call = λ args b answers slot operation c layout arguments fit asked.
+      let entered = entry_fits code decl accepted args b layout arguments in
+      let counted = run_later code decl accepted args b layout arguments answers (entry (setting code decl args b)) entered fit in
+      let here = subst (CountedStop code decl accepted args b layout arguments 0) asked counted in
+      ap calls_helper (slot_at 0 code c.place here.1.0 here.1.1) ∙ call_opcode here.1.0 here.1.2;
+  further_on = λ args b earlier a later slot slot' operation operation' c c' layout arguments fit asked asked'.
+      let entered = entry_fits code decl accepted args b layout arguments in
+      further code decl accepted args b layout arguments slot slot' operation operation' c c' earlier a later (entry (setting code decl args b)) entered fit asked asked';
+}
 
 -- each question of a run is of another call slot, so there are more of these than answers before it
 pub accepted_asks_few : (code : List Place) (decl : Declaration) → IsAccepted decl code → AsksAtMost (program_of code decl) (count_by is_call_place code)

@@ -4,4 +4,3 @@ pub mod Checked
 pub mod Table
 pub mod Calls
 pub mod Flat
-pub mod Asks

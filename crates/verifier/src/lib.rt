@@ -2,7 +2,7 @@
 //! answers to its questions.
 #![tactic(auto)]
 
+pub mod first_pass;
 pub mod flat;
-pub mod flow;
-pub mod pass;
+pub mod second_pass;
 pub mod verify;

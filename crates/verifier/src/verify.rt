@@ -1,19 +1,18 @@
 //! The verifier.
 
 ghost use Rattle.std.specs.Prelude.{◌≡◌, ◌≤◌, ◌<◌, length, IfOk, IfErr, None, count_by};
-ghost use Rattle.semantics.specs.Reach.{IsSafe};
+ghost use Rattle.semantics.specs.Reach.{IsSafe, AsksAtMost, AsksOnceByEach};
 ghost use Rattle.semantics.specs.Instruction.{program_of};
 ghost use Rattle.bpf_encoding.specs.Spells.{IsCode};
-ghost use Rattle.verifier.specs.Asks.{AsksAtMost};
-ghost use Rattle.verifier.specs.Calls.{is_call_place, is_call_flat};
+ghost use Rattle.verifier.specs.Calls.{is_call_place};
 ghost use Rattle.verifier.specs.Verdict.{verdict, first_flaw, first_violation, IsVerdict};
 
-use crate::flat::{FlatCode, FlatInsn};
-use crate::flow::first_flaw;
-use crate::pass::first_violation;
+use crate::flat::FlatCode;
+use crate::first_pass::first_flaw;
+use crate::second_pass::first_violation;
 use access_slots::decl::Decl;
 use bpf_encoding::code::Code;
-use bpf_encoding::insn::Place;
+use bpf_encoding::insn::{Insn, Place};
 use register_kinds::kind::Violation;
 use std::alloc::{AllocError, Global};
 use std::marker::Model;
@@ -28,21 +27,28 @@ pub enum VerifyFault {
 }
 
 /// Code that never goes wrong, with its declaration. Only [`verify`] makes one: a value of this
-/// type is the evidence.
+/// type is the evidence. It keeps the code that was handed in, 24 bytes a slot, and beside it the
+/// form in which it is run, 16 bytes a slot.
 #[derive(Drop)]
 pub struct Verified {
-    code: FlatCode,
+    code: Code,
+    flat: FlatCode,
+    calls: usize,
     decl: Decl,
 }
 
+const _: () = prove!(size_of::<Place>() == 24);
+
 impl Model for Verified {
+    ghost use Rattle.std.specs.Prelude.{◌≡◌, count_by};
+    ghost use Rattle.verifier.specs.Calls.{is_call_place};
     ghost use Rattle.verifier.specs.Checked.{Checked, IsAccepted};
 
     ghost Value = { Checked };
 
     ghost view = { λ v. record { code = v.code; decl = v.decl } };
 
-    ghost invariant = { λ v. IsAccepted v.decl v.code };
+    ghost invariant = { λ v. IsAccepted v.decl v.code × (v.flat ≡ v.code) × (v.calls ≡ count_by is_call_place v.code) };
 }
 
 // The first violation by the kinds, in a table that is made for it.
@@ -93,23 +99,28 @@ pub fn verify(alloc: Global, code: Code, decl: Decl) -> Result<Verified, VerifyF
     prove!(decl.slots().len() <= 16);
     check(alloc, code.places(), &decl)?;
     match FlatCode::new(alloc, &code) {
-        Ok(code) => Ok(Verified { code, decl }),
+        Ok(flat) => Ok(Verified {
+            calls: calls_in(code.places()),
+            code,
+            flat,
+            decl,
+        }),
         Err(_) => Err(VerifyFault::Memory),
     }
 }
 
-fn is_call(insn: &FlatInsn) -> bool
-    ensures { result ≡ is_call_flat insn.now }
+fn is_call(place: &Place) -> bool
+    ensures { result ≡ is_call_place place.now }
 {
-    matches!(insn, FlatInsn::Call(..))
+    matches!(place, Place::Insn(Insn::Call(_)))
 }
 
-fn calls_in(insns: &[FlatInsn]) -> usize
-    ensures { result ≡ count_by is_call_flat insns.now }
+fn calls_in(places: &[Place]) -> usize
+    ensures { result ≡ count_by is_call_place places.now }
 {
     let mut calls = 0;
-    for insn in insns {
-        if is_call(insn) {
+    for place in places {
+        if is_call(place) {
             calls += 1;
         }
     }
@@ -117,14 +128,23 @@ fn calls_in(insns: &[FlatInsn]) -> usize
 }
 
 impl Verified {
-    /// The code that was verified, in the form in which it is run.
-    #[inline]
-    pub fn code(&self) -> &FlatCode
+    /// The code that was verified.
+    pub fn code(&self) -> &Code
         ensures value { result.now ≡ self.now.code }
         ensures code { IsCode self.now.code }
         ensures safe { IsSafe (program_of self.now.code self.now.decl) }
     {
         &self.code
+    }
+
+    /// The same code in the form in which it is run.
+    #[inline]
+    pub fn flat(&self) -> &FlatCode
+        ensures value { result.now ≡ self.now.code }
+        ensures code { IsCode self.now.code }
+        ensures safe { IsSafe (program_of self.now.code self.now.decl) }
+    {
+        &self.flat
     }
 
     /// Its declaration.
@@ -135,11 +155,13 @@ impl Verified {
         &self.decl
     }
 
-    /// How many of its instructions call a helper.
+    /// How many of its instructions call a helper. A run meets at most so many questions, each
+    /// of another call.
     pub fn calls(&self) -> usize
         ensures value { result ≡ count_by is_call_place self.now.code }
         ensures few { AsksAtMost (program_of self.now.code self.now.decl) (count_by is_call_place self.now.code) }
+        ensures once { AsksOnceByEach (program_of self.now.code self.now.decl) }
     {
-        calls_in(self.code.insns())
+        self.calls
     }
 }

@@ -11,6 +11,4 @@ returns-in-Ok-clause-safe c =
     let args : c.args.decl.args ≤ 8 = (let e = c.args-2.ensures.value in let few = c.args-2.ensures.few in omega (arith, e, few)) in
     let slots : length c.args.decl.slots ≤ 16 = search rules in
     let nothing = ap (verdict c.args.decl) (sym c.places.ensures.value) ∙ c.in_ok-check.ensures.ok in
-    let same : c.in-Ok.code ≡ c.args.code = search rules in
-    subst (λ (code : List Place). IsSafe (program_of code c.args.decl)) (sym same)
-    (accepted_is_safe c.args.code c.args.decl (record { whole = c.places.ensures.code; nothing = nothing; few_args = args; few_slots = slots }))
+    accepted_is_safe c.args.code c.args.decl (record { whole = c.places.ensures.code; nothing = nothing; few_args = args; few_slots = slots })

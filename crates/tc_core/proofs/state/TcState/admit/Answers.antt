@@ -34,7 +34,7 @@ returns-in-Some-busy-clause-refused c =
     let takes : Takes core call = record { q = q; loaded = loaded; count = count } in
     let are = set_locks core.procs p q args c.as_slice-args.result.now c.decl-2.result.now.slots c.resolve-set.result loaded c.as_slice-args.ensures (ap (λ (d : Declaration). d.slots) c.decl-2.ensures) c.resolve-set.ensures.value in
     let held_are = c.self.invariant.0.locks_are in
-    let first = busy_same (held_by c.self.inside.locks.claims) (held (decls core.procs) core.events) (mode_in c.resolve-set.result) (locks_of (decls core.procs) call) _ _ held_are are c.in-Some-busy.ensures.some in
+    let first = busy_same (held_by c.self.inside.locks) (held (decls core.procs) core.events) (mode_in c.resolve-set.result) (locks_of (decls core.procs) call) _ _ held_are are c.in-Some-busy.ensures.some in
     let it : IsRefused core call (refusal.Busy c.in-Some-busy.busy) = (takes, first) in
     subst (λ (x : Core). IsRefused x call (refusal.Busy c.in-Some-busy.busy)) c.self.view_is it
 
@@ -50,7 +50,7 @@ returns-then-is_spent-clause-refused c =
     let takes : Takes core call = record { q = q; loaded = loaded; count = count } in
     let are = set_locks core.procs p q args c.as_slice-args.result.now c.decl-2.result.now.slots c.resolve-set.result loaded c.as_slice-args.ensures (ap (λ (d : Declaration). d.slots) c.decl-2.ensures) c.resolve-set.ensures.value in
     let held_are = c.self.invariant.0.locks_are in
-    let free : IsFree core call = free_same (held_by c.self.inside.locks.claims) (held (decls core.procs) core.events) (mode_in c.resolve-set.result) (locks_of (decls core.procs) call) held_are are c.in_default-busy.ensures.none in
+    let free : IsFree core call = free_same (held_by c.self.inside.locks) (held (decls core.procs) core.events) (mode_in c.resolve-set.result) (locks_of (decls core.procs) call) held_are are c.in_default-busy.ensures.none in
     let sum : c.last.result + 5 * c.calls_of-calls.result + c.self.inside.promised ≡ needed core q = omega (arith, c.last.ensures.value, c.self.invariant.0.last_is, c.calls_of-calls.ensures.calls, c.self.invariant.0.rooms.promised_is) in
     let spent : nat_lt (2 ^ 62) (needed core q) ≡ c.is_spent.result = sym (c.is_spent.ensures ∙ ap (nat_lt (2 ^ 62)) sum) in
     let many : 2 ^ 62 < needed core q = many-from (needed core q) (spent ∙ c.if-is_spent.true) in
@@ -69,7 +69,7 @@ returns-in_default-own_memory-clause-refused c =
     let takes : Takes core call = record { q = q; loaded = loaded; count = count } in
     let are = set_locks core.procs p q args c.as_slice-args.result.now c.decl-2.result.now.slots c.resolve-set.result loaded c.as_slice-args.ensures (ap (λ (d : Declaration). d.slots) c.decl-2.ensures) c.resolve-set.ensures.value in
     let held_are = c.self.invariant.0.locks_are in
-    let free : IsFree core call = free_same (held_by c.self.inside.locks.claims) (held (decls core.procs) core.events) (mode_in c.resolve-set.result) (locks_of (decls core.procs) call) held_are are c.in_default-busy.ensures.none in
+    let free : IsFree core call = free_same (held_by c.self.inside.locks) (held (decls core.procs) core.events) (mode_in c.resolve-set.result) (locks_of (decls core.procs) call) held_are are c.in_default-busy.ensures.none in
     let sum : c.last.result + 5 * c.calls_of-calls.result + c.self.inside.promised ≡ needed core q = omega (arith, c.last.ensures.value, c.self.invariant.0.last_is, c.calls_of-calls.ensures.calls, c.self.invariant.0.rooms.promised_is) in
     let spent : nat_lt (2 ^ 62) (needed core q) ≡ c.is_spent.result = sym (c.is_spent.ensures ∙ ap (nat_lt (2 ^ 62)) sum) in
     let few : needed core q ≤ 2 ^ 62 = few-from (needed core q) (spent ∙ c.if-is_spent.false) in
@@ -88,7 +88,7 @@ returns-in_default-make_room-clause-refused c =
     let takes : Takes core call = record { q = q; loaded = loaded; count = count } in
     let are = set_locks core.procs p q args c.as_slice-args.result.now c.decl-2.result.now.slots c.resolve-set.result loaded c.as_slice-args.ensures (ap (λ (d : Declaration). d.slots) c.decl-2.ensures) c.resolve-set.ensures.value in
     let held_are = c.self.invariant.0.locks_are in
-    let free : IsFree core call = free_same (held_by c.self.inside.locks.claims) (held (decls core.procs) core.events) (mode_in c.resolve-set.result) (locks_of (decls core.procs) call) held_are are c.in_default-busy.ensures.none in
+    let free : IsFree core call = free_same (held_by c.self.inside.locks) (held (decls core.procs) core.events) (mode_in c.resolve-set.result) (locks_of (decls core.procs) call) held_are are c.in_default-busy.ensures.none in
     let sum : c.last.result + 5 * c.calls_of-calls.result + c.self.inside.promised ≡ needed core q = omega (arith, c.last.ensures.value, c.self.invariant.0.last_is, c.calls_of-calls.ensures.calls, c.self.invariant.0.rooms.promised_is) in
     let spent : nat_lt (2 ^ 62) (needed core q) ≡ c.is_spent.result = sym (c.is_spent.ensures ∙ ap (nat_lt (2 ^ 62)) sum) in
     let few : needed core q ≤ 2 ^ 62 = few-from (needed core q) (spent ∙ c.if-is_spent.false) in
@@ -107,7 +107,7 @@ returns-clause-admitted c =
     let takes : Takes core call = record { q = q; loaded = loaded; count = count } in
     let are = set_locks core.procs p q args c.as_slice-args.result.now c.decl-2.result.now.slots c.resolve-set.result loaded c.as_slice-args.ensures (ap (λ (d : Declaration). d.slots) c.decl-2.ensures) c.resolve-set.ensures.value in
     let held_are = c.self.invariant.0.locks_are in
-    let free : IsFree core call = free_same (held_by c.self.inside.locks.claims) (held (decls core.procs) core.events) (mode_in c.resolve-set.result) (locks_of (decls core.procs) call) held_are are c.in_default-busy.ensures.none in
+    let free : IsFree core call = free_same (held_by c.self.inside.locks) (held (decls core.procs) core.events) (mode_in c.resolve-set.result) (locks_of (decls core.procs) call) held_are are c.in_default-busy.ensures.none in
     let sum : c.last.result + 5 * c.calls_of-calls.result + c.self.inside.promised ≡ needed core q = omega (arith, c.last.ensures.value, c.self.invariant.0.last_is, c.calls_of-calls.ensures.calls, c.self.invariant.0.rooms.promised_is) in
     let spent : nat_lt (2 ^ 62) (needed core q) ≡ c.is_spent.result = sym (c.is_spent.ensures ∙ ap (nat_lt (2 ^ 62)) sum) in
     let few : needed core q ≤ 2 ^ 62 = few-from (needed core q) (spent ∙ c.if-is_spent.false) in
@@ -123,12 +123,12 @@ overflow_add-serial c =
 pub claim-requires-clause-nothing : goal.claim-requires-clause-nothing
 claim-requires-clause-nothing c =
     let made = c.in-Ok-make_room.ensures in
-    nothing_new c.self.inside.procs.items c.self.inside.log.events (c.self.inside.serials + 1) c.self.inside.locks.claims _ c.self.invariant.0.legal (ap (λ (n : ℕ). n + 1) c.self.invariant.0.serials_are) c.self.invariant.0.locks_are made.kept.claims
+    nothing_new c.self.inside.procs.items c.self.inside.log.events (c.self.inside.serials + 1) c.self.inside.locks _ c.self.invariant.0.legal (ap (λ (n : ℕ). n + 1) c.self.invariant.0.serials_are) c.self.invariant.0.locks_are made.kept.claims
 
 pub claim-requires-clause-free : goal.claim-requires-clause-free
 claim-requires-clause-free c =
     let made = c.in-Ok-make_room.ensures in
-    free_same (held_by c.self.inside.locks.claims) (held_by c.make_room.new.locks.claims) (mode_in c.resolve-set.result) (mode_in c.resolve-set.result) (λ t r. sym (made.kept.claims t r)) (λ r. refl) c.in_default-busy.ensures.none
+    free_same (held_by c.self.inside.locks) (held_by c.make_room.new.locks) (mode_in c.resolve-set.result) (mode_in c.resolve-set.result) (λ t r. sym (made.kept.claims t r)) (λ r. refl) c.in_default-busy.ensures.none
 
 pub invariant_of-self-2 : goal.invariant_of-self-2
 invariant_of-self-2 c =
@@ -142,7 +142,7 @@ invariant_of-self-2 c =
     let takes : Takes core call = record { q = q; loaded = loaded; count = count } in
     let are = set_locks core.procs p q args c.as_slice-args.result.now c.decl-2.result.now.slots c.resolve-set.result loaded c.as_slice-args.ensures (ap (λ (d : Declaration). d.slots) c.decl-2.ensures) c.resolve-set.ensures.value in
     let held_are = c.self.invariant.0.locks_are in
-    let free : IsFree core call = free_same (held_by c.self.inside.locks.claims) (held (decls core.procs) core.events) (mode_in c.resolve-set.result) (locks_of (decls core.procs) call) held_are are c.in_default-busy.ensures.none in
+    let free : IsFree core call = free_same (held_by c.self.inside.locks) (held (decls core.procs) core.events) (mode_in c.resolve-set.result) (locks_of (decls core.procs) call) held_are are c.in_default-busy.ensures.none in
     let sum : c.last.result + 5 * c.calls_of-calls.result + c.self.inside.promised ≡ needed core q = omega (arith, c.last.ensures.value, c.self.invariant.0.last_is, c.calls_of-calls.ensures.calls, c.self.invariant.0.rooms.promised_is) in
     let spent : nat_lt (2 ^ 62) (needed core q) ≡ c.is_spent.result = sym (c.is_spent.ensures ∙ ap (nat_lt (2 ^ 62)) sum) in
     let few : needed core q ≤ 2 ^ 62 = few-from (needed core q) (spent ∙ c.if-is_spent.false) in

@@ -8,4 +8,4 @@ use Rattle.verifier.proofs.verify.Verified.code.Goals as goal
 pub returns-clause-safe : goal.returns-clause-safe
 returns-clause-safe c =
     let P : Checked → Type 0 = λ v. IsSafe (program_of v.code v.decl) in
-    subst P c.self.view_is (accepted_is_safe c.self.inside.code c.self.inside.decl c.self.invariant)
+    subst P c.self.view_is (accepted_is_safe c.self.inside.code c.self.inside.decl c.self.invariant.0)

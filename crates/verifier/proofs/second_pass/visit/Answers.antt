@@ -11,7 +11,7 @@ use Rattle.register_kinds.specs.Effects.{next_by, jump_by, result_by}
 use Rattle.register_kinds.specs.Transfer.{transfer_of}
 use Rattle.verifier.specs.Table.{kept}
 use Rattle.verifier.proofs.Arrived.{arrived_on, next_is}
-use Rattle.verifier.proofs.pass.visit.Goals as goal
+use Rattle.verifier.proofs.second_pass.visit.Goals as goal
 
 pub returns-clause-arrived : goal.returns-clause-arrived
 returns-clause-arrived c = λ none.

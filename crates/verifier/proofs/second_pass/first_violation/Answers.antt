@@ -6,7 +6,7 @@ use Rattle.verifier.specs.Table.{HasArrived}
 use Rattle.verifier.specs.Verdict.{first_from}
 use Rattle.verifier.proofs.Firsts.{goes_on, is_here, is_none}
 use Rattle.verifier.proofs.Arrived.{entered}
-use Rattle.verifier.proofs.pass.first_violation.Goals as goal
+use Rattle.verifier.proofs.second_pass.first_violation.Goals as goal
 
 pub loop-at-init : goal.loop-at-init
 loop-at-init c =

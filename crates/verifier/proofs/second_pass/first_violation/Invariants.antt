@@ -2,7 +2,7 @@ use Rattle.std.proofs.Common.{◌≡◌, ◌-◌, length}
 use Rattle.register_kinds.specs.Arriving.{violation_at}
 use Rattle.verifier.specs.Table.{HasArrived}
 use Rattle.verifier.specs.Verdict.{first_from, first_violation}
-use Rattle.verifier.proofs.pass.first_violation.Given as goal
+use Rattle.verifier.proofs.second_pass.first_violation.Given as goal
 
 abbrev pub invariant-loop-at : goal.invariant-loop-at
 invariant-loop-at l = record {

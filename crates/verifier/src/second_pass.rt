@@ -6,7 +6,7 @@ ghost use Rattle.register_kinds.specs.Effects.{next_by, jump_by};
 ghost use Rattle.verifier.specs.Table.{kept, HasArrived};
 ghost use Rattle.verifier.specs.Verdict.{first_violation};
 
-use crate::flow::jump_place;
+use crate::first_pass::jump_place;
 use access_slots::decl::Decl;
 use bpf_encoding::insn::Place;
 use register_kinds::effect::{Effect, effect_of};
