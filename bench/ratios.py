@@ -1,9 +1,9 @@
 #!/usr/bin/env python3
 """Times procd's hot paths on code against a plain interpreter, in one run.
 
-usage: bench/ratios.py BASELINE_FOLDER [--only WORD]
+usage: bench/ratios.py [--only WORD] [--rounds N]
 
-BASELINE_FOLDER has bench.rs and workloads.tsv: a plain Rust interpreter in two shapes, which prints
+bench/baseline has bench.rs and workloads.tsv: a plain Rust interpreter in two shapes, which prints
 for each workload how long it decodes (ns a slot) and executes (ns an instruction). It is built by
 `rustc -O`. The program `bench` has to be built: `rt run` in crates/bench does that.
 
@@ -19,6 +19,7 @@ import time
 
 TOP = pathlib.Path(__file__).resolve().parent.parent
 PROGRAM = TOP / "crates" / "bench" / "out" / "bench"
+BASELINE = TOP / "bench" / "baseline"
 
 
 def seconds(words, text):
@@ -57,7 +58,6 @@ def measured(program, folder, text, slots, executed, rounds):
 
 def main():
     parser = argparse.ArgumentParser()
-    parser.add_argument("folder", type=pathlib.Path)
     parser.add_argument("--only", default="")
     parser.add_argument("--rounds", type=int, default=4)
     options = parser.parse_args()
@@ -67,8 +67,8 @@ def main():
     with tempfile.TemporaryDirectory() as build:
         folder = pathlib.Path(build)
         program = folder / "plain"
-        subprocess.run(["rustc", "--edition", "2021", "-O", "-A", "warnings", "-o", program, options.folder / "bench.rs"], check=True)
-        for line in (options.folder / "workloads.tsv").read_text().splitlines():
+        subprocess.run(["rustc", "--edition", "2021", "-O", "-A", "warnings", "-o", program, BASELINE / "bench.rs"], check=True)
+        for line in (BASELINE / "workloads.tsv").read_text().splitlines():
             words = line.split("\t")
             if options.only not in words[0]:
                 continue

@@ -7,3 +7,4 @@ pub mod Back
 pub mod NumbersBack
 pub mod Again
 pub mod Lines
+pub mod WordRows
