@@ -2,8 +2,8 @@
 """outside_rows.py: code and answers of others as rows for the definitions.
 
 outside/SUITE/cases.jsonl has code as hex, its arguments and the answer that the suite's own tool
-gave; outside/README.md says where each suite comes from. Each case without atomics becomes a lemma
-of crates/semantics/proofs/SUITERows.antt: the definitions, computed by the prover on these bytes,
+gave; outside/README.md says where each suite comes from. Each case becomes a lemma of
+crates/semantics/proofs/SUITERows.antt: the definitions, computed by the prover on these bytes,
 give that answer. Writes these files."""
 import glob
 import json
@@ -19,6 +19,7 @@ use Rattle.semantics.specs.Row.{{{words}}}
 """
 
 SAID = {
+    "atomics": "the Linux kernel's interpreter, on programs with each atomic operation",
     "boundaries": "the Linux kernel's interpreter, on programs at the boundaries of each instruction",
     "c-functions": "compiled C functions, and what the same functions answer on the host",
     "dpdk": "DPDK's tests of its BPF library",
@@ -39,7 +40,7 @@ def listed(items):
 
 def is_row(case):
     """Whether it is code of this profile whose answer is told."""
-    return not case["atomics"] and not case.get("note", "").startswith("reads before written")
+    return not case.get("note", "").startswith("reads before written")
 
 
 def rows(path, suite):

@@ -54,6 +54,7 @@ ALU = {
     "arsh": "s>>=",
 }
 JUMPS = {"jeq": "==", "jgt": ">", "jge": ">=", "jset": "&", "jne": "!=", "jsgt": "s>", "jsge": "s>=", "jlt": "<", "jle": "<=", "jslt": "s<", "jsle": "s<="}
+ATOMICS = {"add": "+=", "or": "|=", "and": "&=", "xor": "^="}
 SIZES = {"b": 8, "h": 16, "w": 32, "dw": 64}
 
 
@@ -91,6 +92,15 @@ def words():
         yield f"stx{letter} [r{at + 5}+{at}], r{at}", f"*(u{bits} *)(r{at + 5} + {at}) = r{at}"
         if bits < 64:
             yield f"ldxs{letter} r{at + 2}, [r{at + 3}-{at + 8}]", f"r{at + 2} = *(s{bits} *)(r{at + 3} - {at + 8})"
+    for at, (name, sign) in enumerate(ATOMICS.items()):
+        for width, bits, letter in (("w", 32, "w"), ("dw", 64, "r")):
+            place, src = f"r{at + 1} + {8 * at}", f"{letter}{at + 3}"
+            yield f"atomic_{name}_{width} [r{at + 1}+{8 * at}], r{at + 3}", f"lock *(u{bits} *)({place}) {sign} {src}"
+            yield f"atomic_fetch_{name}_{width} [r{at + 1}+{8 * at}], r{at + 3}", f"{src} = atomic_fetch_{name}((u{bits} *)({place}), {src})"
+    yield "atomic_xchg_w [r1-4], r2", "w2 = xchg32_32(r1 - 4, w2)"
+    yield "atomic_xchg_dw [r10-8], r3", "r3 = xchg_64(r10 - 8, r3)"
+    yield "atomic_cmpxchg_w [r4-4], r5", "w0 = cmpxchg32_32(r4 - 4, w0, w5)"
+    yield "atomic_cmpxchg_dw [r6-8], r7", "r0 = cmpxchg_64(r6 - 8, r0, r7)"
     yield "call 5", "call 5"
     yield "exit", "exit"
 

@@ -1,9 +1,9 @@
 #!/usr/bin/env python3
 """kernel_answers.py KERNEL_INTERP [LLVM_MC]: whole answers, by the Linux kernel's interpreter.
 
-KERNEL_INTERP is the program that kernel/build.sh makes. The programs of boundaries.py are
-assembled by LLVM_MC (llvm-mc-19) and become boundaries/cases.jsonl with what the interpreter
-answers. The kernel's tests tell the low 32 bits of an answer alone: here each of these cases
+KERNEL_INTERP is the program that kernel/build.sh makes. The programs of boundaries.py and of
+atomics.py are assembled by LLVM_MC (llvm-mc-19) and become cases.jsonl of boundaries and atomics
+with what the interpreter answers. The kernel's tests tell the low 32 bits of an answer alone: here each of these cases
 gets what the interpreter answers as `whole`, where it ends and agrees with the test's low bits.
 """
 import glob
@@ -13,7 +13,8 @@ import re
 import subprocess
 import sys
 
-from boundaries import programs
+import atomics
+import boundaries
 
 HERE = os.path.dirname(os.path.abspath(__file__))
 
@@ -40,24 +41,30 @@ def write(suite, cases):
         file.writelines(json.dumps(case) + "\n" for case in cases)
 
 
-def main():
-    program = sys.argv[1]
-    assembler = sys.argv[2] if len(sys.argv) > 2 else "llvm-mc-19"
-    texts = list(programs())
+def made(program, assembler, suite, programs, atomic):
+    """The cases of a suite whose programs are made here."""
+    texts = list(programs)
     codes = [assembled(assembler, lines) for _, lines in texts]
     found = answers(program, [(code, []) for code in codes])
     # where the kernel's verifier would put a guard before a division, there is no answer
     rows = [
-        {"name": name, "hex": code, "args": [], "expected": value, "compare": "u64", "atomics": False}
+        {"name": name, "hex": code, "args": [], "expected": value, "compare": "u64", "atomics": atomic}
         for (name, _), code, value in zip(texts, codes, found)
         if value is not None
     ]
-    write("boundaries", rows)
-    print("boundaries", len(rows), "of", len(texts))
+    write(suite, rows)
+    print(suite, len(rows), "of", len(texts))
+
+
+def main():
+    program = sys.argv[1]
+    assembler = sys.argv[2] if len(sys.argv) > 2 else "llvm-mc-19"
+    made(program, assembler, "boundaries", boundaries.programs(), False)
+    made(program, assembler, "atomics", atomics.programs(), True)
     for path in sorted(glob.glob(os.path.join(HERE, "*", "cases.jsonl"))):
         suite = os.path.basename(os.path.dirname(path))
         cases = [json.loads(line) for line in open(path)]
-        low = [case for case in cases if case["compare"] == "low32" and not case["atomics"]]
+        low = [case for case in cases if case["compare"] == "low32"]
         for case, value in zip(low, answers(program, [(case["hex"], case["args"]) for case in low])):
             case.pop("whole", None)
             if value is not None and value % 2**32 == case["expected"] % 2**32:

@@ -3,6 +3,7 @@ use Rattle.std.proofs.Common.{◌≡◌, true, Ok, refl}
 use Rattle.bpf_encoding.specs.declared.insn.Register.{Register}
 use Rattle.bpf_encoding.specs.declared.insn.Register.TheVariants.{R0, R1, R2, R3, R4, R5, R6, R7, R8, R9, R10}
 use Rattle.bpf_encoding.specs.declared.insn.Operation.TheVariants.{Add, Sub, Mul, Div, SignedDiv, Or, And, LeftShift, RightShift, Mod, SignedMod, Xor, Mov, SignedRightShift}
+use Rattle.bpf_encoding.specs.declared.insn.AtomicOperation.TheVariants as atomic
 use Rattle.bpf_encoding.specs.declared.insn.Condition.TheVariants.{Equal, Greater, GreaterOrEqual, AnyBit, NotEqual, SignedGreater, SignedGreaterOrEqual, Less, LessOrEqual, SignedLess, SignedLessOrEqual}
 use Rattle.bpf_encoding.specs.declared.insn.Width.TheVariants.{Bits64, Bits32}
 use Rattle.bpf_encoding.specs.declared.insn.Extension.TheVariants.{Byte64, Half64, Word64, Byte32, Half32}
@@ -101,6 +102,26 @@ mnemonic_reads (m.Store Word) = (refl, refl)
 mnemonic_reads (m.Store Half) = (refl, refl)
 mnemonic_reads (m.Store Byte) = (refl, refl)
 mnemonic_reads (m.Store Double) = (refl, refl)
+mnemonic_reads (m.Atomic Bits32 atomic.Add) = (refl, refl)
+mnemonic_reads (m.Atomic Bits32 atomic.Or) = (refl, refl)
+mnemonic_reads (m.Atomic Bits32 atomic.And) = (refl, refl)
+mnemonic_reads (m.Atomic Bits32 atomic.Xor) = (refl, refl)
+mnemonic_reads (m.Atomic Bits32 atomic.FetchAdd) = (refl, refl)
+mnemonic_reads (m.Atomic Bits32 atomic.FetchOr) = (refl, refl)
+mnemonic_reads (m.Atomic Bits32 atomic.FetchAnd) = (refl, refl)
+mnemonic_reads (m.Atomic Bits32 atomic.FetchXor) = (refl, refl)
+mnemonic_reads (m.Atomic Bits32 atomic.Exchange) = (refl, refl)
+mnemonic_reads (m.Atomic Bits32 atomic.CompareExchange) = (refl, refl)
+mnemonic_reads (m.Atomic Bits64 atomic.Add) = (refl, refl)
+mnemonic_reads (m.Atomic Bits64 atomic.Or) = (refl, refl)
+mnemonic_reads (m.Atomic Bits64 atomic.And) = (refl, refl)
+mnemonic_reads (m.Atomic Bits64 atomic.Xor) = (refl, refl)
+mnemonic_reads (m.Atomic Bits64 atomic.FetchAdd) = (refl, refl)
+mnemonic_reads (m.Atomic Bits64 atomic.FetchOr) = (refl, refl)
+mnemonic_reads (m.Atomic Bits64 atomic.FetchAnd) = (refl, refl)
+mnemonic_reads (m.Atomic Bits64 atomic.FetchXor) = (refl, refl)
+mnemonic_reads (m.Atomic Bits64 atomic.Exchange) = (refl, refl)
+mnemonic_reads (m.Atomic Bits64 atomic.CompareExchange) = (refl, refl)
 mnemonic_reads m.Call = (refl, refl)
 mnemonic_reads m.Exit = (refl, refl)
 

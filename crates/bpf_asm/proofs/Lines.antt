@@ -62,6 +62,7 @@ written (insn.Load size dst base offset) = with_two (mnemonic_name (m.Load size)
 written (insn.LoadSigned size dst base offset) = with_two (mnemonic_name (m.LoadSigned size)) (register_name dst) (operand_text (Memory base offset))
 written (insn.StoreImm size base offset imm) = with_two (mnemonic_name (m.StoreImm size)) (operand_text (Memory base offset)) (operand_text (Number imm))
 written (insn.Store size base src offset) = with_two (mnemonic_name (m.Store size)) (operand_text (Memory base offset)) (register_name src)
+written (insn.Atomic width operation base src offset) = with_two (mnemonic_name (m.Atomic width operation)) (operand_text (Memory base offset)) (register_name src)
 written (insn.Call helper) = with_one (mnemonic_name m.Call) (operand_text (Number helper))
 written insn.Exit = with_none (mnemonic_name m.Exit)
 
@@ -98,6 +99,7 @@ says_texts (insn.Load size dst base offset) fits = on_register dst _ ∙ on_memo
 says_texts (insn.LoadSigned size dst base offset) fits = on_register dst _ ∙ on_memory base offset _ fits.1
 says_texts (insn.StoreImm size base offset imm) fits = on_memory base offset _ fits.0 ∙ on_number imm _ fits.1
 says_texts (insn.Store size base src offset) fits = on_memory base offset _ fits.0 ∙ on_register src _
+says_texts (insn.Atomic width operation base src offset) fits = on_memory base offset _ fits.0 ∙ on_register src _
 says_texts (insn.Call helper) fits = on_number helper _ fits.0
 says_texts insn.Exit fits = refl
 

@@ -701,12 +701,112 @@ word_135 : said (codes "stxdw [r8+3], r3") ≡ spelled (0x3387b ∷ [])
 unfolding trim
 word_135 = refl
 
--- call 5
-word_136 : said (codes "call 5") ≡ spelled (0x500000085 ∷ [])
+-- lock *(u32 *)(r1 + 0) += w3
+word_136 : said (codes "atomic_add_w [r1+0], r3") ≡ spelled (0x31c3 ∷ [])
 unfolding trim
 word_136 = refl
 
--- exit
-word_137 : said (codes "exit") ≡ spelled (0x95 ∷ [])
+-- w3 = atomic_fetch_add((u32 *)(r1 + 0), w3)
+word_137 : said (codes "atomic_fetch_add_w [r1+0], r3") ≡ spelled (0x1000031c3 ∷ [])
 unfolding trim
 word_137 = refl
+
+-- lock *(u64 *)(r1 + 0) += r3
+word_138 : said (codes "atomic_add_dw [r1+0], r3") ≡ spelled (0x31db ∷ [])
+unfolding trim
+word_138 = refl
+
+-- r3 = atomic_fetch_add((u64 *)(r1 + 0), r3)
+word_139 : said (codes "atomic_fetch_add_dw [r1+0], r3") ≡ spelled (0x1000031db ∷ [])
+unfolding trim
+word_139 = refl
+
+-- lock *(u32 *)(r2 + 8) |= w4
+word_140 : said (codes "atomic_or_w [r2+8], r4") ≡ spelled (0x40000842c3 ∷ [])
+unfolding trim
+word_140 = refl
+
+-- w4 = atomic_fetch_or((u32 *)(r2 + 8), w4)
+word_141 : said (codes "atomic_fetch_or_w [r2+8], r4") ≡ spelled (0x41000842c3 ∷ [])
+unfolding trim
+word_141 = refl
+
+-- lock *(u64 *)(r2 + 8) |= r4
+word_142 : said (codes "atomic_or_dw [r2+8], r4") ≡ spelled (0x40000842db ∷ [])
+unfolding trim
+word_142 = refl
+
+-- r4 = atomic_fetch_or((u64 *)(r2 + 8), r4)
+word_143 : said (codes "atomic_fetch_or_dw [r2+8], r4") ≡ spelled (0x41000842db ∷ [])
+unfolding trim
+word_143 = refl
+
+-- lock *(u32 *)(r3 + 16) &= w5
+word_144 : said (codes "atomic_and_w [r3+16], r5") ≡ spelled (0x50001053c3 ∷ [])
+unfolding trim
+word_144 = refl
+
+-- w5 = atomic_fetch_and((u32 *)(r3 + 16), w5)
+word_145 : said (codes "atomic_fetch_and_w [r3+16], r5") ≡ spelled (0x51001053c3 ∷ [])
+unfolding trim
+word_145 = refl
+
+-- lock *(u64 *)(r3 + 16) &= r5
+word_146 : said (codes "atomic_and_dw [r3+16], r5") ≡ spelled (0x50001053db ∷ [])
+unfolding trim
+word_146 = refl
+
+-- r5 = atomic_fetch_and((u64 *)(r3 + 16), r5)
+word_147 : said (codes "atomic_fetch_and_dw [r3+16], r5") ≡ spelled (0x51001053db ∷ [])
+unfolding trim
+word_147 = refl
+
+-- lock *(u32 *)(r4 + 24) ^= w6
+word_148 : said (codes "atomic_xor_w [r4+24], r6") ≡ spelled (0xa0001864c3 ∷ [])
+unfolding trim
+word_148 = refl
+
+-- w6 = atomic_fetch_xor((u32 *)(r4 + 24), w6)
+word_149 : said (codes "atomic_fetch_xor_w [r4+24], r6") ≡ spelled (0xa1001864c3 ∷ [])
+unfolding trim
+word_149 = refl
+
+-- lock *(u64 *)(r4 + 24) ^= r6
+word_150 : said (codes "atomic_xor_dw [r4+24], r6") ≡ spelled (0xa0001864db ∷ [])
+unfolding trim
+word_150 = refl
+
+-- r6 = atomic_fetch_xor((u64 *)(r4 + 24), r6)
+word_151 : said (codes "atomic_fetch_xor_dw [r4+24], r6") ≡ spelled (0xa1001864db ∷ [])
+unfolding trim
+word_151 = refl
+
+-- w2 = xchg32_32(r1 - 4, w2)
+word_152 : said (codes "atomic_xchg_w [r1-4], r2") ≡ spelled (0xe1fffc21c3 ∷ [])
+unfolding trim
+word_152 = refl
+
+-- r3 = xchg_64(r10 - 8, r3)
+word_153 : said (codes "atomic_xchg_dw [r10-8], r3") ≡ spelled (0xe1fff83adb ∷ [])
+unfolding trim
+word_153 = refl
+
+-- w0 = cmpxchg32_32(r4 - 4, w0, w5)
+word_154 : said (codes "atomic_cmpxchg_w [r4-4], r5") ≡ spelled (0xf1fffc54c3 ∷ [])
+unfolding trim
+word_154 = refl
+
+-- r0 = cmpxchg_64(r6 - 8, r0, r7)
+word_155 : said (codes "atomic_cmpxchg_dw [r6-8], r7") ≡ spelled (0xf1fff876db ∷ [])
+unfolding trim
+word_155 = refl
+
+-- call 5
+word_156 : said (codes "call 5") ≡ spelled (0x500000085 ∷ [])
+unfolding trim
+word_156 = refl
+
+-- exit
+word_157 : said (codes "exit") ≡ spelled (0x95 ∷ [])
+unfolding trim
+word_157 = refl

@@ -10,7 +10,7 @@ use Rattle.bpf_asm.specs.declared.line.LineFault.TheVariants as fault
 use Rattle.bpf_asm.specs.declared.assemble.AsmFault.{AsmFault}
 use Rattle.bpf_asm.specs.declared.assemble.AsmFault.TheVariants.{Line, TooLong, NoCode}
 use Rattle.bpf_asm.specs.declared.mnemonic.Mnemonic.{Mnemonic}
-use Rattle.bpf_asm.specs.declared.mnemonic.Mnemonic.TheVariants.{Alu, Negate, MoveSigned, Order, LoadWide, Jump, JumpLong, JumpIf, Load, LoadSigned, StoreImm, Store, Call, Exit}
+use Rattle.bpf_asm.specs.declared.mnemonic.Mnemonic.TheVariants.{Alu, Negate, MoveSigned, Order, LoadWide, Jump, JumpLong, JumpIf, Load, LoadSigned, StoreImm, Store, Atomic, Call, Exit}
 use Rattle.bpf_asm.specs.Cutting.{said_in, word_of, rest_of, operand_texts, text_at, is_empty}
 use Rattle.bpf_asm.specs.Mnemonics.{mnemonic_said, operand_count}
 use Rattle.bpf_asm.specs.Numbers.{and_then, number_said, wide_said, jump_said}
@@ -31,6 +31,7 @@ insn_with (Load size) a b c = and_then (register_said a) (λ dst. and_then (memo
 insn_with (LoadSigned size) a b c = and_then (register_said a) (λ dst. and_then (memory_said b) (λ m. Ok (insn.LoadSigned size dst m.0 m.1)))
 insn_with (StoreImm size) a b c = and_then (memory_said a) (λ m. and_then (number_said b) (λ imm. Ok (insn.StoreImm size m.0 m.1 imm)))
 insn_with (Store size) a b c = and_then (memory_said a) (λ m. and_then (register_said b) (λ src. Ok (insn.Store size m.0 src m.1)))
+insn_with (Atomic width operation) a b c = and_then (memory_said a) (λ m. and_then (register_said b) (λ src. Ok (insn.Atomic width operation m.0 src m.1)))
 insn_with Call a b c = and_then (number_said a) (λ helper. Ok (insn.Call helper))
 insn_with Exit a b c = Ok insn.Exit
 

@@ -4,9 +4,11 @@ use Rattle.std.specs.Str.{bytes_eq}
 use Rattle.bpf_asm.specs.declared.line.LineFault.{LineFault}
 use Rattle.bpf_asm.specs.declared.line.LineFault.TheVariants.{UnknownWord}
 use Rattle.bpf_asm.specs.declared.mnemonic.Mnemonic.{Mnemonic}
-use Rattle.bpf_asm.specs.declared.mnemonic.Mnemonic.TheVariants.{Alu, Negate, MoveSigned, Order, LoadWide, Jump, JumpLong, JumpIf, Load, LoadSigned, StoreImm, Store, Call, Exit}
+use Rattle.bpf_asm.specs.declared.mnemonic.Mnemonic.TheVariants.{Alu, Negate, MoveSigned, Order, LoadWide, Jump, JumpLong, JumpIf, Load, LoadSigned, StoreImm, Store, Atomic, Call, Exit}
 use Rattle.bpf_encoding.specs.declared.insn.Operation.{Operation}
 use Rattle.bpf_encoding.specs.declared.insn.Operation.TheVariants.{Add, Sub, Mul, Div, SignedDiv, Or, And, LeftShift, RightShift, Mod, SignedMod, Xor, Mov, SignedRightShift}
+use Rattle.bpf_encoding.specs.declared.insn.AtomicOperation.{AtomicOperation}
+use Rattle.bpf_encoding.specs.declared.insn.AtomicOperation.TheVariants as atomic
 use Rattle.bpf_encoding.specs.declared.insn.Condition.{Condition}
 use Rattle.bpf_encoding.specs.declared.insn.Condition.TheVariants.{Equal, Greater, GreaterOrEqual, AnyBit, NotEqual, SignedGreater, SignedGreaterOrEqual, Less, LessOrEqual, SignedLess, SignedLessOrEqual}
 use Rattle.bpf_encoding.specs.declared.insn.Width.{Width}
@@ -88,6 +90,23 @@ signed_size_suffix SignedByte = codes "b"
 signed_size_suffix SignedHalf = codes "h"
 signed_size_suffix SignedWord = codes "w"
 
+abbrev pub atomic_name : AtomicOperation → List ℕ
+atomic_name atomic.Add = codes "atomic_add"
+atomic_name atomic.Or = codes "atomic_or"
+atomic_name atomic.And = codes "atomic_and"
+atomic_name atomic.Xor = codes "atomic_xor"
+atomic_name atomic.FetchAdd = codes "atomic_fetch_add"
+atomic_name atomic.FetchOr = codes "atomic_fetch_or"
+atomic_name atomic.FetchAnd = codes "atomic_fetch_and"
+atomic_name atomic.FetchXor = codes "atomic_fetch_xor"
+atomic_name atomic.Exchange = codes "atomic_xchg"
+atomic_name atomic.CompareExchange = codes "atomic_cmpxchg"
+
+-- 4 or 8 bytes
+abbrev pub atomic_suffix : Width → List ℕ
+atomic_suffix Bits32 = codes "_w"
+atomic_suffix Bits64 = codes "_dw"
+
 abbrev pub mnemonic_name : Mnemonic → List ℕ
 mnemonic_name (Alu width operation) = operation_name operation ++ width_suffix width
 mnemonic_name (Negate width) = codes "neg" ++ width_suffix width
@@ -101,6 +120,7 @@ mnemonic_name (Load size) = codes "ldx" ++ size_suffix size
 mnemonic_name (LoadSigned size) = codes "ldxs" ++ signed_size_suffix size
 mnemonic_name (StoreImm size) = codes "st" ++ size_suffix size
 mnemonic_name (Store size) = codes "stx" ++ size_suffix size
+mnemonic_name (Atomic width operation) = atomic_name operation ++ atomic_suffix width
 mnemonic_name Call = codes "call"
 mnemonic_name Exit = codes "exit"
 
@@ -117,11 +137,12 @@ operand_count (Load size) = 2
 operand_count (LoadSigned size) = 2
 operand_count (StoreImm size) = 2
 operand_count (Store size) = 2
+operand_count (Atomic width operation) = 2
 operand_count Call = 1
 operand_count Exit = 0
 
 abbrev pub mnemonics : List Mnemonic
-mnemonics = (Alu Bits64 Add) ∷ (Alu Bits64 Sub) ∷ (Alu Bits64 Mul) ∷ (Alu Bits64 Div) ∷ (Alu Bits64 SignedDiv) ∷ (Alu Bits64 Or) ∷ (Alu Bits64 And) ∷ (Alu Bits64 LeftShift) ∷ (Alu Bits64 RightShift) ∷ (Alu Bits64 Mod) ∷ (Alu Bits64 SignedMod) ∷ (Alu Bits64 Xor) ∷ (Alu Bits64 Mov) ∷ (Alu Bits64 SignedRightShift) ∷ (Alu Bits32 Add) ∷ (Alu Bits32 Sub) ∷ (Alu Bits32 Mul) ∷ (Alu Bits32 Div) ∷ (Alu Bits32 SignedDiv) ∷ (Alu Bits32 Or) ∷ (Alu Bits32 And) ∷ (Alu Bits32 LeftShift) ∷ (Alu Bits32 RightShift) ∷ (Alu Bits32 Mod) ∷ (Alu Bits32 SignedMod) ∷ (Alu Bits32 Xor) ∷ (Alu Bits32 Mov) ∷ (Alu Bits32 SignedRightShift) ∷ (Negate Bits64) ∷ (Negate Bits32) ∷ (MoveSigned Byte64) ∷ (MoveSigned Half64) ∷ (MoveSigned Word64) ∷ (MoveSigned Byte32) ∷ (MoveSigned Half32) ∷ (Order Little Order16) ∷ (Order Little Order32) ∷ (Order Little Order64) ∷ (Order Big Order16) ∷ (Order Big Order32) ∷ (Order Big Order64) ∷ (Order Swap Order16) ∷ (Order Swap Order32) ∷ (Order Swap Order64) ∷ LoadWide ∷ Jump ∷ JumpLong ∷ (JumpIf Bits64 Equal) ∷ (JumpIf Bits64 Greater) ∷ (JumpIf Bits64 GreaterOrEqual) ∷ (JumpIf Bits64 AnyBit) ∷ (JumpIf Bits64 NotEqual) ∷ (JumpIf Bits64 SignedGreater) ∷ (JumpIf Bits64 SignedGreaterOrEqual) ∷ (JumpIf Bits64 Less) ∷ (JumpIf Bits64 LessOrEqual) ∷ (JumpIf Bits64 SignedLess) ∷ (JumpIf Bits64 SignedLessOrEqual) ∷ (JumpIf Bits32 Equal) ∷ (JumpIf Bits32 Greater) ∷ (JumpIf Bits32 GreaterOrEqual) ∷ (JumpIf Bits32 AnyBit) ∷ (JumpIf Bits32 NotEqual) ∷ (JumpIf Bits32 SignedGreater) ∷ (JumpIf Bits32 SignedGreaterOrEqual) ∷ (JumpIf Bits32 Less) ∷ (JumpIf Bits32 LessOrEqual) ∷ (JumpIf Bits32 SignedLess) ∷ (JumpIf Bits32 SignedLessOrEqual) ∷ (Load Byte) ∷ (Load Half) ∷ (Load Word) ∷ (Load Double) ∷ (LoadSigned SignedByte) ∷ (LoadSigned SignedHalf) ∷ (LoadSigned SignedWord) ∷ (StoreImm Byte) ∷ (StoreImm Half) ∷ (StoreImm Word) ∷ (StoreImm Double) ∷ (Store Byte) ∷ (Store Half) ∷ (Store Word) ∷ (Store Double) ∷ Call ∷ Exit ∷ []
+mnemonics = (Alu Bits64 Add) ∷ (Alu Bits64 Sub) ∷ (Alu Bits64 Mul) ∷ (Alu Bits64 Div) ∷ (Alu Bits64 SignedDiv) ∷ (Alu Bits64 Or) ∷ (Alu Bits64 And) ∷ (Alu Bits64 LeftShift) ∷ (Alu Bits64 RightShift) ∷ (Alu Bits64 Mod) ∷ (Alu Bits64 SignedMod) ∷ (Alu Bits64 Xor) ∷ (Alu Bits64 Mov) ∷ (Alu Bits64 SignedRightShift) ∷ (Alu Bits32 Add) ∷ (Alu Bits32 Sub) ∷ (Alu Bits32 Mul) ∷ (Alu Bits32 Div) ∷ (Alu Bits32 SignedDiv) ∷ (Alu Bits32 Or) ∷ (Alu Bits32 And) ∷ (Alu Bits32 LeftShift) ∷ (Alu Bits32 RightShift) ∷ (Alu Bits32 Mod) ∷ (Alu Bits32 SignedMod) ∷ (Alu Bits32 Xor) ∷ (Alu Bits32 Mov) ∷ (Alu Bits32 SignedRightShift) ∷ (Negate Bits64) ∷ (Negate Bits32) ∷ (MoveSigned Byte64) ∷ (MoveSigned Half64) ∷ (MoveSigned Word64) ∷ (MoveSigned Byte32) ∷ (MoveSigned Half32) ∷ (Order Little Order16) ∷ (Order Little Order32) ∷ (Order Little Order64) ∷ (Order Big Order16) ∷ (Order Big Order32) ∷ (Order Big Order64) ∷ (Order Swap Order16) ∷ (Order Swap Order32) ∷ (Order Swap Order64) ∷ LoadWide ∷ Jump ∷ JumpLong ∷ (JumpIf Bits64 Equal) ∷ (JumpIf Bits64 Greater) ∷ (JumpIf Bits64 GreaterOrEqual) ∷ (JumpIf Bits64 AnyBit) ∷ (JumpIf Bits64 NotEqual) ∷ (JumpIf Bits64 SignedGreater) ∷ (JumpIf Bits64 SignedGreaterOrEqual) ∷ (JumpIf Bits64 Less) ∷ (JumpIf Bits64 LessOrEqual) ∷ (JumpIf Bits64 SignedLess) ∷ (JumpIf Bits64 SignedLessOrEqual) ∷ (JumpIf Bits32 Equal) ∷ (JumpIf Bits32 Greater) ∷ (JumpIf Bits32 GreaterOrEqual) ∷ (JumpIf Bits32 AnyBit) ∷ (JumpIf Bits32 NotEqual) ∷ (JumpIf Bits32 SignedGreater) ∷ (JumpIf Bits32 SignedGreaterOrEqual) ∷ (JumpIf Bits32 Less) ∷ (JumpIf Bits32 LessOrEqual) ∷ (JumpIf Bits32 SignedLess) ∷ (JumpIf Bits32 SignedLessOrEqual) ∷ (Load Byte) ∷ (Load Half) ∷ (Load Word) ∷ (Load Double) ∷ (LoadSigned SignedByte) ∷ (LoadSigned SignedHalf) ∷ (LoadSigned SignedWord) ∷ (StoreImm Byte) ∷ (StoreImm Half) ∷ (StoreImm Word) ∷ (StoreImm Double) ∷ (Store Byte) ∷ (Store Half) ∷ (Store Word) ∷ (Store Double) ∷ (Atomic Bits32 atomic.Add) ∷ (Atomic Bits32 atomic.Or) ∷ (Atomic Bits32 atomic.And) ∷ (Atomic Bits32 atomic.Xor) ∷ (Atomic Bits32 atomic.FetchAdd) ∷ (Atomic Bits32 atomic.FetchOr) ∷ (Atomic Bits32 atomic.FetchAnd) ∷ (Atomic Bits32 atomic.FetchXor) ∷ (Atomic Bits32 atomic.Exchange) ∷ (Atomic Bits32 atomic.CompareExchange) ∷ (Atomic Bits64 atomic.Add) ∷ (Atomic Bits64 atomic.Or) ∷ (Atomic Bits64 atomic.And) ∷ (Atomic Bits64 atomic.Xor) ∷ (Atomic Bits64 atomic.FetchAdd) ∷ (Atomic Bits64 atomic.FetchOr) ∷ (Atomic Bits64 atomic.FetchAnd) ∷ (Atomic Bits64 atomic.FetchXor) ∷ (Atomic Bits64 atomic.Exchange) ∷ (Atomic Bits64 atomic.CompareExchange) ∷ Call ∷ Exit ∷ []
 
 abbrev pub mnemonic_said : List ℕ → Result Mnemonic LineFault
 mnemonic_said text = named mnemonic_name UnknownWord mnemonics text

@@ -46,6 +46,7 @@ parts_of (insn.Load size dst base offset) = with_two (mnemonic.Load size) (Reg d
 parts_of (insn.LoadSigned size dst base offset) = with_two (mnemonic.LoadSigned size) (Reg dst) (Memory base offset)
 parts_of (insn.StoreImm size base offset imm) = with_two (mnemonic.StoreImm size) (Memory base offset) (Number imm)
 parts_of (insn.Store size base src offset) = with_two (mnemonic.Store size) (Memory base offset) (Reg src)
+parts_of (insn.Atomic width operation base src offset) = with_two (mnemonic.Atomic width operation) (Memory base offset) (Reg src)
 parts_of (insn.Call helper) = with_one mnemonic.Call (Number helper)
 parts_of insn.Exit = with_none mnemonic.Exit
 

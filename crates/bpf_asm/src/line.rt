@@ -66,6 +66,11 @@ fn insn_with(mnemonic: Mnemonic, a: &[u8], b: &[u8], c: &[u8]) -> Result<Insn, L
             let (base, offset) = memory(a)?;
             Ok(Insn::Store(size, base, register(b)?, offset))
         }
+        Mnemonic::Atomic(width, operation) => {
+            let (base, offset) = memory(a)?;
+            let src = register(b)?;
+            Ok(Insn::Atomic(width, operation, base, src, offset))
+        }
         Mnemonic::Call => Ok(Insn::Call(number(a)?)),
         Mnemonic::Exit => Ok(Insn::Exit),
     }

@@ -3,11 +3,12 @@
 ghost use Rattle.std.specs.Prelude.{◌≡◌, ◌++◌, codes};
 ghost use Rattle.std.specs.Str.{bytes_eq};
 ghost use Rattle.bpf_asm.specs.declared.line.LineFault.TheVariants.{UnknownWord};
-ghost use Rattle.bpf_asm.specs.Mnemonics.{named, mnemonics, mnemonic_name, mnemonic_said, operand_count, operation_name, condition_name, width_suffix, extension_name, order_name, order_suffix, size_suffix, signed_size_suffix};
+ghost use Rattle.bpf_asm.specs.Mnemonics.{named, mnemonics, mnemonic_name, mnemonic_said, operand_count, operation_name, condition_name, width_suffix, extension_name, order_name, order_suffix, size_suffix, signed_size_suffix, atomic_name, atomic_suffix};
 
 use crate::line::LineFault;
 use bpf_encoding::insn::{
-    ByteOrder, Condition, Extension, Operation, OrderWidth, SignedSize, Size, Width,
+    AtomicOperation, ByteOrder, Condition, Extension, Operation, OrderWidth, SignedSize, Size,
+    Width,
 };
 
 /// An instruction but for its operands.
@@ -25,11 +26,12 @@ pub enum Mnemonic {
     LoadSigned(SignedSize),
     StoreImm(Size),
     Store(Size),
+    Atomic(Width, AtomicOperation),
     Call,
     Exit,
 }
 
-const MNEMONICS: [Mnemonic; 86] = [
+const MNEMONICS: [Mnemonic; 106] = [
     Mnemonic::Alu(Width::Bits64, Operation::Add),
     Mnemonic::Alu(Width::Bits64, Operation::Sub),
     Mnemonic::Alu(Width::Bits64, Operation::Mul),
@@ -114,6 +116,26 @@ const MNEMONICS: [Mnemonic; 86] = [
     Mnemonic::Store(Size::Half),
     Mnemonic::Store(Size::Word),
     Mnemonic::Store(Size::Double),
+    Mnemonic::Atomic(Width::Bits32, AtomicOperation::Add),
+    Mnemonic::Atomic(Width::Bits32, AtomicOperation::Or),
+    Mnemonic::Atomic(Width::Bits32, AtomicOperation::And),
+    Mnemonic::Atomic(Width::Bits32, AtomicOperation::Xor),
+    Mnemonic::Atomic(Width::Bits32, AtomicOperation::FetchAdd),
+    Mnemonic::Atomic(Width::Bits32, AtomicOperation::FetchOr),
+    Mnemonic::Atomic(Width::Bits32, AtomicOperation::FetchAnd),
+    Mnemonic::Atomic(Width::Bits32, AtomicOperation::FetchXor),
+    Mnemonic::Atomic(Width::Bits32, AtomicOperation::Exchange),
+    Mnemonic::Atomic(Width::Bits32, AtomicOperation::CompareExchange),
+    Mnemonic::Atomic(Width::Bits64, AtomicOperation::Add),
+    Mnemonic::Atomic(Width::Bits64, AtomicOperation::Or),
+    Mnemonic::Atomic(Width::Bits64, AtomicOperation::And),
+    Mnemonic::Atomic(Width::Bits64, AtomicOperation::Xor),
+    Mnemonic::Atomic(Width::Bits64, AtomicOperation::FetchAdd),
+    Mnemonic::Atomic(Width::Bits64, AtomicOperation::FetchOr),
+    Mnemonic::Atomic(Width::Bits64, AtomicOperation::FetchAnd),
+    Mnemonic::Atomic(Width::Bits64, AtomicOperation::FetchXor),
+    Mnemonic::Atomic(Width::Bits64, AtomicOperation::Exchange),
+    Mnemonic::Atomic(Width::Bits64, AtomicOperation::CompareExchange),
     Mnemonic::Call,
     Mnemonic::Exit,
 ];
@@ -219,6 +241,32 @@ fn signed_size_suffix(size: SignedSize) -> &'static str
     }
 }
 
+fn atomic_name(operation: AtomicOperation) -> &'static str
+    ensures { result.now ≡ atomic_name operation }
+{
+    match operation {
+        AtomicOperation::Add => "atomic_add",
+        AtomicOperation::Or => "atomic_or",
+        AtomicOperation::And => "atomic_and",
+        AtomicOperation::Xor => "atomic_xor",
+        AtomicOperation::FetchAdd => "atomic_fetch_add",
+        AtomicOperation::FetchOr => "atomic_fetch_or",
+        AtomicOperation::FetchAnd => "atomic_fetch_and",
+        AtomicOperation::FetchXor => "atomic_fetch_xor",
+        AtomicOperation::Exchange => "atomic_xchg",
+        AtomicOperation::CompareExchange => "atomic_cmpxchg",
+    }
+}
+
+fn atomic_suffix(width: Width) -> &'static str
+    ensures { result.now ≡ atomic_suffix width }
+{
+    match width {
+        Width::Bits32 => "_w",
+        Width::Bits64 => "_dw",
+    }
+}
+
 impl Mnemonic {
     ghost use Rattle.std.specs.Prelude.{◌≡◌, ◌++◌};
     ghost use Rattle.bpf_asm.specs.Mnemonics.{mnemonic_name, operand_count};
@@ -240,6 +288,7 @@ impl Mnemonic {
             Mnemonic::LoadSigned(size) => ("ldxs", signed_size_suffix(size)),
             Mnemonic::StoreImm(size) => ("st", size_suffix(size)),
             Mnemonic::Store(size) => ("stx", size_suffix(size)),
+            Mnemonic::Atomic(width, operation) => (atomic_name(operation), atomic_suffix(width)),
             Mnemonic::Call => ("call", ""),
             Mnemonic::Exit => ("exit", ""),
         }

@@ -113,6 +113,10 @@ pub fn parts_of(insn: &Insn) -> Parts
         Insn::Store(size, base, src, offset) => {
             two(Mnemonic::Store(size), Memory(base, offset), Reg(src))
         }
+        Insn::Atomic(width, operation, base, src, offset) => {
+            let mnemonic = Mnemonic::Atomic(width, operation);
+            two(mnemonic, Memory(base, offset), Reg(src))
+        }
         Insn::Call(helper) => one(Mnemonic::Call, Number(helper)),
         Insn::Exit => none(Mnemonic::Exit),
     }

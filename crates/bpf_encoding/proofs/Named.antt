@@ -19,11 +19,13 @@ use Rattle.bpf_encoding.specs.declared.insn.Size.{Size}
 use Rattle.bpf_encoding.specs.declared.insn.Size.TheVariants.{Word}
 use Rattle.bpf_encoding.specs.declared.insn.SignedSize.{SignedSize}
 use Rattle.bpf_encoding.specs.declared.insn.SignedSize.TheVariants.{SignedWord}
+use Rattle.bpf_encoding.specs.declared.insn.AtomicOperation.{AtomicOperation}
+use Rattle.bpf_encoding.specs.declared.insn.AtomicOperation.TheVariants as atomic
 use Rattle.bpf_encoding.specs.declared.insn.Source.TheVariants.{Imm, Reg}
 use Rattle.bpf_encoding.specs.declared.insn.Register.{Register}
 use Rattle.bpf_encoding.specs.declared.insn.Register.TheVariants.{R0}
 use Rattle.bpf_encoding.specs.declared.insn.Insn.{Insn}
-use Rattle.bpf_encoding.specs.declared.insn.Insn.TheVariants.{Alu, Negate, MoveSigned, Order, LoadWide, Jump, JumpLong, JumpIf, Load, LoadSigned, StoreImm, Store, Call, Exit}
+use Rattle.bpf_encoding.specs.declared.insn.Insn.TheVariants.{Alu, Negate, MoveSigned, Order, LoadWide, Jump, JumpLong, JumpIf, Load, LoadSigned, StoreImm, Store, Atomic, Call, Exit}
 
 pub register_named-number_of : (r : Register) → register_named (number_of r) ≡ r
 register_named-number_of R0 = refl
@@ -81,6 +83,11 @@ store : (size : Size) (base src : Register) (offset : ℤ) → insn_named (field
 store Word base src offset = simp (register_named-number_of base, register_named-number_of src)
 store size base src offset = simp (register_named-number_of base, register_named-number_of src)
 
+atomic_insn : (w : Width) (op : AtomicOperation) (base src : Register) (offset : ℤ) → insn_named (fields_of (Atomic w op base src offset)) ≡ (Atomic w op base src offset)
+atomic_insn Bits32 atomic.Add base src offset = simp (register_named-number_of base, register_named-number_of src)
+atomic_insn Bits64 atomic.Add base src offset = simp (register_named-number_of base, register_named-number_of src)
+atomic_insn w op base src offset = simp (register_named-number_of base, register_named-number_of src)
+
 pub insn_named-fields_of : (i : Insn) → is_wide i ≡ false → insn_named (fields_of i) ≡ i
 insn_named-fields_of (Alu w op dst (Imm n)) narrow = alu_imm w op dst n
 insn_named-fields_of (Alu w op dst (Reg src)) narrow = alu_reg w op dst src
@@ -96,5 +103,6 @@ insn_named-fields_of (Load size dst base offset) narrow = load size dst base off
 insn_named-fields_of (LoadSigned size dst base offset) narrow = load_signed size dst base offset
 insn_named-fields_of (StoreImm size base offset imm) narrow = store_imm size base offset imm
 insn_named-fields_of (Store size base src offset) narrow = store size base src offset
+insn_named-fields_of (Atomic w op base src offset) narrow = atomic_insn w op base src offset
 insn_named-fields_of (Call helper) narrow = refl
 insn_named-fields_of Exit narrow = refl

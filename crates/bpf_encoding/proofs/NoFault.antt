@@ -20,12 +20,14 @@ use Rattle.bpf_encoding.specs.declared.insn.Size.{Size}
 use Rattle.bpf_encoding.specs.declared.insn.Size.TheVariants.{Word}
 use Rattle.bpf_encoding.specs.declared.insn.SignedSize.{SignedSize}
 use Rattle.bpf_encoding.specs.declared.insn.SignedSize.TheVariants.{SignedWord}
+use Rattle.bpf_encoding.specs.declared.insn.AtomicOperation.{AtomicOperation}
+use Rattle.bpf_encoding.specs.declared.insn.AtomicOperation.TheVariants as atomic
 use Rattle.bpf_encoding.specs.declared.insn.Source.{Source}
 use Rattle.bpf_encoding.specs.declared.insn.Source.TheVariants.{Imm, Reg}
 use Rattle.bpf_encoding.specs.declared.insn.Register.{Register}
 use Rattle.bpf_encoding.specs.declared.insn.Register.TheVariants.{R0}
 use Rattle.bpf_encoding.specs.declared.insn.Insn.{Insn}
-use Rattle.bpf_encoding.specs.declared.insn.Insn.TheVariants.{Alu, Negate, MoveSigned, Order, LoadWide, Jump, JumpLong, JumpIf, Load, LoadSigned, StoreImm, Store, Call, Exit}
+use Rattle.bpf_encoding.specs.declared.insn.Insn.TheVariants.{Alu, Negate, MoveSigned, Order, LoadWide, Jump, JumpLong, JumpIf, Load, LoadSigned, StoreImm, Store, Atomic, Call, Exit}
 
 named : (r : Register) → nat_le (number_of r) 10 ≡ true
 named R0 = refl
@@ -83,6 +85,11 @@ store : (size : Size) (base src : Register) (offset : ℤ) → fault_of (fields_
 store Word base src offset = simp (named base, named src)
 store size base src offset = simp (named base, named src)
 
+atomic_insn : (w : Width) (op : AtomicOperation) (base src : Register) (offset : ℤ) → fault_of (fields_of (Atomic w op base src offset)) ≡ None
+atomic_insn Bits32 atomic.Add base src offset = simp (named base, named src)
+atomic_insn Bits64 atomic.Add base src offset = simp (named base, named src)
+atomic_insn w op base src offset = simp (named base, named src)
+
 pub fault_of-fields_of : (i : Insn) → fault_of (fields_of i) ≡ None
 fault_of-fields_of (Alu w op dst (Imm n)) = alu_imm w op dst n
 fault_of-fields_of (Alu w op dst (Reg src)) = alu_reg w op dst src
@@ -98,6 +105,7 @@ fault_of-fields_of (Load size dst base offset) = load size dst base offset
 fault_of-fields_of (LoadSigned size dst base offset) = load_signed size dst base offset
 fault_of-fields_of (StoreImm size base offset imm) = store_imm size base offset imm
 fault_of-fields_of (Store size base src offset) = store size base src offset
+fault_of-fields_of (Atomic w op base src offset) = atomic_insn w op base src offset
 fault_of-fields_of (Call helper) = refl
 fault_of-fields_of Exit = refl
 
@@ -135,6 +143,10 @@ wide_store : (size : Size) (base src : Register) (offset : ℤ) → is_wide_opco
 wide_store Word base src offset = refl
 wide_store size base src offset = refl
 
+wide_atomic : (w : Width) (op : AtomicOperation) (base src : Register) (offset : ℤ) → is_wide_opcode (fields_of (Atomic w op base src offset)) ≡ false
+wide_atomic Bits32 op base src offset = refl
+wide_atomic Bits64 op base src offset = refl
+
 wide_move : (e : Extension) (dst src : Register) → is_wide_opcode (fields_of (MoveSigned e dst src)) ≡ false
 wide_move Byte64 dst src = refl
 wide_move e dst src = refl
@@ -160,5 +172,6 @@ is_wide_opcode-fields_of (Load size dst base offset) = wide_size size dst base o
 is_wide_opcode-fields_of (LoadSigned size dst base offset) = wide_signed size dst base offset
 is_wide_opcode-fields_of (StoreImm size base offset imm) = wide_store_imm size base offset imm
 is_wide_opcode-fields_of (Store size base src offset) = wide_store size base src offset
+is_wide_opcode-fields_of (Atomic w op base src offset) = wide_atomic w op base src offset
 is_wide_opcode-fields_of (Call helper) = refl
 is_wide_opcode-fields_of Exit = refl

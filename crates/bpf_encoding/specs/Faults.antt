@@ -5,7 +5,7 @@ use Rattle.bpf_encoding.specs.Fields.{Fields, class_of, takes_register, code_of,
 use Rattle.bpf_encoding.specs.declared.slot.SlotFault.{SlotFault}
 use Rattle.bpf_encoding.specs.declared.slot.SlotFault.TheVariants.{UnusedField, Undefined, OutsideProfile}
 use Rattle.bpf_encoding.specs.declared.slot.Outside.{Outside}
-use Rattle.bpf_encoding.specs.declared.slot.Outside.TheVariants.{Packet, WideSubtype, LocalCall, BtfCall, Atomic}
+use Rattle.bpf_encoding.specs.declared.slot.Outside.TheVariants.{Packet, WideSubtype, LocalCall, BtfCall}
 
 -- the fields that a form uses; a selecting field counts as used
 pub record Uses : Type 0 where
@@ -61,6 +61,16 @@ store_imm_uses opcode = uses_if ((opcode == 0x62) || ((opcode == 0x6a) || ((opco
 abbrev pub store_uses : ℕ → Option Uses
 store_uses opcode = uses_if ((opcode == 0x63) || ((opcode == 0x6b) || ((opcode == 0x73) || (opcode == 0x7b)))) (uses true true true false)
 
+-- ADD, OR, AND and XOR, each without and with FETCH; XCHG; CMPXCHG
+abbrev pub atomic_uses : Fields → Option Uses
+atomic_uses f =
+    uses_if (int_eq f.imm (pos 0x00) || (int_eq f.imm (pos 0x40) || (int_eq f.imm (pos 0x50) || (int_eq f.imm (pos 0xa0) || (int_eq f.imm (pos 0x01) || (int_eq f.imm (pos 0x41)
+    || (int_eq f.imm (pos 0x51) || (int_eq f.imm (pos 0xa1) || (int_eq f.imm (pos 0xe1) || int_eq f.imm (pos 0xf1)))))))))) (uses true true true true)
+
+-- stores of a register; atomic operations have the mode ATOMIC and the sizes W and DW
+abbrev pub stx_uses : Fields → Option Uses
+stx_uses f = if (f.opcode == 0xc3) || (f.opcode == 0xdb) then atomic_uses f else store_uses f.opcode
+
 abbrev pub wide_uses : Fields → Option Uses
 wide_uses f = uses_if ((f.opcode == 0x18) && (f.src == 0)) (uses true true false true)
 
@@ -69,7 +79,7 @@ uses_of f =
     if class_of f.opcode == 0 then wide_uses f else
     if class_of f.opcode == 1 then load_uses f.opcode else
     if class_of f.opcode == 2 then store_imm_uses f.opcode else
-    if class_of f.opcode == 3 then store_uses f.opcode else
+    if class_of f.opcode == 3 then stx_uses f else
     if class_of f.opcode == 4 then alu_uses false (code_of f.opcode) (takes_register f.opcode) f else
     if class_of f.opcode == 5 then jump_uses (code_of f.opcode) (takes_register f.opcode) f else
     if class_of f.opcode == 6 then jump32_uses (code_of f.opcode) (takes_register f.opcode) f else
@@ -85,8 +95,7 @@ outside_of f =
     outside_if ((class_of f.opcode == 0) && ((mode_of f.opcode == 1) || (mode_of f.opcode == 2))) Packet (
     outside_if ((f.opcode == 0x18) && (nat_le 1 f.src && nat_le f.src 6)) WideSubtype (
     outside_if ((f.opcode == 0x85) && (f.src == 1)) LocalCall (
-    outside_if ((f.opcode == 0x85) && (f.src == 2)) BtfCall (
-    outside_if ((f.opcode == 0xc3) || (f.opcode == 0xdb)) Atomic None))))
+    outside_if ((f.opcode == 0x85) && (f.src == 2)) BtfCall None)))
 
 -- ---- the first fault of a slot
 

@@ -24,8 +24,10 @@ use Rattle.bpf_encoding.specs.declared.insn.OrderWidth.{OrderWidth}
 use Rattle.bpf_encoding.specs.declared.insn.OrderWidth.TheVariants.{Order16, Order32, Order64}
 use Rattle.bpf_encoding.specs.declared.insn.Condition.{Condition}
 use Rattle.bpf_encoding.specs.declared.insn.Condition.TheVariants.{Equal, Greater, GreaterOrEqual, AnyBit, NotEqual, SignedGreater, SignedGreaterOrEqual, Less, LessOrEqual, SignedLess, SignedLessOrEqual}
+use Rattle.bpf_encoding.specs.declared.insn.AtomicOperation.{AtomicOperation}
+use Rattle.bpf_encoding.specs.declared.insn.AtomicOperation.TheVariants as atomic
 use Rattle.bpf_encoding.specs.declared.insn.Insn.{Insn}
-use Rattle.bpf_encoding.specs.declared.insn.Insn.TheVariants.{Alu, Negate, MoveSigned, Order, LoadWide, Jump, JumpLong, JumpIf, Load, LoadSigned, StoreImm, Store, Call, Exit}
+use Rattle.bpf_encoding.specs.declared.insn.Insn.TheVariants.{Alu, Negate, MoveSigned, Order, LoadWide, Jump, JumpLong, JumpIf, Load, LoadSigned, StoreImm, Store, Atomic, Call, Exit}
 use Rattle.bpf_encoding.specs.declared.insn.Place.{Place}
 use Rattle.bpf_encoding.specs.declared.insn.Place.TheVariants as place
 
@@ -133,13 +135,35 @@ load_named f =
     if mode_of f.opcode == 4 then LoadSigned (signed_size_named (size_of f.opcode)) (register_named f.dst) (register_named f.src) f.offset else
     Load (size_named (size_of f.opcode)) (register_named f.dst) (register_named f.src) f.offset
 
+abbrev pub atomic_operation_named : ℤ → AtomicOperation
+atomic_operation_named imm =
+    if int_eq imm (pos 0x00) then atomic.Add else
+    if int_eq imm (pos 0x40) then atomic.Or else
+    if int_eq imm (pos 0x50) then atomic.And else
+    if int_eq imm (pos 0xa0) then atomic.Xor else
+    if int_eq imm (pos 0x01) then atomic.FetchAdd else
+    if int_eq imm (pos 0x41) then atomic.FetchOr else
+    if int_eq imm (pos 0x51) then atomic.FetchAnd else
+    if int_eq imm (pos 0xa1) then atomic.FetchXor else
+    if int_eq imm (pos 0xe1) then atomic.Exchange else
+    atomic.CompareExchange
+
+-- of atomic operations: W or DW
+abbrev pub atomic_width_named : ℕ → Width
+atomic_width_named size = if size == 0 then Bits32 else Bits64
+
+abbrev pub store_named : Fields → Insn
+store_named f =
+    if mode_of f.opcode == 6 then Atomic (atomic_width_named (size_of f.opcode)) (atomic_operation_named f.imm) (register_named f.dst) (register_named f.src) f.offset else
+    Store (size_named (size_of f.opcode)) (register_named f.dst) (register_named f.src) f.offset
+
 -- of a wide instruction its first slot, with the low half of the value alone
 abbrev pub insn_named : Fields → Insn
 insn_named f =
     if class_of f.opcode == 0 then LoadWide (register_named f.dst) (cast_unsigned w32 f.imm) else
     if class_of f.opcode == 1 then load_named f else
     if class_of f.opcode == 2 then StoreImm (size_named (size_of f.opcode)) (register_named f.dst) f.offset f.imm else
-    if class_of f.opcode == 3 then Store (size_named (size_of f.opcode)) (register_named f.dst) (register_named f.src) f.offset else
+    if class_of f.opcode == 3 then store_named f else
     if class_of f.opcode == 4 then alu_named Bits32 (code_of f.opcode) (takes_register f.opcode) f else
     if class_of f.opcode == 5 then jump_named Bits64 (code_of f.opcode) (takes_register f.opcode) f else
     if class_of f.opcode == 6 then jump_named Bits32 (code_of f.opcode) (takes_register f.opcode) f else

@@ -1,15 +1,15 @@
 //! From code to bytes.
 
 ghost use Rattle.std.specs.Prelude.{◌≡◌, ◌<◌, ◌≤◌, ◌+◌, ◌*◌, pos, length, IfOk};
-ghost use Rattle.bpf_encoding.specs.Spelling.{number_of, fields, alu_class, jump_class, operation_code, operation_offset, extension_opcode, extension_bits, order_opcode, order_bits, condition_code, size_code, signed_size_code, source_bit, source_register, source_imm, fields_of, place_fields, high_behind, fields_of_code};
+ghost use Rattle.bpf_encoding.specs.Spelling.{number_of, fields, alu_class, jump_class, operation_code, operation_offset, extension_opcode, extension_bits, order_opcode, order_bits, condition_code, size_code, signed_size_code, atomic_opcode, atomic_imm, source_bit, source_register, source_imm, fields_of, place_fields, high_behind, fields_of_code};
 ghost use Rattle.bpf_encoding.specs.Fields.{fields_of_bytes, slots_of};
 ghost use Rattle.bpf_encoding.specs.Viewed.{viewed};
 ghost use Rattle.bpf_encoding.specs.Spells.{Spells};
 
 use crate::code::Code;
 use crate::insn::{
-    ByteOrder, Condition, Extension, Insn, Operation, OrderWidth, Place, Register, SignedSize,
-    Size, Source, Width,
+    AtomicOperation, ByteOrder, Condition, Extension, Insn, Operation, OrderWidth, Place, Register,
+    SignedSize, Size, Source, Width,
 };
 use crate::slot::Fields;
 use std::alloc::{AllocError, Global};
@@ -162,6 +162,32 @@ fn store_opcode(size: Size) -> u8
     0x63 + 8 * size_code(size)
 }
 
+fn atomic_opcode(width: Width) -> u8
+    ensures { result ≡ atomic_opcode width }
+{
+    match width {
+        Width::Bits32 => 0xc3,
+        Width::Bits64 => 0xdb,
+    }
+}
+
+fn atomic_imm(operation: AtomicOperation) -> i32
+    ensures { result ≡ pos (atomic_imm operation) }
+{
+    match operation {
+        AtomicOperation::Add => 0x00,
+        AtomicOperation::Or => 0x40,
+        AtomicOperation::And => 0x50,
+        AtomicOperation::Xor => 0xa0,
+        AtomicOperation::FetchAdd => 0x01,
+        AtomicOperation::FetchOr => 0x41,
+        AtomicOperation::FetchAnd => 0x51,
+        AtomicOperation::FetchXor => 0xa1,
+        AtomicOperation::Exchange => 0xe1,
+        AtomicOperation::CompareExchange => 0xf1,
+    }
+}
+
 // A slot with these fields, all others 0.
 fn slot(opcode: u8, dst: u8, src: u8, offset: i16, imm: i32) -> Fields
     ensures { result ≡ record { opcode = opcode; dst = dst; src = src; offset = offset; imm = imm } }
@@ -235,6 +261,10 @@ fn slot_of(insn: &Insn) -> Fields
             slot(imm_opcode(size), number(base), 0, offset, imm)
         }
         Insn::Store(size, base, src, offset) => pair(store_opcode(size), base, src, offset),
+        Insn::Atomic(width, operation, base, src, offset) => {
+            let imm = atomic_imm(operation);
+            slot(atomic_opcode(width), number(base), number(src), offset, imm)
+        }
         Insn::Call(helper) => slot(0x85, 0, 0, 0, helper),
         Insn::Exit => slot(0x95, 0, 0, 0, 0),
     }

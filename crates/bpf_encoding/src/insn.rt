@@ -1,4 +1,5 @@
-//! The instructions of the profile: base32, base64, divmul32 and divmul64 (RFC 9669, section 2.4).
+//! The instructions of the profile: base32, base64, divmul32, divmul64, atomic32 and atomic64
+//! (RFC 9669, section 2.4).
 
 /// One of the eleven registers (RFC 9669, section 3.1).
 #[derive(Clone, Copy, Debug, PartialEq, Eq)]
@@ -19,9 +20,9 @@ pub enum Register {
 /// How many low bits of its operands an operation works on.
 #[derive(Clone, Copy, Debug, PartialEq, Eq)]
 pub enum Width {
-    /// Classes ALU and JMP32.
+    /// Classes ALU and JMP32, and atomic operations on 4 bytes.
     Bits32,
-    /// Classes ALU64 and JMP.
+    /// Classes ALU64 and JMP, and atomic operations on 8 bytes.
     Bits64,
 }
 
@@ -112,6 +113,25 @@ pub enum Condition {
     SignedLessOrEqual,
 }
 
+/// An atomic operation on a number in memory (RFC 9669, section 5.3).
+#[derive(Clone, Copy, Debug, PartialEq, Eq)]
+pub enum AtomicOperation {
+    Add,
+    Or,
+    And,
+    Xor,
+    /// These four with FETCH: src gets the number that was in memory before.
+    FetchAdd,
+    FetchOr,
+    FetchAnd,
+    FetchXor,
+    /// XCHG: src is stored, and gets the number that was in memory before.
+    Exchange,
+    /// CMPXCHG: src is stored where memory has the number in register 0, which gets the number
+    /// that was in memory before.
+    CompareExchange,
+}
+
 /// One instruction. Each value has a spelling: its variants and enums carry just what the
 /// tables of RFC 9669, sections 3 to 5, allow in this profile. Operands stand in the order in
 /// which each variant names them; an offset of a jump counts slots from the slot behind it, one
@@ -142,6 +162,8 @@ pub enum Insn {
     StoreImm(Size, Register, i16, i32),
     /// `*(base + offset) = src`: size, base, src, offset.
     Store(Size, Register, Register, i16),
+    /// `*(base + offset) = *(base + offset) operation src`: width, operation, base, src, offset.
+    Atomic(Width, AtomicOperation, Register, Register, i16),
     /// Calls a helper by its number.
     Call(i32),
     /// The end, with the value of register 0.

@@ -2,14 +2,14 @@
 
 ghost use Rattle.std.specs.Prelude.{◌≡◌, ◌<◌, ◌≤◌, ◌+◌, ◌*◌, Some, pos, not, false, true, IfOk, IfErr, IfSome, IfNone};
 ghost use Rattle.bpf_encoding.specs.Fields.{class_of, code_of, takes_register};
-ghost use Rattle.bpf_encoding.specs.Spelling.{number_of, fields_of, operation_code, operation_offset, condition_code, alu_class, jump_class, size_code, signed_size_code, extension_opcode, extension_bits, order_opcode, order_bits};
-ghost use Rattle.bpf_encoding.specs.Faults.{outside_of, uses, uses_of, fault_of, fault_by, alu_uses, order_uses, jump_uses, jump32_uses, load_uses, store_imm_uses, store_uses, wide_uses};
+ghost use Rattle.bpf_encoding.specs.Spelling.{number_of, fields_of, operation_code, operation_offset, condition_code, alu_class, jump_class, size_code, signed_size_code, atomic_opcode, atomic_imm, extension_opcode, extension_bits, order_opcode, order_bits};
+ghost use Rattle.bpf_encoding.specs.Faults.{outside_of, uses, uses_of, fault_of, fault_by, alu_uses, order_uses, jump_uses, jump32_uses, load_uses, store_imm_uses, store_uses, atomic_uses, wide_uses};
 ghost use Rattle.bpf_encoding.specs.Viewed.{viewed};
 ghost use Rattle.bpf_encoding.specs.Reading.{is_64, selects_offset, jump_uses_of};
 
 use crate::insn::{
-    ByteOrder, Condition, Extension, Insn, Operation, OrderWidth, Register, SignedSize, Size,
-    Source, Width,
+    AtomicOperation, ByteOrder, Condition, Extension, Insn, Operation, OrderWidth, Register,
+    SignedSize, Size, Source, Width,
 };
 use crate::slot::{Fields, Outside, SlotFault};
 
@@ -53,7 +53,6 @@ fn outside(slot: &Fields) -> Option<Outside>
         (0x18, 1..=6) => Some(Outside::WideSubtype),
         (0x85, 1) => Some(Outside::LocalCall),
         (0x85, 2) => Some(Outside::BtfCall),
-        (0xc3 | 0xdb, _) => Some(Outside::Atomic),
         _ => None,
     }
 }
@@ -346,6 +345,39 @@ fn store(size: Size, slot: &Fields) -> Result<Insn, SlotFault>
     Ok(Insn::Store(size, base, src, slot.offset))
 }
 
+// An atomic operation of this form.
+fn atomic(width: Width, operation: AtomicOperation, slot: &Fields) -> Result<Insn, SlotFault>
+    requires opcode { slot.now.opcode ≡ atomic_opcode width }
+    requires imm { slot.now.imm ≡ pos (atomic_imm operation) }
+    ensures ok { IfOk result (λ i. fields_of i ≡ viewed slot.now) }
+    ensures err { IfErr result (λ e. fault_by (uses true true true true) (viewed slot.now) ≡ Some e) }
+{
+    let base = used(slot.dst)?;
+    let src = used(slot.src)?;
+    Ok(Insn::Atomic(width, operation, base, src, slot.offset))
+}
+
+// An atomic operation: the imm says which.
+fn exchange(width: Width, slot: &Fields) -> Result<Insn, SlotFault>
+    requires { slot.now.opcode ≡ atomic_opcode width }
+    ensures ok { IfOk result (λ i. fields_of i ≡ viewed slot.now) }
+    ensures err { IfErr result (λ e. fault_by (atomic_uses (viewed slot.now)) (viewed slot.now) ≡ Some e) }
+{
+    match slot.imm {
+        0x00 => atomic(width, AtomicOperation::Add, slot),
+        0x40 => atomic(width, AtomicOperation::Or, slot),
+        0x50 => atomic(width, AtomicOperation::And, slot),
+        0xa0 => atomic(width, AtomicOperation::Xor, slot),
+        0x01 => atomic(width, AtomicOperation::FetchAdd, slot),
+        0x41 => atomic(width, AtomicOperation::FetchOr, slot),
+        0x51 => atomic(width, AtomicOperation::FetchAnd, slot),
+        0xa1 => atomic(width, AtomicOperation::FetchXor, slot),
+        0xe1 => atomic(width, AtomicOperation::Exchange, slot),
+        0xf1 => atomic(width, AtomicOperation::CompareExchange, slot),
+        _ => Err(SlotFault::Undefined),
+    }
+}
+
 // The classes LDX, ST and STX.
 fn memory(slot: &Fields) -> Result<Insn, SlotFault>
     requires { (0 < class_of slot.now.opcode) × (class_of slot.now.opcode < 4) }
@@ -368,6 +400,8 @@ fn memory(slot: &Fields) -> Result<Insn, SlotFault>
         0x6b => store(Size::Half, slot),
         0x73 => store(Size::Byte, slot),
         0x7b => store(Size::Double, slot),
+        0xc3 => exchange(Width::Bits32, slot),
+        0xdb => exchange(Width::Bits64, slot),
         _ => Err(SlotFault::Undefined),
     }
 }
@@ -376,7 +410,7 @@ fn memory(slot: &Fields) -> Result<Insn, SlotFault>
 fn wide(slot: &Fields) -> Result<Insn, SlotFault>
     requires { class_of slot.now.opcode ≡ 0 }
     ensures ok { IfOk result (λ i. fields_of i ≡ viewed slot.now) }
-    ensures err { IfErr result (λ e. fault_by (uses_of (viewed slot.now)) (viewed slot.now) ≡ Some e) }
+    ensures err { IfErr result (λ e. fault_by (wide_uses (viewed slot.now)) (viewed slot.now) ≡ Some e) }
 {
     if slot.opcode != 0x18 || slot.src != 0 {
         return Err(SlotFault::Undefined);

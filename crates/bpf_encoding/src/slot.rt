@@ -22,9 +22,6 @@ pub enum Outside {
     /// A call of a function by its BTF id.
     #[error("a call by BTF id")]
     BtfCall,
-    /// An atomic operation.
-    #[error("an atomic operation")]
-    Atomic,
 }
 
 /// What is wrong with a slot.

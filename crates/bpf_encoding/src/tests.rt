@@ -1,7 +1,9 @@
 use crate::code::Code;
 use crate::decode::{DecodeFault, decode};
 use crate::encode::encode;
-use crate::insn::{Condition, Insn, Operation, Place, Register, Size, Source, Width};
+use crate::insn::{
+    AtomicOperation, Condition, Insn, Operation, Place, Register, Size, Source, Width,
+};
 use std::test::Fail;
 
 const ADD: Insn = Insn::Alu(
@@ -56,6 +58,32 @@ const SPELLED: [(Insn, &[u8]); 8] = [
     (Insn::Exit, &[0x95, 0, 0, 0, 0, 0, 0, 0]),
 ];
 
+const fn on_four_bytes(operation: AtomicOperation) -> Insn {
+    Insn::Atomic(Width::Bits32, operation, Register::R1, Register::R2, 4)
+}
+
+const fn on_eight_bytes(operation: AtomicOperation) -> Insn {
+    Insn::Atomic(Width::Bits64, operation, Register::R10, Register::R1, -8)
+}
+
+// Atomic operations, and the imm of each as LLVM's assembler for BPF writes it.
+const ATOMIC: [(AtomicOperation, u8); 10] = [
+    // lock *(u64 *)(r10 - 8) += r1
+    (AtomicOperation::Add, 0x00),
+    (AtomicOperation::Or, 0x40),
+    (AtomicOperation::And, 0x50),
+    (AtomicOperation::Xor, 0xa0),
+    // r1 = atomic_fetch_add((u64 *)(r10 - 8), r1)
+    (AtomicOperation::FetchAdd, 0x01),
+    (AtomicOperation::FetchOr, 0x41),
+    (AtomicOperation::FetchAnd, 0x51),
+    (AtomicOperation::FetchXor, 0xa1),
+    // r1 = xchg_64(r10 - 8, r1)
+    (AtomicOperation::Exchange, 0xe1),
+    // r0 = cmpxchg_64(r10 - 8, r0, r1)
+    (AtomicOperation::CompareExchange, 0xf1),
+];
+
 #[test]
 fn instructions_and_their_bytes(rt: HostRuntime) -> Result<(), Fail> {
     for (insn, spelled) in SPELLED {
@@ -65,6 +93,25 @@ fn instructions_and_their_bytes(rt: HostRuntime) -> Result<(), Fail> {
         let read = decode(rt.alloc(), spelled)?;
         assert_eq!(rt; read.places(), code.places());
         assert_eq!(rt; code.at(0), Some(Place::Insn(insn)));
+    }
+    Ok(())
+}
+
+#[test]
+fn atomic_operations_and_their_bytes(rt: HostRuntime) -> Result<(), Fail> {
+    for (operation, imm) in ATOMIC {
+        let words = [0xc3, 0x21, 0x04, 0, imm, 0, 0, 0];
+        let double_words = [0xdb, 0x1a, 0xf8, 0xff, imm, 0, 0, 0];
+        let spelled = [
+            (on_four_bytes(operation), words),
+            (on_eight_bytes(operation), double_words),
+        ];
+        for (insn, bytes) in spelled {
+            let code = Code::from_insns(rt.alloc(), &[insn])?;
+            assert_eq!(rt; encode(rt.alloc(), &code)?.as_slice(), bytes.as_slice());
+            let read = decode(rt.alloc(), &bytes)?;
+            assert_eq!(rt; read.places(), code.places());
+        }
     }
     Ok(())
 }

@@ -3,10 +3,12 @@
 ghost use Rattle.std.specs.Prelude.{◌≡◌, false};
 ghost use Rattle.std.specs.Int.{w32, w64};
 ghost use Rattle.semantics.specs.Arithmetic.{negation, low, width_of, kept, reversed};
-ghost use Rattle.semantics.specs.Instruction.{compute_of, result_of, extension_of, order_width, order_of, test_of, is_taken};
+ghost use Rattle.semantics.specs.Instruction.{compute_of, result_of, extension_of, order_width, order_of, test_of, is_taken, exchange_of, exchanged_by};
 ghost use Rattle.bpf_encoding.specs.Reading.{is_64};
 
-use bpf_encoding::insn::{ByteOrder, Condition, Extension, Operation, OrderWidth, Width};
+use bpf_encoding::insn::{
+    AtomicOperation, ByteOrder, Condition, Extension, Operation, OrderWidth, Width,
+};
 
 #[inline(always)]
 fn low32(value: u64) -> u32
@@ -67,6 +69,54 @@ pub fn compute(width: Width, operation: Operation, a: u64, b: u64) -> u64
     match width {
         Width::Bits64 => compute64(operation, a, b),
         Width::Bits32 => u64::from(compute32(operation, low32(a), low32(b))),
+    }
+}
+
+// What an atomic operation stores, all numbers being of one width.
+macro_rules! exchanged {
+    ($operation:expr, $expected:expr, $old:expr, $value:expr) => {
+        match $operation {
+            AtomicOperation::Add | AtomicOperation::FetchAdd => $old.wrapping_add($value),
+            AtomicOperation::Or | AtomicOperation::FetchOr => $old | $value,
+            AtomicOperation::And | AtomicOperation::FetchAnd => $old & $value,
+            AtomicOperation::Xor | AtomicOperation::FetchXor => $old ^ $value,
+            AtomicOperation::Exchange => $value,
+            AtomicOperation::CompareExchange => if $old == $expected { $value } else { $old },
+        }
+    };
+}
+
+fn exchange64(operation: AtomicOperation, expected: u64, old: u64, value: u64) -> u64
+    ensures { result ≡ exchange_of operation w64 expected old value }
+{
+    exchanged!(operation, expected, old, value)
+}
+
+fn exchange32(operation: AtomicOperation, expected: u32, old: u32, value: u32) -> u32
+    ensures { result ≡ exchange_of operation w32 expected old value }
+{
+    exchanged!(operation, expected, old, value)
+}
+
+/// What an atomic operation stores (RFC 9669, section 5.3), by the number that it compares with,
+/// the old one in memory and the other operand; at 32 bits by the low halves of all three.
+pub fn exchange(
+    width: Width,
+    operation: AtomicOperation,
+    expected: u64,
+    old: u64,
+    value: u64,
+) -> u64
+    ensures { result ≡ exchanged_by (is_64 width) operation expected old value }
+{
+    match width {
+        Width::Bits64 => exchange64(operation, expected, old, value),
+        Width::Bits32 => u64::from(exchange32(
+            operation,
+            low32(expected),
+            low32(old),
+            low32(value),
+        )),
     }
 }
 

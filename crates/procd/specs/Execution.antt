@@ -6,7 +6,7 @@ use Rattle.bpf_encoding.specs.Spells.{fault_in}
 use Rattle.bpf_encoding.specs.declared.decode.DecodeFault.{DecodeFault}
 use Rattle.bpf_encoding.specs.declared.decode.DecodeFault.TheVariants as decode
 use Rattle.bpf_encoding.specs.declared.slot.Outside.{Outside}
-use Rattle.bpf_encoding.specs.declared.slot.Outside.TheVariants.{Packet, WideSubtype, LocalCall, BtfCall, Atomic}
+use Rattle.bpf_encoding.specs.declared.slot.Outside.TheVariants.{Packet, WideSubtype, LocalCall, BtfCall}
 use Rattle.semantics.specs.Row.{outcome_of}
 use Rattle.register_kinds.specs.declared.kind.Violation.{Violation}
 use Rattle.register_kinds.specs.declared.kind.Violation.TheVariants.{Backward, OutOfCode, IntoWide, FallsOff, EmptyRegister, WritesR10, NotAPointer, OutOfBounds, ReadOnly, MaybeNull, UnknownHelper, SlotUnknown, ModeTooWeak, PointerReturned}
@@ -58,7 +58,6 @@ outside_name Packet = codes "Packet"
 outside_name WideSubtype = codes "WideSubtype"
 outside_name LocalCall = codes "LocalCall"
 outside_name BtfCall = codes "BtfCall"
-outside_name Atomic = codes "Atomic"
 
 abbrev pub fault_name : DecodeFault → List ℕ
 fault_name decode.NoCode = codes "E1 NoCode"

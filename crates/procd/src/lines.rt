@@ -17,7 +17,6 @@ fn outside_name(which: Outside) -> &'static str
         Outside::WideSubtype => "WideSubtype",
         Outside::LocalCall => "LocalCall",
         Outside::BtfCall => "BtfCall",
-        Outside::Atomic => "Atomic",
     }
 }
 

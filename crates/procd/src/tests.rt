@@ -104,7 +104,9 @@ const REFUSALS: [(&str, &str); 21] = [
     ("1810000000000000", "E7 OutsideProfile slot 0 WideSubtype"),
     ("8510000001000000", "E7 OutsideProfile slot 0 LocalCall"),
     ("8520000001000000", "E7 OutsideProfile slot 0 BtfCall"),
-    ("db10000000000000", "E7 OutsideProfile slot 0 Atomic"),
+    // atomic operations that no imm selects
+    ("db1af8ff02000000 9500000000000000", "E6 Undefined slot 0"),
+    ("c31af8ffe0000000 9500000000000000", "E6 Undefined slot 0"),
     ("0500ffff00000000", "V1 Backward slot 0"),
     ("0500070000000000 9500000000000000", "V2 OutOfCode slot 0"),
     // ja +1; lddw r0, 0; exit
@@ -182,7 +184,7 @@ fn assembled_code(rt: HostRuntime) {
 }
 
 // Assembly text that uses memory, the arguments it is run with, and what is printed.
-const WITH_MEMORY: [(&str, &[&str], &str); 15] = [
+const WITH_MEMORY: [(&str, &[&str], &str); 25] = [
     (
         "mov r0, r10\nexit",
         &[],
@@ -254,6 +256,56 @@ const WITH_MEMORY: [(&str, &[&str], &str); 15] = [
         "refused V12 SlotUnknown slot 1\n",
     ),
     ("call 6\nexit", &[], "refused V11 UnknownHelper slot 0\n"),
+    (
+        "mov r1, 7\nstdw [r10-8], 40\natomic_fetch_add_dw [r10-8], r1\nldxdw r0, [r10-8]\nadd r0, r1\nexit",
+        &[],
+        "answer 87\nexecuted 6\n",
+    ),
+    (
+        "mov r0, 40\nmov r1, 9\nstdw [r10-8], 40\natomic_cmpxchg_dw [r10-8], r1\nldxdw r2, [r10-8]\nadd r0, r2\nexit",
+        &[],
+        "answer 49\nexecuted 7\n",
+    ),
+    (
+        "mov r0, 41\nmov r1, 9\nstdw [r10-8], 40\natomic_cmpxchg_dw [r10-8], r1\nldxdw r2, [r10-8]\nadd r0, r2\nexit",
+        &[],
+        "answer 80\nexecuted 7\n",
+    ),
+    (
+        "lddw r0, 0x0000000100000028\nmov r1, 9\nstdw [r10-8], 40\natomic_cmpxchg_w [r10-8], r1\nexit",
+        &[],
+        "answer 40\nexecuted 5\n",
+    ),
+    (
+        "atomic_add_dw [r1+0], r1\nmov r0, 0\nexit",
+        &["5"],
+        "refused V9 ReadOnly slot 0\n",
+    ),
+    (
+        "mov r1, 9\nstdw [r10-8], 40\natomic_cmpxchg_dw [r10-8], r1\nexit",
+        &[],
+        "refused V5 EmptyRegister slot 2\n",
+    ),
+    (
+        "stdw [r10-8], 1\nmov r0, 0\natomic_xchg_dw [r10-8], r10\nexit",
+        &[],
+        "refused V6 WritesR10 slot 2\n",
+    ),
+    (
+        "stdw [r10-8], 1\nmov r0, 0\natomic_cmpxchg_dw [r10-8], r10\nexit",
+        &[],
+        "answer 1\nexecuted 4\n",
+    ),
+    (
+        "mov r0, 1\natomic_add_dw [r10-4], r0\nexit",
+        &[],
+        "refused V8 OutOfBounds slot 1\n",
+    ),
+    (
+        "mov r0, 1\natomic_add_w [r0+0], r0\nexit",
+        &[],
+        "refused V7 NotAPointer slot 1\n",
+    ),
 ];
 
 #[test]
@@ -271,7 +323,7 @@ fn memory(rt: HostRuntime) -> Result<(), Fail> {
 }
 
 // Assembly text, and its code in hex.
-const SPELLED: [(&str, &str); 5] = [
+const SPELLED: [(&str, &str); 6] = [
     (
         "mov r0, 128\nmovs8 r0, r0",
         "b7 00 00 00 80 00 00 00\nbf 00 08 00 00 00 00 00\n",
@@ -282,6 +334,11 @@ const SPELLED: [(&str, &str); 5] = [
     (
         "lddw r1, 0x1122334455667788",
         "18 01 00 00 88 77 66 55\n00 00 00 00 44 33 22 11\n",
+    ),
+    // as LLVM's assembler for BPF writes them
+    (
+        "atomic_fetch_add_dw [r10-8], r1\natomic_cmpxchg_w [r1+4], r2",
+        "db 1a f8 ff 01 00 00 00\nc3 21 04 00 f1 00 00 00\n",
     ),
 ];
 
@@ -298,7 +355,7 @@ fn text_and_hex(rt: HostRuntime) {
 }
 
 // Assembly text, and why it is refused.
-const MISSPELLED: [(&str, &str); 21] = [
+const MISSPELLED: [(&str, &str); 22] = [
     ("foo r1", "A1 UnknownWord line 1"),
     ("exit\n\nexit\r", "A1 UnknownWord line 3"),
     ("mov r11, 0", "A2 BadRegister line 1"),
@@ -319,6 +376,7 @@ const MISSPELLED: [(&str, &str); 21] = [
     ("add r1", "A5 Operands line 1"),
     ("ldxdw r0, [r1]", "A5 Operands line 1"),
     ("exit r0", "A5 Operands line 1"),
+    ("atomic_add_w r1, [r10-8]", "A5 Operands line 1"),
     ("; nothing", "A8 NoCode line 0"),
 ];
 

@@ -5,6 +5,7 @@ use Rattle.std.proofs.lemmas.Bool.Decides.{nat_tests}
 use Rattle.semantics.specs.Memory.{Memory, bytes_at, written}
 use Rattle.semantics.specs.Step.{Setting, address, buffer_base}
 use Rattle.semantics.proofs.Extended.{address_at}
+use Rattle.access_slots.specs.Declaration.{Declaration}
 use Rattle.register_kinds.specs.declared.kind.Kind.{Kind}
 use Rattle.register_kinds.specs.declared.kind.Kind.TheVariants.{Empty, Number, Const, Stack, Args, Buffer, MaybeBuffer}
 use Rattle.register_kinds.specs.declared.kind.Violation.TheVariants.{OutOfBounds}
@@ -34,6 +35,12 @@ some_is x y e = cc
 lies_at : (base size v n : ℕ) (from offset : ℤ) → base + size ≤ 2 ^ 47 → v ≡ address base from → (w : Within size (from +ℤ offset) n) → address v offset ≡ base + w.0
 lies_at base size v n from offset reach e w =
     ap (λ (x : ℕ). address x offset) e ∙ address_at base w.0 from offset (let le = w.2 in omega (arith, reach, le)) w.1
+
+-- where a store is allowed, a load is
+pub load_allowed : (decl : Declaration) (k : Kind) (offset : ℤ) (n : ℕ) → access decl true k offset n ≡ None → access decl false k offset n ≡ None
+load_allowed decl Empty offset n e = e
+load_allowed decl (Args from) offset n e = absurd cc
+load_allowed decl k offset n e = e
 
 module _ (s : Setting) (is : IsSetting s) (m : Memory) (laid : shapes m ≡ shapes_of s) where
   pub loadable : (k : Kind) (offset : ℤ) (n v : ℕ) → Fits s k (Some v) → access s.program.decl false k offset n ≡ None → HasBytes (bytes_at m (address v offset) n)

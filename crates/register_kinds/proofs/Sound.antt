@@ -1,20 +1,24 @@
 -- A step from a configuration that fits the kinds is no trap, and fits the kinds behind it.
 use Rattle.std.proofs.Common.{◌≡◌, ℕ, ◌+◌, ◌<◌, Bool, true, false, Option, Some, None, Ok, List, length, eqb, cond, refl, subst, sym, ap, ◌∙◌, inl, inr, arith, Result, Err}
 use Rattle.std.specs.Prelude.{ℤ, pos, slice_set, IfOk}
-use Rattle.std.specs.Int.{Width, byte_len, to_le_bytes}
+use Rattle.std.specs.Int.{Width, byte_len, from_le_bytes, to_le_bytes}
+use Rattle.std.specs.Option.{option_map}
 use Rattle.std.proofs.lemmas.List.{length-set}
 use Rattle.access_slots.specs.Declaration.{Declaration}
 use Rattle.bpf_encoding.specs.Spelling.{number_of}
 use Rattle.bpf_encoding.specs.Reading.{is_64}
+use Rattle.bpf_encoding.specs.declared.insn.AtomicOperation.{AtomicOperation}
+use Rattle.bpf_encoding.specs.declared.insn.AtomicOperation.TheVariants as atomic
 use Rattle.bpf_encoding.specs.declared.insn.Register.{Register}
+use Rattle.bpf_encoding.specs.declared.insn.Width.TheVariants.{Bits32, Bits64}
 use Rattle.bpf_encoding.specs.declared.insn.Size.{Size}
 use Rattle.bpf_encoding.specs.declared.insn.Size.TheVariants.{Word}
 use Rattle.bpf_encoding.specs.declared.insn.Insn.{Insn}
-use Rattle.bpf_encoding.specs.declared.insn.Insn.TheVariants.{Alu, Negate, MoveSigned, Order, LoadWide, Jump, JumpLong, JumpIf, Load, LoadSigned, StoreImm, Store, Call, Exit}
+use Rattle.bpf_encoding.specs.declared.insn.Insn.TheVariants.{Alu, Negate, MoveSigned, Order, LoadWide, Jump, JumpLong, JumpIf, Load, LoadSigned, StoreImm, Store, Atomic, Call, Exit}
 use Rattle.semantics.specs.Arithmetic.{extended, negation, low, width_of}
-use Rattle.semantics.specs.Memory.{Memory, written}
-use Rattle.semantics.specs.Step.{Config, Cause, Step, Next, Trap, EmptyRead, WroteR10, Setting, register, need, put, goes_to, jump, if_taken, address, loaded, loaded_number, stored, store}
-use Rattle.semantics.specs.Instruction.{value_of, result_of, extension_of, order_of, is_taken, size_width, signed_size_width, load_step, instruction_step}
+use Rattle.semantics.specs.Memory.{Memory, bytes_at, written}
+use Rattle.semantics.specs.Step.{Config, Cause, Step, Next, Trap, EmptyRead, WroteR10, Setting, register, need, put, goes_to, jump, if_taken, address, loaded, loaded_number, stored, store, fetched, replaced, replace}
+use Rattle.semantics.specs.Instruction.{value_of, result_of, extension_of, order_of, is_taken, size_width, signed_size_width, load_step, receiver, expected_of, exchanged_by, atomic_step, instruction_step}
 use Rattle.register_kinds.specs.declared.kind.Kind.{Kind}
 use Rattle.register_kinds.specs.declared.kind.Kind.TheVariants.{Number, Const}
 use Rattle.register_kinds.specs.declared.kind.Violation.{Violation}
@@ -24,12 +28,12 @@ use Rattle.register_kinds.specs.declared.kinds.Ways.{Ways}
 use Rattle.register_kinds.specs.Kinds.{kind_at, with_kind, is_present, is_plain, check, refuse}
 use Rattle.register_kinds.specs.Computed.{source_kind, alu_kind}
 use Rattle.register_kinds.specs.Access.{access}
-use Rattle.register_kinds.specs.Transfer.{is_left_present, is_writable, falls, written_kinds, converted_ways, filled_kinds, loaded_kinds, stored_kinds, null_test, branch_ways, transfer_of}
+use Rattle.register_kinds.specs.Transfer.{is_left_present, is_writable, falls, written_kinds, converted_ways, filled_kinds, loaded_kinds, stored_kinds, null_test, branch_ways, is_expected_present, received_ways, exchanged_ways, transfer_of}
 use Rattle.register_kinds.specs.Arriving.{next_place, jump_offset, target_by}
 use Rattle.register_kinds.specs.Fitting.{Fits, AllFit, IsSetting, IsStanding, IsSound, KeepsKinds, Lands}
-use Rattle.register_kinds.proofs.Memory.{IsWritten}
+use Rattle.register_kinds.proofs.Memory.{HasBytes, IsWritten}
 use Rattle.register_kinds.proofs.Values.{alu_fits}
-use Rattle.register_kinds.proofs.Accesses.{loadable, storable}
+use Rattle.register_kinds.proofs.Accesses.{loadable, storable, load_allowed}
 use Rattle.register_kinds.proofs.Undoing.{ok, check_ok, refuse_ok, ok_is, not_true}
 use Rattle.register_kinds.proofs.Registers.{HasNumber, has_register, has_source, has_left, source_fits, below, put_fits}
 use Rattle.register_kinds.proofs.Called.{call_sound}
@@ -112,6 +116,58 @@ module _ (s : Setting) (is : IsSetting s) (ks : Kinds) (c : Config) (all : AllFi
       stored_sound (written c.memory (address b offset) (to_le_bytes (size_width size) v)) place r.1
       (storable s is c.memory stands.memory kind offset (to_le_bytes (size_width size) v) b some (subst (Fits s kind) h (all.at (number_of base))) allowed)
 
+-- ---- atomic operations
+
+exchange_bytes : (is64 : Bool) (v : ℕ) → (length (to_le_bytes (width_of is64) v) ≡ byte_len (width_of is64)) × (0 < byte_len (width_of is64))
+exchange_bytes true v = (refl, omega arith)
+exchange_bytes false v = (refl, omega arith)
+
+-- what is compared with is there
+has_expected : (s : Setting) (ks : Kinds) (c : Config) (operation : AtomicOperation) → AllFit s ks c.registers → is_expected_present ks operation ≡ true → HasNumber (expected_of c operation)
+has_expected s ks c atomic.Add all e = (0, refl)
+has_expected s ks c atomic.CompareExchange all e = has_register s ks c all 0 e
+has_expected s ks c operation all e = (0, refl)
+
+-- memory is written, and then the register, if there is one
+fetched_sound : (s : Setting) (is : IsSetting s) (ks : Kinds) (c : Config) (all : AllFit s ks c.registers) (stands : IsStanding s c) (i : Insn) (ways : Ways) (into : Option Register) (violation : Option Violation) (old : ℕ) (o : Option Memory)
+    → c.place + 1 ≡ next_place c.place i → received_ways ks into violation ≡ ok ways → IsWritten c.memory o → IsSound s c.place c.taken i ways (fetched c (option_map number_of into) old o)
+fetched_sound s is ks c all stands i ways None violation old o place e w =
+    let r = refuse_ok violation (falls ks) ways e in
+    let sound = stored_sound s is ks c all stands i ways o place r.1 w in
+    subst (λ (x : Option Memory). IsSound s c.place c.taken i ways (fetched c None old x)) (sym w.1) (subst (λ (x : Option Memory). IsSound s c.place c.taken i ways (stored c x)) w.1 sound)
+fetched_sound s is ks c all stands i ways (Some r) violation old o place e w =
+    let after : Config = record c { memory = w.0 } in
+    let q = check_ok (is_writable r) WritesR10 (refuse violation (falls (with_kind ks (number_of r) Number))) ways e in
+    let p = refuse_ok violation (falls (with_kind ks (number_of r) Number)) ways q.1 in
+    let writes : written_kinds ks r Number ≡ ok ways = ap (λ (b : Bool). check b WritesR10 (falls (with_kind ks (number_of r) Number))) q.0 ∙ p.1 in
+    let later : IsStanding s after = record { eleven = stands.eleven; memory = w.2 ∙ stands.memory } in
+    subst (λ (x : Option Memory). IsSound s c.place c.taken i ways (fetched c (Some (number_of r)) old x)) (sym w.1) (put_sound s is ks after all later i ways 1 r Number old place writes refl)
+
+-- nothing was wrong with the access
+received_allowed : (ks : Kinds) (into : Option Register) (violation : Option Violation) (ways : Ways) → received_ways ks into violation ≡ ok ways → violation ≡ None
+received_allowed ks None violation ways e = (refuse_ok violation (falls ks) ways e).0
+received_allowed ks (Some r) violation ways e = (refuse_ok violation (falls (with_kind ks (number_of r) Number)) ways (check_ok (is_writable r) WritesR10 (refuse violation (falls (with_kind ks (number_of r) Number))) ways e).1).0
+
+replace_sound : (s : Setting) (is : IsSetting s) (ks : Kinds) (c : Config) (all : AllFit s ks c.registers) (stands : IsStanding s c) (i : Insn) (ways : Ways) (is64 : Bool) (into : Option Register) (base : Register) (offset : ℤ) (b : ℕ) (compute : ℕ → ℕ)
+    → c.place + 1 ≡ next_place c.place i → register c (number_of base) ≡ Some b → received_ways ks into (access s.program.decl true (kind_at ks (number_of base)) offset (byte_len (width_of is64))) ≡ ok ways
+    → IsSound s c.place c.taken i ways (replace c (width_of is64) b offset (option_map number_of into) compute)
+replace_sound s is ks c all stands i ways is64 into base offset b compute place h e =
+    let kind = kind_at ks (number_of base) in
+    let w = width_of is64 in
+    let violation = access s.program.decl true kind offset (byte_len w) in
+    let allowed = received_allowed ks into violation ways e in
+    let fit : Fits s kind (Some b) = subst (Fits s kind) h (all.at (number_of base)) in
+    let bytes = loadable s is c.memory stands.memory kind offset (byte_len w) b fit (load_allowed s.program.decl kind offset (byte_len w) allowed) in
+    let old = from_le_bytes w bytes.0 in
+    let new = to_le_bytes w (compute old) in
+    let n = exchange_bytes is64 (compute old) in
+    let long = n.0 in
+    let allowed_new : access s.program.decl true kind offset (length new) ≡ None = ap (access s.program.decl true kind offset) long ∙ allowed in
+    let some : 0 < length new = subst (λ (k : ℕ). 0 < k) (sym long) n.1 in
+    let is_written = storable s is c.memory stands.memory kind offset new b some fit allowed_new in
+    subst (λ (o : Option (List ℕ)). IsSound s c.place c.taken i ways (replaced c w (address b offset) (option_map number_of into) compute o)) (sym bytes.1)
+    (fetched_sound s is ks c all stands i ways into violation old (written c.memory (address b offset) new) place e is_written)
+
 pub step_sound : (s : Setting) (ks : Kinds) (c : Config) (i : Insn) (ways : Ways) → IsSetting s → AllFit s ks c.registers → IsStanding s c → Lands c.place (jump_offset i) → transfer_of s.program.decl i ks ≡ Ok ways → IsSound s c.place c.taken i ways (instruction_step s c i)
 step_sound s ks c (Alu width operation dst source) ways is all stands lands e =
     let i : Insn = Alu width operation dst source in
@@ -154,6 +210,18 @@ step_sound s ks c (Store size base src offset) ways is all stands lands e =
     need_is (IsSound s c.place c.taken i ways) EmptyRead (register c (number_of base)) _ (has_register s ks c all (number_of base) q.0) (λ b h.
     need_is (IsSound s c.place c.taken i ways) EmptyRead (register c (number_of src)) _ (has_register s ks c all (number_of src) p.0) (λ v hv.
     store_sound s is ks c all stands i ways size base offset v b refl h q.1))
+step_sound s ks c (Atomic width operation base src offset) ways is all stands lands e =
+    let i : Insn = Atomic width operation base src offset in
+    let w = width_of (is_64 width) in
+    let received = received_ways ks (receiver operation src) (access s.program.decl true (kind_at ks (number_of base)) offset (byte_len w)) in
+    let exchanged = exchanged_ways s.program.decl ks (receiver operation src) base offset (byte_len w) in
+    let p = check_ok (is_present (kind_at ks (number_of src))) EmptyRegister (check (is_expected_present ks operation) EmptyRegister exchanged) ways e in
+    let q = check_ok (is_expected_present ks operation) EmptyRegister exchanged ways p.1 in
+    let r = check_ok (is_present (kind_at ks (number_of base))) EmptyRegister received ways q.1 in
+    need_is (IsSound s c.place c.taken i ways) EmptyRead (register c (number_of base)) _ (has_register s ks c all (number_of base) r.0) (λ b h.
+    need_is (IsSound s c.place c.taken i ways) EmptyRead (register c (number_of src)) _ (has_register s ks c all (number_of src) p.0) (λ v hv.
+    need_is (IsSound s c.place c.taken i ways) EmptyRead (expected_of c operation) _ (has_expected s ks c operation all q.0) (λ expected he.
+    replace_sound s is ks c all stands i ways (is_64 width) (receiver operation src) base offset b (λ old. exchanged_by (is_64 width) operation expected old v) refl h r.1)))
 step_sound s ks c (Call helper) ways is all stands lands e = call_sound s is ks c all stands ways helper e
 step_sound s ks c Exit ways is all stands lands e =
     let p = check_ok (is_present (kind_at ks 0)) EmptyRegister (check (is_plain (kind_at ks 0)) PointerReturned (ok (record { next = None; jump = None }))) ways e in

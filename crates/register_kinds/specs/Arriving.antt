@@ -4,7 +4,7 @@ use Rattle.access_slots.specs.Declaration.{Declaration}
 use Rattle.semantics.specs.Step.{place_of}
 use Rattle.bpf_encoding.specs.Spelling.{is_wide}
 use Rattle.bpf_encoding.specs.declared.insn.Insn.{Insn}
-use Rattle.bpf_encoding.specs.declared.insn.Insn.TheVariants.{Alu, Negate, MoveSigned, Order, LoadWide, Jump, JumpLong, JumpIf, Load, LoadSigned, StoreImm, Store, Call, Exit}
+use Rattle.bpf_encoding.specs.declared.insn.Insn.TheVariants.{Alu, Negate, MoveSigned, Order, LoadWide, Jump, JumpLong, JumpIf, Load, LoadSigned, StoreImm, Store, Atomic, Call, Exit}
 use Rattle.bpf_encoding.specs.declared.insn.Place.{Place}
 use Rattle.bpf_encoding.specs.declared.insn.Place.TheVariants as place
 use Rattle.register_kinds.specs.declared.kind.Violation.{Violation}
@@ -31,6 +31,7 @@ jump_offset (Load size dst base offset) = None
 jump_offset (LoadSigned size dst base offset) = None
 jump_offset (StoreImm size base offset imm) = None
 jump_offset (Store size base src offset) = None
+jump_offset (Atomic width operation base src offset) = None
 jump_offset (Call helper) = None
 jump_offset Exit = None
 

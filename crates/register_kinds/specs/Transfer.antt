@@ -4,6 +4,9 @@ use Rattle.std.specs.Int.{byte_len}
 use Rattle.std.specs.Ordering.{int_eq}
 use Rattle.access_slots.specs.Declaration.{Declaration}
 use Rattle.bpf_encoding.specs.Spelling.{number_of}
+use Rattle.bpf_encoding.specs.Reading.{is_64}
+use Rattle.bpf_encoding.specs.declared.insn.AtomicOperation.{AtomicOperation}
+use Rattle.bpf_encoding.specs.declared.insn.AtomicOperation.TheVariants as atomic
 use Rattle.bpf_encoding.specs.declared.insn.Register.{Register}
 use Rattle.bpf_encoding.specs.declared.insn.Width.{Width}
 use Rattle.bpf_encoding.specs.declared.insn.Width.TheVariants.{Bits64}
@@ -14,8 +17,9 @@ use Rattle.bpf_encoding.specs.declared.insn.Source.TheVariants.{Imm}
 use Rattle.bpf_encoding.specs.declared.insn.Operation.{Operation}
 use Rattle.bpf_encoding.specs.declared.insn.Operation.TheVariants.{Mov}
 use Rattle.bpf_encoding.specs.declared.insn.Insn.{Insn}
-use Rattle.bpf_encoding.specs.declared.insn.Insn.TheVariants.{Alu, Negate, MoveSigned, Order, LoadWide, Jump, JumpLong, JumpIf, Load, LoadSigned, StoreImm, Store, Call, Exit}
-use Rattle.semantics.specs.Instruction.{size_width, signed_size_width}
+use Rattle.bpf_encoding.specs.declared.insn.Insn.TheVariants.{Alu, Negate, MoveSigned, Order, LoadWide, Jump, JumpLong, JumpIf, Load, LoadSigned, StoreImm, Store, Atomic, Call, Exit}
+use Rattle.semantics.specs.Arithmetic.{width_of}
+use Rattle.semantics.specs.Instruction.{size_width, signed_size_width, receiver}
 use Rattle.register_kinds.specs.declared.kind.Kind.{Kind}
 use Rattle.register_kinds.specs.declared.kind.Kind.TheVariants.{Number, Const, Buffer, MaybeBuffer}
 use Rattle.register_kinds.specs.declared.kind.Violation.{Violation}
@@ -68,6 +72,26 @@ stored_kinds decl ks base offset bytes =
 abbrev pub stored_register_kinds : Declaration → Kinds → Register → Register → ℤ → ℕ → Result Ways Violation
 stored_register_kinds decl ks base src offset bytes = check (is_present (kind_at ks (number_of src))) EmptyRegister (stored_kinds decl ks base offset bytes)
 
+-- only one atomic operation compares, with register 0
+abbrev pub is_expected_present : Kinds → AtomicOperation → Bool
+is_expected_present ks atomic.CompareExchange = is_present (kind_at ks 0)
+is_expected_present ks operation = true
+
+-- the old number goes into a register, if there is one
+abbrev pub received_ways : Kinds → Option Register → Option Violation → Result Ways Violation
+received_ways ks None violation = refuse violation (falls ks)
+received_ways ks (Some r) violation = filled_kinds ks r violation
+
+abbrev pub exchanged_ways : Declaration → Kinds → Option Register → Register → ℤ → ℕ → Result Ways Violation
+exchanged_ways decl ks into base offset bytes =
+    check (is_present (kind_at ks (number_of base))) EmptyRegister (received_ways ks into (access decl true (kind_at ks (number_of base)) offset bytes))
+
+abbrev pub atomic_ways : Declaration → Kinds → AtomicOperation → Register → Register → ℤ → ℕ → Result Ways Violation
+atomic_ways decl ks operation base src offset bytes =
+    check (is_present (kind_at ks (number_of src))) EmptyRegister (
+    check (is_expected_present ks operation) EmptyRegister (exchanged_ways decl ks (receiver operation src) base offset bytes)
+    )
+
 abbrev pub null_if_zero : ℤ → Bool → Option Bool
 null_if_zero n jumps = if int_eq n (pos 0) then Some jumps else None
 
@@ -109,5 +133,6 @@ transfer_of decl (Load size dst base offset) ks = loaded_kinds decl ks dst base 
 transfer_of decl (LoadSigned size dst base offset) ks = loaded_kinds decl ks dst base offset (byte_len (signed_size_width size))
 transfer_of decl (StoreImm size base offset imm) ks = stored_kinds decl ks base offset (byte_len (size_width size))
 transfer_of decl (Store size base src offset) ks = stored_register_kinds decl ks base src offset (byte_len (size_width size))
+transfer_of decl (Atomic width operation base src offset) ks = atomic_ways decl ks operation base src offset (byte_len (width_of (is_64 width)))
 transfer_of decl (Call helper) ks = called_ways decl ks helper
 transfer_of decl Exit ks = exit_ways ks

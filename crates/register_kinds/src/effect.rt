@@ -3,19 +3,23 @@
 ghost use Rattle.std.specs.Prelude.{◌≡◌, IfOk, ◌%◌, ◌^◌, ◌+ℤ◌, Ok, Some, None, slice_get};
 ghost use Rattle.bpf_encoding.specs.Spelling.{number_of};
 ghost use Rattle.std.specs.Int.{byte_len};
-ghost use Rattle.semantics.specs.Instruction.{size_width, signed_size_width};
+ghost use Rattle.bpf_encoding.specs.Reading.{is_64};
+ghost use Rattle.semantics.specs.Arithmetic.{width_of};
+ghost use Rattle.semantics.specs.Instruction.{size_width, signed_size_width, receiver};
 ghost use Rattle.register_kinds.specs.Kinds.{kind_at, check, refuse, is_present};
 ghost use Rattle.register_kinds.specs.Effects.{result_by, ways_by};
 ghost use Rattle.register_kinds.specs.Computed.{source_kind, alu_kind};
 ghost use Rattle.register_kinds.specs.Access.{is_within, bounds, access};
 ghost use Rattle.register_kinds.specs.Calls.{is_helper, writes_by, suffices, answer_kind, called_at, called_slot};
-ghost use Rattle.register_kinds.specs.Transfer.{is_left_present, is_writable, written_kinds, alu_ways, converted_ways, filled_kinds, loaded_kinds, stored_kinds, stored_register_kinds, null_test, branch_ways, compared_ways, called_ways, exit_ways, transfer_of};
+ghost use Rattle.register_kinds.specs.Transfer.{is_left_present, is_writable, written_kinds, alu_ways, converted_ways, filled_kinds, loaded_kinds, stored_kinds, stored_register_kinds, null_test, branch_ways, compared_ways, is_expected_present, received_ways, exchanged_ways, atomic_ways, called_ways, exit_ways, transfer_of};
 
 use crate::kind::{Kind, Violation};
 use crate::kinds::Kinds;
 use access_slots::decl::Decl;
 use access_slots::slot::Mode;
-use bpf_encoding::insn::{Condition, Insn, Operation, Register, SignedSize, Size, Source, Width};
+use bpf_encoding::insn::{
+    AtomicOperation, Condition, Insn, Operation, Register, SignedSize, Size, Source, Width,
+};
 
 /// What an instruction does to the kinds, and where it goes on.
 #[derive(Clone, Copy, Debug, PartialEq, Eq)]
@@ -243,6 +247,94 @@ fn stored_register(
     stored(decl, kinds, base, offset, bytes)
 }
 
+// How many bytes an atomic operation works on.
+fn atomic_bytes(width: Width) -> u8
+    ensures { result ≡ byte_len (width_of (is_64 width)) }
+{
+    match width {
+        Width::Bits32 => 4,
+        Width::Bits64 => 8,
+    }
+}
+
+/// The register that an atomic operation puts the old number into, if there is one; `src` is its
+/// register.
+#[inline(always)]
+pub fn receiver(operation: AtomicOperation, src: Register) -> Option<Register>
+    ensures { result ≡ receiver operation src }
+{
+    match operation {
+        AtomicOperation::Add | AtomicOperation::Or | AtomicOperation::And | AtomicOperation::Xor =>
+            None,
+        AtomicOperation::FetchAdd
+        | AtomicOperation::FetchOr
+        | AtomicOperation::FetchAnd
+        | AtomicOperation::FetchXor
+        | AtomicOperation::Exchange => Some(src),
+        AtomicOperation::CompareExchange => Some(Register::R0),
+    }
+}
+
+// The number in register 0 is read where it is compared with.
+fn read_expected(kinds: &Kinds, operation: AtomicOperation) -> Result<(), Violation>
+    ensures { result ≡ check (is_expected_present kinds.now operation) Violation.EmptyRegister (Ok tt) }
+{
+    if operation != AtomicOperation::CompareExchange {
+        return Ok(());
+    }
+    read(kinds, Register::R0)
+}
+
+// The old number is put into a register, if there is one, unless something is wrong with the
+// access.
+fn received(
+    kinds: &Kinds,
+    receiver: Option<Register>,
+    violation: Option<Violation>,
+) -> Result<Effect, Violation>
+    ensures { result_by kinds.now result ≡ received_ways kinds.now receiver violation }
+{
+    let Some(register) = receiver else {
+        permit(violation)?;
+        return Ok(Effect::Falls);
+    };
+    filled(kinds, register, violation)
+}
+
+// A number of so many bytes is read and written.
+fn exchanged(
+    decl: &Decl,
+    kinds: &Kinds,
+    receiver: Option<Register>,
+    base: Register,
+    offset: i16,
+    bytes: u8,
+) -> Result<Effect, Violation>
+    ensures { result_by kinds.now result ≡ exchanged_ways decl.now kinds.now receiver base offset bytes }
+{
+    read(kinds, base)?;
+    let violation = access(decl, true, kinds.at(base), offset, bytes);
+    received(kinds, receiver, violation)
+}
+
+// An atomic operation on so many bytes.
+fn atomic(
+    decl: &Decl,
+    kinds: &Kinds,
+    operation: AtomicOperation,
+    base: Register,
+    src: Register,
+    offset: i16,
+    bytes: u8,
+) -> Result<Effect, Violation>
+    ensures { result_by kinds.now result ≡ atomic_ways decl.now kinds.now operation base src offset bytes }
+{
+    read(kinds, src)?;
+    read_expected(kinds, operation)?;
+    let receiver = receiver(operation, src);
+    exchanged(decl, kinds, receiver, base, offset, bytes)
+}
+
 /// Whether there is a helper of this number: read 1, insert 2, update 3, delete 4, buffer 5.
 pub fn is_helper(helper: i32) -> bool
     ensures { result ≡ is_helper helper }
@@ -389,6 +481,10 @@ pub fn effect_of(insn: &Insn, kinds: &Kinds, decl: &Decl) -> Result<Effect, Viol
         Insn::StoreImm(size, base, offset, _) => stored(decl, kinds, base, offset, bytes_of(size)),
         Insn::Store(size, base, src, offset) => {
             stored_register(decl, kinds, base, src, offset, bytes_of(size))
+        }
+        Insn::Atomic(width, operation, base, src, offset) => {
+            let bytes = atomic_bytes(width);
+            atomic(decl, kinds, operation, base, src, offset, bytes)
         }
         Insn::Call(helper) => called(decl, kinds, helper),
         Insn::Exit => left(kinds),

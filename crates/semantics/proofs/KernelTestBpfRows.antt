@@ -215,6 +215,62 @@ kernel_test_bpf_51 = refl
 kernel_test_bpf_52 : answer_to (0x18 ∷ 0x0 ∷ 0xffffffff00000118 ∷ 0xffffffff00000000 ∷ 0xffd81a7b ∷ 0xffd8a079 ∷ 0x95 ∷ []) ([]) ≡ Some 18446744073709551615
 kernel_test_bpf_52 = refl
 
+-- 0372 BPF_ATOMIC | BPF_W, BPF_ADD: Test fetch: 0x12 + 0xab = 0xbd
+kernel_test_bpf_53 : answer_to (0xab00000318 ∷ 0xbaadf00d00000000 ∷ 0x12ffd80a62 ∷ 0xffd83ac3 ∷ 0x30bc ∷ 0x95 ∷ []) ([]) ≡ Some 171
+kernel_test_bpf_53 = refl
+
+-- 0378 BPF_ATOMIC | BPF_DW, BPF_ADD: Test side effects, r10: 0x12 + 0xab = 0xbd
+kernel_test_bpf_54 : answer_to (0xa1bf ∷ 0xab00000018 ∷ 0x0 ∷ 0x12ffd80a62 ∷ 0xffd80adb ∷ 0xa0bf ∷ 0x101f ∷ 0x1bf ∷ 0x2000000177 ∷ 0x104f ∷ 0x95 ∷ []) ([]) ≡ Some 0
+kernel_test_bpf_54 = refl
+
+-- 0384 BPF_ATOMIC | BPF_DW, BPF_ADD | BPF_FETCH: Test fetch: 0x12 + 0xab = 0xbd
+kernel_test_bpf_55 : answer_to (0xab00000318 ∷ 0x0 ∷ 0x12ffd80a7a ∷ 0x1ffd83adb ∷ 0x30bc ∷ 0x95 ∷ []) ([]) ≡ Some 18
+kernel_test_bpf_55 = refl
+
+-- 0390 BPF_ATOMIC | BPF_W, BPF_AND | BPF_FETCH: Test side effects, r10: 0x12 & 0xab = 0x02
+kernel_test_bpf_56 : answer_to (0xa1bf ∷ 0xab00000018 ∷ 0xbaadf00d00000000 ∷ 0x12ffd80a62 ∷ 0x51ffd80ac3 ∷ 0xa0bf ∷ 0x101f ∷ 0x1bf ∷ 0x2000000177 ∷ 0x104f ∷ 0x95 ∷ []) ([]) ≡ Some 0
+kernel_test_bpf_56 = refl
+
+-- 0396 BPF_ATOMIC | BPF_DW, BPF_AND: Test fetch: 0x12 & 0xab = 0x02
+kernel_test_bpf_57 : answer_to (0xab00000318 ∷ 0x0 ∷ 0x12ffd80a7a ∷ 0x50ffd83adb ∷ 0x30bc ∷ 0x95 ∷ []) ([]) ≡ Some 171
+kernel_test_bpf_57 = refl
+
+-- 0402 BPF_ATOMIC | BPF_W, BPF_OR: Test side effects, r10: 0x12 | 0xab = 0xbb
+kernel_test_bpf_58 : answer_to (0xa1bf ∷ 0xab00000018 ∷ 0xbaadf00d00000000 ∷ 0x12ffd80a62 ∷ 0x40ffd80ac3 ∷ 0xa0bf ∷ 0x101f ∷ 0x1bf ∷ 0x2000000177 ∷ 0x104f ∷ 0x95 ∷ []) ([]) ≡ Some 0
+kernel_test_bpf_58 = refl
+
+-- 0408 BPF_ATOMIC | BPF_W, BPF_OR | BPF_FETCH: Test fetch: 0x12 | 0xab = 0xbb
+kernel_test_bpf_59 : answer_to (0xab00000318 ∷ 0xbaadf00d00000000 ∷ 0x12ffd80a62 ∷ 0x41ffd83ac3 ∷ 0x30bc ∷ 0x95 ∷ []) ([]) ≡ Some 18
+kernel_test_bpf_59 = refl
+
+-- 0414 BPF_ATOMIC | BPF_DW, BPF_OR | BPF_FETCH: Test side effects, r10: 0x12 | 0xab = 0xbb
+kernel_test_bpf_60 : answer_to (0xa1bf ∷ 0xab00000018 ∷ 0x0 ∷ 0x12ffd80a62 ∷ 0x41ffd80adb ∷ 0xa0bf ∷ 0x101f ∷ 0x1bf ∷ 0x2000000177 ∷ 0x104f ∷ 0x95 ∷ []) ([]) ≡ Some 0
+kernel_test_bpf_60 = refl
+
+-- 0420 BPF_ATOMIC | BPF_W, BPF_XOR: Test fetch: 0x12 ^ 0xab = 0xb9
+kernel_test_bpf_61 : answer_to (0xab00000318 ∷ 0xbaadf00d00000000 ∷ 0x12ffd80a62 ∷ 0xa0ffd83ac3 ∷ 0x30bc ∷ 0x95 ∷ []) ([]) ≡ Some 171
+kernel_test_bpf_61 = refl
+
+-- 0426 BPF_ATOMIC | BPF_DW, BPF_XOR: Test side effects, r10: 0x12 ^ 0xab = 0xb9
+kernel_test_bpf_62 : answer_to (0xa1bf ∷ 0xab00000018 ∷ 0x0 ∷ 0x12ffd80a62 ∷ 0xa0ffd80adb ∷ 0xa0bf ∷ 0x101f ∷ 0x1bf ∷ 0x2000000177 ∷ 0x104f ∷ 0x95 ∷ []) ([]) ≡ Some 0
+kernel_test_bpf_62 = refl
+
+-- 0432 BPF_ATOMIC | BPF_DW, BPF_XOR | BPF_FETCH: Test fetch: 0x12 ^ 0xab = 0xb9
+kernel_test_bpf_63 : answer_to (0xab00000318 ∷ 0x0 ∷ 0x12ffd80a7a ∷ 0xa1ffd83adb ∷ 0x30bc ∷ 0x95 ∷ []) ([]) ≡ Some 18
+kernel_test_bpf_63 = refl
+
+-- 0438 BPF_ATOMIC | BPF_DW, BPF_XCHG: Test side effects, r10: 0x12 xchg 0xab = 0xab
+kernel_test_bpf_64 : answer_to (0xa1bf ∷ 0xab00000018 ∷ 0x0 ∷ 0x12ffd80a62 ∷ 0xe1ffd80adb ∷ 0xa0bf ∷ 0x101f ∷ 0x1bf ∷ 0x2000000177 ∷ 0x104f ∷ 0x95 ∷ []) ([]) ≡ Some 0
+kernel_test_bpf_64 = refl
+
+-- 0444 BPF_ATOMIC | BPF_W, BPF_CMPXCHG: Test failure store
+kernel_test_bpf_65 : answer_to (0x1234567ffd80a62 ∷ 0x76543210000000b4 ∷ 0x89abcdef000003b4 ∷ 0xf1ffd83ac3 ∷ 0xffd8a061 ∷ 0x95 ∷ []) ([]) ≡ Some 19088743
+kernel_test_bpf_65 = refl
+
+-- 0450 BPF_ATOMIC | BPF_DW, BPF_CMPXCHG: Test side effects
+kernel_test_bpf_66 : answer_to (0x89abcdef00000118 ∷ 0x123456700000000 ∷ 0x7654321000000218 ∷ 0xfedcba9800000000 ∷ 0x10bf ∷ 0xffd81a7b ∷ 0xf1ffd82adb ∷ 0x7654321000000018 ∷ 0xfedcba9800000000 ∷ 0x1205d ∷ 0x201f ∷ 0x95 ∷ []) ([]) ≡ Some 0
+kernel_test_bpf_66 = refl
+
 -- 0456 JMP32_JNE_K: Large immediate
 kernel_test_bpf_67 : answer_to (0xbc614e000000b4 ∷ 0xbc614e00010056 ∷ 0x614e00010056 ∷ 0xb4 ∷ 0x95 ∷ []) ([]) ≡ Some 12345678
 kernel_test_bpf_67 = refl
@@ -338,6 +394,18 @@ kernel_test_bpf_96 = refl
 -- 0727 ALU32_REG_MOD to R8: no clobbering
 kernel_test_bpf_97 : answer_to (0xb7 ∷ 0x1000001b7 ∷ 0x2000002b7 ∷ 0x3000003b7 ∷ 0x4000004b7 ∷ 0x5000005b7 ∷ 0x6000006b7 ∷ 0x7000007b7 ∷ 0x8000008b7 ∷ 0x9000009b7 ∷ 0x189c ∷ 0x8000008b4 ∷ 0xa0055 ∷ 0x100090155 ∷ 0x200080255 ∷ 0x300070355 ∷ 0x400060455 ∷ 0x500050555 ∷ 0x600040655 ∷ 0x700030755 ∷ 0x800020855 ∷ 0x900010955 ∷ 0x1000000b7 ∷ 0x95 ∷ []) ([]) ≡ Some 1
 kernel_test_bpf_97 = refl
+
+-- 0733 Atomic_BPF_DW BPF_ADD | BPF_FETCH: no clobbering
+kernel_test_bpf_98 : answer_to (0xb7 ∷ 0x1000001b7 ∷ 0x2000002b7 ∷ 0x3000003b7 ∷ 0x4000004b7 ∷ 0x5000005b7 ∷ 0x6000006b7 ∷ 0x7000007b7 ∷ 0x8000008b7 ∷ 0x9000009b7 ∷ 0x1fff80a7a ∷ 0x1fff81adb ∷ 0xa0055 ∷ 0x100090155 ∷ 0x200080255 ∷ 0x300070355 ∷ 0x400060455 ∷ 0x500050555 ∷ 0x600040655 ∷ 0x700030755 ∷ 0x800020855 ∷ 0x900010955 ∷ 0x1000000b7 ∷ 0x95 ∷ []) ([]) ≡ Some 1
+kernel_test_bpf_98 = refl
+
+-- 0739 Atomic_BPF_W BPF_ADD: no clobbering
+kernel_test_bpf_99 : answer_to (0xb7 ∷ 0x1000001b7 ∷ 0x2000002b7 ∷ 0x3000003b7 ∷ 0x4000004b7 ∷ 0x5000005b7 ∷ 0x6000006b7 ∷ 0x7000007b7 ∷ 0x8000008b7 ∷ 0x9000009b7 ∷ 0xfff80a62 ∷ 0xfff81ac3 ∷ 0xa0055 ∷ 0x100090155 ∷ 0x200080255 ∷ 0x300070355 ∷ 0x400060455 ∷ 0x500050555 ∷ 0x600040655 ∷ 0x700030755 ∷ 0x800020855 ∷ 0x900010955 ∷ 0x1000000b7 ∷ 0x95 ∷ []) ([]) ≡ Some 1
+kernel_test_bpf_99 = refl
+
+-- 0745 Atomic_BPF_W BPF_OR | BPF_FETCH: no clobbering
+kernel_test_bpf_100 : answer_to (0xb7 ∷ 0x1000001b7 ∷ 0x2000002b7 ∷ 0x3000003b7 ∷ 0x4000004b7 ∷ 0x5000005b7 ∷ 0x6000006b7 ∷ 0x7000007b7 ∷ 0x8000008b7 ∷ 0x9000009b7 ∷ 0x1fff80a62 ∷ 0x41fff81ac3 ∷ 0xa0055 ∷ 0x100090155 ∷ 0x200080255 ∷ 0x300070355 ∷ 0x400060455 ∷ 0x500050555 ∷ 0x600040655 ∷ 0x700030755 ∷ 0x800020855 ∷ 0x900010955 ∷ 0x1000000b7 ∷ 0x95 ∷ []) ([]) ≡ Some 1
+kernel_test_bpf_100 = refl
 
 -- 0751 ALU32_OR_X: src preserved in zext
 kernel_test_bpf_101 : answer_to (0x89acbdef00000118 ∷ 0x123456700000000 ∷ 0x7654321000000218 ∷ 0xfedcba9800000000 ∷ 0x10bf ∷ 0x124c ∷ 0x101f ∷ 0x1bf ∷ 0x2000000177 ∷ 0x104f ∷ 0x95 ∷ []) ([]) ≡ Some 0

@@ -6,6 +6,8 @@ pub mod CFunctionsRows
 pub mod DpdkRows
 pub mod KernelTestBpfRows
 pub mod KernelVerifierProgsRows
+pub mod AtomicsRows
+pub mod ExchangeRows
 pub mod BoundariesRows
 pub mod EachOpcodeRows
 pub mod ProcedureRows

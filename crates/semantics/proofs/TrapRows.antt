@@ -424,10 +424,6 @@ register_11 = refl
 unused_field : seen_with (0x1000000b7 ∷ 0x100000095 ∷ []) ≡ Traps NothingSpelled
 unused_field = refl
 
--- r1 = 1; *(u64 *)(r10 - 8) = r1; lock *(u64 *)(r10 - 8) += r1; exit
-atomic_operation : seen_with (0x1000001b7 ∷ 0xfff81a7b ∷ 0xfff81adb ∷ 0x95 ∷ []) ≡ Traps NothingSpelled
-atomic_operation = refl
-
 -- the slot 0x30; exit
 packet_access : seen_with (0x30 ∷ 0x95 ∷ []) ≡ Traps NothingSpelled
 packet_access = refl

@@ -3,7 +3,8 @@ use Rattle.std.proofs.Common.{◌≡◌, ℕ, zero, suc, ◌+◌, ◌-◌, ◌*�
 use Rattle.std.specs.Prelude.{ℤ, pos, ◌+ℤ◌, slice_get, slice_set, count_by}
 use Rattle.std.proofs.lemmas.List.Recursion.{is_count_by}
 use Rattle.std.specs.List.{slice_index_or, flat_map}
-use Rattle.std.specs.Int.{Width, w64, to_le_bytes}
+use Rattle.std.specs.Int.{Width, w64, byte_len, from_le_bytes, to_le_bytes}
+use Rattle.std.specs.Option.{option_map}
 use Rattle.std.proofs.lemmas.List.{length-append, length-replicate}
 use Rattle.std.proofs.lemmas.Option.{slice_get_within}
 use Rattle.access_slots.specs.Access.{fits, is_no_room}
@@ -13,14 +14,16 @@ use Rattle.access_slots.specs.declared.op.Said.{Said}
 use Rattle.access_slots.specs.declared.op.Said.TheVariants as said
 use Rattle.bpf_encoding.specs.Fields.{Fields}
 use Rattle.bpf_encoding.specs.Spelling.{number_of, fields_of}
+use Rattle.bpf_encoding.specs.Reading.{is_64}
 use Rattle.bpf_encoding.specs.declared.insn.Insn.{Insn}
-use Rattle.bpf_encoding.specs.declared.insn.Insn.TheVariants.{Alu, Negate, MoveSigned, Order, LoadWide, Jump, JumpLong, JumpIf, Load, LoadSigned, StoreImm, Store, Call, Exit}
+use Rattle.bpf_encoding.specs.declared.insn.Insn.TheVariants.{Alu, Negate, MoveSigned, Order, LoadWide, Jump, JumpLong, JumpIf, Load, LoadSigned, StoreImm, Store, Atomic, Call, Exit}
 use Rattle.bpf_encoding.specs.declared.insn.Place.{Place}
 use Rattle.bpf_encoding.specs.declared.insn.Place.TheVariants as place
-use Rattle.semantics.specs.Memory.{Memory}
-use Rattle.semantics.specs.Step.{Config, Cause, EmptyRead, WroteR10, Step, Next, Ask, Done, Trap, Bases, Setting, address, step, register, need, put, place_of, goes_to, if_taken, loaded, stored}
+use Rattle.semantics.specs.Arithmetic.{width_of}
+use Rattle.semantics.specs.Memory.{Memory, bytes_at, written}
+use Rattle.semantics.specs.Step.{Config, Cause, EmptyRead, WroteR10, Step, Next, Ask, Done, Trap, Bases, Setting, address, step, register, need, put, place_of, goes_to, if_taken, loaded, stored, fetched, replaced}
 use Rattle.semantics.specs.Reach.{Stop, Asked, Exited, Trapped, Unfinished, IsLayout, AreArguments, IsBySlot, AnswersFit, FitsStop, buffer_regions, entry_memory, advance, onwards, on_from, run, answered, reach, entry, from_step, IsFineStop, IsSafe, calls_helper, AsksAtMost, AsksOnceByEach}
-use Rattle.semantics.specs.Instruction.{instruction_step, program_of, setting, value_of, left_of}
+use Rattle.semantics.specs.Instruction.{instruction_step, program_of, setting, value_of, left_of, receiver, expected_of, exchanged_by}
 use Rattle.semantics.proofs.Bridge.{slot_at, step-instruction, length-program}
 use Rattle.semantics.proofs.Extended.{address_zero}
 use Rattle.register_kinds.specs.declared.kind.Violation.{Violation}
@@ -123,6 +126,15 @@ stored_asks : (b : Bool) (c : Config) (o : Option Memory) → AsksOnly b (stored
 stored_asks b c None = tt
 stored_asks b c (Some m) = tt
 
+fetched_asks : (b : Bool) (c : Config) (into : Option ℕ) (old : ℕ) (o : Option Memory) → AsksOnly b (fetched c into old o)
+fetched_asks b c into old None = tt
+fetched_asks b c None old (Some m) = tt
+fetched_asks b c (Some r) old (Some m) = put_asks b (record c { memory = m }) 1 r old
+
+replaced_asks : (b : Bool) (c : Config) (w : Width) (at : ℕ) (into : Option ℕ) (compute : ℕ → ℕ) (o : Option (List ℕ)) → AsksOnly b (replaced c w at into compute o)
+replaced_asks b c w at into compute None = tt
+replaced_asks b c w at into compute (Some bytes) = fetched_asks b c into (from_le_bytes w bytes) (written c.memory at (to_le_bytes w (compute (from_le_bytes w bytes))))
+
 insn_asks : (s : Setting) (c : Config) (i : Insn) → AsksOnly (is_call i) (instruction_step s c i)
 insn_asks s c (Alu width operation dst source) =
     need_asks false EmptyRead (value_of c source) _ (λ b. need_asks false EmptyRead (left_of c operation dst) _ (λ a. put_asks false c 1 (number_of dst) _))
@@ -139,6 +151,9 @@ insn_asks s c (LoadSigned size dst base offset) = need_asks false EmptyRead (reg
 insn_asks s c (StoreImm size base offset imm) = need_asks false EmptyRead (register c (number_of base)) _ (λ b. stored_asks false c _)
 insn_asks s c (Store size base src offset) =
     need_asks false EmptyRead (register c (number_of base)) _ (λ b. need_asks false EmptyRead (register c (number_of src)) _ (λ v. stored_asks false c _))
+insn_asks s c (Atomic width operation base src offset) =
+    need_asks false EmptyRead (register c (number_of base)) _ (λ b. need_asks false EmptyRead (register c (number_of src)) _ (λ v. need_asks false EmptyRead (expected_of c operation) _ (λ expected.
+    replaced_asks false c (width_of (is_64 width)) (address b offset) (option_map number_of (receiver operation src)) (λ old. exchanged_by (is_64 width) operation expected old v) (bytes_at c.memory (address b offset) (byte_len (width_of (is_64 width)))))))
 insn_asks s c (Call helper) = call_asks (instruction_step s c (Call helper))
 insn_asks s c Exit = need_asks false EmptyRead (register c 0) _ (λ v. tt)
 
