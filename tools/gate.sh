@@ -5,8 +5,7 @@ set -e
 cd "$(dirname "$0")/.."
 said=$(mktemp)
 trap 'rm -f "$said"' EXIT
-rt ci > "$said" 2>&1 || true
-sed '$d' "$said"
+rt ci 2>&1 | tee "$said" | grep --line-buffered -vE '^[0-9]+ passed, [0-9]+ failed$' || true
 last=$(tail -n 1 "$said")
 passed=$(printf '%s\n' "$last" | sed -n 's/^\([0-9]*\) passed, [0-9]* failed$/\1/p')
 failed=$(printf '%s\n' "$last" | sed -n 's/^[0-9]* passed, \([0-9]*\) failed$/\1/p')
