@@ -1,0 +1,41 @@
+/* Accounts: a record of table 0 has the balance in its first eight bytes. */
+#include "../procedure.h"
+
+enum { UNKNOWN_ACCOUNT = 1, TOO_LITTLE = 2 };
+
+/* deposit ACCOUNT AMOUNT: opens the account where there is none. */
+PROCEDURE(deposit) {
+    u64 *account = record_read(0);
+    if (account) {
+        account[0] += args[1];
+        return record_update(0);
+    }
+    account = record_buffer(0);
+    account[0] = args[1];
+    return record_insert(0);
+}
+
+/* move FROM TO AMOUNT: aborts with 1 where an account is unknown, with 2 where the balance is too small. */
+PROCEDURE(move) {
+    u64 amount = args[2];
+    u64 *from = record_read(0);
+    if (!from)
+        return UNKNOWN_ACCOUNT;
+    u64 *to = record_read(1);
+    if (!to)
+        return UNKNOWN_ACCOUNT;
+    if (from[0] < amount)
+        return TOO_LITTLE;
+    from[0] -= amount;
+    to[0] += amount;
+    record_update(0);
+    return record_update(1);
+}
+
+/* balance ACCOUNT: only reads, and ends with the balance, so that `aborted V` tells it; there is nothing to undo. */
+PROCEDURE(balance) {
+    u64 *account = record_read(0);
+    if (!account)
+        return UNKNOWN_ACCOUNT;
+    return account[0];
+}
