@@ -3,6 +3,7 @@ use Rattle.std.specs.Prelude.{◌≡◌, ℕ, suc, ◌*◌, ◌%◌, ◌<◌, �
 use Rattle.bpf_encoding.specs.Fields.{Fields, slots_of}
 use Rattle.bpf_encoding.specs.Spelling.{fields_of_code, is_whole, places_of}
 use Rattle.bpf_encoding.specs.Faults.{fault_of, is_second}
+use Rattle.bpf_encoding.specs.declared.code.TheConstants.{MOST_SLOTS}
 use Rattle.bpf_encoding.specs.declared.insn.Insn.{Insn}
 use Rattle.bpf_encoding.specs.declared.insn.Place.{Place}
 use Rattle.bpf_encoding.specs.declared.slot.SlotFault.{SlotFault}
@@ -10,10 +11,10 @@ use Rattle.bpf_encoding.specs.declared.slot.SlotFault.TheVariants as slot
 use Rattle.bpf_encoding.specs.declared.decode.DecodeFault.{DecodeFault}
 use Rattle.bpf_encoding.specs.declared.decode.DecodeFault.TheVariants.{NoCode, Length, TooLong, WideCut, UnusedField, Undefined, OutsideProfile, Memory}
 
--- 1 to 4096 places, each wide instruction followed by its second slot, and no other second slot
+-- 1 to MOST_SLOTS places, each wide instruction followed by its second slot, and no other second slot
 pub record IsCode (places : List Place) : Type 0 where
   pub some : 0 < length places
-  pub short : length places ≤ 4096
+  pub short : length places ≤ MOST_SLOTS
   pub whole : is_whole false places ≡ true
 
 -- the bytes' slots are those of the code
@@ -45,7 +46,7 @@ first_fault true place (f ∷ fs) = if is_second f then first_fault false (suc p
 abbrev pub fault_in : List ℕ → Option DecodeFault
 fault_in bytes =
     if length bytes == 0 then Some NoCode else
-    if length bytes % 8 == 0 then (if nat_lt 32768 (length bytes) then Some TooLong else first_fault false 0 (slots_of bytes)) else Some Length
+    if length bytes % 8 == 0 then (if nat_lt (8 * MOST_SLOTS) (length bytes) then Some TooLong else first_fault false 0 (slots_of bytes)) else Some Length
 
 -- the first fault, want of memory aside
 abbrev pub IsFirstFault : Option DecodeFault → DecodeFault → Type 0
@@ -58,11 +59,11 @@ IsFirstFault first (UnusedField slot) = first ≡ Some (UnusedField slot)
 IsFirstFault first (Undefined slot) = first ≡ Some (Undefined slot)
 IsFirstFault first (OutsideProfile slot which) = first ≡ Some (OutsideProfile slot which)
 
--- the instructions fill no slot, or more than 4096
+-- the instructions fill no slot, or more than MOST_SLOTS
 abbrev pub IsLengthFault : List Insn → DecodeFault → Type 0
 IsLengthFault insns Memory = Unit {0}
 IsLengthFault insns NoCode = insns ≡ []
-IsLengthFault insns TooLong = 4096 < length (places_of insns)
+IsLengthFault insns TooLong = MOST_SLOTS < length (places_of insns)
 IsLengthFault insns Length = ⊥
 IsLengthFault insns (WideCut slot) = ⊥
 IsLengthFault insns (UnusedField slot) = ⊥

@@ -5,7 +5,13 @@ ghost use Rattle.std.specs.List.{list_all};
 ghost use Rattle.semantics.specs.Row.{plain_bases};
 ghost use Rattle.semantics.specs.Reach.{is_layout, is_apart, is_in_reach, are_apart, buffer_extents, IsLayout};
 
+use semantics::profile::{ARGUMENTS_BYTES, BUFFER_BYTES, STACK_BYTES};
 use std::marker::Model;
+
+// The lengths of the regions.
+const STACK: u64 = STACK_BYTES as u64;
+const ARGUMENTS: u64 = ARGUMENTS_BYTES as u64;
+const BUFFER: u64 = BUFFER_BYTES as u64;
 
 /// Regions end here at most.
 const REACH: u64 = 0x8000_0000_0000;
@@ -33,7 +39,7 @@ impl Model for Layout {
 
 // Whether the region isn't at 0 and ends within reach.
 fn is_in_reach(base: u64, bytes: u64) -> bool
-    requires { bytes ≤ 512 }
+    requires { bytes ≤ STACK_BYTES }
     ensures { result ≡ is_in_reach (base, bytes) }
 {
     base > 0 && base <= REACH - bytes
@@ -52,7 +58,7 @@ fn all_in_reach(buffers: &[u64]) -> bool
     ensures { result ≡ list_all is_in_reach (buffer_extents buffers.now) }
 {
     for base in buffers {
-        if !is_in_reach(*base, 64) {
+        if !is_in_reach(*base, BUFFER) {
             return false;
         }
     }
@@ -63,7 +69,7 @@ fn all_apart(region: (u64, u64), buffers: &[u64]) -> bool
     ensures { result ≡ list_all (is_apart region) (buffer_extents buffers.now) }
 {
     for base in buffers {
-        if !is_apart(region, (*base, 64)) {
+        if !is_apart(region, (*base, BUFFER)) {
             return false;
         }
     }
@@ -74,7 +80,7 @@ fn are_apart(buffers: &[u64]) -> bool
     ensures { result ≡ are_apart (buffer_extents buffers.now) }
 {
     for (place, base) in buffers.iter().enumerate() {
-        if !all_apart((*base, 64), &buffers[place + 1..]) {
+        if !all_apart((*base, BUFFER), &buffers[place + 1..]) {
             return false;
         }
     }
@@ -87,10 +93,10 @@ impl Layout {
     pub fn new(stack: u64, args: u64, buffers: [u64; 16]) -> Option<Layout>
         ensures { result ≡ (if is_layout (record { stack = stack; arguments = args; buffers = buffers }) then Some (record { stack = stack; arguments = args; buffers = buffers }) else None) }
     {
-        let stands = is_in_reach(stack, 512) && is_in_reach(args, 64) && all_in_reach(&buffers);
-        let apart = is_apart((stack, 512), (args, 64))
-            && all_apart((stack, 512), &buffers)
-            && all_apart((args, 64), &buffers)
+        let stands = is_in_reach(stack, STACK) && is_in_reach(args, ARGUMENTS) && all_in_reach(&buffers);
+        let apart = is_apart((stack, STACK), (args, ARGUMENTS))
+            && all_apart((stack, STACK), &buffers)
+            && all_apart((args, ARGUMENTS), &buffers)
             && are_apart(&buffers);
         if !(stands && apart) {
             return None;
