@@ -39,9 +39,13 @@ abbrev pub insn_of_texts : Mnemonic → List (List ℕ) → Result Insn LineFaul
 insn_of_texts mnemonic texts =
     if length texts == operand_count mnemonic then insn_with mnemonic (text_at 0 texts) (text_at 1 texts) (text_at 2 texts) else Err fault.Operands
 
+-- of a word with what follows it
+abbrev pub insn_of_word : List ℕ → List ℕ → Result Insn LineFault
+insn_of_word word rest = and_then (mnemonic_said word) (λ mnemonic. insn_of_texts mnemonic (operand_texts rest))
+
 -- of a text that isn't empty
 abbrev pub insn_said : List ℕ → Result Insn LineFault
-insn_said text = and_then (mnemonic_said (word_of text)) (λ mnemonic. insn_of_texts mnemonic (operand_texts (rest_of text)))
+insn_said text = insn_of_word (word_of text) (rest_of text)
 
 -- of a line: none where it is empty but for blanks and a comment
 abbrev pub line_said : List ℕ → Result (Option Insn) LineFault

@@ -9,6 +9,6 @@ pub mod cut;
 pub mod disassemble;
 pub mod line;
 mod mnemonic;
-mod number;
+pub mod number;
 mod operand;
 mod parts;

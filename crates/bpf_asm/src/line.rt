@@ -1,7 +1,8 @@
 //! One line of assembly text.
 
-ghost use Rattle.std.specs.Prelude.{◌≡◌};
-ghost use Rattle.bpf_asm.specs.Lines.{insn_with, insn_said, line_said};
+ghost use Rattle.std.specs.Prelude.{◌≡◌, is_ok};
+ghost use Rattle.bpf_asm.specs.Mnemonics.{mnemonic_said};
+ghost use Rattle.bpf_asm.specs.Lines.{insn_with, insn_of_word, line_said};
 
 use crate::cut::{before, split_operands, split_word, trim};
 use crate::mnemonic::{Mnemonic, mnemonic_said};
@@ -64,12 +65,19 @@ fn insn_with(mnemonic: Mnemonic, a: &[u8], b: &[u8], c: &[u8]) -> Result<Insn, L
     }
 }
 
-// The instruction that a text says which isn't empty.
-fn insn_said(text: &[u8]) -> Result<Insn, LineFault>
-    ensures { result ≡ insn_said text.now }
+/// Whether a word names an instruction.
+pub fn is_mnemonic(word: &[u8]) -> bool
+    ensures { result ≡ is_ok (mnemonic_said word.now) }
 {
-    let (first, rest) = split_word(text);
-    let mnemonic = mnemonic_said(first)?;
+    mnemonic_said(word).is_ok()
+}
+
+/// The instruction of a word with what follows it. Of several faults it is the first of: the
+/// word, the count of operands, the operands from the left.
+pub fn insn_of_word(word: &[u8], rest: &[u8]) -> Result<Insn, LineFault>
+    ensures { result ≡ insn_of_word word.now rest.now }
+{
+    let mnemonic = mnemonic_said(word)?;
     match split_operands(rest) {
         Some(operands) if operands.count == mnemonic.operand_count() => {
             insn_with(mnemonic, operands.first, operands.second, operands.third)
@@ -88,5 +96,6 @@ pub fn insn_of(line: &[u8]) -> Result<Option<Insn>, LineFault>
     if text.is_empty() {
         return Ok(None);
     }
-    Ok(Some(insn_said(text)?))
+    let (word, rest) = split_word(text);
+    Ok(Some(insn_of_word(word, rest)?))
 }

@@ -5,8 +5,8 @@ ghost use Rattle.bpf_asm.specs.Numbers.{numeral, number_named, within, number_sa
 
 use crate::line::LineFault;
 
-// The number that digits write. What isn't below 2^64 is out of every range.
-fn numeral(text: &[u8], radix: u32) -> Result<u64, LineFault>
+/// The number that digits write, of radix 10 or 16. What isn't below 2^64 is out of every range.
+pub fn numeral(text: &[u8], radix: u32) -> Result<u64, LineFault>
     requires { (radix ≡ 10) ⊎ (radix ≡ 16) }
     ensures { result ≡ numeral radix text.now }
 {

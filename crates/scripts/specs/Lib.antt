@@ -1,0 +1,7 @@
+pub mod Words
+pub mod Numbers
+pub mod Names
+pub mod Keywords
+pub mod Lines
+pub mod Open
+pub mod Reading
