@@ -89,6 +89,11 @@ abbrev pub AreRowLines : List Store → List ℕ → Type 0
 AreRowLines [] lines = lines ≡ []
 AreRowLines (d ∷ ds) lines = (rows : Rows) × (rest : List ℕ) × AreRowsOf rows d.list × (lines ≡ row_lines rows ++ rest) × AreRowLines ds rest
 
+pub record AddsRowLines (ds : List Store) (old new : List ℕ) : Type 0 where
+  pub lines : List ℕ
+  pub rows : AreRowLines ds lines
+  pub added : new ≡ old ++ lines
+
 -- two digits a byte, and an end of line behind each 96
 abbrev pub log_from : ℕ → List ℕ → List ℕ
 log_from at [] = []

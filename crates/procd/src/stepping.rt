@@ -2,7 +2,7 @@
 
 ghost use Rattle.std.specs.Prelude.{◌≡◌, ◌++◌, IfOk, OnOk, string_bytes};
 ghost use Rattle.procd.specs.OutcomeLines.{row_lines};
-ghost use Rattle.procd.specs.Stepping.{IsStepOf, is_want_of_memory, AreTaken, AreRowLines, log_lines};
+ghost use Rattle.procd.specs.Stepping.{IsStepOf, is_want_of_memory, AreTaken, AddsRowLines, log_lines};
 
 use crate::assembly::write_pair;
 use crate::outcome_lines::{row_line, step_line};
@@ -73,6 +73,29 @@ fn write_rows(alloc: Global, rows: &[(Record, Value)], lines: &mut String) -> Re
     for row in rows {
         let line = row_line(alloc, row)?;
         lines.push_str(line.as_str())?;
+    }
+    Ok(())
+}
+
+/// Adds a line for each record that the data components keep, in their order and rising.
+pub fn write_all_rows(alloc: Global, dcs: &[Dc], lines: &mut String) -> Result<(), AllocError>
+    ensures { OnOk result (AddsRowLines dcs.now (string_bytes lines.old) (string_bytes lines.new)) }
+{
+    for dc in dcs {
+        write_rows(alloc, dc.rows(), lines)?;
+    }
+    Ok(())
+}
+
+/// Adds a line for each event of a log's bytes.
+pub fn write_log(bytes: &[u8], lines: &mut String) -> Result<(), AllocError>
+    ensures { OnOk result (string_bytes lines.new ≡ string_bytes lines.old ++ log_lines bytes.now) }
+{
+    'bytes: for at in 0..bytes.len() {
+        write_pair(lines, bytes[at])?;
+        if at % 96 == 95 {
+            lines.push('\n')?;
+        }
     }
     Ok(())
 }

@@ -11,10 +11,11 @@ use Rattle.verifier.specs.Checked.{Checked}
 use Rattle.tc_log.specs.declared.event.Outcome.{Outcome as Ending}
 use Rattle.tc_log.specs.declared.event.Event.TheVariants as event
 use Rattle.history.specs.Calls.{admitted}
-use Rattle.history.specs.Flight.{Flight, in_flight, low_water, is_open}
+use Rattle.history.specs.Flight.{Flight, in_flight, is_flight, low_water, is_open}
 use Rattle.transactions.specs.declared.Sent.{Sent}
 use Rattle.transactions.specs.Standing.{Standing, standing}
 use Rattle.transactions.specs.Legal.{Legal}
+use Rattle.transactions.proofs.LowWater.{mark_rises, flight_above}
 use Rattle.data_component.specs.Store.{Store, Fate as Becomes, IsOld, Again, Silent, New, raised, marked, fate, store_by, replied, performed}
 use Rattle.tc_core.specs.Core.{Core, Asking}
 use Rattle.tc_core.specs.Replies.{with_event, ask_reply, after_ask, undo_reply, after_undo, end_of}
@@ -29,7 +30,6 @@ use Rattle.tc_world.specs.declared.step.Step.{Step}
 use Rattle.tc_world.specs.declared.step.Step.TheVariants as step
 use Rattle.tc_world.specs.declared.step.Outcome.{Outcome}
 use Rattle.tc_world.specs.declared.step.Illegal.{Illegal}
-use Rattle.tc_world.proofs.LowWater.{mark_rises, open_above}
 
 went : (o p : Outcome) (w v : Whole) → Goes o w ≡ Goes p v → w ≡ v
 went o p w v goes = cc
@@ -104,7 +104,7 @@ told_low w v t c reply.Running o rose legal low goes = absurd (stopped _ o v goe
 told_low w v t c reply.Unknown o rose legal low goes = absurd (stopped _ o v goes)
 
 ask_rises : (c : Core) (a : Asked) → LegalCore (after_ask c a) → low_water c.events ≤ low_water (after_ask c a).events
-ask_rises c (reply.Request r) legal = mark_rises c.procs c.events (event.Ask r.txn r.number r.op) legal
+ask_rises c (reply.Request r) legal = mark_rises c.procs c.events (event.Ask r.txn r.number r.op) legal.0
 ask_rises c reply.Undoing legal = omega arith
 ask_rises c reply.Over legal = omega arith
 ask_rises c (reply.Stuck n) legal = omega arith
@@ -113,7 +113,7 @@ ask_rises c reply.Running legal = omega arith
 ask_rises c reply.Unknown legal = omega arith
 
 undo_rises : (c : Core) (a : Asked) → LegalCore (after_undo c a) → low_water c.events ≤ low_water (after_undo c a).events
-undo_rises c (reply.Request r) legal = mark_rises c.procs c.events (event.Undo r.txn r.number r.op) legal
+undo_rises c (reply.Request r) legal = mark_rises c.procs c.events (event.Undo r.txn r.number r.op) legal.0
 undo_rises c reply.Undoing legal = omega arith
 undo_rises c reply.Over legal = omega arith
 undo_rises c (reply.Stuck n) legal = omega arith
@@ -126,7 +126,7 @@ ends_low w v t None e o legal low goes = absurd (stopped _ o v goes)
 ends_low w v t (Some s) None o legal low goes = absurd (stopped _ o v goes)
 ends_low w v t (Some s) (Some e) o legal low goes =
     let c = with_event w.core (event.End t e) in
-    let rose = mark_rises w.core.procs w.core.events (event.End t e) (legal_behind _ o (with_core w c) v legal goes) in
+    let rose = mark_rises w.core.procs w.core.events (event.End t e) (legal_behind _ o (with_core w c) v legal goes).0 in
     low_behind _ o (with_core w c) v (risen w c rose low) goes
 
 resends_low : (w v : Whole) (t : ℕ) (s : Option Standing) (o : Outcome) → AreMarksLow w → resends_by w t s ≡ Goes o v → AreMarksLow v
@@ -151,7 +151,7 @@ takes_low : (w v : Whole) (f : Flight) (x : Reply) (b : Bool) (o : Outcome) → 
 takes_low w v f x false o legal low goes = absurd (stopped _ o v goes)
 takes_low w v f x true o legal low goes =
     let e = event.Answer f.txn x.number x.said in
-    let rose = mark_rises w.core.procs w.core.events e (legal_behind _ o (with_core w (with_event w.core e)) v legal goes) in
+    let rose = mark_rises w.core.procs w.core.events e (legal_behind _ o (with_core w (with_event w.core e)) v legal goes).0 in
     low_behind _ o (with_core w (with_event w.core e)) v (risen w (with_event w.core e) rose low) goes
 
 takes_reply_low : (w v : Whole) (x : Option Reply) (o : Outcome) → LegalCore v.core → AreMarksLow w → takes_reply w x ≡ Goes o v → AreMarksLow v
@@ -171,7 +171,7 @@ pub stay_low : (w v : Whole) (x : Step) (o : Outcome) → LegalCore v.core → S
 stay_low w v (step.Admit call) o legal goes low =
     let e = event.Admit (admitted w.core.events + 1) call.proc call.args.items in
     let was : LegalCore (with_event w.core e) = subst (λ (y : Whole). LegalCore y.core) goes.next legal in
-    subst AreMarksLow (sym goes.next) (risen w (with_event w.core e) (mark_rises w.core.procs w.core.events e was) low)
+    subst AreMarksLow (sym goes.next) (risen w (with_event w.core e) (mark_rises w.core.procs w.core.events e was.0) low)
 stay_low w v (step.Ask t) o legal goes low = told_low w v t (after_ask w.core (ask_reply w.core t)) (ask_reply w.core t) o (ask_rises w.core (ask_reply w.core t)) legal low goes
 stay_low w v (step.Undo t) o legal goes low = told_low w v t (after_undo w.core (undo_reply w.core t)) (undo_reply w.core t) o (undo_rises w.core (undo_reply w.core t)) legal low goes
 stay_low w v (step.End t) o legal goes low = ends_low w v t (standing w.core.events t) (end_of w.core t) o legal low goes
@@ -189,8 +189,12 @@ fresh_low w fresh = record {
   dcs = λ k d inside. (let zero = fresh.marks k d inside in omega (arith, zero));
 }
 
+above_by : (n m : ℕ) (o : Option Flight) → ((f : Flight) → o ≡ Some f → m < n) → is_flight o ≡ true → m < n
+above_by n m None above is = absurd cc
+above_by n m (Some f) above is = above f refl
+
 pub open_above_marks : (w : Whole) → LegalCore w.core → AreMarksLow w → IsOpenAboveMarks w
 open_above_marks w legal low n is k d inside =
     let few = low.dcs k d inside in
-    let above = open_above w.core.procs w.core.events n legal is in
+    let above = above_by n (low_water w.core.events) (in_flight w.core.events n) (flight_above w.core.procs w.core.events legal n) is in
     omega (arith, few, above)
