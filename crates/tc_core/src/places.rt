@@ -2,7 +2,7 @@
 
 ghost use Rattle.std.specs.Prelude.{◌≡◌, ◌↔◌, IsTrue, ◌≢◌, ◌+◌, ◌-◌, ◌<◌, ◌≤◌, ℕ, Some, None, true, false, nat_eq, IfSome, IfNone};
 ghost use Rattle.slab.specs.Slab.{get, slab_len, Updates, ContainsKey};
-ghost use Rattle.transactions.specs.Standing.{sent_as};
+ghost use Rattle.tc_core.specs.Sends.{asking_under, undoing_under};
 ghost use Rattle.transactions.specs.Next.{next_by};
 ghost use Rattle.transactions.specs.Legal.{first_undo};
 ghost use Rattle.transactions.specs.Standing.{Standing, answered};
@@ -55,7 +55,7 @@ pub fn next_at(txns: &Slab<Tx>, key: usize) -> Next
 pub fn send_at(txns: &mut Slab<Tx>, key: usize, number: u64, op: Op)
     requires key { ContainsKey txns.old key }
     requires left { (tx : TxValue) → get txns.old key ≡ Some tx → 1 ≤ tx.left }
-    ensures updates { (tx : TxValue) → get txns.old key ≡ Some tx → Updates txns.old txns.new key (Some (record tx { sent = sent_as number op false; last = number; left = tx.left - 1; in_doubt = false })) }
+    ensures updates { (tx : TxValue) → get txns.old key ≡ Some tx → Updates txns.old txns.new key (Some (asking_under number op tx)) }
     ensures capacity { txns.new.capacity ≡ txns.old.capacity }
     ensures len { slab_len txns.new ≡ slab_len txns.old }
 {
@@ -141,7 +141,7 @@ pub fn send_undo_at(txns: &mut Slab<Tx>, key: usize, number: u64, op: Op)
     requires key { ContainsKey txns.old key }
     requires left { (tx : TxValue) → get txns.old key ≡ Some tx → 1 ≤ tx.left }
     requires tries { (tx : TxValue) → get txns.old key ≡ Some tx → tx.tries < 4 }
-    ensures updates { (tx : TxValue) → get txns.old key ≡ Some tx → Updates txns.old txns.new key (Some (record tx { sent = sent_as number op true; tries = tx.tries + 1; last = number; left = tx.left - 1; in_doubt = false })) }
+    ensures updates { (tx : TxValue) → get txns.old key ≡ Some tx → Updates txns.old txns.new key (Some (undoing_under number op tx)) }
     ensures capacity { txns.new.capacity ≡ txns.old.capacity }
     ensures len { slab_len txns.new ≡ slab_len txns.old }
 {

@@ -1,5 +1,5 @@
 use crate::procs::LoadRefusal;
-use crate::state::{Asked, Call, NotOver, Receipt, Refusal, TcState, TxnId};
+use crate::state::{Asked, Call, NotOver, Receipt, Refusal, Stranger, TcState, TxnId};
 use access_slots::decl::Decl;
 use access_slots::op::{Op, Reply, Said, Wire};
 use access_slots::slot::{Key, Mode, Record, Slot, Value};
@@ -99,8 +99,8 @@ fn carried(rt: &impl Abort, tc: &mut TcState, asked: Asked, wire: Wire, said: Sa
             };
             match tc.answer(request, reply) {
                 Ok(()) => {}
-                Err(stranger) => {
-                    tc.give_up(stranger.request);
+                Err(Stranger { request }) => {
+                    tc.give_up(request);
                     panic!(rt; "a stranger");
                 }
             }
@@ -146,23 +146,38 @@ fn put_five(rt: &impl Abort, tc: &mut TcState, txn: TxnId) {
     assert_eq!(rt; tc.end(txn), Ok(receipt));
 }
 
-// A put that commits; then a procedure that ends with 5, whose update is undone; what is ended is
+// A put that has committed, and then a call of the procedure with this number.
+fn admitted_behind_put(
+    rt: &impl Abort,
+    tc: &mut TcState,
+    alloc: Global,
+    proc: usize,
+) -> Result<TxnId, Fail> {
+    let put = tc.admit(&call(alloc, 0, &[5, 100])?)?;
+    put_five(rt, tc, put);
+    let txn = tc.admit(&call(alloc, proc, &[5])?)?;
+    assert_eq!(rt; txn.serial(), 2);
+    Ok(txn)
+}
+
+// Takes as much memory as the next test, which takes none behind the admission: where every request
+// for memory from one on is refused, both pass or neither.
+#[test]
+fn put_and_an_abort_admitted(rt: HostRuntime) -> Result<(), Fail> {
+    let mut tc = state(&rt, rt.alloc())?;
+    admitted_behind_put(&rt, &mut tc, rt.alloc(), 1)?;
+    Ok(())
+}
+
+// A put that commits; then a procedure that ends with 5, whose update is undone; what has ended is
 // unknown.
 #[test]
 fn put_and_an_abort_that_is_undone(rt: HostRuntime) -> Result<(), Fail> {
     let mut tc = state(&rt, rt.alloc())?;
-    let put = tc.admit(&call(rt.alloc(), 0, &[5, 100])?)?;
-    put_five(&rt, &mut tc, put);
-    let bad = tc.admit(&call(rt.alloc(), 1, &[5])?)?;
-    assert_eq!(rt; bad.serial(), 2);
+    let bad = admitted_behind_put(&rt, &mut tc, rt.alloc(), 1)?;
     let asked = tc.ask(bad);
-    carried(
-        &rt,
-        &mut tc,
-        asked,
-        wire(2, 1, Op::Read(record(5))),
-        Said::Value(value(100)),
-    );
+    let read = wire(2, 1, Op::Read(record(5)));
+    carried(&rt, &mut tc, asked, read, Said::Value(value(100)));
     let asked = tc.ask(bad);
     let update = wire(3, 2, Op::Update(record(5), value(7)));
     carried(&rt, &mut tc, asked, update, Said::Done(Some(value(100))));
@@ -185,26 +200,38 @@ fn put_and_an_abort_that_is_undone(rt: HostRuntime) -> Result<(), Fail> {
     Ok(())
 }
 
+// A delete behind a put, and another put beside it.
+fn deleted_beside_put(
+    rt: &impl Abort,
+    tc: &mut TcState,
+    alloc: Global,
+) -> Result<(TxnId, TxnId), Fail> {
+    let delete = admitted_behind_put(rt, tc, alloc, 2)?;
+    let put = tc.admit(&call(alloc, 0, &[6, 1])?)?;
+    Ok((delete, put))
+}
+
+// As much memory as the next test takes.
+#[test]
+fn a_delete_admitted(rt: HostRuntime) -> Result<(), Fail> {
+    let mut tc = state(&rt, rt.alloc())?;
+    let again = call(rt.alloc(), 0, &[5, 1])?;
+    deleted_beside_put(&rt, &mut tc, rt.alloc())?;
+    assert!(rt; !tc.blocked(&again));
+    Ok(())
+}
+
 // A delete that can't be undone, since the row's place was taken: four numbers, and then it is
 // stuck, and stands in the way of others.
 #[test]
 fn a_delete_that_is_stuck(rt: HostRuntime) -> Result<(), Fail> {
     let mut tc = state(&rt, rt.alloc())?;
-    let put = tc.admit(&call(rt.alloc(), 0, &[5, 100])?)?;
-    put_five(&rt, &mut tc, put);
-    let other = call(rt.alloc(), 0, &[6, 1])?;
     let again = call(rt.alloc(), 0, &[5, 1])?;
-    let drop = tc.admit(&call(rt.alloc(), 2, &[5])?)?;
-    let put = tc.admit(&other)?;
-    let asked = tc.ask(drop);
-    carried(
-        &rt,
-        &mut tc,
-        asked,
-        wire(2, 1, Op::Delete(record(5))),
-        Said::Done(Some(value(100))),
-    );
-    let asked = tc.ask(drop);
+    let (delete, put) = deleted_beside_put(&rt, &mut tc, rt.alloc())?;
+    let asked = tc.ask(delete);
+    let drop = wire(2, 1, Op::Delete(record(5)));
+    carried(&rt, &mut tc, asked, drop, Said::Done(Some(value(100))));
+    let asked = tc.ask(delete);
     assert_eq!(rt; word(&mut tc, asked), ("undoing", 0));
     let asked = tc.ask(put);
     let insert = wire(3, 2, Op::Insert(record(6), value(1)));
@@ -212,24 +239,22 @@ fn a_delete_that_is_stuck(rt: HostRuntime) -> Result<(), Fail> {
     let asked = tc.undo_next(put);
     assert_eq!(rt; word(&mut tc, asked), ("running", 0));
     assert!(rt; tc.end(put).is_ok());
-    assert!(rt; !tc.blocked(&again));
     for number in 4..8u64 {
-        let asked = tc.undo_next(drop);
+        let asked = tc.undo_next(delete);
         let insert = wire(number, number - 1, Op::Insert(record(5), value(100)));
         carried(&rt, &mut tc, asked, insert, Said::NoRoom);
     }
-    let asked = tc.undo_next(drop);
+    let asked = tc.undo_next(delete);
     assert_eq!(rt; word(&mut tc, asked), ("stuck", 7));
-    let asked = tc.ask(drop);
+    let asked = tc.ask(delete);
     assert_eq!(rt; word(&mut tc, asked), ("stuck", 7));
-    assert_eq!(rt; tc.end(drop), Err(NotOver));
+    assert_eq!(rt; tc.end(delete), Err(NotOver));
     let busy = Busy {
         name: record(5),
         holder: 2,
     };
     assert_eq!(rt; tc.admit(&again), Err(Refusal::Busy(busy)));
     assert!(rt; tc.blocked(&again));
-    assert!(rt; !tc.blocked(&other));
     assert_eq!(rt; tc.open_count(), 1);
     Ok(())
 }
@@ -275,7 +300,7 @@ fn refusals(rt: HostRuntime) -> Result<(), Fail> {
             };
             match tc.answer(request, reply) {
                 Ok(()) => panic!(rt; "a value for an insert"),
-                Err(stranger) => assert_eq!(rt; tc.give_up(stranger.request), 1),
+                Err(Stranger { request }) => assert_eq!(rt; tc.give_up(request), 1),
             }
         }
         asked => {

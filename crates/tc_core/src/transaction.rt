@@ -6,8 +6,9 @@ ghost use Rattle.access_slots.specs.declared.op.Said.{Said};
 ghost use Rattle.access_slots.specs.Access as Access;
 ghost use Rattle.access_slots.specs.Access.{is_no_room};
 ghost use Rattle.transactions.specs.Standing as Standings;
-ghost use Rattle.transactions.specs.Standing.{Standing, sent_as, rest_of, told_to, found_full, undo_done, tries_done, answered};
+ghost use Rattle.transactions.specs.Standing.{Standing, rest_of, told_to, found_full, undo_done, tries_done, answered};
 ghost use Rattle.tc_core.specs.Hearing.{MayHear};
+ghost use Rattle.tc_core.specs.Sends.{asking_under, undoing_under};
 ghost use Rattle.tc_core.specs.Kept.{Keeps};
 ghost use Rattle.semantics.specs.Reach.{AreArguments};
 ghost use Rattle.transactions.specs.Legal.{first_undo};
@@ -99,7 +100,7 @@ impl Tx {
     /// It waits for the answer to its question.
     pub fn send(&mut self, number: u64, op: Op)
         requires { 1 ≤ self.old.left }
-        ensures { self.new ≡ record self.old { sent = sent_as number op false; last = number; left = self.old.left - 1; in_doubt = false } }
+        ensures { self.new ≡ asking_under number op self.old }
     {
         self.sent = Some(Sent {
             number,
@@ -207,7 +208,7 @@ impl Tx {
     pub fn send_undo(&mut self, number: u64, op: Op)
         requires left { 1 ≤ self.old.left }
         requires tries { self.old.tries < 4 }
-        ensures { self.new ≡ record self.old { sent = sent_as number op true; tries = self.old.tries + 1; last = number; left = self.old.left - 1; in_doubt = false } }
+        ensures { self.new ≡ undoing_under number op self.old }
     {
         self.sent = Some(Sent {
             number,

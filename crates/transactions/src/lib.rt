@@ -1,5 +1,11 @@
 //! Which histories of a transaction component are legal, and what follows for all of them.
-//! Definitions are in `specs/`.
+//!
+//! The definitions are in `specs/`. `Standing` says where a transaction stands, as one function of
+//! the log; `Reached` where its procedure's run stands on its answers; `Next` what it does next, as
+//! one function, and [`Next`] is that answer as code sees it; `Legal` which event may come, by a
+//! record for each kind; `Room` what open transactions may still do; `Sending` what a log sends. The
+//! functions here do nothing: each is a law, told by its contract. A caller calls it where its proof
+//! needs the law, or cites the lemma that the attribute above it names.
 #![tactic(auto)]
 
 ghost use Rattle.std.specs.Prelude.{◌≡◌, ◌≢◌, ◌↔◌, ◌+◌, ◌*◌, ◌<◌, ◌≤◌, ◌++◌, [], ◌∷◌, ℕ, List, Some, true, false};
@@ -74,7 +80,7 @@ pub fn loading_keeps_legal()
 /// What a transaction waits for was sent behind its admission: where it was admitted at a place of
 /// the log, an Ask or an Undo of it with this number and operation stands at a later one.
 pub fn waiting_is_sent_behind()
-    ensures { (h : List Event) (place t p : ℕ) (args : List ℕ) (s : Standing) (r : SentValue) → StandsAt h place (Admit t p args) → standing h t ≡ Some s → s.sent ≡ Some r → IsSentBehind h place t r.number r.op }
+    ensures { (h : List Event) (k t p : ℕ) (xs : List ℕ) (s : Standing) (r : SentValue) → StandsAt h k (Admit t p xs) → standing h t ≡ Some s → s.sent ≡ Some r → IsSentBehind h k t r.number r.op }
 {}
 
 /// A transaction asks for an operation next exactly where the rule of the log allows the Ask.
