@@ -3,7 +3,7 @@
 ghost use Rattle.std.specs.Prelude.{◌≡◌, ◌<◌, ◌≤◌, length, slice_get};
 ghost use Rattle.std.specs.List.{prefix_len};
 ghost use Rattle.access_slots.specs.Adding.{added, locked_at, raised};
-ghost use Rattle.access_slots.specs.Locks.{record_eq, record_less, greater, target, is_read, conflict, mode_in, covered};
+ghost use Rattle.access_slots.specs.Locks.{record_eq, record_less, greater, mode_in, covered};
 
 use crate::op::Op;
 use crate::slot::{Mode, Record};
@@ -42,35 +42,6 @@ fn greater(a: Mode, b: Mode) -> Mode
         Mode::Read => b,
         Mode::Write => Mode::Write,
     }
-}
-
-impl Op {
-    ghost use Rattle.std.specs.Prelude.{◌≡◌};
-    ghost use Rattle.access_slots.specs.Locks.{target, is_read};
-
-    /// The record that it is for.
-    pub fn record(&self) -> &Record
-        ensures { result.now ≡ target self.now }
-    {
-        match self {
-            Op::Read(record) | Op::Delete(record) => record,
-            Op::Insert(record, _) | Op::Update(record, _) => record,
-        }
-    }
-
-    /// Whether it changes nothing.
-    pub fn is_read(&self) -> bool
-        ensures { result ≡ is_read self.now }
-    {
-        matches!(self, Op::Read(_))
-    }
-}
-
-/// Whether two operations are for one record, and at least one of them isn't Read.
-pub fn conflicts(a: &Op, b: &Op) -> bool
-    ensures { result ≡ conflict a.now b.now }
-{
-    a.record() == b.record() && !(a.is_read() && b.is_read())
 }
 
 // How many of the locks come before the record.

@@ -2,6 +2,7 @@
 
 ghost use Rattle.std.specs.Prelude.{◌≡◌};
 ghost use Rattle.access_slots.specs.Access.{fits};
+ghost use Rattle.access_slots.specs.Locks.{target, is_read, conflict};
 
 use crate::slot::{Record, Value};
 
@@ -59,4 +60,33 @@ pub fn fits(op: &Op, said: &Said) -> bool
         Op::Insert(..) => matches!(said, Said::Done(None) | Said::Duplicate | Said::NoRoom),
         Op::Update(..) | Op::Delete(_) => matches!(said, Said::Done(Some(_)) | Said::Missing),
     }
+}
+
+impl Op {
+    ghost use Rattle.std.specs.Prelude.{◌≡◌};
+    ghost use Rattle.access_slots.specs.Locks.{target, is_read};
+
+    /// The record that it is for.
+    pub fn record(&self) -> &Record
+        ensures { result.now ≡ target self.now }
+    {
+        match self {
+            Op::Read(record) | Op::Delete(record) => record,
+            Op::Insert(record, _) | Op::Update(record, _) => record,
+        }
+    }
+
+    /// Whether it changes nothing.
+    pub fn is_read(&self) -> bool
+        ensures { result ≡ is_read self.now }
+    {
+        matches!(self, Op::Read(_))
+    }
+}
+
+/// Whether two operations are for one record, and at least one of them isn't Read.
+pub fn conflicts(a: &Op, b: &Op) -> bool
+    ensures { result ≡ conflict a.now b.now }
+{
+    a.record() == b.record() && !(a.is_read() && b.is_read())
 }

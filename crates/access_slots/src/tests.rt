@@ -1,6 +1,6 @@
 use crate::decl::{Decl, DeclFault};
-use crate::lock::{Lock, conflicts};
-use crate::op::Op;
+use crate::lock::Lock;
+use crate::op::{Op, conflicts};
 use crate::slot::{Key, Mode, Record, Slot};
 use std::test::Fail;
 
