@@ -5,3 +5,4 @@ pub mod Resumed
 pub mod Filling
 pub mod Operating
 mod Stacked
+pub mod Answering
