@@ -6,3 +6,4 @@ pub mod Filling
 pub mod Operating
 mod Stacked
 pub mod Exchanging
+pub mod Answering

@@ -5,3 +5,4 @@ pub mod Gives
 pub mod Runs
 pub mod Asking
 pub mod Stepping
+pub mod Paused

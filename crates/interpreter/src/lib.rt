@@ -8,3 +8,5 @@ pub mod memory;
 pub mod pause;
 mod registers;
 mod state;
+#[cfg(test)]
+mod tests;
