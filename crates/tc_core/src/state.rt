@@ -300,6 +300,7 @@ impl TcState {
         ensures number { result ≡ request.number }
         ensures events { self.new.events ≡ self.old.events }
         ensures procs { self.new.procs ≡ self.old.procs }
+        ensures rest { self.new ≡ record self.old { given_up = self.new.given_up } }
         ensures open_here { IsOpenHere self.old request → self.new ≡ with_given_up self.old request.number }
         ensures elsewhere { (IsOpenHere self.old request → ⊥) → self.new ≡ self.old }
     {

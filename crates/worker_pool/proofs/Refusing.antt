@@ -17,7 +17,7 @@ use Rattle.transactions.specs.Standing.{Standing, standing}
 use Rattle.transactions.specs.Reached.{IsGood, AllGood, calls_by, calls_in, decls}
 use Rattle.transactions.specs.Room.{numbers_left, weighed, total_to, total}
 use Rattle.tc_core.specs.Core.{Core}
-use Rattle.tc_core.specs.Admission.{Takes, IsRefused, needed}
+use Rattle.tc_core.specs.Admission.{IsCalled, Takes, IsRefused, needed}
 use Rattle.tc_core.specs.declared.state.Refusal.{Refusal}
 use Rattle.tc_core.specs.declared.state.Refusal.TheVariants as refusal
 use Rattle.transactions.proofs.StandingLemmas.{eq-true, eq-false, some_same}
@@ -26,7 +26,7 @@ use Rattle.worker_pool.specs.Kept.{StaysBut}
 use Rattle.worker_pool.proofs.Placed.{stands_more, stands_here}
 
 takes_start : (start c : Core) (call : Call) → c.procs ≡ start.procs → Takes c call → Takes start call
-takes_start start c call same t = record { q = t.q; loaded = ap (λ (ps : List Checked). slice_get ps call.proc) (sym same) ∙ t.loaded; count = t.count }
+takes_start start c call same t = record { q = t.q; is = subst (λ (ps : List Checked). IsCalled ps call t.q) same t.is }
 
 -- ---- a holder was admitted
 
@@ -101,5 +101,5 @@ refused start c call (refusal.Busy b) stays good it =
     (subst (λ (ps : List Checked). excludes (locks_of (decls ps) call b.name) (held_for (decls ps) (open_call c.events b.holder) b.name) ≡ true) same it.1.stands)
 refused start c call refusal.NumbersSpent stays good it =
     let same : c.procs ≡ start.procs = ap (λ (s : Core). s.procs) stays in
-    (takes_start start c call same it.0, too_many c it.0.q good (good call.proc it.0.q it.0.loaded) it.2)
+    (takes_start start c call same it.0, too_many c it.0.q good (good call.proc it.0.q it.0.is.loaded) it.2)
 refused start c call refusal.Memory stays good it = takes_start start c call (ap (λ (s : Core). s.procs) stays) it.takes

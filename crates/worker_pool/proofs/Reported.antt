@@ -10,7 +10,8 @@ use Rattle.tc_core.specs.declared.state.TxnId.{TxnId}
 use Rattle.worker_pool.specs.declared.answer.Answer.{Answer}
 use Rattle.worker_pool.specs.declared.answer.Progress.{Progress}
 use Rattle.worker_pool.specs.declared.answer.Progress.TheVariants.{Waiting, Begun, Answered}
-use Rattle.worker_pool.specs.Answers.{call_of, place_of, has_place, AnswerFits}
+use Rattle.tc_core.specs.Admission.{call_of}
+use Rattle.worker_pool.specs.Answers.{place_of, has_place, AnswerFits}
 use Rattle.worker_pool.specs.Kept.{serial_of, txn_of, place_in, is_placed, Keeps}
 use Rattle.worker_pool.specs.Seen.{told_by, AreToldBy}
 use Rattle.worker_pool.specs.Reports.{Reports, Tells}
@@ -102,7 +103,7 @@ reported start calls state ps answers keeps legal told = record {
         keeps.own i j x.p y.p t x.at y.at x.is y.is;
     known = λ place t proc args low stands.
         let x = keeps.known place t proc args low stands in
-        record { k = x.k; own = map_at ps x.k x.progress x.at ∙ ap (λ (o : Option ℕ). Some o) x.own; c = x.c; of = x.of; same_proc = x.same_proc; same_args = x.same_args };
+        record { k = x.k; own = map_at ps x.k x.progress x.at ∙ ap (λ (o : Option ℕ). Some o) x.own; c = x.c; of = x.of; same = x.same };
     places = λ i j a b place at bt is js.
         let x = told_at ps answers i a told at in
         let y = told_at ps answers j b told bt in

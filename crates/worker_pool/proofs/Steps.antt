@@ -18,7 +18,7 @@ use Rattle.verifier.specs.Checked.{Checked}
 use Rattle.transactions.specs.Standing.{Standing, standing, moved}
 use Rattle.transactions.proofs.StandingLemmas.{standing-same, standing-other}
 use Rattle.tc_core.specs.Core.{Core, Asking}
-use Rattle.tc_core.specs.Admission.{Takes, IsAdmissible}
+use Rattle.tc_core.specs.Admission.{IsCalled, Takes, IsAdmissible}
 use Rattle.tc_core.specs.Replies.{with_event, after_ask, after_undo, after_answer, end_reply, after_end}
 use Rattle.tc_core.specs.declared.state.Receipt.{Receipt}
 use Rattle.tc_core.specs.declared.state.Stranger.{Stranger}
@@ -32,7 +32,8 @@ use Rattle.worker_pool.specs.declared.answer.Answer.{Answer}
 use Rattle.worker_pool.specs.declared.answer.Answer.TheVariants.{Committed, Aborted, NoRoom, InDoubt, Blocked, Refused}
 use Rattle.worker_pool.specs.declared.answer.Progress.{Progress}
 use Rattle.worker_pool.specs.declared.answer.Progress.TheVariants.{Waiting, Begun, Answered}
-use Rattle.worker_pool.specs.Answers.{call_of, place_of, has_place, is_some, answer_of, StandsBehind, IsAdmitted, Sends, IsEnded, IsInDoubt, IsBlocked, RefusalFits, AnswerFits}
+use Rattle.tc_core.specs.Admission.{call_of}
+use Rattle.worker_pool.specs.Answers.{place_of, has_place, is_some, answer_of, StandsBehind, IsAdmitted, Sends, IsEnded, IsInDoubt, IsBlocked, RefusalFits, AnswerFits}
 use Rattle.worker_pool.specs.Kept.{ends, serial_of, txn_of, place_in, is_placed, IsOpen, IsBegun, Fits, IsOfCall, StaysBut, Keeps}
 use Rattle.worker_pool.specs.Seen.{IsAnswered, AnswersStay}
 use Rattle.worker_pool.specs.Moves.{MovesOn}
@@ -133,7 +134,10 @@ owner_back ps k p p' at same i q t at' own =
     ]
 
 of_call : (calls : List Call) (ps qs : List Progress) (t proc : ℕ) (args : List ℕ) → (x : IsOfCall calls ps t proc args) → Owner qs x.k t → IsOfCall calls qs t proc args
-of_call calls ps qs t proc args x y = record { k = x.k; progress = y.progress; at = y.at; own = y.own; c = x.c; of = x.of; same_proc = x.same_proc; same_args = x.same_args }
+of_call calls ps qs t proc args x y = record { k = x.k; progress = y.progress; at = y.at; own = y.own; c = x.c; of = x.of; same = x.same }
+
+same_named : (c : named.Call) (proc : ℕ) (args : List ℕ) → c.proc ≡ proc → c.args ≡ args → c ≡ record { proc = proc; args = args }
+same_named c proc args pp aa = ap (λ (n : ℕ). record c { proc = n }) pp ∙ ap (λ (v : List ℕ). record c { proc = proc; args = v }) aa
 
 same_call : (calls : List Call) (k i : ℕ) (c d : Call) → slice_get calls k ≡ Some c → i ≡ k → slice_get calls i ≡ Some d → c ≡ d
 same_call calls k i c d of is of' = (let both : Some c ≡ Some d = sym of ∙ (ap (λ (n : ℕ). slice_get calls n) (sym is) ∙ of') in cc)
@@ -257,10 +261,8 @@ heard start calls old new ps r said (Ok x) ok err keeps = rw ok (answered start 
 heard start calls old new ps r said (Err s) ok err keeps = rw err keeps
 
 -- a number more is given up, or none
-pub gave_up : (start : Core) (calls : List Call) (old new : Core) (ps : List Progress) → new.events ≡ old.events → new.procs ≡ old.procs → Keeps start calls old ps → Keeps start calls new ps
-gave_up start calls old new ps events procs keeps =
-    let is : record old { given_up = new.given_up } ≡ new =
-    ap (λ (h : List Event). record new { procs = old.procs; events = h }) (sym events) ∙ ap (λ (v : List Checked). record new { procs = v }) (sym procs) in
+pub gave_up : (start : Core) (calls : List Call) (old new : Core) (ps : List Progress) → new ≡ record old { given_up = new.given_up } → Keeps start calls old ps → Keeps start calls new ps
+gave_up start calls old new ps rest keeps =
     let stays : StaysBut start (record old { given_up = new.given_up }) = ap (λ (s : Core). record s { events = old.events; given_up = new.given_up }) keeps.stays in
     let more : Keeps start calls (record old { given_up = new.given_up }) ps = record {
       stays = stays;
@@ -274,20 +276,20 @@ gave_up start calls old new ps events procs keeps =
       places = keeps.places;
       ends_placed = keeps.ends_placed;
     } in
-    subst (λ (s : Core). Keeps start calls s ps) is more
+    subst (λ (s : Core). Keeps start calls s ps) (sym rest) more
 
 -- a call is admitted
 pub admitted_one : (start : Core) (calls : List Call) (state : Core) (ps : List Progress) (k : ℕ) (t : TxnId) (c : Call)
     → Keeps start calls state ps → slice_get ps k ≡ Some Waiting → slice_get calls k ≡ Some c
     → Takes state (call_of c) → t.serial ≡ admitted state.events + 1
-    → Keeps start calls (with_event state (Admit t.serial c.proc c.args)) (set ps k (Begun t))
+    → Keeps start calls (with_event state (Admit t.serial c.proc c.args.items)) (set ps k (Begun t))
 admitted_one start calls state ps k t c keeps at of there is =
     let h = state.events in
-    let e : Event = Admit t.serial c.proc c.args in
+    let e : Event = Admit t.serial c.proc c.args.items in
     let p' : Progress = Begun t in
     let low : length start.events ≤ length h = begins_length start.events h keeps.begins in
     let same : state.procs ≡ start.procs = ap (λ (s : Core). s.procs) keeps.stays in
-    let takes : Takes start (call_of c) = record { q = there.q; loaded = ap (λ (v : _). slice_get v c.proc) (sym same) ∙ there.loaded; count = there.count } in
+    let takes : Takes start (call_of c) = record { q = there.q; is = subst (λ (v : List Checked). IsCalled v (call_of c) there.q) same there.is } in
     let new : IsBegun start (e ∷ h) (call_of c) t.serial = record {
       takes = takes;
       admitted = record { place = length h; at = record { behind = low; stands = stands_here h e } };
@@ -328,8 +330,8 @@ admitted_one start calls state ps k t c keeps at of there is =
         | inr x ↦
             let tu : t.serial ≡ u = cc in
             let pp : c.proc ≡ proc = cc in
-            let aa : c.args ≡ args = cc in
-            record { k = k; progress = p'; at = set_here ps k Waiting p' at; own = ap (λ (n : ℕ). Some n) tu; c = c; of = of; same_proc = pp; same_args = aa }
+            let aa : c.args.items ≡ args = cc in
+            record { k = k; progress = p'; at = set_here ps k Waiting p' at; own = ap (λ (n : ℕ). Some n) tu; c = c; of = of; same = same_named (call_of c) proc args pp aa }
       ];
       below = λ i q place at' has. elim (get_set ps k i p' q at') [
         | inl x ↦ absurd (no_place p' place refl (ap place_in x.1 ∙ has))

@@ -13,14 +13,10 @@ use Rattle.transactions.specs.Reached.{decls}
 use Rattle.lock_table.specs.declared.table.Busy.{Busy}
 use Rattle.tc_core.specs.Core.{Core}
 use Rattle.tc_core.specs.Admission.{Takes, IsRefused}
-use Rattle.tc_core.specs.declared.state.Call as state
 use Rattle.tc_core.specs.declared.state.Refusal.{Refusal}
 use Rattle.tc_core.specs.declared.state.Refusal.TheVariants as refusal
 use Rattle.worker_pool.specs.declared.answer.Answer.{Answer}
 use Rattle.worker_pool.specs.declared.answer.Answer.TheVariants.{Committed, Aborted, NoRoom, InDoubt, Blocked, Refused}
-
-abbrev pub call_of : state.Call → Call
-call_of c = record { proc = c.proc; args = c.args }
 
 -- ---- places
 

@@ -7,13 +7,13 @@ use Rattle.history.specs.Calls as named
 use Rattle.history.specs.Places.{StandsAt, Begins}
 use Rattle.transactions.specs.Standing.{Standing, standing}
 use Rattle.tc_core.specs.Core.{Core}
-use Rattle.tc_core.specs.Admission.{Takes}
+use Rattle.tc_core.specs.Admission.{call_of, Takes}
 use Rattle.tc_core.specs.declared.state.Call.{Call}
 use Rattle.tc_core.specs.declared.state.TxnId.{TxnId}
 use Rattle.worker_pool.specs.declared.answer.Answer.{Answer}
 use Rattle.worker_pool.specs.declared.answer.Progress.{Progress}
 use Rattle.worker_pool.specs.declared.answer.Progress.TheVariants.{Waiting, Begun, Answered}
-use Rattle.worker_pool.specs.Answers.{call_of, place_of, is_some, IsAdmitted, AnswerFits}
+use Rattle.worker_pool.specs.Answers.{place_of, is_some, IsAdmitted, AnswerFits}
 
 -- how many transactions ended
 abbrev pub ends : List Event → ℕ
@@ -67,8 +67,7 @@ pub record IsOfCall (calls : List Call) (ps : List Progress) (t proc : ℕ) (arg
   pub own : txn_of progress ≡ Some t
   pub c : Call
   pub of : slice_get calls k ≡ Some c
-  pub same_proc : c.proc ≡ proc
-  pub same_args : c.args ≡ args
+  pub same : call_of c ≡ record { proc = proc; args = args }
 
 -- nothing of the state changes but what happened and which numbers were given up
 abbrev pub StaysBut : Core → Core → Type 0

@@ -5,9 +5,10 @@ use Rattle.tc_log.specs.declared.event.Event.TheVariants.{Admit}
 use Rattle.history.specs.Places.{StandsAt, Begins}
 use Rattle.transactions.specs.Legal.{Legal}
 use Rattle.tc_core.specs.Core.{Core}
+use Rattle.tc_core.specs.Admission.{call_of}
 use Rattle.tc_core.specs.declared.state.Call.{Call}
 use Rattle.worker_pool.specs.declared.answer.Answer.{Answer}
-use Rattle.worker_pool.specs.Answers.{call_of, place_of, has_place, AnswerFits}
+use Rattle.worker_pool.specs.Answers.{place_of, has_place, AnswerFits}
 use Rattle.worker_pool.specs.Kept.{ends, StaysBut}
 
 -- the call in this place of the list was admitted as the transaction
@@ -16,8 +17,7 @@ pub record IsOfCall (calls : List Call) (txns : List (Option ℕ)) (t proc : ℕ
   pub own : slice_get txns k ≡ Some (Some t)
   pub c : Call
   pub of : slice_get calls k ≡ Some c
-  pub same_proc : c.proc ≡ proc
-  pub same_args : c.args ≡ args
+  pub same : call_of c ≡ record { proc = proc; args = args }
 
 -- what the answers say, in the order of the calls, with the transaction of each call that was admitted
 pub record Tells (start : Core) (calls : List Call) (h : List Event) (answers : List Answer) (txns : List (Option ℕ)) : Type 0 where

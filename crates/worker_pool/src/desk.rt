@@ -4,7 +4,8 @@ ghost use Rattle.std.specs.Prelude.{◌≡◌, ◌<◌, ◌≤◌, true, List, �
 ghost use Rattle.tc_core.specs.Core.{Core, Asking};
 ghost use Rattle.tc_core.specs.Replies.{ask_reply, after_ask, end_of};
 ghost use Rattle.tc_log.specs.declared.event.Outcome.{Outcome};
-ghost use Rattle.worker_pool.specs.Answers.{answer_of, call_of, AnswerFits, AdmitRefusalFits};
+ghost use Rattle.tc_core.specs.Admission.{call_of};
+ghost use Rattle.worker_pool.specs.Answers.{answer_of, AnswerFits, AdmitRefusalFits};
 ghost use Rattle.worker_pool.specs.Doubts.{IsDoubtful, IsGoing};
 ghost use Rattle.worker_pool.specs.Moves.{IsCarry};
 ghost use Rattle.worker_pool.specs.Seen.{IsAnswered, AreToldBy};
@@ -30,7 +31,7 @@ pub trait Naming {
 impl Naming for Brand {
     ghost use Rattle.std.specs.Prelude.{[]};
 
-    ghost start = { record { procs = []; events = []; given_up = [] } };
+    ghost start = { record { procs = []; names = []; dcs = 0; events = []; given_up = [] } };
 
     ghost calls = { [] };
 }
@@ -158,7 +159,7 @@ impl<J: Naming> Desk<J> {
         match self.admit(k, call) {
             Ok(()) => Next::Begun,
             Err(Refusal::Busy(busy)) => {
-                if !is_blocked(&self.state, call) {
+                if !self.state.blocked(call) {
                     return Next::Busy;
                 }
                 self.tell(k, call, Answer::Blocked(busy));
@@ -420,9 +421,4 @@ fn answer_for(receipt: Receipt) -> Answer
         Outcome::Aborted(value) => Answer::Aborted(value, receipt.place),
         Outcome::NoRoom => Answer::NoRoom(receipt.place),
     }
-}
-
-// TODO until the core has it
-fn is_blocked(state: &TcState, call: &Call) -> bool {
-    call.proc > 1000000 && state.open_count() > 0
 }

@@ -1,4 +1,24 @@
-//! Calls run by workers: any number of transactions at once over one transaction component.
+//! Calls run by workers: up to 64 at once over one transaction component.
+//!
+//! ```
+//! let link = LockedDcs::new(alloc, dcs)?;
+//! let report = match run(&rt, alloc, state, calls.as_slice(), 4, 3, &link, &OpenGate) {
+//!     Ok(report) => report,
+//!     Err(fault) => return again_with(fault.into_state()),
+//! };
+//! for answer in &report.answers {
+//!     if let Answer::Committed(place) = answer { .. }
+//! }
+//! ```
+//!
+//! Each call is run to its answer, one answer a call in the order of the calls. An answer says what
+//! stands in the log of the state that is handed back: an end of this call's transaction and how it
+//! ended, an operation that nothing more is known of, a transaction that holds a lock in the way, or
+//! why the call wasn't admitted. `specs/Reports.antt` has what is proved of a report.
+//!
+//! A [`Link`] of your own carries wires to data components elsewhere. It may lose, repeat, delay and
+//! change what it carries; the report stays true of the log. [`LockedDcs`] is the link to data
+//! components of this process. A [`Gate`] is told when a call is admitted and when it is answered.
 #![tactic(auto)]
 
 mod answer;
@@ -9,7 +29,7 @@ mod report;
 
 pub use answer::{Answer, Progress};
 pub use locked_dcs::LockedDcs;
-pub use pool::{Gate, Link, RunFault, run};
+pub use pool::{Gate, Link, OpenGate, RunFault, run};
 pub use report::Report;
 
 #[cfg(test)]

@@ -1,6 +1,7 @@
 // The link to data components of this process.
 
-ghost use Rattle.std.specs.Prelude.{◌≡◌, ◌≤◌, None, vec_len, IfOk, IfSome};
+ghost use Rattle.std.specs.Prelude.{◌≡◌, ◌<◌, ◌≤◌, ◌↔◌, None, vec_len, IfOk, IfSome, IsSome};
+ghost use Rattle.access_slots.specs.Locks.{target};
 
 use crate::pool::Link;
 use access_slots::op::{Reply, Wire};
@@ -35,7 +36,9 @@ impl LockedDcs {
     }
 
     /// The component with this number, if there is one, where no worker is at work.
-    pub fn get_mut(&mut self, dc: u16) -> Option<&mut Dc> {
+    pub fn get_mut(&mut self, dc: u16) -> Option<&mut Dc>
+        ensures { IsSome result ↔ (dc < vec_len self.old.dcs) }
+    {
         Some(self.dcs.get_mut(usize::from(dc))?.get_mut())
     }
 }
@@ -43,6 +46,7 @@ impl LockedDcs {
 impl Link for LockedDcs {
     /// What the wire's component replies; nothing where there is no such component.
     fn carry<R: Wait>(&self, rt: &R, _worker: usize, wire: &Wire) -> Option<Reply>
+        ensures absent { vec_len self.now.dcs ≤ (target wire.now.op).dc → result ≡ None }
         ensures number { IfSome result (λ reply. reply.number ≡ wire.now.number) }
     {
         let dc = self.dcs.get(usize::from(wire.op.record().dc))?;

@@ -36,17 +36,39 @@ pub trait Gate {
     fn answered(&self, call: usize);
 }
 
-/// Why no call was begun. Each hands the state back.
+/// A gate that does nothing.
+pub struct OpenGate;
+
+impl Gate for OpenGate {
+    fn begun(&self, _call: usize) {}
+
+    fn answered(&self, _call: usize) {}
+}
+
+/// Why no call was begun, in the order in which it is looked for. Each hands the state back, as it
+/// was handed in.
 #[derive(Drop)]
 pub enum RunFault {
-    /// The number of workers isn't 1 to 64.
+    /// G1: the number of workers isn't 1 to 64.
     Workers(TcState),
-    /// The number of tries isn't 1 to 1,000.
+    /// G2: the number of tries isn't 1 to 1,000.
     Tries(TcState),
-    /// There is no memory for the answers.
+    /// G3: there is no memory for the answers.
     Memory(TcState),
-    /// No worker could be started.
+    /// G4: no worker could be started.
     NoThread(TcState),
+}
+
+impl RunFault {
+    /// The state that was handed in.
+    pub fn into_state(self) -> TcState
+        ensures { result ≡ state_of self }
+    {
+        match self {
+            RunFault::Workers(state) | RunFault::Tries(state) => state,
+            RunFault::Memory(state) | RunFault::NoThread(state) => state,
+        }
+    }
 }
 
 // A worker's number, and what it calls without the lock.

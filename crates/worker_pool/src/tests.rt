@@ -1,4 +1,4 @@
-use crate::{Answer, Gate, Link, LockedDcs, Report, RunFault, run};
+use crate::{Answer, Gate, Link, LockedDcs, OpenGate, Report, RunFault, run};
 use access_slots::decl::Decl;
 use access_slots::op::{Reply, Wire};
 use access_slots::slot::{Key, Mode, Record, Slot, Value};
@@ -12,7 +12,7 @@ use std::test::Fail;
 use std::thread;
 use std::thread::Threads;
 use tc_core::state::{Call, Refusal, TcState};
-use tc_log::event::{Args, Event};
+use tc_log::event::Event;
 use verifier::verify::verify;
 
 const PUT: &str = "ldxdw r6, [r1+8]
@@ -90,6 +90,7 @@ fn arg(mode: Mode, number: u8) -> Slot {
 fn load(
     alloc: Global,
     state: &mut TcState,
+    name: &str,
     args: u8,
     slots: &[Slot],
     text: &str,
@@ -99,19 +100,22 @@ fn load(
     let Ok(code) = verify(alloc, code, decl) else {
         return Err(Fail::from("refused by the verifier"));
     };
-    state.load(code)?;
-    Ok(())
+    match state.load(name, code) {
+        Ok(_) => Ok(()),
+        Err(_) => Err(Fail::from("not loaded")),
+    }
 }
 
 // The state in which `put`, `get`, `bad` and `move` are loaded.
 fn state(alloc: Global) -> Result<TcState, Fail> {
-    let mut state = TcState::new(alloc);
-    load(alloc, &mut state, 2, &[arg(Mode::Write, 0)], PUT)?;
-    load(alloc, &mut state, 1, &[arg(Mode::Read, 0)], GET)?;
-    load(alloc, &mut state, 1, &[arg(Mode::Write, 0)], BAD)?;
+    let mut state = TcState::new(alloc, 1)?;
+    load(alloc, &mut state, "put", 2, &[arg(Mode::Write, 0)], PUT)?;
+    load(alloc, &mut state, "get", 1, &[arg(Mode::Read, 0)], GET)?;
+    load(alloc, &mut state, "bad", 1, &[arg(Mode::Write, 0)], BAD)?;
     load(
         alloc,
         &mut state,
+        "move",
         3,
         &[arg(Mode::Write, 0), arg(Mode::Write, 1)],
         MOVE,
@@ -126,7 +130,7 @@ fn link(alloc: Global, rows: usize) -> Result<LockedDcs, AllocError> {
 fn call(alloc: Global, proc: usize, args: &[u64]) -> Result<Call, AllocError> {
     Ok(Call {
         proc,
-        args: Args::copy_of(alloc, args)?,
+        args: Vec::from_slice(alloc, args)?,
     })
 }
 
@@ -145,14 +149,6 @@ fn value(number: u64) -> Value {
     value
 }
 
-struct Open;
-
-impl Gate for Open {
-    fn begun(&self, _call: usize) {}
-
-    fn answered(&self, _call: usize) {}
-}
-
 fn report(run: Result<Report, RunFault>) -> Result<Report, Fail> {
     match run {
         Ok(report) => Ok(report),
@@ -169,11 +165,11 @@ fn after_put<R: Threads + Wait + Sync>(
     workers: usize,
 ) -> Result<Report, Fail> {
     let first = [call(alloc, PUTS, &[5, 100])?];
-    let before = report(run(rt, alloc, state(alloc)?, &first, 1, 3, link, &Open))?;
+    let before = report(run(rt, alloc, state(alloc)?, &first, 1, 3, link, &OpenGate))?;
     if before.answers.as_slice() != [Answer::Committed(3)].as_slice() || before.ends() != 1 {
         return Err(Fail::from("put 5 100 isn't committed"));
     }
-    report(run(rt, alloc, before.state, calls, workers, 3, link, &Open))
+    report(run(rt, alloc, before.state, calls, workers, 3, link, &OpenGate))
 }
 
 fn value_at(link: &mut LockedDcs, key: u64) -> Option<Value> {
@@ -457,7 +453,7 @@ fn wires_are_the_logs(rt: HostRuntime) -> Result<(), Fail> {
         4,
         tries,
         &link,
-        &Open,
+        &OpenGate,
     ))?;
     let Records { dcs: _, wires } = link;
     let wires = wires.into_inner();
@@ -478,20 +474,30 @@ fn faults_hand_the_state_back(rt: HostRuntime) -> Result<(), Fail> {
     let alloc = rt.alloc();
     let link = link(alloc, 4)?;
     let calls = [call(alloc, PUTS, &[5, 1])?];
-    let Err(RunFault::Workers(state)) = run(&rt, alloc, state(alloc)?, &calls, 65, 0, &link, &Open)
-    else {
+    let Err(RunFault::Workers(state)) = run(
+        &rt,
+        alloc,
+        state(alloc)?,
+        &calls,
+        65,
+        0,
+        &link,
+        &OpenGate,
+    ) else {
         return Err(Fail::from("65 workers"));
     };
-    let Err(RunFault::Workers(state)) = run(&rt, alloc, state, &calls, 0, 3, &link, &Open) else {
+    let Err(RunFault::Workers(state)) = run(&rt, alloc, state, &calls, 0, 3, &link, &OpenGate)
+    else {
         return Err(Fail::from("no worker"));
     };
-    let Err(RunFault::Tries(state)) = run(&rt, alloc, state, &calls, 64, 1001, &link, &Open) else {
+    let Err(RunFault::Tries(state)) = run(&rt, alloc, state, &calls, 64, 1001, &link, &OpenGate)
+    else {
         return Err(Fail::from("1,001 tries"));
     };
-    let Err(RunFault::Tries(state)) = run(&rt, alloc, state, &calls, 1, 0, &link, &Open) else {
+    let Err(RunFault::Tries(state)) = run(&rt, alloc, state, &calls, 1, 0, &link, &OpenGate) else {
         return Err(Fail::from("no try"));
     };
-    let after = report(run(&rt, alloc, state, &calls, 64, 1000, &link, &Open))?;
+    let after = report(run(&rt, alloc, state, &calls, 64, 1000, &link, &OpenGate))?;
     assert_eq!(rt; after.answers.as_slice(), [Answer::Committed(3)].as_slice());
     Ok(())
 }

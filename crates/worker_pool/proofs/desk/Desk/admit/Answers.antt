@@ -1,6 +1,7 @@
 use Rattle.std.proofs.Common.{◌≡◌, ◌∙◌, ◌<◌, Some, None, slice_get, refl, ap, sym, subst, false, true, inl, inr}
 use Rattle.worker_pool.specs.Seen.{Seen}
-use Rattle.worker_pool.specs.Answers.{AdmitRefusalFits, call_of}
+use Rattle.tc_core.specs.Admission.{call_of}
+use Rattle.worker_pool.specs.Answers.{AdmitRefusalFits}
 use Rattle.worker_pool.specs.declared.answer.Progress.TheVariants.{Waiting, Begun}
 use Rattle.worker_pool.proofs.Steps.{admitted_one, answers_stay}
 use Rattle.worker_pool.proofs.Refusing.{refused}

@@ -5,4 +5,4 @@ use Rattle.worker_pool.proofs.desk.Desk.give_up.Goals as goal
 pub invariant_of-self : goal.invariant_of-self
 invariant_of-self g c =
     let e = c.give_up-number.ensures in
-    (gave_up g.J.Naming.start g.J.Naming.calls c.self.inside.state c.give_up-number.new.self c.self.inside.progress.items e.events e.procs c.self.invariant.0, λ bad. (cc))
+    (gave_up g.J.Naming.start g.J.Naming.calls c.self.inside.state c.give_up-number.new.self c.self.inside.progress.items e.rest c.self.invariant.0, λ bad. (cc))

@@ -1,6 +1,7 @@
 use Rattle.std.proofs.Common.{◌≡◌, ◌∙◌, ◌<◌, Some, None, slice_get, refl, ap, sym, subst, false, true, inl, inr}
 use Rattle.worker_pool.specs.Seen.{Seen}
-use Rattle.worker_pool.specs.Answers.{AnswerFits, call_of}
+use Rattle.tc_core.specs.Admission.{call_of}
+use Rattle.worker_pool.specs.Answers.{AnswerFits}
 use Rattle.worker_pool.specs.declared.answer.Progress.TheVariants.{Waiting, Answered}
 use Rattle.worker_pool.proofs.Steps.{told, answers_stay, now_answered}
 use Rattle.worker_pool.proofs.desk.Desk.tell.Goals as goal
