@@ -60,8 +60,8 @@ fn digit(value: u8) -> char
     char::from_digit(u32::from(value), 16).unwrap_or('0')
 }
 
-/// The byte's two digits.
-pub fn write_pair(text: &mut String, byte: u8) -> Result<(), AllocError>
+// The byte's two digits.
+fn write_pair(text: &mut String, byte: u8) -> Result<(), AllocError>
     ensures { OnOk result (string_bytes text.new ≡ string_bytes text.old ++ pair_text byte) }
 {
     text.push(digit(byte / 16))?;

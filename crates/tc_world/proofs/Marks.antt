@@ -1,17 +1,16 @@
 -- Each step keeps the marks at or under the history's.
-use Rattle.std.proofs.Common.{◌≡◌, ℕ, ◌+◌, ◌≤◌, ◌<◌, Bool, true, false, List, [], ◌∷◌, ◌++◌, length, Option, Some, None, arith, refl, sym, ◌∙◌, ap, subst, if◌then◌else◌}
-use Rattle.std.specs.Prelude.{slice_get, slice_set, slice_index_or, nat_le}
+use Rattle.std.proofs.Common.{◌≡◌, ℕ, ◌+◌, ◌≤◌, ◌<◌, Bool, true, false, List, Option, Some, None, arith, refl, sym, subst, if◌then◌else◌}
+use Rattle.std.specs.Prelude.{slice_get, slice_set, nat_le}
 use Rattle.std.specs.List.{All}
 use Rattle.std.proofs.lemmas.List.Elements.{All-push, All-set}
 use Rattle.access_slots.specs.Access.{fits}
 use Rattle.access_slots.specs.declared.op.Op.{Op}
 use Rattle.access_slots.specs.declared.op.Wire.{Wire}
 use Rattle.access_slots.specs.declared.op.Reply.{Reply}
-use Rattle.verifier.specs.Checked.{Checked}
 use Rattle.tc_log.specs.declared.event.Outcome.{Outcome as Ending}
 use Rattle.tc_log.specs.declared.event.Event.TheVariants as event
 use Rattle.history.specs.Calls.{admitted}
-use Rattle.history.specs.Flight.{Flight, in_flight, is_flight, low_water, is_open}
+use Rattle.history.specs.Flight.{Flight, in_flight, is_flight, low_water}
 use Rattle.transactions.specs.declared.Sent.{Sent}
 use Rattle.transactions.specs.Standing.{Standing, standing}
 use Rattle.transactions.specs.Legal.{Legal}
@@ -25,7 +24,7 @@ use Rattle.tc_core.specs.declared.state.Asked.TheVariants as reply
 use Rattle.tc_core.proofs.KeptLemmas.{slice_get-index, slice_get-short}
 use Rattle.tc_world.specs.Whole.{Whole}
 use Rattle.tc_world.specs.Marks.{AreMarksLow, IsFresh, IsOpenAboveMarks}
-use Rattle.tc_world.specs.Steps.{Goes, Stops, Steps, with_core, with_copy, with_reply, told, asks, undoes, ends_by, resends_sent, resends_by, dc_of, gets_reply, performs_at, performs_copy, performs, takes_fit, takes_by, takes_reply, restarts_at}
+use Rattle.tc_world.specs.Steps.{Goes, Stops, Steps, with_core, with_copy, with_reply, told, ends_by, resends_sent, resends_by, dc_of, gets_reply, performs_at, performs_copy, takes_fit, takes_by, takes_reply, restarts_at}
 use Rattle.tc_world.specs.declared.step.Step.{Step}
 use Rattle.tc_world.specs.declared.step.Step.TheVariants as step
 use Rattle.tc_world.specs.declared.step.Outcome.{Outcome}

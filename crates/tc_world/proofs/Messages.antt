@@ -1,5 +1,5 @@
 -- What requests and the log say of each other.
-use Rattle.std.proofs.Common.{◌≡◌, ◌≢◌, ℕ, ◌+◌, Bool, true, false, List, [], ◌∷◌, ◌++◌, length, Option, Some, None, arith, refl, sym, ◌∙◌, ap, subst}
+use Rattle.std.proofs.Common.{◌≡◌, ◌≢◌, ℕ, ◌+◌, Bool, true, List, [], ◌++◌, Option, Some, None, refl, sym, ◌∙◌, ap, subst}
 use Rattle.std.specs.Prelude.{slice_get, slice_index_or, IsSome}
 use Rattle.access_slots.specs.Access.{fits}
 use Rattle.access_slots.specs.declared.op.Op.{Op}
@@ -11,14 +11,13 @@ use Rattle.tc_log.specs.declared.event.Event.{Event}
 use Rattle.history.specs.Flight.{Flight, in_flight, given, low_water}
 use Rattle.transactions.specs.Legal.{Legal}
 use Rattle.transactions.specs.Standing.{Standing, standing}
-use Rattle.transactions.specs.declared.Sent.{Sent}
 use Rattle.transactions.specs.declared.Next.{Next}
 use Rattle.transactions.specs.declared.Next.TheVariants as next
-use Rattle.transactions.proofs.StandingLemmas.{some_same, none_some}
+use Rattle.transactions.proofs.StandingLemmas.{some_same}
 use Rattle.transactions.proofs.Flights.{standing_flight, flight}
-use Rattle.transactions.proofs.Headline.{Awaits, awaited}
+use Rattle.transactions.proofs.Headline.{awaited}
 use Rattle.tc_core.specs.Core.{Core, Asking}
-use Rattle.tc_core.specs.Replies.{next_at, asked_by, undo_by, undone, ask_reply, undo_reply, after_ask, after_undo, after_answer, with_event, IsAnswer}
+use Rattle.tc_core.specs.Replies.{next_at, asked_by, undo_by, ask_reply, undo_reply, after_ask, after_undo, after_answer, with_event, IsAnswer}
 use Rattle.tc_core.specs.Lent.{wire_of}
 use Rattle.tc_core.specs.declared.state.Asked.{Asked}
 use Rattle.tc_core.specs.declared.state.Asked.TheVariants.{Request, Undoing, Over, Stuck, Waits, Running, Unknown}
@@ -26,13 +25,13 @@ use Rattle.tc_core.proofs.ReplyLemmas.{next-unknown}
 use Rattle.tc_core.proofs.KeptLemmas.{slice_get-index}
 use Rattle.tc_log.specs.declared.event.Outcome.TheVariants as ending
 use Rattle.tc_world.specs.Whole.{Whole}
-use Rattle.tc_world.specs.Waiting.{asking, asking_by, request_of, AreWaiting}
+use Rattle.tc_world.specs.Waiting.{asking, asking_by, AreWaiting}
 use Rattle.tc_world.specs.Telling.{requests_of}
-use Rattle.tc_world.specs.Steps.{Fate, Goes, Stops, MayGo, asks, undoes, told, sends, resends, resends_by, resends_sent, takes_reply, takes_by, takes_fit, takes, with_core}
+use Rattle.tc_world.specs.Steps.{Goes, Stops, MayGo, asks, undoes, told, sends, resends, resends_by, resends_sent, takes_reply, takes_by, takes_fit, with_core}
 use Rattle.tc_world.specs.declared.step.Illegal.TheVariants as illegal
 use Rattle.tc_world.specs.declared.step.Outcome.TheVariants as outcome
 use Rattle.tc_log.specs.declared.event.Event.TheVariants.{Answer}
-use Rattle.tc_world.proofs.Requests.{none_if, none_of, found_at, is_there, IsThere, waiting_asked, waiting_undone}
+use Rattle.tc_world.proofs.Requests.{none_if, none_of, found_at, is_there, waiting_asked, waiting_undone}
 use Rattle.std.proofs.lemmas.List.{append-nil}
 
 -- ---- an open transaction

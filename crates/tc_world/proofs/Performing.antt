@@ -5,7 +5,7 @@ use Rattle.access_slots.specs.declared.op.Wire.{Wire}
 use Rattle.access_slots.specs.declared.op.Reply.{Reply}
 use Rattle.data_component.specs.Store.{Store, replied, performed}
 use Rattle.tc_world.specs.Whole.{Whole}
-use Rattle.tc_world.specs.Steps.{MayGo, Goes, dc_of, with_dcs, gets_reply, performs_at, performs_copy, performs}
+use Rattle.tc_world.specs.Steps.{MayGo, dc_of, with_dcs, gets_reply, performs_at, performs_copy, performs}
 
 record IsInside {X : Type 0} (xs : List X) (k : ℕ) : Type 0 where
   x : X

@@ -1,22 +1,19 @@
 -- The requests that a world keeps, from event to event.
-use Rattle.std.proofs.Common.{◌≡◌, ◌≢◌, ℕ, ◌+◌, ◌<◌, ◌≤◌, Bool, true, false, List, [], ◌∷◌, ◌++◌, length, take, drop, Option, Some, None, arith, refl, sym, ◌∙◌, ap, subst, zero, suc, inl, inr, ◌==◌, if◌then◌else◌}
+use Rattle.std.proofs.Common.{◌≡◌, ◌≢◌, ℕ, ◌+◌, ◌<◌, List, [], ◌∷◌, ◌++◌, Option, Some, None, arith, refl, sym, ◌∙◌, ap, zero, suc, inl, inr, ◌==◌, if◌then◌else◌}
 use Rattle.std.specs.Prelude.{slice_get, remove}
 use Rattle.std.proofs.lemmas.Bool.{cases_eq, cond-true, cond-false}
 use Rattle.access_slots.specs.declared.op.Said.{Said}
-use Rattle.access_slots.specs.declared.op.Op.{Op}
 use Rattle.verifier.specs.Checked.{Checked}
 use Rattle.tc_log.specs.declared.event.Event.{Event}
 use Rattle.tc_log.specs.declared.event.Event.TheVariants.{Ask, Answer, Undo}
 use Rattle.history.specs.Flight.{Flight, in_flight, given}
 use Rattle.transactions.specs.Legal.{Legal}
 use Rattle.transactions.specs.Room.{each_one, total}
-use Rattle.transactions.specs.Standing.{Standing, standing}
-use Rattle.transactions.specs.declared.Sent.{Sent}
 use Rattle.transactions.proofs.StandingLemmas.{eq-true, eq-false, some_same, none_some, total-part}
 use Rattle.transactions.proofs.Flights.{standing_flight, flight}
-use Rattle.transactions.proofs.Headline.{Awaits, awaited}
+use Rattle.transactions.proofs.Headline.{awaited}
 use Rattle.tc_core.specs.Core.{Asking}
-use Rattle.tc_world.specs.Waiting.{asking, asking_by, request_of, Distinct, AreWaiting}
+use Rattle.tc_world.specs.Waiting.{asking_by, request_of, Distinct, AreWaiting}
 
 pub none_if : {X : Type 0} (o : Option X) → ((x : X) → o ≡ Some x → ⊥) → o ≡ None
 none_if None h = refl

@@ -1,5 +1,5 @@
 -- Runs, one step more, and what holds behind each.
-use Rattle.std.proofs.Common.{◌≡◌, ◌≢◌, ℕ, true, false, List, [], ◌∷◌, ◌++◌, Option, Some, None, refl, sym, ◌∙◌, ap, subst, length, ◌<◌, arith, zero, suc}
+use Rattle.std.proofs.Common.{◌≡◌, ◌≢◌, ℕ, true, false, List, [], ◌∷◌, ◌++◌, Some, refl, sym, ap, subst, length, ◌<◌, arith, zero, suc}
 use Rattle.std.specs.Prelude.{slice_get, slice_index_or}
 use Rattle.access_slots.specs.Locks.{allows, target, is_read, conflict}
 use Rattle.history.specs.Calls.{held}

@@ -1,5 +1,5 @@
 -- The steps of a world: what each does, or why it isn't possible.
-use Rattle.std.specs.Prelude.{◌≡◌, ◌≢◌, ℕ, ◌+◌, take, Bool, true, false, if◌then◌else◌, List, [], ◌∷◌, ◌++◌, length, Option, Some, None, slice_get, slice_set}
+use Rattle.std.specs.Prelude.{◌≡◌, ◌≢◌, ℕ, ◌+◌, take, Bool, true, false, List, [], ◌∷◌, ◌++◌, length, Option, Some, None, slice_get, slice_set}
 use Rattle.access_slots.specs.Access.{fits}
 use Rattle.access_slots.specs.Locks.{target}
 use Rattle.access_slots.specs.declared.op.Wire.{Wire}
@@ -11,7 +11,7 @@ use Rattle.history.specs.Flight.{Flight, in_flight}
 use Rattle.transactions.specs.declared.Sent.{Sent}
 use Rattle.transactions.specs.Standing.{Standing, standing}
 use Rattle.data_component.specs.Store.{Store, replied, performed}
-use Rattle.tc_core.specs.Core.{Core, Asking}
+use Rattle.tc_core.specs.Core.{Core}
 use Rattle.tc_core.specs.Replies.{with_event, ask_reply, after_ask, undo_reply, after_undo, end_of}
 use Rattle.tc_core.specs.Lent.{wire_of}
 use Rattle.tc_core.specs.Admission.{call_of, IsAdmissible, IsRefused}

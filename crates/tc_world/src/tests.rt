@@ -3,9 +3,12 @@
 use crate::step::{Illegal, Outcome, Step};
 use crate::world::World;
 use access_slots::decl::Decl;
+use access_slots::op::{Reply, Said};
 use access_slots::slot::{Key, Mode, Record, Slot};
 use bpf_encoding::decode::decode;
 use data_component::dc::Dc;
+use std::alloc::Global;
+use std::process::Abort;
 use std::test::Fail;
 use tc_core::state::{Call, Receipt, TcState};
 use tc_log::event::Outcome as Ending;
@@ -23,8 +26,7 @@ const PUT: [u64; 7] = [
     0x0000_0000_0000_0095,
 ];
 
-fn put(rt: &HostRuntime) -> Result<Verified, Fail> {
-    let alloc = rt.alloc();
+fn put(rt: &impl Abort, alloc: Global) -> Result<Verified, Fail> {
     let mut bytes = Vec::new(alloc);
     for slot in PUT {
         bytes.extend_from_slice(&slot.to_le_bytes())?;
@@ -48,16 +50,15 @@ fn put(rt: &HostRuntime) -> Result<Verified, Fail> {
 }
 
 // A call of it.
-fn call(rt: &HostRuntime) -> Result<Call, Fail> {
-    let args = vec![in rt.alloc(); 5, 100]?;
+fn call(alloc: Global) -> Result<Call, Fail> {
+    let args = vec![in alloc; 5, 100]?;
     Ok(Call { proc: 0, args })
 }
 
 // One data component, and a transaction component that has the procedure.
-fn world(rt: &HostRuntime) -> Result<World, Fail> {
-    let alloc = rt.alloc();
+fn world(rt: &impl Abort, alloc: Global) -> Result<World, Fail> {
     let mut state = TcState::new(alloc, 1)?;
-    if state.load("put", put(rt)?).is_err() {
+    if state.load("put", put(rt, alloc)?).is_err() {
         panic!(rt; "not loaded");
     }
     let mut dcs = Vec::new(alloc);
@@ -68,9 +69,9 @@ fn world(rt: &HostRuntime) -> Result<World, Fail> {
 
 #[test]
 fn steps_of_a_transaction(rt: HostRuntime) -> Result<(), Fail> {
-    let mut world = world(&rt)?;
-    let admitted = world.step(&Step::Admit(call(&rt)?));
-    assert!(rt; matches!(admitted, Ok(Outcome::Admitted(1))));
+    let admit = Step::Admit(call(rt.alloc())?);
+    let mut world = world(&rt, rt.alloc())?;
+    assert!(rt; matches!(world.step(&admit), Ok(Outcome::Admitted(1))));
     assert!(rt; matches!(world.step(&Step::Ask(1)), Ok(Outcome::Sent(0, _))));
     assert!(rt; matches!(world.step(&Step::Ask(1)), Err(Illegal::Waits(1))));
     assert!(rt; matches!(world.step(&Step::Resend(1)), Ok(Outcome::Sent(1, _))));
@@ -85,35 +86,46 @@ fn steps_of_a_transaction(rt: HostRuntime) -> Result<(), Fail> {
         outcome: Ending::Committed,
     };
     assert_eq!(rt; world.step(&Step::End(1)), Ok(Outcome::Ended(receipt)));
+    let (_state, _dcs) = world.close();
     Ok(())
 }
 
 #[test]
 fn all_steps_at_once(rt: HostRuntime) -> Result<(), Fail> {
-    let mut world = world(&rt)?;
     let steps = [
-        Step::Admit(call(&rt)?),
+        Step::Admit(call(rt.alloc())?),
         Step::Ask(1),
         Step::Perform(0),
         Step::Take(0),
         Step::End(1),
     ];
+    let reply = Reply {
+        number: 1,
+        said: Said::Absent,
+    };
+    let mut world = world(&rt, rt.alloc())?;
     assert_eq!(rt; world.run(&steps), Ok(()));
     assert_eq!(rt; world.state().open_count(), 0);
     for dc in world.dcs() {
         assert_eq!(rt; dc.rows().len(), 1);
     }
-    assert_eq!(rt; world.run(&steps[1..]), Err((0, Illegal::NoTxn)));
+    assert_eq!(rt;
+        world.run(&[Step::Forge(reply), Step::Ask(1)]),
+        Err((1, Illegal::NoTxn))
+    );
+    let (_state, _dcs) = world.close();
     Ok(())
 }
 
 #[test]
 fn open_requests_are_given_up(rt: HostRuntime) -> Result<(), Fail> {
-    let mut world = world(&rt)?;
-    assert_eq!(rt; world.run(&[Step::Admit(call(&rt)?), Step::Ask(1)]), Ok(()));
-    assert!(rt; !world.state().blocked(&call(&rt)?));
+    let other = call(rt.alloc())?;
+    let steps = [Step::Admit(call(rt.alloc())?), Step::Ask(1)];
+    let mut world = world(&rt, rt.alloc())?;
+    assert_eq!(rt; world.run(&steps), Ok(()));
+    assert!(rt; !world.state().blocked(&other));
     let (state, dcs) = world.close();
     assert_eq!(rt; dcs.len(), 1);
-    assert!(rt; state.blocked(&call(&rt)?));
+    assert!(rt; state.blocked(&other));
     Ok(())
 }

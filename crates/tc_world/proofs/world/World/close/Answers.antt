@@ -1,5 +1,4 @@
-use Rattle.std.proofs.Common.{◌≡◌, sym, ◌∙◌, ap, arith}
-use Rattle.tc_core.specs.Core.{Core}
+use Rattle.std.proofs.Common.{sym, ◌∙◌, ap}
 use Rattle.tc_world.specs.Whole.{Whole}
 use Rattle.tc_world.proofs.Closing.{none_yet, one_more, all_given_up}
 use Rattle.tc_world.proofs.world.World.close.Goals as goal

@@ -1,10 +1,9 @@
-use Rattle.std.proofs.Common.{◌≡◌, ◌<◌, ◌++◌, ◌∷◌, [], List, length, Some, Option, arith, sym, ◌∙◌, ap, subst}
-use Rattle.std.specs.Prelude.{slice_get, IfErr}
+use Rattle.std.proofs.Common.{◌≡◌, ◌<◌, ◌++◌, ◌∷◌, [], List, length, Some, arith, sym, ◌∙◌, ap, subst}
+use Rattle.std.specs.Prelude.{slice_get}
 use Rattle.std.proofs.lemmas.Result.{err_from_is_err_and}
 use Rattle.access_slots.specs.declared.op.Wire.{Wire}
 use Rattle.access_slots.specs.declared.op.Reply.{Reply}
 use Rattle.access_slots.specs.declared.slot.Record.{Record}
-use Rattle.data_component.specs.Store.{Store}
 use Rattle.tc_world.specs.Whole.{Whole}
 use Rattle.tc_world.specs.Steps.{MayGo, Goes, dc_of, with_dcs, gets_reply, performs}
 use Rattle.tc_world.specs.declared.step.Outcome.TheVariants as outcome

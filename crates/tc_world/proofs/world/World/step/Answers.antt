@@ -1,4 +1,4 @@
-use Rattle.std.proofs.Common.{◌≡◌, ap}
+use Rattle.std.proofs.Common.{ap}
 use Rattle.tc_world.specs.Whole.{Whole}
 use Rattle.tc_world.proofs.Running.{is_legal}
 use Rattle.tc_world.proofs.Marks.{stay_low}
