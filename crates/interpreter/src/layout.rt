@@ -10,7 +10,9 @@ use std::marker::Model;
 
 // The lengths of the regions.
 const STACK: u64 = STACK_BYTES as u64;
+
 const ARGUMENTS: u64 = ARGUMENTS_BYTES as u64;
+
 const BUFFER: u64 = BUFFER_BYTES as u64;
 
 /// Regions end here at most.
@@ -93,7 +95,9 @@ impl Layout {
     pub fn new(stack: u64, args: u64, buffers: [u64; 16]) -> Option<Layout>
         ensures { result ≡ (if is_layout (record { stack = stack; arguments = args; buffers = buffers }) then Some (record { stack = stack; arguments = args; buffers = buffers }) else None) }
     {
-        let stands = is_in_reach(stack, STACK) && is_in_reach(args, ARGUMENTS) && all_in_reach(&buffers);
+        let stands = is_in_reach(stack, STACK)
+            && is_in_reach(args, ARGUMENTS)
+            && all_in_reach(&buffers);
         let apart = is_apart((stack, STACK), (args, ARGUMENTS))
             && all_apart((stack, STACK), &buffers)
             && all_apart((args, ARGUMENTS), &buffers)

@@ -7,8 +7,8 @@ ghost use Rattle.bpf_encoding.specs.Spells.{IsCode};
 ghost use Rattle.verifier.specs.Calls.{is_call_place};
 ghost use Rattle.verifier.specs.Verdict.{verdict, first_flaw, first_violation, IsVerdict};
 
-use crate::flat::FlatCode;
 use crate::first_pass::first_flaw;
+use crate::flat::FlatCode;
 use crate::second_pass::first_violation;
 use access_slots::decl::Decl;
 use bpf_encoding::code::Code;
