@@ -1,11 +1,17 @@
 -- A fault is always among what a run may give.
 use Rattle.std.proofs.Common.{arith, ◌≡◌, ℕ, Bool, List, Option, Some, None, [], map, option_map, unwrap_or, refl, inl, inr, true, false, codes, ◌||◌, ◌∙◌, ap₂}
-use Rattle.std.specs.Prelude.{IfSome, Result, Ok, Err, ◌≤◌}
+use Rattle.std.specs.Prelude.{IfSome, Result, Ok, Err, ◌≤◌, if◌then◌else◌}
 use Rattle.std.specs.Borrow.{Bor}
 use Rattle.procd.specs.Said.{IsFlag, Runs, RunsInput}
 use Rattle.procd.specs.Execution.{status_of}
 use Rattle.procd.specs.Hex.{Hex, hex_of}
 use Rattle.procd.specs.Task.{Wish, Exec, Asm, Dis, Verify}
+use Rattle.std.specs.List.{list_any}
+use Rattle.scripts.specs.Reading.{Reading, script_said}
+use Rattle.scripts.specs.declared.keyword.Command.TheVariants as command
+use Rattle.scripts.specs.declared.reading.Fault.{Fault}
+use Rattle.scripts.specs.declared.script.Procedure.{Procedure}
+use Rattle.procd.specs.Verification.{is_refused, status_by_fault, status_of_reading}
 use Rattle.procd.specs.Report.{IsReport, IsAssembly, IsDisassembly, IsDisassemblyOf, IsHexDisassembly}
 use Rattle.bpf_asm.specs.Lines.{assembled}
 use Rattle.bpf_asm.specs.declared.assemble.AsmFault.{AsmFault}
@@ -72,11 +78,18 @@ disassembly_low : (raw : Bool) (text : List ℕ) (status : ℕ) (lines : List �
 disassembly_low true text status lines h = disassembly_of_low (fault_in text) text status lines h
 disassembly_low false text status lines h = hex_low (hex_of text) status lines h
 
+fault_low : (fault : Option Fault) (procedures : List Procedure) → status_by_fault fault procedures ≤ 1
+fault_low (Some fault) procedures = omega arith
+fault_low None procedures = elim (list_any is_refused procedures) as (λ b. (if b then 1 else 0) ≤ 1) [ true ↦ omega arith | false ↦ omega arith ]
+
+reading_low : (r : Reading) → status_of_reading r ≤ 1
+reading_low r = fault_low r.fault r.contents.procedures
+
 report_low : (wish : Wish) (text : List ℕ) (status : ℕ) (lines : List ℕ) → IsReport wish text status lines → status ≤ 1
 report_low (Exec raw numbers) text status lines h = omega (arith, h.2, execution_low h.0)
 report_low Asm text status lines h = assembly_low (assembled text) status lines h
 report_low (Dis raw) text status lines h = disassembly_low raw text status lines h
-report_low Verify text status lines h = h
+report_low Verify text status lines h = omega (arith, h.0, reading_low (script_said command.Verify text))
 
 not_three : (result : ℕ) → result ≡ 3 → result ≡ 2 → ⊥
 not_three result three two = omega (arith, three, two)

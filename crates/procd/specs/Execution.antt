@@ -4,13 +4,10 @@ use Rattle.access_slots.specs.Declaration.{Declaration}
 use Rattle.bpf_encoding.specs.Named.{code_named}
 use Rattle.bpf_encoding.specs.Spells.{fault_in}
 use Rattle.bpf_encoding.specs.declared.decode.DecodeFault.{DecodeFault}
-use Rattle.bpf_encoding.specs.declared.decode.DecodeFault.TheVariants as decode
-use Rattle.bpf_encoding.specs.declared.slot.Outside.{Outside}
-use Rattle.bpf_encoding.specs.declared.slot.Outside.TheVariants.{Packet, WideSubtype, LocalCall, BtfCall}
 use Rattle.semantics.specs.Row.{outcome_of}
 use Rattle.register_kinds.specs.declared.kind.Violation.{Violation}
-use Rattle.register_kinds.specs.declared.kind.Violation.TheVariants.{Backward, OutOfCode, IntoWide, FallsOff, EmptyRegister, WritesR10, NotAPointer, OutOfBounds, ReadOnly, MaybeNull, UnknownHelper, SlotUnknown, ModeTooWeak, PointerReturned}
 use Rattle.verifier.specs.Verdict.{verdict}
+use Rattle.procd.specs.FaultNames.{fault_name, violation_name}
 use Rattle.procd.specs.Hex.{Hex, hex_of}
 use Rattle.procd.specs.declared.execute.Execution.{Execution}
 use Rattle.procd.specs.declared.execute.Execution.TheVariants.{Answer, NotHex, Code, TooManyArgs, Refused}
@@ -52,38 +49,6 @@ text_execution true text args = execution_of text args
 text_execution false text args = hex_execution (hex_of text) args
 
 -- ---- lines
-
-abbrev pub outside_name : Outside → List ℕ
-outside_name Packet = codes "Packet"
-outside_name WideSubtype = codes "WideSubtype"
-outside_name LocalCall = codes "LocalCall"
-outside_name BtfCall = codes "BtfCall"
-
-abbrev pub fault_name : DecodeFault → List ℕ
-fault_name decode.NoCode = codes "E1 NoCode"
-fault_name decode.Length = codes "E2 Length"
-fault_name decode.TooLong = codes "E3 TooLong"
-fault_name (decode.WideCut slot) = codes "E4 WideCut slot " ++ decimal slot
-fault_name (decode.UnusedField slot) = codes "E5 UnusedField slot " ++ decimal slot
-fault_name (decode.Undefined slot) = codes "E6 Undefined slot " ++ decimal slot
-fault_name (decode.OutsideProfile slot which) = ((codes "E7 OutsideProfile slot " ++ decimal slot) ++ codes " ") ++ outside_name which
-fault_name decode.Memory = codes "E8 Memory"
-
-abbrev pub violation_name : Violation → List ℕ
-violation_name Backward = codes "V1 Backward"
-violation_name OutOfCode = codes "V2 OutOfCode"
-violation_name IntoWide = codes "V3 IntoWide"
-violation_name FallsOff = codes "V4 FallsOff"
-violation_name EmptyRegister = codes "V5 EmptyRegister"
-violation_name WritesR10 = codes "V6 WritesR10"
-violation_name NotAPointer = codes "V7 NotAPointer"
-violation_name OutOfBounds = codes "V8 OutOfBounds"
-violation_name ReadOnly = codes "V9 ReadOnly"
-violation_name MaybeNull = codes "V10 MaybeNull"
-violation_name UnknownHelper = codes "V11 UnknownHelper"
-violation_name SlotUnknown = codes "V12 SlotUnknown"
-violation_name ModeTooWeak = codes "V13 ModeTooWeak"
-violation_name PointerReturned = codes "V14 PointerReturned"
 
 abbrev pub answer_lines : ℕ → ℕ → List ℕ
 answer_lines value executed = ((codes "answer " ++ decimal value) ++ codes "\n") ++ ((codes "executed " ++ decimal executed) ++ codes "\n")

@@ -1,5 +1,6 @@
 -- Hex text: pairs of digits, with blanks between pairs.
-use Rattle.std.specs.Prelude.{◌≡◌, ℕ, suc, ◌+◌, ◌-◌, ◌*◌, Bool, ◌&&◌, ◌||◌, ◌==◌, nat_le, if◌then◌else◌, List, [], ◌∷◌, ◌++◌, Option, Some, None, Result, Ok, Err}
+use Rattle.std.specs.Prelude.{◌≡◌, ℕ, suc, ◌+◌, ◌-◌, ◌*◌, ◌/◌, ◌%◌, Bool, ◌&&◌, ◌||◌, ◌==◌, nat_le, if◌then◌else◌, List, [], ◌∷◌, ◌++◌, Option, Some, None, Result, Ok, Err}
+use Rattle.std.specs.Char.{digit_char}
 use Rattle.std.specs.Global.{Vec}
 use Rattle.procd.specs.declared.hex.HexFault.{HexFault}
 use Rattle.procd.specs.declared.hex.HexFault.TheVariants.{NotHex, Memory}
@@ -58,3 +59,19 @@ IsRead h (Err Memory) = Unit {0}
 abbrev pub said_before : List ℕ → Hex → Hex
 said_before before (Ok bytes) = Ok (before ++ bytes)
 said_before before (Err at) = Err at
+
+-- ---- written
+
+-- two digits a byte, and behind each pair a space, or LF where a slot ends
+abbrev pub pair_text : ℕ → List ℕ
+pair_text b = digit_char (b / 16) ∷ digit_char (b % 16) ∷ []
+
+abbrev pub separator_at : ℕ → ℕ
+separator_at at = if at % 8 == 7 then 10 else 32
+
+abbrev pub hex_text_from : ℕ → List ℕ → List ℕ
+hex_text_from at [] = []
+hex_text_from at (b ∷ bytes) = (pair_text b ++ separator_at at ∷ []) ++ hex_text_from (at + 1) bytes
+
+abbrev pub hex_lines : List ℕ → List ℕ
+hex_lines bytes = hex_text_from 0 bytes

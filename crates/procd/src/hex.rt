@@ -1,9 +1,10 @@
-//! Hex text: pairs of digits with blanks between them.
+//! Hex text, read and written: pairs of digits with blanks between them.
 
-ghost use Rattle.std.specs.Prelude.{◌≡◌, ◌<◌, IfSome};
-ghost use Rattle.procd.specs.Hex.{digit_of, is_blank, pair_of, hex_of, IsRead};
+ghost use Rattle.std.specs.Prelude.{◌≡◌, ◌<◌, ◌++◌, Ok, IfOk, IfSome, OnOk, string_bytes};
+ghost use Rattle.std.specs.Char.{digit_char};
+ghost use Rattle.procd.specs.Hex.{digit_of, is_blank, pair_of, hex_of, IsRead, pair_text, hex_lines};
 
-use std::alloc::{AllocFailed, Global};
+use std::alloc::{AllocError, AllocFailed, Global};
 
 /// Why a text is no hex text.
 #[derive(Clone, Copy, Debug, PartialEq, Eq)]
@@ -74,4 +75,31 @@ pub fn bytes_of(alloc: Global, text: &[u8]) -> Result<Vec<u8>, HexFault>
         at += 2;
     }
     Ok(bytes)
+}
+
+fn digit_text(value: u8) -> char
+    requires { value < 16 }
+    ensures { result ≡ digit_char value }
+{
+    char::from_digit(u32::from(value), 16).unwrap_or('0')
+}
+
+// The byte's two digits.
+fn write_pair(text: &mut String, byte: u8) -> Result<(), AllocError>
+    ensures { OnOk result (string_bytes text.new ≡ string_bytes text.old ++ pair_text byte) }
+{
+    text.push(digit_text(byte / 16))?;
+    text.push(digit_text(byte % 16))
+}
+
+/// The bytes in hex, eight a line: a space behind each pair, LF behind the eighth.
+pub fn hex_lines(alloc: Global, bytes: &[u8]) -> Result<String, AllocError>
+    ensures { IfOk result (λ s. string_bytes s ≡ hex_lines bytes.now) }
+{
+    let mut text = String::new(alloc);
+    'bytes: for at in 0..bytes.len() {
+        write_pair(&mut text, bytes[at])?;
+        text.push(if at % 8 == 7 { '\n' } else { ' ' })?;
+    }
+    Ok(text)
 }

@@ -3,12 +3,12 @@
 
 mod assembly;
 mod execute;
+mod fault_names;
 mod hex;
 mod lines;
 mod program;
 mod reading;
 mod report;
-mod script;
 mod verification;
 mod words;
 

@@ -4,11 +4,16 @@ use std::test::Fail;
 const VERIFY: [&str; 3] = ["procd", "verify", "-"];
 
 // Scripts, what is printed for their procedures, and the status.
-const VERIFIED: [(&str, &str, u8); 10] = [
+const VERIFIED: [(&str, &str, u8); 11] = [
     (
-        "dc 4 100\nproc put 2\nslot write 0 0 $0\n  ldxdw r6, [r1+8]\n  mov r1, 0\n  call 5\n  stxdw [r0+0], r6\n  mov r1, 0\n  call 2\n  exit\nend\nproc get 1\nslot read 0 0 $0\n  mov r1, 0\n  call 1\n  jeq r0, 0, +2\n  mov r0, 0\n  exit\n  mov r0, 1\n  exit\nend\nproc move 3\nslot write 0 0 $0\nslot write 0 0 $1\n  ldxdw r6, [r1+16]\n  mov r1, 0\n  call 1\n  jeq r0, 0, +16\n  mov r7, r0\n  mov r1, 1\n  call 1\n  jeq r0, 0, +12\n  mov r8, r0\n  ldxdw r2, [r7+0]\n  sub r2, r6\n  stxdw [r7+0], r2\n  ldxdw r2, [r8+0]\n  add r2, r6\n  stxdw [r8+0], r2\n  mov r1, 0\n  call 3\n  mov r1, 1\n  call 3\n  exit\n  mov r0, 1\n  exit\nend\n",
-        "put accepted 7\nget accepted 7\nmove accepted 22\n",
+        "dc 4 100\nproc put 2\nslot write 0 0 $0\n  ldxdw r6, [r1+8]\n  mov r1, 0\n  call 5\n  stxdw [r0+0], r6\n  mov r1, 0\n  call 2\n  exit\nend\nproc get 1\nslot read 0 0 $0\n  mov r1, 0\n  call 1\n  jeq r0, 0, +2\n  mov r0, 0\n  exit\n  mov r0, 1\n  exit\nend\nproc bad 1\nslot write 0 0 $0\n  mov r1, 0\n  call 1\n  jeq r0, 0, +5\n  stdw [r0+0], 7\n  mov r1, 0\n  call 3\n  mov r0, 5\n  exit\n  mov r0, 1\n  exit\nend\nproc move 3\nslot write 0 0 $0\nslot write 0 0 $1\n  ldxdw r6, [r1+16]\n  mov r1, 0\n  call 1\n  jeq r0, 0, +16\n  mov r7, r0\n  mov r1, 1\n  call 1\n  jeq r0, 0, +12\n  mov r8, r0\n  ldxdw r2, [r7+0]\n  sub r2, r6\n  stxdw [r7+0], r2\n  ldxdw r2, [r8+0]\n  add r2, r6\n  stxdw [r8+0], r2\n  mov r1, 0\n  call 3\n  mov r1, 1\n  call 3\n  exit\n  mov r0, 1\n  exit\nend\n",
+        "put accepted 7\nget accepted 7\nbad accepted 10\nmove accepted 22\n",
         0,
+    ),
+    (
+        "dc 4 100\nproc put 2\nslot write 0 0 $0\n  ldxdw r6, [r1+16]\n  mov r1, 0\n  call 5\n  stxdw [r0+0], r6\n  mov r1, 0\n  call 2\n  exit\nend\nproc get 1\nslot read 0 0 $0\n  mov r1, 0\n  call 1\n  jeq r0, 0, +2\n  mov r0, 0\n  exit\n  mov r0, 1\n  exit\nend\nproc bad 1\nslot write 0 0 $0\n  mov r1, 0\n  call 1\n  jeq r0, 0, +5\n  stdw [r0+0], 7\n  mov r1, 0\n  call 3\n  mov r0, 5\n  exit\n  mov r0, 1\n  exit\nend\nproc move 3\nslot write 0 0 $0\nslot write 0 0 $1\n  ldxdw r6, [r1+16]\n  mov r1, 0\n  call 1\n  jeq r0, 0, +16\n  mov r7, r0\n  mov r1, 1\n  call 1\n  jeq r0, 0, +12\n  mov r8, r0\n  ldxdw r2, [r7+0]\n  sub r2, r6\n  stxdw [r7+0], r2\n  ldxdw r2, [r8+0]\n  add r2, r6\n  stxdw [r8+0], r2\n  mov r1, 0\n  call 3\n  mov r1, 1\n  call 3\n  exit\n  mov r0, 1\n  exit\nend\n",
+        "put V8 OutOfBounds slot 0\nget accepted 7\nbad accepted 10\nmove accepted 22\n",
+        1,
     ),
     (
         "dc 1 1\nproc a 1\nslot read 0 0 0\nmov r1, 0\ncall 1\nldxdw r1, [r0+0]\nmov r0, 0\nexit\nend\n",
@@ -63,7 +68,7 @@ fn scripts(rt: HostRuntime) {
 }
 
 // Scripts that are refused, at which line and why.
-const MISWRITTEN: [(&str, usize, &str); 35] = [
+const MISWRITTEN: [(&str, usize, &str); 42] = [
     ("", 0, "F9 Order"),
     ("; nothing\n; at all\n", 2, "F9 Order"),
     ("proc a 0\n", 1, "F9 Order"),
@@ -104,6 +109,13 @@ const MISWRITTEN: [(&str, usize, &str); 35] = [
         "F6 Asm A4 OutOfRange",
     ),
     ("dc 1 1\nproc a 0\nfoo\n", 3, "F6 Asm A1 UnknownWord"),
+    ("dc 1 1\nproc a 0\nmov r11, 0\n", 3, "F6 Asm A2 BadRegister"),
+    ("dc 1 1\nproc a 0\nmov r0, x\n", 3, "F6 Asm A3 BadNumber"),
+    ("dc 1 1\nproc a 0\nadd r1\n", 3, "F6 Asm A5 Operands"),
+    ("dc 1 1\nproc a 0\ncall\n", 3, "F6 Asm A5 Operands"),
+    ("dc 1 1\nproc a 0\nexit\nproc a 0\n", 4, "F3 NameTaken"),
+    ("dc 1 1\nproc a 0\nslot read 0 0 1 2\n", 3, "F1 BadLine"),
+    ("dc 1 1\nadmit a\n", 2, "F1 BadLine"),
     ("dc 1 1\nproc a 0\nend\n", 3, "F6 Asm A8 NoCode"),
     ("dc 1 1\nproc a 0\nslot read 1 0 1\n", 3, "F8 DcUnknown"),
     ("dc 1 1\nproc a 0\nslot reed 0 0 1\n", 3, "F1 BadLine"),
@@ -140,6 +152,24 @@ fn miswritten_scripts(rt: HostRuntime) -> Result<(), Fail> {
         let want = format!(in rt.alloc(); "refused line {line} {why}\n")?;
         assert_eq!(rt; ended.out.as_slice(), want.as_bytes(), "of {script}");
         assert_eq!(rt; ended.status, 1, "of {script}");
+    }
+    Ok(())
+}
+
+// Code has 4096 slots, and not 4097.
+#[test]
+fn long_code(rt: HostRuntime) -> Result<(), Fail> {
+    for (count, want) in [
+        (4095, "a accepted 4096\n"),
+        (4096, "refused line 4099 F6 Asm A7 TooLong\n"),
+    ] {
+        let mut script = String::from_str(rt.alloc(), "dc 1 1\nproc a 0\n")?;
+        for _ in 0..count {
+            script.push_str("mov r0, 0\n")?;
+        }
+        script.push_str("exit\nend\n")?;
+        let ended = run(&rt, &VERIFY, script.as_bytes());
+        assert_eq!(rt; ended.out.as_slice(), want.as_bytes());
     }
     Ok(())
 }

@@ -31,7 +31,7 @@ fn bytes_of(alloc: Global, slots: &[u64]) -> Result<Vec<u8>, AllocError> {
 }
 
 // Code, and what is printed for it.
-const ANSWERS: [(&str, &str); 9] = [
+const ANSWERS: [(&str, &str); 11] = [
     // mov r0, 7; mov r1, 5; add r0, r1; exit
     (
         "b7 00 00 00 07 00 00 00\nb7 01 00 00 05 00 00 00\n0f 10 00 00 00 00 00 00\n95 00 00 00 00 00 00 00\n",
@@ -59,6 +59,15 @@ const ANSWERS: [(&str, &str); 9] = [
     // lddw r0, 0x8000000000000000; sdiv r0, -1
     (
         "1800000000000000 0000000000000080 37000100ffffffff 9500000000000000",
+        "answer 9223372036854775808\nexecuted 3\n",
+    ),
+    // the same with smod r0, -1, and with lsh r0, 64
+    (
+        "1800000000000000 0000000000000080 97000100ffffffff 9500000000000000",
+        "answer 0\nexecuted 3\n",
+    ),
+    (
+        "1800000000000000 0000000000000080 6700000040000000 9500000000000000",
         "answer 9223372036854775808\nexecuted 3\n",
     ),
     // mov r0, 4660; be16 r0
@@ -90,7 +99,7 @@ fn answers(rt: HostRuntime) -> Result<(), Fail> {
 }
 
 // Code, and why it is refused.
-const REFUSALS: [(&str, &str); 21] = [
+const REFUSALS: [(&str, &str); 29] = [
     ("b7 0", "H1 NotHex at 3"),
     ("95 0 0", "H1 NotHex at 3"),
     ("", "E1 NoCode"),
@@ -107,6 +116,14 @@ const REFUSALS: [(&str, &str); 21] = [
     // atomic operations that no imm selects
     ("db1af8ff02000000 9500000000000000", "E6 Undefined slot 0"),
     ("c31af8ffe0000000 9500000000000000", "E6 Undefined slot 0"),
+    // E7 before E6, E5 and E4; E6 before E5 and E4; E5 before E4
+    ("300b000000000000", "E7 OutsideProfile slot 0 Packet"),
+    ("3000010000000000", "E7 OutsideProfile slot 0 Packet"),
+    ("181b010000000000", "E7 OutsideProfile slot 0 WideSubtype"),
+    ("070b010000000000", "E6 Undefined slot 0"),
+    ("180b000000000000", "E6 Undefined slot 0"),
+    ("1870010000000000", "E6 Undefined slot 0"),
+    ("1800010000000000", "E5 UnusedField slot 0"),
     ("0500ffff00000000", "V1 Backward slot 0"),
     ("0500070000000000 9500000000000000", "V2 OutOfCode slot 0"),
     // ja +1; lddw r0, 0; exit
