@@ -44,8 +44,8 @@ known_is : (input : Option (List ℕ)) → IfSome input (λ text. known input �
 known_is None = tt
 known_is (Some text) = refl
 
-pub cannot_read_fits : (wish : Wish) (input old new : Option (List ℕ)) (result : ℕ) → result ≡ 3 → RunsInput wish input old new result
-cannot_read_fits wish input old new result is = (known input, known_is input, inl is)
+pub cannot_read_fits : (wish : Wish) (input old new : Option (List ℕ)) (result : ℕ) → result ≡ 3 → new ≡ old → RunsInput wish input old new result
+cannot_read_fits wish input old new result is kept = (known input, known_is input, inl (is, kept))
 
 pub no_memory_fits : (wish : Wish) (input old new : Option (List ℕ)) (result : ℕ) → result ≡ 4 → new ≡ old → RunsInput wish input old new result
 no_memory_fits wish input old new result is kept = (known input, known_is input, inr (inl (is, kept)))
@@ -103,7 +103,13 @@ not_low result low two = omega (arith, low, two)
 -- a command never ends as a wrong command line does
 pub never_wrong : (file : List ℕ) (wish : Wish) (input old new : Option (List ℕ)) (result : ℕ) → Runs file wish input old new result → result ≡ 2 → ⊥
 never_wrong file wish input old new result h is =
-    elim h.2 [ inl three ↦ not_three result three is | inr rest ↦ elim rest [ inl four ↦ not_four result four.0 is | inr said ↦ not_low result (report_low wish h.0 result said.0 said.1) is ] ]
+    elim h.2 [
+      | inl read ↦ not_three result read.0 is
+      | inr rest ↦ elim rest [
+        | inl four ↦ not_four result four.0 is
+        | inr others ↦ elim others [ inl write ↦ not_three result write.3 is | inr said ↦ not_low result (report_low wish h.0 result said.0 said.1) is ]
+      ]
+    ]
 
 -- a command with one argument more that isn't global
 pub still_local : (new old : Bool) (global : Bool) → new ≡ (old || global) → old ≡ false → global ≡ false → new ≡ false

@@ -75,9 +75,21 @@ pub record Says (words : List Text) (file : Text) (wish : Wish) : Type 0 where
 abbrev pub WritesReport : Wish → List ℕ → Option (List ℕ) → Option (List ℕ) → ℕ → Type 0
 WritesReport wish text old new result = (lines : List ℕ) × IsReport wish text result lines × Appends old new lines
 
--- a file can't be read or written, or memory ran out with nothing written, or what was read is done
+-- status 3 and nothing written: the file can't be read
+abbrev pub IsReadFault : Option (List ℕ) → Option (List ℕ) → ℕ → Type 0
+IsReadFault old new result = (result ≡ 3) × (new ≡ old)
+
+-- status 4 and nothing written: memory ran out
+abbrev pub IsMemoryFault : Option (List ℕ) → Option (List ℕ) → ℕ → Type 0
+IsMemoryFault old new result = (result ≡ 4) × (new ≡ old)
+
+-- status 3: there is a report, and it can't be written
+abbrev pub IsWriteFault : Wish → List ℕ → ℕ → Type 0
+IsWriteFault wish text result = (status : ℕ) × (lines : List ℕ) × IsReport wish text status lines × (result ≡ 3)
+
+-- the file can't be read, memory ran out, standard output can't be written, or what was read is done
 abbrev pub Writes : Wish → List ℕ → Option (List ℕ) → Option (List ℕ) → ℕ → Type 0
-Writes wish text old new result = (result ≡ 3) ⊎ (((result ≡ 4) × (new ≡ old)) ⊎ WritesReport wish text old new result)
+Writes wish text old new result = IsReadFault old new result ⊎ (IsMemoryFault old new result ⊎ (IsWriteFault wish text result ⊎ WritesReport wish text old new result))
 
 -- the same of some text, which is what is there to be read, where that is known
 abbrev pub RunsInput : Wish → Option (List ℕ) → Option (List ℕ) → Option (List ℕ) → ℕ → Type 0

@@ -12,8 +12,9 @@ mod report;
 mod verification;
 mod words;
 
-use program::{no_memory, program};
+use program::{no_memory, not_text, program};
 use std::env;
+use std::io::ErrorKind;
 use std::process::ExitCode;
 
 fn main(rt: HostRuntime) -> ExitCode {
@@ -21,8 +22,12 @@ fn main(rt: HostRuntime) -> ExitCode {
     let mut input = rt.stdin();
     let mut out = rt.stdout();
     let mut err = rt.stderr();
-    let Ok(args) = env::args(&rt) else {
-        return ExitCode::from(no_memory(&mut err));
+    let args = match env::args(&rt) {
+        Ok(args) => args,
+        Err(error) if error.kind() == ErrorKind::InvalidData => {
+            return ExitCode::from(not_text(&mut err));
+        }
+        Err(_) => return ExitCode::from(no_memory(&mut err)),
     };
     let Ok(words) = args.collect::<Vec<String>>(alloc) else {
         return ExitCode::from(no_memory(&mut err));

@@ -151,6 +151,13 @@ fn wrong_words<E: Write>(err: &mut E, text: &str) -> u8
     MISUSE
 }
 
+/// Says that a word of the command line isn't UTF-8, and answers the status for it.
+pub fn not_text<E: Write>(err: &mut E) -> u8
+    ensures { result ≡ 2 }
+{
+    wrong_words(err, "error: a word of the command line isn't UTF-8")
+}
+
 /// Runs the program with these words, its name first, and answers its exit status: 0 done, 1
 /// refused, 2 wrong command line, 3 file fault, 4 want of memory.
 pub fn program<F: Files, S: AsStr, R: Read, W: Write, E: Write>(

@@ -7,4 +7,4 @@ pub returns-in-Err-Memory : goal.returns-in-Err-Memory
 returns-in-Err-Memory g c = no_memory_fits (wish_of c.args.wanted.now.task) _ _ _ _ c.no_memory.ensures refl
 
 pub returns-in-Err-Read : goal.returns-in-Err-Read
-returns-in-Err-Read g c = cannot_read_fits (wish_of c.args.wanted.now.task) _ _ _ _ c.cannot_read.ensures
+returns-in-Err-Read g c = cannot_read_fits (wish_of c.args.wanted.now.task) _ _ _ _ c.cannot_read.ensures refl
