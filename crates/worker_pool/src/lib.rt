@@ -31,6 +31,3 @@ pub use answer::{Answer, Progress};
 pub use locked_dcs::LockedDcs;
 pub use pool::{Gate, Link, OpenGate, RunFault, run};
 pub use report::Report;
-
-#[cfg(test)]
-mod tests;
