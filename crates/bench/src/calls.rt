@@ -8,7 +8,8 @@ use std::thread::Threads;
 use tc_core::state::{Call, TcState};
 use worker_pool::{LockedDcs, OpenGate, run};
 
-const RECORDS: u64 = 1000;
+/// How many records there are.
+pub const RECORDS: u64 = 1000;
 
 // The next number at random (Marsaglia's xorshift, 2003).
 fn draw(seed: &mut u64) -> u64 {
@@ -18,8 +19,8 @@ fn draw(seed: &mut u64) -> u64 {
     *seed % RECORDS
 }
 
-// So many calls, each between two records at random.
-fn moves(alloc: Global, calls: u64) -> Option<Vec<Call>> {
+/// So many calls, each between two records at random.
+pub fn moves(alloc: Global, calls: u64) -> Option<Vec<Call>> {
     let mut seed = 0x9e37_79b9_7f4a_7c15;
     let mut made = Vec::with_capacity(alloc, calls as usize).ok()?;
     for _ in 0..calls {
@@ -30,8 +31,8 @@ fn moves(alloc: Global, calls: u64) -> Option<Vec<Call>> {
     Some(made)
 }
 
-// A call for each record.
-fn puts(alloc: Global) -> Option<Vec<Call>> {
+/// A call for each record.
+pub fn puts(alloc: Global) -> Option<Vec<Call>> {
     let mut made = Vec::with_capacity(alloc, RECORDS as usize).ok()?;
     for key in 0..RECORDS {
         made.push(put(alloc, key, 1_000_000)?).ok()?;
@@ -39,7 +40,8 @@ fn puts(alloc: Global) -> Option<Vec<Call>> {
     Some(made)
 }
 
-fn link(alloc: Global, calls: u64) -> Option<LockedDcs> {
+/// A data component with room for the records and so many moves.
+pub fn link(alloc: Global, calls: u64) -> Option<LockedDcs> {
     let ops = calls.checked_mul(4)?.checked_add(RECORDS)?;
     let dc = Dc::new(alloc, RECORDS as usize, ops as usize).ok()?;
     let mut dcs = Vec::with_capacity(alloc, 1).ok()?;

@@ -10,6 +10,7 @@ mod numbers;
 mod procedures;
 mod steps;
 mod store;
+mod storm;
 
 use code::{Done, read_workload};
 use std::alloc::Global;
@@ -18,6 +19,7 @@ use std::io::{Read, Write};
 use std::process::ExitCode;
 use std::sync::Wait;
 use std::thread::Threads;
+use storm::Ended;
 
 const USAGE: &str = "usage:
   bench code LOADS RUNS < WORKLOADS    decodes and verifies each workload LOADS times, runs it RUNS times
@@ -27,6 +29,7 @@ const USAGE: &str = "usage:
   bench store ROWS UPDATES RESTARTS    inserts ROWS records, UPDATES them in turn, and RESTARTS
   bench steps ENDED OPEN TIMES         ENDED transactions have ended, OPEN are open; one more is run to its end TIMES
   bench calls WORKERS CALLS            CALLS move an amount between two of 1000 records, by WORKERS at once
+  bench storm SEED WORKERS CALLS       the same over a link that loses, repeats, delays and answers late
 ";
 
 // The number that a word is.
@@ -51,6 +54,14 @@ fn report(alloc: Global, done: &Done) -> Option<String> {
     .ok()
 }
 
+fn weathered(alloc: Global, ended: &Ended) -> Option<String> {
+    format!(in alloc;
+        "committed {} in doubt {} blocked {} other {}\n",
+        ended.committed, ended.in_doubt, ended.blocked, ended.other
+    )
+    .ok()
+}
+
 // What one command did.
 fn line_of<R: Threads + Wait + Sync>(
     rt: &R,
@@ -67,6 +78,10 @@ fn line_of<R: Threads + Wait + Sync>(
         "store" => store::repeat(alloc, first, second, number(words, 4)?)?,
         "steps" => steps::repeat(alloc, first, second, number(words, 4)?)?,
         "calls" => calls::repeat(rt, alloc, first, second)?,
+        "storm" => {
+            let ended = storm::repeat(rt, alloc, first, second, number(words, 4)?)?;
+            return weathered(alloc, &ended);
+        }
         _ => return None,
     };
     format!(in alloc; "count {}\n", count).ok()
