@@ -31,10 +31,10 @@ pub fn moves(alloc: Global, calls: u64) -> Option<Vec<Call>> {
     Some(made)
 }
 
-/// A call for each record.
-pub fn puts(alloc: Global) -> Option<Vec<Call>> {
-    let mut made = Vec::with_capacity(alloc, RECORDS as usize).ok()?;
-    for key in 0..RECORDS {
+/// A call for each of so many records.
+pub fn puts(alloc: Global, records: u64) -> Option<Vec<Call>> {
+    let mut made = Vec::with_capacity(alloc, records as usize).ok()?;
+    for key in 0..records {
         made.push(put(alloc, key, 1_000_000)?).ok()?;
     }
     Some(made)
@@ -76,7 +76,14 @@ pub fn repeat<R: Threads + Wait + Sync>(
     calls: u64,
 ) -> Option<u64> {
     let link = link(alloc, calls)?;
-    let (state, before) = run_all(rt, alloc, state(alloc)?, puts(alloc)?.as_slice(), 1, &link)?;
+    let (state, before) = run_all(
+        rt,
+        alloc,
+        state(alloc)?,
+        puts(alloc, RECORDS)?.as_slice(),
+        1,
+        &link,
+    )?;
     let moves = moves(alloc, calls)?;
     let (_, after) = run_all(rt, alloc, state, moves.as_slice(), workers as usize, &link)?;
     before.checked_add(after)

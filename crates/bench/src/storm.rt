@@ -104,7 +104,7 @@ pub fn repeat<R: Threads + Wait + Sync>(
     calls: u64,
 ) -> Option<Ended> {
     let dcs = link(alloc, calls)?;
-    let first = puts(alloc)?;
+    let first = puts(alloc, RECORDS)?;
     let Ok(before) = run(
         rt,
         alloc,
