@@ -1,5 +1,5 @@
 #!/usr/bin/env python3
-"""How the cost of locks, numbers, the log and a data component grows with what they hold.
+"""How the cost of locks, numbers, the log, a data component and transactions grows with what there is.
 
 usage: bench/costs.py
 
@@ -44,6 +44,11 @@ def main():
         updates = 1_000_000 - rows
         cost = (seconds("store", rows, updates, 3) - seconds("store", rows, updates, 0)) / 3
         print(f"{'restart':<10} {rows:>9} {cost * 1e3:>10.1f} ms for 1,000,000 operations", flush=True)
+    # four events a transaction that has ended
+    for events, opened in ((1_000, 0), (100_000, 0), (1_000_000, 0), (1_000, 1), (1_000, 100), (1_000, 10_000)):
+        transactions = 100_000 if opened < 10_000 else 10_000
+        cost = (seconds("steps", events // 4, opened, transactions) - seconds("steps", events // 4, opened, 0)) / transactions
+        print(f"{'steps':<10} {events:>9} {cost * 1e6:>10.2f} us a transaction of one insert, {opened} open", flush=True)
 
 
 main()

@@ -2,17 +2,24 @@
 //! so that its output is the same every time; how long it takes is measured from outside.
 #![tactic(auto)]
 
+mod calls;
 mod code;
 mod locks;
 mod log;
 mod numbers;
+mod procedures;
+mod steps;
 mod store;
+mod storm;
 
 use code::{Done, read_workload};
 use std::alloc::Global;
 use std::env;
 use std::io::{Read, Write};
 use std::process::ExitCode;
+use std::sync::Wait;
+use std::thread::Threads;
+use storm::Ended;
 
 const USAGE: &str = "usage:
   bench code LOADS RUNS < WORKLOADS    decodes and verifies each workload LOADS times, runs it RUNS times
@@ -20,6 +27,9 @@ const USAGE: &str = "usage:
   bench numbers OPEN TIMES             OPEN numbers are open; one more is given out and answered TIMES
   bench log EVENTS TIMES               prints and reads a log of EVENTS events TIMES
   bench store ROWS UPDATES RESTARTS    inserts ROWS records, UPDATES them in turn, and RESTARTS
+  bench steps ENDED OPEN TIMES         ENDED transactions have ended, OPEN are open; one more is run to its end TIMES
+  bench calls WORKERS CALLS            CALLS move an amount between two of 1000 records, by WORKERS at once
+  bench storm SEED WORKERS CALLS       the same over a link that loses, repeats, delays and answers late
 ";
 
 // The number that a word is.
@@ -44,8 +54,21 @@ fn report(alloc: Global, done: &Done) -> Option<String> {
     .ok()
 }
 
+fn weathered(alloc: Global, ended: &Ended) -> Option<String> {
+    format!(in alloc;
+        "committed {} in doubt {} blocked {} other {}\n",
+        ended.committed, ended.in_doubt, ended.blocked, ended.other
+    )
+    .ok()
+}
+
 // What one command did.
-fn line_of(alloc: Global, words: &[String], text: &str) -> Option<String> {
+fn line_of<R: Threads + Wait + Sync>(
+    rt: &R,
+    alloc: Global,
+    words: &[String],
+    text: &str,
+) -> Option<String> {
     let (first, second) = (number(words, 2)?, number(words, 3)?);
     let count = match words.get(1)?.as_str() {
         "code" => return report(alloc, &run_all(alloc, text, first, second)?),
@@ -53,6 +76,12 @@ fn line_of(alloc: Global, words: &[String], text: &str) -> Option<String> {
         "numbers" => numbers::repeat(alloc, first, second)?,
         "log" => log::repeat(alloc, first, second)?,
         "store" => store::repeat(alloc, first, second, number(words, 4)?)?,
+        "steps" => steps::repeat(alloc, first, second, number(words, 4)?)?,
+        "calls" => calls::repeat(rt, alloc, first, second)?,
+        "storm" => {
+            let ended = storm::repeat(rt, alloc, first, second, number(words, 4)?)?;
+            return weathered(alloc, &ended);
+        }
         _ => return None,
     };
     format!(in alloc; "count {}\n", count).ok()
@@ -70,7 +99,7 @@ fn main(rt: HostRuntime) -> ExitCode {
     if rt.stdin().read_to_string(&mut text).is_err() {
         return ExitCode::from(3);
     }
-    let Some(line) = line_of(alloc, words.as_slice(), text.as_str()) else {
+    let Some(line) = line_of(&rt, alloc, words.as_slice(), text.as_str()) else {
         let _ = rt.stderr().write_all(USAGE.as_bytes());
         return ExitCode::from(2);
     };

@@ -77,9 +77,9 @@ abbrev Named : Type 0
 Named = Result (Bool × ℕ) LineFault
 
 by_sign : (text : List ℕ) (a b : Bool) → has 0 45 text ≡ a → (has 0 48 text && has 1 120 text) ≡ b
-    → number_named text ≡ (if a then and_then (numeral 10 (drop 1 text)) negative else if b then and_then (numeral 16 (drop 2 text)) positive else and_then (numeral 10 text) positive)
+    → number_named text ≡ (if a then and_then (numeral 10 (drop 1 text)) negative else and_then (if b then numeral 16 (drop 2 text) else numeral 10 text) positive)
 by_sign text a b x y =
-    ap₂ (λ (p q : Bool). if p then and_then (numeral 10 (drop 1 text)) negative else if q then and_then (numeral 16 (drop 2 text)) positive else and_then (numeral 10 text) positive) x y
+    ap₂ (λ (p q : Bool). if p then and_then (numeral 10 (drop 1 text)) negative else and_then (if q then numeral 16 (drop 2 text) else numeral 10 text) positive) x y
 
 named_positive : (n : ℕ) → n < 2 ^ 64 → number_named (decimal n) ≡ Ok (false, n)
 named_positive n small =

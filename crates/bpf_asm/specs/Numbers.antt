@@ -30,12 +30,13 @@ negative n = Ok (true, n)
 abbrev pub positive : ℕ → Result (Bool × ℕ) LineFault
 positive n = Ok (false, n)
 
--- digits, with `-` before them where negative, or `0x` and hexadecimal digits
+-- digits, or `0x` and hexadecimal digits
+abbrev pub magnitude_named : List ℕ → Result ℕ LineFault
+magnitude_named text = if has 0 48 text && has 1 120 text then numeral 16 (drop 2 text) else numeral 10 text
+
+-- digits with `-` before them where negative, or a magnitude
 abbrev pub number_named : List ℕ → Result (Bool × ℕ) LineFault
-number_named text =
-    if has 0 45 text then and_then (numeral 10 (drop 1 text)) negative else
-    if has 0 48 text && has 1 120 text then and_then (numeral 16 (drop 2 text)) positive else
-    and_then (numeral 10 text) positive
+number_named text = if has 0 45 text then and_then (numeral 10 (drop 1 text)) negative else and_then (magnitude_named text) positive
 
 -- `+` or `-`, and digits
 abbrev pub offset_named : List ℕ → Result (Bool × ℕ) LineFault

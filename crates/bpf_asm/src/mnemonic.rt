@@ -12,7 +12,7 @@ use bpf_encoding::insn::{
 };
 
 /// An instruction but for its operands.
-#[derive(Clone, Copy, Debug, PartialEq, Eq)]
+#[derive(Clone, Copy)]
 pub enum Mnemonic {
     Alu(Width, Operation),
     Negate(Width),

@@ -1,7 +1,7 @@
 //! Numbers in assembly text.
 
 ghost use Rattle.std.specs.Prelude.{◌≡◌, ◌≤◌, ◌⊎◌, ◌^◌, Ok};
-ghost use Rattle.bpf_asm.specs.Numbers.{numeral, number_named, within, number_said, wide_said, wide_within, offset_named, jump_said};
+ghost use Rattle.bpf_asm.specs.Numbers.{numeral, magnitude_named, number_named, within, number_said, wide_said, wide_within, offset_named, jump_said};
 
 use crate::line::LineFault;
 
@@ -25,14 +25,23 @@ pub fn numeral(text: &[u8], radix: u32) -> Result<u64, LineFault>
     value.ok_or(LineFault::OutOfRange)
 }
 
+// Digits, or `0x` and hexadecimal ones.
+fn magnitude_named(text: &[u8]) -> Result<u64, LineFault>
+    ensures { result ≡ magnitude_named text.now }
+{
+    match text {
+        [b'0', b'x', digits @ ..] => numeral(digits, 16),
+        _ => numeral(text, 10),
+    }
+}
+
 // A magnitude, and whether `-` stands before it.
 fn number_named(text: &[u8]) -> Result<(bool, u64), LineFault>
     ensures { result ≡ number_named text.now }
 {
     match text {
         [b'-', digits @ ..] => Ok((true, numeral(digits, 10)?)),
-        [b'0', b'x', digits @ ..] => Ok((false, numeral(digits, 16)?)),
-        digits => Ok((false, numeral(digits, 10)?)),
+        _ => Ok((false, magnitude_named(text)?)),
     }
 }
 

@@ -8,7 +8,7 @@ use Operand::{Jump, JumpLong, Memory, Number, Reg, Wide};
 use bpf_encoding::insn::{Insn, Register, Source};
 
 /// What stands between commas.
-#[derive(Clone, Copy, Debug, PartialEq, Eq)]
+#[derive(Clone, Copy)]
 pub enum Operand {
     Reg(Register),
     Number(i32),
@@ -21,7 +21,7 @@ pub enum Operand {
 }
 
 /// A mnemonic with up to three operands.
-#[derive(Clone, Copy, Debug, PartialEq, Eq)]
+#[derive(Clone, Copy)]
 pub struct Parts {
     pub mnemonic: Mnemonic,
     pub first: Option<Operand>,

@@ -1,0 +1,47 @@
+#!/usr/bin/env python3
+"""How many moves between two records a second, by 1, 2 and 4 workers, beside plain Rust in one run.
+
+usage: bench/moves.py
+
+The program `bench` has to be built: `rt run` in crates/bench does that. bench/baseline/lock_table.rs
+is built by `rustc -O`: rows, a lock table and a log of plain Rust with no verified code, no messages
+and no undo, in three shapes (all under one lock; the lock taken twice; a lock a row and a log a
+worker), which is the upper end of what a transaction component could reach. A ratio of 2 means that
+the plain program makes twice as many moves.
+"""
+import pathlib
+import subprocess
+import sys
+import tempfile
+import time
+
+TOP = pathlib.Path(__file__).resolve().parent.parent
+PROGRAM = TOP / "crates" / "bench" / "out" / "bench"
+CALLS = 100_000
+
+
+def seconds(workers, calls):
+    least = float("inf")
+    for _ in range(3):
+        begin = time.perf_counter()
+        subprocess.run([PROGRAM, "calls", str(workers), str(calls)], stdin=subprocess.DEVNULL, stdout=subprocess.DEVNULL, check=True)
+        least = min(least, time.perf_counter() - begin)
+    return least
+
+
+def main():
+    if not PROGRAM.exists():
+        sys.exit(f"{PROGRAM} isn't there: `rt run` in crates/bench builds it")
+    moves = {workers: CALLS / (seconds(workers, CALLS) - seconds(workers, 0)) for workers in (1, 2, 4)}
+    for workers, rate in moves.items():
+        print(f"{'procd':<8} {workers:>8} {rate:>14.0f} moves/s", flush=True)
+    with tempfile.TemporaryDirectory() as folder:
+        plain = f"{folder}/plain"
+        subprocess.run(["rustc", "--edition", "2021", "-O", "-A", "warnings", "-o", plain, TOP / "bench" / "baseline" / "lock_table.rs"], check=True)
+        printed = subprocess.run([plain, "1"], capture_output=True, text=True, check=True).stdout
+    for line in printed.splitlines()[1:]:
+        shape, workers, rate = line.split()
+        print(f"{shape:<8} {workers:>8} {rate:>14} moves/s, {float(rate) / moves[int(workers)]:.1f} times as many", flush=True)
+
+
+main()

@@ -1,0 +1,90 @@
+//! Calls by workers: an amount moved between two of many records.
+
+use crate::procedures::{move_one, put, state};
+use data_component::dc::Dc;
+use std::alloc::Global;
+use std::sync::Wait;
+use std::thread::Threads;
+use tc_core::state::{Call, TcState};
+use worker_pool::{LockedDcs, OpenGate, run};
+
+/// How many records there are.
+pub const RECORDS: u64 = 1000;
+
+// The next number at random (Marsaglia's xorshift, 2003).
+fn draw(seed: &mut u64) -> u64 {
+    *seed ^= *seed << 13;
+    *seed ^= *seed >> 7;
+    *seed ^= *seed << 17;
+    *seed % RECORDS
+}
+
+/// So many calls, each between two records at random.
+pub fn moves(alloc: Global, calls: u64) -> Option<Vec<Call>> {
+    let mut seed = 0x9e37_79b9_7f4a_7c15;
+    let mut made = Vec::with_capacity(alloc, calls as usize).ok()?;
+    for _ in 0..calls {
+        let from = draw(&mut seed);
+        let to = draw(&mut seed);
+        made.push(move_one(alloc, from, to)?).ok()?;
+    }
+    Some(made)
+}
+
+/// A call for each of so many records.
+pub fn puts(alloc: Global, records: u64) -> Option<Vec<Call>> {
+    let mut made = Vec::with_capacity(alloc, records as usize).ok()?;
+    for key in 0..records {
+        made.push(put(alloc, key, 1_000_000)?).ok()?;
+    }
+    Some(made)
+}
+
+/// A data component with room for the records and so many moves.
+pub fn link(alloc: Global, calls: u64) -> Option<LockedDcs> {
+    let ops = calls.checked_mul(4)?.checked_add(RECORDS)?;
+    let dc = Dc::new(alloc, RECORDS as usize, ops as usize).ok()?;
+    let mut dcs = Vec::with_capacity(alloc, 1).ok()?;
+    dcs.push(dc).ok()?;
+    LockedDcs::new(alloc, dcs).ok()
+}
+
+// Runs the calls; the state that is left, and how many transactions have ended.
+fn run_all<R: Threads + Wait + Sync>(
+    rt: &R,
+    alloc: Global,
+    state: TcState,
+    calls: &[Call],
+    workers: usize,
+    link: &LockedDcs,
+) -> Option<(TcState, u64)> {
+    match run(rt, alloc, state, calls, workers, 3, link, &OpenGate) {
+        Ok(report) => {
+            let ends = report.ends() as u64;
+            Some((report.state, ends))
+        }
+        Err(_) => None,
+    }
+}
+
+/// A thousand records are put, and then so many calls move 1 between two of them, by so many
+/// workers. How many transactions have ended.
+pub fn repeat<R: Threads + Wait + Sync>(
+    rt: &R,
+    alloc: Global,
+    workers: u64,
+    calls: u64,
+) -> Option<u64> {
+    let link = link(alloc, calls)?;
+    let (state, before) = run_all(
+        rt,
+        alloc,
+        state(alloc)?,
+        puts(alloc, RECORDS)?.as_slice(),
+        1,
+        &link,
+    )?;
+    let moves = moves(alloc, calls)?;
+    let (_, after) = run_all(rt, alloc, state, moves.as_slice(), workers as usize, &link)?;
+    before.checked_add(after)
+}

@@ -1,0 +1,106 @@
+#!/usr/bin/env python3
+"""Two long runs of calls by eight workers.
+
+usage: tools/long_runs.py [--calls N] [--seed N]
+
+1. `procd run --workers 8` on a script of N calls (200,000) that move an amount between two of a
+   thousand records: each call has to be committed, and the records' sum has to stay.
+2. The same by the program `bench` over a link that loses, repeats, delays and answers late, at random
+   from the seed, each number sent ten times at most: each call has to be committed, in doubt, or
+   blocked on a record of one in doubt.
+
+crates/procd/out/procd and crates/bench/out/bench have to be there: `rt run` in each crate builds it.
+"""
+import argparse
+import pathlib
+import random
+import subprocess
+import sys
+import tempfile
+
+TOP = pathlib.Path(__file__).resolve().parent.parent
+PROCD = TOP / "crates" / "procd" / "out" / "procd"
+BENCH = TOP / "crates" / "bench" / "out" / "bench"
+RECORDS, AMOUNT = 1000, 1_000_000
+
+PROCEDURES = """\
+proc put 2
+slot write 0 0 $0
+  ldxdw r6, [r1+8]
+  mov r1, 0
+  call 5
+  stxdw [r0+0], r6
+  mov r1, 0
+  call 2
+  exit
+end
+proc move 3
+slot write 0 0 $0
+slot write 0 0 $1
+  ldxdw r6, [r1+16]
+  mov r1, 0
+  call 1
+  jeq r0, 0, +16
+  mov r7, r0
+  mov r1, 1
+  call 1
+  jeq r0, 0, +12
+  mov r8, r0
+  ldxdw r2, [r7+0]
+  sub r2, r6
+  stxdw [r7+0], r2
+  ldxdw r2, [r8+0]
+  add r2, r6
+  stxdw [r8+0], r2
+  mov r1, 0
+  call 3
+  mov r1, 1
+  call 3
+  exit
+  mov r0, 1
+  exit
+end
+"""
+
+
+def script(calls, seed):
+    draw = random.Random(seed)
+    lines = [f"dc {RECORDS} {4 * calls + RECORDS}\n", PROCEDURES]
+    lines += [f"first put {key} {AMOUNT}\n" for key in range(RECORDS)]
+    lines += ["call move %d %d 1\n" % tuple(draw.sample(range(RECORDS), 2)) for _ in range(calls)]
+    return "".join(lines)
+
+
+def by_script(calls, seed):
+    with tempfile.NamedTemporaryFile("w", suffix=".txt") as file:
+        file.write(script(calls, seed))
+        file.flush()
+        ran = subprocess.run([PROCD, "run", "--workers", "8", file.name], capture_output=True, text=True)
+    lines = ran.stdout.splitlines()
+    answers = [f"first {i} committed" for i in range(RECORDS)] + [f"call {i} committed" for i in range(calls)]
+    rows = [line.split() for line in lines[len(answers) :]]
+    total = sum(int(value) for _, _, value in rows) % 2**64
+    good = ran.returncode == 0 and lines[: len(answers)] == answers and len(rows) == RECORDS and total == RECORDS * AMOUNT
+    print(f"script: {calls} calls by 8 workers, {'all committed, the sum stays' if good else 'WRONG ' + ran.stderr}", flush=True)
+    return good
+
+
+def by_storm(calls, seed):
+    ran = subprocess.run([BENCH, "storm", str(seed), "8", str(calls)], stdin=subprocess.DEVNULL, capture_output=True, text=True)
+    words = ran.stdout.split()
+    good = ran.returncode == 0 and words[-2:] == ["other", "0"]
+    print(f"storm of seed {seed}: {ran.stdout.strip()}{'' if good else ' WRONG'}", flush=True)
+    return good
+
+
+def main():
+    parser = argparse.ArgumentParser(description=__doc__, formatter_class=argparse.RawDescriptionHelpFormatter)
+    parser.add_argument("--calls", type=int, default=200_000)
+    parser.add_argument("--seed", type=int, default=1)
+    options = parser.parse_args()
+    good = by_script(options.calls, options.seed)
+    sys.exit(0 if by_storm(options.calls, options.seed) and good else 1)
+
+
+if __name__ == "__main__":
+    main()
