@@ -2,3 +2,4 @@ pub mod HexLemmas
 pub mod Answered
 pub mod Faults
 pub mod Wishes
+pub mod RowLemmas

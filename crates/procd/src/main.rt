@@ -6,6 +6,8 @@ mod execute;
 mod fault_names;
 mod hex;
 mod lines;
+mod loading;
+mod outcome_lines;
 mod program;
 mod reading;
 mod report;

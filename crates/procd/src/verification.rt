@@ -47,8 +47,8 @@ fn verified(alloc: Global, procedures: Vec<Procedure>) -> Result<Report, AllocEr
     })
 }
 
-// Why a script is refused, and at which line.
-fn refusal(alloc: Global, fault: Fault) -> Result<Report, AllocError>
+/// Why a script is refused, and at which line.
+pub fn refusal(alloc: Global, fault: Fault) -> Result<Report, AllocError>
     ensures lines { IfOk result (λ r. string_bytes r.lines ≡ script_refusal fault) }
     ensures status { IfOk result (λ r. r.status ≡ 1) }
 {
