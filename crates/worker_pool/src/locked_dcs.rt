@@ -41,6 +41,18 @@ impl LockedDcs {
     {
         Some(self.dcs.get_mut(usize::from(dc))?.get_mut())
     }
+
+    /// The components, in their order, where no worker is at work.
+    pub fn into_dcs(self, alloc: Global) -> Result<Vec<Dc>, AllocError>
+        ensures { IfOk result (λ dcs. vec_len dcs ≡ vec_len self.dcs) }
+    {
+        let LockedDcs { dcs: locked } = self;
+        let mut dcs = Vec::with_capacity(alloc, locked.len())?;
+        for dc in locked {
+            dcs.push(dc.into_inner())?;
+        }
+        Ok(dcs)
+    }
 }
 
 impl Link for LockedDcs {
