@@ -3,3 +3,5 @@ pub mod Answered
 pub mod Faults
 pub mod Wishes
 pub mod RowLemmas
+pub mod AnswerLemmas
+pub mod RunLemmas

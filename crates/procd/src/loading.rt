@@ -136,6 +136,7 @@ fn unverified_report(alloc: Global, unverified: Unverified) -> Result<Report, Al
     Ok(Report {
         status: 1,
         lines: format!(in alloc; "refused line {line} F7 Verify {violation} slot {slot}\n")?,
+        notes: None,
     })
 }
 

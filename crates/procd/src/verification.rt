@@ -44,6 +44,7 @@ fn verified(alloc: Global, procedures: Vec<Procedure>) -> Result<Report, AllocEr
     Ok(Report {
         status: u8::from(has_refused),
         lines,
+        notes: None,
     })
 }
 
@@ -57,6 +58,7 @@ pub fn refusal(alloc: Global, fault: Fault) -> Result<Report, AllocError>
     Ok(Report {
         status: 1,
         lines: format!(in alloc; "refused line {line} {name}\n")?,
+        notes: None,
     })
 }
 
