@@ -1,15 +1,16 @@
 #!/bin/sh
 # example.sh FOLDER: runs procd, as it is built, with the words in the file `words` of the example's
 # folder, a word a line, and compares what it prints with the file `printed` and its status with `status`.
+# Where the folder has a file `calls`, the folder's script with these lines behind it is standard input.
 procd=$(cd "$(dirname "$0")/.." && pwd)/crates/procd/out/procd
 cd "$1"
 set --
 while IFS= read -r word; do set -- "$@" "$word"; done < words
 out=$(mktemp)
 trap 'rm -f "$out"' EXIT
-status=0
-"$procd" "$@" > "$out" || status=$?
 name=$(basename "$PWD")
+status=0
+{ [ ! -f calls ] || cat "$name.txt" calls; } | "$procd" "$@" > "$out" || status=$?
 if [ "$status" -eq "$(cat status)" ] && cmp -s "$out" printed; then
     echo "example $name: as stored"
 else

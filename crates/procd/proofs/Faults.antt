@@ -1,16 +1,20 @@
 -- A fault is always among what a run may give.
-use Rattle.std.proofs.Common.{arith, ◌≡◌, ℕ, Bool, List, Option, Some, None, [], map, option_map, unwrap_or, refl, inl, inr, true, false, codes, ◌||◌, ◌∙◌, ap₂}
+use Rattle.std.proofs.Common.{arith, ◌≡◌, ℕ, Bool, List, Option, Some, None, [], map, option_map, unwrap_or, refl, inl, inr, length, true, false, codes, ◌||◌, ◌∙◌, ap₂}
 use Rattle.std.specs.Prelude.{IfSome, Result, Ok, Err, ◌≤◌, if◌then◌else◌}
 use Rattle.std.specs.Borrow.{Bor}
 use Rattle.procd.specs.Said.{IsFlag, Runs, RunsInput}
 use Rattle.procd.specs.Execution.{status_of}
 use Rattle.procd.specs.Hex.{Hex, hex_of}
-use Rattle.procd.specs.Task.{Wish, Exec, Asm, Dis, Verify}
+use Rattle.procd.specs.Task.{Wish, Exec, Asm, Dis, Verify, Run}
 use Rattle.std.specs.List.{list_any}
-use Rattle.scripts.specs.Reading.{Reading, script_said}
+use Rattle.scripts.specs.Reading.{Contents, Reading, script_said}
+use Rattle.procd.specs.Loading.{refusal_of}
+use Rattle.procd.specs.Running.{IsRunBy, IsCallsRun, Ran, Stopped, begun}
 use Rattle.scripts.specs.declared.keyword.Command.TheVariants as command
 use Rattle.scripts.specs.declared.reading.Fault.{Fault}
+use Rattle.scripts.specs.declared.script.Call.{Call}
 use Rattle.scripts.specs.declared.script.Procedure.{Procedure}
+use Rattle.tc_core.specs.Core.{Core}
 use Rattle.procd.specs.Verification.{is_refused, status_by_fault, status_of_reading}
 use Rattle.procd.specs.Report.{IsReport, IsAssembly, IsDisassembly, IsDisassemblyOf, IsHexDisassembly}
 use Rattle.bpf_asm.specs.Lines.{assembled}
@@ -85,11 +89,20 @@ fault_low None procedures = elim (list_any is_refused procedures) as (λ b. (if 
 reading_low : (r : Reading) → status_of_reading r ≤ 1
 reading_low r = fault_low r.fault r.contents.procedures
 
+calls_low : (start : Core) (first calls : List Call) (dcs workers tries status : ℕ) (lines : List ℕ) → IsCallsRun start first calls dcs workers tries status lines → status ≤ 1
+calls_low start first calls dcs workers tries status lines (Ran fit is run) = omega (arith, is)
+calls_low start first calls dcs workers tries status lines (Stopped fault when is line) = omega (arith, is)
+
+run_low : (refusal : Option (List ℕ)) (contents : Contents) (workers tries status : ℕ) (lines : List ℕ) → IsRunBy refusal contents workers tries status lines → status ≤ 1
+run_low (Some refusal) contents workers tries status lines h = omega (arith, h.0)
+run_low None contents workers tries status lines h = calls_low (begun contents) contents.first contents.calls (length contents.dcs) workers tries status lines h
+
 report_low : (wish : Wish) (text : List ℕ) (status : ℕ) (lines : List ℕ) → IsReport wish text status lines → status ≤ 1
 report_low (Exec raw numbers) text status lines h = omega (arith, h.2, execution_low h.0)
 report_low Asm text status lines h = assembly_low (assembled text) status lines h
 report_low (Dis raw) text status lines h = disassembly_low raw text status lines h
 report_low Verify text status lines h = omega (arith, h.0, reading_low (script_said command.Verify text))
+report_low (Run workers tries stats) text status lines h = let r = script_said command.Run text in run_low (refusal_of r) r.contents workers tries status lines h
 
 not_three : (result : ℕ) → result ≡ 3 → result ≡ 2 → ⊥
 not_three result three two = omega (arith, three, two)

@@ -2,3 +2,6 @@ pub mod HexLemmas
 pub mod Answered
 pub mod Faults
 pub mod Wishes
+pub mod RowLemmas
+pub mod AnswerLemmas
+pub mod RunLemmas

@@ -62,10 +62,15 @@ said_before before (Err at) = Err at
 
 -- ---- written
 
--- two digits a byte, and behind each pair a space, or LF where a slot ends
+-- two digits a byte
 abbrev pub pair_text : ℕ → List ℕ
 pair_text b = digit_char (b / 16) ∷ digit_char (b % 16) ∷ []
 
+abbrev pub hex_text : List ℕ → List ℕ
+hex_text [] = []
+hex_text (b ∷ bytes) = pair_text b ++ hex_text bytes
+
+-- behind each pair a space, or LF where a slot ends
 abbrev pub separator_at : ℕ → ℕ
 separator_at at = if at % 8 == 7 then 10 else 32
 

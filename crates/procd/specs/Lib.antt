@@ -1,8 +1,13 @@
 pub mod Hex
 pub mod FaultNames
 pub mod Execution
+pub mod OutcomeLines
 pub mod Task
 pub mod Verification
+pub mod Loading
+pub mod AnswerLines
+pub mod Figures
+pub mod Running
 pub mod Report
 pub mod Said
 pub mod Wanted

@@ -5,7 +5,7 @@ use Rattle.clap.specs.Words.{App, Row, Rule, Text, all_of, first_of, one_of, new
 use Rattle.clap.specs.declared.builder.ArgAction.TheVariants.{Set, SetTrue, Append}
 use Rattle.std.specs.Str.Parse.{IsNumeral, digits_value, without_leading_plus}
 use Rattle.procd.specs.Report.{IsReport}
-use Rattle.procd.specs.Task.{Wish, Exec, Asm, Dis, Verify, command_name}
+use Rattle.procd.specs.Task.{Wish, Exec, Asm, Dis, Verify, Run, command_name}
 
 abbrev pub raw_rule : Rule
 raw_rule = record (new_rule (codes "raw")) { long = Some (codes "raw"); action = Some SetTrue }
@@ -15,6 +15,13 @@ file_rule = record (new_rule (codes "file")) { required = true; action = Some Se
 
 abbrev pub arg_rule : Rule
 arg_rule = record (new_rule (codes "arg")) { action = Some Append; value_names = 1 }
+
+-- an option with a number
+abbrev pub count_rule : Text → Rule
+count_rule name = record (new_rule name) { long = Some name; action = Some Set; value_names = 1 }
+
+abbrev pub stats_rule : Rule
+stats_rule = record (new_rule (codes "stats")) { long = Some (codes "stats"); action = Some SetTrue }
 
 -- exec [--raw] FILE [ARG]...
 abbrev pub exec_app : App
@@ -32,9 +39,16 @@ dis_app = with_rule (with_rule (new_app (codes "dis")) raw_rule) file_rule
 abbrev pub verify_app : App
 verify_app = with_rule (new_app (codes "verify")) file_rule
 
--- the command line of the program
+-- run [--workers N] [--tries N] [--stats] FILE
+abbrev pub run_app : App
+run_app = with_rule (with_rule (with_rule (with_rule (new_app (codes "run")) (count_rule (codes "workers"))) (count_rule (codes "tries"))) stats_rule) file_rule
+
+-- the commands that take code, and the command line of the program
+abbrev pub code_app : App
+code_app = with_subcommand (with_subcommand (with_subcommand (new_app (codes "procd")) exec_app.top) asm_app.top) dis_app.top
+
 unfoldable pub procd_app : App
-procd_app = with_subcommand (with_subcommand (with_subcommand (with_subcommand (new_app (codes "procd")) exec_app.top) asm_app.top) dis_app.top) verify_app.top
+procd_app = with_subcommand (with_subcommand code_app verify_app.top) run_app.top
 
 -- the number that a text says in decimal, and whether it says one of 64 bits
 abbrev pub value_of : Text → ℕ
@@ -56,12 +70,23 @@ abbrev pub SaysNumbers : List Row → List ℕ → Type 0
 SaysNumbers rows numbers =
     AllNumbers (unwrap_or (all_of (codes "arg") rows) []) × (numbers ≡ map value_of (unwrap_or (all_of (codes "arg") rows) []))
 
+-- the number of an option, or this one where it isn't there
+abbrev pub SaysCount : Option Text → ℕ → ℕ → Type 0
+SaysCount None default n = n ≡ default
+SaysCount (Some text) default n = SaysNumber text × (n ≡ value_of text)
+
+-- 4 workers and 3 tries, where nothing is said of them
+abbrev pub SaysRun : List Row → ℕ → ℕ → Bool → Type 0
+SaysRun rows workers tries stats =
+    SaysCount (first_of (codes "workers") rows) 4 workers × SaysCount (first_of (codes "tries") rows) 3 tries × IsFlag stats (one_of (codes "stats") rows)
+
 -- what a command's rows say
 abbrev pub SaysWish : List Row → Wish → Type 0
 SaysWish rows (Exec raw numbers) = IsFlag raw (one_of (codes "raw") rows) × SaysNumbers rows numbers
 SaysWish rows Asm = Unit {0}
 SaysWish rows (Dis raw) = IsFlag raw (one_of (codes "raw") rows)
 SaysWish rows Verify = Unit {0}
+SaysWish rows (Run workers tries stats) = SaysRun rows workers tries stats
 
 -- the words are a command line of the program, and say this command with this file
 pub record Says (words : List Text) (file : Text) (wish : Wish) : Type 0 where

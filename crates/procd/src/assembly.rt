@@ -32,11 +32,13 @@ pub fn assembly(alloc: Global, text: &str) -> Result<Report, AllocError>
         Ok(code) => Ok(Report {
             status: 0,
             lines: hex_lines(alloc, encode(alloc, &code)?.as_slice())?,
+            notes: None,
         }),
         Err(AsmFault::Memory) => Err(AllocError),
         Err(fault) => Ok(Report {
             status: 1,
             lines: asm_refusal(alloc, fault)?,
+            notes: None,
         }),
     }
 }
@@ -47,6 +49,7 @@ fn refused(alloc: Global, why: Execution) -> Result<Report, AllocError>
     Ok(Report {
         status: 1,
         lines: lines(alloc, &why)?,
+        notes: None,
     })
 }
 
@@ -57,6 +60,7 @@ fn disassembly_of(alloc: Global, bytes: &[u8]) -> Result<Report, AllocError>
         Ok(code) => Ok(Report {
             status: 0,
             lines: disassemble(alloc, &code)?,
+            notes: None,
         }),
         Err(DecodeFault::Memory) => Err(AllocError),
         Err(fault) => refused(alloc, Execution::Code(fault)),

@@ -2,7 +2,7 @@
 
 ghost use Rattle.std.specs.Prelude.{◌≡◌, ◌<◌, ◌++◌, Ok, IfOk, IfSome, OnOk, string_bytes};
 ghost use Rattle.std.specs.Char.{digit_char};
-ghost use Rattle.procd.specs.Hex.{digit_of, is_blank, pair_of, hex_of, IsRead, pair_text, hex_lines};
+ghost use Rattle.procd.specs.Hex.{digit_of, is_blank, pair_of, hex_of, IsRead, pair_text, hex_text, hex_lines};
 
 use std::alloc::{AllocError, AllocFailed, Global};
 
@@ -84,12 +84,23 @@ fn digit_text(value: u8) -> char
     char::from_digit(u32::from(value), 16).unwrap_or('0')
 }
 
-// The byte's two digits.
-fn write_pair(text: &mut String, byte: u8) -> Result<(), AllocError>
+/// Adds the byte's two digits.
+pub fn write_pair(text: &mut String, byte: u8) -> Result<(), AllocError>
     ensures { OnOk result (string_bytes text.new ≡ string_bytes text.old ++ pair_text byte) }
 {
     text.push(digit_text(byte / 16))?;
     text.push(digit_text(byte % 16))
+}
+
+/// The bytes in hex, two digits each.
+pub fn hex_text(alloc: Global, bytes: &[u8]) -> Result<String, AllocError>
+    ensures { IfOk result (λ s. string_bytes s ≡ hex_text bytes.now) }
+{
+    let mut text = String::new(alloc);
+    for byte in bytes {
+        write_pair(&mut text, *byte)?;
+    }
+    Ok(text)
 }
 
 /// The bytes in hex, eight a line: a space behind each pair, LF behind the eighth.

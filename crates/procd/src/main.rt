@@ -1,14 +1,19 @@
 //! `procd`: a transaction component that runs verified BPF procedures.
 #![tactic(auto)]
 
+mod answer_lines;
 mod assembly;
 mod execute;
 mod fault_names;
+mod figures;
 mod hex;
 mod lines;
+mod loading;
+mod outcome_lines;
 mod program;
 mod reading;
 mod report;
+mod running;
 mod verification;
 mod words;
 
@@ -35,6 +40,8 @@ fn main(rt: HostRuntime) -> ExitCode {
     ExitCode::from(program(&rt, alloc, words.as_slice(), &mut input, &mut out, &mut err))
 }
 
+#[cfg(test)]
+mod run_tests;
 #[cfg(test)]
 mod script_tests;
 #[cfg(test)]

@@ -15,6 +15,9 @@ use std::convert::AsStr;
 use std::fs::File;
 use std::io::{Read, Write};
 use std::rt::Files;
+use std::sync::Wait;
+use std::thread::Threads;
+use std::time::Clock;
 
 /// The command line is wrong.
 const MISUSE: u8 = 2;
@@ -25,7 +28,7 @@ const FILE_FAULT: u8 = 3;
 /// Memory ran out.
 const MEMORY: u8 = 4;
 
-// Says on the standard error why nothing was done. What can't be written there is lost.
+// Says something on the standard error. What can't be written there is lost.
 fn complain<E: Write>(err: &mut E, text: &str) {
     let _ = err.write_all(text.as_bytes());
 }
@@ -55,7 +58,8 @@ fn cannot_read<E: Write>(err: &mut E, name: &str) -> u8
 }
 
 // Does the task with what was read, and writes its lines.
-fn run_text<W: Write, E: Write>(
+fn run_text<F: Clock + Threads + Wait + Sync, W: Write, E: Write>(
+    rt: &F,
     alloc: Global,
     wanted: &Wanted,
     text: &[u8],
@@ -64,7 +68,7 @@ fn run_text<W: Write, E: Write>(
 ) -> u8
     ensures { Writes (wish_of wanted.now.task) text.now (W.contents out.old) (W.contents out.new) result }
 {
-    let report = match report_on(alloc, &wanted.task, text) {
+    let report = match report_on(rt, alloc, &wanted.task, text) {
         Ok(report) => report,
         Err(ReportFault::Memory) => return no_memory(err),
         Err(ReportFault::NotText) => return cannot_read(err, wanted.file),
@@ -72,11 +76,15 @@ fn run_text<W: Write, E: Write>(
     if out.write_all(report.lines.as_bytes()).is_err() {
         return cannot_write(err);
     }
+    if let Some(notes) = &report.notes {
+        complain(err, notes.as_str());
+    }
     report.status
 }
 
 // Reads all that is there, and does the task with it.
-fn run_input<R: Read, W: Write, E: Write>(
+fn run_input<F: Clock + Threads + Wait + Sync, R: Read, W: Write, E: Write>(
+    rt: &F,
     alloc: Global,
     wanted: &Wanted,
     input: &mut R,
@@ -86,14 +94,14 @@ fn run_input<R: Read, W: Write, E: Write>(
     ensures { RunsInput (wish_of wanted.now.task) (R.remaining input.old) (W.contents out.old) (W.contents out.new) result }
 {
     match read_all(alloc, input) {
-        Ok(text) => run_text(alloc, wanted, text.as_slice(), out, err),
+        Ok(text) => run_text(rt, alloc, wanted, text.as_slice(), out, err),
         Err(ReadFault::Memory) => no_memory(err),
         Err(ReadFault::Read) => cannot_read(err, wanted.file),
     }
 }
 
 // Opens the file, and does the task with what is in it.
-fn run_file<F: Files, W: Write, E: Write>(
+fn run_file<F: Files + Clock + Threads + Wait + Sync, W: Write, E: Write>(
     rt: &F,
     alloc: Global,
     wanted: &Wanted,
@@ -103,13 +111,13 @@ fn run_file<F: Files, W: Write, E: Write>(
     ensures { RunsInput (wish_of wanted.now.task) None (W.contents out.old) (W.contents out.new) result }
 {
     match File::open(rt, wanted.file) {
-        Ok(mut file) => run_input(alloc, wanted, &mut file, out, err),
+        Ok(mut file) => run_input(rt, alloc, wanted, &mut file, out, err),
         Err(_) => cannot_read(err, wanted.file),
     }
 }
 
 // Does what the words want.
-fn run_wanted<F: Files, R: Read, W: Write, E: Write>(
+fn run_wanted<F: Files + Clock + Threads + Wait + Sync, R: Read, W: Write, E: Write>(
     rt: &F,
     alloc: Global,
     wanted: &Wanted,
@@ -120,7 +128,7 @@ fn run_wanted<F: Files, R: Read, W: Write, E: Write>(
     ensures { Runs wanted.now.file.now (wish_of wanted.now.task) (R.remaining input.old) (W.contents out.old) (W.contents out.new) result }
 {
     if wanted.file == "-" {
-        return run_input(alloc, wanted, input, out, err);
+        return run_input(rt, alloc, wanted, input, out, err);
     }
     run_file(rt, alloc, wanted, out, err)
 }
@@ -160,7 +168,7 @@ pub fn not_text<E: Write>(err: &mut E) -> u8
 
 /// Runs the program with these words, its name first, and answers its exit status: 0 done, 1
 /// refused, 2 wrong command line, 3 file fault, 4 want of memory.
-pub fn program<F: Files, S: AsStr, R: Read, W: Write, E: Write>(
+pub fn program<F: Files + Clock + Threads + Wait + Sync, S: AsStr, R: Read, W: Write, E: Write>(
     rt: &F,
     alloc: Global,
     words: &[S],
@@ -178,11 +186,11 @@ pub fn program<F: Files, S: AsStr, R: Read, W: Write, E: Write>(
         Err(WordFault::Clap(error)) => misuse(error, out, err),
         Err(WordFault::Memory) => no_memory(err),
         Err(WordFault::NotNumber) => {
-            wrong_words(err, "error: an ARG is no number of 64 bits in decimal")
+            wrong_words(err, "error: an ARG or N is no number of 64 bits in decimal")
         }
         Err(WordFault::NoCommand) => wrong_words(
             err,
-            "error: a command is missing: exec, asm, dis or verify",
+            "error: a command is missing: exec, asm, dis, verify or run",
         ),
     }
 }

@@ -2,7 +2,11 @@ use crate::program::program;
 use std::alloc::{AllocError, Global};
 use std::io;
 use std::io::{Read, Write};
+use std::rt::Files;
+use std::sync::Wait;
 use std::test::Fail;
+use std::thread::Threads;
+use std::time::Clock;
 
 // What a run of the program wrote, and its status.
 #[derive(Drop)]
@@ -12,7 +16,11 @@ pub(crate) struct Ended {
     pub status: u8,
 }
 
-pub(crate) fn run(rt: &HostRuntime, words: &[&str], mut input: &[u8]) -> Ended {
+pub(crate) fn run<R: Files + Clock + AllocGlobal + Threads + Wait + Sync>(
+    rt: &R,
+    words: &[&str],
+    mut input: &[u8],
+) -> Ended {
     let mut out = Vec::new(rt.alloc());
     let mut err = Vec::new(rt.alloc());
     let status = program(rt, rt.alloc(), words, &mut input, &mut out, &mut err);
@@ -493,7 +501,7 @@ fn wrong_command_lines(rt: HostRuntime) -> Result<(), Fail> {
         (&["procd", "exec"], "error: "),
         (
             &["procd", "exec", "-", "18446744073709551616"],
-            "error: an ARG is no number of 64 bits in decimal",
+            "error: an ARG or N is no number of 64 bits in decimal",
         ),
     ];
     for (words, want) in cases {

@@ -44,11 +44,12 @@ fn verified(alloc: Global, procedures: Vec<Procedure>) -> Result<Report, AllocEr
     Ok(Report {
         status: u8::from(has_refused),
         lines,
+        notes: None,
     })
 }
 
-// Why a script is refused, and at which line.
-fn refusal(alloc: Global, fault: Fault) -> Result<Report, AllocError>
+/// Why a script is refused, and at which line.
+pub fn refusal(alloc: Global, fault: Fault) -> Result<Report, AllocError>
     ensures lines { IfOk result (λ r. string_bytes r.lines ≡ script_refusal fault) }
     ensures status { IfOk result (λ r. r.status ≡ 1) }
 {
@@ -57,6 +58,7 @@ fn refusal(alloc: Global, fault: Fault) -> Result<Report, AllocError>
     Ok(Report {
         status: 1,
         lines: format!(in alloc; "refused line {line} {name}\n")?,
+        notes: None,
     })
 }
 

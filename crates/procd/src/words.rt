@@ -1,11 +1,11 @@
 //! The command line.
 
 ghost use Rattle.std.specs.Prelude.{◌≡◌, ℕ, Bool, List, [], true, false, Some, map, unwrap_or, IfOk, IfErr, option_map, codes};
-ghost use Rattle.clap.specs.Words.{Row, app_of, rule_of, kind_of, subcommand_of, subcommand_rows_of, takes, rows_of, found_of, all_of};
+ghost use Rattle.clap.specs.Words.{Row, app_of, rule_of, kind_of, subcommand_of, subcommand_rows_of, takes, rows_of, found_of, first_of, all_of};
 ghost use Rattle.clap.specs.declared.builder.command.Command.TheViews.{out-Command};
 ghost use Rattle.procd.specs.Wanted.{WantsOrNoMemory, IsTaskOrNoMemory, IsNumbersOrNoMemory};
-ghost use Rattle.procd.specs.Task.{Wish, command_name};
-ghost use Rattle.procd.specs.Said.{procd_app, exec_app, asm_app, dis_app, verify_app, file_rule, raw_rule, Says, SaysWish, SaysNumbers, AllNumbers, value_of};
+ghost use Rattle.procd.specs.Task.{Wish, Run, command_name};
+ghost use Rattle.procd.specs.Said.{procd_app, exec_app, asm_app, dis_app, verify_app, run_app, file_rule, raw_rule, count_rule, stats_rule, Says, SaysWish, SaysRun, SaysCount, SaysNumbers, AllNumbers, value_of};
 
 use clap::error::ErrorKind;
 use clap::{Arg, ArgAction, ArgMatches, Command, Error};
@@ -16,14 +16,32 @@ use std::convert::AsStr;
 #[derive(Drop)]
 pub enum Task {
     /// Run code with these arguments; raw code is bytes, other is hex text.
-    Exec { raw: bool, numbers: Vec<u64> },
+    Exec {
+        raw: bool,
+        numbers: Vec<u64>,
+    },
     /// Assemble text.
     Asm,
     /// Disassemble code.
-    Dis { raw: bool },
+    Dis {
+        raw: bool,
+    },
     /// Verify the procedures of a script.
     Verify,
+    /// Run the calls of a script by so many workers, and send each request so often at most. With
+    /// `stats` the figures of the run are told on standard error.
+    Run {
+        workers: u64,
+        tries: u64,
+        stats: bool,
+    },
 }
+
+/// The workers of a run, where the words say nothing of them.
+const WORKERS: u64 = 4;
+
+/// The tries of a run, where the words say nothing of them.
+const TRIES: u64 = 3;
 
 /// What the words ask for.
 #[derive(Drop)]
@@ -37,7 +55,7 @@ pub struct Wanted<'a> {
 #[derive(Drop)]
 pub enum WordFault {
     Clap(Error),
-    /// An ARG is no number of 64 bits in decimal.
+    /// An ARG or N is no number of 64 bits in decimal.
     NotNumber,
     NoCommand,
     Memory,
@@ -67,6 +85,8 @@ fn raw_arg<'a>(alloc: Global) -> Arg<'a>
 }
 
 const CODE_HELP: &str = "The code: a path, or - for standard input. Hex text is pairs of digits";
+
+const SCRIPT_HELP: &str = "The script: a path, or - for standard input";
 
 // `exec [--raw] FILE [ARG]...`
 fn exec_command<'a>(alloc: Global) -> Result<Command<'a>, AllocError>
@@ -106,10 +126,52 @@ fn verify_command<'a>(alloc: Global) -> Result<Command<'a>, AllocError>
     ensures app { IfOk result (λ c. app_of c ≡ verify_app) }
     ensures local { IfOk result (λ c. (out-Command c).has_globals ≡ false) }
 {
-    Command::new(alloc, "verify").arg(file_arg(
+    Command::new(alloc, "verify").arg(file_arg(alloc, SCRIPT_HELP))
+}
+
+// An option with a number.
+fn count_arg<'a>(alloc: Global, name: &'a str, help: &'a str) -> Arg<'a>
+    ensures rule { rule_of result ≡ count_rule name.entry.now }
+    ensures local { result.global ≡ false }
+{
+    Arg::new(alloc, name)
+        .long(name)
+        .action(ArgAction::Set)
+        .value_name("N")
+        .help(help)
+}
+
+// --stats
+fn stats_arg<'a>(alloc: Global) -> Arg<'a>
+    ensures rule { rule_of result ≡ stats_rule }
+    ensures local { result.global ≡ false }
+{
+    Arg::new(alloc, "stats")
+        .long("stats")
+        .action(ArgAction::SetTrue)
+        .help("Tell on standard error how many calls were answered how, and how many a second")
+}
+
+// `run [--workers N] [--tries N] [--stats] FILE`
+fn run_command<'a>(alloc: Global) -> Result<Command<'a>, AllocError>
+    ensures app { IfOk result (λ c. app_of c ≡ run_app) }
+    ensures local { IfOk result (λ c. (out-Command c).has_globals ≡ false) }
+{
+    let workers = count_arg(
         alloc,
-        "The script: a path, or - for standard input",
-    ))
+        "workers",
+        "How many workers make the `call` lines' calls at once: 1 to 64, or 4 where it isn't said",
+    );
+    let tries = count_arg(
+        alloc,
+        "tries",
+        "How often a request is sent at most: 1 to 1000, or 3 where it isn't said",
+    );
+    Command::new(alloc, "run")
+        .arg(workers)?
+        .arg(tries)?
+        .arg(stats_arg(alloc))?
+        .arg(file_arg(alloc, SCRIPT_HELP))
 }
 
 // The command line of the program.
@@ -126,11 +188,15 @@ fn procd_command<'a>(alloc: Global) -> Result<Command<'a>, AllocError>
     let verify = verify_command(alloc)?.about(
         "Verify the procedures of a script: prints `NAME accepted SLOTS` or `NAME V.. slot N` for each",
     );
+    let run = run_command(alloc)?.about(
+        "Run the calls of a script by workers: prints what each was answered, as `call I committed`, and then the rows",
+    );
     let procd = Command::new(alloc, "procd")
         .subcommand(exec)?
         .subcommand(asm)?
         .subcommand(dis)?
-        .subcommand(verify)?;
+        .subcommand(verify)?
+        .subcommand(run)?;
     Ok(procd.about("A transaction component that runs verified BPF procedures"))
 }
 
@@ -168,6 +234,32 @@ fn numbers_in(alloc: Global, matches: &ArgMatches) -> Result<Vec<u64>, WordFault
     }
 }
 
+// The number that an option says, or this one where it isn't there.
+fn number_or(matches: &ArgMatches, name: &str, default: u64) -> Result<u64, WordFault>
+    ensures { (n : ℕ) → SaysCount (first_of name.now (rows_of (found_of matches.now))) default n → result ≡ Ok n }
+{
+    match matches.get_str(name) {
+        Some(text) => match text.parse::<u64>() {
+            Ok(n) => Ok(n),
+            Err(_) => Err(WordFault::NotNumber),
+        },
+        None => Ok(default),
+    }
+}
+
+// How calls are to be run.
+fn run_task(matches: &ArgMatches) -> Result<Task, WordFault>
+    ensures { (workers tries : ℕ) (stats : Bool) → SaysRun (rows_of (found_of matches.now)) workers tries stats → IsTaskOrNoMemory (Run workers tries stats) result }
+{
+    let workers = number_or(matches, "workers", WORKERS)?;
+    let tries = number_or(matches, "tries", TRIES)?;
+    Ok(Task::Run {
+        workers,
+        tries,
+        stats: matches.get_flag("stats"),
+    })
+}
+
 // The task of the command of this name.
 fn task_of(alloc: Global, name: &str, matches: &ArgMatches) -> Result<Task, WordFault>
     ensures { (wish : Wish) → name.now ≡ command_name wish → SaysWish (rows_of (found_of matches.now)) wish → IsTaskOrNoMemory wish result }
@@ -182,6 +274,7 @@ fn task_of(alloc: Global, name: &str, matches: &ArgMatches) -> Result<Task, Word
             raw: matches.get_flag("raw"),
         }),
         "verify" => Ok(Task::Verify),
+        "run" => run_task(matches),
         _ => Err(WordFault::NoCommand),
     }
 }

@@ -1,0 +1,88 @@
+-- What the calls of a script print when workers run them, and the exit status.
+use Rattle.std.specs.Prelude.{◌≡◌, ◌⊎◌, ℕ, ◌<◌, Bool, true, false, List, ◌++◌, map, length, Option, Some, None, codes}
+use Rattle.std.specs.List.{list_any}
+use Rattle.history.specs.Calls as named
+use Rattle.data_component.specs.Store.{Store}
+use Rattle.scripts.specs.Reading.{Contents, Reading}
+use Rattle.scripts.specs.declared.script.Call as said
+use Rattle.tc_core.specs.Admission.{call_of}
+use Rattle.tc_core.specs.Core.{Core}
+use Rattle.tc_core.specs.declared.state.Call.{Call}
+use Rattle.tc_core.specs.declared.state.Refusal.TheVariants as refusal
+use Rattle.worker_pool.specs.Faults.{InRange, TriesFit}
+use Rattle.worker_pool.specs.Reports.{Reports}
+use Rattle.worker_pool.specs.declared.answer.Answer.{Answer}
+use Rattle.worker_pool.specs.declared.answer.Answer.TheVariants.{Refused}
+use Rattle.worker_pool.specs.declared.pool.RunFault.{RunFault}
+use Rattle.worker_pool.specs.declared.pool.RunFault.TheVariants.{Workers, Tries, Memory, NoThread}
+use Rattle.procd.specs.AnswerLines.{answer_lines, fault_line}
+use Rattle.procd.specs.Loading.{refusal_of, with_procedures, empty_core}
+use Rattle.procd.specs.OutcomeLines.{AddsRowLines}
+
+-- ---- calls
+
+-- the call that a line of the script says
+abbrev pub said_call : said.Call → named.Call
+said_call c = record { proc = c.procedure; args = c.args }
+
+-- these are the calls that a list of lines says, in order
+abbrev pub AreCallsOf : List said.Call → List Call → Type 0
+AreCallsOf lines calls = map call_of calls ≡ map said_call lines
+
+-- the call was refused for want of memory, which ends the program
+abbrev pub is_want_of_memory : Answer → Bool
+is_want_of_memory (Refused refusal.Memory) = true
+is_want_of_memory other = false
+
+-- ---- two lists of calls, one after the other
+
+-- the first list leads from the state handed in to another one, the second on from there; each is answered as a report says
+pub record AreAnswered (start : Core) (first calls : List Call) (first_answers other_answers : List Answer) : Type 0 where
+  pub middle : Core
+  pub first_run : Reports start first middle first_answers
+  pub last : Core
+  pub calls_run : Reports middle calls last other_answers
+
+-- when none of the calls is begun, or those of the second list aren't: the first list has one worker
+abbrev pub Stops : ℕ → ℕ → RunFault → Type 0
+Stops workers tries (Tries state) = (tries ≡ 0) ⊎ (1000 < tries)
+Stops workers tries (Workers state) = TriesFit tries × ((workers ≡ 0) ⊎ (64 < workers))
+Stops workers tries (Memory state) = TriesFit tries
+Stops workers tries (NoThread state) = TriesFit tries
+
+-- ---- the report
+
+-- the lines of both lists' answers, none of which is want of memory, and behind them the rows of so many data components
+pub record AreLinesOf (first_answers other_answers : List Answer) (dcs : ℕ) (lines : List ℕ) : Type 0 where
+  pub ample : (list_any is_want_of_memory first_answers ≡ false) × (list_any is_want_of_memory other_answers ≡ false)
+  pub stores : List Store
+  pub each : length stores ≡ dcs
+  pub kept : AddsRowLines stores (answer_lines (codes "first") first_answers ++ answer_lines (codes "call") other_answers) lines
+
+-- the calls that the lines say are run, and their answers and the rows are printed
+pub record ArePrinted (start : Core) (first calls : List said.Call) (dcs : ℕ) (lines : List ℕ) : Type 0 where
+  pub first_calls : List Call
+  pub first_are : AreCallsOf first first_calls
+  pub other_calls : List Call
+  pub others_are : AreCallsOf calls other_calls
+  pub first_answers : List Answer
+  pub other_answers : List Answer
+  pub answered : AreAnswered start first_calls other_calls first_answers other_answers
+  pub printed : AreLinesOf first_answers other_answers dcs lines
+
+-- they are run, whatever they are answered, or it is printed why not
+pub data IsCallsRun (start : Core) (first calls : List said.Call) (dcs workers tries status : ℕ) (lines : List ℕ) : Type 0 where
+  Ran : InRange workers tries → status ≡ 0 → ArePrinted start first calls dcs lines → IsCallsRun start first calls dcs workers tries status lines
+  Stopped : (fault : RunFault) → Stops workers tries fault → status ≡ 1 → fault_line fault ≡ Some lines → IsCallsRun start first calls dcs workers tries status lines
+
+-- its procedures are loaded, and nothing has happened
+abbrev pub begun : Contents → Core
+begun c = with_procedures (empty_core (length c.dcs)) c.procedures
+
+abbrev pub IsRunBy : Option (List ℕ) → Contents → ℕ → ℕ → ℕ → List ℕ → Type 0
+IsRunBy (Some refusal) contents workers tries status lines = (status ≡ 1) × (lines ≡ refusal)
+IsRunBy None contents workers tries status lines = IsCallsRun (begun contents) contents.first contents.calls (length contents.dcs) workers tries status lines
+
+-- of a script that is refused no call is made
+abbrev pub IsRun : ℕ → ℕ → Reading → ℕ → List ℕ → Type 0
+IsRun workers tries r status lines = IsRunBy (refusal_of r) r.contents workers tries status lines

@@ -1,0 +1,173 @@
+//! From a script's text to what its steps or calls begin with.
+
+ghost use Rattle.std.specs.Prelude.{◌≡◌, [], ◌∷◌, length, map, None, IfOk, IfErr, OnOk, string_bytes};
+ghost use Rattle.scripts.specs.Reading.{script_said};
+ghost use Rattle.procd.specs.Loading.{unverified, first_unverified, unverified_line, IsUnloaded, with_procedures, empty_core, empty_store, IsLoading};
+
+use crate::fault_names::violation_name;
+use crate::report::Report;
+use crate::verification::refusal;
+use data_component::dc::Dc;
+use register_kinds::kind::Violation;
+use scripts::keyword::Command;
+use scripts::reading::{Parsed, parse};
+use scripts::script::{self, Call, Procedure, Script, Step};
+use std::alloc::{AllocError, Global};
+use tc_core::state::TcState;
+use verifier::verify::{VerifyFault, verify};
+
+/// A procedure that the verifier refuses.
+#[derive(Clone, Copy, Debug)]
+pub struct Unverified {
+    /// The line of its `end`, from 1.
+    pub line: usize,
+    /// The slot of its code, from 0.
+    pub slot: usize,
+    pub violation: Violation,
+}
+
+/// Why procedures aren't loaded.
+#[derive(Clone, Copy, Debug)]
+pub enum Unloaded {
+    Refused(Unverified),
+    Memory,
+}
+
+impl From<AllocError> for Unloaded {
+    ghost use Rattle.std.specs.Prelude.{◌≡◌};
+    ghost use Rattle.procd.specs.declared.loading.Unloaded.TheVariants.{Memory};
+
+    ghost from_gives = { λ _ e. e ≡ Memory };
+
+    fn from(_e: AllocError) -> Unloaded {
+        Unloaded::Memory
+    }
+}
+
+/// What a script's steps or calls begin with: its procedures are loaded, its data components are
+/// empty, and nothing has happened.
+#[derive(Drop)]
+pub struct Loaded {
+    pub state: TcState,
+    pub dcs: Vec<Dc>,
+    pub steps: Vec<Step>,
+    pub first: Vec<Call>,
+    pub calls: Vec<Call>,
+}
+
+/// What a script comes to before its first step or call.
+#[derive(Drop)]
+pub enum Loading {
+    Ready(Loaded),
+    /// The line of the first procedure that the verifier refuses, or else of the text's fault.
+    Refused(Report),
+}
+
+// Verifies one procedure more, and loads it.
+fn load_one(alloc: Global, state: &mut TcState, procedure: Procedure) -> Result<(), Unloaded>
+    ensures verified { OnOk result (unverified procedure.entry ≡ None) }
+    ensures ok { OnOk result (state.new ≡ with_procedures state.old (procedure.entry ∷ [])) }
+    ensures err { IfErr result (IsUnloaded (unverified procedure.entry)) }
+{
+    let Procedure {
+        name,
+        decl,
+        code,
+        line,
+    } = procedure;
+    match verify(alloc, code, decl) {
+        Ok(verified) => match state.load(name.as_str(), verified) {
+            Ok(_) => Ok(()),
+            Err(_) => Err(Unloaded::Memory),
+        },
+        Err(VerifyFault::At(slot, violation)) => Err(Unloaded::Refused(Unverified {
+            line,
+            slot,
+            violation,
+        })),
+        Err(VerifyFault::Memory) => Err(Unloaded::Memory),
+    }
+}
+
+// Loads the procedures in their order, up to the first that the verifier refuses.
+fn load_all(alloc: Global, state: &mut TcState, procedures: Vec<Procedure>) -> Result<(), Unloaded>
+    ensures verified { OnOk result (first_unverified procedures.entry.items ≡ None) }
+    ensures ok { OnOk result (state.new ≡ with_procedures state.old procedures.entry.items) }
+    ensures err { IfErr result (IsUnloaded (first_unverified procedures.entry.items)) }
+{
+    'procedures: for procedure in procedures {
+        load_one(alloc, state, procedure)?;
+    }
+    Ok(())
+}
+
+// The state of so many data components with these procedures.
+fn state_of(alloc: Global, dcs: usize, procedures: Vec<Procedure>) -> Result<TcState, Unloaded>
+    ensures verified { OnOk result (first_unverified procedures.entry.items ≡ None) }
+    ensures ok { IfOk result (λ s. s ≡ with_procedures (empty_core dcs) procedures.entry.items) }
+    ensures err { IfErr result (IsUnloaded (first_unverified procedures.entry.items)) }
+{
+    let Ok(dcs) = u16::try_from(dcs) else {
+        return Err(Unloaded::Memory);
+    };
+    let mut state = TcState::new(alloc, dcs)?;
+    load_all(alloc, &mut state, procedures)?;
+    Ok(state)
+}
+
+// The data components, empty.
+fn empty_dcs(alloc: Global, dcs: &[script::Dc]) -> Result<Vec<Dc>, AllocError>
+    ensures { IfOk result (λ made. made.items ≡ map empty_store dcs.now) }
+{
+    let mut made = Vec::with_capacity(alloc, dcs.len())?;
+    for dc in dcs {
+        made.push(Dc::new(alloc, dc.rows, dc.ops)?)?;
+    }
+    Ok(made)
+}
+
+fn unverified_report(alloc: Global, unverified: Unverified) -> Result<Report, AllocError>
+    ensures lines { IfOk result (λ r. string_bytes r.lines ≡ unverified_line unverified) }
+    ensures status { IfOk result (λ r. r.status ≡ 1) }
+{
+    let line = unverified.line;
+    let slot = unverified.slot;
+    let violation = violation_name(unverified.violation);
+    Ok(Report {
+        status: 1,
+        lines: format!(in alloc; "refused line {line} F7 Verify {violation} slot {slot}\n")?,
+        notes: None,
+    })
+}
+
+/// Reads a text as a script of this command, verifies and loads its procedures, and makes its
+/// data components.
+pub fn load(alloc: Global, command: Command, text: &str) -> Result<Loading, AllocError>
+    ensures { IfOk result (IsLoading (script_said command text.now)) }
+{
+    let Parsed { script, fault } = parse(alloc, command, text)?;
+    let Script {
+        dcs,
+        procedures,
+        steps,
+        first,
+        calls,
+    } = script;
+    let state = match state_of(alloc, dcs.len(), procedures) {
+        Ok(state) => state,
+        Err(Unloaded::Refused(unverified)) => {
+            return Ok(Loading::Refused(unverified_report(alloc, unverified)?));
+        }
+        Err(Unloaded::Memory) => return Err(AllocError),
+    };
+    if let Some(fault) = fault {
+        return Ok(Loading::Refused(refusal(alloc, fault)?));
+    }
+    Ok(Loading::Ready(Loaded {
+        state,
+        dcs: empty_dcs(alloc, dcs.as_slice())?,
+        steps,
+        first,
+        calls,
+    }))
+}

@@ -1,0 +1,276 @@
+use crate::tests::run;
+use std::alloc::AllocError;
+use std::process::Abort;
+use std::rt::Files;
+use std::sync::Wait;
+use std::test::Fail;
+use std::thread::Threads;
+use std::time::Clock;
+
+// Four procedures over one data component.
+const HEADER: &str = "dc 4 100
+proc put 2
+slot write 0 0 $0
+  ldxdw r6, [r1+8]
+  mov r1, 0
+  call 5
+  stxdw [r0+0], r6
+  mov r1, 0
+  call 2
+  exit
+end
+proc get 1
+slot read 0 0 $0
+  mov r1, 0
+  call 1
+  jeq r0, 0, +2
+  mov r0, 0
+  exit
+  mov r0, 1
+  exit
+end
+proc bad 1
+slot write 0 0 $0
+  mov r1, 0
+  call 1
+  jeq r0, 0, +5
+  stdw [r0+0], 7
+  mov r1, 0
+  call 3
+  mov r0, 5
+  exit
+  mov r0, 1
+  exit
+end
+proc move 3
+slot write 0 0 $0
+slot write 0 0 $1
+  ldxdw r6, [r1+16]
+  mov r1, 0
+  call 1
+  jeq r0, 0, +16
+  mov r7, r0
+  mov r1, 1
+  call 1
+  jeq r0, 0, +12
+  mov r8, r0
+  ldxdw r2, [r7+0]
+  sub r2, r6
+  stxdw [r7+0], r2
+  ldxdw r2, [r8+0]
+  add r2, r6
+  stxdw [r8+0], r2
+  mov r1, 0
+  call 3
+  mov r1, 1
+  call 3
+  exit
+  mov r0, 1
+  exit
+end
+";
+
+// Runs a script, and looks at what is printed and at the status.
+fn check_script<R: Files + Clock + AllocGlobal + Threads + Wait + Abort + Sync>(
+    rt: &R,
+    words: &[&str],
+    script: &str,
+    want: &str,
+    status: u8,
+) {
+    let ended = run(rt, words, script.as_bytes());
+    assert_eq!(rt; ended.out.as_slice(), want.as_bytes());
+    assert_eq!(rt; ended.status, status);
+}
+
+// The same of lines behind the header.
+fn check_calls<R: Files + Clock + AllocGlobal + Threads + Wait + Abort + Sync>(
+    rt: &R,
+    words: &[&str],
+    calls: &str,
+    want: &str,
+    status: u8,
+) -> Result<(), AllocError> {
+    let script = format!(in rt.alloc(); "{HEADER}{calls}")?;
+    check_script(rt, words, script.as_str(), want, status);
+    Ok(())
+}
+
+const RUN: [&str; 3] = ["procd", "run", "-"];
+
+// Both buffers are of one record: the last write stands.
+#[test]
+fn two_buffers(rt: HostRuntime) -> Result<(), Fail> {
+    let calls = "first put 5 100\ncall move 5 5 10\n";
+    let want = "first 0 committed\ncall 0 committed\nrow 0/0/5 110\n";
+    check_calls(&rt, &RUN, calls, want, 0)?;
+    Ok(())
+}
+
+const EIGHT_MOVES: &str = "first put 5 100
+call move 5 5 1
+call move 5 5 1
+call move 5 5 1
+call move 5 5 1
+call move 5 5 1
+call move 5 5 1
+call move 5 5 1
+call move 5 5 1
+";
+
+const EIGHT_COMMITTED: &str = "first 0 committed
+call 0 committed
+call 1 committed
+call 2 committed
+call 3 committed
+call 4 committed
+call 5 committed
+call 6 committed
+call 7 committed
+row 0/0/5 108
+";
+
+#[test]
+fn one_worker(rt: HostRuntime) -> Result<(), Fail> {
+    let words = ["procd", "run", "--workers", "1", "-"];
+    check_calls(&rt, &words, EIGHT_MOVES, EIGHT_COMMITTED, 0)?;
+    Ok(())
+}
+
+#[test]
+fn two_workers(rt: HostRuntime) -> Result<(), Fail> {
+    let words = ["procd", "run", "--workers", "2", "--tries", "1", "-"];
+    check_calls(&rt, &words, EIGHT_MOVES, EIGHT_COMMITTED, 0)?;
+    Ok(())
+}
+
+#[test]
+fn most_workers(rt: HostRuntime) -> Result<(), Fail> {
+    let words = ["procd", "run", "--workers", "64", "--tries", "1000", "-"];
+    check_calls(&rt, &words, EIGHT_MOVES, EIGHT_COMMITTED, 0)?;
+    Ok(())
+}
+
+// One record has room, and nine operations.
+const EVERY_ANSWER: &str = "dc 1 9
+proc put 2
+slot write 0 0 $0
+  ldxdw r6, [r1+8]
+  mov r1, 0
+  call 5
+  stxdw [r0+0], r6
+  mov r1, 0
+  call 2
+  exit
+end
+proc get 1
+slot read 0 0 $0
+  mov r1, 0
+  call 1
+  jeq r0, 0, +2
+  mov r0, 0
+  exit
+  mov r0, 1
+  exit
+end
+proc bad 1
+slot write 0 0 $0
+  mov r1, 0
+  call 1
+  jeq r0, 0, +5
+  stdw [r0+0], 7
+  mov r1, 0
+  call 3
+  mov r0, 5
+  exit
+  mov r0, 1
+  exit
+end
+first put 5 100
+call put 6 1
+call get 6
+call put 5 1
+call bad 5
+call get
+call get 5
+call get 5
+call put 5 2
+call get 5
+call get 6
+";
+
+const EVERY_ANSWERED: &str = "first 0 committed
+call 0 noroom
+call 1 aborted 1
+call 2 aborted 1
+call 3 aborted 5
+call 4 refused B5 ArgumentCount
+call 5 committed
+call 6 committed
+call 7 in doubt 10
+call 8 blocked 0/0/5
+call 9 in doubt 11
+row 0/0/5 100
+";
+
+#[test]
+fn every_answer(rt: HostRuntime) {
+    let words = ["procd", "run", "--workers", "1", "-"];
+    check_script(&rt, &words, EVERY_ANSWER, EVERY_ANSWERED, 0);
+}
+
+#[test]
+fn too_many_workers(rt: HostRuntime) -> Result<(), Fail> {
+    let words = ["procd", "run", "--workers", "65", "-"];
+    check_calls(&rt, &words, "call get 1\n", "refused G1 Workers\n", 1)?;
+    Ok(())
+}
+
+#[test]
+fn no_workers(rt: HostRuntime) -> Result<(), Fail> {
+    let words = ["procd", "run", "--workers", "0", "-"];
+    check_calls(&rt, &words, "call get 1\n", "refused G1 Workers\n", 1)?;
+    Ok(())
+}
+
+// The tries are looked at before the workers.
+#[test]
+fn no_tries(rt: HostRuntime) -> Result<(), Fail> {
+    let words = ["procd", "run", "--workers", "0", "--tries", "0", "-"];
+    check_calls(&rt, &words, "call get 1\n", "refused G2 Tries\n", 1)?;
+    Ok(())
+}
+
+#[test]
+fn too_many_tries(rt: HostRuntime) -> Result<(), Fail> {
+    let words = ["procd", "run", "--tries", "1001", "-"];
+    check_calls(&rt, &words, "call get 1\n", "refused G2 Tries\n", 1)?;
+    Ok(())
+}
+
+// A script is refused before a call is made.
+#[test]
+fn refused_procedure(rt: HostRuntime) {
+    let script = "dc 1 1\nproc a 0\nexit\nend\ncall a\n";
+    let want = "refused line 4 F7 Verify V5 EmptyRegister slot 0\n";
+    check_script(&rt, &RUN, script, want, 1);
+}
+
+#[test]
+fn unknown_procedure(rt: HostRuntime) {
+    let script = "dc 1 1\nproc a 0\nmov r0, 0\nexit\nend\ncall b\n";
+    check_script(&rt, &RUN, script, "refused line 6 F4 NameUnknown\n", 1);
+}
+
+#[test]
+fn first_after_call(rt: HostRuntime) -> Result<(), Fail> {
+    let calls = "call get 1\nfirst get 1\n";
+    check_calls(&rt, &RUN, calls, "refused line 62 F9 Order\n", 1)?;
+    Ok(())
+}
+
+#[test]
+fn no_number(rt: HostRuntime) {
+    let words = ["procd", "run", "--workers", "x", "-"];
+    check_script(&rt, &words, "dc 1 1\n", "", 2);
+}
