@@ -1,9 +1,10 @@
 //! `run`: the calls of a script by workers, a line for each, and then what the data components keep.
 
-ghost use Rattle.std.specs.Prelude.{◌≡◌, ◌++◌, IfOk, IfErr, Some, codes, vec_len, string_bytes};
+ghost use Rattle.std.specs.Prelude.{◌≡◌, ◌++◌, List, IfOk, IfErr, Some, codes, vec_len, string_bytes};
 ghost use Rattle.std.specs.List.{list_any};
 ghost use Rattle.scripts.specs.Reading.{script_said};
 ghost use Rattle.scripts.specs.declared.keyword.Command.TheVariants as command;
+ghost use Rattle.scripts.specs.declared.script.Call.{Call as ScriptCall};
 ghost use Rattle.tc_core.specs.Admission.{call_of};
 ghost use Rattle.worker_pool.specs.Faults.{InRange};
 ghost use Rattle.procd.specs.AnswerLines.{answer_lines, fault_line};
@@ -12,7 +13,7 @@ ghost use Rattle.procd.specs.Running.{said_call, AreCallsOf, is_want_of_memory, 
 
 use crate::answer_lines::{fault_line, write_answers};
 use crate::figures::{figures, rate};
-use crate::loading::{Loading, load};
+use crate::loading::{Loaded, Loading, load};
 use crate::outcome_lines::write_all_rows;
 use crate::report::Report;
 use data_component::dc::Dc;
@@ -173,36 +174,76 @@ fn stopped(alloc: Global, fault: &RunFault) -> Result<Report, AllocError>
     })
 }
 
-// Runs the calls of both lists, from this state and over these data components.
+// Runs both lists of calls from this state over the link, which ends with them.
 fn run_calls<R: Clock + Threads + Wait + Sync>(
     rt: &R,
     alloc: Global,
     state: TcState,
-    dcs: Vec<Dc>,
-    first: &[script::Call],
-    calls: &[script::Call],
+    first: &[Call],
+    calls: &[Call],
+    link: LockedDcs,
     workers: u64,
     tries: u64,
     stats: bool,
 ) -> Result<Report, AllocError>
-    ensures { IfOk result (λ r. IsCallsRun state first.now calls.now (vec_len dcs) workers tries r.status (string_bytes r.lines)) }
+    ensures { (said_first said_calls : List ScriptCall) → AreCallsOf said_first first.now → AreCallsOf said_calls calls.now → IfOk result (λ r. IsCallsRun state said_first said_calls (vec_len link.dcs) workers tries r.status (string_bytes r.lines)) }
 {
-    let first = calls_of(alloc, first)?;
-    let calls = calls_of(alloc, calls)?;
-    let link = LockedDcs::new(alloc, dcs)?;
-    let workers = workers as usize;
     match answer_all(
         rt,
         alloc,
         state,
-        first.as_slice(),
-        calls.as_slice(),
-        workers,
+        first,
+        calls,
+        workers as usize,
         tries,
         &link,
     ) {
         Ok(answered) => ran(alloc, &answered, link, stats),
         Err(fault) => stopped(alloc, &fault),
+    }
+}
+
+// The calls that both lists of a script say.
+fn both_lists(
+    alloc: Global,
+    first: &[script::Call],
+    calls: &[script::Call],
+) -> Result<(Vec<Call>, Vec<Call>), AllocError>
+    ensures first { IfOk result (λ lists. AreCallsOf first.now lists.0.items) }
+    ensures calls { IfOk result (λ lists. AreCallsOf calls.now lists.1.items) }
+{
+    let first = calls_of(alloc, first)?;
+    let calls = calls_of(alloc, calls)?;
+    Ok((first, calls))
+}
+
+// Runs the calls of a script that is loaded. Each part of it is let go in one place: a way out that
+// lets the whole of it go is long to prove.
+fn run_loaded<R: Clock + Threads + Wait + Sync>(
+    rt: &R,
+    alloc: Global,
+    loaded: Loaded,
+    workers: u64,
+    tries: u64,
+    stats: bool,
+) -> Result<Report, AllocError>
+    ensures { IfOk result (λ r. IsCallsRun loaded.state loaded.first.items loaded.calls.items (vec_len loaded.dcs) workers tries r.status (string_bytes r.lines)) }
+{
+    let lists = both_lists(alloc, loaded.first.as_slice(), loaded.calls.as_slice());
+    let link = LockedDcs::new(alloc, loaded.dcs);
+    match (lists, link) {
+        (Ok((first, calls)), Ok(link)) => run_calls(
+            rt,
+            alloc,
+            loaded.state,
+            first.as_slice(),
+            calls.as_slice(),
+            link,
+            workers,
+            tries,
+            stats,
+        ),
+        _ => Err(AllocError),
     }
 }
 
@@ -220,17 +261,7 @@ pub fn running<R: Clock + Threads + Wait + Sync>(
     ensures { IfOk result (λ r. IsRun workers tries (script_said command.Run text.now) r.status (string_bytes r.lines)) }
 {
     match load(alloc, Command::Run, text)? {
-        Loading::Ready(loaded) => run_calls(
-            rt,
-            alloc,
-            loaded.state,
-            loaded.dcs,
-            loaded.first.as_slice(),
-            loaded.calls.as_slice(),
-            workers,
-            tries,
-            stats,
-        ),
+        Loading::Ready(loaded) => run_loaded(rt, alloc, loaded, workers, tries, stats),
         Loading::Refused(report) => Ok(report),
     }
 }
