@@ -3,3 +3,4 @@ pub mod Answered
 pub mod Faults
 pub mod Wishes
 pub mod RowLemmas
+pub mod StepLemmas

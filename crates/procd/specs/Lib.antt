@@ -5,6 +5,7 @@ pub mod OutcomeLines
 pub mod Task
 pub mod Verification
 pub mod Loading
+pub mod Stepping
 pub mod Report
 pub mod Said
 pub mod Wanted

@@ -11,6 +11,7 @@ mod outcome_lines;
 mod program;
 mod reading;
 mod report;
+mod stepping;
 mod verification;
 mod words;
 
