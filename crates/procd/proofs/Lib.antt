@@ -4,3 +4,4 @@ pub mod Faults
 pub mod Wishes
 pub mod RowLemmas
 pub mod StepLemmas
+pub mod WorldLemmas

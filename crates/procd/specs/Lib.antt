@@ -6,6 +6,7 @@ pub mod Task
 pub mod Verification
 pub mod Loading
 pub mod Stepping
+pub mod WorldReport
 pub mod Report
 pub mod Said
 pub mod Wanted

@@ -13,7 +13,10 @@ use Rattle.procd.specs.declared.execute.Execution.{Execution}
 use Rattle.procd.specs.declared.execute.Execution.TheVariants.{NotHex, Code}
 use Rattle.procd.specs.FaultNames.{asm_fault_name}
 use Rattle.procd.specs.Verification.{verification_lines, verification_status}
-use Rattle.procd.specs.Task.{Wish, Exec, Asm, Dis, Verify}
+use Rattle.scripts.specs.Reading.{script_said}
+use Rattle.scripts.specs.declared.keyword.Command.TheVariants as command
+use Rattle.procd.specs.WorldReport.{IsWorld}
+use Rattle.procd.specs.Task.{Wish, Exec, Asm, Dis, Verify, World}
 
 -- ---- assembling
 
@@ -50,3 +53,4 @@ IsReport (Exec raw numbers) text status lines = IsExecution (text_execution raw 
 IsReport Asm text status lines = IsAssembly (assembled text) status lines
 IsReport (Dis raw) text status lines = IsDisassembly raw text status lines
 IsReport Verify text status lines = (status ≡ verification_status text) × (lines ≡ verification_lines text)
+IsReport (World log) text status lines = IsWorld log (script_said command.World text) status lines

@@ -1,5 +1,5 @@
 -- What the program can be asked for.
-use Rattle.std.specs.Prelude.{ℕ, Bool, List, codes}
+use Rattle.std.specs.Prelude.{ℕ, Bool, true, false, List, codes}
 use Rattle.procd.specs.declared.words.Task.{Task}
 use Rattle.procd.specs.declared.words.Task.TheVariants as task
 
@@ -9,15 +9,26 @@ pub data Wish : Type 0 where
   Asm : Wish
   Dis : (raw : Bool) → Wish
   Verify : Wish
+  World : (log : Bool) → Wish
 
 abbrev pub command_name : Wish → List ℕ
 command_name (Exec raw numbers) = codes "exec"
 command_name Asm = codes "asm"
 command_name (Dis raw) = codes "dis"
 command_name Verify = codes "verify"
+command_name (World log) = codes "world"
 
 abbrev pub wish_of : Task → Wish
 wish_of (task.Exec raw numbers) = Exec raw numbers.items
 wish_of task.Asm = Asm
 wish_of (task.Dis raw) = Dis raw
 wish_of task.Verify = Verify
+wish_of (task.World log) = World log
+
+-- whether what is read has to be UTF-8
+abbrev pub reads_text : Wish → Bool
+reads_text (Exec raw numbers) = false
+reads_text Asm = true
+reads_text (Dis raw) = false
+reads_text Verify = true
+reads_text (World log) = true

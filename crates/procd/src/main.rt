@@ -14,6 +14,7 @@ mod report;
 mod stepping;
 mod verification;
 mod words;
+mod world;
 
 use program::{no_memory, not_text, program};
 use std::env;

@@ -182,7 +182,7 @@ pub fn program<F: Files, S: AsStr, R: Read, W: Write, E: Write>(
         }
         Err(WordFault::NoCommand) => wrong_words(
             err,
-            "error: a command is missing: exec, asm, dis or verify",
+            "error: a command is missing: exec, asm, dis, verify or world",
         ),
     }
 }

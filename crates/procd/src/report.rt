@@ -1,16 +1,17 @@
 //! What a command says of the text that was read.
 
-ghost use Rattle.std.specs.Prelude.{◌≡◌, ◌⊎◌, IfOk, IfErr, string_bytes};
+ghost use Rattle.std.specs.Prelude.{◌≡◌, true, IfOk, IfErr, string_bytes};
 ghost use Rattle.std.specs.Str.{IsUtf8};
 ghost use Rattle.procd.specs.Execution.{text_execution};
 ghost use Rattle.procd.specs.Report.{IsReport, IsExecution};
-ghost use Rattle.procd.specs.Task.{wish_of, Asm, Verify};
+ghost use Rattle.procd.specs.Task.{wish_of, reads_text};
 
 use crate::assembly::{assembly, disassembly};
 use crate::execute::execute_text;
 use crate::lines::{lines, status};
 use crate::verification::verification;
 use crate::words::Task;
+use crate::world::world;
 use std::alloc::{AllocError, Global};
 
 /// The lines to print, and the exit status.
@@ -54,7 +55,7 @@ fn execution(alloc: Global, raw: bool, text: &[u8], numbers: &[u64]) -> Result<R
 pub fn report_on(alloc: Global, task: &Task, text: &[u8]) -> Result<Report, ReportFault>
     ensures ok { IfOk result (λ r. IsReport (wish_of task.now) text.now r.status (string_bytes r.lines)) }
     // Only assembly text and scripts have to be UTF-8.
-    ensures not_text { IfErr result (λ e. e ≡ ReportFault.NotText → ((wish_of task.now ≡ Asm) ⊎ (wish_of task.now ≡ Verify)) × ¬ (IsUtf8 text.now)) }
+    ensures not_text { IfErr result (λ e. e ≡ ReportFault.NotText → (reads_text (wish_of task.now) ≡ true) × ¬ (IsUtf8 text.now)) }
 {
     match task {
         Task::Exec { raw, numbers } => Ok(execution(alloc, *raw, text, numbers.as_slice())?),
@@ -64,6 +65,10 @@ pub fn report_on(alloc: Global, task: &Task, text: &[u8]) -> Result<Report, Repo
         },
         Task::Verify => match str::from_utf8(text) {
             Ok(text) => Ok(verification(alloc, text)?),
+            Err(_) => Err(ReportFault::NotText),
+        },
+        Task::World { log } => match str::from_utf8(text) {
+            Ok(text) => Ok(world(alloc, *log, text)?),
             Err(_) => Err(ReportFault::NotText),
         },
         Task::Dis { raw } => Ok(disassembly(alloc, *raw, text)?),

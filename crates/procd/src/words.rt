@@ -5,7 +5,7 @@ ghost use Rattle.clap.specs.Words.{Row, app_of, rule_of, kind_of, subcommand_of,
 ghost use Rattle.clap.specs.declared.builder.command.Command.TheViews.{out-Command};
 ghost use Rattle.procd.specs.Wanted.{WantsOrNoMemory, IsTaskOrNoMemory, IsNumbersOrNoMemory};
 ghost use Rattle.procd.specs.Task.{Wish, command_name};
-ghost use Rattle.procd.specs.Said.{procd_app, exec_app, asm_app, dis_app, verify_app, file_rule, raw_rule, Says, SaysWish, SaysNumbers, AllNumbers, value_of};
+ghost use Rattle.procd.specs.Said.{procd_app, exec_app, asm_app, dis_app, verify_app, world_app, file_rule, raw_rule, log_rule, Says, SaysWish, SaysNumbers, AllNumbers, value_of};
 
 use clap::error::ErrorKind;
 use clap::{Arg, ArgAction, ArgMatches, Command, Error};
@@ -23,6 +23,8 @@ pub enum Task {
     Dis { raw: bool },
     /// Verify the procedures of a script.
     Verify,
+    /// Take the steps of a script; with `log`, print each event of the log behind the rows.
+    World { log: bool },
 }
 
 /// What the words ask for.
@@ -101,15 +103,35 @@ fn dis_command<'a>(alloc: Global) -> Result<Command<'a>, AllocError>
         .arg(file_arg(alloc, CODE_HELP))
 }
 
+const SCRIPT_HELP: &str = "The script: a path, or - for standard input";
+
 // `verify FILE`
 fn verify_command<'a>(alloc: Global) -> Result<Command<'a>, AllocError>
     ensures app { IfOk result (λ c. app_of c ≡ verify_app) }
     ensures local { IfOk result (λ c. (out-Command c).has_globals ≡ false) }
 {
-    Command::new(alloc, "verify").arg(file_arg(
-        alloc,
-        "The script: a path, or - for standard input",
-    ))
+    Command::new(alloc, "verify").arg(file_arg(alloc, SCRIPT_HELP))
+}
+
+// --log
+fn log_arg<'a>(alloc: Global) -> Arg<'a>
+    ensures rule { rule_of result ≡ log_rule }
+    ensures local { result.global ≡ false }
+{
+    Arg::new(alloc, "log")
+        .long("log")
+        .action(ArgAction::SetTrue)
+        .help("Print each event of the log as well: 192 hex digits a line, the oldest first")
+}
+
+// `world [--log] FILE`
+fn world_command<'a>(alloc: Global) -> Result<Command<'a>, AllocError>
+    ensures app { IfOk result (λ c. app_of c ≡ world_app) }
+    ensures local { IfOk result (λ c. (out-Command c).has_globals ≡ false) }
+{
+    Command::new(alloc, "world")
+        .arg(log_arg(alloc))?
+        .arg(file_arg(alloc, SCRIPT_HELP))
 }
 
 // The command line of the program.
@@ -126,11 +148,15 @@ fn procd_command<'a>(alloc: Global) -> Result<Command<'a>, AllocError>
     let verify = verify_command(alloc)?.about(
         "Verify the procedures of a script: prints `NAME accepted SLOTS` or `NAME V.. slot N` for each",
     );
+    let world = world_command(alloc)?.about(
+        "Take the steps of a script one by one: prints a line for each, then `row DC/TABLE/KEY VALUE` for what is kept",
+    );
     let procd = Command::new(alloc, "procd")
         .subcommand(exec)?
         .subcommand(asm)?
         .subcommand(dis)?
-        .subcommand(verify)?;
+        .subcommand(verify)?
+        .subcommand(world)?;
     Ok(procd.about("A transaction component that runs verified BPF procedures"))
 }
 
@@ -182,6 +208,9 @@ fn task_of(alloc: Global, name: &str, matches: &ArgMatches) -> Result<Task, Word
             raw: matches.get_flag("raw"),
         }),
         "verify" => Ok(Task::Verify),
+        "world" => Ok(Task::World {
+            log: matches.get_flag("log"),
+        }),
         _ => Err(WordFault::NoCommand),
     }
 }
