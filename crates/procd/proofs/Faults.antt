@@ -5,11 +5,12 @@ use Rattle.std.specs.Borrow.{Bor}
 use Rattle.procd.specs.Said.{IsFlag, Runs, RunsInput}
 use Rattle.procd.specs.Execution.{status_of}
 use Rattle.procd.specs.Hex.{Hex, hex_of}
-use Rattle.procd.specs.Task.{Wish, Exec, Asm, Dis, Verify, Run}
+use Rattle.procd.specs.Task.{Wish, Exec, Asm, Dis, Verify, World, Run}
 use Rattle.std.specs.List.{list_any}
 use Rattle.scripts.specs.Reading.{Contents, Reading, script_said}
 use Rattle.procd.specs.Loading.{refusal_of}
 use Rattle.procd.specs.Running.{IsRunBy, IsCallsRun, Ran, Stopped, begun}
+use Rattle.procd.specs.WorldReport.{IsWorldBy, status_of_steps}
 use Rattle.scripts.specs.declared.keyword.Command.TheVariants as command
 use Rattle.scripts.specs.declared.reading.Fault.{Fault}
 use Rattle.scripts.specs.declared.script.Call.{Call}
@@ -97,11 +98,20 @@ run_low : (refusal : Option (List ℕ)) (contents : Contents) (workers tries sta
 run_low (Some refusal) contents workers tries status lines h = omega (arith, h.0)
 run_low None contents workers tries status lines h = calls_low (begun contents) contents.first contents.calls (length contents.dcs) workers tries status lines h
 
+steps_low : (all : Bool) → status_of_steps all ≤ 1
+steps_low true = omega arith
+steps_low false = omega arith
+
+world_low : (refusal : Option (List ℕ)) (contents : Contents) (log : Bool) (status : ℕ) (lines : List ℕ) → IsWorldBy refusal contents log status lines → status ≤ 1
+world_low (Some refusal) contents log status lines h = omega (arith, h.0)
+world_low None contents log status lines h = omega (arith, h.status_is, steps_low h.all)
+
 report_low : (wish : Wish) (text : List ℕ) (status : ℕ) (lines : List ℕ) → IsReport wish text status lines → status ≤ 1
 report_low (Exec raw numbers) text status lines h = omega (arith, h.2, execution_low h.0)
 report_low Asm text status lines h = assembly_low (assembled text) status lines h
 report_low (Dis raw) text status lines h = disassembly_low raw text status lines h
 report_low Verify text status lines h = omega (arith, h.0, reading_low (script_said command.Verify text))
+report_low (World log) text status lines h = let r = script_said command.World text in world_low (refusal_of r) r.contents log status lines h
 report_low (Run workers tries stats) text status lines h = let r = script_said command.Run text in run_low (refusal_of r) r.contents workers tries status lines h
 
 not_three : (result : ℕ) → result ≡ 3 → result ≡ 2 → ⊥

@@ -5,3 +5,5 @@ pub mod Wishes
 pub mod RowLemmas
 pub mod AnswerLemmas
 pub mod RunLemmas
+pub mod StepLemmas
+pub mod WorldLemmas

@@ -6,7 +6,7 @@ use Rattle.clap.specs.Matches.{subcommand_name_of}
 use Rattle.clap.specs.declared.parser.matches.ArgMatches.{ArgMatches}
 use Rattle.clap.specs.declared.parser.matches.ArgMatches.TheViews.{out-ArgMatches}
 use Rattle.procd.specs.Said.{IsFlag, SaysCount, SaysNumber, SaysNumbers, SaysRun, SaysWish, value_of}
-use Rattle.procd.specs.Task.{Wish, Exec, Asm, Dis, Verify, Run, command_name}
+use Rattle.procd.specs.Task.{Wish, Exec, Asm, Dis, Verify, World, Run, command_name}
 use Rattle.procd.specs.Wanted.{IsTaskOrNoMemory}
 use Rattle.procd.specs.declared.words.Task.{Task}
 use Rattle.procd.specs.declared.words.WordFault.{WordFault}
@@ -23,6 +23,18 @@ exec_not_verify e = cc
 dis_not_verify : codes "dis" ≡ codes "verify" → ⊥
 dis_not_verify e = cc
 
+exec_not_world : codes "exec" ≡ codes "world" → ⊥
+exec_not_world e = cc
+
+asm_not_world : codes "asm" ≡ codes "world" → ⊥
+asm_not_world e = cc
+
+dis_not_world : codes "dis" ≡ codes "world" → ⊥
+dis_not_world e = cc
+
+verify_not_world : codes "verify" ≡ codes "world" → ⊥
+verify_not_world e = cc
+
 exec_not_run : codes "exec" ≡ codes "run" → ⊥
 exec_not_run e = cc
 
@@ -38,6 +50,9 @@ dis_not_run e = apart_first (codes "dis") (codes "run") 100 114 (omega arith) re
 verify_not_run : codes "verify" ≡ codes "run" → ⊥
 verify_not_run e = cc
 
+world_not_run : codes "world" ≡ codes "run" → ⊥
+world_not_run e = cc
+
 apart : (a d : ℕ) → a ≡ 97 → d ≡ 100 → a ≡ d → ⊥
 apart a d is_a is_d same = omega (arith, is_a, is_d, same)
 
@@ -50,6 +65,7 @@ wants_exec name rows raw numbers is flag all (Exec r ns) named says = ap₂ Exec
 wants_exec name rows raw numbers is flag all Asm named says = absurd (exec_not_asm (sym is ∙ named))
 wants_exec name rows raw numbers is flag all (Dis r) named says = absurd (exec_not_dis (sym is ∙ named))
 wants_exec name rows raw numbers is flag all Verify named says = absurd (exec_not_verify (sym is ∙ named))
+wants_exec name rows raw numbers is flag all (World log) named says = absurd (exec_not_world (sym is ∙ named))
 wants_exec name rows raw numbers is flag all (Run workers tries stats) named says = absurd (exec_not_run (sym is ∙ named))
 
 pub wants_dis : (name : List ℕ) (rows : List Row) (raw : Bool) → name ≡ codes "dis" → ((r : Bool) → IsFlag r (one_of (codes "raw") rows) → raw ≡ r)
@@ -58,7 +74,17 @@ wants_dis name rows raw is flag (Exec r ns) named says = absurd (exec_not_dis (s
 wants_dis name rows raw is flag Asm named says = absurd (asm_not_dis (sym named ∙ is))
 wants_dis name rows raw is flag (Dis r) named says = ap Dis (flag r says)
 wants_dis name rows raw is flag Verify named says = absurd (dis_not_verify (sym is ∙ named))
+wants_dis name rows raw is flag (World log) named says = absurd (dis_not_world (sym is ∙ named))
 wants_dis name rows raw is flag (Run workers tries stats) named says = absurd (dis_not_run (sym is ∙ named))
+
+pub wants_world : (name : List ℕ) (rows : List Row) (log : Bool) → name ≡ codes "world" → ((l : Bool) → IsFlag l (one_of (codes "log") rows) → log ≡ l)
+    → (wish : Wish) → name ≡ command_name wish → SaysWish rows wish → World log ≡ wish
+wants_world name rows log is flag (Exec r ns) named says = absurd (exec_not_world (sym named ∙ is))
+wants_world name rows log is flag Asm named says = absurd (asm_not_world (sym named ∙ is))
+wants_world name rows log is flag (Dis r) named says = absurd (dis_not_world (sym named ∙ is))
+wants_world name rows log is flag Verify named says = absurd (verify_not_world (sym named ∙ is))
+wants_world name rows log is flag (World l) named says = ap World (flag l says)
+wants_world name rows log is flag (Run workers tries stats) named says = absurd (world_not_run (sym is ∙ named))
 
 pub wants_run : (name : List ℕ) (rows : List Row) (result : Result Task WordFault) → name ≡ codes "run" → ((workers tries : ℕ) (stats : Bool) → SaysRun rows workers tries stats → IsTaskOrNoMemory (Run workers tries stats) result)
     → (wish : Wish) → name ≡ command_name wish → SaysWish rows wish → IsTaskOrNoMemory wish result
@@ -66,6 +92,7 @@ wants_run name rows result is all (Exec r ns) named says = absurd (exec_not_run 
 wants_run name rows result is all Asm named says = absurd (asm_not_run (sym named ∙ is))
 wants_run name rows result is all (Dis r) named says = absurd (dis_not_run (sym named ∙ is))
 wants_run name rows result is all Verify named says = absurd (verify_not_run (sym named ∙ is))
+wants_run name rows result is all (World log) named says = absurd (world_not_run (sym named ∙ is))
 wants_run name rows result is all (Run workers tries stats) named says = all workers tries stats says
 
 composed : {A B C : Type 0} (g : A → B) (f : B → C) (o : Option A) → option_map (λ a. f (g a)) o ≡ option_map f (option_map g o)

@@ -8,6 +8,8 @@ pub mod Loading
 pub mod AnswerLines
 pub mod Figures
 pub mod Running
+pub mod Stepping
+pub mod WorldReport
 pub mod Report
 pub mod Said
 pub mod Wanted

@@ -1,5 +1,5 @@
 -- Records, values, operations and answers as text; the lines of steps, of refusals and of rows.
-use Rattle.std.specs.Prelude.{◌≡◌, ℕ, ◌==◌, if◌then◌else◌, List, [], ◌∷◌, ◌++◌, take, drop, Option, Some, None, Result, Ok, Err, codes, decimal}
+use Rattle.std.specs.Prelude.{◌≡◌, ℕ, ◌==◌, if◌then◌else◌, List, [], ◌∷◌, ◌++◌, take, drop, Some, None, Result, Ok, Err, codes, decimal}
 use Rattle.std.specs.Int.{w64, from_le_bytes}
 use Rattle.std.specs.List.{list_all, flat_map}
 use Rattle.access_slots.specs.declared.slot.Record.{Record}
@@ -14,7 +14,6 @@ use Rattle.data_component.specs.Keeping.{AreRowsOf}
 use Rattle.lock_table.specs.declared.table.Busy.{Busy}
 use Rattle.tc_log.specs.declared.event.Outcome.{Outcome as Ending}
 use Rattle.tc_log.specs.declared.event.Outcome.TheVariants as ending
-use Rattle.tc_core.specs.declared.state.Receipt.{Receipt}
 use Rattle.tc_core.specs.declared.state.Refusal.{Refusal}
 use Rattle.tc_core.specs.declared.state.Refusal.TheVariants as refusal
 use Rattle.tc_world.specs.declared.step.Outcome.{Outcome}

@@ -15,8 +15,9 @@ use Rattle.procd.specs.FaultNames.{asm_fault_name}
 use Rattle.procd.specs.Verification.{verification_lines, verification_status}
 use Rattle.scripts.specs.Reading.{script_said}
 use Rattle.scripts.specs.declared.keyword.Command.TheVariants as command
+use Rattle.procd.specs.WorldReport.{IsWorld}
 use Rattle.procd.specs.Running.{IsRun}
-use Rattle.procd.specs.Task.{Wish, Exec, Asm, Dis, Verify, Run}
+use Rattle.procd.specs.Task.{Wish, Exec, Asm, Dis, Verify, World, Run}
 
 -- ---- assembling
 
@@ -53,4 +54,5 @@ IsReport (Exec raw numbers) text status lines = IsExecution (text_execution raw 
 IsReport Asm text status lines = IsAssembly (assembled text) status lines
 IsReport (Dis raw) text status lines = IsDisassembly raw text status lines
 IsReport Verify text status lines = (status ≡ verification_status text) × (lines ≡ verification_lines text)
+IsReport (World log) text status lines = IsWorld log (script_said command.World text) status lines
 IsReport (Run workers tries stats) text status lines = IsRun workers tries (script_said command.Run text) status lines

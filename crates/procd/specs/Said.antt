@@ -5,10 +5,13 @@ use Rattle.clap.specs.Words.{App, Row, Rule, Text, all_of, first_of, one_of, new
 use Rattle.clap.specs.declared.builder.ArgAction.TheVariants.{Set, SetTrue, Append}
 use Rattle.std.specs.Str.Parse.{IsNumeral, digits_value, without_leading_plus}
 use Rattle.procd.specs.Report.{IsReport}
-use Rattle.procd.specs.Task.{Wish, Exec, Asm, Dis, Verify, Run, command_name}
+use Rattle.procd.specs.Task.{Wish, Exec, Asm, Dis, Verify, World, Run, command_name}
 
 abbrev pub raw_rule : Rule
 raw_rule = record (new_rule (codes "raw")) { long = Some (codes "raw"); action = Some SetTrue }
+
+abbrev pub log_rule : Rule
+log_rule = record (new_rule (codes "log")) { long = Some (codes "log"); action = Some SetTrue }
 
 abbrev pub file_rule : Rule
 file_rule = record (new_rule (codes "file")) { required = true; action = Some Set; value_names = 1 }
@@ -39,16 +42,21 @@ dis_app = with_rule (with_rule (new_app (codes "dis")) raw_rule) file_rule
 abbrev pub verify_app : App
 verify_app = with_rule (new_app (codes "verify")) file_rule
 
+-- world [--log] FILE
+abbrev pub world_app : App
+world_app = with_rule (with_rule (new_app (codes "world")) log_rule) file_rule
+
 -- run [--workers N] [--tries N] [--stats] FILE
 abbrev pub run_app : App
 run_app = with_rule (with_rule (with_rule (with_rule (new_app (codes "run")) (count_rule (codes "workers"))) (count_rule (codes "tries"))) stats_rule) file_rule
 
--- the commands that take code, and the command line of the program
+-- the commands that take code
 abbrev pub code_app : App
 code_app = with_subcommand (with_subcommand (with_subcommand (new_app (codes "procd")) exec_app.top) asm_app.top) dis_app.top
 
+-- the command line of the program
 unfoldable pub procd_app : App
-procd_app = with_subcommand (with_subcommand code_app verify_app.top) run_app.top
+procd_app = with_subcommand (with_subcommand (with_subcommand code_app verify_app.top) world_app.top) run_app.top
 
 -- the number that a text says in decimal, and whether it says one of 64 bits
 abbrev pub value_of : Text → ℕ
@@ -86,6 +94,7 @@ SaysWish rows (Exec raw numbers) = IsFlag raw (one_of (codes "raw") rows) × Say
 SaysWish rows Asm = Unit {0}
 SaysWish rows (Dis raw) = IsFlag raw (one_of (codes "raw") rows)
 SaysWish rows Verify = Unit {0}
+SaysWish rows (World log) = IsFlag log (one_of (codes "log") rows)
 SaysWish rows (Run workers tries stats) = SaysRun rows workers tries stats
 
 -- the words are a command line of the program, and say this command with this file

@@ -9,6 +9,7 @@ pub data Wish : Type 0 where
   Asm : Wish
   Dis : (raw : Bool) → Wish
   Verify : Wish
+  World : (log : Bool) → Wish
   Run : (workers tries : ℕ) (stats : Bool) → Wish
 
 abbrev pub command_name : Wish → List ℕ
@@ -16,6 +17,7 @@ command_name (Exec raw numbers) = codes "exec"
 command_name Asm = codes "asm"
 command_name (Dis raw) = codes "dis"
 command_name Verify = codes "verify"
+command_name (World log) = codes "world"
 command_name (Run workers tries stats) = codes "run"
 
 abbrev pub wish_of : Task → Wish
@@ -23,6 +25,7 @@ wish_of (task.Exec raw numbers) = Exec raw numbers.items
 wish_of task.Asm = Asm
 wish_of (task.Dis raw) = Dis raw
 wish_of task.Verify = Verify
+wish_of (task.World log) = World log
 wish_of (task.Run workers tries stats) = Run workers tries stats
 
 -- whether what is read has to be UTF-8
@@ -31,4 +34,5 @@ reads_text (Exec raw numbers) = false
 reads_text Asm = true
 reads_text (Dis raw) = false
 reads_text Verify = true
+reads_text (World log) = true
 reads_text (Run workers tries stats) = true

@@ -14,8 +14,10 @@ mod program;
 mod reading;
 mod report;
 mod running;
+mod stepping;
 mod verification;
 mod words;
+mod world;
 
 use program::{no_memory, not_text, program};
 use std::env;

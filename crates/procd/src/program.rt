@@ -190,7 +190,7 @@ pub fn program<F: Files + Clock + Threads + Wait + Sync, S: AsStr, R: Read, W: W
         }
         Err(WordFault::NoCommand) => wrong_words(
             err,
-            "error: a command is missing: exec, asm, dis, verify or run",
+            "error: a command is missing: exec, asm, dis, verify, world or run",
         ),
     }
 }

@@ -12,6 +12,7 @@ use crate::lines::{lines, status};
 use crate::running::running;
 use crate::verification::verification;
 use crate::words::Task;
+use crate::world::world;
 use std::alloc::{AllocError, Global};
 use std::sync::Wait;
 use std::thread::Threads;
@@ -75,6 +76,10 @@ pub fn report_on<R: Clock + Threads + Wait + Sync>(
         },
         Task::Verify => match str::from_utf8(text) {
             Ok(text) => Ok(verification(alloc, text)?),
+            Err(_) => Err(ReportFault::NotText),
+        },
+        Task::World { log } => match str::from_utf8(text) {
+            Ok(text) => Ok(world(alloc, *log, text)?),
             Err(_) => Err(ReportFault::NotText),
         },
         Task::Run {

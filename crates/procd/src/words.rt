@@ -5,7 +5,8 @@ ghost use Rattle.clap.specs.Words.{Row, app_of, rule_of, kind_of, subcommand_of,
 ghost use Rattle.clap.specs.declared.builder.command.Command.TheViews.{out-Command};
 ghost use Rattle.procd.specs.Wanted.{WantsOrNoMemory, IsTaskOrNoMemory, IsNumbersOrNoMemory};
 ghost use Rattle.procd.specs.Task.{Wish, Run, command_name};
-ghost use Rattle.procd.specs.Said.{procd_app, exec_app, asm_app, dis_app, verify_app, run_app, file_rule, raw_rule, count_rule, stats_rule, Says, SaysWish, SaysRun, SaysCount, SaysNumbers, AllNumbers, value_of};
+ghost use Rattle.procd.specs.Said.{procd_app, exec_app, asm_app, dis_app, verify_app, world_app, run_app, file_rule, raw_rule, log_rule};
+ghost use Rattle.procd.specs.Said.{count_rule, stats_rule, Says, SaysWish, SaysRun, SaysCount, SaysNumbers, AllNumbers, value_of};
 
 use clap::error::ErrorKind;
 use clap::{Arg, ArgAction, ArgMatches, Command, Error};
@@ -28,6 +29,10 @@ pub enum Task {
     },
     /// Verify the procedures of a script.
     Verify,
+    /// Take the steps of a script; with `log`, print each event of the log behind the rows.
+    World {
+        log: bool,
+    },
     /// Run the calls of a script by so many workers, and send each request so often at most. With
     /// `stats` the figures of the run are told on standard error.
     Run {
@@ -86,8 +91,6 @@ fn raw_arg<'a>(alloc: Global) -> Arg<'a>
 
 const CODE_HELP: &str = "The code: a path, or - for standard input. Hex text is pairs of digits";
 
-const SCRIPT_HELP: &str = "The script: a path, or - for standard input";
-
 // `exec [--raw] FILE [ARG]...`
 fn exec_command<'a>(alloc: Global) -> Result<Command<'a>, AllocError>
     ensures app { IfOk result (λ c. app_of c ≡ exec_app) }
@@ -121,12 +124,35 @@ fn dis_command<'a>(alloc: Global) -> Result<Command<'a>, AllocError>
         .arg(file_arg(alloc, CODE_HELP))
 }
 
+const SCRIPT_HELP: &str = "The script: a path, or - for standard input";
+
 // `verify FILE`
 fn verify_command<'a>(alloc: Global) -> Result<Command<'a>, AllocError>
     ensures app { IfOk result (λ c. app_of c ≡ verify_app) }
     ensures local { IfOk result (λ c. (out-Command c).has_globals ≡ false) }
 {
     Command::new(alloc, "verify").arg(file_arg(alloc, SCRIPT_HELP))
+}
+
+// --log
+fn log_arg<'a>(alloc: Global) -> Arg<'a>
+    ensures rule { rule_of result ≡ log_rule }
+    ensures local { result.global ≡ false }
+{
+    Arg::new(alloc, "log")
+        .long("log")
+        .action(ArgAction::SetTrue)
+        .help("Print each event of the log as well: 192 hex digits a line, the oldest first")
+}
+
+// `world [--log] FILE`
+fn world_command<'a>(alloc: Global) -> Result<Command<'a>, AllocError>
+    ensures app { IfOk result (λ c. app_of c ≡ world_app) }
+    ensures local { IfOk result (λ c. (out-Command c).has_globals ≡ false) }
+{
+    Command::new(alloc, "world")
+        .arg(log_arg(alloc))?
+        .arg(file_arg(alloc, SCRIPT_HELP))
 }
 
 // An option with a number.
@@ -188,6 +214,9 @@ fn procd_command<'a>(alloc: Global) -> Result<Command<'a>, AllocError>
     let verify = verify_command(alloc)?.about(
         "Verify the procedures of a script: prints `NAME accepted SLOTS` or `NAME V.. slot N` for each",
     );
+    let world = world_command(alloc)?.about(
+        "Take the steps of a script one by one: prints a line for each, then `row DC/TABLE/KEY VALUE` for what is kept",
+    );
     let run = run_command(alloc)?.about(
         "Run the calls of a script by workers: prints what each was answered, as `call I committed`, and then the rows",
     );
@@ -196,6 +225,7 @@ fn procd_command<'a>(alloc: Global) -> Result<Command<'a>, AllocError>
         .subcommand(asm)?
         .subcommand(dis)?
         .subcommand(verify)?
+        .subcommand(world)?
         .subcommand(run)?;
     Ok(procd.about("A transaction component that runs verified BPF procedures"))
 }
@@ -274,6 +304,9 @@ fn task_of(alloc: Global, name: &str, matches: &ArgMatches) -> Result<Task, Word
             raw: matches.get_flag("raw"),
         }),
         "verify" => Ok(Task::Verify),
+        "world" => Ok(Task::World {
+            log: matches.get_flag("log"),
+        }),
         "run" => run_task(matches),
         _ => Err(WordFault::NoCommand),
     }

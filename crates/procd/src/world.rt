@@ -1,0 +1,62 @@
+//! `world`: a script's steps, a line for each, and then what the data components keep.
+
+ghost use Rattle.std.specs.Prelude.{◌≡◌, ◌++◌, [], IfOk, OnOk, string_bytes};
+ghost use Rattle.scripts.specs.Reading.{Contents, script_said};
+ghost use Rattle.scripts.specs.declared.keyword.Command.TheVariants as command;
+ghost use Rattle.procd.specs.Loading.{IsReady};
+ghost use Rattle.procd.specs.WorldReport.{logged, IsStepped, IsWorld};
+
+use crate::loading::{Loaded, Loading, load};
+use crate::outcome_lines::write_all_rows;
+use crate::report::Report;
+use crate::stepping::{take_steps, write_log};
+use scripts::keyword::Command;
+use std::alloc::{AllocError, Global};
+use tc_log::log::Log;
+use tc_world::world::World;
+
+// Adds a line for each event, where they are wanted.
+fn write_events(
+    alloc: Global,
+    with_log: bool,
+    log: &Log,
+    lines: &mut String,
+) -> Result<(), AllocError>
+    ensures { OnOk result (string_bytes lines.new ≡ string_bytes lines.old ++ logged with_log log.now.events) }
+{
+    if !with_log {
+        return Ok(());
+    }
+    let bytes = log.print(alloc)?;
+    write_log(bytes.as_slice(), lines)
+}
+
+// Takes the steps, and says what they did and what is left.
+fn stepped(alloc: Global, with_log: bool, loaded: Loaded) -> Result<Report, AllocError>
+    requires { loaded.state.events ≡ [] }
+    ensures { IfOk result (λ r. (contents : Contents) → IsReady contents loaded → IsStepped contents with_log r.status (string_bytes r.lines)) }
+{
+    let mut world = World::new(alloc, loaded.state, loaded.dcs);
+    let mut lines = String::new(alloc);
+    let taken = take_steps(alloc, &mut world, loaded.steps.as_slice(), &mut lines);
+    let (state, dcs) = world.close();
+    let all = taken?;
+    write_all_rows(alloc, dcs.as_slice(), &mut lines)?;
+    write_events(alloc, with_log, state.log(), &mut lines)?;
+    Ok(Report {
+        status: u8::from(!all),
+        lines,
+        notes: None,
+    })
+}
+
+/// Takes the steps of a script one after another, also behind one that isn't possible: a line for
+/// each, then a line for each record that is kept, and with `with_log` a line for each event.
+pub fn world(alloc: Global, with_log: bool, text: &str) -> Result<Report, AllocError>
+    ensures { IfOk result (λ r. IsWorld with_log (script_said command.World text.now) r.status (string_bytes r.lines)) }
+{
+    match load(alloc, Command::World, text)? {
+        Loading::Ready(loaded) => stepped(alloc, with_log, loaded),
+        Loading::Refused(report) => Ok(report),
+    }
+}
