@@ -230,8 +230,7 @@ fn run_loaded<R: Clock + Threads + Wait + Sync>(
     ensures { IfOk result (λ r. IsCallsRun loaded.state loaded.first.items loaded.calls.items (vec_len loaded.dcs) workers tries r.status (string_bytes r.lines)) }
 {
     let lists = both_lists(alloc, loaded.first.as_slice(), loaded.calls.as_slice());
-    let link = LockedDcs::new(alloc, loaded.dcs);
-    match (lists, link) {
+    match (lists, LockedDcs::new(alloc, loaded.dcs)) {
         (Ok((first, calls)), Ok(link)) => run_calls(
             rt,
             alloc,
