@@ -43,3 +43,5 @@ fn main(rt: HostRuntime) -> ExitCode {
 mod script_tests;
 #[cfg(test)]
 mod tests;
+#[cfg(test)]
+mod world_tests;
