@@ -48,3 +48,5 @@ mod run_tests;
 mod script_tests;
 #[cfg(test)]
 mod tests;
+#[cfg(test)]
+mod world_tests;
