@@ -5,7 +5,7 @@ use data_component::dc::Dc;
 use std::alloc::Global;
 use std::sync::Wait;
 use std::thread::Threads;
-use tc_core::state::{Call, TcState};
+use tc_core::state::Call;
 use worker_pool::{LockedDcs, OpenGate, run};
 
 /// How many records there are.
@@ -49,24 +49,6 @@ pub fn link(alloc: Global, calls: u64) -> Option<LockedDcs> {
     LockedDcs::new(alloc, dcs).ok()
 }
 
-// Runs the calls; the state that is left, and how many transactions have ended.
-fn run_all<R: Threads + Wait + Sync>(
-    rt: &R,
-    alloc: Global,
-    state: TcState,
-    calls: &[Call],
-    workers: usize,
-    link: &LockedDcs,
-) -> Option<(TcState, u64)> {
-    match run(rt, alloc, state, calls, workers, 3, link, &OpenGate) {
-        Ok(report) => {
-            let ends = report.ends() as u64;
-            Some((report.state, ends))
-        }
-        Err(_) => None,
-    }
-}
-
 /// A thousand records are put, and then so many calls move 1 between two of them, by so many
 /// workers. How many transactions have ended.
 pub fn repeat<R: Threads + Wait + Sync>(
@@ -76,15 +58,23 @@ pub fn repeat<R: Threads + Wait + Sync>(
     calls: u64,
 ) -> Option<u64> {
     let link = link(alloc, calls)?;
-    let (state, before) = run_all(
+    let puts = puts(alloc, RECORDS)?;
+    let moves = moves(alloc, calls)?;
+    let state = state(alloc)?;
+    let before = run(rt, alloc, state, puts.as_slice(), 1, 3, &link, &OpenGate).ok()?;
+    let workers = workers as usize;
+    let first = before.ends() as u64;
+    let state = before.state;
+    let after = run(
         rt,
         alloc,
-        state(alloc)?,
-        puts(alloc, RECORDS)?.as_slice(),
-        1,
+        state,
+        moves.as_slice(),
+        workers,
+        3,
         &link,
-    )?;
-    let moves = moves(alloc, calls)?;
-    let (_, after) = run_all(rt, alloc, state, moves.as_slice(), workers as usize, &link)?;
-    before.checked_add(after)
+        &OpenGate,
+    )
+    .ok()?;
+    first.checked_add(after.ends() as u64)
 }

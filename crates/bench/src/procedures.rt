@@ -69,14 +69,20 @@ fn load(alloc: Global, state: &mut TcState, name: &str, decl: Decl, text: &str) 
     }
 }
 
+fn load_both(alloc: Global, state: &mut TcState) -> Option<()> {
+    let put = Decl::new(2, &[under(0)]).ok()?;
+    load(alloc, state, "put", put, PUT)?;
+    let moves = Decl::new(3, &[under(0), under(1)]).ok()?;
+    load(alloc, state, "move", moves, MOVE)
+}
+
 /// A transaction component over one data component, with both procedures.
 pub fn state(alloc: Global) -> Option<TcState> {
     let mut state = TcState::new(alloc, 1).ok()?;
-    let put = Decl::new(2, &[under(0)]).ok()?;
-    load(alloc, &mut state, "put", put, PUT)?;
-    let moves = Decl::new(3, &[under(0), under(1)]).ok()?;
-    load(alloc, &mut state, "move", moves, MOVE)?;
-    Some(state)
+    match load_both(alloc, &mut state) {
+        Some(()) => Some(state),
+        None => None,
+    }
 }
 
 /// A call that inserts a number under a key.

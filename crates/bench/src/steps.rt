@@ -42,19 +42,32 @@ fn one(alloc: Global, state: &mut TcState, key: u64) -> Option<()> {
     }
 }
 
+// So many from admission to end, under one key.
+fn many(alloc: Global, state: &mut TcState, times: u64) -> Option<()> {
+    for _ in 0..times {
+        one(alloc, state, 0)?;
+    }
+    Some(())
+}
+
+// So many that stay open, each under a key of its own.
+fn open(alloc: Global, state: &mut TcState, count: u64) -> Option<()> {
+    for key in 0..count {
+        admitted(alloc, state, key.checked_add(1)?)?;
+    }
+    Some(())
+}
+
+fn run(alloc: Global, state: &mut TcState, ended: u64, opened: u64, times: u64) -> Option<u64> {
+    many(alloc, state, ended)?;
+    open(alloc, state, opened)?;
+    many(alloc, state, times)?;
+    Some(state.log().len() as u64)
+}
+
 /// So many transactions have ended, and so many are open; one more is run from its admission to its
 /// end so many times. The length of the log, in events: four for each that has ended, and one for
 /// each that is open.
-pub fn repeat(alloc: Global, ended: u64, open: u64, times: u64) -> Option<u64> {
-    let mut state = state(alloc)?;
-    for _ in 0..ended {
-        one(alloc, &mut state, 0)?;
-    }
-    for key in 0..open {
-        admitted(alloc, &mut state, key.checked_add(1)?)?;
-    }
-    for _ in 0..times {
-        one(alloc, &mut state, 0)?;
-    }
-    Some(state.log().len() as u64)
+pub fn repeat(alloc: Global, ended: u64, opened: u64, times: u64) -> Option<u64> {
+    run(alloc, &mut state(alloc)?, ended, opened, times)
 }

@@ -8,7 +8,7 @@ use std::sync::atomic::{AtomicU64, Ordering};
 use std::sync::{Mutex, Wait};
 use std::thread::Threads;
 use std::{mem, thread};
-use tc_core::state::TcState;
+use tc_core::state::{Call, TcState};
 use worker_pool::{Answer, Link, LockedDcs, OpenGate, Report, run};
 
 /// How the calls ended.
@@ -94,6 +94,29 @@ fn counted(report: &Report) -> Ended {
     ended
 }
 
+// A thousand records are put over the link.
+fn put_all<R: Threads + Wait + Sync>(
+    rt: &R,
+    alloc: Global,
+    puts: &[Call],
+    link: &LockedDcs,
+) -> Option<Report> {
+    run(rt, alloc, state(alloc)?, puts, 1, 1, link, &OpenGate).ok()
+}
+
+// Runs the calls over the storm.
+fn weather<R: Threads + Wait + Sync>(
+    rt: &R,
+    alloc: Global,
+    state: TcState,
+    calls: &[Call],
+    workers: usize,
+    storm: &Storm,
+) -> Option<Ended> {
+    let report = run(rt, alloc, state, calls, workers, TRIES, storm, &OpenGate).ok()?;
+    Some(counted(&report))
+}
+
 /// A thousand records are put over a link that loses nothing; then so many calls move 1 between two
 /// of them over the storm of this seed, by so many workers, each number sent ten times at most.
 pub fn repeat<R: Threads + Wait + Sync>(
@@ -103,41 +126,21 @@ pub fn repeat<R: Threads + Wait + Sync>(
     workers: u64,
     calls: u64,
 ) -> Option<Ended> {
+    let puts = puts(alloc, RECORDS)?;
+    let moves = moves(alloc, calls)?;
     let dcs = link(alloc, calls)?;
-    let first = puts(alloc, RECORDS)?;
-    let Ok(before) = run(
-        rt,
-        alloc,
-        state(alloc)?,
-        first.as_slice(),
-        1,
-        1,
-        &dcs,
-        &OpenGate,
-    ) else {
-        return None;
-    };
-    if before.ends() as u64 != RECORDS {
-        return None;
-    }
+    let before = put_all(rt, alloc, puts.as_slice(), &dcs)?;
     let storm = Storm {
         dcs,
         seed: AtomicU64::new(seed),
         late: Mutex::new(None),
     };
-    let calls = moves(alloc, calls)?;
-    let workers = workers as usize;
-    match run(
+    weather(
         rt,
         alloc,
         before.state,
-        calls.as_slice(),
-        workers,
-        TRIES,
+        moves.as_slice(),
+        workers as usize,
         &storm,
-        &OpenGate,
-    ) {
-        Ok(report) => Some(counted(&report)),
-        Err(_) => None,
-    }
+    )
 }
