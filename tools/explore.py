@@ -34,7 +34,8 @@ def put_at(value, place, n):
 
 # ---- procedures: the text, and what it does, as a generator of operations that is sent the answers
 
-HEADER = """\
+TEXTS = {
+    "put": """\
 proc put 2
 slot write 0 0 $0
   ldxdw r6, [r1+8]
@@ -45,6 +46,8 @@ slot write 0 0 $0
   call 2
   exit
 end
+""",
+    "get": """\
 proc get 1
 slot read 0 0 $0
   mov r1, 0
@@ -55,6 +58,8 @@ slot read 0 0 $0
   mov r0, 1
   exit
 end
+""",
+    "move": """\
 proc move 3
 slot write 0 0 $0
 slot write 0 0 $1
@@ -81,6 +86,8 @@ slot write 0 0 $1
   mov r0, 1
   exit
 end
+""",
+    "pair": """\
 proc pair 2
 slot write 0 0 $0
 slot write 1 7 $0
@@ -98,6 +105,8 @@ slot write 1 7 $0
   mov r0, r6
   exit
 end
+""",
+    "renew": """\
 proc renew 2
 slot write 1 7 $0
   ldxdw r6, [r1+8]
@@ -113,6 +122,8 @@ slot write 1 7 $0
   add r0, r7
   exit
 end
+""",
+    "churn": """\
 proc churn 1
 slot write 0 0 $0
 slot write 1 7 3
@@ -129,7 +140,9 @@ slot write 1 7 3
   mov r0, 4
   exit
 end
-"""
+""",
+}
+HEADER = "".join(TEXTS.values())
 
 
 def failed(said):
@@ -603,7 +616,8 @@ def main():
                 sys.exit(1)
             world = World(dcs)
             for step in steps:
-                made[" ".join(world.step(*step).split()[: 2 if step[0] == "admit" else 1]).rstrip("0123456789 ")] += 1
+                words = world.step(*step).split()
+                made[" ".join(words[: 2 if words[0] == "illegal" else 1])] += 1
             seed += 1
     print(f"{seed - options.seed} scripts, {sum(made.values())} steps, no difference")
     for word, count in made.most_common():

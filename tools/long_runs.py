@@ -18,49 +18,14 @@ import subprocess
 import sys
 import tempfile
 
+from explore import TEXTS
+
 TOP = pathlib.Path(__file__).resolve().parent.parent
 PROCD = TOP / "crates" / "procd" / "out" / "procd"
 BENCH = TOP / "crates" / "bench" / "out" / "bench"
 RECORDS, AMOUNT = 1000, 1_000_000
 
-PROCEDURES = """\
-proc put 2
-slot write 0 0 $0
-  ldxdw r6, [r1+8]
-  mov r1, 0
-  call 5
-  stxdw [r0+0], r6
-  mov r1, 0
-  call 2
-  exit
-end
-proc move 3
-slot write 0 0 $0
-slot write 0 0 $1
-  ldxdw r6, [r1+16]
-  mov r1, 0
-  call 1
-  jeq r0, 0, +16
-  mov r7, r0
-  mov r1, 1
-  call 1
-  jeq r0, 0, +12
-  mov r8, r0
-  ldxdw r2, [r7+0]
-  sub r2, r6
-  stxdw [r7+0], r2
-  ldxdw r2, [r8+0]
-  add r2, r6
-  stxdw [r8+0], r2
-  mov r1, 0
-  call 3
-  mov r1, 1
-  call 3
-  exit
-  mov r0, 1
-  exit
-end
-"""
+PROCEDURES = TEXTS["put"] + TEXTS["move"]
 
 
 def script(calls, seed):
