@@ -4,15 +4,20 @@
 outside/SUITE/cases.jsonl has code as hex, its arguments and the answer that the suite's own tool
 gave; outside/README.md says where each suite comes from. Each case becomes a lemma of
 crates/semantics/proofs/SUITERows.antt: the definitions, computed by the prover on these bytes,
-give that answer. Writes these files."""
+give that answer. A suite that is too long for one file is cut into SUITERows1.antt, SUITERows2.antt
+and so on. Writes these files."""
 import glob
 import json
 import os
+import textwrap
 
 HERE = os.path.dirname(os.path.abspath(__file__))
 PROOFS = os.path.join(HERE, "..", "crates", "semantics", "proofs")
 
-HEAD = """-- Code and answers of others ({said}): the definitions, computed, give these answers.
+LINES_IN_A_FILE = 780
+
+HEAD = """-- Code and answers of others: {said}.
+-- The definitions, computed, give these answers.
 -- A slot is written as the 64-bit number that its bytes are, little-endian. Made by tools/outside_rows.py.
 use Rattle.std.proofs.Common.{{◌≡◌, [], ◌∷◌, Some, refl}}
 use Rattle.semantics.specs.Row.{{{words}}}
@@ -38,6 +43,14 @@ def listed(items):
     return " ∷ ".join(list(items) + ["[]"])
 
 
+def wrapped(statement):
+    """The statement on lines of at most 120 columns, its answer on one of them."""
+    start, answer = statement.rsplit(" ≡ ", 1)
+    kept = start + " ≡\0" + answer.replace(" ", "\0")
+    lines = textwrap.fill(kept, 120, subsequent_indent="    ", break_long_words=False, break_on_hyphens=False)
+    return lines.replace("\0", " ")
+
+
 def is_row(case):
     """Whether it is code of this profile whose answer is told."""
     return not case.get("note", "").startswith("reads before written")
@@ -55,18 +68,37 @@ def rows(path, suite):
                 word, wanted = "low_answer_to", case["expected"] % 2**32
             args = listed(str(a) for a in case["args"])
             name = f"{suite.replace('-', '_')}_{number}"
-            yield word, f"-- {case['name']}\n{name} : {word} ({listed(slots(case['hex']))}) ({args}) ≡ Some {wanted}\n{name} = refl\n"
+            statement = f"{name} : {word} ({listed(slots(case['hex']))}) ({args}) ≡ Some {wanted}"
+            yield word, f"-- {case['name']}\n{wrapped(statement)}\n{name} = refl\n"
+
+
+def files(suite, made):
+    """The modules of a suite, each with its rows."""
+    parts = [[]]
+    lines = 0
+    for row in made:
+        lines += row[1].count("\n") + 1
+        if lines > LINES_IN_A_FILE:
+            parts.append([])
+            lines = row[1].count("\n") + 1
+        parts[-1].append(row)
+    module = "".join(part.capitalize() for part in suite.split("-")) + "Rows"
+    for number, part in enumerate(parts, 1):
+        yield (module if len(parts) == 1 else f"{module}{number}"), part
+
+
+def write(module, suite, made):
+    words = [word for word in ("answer_to", "low_answer_to") if any(word == used for used, _ in made)]
+    with open(os.path.join(PROOFS, module + ".antt"), "w") as file:
+        file.write(HEAD.format(said=SAID[suite], words=", ".join(words)) + "\n" + "\n".join(text for _, text in made))
+    print(module, len(made))
 
 
 def main():
     for path in sorted(glob.glob(os.path.join(HERE, "outside", "*", "cases.jsonl"))):
         suite = os.path.basename(os.path.dirname(path))
-        made = list(rows(path, suite))
-        words = [word for word in ("answer_to", "low_answer_to") if any(word == used for used, _ in made)]
-        module = "".join(part.capitalize() for part in suite.split("-")) + "Rows"
-        with open(os.path.join(PROOFS, module + ".antt"), "w") as file:
-            file.write(HEAD.format(said=SAID[suite], words=", ".join(words)) + "\n" + "\n".join(text for _, text in made))
-        print(module, len(made))
+        for module, made in files(suite, list(rows(path, suite))):
+            write(module, suite, made)
 
 
 main()

@@ -2,40 +2,26 @@
 """word_rows.py [LLVM_MC]: each word of the assembly text with the bytes that LLVM's assembler gives.
 
 Each word of the text stands here beside the same instruction in the syntax of LLVM_MC (llvm-mc-19),
-which says the bytes. Writes crates/bpf_asm/proofs/WordRows.antt: the definitions, computed by the
-prover, give these bytes for the text."""
+which says the bytes. Writes crates/bpf_asm/proofs/WordRows1.antt and so on: the definitions, computed
+by the prover, give these bytes for the text."""
 import os
 import re
 import subprocess
 import sys
 
 HERE = os.path.dirname(os.path.abspath(__file__))
-FILE = os.path.join(HERE, "..", "crates", "bpf_asm", "proofs", "WordRows.antt")
+PROOFS = os.path.join(HERE, "..", "crates", "bpf_asm", "proofs")
 
 HEAD = """-- Each word of the assembly text: what it says is what LLVM's assembler (llvm-mc 19) writes for the text beside it.
 -- A slot is written as the 64-bit number that its bytes are, little-endian. Made by tools/word_rows.py.
-use Rattle.std.proofs.Common.{◌≡◌, ℕ, List, [], ◌∷◌, Option, Some, None, refl}
-use Rattle.std.specs.Prelude.{Result, Ok, Err, codes}
-use Rattle.std.specs.List.{flat_map}
-use Rattle.std.specs.Int.{w64, to_le_bytes}
-use Rattle.bpf_encoding.specs.Fields.{Fields, slots_of}
-use Rattle.bpf_encoding.specs.Spelling.{fields_of_code}
-use Rattle.bpf_encoding.specs.declared.insn.Place.{Place}
-use Rattle.bpf_asm.specs.declared.assemble.AsmFault.{AsmFault}
+use Rattle.std.proofs.Common.{◌≡◌, [], ◌∷◌, refl}
+use Rattle.std.specs.Prelude.{codes}
 use Rattle.bpf_asm.specs.Cutting.{trim}
-use Rattle.bpf_asm.specs.Lines.{assembled}
-
-abbrev slots_in : Result (List Place) AsmFault → Option (List Fields)
-slots_in (Ok places) = Some (fields_of_code places)
-slots_in (Err fault) = None
-
-abbrev said : List ℕ → Option (List Fields)
-said text = slots_in (assembled text)
-
-abbrev spelled : List ℕ → Option (List Fields)
-spelled slots = Some (slots_of (flat_map (to_le_bytes w64) slots))
+use Rattle.bpf_asm.proofs.WordStart.{said, spelled}
 
 """
+
+ROWS_IN_A_FILE = 100
 
 ALU = {
     "add": "+=",
@@ -121,8 +107,9 @@ def main():
     rows = []
     for number, ((text, other), numbers) in enumerate(zip(pairs, found)):
         rows.append(f'-- {other}\nword_{number} : said (codes "{text}") ≡ spelled ({" ∷ ".join(numbers + ["[]"])})\nunfolding trim\nword_{number} = refl\n')
-    with open(FILE, "w") as file:
-        file.write(HEAD + "\n".join(rows))
+    for part, start in enumerate(range(0, len(rows), ROWS_IN_A_FILE), 1):
+        with open(os.path.join(PROOFS, f"WordRows{part}.antt"), "w") as file:
+            file.write(HEAD + "\n".join(rows[start : start + ROWS_IN_A_FILE]))
     print(len({text.split()[0] for text, _ in pairs}), "words", len(rows), "rows")
 
 

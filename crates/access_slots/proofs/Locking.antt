@@ -1,5 +1,6 @@
 -- Locks put in, one after another.
-use Rattle.std.proofs.Common.{arith, ◌≡◌, ℕ, zero, suc, nat_lt, ◌+◌, ◌<◌, ◌≤◌, Bool, true, false, if◌then◌else◌, List, [], ◌∷◌, ◌++◌, length, sym, refl, ap, ap₂, ◌∙◌, one-add}
+use Rattle.std.proofs.Common.{arith, ◌≡◌, ℕ, zero, suc, nat_lt, ◌+◌, ◌<◌, ◌≤◌, Bool, true, false, if◌then◌else◌, List}
+use Rattle.std.proofs.Common.{[], ◌∷◌, ◌++◌, length, sym, refl, ap, ap₂, ◌∙◌, one-add}
 use Rattle.std.specs.Prelude.{Option, Some, None, slice_get, slice_index_or}
 use Rattle.std.specs.List.{prefix_len, insert}
 use Rattle.std.proofs.lemmas.Bool.{cond-true, cond-false, ltb-false}
@@ -24,7 +25,8 @@ before r l = record_less l.«record» r
 abbrev pub put_at : Record → Mode → List Lock → ℕ → List Lock
 put_at r m locks place = if locked_at (slice_get locks place) r then raised locks place m else insert locks place (lock r m)
 
-raised_further : (o : Option Lock) (l : Lock) (locks : List Lock) (place : ℕ) (m : Mode) → raised_by o (l ∷ locks) (suc place) m ≡ l ∷ raised_by o locks place m
+raised_further : (o : Option Lock) (l : Lock) (locks : List Lock) (place : ℕ) (m : Mode)
+    → raised_by o (l ∷ locks) (suc place) m ≡ l ∷ raised_by o locks place m
 raised_further None l locks place m = refl
 raised_further (Some x) l locks place m = refl
 
@@ -37,7 +39,8 @@ put_further r m l locks place =
     ap (λ (x : List Lock). if locked_at (slice_get locks place) r then x else l ∷ insert locks place (lock r m)) (raised_further (slice_get locks place) l locks place m)
     ∙ further (locked_at (slice_get locks place) r) l (raised locks place m) (insert locks place (lock r m))
 
-by_order : (b : Bool) (r : Record) (m : Mode) (l : Lock) (locks : List Lock) → before r l ≡ b → added r m locks ≡ put_at r m locks (prefix_len (before r) locks)
+by_order : (b : Bool) (r : Record) (m : Mode) (l : Lock) (locks : List Lock) → before r l ≡ b
+    → added r m locks ≡ put_at r m locks (prefix_len (before r) locks)
     → added r m (l ∷ locks) ≡ put_at r m (l ∷ locks) (prefix_len (before r) (l ∷ locks))
 by_order true r m l locks is later =
     cond-true _ _ _ is
@@ -53,7 +56,9 @@ added_at r m (l ∷ locks) = by_order (before r l) r m l locks refl (added_at r 
 
 -- ---- they still rise
 
-rising_choice : (b e : Bool) (a r : Record) (m : Mode) (l : Lock) (locks rest : List Lock) → before r l ≡ b → record_eq l.«record» r ≡ e → record_less a r ≡ true → RisingFrom a (l ∷ locks) → (before r l ≡ true → RisingFrom l.«record» rest)
+rising_choice : (b e : Bool) (a r : Record) (m : Mode) (l : Lock) (locks rest : List Lock) → before r l ≡ b
+    → record_eq l.«record» r ≡ e → record_less a r ≡ true → RisingFrom a (l ∷ locks)
+    → (before r l ≡ true → RisingFrom l.«record» rest)
     → RisingFrom a (if b then l ∷ rest else if e then lock l.«record» (greater l.mode m) ∷ locks else lock r m ∷ l ∷ locks)
 rising_choice true e a r m l locks rest less eq above h later = (h.0, later less)
 rising_choice false true a r m l locks rest less eq above h later = h
@@ -63,7 +68,8 @@ rising_above : (a r : Record) (m : Mode) (locks : List Lock) → record_less a r
 rising_above a r m [] above h = (above, tt)
 rising_above a r m (l ∷ locks) above h = rising_choice (before r l) (record_eq l.«record» r) a r m l locks (added r m locks) refl refl above h (λ less. rising_above l.«record» r m locks less h.1)
 
-first_choice : (b e : Bool) (r : Record) (m : Mode) (l : Lock) (locks rest : List Lock) → before r l ≡ b → record_eq l.«record» r ≡ e → Rising (l ∷ locks) → (before r l ≡ true → RisingFrom l.«record» rest)
+first_choice : (b e : Bool) (r : Record) (m : Mode) (l : Lock) (locks rest : List Lock) → before r l ≡ b
+    → record_eq l.«record» r ≡ e → Rising (l ∷ locks) → (before r l ≡ true → RisingFrom l.«record» rest)
     → Rising (if b then l ∷ rest else if e then lock l.«record» (greater l.mode m) ∷ locks else lock r m ∷ l ∷ locks)
 first_choice true e r m l locks rest less eq h later = later less
 first_choice false true r m l locks rest less eq h later = h
@@ -100,7 +106,8 @@ none_above r [] h = refl
 none_above r (l ∷ locks) h =
     cond-false _ _ _ (eq_turned l.«record» r ∙ less_not_eq r l.«record» h.0) ∙ none_above r locks (rising_lower r l.«record» locks h.0 h.1)
 
-same_choice : (b e : Bool) (r : Record) (m : Mode) (l : Lock) (locks rest : List Lock) → before r l ≡ b → record_eq l.«record» r ≡ e → Rising (l ∷ locks) → mode_in rest r ≡ Some (after (mode_in locks r) m)
+same_choice : (b e : Bool) (r : Record) (m : Mode) (l : Lock) (locks rest : List Lock) → before r l ≡ b
+    → record_eq l.«record» r ≡ e → Rising (l ∷ locks) → mode_in rest r ≡ Some (after (mode_in locks r) m)
     → mode_in (if b then l ∷ rest else if e then lock l.«record» (greater l.mode m) ∷ locks else lock r m ∷ l ∷ locks) r ≡ Some (after (mode_in (l ∷ locks) r) m)
 same_choice true e r m l locks rest less eq h later =
     let apart = less_not_eq l.«record» r less in
@@ -118,7 +125,8 @@ pub mode_same : (r : Record) (m : Mode) (locks : List Lock) → Rising locks →
 mode_same r m [] h = cond-true _ _ _ (eq_same r)
 mode_same r m (l ∷ locks) h = same_choice (before r l) (record_eq l.«record» r) r m l locks (added r m locks) refl refl h (mode_same r m locks (rising_rest l locks h))
 
-other_choice : (b e : Bool) (r q : Record) (m : Mode) (l : Lock) (locks rest : List Lock) → record_eq l.«record» r ≡ e → record_eq r q ≡ false → mode_in rest q ≡ mode_in locks q
+other_choice : (b e : Bool) (r q : Record) (m : Mode) (l : Lock) (locks rest : List Lock) → record_eq l.«record» r ≡ e
+    → record_eq r q ≡ false → mode_in rest q ≡ mode_in locks q
     → mode_in (if b then l ∷ rest else if e then lock l.«record» (greater l.mode m) ∷ locks else lock r m ∷ l ∷ locks) q ≡ mode_in (l ∷ locks) q
 other_choice true e r q m l locks rest eq apart later = ap (λ (o : Option Mode). if record_eq l.«record» q then Some l.mode else o) later
 other_choice false true r q m l locks rest eq apart later =
@@ -148,13 +156,15 @@ more_named false o m = o
 read_last : (m : Mode) → greatest m None ≡ m
 read_last m = refl
 
-named_step : (e f : Bool) (m n : Mode) (o : Option Mode) → (if e then Some (greatest m (more_named f o n)) else more_named f o n) ≡ more_named f (if e then Some (greatest m o) else o) n
+named_step : (e f : Bool) (m n : Mode) (o : Option Mode)
+    → (if e then Some (greatest m (more_named f o n)) else more_named f o n) ≡ more_named f (if e then Some (greatest m o) else o) n
 named_step true true m n o = ap Some (greatest_after m o n)
 named_step true false m n o = refl
 named_step false true m n o = refl
 named_step false false m n o = refl
 
-named_more : (args : List ℕ) (slots : List Slot) (s : Slot) (q : Record) → mode_named args (slots ++ s ∷ []) q ≡ more_named (record_eq (record_of args s) q) (mode_named args slots q) s.mode
+named_more : (args : List ℕ) (slots : List Slot) (s : Slot) (q : Record)
+    → mode_named args (slots ++ s ∷ []) q ≡ more_named (record_eq (record_of args s) q) (mode_named args slots q) s.mode
 named_more args [] s q = first (record_eq (record_of args s) q)
   where
     first : (e : Bool) → (if e then Some (greatest s.mode None) else None) ≡ more_named e None s.mode
@@ -164,7 +174,8 @@ named_more args (t ∷ slots) s q =
     ap (λ (o : Option Mode). if record_eq (record_of args t) q then Some (greatest t.mode o) else o) (named_more args slots s q)
     ∙ named_step (record_eq (record_of args t) q) (record_eq (record_of args s) q) t.mode s.mode (mode_named args slots q)
 
-mode_added : (e : Bool) (r q : Record) (m : Mode) (locks : List Lock) → record_eq r q ≡ e → Rising locks → mode_in (added r m locks) q ≡ more_named e (mode_in locks q) m
+mode_added : (e : Bool) (r q : Record) (m : Mode) (locks : List Lock) → record_eq r q ≡ e → Rising locks
+    → mode_in (added r m locks) q ≡ more_named e (mode_in locks q) m
 mode_added false r q m locks is h = mode_other r q m locks is
 mode_added true r q m locks is h = same_named r q m locks is h
   where
@@ -173,10 +184,12 @@ mode_added true r q m locks is h = same_named r q m locks is h
     alike [] a b eq = refl
     alike (l ∷ ls) a b eq = ap₂ (λ (x : Bool) (o : Option Mode). if x then Some l.mode else o) (eq_swap l.«record» a b eq) (alike ls a b eq)
 
-    same_named : (a b : Record) (n : Mode) (ls : List Lock) → record_eq a b ≡ true → Rising ls → mode_in (added a n ls) b ≡ Some (after (mode_in ls b) n)
+    same_named : (a b : Record) (n : Mode) (ls : List Lock) → record_eq a b ≡ true → Rising ls
+        → mode_in (added a n ls) b ≡ Some (after (mode_in ls b) n)
     same_named a b n ls eq rises = alike (added a n ls) a b eq ∙ mode_same a n ls rises ∙ ap (λ (o : Option Mode). Some (after o n)) (sym (alike ls a b eq))
 
-pub locks_more : (args : List ℕ) (slots : List Slot) (s : Slot) (locks : List Lock) → AreLocksOf args slots locks → Rising locks → AreLocksOf args (slots ++ s ∷ []) (added (record_of args s) s.mode locks)
+pub locks_more : (args : List ℕ) (slots : List Slot) (s : Slot) (locks : List Lock) → AreLocksOf args slots locks
+    → Rising locks → AreLocksOf args (slots ++ s ∷ []) (added (record_of args s) s.mode locks)
 locks_more args slots s locks are h = λ q.
     mode_added (record_eq (record_of args s) q) (record_of args s) q s.mode locks refl h
     ∙ ap (λ (o : Option Mode). more_named (record_eq (record_of args s) q) o s.mode) (are q)
@@ -184,11 +197,15 @@ locks_more args slots s locks are h = λ q.
 
 -- ---- what was put in
 
-pub raised_is_added : (r : Record) (m : Mode) (locks : List Lock) (place : ℕ) (new : List Lock) → place ≡ prefix_len (before r) locks → true ≡ locked_at (slice_get locks place) r → new ≡ raised locks place m → new ≡ added r m locks
+pub raised_is_added : (r : Record) (m : Mode) (locks : List Lock) (place : ℕ) (new : List Lock)
+    → place ≡ prefix_len (before r) locks → true ≡ locked_at (slice_get locks place) r → new ≡ raised locks place m
+    → new ≡ added r m locks
 raised_is_added r m locks place new at is h =
     h ∙ sym (added_at r m locks ∙ ap (put_at r m locks) (sym at) ∙ ap (λ (b : Bool). if b then raised locks place m else insert locks place (lock r m)) (sym is))
 
-pub inserted_is_added : (r : Record) (m : Mode) (locks : List Lock) (place : ℕ) (new : List Lock) → place ≡ prefix_len (before r) locks → false ≡ locked_at (slice_get locks place) r → new ≡ insert locks place (lock r m) → new ≡ added r m locks
+pub inserted_is_added : (r : Record) (m : Mode) (locks : List Lock) (place : ℕ) (new : List Lock)
+    → place ≡ prefix_len (before r) locks → false ≡ locked_at (slice_get locks place) r
+    → new ≡ insert locks place (lock r m) → new ≡ added r m locks
 inserted_is_added r m locks place new at is h =
     h ∙ sym (added_at r m locks ∙ ap (put_at r m locks) (sym at) ∙ ap (λ (b : Bool). if b then raised locks place m else insert locks place (lock r m)) (sym is))
 
@@ -198,7 +215,8 @@ bad_or_later : (b : Bool) (x : DeclFault) (o : Option DeclFault) → (if b then 
 bad_or_later true x o h = (refl, h)
 bad_or_later false x o h = absurd (let bad : Some x ≡ None = h in cc)
 
-pub all_named : (args place : ℕ) (slots : List Slot) (k : ℕ) (d : Slot) → first_bad args place slots ≡ None → k < length slots → names_argument args (slice_index_or slots k d).key ≡ true
+pub all_named : (args place : ℕ) (slots : List Slot) (k : ℕ) (d : Slot) → first_bad args place slots ≡ None
+    → k < length slots → names_argument args (slice_index_or slots k d).key ≡ true
 all_named args place [] k d none inside = absurd (omega (arith, inside))
 all_named args place (s ∷ slots) zero d none inside = (bad_or_later (names_argument args s.key) (NoSuchArg place) (first_bad args (suc place) slots) none).0
 all_named args place (s ∷ slots) (suc k) d none inside =
@@ -214,5 +232,6 @@ declared args slots none =
     let parts = no_fault (nat_lt 8 args) (nat_lt 16 (length slots)) TooManyArgs TooManySlots (first_bad args 0 slots) none in
     (ltb-false 16 (length slots) parts.0, parts.1)
 
-pub named_with : (n args : ℕ) (slots : List Slot) (k : ℕ) (d : Slot) → n ≡ args → first_bad args 0 slots ≡ None → k < length slots → names_argument n (slice_index_or slots k d).key ≡ true
+pub named_with : (n args : ℕ) (slots : List Slot) (k : ℕ) (d : Slot) → n ≡ args → first_bad args 0 slots ≡ None
+    → k < length slots → names_argument n (slice_index_or slots k d).key ≡ true
 named_with n args slots k d as_many none inside = ap (λ (m : ℕ). names_argument m (slice_index_or slots k d).key) as_many ∙ all_named args 0 slots k d none inside

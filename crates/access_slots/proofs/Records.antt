@@ -68,7 +68,8 @@ eq_is a b h =
 
 -- a test of modes that says whether they are one, for each two of them
 abbrev pub IsModeTest : (Mode → Mode → Bool) → Type 0
-IsModeTest test = (test mode.Read mode.Read ≡ true) × (test mode.Read mode.Write ≡ false) × (test mode.Write mode.Read ≡ false) × (test mode.Write mode.Write ≡ true)
+IsModeTest test = (test mode.Read mode.Read ≡ true) × (test mode.Read mode.Write ≡ false)
+    × (test mode.Write mode.Read ≡ false) × (test mode.Write mode.Write ≡ true)
 
 mode_is : (test : Mode → Mode → Bool) → IsModeTest test → (a b : Mode) → test a b ≡ true → a ≡ b
 mode_is test tells mode.Read mode.Read h = refl

@@ -1,5 +1,7 @@
 -- The line of an instruction says it again.
-use Rattle.std.proofs.Common.{arith, ◌≡◌, ℕ, ◌-◌, ◌^◌, ◌<◌, ◌≤◌, ℤ, pos, negsuc, Bool, true, false, ◌&&◌, ◌==◌, nat_le, nat_lt, not, if◌then◌else◌, List, [], ◌∷◌, ◌++◌, length, take, drop, Ok, Err, sym, refl, ap, ap₂, ◌∙◌, codes}
+use Rattle.std.proofs.Common.{arith, ◌≡◌, ℕ, ◌-◌, ◌^◌, ◌<◌, ◌≤◌, ℤ, pos, negsuc, Bool, true, false, ◌&&◌, ◌==◌}
+use Rattle.std.proofs.Common.{nat_le, nat_lt, not, if◌then◌else◌, List, [], ◌∷◌, ◌++◌, length, take, drop, Ok, Err}
+use Rattle.std.proofs.Common.{sym, refl, ap, ap₂, ◌∙◌, codes}
 use Rattle.std.specs.Prelude.{FitsSigned, Option, Some, None, Result, slice_index_or}
 use Rattle.std.specs.Int.{w16, w32}
 use Rattle.std.specs.List.{list_all, position_or_len}
@@ -24,9 +26,11 @@ use Rattle.bpf_asm.specs.Numbers.{and_then, has, number_said, jump_said}
 use Rattle.bpf_asm.specs.Operand.{register_name, register_said, source_said, address_said, memory_said, inside, in_register, in_slot, is_sign}
 use Rattle.bpf_asm.specs.Lines.{insn_of_texts, insn_said, line_said}
 use Rattle.bpf_asm.specs.Parts.{IsOperand, source_operand, operand_text, offset_text}
-use Rattle.bpf_asm.proofs.Plain.{is_plain, is_solid, AllSolid, tail_text, said_in_line, word_of_line, rest_of_line, operands_of_line, not_empty, first_found}
+use Rattle.bpf_asm.proofs.Plain.{is_plain, is_solid, AllSolid, tail_text, said_in_line, word_of_line, rest_of_line}
+use Rattle.bpf_asm.proofs.Plain.{operands_of_line, not_empty, first_found}
 use Rattle.bpf_asm.proofs.Back.{mnemonic_back, mnemonic_solid, register_back, register_solid}
-use Rattle.bpf_asm.proofs.NumbersBack.{IsWithin, number_back, jump_back, number_solid, offset_plain, offset_solid, wide_solid, number_no_register, has_first, solid_by}
+use Rattle.bpf_asm.proofs.NumbersBack.{IsWithin, number_back, jump_back, number_solid, offset_plain, offset_solid}
+use Rattle.bpf_asm.proofs.NumbersBack.{wide_solid, number_no_register, has_first, solid_by}
 
 -- ---- a line in parts
 
@@ -36,7 +40,8 @@ some_insn i = Ok (Some i)
 abbrev said : List ℕ → Result (Option Insn) LineFault
 said t = if is_empty t then Ok None else and_then (insn_said t) some_insn
 
-again : (x : ℕ) (xs : List ℕ) (mn : Mnemonic) (ts : List (List ℕ)) (i : Insn) → is_solid (x ∷ xs) ≡ true → AllSolid ts → mnemonic_said (x ∷ xs) ≡ Ok mn → insn_of_texts mn ts ≡ Ok i
+again : (x : ℕ) (xs : List ℕ) (mn : Mnemonic) (ts : List (List ℕ)) (i : Insn) → is_solid (x ∷ xs) ≡ true → AllSolid ts
+    → mnemonic_said (x ∷ xs) ≡ Ok mn → insn_of_texts mn ts ≡ Ok i
     → line_said ((x ∷ xs) ++ tail_text ts) ≡ Ok (Some i)
 again x xs mn ts i name solid is says =
     let line : List ℕ = (x ∷ xs) ++ tail_text ts in
@@ -48,11 +53,14 @@ again x xs mn ts i name solid is says =
     ∙ ap (λ (r : Result Mnemonic LineFault). and_then r (λ k. insn_of_texts k ts)) is
     ∙ says)
 
-by_name : (name : List ℕ) (mn : Mnemonic) (ts : List (List ℕ)) (i : Insn) → is_solid name ≡ true → AllSolid ts → mnemonic_said name ≡ Ok mn → insn_of_texts mn ts ≡ Ok i → line_said (name ++ tail_text ts) ≡ Ok (Some i)
+by_name : (name : List ℕ) (mn : Mnemonic) (ts : List (List ℕ)) (i : Insn) → is_solid name ≡ true → AllSolid ts
+    → mnemonic_said name ≡ Ok mn → insn_of_texts mn ts ≡ Ok i → line_said (name ++ tail_text ts) ≡ Ok (Some i)
 by_name [] mn ts i name solid is says = absurd (false≢true name)
 by_name (x ∷ xs) mn ts i name solid is says = again x xs mn ts i name solid is says
 
-pub line_again : (mn : Mnemonic) (ts : List (List ℕ)) (line : List ℕ) (i : Insn) → line ≡ mnemonic_name mn ++ tail_text ts → AllSolid ts → insn_of_texts mn ts ≡ Ok i → line_said line ≡ Ok (Some i)
+pub line_again : (mn : Mnemonic) (ts : List (List ℕ)) (line : List ℕ) (i : Insn)
+    → line ≡ mnemonic_name mn ++ tail_text ts → AllSolid ts → insn_of_texts mn ts ≡ Ok i
+    → line_said line ≡ Ok (Some i)
 line_again mn ts line i is solid says = ap line_said is ∙ by_name (mnemonic_name mn) mn ts i (mnemonic_solid mn) solid (mnemonic_back mn) says
 
 -- ---- lines as they are written
@@ -101,7 +109,8 @@ is_register R8 = refl
 is_register R9 = refl
 is_register R10 = refl
 
-by_letter : (t : List ℕ) (b : Bool) → has 0 114 t ≡ b → source_said t ≡ (if b then and_then (register_said t) in_register else and_then (number_said t) in_slot)
+by_letter : (t : List ℕ) (b : Bool) → has 0 114 t ≡ b
+    → source_said t ≡ (if b then and_then (register_said t) in_register else and_then (number_said t) in_slot)
 by_letter t b is = ap (λ (x : Bool). if x then and_then (register_said t) in_register else and_then (number_said t) in_slot) is
 
 pub source_back : (s : Source) → IsOperand (source_operand s) → source_said (operand_text (source_operand s)) ≡ Ok s

@@ -1,5 +1,6 @@
 -- Lines read one after another.
-use Rattle.std.proofs.Common.{arith, ◌≡◌, ℕ, ◌+◌, ◌<◌, ◌≤◌, Bool, true, false, if◌then◌else◌, List, [], ◌∷◌, ◌++◌, length, get_or, drop, sym, refl, ap, subst, ◌∙◌, Ok, Err}
+use Rattle.std.proofs.Common.{arith, ◌≡◌, ℕ, ◌+◌, ◌<◌, ◌≤◌, Bool, true, false, if◌then◌else◌, List, [], ◌∷◌, ◌++◌}
+use Rattle.std.proofs.Common.{length, get_or, drop, sym, refl, ap, subst, ◌∙◌, Ok, Err}
 use Rattle.std.specs.Prelude.{Option, Some, Result}
 use Rattle.std.proofs.lemmas.List.{at_drop_more, at_drop_all, append_assoc, append-nil, length-append}
 use Rattle.std.proofs.lemmas.Bool.{lt-ltb, le-ltb}
@@ -17,7 +18,8 @@ abbrev pub prefixed : List Insn → Result (List Insn) AsmFault → Result (List
 prefixed before (Ok insns) = Ok (before ++ insns)
 prefixed before (Err e) = Err e
 
-pub prefixed_first : (before : List Insn) (i : Insn) (rest : Result (List Insn) AsmFault) → prefixed before (first_then i rest) ≡ prefixed (before ++ i ∷ []) rest
+pub prefixed_first : (before : List Insn) (i : Insn) (rest : Result (List Insn) AsmFault)
+    → prefixed before (first_then i rest) ≡ prefixed (before ++ i ∷ []) rest
 prefixed_first before i (Ok insns) = ap Ok (sym (append_assoc before (i ∷ []) insns))
 prefixed_first before i (Err e) = refl
 

@@ -2,9 +2,13 @@
 use Rattle.std.proofs.Common.{◌≡◌, true, Ok, refl}
 use Rattle.bpf_encoding.specs.declared.insn.Register.{Register}
 use Rattle.bpf_encoding.specs.declared.insn.Register.TheVariants.{R0, R1, R2, R3, R4, R5, R6, R7, R8, R9, R10}
-use Rattle.bpf_encoding.specs.declared.insn.Operation.TheVariants.{Add, Sub, Mul, Div, SignedDiv, Or, And, LeftShift, RightShift, Mod, SignedMod, Xor, Mov, SignedRightShift}
+use Rattle.bpf_encoding.specs.declared.insn.Operation.TheVariants.{Add, Sub, Mul, Div, SignedDiv, Or, And, LeftShift}
+use Rattle.bpf_encoding.specs.declared.insn.Operation.TheVariants.{RightShift, Mod, SignedMod, Xor, Mov}
+use Rattle.bpf_encoding.specs.declared.insn.Operation.TheVariants.{SignedRightShift}
 use Rattle.bpf_encoding.specs.declared.insn.AtomicOperation.TheVariants as atomic
-use Rattle.bpf_encoding.specs.declared.insn.Condition.TheVariants.{Equal, Greater, GreaterOrEqual, AnyBit, NotEqual, SignedGreater, SignedGreaterOrEqual, Less, LessOrEqual, SignedLess, SignedLessOrEqual}
+use Rattle.bpf_encoding.specs.declared.insn.Condition.TheVariants.{Equal, Greater, GreaterOrEqual, AnyBit, NotEqual}
+use Rattle.bpf_encoding.specs.declared.insn.Condition.TheVariants.{SignedGreater, SignedGreaterOrEqual, Less}
+use Rattle.bpf_encoding.specs.declared.insn.Condition.TheVariants.{LessOrEqual, SignedLess, SignedLessOrEqual}
 use Rattle.bpf_encoding.specs.declared.insn.Width.TheVariants.{Bits64, Bits32}
 use Rattle.bpf_encoding.specs.declared.insn.Extension.TheVariants.{Byte64, Half64, Word64, Byte32, Half32}
 use Rattle.bpf_encoding.specs.declared.insn.ByteOrder.TheVariants.{Little, Big, Swap}

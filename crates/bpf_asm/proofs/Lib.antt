@@ -7,4 +7,6 @@ pub mod Back
 pub mod NumbersBack
 pub mod Again
 pub mod Lines
-pub mod WordRows
+pub mod WordStart
+pub mod WordRows1
+pub mod WordRows2

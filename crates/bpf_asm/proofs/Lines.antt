@@ -1,5 +1,6 @@
 -- The text of code says the code again.
-use Rattle.std.proofs.Common.{arith, subst, ◌≡◌, ℕ, ◌+◌, ◌^◌, ◌<◌, ◌≤◌, ℤ, Bool, true, false, ◌==◌, if◌then◌else◌, List, [], ◌∷◌, ◌++◌, map, length, All, Ok, Err, sym, refl, ap, ap₂, ◌∙◌, codes}
+use Rattle.std.proofs.Common.{arith, subst, ◌≡◌, ℕ, ◌+◌, ◌^◌, ◌<◌, ◌≤◌, ℤ, Bool, true, false, ◌==◌, if◌then◌else◌}
+use Rattle.std.proofs.Common.{List, [], ◌∷◌, ◌++◌, map, length, All, Ok, Err, sym, refl, ap, ap₂, ◌∙◌, codes}
 use Rattle.std.specs.Prelude.{Option, Some, None, Result, IfSome}
 use Rattle.std.specs.List.{slice_split}
 use Rattle.std.specs.Str.Lines.{lines, lines_of_parts, strip_carriage_return}
@@ -30,7 +31,8 @@ use Rattle.bpf_asm.proofs.Plain.{AllSolid, tail_text, no_newline, line_stays}
 use Rattle.bpf_asm.proofs.Back.{mnemonic_solid, register_back}
 use Rattle.bpf_asm.proofs.NumbersBack.{number_back, jump_back, wide_back}
 use Rattle.bpf_asm.proofs.Assembling.{places_of-append}
-use Rattle.bpf_asm.proofs.Again.{line_again, with_none, with_one, with_two, with_three, operand_solid, source_back, memory_back, within16, within32, half16, half32}
+use Rattle.bpf_asm.proofs.Again.{line_again, with_none, with_one, with_two, with_three, operand_solid, source_back}
+use Rattle.bpf_asm.proofs.Again.{memory_back, within16, within32, half16, half32}
 
 -- ---- the texts of an instruction's operands
 
@@ -71,10 +73,12 @@ written insn.Exit = with_none (mnemonic_name m.Exit)
 on_register : (r : Register) (f : Register → Result Insn LineFault) → and_then (register_said (register_name r)) f ≡ f r
 on_register r f = ap (λ (x : Result Register LineFault). and_then x f) (register_back r)
 
-on_source : (s : Source) (f : Source → Result Insn LineFault) → IsOperand (source_operand s) → and_then (source_said (operand_text (source_operand s))) f ≡ f s
+on_source : (s : Source) (f : Source → Result Insn LineFault) → IsOperand (source_operand s)
+    → and_then (source_said (operand_text (source_operand s))) f ≡ f s
 on_source s f fits = ap (λ (x : Result Source LineFault). and_then x f) (source_back s fits)
 
-on_memory : (r : Register) (z : ℤ) (f : Register × ℤ → Result Insn LineFault) → IsOperand (Memory r z) → and_then (memory_said (operand_text (Memory r z))) f ≡ f (r, z)
+on_memory : (r : Register) (z : ℤ) (f : Register × ℤ → Result Insn LineFault) → IsOperand (Memory r z)
+    → and_then (memory_said (operand_text (Memory r z))) f ≡ f (r, z)
 on_memory r z f fits = ap (λ (x : Result (Register × ℤ) LineFault). and_then x f) (memory_back r z fits)
 
 on_number : (n : ℤ) (f : ℤ → Result Insn LineFault) → IsOperand (Number n) → and_then (number_said (operand_text (Number n))) f ≡ f n
@@ -151,7 +155,8 @@ lines_of_text places fits = ap lines_of_parts (parts_of_text places fits) ∙ li
 
 -- ---- the code of the lines
 
-read_again : (insns : List Insn) (number slots : ℕ) → AllFit insns → slots + length (places_of insns) ≤ 4096 → insns_from number slots (map line_of insns) ≡ Ok insns
+read_again : (insns : List Insn) (number slots : ℕ) → AllFit insns → slots + length (places_of insns) ≤ 4096
+    → insns_from number slots (map line_of insns) ≡ Ok insns
 read_again [] number slots fits few = refl
 read_again (i ∷ insns) number slots fits few =
     let later = λ (s : ℕ). insns_from (number + 1) s (map line_of insns) in

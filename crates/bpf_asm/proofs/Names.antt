@@ -7,7 +7,8 @@ and-assoc : (a b d : Bool) → (a && (b && d)) ≡ ((a && b) && d)
 and-assoc true b d = refl
 and-assoc false b d = refl
 
-pub in_parts : (text stem suffix : List ℕ) → bytes_eq text (stem ++ suffix) ≡ (bytes_eq (take (length stem) text) stem && bytes_eq (drop (length stem) text) suffix)
+pub in_parts : (text stem suffix : List ℕ)
+    → bytes_eq text (stem ++ suffix) ≡ (bytes_eq (take (length stem) text) stem && bytes_eq (drop (length stem) text) suffix)
 in_parts text [] suffix = refl
 in_parts [] (s ∷ stem) suffix = refl
 in_parts (t ∷ text) (s ∷ stem) suffix = ap (λ (b : Bool). (t == s) && b) (in_parts text stem suffix) ∙ and-assoc (t == s) (bytes_eq (take (length stem) text) stem) (bytes_eq (drop (length stem) text) suffix)

@@ -1,5 +1,7 @@
 -- Each number is read as what it was written from.
-use Rattle.std.proofs.Common.{arith, ◌≡◌, ℕ, zero, suc, ◌*◌, ◌/◌, ◌%◌, ◌^◌, ◌<◌, ◌≤◌, ℤ, pos, negsuc, neg_ℤ, Bool, true, false, ◌&&◌, ◌==◌, nat_lt, nat_le, if◌then◌else◌, List, [], ◌∷◌, length, drop, Ok, Err, refl, ap, ap₂, ◌∙◌}
+use Rattle.std.proofs.Common.{arith, ◌≡◌, ℕ, zero, suc, ◌*◌, ◌/◌, ◌%◌, ◌^◌, ◌<◌, ◌≤◌, ℤ, pos, negsuc, neg_ℤ, Bool}
+use Rattle.std.proofs.Common.{true, false, ◌&&◌, ◌==◌, nat_lt, nat_le, if◌then◌else◌, List, [], ◌∷◌, length, drop, Ok}
+use Rattle.std.proofs.Common.{Err, refl, ap, ap₂, ◌∙◌}
 use Rattle.std.specs.Prelude.{Result}
 use Rattle.std.specs.List.{list_all}
 use Rattle.std.specs.Char.{digit_value, digit_char}
@@ -13,7 +15,8 @@ use Rattle.std.proofs.lemmas.List.{length-append}
 use Rattle.std.proofs.lemmas.List.Folds.{list_all-append}
 use Rattle.bpf_asm.specs.declared.line.LineFault.{LineFault}
 use Rattle.bpf_asm.specs.declared.line.LineFault.TheVariants.{BadNumber, OutOfRange}
-use Rattle.bpf_asm.specs.Numbers.{and_then, has, numeral, number_named, offset_named, within, number_said, wide_said, wide_within, jump_said, negative, positive}
+use Rattle.bpf_asm.specs.Numbers.{and_then, has, numeral, number_named, offset_named, within, number_said, wide_said}
+use Rattle.bpf_asm.specs.Numbers.{wide_within, jump_said, negative, positive}
 use Rattle.bpf_asm.specs.Parts.{hex_text, wide_text, offset_text}
 use Rattle.bpf_asm.proofs.Plain.{is_plain, is_solid}
 
@@ -34,7 +37,8 @@ digits_pass : (radix : ℕ) (cs : List ℕ) → AllDigits radix cs → DigitsPas
 digits_pass radix [] all = refl
 digits_pass radix (c ∷ cs) all = ap₂ (λ (a b : Bool). a && b) (lt-ltb (digit_value c) radix all.0) (digits_pass radix cs all.1)
 
-numeral_is : (radix : ℕ) (cs : List ℕ) (n : ℕ) → 0 < length cs → DigitsPass radix cs → digits_value radix cs ≡ n → n < 2 ^ 64 → numeral radix cs ≡ Ok n
+numeral_is : (radix : ℕ) (cs : List ℕ) (n : ℕ) → 0 < length cs → DigitsPass radix cs → digits_value radix cs ≡ n
+    → n < 2 ^ 64 → numeral radix cs ≡ Ok n
 numeral_is radix cs n some all value small =
     ap (λ (b : Bool). if b then (if nat_lt (digits_value radix cs) (2 ^ 64) then Ok (digits_value radix cs) else Err OutOfRange) else Err BadNumber)
     (ap₂ (λ (a b : Bool). a && b) (lt-ltb 0 (length cs) some) all)

@@ -1,5 +1,6 @@
 -- Texts without blanks, commas and the like, and lines that are made of them.
-use Rattle.std.proofs.Common.{arith, ◌≡◌, ℕ, ◌-◌, ◌<◌, ◌≤◌, Bool, true, false, not, ◌&&◌, ◌==◌, nat_lt, if◌then◌else◌, List, [], ◌∷◌, ◌++◌, map, length, get_or, take, drop, All, sym, refl, ap, ap₂, ◌∙◌}
+use Rattle.std.proofs.Common.{arith, ◌≡◌, ℕ, ◌-◌, ◌<◌, ◌≤◌, Bool, true, false, not, ◌&&◌, ◌==◌, nat_lt, if◌then◌else◌}
+use Rattle.std.proofs.Common.{List, [], ◌∷◌, ◌++◌, map, length, get_or, take, drop, All, sym, refl, ap, ap₂, ◌∙◌}
 use Rattle.std.specs.List.{list_all, prefix_len, suffix_len, position_or_len, slice_split}
 use Rattle.std.proofs.Math.Seq.{take-length, take-append_seam, drop-append_seam}
 use Rattle.std.proofs.lemmas.Bool.{false≢true, cond-true, cond-false}
@@ -50,7 +51,8 @@ none_found test (x ∷ xs) all =
     cond-true _ _ _ (both_left (not (test x)) (list_all (λ b. not (test b)) xs) all)
     ∙ (let n = none_found test xs (both_right (not (test x)) (list_all (λ b. not (test b)) xs) all) in omega (arith, n))
 
-pub first_found : (test : ℕ → Bool) (xs : List ℕ) (y : ℕ) (ys : List ℕ) → list_all (λ b. not (test b)) xs ≡ true → test y ≡ true → position_or_len test (xs ++ y ∷ ys) ≡ length xs
+pub first_found : (test : ℕ → Bool) (xs : List ℕ) (y : ℕ) (ys : List ℕ) → list_all (λ b. not (test b)) xs ≡ true
+    → test y ≡ true → position_or_len test (xs ++ y ∷ ys) ≡ length xs
 first_found test [] y ys all here = cond-false _ _ _ (ap not here)
 first_found test (x ∷ xs) y ys all here =
     cond-true _ _ _ (both_left (not (test x)) (list_all (λ b. not (test b)) xs) all)
@@ -143,17 +145,21 @@ module _ (test : ℕ → Bool) (plain : (b : ℕ) → is_plain b ≡ true → te
   all_line name ts solid others = all-append name (tail_text ts) (all_solid name solid) (all_tail ts others)
 
 -- it ends with no blank
-last_of_two : (x : ℕ) (xs ys : List ℕ) → is_plain (last_or x xs) ≡ true → ((y : ℕ) (more : List ℕ) → ys ≡ y ∷ more → is_plain (last_or y more) ≡ true) → is_plain (last_or x (xs ++ ys)) ≡ true
+last_of_two : (x : ℕ) (xs ys : List ℕ) → is_plain (last_or x xs) ≡ true
+    → ((y : ℕ) (more : List ℕ) → ys ≡ y ∷ more → is_plain (last_or y more) ≡ true)
+    → is_plain (last_or x (xs ++ ys)) ≡ true
 last_of_two x xs [] a b = ap (λ (l : List ℕ). is_plain (last_or x l)) (append-nil xs) ∙ a
 last_of_two x xs (y ∷ ys) a b = ap is_plain (last-append x xs y ys) ∙ b y ys refl
 
-ends_solid : (x : ℕ) (xs : List ℕ) (ts : List (List ℕ)) → list_all is_plain (x ∷ xs) ≡ true → AllSolid ts → is_plain (last_or x (xs ++ more_text ts)) ≡ true
+ends_solid : (x : ℕ) (xs : List ℕ) (ts : List (List ℕ)) → list_all is_plain (x ∷ xs) ≡ true → AllSolid ts
+    → is_plain (last_or x (xs ++ more_text ts)) ≡ true
 ends_solid x xs [] plain solid = ap (λ (l : List ℕ). is_plain (last_or x l)) (append-nil xs) ∙ plain_last x xs plain
 ends_solid x xs ([] ∷ ts) plain solid = absurd (false≢true solid.0)
 ends_solid x xs ((y ∷ ys) ∷ ts) plain solid =
     ap is_plain (last-append x xs 44 (32 ∷ y ∷ (ys ++ more_text ts))) ∙ ends_solid y ys ts (solid_all (y ∷ ys) solid.0) solid.1
 
-ends_line : (x : ℕ) (xs : List ℕ) (ts : List (List ℕ)) → list_all is_plain (x ∷ xs) ≡ true → AllSolid ts → is_plain (last_or x (xs ++ tail_text ts)) ≡ true
+ends_line : (x : ℕ) (xs : List ℕ) (ts : List (List ℕ)) → list_all is_plain (x ∷ xs) ≡ true → AllSolid ts
+    → is_plain (last_or x (xs ++ tail_text ts)) ≡ true
 ends_line x xs [] plain solid = ap (λ (l : List ℕ). is_plain (last_or x l)) (append-nil xs) ∙ plain_last x xs plain
 ends_line x xs ([] ∷ ts) plain solid = absurd (false≢true solid.0)
 ends_line x xs ((y ∷ ys) ∷ ts) plain solid =
@@ -161,7 +167,8 @@ ends_line x xs ((y ∷ ys) ∷ ts) plain solid =
 
 -- ---- what is read of such a line
 
-pub said_in_line : (x : ℕ) (xs : List ℕ) (ts : List (List ℕ)) → is_solid (x ∷ xs) ≡ true → AllSolid ts → said_in ((x ∷ xs) ++ tail_text ts) ≡ (x ∷ xs) ++ tail_text ts
+pub said_in_line : (x : ℕ) (xs : List ℕ) (ts : List (List ℕ)) → is_solid (x ∷ xs) ≡ true → AllSolid ts
+    → said_in ((x ∷ xs) ++ tail_text ts) ≡ (x ∷ xs) ++ tail_text ts
 said_in_line x xs ts name solid =
     let line : List ℕ = (x ∷ xs) ++ tail_text ts in
     let plain = solid_all (x ∷ xs) name in
@@ -188,7 +195,8 @@ no_commas : (t : List ℕ) → list_all is_plain t ≡ true → All (λ b. (b ==
 no_commas [] plain = All-nil (λ b. (b == 44) ≡ false)
 no_commas (x ∷ xs) plain = All-cons (λ b. (b == 44) ≡ false) x xs (not_comma x (both_left (is_plain x) (list_all is_plain xs) plain)) (no_commas xs (both_right (is_plain x) (list_all is_plain xs) plain))
 
-split_line : (t : List ℕ) (ts : List (List ℕ)) → is_solid t ≡ true → AllSolid ts → slice_split (λ b. b == 44) (32 ∷ (t ++ more_text ts)) ≡ (32 ∷ t) ∷ map (λ u. 32 ∷ u) ts
+split_line : (t : List ℕ) (ts : List (List ℕ)) → is_solid t ≡ true → AllSolid ts
+    → slice_split (λ b. b == 44) (32 ∷ (t ++ more_text ts)) ≡ (32 ∷ t) ∷ map (λ u. 32 ∷ u) ts
 split_line t [] solid others =
     ap (λ (l : List ℕ). slice_split (λ b. b == 44) (32 ∷ l)) (append-nil t)
     ∙ slice_split_none (λ b. b == 44) (32 ∷ t) (All-cons (λ b. (b == 44) ≡ false) 32 t refl (no_commas t (solid_all t solid)))
@@ -247,7 +255,8 @@ no_newline name ts solid others = All-from_test (λ b. b == 10) (name ++ tail_te
 not_return : (b : ℕ) → is_plain b ≡ true → (b == 13) ≡ false
 not_return b plain = grind (arith, nat_tests)
 
-pub line_stays : (name : List ℕ) (ts : List (List ℕ)) → is_solid name ≡ true → AllSolid ts → strip_carriage_return (name ++ tail_text ts) ≡ name ++ tail_text ts
+pub line_stays : (name : List ℕ) (ts : List (List ℕ)) → is_solid name ≡ true → AllSolid ts
+    → strip_carriage_return (name ++ tail_text ts) ≡ name ++ tail_text ts
 line_stays [] ts solid others = absurd (false≢true solid)
 line_stays (x ∷ xs) ts solid others =
     let line : List ℕ = (x ∷ xs) ++ tail_text ts in

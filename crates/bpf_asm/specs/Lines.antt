@@ -10,7 +10,9 @@ use Rattle.bpf_asm.specs.declared.line.LineFault.TheVariants as fault
 use Rattle.bpf_asm.specs.declared.assemble.AsmFault.{AsmFault}
 use Rattle.bpf_asm.specs.declared.assemble.AsmFault.TheVariants.{Line, TooLong, NoCode}
 use Rattle.bpf_asm.specs.declared.mnemonic.Mnemonic.{Mnemonic}
-use Rattle.bpf_asm.specs.declared.mnemonic.Mnemonic.TheVariants.{Alu, Negate, MoveSigned, Order, LoadWide, Jump, JumpLong, JumpIf, Load, LoadSigned, StoreImm, Store, Atomic, Call, Exit}
+use Rattle.bpf_asm.specs.declared.mnemonic.Mnemonic.TheVariants.{Alu, Negate, MoveSigned, Order, LoadWide, Jump}
+use Rattle.bpf_asm.specs.declared.mnemonic.Mnemonic.TheVariants.{JumpLong, JumpIf, Load, LoadSigned, StoreImm, Store}
+use Rattle.bpf_asm.specs.declared.mnemonic.Mnemonic.TheVariants.{Atomic, Call, Exit}
 use Rattle.bpf_asm.specs.Cutting.{said_in, word_of, rest_of, operand_texts, text_at, is_empty}
 use Rattle.bpf_asm.specs.Mnemonics.{mnemonic_said, operand_count}
 use Rattle.bpf_asm.specs.Numbers.{and_then, number_said, wide_said, jump_said}

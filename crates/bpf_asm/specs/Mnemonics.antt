@@ -4,13 +4,19 @@ use Rattle.std.specs.Str.{bytes_eq}
 use Rattle.bpf_asm.specs.declared.line.LineFault.{LineFault}
 use Rattle.bpf_asm.specs.declared.line.LineFault.TheVariants.{UnknownWord}
 use Rattle.bpf_asm.specs.declared.mnemonic.Mnemonic.{Mnemonic}
-use Rattle.bpf_asm.specs.declared.mnemonic.Mnemonic.TheVariants.{Alu, Negate, MoveSigned, Order, LoadWide, Jump, JumpLong, JumpIf, Load, LoadSigned, StoreImm, Store, Atomic, Call, Exit}
+use Rattle.bpf_asm.specs.declared.mnemonic.Mnemonic.TheVariants.{Alu, Negate, MoveSigned, Order, LoadWide, Jump}
+use Rattle.bpf_asm.specs.declared.mnemonic.Mnemonic.TheVariants.{JumpLong, JumpIf, Load, LoadSigned, StoreImm, Store}
+use Rattle.bpf_asm.specs.declared.mnemonic.Mnemonic.TheVariants.{Atomic, Call, Exit}
 use Rattle.bpf_encoding.specs.declared.insn.Operation.{Operation}
-use Rattle.bpf_encoding.specs.declared.insn.Operation.TheVariants.{Add, Sub, Mul, Div, SignedDiv, Or, And, LeftShift, RightShift, Mod, SignedMod, Xor, Mov, SignedRightShift}
+use Rattle.bpf_encoding.specs.declared.insn.Operation.TheVariants.{Add, Sub, Mul, Div, SignedDiv, Or, And, LeftShift}
+use Rattle.bpf_encoding.specs.declared.insn.Operation.TheVariants.{RightShift, Mod, SignedMod, Xor, Mov}
+use Rattle.bpf_encoding.specs.declared.insn.Operation.TheVariants.{SignedRightShift}
 use Rattle.bpf_encoding.specs.declared.insn.AtomicOperation.{AtomicOperation}
 use Rattle.bpf_encoding.specs.declared.insn.AtomicOperation.TheVariants as atomic
 use Rattle.bpf_encoding.specs.declared.insn.Condition.{Condition}
-use Rattle.bpf_encoding.specs.declared.insn.Condition.TheVariants.{Equal, Greater, GreaterOrEqual, AnyBit, NotEqual, SignedGreater, SignedGreaterOrEqual, Less, LessOrEqual, SignedLess, SignedLessOrEqual}
+use Rattle.bpf_encoding.specs.declared.insn.Condition.TheVariants.{Equal, Greater, GreaterOrEqual, AnyBit, NotEqual}
+use Rattle.bpf_encoding.specs.declared.insn.Condition.TheVariants.{SignedGreater, SignedGreaterOrEqual, Less}
+use Rattle.bpf_encoding.specs.declared.insn.Condition.TheVariants.{LessOrEqual, SignedLess, SignedLessOrEqual}
 use Rattle.bpf_encoding.specs.declared.insn.Width.{Width}
 use Rattle.bpf_encoding.specs.declared.insn.Width.TheVariants.{Bits64, Bits32}
 use Rattle.bpf_encoding.specs.declared.insn.Extension.{Extension}

@@ -1,5 +1,6 @@
 -- Operands: registers, sources and memory.
-use Rattle.std.specs.Prelude.{ℕ, ◌-◌, ◌^◌, ℤ, Bool, ◌&&◌, ◌||◌, ◌==◌, nat_le, if◌then◌else◌, List, [], ◌∷◌, take, drop, length, Result, Ok, Err, codes}
+use Rattle.std.specs.Prelude.{ℕ, ◌-◌, ◌^◌, ℤ, Bool, ◌&&◌, ◌||◌, ◌==◌, nat_le, if◌then◌else◌, List, [], ◌∷◌, take}
+use Rattle.std.specs.Prelude.{drop, length, Result, Ok, Err, codes}
 use Rattle.std.specs.List.{position_or_len}
 use Rattle.bpf_encoding.specs.declared.insn.Register.{Register}
 use Rattle.bpf_encoding.specs.declared.insn.Register.TheVariants.{R0, R1, R2, R3, R4, R5, R6, R7, R8, R9, R10}

@@ -1,5 +1,7 @@
 -- A row of places that grows, and its slots.
-use Rattle.std.proofs.Common.{◌≡◌, ℕ, zero, suc, ◌+◌, ◌-◌, ◌/◌, ◌%◌, ◌<◌, ◌≤◌, ◌^◌, Bool, true, false, if◌then◌else◌, List, [], ◌∷◌, ◌++◌, length, take, drop, Option, Some, None, refl, sym, ap, subst, ◌∙◌, arith, append_assoc, add-one}
+use Rattle.std.proofs.Common.{◌≡◌, ℕ, zero, suc, ◌+◌, ◌-◌, ◌/◌, ◌%◌, ◌<◌, ◌≤◌, ◌^◌, Bool, true, false, if◌then◌else◌}
+use Rattle.std.proofs.Common.{List, [], ◌∷◌, ◌++◌, length, take, drop, Option, Some, None, refl, sym, ap, subst, ◌∙◌}
+use Rattle.std.proofs.Common.{arith, append_assoc, add-one}
 use Rattle.std.specs.Prelude.{ℤ, pos, is_some}
 use Rattle.std.specs.Int.{w32, cast_signed, cast_unsigned}
 use Rattle.std.specs.Int.RustNames.{FitsSigned}
@@ -21,9 +23,11 @@ use Rattle.bpf_encoding.specs.declared.insn.Place.TheVariants as place
 use Rattle.bpf_encoding.specs.declared.slot.SlotFault.{SlotFault}
 use Rattle.bpf_encoding.specs.declared.decode.Due.{Due}
 use Rattle.bpf_encoding.specs.declared.decode.DecodeFault.{DecodeFault}
-use Rattle.bpf_encoding.specs.declared.decode.DecodeFault.TheVariants.{NoCode, Length, TooLong, WideCut, UnusedField, Undefined, OutsideProfile, Memory}
+use Rattle.bpf_encoding.specs.declared.decode.DecodeFault.TheVariants.{NoCode, Length, TooLong, WideCut, UnusedField}
+use Rattle.bpf_encoding.specs.declared.decode.DecodeFault.TheVariants.{Undefined, OutsideProfile, Memory}
 
-pub fields_behind-append : (high : ℕ) (xs : List Place) (i : Insn) (ys : List Place) → fields_behind high (xs ++ place.Insn i ∷ ys) ≡ fields_behind high xs ++ fields_of i ∷ fields_behind (high_half i) ys
+pub fields_behind-append : (high : ℕ) (xs : List Place) (i : Insn) (ys : List Place)
+    → fields_behind high (xs ++ place.Insn i ∷ ys) ≡ fields_behind high xs ++ fields_of i ∷ fields_behind (high_half i) ys
 fields_behind-append high [] i ys = refl
 fields_behind-append high (place.Insn j ∷ xs) i ys = ap (λ (fs : List Fields). fields_of j ∷ fs) (fields_behind-append (high_half j) xs i ys)
 fields_behind-append high (place.Second ∷ xs) i ys = ap (λ (fs : List Fields). second_fields high ∷ fs) (fields_behind-append 0 xs i ys)
@@ -42,7 +46,8 @@ is_whole-append false (place.Second ∷ xs) ys h = absurd cc
 is_whole-append true (place.Second ∷ xs) ys h = is_whole-append false xs ys h
 
 -- an instruction of one slot
-pub takes_insn : (places : List Place) (i : Insn) (f : Fields) → is_wide i ≡ false → fields_of i ≡ f → TakesSlot places None f (places ++ place.Insn i ∷ []) None
+pub takes_insn : (places : List Place) (i : Insn) (f : Fields) → is_wide i ≡ false → fields_of i ≡ f
+    → TakesSlot places None f (places ++ place.Insn i ∷ []) None
 takes_insn places i f narrow is = record {
   fields =
       append-nil (fields_of_code (places ++ place.Insn i ∷ [])) ∙ fields_behind-append 0 places i [] ∙ ap (λ (g : Fields). fields_of_code places ++ g ∷ []) is
@@ -57,7 +62,9 @@ takes_insn places i f narrow is = record {
 }
 
 -- the first slot of a wide instruction
-pub takes_wide : (places : List Place) (dst : Register) (value : ℕ) (f : Fields) (due : Due) → fields_of (LoadWide dst value) ≡ f → due.dst ≡ dst → due.low ≡ value % 2 ^ 32 → TakesSlot places None f places (Some due)
+pub takes_wide : (places : List Place) (dst : Register) (value : ℕ) (f : Fields) (due : Due)
+    → fields_of (LoadWide dst value) ≡ f → due.dst ≡ dst → due.low ≡ value % 2 ^ 32
+    → TakesSlot places None f places (Some due)
 takes_wide places dst value f due is dst_is low_is = record {
   fields =
       ap (λ (g : Fields). fields_of_code places ++ g ∷ []) (ap (λ (r : Register). fields 0x18 (number_of r) 0 (pos 0) (cast_signed w32 due.low)) dst_is ∙ ap (λ (n : ℕ). fields 0x18 (number_of dst) 0 (pos 0) (cast_signed w32 n)) low_is ∙ is)
@@ -73,7 +80,10 @@ takes_wide places dst value f due is dst_is low_is = record {
 }
 
 -- the second
-pub takes_second : (places : List Place) (due : Due) (value : ℕ) (imm : ℤ) → value % 2 ^ 32 ≡ due.low → value / 2 ^ 32 % 2 ^ 32 ≡ cast_unsigned w32 imm → value ≡ wide_named due.low (cast_unsigned w32 imm) → FitsSigned w32 imm → TakesSlot places (Some due) (fields 0 0 0 (pos 0) imm) ((places ++ place.Insn (LoadWide due.dst value) ∷ []) ++ place.Second ∷ []) None
+pub takes_second : (places : List Place) (due : Due) (value : ℕ) (imm : ℤ) → value % 2 ^ 32 ≡ due.low
+    → value / 2 ^ 32 % 2 ^ 32 ≡ cast_unsigned w32 imm → value ≡ wide_named due.low (cast_unsigned w32 imm)
+    → FitsSigned w32 imm
+    → TakesSlot places (Some due) (fields 0 0 0 (pos 0) imm) ((places ++ place.Insn (LoadWide due.dst value) ∷ []) ++ place.Second ∷ []) None
 takes_second places due value imm low_is high_is value_is fits =
     let both = append_assoc places (place.Insn (LoadWide due.dst value) ∷ []) (place.Second ∷ []) in
     let first : fields_of (LoadWide due.dst value) ≡ fields 0x18 (number_of due.dst) 0 (pos 0) (cast_signed w32 due.low) = ap (λ (n : ℕ). fields 0x18 (number_of due.dst) 0 (pos 0) (cast_signed w32 n)) low_is in
@@ -90,12 +100,14 @@ takes_second places due value imm low_is high_is value_is fits =
       faults = λ place fs. refl;
     }
 
-pub blank_fields : (opcode dst src : ℕ) (offset imm : ℤ) → opcode ≡ 0 → dst ≡ 0 → src ≡ 0 → offset ≡ pos 0 → fields 0 0 0 (pos 0) imm ≡ fields opcode dst src offset imm
+pub blank_fields : (opcode dst src : ℕ) (offset imm : ℤ) → opcode ≡ 0 → dst ≡ 0 → src ≡ 0 → offset ≡ pos 0
+    → fields 0 0 0 (pos 0) imm ≡ fields opcode dst src offset imm
 blank_fields opcode dst src offset imm o d s z = cc
 
 -- ---- the loop over the slots
 
-pub fields_go_on : (count at : ℕ) (before : List Fields) (rest : List ℕ) (after : List Fields) (total : List Fields) → at < count → after ≡ before ++ fields_of_bytes (take 8 rest) ∷ []
+pub fields_go_on : (count at : ℕ) (before : List Fields) (rest : List ℕ) (after : List Fields) (total : List Fields)
+    → at < count → after ≡ before ++ fields_of_bytes (take 8 rest) ∷ []
     → before ++ slots_from (count - at) rest ≡ total → after ++ slots_from (count - (at + 1)) (drop 8 rest) ≡ total
 fields_go_on count at before rest after total lt is so_far =
     let k : count - at ≡ suc (count - (at + 1)) = omega arith in
@@ -117,7 +129,8 @@ named_goes_on count at half half' before after rest total lt is so_far =
     let k : count - at ≡ suc (count - (at + 1)) = omega arith in
     is (slots_from (count - (at + 1)) (drop 8 rest)) ∙ ap (λ (n : ℕ). before ++ named_from half (slots_from n rest)) (sym k) ∙ so_far
 
-pub fault_is_first : (count at : ℕ) (due : Option Due) (rest : List ℕ) (total : Option DecodeFault) (e : DecodeFault) → at < count → IsFaultHere due at (fields_of_bytes (take 8 rest)) e
+pub fault_is_first : (count at : ℕ) (due : Option Due) (rest : List ℕ) (total : Option DecodeFault) (e : DecodeFault)
+    → at < count → IsFaultHere due at (fields_of_bytes (take 8 rest)) e
     → first_fault (is_some due) at (slots_from (count - at) rest) ≡ total → IsFirstFault total e
 fault_is_first count at due rest total e lt here so_far =
     let k : count - at ≡ suc (count - (at + 1)) = omega arith in
@@ -132,7 +145,8 @@ length-slots_from (suc n) bytes = ap suc (length-slots_from n (drop 8 bytes))
 
 -- ---- what is spelled has no fault
 
-no_fault_from : (high : ℕ) (due : Bool) (places : List Place) (at : ℕ) → is_whole due places ≡ true → first_fault due at (fields_behind high places) ≡ None
+no_fault_from : (high : ℕ) (due : Bool) (places : List Place) (at : ℕ) → is_whole due places ≡ true
+    → first_fault due at (fields_behind high places) ≡ None
 no_fault_from high false [] at h = refl
 no_fault_from high true [] at h = absurd cc
 no_fault_from high false (place.Insn i ∷ places) at h =
@@ -153,10 +167,12 @@ none_first first (UnusedField slot) none h = let both = sym none ∙ h in absurd
 none_first first (Undefined slot) none h = let both = sym none ∙ h in absurd cc
 none_first first (OutsideProfile slot which) none h = let both = sym none ∙ h in absurd cc
 
-pub only_memory : (bytes : List ℕ) (places : List Place) (e : DecodeFault) → Spells bytes places → IsFirstFault (first_fault false 0 (slots_of bytes)) e → e ≡ Memory
+pub only_memory : (bytes : List ℕ) (places : List Place) (e : DecodeFault) → Spells bytes places
+    → IsFirstFault (first_fault false 0 (slots_of bytes)) e → e ≡ Memory
 only_memory bytes places e spells h = none_first _ e (ap (first_fault false 0) spells.fields ∙ no_fault_from 0 false places 0 spells.code.whole) h
 
-pub is_code : (bytes : List ℕ) (places : List Place) → 0 < length bytes → length bytes % 8 ≡ 0 → length bytes ≤ 32768 → fields_of_code places ≡ slots_of bytes → is_whole false places ≡ true → Spells bytes places
+pub is_code : (bytes : List ℕ) (places : List Place) → 0 < length bytes → length bytes % 8 ≡ 0 → length bytes ≤ 32768
+    → fields_of_code places ≡ slots_of bytes → is_whole false places ≡ true → Spells bytes places
 is_code bytes places some whole short is closed =
     let n : length places ≡ length bytes / 8 = sym (length-fields_behind 0 places) ∙ ap length is ∙ length-slots_from (length bytes / 8) bytes in
     record { long = omega (arith, n); code = record { some = omega (arith, n); short = omega (arith, n); whole = closed }; fields = sym is }

@@ -25,7 +25,9 @@ use Rattle.bpf_encoding.specs.declared.insn.Source.TheVariants.{Imm, Reg}
 use Rattle.bpf_encoding.specs.declared.insn.Register.{Register}
 use Rattle.bpf_encoding.specs.declared.insn.Register.TheVariants.{R0}
 use Rattle.bpf_encoding.specs.declared.insn.Insn.{Insn}
-use Rattle.bpf_encoding.specs.declared.insn.Insn.TheVariants.{Alu, Negate, MoveSigned, Order, LoadWide, Jump, JumpLong, JumpIf, Load, LoadSigned, StoreImm, Store, Atomic, Call, Exit}
+use Rattle.bpf_encoding.specs.declared.insn.Insn.TheVariants.{Alu, Negate, MoveSigned, Order, LoadWide, Jump}
+use Rattle.bpf_encoding.specs.declared.insn.Insn.TheVariants.{JumpLong, JumpIf, Load, LoadSigned, StoreImm, Store}
+use Rattle.bpf_encoding.specs.declared.insn.Insn.TheVariants.{Atomic, Call, Exit}
 
 pub register_named-number_of : (r : Register) → register_named (number_of r) ≡ r
 register_named-number_of R0 = refl
@@ -43,12 +45,14 @@ alu_reg Bits32 Add dst src = simp (register_named-number_of dst, register_named-
 alu_reg Bits64 Add dst src = simp (register_named-number_of dst, register_named-number_of src)
 alu_reg w op dst src = simp (register_named-number_of dst, register_named-number_of src)
 
-jump_imm : (w : Width) (condition : Condition) (dst : Register) (n offset : ℤ) → insn_named (fields_of (JumpIf w condition dst (Imm n) offset)) ≡ (JumpIf w condition dst (Imm n) offset)
+jump_imm : (w : Width) (condition : Condition) (dst : Register) (n offset : ℤ)
+    → insn_named (fields_of (JumpIf w condition dst (Imm n) offset)) ≡ (JumpIf w condition dst (Imm n) offset)
 jump_imm Bits32 Equal dst n offset = simp (register_named-number_of dst)
 jump_imm Bits64 Equal dst n offset = simp (register_named-number_of dst)
 jump_imm w condition dst n offset = simp (register_named-number_of dst)
 
-jump_reg : (w : Width) (condition : Condition) (dst src : Register) (offset : ℤ) → insn_named (fields_of (JumpIf w condition dst (Reg src) offset)) ≡ (JumpIf w condition dst (Reg src) offset)
+jump_reg : (w : Width) (condition : Condition) (dst src : Register) (offset : ℤ)
+    → insn_named (fields_of (JumpIf w condition dst (Reg src) offset)) ≡ (JumpIf w condition dst (Reg src) offset)
 jump_reg Bits32 Equal dst src offset = simp (register_named-number_of dst, register_named-number_of src)
 jump_reg Bits64 Equal dst src offset = simp (register_named-number_of dst, register_named-number_of src)
 jump_reg w condition dst src offset = simp (register_named-number_of dst, register_named-number_of src)
@@ -71,11 +75,13 @@ load : (size : Size) (dst base : Register) (offset : ℤ) → insn_named (fields
 load Word dst base offset = simp (register_named-number_of dst, register_named-number_of base)
 load size dst base offset = simp (register_named-number_of dst, register_named-number_of base)
 
-load_signed : (size : SignedSize) (dst base : Register) (offset : ℤ) → insn_named (fields_of (LoadSigned size dst base offset)) ≡ (LoadSigned size dst base offset)
+load_signed : (size : SignedSize) (dst base : Register) (offset : ℤ)
+    → insn_named (fields_of (LoadSigned size dst base offset)) ≡ (LoadSigned size dst base offset)
 load_signed SignedWord dst base offset = simp (register_named-number_of dst, register_named-number_of base)
 load_signed size dst base offset = simp (register_named-number_of dst, register_named-number_of base)
 
-store_imm : (size : Size) (base : Register) (offset imm : ℤ) → insn_named (fields_of (StoreImm size base offset imm)) ≡ (StoreImm size base offset imm)
+store_imm : (size : Size) (base : Register) (offset imm : ℤ)
+    → insn_named (fields_of (StoreImm size base offset imm)) ≡ (StoreImm size base offset imm)
 store_imm Word base offset imm = simp (register_named-number_of base)
 store_imm size base offset imm = simp (register_named-number_of base)
 
@@ -83,7 +89,8 @@ store : (size : Size) (base src : Register) (offset : ℤ) → insn_named (field
 store Word base src offset = simp (register_named-number_of base, register_named-number_of src)
 store size base src offset = simp (register_named-number_of base, register_named-number_of src)
 
-atomic_insn : (w : Width) (op : AtomicOperation) (base src : Register) (offset : ℤ) → insn_named (fields_of (Atomic w op base src offset)) ≡ (Atomic w op base src offset)
+atomic_insn : (w : Width) (op : AtomicOperation) (base src : Register) (offset : ℤ)
+    → insn_named (fields_of (Atomic w op base src offset)) ≡ (Atomic w op base src offset)
 atomic_insn Bits32 atomic.Add base src offset = simp (register_named-number_of base, register_named-number_of src)
 atomic_insn Bits64 atomic.Add base src offset = simp (register_named-number_of base, register_named-number_of src)
 atomic_insn w op base src offset = simp (register_named-number_of base, register_named-number_of src)

@@ -27,7 +27,9 @@ use Rattle.bpf_encoding.specs.declared.insn.Source.TheVariants.{Imm, Reg}
 use Rattle.bpf_encoding.specs.declared.insn.Register.{Register}
 use Rattle.bpf_encoding.specs.declared.insn.Register.TheVariants.{R0}
 use Rattle.bpf_encoding.specs.declared.insn.Insn.{Insn}
-use Rattle.bpf_encoding.specs.declared.insn.Insn.TheVariants.{Alu, Negate, MoveSigned, Order, LoadWide, Jump, JumpLong, JumpIf, Load, LoadSigned, StoreImm, Store, Atomic, Call, Exit}
+use Rattle.bpf_encoding.specs.declared.insn.Insn.TheVariants.{Alu, Negate, MoveSigned, Order, LoadWide, Jump}
+use Rattle.bpf_encoding.specs.declared.insn.Insn.TheVariants.{JumpLong, JumpIf, Load, LoadSigned, StoreImm, Store}
+use Rattle.bpf_encoding.specs.declared.insn.Insn.TheVariants.{Atomic, Call, Exit}
 
 named : (r : Register) → nat_le (number_of r) 10 ≡ true
 named R0 = refl
@@ -50,7 +52,8 @@ jump_imm Bits32 Equal dst n offset = simp (named dst)
 jump_imm Bits64 Equal dst n offset = simp (named dst)
 jump_imm w condition dst n offset = simp (named dst)
 
-jump_reg : (w : Width) (condition : Condition) (dst src : Register) (offset : ℤ) → fault_of (fields_of (JumpIf w condition dst (Reg src) offset)) ≡ None
+jump_reg : (w : Width) (condition : Condition) (dst src : Register) (offset : ℤ)
+    → fault_of (fields_of (JumpIf w condition dst (Reg src) offset)) ≡ None
 jump_reg Bits32 Equal dst src offset = simp (named dst, named src)
 jump_reg Bits64 Equal dst src offset = simp (named dst, named src)
 jump_reg w condition dst src offset = simp (named dst, named src)
@@ -119,7 +122,8 @@ wide_alu Bits32 Add dst (Reg src) = refl
 wide_alu Bits64 Add dst (Reg src) = refl
 wide_alu w op dst (Reg src) = refl
 
-wide_jump : (w : Width) (condition : Condition) (dst : Register) (s : Source) (offset : ℤ) → is_wide_opcode (fields_of (JumpIf w condition dst s offset)) ≡ false
+wide_jump : (w : Width) (condition : Condition) (dst : Register) (s : Source) (offset : ℤ)
+    → is_wide_opcode (fields_of (JumpIf w condition dst s offset)) ≡ false
 wide_jump Bits32 Equal dst (Imm n) offset = refl
 wide_jump Bits64 Equal dst (Imm n) offset = refl
 wide_jump w condition dst (Imm n) offset = refl

@@ -1,5 +1,7 @@
 -- Bytes that are written slot by slot.
-use Rattle.std.proofs.Common.{◌≡◌, ℕ, zero, suc, ◌+◌, ◌*◌, ◌/◌, ◌<◌, ◌≤◌, Bool, true, false, List, [], ◌∷◌, ◌++◌, length, get_or, take, drop, refl, sym, ap, ap₂, ◌∙◌, arith, append_assoc, add-one, length-append}
+use Rattle.std.proofs.Common.{◌≡◌, ℕ, zero, suc, ◌+◌, ◌*◌, ◌/◌, ◌<◌, ◌≤◌, Bool, true, false, List, [], ◌∷◌, ◌++◌}
+use Rattle.std.proofs.Common.{length, get_or, take, drop, refl, sym, ap, ap₂, ◌∙◌, arith, append_assoc, add-one}
+use Rattle.std.proofs.Common.{length-append}
 use Rattle.std.proofs.lemmas.List.{append-nil, take_all, take-append-le, drop-append-le, nil_from_length, length-drop}
 use Rattle.std.proofs.Math.Seq.{drop-cons}
 use Rattle.bpf_encoding.specs.Fields.{Fields, fields_of_bytes, slots_from}
@@ -9,10 +11,12 @@ use Rattle.bpf_encoding.specs.declared.insn.Insn.{Insn}
 use Rattle.bpf_encoding.specs.declared.insn.Place.{Place}
 use Rattle.bpf_encoding.specs.declared.insn.Place.TheVariants as place
 use Rattle.bpf_encoding.specs.declared.decode.DecodeFault.{DecodeFault}
-use Rattle.bpf_encoding.specs.declared.decode.DecodeFault.TheVariants.{NoCode, Length, TooLong, WideCut, UnusedField, Undefined, OutsideProfile, Memory}
+use Rattle.bpf_encoding.specs.declared.decode.DecodeFault.TheVariants.{NoCode, Length, TooLong, WideCut, UnusedField}
+use Rattle.bpf_encoding.specs.declared.decode.DecodeFault.TheVariants.{Undefined, OutsideProfile, Memory}
 
 -- one slot more at the end
-pub slots_from-append : (n : ℕ) (bytes eight : List ℕ) → length bytes ≡ 8 * n → length eight ≡ 8 → slots_from (suc n) (bytes ++ eight) ≡ slots_from n bytes ++ fields_of_bytes eight ∷ []
+pub slots_from-append : (n : ℕ) (bytes eight : List ℕ) → length bytes ≡ 8 * n → length eight ≡ 8
+    → slots_from (suc n) (bytes ++ eight) ≡ slots_from n bytes ++ fields_of_bytes eight ∷ []
 slots_from-append zero bytes eight none long =
     ap (λ (b : List ℕ). fields_of_bytes (take 8 (b ++ eight)) ∷ []) (nil_from_length bytes none) ∙ ap (λ (b : List ℕ). fields_of_bytes b ∷ []) (take_all 8 eight (omega arith))
 slots_from-append (suc n) bytes eight some long =
@@ -22,7 +26,8 @@ slots_from-append (suc n) bytes eight some long =
     (ap (slots_from (suc n)) (drop-append-le 8 bytes eight (omega arith)) ∙ slots_from-append n (drop 8 bytes) eight rest long)
 
 -- the invariant goes on by one place
-pub slots_go_on : (i : ℕ) (places : List Place) (d : Place) (bytes eight : List ℕ) (high : ℕ) (total : List Fields) → i < length places → length bytes ≡ 8 * i → length eight ≡ 8
+pub slots_go_on : (i : ℕ) (places : List Place) (d : Place) (bytes eight : List ℕ) (high : ℕ) (total : List Fields)
+    → i < length places → length bytes ≡ 8 * i → length eight ≡ 8
     → fields_of_bytes eight ≡ place_fields high (get_or places i d) → slots_from i bytes ++ fields_behind high (drop i places) ≡ total
     → slots_from (i + 1) (bytes ++ eight) ++ fields_behind (high_behind (get_or places i d)) (drop (i + 1) places) ≡ total
 slots_go_on i places d bytes eight high total lt long eights is so_far =
@@ -36,7 +41,8 @@ slots_go_on i places d bytes eight high total lt long eights is so_far =
     ∙ ap (λ (ps : List Place). slots_from i bytes ++ fields_behind high ps) (sym opened)
     ∙ so_far
 
-pub written_is_spelled : (i : ℕ) (bytes : List ℕ) (places : List Place) (high : ℕ) → length places ≤ i → i ≤ length places → length bytes ≡ 8 * i → IsCode places
+pub written_is_spelled : (i : ℕ) (bytes : List ℕ) (places : List Place) (high : ℕ) → length places ≤ i
+    → i ≤ length places → length bytes ≡ 8 * i → IsCode places
     → slots_from i bytes ++ fields_behind high (drop i places) ≡ fields_of_code places → Spells bytes places
 written_is_spelled i bytes places high ge le long code so_far =
     let n : length bytes / 8 ≡ i = omega arith in
@@ -65,12 +71,15 @@ places_go_on i insns d places total lt so_far =
     ∙ ap (λ (is : List Insn). places ++ places_of is) (sym (drop-cons insns i d lt))
     ∙ so_far
 
-pub places_done : (i : ℕ) (insns : List Insn) (places total : List Place) → length insns ≤ i → places ++ places_of (drop i insns) ≡ total → places ≡ total
+pub places_done : (i : ℕ) (insns : List Insn) (places total : List Place) → length insns ≤ i
+    → places ++ places_of (drop i insns) ≡ total → places ≡ total
 places_done i insns places total le so_far =
     let done : drop i insns ≡ [] = nil_from_length (drop i insns) (omega (arith, length-drop i insns)) in
     sym (append-nil places) ∙ ap (λ (is : List Insn). places ++ places_of is) (sym done) ∙ so_far
 
-pub too_long : (i : ℕ) (insns : List Insn) (d : Insn) (places total : List Place) → i < length insns → 4096 < length places + length (places_of (get_or insns i d ∷ [])) → places ++ places_of (drop i insns) ≡ total → 4096 < length total
+pub too_long : (i : ℕ) (insns : List Insn) (d : Insn) (places total : List Place) → i < length insns
+    → 4096 < length places + length (places_of (get_or insns i d ∷ [])) → places ++ places_of (drop i insns) ≡ total
+    → 4096 < length total
 too_long i insns d places total lt more so_far =
     let x = get_or insns i d in
     let all = ap length (places_go_on i insns d places total lt so_far) in

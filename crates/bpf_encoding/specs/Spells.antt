@@ -1,5 +1,6 @@
 -- Which code bytes spell, and the first fault of bytes that spell none.
-use Rattle.std.specs.Prelude.{◌≡◌, ℕ, suc, ◌*◌, ◌%◌, ◌<◌, ◌≤◌, Bool, true, false, ◌==◌, nat_lt, ◌-◌, if◌then◌else◌, List, [], ◌∷◌, length, Option, Some, None}
+use Rattle.std.specs.Prelude.{◌≡◌, ℕ, suc, ◌*◌, ◌%◌, ◌<◌, ◌≤◌, Bool, true, false, ◌==◌, nat_lt, ◌-◌, if◌then◌else◌}
+use Rattle.std.specs.Prelude.{List, [], ◌∷◌, length, Option, Some, None}
 use Rattle.bpf_encoding.specs.Fields.{Fields, slots_of}
 use Rattle.bpf_encoding.specs.Spelling.{fields_of_code, is_whole, places_of}
 use Rattle.bpf_encoding.specs.Faults.{fault_of, is_second}
@@ -9,7 +10,8 @@ use Rattle.bpf_encoding.specs.declared.insn.Place.{Place}
 use Rattle.bpf_encoding.specs.declared.slot.SlotFault.{SlotFault}
 use Rattle.bpf_encoding.specs.declared.slot.SlotFault.TheVariants as slot
 use Rattle.bpf_encoding.specs.declared.decode.DecodeFault.{DecodeFault}
-use Rattle.bpf_encoding.specs.declared.decode.DecodeFault.TheVariants.{NoCode, Length, TooLong, WideCut, UnusedField, Undefined, OutsideProfile, Memory}
+use Rattle.bpf_encoding.specs.declared.decode.DecodeFault.TheVariants.{NoCode, Length, TooLong, WideCut, UnusedField}
+use Rattle.bpf_encoding.specs.declared.decode.DecodeFault.TheVariants.{Undefined, OutsideProfile, Memory}
 
 -- 1 to MOST_SLOTS places, each wide instruction followed by its second slot, and no other second slot
 pub record IsCode (places : List Place) : Type 0 where

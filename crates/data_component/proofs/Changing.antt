@@ -1,5 +1,6 @@
 -- Each operation on sorted rows.
-use Rattle.std.proofs.Common.{arith, ◌≡◌, ℕ, zero, suc, ◌-◌, ◌<◌, ◌≤◌, nat_lt, Bool, true, false, if◌then◌else◌, List, [], ◌∷◌, length, sym, refl, ap, ap₂, subst, ◌∙◌}
+use Rattle.std.proofs.Common.{arith, ◌≡◌, ℕ, zero, suc, ◌-◌, ◌<◌, ◌≤◌, nat_lt, Bool, true, false, if◌then◌else◌, List}
+use Rattle.std.proofs.Common.{[], ◌∷◌, length, sym, refl, ap, ap₂, subst, ◌∙◌}
 use Rattle.std.specs.Prelude.{Option, Some, None, slice_get, slice_set, slice_index_or}
 use Rattle.std.specs.List.{insert, remove}
 use Rattle.std.proofs.lemmas.Bool.{cond-true, cond-false, lt-ltb}
@@ -15,7 +16,8 @@ use Rattle.access_slots.specs.Locks.{record_eq, record_less, target}
 use Rattle.data_component.specs.Performed.{left, counted, said_to, said_to_read, said_to_insert, said_to_change}
 use Rattle.data_component.specs.Sorted.{Rows, row_of, row_place, SortedRows, IsFoundAt, IsMissingAt}
 use Rattle.data_component.specs.Performing.{Performs}
-use Rattle.data_component.proofs.Finding.{length_inserted, value_at, find_at, sorted_inserted, find_inserted, sorted_set, find_set, sorted_removed, find_removed}
+use Rattle.data_component.proofs.Finding.{length_inserted, value_at, find_at, sorted_inserted, find_inserted}
+use Rattle.data_component.proofs.Finding.{sorted_set, find_set, sorted_removed, find_removed}
 use Rattle.data_component.proofs.Orders.{records}
 
 unchanged : (b : Bool) (o : Option (List ℕ)) → o ≡ (if b then o else o)
@@ -23,7 +25,9 @@ unchanged true o = refl
 unchanged false o = refl
 
 -- an operation that leaves the rows as they are
-stays : (limit : ℕ) (rows : Rows) (o : Op) (said : Said) → said ≡ said_to limit (length rows) (row_of rows (target o)) o → ((was : Option (List ℕ)) → left o said was ≡ was) → counted o said (length rows) ≡ length rows → SortedRows rows
+stays : (limit : ℕ) (rows : Rows) (o : Op) (said : Said)
+    → said ≡ said_to limit (length rows) (row_of rows (target o)) o
+    → ((was : Option (List ℕ)) → left o said was ≡ was) → counted o said (length rows) ≡ length rows → SortedRows rows
     → Performs limit rows rows o said
 stays limit rows o said is same many sorted = record {
   answer = is;
@@ -33,25 +37,30 @@ stays limit rows o said is same many sorted = record {
   fits = λ few. few;
 }
 
-pub read_found : (limit : ℕ) (rows : Rows) (r : Record) (v : List ℕ) → row_of rows r ≡ Some v → SortedRows rows → Performs limit rows rows (Read r) (Value v)
+pub read_found : (limit : ℕ) (rows : Rows) (r : Record) (v : List ℕ) → row_of rows r ≡ Some v → SortedRows rows
+    → Performs limit rows rows (Read r) (Value v)
 read_found limit rows r v is sorted = stays limit rows (Read r) (Value v) (ap said_to_read (sym is)) (λ was. refl) refl sorted
 
 pub read_absent : (limit : ℕ) (rows : Rows) (r : Record) → row_of rows r ≡ None → SortedRows rows → Performs limit rows rows (Read r) Absent
 read_absent limit rows r is sorted = stays limit rows (Read r) Absent (ap said_to_read (sym is)) (λ was. refl) refl sorted
 
-pub insert_duplicate : (limit : ℕ) (rows : Rows) (r : Record) (v : List ℕ) (i : ℕ) → IsFoundAt rows r i → SortedRows rows → Performs limit rows rows (Insert r v) Duplicate
+pub insert_duplicate : (limit : ℕ) (rows : Rows) (r : Record) (v : List ℕ) (i : ℕ) → IsFoundAt rows r i
+    → SortedRows rows → Performs limit rows rows (Insert r v) Duplicate
 insert_duplicate limit rows r v i at sorted = stays limit rows (Insert r v) Duplicate (ap (λ (o : Option (List ℕ)). said_to_insert o (nat_lt (length rows) limit)) (sym (at.value (r, v)))) (λ was. refl) refl sorted
 
 no_room : (n limit : ℕ) → limit ≤ n → nat_lt n limit ≡ false
 no_room n limit full = grind (arith, nat_tests)
 
-pub insert_no_room : (limit : ℕ) (rows : Rows) (r : Record) (v : List ℕ) (i : ℕ) → IsMissingAt rows r i → limit ≤ length rows → SortedRows rows → Performs limit rows rows (Insert r v) NoRoom
+pub insert_no_room : (limit : ℕ) (rows : Rows) (r : Record) (v : List ℕ) (i : ℕ) → IsMissingAt rows r i
+    → limit ≤ length rows → SortedRows rows → Performs limit rows rows (Insert r v) NoRoom
 insert_no_room limit rows r v i at full sorted = stays limit rows (Insert r v) NoRoom (ap₂ (λ (o : Option (List ℕ)) (b : Bool). said_to_insert o b) (sym at.missing) (sym (no_room (length rows) limit full))) (λ was. refl) refl sorted
 
-pub update_missing : (limit : ℕ) (rows : Rows) (r : Record) (v : List ℕ) (i : ℕ) → IsMissingAt rows r i → SortedRows rows → Performs limit rows rows (Update r v) Missing
+pub update_missing : (limit : ℕ) (rows : Rows) (r : Record) (v : List ℕ) (i : ℕ) → IsMissingAt rows r i
+    → SortedRows rows → Performs limit rows rows (Update r v) Missing
 update_missing limit rows r v i at sorted = stays limit rows (Update r v) Missing (ap said_to_change (sym at.missing)) (λ was. refl) refl sorted
 
-pub delete_missing : (limit : ℕ) (rows : Rows) (r : Record) (i : ℕ) → IsMissingAt rows r i → SortedRows rows → Performs limit rows rows (Delete r) Missing
+pub delete_missing : (limit : ℕ) (rows : Rows) (r : Record) (i : ℕ) → IsMissingAt rows r i → SortedRows rows
+    → Performs limit rows rows (Delete r) Missing
 delete_missing limit rows r i at sorted = stays limit rows (Delete r) Missing (ap said_to_change (sym at.missing)) (λ was. refl) refl sorted
 
 inserted : (limit : ℕ) (rows : Rows) (r : Record) (v : List ℕ) → row_of rows r ≡ None → length rows < limit → SortedRows rows
@@ -64,7 +73,9 @@ inserted limit rows r v is room sorted = record {
   fits = λ few. omega (arith, length_inserted rows (row_place rows r) (r, v), room);
 }
 
-pub insert_done : (limit : ℕ) (rows new : Rows) (r : Record) (v : List ℕ) (i : ℕ) → IsMissingAt rows r i → length rows < limit → SortedRows rows → new ≡ insert rows i (r, v) → Performs limit rows new (Insert r v) (Done None)
+pub insert_done : (limit : ℕ) (rows new : Rows) (r : Record) (v : List ℕ) (i : ℕ) → IsMissingAt rows r i
+    → length rows < limit → SortedRows rows → new ≡ insert rows i (r, v)
+    → Performs limit rows new (Insert r v) (Done None)
 insert_done limit rows new r v i at room sorted is =
     subst (λ (xs : Rows). Performs limit rows xs (Insert r v) (Done None)) (sym (is ∙ ap (λ (j : ℕ). insert rows j (r, v)) at.is)) (inserted limit rows r v at.missing room sorted)
 
@@ -78,7 +89,8 @@ changed limit rows r v w is sorted = record {
   fits = λ few. omega (arith, few, length-set rows (row_place rows r) (r, v));
 }
 
-pub update_done : (limit : ℕ) (rows new : Rows) (r : Record) (v w : List ℕ) (i : ℕ) (d : Record × List ℕ) → IsFoundAt rows r i → SortedRows rows → w ≡ (slice_index_or rows i d).1 → new ≡ slice_set rows i (r, v)
+pub update_done : (limit : ℕ) (rows new : Rows) (r : Record) (v w : List ℕ) (i : ℕ) (d : Record × List ℕ)
+    → IsFoundAt rows r i → SortedRows rows → w ≡ (slice_index_or rows i d).1 → new ≡ slice_set rows i (r, v)
     → Performs limit rows new (Update r v) (Done (Some w))
 update_done limit rows new r v w i d at sorted former is =
     subst (λ (xs : Rows). Performs limit rows xs (Update r v) (Done (Some w))) (sym (is ∙ ap (λ (j : ℕ). slice_set rows j (r, v)) at.is))
@@ -99,7 +111,8 @@ removed limit rows r w is inside sorted = record {
   fits = λ few. omega (arith, few, length_removed rows (row_place rows r) inside);
 }
 
-pub delete_done : (limit : ℕ) (rows new : Rows) (r : Record) (row : Record × List ℕ) (i : ℕ) → IsFoundAt rows r i → SortedRows rows → row ≡ slice_index_or rows i row → new ≡ remove rows i
+pub delete_done : (limit : ℕ) (rows new : Rows) (r : Record) (row : Record × List ℕ) (i : ℕ) → IsFoundAt rows r i
+    → SortedRows rows → row ≡ slice_index_or rows i row → new ≡ remove rows i
     → Performs limit rows new (Delete r) (Done (Some row.1))
 delete_done limit rows new r row i at sorted former is =
     let found : row_of rows r ≡ Some row.1 = at.value row ∙ ap (λ (x : Record × List ℕ). Some x.1) (sym former) in
@@ -108,12 +121,14 @@ delete_done limit rows new r row i at sorted former is =
 
 -- ---- what stands at a record's place
 
-seen : (o : Option (Record × List ℕ)) (rows : Rows) (r : Record) (i : ℕ) → SortedRows rows → i ≡ row_place rows r → slice_get rows i ≡ o → row_of rows r ≡ value_at record_eq record_less records o r
+seen : (o : Option (Record × List ℕ)) (rows : Rows) (r : Record) (i : ℕ) → SortedRows rows → i ≡ row_place rows r
+    → slice_get rows i ≡ o → row_of rows r ≡ value_at record_eq record_less records o r
 seen o rows r i sorted is stands =
     find_at record_eq record_less records r rows sorted
     ∙ ap (λ (p : Option (Record × List ℕ)). value_at record_eq record_less records p r) (ap (slice_get rows) (sym is) ∙ stands)
 
-pub found_there : (rows : Rows) (r : Record) (i : ℕ) (d : Record × List ℕ) → SortedRows rows → i ≡ row_place rows r → i < length rows → record_eq (slice_index_or rows i d).0 r ≡ true → IsFoundAt rows r i
+pub found_there : (rows : Rows) (r : Record) (i : ℕ) (d : Record × List ℕ) → SortedRows rows → i ≡ row_place rows r
+    → i < length rows → record_eq (slice_index_or rows i d).0 r ≡ true → IsFoundAt rows r i
 found_there rows r i d sorted at inside same =
     let stands = slice_get-get_or rows i d inside in
     record {
@@ -122,12 +137,14 @@ found_there rows r i d sorted at inside same =
       value = λ e. seen (Some (slice_index_or rows i d)) rows r i sorted at stands ∙ cond-true _ _ _ same ∙ ap (λ (x : Record × List ℕ). Some x.1) (sym (get_or_from_slice_get rows i (slice_index_or rows i d) e stands));
     }
 
-pub missing_there : (rows : Rows) (r : Record) (i : ℕ) (d : Record × List ℕ) → SortedRows rows → i ≡ row_place rows r → i < length rows → record_eq (slice_index_or rows i d).0 r ≡ false → IsMissingAt rows r i
+pub missing_there : (rows : Rows) (r : Record) (i : ℕ) (d : Record × List ℕ) → SortedRows rows → i ≡ row_place rows r
+    → i < length rows → record_eq (slice_index_or rows i d).0 r ≡ false → IsMissingAt rows r i
 missing_there rows r i d sorted at inside other = record {
   inside = omega (arith, inside);
   is = at;
   missing = seen (Some (slice_index_or rows i d)) rows r i sorted at (slice_get-get_or rows i d inside) ∙ cond-false _ _ _ other;
 }
 
-pub none_there : (rows : Rows) (r : Record) (i : ℕ) → SortedRows rows → i ≡ row_place rows r → i ≤ length rows → length rows ≤ i → IsMissingAt rows r i
+pub none_there : (rows : Rows) (r : Record) (i : ℕ) → SortedRows rows → i ≡ row_place rows r → i ≤ length rows
+    → length rows ≤ i → IsMissingAt rows r i
 none_there rows r i sorted is few past = record { inside = few; is = is; missing = seen None rows r i sorted is (slice_get_past rows i past) }

@@ -1,5 +1,6 @@
 -- Pairs sorted by their first part: one more, one changed, one less.
-use Rattle.std.proofs.Common.{◌+◌, arith, ◌≡◌, ℕ, zero, suc, ◌<◌, ◌≤◌, Bool, true, false, if◌then◌else◌, List, [], ◌∷◌, length, sym, refl, ap, subst, ◌∙◌, one-add}
+use Rattle.std.proofs.Common.{◌+◌, arith, ◌≡◌, ℕ, zero, suc, ◌<◌, ◌≤◌, Bool, true, false, if◌then◌else◌, List, []}
+use Rattle.std.proofs.Common.{◌∷◌, length, sym, refl, ap, subst, ◌∙◌, one-add}
 use Rattle.std.specs.Prelude.{Option, Some, None, slice_get, slice_set, slice_index_or}
 use Rattle.std.specs.List.{prefix_len, insert, remove}
 use Rattle.std.specs.List.Sorted.{IsPartitionedBy, IsPartitionPoint}
@@ -62,7 +63,8 @@ module _ {K V : Type 0} (eq less : K → K → Bool) (order : IsOrder eq less) w
   here_or_not true k x xs is same all = refl
   here_or_not false k x xs is other all = none_above k xs (above k x xs is other all).1
 
-  find_choice : (b : Bool) (k : K) (x : K × V) (xs : List (K × V)) → below k x ≡ b → AllAbove less x.0 xs → find eq xs k ≡ value_at (slice_get xs (place k xs)) k
+  find_choice : (b : Bool) (k : K) (x : K × V) (xs : List (K × V)) → below k x ≡ b → AllAbove less x.0 xs
+      → find eq xs k ≡ value_at (slice_get xs (place k xs)) k
       → find eq (x ∷ xs) k ≡ value_at (slice_get (x ∷ xs) (place k (x ∷ xs))) k
   find_choice true k x xs is all later =
       cond-false _ _ _ (order.apart x.0 k is) ∙ later ∙ ap (λ (i : ℕ). value_at (slice_get (x ∷ xs) i) k) (sym (further k x xs is))
@@ -140,7 +142,8 @@ module _ {K V : Type 0} (eq less : K → K → Bool) (order : IsOrder eq less) w
   all_removed a (x ∷ xs) (suc i) all = (all.0, all_removed a xs i all.1)
 
   -- a pair that isn't below a key that is found is the key's
-  own_key : (e : Bool) (k : K) (w : V) (x : K × V) (xs : List (K × V)) → eq x.0 k ≡ e → below k x ≡ false → AllAbove less x.0 xs → find eq (x ∷ xs) k ≡ Some w → x.0 ≡ k
+  own_key : (e : Bool) (k : K) (w : V) (x : K × V) (xs : List (K × V)) → eq x.0 k ≡ e → below k x ≡ false
+      → AllAbove less x.0 xs → find eq (x ∷ xs) k ≡ Some w → x.0 ≡ k
   own_key true k w x xs same is all found = order.same x.0 k same
   own_key false k w x xs other is all found = absurd (
       let bad : None ≡ Some w = sym (cond-false _ _ _ other ∙ none_above k xs (above k x xs is other all).1) ∙ found in
@@ -161,7 +164,8 @@ module _ {K V : Type 0} (eq less : K → K → Bool) (order : IsOrder eq less) w
   sorted_set k v w [] found sorted = tt
   sorted_set k v w (x ∷ xs) found sorted = set_choice (below k x) k v w x xs refl found sorted (λ f. sorted_set k v w xs f sorted.1)
 
-  same_head : (e : Bool) (k m : K) (x : K × V) (o p : Option V) → eq k m ≡ e → x.0 ≡ k → (if e then o else p) ≡ (if e then o else (if eq x.0 m then Some x.1 else p))
+  same_head : (e : Bool) (k m : K) (x : K × V) (o p : Option V) → eq k m ≡ e → x.0 ≡ k
+      → (if e then o else p) ≡ (if e then o else (if eq x.0 m then Some x.1 else p))
   same_head true k m x o p is same = refl
   same_head false k m x o p is same = sym (cond-false _ _ _ (subst (λ (n : K). eq n m ≡ false) (sym same) is))
 
@@ -176,7 +180,8 @@ module _ {K V : Type 0} (eq less : K → K → Bool) (order : IsOrder eq less) w
       ap (λ (i : ℕ). find eq (slice_set (x ∷ xs) i (k, v)) m) (here k x xs is)
       ∙ same_head (eq k m) k m x (Some v) (find eq xs m) refl (own_key (eq x.0 k) k w x xs refl is all found)
 
-  pub find_set : (k m : K) (v w : V) (xs : List (K × V)) → find eq xs k ≡ Some w → Sorted less xs → find eq (slice_set xs (place k xs) (k, v)) m ≡ (if eq k m then Some v else find eq xs m)
+  pub find_set : (k m : K) (v w : V) (xs : List (K × V)) → find eq xs k ≡ Some w → Sorted less xs
+      → find eq (slice_set xs (place k xs) (k, v)) m ≡ (if eq k m then Some v else find eq xs m)
   find_set k m v w [] found sorted = absurd (let bad : None ≡ Some w = found in cc)
   find_set k m v w (x ∷ xs) found sorted = set_found (below k x) k m v w x xs refl found sorted.0 (λ f. find_set k m v w xs f sorted.1)
 
@@ -206,13 +211,15 @@ module _ {K V : Type 0} (eq less : K → K → Bool) (order : IsOrder eq less) w
       ap (λ (i : ℕ). find eq (remove (x ∷ xs) i) m) (here k x xs is)
       ∙ gone_choice (eq k m) k m x xs refl (own_key (eq x.0 k) k w x xs refl is all found) all
 
-  pub find_removed : (k m : K) (w : V) (xs : List (K × V)) → find eq xs k ≡ Some w → Sorted less xs → find eq (remove xs (place k xs)) m ≡ (if eq k m then no_value else find eq xs m)
+  pub find_removed : (k m : K) (w : V) (xs : List (K × V)) → find eq xs k ≡ Some w → Sorted less xs
+      → find eq (remove xs (place k xs)) m ≡ (if eq k m then no_value else find eq xs m)
   find_removed k m w [] found sorted = absurd (let bad : None ≡ Some w = found in cc)
   find_removed k m w (x ∷ xs) found sorted = removed_found (below k x) k m w x xs refl found sorted.0 (λ f. find_removed k m w xs f sorted.1)
 
   -- ---- the place, searched for
 
-  all_below : (k a : K) (xs : List (K × V)) (j : ℕ) (d : K × V) → AllAbove less a xs → j < length xs → below k (slice_index_or xs j d) ≡ true → less a k ≡ true
+  all_below : (k a : K) (xs : List (K × V)) (j : ℕ) (d : K × V) → AllAbove less a xs → j < length xs
+      → below k (slice_index_or xs j d) ≡ true → less a k ≡ true
   all_below k a [] j d all inside is = absurd (omega (arith, inside))
   all_below k a (x ∷ xs) zero d all inside is = order.trans a x.0 k all.0 is
   all_below k a (x ∷ xs) (suc j) d all inside is = all_below k a xs j d all.1 (omega (arith, inside)) is
@@ -242,6 +249,7 @@ module _ {K V : Type 0} (eq less : K → K → Bool) (order : IsOrder eq less) w
       let bad : false ≡ true = sym is ∙ point.0 0 x (omega arith) (omega arith) in
       cc)
 
-  pub place_is : (k : K) (xs : List (K × V)) (i : ℕ) → i ≤ length xs → IsPartitionPoint (λ y. below k y ≡ true) (λ y. below k y ≡ false) xs i → i ≡ place k xs
+  pub place_is : (k : K) (xs : List (K × V)) (i : ℕ) → i ≤ length xs
+      → IsPartitionPoint (λ y. below k y ≡ true) (λ y. below k y ≡ false) xs i → i ≡ place k xs
   place_is k [] i few point = omega (arith, few)
   place_is k (x ∷ xs) i few point = point_choice (below k x) k x xs i refl few point (λ j fewer p. place_is k xs j fewer p)

@@ -9,12 +9,15 @@ use Rattle.data_component.proofs.Orders.{numbers, number_eq}
 
 -- ---- what stands at a number's place
 
-seen : (o : Option (ℕ × ℕ)) (kept : Kept) (n i : ℕ) → SortedKept kept → i ≡ kept_place kept n → slice_get kept i ≡ o → place_of kept n ≡ value_at number_eq nat_lt numbers o n
+seen : (o : Option (ℕ × ℕ)) (kept : Kept) (n i : ℕ) → SortedKept kept → i ≡ kept_place kept n → slice_get kept i ≡ o
+    → place_of kept n ≡ value_at number_eq nat_lt numbers o n
 seen o kept n i sorted is stands =
     find_at number_eq nat_lt numbers n kept sorted
     ∙ ap (λ (p : Option (ℕ × ℕ)). value_at number_eq nat_lt numbers p n) (ap (slice_get kept) (sym is) ∙ stands)
 
-pub found_there : (kept : Kept) (n i place : ℕ) (d e : ℕ × ℕ) → SortedKept kept → i ≡ kept_place kept n → i < length kept → (slice_index_or kept i d).0 ≡ n → place ≡ (slice_index_or kept i e).1 → Some place ≡ place_of kept n
+pub found_there : (kept : Kept) (n i place : ℕ) (d e : ℕ × ℕ) → SortedKept kept → i ≡ kept_place kept n
+    → i < length kept → (slice_index_or kept i d).0 ≡ n → place ≡ (slice_index_or kept i e).1
+    → Some place ≡ place_of kept n
 found_there kept n i place d e sorted at inside same is = sym (
     seen (Some (slice_index_or kept i d)) kept n i sorted at (slice_get-get_or kept i d inside)
     ∙ cond-true _ _ _ (eq-eqb (slice_index_or kept i d).0 n same)
@@ -24,7 +27,8 @@ found_there kept n i place d e sorted at inside same is = sym (
     one_entry : slice_index_or kept i d ≡ slice_index_or kept i e
     one_entry = let twice : Some (slice_index_or kept i d) ≡ Some (slice_index_or kept i e) = sym (slice_get-get_or kept i d inside) ∙ slice_get-get_or kept i e inside in cc
 
-pub missing_there : (kept : Kept) (n i : ℕ) (d : ℕ × ℕ) → SortedKept kept → i ≡ kept_place kept n → i < length kept → (slice_index_or kept i d).0 ≢ n → None ≡ place_of kept n
+pub missing_there : (kept : Kept) (n i : ℕ) (d : ℕ × ℕ) → SortedKept kept → i ≡ kept_place kept n → i < length kept
+    → (slice_index_or kept i d).0 ≢ n → None ≡ place_of kept n
 missing_there kept n i d sorted at inside other = sym (
     seen (Some (slice_index_or kept i d)) kept n i sorted at (slice_get-get_or kept i d inside) ∙ cond-false _ _ _ (ne_eqb (slice_index_or kept i d).0 n other))
 

@@ -1,5 +1,6 @@
 -- What a data component keeps, one operation after another.
-use Rattle.std.proofs.Common.{arith, ◌≡◌, ℕ, zero, suc, ◌+◌, ◌<◌, ◌≤◌, nat_lt, Bool, true, false, if◌then◌else◌, List, [], ◌∷◌, ◌++◌, length, take, drop, sym, refl, ap, ap₂, subst, ◌∙◌}
+use Rattle.std.proofs.Common.{arith, ◌≡◌, ℕ, zero, suc, ◌+◌, ◌<◌, ◌≤◌, nat_lt, Bool, true, false, if◌then◌else◌, List}
+use Rattle.std.proofs.Common.{[], ◌∷◌, ◌++◌, length, take, drop, sym, refl, ap, ap₂, subst, ◌∙◌}
 use Rattle.std.specs.Prelude.{Option, Some, None, slice_get, slice_index_or, ◌==◌, reverse}
 use Rattle.std.specs.List.{insert}
 use Rattle.std.proofs.lemmas.Bool.{cond-true, cond-false}
@@ -19,10 +20,12 @@ use Rattle.data_component.proofs.Orders.{numbers, number_eq}
 -- ---- rows
 
 -- what is said to an operation is what the list gives
-pub says : (limit : ℕ) (table new : Rows) (list : List Performed) (o : Op) (said : Said) → AreRowsOf table list → Performs limit table new o said → said ≡ answer limit list o
+pub says : (limit : ℕ) (table new : Rows) (list : List Performed) (o : Op) (said : Said) → AreRowsOf table list
+    → Performs limit table new o said → said ≡ answer limit list o
 says limit table new list o said rows does = does.answer ∙ ap₂ (λ (n : ℕ) (v : Option (List ℕ)). said_to limit n v o) rows.count (rows.values (target o))
 
-pub more_rows : (limit : ℕ) (table new : Rows) (list : List Performed) (n : ℕ) (o : Op) (said : Said) → AreRowsOf table list → Performs limit table new o said → AreRowsOf new ((n, o, said) ∷ list)
+pub more_rows : (limit : ℕ) (table new : Rows) (list : List Performed) (n : ℕ) (o : Op) (said : Said)
+    → AreRowsOf table list → Performs limit table new o said → AreRowsOf new ((n, o, said) ∷ list)
 more_rows limit table new list n o said rows does = record {
   sorted = does.sorted;
   values = λ r. does.values r ∙ ap (λ (v : Option (List ℕ)). if record_eq (target o) r then left o said v else v) (rows.values r);
@@ -44,14 +47,16 @@ get_last [] y = refl
 get_last (x ∷ xs) y = get_last xs y
 
 -- what was said at a place stays there
-said_on : (o : Option ℕ) (kept : Kept) (m : ℕ) (performed : List Performed) (e : Performed) → place_of kept m ≡ o → AllBelow (length performed) kept → said_in (performed ++ e ∷ []) o ≡ said_in performed o
+said_on : (o : Option ℕ) (kept : Kept) (m : ℕ) (performed : List Performed) (e : Performed) → place_of kept m ≡ o
+    → AllBelow (length performed) kept → said_in (performed ++ e ∷ []) o ≡ said_in performed o
 said_on None kept m performed e is within = refl
 said_on (Some place) kept m performed e is within = ap said_by (get_left performed (e ∷ []) place (within m place is))
 
 abbrev pub kept_more : Kept → ℕ → ℕ → Kept
 kept_more kept n place = insert kept (kept_place kept n) (n, place)
 
-found_more : (b : Bool) (kept : Kept) (performed : List Performed) (n m mark : ℕ) (o : Op) (said : Said) → (n == m) ≡ b → AreKept kept mark performed → mark < m
+found_more : (b : Bool) (kept : Kept) (performed : List Performed) (n m mark : ℕ) (o : Op) (said : Said)
+    → (n == m) ≡ b → AreKept kept mark performed → mark < m
     → said_in (performed ++ (n, o, said) ∷ []) (if n == m then Some (length performed) else place_of kept m) ≡ (if n == m then Some said else said_under (reverse performed) m)
 found_more true kept performed n m mark o said is are above =
     ap (said_in (performed ++ (n, o, said) ∷ [])) (cond-true _ _ _ is) ∙ ap said_by (get_last performed (n, o, said)) ∙ sym (cond-true _ _ _ is)
@@ -61,7 +66,8 @@ found_more false kept performed n m mark o said is are above =
     ∙ are.found m above
     ∙ sym (cond-false _ _ _ is)
 
-within_more : (b : Bool) (kept : Kept) (n m place count : ℕ) → (n == m) ≡ b → AllBelow count kept → (if n == m then Some count else place_of kept m) ≡ Some place → place < count + 1
+within_more : (b : Bool) (kept : Kept) (n m place count : ℕ) → (n == m) ≡ b → AllBelow count kept
+    → (if n == m then Some count else place_of kept m) ≡ Some place → place < count + 1
 within_more true kept n m place count is within at = let same : Some count ≡ Some place = sym (cond-true _ _ _ is) ∙ at in some_below count place same
   where
     some_below : (c p : ℕ) → Some c ≡ Some p → p < c + 1
@@ -74,7 +80,8 @@ get_inside (x ∷ xs) zero inside at = let bad : Some x ≡ None = at in cc
 get_inside (x ∷ xs) (suc k) inside at = get_inside xs k (omega (arith, inside)) at
 
 -- a number above the mark that wasn't performed has no place
-said_at : (o : Option ℕ) (kept : Kept) (performed : List Performed) (n : ℕ) → place_of kept n ≡ o → AllBelow (length performed) kept → said_in performed o ≡ None → place_of kept n ≡ None
+said_at : (o : Option ℕ) (kept : Kept) (performed : List Performed) (n : ℕ) → place_of kept n ≡ o
+    → AllBelow (length performed) kept → said_in performed o ≡ None → place_of kept n ≡ None
 said_at None kept performed n is within none = is
 said_at (Some place) kept performed n is within none = absurd (stands (slice_get performed place) (within n place is) refl)
   where
@@ -82,12 +89,14 @@ said_at (Some place) kept performed n is within none = absurd (stands (slice_get
     stands None inside at = get_inside performed place inside at
     stands (Some e) inside at = let bad : Some e.2 ≡ None = ap said_by (sym at) ∙ none in cc
 
-no_place : (kept : Kept) (mark : ℕ) (performed : List Performed) (n : ℕ) → AreKept kept mark performed → mark < n → said_under (reverse performed) n ≡ None → place_of kept n ≡ None
+no_place : (kept : Kept) (mark : ℕ) (performed : List Performed) (n : ℕ) → AreKept kept mark performed → mark < n
+    → said_under (reverse performed) n ≡ None → place_of kept n ≡ None
 no_place kept mark performed n are above fresh = said_at (place_of kept n) kept performed n refl are.within (are.found n above ∙ fresh)
 
 -- ---- one operation more
 
-pub more_kept : (kept : Kept) (mark : ℕ) (performed : List Performed) (n : ℕ) (o : Op) (said : Said) → AreKept kept mark performed → mark < n → said_under (reverse performed) n ≡ None
+pub more_kept : (kept : Kept) (mark : ℕ) (performed : List Performed) (n : ℕ) (o : Op) (said : Said)
+    → AreKept kept mark performed → mark < n → said_under (reverse performed) n ≡ None
     → AreKept (kept_more kept n (length performed)) mark (performed ++ (n, o, said) ∷ [])
 more_kept kept mark performed n o said are above fresh = record {
   sorted = sorted_inserted number_eq nat_lt numbers n (length performed) kept (no_place kept mark performed n are above fresh) are.sorted;
@@ -101,7 +110,8 @@ more_kept kept mark performed n o said are above fresh = record {
 }
 
 -- a number at or under the mark needs no place
-pub same_kept : (kept : Kept) (mark : ℕ) (performed : List Performed) (e : Performed) → AreKept kept mark performed → e.0 ≤ mark → AreKept kept mark (performed ++ e ∷ [])
+pub same_kept : (kept : Kept) (mark : ℕ) (performed : List Performed) (e : Performed) → AreKept kept mark performed
+    → e.0 ≤ mark → AreKept kept mark (performed ++ e ∷ [])
 same_kept kept mark performed e are low = record {
   sorted = are.sorted;
   within = λ m place is. omega (arith, are.within m place is, length-append performed (e ∷ []));
@@ -118,7 +128,8 @@ same_kept kept mark performed e are low = record {
 pub higher_mark : (kept : Kept) (mark high : ℕ) (performed : List Performed) → mark ≤ high → AreKept kept mark performed → AreKept kept high performed
 higher_mark kept mark high performed up are = record { sorted = are.sorted; within = are.within; few = are.few; found = λ n above. are.found n (omega (arith, up, above)) }
 
-pub keeps_more : (table new : Rows) (performed : List Performed) (kept : Kept) (mark limit ops n : ℕ) (o : Op) (said : Said) → Keeps table performed kept mark limit ops → mark < n → said_under (reverse performed) n ≡ None
+pub keeps_more : (table new : Rows) (performed : List Performed) (kept : Kept) (mark limit ops n : ℕ) (o : Op) (said : Said)
+    → Keeps table performed kept mark limit ops → mark < n → said_under (reverse performed) n ≡ None
     → length performed < ops → Performs limit table new o said → Keeps new (performed ++ (n, o, said) ∷ []) (kept_more kept n (length performed)) mark limit ops
 keeps_more table new performed kept mark limit ops n o said was above fresh room does =
     let list = reverse performed in
@@ -140,18 +151,21 @@ right_behind limit (e ∷ later) list right = right_behind limit later list righ
 taken : (performed : List Performed) (k : ℕ) → reverse performed ≡ reverse (drop k performed) ++ reverse (take k performed)
 taken performed k = ap reverse (sym (take-append-drop k performed)) ∙ reverse-append (take k performed) (drop k performed)
 
-taken_more : (performed : List Performed) (k : ℕ) (d : Performed) → k < length performed → take (k + 1) performed ≡ take k performed ++ slice_index_or performed k d ∷ []
+taken_more : (performed : List Performed) (k : ℕ) (d : Performed) → k < length performed
+    → take (k + 1) performed ≡ take k performed ++ slice_index_or performed k d ∷ []
 taken_more performed k d inside = (take_at_read performed k d inside).1
 
 -- the next entry was fresh, and its answer is what the earlier ones give
-pub next_is_right : (limit : ℕ) (performed : List Performed) (k : ℕ) (d : Performed) → k < length performed → IsRight limit (reverse performed) → IsRight limit (slice_index_or performed k d ∷ reverse (take k performed))
+pub next_is_right : (limit : ℕ) (performed : List Performed) (k : ℕ) (d : Performed) → k < length performed
+    → IsRight limit (reverse performed) → IsRight limit (slice_index_or performed k d ∷ reverse (take k performed))
 next_is_right limit performed k d inside right =
     let behind = right_behind limit (reverse (drop (k + 1) performed)) (reverse (take (k + 1) performed)) (subst (IsRight limit) (taken performed (k + 1)) right) in
     subst (IsRight limit) (ap reverse (taken_more performed k d inside) ∙ pushed (slice_index_or performed k d) (take k performed)) behind
 
 -- ---- as the code has it
 
-pub keeps_next : (table new : Rows) (performed longer : List Performed) (kept more : Kept) (mark limit ops n : ℕ) (o : Op) (said : Said) (place : ℕ) → Keeps table performed kept mark limit ops → mark < n → said_under (reverse performed) n ≡ None
+pub keeps_next : (table new : Rows) (performed longer : List Performed) (kept more : Kept) (mark limit ops n : ℕ) (o : Op) (said : Said) (place : ℕ)
+    → Keeps table performed kept mark limit ops → mark < n → said_under (reverse performed) n ≡ None
     → length performed < ops → Performs limit table new o said → longer ≡ performed ++ (n, o, said) ∷ [] → more ≡ insert kept (kept_place kept n) (n, place) → place ≡ length performed → Keeps new longer more mark limit ops
 keeps_next table new performed longer kept more mark limit ops n o said place was above fresh room does grown put at =
     let whole = put ∙ ap (λ (i : ℕ). insert kept (kept_place kept n) (n, i)) at in
@@ -160,7 +174,8 @@ keeps_next table new performed longer kept more mark limit ops n o said place wa
     (keeps_more table new performed kept mark limit ops n o said was above fresh room does))
 
 -- the rows behind one more entry of the list
-pub rows_next : (limit : ℕ) (table new : Rows) (performed : List Performed) (k : ℕ) (d : Performed) (said : Said) → k < length performed → IsRight limit (reverse performed) → AreRowsOf table (reverse (take k performed))
+pub rows_next : (limit : ℕ) (table new : Rows) (performed : List Performed) (k : ℕ) (d : Performed) (said : Said)
+    → k < length performed → IsRight limit (reverse performed) → AreRowsOf table (reverse (take k performed))
     → Performs limit table new (slice_index_or performed k d).1 said → AreRowsOf new (reverse (take (k + 1) performed))
 rows_next limit table new performed k d said inside right rows does =
     let e = slice_index_or performed k d in
@@ -169,7 +184,8 @@ rows_next limit table new performed k d said inside right rows does =
     subst (AreRowsOf new) (sym (ap reverse (taken_more performed k d inside) ∙ pushed e (take k performed)))
     (subst (λ (s : Said). AreRowsOf new ((e.0, e.1, s) ∷ reverse (take k performed))) same (more_rows limit table new (reverse (take k performed)) e.0 e.1 said rows does))
 
-pub kept_next : (limit : ℕ) (kept more : Kept) (mark : ℕ) (performed : List Performed) (k place n : ℕ) (d : Performed) → k < length performed → IsRight limit (reverse performed) → AreKept kept mark (take k performed)
+pub kept_next : (limit : ℕ) (kept more : Kept) (mark : ℕ) (performed : List Performed) (k place n : ℕ) (d : Performed)
+    → k < length performed → IsRight limit (reverse performed) → AreKept kept mark (take k performed)
     → n ≡ (slice_index_or performed k d).0 → mark < n → more ≡ insert kept (kept_place kept n) (n, place) → place ≡ k → AreKept more mark (take (k + 1) performed)
 kept_next limit kept more mark performed k place n d inside right are number above put at =
     let e = slice_index_or performed k d in
@@ -180,7 +196,8 @@ kept_next limit kept more mark performed k place n d inside right are number abo
     (subst (λ (l : List Performed). AreKept (insert kept (kept_place kept e.0) (e.0, length (take k performed))) mark l) (sym (taken_more performed k d inside))
     (more_kept kept mark (take k performed) e.0 e.1 e.2 are (subst (λ (m : ℕ). mark < m) number above) next.0))
 
-pub kept_still : (kept : Kept) (mark : ℕ) (performed : List Performed) (k n : ℕ) (d : Performed) → k < length performed → AreKept kept mark (take k performed) → n ≡ (slice_index_or performed k d).0 → n ≤ mark
+pub kept_still : (kept : Kept) (mark : ℕ) (performed : List Performed) (k n : ℕ) (d : Performed)
+    → k < length performed → AreKept kept mark (take k performed) → n ≡ (slice_index_or performed k d).0 → n ≤ mark
     → AreKept kept mark (take (k + 1) performed)
 kept_still kept mark performed k n d inside are number low =
     subst (λ (l : List Performed). AreKept kept mark l) (sym (taken_more performed k d inside))

@@ -1,5 +1,6 @@
 -- What follows for every history.
-use Rattle.std.proofs.Common.{arith, ◌≡◌, ℕ, zero, suc, ◌<◌, ◌≤◌, not, Bool, true, false, if◌then◌else◌, ◌&&◌, ◌||◌, List, [], ◌∷◌, ◌++◌, sym, refl, ap, subst, ◌∙◌}
+use Rattle.std.proofs.Common.{arith, ◌≡◌, ℕ, zero, suc, ◌<◌, ◌≤◌, not, Bool, true, false, if◌then◌else◌, ◌&&◌, ◌||◌}
+use Rattle.std.proofs.Common.{List, [], ◌∷◌, ◌++◌, sym, refl, ap, subst, ◌∙◌}
 use Rattle.std.specs.Prelude.{Option, Some, None, ◌==◌}
 use Rattle.std.proofs.lemmas.Bool.{cond-true, cond-false, eqb-true, eq-eqb}
 use Rattle.std.proofs.lemmas.Bool.Decides.{nat_tests}
@@ -23,7 +24,8 @@ holds_last m n (k ∷ ns) = ap (λ (b : Bool). (k == m) || b) (holds_last m n ns
     assoc true y z = refl
     assoc false y z = refl
 
-asked : (b : Bool) (m n : ℕ) (ns : List ℕ) (f : Flight) (o : Option Flight) → (n == m) ≡ b → holds m ns ≡ is_flight o → holds m (ns ++ n ∷ []) ≡ is_flight (if n == m then Some f else o)
+asked : (b : Bool) (m n : ℕ) (ns : List ℕ) (f : Flight) (o : Option Flight) → (n == m) ≡ b → holds m ns ≡ is_flight o
+    → holds m (ns ++ n ∷ []) ≡ is_flight (if n == m then Some f else o)
 asked true m n ns f o is was = holds_last m n ns ∙ ap (λ (b : Bool). holds m ns || b) is ∙ or_true (holds m ns) ∙ sym (ap is_flight (cond-true _ _ _ is))
   where
     or_true : (b : Bool) → (b || true) ≡ true
@@ -31,7 +33,8 @@ asked true m n ns f o is was = holds_last m n ns ∙ ap (λ (b : Bool). holds m 
     or_true false = refl
 asked false m n ns f o is was = holds_last m n ns ∙ ap (λ (b : Bool). holds m ns || b) is ∙ or_false (holds m ns) ∙ was ∙ sym (ap is_flight (cond-false _ _ _ is))
 
-kept : (x : Bool) (m n k : ℕ) (ns rest : List ℕ) → (k == n) ≡ x → (n == m) ≡ false → holds m rest ≡ holds m ns → holds m (if not x then k ∷ rest else rest) ≡ holds m (k ∷ ns)
+kept : (x : Bool) (m n k : ℕ) (ns rest : List ℕ) → (k == n) ≡ x → (n == m) ≡ false → holds m rest ≡ holds m ns
+    → holds m (if not x then k ∷ rest else rest) ≡ holds m (k ∷ ns)
 kept false m n k ns rest own apart was = ap (λ (b : Bool). (k == m) || b) was
 kept true m n k ns rest own apart was = was ∙ sym (ap (λ (b : Bool). b || holds m ns) (subst (λ (i : ℕ). (i == m) ≡ false) (sym (eqb-true k n own)) apart))
 
@@ -47,7 +50,8 @@ holds_itself : (n : ℕ) (ns : List ℕ) → holds n (others n ns) ≡ false
 holds_itself n [] = refl
 holds_itself n (k ∷ ns) = gone (k == n) n k (others n ns) refl (holds_itself n ns)
 
-answered : (b : Bool) (m n : ℕ) (ns : List ℕ) (o : Option Flight) → (n == m) ≡ b → holds m ns ≡ is_flight o → holds m (others n ns) ≡ is_flight (if n == m then None else o)
+answered : (b : Bool) (m n : ℕ) (ns : List ℕ) (o : Option Flight) → (n == m) ≡ b → holds m ns ≡ is_flight o
+    → holds m (others n ns) ≡ is_flight (if n == m then None else o)
 answered true m n ns o is was = subst (λ (k : ℕ). holds k (others n ns) ≡ false) (eqb-true n m is) (holds_itself n ns) ∙ sym (ap is_flight (cond-true _ _ _ is))
 answered false m n ns o is was = holds_others m n ns is ∙ was ∙ sym (ap is_flight (cond-false _ _ _ is))
 
@@ -80,7 +84,8 @@ mark_is : (h : List Event) (n : ℕ) → IsMarkTo h n (mark_to h n)
 mark_is h zero = record { few = omega arith; answered = λ m some none. absurd (omega (arith, some, none)); greatest = λ k few all. few }
 mark_is h (suc n) = by_test (mark_to h n == n) (is_open h (suc n)) refl refl (mark_is h n)
   where
-    by_test : (x y : Bool) → (mark_to h n == n) ≡ x → is_open h (suc n) ≡ y → IsMarkTo h n (mark_to h n) → IsMarkTo h (suc n) (if x && not y then suc n else mark_to h n)
+    by_test : (x y : Bool) → (mark_to h n == n) ≡ x → is_open h (suc n) ≡ y → IsMarkTo h n (mark_to h n)
+        → IsMarkTo h (suc n) (if x && not y then suc n else mark_to h n)
     by_test true false is free was =
         let whole = eqb-true (mark_to h n) n is in
         record {

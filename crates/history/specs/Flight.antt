@@ -1,6 +1,7 @@
 -- Numbers that are open, and the operations under them, which are in flight; the low-water mark (Lomet, Fekete, Weikum, Zwilling,
 -- CIDR 2009: unique request IDs and LWM).
-use Rattle.std.specs.Prelude.{◌≡◌, ℕ, zero, suc, ◌+◌, ◌<◌, ◌≤◌, Bool, true, false, not, ◌&&◌, ◌==◌, if◌then◌else◌, List, [], ◌∷◌, ◌++◌, Option, Some, None}
+use Rattle.std.specs.Prelude.{◌≡◌, ℕ, zero, suc, ◌+◌, ◌<◌, ◌≤◌, Bool, true, false, not, ◌&&◌, ◌==◌, if◌then◌else◌}
+use Rattle.std.specs.Prelude.{List, [], ◌∷◌, ◌++◌, Option, Some, None}
 use Rattle.access_slots.specs.declared.op.Op.{Op}
 use Rattle.request_numbers.specs.Given.{others}
 use Rattle.tc_log.specs.declared.event.Event.{Event}

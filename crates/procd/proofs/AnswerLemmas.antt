@@ -4,7 +4,8 @@ use Rattle.std.proofs.lemmas.List.{append-nil, take_more, length-take-le}
 use Rattle.worker_pool.specs.declared.answer.Answer.{Answer}
 use Rattle.procd.specs.AnswerLines.{answer_line, answer_lines_from, answer_lines}
 
-lines_push : (word : List ℕ) (n : ℕ) (answers : List Answer) (x : Answer) → answer_lines_from word n (answers ++ x ∷ []) ≡ answer_lines_from word n answers ++ answer_line word (n + length answers) x
+lines_push : (word : List ℕ) (n : ℕ) (answers : List Answer) (x : Answer)
+    → answer_lines_from word n (answers ++ x ∷ []) ≡ answer_lines_from word n answers ++ answer_line word (n + length answers) x
 lines_push word n [] x = append-nil (answer_line word n x) ∙ ap (λ (k : ℕ). answer_line word k x) (sym (add-zero n))
 lines_push word n (y ∷ ys) x =
     let places : n + 1 + length ys ≡ n + length (y ∷ ys) = omega arith in
@@ -12,7 +13,8 @@ lines_push word n (y ∷ ys) x =
     ∙ sym (append_assoc (answer_line word n y) (answer_lines_from word (n + 1) ys) (answer_line word (n + length (y ∷ ys)) x))
 
 -- behind the lines of so many answers comes that of the next
-pub one_line : (word old lines new : List ℕ) (answers : List Answer) (k : ℕ) (d : Answer) → k < length answers → lines ≡ old ++ answer_lines word (take k answers) → new ≡ lines ++ answer_line word k (get_or answers k d)
+pub one_line : (word old lines new : List ℕ) (answers : List Answer) (k : ℕ) (d : Answer) → k < length answers
+    → lines ≡ old ++ answer_lines word (take k answers) → new ≡ lines ++ answer_line word k (get_or answers k d)
     → new ≡ old ++ answer_lines word (take (k + 1) answers)
 one_line word old lines new answers k d lt so_far more =
     let x = get_or answers k d in

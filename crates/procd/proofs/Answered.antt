@@ -35,7 +35,8 @@ slot_none : (slots : List Slot) (k : ℕ) → slots ≡ [] → slice_get slots k
 slot_none slots k e = ap (λ (ss : List Slot). slice_get ss k) e
 
 -- where no slot is declared, nothing is asked
-pub never_asks : (s : Setting) (stop : Stop) (slot : ℕ) (operation : Op) (c : Config) → s.program.decl.slots ≡ [] → IsFineStop s stop → stop ≡ Asked slot operation c → ⊥
+pub never_asks : (s : Setting) (stop : Stop) (slot : ℕ) (operation : Op) (c : Config) → s.program.decl.slots ≡ []
+    → IsFineStop s stop → stop ≡ Asked slot operation c → ⊥
 never_asks s stop slot operation c none fine e = no_slot s.args (slice_get s.program.decl.slots slot) operation (slot_none s.program.decl.slots slot none) (subst (IsFineStop s) e fine).0
 
 -- what holds at the same arguments and addresses
@@ -45,7 +46,9 @@ at_same P args args' b b' ea eb h = subst (λ (a : List ℕ). P a b) ea (subst (
 abbrev program : List Place → Declaration → List ℕ → Setting
 program code decl args = record { program = program_of code decl; args = args; bases = plain_bases }
 
-same_program : (v : Checked) (code : List Place) (args : List ℕ) → v.code ≡ code → v.decl ≡ without_slots (length args) → program v.code v.decl args ≡ program code (without_slots (length args)) args
+same_program : (v : Checked) (code : List Place) (args : List ℕ) → v.code ≡ code
+    → v.decl ≡ without_slots (length args)
+    → program v.code v.decl args ≡ program code (without_slots (length args)) args
 same_program v code args ec ed = ap₂ (λ (x : List Place) (d : Declaration). program x d args) ec ed
 
 -- ---- what bytes that name this code come to
@@ -57,7 +60,8 @@ many_args : (n : ℕ) → 8 < n → nat_lt 8 n ≡ true
 many_args n many = search rules
 
 -- as many arguments as are allowed
-with_few : (bytes args : List ℕ) → fault_in bytes ≡ None → length args ≤ 8 → execution_of bytes args ≡ execution_by_verdict (verdict (without_slots (length args)) (code_named bytes)) bytes args
+with_few : (bytes args : List ℕ) → fault_in bytes ≡ None → length args ≤ 8
+    → execution_of bytes args ≡ execution_by_verdict (verdict (without_slots (length args)) (code_named bytes)) bytes args
 with_few bytes args none few =
     ap (λ (o : Option DecodeFault). execution_by_fault o bytes args) none
     ∙ ap (λ (b : Bool). execution_by_count b bytes args) (few_args (length args) few)
@@ -67,17 +71,20 @@ too_many bytes args none many =
     ap (λ (o : Option DecodeFault). execution_by_fault o bytes args) none
     ∙ ap (λ (b : Bool). execution_by_count b bytes args) (many_args (length args) many)
 
-pub refused : (bytes args : List ℕ) (code : List Place) (decl : Declaration) (slot : ℕ) (violation : Violation) → fault_in bytes ≡ None → code ≡ code_named bytes → length args ≤ 8 → decl ≡ without_slots (length args)
+pub refused : (bytes args : List ℕ) (code : List Place) (decl : Declaration) (slot : ℕ) (violation : Violation)
+    → fault_in bytes ≡ None → code ≡ code_named bytes → length args ≤ 8 → decl ≡ without_slots (length args)
     → verdict decl code ≡ Some (slot, violation) → execution_of bytes args ≡ Some (Refused slot violation)
 refused bytes args code decl slot violation none named few declared is =
     with_few bytes args none few
     ∙ ap (λ (o : Option (ℕ × Violation)). execution_by_verdict o bytes args) (ap₂ verdict (sym declared) (sym named) ∙ is)
 
-outcome_spelled : (bytes : List ℕ) (code : List Place) (args : List ℕ) → Spells bytes code → outcome_of bytes args ≡ outcome (reach (program code (without_slots (length args)) args) [])
+outcome_spelled : (bytes : List ℕ) (code : List Place) (args : List ℕ) → Spells bytes code
+    → outcome_of bytes args ≡ outcome (reach (program code (without_slots (length args)) args) [])
 outcome_spelled bytes code args spells =
     ap (λ (fs : List Fields). outcome (reach (record { program = record { code = fs; decl = without_slots (length args) }; args = args; bases = plain_bases }) [])) spells.fields
 
-pub accepted : (v : Checked) (bytes : List ℕ) (code : List Place) (args : List ℕ) (e : Execution) → v.code ≡ code → v.decl ≡ without_slots (length args)
+pub accepted : (v : Checked) (bytes : List ℕ) (code : List Place) (args : List ℕ) (e : Execution) → v.code ≡ code
+    → v.decl ≡ without_slots (length args)
     → fault_in bytes ≡ None → code ≡ code_named bytes → Spells bytes code → length args ≤ 8 → verdict v.decl code ≡ None
     → answered (outcome (reach (setting_of v args plain_bases) [])) ≡ Some e → execution_of bytes args ≡ Some e
 accepted v bytes code args e ec ed none named spells few is h =

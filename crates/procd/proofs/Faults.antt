@@ -1,5 +1,6 @@
 -- A fault is always among what a run may give.
-use Rattle.std.proofs.Common.{arith, ◌≡◌, ℕ, Bool, List, Option, Some, None, [], map, option_map, unwrap_or, refl, inl, inr, length, true, false, codes, ◌||◌, ◌∙◌, ap₂}
+use Rattle.std.proofs.Common.{arith, ◌≡◌, ℕ, Bool, List, Option, Some, None, [], map, option_map, unwrap_or, refl}
+use Rattle.std.proofs.Common.{inl, inr, length, true, false, codes, ◌||◌, ◌∙◌, ap₂}
 use Rattle.std.specs.Prelude.{IfSome, Result, Ok, Err, ◌≤◌, if◌then◌else◌}
 use Rattle.std.specs.Borrow.{Bor}
 use Rattle.procd.specs.Said.{IsFlag, Runs, RunsInput}
@@ -36,7 +37,8 @@ texts_or_none None d none = rw none refl
 texts_or_none (Some s) d none = refl
 
 -- what the flag was read as
-pub flag_is : (o : Option (List ℕ)) (r : Bool) → (o ≡ None → r ≡ false) → (o ≡ Some (codes "true") → r ≡ true) → (o ≡ Some (codes "false") → r ≡ false) → (raw : Bool) → IsFlag raw o → r ≡ raw
+pub flag_is : (o : Option (List ℕ)) (r : Bool) → (o ≡ None → r ≡ false) → (o ≡ Some (codes "true") → r ≡ true)
+    → (o ≡ Some (codes "false") → r ≡ false) → (raw : Bool) → IsFlag raw o → r ≡ raw
 flag_is o r absent set unset true h = set h
 flag_is o r absent set unset false h = elim h [ inl e ↦ absent e | inr e ↦ unset e ]
 
@@ -55,7 +57,8 @@ cannot_read_fits wish input old new result is kept = (known input, known_is inpu
 pub no_memory_fits : (wish : Wish) (input old new : Option (List ℕ)) (result : ℕ) → result ≡ 4 → new ≡ old → RunsInput wish input old new result
 no_memory_fits wish input old new result is kept = (known input, known_is input, inr (inl (is, kept)))
 
-pub no_memory_runs : (file : List ℕ) (wish : Wish) (input old new : Option (List ℕ)) (result : ℕ) → result ≡ 4 → new ≡ old → Runs file wish input old new result
+pub no_memory_runs : (file : List ℕ) (wish : Wish) (input old new : Option (List ℕ)) (result : ℕ) → result ≡ 4
+    → new ≡ old → Runs file wish input old new result
 no_memory_runs file wish input old new result is kept = (known input, (λ e. known_is input), inr (inl (is, kept)))
 
 -- ---- a command's status is 0 or 1
@@ -71,7 +74,8 @@ assembly_low : (r : Result (List Place) AsmFault) (status : ℕ) (lines : List �
 assembly_low (Ok code) status lines h = omega (arith, h.0)
 assembly_low (Err e) status lines h = omega (arith, h.0)
 
-disassembly_of_low : (fault : Option DecodeFault) (bytes : List ℕ) (status : ℕ) (lines : List ℕ) → IsDisassemblyOf fault bytes status lines → status ≤ 1
+disassembly_of_low : (fault : Option DecodeFault) (bytes : List ℕ) (status : ℕ) (lines : List ℕ)
+    → IsDisassemblyOf fault bytes status lines → status ≤ 1
 disassembly_of_low (Some fault) bytes status lines h = omega (arith, h.0)
 disassembly_of_low None bytes status lines h = omega (arith, h.0)
 
@@ -90,11 +94,13 @@ fault_low None procedures = elim (list_any is_refused procedures) as (λ b. (if 
 reading_low : (r : Reading) → status_of_reading r ≤ 1
 reading_low r = fault_low r.fault r.contents.procedures
 
-calls_low : (start : Core) (first calls : List Call) (dcs workers tries status : ℕ) (lines : List ℕ) → IsCallsRun start first calls dcs workers tries status lines → status ≤ 1
+calls_low : (start : Core) (first calls : List Call) (dcs workers tries status : ℕ) (lines : List ℕ)
+    → IsCallsRun start first calls dcs workers tries status lines → status ≤ 1
 calls_low start first calls dcs workers tries status lines (Ran fit is run) = omega (arith, is)
 calls_low start first calls dcs workers tries status lines (Stopped fault when is line) = omega (arith, is)
 
-run_low : (refusal : Option (List ℕ)) (contents : Contents) (workers tries status : ℕ) (lines : List ℕ) → IsRunBy refusal contents workers tries status lines → status ≤ 1
+run_low : (refusal : Option (List ℕ)) (contents : Contents) (workers tries status : ℕ) (lines : List ℕ)
+    → IsRunBy refusal contents workers tries status lines → status ≤ 1
 run_low (Some refusal) contents workers tries status lines h = omega (arith, h.0)
 run_low None contents workers tries status lines h = calls_low (begun contents) contents.first contents.calls (length contents.dcs) workers tries status lines h
 
@@ -102,7 +108,8 @@ steps_low : (all : Bool) → status_of_steps all ≤ 1
 steps_low true = omega arith
 steps_low false = omega arith
 
-world_low : (refusal : Option (List ℕ)) (contents : Contents) (log : Bool) (status : ℕ) (lines : List ℕ) → IsWorldBy refusal contents log status lines → status ≤ 1
+world_low : (refusal : Option (List ℕ)) (contents : Contents) (log : Bool) (status : ℕ) (lines : List ℕ)
+    → IsWorldBy refusal contents log status lines → status ≤ 1
 world_low (Some refusal) contents log status lines h = omega (arith, h.0)
 world_low None contents log status lines h = omega (arith, h.status_is, steps_low h.all)
 

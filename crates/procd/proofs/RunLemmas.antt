@@ -8,7 +8,8 @@ use Rattle.procd.specs.AnswerLines.{fault_line}
 use Rattle.procd.specs.Running.{Stops, IsCallsRun, Stopped}
 use Rattle.procd.specs.declared.report.Report.{Report}
 
-pub stopped_run : {E : Type 0} (r : Result Report E) (fault : RunFault) (start : Core) (first calls : List Call) (dcs workers tries : ℕ) → Stops workers tries fault
+pub stopped_run : {E : Type 0} (r : Result Report E) (fault : RunFault) (start : Core) (first calls : List Call) (dcs workers tries : ℕ)
+    → Stops workers tries fault
     → IfOk r (λ report. fault_line fault ≡ Some (string_bytes report.lines)) → IfOk r (λ report. report.status ≡ 1)
     → IfOk r (λ report. IsCallsRun start first calls dcs workers tries report.status (string_bytes report.lines))
 stopped_run (Ok report) fault start first calls dcs workers tries stops line is = Stopped fault stops is line

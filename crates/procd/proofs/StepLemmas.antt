@@ -9,11 +9,13 @@ use Rattle.tc_world.specs.declared.step.Step.{Step}
 use Rattle.procd.specs.OutcomeLines.{step_line}
 use Rattle.procd.specs.Stepping.{Told, Answers, AnswersLine, Takes, step_lines, all_possible, AreTaken}
 
-pub answered : (w : Whole) (s : Step) (told : Told) (v : Whole) → IfOk told (λ o. Steps w s o v) → OnErr told (v ≡ w) → IfErr told (λ i. IsIllegal w s i) → Answers w s told v
+pub answered : (w : Whole) (s : Step) (told : Told) (v : Whole) → IfOk told (λ o. Steps w s o v) → OnErr told (v ≡ w)
+    → IfErr told (λ i. IsIllegal w s i) → Answers w s told v
 answered w s (Ok o) v ok err why = ok
 answered w s (Err i) v ok err why = (err, why)
 
-takes_push : (w mid v : Whole) (xs : List ScriptStep) (told : List Told) (x : ScriptStep) (said : Told) → Takes w xs told mid → AnswersLine mid x said v → Takes w (xs ++ x ∷ []) (told ++ said ∷ []) v
+takes_push : (w mid v : Whole) (xs : List ScriptStep) (told : List Told) (x : ScriptStep) (said : Told)
+    → Takes w xs told mid → AnswersLine mid x said v → Takes w (xs ++ x ∷ []) (told ++ said ∷ []) v
 takes_push w mid v [] told x said done last =
     (said, v, [], subst (λ (u : Whole). AnswersLine u x said v) done.1 last, ap (λ (ts : List Told). ts ++ said ∷ []) done.0, (refl, refl))
 takes_push w mid v (y ∷ xs) told x said run last =
@@ -38,7 +40,8 @@ possible_push (x ∷ xs) said = ap (λ (b : Bool). is_ok x && b) (possible_push 
 pub none_taken : (w : Whole) (lines : List ℕ) → AreTaken w [] w lines lines true
 none_taken w lines = record { told = []; takes = (refl, refl); lines = sym (append-nil lines); possible = refl }
 
-pub one_taken : (w mid v : Whole) (xs : List ScriptStep) (x : ScriptStep) (said : Told) (old lines new : List ℕ) (all now : Bool) → AreTaken w xs mid old lines all → AnswersLine mid x said v
+pub one_taken : (w mid v : Whole) (xs : List ScriptStep) (x : ScriptStep) (said : Told) (old lines new : List ℕ) (all now : Bool)
+    → AreTaken w xs mid old lines all → AnswersLine mid x said v
     → new ≡ lines ++ step_line said → now ≡ (all && is_ok said) → AreTaken w (xs ++ x ∷ []) v old new now
 one_taken w mid v xs x said old lines new all now t last more same = record {
   told = t.told ++ said ∷ [];

@@ -59,7 +59,8 @@ apart a d is_a is_d same = omega (arith, is_a, is_d, same)
 asm_not_dis : codes "asm" ≡ codes "dis" → ⊥
 asm_not_dis e = apart (slice_index (codes "asm") 0) (slice_index (codes "dis") 0) refl refl (ap (λ (t : List ℕ). slice_index t 0) e)
 
-pub wants_exec : (name : List ℕ) (rows : List Row) (raw : Bool) (numbers : List ℕ) → name ≡ codes "exec" → ((r : Bool) → IsFlag r (one_of (codes "raw") rows) → raw ≡ r)
+pub wants_exec : (name : List ℕ) (rows : List Row) (raw : Bool) (numbers : List ℕ) → name ≡ codes "exec"
+    → ((r : Bool) → IsFlag r (one_of (codes "raw") rows) → raw ≡ r)
     → ((ns : List ℕ) → SaysNumbers rows ns → numbers ≡ ns) → (wish : Wish) → name ≡ command_name wish → SaysWish rows wish → Exec raw numbers ≡ wish
 wants_exec name rows raw numbers is flag all (Exec r ns) named says = ap₂ Exec (flag r says.0) (all ns says.1)
 wants_exec name rows raw numbers is flag all Asm named says = absurd (exec_not_asm (sym is ∙ named))
@@ -77,7 +78,8 @@ wants_dis name rows raw is flag Verify named says = absurd (dis_not_verify (sym 
 wants_dis name rows raw is flag (World log) named says = absurd (dis_not_world (sym is ∙ named))
 wants_dis name rows raw is flag (Run workers tries stats) named says = absurd (dis_not_run (sym is ∙ named))
 
-pub wants_world : (name : List ℕ) (rows : List Row) (log : Bool) → name ≡ codes "world" → ((l : Bool) → IsFlag l (one_of (codes "log") rows) → log ≡ l)
+pub wants_world : (name : List ℕ) (rows : List Row) (log : Bool) → name ≡ codes "world"
+    → ((l : Bool) → IsFlag l (one_of (codes "log") rows) → log ≡ l)
     → (wish : Wish) → name ≡ command_name wish → SaysWish rows wish → World log ≡ wish
 wants_world name rows log is flag (Exec r ns) named says = absurd (exec_not_world (sym named ∙ is))
 wants_world name rows log is flag Asm named says = absurd (asm_not_world (sym named ∙ is))
@@ -86,7 +88,8 @@ wants_world name rows log is flag Verify named says = absurd (verify_not_world (
 wants_world name rows log is flag (World l) named says = ap World (flag l says)
 wants_world name rows log is flag (Run workers tries stats) named says = absurd (world_not_run (sym is ∙ named))
 
-pub wants_run : (name : List ℕ) (rows : List Row) (result : Result Task WordFault) → name ≡ codes "run" → ((workers tries : ℕ) (stats : Bool) → SaysRun rows workers tries stats → IsTaskOrNoMemory (Run workers tries stats) result)
+pub wants_run : (name : List ℕ) (rows : List Row) (result : Result Task WordFault) → name ≡ codes "run"
+    → ((workers tries : ℕ) (stats : Bool) → SaysRun rows workers tries stats → IsTaskOrNoMemory (Run workers tries stats) result)
     → (wish : Wish) → name ≡ command_name wish → SaysWish rows wish → IsTaskOrNoMemory wish result
 wants_run name rows result is all (Exec r ns) named says = absurd (exec_not_run (sym named ∙ is))
 wants_run name rows result is all Asm named says = absurd (asm_not_run (sym named ∙ is))

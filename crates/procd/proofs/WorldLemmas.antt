@@ -14,7 +14,8 @@ use Rattle.procd.specs.declared.loading.Loaded.{Loaded}
 abbrev unsent : Core → List Store → Whole
 unsent core dcs = record { core = core; dcs = dcs; copies = []; replies = [] }
 
-pub stepped_from : (contents : Contents) (loaded : Loaded) (log all : Bool) (start end : Whole) (stepped kept lines : List ℕ) (status : ℕ) → IsReady contents loaded
+pub stepped_from : (contents : Contents) (loaded : Loaded) (log all : Bool) (start end : Whole) (stepped kept lines : List ℕ) (status : ℕ)
+    → IsReady contents loaded
     → start ≡ record { core = loaded.state; dcs = loaded.dcs.items; copies = []; replies = [] } → AreTaken start loaded.steps.items end [] stepped all → AddsRowLines end.dcs stepped kept
     → lines ≡ kept ++ logged log end.core.events → status ≡ status_of_steps all → IsStepped contents log status lines
 stepped_from contents loaded log all start end stepped kept lines status ready is taken rows are status_is =

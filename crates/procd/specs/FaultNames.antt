@@ -11,7 +11,10 @@ use Rattle.bpf_encoding.specs.declared.decode.DecodeFault.TheVariants as decode
 use Rattle.bpf_encoding.specs.declared.slot.Outside.{Outside}
 use Rattle.bpf_encoding.specs.declared.slot.Outside.TheVariants.{Packet, WideSubtype, LocalCall, BtfCall}
 use Rattle.register_kinds.specs.declared.kind.Violation.{Violation}
-use Rattle.register_kinds.specs.declared.kind.Violation.TheVariants.{Backward, OutOfCode, IntoWide, FallsOff, EmptyRegister, WritesR10, NotAPointer, OutOfBounds, ReadOnly, MaybeNull, UnknownHelper, SlotUnknown, ModeTooWeak, PointerReturned}
+use Rattle.register_kinds.specs.declared.kind.Violation.TheVariants.{Backward, OutOfCode, IntoWide, FallsOff}
+use Rattle.register_kinds.specs.declared.kind.Violation.TheVariants.{EmptyRegister, WritesR10, NotAPointer}
+use Rattle.register_kinds.specs.declared.kind.Violation.TheVariants.{OutOfBounds, ReadOnly, MaybeNull, UnknownHelper}
+use Rattle.register_kinds.specs.declared.kind.Violation.TheVariants.{SlotUnknown, ModeTooWeak, PointerReturned}
 use Rattle.scripts.specs.declared.fault.ScriptFault.{ScriptFault}
 use Rattle.scripts.specs.declared.fault.ScriptFault.TheVariants as script
 

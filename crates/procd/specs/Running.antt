@@ -73,7 +73,8 @@ pub record ArePrinted (start : Core) (first calls : List said.Call) (dcs : ℕ) 
 -- they are run, whatever they are answered, or it is printed why not
 pub data IsCallsRun (start : Core) (first calls : List said.Call) (dcs workers tries status : ℕ) (lines : List ℕ) : Type 0 where
   Ran : InRange workers tries → status ≡ 0 → ArePrinted start first calls dcs lines → IsCallsRun start first calls dcs workers tries status lines
-  Stopped : (fault : RunFault) → Stops workers tries fault → status ≡ 1 → fault_line fault ≡ Some lines → IsCallsRun start first calls dcs workers tries status lines
+  Stopped : (fault : RunFault) → Stops workers tries fault → status ≡ 1 → fault_line fault ≡ Some lines
+      → IsCallsRun start first calls dcs workers tries status lines
 
 -- its procedures are loaded, and nothing has happened
 abbrev pub begun : Contents → Core

@@ -123,7 +123,8 @@ IsWriteFault wish text result = (status : ℕ) × (lines : List ℕ) × IsReport
 
 -- the file can't be read, memory ran out, standard output can't be written, or what was read is done
 abbrev pub Writes : Wish → List ℕ → Option (List ℕ) → Option (List ℕ) → ℕ → Type 0
-Writes wish text old new result = IsReadFault old new result ⊎ (IsMemoryFault old new result ⊎ (IsWriteFault wish text result ⊎ WritesReport wish text old new result))
+Writes wish text old new result = IsReadFault old new result
+    ⊎ (IsMemoryFault old new result ⊎ (IsWriteFault wish text result ⊎ WritesReport wish text old new result))
 
 -- the same of some text, which is what is there to be read, where that is known
 abbrev pub RunsInput : Wish → Option (List ℕ) → Option (List ℕ) → Option (List ℕ) → ℕ → Type 0

@@ -60,7 +60,8 @@ pub record AnswersLine (w : Whole) (line : ScriptStep) (told : Told) (w' : Whole
 -- one line after another, whatever the ones before were answered
 abbrev pub Takes : Whole → List ScriptStep → List Told → Whole → Type 0
 Takes w [] told w' = (told ≡ []) × (w' ≡ w)
-Takes w (x ∷ xs) told w' = (first : Told) × (mid : Whole) × (rest : List Told) × AnswersLine w x first mid × (told ≡ first ∷ rest) × Takes mid xs rest w'
+Takes w (x ∷ xs) told w' = (first : Told) × (mid : Whole) × (rest : List Told) × AnswersLine w x first mid
+    × (told ≡ first ∷ rest) × Takes mid xs rest w'
 
 -- ---- lines
 

@@ -11,7 +11,8 @@ use Rattle.register_kinds.specs.declared.kind.Kind.TheVariants.{Empty, Number, C
 use Rattle.register_kinds.specs.declared.kind.Violation.TheVariants.{OutOfBounds}
 use Rattle.register_kinds.specs.Access.{is_within, bounds, access}
 use Rattle.register_kinds.specs.Fitting.{Fits, shapes, shapes_of, IsSetting}
-use Rattle.register_kinds.proofs.Memory.{both, HasBytes, IsWritten, readable, laid_of, stack_at, arguments_at, buffer_at, stack_written, buffer_written}
+use Rattle.register_kinds.proofs.Memory.{both, HasBytes, IsWritten, readable, laid_of, stack_at, arguments_at}
+use Rattle.register_kinds.proofs.Memory.{buffer_at, stack_written, buffer_written}
 
 -- an offset within a region of this length
 abbrev Within : ℕ → ℤ → ℕ → Type 0
@@ -32,7 +33,8 @@ some_is : (x y : ℕ) → Some x ≡ Some y → x ≡ y
 some_is x y e = cc
 
 -- the address of an access within a region below 2 ^ 47
-lies_at : (base size v n : ℕ) (from offset : ℤ) → base + size ≤ 2 ^ 47 → v ≡ address base from → (w : Within size (from +ℤ offset) n) → address v offset ≡ base + w.0
+lies_at : (base size v n : ℕ) (from offset : ℤ) → base + size ≤ 2 ^ 47 → v ≡ address base from
+    → (w : Within size (from +ℤ offset) n) → address v offset ≡ base + w.0
 lies_at base size v n from offset reach e w =
     ap (λ (x : ℕ). address x offset) e ∙ address_at base w.0 from offset (let le = w.2 in omega (arith, reach, le)) w.1
 
@@ -43,7 +45,8 @@ load_allowed decl (Args from) offset n e = absurd cc
 load_allowed decl k offset n e = e
 
 module _ (s : Setting) (is : IsSetting s) (m : Memory) (laid : shapes m ≡ shapes_of s) where
-  pub loadable : (k : Kind) (offset : ℤ) (n v : ℕ) → Fits s k (Some v) → access s.program.decl false k offset n ≡ None → HasBytes (bytes_at m (address v offset) n)
+  pub loadable : (k : Kind) (offset : ℤ) (n v : ℕ) → Fits s k (Some v) → access s.program.decl false k offset n ≡ None
+      → HasBytes (bytes_at m (address v offset) n)
   loadable Empty offset n v f e = absurd cc
   loadable Number offset n v f e = absurd cc
   loadable (Const c) offset n v f e = absurd cc
@@ -65,7 +68,8 @@ module _ (s : Setting) (is : IsSetting s) (m : Memory) (laid : shapes m ≡ shap
       let le = w.2 in
       readable m (slot + 2) _ (address v offset) n (buffer_at s m slot is laid f.1) (omega (arith, at)) (omega (arith, at, le))
 
-  pub storable : (k : Kind) (offset : ℤ) (new : List ℕ) (v : ℕ) → 0 < length new → Fits s k (Some v) → access s.program.decl true k offset (length new) ≡ None → IsWritten m (written m (address v offset) new)
+  pub storable : (k : Kind) (offset : ℤ) (new : List ℕ) (v : ℕ) → 0 < length new → Fits s k (Some v)
+      → access s.program.decl true k offset (length new) ≡ None → IsWritten m (written m (address v offset) new)
   storable Empty offset new v some f e = absurd cc
   storable Number offset new v some f e = absurd cc
   storable (Const c) offset new v some f e = absurd cc

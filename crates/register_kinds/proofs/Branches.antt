@@ -86,7 +86,8 @@ module _ (s : Setting) (is : IsSetting s) (ks : Kinds) (c : Config) (all : AllFi
   equal_by n true e = subst (λ (b : ℕ). FitsWay s (branch_ways (Some true) (kind_at ks r) r ks) (eqb a b) c) (sym (zero_imm n e)) (equal_way (kind_at ks r) (eqb a 0) (all.at r) refl)
   equal_by n false e = plain (kind_at ks r) (eqb a (extended n))
 
-  unequal_by : (n : ℤ) (z : Bool) → int_eq n (pos 0) ≡ z → FitsWay s (branch_ways (cond z (Some false) None) (kind_at ks r) r ks) (not (eqb a (extended n))) c
+  unequal_by : (n : ℤ) (z : Bool) → int_eq n (pos 0) ≡ z
+      → FitsWay s (branch_ways (cond z (Some false) None) (kind_at ks r) r ks) (not (eqb a (extended n))) c
   unequal_by n true e = subst (λ (b : ℕ). FitsWay s (branch_ways (Some false) (kind_at ks r) r ks) (not (eqb a b)) c) (sym (zero_imm n e)) (unequal_way (kind_at ks r) (eqb a 0) (all.at r) refl)
   unequal_by n false e = plain (kind_at ks r) (not (eqb a (extended n)))
 

@@ -7,7 +7,8 @@ use Rattle.register_kinds.specs.Kinds.{check}
 abbrev pub Passed : Bool → Violation → Type 0
 Passed b v = Ok (tt {0}) ≡ check {A = Unit {0}} b v (Ok (tt {0}))
 
-pub three_passed : {A : Type 0} (a b d : Bool) (v w x : Violation) (r : Result A Violation) → Passed a v → Passed b w → Passed d x → r ≡ check a v (check b w (check d x r))
+pub three_passed : {A : Type 0} (a b d : Bool) (v w x : Violation) (r : Result A Violation) → Passed a v → Passed b w
+    → Passed d x → r ≡ check a v (check b w (check d x r))
 three_passed true true true v w x r one two three = refl
 three_passed false b d v w x r one two three = absurd (let bad : Ok (tt {0}) ≡ Err v = one in cc)
 three_passed true false d v w x r one two three = absurd (let bad : Ok (tt {0}) ≡ Err w = two in cc)

@@ -55,7 +55,8 @@ module _ (s : Setting) (ks : Kinds) (c : Config) (all : AllFit s ks c.registers)
   HasLeft operation dst = (a : ℕ) × (left_of c operation dst ≡ Some a) × LeftFits s operation (kind_at ks (number_of dst)) a
 
   -- the first operand of any operation but a move
-  read_left : (dst : Register) → is_present (kind_at ks (number_of dst)) ≡ true → (a : ℕ) × (register c (number_of dst) ≡ Some a) × Fits s (kind_at ks (number_of dst)) (Some a)
+  read_left : (dst : Register) → is_present (kind_at ks (number_of dst)) ≡ true
+      → (a : ℕ) × (register c (number_of dst) ≡ Some a) × Fits s (kind_at ks (number_of dst)) (Some a)
   read_left dst p =
       let h = has_register (number_of dst) p in
       (h.0, h.1, subst (Fits s (kind_at ks (number_of dst))) h.1 (all.at (number_of dst)))
@@ -67,7 +68,8 @@ module _ (s : Setting) (ks : Kinds) (c : Config) (all : AllFit s ks c.registers)
 -- ---- a register is written
 
 -- a kind for a register that has such a value
-pub narrowed : (s : Setting) (ks : Kinds) (registers : List (Option ℕ)) (r : ℕ) (k : Kind) → AllFit s ks registers → Fits s k (slice_index_or registers r None) → AllFit s (with_kind ks r k) registers
+pub narrowed : (s : Setting) (ks : Kinds) (registers : List (Option ℕ)) (r : ℕ) (k : Kind) → AllFit s ks registers
+    → Fits s k (slice_index_or registers r None) → AllFit s (with_kind ks r k) registers
 narrowed s ks registers r k all f = record { at = λ q. elim (cases_eq q r) [ inl same ↦ here q same | inr ne ↦ there q ne ] }
   where
     there : (q : ℕ) → q ≢ r → Fits s (kind_at (with_kind ks r k) q) (slice_index_or registers q None)
@@ -81,7 +83,9 @@ narrowed s ks registers r k all f = record { at = λ q. elim (cases_eq q r) [ in
           | inr le ↦ subst (λ (x : Kind). Fits s x (slice_index_or registers q None)) (sym (get_or_past (slice_set ks.registers r k) q Empty (omega (arith, length-set ks.registers r k, le, same)))) tt
         ]
 
-pub put_fits : (s : Setting) (ks : Kinds) (registers : List (Option ℕ)) (r : ℕ) (k : Kind) (v : Option ℕ) → r < length registers → AllFit s ks registers → Fits s k v → AllFit s (with_kind ks r k) (slice_set registers r v)
+pub put_fits : (s : Setting) (ks : Kinds) (registers : List (Option ℕ)) (r : ℕ) (k : Kind) (v : Option ℕ)
+    → r < length registers → AllFit s ks registers → Fits s k v
+    → AllFit s (with_kind ks r k) (slice_set registers r v)
 put_fits s ks registers r k v lt all f = record { at = λ q. elim (cases_eq q r) [ inl same ↦ here q same | inr ne ↦ there q ne ] }
   where
     there : (q : ℕ) → q ≢ r → Fits s (kind_at (with_kind ks r k) q) (slice_index_or (slice_set registers r v) q None)

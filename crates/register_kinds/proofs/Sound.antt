@@ -1,5 +1,6 @@
 -- A step from a configuration that fits the kinds is no trap, and fits the kinds behind it.
-use Rattle.std.proofs.Common.{◌≡◌, ℕ, ◌+◌, ◌<◌, Bool, true, false, Option, Some, None, Ok, List, length, eqb, cond, refl, subst, sym, ap, ◌∙◌, inl, inr, arith, Result, Err}
+use Rattle.std.proofs.Common.{◌≡◌, ℕ, ◌+◌, ◌<◌, Bool, true, false, Option, Some, None, Ok, List, length, eqb, cond}
+use Rattle.std.proofs.Common.{refl, subst, sym, ap, ◌∙◌, inl, inr, arith, Result, Err}
 use Rattle.std.specs.Prelude.{ℤ, pos, slice_set, IfOk}
 use Rattle.std.specs.Int.{Width, byte_len, from_le_bytes, to_le_bytes}
 use Rattle.std.specs.Option.{option_map}
@@ -14,11 +15,17 @@ use Rattle.bpf_encoding.specs.declared.insn.Width.TheVariants.{Bits32, Bits64}
 use Rattle.bpf_encoding.specs.declared.insn.Size.{Size}
 use Rattle.bpf_encoding.specs.declared.insn.Size.TheVariants.{Word}
 use Rattle.bpf_encoding.specs.declared.insn.Insn.{Insn}
-use Rattle.bpf_encoding.specs.declared.insn.Insn.TheVariants.{Alu, Negate, MoveSigned, Order, LoadWide, Jump, JumpLong, JumpIf, Load, LoadSigned, StoreImm, Store, Atomic, Call, Exit}
+use Rattle.bpf_encoding.specs.declared.insn.Insn.TheVariants.{Alu, Negate, MoveSigned, Order, LoadWide, Jump}
+use Rattle.bpf_encoding.specs.declared.insn.Insn.TheVariants.{JumpLong, JumpIf, Load, LoadSigned, StoreImm, Store}
+use Rattle.bpf_encoding.specs.declared.insn.Insn.TheVariants.{Atomic, Call, Exit}
 use Rattle.semantics.specs.Arithmetic.{extended, negation, low, width_of}
 use Rattle.semantics.specs.Memory.{Memory, bytes_at, written}
-use Rattle.semantics.specs.Step.{Config, Cause, Step, Next, Trap, EmptyRead, WroteR10, Setting, register, need, put, goes_to, jump, if_taken, address, loaded, loaded_number, stored, store, fetched, replaced, replace}
-use Rattle.semantics.specs.Instruction.{value_of, result_of, extension_of, order_of, is_taken, size_width, signed_size_width, load_step, receiver, expected_of, exchanged_by, atomic_step, instruction_step}
+use Rattle.semantics.specs.Step.{Config, Cause, Step, Next, Trap, EmptyRead, WroteR10, Setting, register, need, put}
+use Rattle.semantics.specs.Step.{goes_to, jump, if_taken, address, loaded, loaded_number, stored, store, fetched}
+use Rattle.semantics.specs.Step.{replaced, replace}
+use Rattle.semantics.specs.Instruction.{value_of, result_of, extension_of, order_of, is_taken, size_width}
+use Rattle.semantics.specs.Instruction.{signed_size_width, load_step, receiver, expected_of, exchanged_by}
+use Rattle.semantics.specs.Instruction.{atomic_step, instruction_step}
 use Rattle.register_kinds.specs.declared.kind.Kind.{Kind}
 use Rattle.register_kinds.specs.declared.kind.Kind.TheVariants.{Number, Const}
 use Rattle.register_kinds.specs.declared.kind.Violation.{Violation}
@@ -28,7 +35,9 @@ use Rattle.register_kinds.specs.declared.kinds.Ways.{Ways}
 use Rattle.register_kinds.specs.Kinds.{kind_at, with_kind, is_present, is_plain, check, refuse}
 use Rattle.register_kinds.specs.Computed.{source_kind, alu_kind}
 use Rattle.register_kinds.specs.Access.{access}
-use Rattle.register_kinds.specs.Transfer.{is_left_present, is_writable, falls, written_kinds, converted_ways, filled_kinds, loaded_kinds, stored_kinds, null_test, branch_ways, is_expected_present, received_ways, exchanged_ways, transfer_of}
+use Rattle.register_kinds.specs.Transfer.{is_left_present, is_writable, falls, written_kinds, converted_ways}
+use Rattle.register_kinds.specs.Transfer.{filled_kinds, loaded_kinds, stored_kinds, null_test, branch_ways}
+use Rattle.register_kinds.specs.Transfer.{is_expected_present, received_ways, exchanged_ways, transfer_of}
 use Rattle.register_kinds.specs.Arriving.{next_place, jump_offset, target_by}
 use Rattle.register_kinds.specs.Fitting.{Fits, AllFit, IsSetting, IsStanding, IsSound, KeepsKinds, Lands}
 use Rattle.register_kinds.proofs.Memory.{HasBytes, IsWritten}
@@ -51,7 +60,8 @@ module _ (s : Setting) (is : IsSetting s) (ks : Kinds) (c : Config) (all : AllFi
   Sound st = IsSound s c.place c.taken i ways st
 
   -- a value is written, and the run goes on behind the instruction
-  put_sound : (slots : ℕ) (dst : Register) (k : Kind) (v : ℕ) → c.place + slots ≡ next_place c.place i → written_kinds ks dst k ≡ ok ways → Fits s k (Some v) → Sound (put c slots (number_of dst) v)
+  put_sound : (slots : ℕ) (dst : Register) (k : Kind) (v : ℕ) → c.place + slots ≡ next_place c.place i
+      → written_kinds ks dst k ≡ ok ways → Fits s k (Some v) → Sound (put c slots (number_of dst) v)
   put_sound slots dst k v place e f =
       let p = check_ok (is_writable dst) WritesR10 (falls (with_kind ks (number_of dst) k)) ways e in
       let after : Config = record { place = c.place + slots; registers = slice_set c.registers (number_of dst) (Some v); memory = c.memory; taken = c.taken + 1 } in
@@ -65,13 +75,16 @@ module _ (s : Setting) (is : IsSetting s) (ks : Kinds) (c : Config) (all : AllFi
       subst (λ (b : Bool). Sound (cond b (Trap WroteR10) (Next after))) (sym (not_true (eqb (number_of dst) 10) p.0)) next
 
   -- a number is computed from a register
-  converted_sound : (src dst : Register) (compute : ℕ → ℕ) → c.place + 1 ≡ next_place c.place i → converted_ways ks src dst ≡ ok ways → Sound (need EmptyRead (register c (number_of src)) (λ a. put c 1 (number_of dst) (compute a)))
+  converted_sound : (src dst : Register) (compute : ℕ → ℕ) → c.place + 1 ≡ next_place c.place i
+      → converted_ways ks src dst ≡ ok ways
+      → Sound (need EmptyRead (register c (number_of src)) (λ a. put c 1 (number_of dst) (compute a)))
   converted_sound src dst compute place e =
       let p = check_ok (is_present (kind_at ks (number_of src))) EmptyRegister (written_kinds ks dst Number) ways e in
       need_is Sound EmptyRead (register c (number_of src)) _ (has_register s ks c all (number_of src) p.0) (λ a h. put_sound 1 dst Number (compute a) place p.1 refl)
 
   -- a jump that is taken
-  jump_sound : (offset : ℤ) (ls : Kinds) → jump_offset i ≡ Some offset → ways.jump ≡ Some ls → AllFit s ls c.registers → Lands c.place (Some offset) → Sound (jump c offset)
+  jump_sound : (offset : ℤ) (ls : Kinds) → jump_offset i ≡ Some offset → ways.jump ≡ Some ls → AllFit s ls c.registers
+      → Lands c.place (Some offset) → Sound (jump c offset)
   jump_sound offset ls is_jump way fit lands =
       let leads = ap (target_by c.place) is_jump ∙ lands.1 in
       subst (λ (o : Option ℕ). Sound (goes_to c o)) (sym lands.1) (refl, record { eleven = stands.eleven; memory = stands.memory }, inr (ls, way, leads, fit))
@@ -80,12 +93,15 @@ module _ (s : Setting) (is : IsSetting s) (ks : Kinds) (c : Config) (all : AllFi
   falls_sound : (ls : Kinds) → ways.next ≡ Some ls → AllFit s ls c.registers → c.place + 1 ≡ next_place c.place i → Sound (jump c (pos 0))
   falls_sound ls way fit place = (refl, record { eleven = stands.eleven; memory = stands.memory }, inl (ls, way, omega arith ∙ place, fit))
 
-  branch_sound : (t : Bool) (offset : ℤ) → jump_offset i ≡ Some offset → FitsWay s ways t c → c.place + 1 ≡ next_place c.place i → Lands c.place (Some offset) → Sound (if_taken t c offset)
+  branch_sound : (t : Bool) (offset : ℤ) → jump_offset i ≡ Some offset → FitsWay s ways t c
+      → c.place + 1 ≡ next_place c.place i → Lands c.place (Some offset) → Sound (if_taken t c offset)
   branch_sound true offset is_jump w place lands = jump_sound offset w.0 is_jump w.1 w.2 lands
   branch_sound false offset is_jump w place lands = falls_sound w.0 w.1 w.2 place
 
   -- loads and stores
-  load_sound : (w : Width) (signed : Bool) (dst base : Register) (offset : ℤ) → c.place + 1 ≡ next_place c.place i → loaded_kinds s.program.decl ks dst base offset (byte_len w) ≡ ok ways → Sound (load_step c w signed dst base offset)
+  load_sound : (w : Width) (signed : Bool) (dst base : Register) (offset : ℤ) → c.place + 1 ≡ next_place c.place i
+      → loaded_kinds s.program.decl ks dst base offset (byte_len w) ≡ ok ways
+      → Sound (load_step c w signed dst base offset)
   load_sound w signed dst base offset place e =
       let kind = kind_at ks (number_of base) in
       let violation = access s.program.decl false kind offset (byte_len w) in
@@ -103,7 +119,9 @@ module _ (s : Setting) (is : IsSetting s) (ks : Kinds) (c : Config) (all : AllFi
       let next : Sound (Next after) = (refl, record { eleven = stands.eleven; memory = w.2 ∙ stands.memory }, inl (ks, ap (λ (x : Ways). x.next) (sym (ok_is _ ways e)), place, all)) in
       subst (λ (x : Option Memory). Sound (stored c x)) (sym w.1) next
 
-  store_sound : (size : Size) (base : Register) (offset : ℤ) (v b : ℕ) → c.place + 1 ≡ next_place c.place i → register c (number_of base) ≡ Some b → refuse (access s.program.decl true (kind_at ks (number_of base)) offset (byte_len (size_width size))) (falls ks) ≡ ok ways
+  store_sound : (size : Size) (base : Register) (offset : ℤ) (v b : ℕ) → c.place + 1 ≡ next_place c.place i
+      → register c (number_of base) ≡ Some b
+      → refuse (access s.program.decl true (kind_at ks (number_of base)) offset (byte_len (size_width size))) (falls ks) ≡ ok ways
       → Sound (store c (size_width size) b offset v)
   store_sound size base offset v b place h e =
       let kind = kind_at ks (number_of base) in
@@ -123,7 +141,8 @@ exchange_bytes true v = (refl, omega arith)
 exchange_bytes false v = (refl, omega arith)
 
 -- what is compared with is there
-has_expected : (s : Setting) (ks : Kinds) (c : Config) (operation : AtomicOperation) → AllFit s ks c.registers → is_expected_present ks operation ≡ true → HasNumber (expected_of c operation)
+has_expected : (s : Setting) (ks : Kinds) (c : Config) (operation : AtomicOperation) → AllFit s ks c.registers
+    → is_expected_present ks operation ≡ true → HasNumber (expected_of c operation)
 has_expected s ks c atomic.Add all e = (0, refl)
 has_expected s ks c atomic.CompareExchange all e = has_register s ks c all 0 e
 has_expected s ks c operation all e = (0, refl)
@@ -144,7 +163,8 @@ fetched_sound s is ks c all stands i ways (Some r) violation old o place e w =
     subst (λ (x : Option Memory). IsSound s c.place c.taken i ways (fetched c (Some (number_of r)) old x)) (sym w.1) (put_sound s is ks after all later i ways 1 r Number old place writes refl)
 
 -- nothing was wrong with the access
-received_allowed : (ks : Kinds) (into : Option Register) (violation : Option Violation) (ways : Ways) → received_ways ks into violation ≡ ok ways → violation ≡ None
+received_allowed : (ks : Kinds) (into : Option Register) (violation : Option Violation) (ways : Ways)
+    → received_ways ks into violation ≡ ok ways → violation ≡ None
 received_allowed ks None violation ways e = (refuse_ok violation (falls ks) ways e).0
 received_allowed ks (Some r) violation ways e = (refuse_ok violation (falls (with_kind ks (number_of r) Number)) ways (check_ok (is_writable r) WritesR10 (refuse violation (falls (with_kind ks (number_of r) Number))) ways e).1).0
 
@@ -168,7 +188,9 @@ replace_sound s is ks c all stands i ways is64 into base offset b compute place 
     subst (λ (o : Option (List ℕ)). IsSound s c.place c.taken i ways (replaced c w (address b offset) (option_map number_of into) compute o)) (sym bytes.1)
     (fetched_sound s is ks c all stands i ways into violation old (written c.memory (address b offset) new) place e is_written)
 
-pub step_sound : (s : Setting) (ks : Kinds) (c : Config) (i : Insn) (ways : Ways) → IsSetting s → AllFit s ks c.registers → IsStanding s c → Lands c.place (jump_offset i) → transfer_of s.program.decl i ks ≡ Ok ways → IsSound s c.place c.taken i ways (instruction_step s c i)
+pub step_sound : (s : Setting) (ks : Kinds) (c : Config) (i : Insn) (ways : Ways) → IsSetting s
+    → AllFit s ks c.registers → IsStanding s c → Lands c.place (jump_offset i)
+    → transfer_of s.program.decl i ks ≡ Ok ways → IsSound s c.place c.taken i ways (instruction_step s c i)
 step_sound s ks c (Alu width operation dst source) ways is all stands lands e =
     let i : Insn = Alu width operation dst source in
     let k = alu_kind width operation (kind_at ks (number_of dst)) (source_kind ks source) in

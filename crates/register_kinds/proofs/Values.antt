@@ -21,7 +21,8 @@ some_is : (x y : ℕ) → Some x ≡ Some y → x ≡ y
 some_is x y e = cc
 
 -- an address that was moved, where the offset stays near
-near_fits : (s : Setting) (region : ℤ → Kind) (from by : ℤ) (v : ℕ) → Fits s (region (from +ℤ by)) (Some v) → Fits s (or_number (near from by) region) (Some v)
+near_fits : (s : Setting) (region : ℤ → Kind) (from by : ℤ) (v : ℕ) → Fits s (region (from +ℤ by)) (Some v)
+    → Fits s (or_number (near from by) region) (Some v)
 near_fits s region from by v f =
     elim (int_le (negsuc 65535) (from +ℤ by) && int_le (from +ℤ by) (pos 65536)) as (λ t. Fits s (or_number (cond t (Some (from +ℤ by)) None) region) (Some v)) [
       | true ↦ f
@@ -37,10 +38,12 @@ moved_fits s k by x d f e = refl
 sum_turned : (x y : ℕ) → sum w64 x y ≡ sum w64 y x
 sum_turned x y = omega arith
 
-by_constant : (s : Setting) (k : Kind) (x y b : ℕ) → Fits s k (Some x) → Fits s (Const b) (Some y) → Fits s (moved_by k (cast_signed w64 b)) (Some (sum w64 x y))
+by_constant : (s : Setting) (k : Kind) (x y b : ℕ) → Fits s k (Some x) → Fits s (Const b) (Some y)
+    → Fits s (moved_by k (cast_signed w64 b)) (Some (sum w64 x y))
 by_constant s k x y b fa fb = moved_fits s k (cast_signed w64 b) x y fa (some_is y b fb.0 ∙ sym (extended-cast_signed b fb.1))
 
-constant_by : (s : Setting) (k : Kind) (x y a : ℕ) → Fits s (Const a) (Some x) → Fits s k (Some y) → Fits s (moved_by k (cast_signed w64 a)) (Some (sum w64 x y))
+constant_by : (s : Setting) (k : Kind) (x y a : ℕ) → Fits s (Const a) (Some x) → Fits s k (Some y)
+    → Fits s (moved_by k (cast_signed w64 a)) (Some (sum w64 x y))
 constant_by s k x y a fa fb = subst (λ (v : ℕ). Fits s (moved_by k (cast_signed w64 a)) (Some v)) (sum_turned y x) (by_constant s k y x a fb fa)
 
 sum_fits : (s : Setting) (a b : Kind) (x y : ℕ) → Fits s a (Some x) → Fits s b (Some y) → Fits s (sum_kind a b) (Some (sum w64 x y))
@@ -62,7 +65,8 @@ sum_fits s a b x y fa fb = refl
 difference_is : (x y : ℕ) → y < 2 ^ 64 → sum w64 x ((2 ^ 64 - y) % 2 ^ 64) ≡ difference w64 x y
 difference_is x y lt = omega arith
 
-back_fits : (s : Setting) (k : Kind) (x y b : ℕ) → Fits s k (Some x) → Fits s (Const b) (Some y) → Fits s (moved_by k (pos 0 -ℤ cast_signed w64 b)) (Some (difference w64 x y))
+back_fits : (s : Setting) (k : Kind) (x y b : ℕ) → Fits s k (Some x) → Fits s (Const b) (Some y)
+    → Fits s (moved_by k (pos 0 -ℤ cast_signed w64 b)) (Some (difference w64 x y))
 back_fits s k x y b fa fb =
     let is : y ≡ b = some_is y b fb.0 in
     let d : (2 ^ 64 - y) % 2 ^ 64 ≡ extended (pos 0 -ℤ cast_signed w64 b) =
@@ -70,7 +74,8 @@ back_fits s k x y b fa fb =
     let small : y < 2 ^ 64 = (let lt = fb.1 in omega (arith, is, lt)) in
     subst (λ (v : ℕ). Fits s (moved_by k (pos 0 -ℤ cast_signed w64 b)) (Some v)) (difference_is x y small) (moved_fits s k (pos 0 -ℤ cast_signed w64 b) x ((2 ^ 64 - y) % 2 ^ 64) fa d)
 
-difference_fits : (s : Setting) (a b : Kind) (x y : ℕ) → Fits s a (Some x) → Fits s b (Some y) → Fits s (difference_kind a b) (Some (difference w64 x y))
+difference_fits : (s : Setting) (a b : Kind) (x y : ℕ) → Fits s a (Some x) → Fits s b (Some y)
+    → Fits s (difference_kind a b) (Some (difference w64 x y))
 difference_fits s (Const a) (Const b) x y fa fb = (ap₂ (λ (m n : ℕ). Some (difference w64 m n)) (some_is x a fa.0) (some_is y b fb.0), omega arith)
 difference_fits s Empty (Const b) x y fa fb = back_fits s Empty x y b fa fb
 difference_fits s Number (Const b) x y fa fb = back_fits s Number x y b fa fb
@@ -90,7 +95,8 @@ abbrev pub LeftFits : Setting → Operation → Kind → ℕ → Type 0
 LeftFits s Mov k x = Unit {0}
 LeftFits s operation k x = Fits s k (Some x)
 
-pub alu_fits : (s : Setting) (w : Width) (operation : Operation) (a b : Kind) (x y : ℕ) → LeftFits s operation a x → Fits s b (Some y) → Fits s (alu_kind w operation a b) (Some (result_of (is_64 w) operation x y))
+pub alu_fits : (s : Setting) (w : Width) (operation : Operation) (a b : Kind) (x y : ℕ) → LeftFits s operation a x
+    → Fits s b (Some y) → Fits s (alu_kind w operation a b) (Some (result_of (is_64 w) operation x y))
 alu_fits s w Mov a b x y fa fb = copied_fits s w b x y fb
 alu_fits s Bits64 Add a b x y fa fb = sum_fits s a b x y fa fb
 alu_fits s Bits64 Sub a b x y fa fb = difference_fits s a b x y fa fb

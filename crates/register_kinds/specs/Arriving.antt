@@ -4,7 +4,9 @@ use Rattle.access_slots.specs.Declaration.{Declaration}
 use Rattle.semantics.specs.Step.{place_of}
 use Rattle.bpf_encoding.specs.Spelling.{is_wide}
 use Rattle.bpf_encoding.specs.declared.insn.Insn.{Insn}
-use Rattle.bpf_encoding.specs.declared.insn.Insn.TheVariants.{Alu, Negate, MoveSigned, Order, LoadWide, Jump, JumpLong, JumpIf, Load, LoadSigned, StoreImm, Store, Atomic, Call, Exit}
+use Rattle.bpf_encoding.specs.declared.insn.Insn.TheVariants.{Alu, Negate, MoveSigned, Order, LoadWide, Jump}
+use Rattle.bpf_encoding.specs.declared.insn.Insn.TheVariants.{JumpLong, JumpIf, Load, LoadSigned, StoreImm, Store}
+use Rattle.bpf_encoding.specs.declared.insn.Insn.TheVariants.{Atomic, Call, Exit}
 use Rattle.bpf_encoding.specs.declared.insn.Place.{Place}
 use Rattle.bpf_encoding.specs.declared.insn.Place.TheVariants as place
 use Rattle.register_kinds.specs.declared.kind.Violation.{Violation}

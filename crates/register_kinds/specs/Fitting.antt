@@ -1,5 +1,6 @@
 -- What the kinds say of a configuration.
-use Rattle.std.specs.Prelude.{◌≡◌, ℕ, ◌+◌, ◌*◌, ◌<◌, ◌≤◌, ◌^◌, ℤ, pos, ◌+ℤ◌, ◌⊎◌, Bool, true, false, List, ◌∷◌, length, map, take, Option, Some, None, IsSome, slice_get}
+use Rattle.std.specs.Prelude.{◌≡◌, ℕ, ◌+◌, ◌*◌, ◌<◌, ◌≤◌, ◌^◌, ℤ, pos, ◌+ℤ◌, ◌⊎◌, Bool, true, false, List, ◌∷◌}
+use Rattle.std.specs.Prelude.{length, map, take, Option, Some, None, IsSome, slice_get}
 use Rattle.std.specs.List.{slice_index_or}
 use Rattle.access_slots.specs.Access.{fits, is_no_room}
 use Rattle.access_slots.specs.Declaration.{Declaration}

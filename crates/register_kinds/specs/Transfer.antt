@@ -17,7 +17,9 @@ use Rattle.bpf_encoding.specs.declared.insn.Source.TheVariants.{Imm}
 use Rattle.bpf_encoding.specs.declared.insn.Operation.{Operation}
 use Rattle.bpf_encoding.specs.declared.insn.Operation.TheVariants.{Mov}
 use Rattle.bpf_encoding.specs.declared.insn.Insn.{Insn}
-use Rattle.bpf_encoding.specs.declared.insn.Insn.TheVariants.{Alu, Negate, MoveSigned, Order, LoadWide, Jump, JumpLong, JumpIf, Load, LoadSigned, StoreImm, Store, Atomic, Call, Exit}
+use Rattle.bpf_encoding.specs.declared.insn.Insn.TheVariants.{Alu, Negate, MoveSigned, Order, LoadWide, Jump}
+use Rattle.bpf_encoding.specs.declared.insn.Insn.TheVariants.{JumpLong, JumpIf, Load, LoadSigned, StoreImm, Store}
+use Rattle.bpf_encoding.specs.declared.insn.Insn.TheVariants.{Atomic, Call, Exit}
 use Rattle.semantics.specs.Arithmetic.{width_of}
 use Rattle.semantics.specs.Instruction.{size_width, signed_size_width, receiver}
 use Rattle.register_kinds.specs.declared.kind.Kind.{Kind}

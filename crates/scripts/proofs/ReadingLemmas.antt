@@ -10,7 +10,8 @@ use Rattle.scripts.specs.Reading.{State, Contents, Reading, taken, go_on, read_f
 abbrev from_line : Command → ℕ → State → List (List ℕ) → Result State ScriptFault → Reading
 from_line command n s ls said = go_on said s.contents (n + 1) (λ t. read_from command (n + 1) t (drop (n + 1) ls))
 
-one_line : (command : Command) (ls : List (List ℕ)) (n k : ℕ) (line : List ℕ) (s : State) (said : Result State ScriptFault) (total : Reading) → n ≡ k → (k < length ls) × (line ≡ get_or ls k line)
+one_line : (command : Command) (ls : List (List ℕ)) (n k : ℕ) (line : List ℕ) (s : State) (said : Result State ScriptFault) (total : Reading)
+    → n ≡ k → (k < length ls) × (line ≡ get_or ls k line)
     → taken command s (n + 1) line ≡ said → read_from command n s (drop n ls) ≡ total → from_line command n s ls said ≡ total
 one_line command ls n k line s said total at here is so_far =
     let inside : n < length ls = omega (arith, at, here.0) in
@@ -19,16 +20,19 @@ one_line command ls n k line s said total at here is so_far =
     ap (from_line command n s ls) (sym is) ∙ ap (read_from command n s) (sym opened) ∙ so_far
 
 -- the line is taken
-pub going : (command : Command) (ls : List (List ℕ)) (n k : ℕ) (line : List ℕ) (s t : State) (total : Reading) → n ≡ k → (k < length ls) × (line ≡ get_or ls k line)
+pub going : (command : Command) (ls : List (List ℕ)) (n k : ℕ) (line : List ℕ) (s t : State) (total : Reading) → n ≡ k
+    → (k < length ls) × (line ≡ get_or ls k line)
     → taken command s (n + 1) line ≡ Ok t → read_from command n s (drop n ls) ≡ total → read_from command (n + 1) t (drop (n + 1) ls) ≡ total
 going command ls n k line s t total at here is so_far = one_line command ls n k line s (Ok t) total at here is so_far
 
 -- the line has the first fault
-pub stopping : (command : Command) (ls : List (List ℕ)) (n k : ℕ) (line : List ℕ) (s : State) (contents : Contents) (fault : ScriptFault) (total : Reading) → n ≡ k → (k < length ls) × (line ≡ get_or ls k line)
+pub stopping : (command : Command) (ls : List (List ℕ)) (n k : ℕ) (line : List ℕ) (s : State) (contents : Contents) (fault : ScriptFault) (total : Reading)
+    → n ≡ k → (k < length ls) × (line ≡ get_or ls k line)
     → taken command s (n + 1) line ≡ Err fault → contents ≡ s.contents → read_from command n s (drop n ls) ≡ total → stopped contents (n + 1) (Some fault) ≡ total
 stopping command ls n k line s contents fault total at here is kept so_far =
     ap (λ (c : Contents). stopped c (n + 1) (Some fault)) kept ∙ one_line command ls n k line s (Err fault) total at here is so_far
 
 -- no line is left
-pub ending : (command : Command) (ls : List (List ℕ)) (n k : ℕ) (s : State) (total : Reading) → n ≡ k → k ≡ length ls → read_from command n s (drop n ls) ≡ total → stopped s.contents n (end_fault s) ≡ total
+pub ending : (command : Command) (ls : List (List ℕ)) (n k : ℕ) (s : State) (total : Reading) → n ≡ k → k ≡ length ls
+    → read_from command n s (drop n ls) ≡ total → stopped s.contents n (end_fault s) ≡ total
 ending command ls n k s total at end so_far = ap (read_from command n s) (sym (ap (λ (i : ℕ). drop i ls) (at ∙ end) ∙ drop-length ls)) ∙ so_far

@@ -1,5 +1,7 @@
 -- How a text's words go on.
-use Rattle.std.proofs.Common.{◌≡◌, ℕ, suc, zero, ◌+◌, ◌-◌, ◌<◌, ◌≤◌, Bool, true, false, List, [], ◌∷◌, ◌++◌, length, take, drop, get_or, refl, sym, ap, ap₂, ◌∙◌, arith, rules, inl, inr, add-one, append_assoc, Ok, Err}
+use Rattle.std.proofs.Common.{◌≡◌, ℕ, suc, zero, ◌+◌, ◌-◌, ◌<◌, ◌≤◌, Bool, true, false, List, [], ◌∷◌, ◌++◌, length}
+use Rattle.std.proofs.Common.{take, drop, get_or, refl, sym, ap, ap₂, ◌∙◌, arith, rules, inl, inr, add-one}
+use Rattle.std.proofs.Common.{append_assoc, Ok, Err}
 use Rattle.std.specs.Prelude.{Result, slice_set, filter, not, if◌then◌else◌, cond}
 use Rattle.std.specs.List.{slice_split, position_or_len, before_first, after_first, All}
 use Rattle.std.proofs.lemmas.Bool.{cases_lt}
@@ -48,7 +50,8 @@ each_solid : (text : List ℕ) → ((k : ℕ) → k < length text → is_blank (
 each_solid text each = All-from_get_or (λ b. is_blank b ≡ false) text 0 each
 
 -- a word that ends at a blank
-ends : (x : ℕ) (xs : List ℕ) → is_blank x ≡ false → position_or_len is_blank (x ∷ xs) < length (x ∷ xs) → words_of (x ∷ xs) ≡ word_of (x ∷ xs) ∷ words_of (after_first is_blank (x ∷ xs))
+ends : (x : ℕ) (xs : List ℕ) → is_blank x ≡ false → position_or_len is_blank (x ∷ xs) < length (x ∷ xs)
+    → words_of (x ∷ xs) ≡ word_of (x ∷ xs) ∷ words_of (after_first is_blank (x ∷ xs))
 unfolding words_of
 ends x xs solid inside =
     ap (filter is_some_word) (slice_split_first is_blank (x ∷ xs) 0 inside ∙ ap (λ (w : List ℕ). w ∷ slice_split is_blank (after_first is_blank (x ∷ xs))) (front x xs solid))
@@ -63,7 +66,8 @@ behind text inside =
     ∙ blank_first (get_or text n 0) (after_first is_blank text) (passes_at_first is_blank text 0 inside)
 
 -- a word that ends with the text
-alone : (x : ℕ) (xs : List ℕ) → is_blank x ≡ false → length (x ∷ xs) ≤ position_or_len is_blank (x ∷ xs) → words_of (x ∷ xs) ≡ word_of (x ∷ xs) ∷ words_of (rest_of (x ∷ xs))
+alone : (x : ℕ) (xs : List ℕ) → is_blank x ≡ false → length (x ∷ xs) ≤ position_or_len is_blank (x ∷ xs)
+    → words_of (x ∷ xs) ≡ word_of (x ∷ xs) ∷ words_of (rest_of (x ∷ xs))
 unfolding words_of
 alone x xs solid whole =
     let text = x ∷ xs in
@@ -85,7 +89,8 @@ pub whole_rest : (text : List ℕ) (start : ℕ) → take (length text - start) 
 whole_rest text start = ap (λ (n : ℕ). take n (drop start text)) (sym (length-drop start text)) ∙ take-length (drop start text)
 
 -- the first word begins at the first byte that is no blank
-pub word_first : (text : List ℕ) (start : ℕ) → start < length text → is_blank (get_or text start 0) ≡ false → ((k : ℕ) → k < start → is_blank (get_or text k 0) ≡ true)
+pub word_first : (text : List ℕ) (start : ℕ) → start < length text → is_blank (get_or text start 0) ≡ false
+    → ((k : ℕ) → k < start → is_blank (get_or text k 0) ≡ true)
     → words_of text ≡ word_of (drop start text) ∷ words_of (rest_of (drop start text))
 word_first text start inside solid blanks =
     let opened = drop-cons text start 0 inside in
@@ -93,7 +98,8 @@ word_first text start inside solid blanks =
     ∙ sym (ap (λ (t : List ℕ). word_of t ∷ words_of (rest_of t)) opened)
 
 -- and what follows it is shorter
-pub rest_shorter : (text : List ℕ) (start : ℕ) → start < length text → is_blank (get_or text start 0) ≡ false → length (rest_of (drop start text)) < length text
+pub rest_shorter : (text : List ℕ) (start : ℕ) → start < length text → is_blank (get_or text start 0) ≡ false
+    → length (rest_of (drop start text)) < length text
 rest_shorter text start inside solid =
     let opened = drop-cons text start 0 inside in
     let xs = drop (suc start) text in
@@ -105,7 +111,8 @@ rest_shorter text start inside solid =
 abbrev pub first_four : List (List ℕ) → List (List ℕ)
 first_four words = word_at 0 words ∷ word_at 1 words ∷ word_at 2 words ∷ word_at 3 words ∷ []
 
-pub four_more : (words : List (List ℕ)) (word : List ℕ) → length words < 4 → slice_set (first_four words) (length words) word ≡ first_four (words ++ word ∷ [])
+pub four_more : (words : List (List ℕ)) (word : List ℕ) → length words < 4
+    → slice_set (first_four words) (length words) word ≡ first_four (words ++ word ∷ [])
 four_more [] word few = refl
 four_more (a ∷ []) word few = refl
 four_more (a ∷ b ∷ []) word few = refl
@@ -126,22 +133,26 @@ abbrev pub behind_numbers : List ℕ → Result (List ℕ) ScriptFault → Resul
 behind_numbers before (Ok numbers) = Ok (before ++ numbers)
 behind_numbers before (Err fault) = Err fault
 
-regroup : (before : List ℕ) (n : ℕ) (said : Result (List ℕ) ScriptFault) → behind_numbers before (and_then said (λ ns. Ok (n ∷ ns))) ≡ behind_numbers (before ++ n ∷ []) said
+regroup : (before : List ℕ) (n : ℕ) (said : Result (List ℕ) ScriptFault)
+    → behind_numbers before (and_then said (λ ns. Ok (n ∷ ns))) ≡ behind_numbers (before ++ n ∷ []) said
 regroup before n (Ok numbers) = ap (λ (ns : List ℕ). Ok ns) (sym (append_assoc before (n ∷ []) numbers))
 regroup before n (Err fault) = refl
 
-pub number_more : (before : List ℕ) (words : List (List ℕ)) (word : List ℕ) (after : List (List ℕ)) (n : ℕ) (total : Result (List ℕ) ScriptFault) → words ≡ word ∷ after → decimal_said word ≡ Ok n
+pub number_more : (before : List ℕ) (words : List (List ℕ)) (word : List ℕ) (after : List (List ℕ)) (n : ℕ) (total : Result (List ℕ) ScriptFault)
+    → words ≡ word ∷ after → decimal_said word ≡ Ok n
     → total ≡ behind_numbers before (numbers_said words) → total ≡ behind_numbers (before ++ n ∷ []) (numbers_said after)
 number_more before words word after n total is said so_far =
     so_far ∙ ap (λ (ws : List (List ℕ)). behind_numbers before (numbers_said ws)) is
     ∙ ap (λ (r : Result ℕ ScriptFault). behind_numbers before (and_then r (λ m. and_then (numbers_said after) (λ ns. Ok (m ∷ ns))))) said
     ∙ regroup before n (numbers_said after)
 
-pub number_bad : (before : List ℕ) (words : List (List ℕ)) (word : List ℕ) (after : List (List ℕ)) (fault : ScriptFault) (total : Result (List ℕ) ScriptFault) → words ≡ word ∷ after → decimal_said word ≡ Err fault
+pub number_bad : (before : List ℕ) (words : List (List ℕ)) (word : List ℕ) (after : List (List ℕ)) (fault : ScriptFault) (total : Result (List ℕ) ScriptFault)
+    → words ≡ word ∷ after → decimal_said word ≡ Err fault
     → total ≡ behind_numbers before (numbers_said words) → total ≡ Err fault
 number_bad before words word after fault total is said so_far =
     so_far ∙ ap (λ (ws : List (List ℕ)). behind_numbers before (numbers_said ws)) is
     ∙ ap (λ (r : Result ℕ ScriptFault). behind_numbers before (and_then r (λ m. and_then (numbers_said after) (λ ns. Ok (m ∷ ns))))) said
 
-pub number_end : (before : List ℕ) (words : List (List ℕ)) (total : Result (List ℕ) ScriptFault) → words ≡ [] → total ≡ behind_numbers before (numbers_said words) → total ≡ Ok before
+pub number_end : (before : List ℕ) (words : List (List ℕ)) (total : Result (List ℕ) ScriptFault) → words ≡ []
+    → total ≡ behind_numbers before (numbers_said words) → total ≡ Ok before
 number_end before words total none so_far = so_far ∙ ap (λ (ws : List (List ℕ)). behind_numbers before (numbers_said ws)) none ∙ ap (λ (ns : List ℕ). Ok ns) (append-nil before)

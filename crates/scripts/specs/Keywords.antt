@@ -4,7 +4,8 @@ use Rattle.std.specs.Str.{bytes_eq}
 use Rattle.scripts.specs.declared.keyword.Command.{Command}
 use Rattle.scripts.specs.declared.keyword.Command.TheVariants.{Verify, World, Run}
 use Rattle.scripts.specs.declared.keyword.Keyword.{Keyword}
-use Rattle.scripts.specs.declared.keyword.Keyword.TheVariants.{Dc, Proc, Slot, End, Admit, Ask, Undo, Resend, Perform, Take, Restart, Forge, First, Call}
+use Rattle.scripts.specs.declared.keyword.Keyword.TheVariants.{Dc, Proc, Slot, End, Admit, Ask, Undo, Resend, Perform}
+use Rattle.scripts.specs.declared.keyword.Keyword.TheVariants.{Take, Restart, Forge, First, Call}
 
 abbrev pub keyword_name : Keyword → List ℕ
 keyword_name Dc = codes "dc"

@@ -1,5 +1,6 @@
 -- What a line says by itself.
-use Rattle.std.specs.Prelude.{ℕ, Bool, false, ◌&&◌, ◌==◌, if◌then◌else◌, List, [], ◌∷◌, ◌++◌, length, drop, replicate, is_ok, Option, Some, None, Result, Ok, Err, codes}
+use Rattle.std.specs.Prelude.{ℕ, Bool, false, ◌&&◌, ◌==◌, if◌then◌else◌, List, [], ◌∷◌, ◌++◌, length, drop, replicate}
+use Rattle.std.specs.Prelude.{is_ok, Option, Some, None, Result, Ok, Err, codes}
 use Rattle.std.specs.Int.{w64, to_le_bytes}
 use Rattle.std.specs.Str.{bytes_eq}
 use Rattle.access_slots.specs.declared.op.Said.{Said}
@@ -18,7 +19,8 @@ use Rattle.scripts.specs.declared.fault.ScriptFault.{ScriptFault}
 use Rattle.scripts.specs.declared.fault.ScriptFault.TheVariants.{BadLine, Order, Asm}
 use Rattle.scripts.specs.declared.keyword.Command.{Command}
 use Rattle.scripts.specs.declared.keyword.Keyword.{Keyword}
-use Rattle.scripts.specs.declared.keyword.Keyword.TheVariants.{Dc, Proc, Slot, End, Admit, Ask, Undo, Resend, Perform, Take, Restart, Forge, First, Call}
+use Rattle.scripts.specs.declared.keyword.Keyword.TheVariants.{Dc, Proc, Slot, End, Admit, Ask, Undo, Resend, Perform}
+use Rattle.scripts.specs.declared.keyword.Keyword.TheVariants.{Take, Restart, Forge, First, Call}
 use Rattle.scripts.specs.declared.line.Line.{Line}
 use Rattle.scripts.specs.declared.line.Line.TheVariants as line
 use Rattle.scripts.specs.declared.script.Step.{Step}

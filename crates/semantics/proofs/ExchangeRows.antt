@@ -16,15 +16,18 @@ old_and_new_number : outcome_of (bytes_of_slots (0x7000001b7 ∷ 0x28fff80a7a �
 old_and_new_number = refl
 
 -- mov r0, 40; mov r1, 9; stdw [r10-8], 40; atomic_cmpxchg_dw [r10-8], r1; ldxdw r2, [r10-8]; add r0, r2; exit
-exchanged_where_equal : outcome_of (bytes_of_slots (0x28000000b7 ∷ 0x9000001b7 ∷ 0x28fff80a7a ∷ 0xf1fff81adb ∷ 0xfff8a279 ∷ 0x200f ∷ 0x95 ∷ [])) [] ≡ Some (49, 7)
+exchanged_where_equal : outcome_of (bytes_of_slots (0x28000000b7 ∷ 0x9000001b7 ∷ 0x28fff80a7a ∷ 0xf1fff81adb ∷ 0xfff8a279 ∷ 0x200f ∷ 0x95 ∷ [])) []
+    ≡ Some (49, 7)
 exchanged_where_equal = refl
 
 -- the same with mov r0, 41
-kept_where_unequal : outcome_of (bytes_of_slots (0x29000000b7 ∷ 0x9000001b7 ∷ 0x28fff80a7a ∷ 0xf1fff81adb ∷ 0xfff8a279 ∷ 0x200f ∷ 0x95 ∷ [])) [] ≡ Some (80, 7)
+kept_where_unequal : outcome_of (bytes_of_slots (0x29000000b7 ∷ 0x9000001b7 ∷ 0x28fff80a7a ∷ 0xf1fff81adb ∷ 0xfff8a279 ∷ 0x200f ∷ 0x95 ∷ [])) []
+    ≡ Some (80, 7)
 kept_where_unequal = refl
 
 -- lddw r0, 0x0000000100000028; mov r1, 9; stdw [r10-8], 40; atomic_cmpxchg_w [r10-8], r1; exit
-compared_in_the_low_half : outcome_of (bytes_of_slots (0x2800000018 ∷ 0x100000000 ∷ 0x9000001b7 ∷ 0x28fff80a7a ∷ 0xf1fff81ac3 ∷ 0x95 ∷ [])) [] ≡ Some (40, 5)
+compared_in_the_low_half : outcome_of (bytes_of_slots (0x2800000018 ∷ 0x100000000 ∷ 0x9000001b7 ∷ 0x28fff80a7a ∷ 0xf1fff81ac3 ∷ 0x95 ∷ [])) []
+    ≡ Some (40, 5)
 compared_in_the_low_half = refl
 
 -- ---- traps

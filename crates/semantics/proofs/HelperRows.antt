@@ -66,15 +66,18 @@ read_fills_the_buffers_end : called (0x1b7 ∷ 0x100000085 ∷ 0x3f0071 ∷ 0x95
 read_fills_the_buffers_end = refl
 
 -- r1 = 0; call 5; *(u64 *)(r0 + 0) = 7; *(u8 *)(r0 + 63) = 7; r6 = r0; r1 = 0; call 1; r0 = *(u64 *)(r6 + 0); exit
-absent_empties_the_buffer : called (0x1b7 ∷ 0x500000085 ∷ 0x70000007a ∷ 0x7003f0072 ∷ 0x6bf ∷ 0x1b7 ∷ 0x100000085 ∷ 0x6079 ∷ 0x95 ∷ []) (Absent ∷ []) ≡ Exits 0 9
+absent_empties_the_buffer : called (0x1b7 ∷ 0x500000085 ∷ 0x70000007a ∷ 0x7003f0072 ∷ 0x6bf ∷ 0x1b7 ∷ 0x100000085 ∷ 0x6079 ∷ 0x95 ∷ []) (Absent ∷ [])
+    ≡ Exits 0 9
 absent_empties_the_buffer = refl
 
 -- r1 = 0; call 5; *(u64 *)(r0 + 0) = 7; *(u8 *)(r0 + 63) = 7; r6 = r0; r1 = 0; call 1; r0 = *(u8 *)(r6 + 63); exit
-absent_empties_the_buffers_end : called (0x1b7 ∷ 0x500000085 ∷ 0x70000007a ∷ 0x7003f0072 ∷ 0x6bf ∷ 0x1b7 ∷ 0x100000085 ∷ 0x3f6071 ∷ 0x95 ∷ []) (Absent ∷ []) ≡ Exits 0 9
+absent_empties_the_buffers_end : called (0x1b7 ∷ 0x500000085 ∷ 0x70000007a ∷ 0x7003f0072 ∷ 0x6bf ∷ 0x1b7 ∷ 0x100000085 ∷ 0x3f6071 ∷ 0x95 ∷ []) (Absent ∷ [])
+    ≡ Exits 0 9
 absent_empties_the_buffers_end = refl
 
 -- r1 = 0; call 5; *(u64 *)(r0 + 0) = 7; r6 = r0; r1 = 1; call 1; r0 = *(u64 *)(r6 + 0); exit
-read_of_the_second_leaves_the_first : called (0x1b7 ∷ 0x500000085 ∷ 0x70000007a ∷ 0x6bf ∷ 0x1000001b7 ∷ 0x100000085 ∷ 0x6079 ∷ 0x95 ∷ []) (Value (value 77) ∷ []) ≡ Exits 7 8
+read_of_the_second_leaves_the_first : called (0x1b7 ∷ 0x500000085 ∷ 0x70000007a ∷ 0x6bf ∷ 0x1000001b7 ∷ 0x100000085 ∷ 0x6079 ∷ 0x95 ∷ []) (Value (value 77) ∷ [])
+    ≡ Exits 7 8
 read_of_the_second_leaves_the_first = refl
 
 -- r1 = 0; call 2; exit
@@ -102,11 +105,13 @@ update_missing : called (0x1b7 ∷ 0x300000085 ∷ 0x95 ∷ []) (Missing ∷ [])
 update_missing = refl
 
 -- r1 = 0; call 1; r1 = 0; call 3; exit
-update_sends_what_was_read : called (0x1b7 ∷ 0x100000085 ∷ 0x1b7 ∷ 0x300000085 ∷ 0x95 ∷ []) (Value (value 77) ∷ []) ≡ Asks 0 (Update first (value 77)) 4
+update_sends_what_was_read : called (0x1b7 ∷ 0x100000085 ∷ 0x1b7 ∷ 0x300000085 ∷ 0x95 ∷ []) (Value (value 77) ∷ [])
+    ≡ Asks 0 (Update first (value 77)) 4
 update_sends_what_was_read = refl
 
 -- r1 = 0; call 1; r6 = r0; r1 = 0; call 3; r0 = *(u64 *)(r6 + 0); exit
-update_leaves_the_buffer : called (0x1b7 ∷ 0x100000085 ∷ 0x6bf ∷ 0x1b7 ∷ 0x300000085 ∷ 0x6079 ∷ 0x95 ∷ []) (Value (value 77) ∷ Missing ∷ []) ≡ Exits 77 7
+update_leaves_the_buffer : called (0x1b7 ∷ 0x100000085 ∷ 0x6bf ∷ 0x1b7 ∷ 0x300000085 ∷ 0x6079 ∷ 0x95 ∷ []) (Value (value 77) ∷ Missing ∷ [])
+    ≡ Exits 77 7
 update_leaves_the_buffer = refl
 
 -- r1 = 0; call 4; exit

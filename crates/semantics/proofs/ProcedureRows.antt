@@ -116,7 +116,8 @@ move_second_absent = refl
 move_updates : move (5 ∷ 6 ∷ 10 ∷ []) (Value (value 100) ∷ Value (plain 7) ∷ []) ≡ Asks 0 (Update (row 5) (value 90)) 17
 move_updates = refl
 
-move_updates_the_second : move (5 ∷ 6 ∷ 10 ∷ []) (Value (value 100) ∷ Value (plain 7) ∷ Done (Some (value 100)) ∷ []) ≡ Asks 1 (Update (row 6) (plain 17)) 19
+move_updates_the_second : move (5 ∷ 6 ∷ 10 ∷ []) (Value (value 100) ∷ Value (plain 7) ∷ Done (Some (value 100)) ∷ [])
+    ≡ Asks 1 (Update (row 6) (plain 17)) 19
 move_updates_the_second = refl
 
 move_done : move (5 ∷ 6 ∷ 10 ∷ []) (Value (value 100) ∷ Value (plain 7) ∷ Done (Some (value 100)) ∷ Done (Some (plain 7)) ∷ []) ≡ Exits 0 20
@@ -130,5 +131,6 @@ move_first_missing : move (5 ∷ 6 ∷ 10 ∷ []) (Value (value 100) ∷ Value (
 move_first_missing = refl
 
 -- two slots that name one record have a buffer each
-move_within_one : move (5 ∷ 5 ∷ 10 ∷ []) (Value (plain 100) ∷ Value (plain 100) ∷ Done (Some (plain 100)) ∷ []) ≡ Asks 1 (Update (row 5) (plain 110)) 19
+move_within_one : move (5 ∷ 5 ∷ 10 ∷ []) (Value (plain 100) ∷ Value (plain 100) ∷ Done (Some (plain 100)) ∷ [])
+    ≡ Asks 1 (Update (row 5) (plain 110)) 19
 move_within_one = refl

@@ -3,7 +3,8 @@ use Rattle.std.proofs.Common.{◌≡◌, [], ◌∷◌, Some, None, refl}
 use Rattle.semantics.specs.Row.{outcome_of, bytes_of_slots}
 
 -- mov r0, 7; mov r1, 5; add r0, r1; exit
-seven_and_five : outcome_of (0xb7 ∷ 0 ∷ 0 ∷ 0 ∷ 7 ∷ 0 ∷ 0 ∷ 0 ∷ 0xb7 ∷ 1 ∷ 0 ∷ 0 ∷ 5 ∷ 0 ∷ 0 ∷ 0 ∷ 0x0f ∷ 0x10 ∷ 0 ∷ 0 ∷ 0 ∷ 0 ∷ 0 ∷ 0 ∷ 0x95 ∷ 0 ∷ 0 ∷ 0 ∷ 0 ∷ 0 ∷ 0 ∷ 0 ∷ []) [] ≡ Some (12, 4)
+seven_and_five : outcome_of (0xb7 ∷ 0 ∷ 0 ∷ 0 ∷ 7 ∷ 0 ∷ 0 ∷ 0 ∷ 0xb7 ∷ 1 ∷ 0 ∷ 0 ∷ 5 ∷ 0 ∷ 0 ∷ 0 ∷ 0x0f ∷ 0x10 ∷ 0 ∷ 0 ∷ 0 ∷ 0 ∷ 0 ∷ 0 ∷ 0x95 ∷ 0 ∷ 0 ∷ 0 ∷ 0 ∷ 0 ∷ 0 ∷ 0 ∷ []) []
+    ≡ Some (12, 4)
 seven_and_five = refl
 
 -- the same number divided by 0 is 0, modulo 0 is itself
@@ -102,7 +103,8 @@ divided_by_the_number_zero : outcome_of (bytes_of_slots (0x89abcdef00000018 ∷ 
 divided_by_the_number_zero = refl
 
 -- r0 = 0x8123456789abcdef ll; r1 = 0x100000000 ll; w0 /= w1; exit
-narrow_divided_by_zero_in_a_register : outcome_of (bytes_of_slots (0x89abcdef00000018 ∷ 0x8123456700000000 ∷ 0x118 ∷ 0x100000000 ∷ 0x103c ∷ 0x95 ∷ [])) [] ≡ Some (0, 4)
+narrow_divided_by_zero_in_a_register : outcome_of (bytes_of_slots (0x89abcdef00000018 ∷ 0x8123456700000000 ∷ 0x118 ∷ 0x100000000 ∷ 0x103c ∷ 0x95 ∷ [])) []
+    ≡ Some (0, 4)
 narrow_divided_by_zero_in_a_register = refl
 
 -- r0 = 0x8123456789abcdef ll; w0 /= 0; exit
@@ -110,7 +112,8 @@ narrow_divided_by_the_number_zero : outcome_of (bytes_of_slots (0x89abcdef000000
 narrow_divided_by_the_number_zero = refl
 
 -- r0 = 0x8123456789abcdef ll; r1 = 0; r0 s/= r1; exit
-signed_divided_by_zero_in_a_register : outcome_of (bytes_of_slots (0x89abcdef00000018 ∷ 0x8123456700000000 ∷ 0x1b7 ∷ 0x1103f ∷ 0x95 ∷ [])) [] ≡ Some (0, 4)
+signed_divided_by_zero_in_a_register : outcome_of (bytes_of_slots (0x89abcdef00000018 ∷ 0x8123456700000000 ∷ 0x1b7 ∷ 0x1103f ∷ 0x95 ∷ [])) []
+    ≡ Some (0, 4)
 signed_divided_by_zero_in_a_register = refl
 
 -- r0 = 0x8123456789abcdef ll; r0 s/= 0; exit
@@ -118,23 +121,28 @@ signed_divided_by_the_number_zero : outcome_of (bytes_of_slots (0x89abcdef000000
 signed_divided_by_the_number_zero = refl
 
 -- r0 = 0x8123456789abcdef ll; r1 = 0x100000000 ll; w0 s/= w1; exit
-narrow_signed_divided_by_zero_in_a_register : outcome_of (bytes_of_slots (0x89abcdef00000018 ∷ 0x8123456700000000 ∷ 0x118 ∷ 0x100000000 ∷ 0x1103c ∷ 0x95 ∷ [])) [] ≡ Some (0, 4)
+narrow_signed_divided_by_zero_in_a_register : outcome_of (bytes_of_slots (0x89abcdef00000018 ∷ 0x8123456700000000 ∷ 0x118 ∷ 0x100000000 ∷ 0x1103c ∷ 0x95 ∷ [])) []
+    ≡ Some (0, 4)
 narrow_signed_divided_by_zero_in_a_register = refl
 
 -- r0 = 0x8123456789abcdef ll; w0 s/= 0; exit
-narrow_signed_divided_by_the_number_zero : outcome_of (bytes_of_slots (0x89abcdef00000018 ∷ 0x8123456700000000 ∷ 0x10034 ∷ 0x95 ∷ [])) [] ≡ Some (0, 3)
+narrow_signed_divided_by_the_number_zero : outcome_of (bytes_of_slots (0x89abcdef00000018 ∷ 0x8123456700000000 ∷ 0x10034 ∷ 0x95 ∷ [])) []
+    ≡ Some (0, 3)
 narrow_signed_divided_by_the_number_zero = refl
 
 -- r0 = 0x8123456789abcdef ll; r1 = 0; r0 %= r1; exit
-modulo_by_zero_in_a_register : outcome_of (bytes_of_slots (0x89abcdef00000018 ∷ 0x8123456700000000 ∷ 0x1b7 ∷ 0x109f ∷ 0x95 ∷ [])) [] ≡ Some (9305357566071262703, 4)
+modulo_by_zero_in_a_register : outcome_of (bytes_of_slots (0x89abcdef00000018 ∷ 0x8123456700000000 ∷ 0x1b7 ∷ 0x109f ∷ 0x95 ∷ [])) []
+    ≡ Some (9305357566071262703, 4)
 modulo_by_zero_in_a_register = refl
 
 -- r0 = 0x8123456789abcdef ll; r0 %= 0; exit
-modulo_by_the_number_zero : outcome_of (bytes_of_slots (0x89abcdef00000018 ∷ 0x8123456700000000 ∷ 0x97 ∷ 0x95 ∷ [])) [] ≡ Some (9305357566071262703, 3)
+modulo_by_the_number_zero : outcome_of (bytes_of_slots (0x89abcdef00000018 ∷ 0x8123456700000000 ∷ 0x97 ∷ 0x95 ∷ [])) []
+    ≡ Some (9305357566071262703, 3)
 modulo_by_the_number_zero = refl
 
 -- r0 = 0x8123456789abcdef ll; r1 = 0x100000000 ll; w0 %= w1; exit
-narrow_modulo_by_zero_in_a_register : outcome_of (bytes_of_slots (0x89abcdef00000018 ∷ 0x8123456700000000 ∷ 0x118 ∷ 0x100000000 ∷ 0x109c ∷ 0x95 ∷ [])) [] ≡ Some (2309737967, 4)
+narrow_modulo_by_zero_in_a_register : outcome_of (bytes_of_slots (0x89abcdef00000018 ∷ 0x8123456700000000 ∷ 0x118 ∷ 0x100000000 ∷ 0x109c ∷ 0x95 ∷ [])) []
+    ≡ Some (2309737967, 4)
 narrow_modulo_by_zero_in_a_register = refl
 
 -- r0 = 0x8123456789abcdef ll; w0 %= 0; exit
@@ -142,23 +150,28 @@ narrow_modulo_by_the_number_zero : outcome_of (bytes_of_slots (0x89abcdef0000001
 narrow_modulo_by_the_number_zero = refl
 
 -- r0 = 0x8123456789abcdef ll; r1 = 0; r0 s%= r1; exit
-signed_modulo_by_zero_in_a_register : outcome_of (bytes_of_slots (0x89abcdef00000018 ∷ 0x8123456700000000 ∷ 0x1b7 ∷ 0x1109f ∷ 0x95 ∷ [])) [] ≡ Some (9305357566071262703, 4)
+signed_modulo_by_zero_in_a_register : outcome_of (bytes_of_slots (0x89abcdef00000018 ∷ 0x8123456700000000 ∷ 0x1b7 ∷ 0x1109f ∷ 0x95 ∷ [])) []
+    ≡ Some (9305357566071262703, 4)
 signed_modulo_by_zero_in_a_register = refl
 
 -- r0 = 0x8123456789abcdef ll; r0 s%= 0; exit
-signed_modulo_by_the_number_zero : outcome_of (bytes_of_slots (0x89abcdef00000018 ∷ 0x8123456700000000 ∷ 0x10097 ∷ 0x95 ∷ [])) [] ≡ Some (9305357566071262703, 3)
+signed_modulo_by_the_number_zero : outcome_of (bytes_of_slots (0x89abcdef00000018 ∷ 0x8123456700000000 ∷ 0x10097 ∷ 0x95 ∷ [])) []
+    ≡ Some (9305357566071262703, 3)
 signed_modulo_by_the_number_zero = refl
 
 -- r0 = 0x8123456789abcdef ll; r1 = 0x100000000 ll; w0 s%= w1; exit
-narrow_signed_modulo_by_zero_in_a_register : outcome_of (bytes_of_slots (0x89abcdef00000018 ∷ 0x8123456700000000 ∷ 0x118 ∷ 0x100000000 ∷ 0x1109c ∷ 0x95 ∷ [])) [] ≡ Some (2309737967, 4)
+narrow_signed_modulo_by_zero_in_a_register : outcome_of (bytes_of_slots (0x89abcdef00000018 ∷ 0x8123456700000000 ∷ 0x118 ∷ 0x100000000 ∷ 0x1109c ∷ 0x95 ∷ [])) []
+    ≡ Some (2309737967, 4)
 narrow_signed_modulo_by_zero_in_a_register = refl
 
 -- r0 = 0x8123456789abcdef ll; w0 s%= 0; exit
-narrow_signed_modulo_by_the_number_zero : outcome_of (bytes_of_slots (0x89abcdef00000018 ∷ 0x8123456700000000 ∷ 0x10094 ∷ 0x95 ∷ [])) [] ≡ Some (2309737967, 3)
+narrow_signed_modulo_by_the_number_zero : outcome_of (bytes_of_slots (0x89abcdef00000018 ∷ 0x8123456700000000 ∷ 0x10094 ∷ 0x95 ∷ [])) []
+    ≡ Some (2309737967, 3)
 narrow_signed_modulo_by_the_number_zero = refl
 
 -- r0 = 0x8000000000000000 ll; r1 = -1; r0 s/= r1; exit
-least_divided_by_a_register : outcome_of (bytes_of_slots (0x18 ∷ 0x8000000000000000 ∷ 0xffffffff000001b7 ∷ 0x1103f ∷ 0x95 ∷ [])) [] ≡ Some (9223372036854775808, 4)
+least_divided_by_a_register : outcome_of (bytes_of_slots (0x18 ∷ 0x8000000000000000 ∷ 0xffffffff000001b7 ∷ 0x1103f ∷ 0x95 ∷ [])) []
+    ≡ Some (9223372036854775808, 4)
 least_divided_by_a_register = refl
 
 -- r0 = 0x80000000 ll; w0 s/= -1; exit
@@ -166,7 +179,8 @@ narrow_least_divided : outcome_of (bytes_of_slots (0x8000000000000018 ∷ 0x0 �
 narrow_least_divided = refl
 
 -- r0 = 0x80000000 ll; r1 = -1; w0 s/= w1; exit
-narrow_least_divided_by_a_register : outcome_of (bytes_of_slots (0x8000000000000018 ∷ 0x0 ∷ 0xffffffff000001b7 ∷ 0x1103c ∷ 0x95 ∷ [])) [] ≡ Some (2147483648, 4)
+narrow_least_divided_by_a_register : outcome_of (bytes_of_slots (0x8000000000000018 ∷ 0x0 ∷ 0xffffffff000001b7 ∷ 0x1103c ∷ 0x95 ∷ [])) []
+    ≡ Some (2147483648, 4)
 narrow_least_divided_by_a_register = refl
 
 -- r0 = 0x8000000000000000 ll; r1 = -1; r0 s%= r1; exit

@@ -1,5 +1,6 @@
 -- What an admission keeps.
-use Rattle.std.proofs.Common.{◌≡◌, ◌≢◌, ℕ, ◌+◌, ◌-◌, ◌*◌, ◌<◌, ◌≤◌, ◌^◌, Bool, true, false, List, [], ◌∷◌, ◌++◌, length, Option, Some, None, arith, refl, sym, ◌∙◌, ap, subst, zero, suc, inl, inr}
+use Rattle.std.proofs.Common.{◌≡◌, ◌≢◌, ℕ, ◌+◌, ◌-◌, ◌*◌, ◌<◌, ◌≤◌, ◌^◌, Bool, true, false, List, [], ◌∷◌, ◌++◌}
+use Rattle.std.proofs.Common.{length, Option, Some, None, arith, refl, sym, ◌∙◌, ap, subst, zero, suc, inl, inr}
 use Rattle.std.specs.Prelude.{slice_get, slice_index_or, count_by, is_some}
 use Rattle.std.proofs.lemmas.Bool.{cases_eq}
 use Rattle.std.specs.Prelude.{nat_lt}
@@ -172,7 +173,8 @@ kept-admit ps log log' table table' numbers txns txns' serials owed promised key
     }
 
 -- a transaction that begins is kept as a fresh one
-pub keeps_fresh : (q : Checked) (tx : Tx) (p : ℕ) (args : List ℕ) → tx.proc ≡ p → tx.sent ≡ None → tx.full ≡ false → tx.undo.ops ≡ [] → tx.tries ≡ 0 → tx.last ≡ 0 → tx.left ≡ 5 * calls_in q → calls_in q ≤ tx.undo.room
+pub keeps_fresh : (q : Checked) (tx : Tx) (p : ℕ) (args : List ℕ) → tx.proc ≡ p → tx.sent ≡ None → tx.full ≡ false
+    → tx.undo.ops ≡ [] → tx.tries ≡ 0 → tx.last ≡ 0 → tx.left ≡ 5 * calls_in q → calls_in q ≤ tx.undo.room
     → ((r : Record) → mode_in tx.locks r ≡ mode_named args q.decl.slots r) → Runs q tx args [] → Keeps q tx (fresh (record { proc = p; args = args }))
 keeps_fresh q tx p args proc sent full undo tries last left room locks runs = record {
   proc = proc;
@@ -189,18 +191,24 @@ keeps_fresh q tx p args proc sent full undo tries last left room locks runs = re
 
 -- ---- the conditions
 
-pub set_locks : (ps : List Checked) (p : ℕ) (q : Checked) (args args' : List ℕ) (slots : List Slot) (set : List Lock) → slice_get ps p ≡ Some q → args' ≡ args → slots ≡ q.decl.slots → AreLocksOf args' slots set
+pub set_locks : (ps : List Checked) (p : ℕ) (q : Checked) (args args' : List ℕ) (slots : List Slot) (set : List Lock)
+    → slice_get ps p ≡ Some q → args' ≡ args → slots ≡ q.decl.slots → AreLocksOf args' slots set
     → (r : Record) → mode_in set r ≡ locks_of (decls ps) (record { proc = p; args = args }) r
 set_locks ps p q args args' slots set loaded same_args same_slots are r =
     are r ∙ (ap (λ (xs : List ℕ). mode_named xs slots r) same_args ∙ (ap (λ (ss : List Slot). mode_named args ss r) same_slots ∙ ap (λ (d : Option Declaration). locks_by d args r) (sym (get_decl ps p q loaded))))
 
-way_same : (held held' : Held) (wanted wanted' : Wanted) → ((t : ℕ) (r : Record) → held t r ≡ held' t r) → ((r : Record) → wanted r ≡ wanted' r) → (r : Record) (t : ℕ) → in_the_way held wanted r t ≡ in_the_way held' wanted' r t
+way_same : (held held' : Held) (wanted wanted' : Wanted) → ((t : ℕ) (r : Record) → held t r ≡ held' t r)
+    → ((r : Record) → wanted r ≡ wanted' r) → (r : Record) (t : ℕ)
+    → in_the_way held wanted r t ≡ in_the_way held' wanted' r t
 way_same held held' wanted wanted' h w r t = ap (λ (m : Option Mode). excludes m (held t r)) (w r) ∙ ap (excludes (wanted' r)) (h t r)
 
-pub free_same : (held held' : Held) (wanted wanted' : Wanted) → ((t : ℕ) (r : Record) → held t r ≡ held' t r) → ((r : Record) → wanted r ≡ wanted' r) → Compatible held wanted → Compatible held' wanted'
+pub free_same : (held held' : Held) (wanted wanted' : Wanted) → ((t : ℕ) (r : Record) → held t r ≡ held' t r)
+    → ((r : Record) → wanted r ≡ wanted' r) → Compatible held wanted → Compatible held' wanted'
 free_same held held' wanted wanted' h w free = λ r t. sym (way_same held held' wanted wanted' h w r t) ∙ free r t
 
-pub busy_same : (held held' : Held) (wanted wanted' : Wanted) (r : Record) (t : ℕ) → ((t : ℕ) (r : Record) → held t r ≡ held' t r) → ((r : Record) → wanted r ≡ wanted' r) → IsFirstInTheWay held wanted r t → IsFirstInTheWay held' wanted' r t
+pub busy_same : (held held' : Held) (wanted wanted' : Wanted) (r : Record) (t : ℕ)
+    → ((t : ℕ) (r : Record) → held t r ≡ held' t r) → ((r : Record) → wanted r ≡ wanted' r)
+    → IsFirstInTheWay held wanted r t → IsFirstInTheWay held' wanted' r t
 busy_same held held' wanted wanted' r t h w first = record {
   stands = sym (way_same held held' wanted wanted' h w r t) ∙ first.stands;
   least_record = λ q u less. sym (way_same held held' wanted wanted' h w q u) ∙ first.least_record q u less;
@@ -214,7 +222,9 @@ pub many-from : (n : ℕ) → nat_lt (2 ^ 62) n ≡ true → 2 ^ 62 < n
 many-from n e = grind (arith, nat_tests)
 
 -- a number above the last has no lock
-pub nothing_new : (ps : List Checked) (h : List Event) (t : ℕ) (claims claims' : Table) → Legal ps h → t ≡ admitted h + 1 → AreHeld claims (held (decls ps) h) → AreHeld claims' (held_by claims) → (r : Record) → held_by claims' t r ≡ None
+pub nothing_new : (ps : List Checked) (h : List Event) (t : ℕ) (claims claims' : Table) → Legal ps h
+    → t ≡ admitted h + 1 → AreHeld claims (held (decls ps) h) → AreHeld claims' (held_by claims) → (r : Record)
+    → held_by claims' t r ≡ None
 nothing_new ps h t claims claims' legal next are same r =
     same t r ∙ (are t r ∙ ap (λ (c : Option Call). held_for (decls ps) c r) (no_call ps h t (standing-above ps h legal t (omega (arith, next)))))
 
@@ -230,29 +240,37 @@ pub within-from : (a b : ℕ) → true ≡ nat_lt a b → a < b
 within-from a b e = grind (arith, nat_tests)
 
 -- the locks that a call wants
-pub wanted_locks : (ps : List Checked) (call : Call) (q : Checked) (args : List ℕ) (set : List Lock) → IsCalled ps call q → args ≡ call.args → ((r : Record) → mode_in set r ≡ mode_named args q.decl.slots r)
+pub wanted_locks : (ps : List Checked) (call : Call) (q : Checked) (args : List ℕ) (set : List Lock)
+    → IsCalled ps call q → args ≡ call.args → ((r : Record) → mode_in set r ≡ mode_named args q.decl.slots r)
     → (r : Record) → mode_in set r ≡ locks_of (decls ps) call r
 wanted_locks ps call q args set called same are r =
     are r ∙ (ap (λ (xs : List ℕ). mode_named xs q.decl.slots r) same ∙ ap (λ (d : Option Declaration). locks_by d call.args r) (sym (get_decl ps call.proc q called.loaded)))
 
-pub free-call : (ps : List Checked) (b : Book) (call : Call) (q : Checked) (args : List ℕ) (set : List Lock) → IsBook ps b → IsCalled ps call q → args ≡ call.args
+pub free-call : (ps : List Checked) (b : Book) (call : Call) (q : Checked) (args : List ℕ) (set : List Lock)
+    → IsBook ps b → IsCalled ps call q → args ≡ call.args
     → ((r : Record) → mode_in set r ≡ mode_named args q.decl.slots r) → Compatible (held_by b.locks) (mode_in set) → Compatible (held (decls ps) b.log.events) (locks_of (decls ps) call)
 free-call ps b call q args set is called same are free =
     free_same (held_by b.locks) (held (decls ps) b.log.events) (mode_in set) (locks_of (decls ps) call) is.kept.locks_are (wanted_locks ps call q args set called same are) free
 
-pub busy-call : (ps : List Checked) (b : Book) (call : Call) (q : Checked) (args : List ℕ) (set : List Lock) (r : Record) (t : ℕ) → IsBook ps b → IsCalled ps call q → args ≡ call.args
+pub busy-call : (ps : List Checked) (b : Book) (call : Call) (q : Checked) (args : List ℕ) (set : List Lock) (r : Record) (t : ℕ)
+    → IsBook ps b → IsCalled ps call q → args ≡ call.args
     → ((r : Record) → mode_in set r ≡ mode_named args q.decl.slots r) → IsFirstInTheWay (held_by b.locks) (mode_in set) r t → IsFirstInTheWay (held (decls ps) b.log.events) (locks_of (decls ps) call) r t
 busy-call ps b call q args set r t is called same are first =
     busy_same (held_by b.locks) (held (decls ps) b.log.events) (mode_in set) (locks_of (decls ps) call) r t is.kept.locks_are (wanted_locks ps call q args set called same are) first
 
-pub needs : (l : Loaded) (b : Book) (q : Checked) (last calls : ℕ) → IsBook l.codes b → last ≡ b.numbers.last → calls ≡ calls_in q → last + 5 * calls + b.promised ≡ needed (core_of l b) q
+pub needs : (l : Loaded) (b : Book) (q : Checked) (last calls : ℕ) → IsBook l.codes b → last ≡ b.numbers.last
+    → calls ≡ calls_in q → last + 5 * calls + b.promised ≡ needed (core_of l b) q
 needs l b q last calls is same count = (let last_is = is.kept.last_is in let promised_is = is.kept.rooms.promised_is in omega (arith, same, count, last_is, promised_is))
 
-pub few-needed : (l : Loaded) (b : Book) (q : Checked) (last calls : ℕ) (spent : Bool) → IsBook l.codes b → last ≡ b.numbers.last → calls ≡ calls_in q → spent ≡ nat_lt (2 ^ 62) (last + 5 * calls + b.promised) → spent ≡ false
+pub few-needed : (l : Loaded) (b : Book) (q : Checked) (last calls : ℕ) (spent : Bool) → IsBook l.codes b
+    → last ≡ b.numbers.last → calls ≡ calls_in q → spent ≡ nat_lt (2 ^ 62) (last + 5 * calls + b.promised)
+    → spent ≡ false
     → needed (core_of l b) q ≤ 2 ^ 62
 few-needed l b q last calls spent is same count e f = few-from (needed (core_of l b) q) (ap (nat_lt (2 ^ 62)) (sym (needs l b q last calls is same count)) ∙ (sym e ∙ f))
 
-pub many-needed : (l : Loaded) (b : Book) (q : Checked) (last calls : ℕ) (spent : Bool) → IsBook l.codes b → last ≡ b.numbers.last → calls ≡ calls_in q → spent ≡ nat_lt (2 ^ 62) (last + 5 * calls + b.promised) → spent ≡ true
+pub many-needed : (l : Loaded) (b : Book) (q : Checked) (last calls : ℕ) (spent : Bool) → IsBook l.codes b
+    → last ≡ b.numbers.last → calls ≡ calls_in q → spent ≡ nat_lt (2 ^ 62) (last + 5 * calls + b.promised)
+    → spent ≡ true
     → 2 ^ 62 < needed (core_of l b) q
 many-needed l b q last calls spent is same count e f = many-from (needed (core_of l b) q) (ap (nat_lt (2 ^ 62)) (sym (needs l b q last calls is same count)) ∙ (sym e ∙ f))
 

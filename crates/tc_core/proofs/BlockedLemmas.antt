@@ -61,7 +61,9 @@ pub clash_from : (wanted kept : List Lock) (r : Record) → excludes (mode_in wa
 clash_from [] kept r e = absurd (cc)
 clash_from (l ∷ locks) kept r e = by (record_eq l.«record» r) refl (λ later. clash_from locks kept r later)
   where
-    by : (b : Bool) → record_eq l.«record» r ≡ b → (excludes (mode_in locks r) (mode_in kept r) ≡ true → clashes locks kept ≡ true) → clashes (l ∷ locks) kept ≡ true
+    by : (b : Bool) → record_eq l.«record» r ≡ b
+        → (excludes (mode_in locks r) (mode_in kept r) ≡ true → clashes locks kept ≡ true)
+        → clashes (l ∷ locks) kept ≡ true
     by true is later =
         let same : l.«record» ≡ r = eq_is l.«record» r is in
         let mine : mode_in (l ∷ locks) r ≡ Some l.mode = cond-true _ (Some l.mode) (mode_in locks r) is in
@@ -79,7 +81,8 @@ pub record Excluded (wanted kept : List Lock) : Type 0 where
   pub excluded : excludes (mode_in wanted name) (mode_in kept name) ≡ true
 
 -- a lock above all of these isn't among them
-apart_above : (l : Lock) (locks kept : List Lock) → Rising (l ∷ locks) → (later : Excluded locks kept) (b : Bool) → record_eq l.«record» later.name ≡ b → b ≡ false
+apart_above : (l : Lock) (locks kept : List Lock) → Rising (l ∷ locks) → (later : Excluded locks kept) (b : Bool)
+    → record_eq l.«record» later.name ≡ b → b ≡ false
 apart_above l locks kept rising later false e = refl
 apart_above l locks kept rising later true same =
     let it = eq_is l.«record» later.name same in
@@ -90,7 +93,8 @@ pub clash_at : (wanted kept : List Lock) → Rising wanted → clashes wanted ke
 clash_at [] kept rising e = absurd (cc)
 clash_at (l ∷ locks) kept rising e = by (excludes (Some l.mode) (mode_in kept l.«record»)) refl (λ rest. clash_at locks kept (rising_rest l locks rising) rest)
   where
-    by : (b : Bool) → excludes (Some l.mode) (mode_in kept l.«record») ≡ b → (clashes locks kept ≡ true → Excluded locks kept) → Excluded (l ∷ locks) kept
+    by : (b : Bool) → excludes (Some l.mode) (mode_in kept l.«record») ≡ b
+        → (clashes locks kept ≡ true → Excluded locks kept) → Excluded (l ∷ locks) kept
     by true is further = record {
       name = l.«record»;
       excluded = ap (λ (m : Option Mode). excludes m (mode_in kept l.«record»)) (cond-true _ (Some l.mode) (mode_in locks l.«record») (eq_same l.«record»)) ∙ is;
@@ -102,7 +106,8 @@ clash_at (l ∷ locks) kept rising e = by (excludes (Some l.mode) (mode_in kept 
 
 -- ---- a transaction in doubt or stuck, as it is kept and by the log
 
-stuck_ends : (ns : List ℕ) (left : Option Op) (tries last : ℕ) (o : Outcome) → stranded_by ns (Some (ends_or_undoes left tries last o)) ≡ stuck_by (Some (ends_or_undoes left tries last o))
+stuck_ends : (ns : List ℕ) (left : Option Op) (tries last : ℕ) (o : Outcome)
+    → stranded_by ns (Some (ends_or_undoes left tries last o)) ≡ stuck_by (Some (ends_or_undoes left tries last o))
 stuck_ends ns None tries last o = refl
 stuck_ends ns (Some w) tries last o =
     elim (nat_lt tries 4) as (λ b. stranded_by ns (Some (if b then next.Undoes w else next.Stuck last)) ≡ stuck_by (Some (if b then next.Undoes w else next.Stuck last))) [
@@ -110,7 +115,8 @@ stuck_ends ns (Some w) tries last o =
       | false ↦ refl
     ]
 
-stuck_idle : (ns : List ℕ) (full : Bool) (left : Option Op) (tries last : ℕ) (at : Reached) → stranded_by ns (idles full left tries last at) ≡ stuck_by (idles full left tries last at)
+stuck_idle : (ns : List ℕ) (full : Bool) (left : Option Op) (tries last : ℕ) (at : Reached)
+    → stranded_by ns (idles full left tries last at) ≡ stuck_by (idles full left tries last at)
 stuck_idle ns true left tries last at = stuck_ends ns left tries last _
 stuck_idle ns false left tries last (Asks o) = refl
 stuck_idle ns false left tries last (Ends v) = by (v == 0) refl
@@ -125,7 +131,8 @@ stranded_next : (ns : List ℕ) (sent : Option Sent) (full : Bool) (left : Optio
 stranded_next ns None full left tries last at = stuck_idle ns full left tries last at
 stranded_next ns (Some r) full left tries last at = sym (or_none (holds r.number ns))
 
-pub stranded_kept : (c : Core) (t : ℕ) (tx : Tx) (w : Seen c.procs c.events t tx) → tx.in_doubt ≡ is_doubted c.given_up tx.sent → is_stranded c t ≡ stands_still tx
+pub stranded_kept : (c : Core) (t : ℕ) (tx : Tx) (w : Seen c.procs c.events t tx)
+    → tx.in_doubt ≡ is_doubted c.given_up tx.sent → is_stranded c t ≡ stands_still tx
 unfolding next_at
 stranded_kept c t tx w marked =
     let does : next_at c t ≡ next_by tx.sent tx.full (first_undo tx.undo.ops) tx.tries tx.last (as_reached tx.pause) = ap (next_in c.procs) w.is ∙ next_kept c.procs c.events t tx w in
@@ -148,7 +155,8 @@ pub record Holder (ps : List Checked) (h : List Event) (txns : Slab Tx) (t : ℕ
   pub found : get txns key ≡ Some tx
   pub sees : Seen ps h t tx
 
-pub holder_at : (l : Loaded) (b : Book) (call : Call) (r : Record) (t : ℕ) → IsBook l.codes b → stands_in_the_way (core_of l b) call r t ≡ true → Holder l.codes b.log.events b.txns t
+pub holder_at : (l : Loaded) (b : Book) (call : Call) (r : Record) (t : ℕ) → IsBook l.codes b
+    → stands_in_the_way (core_of l b) call r t ≡ true → Holder l.codes b.log.events b.txns t
 holder_at l b call r t k stands = by (standing b.log.events t) refl
   where
     by : (o : Option Standing) → standing b.log.events t ≡ o → Holder l.codes b.log.events b.txns t
@@ -200,7 +208,8 @@ not_false true n = refl
 not_false false n = absurd (n refl)
 
 -- what the walk over the open transactions tells
-pub blocked_if : (l : Loaded) (b : Book) (call : Call) (set : List Lock) (walk : Bool) → IsBook l.codes b → Takes (core_of l b) call → ((q : Record) → mode_in set q ≡ locks_of (decls l.codes) call q) → Rising set
+pub blocked_if : (l : Loaded) (b : Book) (call : Call) (set : List Lock) (walk : Bool) → IsBook l.codes b
+    → Takes (core_of l b) call → ((q : Record) → mode_in set q ≡ locks_of (decls l.codes) call q) → Rising set
     → (name : Record) (holder : ℕ) → stands_in_the_way (core_of l b) call name holder ≡ true
     → (walk ≡ true → (key : ℕ) (tx : Tx) → get b.txns key ≡ Some tx → clashes set tx.locks ≡ true → stands_still tx ≢ false) → (walk ≡ false → HoldsUp b.txns set)
     → (walk ≡ true → IsBlocked (core_of l b) call) × (IsBlocked (core_of l b) call → walk ≡ true)

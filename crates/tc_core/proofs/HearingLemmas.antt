@@ -1,5 +1,6 @@
 -- What an answer makes of a transaction as it is kept.
-use Rattle.std.proofs.Common.{◌≡◌, ℕ, ◌+◌, ◌≤◌, Bool, true, false, ◌||◌, cond, List, [], ◌∷◌, ◌++◌, length, Option, Some, None, arith, refl, sym, subst, ap, ◌∙◌}
+use Rattle.std.proofs.Common.{◌≡◌, ℕ, ◌+◌, ◌≤◌, Bool, true, false, ◌||◌, cond, List, [], ◌∷◌, ◌++◌, length, Option}
+use Rattle.std.proofs.Common.{Some, None, arith, refl, sym, subst, ap, ◌∙◌}
 use Rattle.access_slots.specs.Access.{fits, is_no_room}
 use Rattle.access_slots.specs.Locks.{mode_in}
 use Rattle.access_slots.specs.declared.op.Op.{Op}
@@ -7,7 +8,8 @@ use Rattle.access_slots.specs.declared.op.Said.{Said}
 use Rattle.access_slots.specs.declared.op.Said.TheVariants.{Value, Absent, Done, Duplicate, Missing, NoRoom, Old}
 use Rattle.verifier.specs.Checked.{Checked}
 use Rattle.transactions.specs.declared.Sent.{Sent}
-use Rattle.transactions.specs.Standing.{Standing, answered, answers_after, full_after, undo_after, tries_after, told_to, found_full, undo_done, tries_done}
+use Rattle.transactions.specs.Standing.{Standing, answered, answers_after, full_after, undo_after, tries_after}
+use Rattle.transactions.specs.Standing.{told_to, found_full, undo_done, tries_done}
 use Rattle.transactions.specs.Reached.{Asks, reached_of, stop_at, Fitting, calls_in}
 use Rattle.transactions.proofs.StandingLemmas.{some_same}
 use Rattle.tc_core.specs.Running.{Runs, MayResume}
@@ -29,7 +31,8 @@ or_none : (x : Bool) → (x || false) ≡ x
 or_none true = refl
 or_none false = refl
 
-answered_where : (q : Checked) (tx : Tx) (s : Standing) (said : Said) (r : Sent) (b : Bool) → s.sent ≡ Some r → r.undoing ≡ b → Keeps q tx (answered_as b r.op said s) → Keeps q tx (answered said s)
+answered_where : (q : Checked) (tx : Tx) (s : Standing) (said : Said) (r : Sent) (b : Bool) → s.sent ≡ Some r
+    → r.undoing ≡ b → Keeps q tx (answered_as b r.op said s) → Keeps q tx (answered said s)
 answered_where q tx s said r b waits u it =
     subst (λ (x : Option Sent). Keeps q tx (answered_to x said s)) (sym waits) (subst (λ (y : Bool). Keeps q tx (answered_as y r.op said s)) (sym u) it)
 
@@ -90,7 +93,8 @@ keeps_told q tx tx1 s said r m e u runs full ops room rest =
     })
 
 -- a change of what is to be undone leaves the run where it stands
-pub resume_through : (q : Checked) (tx tx1 : Tx) (args : List ℕ) (answers : List Said) (o : Op) (said : Said) → tx1 ≡ record tx { undo = tx1.undo } → MayResume q tx args answers o said → MayResume q tx1 args answers o said
+pub resume_through : (q : Checked) (tx tx1 : Tx) (args : List ℕ) (answers : List Said) (o : Op) (said : Said)
+    → tx1 ≡ record tx { undo = tx1.undo } → MayResume q tx args answers o said → MayResume q tx1 args answers o said
 resume_through q tx tx1 args answers o said rest m =
     subst (λ (x : Tx). MayResume q x args answers o said) (sym rest)
     (record { runs = record { started = m.runs.started; call = m.runs.call; layout = m.runs.layout; pauses = m.runs.pauses }; fit = m.fit; asks = m.asks; fits = m.fits })

@@ -1,5 +1,6 @@
 -- What each event keeps.
-use Rattle.std.proofs.Common.{◌≡◌, ◌≢◌, ◌⊎◌, ℕ, ◌+◌, ◌-◌, ◌*◌, ◌<◌, ◌≤◌, ◌^◌, Bool, true, false, List, [], ◌∷◌, ◌++◌, length, Option, Some, None, arith, refl, sym, ◌∙◌, ap, subst, zero, suc, inl, inr, ◌==◌}
+use Rattle.std.proofs.Common.{◌≡◌, ◌≢◌, ◌⊎◌, ℕ, ◌+◌, ◌-◌, ◌*◌, ◌<◌, ◌≤◌, ◌^◌, Bool, true, false, List, [], ◌∷◌, ◌++◌}
+use Rattle.std.proofs.Common.{length, Option, Some, None, arith, refl, sym, ◌∙◌, ap, subst, zero, suc, inl, inr, ◌==◌}
 use Rattle.std.specs.Prelude.{slice_get, slice_index_or}
 use Rattle.std.proofs.lemmas.Bool.{cases_eq, cases_lt, cond-true, cond-false}
 use Rattle.access_slots.specs.Access.{fits, is_no_room}
@@ -25,7 +26,8 @@ use Rattle.transactions.specs.Reached.{Reached, Fitting, Asks, reached_of, reach
 use Rattle.transactions.specs.Room.{numbers_left, events_left, places_left, each_one, one_sent, one_own, one_unless, total}
 use Rattle.transactions.specs.Legal.{Legal, Allowed, CanAsk, CanUndo, first_undo, is_stopped}
 use Rattle.transactions.specs.Next.{next_by, next_of, next_in}
-use Rattle.transactions.proofs.StandingLemmas.{eq-true, eq-false, some_same, none_some, standing-same, standing-other, total-part, total-moved, total-admit, total-none, open-serial}
+use Rattle.transactions.proofs.StandingLemmas.{eq-true, eq-false, some_same, none_some, standing-same, standing-other}
+use Rattle.transactions.proofs.StandingLemmas.{total-part, total-moved, total-admit, total-none, open-serial}
 use Rattle.transactions.proofs.Sound.{Sound, standing_sound, ask_leaves, undo_leaves, reached_at}
 use Rattle.transactions.proofs.Flights.{open_flight, flight_holds}
 use Rattle.transactions.proofs.Nexts.{may_ask, may_undo, may_end}
@@ -43,7 +45,8 @@ none_if None h = refl
 none_if (Some x) h = absurd (h x refl)
 
 -- a number that no key has is of no open transaction
-pub places-absent : (ps : List Checked) (h : List Event) (txns : Slab Tx) → Places ps h txns → (t : ℕ) → ((key : ℕ) (tx : Tx) → get txns key ≡ Some tx → tx.serial ≢ t) → standing h t ≡ None
+pub places-absent : (ps : List Checked) (h : List Event) (txns : Slab Tx) → Places ps h txns → (t : ℕ)
+    → ((key : ℕ) (tx : Tx) → get txns key ≡ Some tx → tx.serial ≢ t) → standing h t ≡ None
 places-absent ps h txns p t absent = none_if (standing h t) (λ s is. let k = p.each t s is in absent k.key k.at.tx k.at.found k.at.serial)
 
 -- a key had a transaction with this one's number
@@ -114,7 +117,8 @@ seen ps log table numbers txns serials owed promised key t tx k found own =
     }
 
 -- what it does next is what the log says
-pub next_kept : (ps : List Checked) (h : List Event) (t : ℕ) (tx : Tx) → (w : Seen ps h t tx) → next_of ps w.s ≡ next_by tx.sent tx.full (first_undo tx.undo.ops) tx.tries tx.last (as_reached tx.pause)
+pub next_kept : (ps : List Checked) (h : List Event) (t : ℕ) (tx : Tx) → (w : Seen ps h t tx)
+    → next_of ps w.s ≡ next_by tx.sent tx.full (first_undo tx.undo.ops) tx.tries tx.last (as_reached tx.pause)
 next_kept ps h t tx w =
     let k = w.matches.keeps in
     rw (k.sent, k.full, k.undo, k.tries, k.last, ← w.at) refl
@@ -451,10 +455,12 @@ kept-answer ps log log' table numbers numbers' txns txns' serials owed promised 
     }
 
 -- a reply is one to the request where the transaction as it is kept waits for it
-pub is-answer : (c : Core) (r : Asking) (number : ℕ) (said : Said) (tx : Tx) (w : Seen c.procs c.events r.txn tx) → Accepts tx r.number r.op number said → IsAnswer c r number said
+pub is-answer : (c : Core) (r : Asking) (number : ℕ) (said : Said) (tx : Tx) (w : Seen c.procs c.events r.txn tx)
+    → Accepts tx r.number r.op number said → IsAnswer c r number said
 is-answer c r number said tx w a = record { s = w.s; is = w.is; sent = a.r; waits = sym w.matches.keeps.sent ∙ a.waits; same_number = a.same_number; same_op = a.same_op; agree = a.agree; fit = a.fit }
 
-pub answer-accepts : (c : Core) (r : Asking) (number : ℕ) (said : Said) (tx : Tx) (w : Seen c.procs c.events r.txn tx) → IsAnswer c r number said → Accepts tx r.number r.op number said
+pub answer-accepts : (c : Core) (r : Asking) (number : ℕ) (said : Said) (tx : Tx) (w : Seen c.procs c.events r.txn tx)
+    → IsAnswer c r number said → Accepts tx r.number r.op number said
 answer-accepts c r number said tx w a =
     let same : a.s ≡ w.s = some_same a.s w.s (sym a.is ∙ w.is) in
     record { r = a.sent; waits = w.matches.keeps.sent ∙ (sym (ap (λ (x : Standing). x.sent) same) ∙ a.waits); same_number = a.same_number; same_op = a.same_op; agree = a.agree; fit = a.fit }
@@ -572,7 +578,8 @@ kept-end ps log log' table table' numbers txns txns' serials owed promised key t
     }
 
 -- the empty log
-pub kept-none : (ps : List Checked) (log : History) (table : Table) (numbers : Given) (txns : Slab Tx) → log.events ≡ [] → AreHeld table nobody → numbers.last ≡ 0 → numbers.pending ≡ [] → txns.slots ≡ [] → AllGood ps
+pub kept-none : (ps : List Checked) (log : History) (table : Table) (numbers : Given) (txns : Slab Tx)
+    → log.events ≡ [] → AreHeld table nobody → numbers.last ≡ 0 → numbers.pending ≡ [] → txns.slots ≡ [] → AllGood ps
     → Kept ps log table numbers txns 0 0 0
 kept-none ps log table numbers txns e l n p s good =
     let total_none : (w : Standing → ℕ) → 0 ≡ total w log.events = (λ w. rw e (sym (total-none w))) in

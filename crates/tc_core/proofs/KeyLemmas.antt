@@ -76,7 +76,8 @@ module _ {S : Type 0} where
       }
 
   -- nothing but room changes
-  pub keys-room : (keys keys' : IndexMap ℕ ℕ S) (txns txns' : Slab Tx) → AreKeys keys txns → keys'.entries ≡ keys.entries → txns'.slots ≡ txns.slots → AreKeys keys' txns'
+  pub keys-room : (keys keys' : IndexMap ℕ ℕ S) (txns txns' : Slab Tx) → AreKeys keys txns
+      → keys'.entries ≡ keys.entries → txns'.slots ≡ txns.slots → AreKeys keys' txns'
   keys-room keys keys' txns txns' a same_entries same_slots =
       let same : (key : ℕ) → get txns' key ≡ get txns key = (λ key. ap (λ (xs : List (Option Tx)). slice_index_or xs key None) same_slots) in
       let same_keys : (t : ℕ) → key_of nat_eq keys' t ≡ key_of nat_eq keys t = (λ t. ap (lookup (nat_eq t)) same_entries) in

@@ -15,5 +15,6 @@ reach_grows dcs ps q all one = λ p v at. elim (get_cases ps q v p at) [
 pub now_good : (ps ps' : List Checked) (q : Checked) → ps' ≡ ps ++ q ∷ [] → AllGood ps → IsGood q → AllGood ps'
 now_good ps ps' q more all one = subst (λ (xs : List Checked). AllGood xs) (sym more) (good_grows ps q all one)
 
-pub now_reach : (dcs : ℕ) (ps ps' : List Checked) (q : Checked) → ps' ≡ ps ++ q ∷ [] → AllReach dcs ps → unknown_dc dcs q.decl.slots ≡ None → AllReach dcs ps'
+pub now_reach : (dcs : ℕ) (ps ps' : List Checked) (q : Checked) → ps' ≡ ps ++ q ∷ [] → AllReach dcs ps
+    → unknown_dc dcs q.decl.slots ≡ None → AllReach dcs ps'
 now_reach dcs ps ps' q more all one = subst (λ (xs : List Checked). AllReach dcs xs) (sym more) (reach_grows dcs ps q all one)

@@ -1,5 +1,6 @@
 -- Which transactions are in doubt, as events go on.
-use Rattle.std.proofs.Common.{◌≡◌, ◌≢◌, ℕ, ◌+◌, ◌<◌, ◌≤◌, Bool, true, false, List, [], ◌∷◌, ◌++◌, length, Option, Some, None, arith, refl, sym, ◌∙◌, ap, subst, inl, inr}
+use Rattle.std.proofs.Common.{◌≡◌, ◌≢◌, ℕ, ◌+◌, ◌<◌, ◌≤◌, Bool, true, false, List, [], ◌∷◌, ◌++◌, length, Option}
+use Rattle.std.proofs.Common.{Some, None, arith, refl, sym, ◌∙◌, ap, subst, inl, inr}
 use Rattle.std.specs.Prelude.{slice_index_or, count_by, is_some}
 use Rattle.std.proofs.lemmas.Bool.{cases_eq}
 use Rattle.request_numbers.specs.Given.{Given, holds}
@@ -45,7 +46,8 @@ marked-ended ns h h' txns txns' key m more up = record {
 }
 
 -- nothing but room changes
-pub marked-room : (ns ns' : List ℕ) (h h' : List Event) (txns txns' : Slab Tx) → Marked ns h txns → ns' ≡ ns → h' ≡ h → txns'.slots ≡ txns.slots → Marked ns' h' txns'
+pub marked-room : (ns ns' : List ℕ) (h h' : List Event) (txns txns' : Slab Tx) → Marked ns h txns → ns' ≡ ns → h' ≡ h
+    → txns'.slots ≡ txns.slots → Marked ns' h' txns'
 marked-room ns ns' h h' txns txns' m same_numbers same_events same_slots =
     let same : (key : ℕ) → get txns' key ≡ get txns key = (λ key. ap (λ (xs : List (Option Tx)). slice_index_or xs key None) same_slots) in
     let it : Marked ns h txns' = record { marks = λ k ty at. m.marks k ty (sym (same k) ∙ at); early = m.early } in
@@ -62,7 +64,8 @@ holds_beside true n m ns other = refl
 holds_beside false n m ns other = holds_other ns n m other
 
 -- two open transactions wait for two numbers
-apart : (ps : List Checked) (h : List Event) → Legal ps h → (t u : ℕ) (s v : Standing) (r q : Sent) → standing h t ≡ Some s → standing h u ≡ Some v → s.sent ≡ Some r → v.sent ≡ Some q → r.number ≡ q.number → t ≡ u
+apart : (ps : List Checked) (h : List Event) → Legal ps h → (t u : ℕ) (s v : Standing) (r q : Sent)
+    → standing h t ≡ Some s → standing h u ≡ Some v → s.sent ≡ Some r → v.sent ≡ Some q → r.number ≡ q.number → t ≡ u
 apart ps h legal t u s v r q is is' waits waits' same =
     let f = standing_flight ps h legal t s r is waits in
     let g = standing_flight ps h legal u v q is' waits' in
@@ -70,7 +73,8 @@ apart ps h legal t u s v r q is is' waits waits' same =
     ap (λ (x : Flight). x.txn) e
 
 -- it waits for another number than this one
-beside : (n : ℕ) (b : Bool) (ns : List ℕ) (sent : Option Sent) → ((r : Sent) → sent ≡ Some r → n ≢ r.number) → is_doubted (with_number_by b n ns) sent ≡ is_doubted ns sent
+beside : (n : ℕ) (b : Bool) (ns : List ℕ) (sent : Option Sent) → ((r : Sent) → sent ≡ Some r → n ≢ r.number)
+    → is_doubted (with_number_by b n ns) sent ≡ is_doubted ns sent
 beside n b ns None other = refl
 beside n b ns (Some r) other = holds_beside b n r.number ns (other r refl)
 

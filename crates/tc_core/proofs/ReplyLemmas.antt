@@ -15,13 +15,17 @@ pub next-unknown : (c : Core) (t : ℕ) → standing c.events t ≡ None → nex
 unfolding next_at
 next-unknown c t is = rw is refl
 
-pub next-known : (c : Core) (t : ℕ) (tx : Tx) (n : Next) → (w : Seen c.procs c.events t tx) → next_by tx.sent tx.full (first_undo tx.undo.ops) tx.tries tx.last (as_reached tx.pause) ≡ Some n → next_at c t ≡ Some n
+pub next-known : (c : Core) (t : ℕ) (tx : Tx) (n : Next) → (w : Seen c.procs c.events t tx)
+    → next_by tx.sent tx.full (first_undo tx.undo.ops) tx.tries tx.last (as_reached tx.pause) ≡ Some n
+    → next_at c t ≡ Some n
 unfolding next_at
 next-known c t tx n w does = ap (next_in c.procs) w.is ∙ (next_kept c.procs c.events t tx w ∙ does)
 
 pub end-unknown : (c : Core) (t : ℕ) → standing c.events t ≡ None → end_of c t ≡ None
 end-unknown c t is = ap over_in (next-unknown c t is)
 
-pub end-known : (c : Core) (t : ℕ) (tx : Tx) (o : Option Outcome) → (w : Seen c.procs c.events t tx) → o ≡ over_in (next_by tx.sent tx.full (first_undo tx.undo.ops) tx.tries tx.last (as_reached tx.pause)) → end_of c t ≡ o
+pub end-known : (c : Core) (t : ℕ) (tx : Tx) (o : Option Outcome) → (w : Seen c.procs c.events t tx)
+    → o ≡ over_in (next_by tx.sent tx.full (first_undo tx.undo.ops) tx.tries tx.last (as_reached tx.pause))
+    → end_of c t ≡ o
 unfolding next_at
 end-known c t tx o w does = ap over_in (ap (next_in c.procs) w.is ∙ next_kept c.procs c.events t tx w) ∙ sym does

@@ -39,17 +39,21 @@ continues q m p args answers o said same_args same_bases pauses fit asks f room 
     subst (λ (xs : List ℕ). Continues (setting_of q xs m.bases) m.config (Some said) (answers ++ said ∷ [])) (sym same_args)
     (subst (λ (b : Bases). Continues (setting_of q args b) m.config (Some said) (answers ++ said ∷ [])) (sym same_bases) it)
 
-pub may_continue : (q : Checked) (tx : Tx) (args : List ℕ) (answers : List Said) (o : Op) (said : Said) → MayResume q tx args answers o said → is_no_room said ≡ false
+pub may_continue : (q : Checked) (tx : Tx) (args : List ℕ) (answers : List Said) (o : Op) (said : Said)
+    → MayResume q tx args answers o said → is_no_room said ≡ false
     → Continues (setting_of q tx.machine.args tx.machine.bases) tx.machine.config (Some said) (answers ++ said ∷ [])
 may_continue q tx args answers o said m room = continues q tx.machine tx.pause args answers o said m.runs.call m.runs.layout m.runs.pauses m.fit m.asks m.fits room
 
 -- what was promised of the run on the machine's own arguments, of the plain one
-pub pauses_plain : (q : Checked) (m : Standing) (p : Pause) (c : Config) (args : List ℕ) (answers : List Said) → m.args ≡ args → m.bases ≡ plain_bases → Pauses p c (reach (setting_of q m.args m.bases) answers) → Pauses p c (stop_at q args answers)
+pub pauses_plain : (q : Checked) (m : Standing) (p : Pause) (c : Config) (args : List ℕ) (answers : List Said)
+    → m.args ≡ args → m.bases ≡ plain_bases → Pauses p c (reach (setting_of q m.args m.bases) answers)
+    → Pauses p c (stop_at q args answers)
 unfolding stop_at
 pauses_plain q m p c args answers same_args same_bases h =
     subst (λ (b : Bases). Pauses p c (reach (setting_of q args b) answers)) same_bases (subst (λ (xs : List ℕ). Pauses p c (reach (setting_of q xs m.bases) answers)) same_args h)
 
 -- a machine that was started goes on from the entry
-pub starts : (q : Checked) (m : Standing) (args : List ℕ) (b : Bases) → m.config ≡ entry (setting_of q args b) → m.args ≡ args → m.bases ≡ b → Continues (setting_of q m.args m.bases) m.config None []
+pub starts : (q : Checked) (m : Standing) (args : List ℕ) (b : Bases) → m.config ≡ entry (setting_of q args b)
+    → m.args ≡ args → m.bases ≡ b → Continues (setting_of q m.args m.bases) m.config None []
 starts q m args b at same_args same_bases =
     (at ∙ (ap (λ (xs : List ℕ). entry (setting_of q xs b)) (sym same_args) ∙ ap (λ (x : Bases). entry (setting_of q m.args x)) (sym same_bases)), refl)

@@ -1,5 +1,6 @@
 -- Printing and reading give the event back.
-use Rattle.std.proofs.Common.{arith, ◌≡◌, ℕ, suc, ◌<◌, ◌≤◌, ◌^◌, nat_le, Bool, true, false, List, [], ◌∷◌, ◌++◌, length, take, drop, sym, refl, ap, ap₂, subst, inl, inr, ◌∙◌}
+use Rattle.std.proofs.Common.{arith, ◌≡◌, ℕ, suc, ◌<◌, ◌≤◌, ◌^◌, nat_le, Bool, true, false, List, [], ◌∷◌, ◌++◌}
+use Rattle.std.proofs.Common.{length, take, drop, sym, refl, ap, ap₂, subst, inl, inr, ◌∙◌}
 use Rattle.std.specs.Prelude.{Option, Some, None, ◌==◌, ◌+◌, ◌-◌, ◌*◌}
 use Rattle.std.specs.List.{flat_map}
 use Rattle.std.specs.Int.{w64, to_le_bytes, from_le_bytes}
@@ -16,8 +17,10 @@ use Rattle.tc_log.specs.declared.event.Event.{Event}
 use Rattle.tc_log.specs.declared.event.Event.TheVariants.{Admit, Ask, Answer, Undo, End}
 use Rattle.tc_log.specs.declared.event.Outcome.{Outcome}
 use Rattle.tc_log.specs.declared.event.Outcome.TheVariants as outcome
-use Rattle.tc_log.specs.Printed.{Cells, cells_of, cells_bytes, head_bytes, number_bytes, printed, printed_cells, zeros, args_bytes, with_value, op_cells}
-use Rattle.tc_log.specs.Reading.{record_at, u16_at, u64_at, cells_in, event_in, call_in, numbers_in, IsEvent, IsOp, IsOutcome, AreNumbers, has_row, is_some, IsPrinted, ArePrinted, HaveRows}
+use Rattle.tc_log.specs.Printed.{Cells, cells_of, cells_bytes, head_bytes, number_bytes, printed, printed_cells}
+use Rattle.tc_log.specs.Printed.{zeros, args_bytes, with_value, op_cells}
+use Rattle.tc_log.specs.Reading.{record_at, u16_at, u64_at, cells_in, event_in, call_in, numbers_in, IsEvent, IsOp}
+use Rattle.tc_log.specs.Reading.{IsOutcome, AreNumbers, has_row, is_some, IsPrinted, ArePrinted, HaveRows}
 
 -- ---- the fields
 
@@ -32,7 +35,8 @@ record Fit (c : Cells) : Type 0 where
 abbrev cells : ℕ → ℕ → ℕ → ℕ → ℕ → ℕ → ℕ → List ℕ → Cells
 cells kind sub dc table txn word key body = record { kind = kind; sub = sub; dc = dc; table = table; txn = txn; word = word; key = key; body = body }
 
-same_cells : (kind sub d dc t table x txn w word k key : ℕ) (body : List ℕ) → d ≡ dc → t ≡ table → x ≡ txn → w ≡ word → k ≡ key → cells kind sub d t x w k body ≡ cells kind sub dc table txn word key body
+same_cells : (kind sub d dc t table x txn w word k key : ℕ) (body : List ℕ) → d ≡ dc → t ≡ table → x ≡ txn → w ≡ word
+    → k ≡ key → cells kind sub d t x w k body ≡ cells kind sub dc table txn word key body
 same_cells kind sub d dc t table x txn w word k key body a b e f g = cc
 
 dc_back : (c : Cells) → c.dc < 2 ^ 16 → u16_at 2 (cells_bytes c) ≡ c.dc
@@ -55,7 +59,8 @@ key_back : (c : Cells) → c.key < 2 ^ 64 → u64_at 24 (cells_bytes c) ≡ c.ke
 unfolding head_bytes number_bytes
 key_back c fits = from_le_bytes-to_le_bytes_8 c.key fits
 
-seen_back : (c : Cells) → cells_in (cells_bytes c) ≡ cells c.kind c.sub (u16_at 2 (cells_bytes c)) (u16_at 4 (cells_bytes c)) (u64_at 8 (cells_bytes c)) (u64_at 16 (cells_bytes c)) (u64_at 24 (cells_bytes c)) c.body
+seen_back : (c : Cells)
+    → cells_in (cells_bytes c) ≡ cells c.kind c.sub (u16_at 2 (cells_bytes c)) (u16_at 4 (cells_bytes c)) (u64_at 8 (cells_bytes c)) (u64_at 16 (cells_bytes c)) (u64_at 24 (cells_bytes c)) c.body
 unfolding head_bytes number_bytes
 seen_back c = refl
 
@@ -72,7 +77,8 @@ numbers_back : (args rest : List ℕ) → AreNumbers args → numbers_in (length
 numbers_back [] rest fit = refl
 numbers_back (n ∷ args) rest fit = ap₂ (λ (x : ℕ) (xs : List ℕ). x ∷ xs) (from_le_bytes-to_le_bytes_8 n fit.0) (numbers_back args rest fit.1)
 
-call_back : (b : Bool) (txn proc : ℕ) (args : List ℕ) → nat_le (length args) 8 ≡ b → txn < 2 ^ 64 → proc < 2 ^ 64 → AreNumbers args → has_row (Admit txn proc args) ≡ true
+call_back : (b : Bool) (txn proc : ℕ) (args : List ℕ) → nat_le (length args) 8 ≡ b → txn < 2 ^ 64 → proc < 2 ^ 64
+    → AreNumbers args → has_row (Admit txn proc args) ≡ true
     → event_in (cells_in (printed (Admit txn proc args))) ≡ Some (Admit txn proc args)
 call_back false txn proc args few a b fit row = absurd (
     let none : is_some None ≡ true = sym (ap is_some (cond-false _ _ _ few)) ∙ row in
@@ -93,19 +99,23 @@ zero_long = omega arith
 record_fits : (c : Cells) → c.dc < 2 ^ 16 → c.table < 2 ^ 16 → c.txn < 2 ^ 64 → c.word < 2 ^ 64 → c.key < 2 ^ 64 → Fit c
 record_fits c d t x w k = record { dc = d; table = t; txn = x; word = w; key = k }
 
-ask_back : (o : Op) (txn number : ℕ) → txn < 2 ^ 64 → number < 2 ^ 64 → IsOp o → event_in (cells_in (printed (Ask txn number o))) ≡ Some (Ask txn number o)
+ask_back : (o : Op) (txn number : ℕ) → txn < 2 ^ 64 → number < 2 ^ 64 → IsOp o
+    → event_in (cells_in (printed (Ask txn number o))) ≡ Some (Ask txn number o)
 ask_back (Read r) txn number x n is = ap event_in (cells_back (op_cells 2 txn number (Read r)) (record_fits _ is.0 is.1 x n is.2))
 ask_back (Insert r v) txn number x n is = ap event_in (cells_back (op_cells 2 txn number (Insert r v)) (record_fits _ is.0.0 is.0.1 x n is.0.2))
 ask_back (Update r v) txn number x n is = ap event_in (cells_back (op_cells 2 txn number (Update r v)) (record_fits _ is.0.0 is.0.1 x n is.0.2))
 ask_back (Delete r) txn number x n is = ap event_in (cells_back (op_cells 2 txn number (Delete r)) (record_fits _ is.0 is.1 x n is.2))
 
-undo_back : (o : Op) (txn number : ℕ) → txn < 2 ^ 64 → number < 2 ^ 64 → IsOp o → event_in (cells_in (printed (Undo txn number o))) ≡ Some (Undo txn number o)
+undo_back : (o : Op) (txn number : ℕ) → txn < 2 ^ 64 → number < 2 ^ 64 → IsOp o
+    → event_in (cells_in (printed (Undo txn number o))) ≡ Some (Undo txn number o)
 undo_back (Read r) txn number x n is = ap event_in (cells_back (op_cells 4 txn number (Read r)) (record_fits _ is.0 is.1 x n is.2))
 undo_back (Insert r v) txn number x n is = ap event_in (cells_back (op_cells 4 txn number (Insert r v)) (record_fits _ is.0.0 is.0.1 x n is.0.2))
 undo_back (Update r v) txn number x n is = ap event_in (cells_back (op_cells 4 txn number (Update r v)) (record_fits _ is.0.0 is.0.1 x n is.0.2))
 undo_back (Delete r) txn number x n is = ap event_in (cells_back (op_cells 4 txn number (Delete r)) (record_fits _ is.0 is.1 x n is.2))
 
-answer_back : (said : Said) (txn number : ℕ) → txn < 2 ^ 64 → number < 2 ^ 64 → has_row (Answer txn number said) ≡ true → event_in (cells_in (printed (Answer txn number said))) ≡ Some (Answer txn number said)
+answer_back : (said : Said) (txn number : ℕ) → txn < 2 ^ 64 → number < 2 ^ 64
+    → has_row (Answer txn number said) ≡ true
+    → event_in (cells_in (printed (Answer txn number said))) ≡ Some (Answer txn number said)
 answer_back (Value v) txn number x n row = ap event_in (cells_back _ (plain_fits (with_value 3 1 txn number v) refl refl refl x n))
 answer_back Absent txn number x n row = ap event_in (cells_back _ (plain_fits (with_value 3 2 txn number (zeros 64)) refl refl refl x n))
 answer_back (Done None) txn number x n row = ap event_in (cells_back _ (plain_fits (with_value 3 3 txn number (zeros 64)) refl refl refl x n))
@@ -115,7 +125,9 @@ answer_back Missing txn number x n row = ap event_in (cells_back _ (plain_fits (
 answer_back NoRoom txn number x n row = ap event_in (cells_back _ (plain_fits (with_value 3 7 txn number (zeros 64)) refl refl refl x n))
 answer_back Old txn number x n row = absurd (let bad : false ≡ true = row in cc)
 
-abort_back : (b : Bool) (txn v : ℕ) → (v == 0) ≡ b → txn < 2 ^ 64 → v < 2 ^ 64 → has_row (End txn (outcome.Aborted v)) ≡ true → event_in (cells_in (printed (End txn (outcome.Aborted v)))) ≡ Some (End txn (outcome.Aborted v))
+abort_back : (b : Bool) (txn v : ℕ) → (v == 0) ≡ b → txn < 2 ^ 64 → v < 2 ^ 64
+    → has_row (End txn (outcome.Aborted v)) ≡ true
+    → event_in (cells_in (printed (End txn (outcome.Aborted v)))) ≡ Some (End txn (outcome.Aborted v))
 abort_back true txn v is x n row = absurd (
     let none : is_some None ≡ true = sym (ap is_some (cond-true _ _ _ is)) ∙ row in
     let bad : false ≡ true = none in
@@ -125,7 +137,8 @@ abort_back false txn v is x n row =
     ap (λ (o : Option Cells). event_in (cells_in (printed_cells o))) (cond-false _ _ _ is)
     ∙ ap event_in (cells_back c (plain_fits c refl refl refl x n))
 
-end_back : (o : Outcome) (txn : ℕ) → txn < 2 ^ 64 → IsOutcome o → has_row (End txn o) ≡ true → event_in (cells_in (printed (End txn o))) ≡ Some (End txn o)
+end_back : (o : Outcome) (txn : ℕ) → txn < 2 ^ 64 → IsOutcome o → has_row (End txn o) ≡ true
+    → event_in (cells_in (printed (End txn o))) ≡ Some (End txn o)
 end_back outcome.Committed txn x is row = ap event_in (cells_back _ (plain_fits (with_value 5 1 txn 0 (zeros 64)) refl refl refl x zero_long))
 end_back (outcome.Aborted v) txn x is row = abort_back (v == 0) txn v refl x is row
 end_back outcome.NoRoom txn x is row = ap event_in (cells_back _ (plain_fits (with_value 5 3 txn 0 (zeros 64)) refl refl refl x zero_long))
@@ -140,7 +153,8 @@ read_back (End txn o) is row = end_back o txn is.0 is.1 row
 
 -- ---- what is read
 
-pub call_is : (c : Cells) (txn proc : ℕ) (args : List ℕ) → c.sub ≤ 8 → txn ≡ c.txn → proc ≡ c.word → args ≡ numbers_in c.sub c.body → Some (Admit txn proc args) ≡ call_in c
+pub call_is : (c : Cells) (txn proc : ℕ) (args : List ℕ) → c.sub ≤ 8 → txn ≡ c.txn → proc ≡ c.word
+    → args ≡ numbers_in c.sub c.body → Some (Admit txn proc args) ≡ call_in c
 call_is c txn proc args few a b is = same_call txn c.txn proc c.word args (numbers_in c.sub c.body) a b is ∙ sym (cond-true _ _ _ (le-leb c.sub 8 few))
   where
     same_call : (t x p w : ℕ) (xs ys : List ℕ) → t ≡ x → p ≡ w → xs ≡ ys → Some (Admit t p xs) ≡ Some (Admit x w ys)
@@ -187,7 +201,8 @@ rows_append (f ∷ events) e rows row = (rows.0, rows_append events e rows.1 row
 next : (place : ℕ) → 96 * place + 96 ≡ 96 * (place + 1)
 next place = omega arith
 
-pub one_more : (events : List Event) (e : Event) (bytes : List ℕ) (place : ℕ) → ArePrinted events (take (96 * place) bytes) → has_row e ≡ true → printed e ≡ take 96 (drop (96 * place) bytes)
+pub one_more : (events : List Event) (e : Event) (bytes : List ℕ) (place : ℕ)
+    → ArePrinted events (take (96 * place) bytes) → has_row e ≡ true → printed e ≡ take 96 (drop (96 * place) bytes)
     → ArePrinted (events ++ e ∷ []) (take (96 * (place + 1)) bytes)
 one_more events e bytes place so_far row is = record {
   rows = rows_append events e so_far.rows row;
@@ -197,17 +212,20 @@ one_more events e bytes place so_far row is = record {
 pub none_printed : (bytes : List ℕ) → ArePrinted [] (take (96 * 0) bytes)
 none_printed bytes = record { rows = tt; prints = refl }
 
-pub printed_further : (events new : List Event) (e : Event) (bytes rest front : List ℕ) (place : ℕ) → ArePrinted events (take (96 * place) bytes) → new ≡ events ++ e ∷ [] → rest ≡ drop (96 * place) bytes
+pub printed_further : (events new : List Event) (e : Event) (bytes rest front : List ℕ) (place : ℕ)
+    → ArePrinted events (take (96 * place) bytes) → new ≡ events ++ e ∷ [] → rest ≡ drop (96 * place) bytes
     → front ≡ take 96 rest → has_row e ≡ true → printed e ≡ front → ArePrinted new (take (96 * (place + 1)) bytes)
 printed_further events new e bytes rest front place so_far grown left cut row is =
     subst (λ (es : List Event). ArePrinted es (take (96 * (place + 1)) bytes)) (sym grown)
     (one_more events e bytes place so_far row (is ∙ cut ∙ ap (λ (b : List ℕ). take 96 b) left))
 
 -- the first 96 bytes of the rest are the record at this place
-pub record_is : (P : List ℕ → Type 0) (bytes rest front : List ℕ) (place : ℕ) → rest ≡ drop (96 * place) bytes → front ≡ take 96 rest → P (record_at place bytes) → P front
+pub record_is : (P : List ℕ → Type 0) (bytes rest front : List ℕ) (place : ℕ) → rest ≡ drop (96 * place) bytes
+    → front ≡ take 96 rest → P (record_at place bytes) → P front
 record_is P bytes rest front place left cut is = subst P (sym (cut ∙ ap (λ (b : List ℕ). take 96 b) left)) is
 
-pub read_further : (e : Event) (bytes rest front : List ℕ) (place : ℕ) → ((earlier : ℕ) → earlier < place → IsPrinted (record_at earlier bytes)) → rest ≡ drop (96 * place) bytes
+pub read_further : (e : Event) (bytes rest front : List ℕ) (place : ℕ)
+    → ((earlier : ℕ) → earlier < place → IsPrinted (record_at earlier bytes)) → rest ≡ drop (96 * place) bytes
     → front ≡ take 96 rest → IsEvent e → has_row e ≡ true → printed e ≡ front → (earlier : ℕ) → earlier < place + 1 → IsPrinted (record_at earlier bytes)
 read_further e bytes rest front place before left cut machine row is earlier within = elim (cases_lt earlier place) [
   | inl below ↦ before earlier below
@@ -217,13 +235,15 @@ read_further e bytes rest front place before left cut machine row is earlier wit
       (record { event = e; numbers = machine; row = row; prints = is ∙ cut ∙ ap (λ (b : List ℕ). take 96 b) left })
 ]
 
-pub rest_further : (bytes rest back : List ℕ) (place : ℕ) → rest ≡ drop (96 * place) bytes → back ≡ drop 96 rest → back ≡ drop (96 * (place + 1)) bytes
+pub rest_further : (bytes rest back : List ℕ) (place : ℕ) → rest ≡ drop (96 * place) bytes → back ≡ drop 96 rest
+    → back ≡ drop (96 * (place + 1)) bytes
 rest_further bytes rest back place left cut = cut ∙ ap (λ (b : List ℕ). drop 96 b) left ∙ drop-drop 96 (96 * place) bytes ∙ ap (λ (n : ℕ). drop n bytes) (turned place)
   where
     turned : (p : ℕ) → 96 * p + 96 ≡ 96 * (p + 1)
     turned p = omega arith
 
-pub numbers_further : (numbers new : List ℕ) (count k x : ℕ) (rest front back total : List ℕ) → k < count → numbers ++ numbers_in (count - k) rest ≡ total → new ≡ numbers ++ x ∷ [] → x ≡ from_le_bytes w64 front
+pub numbers_further : (numbers new : List ℕ) (count k x : ℕ) (rest front back total : List ℕ) → k < count
+    → numbers ++ numbers_in (count - k) rest ≡ total → new ≡ numbers ++ x ∷ [] → x ≡ from_le_bytes w64 front
     → front ≡ take 8 rest → back ≡ drop 8 rest → new ++ numbers_in (count - (k + 1)) back ≡ total
 numbers_further numbers new count k x rest front back total more so_far grown is cut left =
     ap₂ (λ (xs b : List ℕ). xs ++ numbers_in (count - (k + 1)) b) grown left

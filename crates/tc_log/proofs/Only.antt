@@ -4,7 +4,8 @@ use Rattle.std.specs.Prelude.{Option, Some, None, ◌==◌, ◌+◌, ◌-◌, �
 use Rattle.std.specs.List.{flat_map}
 use Rattle.std.specs.Int.{w64, to_le_bytes}
 use Rattle.std.proofs.lemmas.Bool.{cond-true, cond-false, leb-true}
-use Rattle.std.proofs.lemmas.List.{length-append, length-replicate, length-drop, length-take-le, take_all, nil_from_length, take_at, drop_at, take-append-le, drop-append-le}
+use Rattle.std.proofs.lemmas.List.{length-append, length-replicate, length-drop, length-take-le, take_all}
+use Rattle.std.proofs.lemmas.List.{nil_from_length, take_at, drop_at, take-append-le, drop-append-le}
 use Rattle.std.proofs.Math.Seq.{take-add}
 use Rattle.access_slots.specs.declared.op.Op.{Op}
 use Rattle.access_slots.specs.declared.op.Op.TheVariants.{Read, Insert, Update, Delete}
@@ -104,7 +105,9 @@ only_these events bytes seen = λ others are printed. same_seen events others by
 pub none_seen : (bytes : List ℕ) → AreSeen [] (take (96 * 0) bytes)
 none_seen bytes = refl
 
-seen_append : (events : List Event) (e : Event) (front back : List ℕ) → length front ≡ 96 * length events → AreSeen events front → event_in (cells_in back) ≡ Some e → length back ≡ 96 → AreSeen (events ++ e ∷ []) (front ++ back)
+seen_append : (events : List Event) (e : Event) (front back : List ℕ) → length front ≡ 96 * length events
+    → AreSeen events front → event_in (cells_in back) ≡ Some e → length back ≡ 96
+    → AreSeen (events ++ e ∷ []) (front ++ back)
 seen_append [] e front back count seen is long =
     let none : front ≡ [] = nil_from_length front seen in
     subst (λ (f : List ℕ). AreSeen (e ∷ []) (f ++ back)) (sym none)
@@ -115,7 +118,9 @@ seen_append (x ∷ events) e front back count seen is long = (
       (seen_append events e (drop 96 front) back (length-drop 96 front ∙ omega (arith, count)) seen.1 is long),
 )
 
-pub seen_further : (events new : List Event) (e : Event) (bytes rest front : List ℕ) (place : ℕ) → AreSeen events (take (96 * place) bytes) → length events ≡ place → new ≡ events ++ e ∷ [] → rest ≡ drop (96 * place) bytes
+pub seen_further : (events new : List Event) (e : Event) (bytes rest front : List ℕ) (place : ℕ)
+    → AreSeen events (take (96 * place) bytes) → length events ≡ place → new ≡ events ++ e ∷ []
+    → rest ≡ drop (96 * place) bytes
     → front ≡ take 96 rest → length front ≡ 96 → 96 * place ≤ length bytes → event_in (cells_in front) ≡ Some e → AreSeen new (take (96 * (place + 1)) bytes)
 seen_further events new e bytes rest front place seen count grown left cut long few is =
     let at = length-take-le (96 * place) bytes few in

@@ -1,5 +1,6 @@
 -- What is given up when a world is closed.
-use Rattle.std.proofs.Common.{◌≡◌, ℕ, Bool, true, false, ◌||◌, List, [], ◌∷◌, ◌++◌, length, Option, Some, None, arith, refl, sym, ◌∙◌, ap, subst, zero, suc, inl, inr, ◌==◌}
+use Rattle.std.proofs.Common.{◌≡◌, ℕ, Bool, true, false, ◌||◌, List, [], ◌∷◌, ◌++◌, length, Option, Some, None, arith}
+use Rattle.std.proofs.Common.{refl, sym, ◌∙◌, ap, subst, zero, suc, inl, inr, ◌==◌}
 use Rattle.std.specs.Prelude.{slice_get}
 use Rattle.std.proofs.Math.Bool.{or-false}
 use Rattle.std.proofs.lemmas.Bool.{cases_eq, cond-true, cond-false}
@@ -113,13 +114,15 @@ turned false true false = refl
 turned false false true = refl
 turned false false false = refl
 
-kept_still : (was now next : Core) (n : ℕ) → now ≡ record was { given_up = now.given_up } → next ≡ with_given_up now n → next ≡ record was { given_up = next.given_up }
+kept_still : (was now next : Core) (n : ℕ) → now ≡ record was { given_up = now.given_up } → next ≡ with_given_up now n
+    → next ≡ record was { given_up = next.given_up }
 kept_still was now next n kept same =
     let numbers : with_number n now.given_up ≡ next.given_up = sym (ap (λ (c : Core). c.given_up) same) in
     let mine : next ≡ record now { given_up = next.given_up } = same ∙ ap (λ (ns : List ℕ). let c : Core = record now { given_up = ns } in c) numbers in
     mine ∙ ap (λ (c : Core). let d : Core = record c { given_up = next.given_up } in d) kept
 
-pub one_more : (was now next : Core) (left rest : List Asking) (r : Asking) → GivesUp was now left → left ≡ rest ++ r ∷ [] → (IsOpenHere now r → next ≡ with_given_up now r.number) → GivesUp was next rest
+pub one_more : (was now next : Core) (left rest : List Asking) (r : Asking) → GivesUp was now left
+    → left ≡ rest ++ r ∷ [] → (IsOpenHere now r → next ≡ with_given_up now r.number) → GivesUp was next rest
 one_more was now next left rest r g is gives =
     let there = last_there rest r in
     let mine : IsOpenHere was r = g.open_yet there.k r (ap (λ (xs : List Asking). slice_get xs there.k) is ∙ there.at) in
@@ -133,5 +136,6 @@ one_more was now next left rest r g is gives =
       open_yet = λ k q at. g.open_yet k q (ap (λ (xs : List Asking). slice_get xs k) is ∙ got_before rest r q k at);
     }
 
-pub all_given_up : (was now : Core) (left : List Asking) (n : ℕ) → GivesUp was now left → length left ≡ 0 → holds n now.given_up ≡ (holds n was.given_up || is_open was.events n)
+pub all_given_up : (was now : Core) (left : List Asking) (n : ℕ) → GivesUp was now left → length left ≡ 0
+    → holds n now.given_up ≡ (holds n was.given_up || is_open was.events n)
 all_given_up was now left n g none = sym (or-false (holds n now.given_up)) ∙ (sym (ap (λ (b : Bool). holds n now.given_up || b) (asked_none left n none)) ∙ g.given_up n)

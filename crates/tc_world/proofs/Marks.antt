@@ -24,7 +24,9 @@ use Rattle.tc_core.specs.declared.state.Asked.TheVariants as reply
 use Rattle.tc_core.proofs.KeptLemmas.{slice_get-index, slice_get-short}
 use Rattle.tc_world.specs.Whole.{Whole}
 use Rattle.tc_world.specs.Marks.{AreMarksLow, IsFresh, IsOpenAboveMarks}
-use Rattle.tc_world.specs.Steps.{Goes, Stops, Steps, with_core, with_copy, with_reply, told, ends_by, resends_sent, resends_by, dc_of, gets_reply, performs_at, performs_copy, takes_fit, takes_by, takes_reply, restarts_at}
+use Rattle.tc_world.specs.Steps.{Goes, Stops, Steps, with_core, with_copy, with_reply, told, ends_by, resends_sent}
+use Rattle.tc_world.specs.Steps.{resends_by, dc_of, gets_reply, performs_at, performs_copy, takes_fit, takes_by}
+use Rattle.tc_world.specs.Steps.{takes_reply, restarts_at}
 use Rattle.tc_world.specs.declared.step.Step.{Step}
 use Rattle.tc_world.specs.declared.step.Step.TheVariants as step
 use Rattle.tc_world.specs.declared.step.Outcome.{Outcome}
@@ -91,7 +93,9 @@ replied_low w v (Some x) o low goes = low_behind _ o (with_reply w x) v (record 
 
 -- ---- the steps
 
-told_low : (w v : Whole) (t : ℕ) (c : Core) (a : Asked) (o : Outcome) → (LegalCore c → low_water w.core.events ≤ low_water c.events) → LegalCore v.core → AreMarksLow w → told w t c a ≡ Goes o v → AreMarksLow v
+told_low : (w v : Whole) (t : ℕ) (c : Core) (a : Asked) (o : Outcome)
+    → (LegalCore c → low_water w.core.events ≤ low_water c.events) → LegalCore v.core → AreMarksLow w
+    → told w t c a ≡ Goes o v → AreMarksLow v
 told_low w v t c (reply.Request r) o rose legal low goes =
     let is = rose (legal_behind _ o (with_copy (with_core w c) (wire_of c r)) v legal goes) in
     low_behind _ o (with_copy (with_core w c) (wire_of c r)) v (sent (with_core w c) r (risen w c is low)) goes
@@ -120,7 +124,8 @@ undo_rises c (reply.Waits n) legal = omega arith
 undo_rises c reply.Running legal = omega arith
 undo_rises c reply.Unknown legal = omega arith
 
-ends_low : (w v : Whole) (t : ℕ) (s : Option Standing) (e : Option Ending) (o : Outcome) → LegalCore v.core → AreMarksLow w → ends_by w t s e ≡ Goes o v → AreMarksLow v
+ends_low : (w v : Whole) (t : ℕ) (s : Option Standing) (e : Option Ending) (o : Outcome) → LegalCore v.core
+    → AreMarksLow w → ends_by w t s e ≡ Goes o v → AreMarksLow v
 ends_low w v t None e o legal low goes = absurd (stopped _ o v goes)
 ends_low w v t (Some s) None o legal low goes = absurd (stopped _ o v goes)
 ends_low w v t (Some s) (Some e) o legal low goes =
@@ -136,17 +141,20 @@ resends_low w v t (Some s) o low goes = by s.sent goes
     by None goes' = absurd (stopped _ o v goes')
     by (Some r) goes' = (let a : Asking = record { txn = t; number = r.number; op = r.op } in low_behind _ o (with_copy w (wire_of w.core a)) v (sent w a low) goes')
 
-performed_at_low : (w v : Whole) (x : Wire) (d : Option Store) (o : Outcome) → slice_get w.dcs (dc_of x) ≡ d → x.low_water ≤ low_water w.core.events → AreMarksLow w → performs_at w x d ≡ Goes o v → AreMarksLow v
+performed_at_low : (w v : Whole) (x : Wire) (d : Option Store) (o : Outcome) → slice_get w.dcs (dc_of x) ≡ d
+    → x.low_water ≤ low_water w.core.events → AreMarksLow w → performs_at w x d ≡ Goes o v → AreMarksLow v
 performed_at_low w v x None o at few low goes = absurd (stopped _ o v goes)
 performed_at_low w v x (Some d) o at few low goes =
     replied_low (record { core = w.core; dcs = slice_set w.dcs (dc_of x) (performed d x); copies = w.copies; replies = w.replies }) v (replied d x) o (performs_low w x d at few low) goes
 
-performs_copy_low : (w v : Whole) (i : ℕ) (x : Option Wire) (o : Outcome) → slice_get w.copies i ≡ x → AreMarksLow w → performs_copy w x ≡ Goes o v → AreMarksLow v
+performs_copy_low : (w v : Whole) (i : ℕ) (x : Option Wire) (o : Outcome) → slice_get w.copies i ≡ x → AreMarksLow w
+    → performs_copy w x ≡ Goes o v → AreMarksLow v
 performs_copy_low w v i None o at low goes = absurd (stopped _ o v goes)
 performs_copy_low w v i (Some x) o at low goes =
     performed_at_low w v x (slice_get w.dcs (dc_of x)) o refl (all_at (λ (y : Wire). y.low_water ≤ low_water w.core.events) w.copies i x at low.copies) low goes
 
-takes_low : (w v : Whole) (f : Flight) (x : Reply) (b : Bool) (o : Outcome) → LegalCore v.core → AreMarksLow w → takes_fit w f x b ≡ Goes o v → AreMarksLow v
+takes_low : (w v : Whole) (f : Flight) (x : Reply) (b : Bool) (o : Outcome) → LegalCore v.core → AreMarksLow w
+    → takes_fit w f x b ≡ Goes o v → AreMarksLow v
 takes_low w v f x false o legal low goes = absurd (stopped _ o v goes)
 takes_low w v f x true o legal low goes =
     let e = event.Answer f.txn x.number x.said in

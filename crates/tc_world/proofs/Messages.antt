@@ -27,7 +27,8 @@ use Rattle.tc_log.specs.declared.event.Outcome.TheVariants as ending
 use Rattle.tc_world.specs.Whole.{Whole}
 use Rattle.tc_world.specs.Waiting.{asking, asking_by, AreWaiting}
 use Rattle.tc_world.specs.Telling.{requests_of}
-use Rattle.tc_world.specs.Steps.{Goes, Stops, MayGo, asks, undoes, told, sends, resends, resends_by, resends_sent, takes_reply, takes_by, takes_fit, with_core}
+use Rattle.tc_world.specs.Steps.{Goes, Stops, MayGo, asks, undoes, told, sends, resends, resends_by, resends_sent}
+use Rattle.tc_world.specs.Steps.{takes_reply, takes_by, takes_fit, with_core}
 use Rattle.tc_world.specs.declared.step.Illegal.TheVariants as illegal
 use Rattle.tc_world.specs.declared.step.Outcome.TheVariants as outcome
 use Rattle.tc_log.specs.declared.event.Event.TheVariants.{Answer}
@@ -77,7 +78,8 @@ undo_number t last (Some (next.Over ending.NoRoom)) r e = absurd cc
 nothing_more : (rs : List Asking) (h : List Event) → AreWaiting rs h → AreWaiting (rs ++ []) h
 nothing_more rs h w = subst (λ (xs : List Asking). AreWaiting xs h) (sym (append-nil rs)) w
 
-pub waiting_after_ask : (c : Core) (rs : List Asking) (t : ℕ) (a : Asked) → Legal c.procs c.events → AreWaiting rs c.events → a ≡ ask_reply c t → AreWaiting (rs ++ requests_of a) (after_ask c a).events
+pub waiting_after_ask : (c : Core) (rs : List Asking) (t : ℕ) (a : Asked) → Legal c.procs c.events
+    → AreWaiting rs c.events → a ≡ ask_reply c t → AreWaiting (rs ++ requests_of a) (after_ask c a).events
 waiting_after_ask c rs t (Request r) legal w is = waiting_asked c.procs rs c.events r legal w (ask_number t (given c.events) (next_at c t) r (sym is))
 waiting_after_ask c rs t Undoing legal w is = nothing_more rs c.events w
 waiting_after_ask c rs t Over legal w is = nothing_more rs c.events w
@@ -86,7 +88,8 @@ waiting_after_ask c rs t (Waits n) legal w is = nothing_more rs c.events w
 waiting_after_ask c rs t Running legal w is = nothing_more rs c.events w
 waiting_after_ask c rs t Unknown legal w is = nothing_more rs c.events w
 
-pub waiting_after_undo : (c : Core) (rs : List Asking) (t : ℕ) (a : Asked) → Legal c.procs c.events → AreWaiting rs c.events → a ≡ undo_reply c t → AreWaiting (rs ++ requests_of a) (after_undo c a).events
+pub waiting_after_undo : (c : Core) (rs : List Asking) (t : ℕ) (a : Asked) → Legal c.procs c.events
+    → AreWaiting rs c.events → a ≡ undo_reply c t → AreWaiting (rs ++ requests_of a) (after_undo c a).events
 waiting_after_undo c rs t (Request r) legal w is = waiting_undone c.procs rs c.events r legal w (undo_number t (given c.events) (next_at c t) r (sym is))
 waiting_after_undo c rs t Undoing legal w is = nothing_more rs c.events w
 waiting_after_undo c rs t Over legal w is = nothing_more rs c.events w
@@ -101,24 +104,30 @@ flown : (n : ℕ) (o : Option Flight) (r : Asking) → Some r ≡ asking_by n o 
 flown n None r e = absurd cc
 flown n (Some f) r e = (let same : r ≡ asking n f = some_same r (asking n f) e in ap (λ (a : Asking). Some (flight a.txn a.op)) (sym same))
 
-pub in_the_air : (rs : List Asking) (h : List Event) (k : ℕ) (r : Asking) → AreWaiting rs h → slice_get rs k ≡ Some r → in_flight h r.number ≡ Some (flight r.txn r.op)
+pub in_the_air : (rs : List Asking) (h : List Event) (k : ℕ) (r : Asking) → AreWaiting rs h → slice_get rs k ≡ Some r
+    → in_flight h r.number ≡ Some (flight r.txn r.op)
 in_the_air rs h k r w at = flown r.number (in_flight h r.number) r (sym (found_at rs k r w.once at) ∙ w.each r.number)
 
 not_flown : (n : ℕ) (o : Option Flight) → asking_by n o ≡ None → o ≡ None
 not_flown n None e = refl
 not_flown n (Some f) e = absurd cc
 
-pub not_in_the_air : (rs : List Asking) (h : List Event) (n : ℕ) → AreWaiting rs h → ((k : ℕ) (r : Asking) → slice_get rs k ≡ Some r → r.number ≢ n) → in_flight h n ≡ None
+pub not_in_the_air : (rs : List Asking) (h : List Event) (n : ℕ) → AreWaiting rs h
+    → ((k : ℕ) (r : Asking) → slice_get rs k ≡ Some r → r.number ≢ n) → in_flight h n ≡ None
 not_in_the_air rs h n w absent = not_flown n (in_flight h n) (sym (w.each n) ∙ none_of rs n absent)
 
-pub is_answer : (c : Core) (rs : List Asking) (k : ℕ) (r : Asking) (number : ℕ) (said : Said) → Legal c.procs c.events → AreWaiting rs c.events → slice_get rs k ≡ Some r → number ≡ r.number → fits r.op said ≡ true → IsAnswer c r number said
+pub is_answer : (c : Core) (rs : List Asking) (k : ℕ) (r : Asking) (number : ℕ) (said : Said) → Legal c.procs c.events
+    → AreWaiting rs c.events → slice_get rs k ≡ Some r → number ≡ r.number → fits r.op said ≡ true
+    → IsAnswer c r number said
 is_answer c rs k r number said legal w at agree fit =
     let a = awaited c.procs c.events legal r.number (flight r.txn r.op) (in_the_air rs c.events k r w at) in
     record { s = a.s; is = a.is; sent = a.r; waits = a.waits; same_number = a.number; same_op = a.op; agree = agree; fit = fit }
 
 -- ---- resend
 
-nothing_sent : (ps : List Checked) (rs : List Asking) (h : List Event) (t : ℕ) (s : Standing) → Legal ps h → AreWaiting rs h → ((k : ℕ) (r : Asking) → slice_get rs k ≡ Some r → r.txn ≢ t) → standing h t ≡ Some s → s.sent ≡ None
+nothing_sent : (ps : List Checked) (rs : List Asking) (h : List Event) (t : ℕ) (s : Standing) → Legal ps h
+    → AreWaiting rs h → ((k : ℕ) (r : Asking) → slice_get rs k ≡ Some r → r.txn ≢ t) → standing h t ≡ Some s
+    → s.sent ≡ None
 nothing_sent ps rs h t s legal w absent is = none_if s.sent (λ r waits.
     let f = (standing_flight ps h legal t s r is waits).1 in
     let there = is_there rs r.number (asking r.number (flight t r.op)) (w.each r.number ∙ ap (asking_by r.number) f) in
@@ -127,13 +136,15 @@ nothing_sent ps rs h t s legal w absent is = none_if s.sent (λ r waits.
 pub no_txn_resends : (w : Whole) (t : ℕ) → standing w.core.events t ≡ None → resends w t ≡ Stops illegal.NoTxn
 no_txn_resends w t none = ap (resends_by w t) none
 
-pub resends_nothing : (w : Whole) (rs : List Asking) (t : ℕ) → Legal w.core.procs w.core.events → AreWaiting rs w.core.events → IsSome (standing w.core.events t)
+pub resends_nothing : (w : Whole) (rs : List Asking) (t : ℕ) → Legal w.core.procs w.core.events
+    → AreWaiting rs w.core.events → IsSome (standing w.core.events t)
     → ((k : ℕ) (r : Asking) → slice_get rs k ≡ Some r → r.txn ≢ t) → resends w t ≡ Stops illegal.NothingOpen
 resends_nothing w rs t legal waiting open_yet absent =
     let st = stands (standing w.core.events t) open_yet in
     ap (resends_by w t) st.is ∙ ap (resends_sent w t) (nothing_sent w.core.procs rs w.core.events t st.s legal waiting absent st.is)
 
-pub resends_found : (w : Whole) (rs : List Asking) (t k : ℕ) (r : Asking) → Legal w.core.procs w.core.events → AreWaiting rs w.core.events → slice_get rs k ≡ Some r → r.txn ≡ t
+pub resends_found : (w : Whole) (rs : List Asking) (t k : ℕ) (r : Asking) → Legal w.core.procs w.core.events
+    → AreWaiting rs w.core.events → slice_get rs k ≡ Some r → r.txn ≡ t
     → resends w t ≡ sends w (wire_of w.core r)
 resends_found w rs t k r legal waiting at own =
     let a = awaited w.core.procs w.core.events legal r.number (flight r.txn r.op) (in_the_air rs w.core.events k r waiting at) in
@@ -143,21 +154,26 @@ resends_found w rs t k r legal waiting at own =
     let three = ap (λ (o : Op). let x : Wire = record { number = r.number; low_water = low_water w.core.events; op = o } in sends w x) a.op in
     one ∙ (two ∙ three)
 
-pub may_resend : (w : Whole) (rs : List Asking) (t k : ℕ) (r : Asking) → Legal w.core.procs w.core.events → AreWaiting rs w.core.events → slice_get rs k ≡ Some r → r.txn ≡ t → MayGo (resends w t)
+pub may_resend : (w : Whole) (rs : List Asking) (t k : ℕ) (r : Asking) → Legal w.core.procs w.core.events
+    → AreWaiting rs w.core.events → slice_get rs k ≡ Some r → r.txn ≡ t → MayGo (resends w t)
 may_resend w rs t k r legal waiting at own = (_, _, resends_found w rs t k r legal waiting at own)
 
 -- ---- take
 
-pub takes_stranger : (w : Whole) (rs : List Asking) (x : Reply) → AreWaiting rs w.core.events → ((k : ℕ) (r : Asking) → slice_get rs k ≡ Some r → r.number ≢ x.number) → takes_reply w (Some x) ≡ Stops illegal.Stranger
+pub takes_stranger : (w : Whole) (rs : List Asking) (x : Reply) → AreWaiting rs w.core.events
+    → ((k : ℕ) (r : Asking) → slice_get rs k ≡ Some r → r.number ≢ x.number)
+    → takes_reply w (Some x) ≡ Stops illegal.Stranger
 takes_stranger w rs x waiting absent = ap (takes_by w x) (not_in_the_air rs w.core.events x.number waiting absent)
 
-pub takes_found : (w : Whole) (rs : List Asking) (k : ℕ) (r : Asking) (x : Reply) (b : Bool) → AreWaiting rs w.core.events → slice_get rs k ≡ Some r → r.number ≡ x.number → fits r.op x.said ≡ b
+pub takes_found : (w : Whole) (rs : List Asking) (k : ℕ) (r : Asking) (x : Reply) (b : Bool)
+    → AreWaiting rs w.core.events → slice_get rs k ≡ Some r → r.number ≡ x.number → fits r.op x.said ≡ b
     → takes_reply w (Some x) ≡ takes_fit w (flight r.txn r.op) x b
 takes_found w rs k r x b waiting at same fit =
     let air : in_flight w.core.events x.number ≡ Some (flight r.txn r.op) = ap (in_flight w.core.events) (sym same) ∙ in_the_air rs w.core.events k r waiting at in
     ap (takes_by w x) air ∙ ap (takes_fit w (flight r.txn r.op) x) fit
 
-pub takes_taken : (w : Whole) (rs : List Asking) (k : ℕ) (r : Asking) (x : Reply) → AreWaiting rs w.core.events → slice_get rs k ≡ Some r → r.number ≡ x.number → fits r.op x.said ≡ true
+pub takes_taken : (w : Whole) (rs : List Asking) (k : ℕ) (r : Asking) (x : Reply) → AreWaiting rs w.core.events
+    → slice_get rs k ≡ Some r → r.number ≡ x.number → fits r.op x.said ≡ true
     → takes_reply w (Some x) ≡ Goes (outcome.Took x.number) (with_core w (after_answer w.core r x.said))
 takes_taken w rs k r x waiting at same fit =
     takes_found w rs k r x true waiting at same fit ∙ ap (λ (n : ℕ). Goes (outcome.Took x.number) (with_core w (with_event w.core (Answer r.txn n x.said)))) (sym same)
@@ -174,8 +190,12 @@ indexed rs ys k r q one at read =
     let same : q ≡ r = sym (read ∙ slice_get-index rs k q r here) in
     record { at = here ∙ ap (λ (x : Asking). Some x) same; same = same }
 
-pub absent_in : (rs ys : List Asking) (n : ℕ) → ys ≡ rs → ((k : ℕ) (r : Asking) → slice_get ys k ≡ Some r → r.number ≢ n) → (k : ℕ) (r : Asking) → slice_get rs k ≡ Some r → r.number ≢ n
+pub absent_in : (rs ys : List Asking) (n : ℕ) → ys ≡ rs
+    → ((k : ℕ) (r : Asking) → slice_get ys k ≡ Some r → r.number ≢ n) → (k : ℕ) (r : Asking) → slice_get rs k ≡ Some r
+    → r.number ≢ n
 absent_in rs ys n one absent k r at = absent k r (ap (λ (xs : List Asking). slice_get xs k) one ∙ at)
 
-pub none_of_txn : (rs ys : List Asking) (t : ℕ) → ys ≡ rs → ((k : ℕ) (r : Asking) → slice_get ys k ≡ Some r → r.txn ≢ t) → (k : ℕ) (r : Asking) → slice_get rs k ≡ Some r → r.txn ≢ t
+pub none_of_txn : (rs ys : List Asking) (t : ℕ) → ys ≡ rs
+    → ((k : ℕ) (r : Asking) → slice_get ys k ≡ Some r → r.txn ≢ t) → (k : ℕ) (r : Asking) → slice_get rs k ≡ Some r
+    → r.txn ≢ t
 none_of_txn rs ys t one absent k r at = absent k r (ap (λ (xs : List Asking). slice_get xs k) one ∙ at)

@@ -16,7 +16,8 @@ inside [] k few = absurd (omega (arith, few))
 inside (x ∷ xs) zero few = record { x = x; at = refl }
 inside (x ∷ xs) (suc k) few = (let ih = inside xs k (omega (arith, few)) in record { x = ih.x; at = ih.at })
 
-pub performs_found : (w : Whole) (i dc : ℕ) (x : Wire) (ds : List Store) (r : Option Reply) → slice_get w.copies i ≡ Some x → dc ≡ dc_of x → dc < length w.dcs
+pub performs_found : (w : Whole) (i dc : ℕ) (x : Wire) (ds : List Store) (r : Option Reply)
+    → slice_get w.copies i ≡ Some x → dc ≡ dc_of x → dc < length w.dcs
     → ((d : Store) → slice_get w.dcs dc ≡ Some d → r ≡ replied d x) → ((d : Store) → slice_get w.dcs dc ≡ Some d → ds ≡ slice_set w.dcs dc (performed d x))
     → performs w i ≡ gets_reply (with_dcs w ds) r
 performs_found w i dc x ds r sent is few told kept =

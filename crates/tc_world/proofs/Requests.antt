@@ -1,5 +1,6 @@
 -- The requests that a world keeps, from event to event.
-use Rattle.std.proofs.Common.{◌≡◌, ◌≢◌, ℕ, ◌+◌, ◌<◌, List, [], ◌∷◌, ◌++◌, Option, Some, None, arith, refl, sym, ◌∙◌, ap, zero, suc, inl, inr, ◌==◌, if◌then◌else◌}
+use Rattle.std.proofs.Common.{◌≡◌, ◌≢◌, ℕ, ◌+◌, ◌<◌, List, [], ◌∷◌, ◌++◌, Option, Some, None, arith, refl, sym, ◌∙◌}
+use Rattle.std.proofs.Common.{ap, zero, suc, inl, inr, ◌==◌, if◌then◌else◌}
 use Rattle.std.specs.Prelude.{slice_get, remove}
 use Rattle.std.proofs.lemmas.Bool.{cases_eq, cond-true, cond-false}
 use Rattle.access_slots.specs.declared.op.Said.{Said}
@@ -73,7 +74,8 @@ distinct_push (x ∷ xs) r once none = (
   distinct_push xs r once.1 (none_behind x xs r.number none),
 )
 
-removed_other : (rs : List Asking) (k : ℕ) (r : Asking) (n : ℕ) → slice_get rs k ≡ Some r → r.number ≢ n → request_of (remove rs k) n ≡ request_of rs n
+removed_other : (rs : List Asking) (k : ℕ) (r : Asking) (n : ℕ) → slice_get rs k ≡ Some r → r.number ≢ n
+    → request_of (remove rs k) n ≡ request_of rs n
 removed_other [] k r n e other = absurd cc
 removed_other (x ∷ xs) zero r n e other =
     let same = some_same x r e in
@@ -115,34 +117,41 @@ not_yet ps h legal n above = none_if (in_flight h n) (λ f is.
 asking_none : (n : ℕ) (o : Option Flight) → o ≡ None → asking_by n o ≡ None
 asking_none n o e = ap (asking_by n) e
 
-now_sent : (r : Asking) (m : ℕ) (before : Option Flight) → r.number ≡ m → Some r ≡ asking_by m (if r.number == m then Some (flight r.txn r.op) else before)
+now_sent : (r : Asking) (m : ℕ) (before : Option Flight) → r.number ≡ m
+    → Some r ≡ asking_by m (if r.number == m then Some (flight r.txn r.op) else before)
 now_sent r m before same =
     let it : asking_by m (if r.number == m then Some (flight r.txn r.op) else before) ≡ asking_by m (Some (flight r.txn r.op)) = ap (asking_by m) (cond-true _ _ _ (eq-true r.number m same)) in
     ap (λ (k : ℕ). let a : Asking = record { txn = r.txn; number = k; op = r.op } in Some a) same ∙ sym it
 
-sent_each : (rs : List Asking) (h : List Event) (r : Asking) → AreWaiting rs h → in_flight h r.number ≡ None → (m : ℕ) → request_of (rs ++ r ∷ []) m ≡ asking_by m (if r.number == m then Some (flight r.txn r.op) else in_flight h m)
+sent_each : (rs : List Asking) (h : List Event) (r : Asking) → AreWaiting rs h → in_flight h r.number ≡ None → (m : ℕ)
+    → request_of (rs ++ r ∷ []) m ≡ asking_by m (if r.number == m then Some (flight r.txn r.op) else in_flight h m)
 sent_each rs h r w none m = elim (cases_eq r.number m) [
   | inl same ↦ ap (request_of (rs ++ r ∷ [])) (sym same) ∙ (push_new rs r (w.each r.number ∙ asking_none r.number _ none) ∙ now_sent r m (in_flight h m) same)
   | inr other ↦ push_other rs r m other ∙ (w.each m ∙ ap (asking_by m) (sym (cond-false _ (Some (flight r.txn r.op)) (in_flight h m) (eq-false r.number m other))))
 ]
 
-pub waiting_asked : (ps : List Checked) (rs : List Asking) (h : List Event) (r : Asking) → Legal ps h → AreWaiting rs h → r.number ≡ given h + 1 → AreWaiting (rs ++ r ∷ []) (Ask r.txn r.number r.op ∷ h)
+pub waiting_asked : (ps : List Checked) (rs : List Asking) (h : List Event) (r : Asking) → Legal ps h
+    → AreWaiting rs h → r.number ≡ given h + 1 → AreWaiting (rs ++ r ∷ []) (Ask r.txn r.number r.op ∷ h)
 waiting_asked ps rs h r legal w next =
     let none = not_yet ps h legal r.number (omega (arith, next)) in
     record { each = sent_each rs h r w none; once = distinct_push rs r w.once (w.each r.number ∙ asking_none r.number _ none) }
 
-pub waiting_undone : (ps : List Checked) (rs : List Asking) (h : List Event) (r : Asking) → Legal ps h → AreWaiting rs h → r.number ≡ given h + 1 → AreWaiting (rs ++ r ∷ []) (Undo r.txn r.number r.op ∷ h)
+pub waiting_undone : (ps : List Checked) (rs : List Asking) (h : List Event) (r : Asking) → Legal ps h
+    → AreWaiting rs h → r.number ≡ given h + 1 → AreWaiting (rs ++ r ∷ []) (Undo r.txn r.number r.op ∷ h)
 waiting_undone ps rs h r legal w next =
     let none = not_yet ps h legal r.number (omega (arith, next)) in
     record { each = sent_each rs h r w none; once = distinct_push rs r w.once (w.each r.number ∙ asking_none r.number _ none) }
 
-answered_each : (rs : List Asking) (h : List Event) (k t : ℕ) (r : Asking) (said : Said) → AreWaiting rs h → slice_get rs k ≡ Some r → (m : ℕ) → request_of (remove rs k) m ≡ asking_by m (in_flight (Answer t r.number said ∷ h) m)
+answered_each : (rs : List Asking) (h : List Event) (k t : ℕ) (r : Asking) (said : Said) → AreWaiting rs h
+    → slice_get rs k ≡ Some r → (m : ℕ)
+    → request_of (remove rs k) m ≡ asking_by m (in_flight (Answer t r.number said ∷ h) m)
 answered_each rs h k t r said w at m = elim (cases_eq r.number m) [
   | inl same ↦ ap (request_of (remove rs k)) (sym same) ∙ (removed_same rs k r w.once at ∙ sym (asking_none m _ (cond-true _ None (in_flight h m) (eq-true r.number m same))))
   | inr other ↦ removed_other rs k r m at other ∙ (w.each m ∙ ap (asking_by m) (sym (cond-false _ None (in_flight h m) (eq-false r.number m other))))
 ]
 
-pub waiting_answered : (rs : List Asking) (h : List Event) (k t : ℕ) (r : Asking) (said : Said) → AreWaiting rs h → slice_get rs k ≡ Some r → AreWaiting (remove rs k) (Answer t r.number said ∷ h)
+pub waiting_answered : (rs : List Asking) (h : List Event) (k t : ℕ) (r : Asking) (said : Said) → AreWaiting rs h
+    → slice_get rs k ≡ Some r → AreWaiting (remove rs k) (Answer t r.number said ∷ h)
 waiting_answered rs h k t r said w at = record { each = answered_each rs h k t r said w at; once = distinct_removed rs k w.once }
 
 -- no request is open where no transaction is

@@ -1,5 +1,6 @@
 -- What a transaction waits for was sent behind its admission.
-use Rattle.std.proofs.Common.{◌≡◌, ◌≢◌, ℕ, ◌+◌, ◌<◌, ◌≤◌, Bool, true, false, List, [], ◌∷◌, ◌++◌, length, Option, Some, None, arith, refl, sym, ◌∙◌, ap, inl, inr, length-append}
+use Rattle.std.proofs.Common.{◌≡◌, ◌≢◌, ℕ, ◌+◌, ◌<◌, ◌≤◌, Bool, true, false, List, [], ◌∷◌, ◌++◌, length, Option}
+use Rattle.std.proofs.Common.{Some, None, arith, refl, sym, ◌∙◌, ap, inl, inr, length-append}
 use Rattle.std.proofs.lemmas.Bool.{cases_eq}
 use Rattle.access_slots.specs.declared.op.Op.{Op}
 use Rattle.tc_log.specs.declared.event.Event.{Event}
@@ -29,7 +30,8 @@ sent_is : (m : ℕ) (q : Op) (b : Bool) (r : Sent) → sent_as m q b ≡ Some r 
 sent_is m q b r e = (let it = some_same _ r e in (ap (λ (x : Sent). x.number) it, ap (λ (x : Sent). x.op) it))
 
 -- what the event makes of a transaction that then waits, it sends
-sends_it : (e : Event) (was : Option Standing) (t : ℕ) (s : Standing) (r : Sent) → txn_of e ≡ t → moved e was ≡ Some s → s.sent ≡ Some r → Sends e t r.number r.op
+sends_it : (e : Event) (was : Option Standing) (t : ℕ) (s : Standing) (r : Sent) → txn_of e ≡ t → moved e was ≡ Some s
+    → s.sent ≡ Some r → Sends e t r.number r.op
 sends_it (Admit u p args) was t s r own is waits = absurd (none_some _ r (ap (λ (x : Standing). x.sent) (sym (some_same _ s is))) waits)
 sends_it (Ask u m q) None t s r own is waits = absurd (let bad : None ≡ Some s = is in cc)
 sends_it (Ask u m q) (Some v) t s r own is waits = (let it = sent_is m q false r (ap (λ (x : Standing). x.sent) (some_same _ s is) ∙ waits) in (own, it.0, it.1))
@@ -39,7 +41,8 @@ sends_it (Undo u m q) None t s r own is waits = absurd (let bad : None ≡ Some 
 sends_it (Undo u m q) (Some v) t s r own is waits = (let it = sent_is m q true r (ap (λ (x : Standing). x.sent) (some_same _ s is) ∙ waits) in (own, it.0, it.1))
 sends_it (End u outcome) was t s r own is waits = absurd (let bad : None ≡ Some s = is in cc)
 
-behind : (later earlier : List Event) (t p : ℕ) (args : List ℕ) (s : Standing) (r : Sent) → standing (later ++ Admit t p args ∷ earlier) t ≡ Some s → s.sent ≡ Some r
+behind : (later earlier : List Event) (t p : ℕ) (args : List ℕ) (s : Standing) (r : Sent)
+    → standing (later ++ Admit t p args ∷ earlier) t ≡ Some s → s.sent ≡ Some r
     → IsSentBehind (later ++ Admit t p args ∷ earlier) (length earlier) t r.number r.op
 behind [] earlier t p args s r is waits = absurd (none_some _ r (ap (λ (x : Standing). x.sent) (sym (some_same _ s (sym (standing-same (Admit t p args) earlier t refl) ∙ is)))) waits)
 behind (e ∷ later) earlier t p args s r is waits =
@@ -51,7 +54,9 @@ behind (e ∷ later) earlier t p args s r is waits =
       | inr other ↦ later_still e rest (length earlier) t r.number r.op (behind later earlier t p args s r (sym (standing-other e rest t other) ∙ is) waits)
     ]
 
-pub sent_behind : (h : List Event) (place t p : ℕ) (args : List ℕ) (s : Standing) (r : Sent) → StandsAt h place (Admit t p args) → standing h t ≡ Some s → s.sent ≡ Some r → IsSentBehind h place t r.number r.op
+pub sent_behind : (h : List Event) (place t p : ℕ) (args : List ℕ) (s : Standing) (r : Sent)
+    → StandsAt h place (Admit t p args) → standing h t ≡ Some s → s.sent ≡ Some r
+    → IsSentBehind h place t r.number r.op
 sent_behind h place t p args s r at is waits =
     let here : standing (at.later ++ Admit t p args ∷ at.earlier) t ≡ Some s = ap (λ (x : List Event). standing x t) (sym at.is) ∙ is in
     rw (at.is, ← at.count) (behind at.later at.earlier t p args s r here waits)

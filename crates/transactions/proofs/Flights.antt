@@ -1,5 +1,6 @@
 -- Operations in flight, and the transactions that wait for them.
-use Rattle.std.proofs.Common.{◌≡◌, ◌≢◌, ℕ, ◌+◌, ◌≤◌, ◌<◌, Bool, true, false, cond, List, [], ◌∷◌, Option, Some, None, arith, refl, sym, ◌∙◌, ap, subst, inl, inr, ◌==◌}
+use Rattle.std.proofs.Common.{◌≡◌, ◌≢◌, ℕ, ◌+◌, ◌≤◌, ◌<◌, Bool, true, false, cond, List, [], ◌∷◌, Option, Some, None}
+use Rattle.std.proofs.Common.{arith, refl, sym, ◌∙◌, ap, subst, inl, inr, ◌==◌}
 use Rattle.std.proofs.lemmas.Bool.{cases_eq, cond-true, cond-false}
 use Rattle.access_slots.specs.declared.op.Op.{Op}
 use Rattle.verifier.specs.Checked.{Checked}
@@ -24,7 +25,9 @@ same_flight : (t u : ℕ) (o q : Op) → t ≡ u → o ≡ q → flight t o ≡ 
 same_flight t u o q e f = cc
 
 -- what was sent just now is in flight
-sent_now : (h : List Event) (u t m : ℕ) (o : Op) (b : Bool) (r : Sent) → u ≡ t → sent_as m o b ≡ Some r → m ≡ given h + 1 → (r.number ≤ given h + 1) × ((if_flight : Option Flight) → cond (m == r.number) (Some (flight u o)) if_flight ≡ Some (flight t r.op))
+sent_now : (h : List Event) (u t m : ℕ) (o : Op) (b : Bool) (r : Sent) → u ≡ t → sent_as m o b ≡ Some r
+    → m ≡ given h + 1
+    → (r.number ≤ given h + 1) × ((if_flight : Option Flight) → cond (m == r.number) (Some (flight u o)) if_flight ≡ Some (flight t r.op))
 sent_now h u t m o b r same e next =
     let it = some_same _ r e in
     let n : m ≡ r.number = ap (λ (x : Sent). x.number) it in
@@ -87,5 +90,6 @@ standing_flight ps (End u outcome ∷ h) legal t s r is waits =
       | inr other ↦ standing_flight ps h legal.1 t s r (sym (standing-other (End u outcome) h t other) ∙ is) waits
     ]
 
-pub open_flight : (ps : List Checked) (h : List Event) → Legal ps h → (t : ℕ) (s : Standing) (r : Sent) (n : ℕ) → standing h t ≡ Some s → s.sent ≡ Some r → r.number ≡ n → is_open h n ≡ true
+pub open_flight : (ps : List Checked) (h : List Event) → Legal ps h → (t : ℕ) (s : Standing) (r : Sent) (n : ℕ)
+    → standing h t ≡ Some s → s.sent ≡ Some r → r.number ≡ n → is_open h n ≡ true
 open_flight ps h legal t s r n is waits same = ap (is_open h) (sym same) ∙ ap is_flight (standing_flight ps h legal t s r is waits).1

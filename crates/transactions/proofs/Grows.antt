@@ -1,5 +1,6 @@
 -- One more procedure leaves a legal history legal, and all that it says.
-use Rattle.std.proofs.Common.{◌≡◌, ◌⊎◌, ℕ, ◌+◌, ◌-◌, ◌*◌, Bool, true, false, cond, List, [], ◌∷◌, ◌++◌, Option, Some, None, refl, sym, ◌∙◌, ap, subst, zero, suc, inl, inr, ◌==◌}
+use Rattle.std.proofs.Common.{◌≡◌, ◌⊎◌, ℕ, ◌+◌, ◌-◌, ◌*◌, Bool, true, false, cond, List, [], ◌∷◌, ◌++◌, Option, Some}
+use Rattle.std.proofs.Common.{None, refl, sym, ◌∙◌, ap, subst, zero, suc, inl, inr, ◌==◌}
 use Rattle.std.specs.Prelude.{slice_get, map}
 use Rattle.access_slots.specs.Declaration.{Declaration}
 use Rattle.access_slots.specs.Held.{excludes, Compatible}
@@ -28,18 +29,22 @@ get_cases [] q v (suc p) e = absurd cc
 get_cases (x ∷ ps) q v zero e = inl e
 get_cases (x ∷ ps) q v (suc p) e = get_cases ps q v p e
 
-pub locks_grow : (ps : List Checked) (q v : Checked) (call : Call) (r : Record) → slice_get ps call.proc ≡ Some v → locks_of (decls (ps ++ q ∷ [])) call r ≡ locks_of (decls ps) call r
+pub locks_grow : (ps : List Checked) (q v : Checked) (call : Call) (r : Record) → slice_get ps call.proc ≡ Some v
+    → locks_of (decls (ps ++ q ∷ [])) call r ≡ locks_of (decls ps) call r
 locks_grow ps q v call r at =
     let now = get_decl (ps ++ q ∷ []) call.proc v (get_grows ps q v call.proc at) in
     let was = get_decl ps call.proc v at in
     ap (λ (d : Option Declaration). locks_by d call.args r) (now ∙ sym was)
 
-held_choice : (ps : List Checked) (q : Checked) (b : Bool) (c d : Option Call) (r : Record) → held_for (decls (ps ++ q ∷ [])) c r ≡ held_for (decls ps) c r → held_for (decls (ps ++ q ∷ [])) d r ≡ held_for (decls ps) d r
+held_choice : (ps : List Checked) (q : Checked) (b : Bool) (c d : Option Call) (r : Record)
+    → held_for (decls (ps ++ q ∷ [])) c r ≡ held_for (decls ps) c r
+    → held_for (decls (ps ++ q ∷ [])) d r ≡ held_for (decls ps) d r
     → held_for (decls (ps ++ q ∷ [])) (cond b c d) r ≡ held_for (decls ps) (cond b c d) r
 held_choice ps q true c d r e f = e
 held_choice ps q false c d r e f = f
 
-pub held_grows : (ps : List Checked) (q : Checked) (h : List Event) → Legal ps h → (t : ℕ) (r : Record) → held (decls (ps ++ q ∷ [])) h t r ≡ held (decls ps) h t r
+pub held_grows : (ps : List Checked) (q : Checked) (h : List Event) → Legal ps h → (t : ℕ) (r : Record)
+    → held (decls (ps ++ q ∷ [])) h t r ≡ held (decls ps) h t r
 held_grows ps q [] legal t r = refl
 held_grows ps q (Admit u p args ∷ h) legal t r =
     held_choice ps q (u == t) (Some (record { proc = p; args = args })) (open_call h t) r (locks_grow ps q legal.0.q (record { proc = p; args = args }) r legal.0.loaded) (held_grows ps q h legal.1 t r)
@@ -54,7 +59,8 @@ module _ (ps : List Checked) (q : Checked) (good : AllGood ps) where
       let it = standing_sound ps good h legal t s is in
       ap (λ (o : Option Checked). reached_by o s.call.args s.answers) (get_grows ps q it.q s.call.proc it.loaded ∙ sym it.loaded)
 
-  pub calls_grow : (h : List Event) → Legal ps h → (t : ℕ) (s : Standing) → standing h t ≡ Some s → calls (ps ++ q ∷ []) s.call.proc ≡ calls ps s.call.proc
+  pub calls_grow : (h : List Event) → Legal ps h → (t : ℕ) (s : Standing) → standing h t ≡ Some s
+      → calls (ps ++ q ∷ []) s.call.proc ≡ calls ps s.call.proc
   calls_grow h legal t s is = (let it = standing_sound ps good h legal t s is in ap calls_by (get_grows ps q it.q s.call.proc it.loaded ∙ sym it.loaded))
 
   pub legal_grows : (h : List Event) → Legal ps h → Legal (ps ++ q ∷ []) h

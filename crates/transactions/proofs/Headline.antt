@@ -1,5 +1,6 @@
 -- Operations in flight are covered by their transactions' locks, and no two of them conflict.
-use Rattle.std.proofs.Common.{◌≡◌, ◌≢◌, ℕ, ◌+◌, ◌≤◌, ◌<◌, Bool, true, false, not, ◌&&◌, cond, List, [], ◌∷◌, Option, Some, None, arith, refl, sym, ◌∙◌, ap, subst, inl, inr, ◌==◌}
+use Rattle.std.proofs.Common.{◌≡◌, ◌≢◌, ℕ, ◌+◌, ◌≤◌, ◌<◌, Bool, true, false, not, ◌&&◌, cond, List, [], ◌∷◌, Option}
+use Rattle.std.proofs.Common.{Some, None, arith, refl, sym, ◌∙◌, ap, subst, inl, inr, ◌==◌}
 use Rattle.std.proofs.lemmas.Bool.{cases_eq, cond-true, cond-false}
 use Rattle.std.proofs.lemmas.Bool.Decides.{nat_tests}
 use Rattle.access_slots.specs.declared.op.Op.{Op}
@@ -48,7 +49,8 @@ calls_agree : (h : List Event) (t : ℕ) → call_in (standing h t) ≡ open_cal
 calls_agree [] t = refl
 calls_agree (Admit u p args ∷ h) t = by (u == t) (calls_agree h t)
   where
-    by : (b : Bool) → call_in (standing h t) ≡ open_call h t → call_in (cond b (Some (fresh (record { proc = p; args = args }))) (standing h t)) ≡ cond b (Some (record { proc = p; args = args })) (open_call h t)
+    by : (b : Bool) → call_in (standing h t) ≡ open_call h t
+        → call_in (cond b (Some (fresh (record { proc = p; args = args }))) (standing h t)) ≡ cond b (Some (record { proc = p; args = args })) (open_call h t)
     by true e = refl
     by false e = e
 calls_agree (Ask u n o ∷ h) t = ask_call (u == t) u n o (standing h t) ∙ calls_agree h t
@@ -64,7 +66,8 @@ calls_agree (End u outcome ∷ h) t = by (u == t) (calls_agree h t)
 pub no_call : (ps : List Checked) (h : List Event) (t : ℕ) → standing h t ≡ None → open_call h t ≡ None
 no_call ps h t none = sym (calls_agree h t) ∙ ap call_in none
 
-pub held_is : (ps : List Checked) (h : List Event) (t : ℕ) (s : Standing) (r : Record) → standing h t ≡ Some s → held (decls ps) h t r ≡ locks_of (decls ps) s.call r
+pub held_is : (ps : List Checked) (h : List Event) (t : ℕ) (s : Standing) (r : Record) → standing h t ≡ Some s
+    → held (decls ps) h t r ≡ locks_of (decls ps) s.call r
 held_is ps h t s r is = ap (λ (c : Option Call). held_for (decls ps) c r) (sym (calls_agree h t) ∙ ap call_in is)
 
 -- ---- no two open transactions hold locks that exclude each other
@@ -85,21 +88,26 @@ nothing_excludes None = refl
 nothing_excludes (Some mode.Read) = refl
 nothing_excludes (Some mode.Write) = refl
 
-held_new : (ps : List Checked) (h : List Event) (v p : ℕ) (args : List ℕ) (t : ℕ) (r : Record) → v ≡ t → held (decls ps) (Admit v p args ∷ h) t r ≡ locks_of (decls ps) (record { proc = p; args = args }) r
+held_new : (ps : List Checked) (h : List Event) (v p : ℕ) (args : List ℕ) (t : ℕ) (r : Record) → v ≡ t
+    → held (decls ps) (Admit v p args ∷ h) t r ≡ locks_of (decls ps) (record { proc = p; args = args }) r
 held_new ps h v p args t r same = ap (λ (c : Option Call). held_for (decls ps) c r) (cond-true _ (Some (record { proc = p; args = args })) (open_call h t) (eq-true v t same))
 
-held_old : (ps : List Checked) (h : List Event) (v p : ℕ) (args : List ℕ) (t : ℕ) (r : Record) → v ≢ t → held (decls ps) (Admit v p args ∷ h) t r ≡ held (decls ps) h t r
+held_old : (ps : List Checked) (h : List Event) (v p : ℕ) (args : List ℕ) (t : ℕ) (r : Record) → v ≢ t
+    → held (decls ps) (Admit v p args ∷ h) t r ≡ held (decls ps) h t r
 held_old ps h v p args t r other = ap (λ (c : Option Call). held_for (decls ps) c r) (cond-false _ (Some (record { proc = p; args = args })) (open_call h t) (eq-false v t other))
 
-end_new : (b : Bool) (ps : List Checked) (c : Option Call) (r : Record) (m : Option Mode) → excludes (held_for (decls ps) c r) m ≡ false → excludes (held_for (decls ps) (cond b None c) r) m ≡ false
+end_new : (b : Bool) (ps : List Checked) (c : Option Call) (r : Record) (m : Option Mode)
+    → excludes (held_for (decls ps) c r) m ≡ false → excludes (held_for (decls ps) (cond b None c) r) m ≡ false
 end_new true ps c r m e = refl
 end_new false ps c r m e = e
 
-end_old : (b : Bool) (ps : List Checked) (c : Option Call) (r : Record) (m : Option Mode) → excludes m (held_for (decls ps) c r) ≡ false → excludes m (held_for (decls ps) (cond b None c) r) ≡ false
+end_old : (b : Bool) (ps : List Checked) (c : Option Call) (r : Record) (m : Option Mode)
+    → excludes m (held_for (decls ps) c r) ≡ false → excludes m (held_for (decls ps) (cond b None c) r) ≡ false
 end_old true ps c r m e = nothing_excludes m
 end_old false ps c r m e = e
 
-pub held_apart : (ps : List Checked) (h : List Event) → Legal ps h → (t u : ℕ) (r : Record) → t ≢ u → excludes (held (decls ps) h t r) (held (decls ps) h u r) ≡ false
+pub held_apart : (ps : List Checked) (h : List Event) → Legal ps h → (t u : ℕ) (r : Record) → t ≢ u
+    → excludes (held (decls ps) h t r) (held (decls ps) h u r) ≡ false
 held_apart ps [] legal t u r differ = refl
 held_apart ps (Admit v p args ∷ h) legal t u r differ =
     let free = legal.0.free in
@@ -135,7 +143,8 @@ pub record Awaits (h : List Event) (n : ℕ) (f : Flight) : Type 0 where
   pub number : r.number ≡ n
   pub op : r.op ≡ f.op
 
-sent_awaits : (h : List Event) (e : Event) (u n m : ℕ) (o : Op) (b : Bool) (f : Flight) (s' : Standing) → txn_of e ≡ u → Some (flight u o) ≡ Some f → m ≡ n → standing (e ∷ h) u ≡ Some s' → s'.sent ≡ sent_as m o b → Awaits (e ∷ h) n f
+sent_awaits : (h : List Event) (e : Event) (u n m : ℕ) (o : Op) (b : Bool) (f : Flight) (s' : Standing) → txn_of e ≡ u
+    → Some (flight u o) ≡ Some f → m ≡ n → standing (e ∷ h) u ≡ Some s' → s'.sent ≡ sent_as m o b → Awaits (e ∷ h) n f
 sent_awaits h e u n m o b f s' own same number is sent =
     let it = some_same (flight u o) f same in
     record { s = s'; is = ap (standing (e ∷ h)) (sym (ap (λ (x : Flight). x.txn) it)) ∙ is; r = record { number = m; op = o; undoing = b }; waits = sent; number = number; op = ap (λ (x : Flight). x.op) it }
@@ -190,7 +199,8 @@ awaited ps (End u outcome ∷ h) legal n f is =
 
 -- ---- the headline
 
-pub flight_covered : (ps : List Checked) (h : List Event) → AllGood ps → Legal ps h → (n : ℕ) (f : Flight) → in_flight h n ≡ Some f → allows (held (decls ps) h f.txn (target f.op)) (is_read f.op) ≡ true
+pub flight_covered : (ps : List Checked) (h : List Event) → AllGood ps → Legal ps h → (n : ℕ) (f : Flight)
+    → in_flight h n ≡ Some f → allows (held (decls ps) h f.txn (target f.op)) (is_read f.op) ≡ true
 flight_covered ps h good legal n f is =
     let a = awaited ps h legal n f is in
     let within = (standing_sound ps good h legal f.txn a.s a.is).within a.r a.waits in
@@ -207,7 +217,8 @@ both_read (Some mode.Read) (Some mode.Write) ra rb e f x = absurd cc
 both_read (Some mode.Write) (Some mode.Read) ra rb e f x = absurd cc
 both_read (Some mode.Write) (Some mode.Write) ra rb e f x = absurd cc
 
-pub flights_apart : (ps : List Checked) (h : List Event) → AllGood ps → Legal ps h → (m n : ℕ) (f g : Flight) → in_flight h m ≡ Some f → in_flight h n ≡ Some g → m ≢ n → conflict f.op g.op ≡ false
+pub flights_apart : (ps : List Checked) (h : List Event) → AllGood ps → Legal ps h → (m n : ℕ) (f g : Flight)
+    → in_flight h m ≡ Some f → in_flight h n ≡ Some g → m ≢ n → conflict f.op g.op ≡ false
 flights_apart ps h good legal m n f g is are differ = by (record_eq (target f.op) (target g.op)) refl
   where
     other : f.txn ≢ g.txn

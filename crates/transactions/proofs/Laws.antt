@@ -7,5 +7,6 @@ use Rattle.transactions.specs.Reached.{calls, AllGood}
 use Rattle.transactions.specs.Legal.{Legal}
 use Rattle.transactions.proofs.Sound.{standing_sound}
 
-pub numbers_suffice : (ps : List Checked) (h : List Event) → AllGood ps → Legal ps h → (t : ℕ) (s : Standing) → standing h t ≡ Some s → s.used ≤ 5 * calls ps s.call.proc
+pub numbers_suffice : (ps : List Checked) (h : List Event) → AllGood ps → Legal ps h → (t : ℕ) (s : Standing)
+    → standing h t ≡ Some s → s.used ≤ 5 * calls ps s.call.proc
 numbers_suffice ps h good legal t s is = (let it = standing_sound ps good h legal t s is in omega (arith, it.spent, it.few, it.tries_owed))

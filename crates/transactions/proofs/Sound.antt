@@ -1,5 +1,6 @@
 -- What each open transaction keeps.
-use Rattle.std.proofs.Common.{◌≡◌, ◌≢◌, ℕ, zero, suc, ◌+◌, ◌-◌, ◌*◌, ◌<◌, ◌≤◌, Bool, true, false, not, ◌||◌, cond, Option, Some, None, List, [], ◌∷◌, ◌++◌, length, refl, subst, sym, ap, ◌∙◌, arith}
+use Rattle.std.proofs.Common.{◌≡◌, ◌≢◌, ℕ, zero, suc, ◌+◌, ◌-◌, ◌*◌, ◌<◌, ◌≤◌, Bool, true, false, not, ◌||◌, cond}
+use Rattle.std.proofs.Common.{Option, Some, None, List, [], ◌∷◌, ◌++◌, length, refl, subst, sym, ap, ◌∙◌, arith}
 use Rattle.std.specs.Prelude.{slice_get}
 use Rattle.std.proofs.lemmas.List.{length-append}
 use Rattle.access_slots.specs.Access.{fits, is_no_room}
@@ -13,8 +14,11 @@ use Rattle.tc_log.specs.declared.event.Event.{Event}
 use Rattle.verifier.specs.Checked.{Checked}
 use Rattle.history.specs.Calls.{Call, locks_of}
 use Rattle.transactions.specs.declared.Sent.{Sent}
-use Rattle.transactions.specs.Standing.{Standing, standing, fresh, asked, undone, answered, inverse, with_undo, rest_of, told_to, answers_after, found_full, full_after, undo_done, undo_after, tries_done, tries_after, sent_as}
-use Rattle.transactions.specs.Reached.{Reached, Asks, Ends, Nowhere, reached_of, stop_at, reached_by, reached, Fitting, decls, calls, covers, IsGood, AllGood}
+use Rattle.transactions.specs.Standing.{Standing, standing, fresh, asked, undone, answered, inverse, with_undo}
+use Rattle.transactions.specs.Standing.{rest_of, told_to, answers_after, found_full, full_after, undo_done}
+use Rattle.transactions.specs.Standing.{undo_after, tries_done, tries_after, sent_as}
+use Rattle.transactions.specs.Reached.{Reached, Asks, Ends, Nowhere, reached_of, stop_at, reached_by, reached}
+use Rattle.transactions.specs.Reached.{Fitting, decls, calls, covers, IsGood, AllGood}
 use Rattle.transactions.specs.Legal.{Legal, CanAdmit, CanAsk, CanAnswer, CanUndo, first_undo, is_stopped}
 use Rattle.transactions.specs.Room.{one_if, one_unless, one_sent, one_own, asks_of, numbers_left}
 use Rattle.transactions.proofs.StandingLemmas.{each_standing, some_same}
@@ -49,7 +53,8 @@ with_more : (i : Option Op) (ops : List Op) → length ops ≤ length (with_undo
 with_more None ops = omega arith
 with_more (Some o) ops = omega arith
 
-covered_inverses : (w : Wanted) (o : Op) (former : Option (List ℕ)) (ops : List Op) → covers w o → AllCovered w ops → AllCovered w (with_undo (inverse o former) ops)
+covered_inverses : (w : Wanted) (o : Op) (former : Option (List ℕ)) (ops : List Op) → covers w o → AllCovered w ops
+    → AllCovered w (with_undo (inverse o former) ops)
 covered_inverses w (Read r) former ops c all = all
 covered_inverses w (Insert r v) former ops c all = (c, all)
 covered_inverses w (Update r v) None ops c all = all
@@ -115,7 +120,8 @@ grown_done false o Missing ops = omega arith
 grown_done false o NoRoom ops = omega arith
 grown_done false o Old ops = omega arith
 
-owed_done : (b : Bool) (o : Op) (said : Said) (ops : List Op) (tries : ℕ) → tries ≤ 4 * length ops → tries_done b said tries ≤ 4 * length (undo_done b o said ops)
+owed_done : (b : Bool) (o : Op) (said : Said) (ops : List Op) (tries : ℕ) → tries ≤ 4 * length ops
+    → tries_done b said tries ≤ 4 * length (undo_done b o said ops)
 owed_done true o (Done former) ops tries few = omega arith
 owed_done false o (Done former) ops tries few = omega (arith, few, with_more (inverse o former) ops)
 owed_done true o (Value v) ops tries few = few
@@ -154,7 +160,9 @@ asks_after : (b : Bool) (said : Said) (answers : List Said) (full : Bool) → (b
 asks_after true said answers full own = rw (or_none full) (omega arith)
 asks_after false said answers full own = rw (own refl) (omega (arith, told_length (is_no_room said) said answers))
 
-fit_told : (q : Checked) (args : List ℕ) (b : Bool) (o : Op) (said : Said) (answers : List Said) → Fitting q args answers → (b ≡ false → reached_of (stop_at q args answers) ≡ Asks o) → fits o said ≡ true → Fitting q args (told_to b said answers)
+fit_told : (q : Checked) (args : List ℕ) (b : Bool) (o : Op) (said : Said) (answers : List Said)
+    → Fitting q args answers → (b ≡ false → reached_of (stop_at q args answers) ≡ Asks o) → fits o said ≡ true
+    → Fitting q args (told_to b said answers)
 fit_told q args true o said answers fit asks f = fit
 fit_told q args false o said answers fit asks f = by_test (is_no_room said) refl
   where
@@ -162,7 +170,8 @@ fit_told q args false o said answers fit asks f = by_test (is_no_room said) refl
     by_test true e = fit
     by_test false e = fitting_snoc q args answers said o fit (asks refl) f e
 
-pub reached_at : (ps : List Checked) (s : Standing) (q : Checked) (at : Reached) → slice_get ps s.call.proc ≡ Some q → reached ps s ≡ at → reached_of (stop_at q s.call.args s.answers) ≡ at
+pub reached_at : (ps : List Checked) (s : Standing) (q : Checked) (at : Reached) → slice_get ps s.call.proc ≡ Some q
+    → reached ps s ≡ at → reached_of (stop_at q s.call.args s.answers) ≡ at
 reached_at ps s q at loaded is = ap (λ (x : Option Checked). reached_by x s.call.args s.answers) (sym loaded) ∙ is
 
 -- the standing that was answered, where what it waits for is given
@@ -170,7 +179,8 @@ abbrev answered_to : Option Sent → Said → Standing → Standing
 answered_to r said s =
     record { call = s.call; answers = answers_after r said s.answers; sent = None; full = full_after r said s.full; undo = undo_after r said s.undo; tries = tries_after r said s.tries; used = s.used; last = s.last }
 
-pub sound_answered : (ps : List Checked) (s : Standing) (r : Sent) (said : Said) → s.sent ≡ Some r → fits r.op said ≡ true → Sound ps s → Sound ps (answered said s)
+pub sound_answered : (ps : List Checked) (s : Standing) (r : Sent) (said : Said) → s.sent ≡ Some r
+    → fits r.op said ≡ true → Sound ps s → Sound ps (answered said s)
 sound_answered ps s r said waits f old = subst (λ (x : Option Sent). Sound ps (answered_to x said s)) (sym waits) it
   where
     own_one : one_own s.sent ≡ one_unless r.undoing
@@ -211,7 +221,9 @@ first_covered w [] o e all = absurd cc
 first_covered w (x ∷ ops) o e all = (let same : x ≡ o = cc in subst (covers w) same all.0)
 
 -- where it may ask, one of its numbers is left
-pub ask_leaves : (ps : List Checked) (s : Standing) (o : Op) → AllGood ps → Sound ps s → s.sent ≡ None → s.full ≡ false → reached ps s ≡ Asks o → (asks_of s < calls ps s.call.proc) × (s.used < 5 * calls ps s.call.proc)
+pub ask_leaves : (ps : List Checked) (s : Standing) (o : Op) → AllGood ps → Sound ps s → s.sent ≡ None
+    → s.full ≡ false → reached ps s ≡ Asks o
+    → (asks_of s < calls ps s.call.proc) × (s.used < 5 * calls ps s.call.proc)
 ask_leaves ps s o good old idle room asks =
     let few = asks_few ps s.call old.q s.answers o old.loaded (good s.call.proc old.q old.loaded) old.takes old.fit asks in
     let none = idle_own s idle in
@@ -219,7 +231,8 @@ ask_leaves ps s o good old idle room asks =
     (omega (arith, few, none, empty), omega (arith, few, none, empty, old.spent, old.tries_few))
 
 -- and where it may undo
-pub undo_leaves : (ps : List Checked) (s : Standing) (o : Op) → Sound ps s → s.sent ≡ None → first_undo s.undo ≡ Some o → s.tries < 4 → s.used < 5 * calls ps s.call.proc
+pub undo_leaves : (ps : List Checked) (s : Standing) (o : Op) → Sound ps s → s.sent ≡ None
+    → first_undo s.undo ≡ Some o → s.tries < 4 → s.used < 5 * calls ps s.call.proc
 undo_leaves ps s o old idle top few = omega (arith, old.spent, old.few, few, first_some s.undo o top)
 
 pub standing_sound : (ps : List Checked) → AllGood ps → (h : List Event) → Legal ps h → (t : ℕ) (s : Standing) → standing h t ≡ Some s → Sound ps s

@@ -1,5 +1,6 @@
 -- How one more event changes where the transactions stand.
-use Rattle.std.proofs.Common.{◌≡◌, ◌≢◌, ◌⊎◌, ℕ, ◌+◌, ◌<◌, ◌≤◌, Bool, true, false, List, [], ◌∷◌, length, Option, Some, None, arith, refl, sym, ◌∙◌, ap, subst, zero, suc, inl, inr, ◌==◌}
+use Rattle.std.proofs.Common.{◌≡◌, ◌≢◌, ◌⊎◌, ℕ, ◌+◌, ◌<◌, ◌≤◌, Bool, true, false, List, [], ◌∷◌, length, Option, Some}
+use Rattle.std.proofs.Common.{None, arith, refl, sym, ◌∙◌, ap, subst, zero, suc, inl, inr, ◌==◌}
 use Rattle.std.proofs.lemmas.Bool.Decides.{nat_tests}
 use Rattle.std.proofs.lemmas.Bool.{cases_eq, cases_lt}
 use Rattle.access_slots.specs.declared.op.Op.{Op}
@@ -44,7 +45,8 @@ acts ps h (Answer t n said) a = goes_on a.s a.is refl
 acts ps h (Undo t n o) a = goes_on a.s a.is refl
 acts ps h (End t outcome) a = goes_on a.s a.is refl
 
-above_by : (ps : List Checked) (h : List Event) (e : Event) (t : ℕ) → Acts ps h e → admitted (e ∷ h) < t → (admitted h < t → standing h t ≡ None) → standing (e ∷ h) t ≡ None
+above_by : (ps : List Checked) (h : List Event) (e : Event) (t : ℕ) → Acts ps h e → admitted (e ∷ h) < t
+    → (admitted h < t → standing h t ≡ None) → standing (e ∷ h) t ≡ None
 above_by ps h e t (admits_one next more) above ih =
     let other : txn_of e ≢ t = (λ own. absurd (omega (arith, next, more, above, own))) in
     standing-other e h t other ∙ ih (omega (arith, more, above))
@@ -156,7 +158,8 @@ open-serial ps h legal t s is = (
   elim (cases_lt (admitted h) t) [ inl above ↦ absurd (none_some _ s (standing-above ps h legal t above) is) | inr below ↦ omega arith ],
 )
 
-pub total-part : (w : Standing → ℕ) (ps : List Checked) (h : List Event) → Legal ps h → (t : ℕ) (s : Standing) → standing h t ≡ Some s → w s ≤ total w h
+pub total-part : (w : Standing → ℕ) (ps : List Checked) (h : List Event) → Legal ps h → (t : ℕ) (s : Standing)
+    → standing h t ≡ Some s → w s ≤ total w h
 unfolding total
 total-part w ps h legal t s is =
     let b = open-serial ps h legal t s is in
@@ -164,7 +167,8 @@ total-part w ps h legal t s is =
     part
 
 -- an event of an open transaction changes a sum by its part
-pub total-moved : (w : Standing → ℕ) (ps : List Checked) (h : List Event) → Legal ps h → (e : Event) (s : Standing) → standing h (txn_of e) ≡ Some s → admitted (e ∷ h) ≡ admitted h
+pub total-moved : (w : Standing → ℕ) (ps : List Checked) (h : List Event) → Legal ps h → (e : Event) (s : Standing)
+    → standing h (txn_of e) ≡ Some s → admitted (e ∷ h) ≡ admitted h
     → total w (e ∷ h) + w s ≡ total w h + weighed w (moved e (Some s))
 unfolding total
 total-moved w ps h legal e s is same =
@@ -174,7 +178,8 @@ total-moved w ps h legal e s is same =
     subst (λ (k : ℕ). total_to w (e ∷ h) k + w s ≡ total_to w h (admitted h) + weighed w (moved e (Some s))) (sym same) at
 
 -- an admission adds the new transaction's part
-pub total-admit : (w : Standing → ℕ) (h : List Event) (t p : ℕ) (args : List ℕ) → t ≡ admitted h + 1 → total w (Admit t p args ∷ h) ≡ total w h + w (fresh (record { proc = p; args = args }))
+pub total-admit : (w : Standing → ℕ) (h : List Event) (t p : ℕ) (args : List ℕ) → t ≡ admitted h + 1
+    → total w (Admit t p args ∷ h) ≡ total w h + w (fresh (record { proc = p; args = args }))
 unfolding total
 total-admit w h t p args next =
     let below : total_to w (Admit t p args ∷ h) (admitted h) ≡ total_to w h (admitted h) = total_to-below w (Admit t p args) h (admitted h) (omega (arith, next)) in
@@ -187,7 +192,8 @@ pub total-none : (w : Standing → ℕ) → total w [] ≡ 0
 unfolding total
 total-none w = refl
 
-total_to-same : (w u : Standing → ℕ) (h : List Event) → ((t : ℕ) (s : Standing) → standing h t ≡ Some s → w s ≡ u s) → (n : ℕ) → total_to w h n ≡ total_to u h n
+total_to-same : (w u : Standing → ℕ) (h : List Event) → ((t : ℕ) (s : Standing) → standing h t ≡ Some s → w s ≡ u s)
+    → (n : ℕ) → total_to w h n ≡ total_to u h n
 total_to-same w u h same zero = refl
 total_to-same w u h same (suc n) =
     omega (arith, total_to-same w u h same n, one (standing h (suc n)) (same (suc n)))

@@ -1,5 +1,6 @@
 -- Where the run of a transaction's procedure stands on the answers that it has.
-use Rattle.std.specs.Prelude.{◌≡◌, ℕ, ◌+◌, ◌<◌, ◌≤◌, Bool, true, false, not, ◌==◌, if◌then◌else◌, List, map, length, Option, Some, None, slice_get, count_by}
+use Rattle.std.specs.Prelude.{◌≡◌, ℕ, ◌+◌, ◌<◌, ◌≤◌, Bool, true, false, not, ◌==◌, if◌then◌else◌, List, map, length}
+use Rattle.std.specs.Prelude.{Option, Some, None, slice_get, count_by}
 use Rattle.access_slots.specs.Declaration.{Declaration}
 use Rattle.access_slots.specs.declared.op.Op.{Op}
 use Rattle.access_slots.specs.declared.op.Said.{Said}

@@ -1,5 +1,7 @@
 -- What an open transaction waits for was sent behind its admission, and one that is open has something to do next.
-use Rattle.std.proofs.Common.{◌≡◌, ◌≢◌, ◌⊎◌, ℕ, zero, suc, ◌+◌, ◌<◌, ◌≤◌, Bool, true, false, ◌||◌, ◌==◌, cond, nat_lt, List, [], ◌∷◌, ◌++◌, length, Option, Some, None, refl, sym, ◌∙◌, ap, subst, inl, inr, arith}
+use Rattle.std.proofs.Common.{◌≡◌, ◌≢◌, ◌⊎◌, ℕ, zero, suc, ◌+◌, ◌<◌, ◌≤◌, Bool, true, false, ◌||◌, ◌==◌, cond, nat_lt}
+use Rattle.std.proofs.Common.{List, [], ◌∷◌, ◌++◌, length, Option, Some, None, refl, sym, ◌∙◌, ap, subst, inl, inr}
+use Rattle.std.proofs.Common.{arith}
 use Rattle.std.proofs.lemmas.Bool.{cases_eq}
 use Rattle.std.proofs.lemmas.Bool.Decides.{nat_tests}
 use Rattle.access_slots.specs.declared.op.Op.{Op}
@@ -75,7 +77,8 @@ spoke_fresh first h call t s is =
     Silent (ap (λ (x : Standing). x.sent) (sym same)) (ap (λ (x : Standing). x.tries) (sym same))
 
 -- one event of the transaction itself
-spoke_moved : (first h : List Event) (e : Event) (t : ℕ) (was : Option Standing) (s : Standing) → length first ≤ length h → txn_of e ≡ t → moved e was ≡ Some s
+spoke_moved : (first h : List Event) (e : Event) (t : ℕ) (was : Option Standing) (s : Standing)
+    → length first ≤ length h → txn_of e ≡ t → moved e was ≡ Some s
     → ((q : Standing) → was ≡ Some q → Spoke first h t q) → Spoke first (e ∷ h) t s
 spoke_moved first h (Admit u p args) t was s low own is before = spoke_fresh first (Admit u p args ∷ h) (record { proc = p; args = args }) t s is
 spoke_moved first h (Ask u n o) t None s low own is before = absurd (let bad : None ≡ Some s = is in cc)
@@ -137,14 +140,17 @@ no_wait (Some w) tries last e n is = by (nat_lt tries 4) is
     by true h = cc
     by false h = cc
 
-may_wait : (sent : Option Sent) (full : Bool) (left : Option Op) (tries last : ℕ) (at : Reached) (n : ℕ) → next_by sent full left tries last at ≡ Some (next.Waits n) → Awaits sent n
+may_wait : (sent : Option Sent) (full : Bool) (left : Option Op) (tries last : ℕ) (at : Reached) (n : ℕ)
+    → next_by sent full left tries last at ≡ Some (next.Waits n) → Awaits sent n
 may_wait (Some r) full left tries last at n is = record { r = r; waits = refl; number = cc }
 may_wait None true left tries last at n is = absurd (no_wait left tries last outcome.NoRoom n is)
 may_wait None false left tries last (Asks p) n is = absurd cc
 may_wait None false left tries last Nowhere n is = absurd cc
 may_wait None false left tries last (Ends v) n is = by (v == 0) is
   where
-    by : (b : Bool) → Some (cond b (next.Over outcome.Committed) (ends_or_undoes left tries last (outcome.Aborted v))) ≡ Some (next.Waits n) → Awaits None n
+    by : (b : Bool)
+        → Some (cond b (next.Over outcome.Committed) (ends_or_undoes left tries last (outcome.Aborted v))) ≡ Some (next.Waits n)
+        → Awaits None n
     by true h = absurd cc
     by false h = absurd (no_wait left tries last (outcome.Aborted v) n h)
 
@@ -152,7 +158,8 @@ record IsStuck (tries last n : ℕ) : Type 0 where
   last_is : last ≡ n
   many : 4 ≤ tries
 
-sticks : (left : Option Op) (tries last : ℕ) (e : Outcome) (n : ℕ) → Some (ends_or_undoes left tries last e) ≡ Some (next.Stuck n) → IsStuck tries last n
+sticks : (left : Option Op) (tries last : ℕ) (e : Outcome) (n : ℕ)
+    → Some (ends_or_undoes left tries last e) ≡ Some (next.Stuck n) → IsStuck tries last n
 sticks None tries last e n is = absurd cc
 sticks (Some w) tries last e n is = by (nat_lt tries 4) refl is
   where
@@ -160,14 +167,17 @@ sticks (Some w) tries last e n is = by (nat_lt tries 4) refl is
     by true t h = absurd cc
     by false t h = record { last_is = cc; many = grind (arith, nat_tests) }
 
-may_stick : (sent : Option Sent) (full : Bool) (left : Option Op) (tries last : ℕ) (at : Reached) (n : ℕ) → next_by sent full left tries last at ≡ Some (next.Stuck n) → IsStuck tries last n
+may_stick : (sent : Option Sent) (full : Bool) (left : Option Op) (tries last : ℕ) (at : Reached) (n : ℕ)
+    → next_by sent full left tries last at ≡ Some (next.Stuck n) → IsStuck tries last n
 may_stick (Some r) full left tries last at n is = absurd cc
 may_stick None true left tries last at n is = sticks left tries last outcome.NoRoom n is
 may_stick None false left tries last (Asks p) n is = absurd cc
 may_stick None false left tries last Nowhere n is = absurd cc
 may_stick None false left tries last (Ends v) n is = by (v == 0) is
   where
-    by : (b : Bool) → Some (cond b (next.Over outcome.Committed) (ends_or_undoes left tries last (outcome.Aborted v))) ≡ Some (next.Stuck n) → IsStuck tries last n
+    by : (b : Bool)
+        → Some (cond b (next.Over outcome.Committed) (ends_or_undoes left tries last (outcome.Aborted v))) ≡ Some (next.Stuck n)
+        → IsStuck tries last n
     by true h = absurd cc
     by false h = sticks left tries last (outcome.Aborted v) n h
 
@@ -181,14 +191,16 @@ stuck_sent : (first h : List Event) (t n : ℕ) (s : Standing) → IsStuck s.tri
 stuck_sent first h t n s w (Silent idle none) = absurd (omega (arith, w.many, none))
 stuck_sent first h t n s w (Sent_last sent last) = subst (Sends first h t) w.last_is sent
 
-doubt_by : (first : List Event) (c : Core) (call : Call) (t n : ℕ) (s : Standing) → IsAdmitted first c.events call t → standing c.events t ≡ Some s → IsDoubtful c t n → Sends first c.events t n
+doubt_by : (first : List Event) (c : Core) (call : Call) (t n : ℕ) (s : Standing) → IsAdmitted first c.events call t
+    → standing c.events t ≡ Some s → IsDoubtful c t n → Sends first c.events t n
 unfolding next_at
 doubt_by first c call t n s admitted is (waits it) =
     waits_sent first c.events t n s (may_wait s.sent s.full (first_undo s.undo) s.tries s.last (reached c.procs s) n (ap (next_in c.procs) (sym is) ∙ it)) (spoke first c.events call t s admitted is)
 doubt_by first c call t n s admitted is (stuck it) =
     stuck_sent first c.events t n s (may_stick s.sent s.full (first_undo s.undo) s.tries s.last (reached c.procs s) n (ap (next_in c.procs) (sym is) ∙ it)) (spoke first c.events call t s admitted is)
 
-pub doubtful_sent : (first : List Event) (c : Core) (call : Call) (t n : ℕ) → IsAdmitted first c.events call t → IsOpen c.events t → IsDoubtful c t n → Sends first c.events t n
+pub doubtful_sent : (first : List Event) (c : Core) (call : Call) (t n : ℕ) → IsAdmitted first c.events call t
+    → IsOpen c.events t → IsDoubtful c t n → Sends first c.events t n
 doubtful_sent first c call t n admitted still doubt = doubt_by first c call t n still.s admitted still.is doubt
 
 -- ---- an open transaction has something to do next
@@ -199,11 +211,13 @@ fine_somewhere s (Exited v c) fine is = cc
 fine_somewhere s (Trapped cause) fine is = fine
 fine_somewhere s Unfinished fine is = fine
 
-somewhere : (q : Checked) (args : List ℕ) (answers : List Said) → IsGood q → AreArguments q.decl args → Fitting q args answers → reached_of (stop_at q args answers) ≡ Nowhere → ⊥
+somewhere : (q : Checked) (args : List ℕ) (answers : List Said) → IsGood q → AreArguments q.decl args
+    → Fitting q args answers → reached_of (stop_at q args answers) ≡ Nowhere → ⊥
 unfolding stop_at Fitting
 somewhere q args answers good takes fit is = fine_somewhere (plain q args) (reach (plain q args) answers) (good.safe.always args plain_bases answers plain_layout takes fit) is
 
-no_next : (sent : Option Sent) (full : Bool) (left : Option Op) (tries last : ℕ) (at : Reached) → next_by sent full left tries last at ≡ None → at ≡ Nowhere
+no_next : (sent : Option Sent) (full : Bool) (left : Option Op) (tries last : ℕ) (at : Reached)
+    → next_by sent full left tries last at ≡ None → at ≡ Nowhere
 no_next (Some r) full left tries last at is = absurd cc
 no_next None true left tries last at is = absurd cc
 no_next None false left tries last (Asks p) is = absurd cc

@@ -1,5 +1,6 @@
 -- Laws of lists in which one element is written.
-use Rattle.std.proofs.Common.{◌≡◌, ◌≢◌, ℕ, zero, suc, ◌+◌, ◌<◌, List, [], ◌∷◌, ◌⊎◌, Bool, length, refl, sym, ◌∙◌, ap, subst, inl, inr, arith, Option, Some, None, cond, map}
+use Rattle.std.proofs.Common.{◌≡◌, ◌≢◌, ℕ, zero, suc, ◌+◌, ◌<◌, List, [], ◌∷◌, ◌⊎◌, Bool, length, refl, sym, ◌∙◌, ap}
+use Rattle.std.proofs.Common.{subst, inl, inr, arith, Option, Some, None, cond, map}
 use Rattle.std.proofs.Math.ListN.{set}
 use Rattle.std.proofs.lemmas.Option.{slice_get_within, get_or_from_slice_get}
 use Rattle.std.proofs.lemmas.List.Sums.{sum_by-set, sum_by-cons}
@@ -43,7 +44,8 @@ count_set p xs k x y at =
     subst (λ z. count_by p (set xs k y) + cond (p z) 1 0 ≡ count_by p xs + cond (p y) 1 0) is
     (sum_by-set (λ z. cond (p z) 1 0) xs k y x lt)
 
-pub get_map : {X Y : Type 0} (f : X → Y) (xs : List X) (k : ℕ) (y : Y) → slice_get (map f xs) k ≡ Some y → (x : X) × (slice_get xs k ≡ Some x) × (f x ≡ y)
+pub get_map : {X Y : Type 0} (f : X → Y) (xs : List X) (k : ℕ) (y : Y) → slice_get (map f xs) k ≡ Some y
+    → (x : X) × (slice_get xs k ≡ Some x) × (f x ≡ y)
 get_map f [] k y at = cc
 get_map f (x ∷ xs) zero y at = (x, refl, cc)
 get_map f (x ∷ xs) (suc k) y at = get_map f xs k y at

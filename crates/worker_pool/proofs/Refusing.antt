@@ -1,5 +1,6 @@
 -- Why a call isn't admitted, told of the state that was handed in.
-use Rattle.std.proofs.Common.{◌≡◌, ℕ, zero, suc, ◌+◌, ◌-◌, ◌*◌, ◌^◌, ◌<◌, ◌≤◌, Bool, true, false, cond, List, [], ◌∷◌, length, Option, Some, None, refl, sym, ◌∙◌, ap, subst, inl, inr, arith, ◌==◌}
+use Rattle.std.proofs.Common.{◌≡◌, ℕ, zero, suc, ◌+◌, ◌-◌, ◌*◌, ◌^◌, ◌<◌, ◌≤◌, Bool, true, false, cond, List, [], ◌∷◌}
+use Rattle.std.proofs.Common.{length, Option, Some, None, refl, sym, ◌∙◌, ap, subst, inl, inr, arith, ◌==◌}
 use Rattle.std.specs.List.{slice_get}
 use Rattle.std.proofs.lemmas.List.Sums.{count_by-le-length}
 use Rattle.std.proofs.lemmas.Bool.{cases_eq}
@@ -92,7 +93,8 @@ total_few ps h good = total_to_few ps h (admitted h) good
 too_many : (c : Core) (q : Checked) → AllGood c.procs → IsGood q → 2 ^ 62 < needed c q → 2 ^ 62 < given c.events + 20480 * admitted c.events + 20480
 too_many c q good one many = (let few = calls_few q one in let all = total_few c.procs c.events good in omega arith)
 
-pub refused : (start c : Core) (call : Call) (why : Refusal) → StaysBut start c → AllGood c.procs → IsRefused c call why → AdmitRefusalFits start c.events call why
+pub refused : (start c : Core) (call : Call) (why : Refusal) → StaysBut start c → AllGood c.procs
+    → IsRefused c call why → AdmitRefusalFits start c.events call why
 refused start c call refusal.NoProcedure stays good it = ap (λ (s : Core). slice_get s.procs call.proc) (sym stays) ∙ it
 refused start c call refusal.ArgumentCount stays good it = (it.0, ap (λ (s : Core). slice_get s.procs call.proc) (sym stays) ∙ it.1, it.2)
 refused start c call (refusal.Busy b) stays good it =

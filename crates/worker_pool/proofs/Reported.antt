@@ -1,5 +1,6 @@
 -- The report of calls that all have an answer.
-use Rattle.std.proofs.Common.{◌≡◌, ℕ, ◌+◌, ◌<◌, ◌≤◌, List, [], ◌∷◌, Bool, zero, suc, length, map, refl, sym, ◌∙◌, ap, subst, Option, Some, None, arith, cond}
+use Rattle.std.proofs.Common.{◌≡◌, ℕ, ◌+◌, ◌<◌, ◌≤◌, List, [], ◌∷◌, Bool, zero, suc, length, map, refl, sym, ◌∙◌, ap}
+use Rattle.std.proofs.Common.{subst, Option, Some, None, arith, cond}
 use Rattle.std.proofs.lemmas.Option.{slice_get_within}
 use Rattle.std.proofs.lemmas.List.Sums.{sum_by-cons}
 use Rattle.std.specs.List.{slice_get, count_by}
@@ -81,7 +82,9 @@ length_map : (ps : List Progress) → length (map txn_of ps) ≡ length ps
 length_map [] = refl
 length_map (p ∷ ps) = ap suc (length_map ps)
 
-pub reported : (start : Core) (calls : List Call) (state : Core) (ps : List Progress) (answers : List Answer) → Keeps start calls state ps → Legal state.procs state.events → AreToldBy ps answers → Reports start calls state answers
+pub reported : (start : Core) (calls : List Call) (state : Core) (ps : List Progress) (answers : List Answer)
+    → Keeps start calls state ps → Legal state.procs state.events → AreToldBy ps answers
+    → Reports start calls state answers
 reported start calls state ps answers keeps legal told = record {
   stays = keeps.stays;
   legal = legal;

@@ -1,5 +1,7 @@
 -- What the locked value keeps is kept by each step.
-use Rattle.std.proofs.Common.{◌≡◌, ◌≢◌, ℕ, zero, suc, ◌+◌, ◌*◌, ◌^◌, ◌<◌, ◌≤◌, List, [], ◌∷◌, ◌++◌, ◌⊎◌, Bool, true, false, length, refl, sym, ◌∙◌, ap, subst, inl, inr, arith, Option, Some, None, cond, replicate, Result, Ok, Err}
+use Rattle.std.proofs.Common.{◌≡◌, ◌≢◌, ℕ, zero, suc, ◌+◌, ◌*◌, ◌^◌, ◌<◌, ◌≤◌, List, [], ◌∷◌, ◌++◌, ◌⊎◌, Bool, true}
+use Rattle.std.proofs.Common.{false, length, refl, sym, ◌∙◌, ap, subst, inl, inr, arith, Option, Some, None, cond}
+use Rattle.std.proofs.Common.{replicate, Result, Ok, Err}
 use Rattle.std.proofs.Math.ListN.{set}
 use Rattle.std.proofs.lemmas.Bool.{cases_eq}
 use Rattle.std.proofs.lemmas.List.{length-replicate}
@@ -33,7 +35,8 @@ use Rattle.worker_pool.specs.declared.answer.Answer.TheVariants.{Committed, Abor
 use Rattle.worker_pool.specs.declared.answer.Progress.{Progress}
 use Rattle.worker_pool.specs.declared.answer.Progress.TheVariants.{Waiting, Begun, Answered}
 use Rattle.tc_core.specs.Admission.{call_of}
-use Rattle.worker_pool.specs.Answers.{place_of, has_place, is_some, answer_of, StandsBehind, IsAdmitted, Sends, IsEnded, IsInDoubt, IsBlocked, RefusalFits, AnswerFits}
+use Rattle.worker_pool.specs.Answers.{place_of, has_place, is_some, answer_of, StandsBehind, IsAdmitted, Sends}
+use Rattle.worker_pool.specs.Answers.{IsEnded, IsInDoubt, IsBlocked, RefusalFits, AnswerFits}
 use Rattle.worker_pool.specs.Kept.{ends, serial_of, txn_of, place_in, is_placed, IsOpen, IsBegun, Fits, IsOfCall, StaysBut, Keeps}
 use Rattle.worker_pool.specs.Seen.{IsAnswered, AnswersStay}
 use Rattle.worker_pool.specs.Moves.{MovesOn}
@@ -69,18 +72,21 @@ behind_more first h e place x at = record { behind = at.behind; stands = stands_
 is_admitted_more : (first h : List Event) (e : Event) (c : named.Call) (t : ℕ) → IsAdmitted first h c t → IsAdmitted first (e ∷ h) c t
 is_admitted_more first h e c t a = record { place = a.place; at = behind_more first h e a.place (Admit t c.proc c.args) a.at }
 
-ended_more : (start : Core) (h : List Event) (e : Event) (c : named.Call) (o : Option ℕ) (place : ℕ) (how : Outcome) → IsEnded start h c o place how → IsEnded start (e ∷ h) c o place how
+ended_more : (start : Core) (h : List Event) (e : Event) (c : named.Call) (o : Option ℕ) (place : ℕ) (how : Outcome)
+    → IsEnded start h c o place how → IsEnded start (e ∷ h) c o place how
 ended_more start h e c o place how it =
     record { t = it.t; own = it.own; takes = it.takes; admitted = is_admitted_more start.events h e c it.t it.admitted; ended = behind_more start.events h e place (End it.t how) it.ended }
 
-refusal_more : (start : Core) (h : List Event) (e : Event) (c : named.Call) (why : Refusal) → RefusalFits start h c why → RefusalFits start (e ∷ h) c why
+refusal_more : (start : Core) (h : List Event) (e : Event) (c : named.Call) (why : Refusal)
+    → RefusalFits start h c why → RefusalFits start (e ∷ h) c why
 refusal_more start h e c refusal.NoProcedure it = it
 refusal_more start h e c refusal.ArgumentCount it = it
 refusal_more start h e c (refusal.Busy b) it = it
 refusal_more start h e c refusal.NumbersSpent it = (it.0, (let many = it.1 in omega (arith, admitted_more h e, given_more h e, many)))
 refusal_more start h e c refusal.Memory it = it
 
-answer_more : (start : Core) (h : List Event) (e : Event) (c : named.Call) (a : Answer) (o : Option ℕ) → AnswerFits start h c a o → AnswerFits start (e ∷ h) c a o
+answer_more : (start : Core) (h : List Event) (e : Event) (c : named.Call) (a : Answer) (o : Option ℕ)
+    → AnswerFits start h c a o → AnswerFits start (e ∷ h) c a o
 answer_more start h e c (Committed p) o it = ended_more start h e c o p outcome.Committed it
 answer_more start h e c (Aborted v p) o it = ended_more start h e c o p (outcome.Aborted v) it
 answer_more start h e c (NoRoom p) o it = ended_more start h e c o p outcome.NoRoom it
@@ -98,7 +104,8 @@ answer_more start h e c (Blocked b) o it =
 answer_more start h e c (Refused why) o it = (it.0, refusal_more start h e c why it.1)
 
 -- where the transaction stays open
-fits_more : (start : Core) (h : List Event) (e : Event) (c : named.Call) (p : Progress) → ((t : ℕ) → txn_of p ≡ Some t → IsOpen h t → IsOpen (e ∷ h) t) → Fits start h c p → Fits start (e ∷ h) c p
+fits_more : (start : Core) (h : List Event) (e : Event) (c : named.Call) (p : Progress)
+    → ((t : ℕ) → txn_of p ≡ Some t → IsOpen h t → IsOpen (e ∷ h) t) → Fits start h c p → Fits start (e ∷ h) c p
 fits_more start h e c Waiting still it = it
 fits_more start h e c (Begun t) still it = record { takes = it.takes; admitted = is_admitted_more start.events h e c t.serial it.admitted; still = still t.serial refl it.still }
 fits_more start h e c (Answered a o) still it = answer_more start h e c a (serial_of o) it
@@ -133,7 +140,8 @@ owner_back ps k p p' at same i q t at' own =
       | inr ne ↦ record { progress = q; at = set_other ps k i p' ne ∙ at'; own = own }
     ]
 
-of_call : (calls : List Call) (ps qs : List Progress) (t proc : ℕ) (args : List ℕ) → (x : IsOfCall calls ps t proc args) → Owner qs x.k t → IsOfCall calls qs t proc args
+of_call : (calls : List Call) (ps qs : List Progress) (t proc : ℕ) (args : List ℕ)
+    → (x : IsOfCall calls ps t proc args) → Owner qs x.k t → IsOfCall calls qs t proc args
 of_call calls ps qs t proc args x y = record { k = x.k; progress = y.progress; at = y.at; own = y.own; c = x.c; of = x.of; same = x.same }
 
 same_named : (c : named.Call) (proc : ℕ) (args : List ℕ) → c.proc ≡ proc → c.args ≡ args → c ≡ record { proc = proc; args = args }
@@ -194,7 +202,9 @@ record IsQuiet (h : List Event) (e : Event) : Type 0 where
   no_admit : (t proc : ℕ) (args : List ℕ) → e ≡ Admit t proc args → ⊥
   still : (t : ℕ) → IsOpen h t → IsOpen (e ∷ h) t
 
-quiet_by : (h : List Event) (e : Event) → ends (e ∷ h) ≡ ends h → ((t proc : ℕ) (args : List ℕ) → e ≡ Admit t proc args → ⊥) → ((s : Standing) → (s' : Standing) × (moved e (Some s) ≡ Some s')) → IsQuiet h e
+quiet_by : (h : List Event) (e : Event) → ends (e ∷ h) ≡ ends h
+    → ((t proc : ℕ) (args : List ℕ) → e ≡ Admit t proc args → ⊥)
+    → ((s : Standing) → (s' : Standing) × (moved e (Some s) ≡ Some s')) → IsQuiet h e
 quiet_by h e no_end no_admit goes_on = record {
   no_end = no_end;
   no_admit = no_admit;
@@ -213,7 +223,8 @@ quiet_answer h t n said = quiet_by h (Answers t n said) refl (λ u proc args bad
 quiet_undo : (h : List Event) (t n : ℕ) (o : _) → IsQuiet h (Undo t n o)
 quiet_undo h t n o = quiet_by h (Undo t n o) refl (λ u proc args bad. cc) (λ s. (_, refl))
 
-grown : (start : Core) (calls : List Call) (state : Core) (ps : List Progress) (e : Event) → IsQuiet state.events e → Keeps start calls state ps → Keeps start calls (with_event state e) ps
+grown : (start : Core) (calls : List Call) (state : Core) (ps : List Progress) (e : Event) → IsQuiet state.events e
+    → Keeps start calls state ps → Keeps start calls (with_event state e) ps
 grown start calls state ps e quiet keeps =
     let h = state.events in
     record {
@@ -233,7 +244,8 @@ grown start calls state ps e quiet keeps =
     }
 
 -- a question, an undo, an answer
-pub asked : (start : Core) (calls : List Call) (state : Core) (ps : List Progress) (reply : Asked) → Keeps start calls state ps → Keeps start calls (after_ask state reply) ps
+pub asked : (start : Core) (calls : List Call) (state : Core) (ps : List Progress) (reply : Asked)
+    → Keeps start calls state ps → Keeps start calls (after_ask state reply) ps
 asked start calls state ps (Request r) keeps = grown start calls state ps (Ask r.txn r.number r.op) (quiet_ask state.events r.txn r.number r.op) keeps
 asked start calls state ps Undoing keeps = keeps
 asked start calls state ps Over keeps = keeps
@@ -242,7 +254,8 @@ asked start calls state ps (Waits n) keeps = keeps
 asked start calls state ps Running keeps = keeps
 asked start calls state ps Unknown keeps = keeps
 
-pub undone : (start : Core) (calls : List Call) (state : Core) (ps : List Progress) (reply : Asked) → Keeps start calls state ps → Keeps start calls (after_undo state reply) ps
+pub undone : (start : Core) (calls : List Call) (state : Core) (ps : List Progress) (reply : Asked)
+    → Keeps start calls state ps → Keeps start calls (after_undo state reply) ps
 undone start calls state ps (Request r) keeps = grown start calls state ps (Undo r.txn r.number r.op) (quiet_undo state.events r.txn r.number r.op) keeps
 undone start calls state ps Undoing keeps = keeps
 undone start calls state ps Over keeps = keeps
@@ -251,7 +264,8 @@ undone start calls state ps (Waits n) keeps = keeps
 undone start calls state ps Running keeps = keeps
 undone start calls state ps Unknown keeps = keeps
 
-answered : (start : Core) (calls : List Call) (state : Core) (ps : List Progress) (r : Asking) (said : _) → Keeps start calls state ps → Keeps start calls (after_answer state r said) ps
+answered : (start : Core) (calls : List Call) (state : Core) (ps : List Progress) (r : Asking) (said : _)
+    → Keeps start calls state ps → Keeps start calls (after_answer state r said) ps
 answered start calls state ps r said keeps = grown start calls state ps (Answers r.txn r.number said) (quiet_answer state.events r.txn r.number said) keeps
 
 -- an answer that is taken in, or a stranger that changes nothing
@@ -261,7 +275,8 @@ heard start calls old new ps r said (Ok x) ok err keeps = rw ok (answered start 
 heard start calls old new ps r said (Err s) ok err keeps = rw err keeps
 
 -- a number more is given up, or none
-pub gave_up : (start : Core) (calls : List Call) (old new : Core) (ps : List Progress) → new ≡ record old { given_up = new.given_up } → Keeps start calls old ps → Keeps start calls new ps
+pub gave_up : (start : Core) (calls : List Call) (old new : Core) (ps : List Progress)
+    → new ≡ record old { given_up = new.given_up } → Keeps start calls old ps → Keeps start calls new ps
 gave_up start calls old new ps rest keeps =
     let stays : StaysBut start (record old { given_up = new.given_up }) = ap (λ (s : Core). record s { events = old.events; given_up = new.given_up }) keeps.stays in
     let more : Keeps start calls (record old { given_up = new.given_up }) ps = record {
@@ -400,7 +415,8 @@ ended start calls state ps k t o a c keeps at of fits' place =
     }
 
 -- the answer of an end fits, by its place
-ended_answer : (start : Core) (h : List Event) (c : named.Call) (t : ℕ) (o : Outcome) → length start.events ≤ length h → IsBegun start h c t → AnswerFits start (End t o ∷ h) c (answer_of o (length h)) (Some t)
+ended_answer : (start : Core) (h : List Event) (c : named.Call) (t : ℕ) (o : Outcome) → length start.events ≤ length h
+    → IsBegun start h c t → AnswerFits start (End t o ∷ h) c (answer_of o (length h)) (Some t)
 ended_answer start h c t o low begun = by o
   where
     it : (how : Outcome) → IsEnded start (End t how ∷ h) c (Some t) (length h) how
@@ -442,7 +458,9 @@ ended_by start calls old new ps k t c receipt (Some o) keeps at of reply is =
     (subst (λ (s : Core). Keeps start calls s (set ps k (Answered (answer_of o (length old.events)) (Some t)))) (sym is) (ended_one start calls old ps k t o c keeps at of))
 
 -- the answer of a transaction in doubt
-pub in_doubt_fits : (start : Core) (state : Core) (c : Call) (t : TxnId) (n : ℕ) → IsBegun start state.events (call_of c) t.serial → IsDoubtful state t.serial n → AnswerFits start state.events (call_of c) (InDoubt n) (Some t.serial)
+pub in_doubt_fits : (start : Core) (state : Core) (c : Call) (t : TxnId) (n : ℕ)
+    → IsBegun start state.events (call_of c) t.serial → IsDoubtful state t.serial n
+    → AnswerFits start state.events (call_of c) (InDoubt n) (Some t.serial)
 in_doubt_fits start state c t n begun doubt =
     record { t = t.serial; own = refl; takes = begun.takes; admitted = begun.admitted; sent = doubtful_sent start.events state (call_of c) t.serial n begun.admitted begun.still doubt }
 
@@ -493,7 +511,8 @@ answers_stay ps k p p' at not_yet i h =
     let bad : false ≡ true = sym not_yet ∙ ap is_answered is in cc)
     in record { answer = h.answer; txn = h.txn; at = set_other ps k i p' ne ∙ h.at }
 
-pub now_answered : (ps : List Progress) (k : ℕ) (p : Progress) (a : Answer) (o : Option TxnId) → slice_get ps k ≡ Some p → IsAnswered (set ps k (Answered a o)) k
+pub now_answered : (ps : List Progress) (k : ℕ) (p : Progress) (a : Answer) (o : Option TxnId)
+    → slice_get ps k ≡ Some p → IsAnswered (set ps k (Answered a o)) k
 now_answered ps k p a o at = record { answer = a; txn = o; at = set_here ps k p (Answered a o) at }
 
 -- ---- a step, and what came before it

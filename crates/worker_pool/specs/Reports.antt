@@ -27,13 +27,16 @@ pub record Tells (start : Core) (calls : List Call) (h : List Event) (answers : 
   pub one_each : length answers ≡ length calls
   pub txn_each : length txns ≡ length calls
   -- each answer is so
-  pub fits : (k : ℕ) (a : Answer) (o : Option ℕ) (c : Call) → slice_get answers k ≡ Some a → slice_get txns k ≡ Some o → slice_get calls k ≡ Some c → AnswerFits start h (call_of c) a o
+  pub fits : (k : ℕ) (a : Answer) (o : Option ℕ) (c : Call) → slice_get answers k ≡ Some a → slice_get txns k ≡ Some o
+      → slice_get calls k ≡ Some c → AnswerFits start h (call_of c) a o
   -- no two calls are of one transaction
   pub own : (i j t : ℕ) → slice_get txns i ≡ Some (Some t) → slice_get txns j ≡ Some (Some t) → i ≡ j
   -- each admission behind the first log is a call's
-  pub known : (place t proc : ℕ) (args : List ℕ) → length start.events ≤ place → StandsAt h place (Admit t proc args) → IsOfCall calls txns t proc args
+  pub known : (place t proc : ℕ) (args : List ℕ) → length start.events ≤ place → StandsAt h place (Admit t proc args)
+      → IsOfCall calls txns t proc args
   -- no two answers name one place
-  pub places : (i j : ℕ) (a b : Answer) (place : ℕ) → slice_get answers i ≡ Some a → slice_get answers j ≡ Some b → place_of a ≡ Some place → place_of b ≡ Some place → i ≡ j
+  pub places : (i j : ℕ) (a b : Answer) (place : ℕ) → slice_get answers i ≡ Some a → slice_get answers j ≡ Some b
+      → place_of a ≡ Some place → place_of b ≡ Some place → i ≡ j
   -- as many answers have a place as transactions ended behind the first log
   pub ends_placed : ends h ≡ ends start.events + count_by has_place answers
 

@@ -5,4 +5,5 @@ use Rattle.bpf_asm.proofs.Lines.{AllOperands}
 use Rattle.bpf_asm.proofs.disassemble.disassemble.Given as goal
 
 abbrev pub invariant-loop-place : goal.invariant-loop-place
-invariant-loop-place l = (string_bytes l.text ++ text_of (drop l.place-index l.place-items) ≡ text_of l.place-items) × AllOperands (take l.place-index l.place-items)
+invariant-loop-place l = (string_bytes l.text ++ text_of (drop l.place-index l.place-items) ≡ text_of l.place-items)
+    × AllOperands (take l.place-index l.place-items)

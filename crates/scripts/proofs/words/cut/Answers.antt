@@ -8,7 +8,8 @@ use Rattle.scripts.proofs.words.cut.Goals as goal
 use Rattle.scripts.proofs.words.cut.Goals.{then-count-lt4, else-count-lt4}
 
 -- a word that there is room for
-put : (words words' : List (Bor (List ℕ))) (count : ℕ) (done : List (List ℕ)) (word : Bor (List ℕ)) → words' ≡ slice_set words count word → count ≡ length done → count < 4
+put : (words words' : List (Bor (List ℕ))) (count : ℕ) (done : List (List ℕ)) (word : Bor (List ℕ))
+    → words' ≡ slice_set words count word → count ≡ length done → count < 4
     → map (λ t. t.now) words ≡ first_four done → map (λ t. t.now) words' ≡ first_four (done ++ word.now ∷ [])
 put words words' count done word is at few so_far =
     let now : Bor (List ℕ) → List ℕ = λ t. t.now in

@@ -4,4 +4,5 @@ use Rattle.worker_pool.specs.Seen.{AreToldBy}
 use Rattle.worker_pool.proofs.desk.answers_of.Given as goal
 
 abbrev pub invariant-loop-p : goal.invariant-loop-p
-invariant-loop-p l = AreToldBy (take l.p-index l.progress) l.answers.items × (vec_len l.answers ≡ l.p-index) × (length l.progress ≤ vec_capacity l.answers)
+invariant-loop-p l = AreToldBy (take l.p-index l.progress) l.answers.items × (vec_len l.answers ≡ l.p-index)
+    × (length l.progress ≤ vec_capacity l.answers)
