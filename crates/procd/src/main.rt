@@ -47,6 +47,8 @@ mod run_tests;
 #[cfg(test)]
 mod script_tests;
 #[cfg(test)]
+mod test_scripts;
+#[cfg(test)]
 mod tests;
 #[cfg(test)]
 mod world_tests;

@@ -1,4 +1,4 @@
-use crate::tests::run;
+use crate::test_scripts::{BAD, GET, PUT, check_script, joined, script};
 use std::alloc::AllocError;
 use std::process::Abort;
 use std::rt::Files;
@@ -7,83 +7,7 @@ use std::test::Fail;
 use std::thread::Threads;
 use std::time::Clock;
 
-// Four procedures over one data component.
-const HEADER: &str = "dc 4 100
-proc put 2
-slot write 0 0 $0
-  ldxdw r6, [r1+8]
-  mov r1, 0
-  call 5
-  stxdw [r0+0], r6
-  mov r1, 0
-  call 2
-  exit
-end
-proc get 1
-slot read 0 0 $0
-  mov r1, 0
-  call 1
-  jeq r0, 0, +2
-  mov r0, 0
-  exit
-  mov r0, 1
-  exit
-end
-proc bad 1
-slot write 0 0 $0
-  mov r1, 0
-  call 1
-  jeq r0, 0, +5
-  stdw [r0+0], 7
-  mov r1, 0
-  call 3
-  mov r0, 5
-  exit
-  mov r0, 1
-  exit
-end
-proc move 3
-slot write 0 0 $0
-slot write 0 0 $1
-  ldxdw r6, [r1+16]
-  mov r1, 0
-  call 1
-  jeq r0, 0, +16
-  mov r7, r0
-  mov r1, 1
-  call 1
-  jeq r0, 0, +12
-  mov r8, r0
-  ldxdw r2, [r7+0]
-  sub r2, r6
-  stxdw [r7+0], r2
-  ldxdw r2, [r8+0]
-  add r2, r6
-  stxdw [r8+0], r2
-  mov r1, 0
-  call 3
-  mov r1, 1
-  call 3
-  exit
-  mov r0, 1
-  exit
-end
-";
-
-// Runs a script, and looks at what is printed and at the status.
-fn check_script<R: Files + Clock + AllocGlobal + Threads + Wait + Abort + Sync>(
-    rt: &R,
-    words: &[&str],
-    script: &str,
-    want: &str,
-    status: u8,
-) {
-    let ended = run(rt, words, script.as_bytes());
-    assert_eq!(rt; ended.out.as_slice(), want.as_bytes());
-    assert_eq!(rt; ended.status, status);
-}
-
-// The same of lines behind the header.
+// Runs the calls of a script with the four procedures.
 fn check_calls<R: Files + Clock + AllocGlobal + Threads + Wait + Abort + Sync>(
     rt: &R,
     words: &[&str],
@@ -91,7 +15,7 @@ fn check_calls<R: Files + Clock + AllocGlobal + Threads + Wait + Abort + Sync>(
     want: &str,
     status: u8,
 ) -> Result<(), AllocError> {
-    let script = format!(in rt.alloc(); "{HEADER}{calls}")?;
+    let script = script(rt.alloc(), "dc 4 100\n", calls)?;
     check_script(rt, words, script.as_str(), want, status);
     Ok(())
 }
@@ -151,42 +75,7 @@ fn most_workers(rt: HostRuntime) -> Result<(), Fail> {
     Ok(())
 }
 
-// One record has room, and nine operations.
-const EVERY_ANSWER: &str = "dc 1 9
-proc put 2
-slot write 0 0 $0
-  ldxdw r6, [r1+8]
-  mov r1, 0
-  call 5
-  stxdw [r0+0], r6
-  mov r1, 0
-  call 2
-  exit
-end
-proc get 1
-slot read 0 0 $0
-  mov r1, 0
-  call 1
-  jeq r0, 0, +2
-  mov r0, 0
-  exit
-  mov r0, 1
-  exit
-end
-proc bad 1
-slot write 0 0 $0
-  mov r1, 0
-  call 1
-  jeq r0, 0, +5
-  stdw [r0+0], 7
-  mov r1, 0
-  call 3
-  mov r0, 5
-  exit
-  mov r0, 1
-  exit
-end
-first put 5 100
+const EVERY_CALL: &str = "first put 5 100
 call put 6 1
 call get 6
 call put 5 1
@@ -213,10 +102,13 @@ call 9 in doubt 11
 row 0/0/5 100
 ";
 
+// One record has room, and nine operations.
 #[test]
-fn every_answer(rt: HostRuntime) {
+fn every_answer(rt: HostRuntime) -> Result<(), Fail> {
     let words = ["procd", "run", "--workers", "1", "-"];
-    check_script(&rt, &words, EVERY_ANSWER, EVERY_ANSWERED, 0);
+    let script = joined(rt.alloc(), &["dc 1 9\n", PUT, GET, BAD, EVERY_CALL])?;
+    check_script(&rt, &words, script.as_str(), EVERY_ANSWERED, 0);
+    Ok(())
 }
 
 #[test]

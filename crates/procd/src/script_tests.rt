@@ -1,20 +1,11 @@
+use crate::test_scripts::{BAD, GET, MOVE, check_script, joined, script};
 use crate::tests::run;
 use std::test::Fail;
 
 const VERIFY: [&str; 3] = ["procd", "verify", "-"];
 
 // Scripts, what is printed for their procedures, and the status.
-const VERIFIED: [(&str, &str, u8); 11] = [
-    (
-        "dc 4 100\nproc put 2\nslot write 0 0 $0\n  ldxdw r6, [r1+8]\n  mov r1, 0\n  call 5\n  stxdw [r0+0], r6\n  mov r1, 0\n  call 2\n  exit\nend\nproc get 1\nslot read 0 0 $0\n  mov r1, 0\n  call 1\n  jeq r0, 0, +2\n  mov r0, 0\n  exit\n  mov r0, 1\n  exit\nend\nproc bad 1\nslot write 0 0 $0\n  mov r1, 0\n  call 1\n  jeq r0, 0, +5\n  stdw [r0+0], 7\n  mov r1, 0\n  call 3\n  mov r0, 5\n  exit\n  mov r0, 1\n  exit\nend\nproc move 3\nslot write 0 0 $0\nslot write 0 0 $1\n  ldxdw r6, [r1+16]\n  mov r1, 0\n  call 1\n  jeq r0, 0, +16\n  mov r7, r0\n  mov r1, 1\n  call 1\n  jeq r0, 0, +12\n  mov r8, r0\n  ldxdw r2, [r7+0]\n  sub r2, r6\n  stxdw [r7+0], r2\n  ldxdw r2, [r8+0]\n  add r2, r6\n  stxdw [r8+0], r2\n  mov r1, 0\n  call 3\n  mov r1, 1\n  call 3\n  exit\n  mov r0, 1\n  exit\nend\n",
-        "put accepted 7\nget accepted 7\nbad accepted 10\nmove accepted 22\n",
-        0,
-    ),
-    (
-        "dc 4 100\nproc put 2\nslot write 0 0 $0\n  ldxdw r6, [r1+16]\n  mov r1, 0\n  call 5\n  stxdw [r0+0], r6\n  mov r1, 0\n  call 2\n  exit\nend\nproc get 1\nslot read 0 0 $0\n  mov r1, 0\n  call 1\n  jeq r0, 0, +2\n  mov r0, 0\n  exit\n  mov r0, 1\n  exit\nend\nproc bad 1\nslot write 0 0 $0\n  mov r1, 0\n  call 1\n  jeq r0, 0, +5\n  stdw [r0+0], 7\n  mov r1, 0\n  call 3\n  mov r0, 5\n  exit\n  mov r0, 1\n  exit\nend\nproc move 3\nslot write 0 0 $0\nslot write 0 0 $1\n  ldxdw r6, [r1+16]\n  mov r1, 0\n  call 1\n  jeq r0, 0, +16\n  mov r7, r0\n  mov r1, 1\n  call 1\n  jeq r0, 0, +12\n  mov r8, r0\n  ldxdw r2, [r7+0]\n  sub r2, r6\n  stxdw [r7+0], r2\n  ldxdw r2, [r8+0]\n  add r2, r6\n  stxdw [r8+0], r2\n  mov r1, 0\n  call 3\n  mov r1, 1\n  call 3\n  exit\n  mov r0, 1\n  exit\nend\n",
-        "put V8 OutOfBounds slot 0\nget accepted 7\nbad accepted 10\nmove accepted 22\n",
-        1,
-    ),
+const VERIFIED: [(&str, &str, u8); 9] = [
     (
         "dc 1 1\nproc a 1\nslot read 0 0 0\nmov r1, 0\ncall 1\nldxdw r1, [r0+0]\nmov r0, 0\nexit\nend\n",
         "a V10 MaybeNull slot 2\n",
@@ -61,10 +52,50 @@ const VERIFIED: [(&str, &str, u8); 11] = [
 #[test]
 fn scripts(rt: HostRuntime) {
     for (script, want, status) in VERIFIED {
-        let ended = run(&rt, &VERIFY, script.as_bytes());
-        assert_eq!(rt; ended.out.as_slice(), want.as_bytes(), "of {script}");
-        assert_eq!(rt; ended.status, status, "of {script}");
+        check_script(&rt, &VERIFY, script, want, status);
     }
+}
+
+const ACCEPTED: &str = "put accepted 7
+get accepted 7
+bad accepted 10
+move accepted 22
+";
+
+#[test]
+fn four_procedures(rt: HostRuntime) -> Result<(), Fail> {
+    let script = script(rt.alloc(), "dc 4 100\n", "")?;
+    check_script(&rt, &VERIFY, script.as_str(), ACCEPTED, 0);
+    Ok(())
+}
+
+// It has two arguments, and reads a third.
+const BEYOND_ITS_ARGUMENTS: &str = "proc put 2
+slot write 0 0 $0
+  ldxdw r6, [r1+16]
+  mov r1, 0
+  call 5
+  stxdw [r0+0], r6
+  mov r1, 0
+  call 2
+  exit
+end
+";
+
+const REFUSED_AND_ACCEPTED: &str = "put V8 OutOfBounds slot 0
+get accepted 7
+bad accepted 10
+move accepted 22
+";
+
+#[test]
+fn one_of_four_is_refused(rt: HostRuntime) -> Result<(), Fail> {
+    let script = joined(
+        rt.alloc(),
+        &["dc 4 100\n", BEYOND_ITS_ARGUMENTS, GET, BAD, MOVE],
+    )?;
+    check_script(&rt, &VERIFY, script.as_str(), REFUSED_AND_ACCEPTED, 1);
+    Ok(())
 }
 
 // Scripts that are refused, at which line and why.

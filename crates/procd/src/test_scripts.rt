@@ -1,0 +1,107 @@
+//! Procedures that the tests' scripts have, and how a script is tried.
+
+use crate::tests::run;
+use std::alloc::{AllocError, Global};
+use std::process::Abort;
+use std::rt::Files;
+use std::sync::Wait;
+use std::thread::Threads;
+use std::time::Clock;
+
+/// Inserts a record with a number.
+pub(crate) const PUT: &str = "proc put 2
+slot write 0 0 $0
+  ldxdw r6, [r1+8]
+  mov r1, 0
+  call 5
+  stxdw [r0+0], r6
+  mov r1, 0
+  call 2
+  exit
+end
+";
+
+/// Reads a record; aborts where there is none.
+pub(crate) const GET: &str = "proc get 1
+slot read 0 0 $0
+  mov r1, 0
+  call 1
+  jeq r0, 0, +2
+  mov r0, 0
+  exit
+  mov r0, 1
+  exit
+end
+";
+
+/// Updates a record, and aborts.
+pub(crate) const BAD: &str = "proc bad 1
+slot write 0 0 $0
+  mov r1, 0
+  call 1
+  jeq r0, 0, +5
+  stdw [r0+0], 7
+  mov r1, 0
+  call 3
+  mov r0, 5
+  exit
+  mov r0, 1
+  exit
+end
+";
+
+/// Moves an amount from one record to another.
+pub(crate) const MOVE: &str = "proc move 3
+slot write 0 0 $0
+slot write 0 0 $1
+  ldxdw r6, [r1+16]
+  mov r1, 0
+  call 1
+  jeq r0, 0, +16
+  mov r7, r0
+  mov r1, 1
+  call 1
+  jeq r0, 0, +12
+  mov r8, r0
+  ldxdw r2, [r7+0]
+  sub r2, r6
+  stxdw [r7+0], r2
+  ldxdw r2, [r8+0]
+  add r2, r6
+  stxdw [r8+0], r2
+  mov r1, 0
+  call 3
+  mov r1, 1
+  call 3
+  exit
+  mov r0, 1
+  exit
+end
+";
+
+/// A text of these parts.
+pub(crate) fn joined(alloc: Global, parts: &[&str]) -> Result<String, AllocError> {
+    let mut text = String::new(alloc);
+    for part in parts {
+        text.push_str(part)?;
+    }
+    Ok(text)
+}
+
+/// A script of a data component, the four procedures and what stands behind them.
+pub(crate) fn script(alloc: Global, dc: &str, rest: &str) -> Result<String, AllocError> {
+    joined(alloc, &[dc, PUT, GET, BAD, MOVE, rest])
+}
+
+/// Runs a script, and looks at what is printed and at the status.
+pub(crate) fn check_script<R: Files + Clock + AllocGlobal + Threads + Wait + Abort + Sync>(
+    rt: &R,
+    words: &[&str],
+    script: &str,
+    want: &str,
+    status: u8,
+) {
+    let ended = run(rt, words, script.as_bytes());
+    assert_eq!(rt; ended.out.as_slice(), want.as_bytes(), "of {script}");
+    assert_eq!(rt; ended.status, status, "of {script}");
+}
