@@ -18,7 +18,7 @@ import subprocess
 import sys
 import tempfile
 
-from explore import TEXTS
+from plain_model import TEXTS
 
 TOP = pathlib.Path(__file__).resolve().parent.parent
 PROCD = TOP / "crates" / "procd" / "out" / "procd"
@@ -45,13 +45,16 @@ def by_script(calls, seed):
     answers = [f"first {i} committed" for i in range(RECORDS)] + [f"call {i} committed" for i in range(calls)]
     rows = [line.split() for line in lines[len(answers) :]]
     total = sum(int(value) for _, _, value in rows) % 2**64
-    good = ran.returncode == 0 and lines[: len(answers)] == answers and len(rows) == RECORDS and total == RECORDS * AMOUNT
-    print(f"script: {calls} calls by 8 workers, {'all committed, the sum stays' if good else 'WRONG ' + ran.stderr}", flush=True)
+    good = ran.returncode == 0 and lines[: len(answers)] == answers
+    good = good and len(rows) == RECORDS and total == RECORDS * AMOUNT
+    said = "all committed, the sum stays" if good else "WRONG " + ran.stderr
+    print(f"script: {calls} calls by 8 workers, {said}", flush=True)
     return good
 
 
 def by_storm(calls, seed):
-    ran = subprocess.run([BENCH, "storm", str(seed), "8", str(calls)], stdin=subprocess.DEVNULL, capture_output=True, text=True)
+    words = [BENCH, "storm", str(seed), "8", str(calls)]
+    ran = subprocess.run(words, stdin=subprocess.DEVNULL, capture_output=True, text=True)
     words = ran.stdout.split()
     good = ran.returncode == 0 and words[-2:] == ["other", "0"]
     print(f"storm of seed {seed}: {ran.stdout.strip()}{'' if good else ' WRONG'}", flush=True)
