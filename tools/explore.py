@@ -11,8 +11,8 @@ transaction's locks, numbers rise one by one. The script of a run has random cal
 workers; there has to be an order of the calls in which the model, call after call, gives each its answer
 and leaves the rows.
 
-At the first difference the seed and a shortest script that shows it are printed, with status 1: no step
-of it can be left out. Else: how many steps of which kind were made, and how many calls ended how.
+At the first difference the seed and a short script that shows it are printed, with status 1: no step of it
+can be left out, and few others are shorter. Else: how many steps of which kind were made, and how many calls ended how.
 """
 import argparse
 import collections
@@ -23,13 +23,14 @@ import sys
 import tempfile
 import time
 
-from plain_model import PROCEDURES, TEXTS, ZEROS, World, alone, put_at, record_text, replayed, said_text, value_text
+from plain_model import PROCEDURES, TEXTS, ZEROS, World, alone, fits, put_at
+from plain_model import record_text, replayed, said_text, value_text
 
 TOP = pathlib.Path(__file__).resolve().parent.parent
 AMPLE = [(20, 5000)] * 2  # rows and operations of the data components, where they don't matter
+HUNTED = 300  # how many further scripts are looked through for a shorter one
 AGAIN = 10  # how often a script of calls is run before it is said to show nothing
-WORDS = {"admit": 3, "ask": 2, "undo": 2, "end": 2, "resend": 3, "perform": 5, "take": 5, "restart": 1, "forge": 2}
-ANSWERS = "value absent done done_was duplicate missing noroom old".split()
+WORDS = {"admit": 3, "ask": 2, "undo": 2, "end": 2, "resend": 3, "perform": 5, "take": 5, "restart": 1, "forge": 4}
 
 
 class Procd:
@@ -68,13 +69,17 @@ def line_of(step):
     return " ".join(map(str, step)) + "\n"
 
 
-def some_said(draw):
-    value, word = put_at(ZEROS, 0, draw.randrange(4)), draw.choice(ANSWERS)
-    if word == "value":
-        return word, value
-    if word.startswith("done"):
-        return "done", value if word == "done_was" else None
-    return (word,)
+def some_forgery(draw, world):
+    """A reply that nobody sent: mostly to a number that is open, and often one that fits."""
+    value = put_at(ZEROS, 0, draw.randrange(4))
+    said = [("value", value), ("done", None), ("done", value)]
+    said += [(word,) for word in ("absent", "duplicate", "missing", "noroom", "old")]
+    if not world.unanswered or draw.random() < 0.3:
+        return "forge", draw.randrange(world.last + 2), draw.choice(said)
+    n = draw.choice(list(world.unanswered))
+    if draw.random() < 0.6:
+        said = [it for it in said if fits(world.unanswered[n][1], it)]
+    return "forge", n, draw.choice(said)
 
 
 def some_call(draw, keys):
@@ -111,7 +116,7 @@ def any_step(draw, world):
     if word == "admit":
         return some_admission(draw)
     if word == "forge":
-        return word, draw.randrange(world.last + 2), some_said(draw)
+        return some_forgery(draw, world)
     places = {"perform": world.copies, "take": world.replies, "restart": world.dcs}
     if word in places:
         return word, draw.randrange(len(places[word]) + 1)
@@ -137,7 +142,7 @@ class Steps:
 
     @staticmethod
     def drawn(draw, count):
-        dcs = [(draw.choice([1, 2, 3, 20]), draw.choice([50, 1000, 5000])) for _ in range(2)]
+        dcs = [(draw.choice([1, 2, 3, 20]), draw.choice([50, 5000, 5000, 5000])) for _ in range(2)]
         world, steps = World(dcs, list(PROCEDURES)), []
         for _ in range(count):
             steps.append(some_step(draw, world))
@@ -350,12 +355,21 @@ def shows_again(procd):
     return shows
 
 
+def hunted(seed, case, shows):
+    """The shortest case of this one and of others, no longer than it, that are drawn for it."""
+    for other in range(HUNTED if isinstance(case, Steps) else 0):
+        drawn = Steps.drawn(random.Random(f"{seed} {other}"), len(case.parts))
+        if shows(drawn):
+            case = min(case, shortest(drawn, shows), key=lambda it: len(it.parts))
+    return case
+
+
 def tell(seed, case, why, shows):
-    print(f"seed {seed}: {why}")
-    short = shortest(case, shows)
+    print(f"seed {seed}: {why}", flush=True)
+    short = hunted(seed, shortest(case, shows), shows) if shows(case) else case
     command = f"run --workers {short.workers}" if isinstance(short, Calls) else "world --log"
-    differs = shows(short)
-    print(f"the shortest script, {len(short.parts)} steps, by `procd {command}`: {differs and differs[1]}")
+    _, why = shows(short) or (0, f"it didn't come again in {AGAIN} runs")
+    print(f"a short script of {len(short.parts)} steps, for `procd {command}`: {why}")
     print(short.text(), end="")
 
 
