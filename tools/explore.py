@@ -30,7 +30,7 @@ TOP = pathlib.Path(__file__).resolve().parent.parent
 AMPLE = [(20, 5000)] * 2  # rows and operations of the data components, where they don't matter
 HUNTED = 300  # how many further scripts are looked through for a shorter one
 AGAIN = 10  # how often a script of calls is run before it is said to show nothing
-WORDS = {"admit": 3, "ask": 2, "undo": 2, "end": 2, "resend": 3, "perform": 5, "take": 5, "restart": 1, "forge": 4}
+WORDS = {"admit": 3, "ask": 2, "undo": 2, "end": 2, "resend": 3, "perform": 5, "take": 5, "restart": 1, "forge": 1}
 
 
 class Procd:
@@ -96,9 +96,10 @@ def some_admission(draw):
 
 def next_step(draw, world):
     """A step with which some open transaction goes on, or None."""
-    if not world.txns:
+    going = [serial for serial, txn in world.txns.items() if txn.open or not txn.is_stuck()]
+    if not going:
         return None
-    serial = draw.choice(list(world.txns))
+    serial = draw.choice(going)
     txn = world.txns[serial]
     if txn.open:
         here = [i for i, (n, _) in enumerate(world.replies) if n == txn.open]
@@ -110,9 +111,9 @@ def next_step(draw, world):
     return "ask", serial
 
 
-def any_step(draw, world):
+def any_step(draw, world, weights):
     """Any step: mostly late, repeated or out of place."""
-    word = draw.choices(list(WORDS), WORDS.values())[0]
+    word = draw.choices(list(weights), weights.values())[0]
     if word == "admit":
         return some_admission(draw)
     if word == "forge":
@@ -123,10 +124,10 @@ def any_step(draw, world):
     return word, draw.choice(list(world.txns) + [0, world.serials + 1])
 
 
-def some_step(draw, world):
+def some_step(draw, world, weights):
     if draw.random() < 0.6:
         return next_step(draw, world) or some_admission(draw)
-    return any_step(draw, world) if draw.random() < 0.7 else some_admission(draw)
+    return any_step(draw, world, weights) if draw.random() < 0.7 else some_admission(draw)
 
 
 # What a step refers to: transactions, wires, replies or numbers, and in which of its words.
@@ -142,10 +143,10 @@ class Steps:
 
     @staticmethod
     def drawn(draw, count):
-        dcs = [(draw.choice([1, 2, 3, 20]), draw.choice([50, 5000, 5000, 5000])) for _ in range(2)]
-        world, steps = World(dcs, list(PROCEDURES)), []
+        dcs = [(draw.choice([1, 2, 3, 20]), draw.choice([50] + 7 * [5000])) for _ in range(2)]
+        world, steps, weights = World(dcs, list(PROCEDURES)), [], {**WORDS, "forge": draw.choice([0, 1, 5])}
         for _ in range(count):
-            steps.append(some_step(draw, world))
+            steps.append(some_step(draw, world, weights))
             world.step(*steps[-1])
         return Steps(dcs, list(PROCEDURES), steps)
 
@@ -364,8 +365,8 @@ def hunted(seed, case, shows):
     return case
 
 
-def tell(seed, case, why, shows):
-    print(f"seed {seed}: {why}", flush=True)
+def tell(seed, place, case, why, shows):
+    print(f"seed {seed}, script {place}: {why}", flush=True)
     short = hunted(seed, shortest(case, shows), shows) if shows(case) else case
     command = f"run --workers {short.workers}" if isinstance(short, Calls) else "world --log"
     _, why = shows(short) or (0, f"it didn't come again in {AGAIN} runs")
@@ -378,11 +379,11 @@ def explored(procd, options, made):
     shows, seed, until = shows_again(procd), options.seed, time.monotonic() + options.seconds
     while time.monotonic() < until:
         draw = random.Random(seed)
-        for kind in (Steps, Calls, Calls):
+        for place, kind in enumerate((Steps, Calls, Calls)):
             case = kind.drawn(draw, options.steps)
             differs = case.difference(procd)
             if differs:
-                tell(seed, case, differs[1], shows)
+                tell(seed, place, case, differs[1], shows)
                 return False
             made.update(case.made())
             made[kind] += 1

@@ -84,19 +84,21 @@ def inserted(at, step, line, made):
     return [*STEPS[:at], (step, line.format(first)), *later]
 
 
-def variants():
-    """Each script with one step more, as steps and the lines that they are to print."""
+def restarted():
+    """Each script with a restart more, as steps and the lines that they are to print."""
+    return [inserted(at, "restart 0", "restarted 0", None) for at in range(len(STEPS) + 1)]
+
+
+def forged():
+    """Each script with a reply more that nobody sent."""
     for at in range(len(STEPS) + 1):
-        yield inserted(at, "restart 0", "restarted 0", None)
         for number in range(6):
             for said in SAIDS:
                 yield inserted(at, f"forge {number} {said}", "forged {}", "reply")
-    for at in range(len(STEPS)):
-        yield from repeated(at)
 
 
 def repeated(at):
-    """Steps done again: a wire is performed once more at once, and a request is sent once more."""
+    """The script with this step done again: a wire is performed, or a request sent, a second time."""
     step, line = STEPS[at]
     if step.startswith("perform"):
         yield inserted(at + 1, step, re.sub(r"\d+", "{}", line, count=1), "reply")
@@ -106,8 +108,9 @@ def repeated(at):
 
 
 def hostile_worlds(program, tally, every):
-    """Runs each of them."""
-    for steps in [STEPS, *list(variants())[::every]]:
+    """Runs each of them; of those with a forged reply each `every`th."""
+    again = [script for at in range(len(STEPS)) for script in repeated(at)]
+    for steps in [STEPS, *restarted(), *again, *list(forged())[::every]]:
         text = SCRIPT + "".join(step + "\n" for step, _ in steps)
         ran = program.run(["world", "-"], text.encode())
         lines = ran.out.decode().splitlines()
