@@ -1,5 +1,5 @@
 #!/usr/bin/env python3
-"""Hostile use of the program: code, worlds, files and memory that are against it.
+"""Hostile use of the program: code, texts, worlds, memory and files that are against it.
 
 usage: tools/hostile.py [--procd PATH] [--every N] [SECTION..]
 
@@ -13,18 +13,25 @@ import tempfile
 
 from hostile_code import hostile_code
 from hostile_faults import hostile_files, hostile_memory
+from hostile_texts import hostile_texts
 from hostile_worlds import hostile_worlds
 from trying import Program, Tally
 
 TOP = pathlib.Path(__file__).resolve().parent.parent
-SECTIONS = {"code": hostile_code, "worlds": hostile_worlds, "memory": hostile_memory, "files": hostile_files}
+SECTIONS = {
+    "code": hostile_code,
+    "texts": hostile_texts,
+    "worlds": hostile_worlds,
+    "memory": hostile_memory,
+    "files": hostile_files,
+}
 
 
 def main():
     parser = argparse.ArgumentParser(description=__doc__, formatter_class=argparse.RawDescriptionHelpFormatter)
     path = TOP / "crates" / "procd" / "out" / "procd"
     parser.add_argument("--procd", default=path, help="the program (that of crates/procd/out)")
-    parser.add_argument("--every", type=int, default=1, help="try each Nth of what there is to try (1: all)")
+    parser.add_argument("--every", type=int, default=1, help="try one of N of what there is to try (1: all)")
     parser.add_argument("sections", nargs="*", metavar="SECTION", help=f"{', '.join(SECTIONS)} (all)")
     options, good = parser.parse_args(), True
     with tempfile.TemporaryDirectory() as folder:

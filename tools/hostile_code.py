@@ -7,7 +7,7 @@ into scripts as text, with the slots of the procedure that they came from: `veri
 import collections
 import re
 
-from trying import undocumented
+from trying import some_of, undocumented
 
 # Bytes as LLVM's assembler makes them, and the declaration.
 Procedure = collections.namedtuple("Procedure", "code args slots")
@@ -69,10 +69,10 @@ def changed(code):
 
 
 def chosen(procedure, every):
-    """The changed codes without repetitions; each `every`th, and fewer of those that end within a slot."""
+    """The changed codes without repetitions; one of so many, and fewer of those that end within a slot."""
     codes = list(dict.fromkeys(changed(bytes.fromhex(procedure.code))))
-    whole = [code for code in codes if len(code) % 8 == 0]
-    return whole[::every] + [code for code in codes if len(code) % 8][:: 1 if every == 1 else 10 * every]
+    whole, cut = ([code for code in codes if bool(len(code) % 8) == is_cut] for is_cut in (False, True))
+    return some_of(whole, every) + some_of(cut, 1 if every == 1 else 10 * every)
 
 
 def of_execution(ran, data):

@@ -5,6 +5,8 @@ What is printed stays but for the line that is added, and places of later wires 
 """
 import re
 
+from trying import some_of
+
 SCRIPT = """\
 dc 4 100
 proc put 2
@@ -108,9 +110,9 @@ def repeated(at):
 
 
 def hostile_worlds(program, tally, every):
-    """Runs each of them; of those with a forged reply each `every`th."""
+    """Runs each of them; of those with a forged reply one of so many."""
     again = [script for at in range(len(STEPS)) for script in repeated(at)]
-    for steps in [STEPS, *restarted(), *again, *list(forged())[::every]]:
+    for steps in [STEPS, *restarted(), *again, *some_of(forged(), every)]:
         text = SCRIPT + "".join(step + "\n" for step, _ in steps)
         ran = program.run(["world", "-"], text.encode())
         lines = ran.out.decode().splitlines()

@@ -1,12 +1,20 @@
 """Running the program, and what each of its ends has to look like."""
 import collections
 import os
+import random
 import re
 import subprocess
 
 Ran = collections.namedtuple("Ran", "status out err")
 REASONS = {3: rb"cannot read [^\n]+\n|cannot write\n", 4: rb"memory\n"}
 SHOWN = 5  # of what is wrong, how much is shown
+
+
+def some_of(items, every):
+    """All of them, or one of so many, drawn the same way every time."""
+    items = list(items)
+    places = random.Random(every).sample(range(len(items)), -(-len(items) // every))
+    return [items[place] for place in sorted(places)]
 
 
 class Program:
