@@ -177,6 +177,10 @@ class Steps:
             words = line.split()
             yield " ".join([step[0], *words[: 2 if words[0] == "illegal" else 1]])
 
+    def heads(self):
+        """The places of admissions, the last first: without one all that comes of it goes."""
+        return [at for at, step in reversed(list(enumerate(self.parts))) if step[0] == "admit"]
+
     def without(self, first, count):
         """Scripts without these steps, the likelier first."""
         rest = self.parts[:first] + self.parts[first + count :]
@@ -243,7 +247,7 @@ class Calls:
 
     @staticmethod
     def drawn(draw, count):
-        groups = range(count // 40)
+        groups = range(count // 10)
         first = [call for group in groups for call in some_group(draw, group, draw.randrange(3))]
         calls = [call for group in groups for call in some_group(draw, group, draw.randrange(2, 7))]
         return Calls(list(PROCEDURES), first, calls, draw.choice([2, 3, 4, 8, 64]))
@@ -284,6 +288,9 @@ class Calls:
         for _ in self.parts:
             yield f"call by one of {self.workers} workers"
 
+    def heads(self):
+        return []
+
     def without(self, first, count):
         yield Calls(self.names, self.first, self.parts[:first] + self.parts[first + count :], self.workers)
 
@@ -319,10 +326,10 @@ def advanced(ends, at, call, answer):
 # ---- shortest scripts
 
 
-def thinned(case, size, shows):
-    """The case without those runs of so many parts that the difference doesn't need."""
-    for at in range(len(case.parts) - size, -size, -size):
-        for fewer in case.without(max(at, 0), size):
+def thinned(case, places, size, shows):
+    """The case without those runs of so many parts, at these places, that the difference doesn't need."""
+    for at in places:
+        for fewer in case.without(at, size):
             if len(fewer.parts) < len(case.parts) and shows(fewer):
                 case = fewer
                 break
@@ -334,11 +341,11 @@ def shortest(case, shows):
     place, size = shows(case)[0], len(case.parts)
     for cut in case.without(place + 1, size):
         case = cut if shows(cut) else case
+    case = thinned(case, case.heads(), 1, shows)
     while size:
-        fewer = thinned(case, size, shows)
-        if len(fewer.parts) == len(case.parts):
-            size //= 2
-        case = fewer
+        count = len(case.parts)
+        case = thinned(case, [max(at, 0) for at in range(count - size, -size, -size)], size, shows)
+        size = size // 2 if len(case.parts) == count else size
     simpler = True
     while simpler:
         simpler = next((it for it in case.simpler() if shows(it)), None)
@@ -397,7 +404,7 @@ def main():
     parser.add_argument("--procd", default=path, help="the program (that of crates/procd/out)")
     parser.add_argument("--seconds", type=float, default=60, help="how long to go on (60)")
     parser.add_argument("--seed", type=int, default=1, help="the first seed (1); then the next")
-    parser.add_argument("--steps", type=int, default=2000, help="steps a script (2000)")
+    parser.add_argument("--steps", type=int, default=500, help="steps a script (500)")
     options, made = parser.parse_args(), collections.Counter()
     with tempfile.TemporaryDirectory() as folder:
         if not explored(Procd(options.procd, pathlib.Path(folder) / "script.txt"), options, made):
