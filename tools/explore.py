@@ -12,7 +12,8 @@ workers; there has to be an order of the calls in which the model, call after ca
 and leaves the rows.
 
 At the first difference the seed and a short script that shows it are printed, with status 1: no step of it
-can be left out, and few others are shorter. Else: how many steps of which kind were made, and how many calls ended how.
+can be left out, and others were looked through for a shorter one. Else: how many steps of which kind
+were made, and how many calls ended how.
 """
 import argparse
 import collections
@@ -243,7 +244,7 @@ class Calls:
     """A script of calls, the first ones by one worker."""
 
     def __init__(self, names, first, calls, workers):
-        self.names, self.first, self.parts, self.workers = names, first, calls, workers
+        self.names, self.first, self.parts, self.workers, self.answers = names, first, calls, workers, []
 
     @staticmethod
     def drawn(draw, count):
@@ -277,6 +278,7 @@ class Calls:
         if ran is None:
             return 0, "the lines aren't answers of these calls"
         answers, rows = ran
+        self.answers = answers[len(self.first) :]
         for group, (first, calls) in self.groups(answers).items():
             here = [row for row in rows if int(row.split()[1].split("/")[2]) // KEYS == group]
             if here not in orders(first, calls):
@@ -285,8 +287,8 @@ class Calls:
         return None
 
     def made(self):
-        for _ in self.parts:
-            yield f"call by one of {self.workers} workers"
+        for answer in self.answers:
+            yield f"call {answer.split()[0]} by {self.workers} workers"
 
     def heads(self):
         return []
@@ -406,6 +408,8 @@ def main():
     parser.add_argument("--seed", type=int, default=1, help="the first seed (1); then the next")
     parser.add_argument("--steps", type=int, default=500, help="steps a script (500)")
     options, made = parser.parse_args(), collections.Counter()
+    if not pathlib.Path(options.procd).exists():
+        parser.error(f"there is no {options.procd}: ./procd builds it")
     with tempfile.TemporaryDirectory() as folder:
         if not explored(Procd(options.procd, pathlib.Path(folder) / "script.txt"), options, made):
             sys.exit(1)

@@ -34,6 +34,10 @@ def main():
     parser.add_argument("--every", type=int, default=1, help="try one of N of what there is to try (1: all)")
     parser.add_argument("sections", nargs="*", metavar="SECTION", help=f"{', '.join(SECTIONS)} (all)")
     options, good = parser.parse_args(), True
+    if not pathlib.Path(options.procd).exists():
+        parser.error(f"there is no {options.procd}: ./procd builds it")
+    if not set(options.sections) <= set(SECTIONS):
+        parser.error(f"the sections are {', '.join(SECTIONS)}")
     with tempfile.TemporaryDirectory() as folder:
         program = Program(options.procd, pathlib.Path(folder))
         for section in options.sections or SECTIONS:
