@@ -1,14 +1,19 @@
 #!/usr/bin/env python3
-"""Random schedules: `procd world --log` beside a plain model that shares no code with it.
+"""Random schedules: `procd world --log` and `procd run` beside a plain model that shares no code with them.
 
 usage: tools/explore.py [--procd PATH] [--seconds N] [--seed N] [--steps N]
 
-A script of random steps is made from a seed: calls that overlap, operations asked for in any order,
-messages that are lost, repeated, late and forged, data components that restart, undo. The model here
-says what each step prints, what is logged and which rows are left; and the log that procd prints is
-replayed to see that no two operations in flight conflict, that each is covered by its transaction's
-locks, and that numbers and the low-water mark are right. At the first difference the seed and a
-shortest script that shows it are printed, with status 1. Else: how many steps of which kind were made.
+From each seed come a world and some runs. The script of a world has random steps: calls that overlap,
+operations asked for in any order, messages that are lost, repeated, late and forged, data components that
+restart, undo. The model says what each step prints, which rows are left and what is logged; and the
+log that procd prints is replayed by itself: no two operations in flight conflict, each is covered by its
+transaction's locks, numbers rise one by one. The script of a run has random calls, made by up to 64
+workers; there has to be an order of the calls in which the model, call after call, gives each its answer
+and leaves the rows.
+
+At the first difference the seed and a short script that shows it are printed, with status 1: no step of it
+can be left out, and others were looked through for a shorter one. Else: how many steps of which kind
+were made, and how many calls ended how.
 """
 import argparse
 import collections
@@ -19,542 +24,83 @@ import sys
 import tempfile
 import time
 
+from plain_model import PROCEDURES, TEXTS, ZEROS, World, alone, fits, put_at
+from plain_model import record_text, replayed, said_text, value_text
+
 TOP = pathlib.Path(__file__).resolve().parent.parent
-ZEROS = bytes(64)
-FOUR = 4  # numbers that an undo is given at most
+AMPLE = [(20, 5000)] * 2  # rows and operations of the data components, where they don't matter
+HUNTED = 300  # how many further scripts are looked through for a shorter one
+AGAIN = 10  # how often a script of calls is run before it is said to show nothing
+WORDS = {"admit": 3, "ask": 2, "undo": 2, "end": 2, "resend": 3, "perform": 5, "take": 5, "restart": 1, "forge": 1}
 
 
-def number(n):
-    return n.to_bytes(8, "little")
+class Procd:
+    """The program, and the file that it reads scripts from."""
 
+    def __init__(self, path, file):
+        self.path, self.file = path, file
 
-def put_at(value, place, n):
-    return value[:place] + number(n % 2**64) + value[place + 8 :]
+    def __call__(self, words, text):
+        """Its lines, its status and what it said on standard error."""
+        self.file.write_text(text)
+        ran = subprocess.run([self.path, *words, self.file], capture_output=True, text=True)
+        return ran.stdout.splitlines(), ran.returncode, ran.stderr
 
 
-# ---- procedures: the text, and what it does, as a generator of operations that is sent the answers
+def script_of(dcs, names, lines):
+    return "".join([f"dc {rows} {ops}\n" for rows, ops in dcs] + [TEXTS[name] for name in names] + lines)
 
-TEXTS = {
-    "put": """\
-proc put 2
-slot write 0 0 $0
-  ldxdw r6, [r1+8]
-  mov r1, 0
-  call 5
-  stxdw [r0+0], r6
-  mov r1, 0
-  call 2
-  exit
-end
-""",
-    "get": """\
-proc get 1
-slot read 0 0 $0
-  mov r1, 0
-  call 1
-  jeq r0, 0, +2
-  mov r0, 0
-  exit
-  mov r0, 1
-  exit
-end
-""",
-    "move": """\
-proc move 3
-slot write 0 0 $0
-slot write 0 0 $1
-  ldxdw r6, [r1+16]
-  mov r1, 0
-  call 1
-  jeq r0, 0, +16
-  mov r7, r0
-  mov r1, 1
-  call 1
-  jeq r0, 0, +12
-  mov r8, r0
-  ldxdw r2, [r7+0]
-  sub r2, r6
-  stxdw [r7+0], r2
-  ldxdw r2, [r8+0]
-  add r2, r6
-  stxdw [r8+0], r2
-  mov r1, 0
-  call 3
-  mov r1, 1
-  call 3
-  exit
-  mov r0, 1
-  exit
-end
-""",
-    "pair": """\
-proc pair 2
-slot write 0 0 $0
-slot write 1 7 $0
-  ldxdw r6, [r1+8]
-  mov r1, 0
-  call 5
-  stxdw [r0+0], r6
-  mov r1, 0
-  call 2
-  mov r1, 1
-  call 5
-  stxdw [r0+8], r6
-  mov r1, 1
-  call 2
-  mov r0, r6
-  exit
-end
-""",
-    "renew": """\
-proc renew 2
-slot write 1 7 $0
-  ldxdw r6, [r1+8]
-  mov r1, 0
-  call 4
-  mov r7, r0
-  mov r1, 0
-  call 5
-  stxdw [r0+0], r6
-  mov r1, 0
-  call 2
-  lsh r0, 1
-  add r0, r7
-  exit
-end
-""",
-    "churn": """\
-proc churn 1
-slot write 0 0 $0
-slot write 1 7 3
-  mov r1, 0
-  call 1
-  jeq r0, 0, +3
-  stdw [r0+8], 9
-  mov r1, 0
-  call 3
-  mov r1, 1
-  call 4
-  mov r1, 1
-  call 2
-  mov r0, 4
-  exit
-end
-""",
-}
-HEADER = "".join(TEXTS.values())
 
-
-def failed(said):
-    return int(said[0] in ("duplicate", "missing"))
-
-
-def put(args):
-    return failed((yield "insert", (0, 0, args[0]), put_at(ZEROS, 0, args[1])))
-
-
-def get(args):
-    return int((yield "read", (0, 0, args[0]))[0] == "absent")
-
-
-def move(args):
-    first, second = (0, 0, args[0]), (0, 0, args[1])
-    one = yield "read", first
-    if one[0] == "absent":
-        return 1
-    two = yield "read", second
-    if two[0] == "absent":
-        return 1
-    take = put_at(one[1], 0, int.from_bytes(one[1][:8], "little") - args[2])
-    give = put_at(two[1], 0, int.from_bytes(two[1][:8], "little") + args[2])
-    yield "update", first, take
-    return failed((yield "update", second, give))
-
-
-def pair(args):
-    yield "insert", (0, 0, args[0]), put_at(ZEROS, 0, args[1])
-    yield "insert", (1, 7, args[0]), put_at(ZEROS, 8, args[1])
-    return args[1]
-
-
-def renew(args):
-    gone = failed((yield "delete", (1, 7, args[0])))
-    return 2 * failed((yield "insert", (1, 7, args[0]), put_at(ZEROS, 0, args[1]))) + gone
-
-
-def churn(args):
-    said = yield "read", (0, 0, args[0])
-    if said[0] == "value":
-        yield "update", (0, 0, args[0]), put_at(said[1], 8, 9)
-    yield "delete", (1, 7, 3)
-    yield "insert", (1, 7, 3), ZEROS
-    return 4
-
-
-Procedure = collections.namedtuple("Procedure", "name run args locks")
-PROCEDURES = [
-    Procedure("put", put, 2, lambda a: {(0, 0, a[0]): "write"}),
-    Procedure("get", get, 1, lambda a: {(0, 0, a[0]): "read"}),
-    Procedure("move", move, 3, lambda a: {(0, 0, a[0]): "write", (0, 0, a[1]): "write"}),
-    Procedure("pair", pair, 2, lambda a: {(0, 0, a[0]): "write", (1, 7, a[0]): "write"}),
-    Procedure("renew", renew, 2, lambda a: {(1, 7, a[0]): "write"}),
-    Procedure("churn", churn, 1, lambda a: {(0, 0, a[0]): "write", (1, 7, 3): "write"}),
-]
-
-# ---- texts
-
-
-def record_text(record):
-    return "%d/%d/%d" % record
-
-
-def value_text(value):
-    if any(value[8:]):
-        return "x" + value.hex()
-    return str(int.from_bytes(value[:8], "little"))
-
-
-def op_text(op):
-    return " ".join([op[0], record_text(op[1]), *map(value_text, op[2:])])
-
-
-def said_text(said):
-    if said[0] == "done":
-        return "done" if said[1] is None else "done was " + value_text(said[1])
-    return " ".join([said[0], *map(value_text, said[1:])])
-
-
-# ---- log records of 96 bytes
-
-SUBS = {"read": 1, "insert": 2, "update": 3, "delete": 4}
-
-
-def record_bytes(kind, sub, dc=0, table=0, txn=0, word=0, key=0, value=b""):
-    head = bytes([kind, sub]) + dc.to_bytes(2, "little") + table.to_bytes(2, "little") + bytes(2)
-    return head + number(txn) + number(word) + number(key) + value.ljust(64, b"\0")
-
-
-def admit_bytes(txn, procedure, args):
-    return record_bytes(1, len(args), txn=txn, word=procedure, value=b"".join(map(number, args)))
-
-
-def sent_bytes(kind, txn, n, op):
-    dc, table, key = op[1]
-    return record_bytes(kind, SUBS[op[0]], dc, table, txn, n, key, op[2] if len(op) > 2 else b"")
-
-
-def answer_bytes(txn, n, said):
-    subs = {"value": 1, "absent": 2, "duplicate": 5, "missing": 6, "noroom": 7}
-    if said[0] == "done":
-        return record_bytes(3, 3 if said[1] is None else 4, txn=txn, word=n, value=said[1] or b"")
-    return record_bytes(3, subs[said[0]], txn=txn, word=n, value=said[1] if said[0] == "value" else b"")
-
-
-def end_bytes(txn, outcome):
-    sub = {"committed": 1, "aborted": 2, "noroom": 3}[outcome[0]]
-    return record_bytes(5, sub, txn=txn, word=outcome[1] if len(outcome) > 1 else 0)
-
-
-# ---- the model
-
-
-class DataComponent:
-    """Performs each number once, and keeps what it answered (CIDR 2009)."""
-
-    def __init__(self, rows, ops):
-        self.rows_most, self.ops_most = rows, ops
-        self.rows, self.replies, self.mark = {}, {}, 0
-
-    def perform(self, n, low, op):
-        self.mark = max(self.mark, low)
-        if n <= self.mark:
-            return ("old",)
-        if n in self.replies:
-            return self.replies[n]
-        if len(self.replies) >= self.ops_most:
-            return None
-        self.replies[n] = self.first(op)
-        return self.replies[n]
-
-    def first(self, op):
-        there = self.rows.get(op[1])
-        if op[0] == "read":
-            return ("absent",) if there is None else ("value", there)
-        if op[0] == "insert":
-            if there is not None:
-                return ("duplicate",)
-            if len(self.rows) >= self.rows_most:
-                return ("noroom",)
-            self.rows[op[1]] = op[2]
-            return ("done", None)
-        if there is None:
-            return ("missing",)
-        if op[0] == "update":
-            self.rows[op[1]] = op[2]
-        else:
-            del self.rows[op[1]]
-        return ("done", there)
-
-
-def fits(op, said):
-    if op[0] == "read":
-        return said[0] in ("value", "absent")
-    if op[0] == "insert":
-        return said in (("done", None), ("duplicate",), ("noroom",))
-    return said[0] == "missing" or (said[0] == "done" and said[1] is not None)
-
-
-def inverse(op, former):
-    if op[0] == "insert":
-        return "delete", op[1]
-    return ("update" if op[0] == "update" else "insert"), op[1], former
-
-
-class Transaction:
-    def __init__(self, procedure, args):
-        self.locks, self.run = procedure.locks(args), procedure.run(args)
-        self.writes, self.tries, self.open, self.last = [], 0, None, None
-        self.outcome, self.next = None, None
-        self.advance(None)
-
-    def advance(self, said):
-        try:
-            self.next = self.run.send(said)
-        except StopIteration as end:
-            self.next, self.outcome = None, (("committed",) if end.value == 0 else ("aborted", end.value))
-
-    def is_stuck(self):
-        return bool(self.writes) and self.tries == FOUR
-
-    def to_undo(self):
-        return bool(self.outcome) and self.outcome != ("committed",) and bool(self.writes)
-
-    def answered(self, op, is_undo, said):
-        self.open = None
-        if is_undo:
-            if said[0] == "done":
-                self.writes.pop()
-                self.tries = 0
-        elif said[0] == "noroom":
-            self.next, self.outcome = None, ("noroom",)
-        else:
-            if said[0] == "done":
-                self.writes.append(inverse(op, said[1]))
-            self.advance(said)
-
-
-class World:
-    def __init__(self, dcs):
-        self.dcs = [DataComponent(*it) for it in dcs]
-        self.txns, self.copies, self.replies, self.log = {}, [], [], []
-        self.serials, self.last, self.unanswered = 0, 0, {}
-
-    def low(self):
-        return min(self.unanswered, default=self.last + 1) - 1
-
-    def send(self, n, op):
-        self.copies.append((n, self.low(), op))
-        return f"sent {len(self.copies) - 1} number {n} {op_text(op)} low {self.low()}"
-
-    def step(self, word, *args):
-        return getattr(self, word)(*args)
-
-    def admit(self, procedure, *args):
-        if len(args) != PROCEDURES[procedure].args:
-            return "illegal I1 Refused B5 ArgumentCount"
-        txn = Transaction(PROCEDURES[procedure], args)
-        for record in sorted(txn.locks):
-            holders = [t for t, other in self.txns.items() if "write" in (other.locks.get(record), other.locks.get(record) and txn.locks[record])]
-            if holders:
-                return f"illegal I1 Refused B1 Busy {record_text(record)} holder {min(holders)}"
-        self.serials += 1
-        self.txns[self.serials] = txn
-        self.log.append(admit_bytes(self.serials, procedure, args))
-        return f"admitted {self.serials}"
-
-    def give(self, kind, t, op):
-        self.last += 1
-        self.txns[t].open, self.txns[t].last = self.last, self.last
-        self.unanswered[self.last] = (t, op, kind == 4)
-        self.log.append(sent_bytes(kind, t, self.last, op))
-        return self.send(self.last, op)
-
-    def ask(self, t):
-        if t not in self.txns:
-            return "illegal I2 NoTxn"
-        txn = self.txns[t]
-        if txn.open:
-            return f"illegal I3 Waits {txn.open}"
-        if txn.is_stuck():
-            return f"stuck {t} number {txn.last}"
-        if txn.outcome:
-            return f"undoing {t}" if txn.to_undo() else f"over {t}"
-        return self.give(2, t, txn.next)
-
-    def undo(self, t):
-        if t not in self.txns:
-            return "illegal I2 NoTxn"
-        txn = self.txns[t]
-        if txn.open:
-            return f"illegal I3 Waits {txn.open}"
-        if not txn.outcome or txn.outcome == ("committed",):
-            return "illegal I4 Running"
-        if txn.is_stuck():
-            return f"stuck {t} number {txn.last}"
-        if not txn.writes:
-            return f"over {t}"
-        txn.tries += 1
-        return self.give(4, t, txn.writes[-1])
-
-    def end(self, t):
-        if t not in self.txns:
-            return "illegal I2 NoTxn"
-        txn = self.txns[t]
-        if txn.open or not txn.outcome or txn.to_undo():
-            return "illegal I5 NotOver"
-        del self.txns[t]
-        self.log.append(end_bytes(t, txn.outcome))
-        return f"ended {t} {' '.join(map(str, txn.outcome))} at {len(self.log) - 1}"
-
-    def resend(self, t):
-        if t not in self.txns:
-            return "illegal I2 NoTxn"
-        if not self.txns[t].open:
-            return "illegal I6 NothingOpen"
-        n = self.txns[t].open
-        return self.send(n, self.unanswered[n][1])
-
-    def perform(self, i):
-        if i >= len(self.copies):
-            return "illegal I7 NoCopy"
-        n, low, op = self.copies[i]
-        said = self.dcs[op[1][0]].perform(n, low, op)
-        if said is None:
-            return "silent"
-        self.replies.append((n, said))
-        return f"reply {len(self.replies) - 1} number {n} {said_text(said)}"
-
-    def take(self, i):
-        if i >= len(self.replies):
-            return "illegal I8 NoReply"
-        n, said = self.replies[i]
-        if n not in self.unanswered or not fits(self.unanswered[n][1], said):
-            return "illegal I9 Stranger"
-        t, op, is_undo = self.unanswered.pop(n)
-        self.log.append(answer_bytes(t, n, said))
-        self.txns[t].answered(op, is_undo, said)
-        return f"took number {n}"
-
-    def restart(self, d):
-        return f"restarted {d}" if d < len(self.dcs) else "illegal I10 NoDc"
-
-    def forge(self, n, said):
-        self.replies.append((n, said))
-        return f"forged {len(self.replies) - 1}"
-
-    def rows(self):
-        return [f"row {record_text(r)} {value_text(dc.rows[r])}" for dc in self.dcs for r in sorted(dc.rows)]
-
-
-# ---- the log by itself: what holds of every history
-
-
-def replayed(log):
-    """Why this log can't be one, or None."""
-    locks, flying, ops, numbers = {}, {}, {}, 0
-    for at, event in enumerate(log):
-        kind, sub, txn = event[0], event[1], int.from_bytes(event[8:16], "little")
-        n = int.from_bytes(event[16:24], "little")
-        if kind == 1:
-            args = [int.from_bytes(event[32 + 8 * i : 40 + 8 * i], "little") for i in range(sub)]
-            wanted = PROCEDURES[n].locks(args)
-            for held in locks.values():
-                if any(r in held and "write" in (held[r], wanted[r]) for r in wanted):
-                    return f"event {at}: locks that exclude each other are held"
-            locks[txn] = wanted
-        elif kind in (2, 4):
-            record = (int.from_bytes(event[2:4], "little"), int.from_bytes(event[4:6], "little"), int.from_bytes(event[24:32], "little"))
-            numbers += 1
-            if n != numbers:
-                return f"event {at}: number {n} isn't the next"
-            if locks.get(txn, {}).get(record) not in (("read", "write") if sub == 1 else ("write",)):
-                return f"event {at}: the operation isn't covered by a lock"
-            if any(r == record and 1 != other or r == record and sub != 1 for r, other in flying.values()):
-                return f"event {at}: two operations in flight conflict"
-            flying[n] = (record, sub)
-        elif kind == 3:
-            if flying.pop(n, None) is None:
-                return f"event {at}: number {n} isn't open"
-        elif kind == 5:
-            del locks[txn]
+def first_difference(printed, wanted):
+    """The place of the first line that differs, and how, or None."""
+    for at in range(max(len(printed), len(wanted))):
+        one, other = [lines[at] if at < len(lines) else "(no line)" for lines in (printed, wanted)]
+        if one != other:
+            return at, f"line {at}: printed `{one}`, wanted `{other}`"
     return None
 
 
-# ---- scripts
-
-WORDS = "admit ask undo end resend perform take restart forge".split()
+# ---- steps of a world
 
 
 def line_of(step):
     word, *args = step
-    if word == "admit":
-        return " ".join(["admit", PROCEDURES[args[0]].name, *map(str, args[1:])])
     if word == "forge":
-        return f"forge {args[0]} {said_text(args[1])}"
-    return " ".join([word, *map(str, args)])
+        return f"forge {args[0]} {said_text(args[1])}\n"
+    return " ".join(map(str, step)) + "\n"
 
 
-def script_of(dcs, steps):
-    return "".join(f"dc {rows} {ops}\n" for rows, ops in dcs) + HEADER + "".join(line_of(it) + "\n" for it in steps)
-
-
-def expected(dcs, steps):
-    world = World(dcs)
-    lines = [world.step(*it) for it in steps]
-    status = int(any(it.startswith("illegal") for it in lines))
-    return "\n".join(lines + world.rows() + [it.hex() for it in world.log]) + "\n", status, world.log
-
-
-def difference(procd, file, dcs, steps):
-    """How procd differs from the model on these steps, or None."""
-    file.write_text(script_of(dcs, steps))
-    ran = subprocess.run([procd, "world", "--log", file], capture_output=True, text=True)
-    wanted, status, log = expected(dcs, steps)
-    if ran.stdout != wanted or ran.returncode != status:
-        for at, (a, b) in enumerate(zip(ran.stdout.splitlines() + ["(no line)"], wanted.splitlines() + ["(no line)"])):
-            if a != b:
-                return f"line {at}: printed `{a}`, wanted `{b}`"
-        return f"status {ran.returncode}, wanted {status} {ran.stderr}"
-    return replayed(log)
-
-
-def shortest(procd, file, dcs, steps):
-    """The steps without those that the difference doesn't need."""
-    at = len(steps) - 1
-    while at >= 0:
-        fewer = steps[:at] + steps[at + 1 :]
-        if difference(procd, file, dcs, fewer):
-            steps = fewer
-        at -= 1
-    return steps
-
-
-def some_said(draw):
+def some_forgery(draw, world):
+    """A reply that nobody sent: mostly to a number that is open, and often one that fits."""
     value = put_at(ZEROS, 0, draw.randrange(4))
-    return draw.choice([("value", value), ("absent",), ("done", None), ("done", value), ("duplicate",), ("missing",), ("noroom",), ("old",)])
+    said = [("value", value), ("done", None), ("done", value)]
+    said += [(word,) for word in ("absent", "duplicate", "missing", "noroom", "old")]
+    if not world.unanswered or draw.random() < 0.3:
+        return "forge", draw.randrange(world.last + 2), draw.choice(said)
+    n = draw.choice(list(world.unanswered))
+    if draw.random() < 0.6:
+        said = [it for it in said if fits(world.unanswered[n][1], it)]
+    return "forge", n, draw.choice(said)
 
 
-def some_call(draw):
-    place = draw.randrange(len(PROCEDURES))
-    count = PROCEDURES[place].args if draw.random() < 0.97 else draw.randrange(9)
-    return ("admit", place, *(draw.randrange(5) for _ in range(count)))
+def some_call(draw, keys):
+    name = draw.choice(list(PROCEDURES))
+    return name, *(draw.randrange(keys) for _ in range(PROCEDURES[name].args))
+
+
+def some_admission(draw):
+    name, *args = some_call(draw, 5)
+    if draw.random() < 0.03:
+        args = [draw.randrange(5) for _ in range(draw.randrange(9))]
+    return "admit", name, *args
 
 
 def next_step(draw, world):
     """A step with which some open transaction goes on, or None."""
-    if not world.txns:
+    going = [serial for serial, txn in world.txns.items() if txn.open or not txn.is_stuck()]
+    if not going:
         return None
-    serial = draw.choice(list(world.txns))
+    serial = draw.choice(going)
     txn = world.txns[serial]
     if txn.open:
         here = [i for i, (n, _) in enumerate(world.replies) if n == txn.open]
@@ -566,60 +112,310 @@ def next_step(draw, world):
     return "ask", serial
 
 
-def any_step(draw, world):
+def any_step(draw, world, weights):
     """Any step: mostly late, repeated or out of place."""
-    word = draw.choices(WORDS, [3, 2, 2, 2, 3, 5, 5, 1, 2])[0]
+    word = draw.choices(list(weights), weights.values())[0]
     if word == "admit":
-        return some_call(draw)
-    if word == "perform":
-        return word, draw.randrange(len(world.copies) + 1)
-    if word == "take":
-        return word, draw.randrange(len(world.replies) + 1)
-    if word == "restart":
-        return word, draw.randrange(len(world.dcs) + 1)
+        return some_admission(draw)
     if word == "forge":
-        return word, draw.randrange(world.last + 2), some_said(draw)
+        return some_forgery(draw, world)
+    places = {"perform": world.copies, "take": world.replies, "restart": world.dcs}
+    if word in places:
+        return word, draw.randrange(len(places[word]) + 1)
     return word, draw.choice(list(world.txns) + [0, world.serials + 1])
 
 
-def some_step(draw, world):
+def some_step(draw, world, weights):
     if draw.random() < 0.6:
-        return next_step(draw, world) or some_call(draw)
-    return any_step(draw, world) if draw.random() < 0.7 else some_call(draw)
+        return next_step(draw, world) or some_admission(draw)
+    return any_step(draw, world, weights) if draw.random() < 0.7 else some_admission(draw)
 
 
-def some_script(draw, count):
-    dcs = [(draw.choice([1, 2, 3, 20]), draw.choice([50, 1000, 5000])) for _ in range(2)]
-    world, steps = World(dcs), []
-    for _ in range(count):
-        steps.append(some_step(draw, world))
-        world.step(*steps[-1])
-    return dcs, steps
+# What a step refers to: transactions, wires, replies or numbers, and in which of its words.
+REFERS = dict.fromkeys(("ask", "undo", "end", "resend"), "txn")
+REFERS |= {"perform": "wire", "take": "reply", "forge": "number"}
+
+
+class Steps:
+    """A script of a world."""
+
+    def __init__(self, dcs, names, steps):
+        self.dcs, self.names, self.parts = dcs, names, steps
+
+    @staticmethod
+    def drawn(draw, count):
+        dcs = [(draw.choice([1, 2, 3, 20]), draw.choice([50] + 7 * [5000])) for _ in range(2)]
+        world, steps, weights = World(dcs, list(PROCEDURES)), [], {**WORDS, "forge": draw.choice([0, 1, 5])}
+        for _ in range(count):
+            steps.append(some_step(draw, world, weights))
+            world.step(*steps[-1])
+        return Steps(dcs, list(PROCEDURES), steps)
+
+    def text(self):
+        return script_of(self.dcs, self.names, [line_of(step) for step in self.parts])
+
+    def told(self):
+        """What the model prints of each step, and the world behind them."""
+        world = World(self.dcs, self.names)
+        return [world.step(*step) for step in self.parts], world
+
+    def difference(self, procd):
+        """The place of the first line that differs from the model's, and how, or None."""
+        told, world = self.told()
+        rows = [f"row {record_text(r)} {value_text(dc.rows[r])}" for dc in world.dcs for r in sorted(dc.rows)]
+        wanted = int(any(line.startswith("illegal") for line in told))
+        printed, status, said = procd(["world", "--log"], self.text())
+        differs = first_difference(printed, told + rows + [data.hex() for data in world.log])
+        if differs:
+            return differs if not said else (differs[0], f"{differs[1]} ({said.strip()})")
+        if status != wanted:
+            return len(printed), f"status {status}, wanted {wanted}"
+        why = replayed(world.log, self.names)
+        return why and (len(printed), why)
+
+    def made(self):
+        for step, line in zip(self.parts, self.told()[0]):
+            words = line.split()
+            yield " ".join([step[0], *words[: 2 if words[0] == "illegal" else 1]])
+
+    def heads(self):
+        """The places of admissions, the last first: without one all that comes of it goes."""
+        return [at for at, step in reversed(list(enumerate(self.parts))) if step[0] == "admit"]
+
+    def without(self, first, count):
+        """Scripts without these steps, the likelier first."""
+        rest = self.parts[:first] + self.parts[first + count :]
+        yield Steps(self.dcs, self.names, self.renumbered(first, count))
+        yield Steps(self.dcs, self.names, rest)
+
+    def simpler(self):
+        """Scripts whose steps stay, with less before them, the likelier first."""
+        used = {step[1] for step in self.parts if step[0] == "admit"}
+        if len(used) < len(self.names):
+            yield Steps(self.dcs, [name for name in self.names if name in used], self.parts)
+        if self.dcs != AMPLE:
+            yield Steps(AMPLE, self.names, self.parts)
+
+    def renumbered(self, first, count):
+        """The steps without these and those that refer to what these made; the others still refer to what they did."""
+        kept, gone, made = [], collections.defaultdict(set), collections.Counter()
+        for at, (step, line) in enumerate(zip(self.parts, self.told()[0])):
+            kind = REFERS.get(step[0])
+            is_left_out = first <= at < first + count or kind and step[1] in gone[kind]
+            if not is_left_out:
+                fewer = sum(other < step[1] for other in gone[kind]) if kind else 0
+                kept.append((step[0], step[1] - fewer, *step[2:]) if fewer else step)
+            for what, which in new_things(step, line):
+                made[what] += 1
+                if is_left_out:
+                    gone[what].add(which)
+        return kept
+
+
+def new_things(step, line):
+    """What a step made, by its printed line: a transaction, a wire, a reply, a number."""
+    words = line.split()
+    if words[0] == "admitted":
+        yield "txn", int(words[1])
+    if words[0] == "sent":
+        yield "wire", int(words[1])
+        if step[0] != "resend":
+            yield "number", int(words[3])
+    if words[0] in ("reply", "forged"):
+        yield "reply", int(words[1])
+
+
+# ---- calls by workers
+
+KEYS = 10  # keys of a group; calls of different groups have no record in common
+
+
+def some_group(draw, group, most):
+    """Calls on a few keys of this group's own. `churn` has a record of the first group beside its own."""
+    keys = draw.randrange(1, 5)
+    for _ in range(most):
+        name, *args = some_call(draw, keys)
+        if name != "churn" or group == 0:
+            records = 2 if name == "move" else 1
+            yield name, *(KEYS * group + arg for arg in args[:records]), *args[records:]
+
+
+class Calls:
+    """A script of calls, the first ones by one worker."""
+
+    def __init__(self, names, first, calls, workers):
+        self.names, self.first, self.parts, self.workers, self.answers = names, first, calls, workers, []
+
+    @staticmethod
+    def drawn(draw, count):
+        groups = range(count // 10)
+        first = [call for group in groups for call in some_group(draw, group, draw.randrange(3))]
+        calls = [call for group in groups for call in some_group(draw, group, draw.randrange(2, 7))]
+        return Calls(list(PROCEDURES), first, calls, draw.choice([2, 3, 4, 8, 64]))
+
+    def text(self):
+        lines = [" ".join(map(str, ("first", *call))) + "\n" for call in self.first]
+        lines += [" ".join(map(str, ("call", *call))) + "\n" for call in self.parts]
+        return script_of([(1000, 50000)] * 2, self.names, lines)
+
+    def run(self, procd):
+        """What each call was answered, and the rows; None where the lines aren't those of such calls."""
+        printed, status, _ = procd(["run", "--workers", str(self.workers)], self.text())
+        places = [f"first {i} " for i in range(len(self.first))] + [f"call {i} " for i in range(len(self.parts))]
+        answers = [line[len(place) :] for line, place in zip(printed, places) if line.startswith(place)]
+        return (answers, printed[len(places) :]) if status == 0 and len(answers) == len(places) else None
+
+    def groups(self, answers):
+        """For each group its first calls and its calls, each with its answer."""
+        found = collections.defaultdict(lambda: ([], []))
+        for place, (call, answer) in enumerate(zip(self.first + self.parts, answers)):
+            found[call[1] // KEYS][place >= len(self.first)].append((call, answer))
+        return found
+
+    def difference(self, procd):
+        """The place and the group of calls that no order explains, or None."""
+        ran = self.run(procd)
+        if ran is None:
+            return 0, "the lines aren't answers of these calls"
+        answers, rows = ran
+        self.answers = answers[len(self.first) :]
+        for group, (first, calls) in self.groups(answers).items():
+            here = [row for row in rows if int(row.split()[1].split("/")[2]) // KEYS == group]
+            if here not in orders(first, calls):
+                said = [f"{' '.join(map(str, call))}: {answer}" for call, answer in first + calls]
+                return 0, f"no order of {said} gives these answers and {here}"
+        return None
+
+    def made(self):
+        for answer in self.answers:
+            yield f"call {answer.split()[0]} by {self.workers} workers"
+
+    def heads(self):
+        return []
+
+    def without(self, first, count):
+        yield Calls(self.names, self.first, self.parts[:first] + self.parts[first + count :], self.workers)
+
+    def simpler(self):
+        for at in range(len(self.first)):
+            yield Calls(self.names, self.first[:at] + self.first[at + 1 :], self.parts, self.workers)
+        used = {call[0] for call in self.first + self.parts}
+        if len(used) < len(self.names):
+            yield Calls([name for name in self.names if name in used], self.first, self.parts, self.workers)
+
+
+def orders(first, calls):
+    """The lines of the rows that are left by some order of the calls in which each gets its answer."""
+    ends = {(frozenset(), frozenset())}
+    for call in first:
+        ends = {(frozenset(), rows) for _, rows in advanced(ends, 0, *call)}
+    for _ in calls:
+        ends = set().union(*(advanced(ends, at, *call) for at, call in enumerate(calls)))
+    return [[f"row {record_text(r)} {value_text(value)}" for r, value in sorted(rows)] for _, rows in ends]
+
+
+def advanced(ends, at, call, answer):
+    """The ends to which this call comes next, where it is given this answer."""
+    further = set()
+    for done, rows in ends:
+        if at not in done:
+            said, left = alone(dict(rows), call[0], call[1:])
+            if said == answer:
+                further.add((done | {at}, frozenset(left.items())))
+    return further
+
+
+# ---- shortest scripts
+
+
+def thinned(case, places, size, shows):
+    """The case without those runs of so many parts, at these places, that the difference doesn't need."""
+    for at in places:
+        for fewer in case.without(at, size):
+            if len(fewer.parts) < len(case.parts) and shows(fewer):
+                case = fewer
+                break
+    return case
+
+
+def shortest(case, shows):
+    """A case that still shows a difference, and of which no part can be left out."""
+    place, size = shows(case)[0], len(case.parts)
+    for cut in case.without(place + 1, size):
+        case = cut if shows(cut) else case
+    case = thinned(case, case.heads(), 1, shows)
+    while size:
+        count = len(case.parts)
+        case = thinned(case, [max(at, 0) for at in range(count - size, -size, -size)], size, shows)
+        size = size // 2 if len(case.parts) == count else size
+    simpler = True
+    while simpler:
+        simpler = next((it for it in case.simpler() if shows(it)), None)
+        case = simpler or case
+    return case
+
+
+def shows_again(procd):
+    """A test of cases: what workers do differs from run to run."""
+
+    def shows(case):
+        tries = AGAIN if isinstance(case, Calls) else 1
+        return next(filter(None, (case.difference(procd) for _ in range(tries))), None)
+
+    return shows
+
+
+def hunted(seed, case, shows):
+    """The shortest case of this one and of others, no longer than it, that are drawn for it."""
+    for other in range(HUNTED if isinstance(case, Steps) else 0):
+        drawn = Steps.drawn(random.Random(f"{seed} {other}"), len(case.parts))
+        if shows(drawn):
+            case = min(case, shortest(drawn, shows), key=lambda it: len(it.parts))
+    return case
+
+
+def tell(seed, place, case, why, shows):
+    print(f"seed {seed}, script {place}: {why}", flush=True)
+    short = hunted(seed, shortest(case, shows), shows) if shows(case) else case
+    command = f"run --workers {short.workers}" if isinstance(short, Calls) else "world --log"
+    _, why = shows(short) or (0, f"it didn't come again in {AGAIN} runs")
+    print(f"a short script of {len(short.parts)} steps, for `procd {command}`: {why}")
+    print(short.text(), end="")
+
+
+def explored(procd, options, made):
+    """Counts what is made from each seed until the time is over; tells of the first difference, if any."""
+    shows, seed, until = shows_again(procd), options.seed, time.monotonic() + options.seconds
+    while time.monotonic() < until:
+        draw = random.Random(seed)
+        for place, kind in enumerate((Steps, Calls, Calls)):
+            case = kind.drawn(draw, options.steps)
+            differs = case.difference(procd)
+            if differs:
+                tell(seed, place, case, differs[1], shows)
+                return False
+            made.update(case.made())
+            made[kind] += 1
+        seed += 1
+    return True
 
 
 def main():
     parser = argparse.ArgumentParser(description=__doc__, formatter_class=argparse.RawDescriptionHelpFormatter)
-    parser.add_argument("--procd", default=TOP / "crates" / "procd" / "out" / "procd", help="the program (that of crates/procd/out)")
+    path = TOP / "crates" / "procd" / "out" / "procd"
+    parser.add_argument("--procd", default=path, help="the program (that of crates/procd/out)")
     parser.add_argument("--seconds", type=float, default=60, help="how long to go on (60)")
-    parser.add_argument("--seed", type=int, default=1, help="the first seed (1); each script takes the next")
-    parser.add_argument("--steps", type=int, default=2000, help="steps a script (2000)")
-    options = parser.parse_args()
-    made, seed, until = collections.Counter(), options.seed, time.monotonic() + options.seconds
+    parser.add_argument("--seed", type=int, default=1, help="the first seed (1); then the next")
+    parser.add_argument("--steps", type=int, default=500, help="steps a script (500)")
+    options, made = parser.parse_args(), collections.Counter()
+    if not pathlib.Path(options.procd).exists():
+        parser.error(f"there is no {options.procd}: ./procd builds it")
     with tempfile.TemporaryDirectory() as folder:
-        file = pathlib.Path(folder) / "script.txt"
-        while time.monotonic() < until:
-            dcs, steps = some_script(random.Random(seed), options.steps)
-            why = difference(options.procd, file, dcs, steps)
-            if why:
-                steps = shortest(options.procd, file, dcs, steps)
-                print(f"seed {seed}: {why}\nthe shortest script: {difference(options.procd, file, dcs, steps)}\n{script_of(dcs, steps)}", end="")
-                sys.exit(1)
-            world = World(dcs)
-            for step in steps:
-                words = world.step(*step).split()
-                made[" ".join(words[: 2 if words[0] == "illegal" else 1])] += 1
-            seed += 1
-    print(f"{seed - options.seed} scripts, {sum(made.values())} steps, no difference")
+        if not explored(Procd(options.procd, pathlib.Path(folder) / "script.txt"), options, made):
+            sys.exit(1)
+    worlds, runs = made.pop(Steps, 0), made.pop(Calls, 0)
+    calls = sum(count for word, count in made.items() if word.startswith("call "))
+    print(f"explored: {worlds} scripts of {sum(made.values()) - calls} steps, {runs} of {calls} calls, no difference")
     for word, count in made.most_common():
         print(f"{count:>10} {word}")
 

@@ -1,6 +1,7 @@
 #!/bin/sh
 # The gate: every proof from nothing, the must-fail edits, the tests and the stored runs (`rt ci`), and
-# then each example by the program that was built. The last line is `N passed, M failed`.
+# then, by the program that was built, each example and a short run of what is tried from outside
+# (docs/TESTING.md). The last line is `N passed, M failed`.
 set -e
 cd "$(dirname "$0")/.."
 said=$(mktemp)
@@ -15,6 +16,9 @@ if [ -z "$passed" ]; then
 fi
 for example in examples/*/; do
     if tools/example.sh "$example"; then passed=$((passed + 1)); else failed=$((failed + 1)); fi
+done
+for tried in "tools/hostile.py --every 25" "tools/explore.py --seconds 20"; do
+    if $tried; then passed=$((passed + 1)); else failed=$((failed + 1)); fi
 done
 echo "$passed passed, $failed failed"
 [ "$failed" -eq 0 ]

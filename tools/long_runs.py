@@ -1,7 +1,7 @@
 #!/usr/bin/env python3
 """Two long runs of calls by eight workers.
 
-usage: tools/long_runs.py [--calls N] [--seed N]
+usage: tools/long_runs.py [--procd PATH] [--bench PATH] [--calls N] [--seed N]
 
 1. `procd run --workers 8` on a script of N calls (200,000) that move an amount between two of a
    thousand records: each call has to be committed, and the records' sum has to stay.
@@ -18,7 +18,7 @@ import subprocess
 import sys
 import tempfile
 
-from explore import TEXTS
+from plain_model import TEXTS
 
 TOP = pathlib.Path(__file__).resolve().parent.parent
 PROCD = TOP / "crates" / "procd" / "out" / "procd"
@@ -36,22 +36,25 @@ def script(calls, seed):
     return "".join(lines)
 
 
-def by_script(calls, seed):
+def by_script(procd, calls, seed):
     with tempfile.NamedTemporaryFile("w", suffix=".txt") as file:
         file.write(script(calls, seed))
         file.flush()
-        ran = subprocess.run([PROCD, "run", "--workers", "8", file.name], capture_output=True, text=True)
+        ran = subprocess.run([procd, "run", "--workers", "8", file.name], capture_output=True, text=True)
     lines = ran.stdout.splitlines()
     answers = [f"first {i} committed" for i in range(RECORDS)] + [f"call {i} committed" for i in range(calls)]
     rows = [line.split() for line in lines[len(answers) :]]
     total = sum(int(value) for _, _, value in rows) % 2**64
-    good = ran.returncode == 0 and lines[: len(answers)] == answers and len(rows) == RECORDS and total == RECORDS * AMOUNT
-    print(f"script: {calls} calls by 8 workers, {'all committed, the sum stays' if good else 'WRONG ' + ran.stderr}", flush=True)
+    good = ran.returncode == 0 and lines[: len(answers)] == answers
+    good = good and len(rows) == RECORDS and total == RECORDS * AMOUNT
+    said = "all committed, the sum stays" if good else "WRONG " + ran.stderr
+    print(f"script: {calls} calls by 8 workers, {said}", flush=True)
     return good
 
 
-def by_storm(calls, seed):
-    ran = subprocess.run([BENCH, "storm", str(seed), "8", str(calls)], stdin=subprocess.DEVNULL, capture_output=True, text=True)
+def by_storm(bench, calls, seed):
+    words = [bench, "storm", str(seed), "8", str(calls)]
+    ran = subprocess.run(words, stdin=subprocess.DEVNULL, capture_output=True, text=True)
     words = ran.stdout.split()
     good = ran.returncode == 0 and words[-2:] == ["other", "0"]
     print(f"storm of seed {seed}: {ran.stdout.strip()}{'' if good else ' WRONG'}", flush=True)
@@ -60,11 +63,13 @@ def by_storm(calls, seed):
 
 def main():
     parser = argparse.ArgumentParser(description=__doc__, formatter_class=argparse.RawDescriptionHelpFormatter)
+    parser.add_argument("--procd", default=PROCD)
+    parser.add_argument("--bench", default=BENCH)
     parser.add_argument("--calls", type=int, default=200_000)
     parser.add_argument("--seed", type=int, default=1)
     options = parser.parse_args()
-    good = by_script(options.calls, options.seed)
-    sys.exit(0 if by_storm(options.calls, options.seed) and good else 1)
+    good = by_script(options.procd, options.calls, options.seed)
+    sys.exit(0 if by_storm(options.bench, options.calls, options.seed) and good else 1)
 
 
 if __name__ == "__main__":
