@@ -101,7 +101,7 @@ fn copy_of(locks: &[Lock]) -> ArrayVec<Lock, 16>
 impl LockSet {
     ghost use Rattle.std.specs.Prelude.{◌≡◌, ◌↔◌, ◌<◌, ◌≤◌, true, [], length};
     ghost use Rattle.access_slots.specs.Adding.{added};
-    ghost use Rattle.access_slots.specs.Locks.{covered, Rising};
+    ghost use Rattle.access_slots.specs.Locks.{covered, mode_in, Rising};
 
     /// No lock.
     pub(crate) fn new() -> LockSet
@@ -143,6 +143,13 @@ impl LockSet {
         ensures { (result ≡ true) ↔ (self.now ≡ other.now) }
     {
         self.locks.as_slice() == other.locks.as_slice()
+    }
+
+    /// The mode in which the record is locked, where it is.
+    pub fn mode_of(&self, record: &Record) -> Option<Mode>
+        ensures { result ≡ mode_in self.now record.now }
+    {
+        mode_in(self.locks.as_slice(), record)
     }
 
     /// Whether the operation's record is locked, and in Write unless it reads.

@@ -8,7 +8,7 @@ ghost use Rattle.access_slots.specs.Declaration.{names_argument};
 pub type Value = [u8; 64];
 
 /// A record's name, ordered by its fields in this order.
-#[derive(Clone, Copy, Debug, Default, PartialEq, Eq, PartialOrd, Ord)]
+#[derive(Clone, Copy, Debug, Default, PartialEq, Eq, PartialOrd, Ord, Hash)]
 pub struct Record {
     /// The data component that keeps it.
     pub dc: u16,

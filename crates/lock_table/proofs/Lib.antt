@@ -1,2 +1,4 @@
-pub mod Claiming
 pub mod Barring
+pub mod Counting
+pub mod Keeping
+pub mod Steps

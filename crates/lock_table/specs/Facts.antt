@@ -1,24 +1,33 @@
 -- A table of locks, as facts: who holds which record in which mode, and which set is ready to be granted. Contracts read the
--- claims by `held_by` alone: how the table keeps them is its own matter.
-use Rattle.std.specs.Prelude.{◌≡◌, ℕ, ◌&&◌, ◌==◌, if◌then◌else◌, List, [], ◌∷◌, Option, Some, None}
+-- sets of transactions by `held_by` alone: how the table keeps them is its own matter.
+use Rattle.std.specs.Prelude.{◌≡◌, ℕ, ◌==◌, nat_eq, if◌then◌else◌, List, Option, Some, None}
+use Rattle.std.specs.Map.{lookup}
 use Rattle.access_slots.specs.declared.slot.Record.{Record}
+use Rattle.access_slots.specs.declared.slot.Mode.{Mode}
 use Rattle.access_slots.specs.declared.lock.Lock.{Lock}
-use Rattle.access_slots.specs.Locks.{record_eq}
+use Rattle.access_slots.specs.Locks.{mode_in}
 use Rattle.access_slots.specs.Held.{Held, Wanted}
-use Rattle.lock_table.specs.declared.table.Claim.{Claim}
+
+-- the locks of each transaction, under its number
+abbrev pub Sets : Type 0
+Sets = List (ℕ × List Lock)
 
 pub record Table : Type 0 where
-  pub claims : List Claim
+  pub sets : Sets
   pub reserved : Option (List Lock)
 
--- the mode in which the transaction has claimed the record, where it has
-abbrev pub claimed_by : List Claim → Held
-claimed_by [] t r = None
-claimed_by (c ∷ claims) t r = if (c.txn == t) && record_eq c.lock.«record» r then Some c.lock.mode else claimed_by claims t r
+-- the mode in which the set that is there has the record, where it has
+abbrev pub mode_among : Option (List Lock) → Record → Option Mode
+mode_among None r = None
+mode_among (Some set) r = mode_in set r
+
+-- the mode in which the transaction has the record in its set, where it has
+abbrev pub held_in : Sets → Held
+held_in sets t r = mode_among (lookup (nat_eq t) sets) r
 
 -- the mode in which the transaction holds the record, where it does
 abbrev pub held_by : Table → Held
-held_by table = claimed_by table.claims
+held_by table = held_in table.sets
 
 -- this is what is held
 abbrev pub AreHeld : Table → Held → Type 0

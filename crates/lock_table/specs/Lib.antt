@@ -1,2 +1,3 @@
-pub mod Claims
+pub mod Barring
 pub mod Facts
+pub mod Holds

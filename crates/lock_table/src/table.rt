@@ -1,14 +1,17 @@
 //! The table of locks.
 
-ghost use Rattle.std.specs.Prelude.{ℕ, ◌≡◌, ◌==◌, false, ◌↔◌, ◌+◌, ◌≤◌, ◌++◌, Some, None, true, length, IfErr, IfSome, IfNone, OnErr, OnOk, vec_len, vec_capacity};
+ghost use Rattle.std.specs.Prelude.{ℕ, ◌≡◌, ◌==◌, nat_eq, false, ◌↔◌, ◌+◌, ◌≤◌, ◌<◌, ◌^◌, Some, None, true, length, IfErr, IfSome, IfNone, OnErr, OnOk};
+ghost use Rattle.indexmap.specs.IndexMap.{get, spare, index_map_len, insert_entry, Updates, IsUnique};
 ghost use Rattle.access_slots.specs.declared.slot.Record.{Record};
-ghost use Rattle.access_slots.specs.Locks.{mode_in};
-ghost use Rattle.access_slots.specs.Held.{Compatible, IsFirstInTheWay};
+ghost use Rattle.access_slots.specs.Locks.{record_eq, mode_in, Rising};
+ghost use Rattle.access_slots.specs.Held.{excludes, Compatible, IsFirstInTheWay};
 ghost use Rattle.lock_table.specs.Facts.{held_by, nobody, granted, released, AreHeld, HoldsNothing};
-ghost use Rattle.lock_table.specs.Claims.{claims_of, without, bars, least, least_holder, first_busy};
+ghost use Rattle.lock_table.specs.Holds.{hold_mode, held_more, held_less, AreHolds, AreFew};
+ghost use Rattle.lock_table.specs.Barring.{bars, least, least_holder, first_busy};
 
 use access_slots::lock::{Lock, LockSet};
 use access_slots::slot::{Mode, Record};
+use indexmap::IndexMap;
 use std::alloc::{AllocError, Global};
 use std::marker::Model;
 
@@ -20,11 +23,11 @@ pub struct Busy {
     pub holder: u64,
 }
 
-// A lock that a transaction holds.
+// How a record is held: by so many readers, or by one writer.
 #[derive(Clone, Copy)]
-struct Claim {
-    txn: u64,
-    lock: Lock,
+struct Hold {
+    mode: Mode,
+    holders: usize,
 }
 
 /// The locks that transactions hold, by their serial numbers (Lomet, Fekete, Weikum, Zwilling,
@@ -32,20 +35,21 @@ struct Claim {
 /// which mode, and the set that is ready to be granted.
 #[derive(Drop)]
 pub struct LockTable {
-    claims: Vec<Claim>,
+    records: IndexMap<Record, Hold>,
+    sets: IndexMap<u64, LockSet>,
     reserved: Option<LockSet>,
 }
 
 impl Model for LockTable {
-    ghost use Rattle.std.specs.Prelude.{◌+◌, ◌≤◌, length, IfSome, vec_len, vec_capacity};
+    ghost use Rattle.std.specs.Prelude.{IfSome};
     ghost use Rattle.lock_table.specs.Facts.{Table};
-    ghost use Rattle.lock_table.specs.Claims.{AreSingle};
+    ghost use Rattle.lock_table.specs.Holds.{IsKept, HasRoom};
 
     ghost Value = { Table };
 
-    ghost view = { λ t. record { claims = t.claims.items; reserved = t.reserved } };
+    ghost view = { λ t. record { sets = t.sets.entries; reserved = t.reserved } };
 
-    ghost invariant = { λ t. AreSingle t.claims.items × IfSome t.reserved (λ set. vec_len t.claims + length set ≤ vec_capacity t.claims) };
+    ghost invariant = { λ t. IsKept t.sets t.records × IfSome t.reserved (HasRoom t.sets t.records) };
 }
 
 impl LockTable {
@@ -55,7 +59,8 @@ impl LockTable {
         ensures reserved { result.reserved ≡ None }
     {
         LockTable {
-            claims: Vec::new(alloc),
+            records: IndexMap::new(alloc),
+            sets: IndexMap::new(alloc),
             reserved: None,
         }
     }
@@ -66,7 +71,7 @@ impl LockTable {
         ensures none { IfNone result (Compatible (held_by self.now) (mode_in set.now)) }
         ensures some { IfSome result (λ b. IsFirstInTheWay (held_by self.now) (mode_in set.now) b.name b.holder) }
     {
-        first_busy(self.claims.as_slice(), set.locks())
+        first_busy(&self.records, &self.sets, set.locks())
     }
 
     /// Makes the set ready until the next grant or release. No lock is changed; a refusal leaves
@@ -76,7 +81,8 @@ impl LockTable {
         ensures ok { OnOk result (self.new.reserved ≡ Some set.now) }
         ensures err { OnErr result (self.new.reserved ≡ self.old.reserved) }
     {
-        self.claims.reserve(set.locks().len())?;
+        self.records.reserve(set.locks().len())?;
+        self.sets.reserve(1)?;
         self.reserved = Some(set.copied());
         Ok(())
     }
@@ -108,7 +114,9 @@ impl LockTable {
             return Err(busy);
         }
         self.reserved = None;
-        put_all(&mut self.claims, txn, set.locks());
+        few(&self.sets);
+        add_holders(&mut self.records, set.locks());
+        put_set(&mut self.sets, txn, set.copied());
         Ok(())
     }
 
@@ -118,35 +126,122 @@ impl LockTable {
         ensures spent { self.new.reserved ≡ None }
     {
         self.reserved = None;
-        keep_others(&mut self.claims, txn);
+        if let Some(set) = self.sets.swap_remove(&txn) {
+            take_holders(&mut self.records, set.locks());
+        }
     }
 }
 
-fn put_all(claims: &mut Vec<Claim>, txn: u64, locks: &[Lock])
-    requires { vec_len claims.old + length locks.now ≤ vec_capacity claims.old }
-    ensures { claims.new.items ≡ claims.old.items ++ claims_of txn locks.now }
+// What a map says of how many entries it has.
+fn few(sets: &IndexMap<u64, LockSet>)
+    ensures { index_map_len sets.now < 2 ^ 63 }
+{
+    let _transactions = sets.len();
+}
+
+// The transaction has this set. There has to be room.
+fn put_set(sets: &mut IndexMap<u64, LockSet>, txn: u64, set: LockSet)
+    requires { 0 < spare sets.old }
+    ensures updates { Updates nat_eq sets.old sets.new txn (Some set) }
+    ensures entries { sets.new.entries ≡ insert_entry nat_eq sets.old.entries txn set }
+    ensures unique { IsUnique nat_eq sets.new }
+{
+    match sets.insert(txn, set) {
+        Ok(_before) => {}
+        Err(_) => unreachable!(),
+    }
+}
+
+// The lock's record has one holder more; one that nobody holds takes the lock's mode.
+fn add_holder(records: &mut IndexMap<Record, Hold>, lock: &Lock)
+    requires room { 0 < spare records.old }
+    requires few { IfSome (get record_eq records.old lock.now.«record») (λ h. h.holders < 2 ^ 63) }
+    ensures updates { Updates record_eq records.old records.new lock.now.«record» (held_more (Some lock.now.mode) (get record_eq records.old lock.now.«record»)) }
+    ensures room { spare records.old ≤ spare records.new + 1 }
+{
+    let hold = match records.get(&lock.record) {
+        Some(hold) => Hold {
+            mode: hold.mode,
+            holders: hold.holders + 1,
+        },
+        None => Hold {
+            mode: lock.mode,
+            holders: 1,
+        },
+    };
+    match records.insert(lock.record, hold) {
+        Ok(_before) => {}
+        Err(_) => unreachable!(),
+    }
+}
+
+// Each of these records has one holder more. There has to be room for all of them.
+fn add_holders(records: &mut IndexMap<Record, Hold>, locks: &[Lock])
+    requires room { length locks.now ≤ spare records.old }
+    requires rising { Rising locks.now }
+    requires few { AreFew records.old }
+    ensures { (r : Record) → get record_eq records.new r ≡ held_more (mode_in locks.now r) (get record_eq records.old r) }
 {
     for lock in locks {
-        claims.push_reserved(Claim { txn, lock: *lock });
+        add_holder(records, lock);
     }
 }
 
-fn keep_others(claims: &mut Vec<Claim>, txn: u64)
-    ensures { claims.new.items ≡ without txn claims.old.items }
+// The lock's record has one holder less; one without holders is taken out.
+fn take_holder(records: &mut IndexMap<Record, Hold>, lock: &Lock)
+    ensures { Updates record_eq records.old records.new lock.now.«record» (held_less (Some lock.now.mode) (get record_eq records.old lock.now.«record»)) }
 {
-    claims.retain(|claim| claim.txn != txn);
+    match records.get(&lock.record).copied() {
+        Some(hold) if hold.holders > 1 => {
+            let hold = Hold {
+                mode: hold.mode,
+                holders: hold.holders - 1,
+            };
+            match records.insert(lock.record, hold) {
+                Ok(_before) => {}
+                Err(_) => unreachable!(),
+            }
+        }
+        _ => {
+            records.swap_remove(&lock.record);
+        }
+    }
 }
 
-impl Claim {
-    ghost use Rattle.std.specs.Prelude.{◌≡◌};
-    ghost use Rattle.lock_table.specs.Claims.{bars};
+// Each of these records has one holder less.
+fn take_holders(records: &mut IndexMap<Record, Hold>, locks: &[Lock])
+    requires { Rising locks.now }
+    ensures { (r : Record) → get record_eq records.new r ≡ held_less (mode_in locks.now r) (get record_eq records.old r) }
+{
+    for lock in locks {
+        take_holder(records, lock);
+    }
+}
 
-    // Whether it is on the lock's record, and one of the two is for writing.
-    fn bars(&self, lock: &Lock) -> bool
-        ensures { result ≡ bars self.now lock.now }
-    {
-        self.lock.record == lock.record
-            && (self.lock.mode == Mode::Write || lock.mode == Mode::Write)
+// Whether a lock that is held keeps out one that is wanted.
+fn excludes(wanted: Mode, held: Mode) -> bool
+    ensures { result ≡ excludes (Some wanted) (Some held) }
+{
+    wanted == Mode::Write || held == Mode::Write
+}
+
+// Whether the lock's record is held in a mode that excludes the lock.
+fn is_barred(records: &IndexMap<Record, Hold>, lock: &Lock) -> bool
+    ensures { result ≡ excludes (Some lock.now.mode) (hold_mode (get record_eq records.now lock.now.«record»)) }
+{
+    match records.get(&lock.record) {
+        Some(hold) => excludes(lock.mode, hold.mode),
+        None => false,
+    }
+}
+
+// Whether a transaction's set has a lock that excludes this one.
+fn bars(set: &LockSet, lock: &Lock) -> bool
+    ensures { result ≡ bars set.now lock.now }
+{
+    match set.mode_of(&lock.record) {
+        Some(mode) => excludes(lock.mode, mode),
+        None => false,
     }
 }
 
@@ -159,25 +254,31 @@ fn least(txn: u64, other: Option<u64>) -> u64
     }
 }
 
-// The least transaction with a claim that bars the lock.
-fn least_holder(claims: &[Claim], lock: &Lock) -> Option<u64>
-    ensures { result ≡ least_holder claims.now lock.now }
+// The least transaction with a lock that excludes this one, by a look at all of them.
+fn least_holder(sets: &IndexMap<u64, LockSet>, lock: &Lock) -> Option<u64>
+    ensures { result ≡ least_holder sets.now.entries lock.now }
 {
     let mut holder = None;
-    'claims: for claim in claims {
-        if claim.bars(lock) {
-            holder = Some(least(claim.txn, holder));
+    for (txn, set) in sets.iter() {
+        if bars(set, lock) {
+            holder = Some(least(*txn, holder));
         }
     }
     holder
 }
 
 // The first of these locks that is barred, and its least holder.
-fn first_busy(claims: &[Claim], locks: &[Lock]) -> Option<Busy>
-    ensures { result ≡ first_busy claims.now locks.now }
+fn first_busy(
+    records: &IndexMap<Record, Hold>,
+    sets: &IndexMap<u64, LockSet>,
+    locks: &[Lock],
+) -> Option<Busy>
+    requires { AreHolds sets.now.entries records.now }
+    ensures { result ≡ first_busy sets.now.entries locks.now }
 {
     'locks: for lock in locks {
-        if let Some(holder) = least_holder(claims, lock) {
+        if is_barred(records, lock) {
+            let holder = least_holder(sets, lock)?;
             return Some(Busy {
                 name: lock.record,
                 holder,

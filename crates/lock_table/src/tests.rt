@@ -1,7 +1,13 @@
+ghost use Rattle.std.specs.Prelude.{ℕ, ◌≡◌, ◌==◌, ◌<◌, false};
+ghost use Rattle.access_slots.specs.declared.slot.Record.{Record};
+ghost use Rattle.lock_table.specs.Facts.{held_by, HoldsNothing};
+
+use crate::plain_table::PlainTable;
 use crate::table::{Busy, LockTable};
 use access_slots::decl::{Decl, DeclFault};
 use access_slots::lock::LockSet;
 use access_slots::slot::{Key, Mode, Record, Slot};
+use std::alloc::Global;
 use std::test::Fail;
 
 fn slot(mode: Mode, key: u64) -> Slot {
@@ -58,5 +64,117 @@ fn the_least_record_and_its_least_holder(rt: HostRuntime) -> Result<(), Fail> {
     table.release(7);
     table.release(2);
     assert_eq!(rt; table.busy(&both), None);
+    Ok(())
+}
+
+// ---- the map beside a row of claims
+
+// A small generator (Knuth's, of MMIX).
+#[derive(Drop)]
+struct Dice {
+    state: u64,
+}
+
+impl Dice {
+    fn below(&mut self, count: u64) -> u64
+        requires { 0 < count }
+    {
+        self.state = self
+            .state
+            .wrapping_mul(6_364_136_223_846_793_005)
+            .wrapping_add(1_442_695_040_888_963_407);
+        (self.state >> 33) % count
+    }
+
+    // One of 12 records, a third of them for writing.
+    fn slot(&mut self) -> Slot {
+        let mode = if self.below(3) == 0 {
+            Mode::Write
+        } else {
+            Mode::Read
+        };
+        slot(mode, self.below(12))
+    }
+
+    fn set(&mut self) -> Option<LockSet> {
+        set(&[self.slot(), self.slot(), self.slot()]).ok()
+    }
+}
+
+// Three records that go neither up nor down with the transactions.
+fn scattered_set(txn: u64) -> Option<LockSet> {
+    let mode = if txn % 4 == 0 {
+        Mode::Write
+    } else {
+        Mode::Read
+    };
+    let first = txn.wrapping_mul(37) % 101;
+    set(&[
+        slot(Mode::Read, 100 - first),
+        slot(mode, first),
+        slot(Mode::Read, first / 2),
+    ])
+    .ok()
+}
+
+// Whether both grant the set, or name the same in its way.
+fn grant(map: &mut LockTable, plain: &mut PlainTable, txn: u64, set: &LockSet) -> Option<bool>
+    requires { HoldsNothing (held_by map.old) txn }
+    ensures others { (t : ℕ) (r : Record) → (t == txn) ≡ false → held_by map.new t r ≡ held_by map.old t r }
+{
+    map.reserve(set).ok()?;
+    let granted = map.grant(txn, set);
+    Some(plain.grant(txn, set).ok()? == granted)
+}
+
+// Takes the transaction's locks away. Whether both then name the same in the wanted locks' way.
+fn release(map: &mut LockTable, plain: &mut PlainTable, txn: u64, wanted: &LockSet) -> bool
+    ensures { (t : ℕ) → HoldsNothing (held_by map.old) t → HoldsNothing (held_by map.new) t }
+{
+    map.release(txn);
+    plain.release(txn);
+    map.busy(wanted) == plain.busy(wanted)
+}
+
+// Transactions go in another order than they came. How often both answered the same.
+fn scattered(alloc: Global, txns: u64) -> Option<u64> {
+    let mut map = LockTable::new(alloc);
+    let mut plain = PlainTable::new(alloc);
+    let mut same: u64 = 0;
+    'txns: for txn in 0..txns {
+        let set = scattered_set(txn)?;
+        same = same.wrapping_add(u64::from(grant(&mut map, &mut plain, txn, &set)?));
+        let gone = txn.wrapping_sub(64) ^ 21;
+        same = same.wrapping_add(u64::from(release(&mut map, &mut plain, gone, &set)));
+    }
+    Some(same)
+}
+
+// Sets and releases by dice. How often both answered the same.
+fn by_dice(alloc: Global, txns: u64) -> Option<u64> {
+    let mut map = LockTable::new(alloc);
+    let mut plain = PlainTable::new(alloc);
+    let mut dice = Dice { state: 1 };
+    let mut same: u64 = 0;
+    'txns: for txn in 0..txns {
+        let set = dice.set()?;
+        same = same.wrapping_add(u64::from(grant(&mut map, &mut plain, txn, &set)?));
+        let gone = txn.wrapping_sub(dice.below(8));
+        same = same.wrapping_add(u64::from(release(&mut map, &mut plain, gone, &set)));
+        let oldest = txn.wrapping_sub(8);
+        same = same.wrapping_add(u64::from(release(&mut map, &mut plain, oldest, &set)));
+    }
+    Some(same)
+}
+
+#[test]
+fn locks_taken_and_released_in_scattered_order(rt: HostRuntime) -> Result<(), Fail> {
+    assert_eq!(rt; scattered(rt.alloc(), 1_000), Some(2_000));
+    Ok(())
+}
+
+#[test]
+fn locks_taken_and_released_by_dice(rt: HostRuntime) -> Result<(), Fail> {
+    assert_eq!(rt; by_dice(rt.alloc(), 100_000), Some(300_000));
     Ok(())
 }

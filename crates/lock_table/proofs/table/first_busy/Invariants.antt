@@ -1,6 +1,6 @@
 use Rattle.std.proofs.Common.{◌≡◌, drop}
-use Rattle.lock_table.specs.Claims.{first_busy}
+use Rattle.lock_table.specs.Barring.{first_busy}
 use Rattle.lock_table.proofs.table.first_busy.Given as goal
 
 abbrev pub invariant-locks : goal.invariant-locks
-invariant-locks l = first_busy l.claims (drop l.lock-index l.locks) ≡ first_busy l.claims l.locks
+invariant-locks l = first_busy l.sets.entries (drop l.lock-index l.locks) ≡ first_busy l.sets.entries l.locks

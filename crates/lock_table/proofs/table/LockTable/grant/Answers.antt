@@ -1,17 +1,23 @@
-use Rattle.std.proofs.Common.{◌∙◌, ap}
-use Rattle.std.proofs.lemmas.Bool.{cond-false}
-use Rattle.lock_table.specs.Facts.{Table}
-use Rattle.lock_table.proofs.Claiming.{now_granted, now_single}
+use Rattle.std.proofs.Common.{ap, sym, subst, ◌^◌, ◌<◌}
+use Rattle.std.specs.Prelude.{Option, IfSome}
+use Rattle.access_slots.specs.Locks.{mode_in}
+use Rattle.access_slots.specs.Held.{Compatible}
+use Rattle.lock_table.specs.declared.table.Hold.{Hold}
+use Rattle.lock_table.specs.Facts.{Table, held_by}
+use Rattle.lock_table.proofs.Counting.{few_at}
+use Rattle.lock_table.proofs.Keeping.{not_busy, put_kept}
 use Rattle.lock_table.proofs.table.LockTable.grant.Goals as goal
+
+pub add_holders-requires-clause-few : goal.add_holders-requires-clause-few
+add_holders-requires-clause-few c = λ r.
+    subst (λ (o : Option Hold). IfSome o (λ h. h.holders < 2 ^ 63)) (sym (c.self.invariant.0.holds r))
+    (few_at c.self.inside.sets.entries r (2 ^ 63) c.few.ensures)
 
 pub invariant_of-self : goal.invariant_of-self
 invariant_of-self c =
-    (now_single _ c.self.inside.claims.items _ c.args.txn _ c.args.set.now (ap (λ (t : Table). t.claims) c.self.view_is) c.put_all.ensures c.locks.ensures.value c.requires.nothing c.self.invariant.0 c.locks.ensures.rising, tt)
-
-pub returns-clause-held : goal.returns-clause-held
-returns-clause-held c = now_granted _ c.self.inside.claims.items _ c.args.txn _ c.args.set.now (ap (λ (t : Table). t.claims) c.self.view_is) c.put_all.ensures c.locks.ensures.value c.requires.nothing
-
-pub returns-clause-others : goal.returns-clause-others
-returns-clause-others c = λ t r apart.
-    now_granted _ c.self.inside.claims.items _ c.args.txn _ c.args.set.now (ap (λ (u : Table). u.claims) c.self.view_is) c.put_all.ensures c.locks.ensures.value c.requires.nothing t r
-    ∙ cond-false _ _ _ apart
+    let compatible = not_busy c.busy.result (Compatible (held_by c.args.self.now) (mode_in c.args.set.now)) c.in_default.is c.busy.ensures.none in (
+      put_kept c.self.inside.sets c.put_set.new.sets c.self.inside.records c.add_holders.new.records c.args.txn c.args.set.now c.locks.result.now
+          c.self.invariant.0 c.locks.ensures.value c.args.self.now.sets c.copied.result (ap (λ (t : Table). t.sets) c.self.view_is) c.copied.ensures
+          c.requires.nothing compatible c.put_set.ensures.entries c.put_set.ensures.unique c.add_holders.ensures,
+      tt,
+    )

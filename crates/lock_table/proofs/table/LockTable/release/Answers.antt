@@ -1,11 +1,11 @@
-use Rattle.std.proofs.Common.{sym, ap, subst}
-use Rattle.lock_table.specs.Facts.{Table}
-use Rattle.lock_table.specs.Claims.{AreSingle}
-use Rattle.lock_table.proofs.Claiming.{now_released, single_released}
+use Rattle.std.proofs.Common.{sym, ◌∙◌}
+use Rattle.lock_table.proofs.Keeping.{taken_kept}
 use Rattle.lock_table.proofs.table.LockTable.release.Goals as goal
 
 pub invariant_of-self : goal.invariant_of-self
-invariant_of-self c = (subst AreSingle (sym c.keep_others.ensures) (single_released c.self.inside.claims.items c.args.txn c.self.invariant.0), tt)
-
-pub returns-clause-held : goal.returns-clause-held
-returns-clause-held c = now_released _ c.self.inside.claims.items _ c.args.txn (ap (λ (t : Table). t.claims) c.self.view_is) c.keep_others.ensures
+invariant_of-self c = (
+  taken_kept c.self.inside.sets c.swap_remove.new.self c.self.inside.records c.take_holders.new.records c.args.txn c.in-Some.set c.locks.result.now
+      c.self.invariant.0 c.locks.ensures.value (sym c.swap_remove.ensures.value ∙ c.in-Some.is)
+      c.swap_remove.ensures.entries c.swap_remove.ensures.unique c.take_holders.ensures,
+  tt,
+)

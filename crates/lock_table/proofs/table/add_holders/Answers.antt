@@ -1,0 +1,22 @@
+use Rattle.std.proofs.Common.{arith, refl, ◌∙◌}
+use Rattle.indexmap.specs.IndexMap.{get}
+use Rattle.access_slots.specs.Locks.{record_eq}
+use Rattle.lock_table.specs.Holds.{held_more}
+use Rattle.lock_table.proofs.Steps.{rising_after, left_after, few_after}
+use Rattle.lock_table.proofs.table.add_holders.Goals as goal
+
+pub loop-lock-preserved : goal.loop-lock-preserved
+loop-lock-preserved c =
+    let locks = c.args.locks.now in
+    let i = c.loop-lock.lock-index in
+    let now = get record_eq c.loop-lock.records in
+    let new = get record_eq c.add_holder.new.records in
+    let inside = c.loop-lock-test.true in
+    let rises = c.loop-lock.invariant.rising in
+    let step = c.add_holder.ensures.updates.0 in
+    record {
+      rising = rising_after locks i inside rises;
+      few = few_after locks i inside rises held_more _ now new step c.loop-lock.invariant.few;
+      room = omega (arith, c.add_holder.ensures.room, c.loop-lock.invariant.room);
+      left = λ r. left_after locks i inside rises held_more _ now new (λ h. refl) step r ∙ c.loop-lock.invariant.left r;
+    }
