@@ -1,5 +1,6 @@
 -- What stands in the way of a set of locks.
-use Rattle.std.proofs.Common.{arith, ◌≡◌, ℕ, ◌<◌, nat_le, nat_eq, Bool, true, false, if◌then◌else◌, ◌||◌, List, [], ◌∷◌, ◌+◌, length, drop, get_or, sym, refl, ap, ap₂, subst, ◌∙◌, is_some, true≢false}
+use Rattle.std.proofs.Common.{arith, ◌≡◌, ℕ, ◌<◌, nat_le, nat_eq, Bool, true, false, if◌then◌else◌, ◌||◌, List, []}
+use Rattle.std.proofs.Common.{◌∷◌, ◌+◌, length, drop, get_or, sym, refl, ap, ap₂, subst, ◌∙◌, is_some, true≢false}
 use Rattle.std.specs.Prelude.{Option, Some, None, IfSome, IfNone}
 use Rattle.std.specs.Map.{lookup}
 use Rattle.std.proofs.lemmas.Bool.{cond-true, cond-false, eqb-true, eq-eqb}
@@ -50,7 +51,8 @@ met : (e : ℕ × List Lock) (sets : Sets) (l : Lock) (t : ℕ) → nat_eq t e.0
 met e sets l t is = ap (with_had l) (cond-true _ (Some e.1) (lookup (nat_eq t) sets) is)
 
 -- a set that doesn't bar the lock changes nothing
-no_bar : (b : Bool) (e : ℕ × List Lock) (sets : Sets) (l : Lock) (t : ℕ) → nat_eq t e.0 ≡ b → bars e.1 l ≡ false → stands sets l t ≡ false → stands (e ∷ sets) l t ≡ false
+no_bar : (b : Bool) (e : ℕ × List Lock) (sets : Sets) (l : Lock) (t : ℕ) → nat_eq t e.0 ≡ b → bars e.1 l ≡ false
+    → stands sets l t ≡ false → stands (e ∷ sets) l t ≡ false
 no_bar false e sets l t is free later = passed e sets l t is ∙ later
 no_bar true e sets l t is free later = met e sets l t is ∙ free
 
@@ -93,7 +95,8 @@ first_barring e sets l (Some u) is o later = by_order (nat_le e.0 u) refl
     }
 
 -- who bars the lock by a later set has none here
-not_shadowed : (b : Bool) (e : ℕ × List Lock) (sets : Sets) (l : Lock) (h : ℕ) → nat_eq h e.0 ≡ b → lookup (nat_eq e.0) sets ≡ None → stands sets l h ≡ true
+not_shadowed : (b : Bool) (e : ℕ × List Lock) (sets : Sets) (l : Lock) (h : ℕ) → nat_eq h e.0 ≡ b
+    → lookup (nat_eq e.0) sets ≡ None → stands sets l h ≡ true
     → stands (e ∷ sets) l h ≡ true
 not_shadowed false e sets l h is once stood = passed e sets l h is ∙ stood
 not_shadowed true e sets l h is once stood = absurd (
@@ -150,7 +153,8 @@ module _ (sets : Sets) (at : Record → Option Hold) (holds : (r : Record) → a
       sym (ap (first_busy sets) (opened locks i d inside) ∙ ap (λ (o : Option ℕ). busy_at o l.«record» (first_busy sets (drop (i + 1) locks))) none)
 
   -- a lock that it excludes has a holder
-  pub has_holder : (l : Lock) (o : Option ℕ) → b ≡ excludes (Some l.mode) (hold_mode (at l.«record»)) → b ≡ true → o ≡ least_holder sets l → o ≡ None → ⊥
+  pub has_holder : (l : Lock) (o : Option ℕ) → b ≡ excludes (Some l.mode) (hold_mode (at l.«record»)) → b ≡ true
+      → o ≡ least_holder sets l → o ≡ None → ⊥
   has_holder l o is barred least none = true≢false (sym barred ∙ is_way l is ∙ ap is_some (sym least ∙ none))
 
 free_later : (b : Bool) (w : Mode) (e : ℕ × List Lock) (sets : Sets) (r : Record) (t : ℕ) → nat_eq t e.0 ≡ b → lookup (nat_eq e.0) sets ≡ None
@@ -205,7 +209,8 @@ below_first l locks q rises below = none_above q (l ∷ locks) (below, rises)
 at_first : (sets : Sets) (l : Lock) (locks : List Lock) (t : ℕ) → in_the_way (held_in sets) (mode_in (l ∷ locks)) l.«record» t ≡ stands sets l t
 at_first sets l locks t = ap (λ (o : Option Mode). excludes o (held_in sets t l.«record»)) (cond-true _ _ _ (eq_same l.«record»))
 
-busy_first : (sets : Sets) (l : Lock) (locks : List Lock) (h : ℕ) → Rising (l ∷ locks) → IsLeast sets l h → IsFirstInTheWay (held_in sets) (mode_in (l ∷ locks)) l.«record» h
+busy_first : (sets : Sets) (l : Lock) (locks : List Lock) (h : ℕ) → Rising (l ∷ locks) → IsLeast sets l h
+    → IsFirstInTheWay (held_in sets) (mode_in (l ∷ locks)) l.«record» h
 busy_first sets l locks h rises is = record {
   stands = at_first sets l locks h ∙ is.bars;
   least_record = λ q u below. ap (λ (o : Option Mode). excludes o (held_in sets u q)) (below_first l locks q rises below);
@@ -221,7 +226,8 @@ not_first true sets l locks r t is rises way = absurd (
     let bad : true ≡ false = sym way ∙ ap (λ (o : Option Mode). excludes o (held_in sets t r)) none in
     cc)
 
-busy_later : (sets : Sets) (l : Lock) (locks : List Lock) (b : Busy) → Rising (l ∷ locks) → least_holder sets l ≡ None → IsBusy sets locks b → IsBusy sets (l ∷ locks) b
+busy_later : (sets : Sets) (l : Lock) (locks : List Lock) (b : Busy) → Rising (l ∷ locks) → least_holder sets l ≡ None
+    → IsBusy sets locks b → IsBusy sets (l ∷ locks) b
 busy_later sets l locks b rises free is =
     let other = not_first (record_eq l.«record» b.name) sets l locks b.name b.holder refl rises is.stands in
     let wanted : mode_in (l ∷ locks) b.name ≡ mode_in locks b.name = cond-false _ _ _ other in
@@ -239,7 +245,8 @@ busy_choice (Some h) sets l locks b once rises is found later =
     let same : busy ≡ b = let e : Some busy ≡ Some b = found in cc in
     subst (IsBusy sets (l ∷ locks)) same (busy_first sets l locks h rises (least_bars sets l h once is))
 
-pub some_in_the_way : (sets : Sets) (locks : List Lock) (b : Busy) → AreSingle sets → Rising locks → first_busy sets locks ≡ Some b → IsBusy sets locks b
+pub some_in_the_way : (sets : Sets) (locks : List Lock) (b : Busy) → AreSingle sets → Rising locks
+    → first_busy sets locks ≡ Some b → IsBusy sets locks b
 some_in_the_way sets [] b once rises h = absurd (let bad : None ≡ Some b = h in cc)
 some_in_the_way sets (l ∷ locks) b once rises h =
     busy_choice (least_holder sets l) sets l locks b once rises refl h (some_in_the_way sets locks b once (rising_rest l locks rises))
@@ -248,6 +255,7 @@ pub none_is : (o : Option Busy) (sets : Sets) (locks : List Lock) → o ≡ firs
 none_is None sets locks is = none_in_the_way sets locks (sym is)
 none_is (Some b) sets locks is = tt
 
-pub some_is_busy : (o : Option Busy) (sets : Sets) (locks : List Lock) → AreSingle sets → Rising locks → o ≡ first_busy sets locks → IfSome o (λ b. IsBusy sets locks b)
+pub some_is_busy : (o : Option Busy) (sets : Sets) (locks : List Lock) → AreSingle sets → Rising locks
+    → o ≡ first_busy sets locks → IfSome o (λ b. IsBusy sets locks b)
 some_is_busy None sets locks once rises is = tt
 some_is_busy (Some b) sets locks once rises is = some_in_the_way sets locks b once rises (sym is)

@@ -1,5 +1,6 @@
 -- How records are held, as sets come and go.
-use Rattle.std.proofs.Common.{arith, ◌≡◌, ℕ, zero, suc, ◌+◌, ◌-◌, ◌<◌, ◌≤◌, nat_le, nat_eq, Bool, true, false, ◌||◌, List, [], ◌∷◌, get_or, position, sym, refl, ap, ap₂, subst, ◌∙◌, is_some, true≢false}
+use Rattle.std.proofs.Common.{arith, ◌≡◌, ℕ, zero, suc, ◌+◌, ◌-◌, ◌<◌, ◌≤◌, nat_le, nat_eq, Bool, true, false, ◌||◌}
+use Rattle.std.proofs.Common.{List, [], ◌∷◌, get_or, position, sym, refl, ap, ap₂, subst, ◌∙◌, is_some, true≢false}
 use Rattle.std.specs.Prelude.{Option, Some, None, sum_by, length, IfSome, slice_get, swap_remove}
 use Rattle.std.specs.Map.{lookup, keys_of, values_of}
 use Rattle.std.proofs.lemmas.Bool.{cond-true, cond-false}
@@ -165,7 +166,8 @@ way_first w e sets r =
 
 -- ---- a set more, a set less
 
-nothing_had : (g : Option Mode → ℕ) (had : Option (List Lock)) (r : Record) → g None ≡ 0 → mode_among had r ≡ None → CountsNone (λ s. g (mode_in s r)) had
+nothing_had : (g : Option Mode → ℕ) (had : Option (List Lock)) (r : Record) → g None ≡ 0 → mode_among had r ≡ None
+    → CountsNone (λ s. g (mode_in s r)) had
 nothing_had g None r none h = tt
 nothing_had g (Some s) r none h = ap g h ∙ none
 

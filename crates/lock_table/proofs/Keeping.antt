@@ -31,7 +31,8 @@ module _ (sets : Sets) (t : ℕ) (set : List Lock) (once : AreSingle sets) (noth
 
 module _ {S T : Type 0} (sets sets' : IndexMap ℕ (List Lock) S) (records records' : IndexMap Record Hold T) (t : ℕ) (set locks : List Lock) (kept : IsKept sets records) (are : locks ≡ set) where
   -- a transaction that had nothing has a set
-  pub put_kept : (now : Sets) (copy : List Lock) → sets.entries ≡ now → copy ≡ set → HoldsNothing (held_in now) t → Compatible (held_in now) (mode_in set)
+  pub put_kept : (now : Sets) (copy : List Lock) → sets.entries ≡ now → copy ≡ set → HoldsNothing (held_in now) t
+      → Compatible (held_in now) (mode_in set)
       → sets'.entries ≡ insert_entry nat_eq sets.entries t copy → IsUnique nat_eq sets'
       → ((r : Record) → get record_eq records' r ≡ held_more (mode_in locks r) (get record_eq records r)) → IsKept sets' records'
   put_kept now copy is same nothing compatible entries unique more =

@@ -1,5 +1,6 @@
 -- Each record with the mode in which it is held and the number of its holders, as the sets of transactions have it.
-use Rattle.std.specs.Prelude.{◌≡◌, ℕ, zero, suc, ◌+◌, ◌-◌, ◌^◌, ◌<◌, ◌≤◌, nat_eq, nat_le, if◌then◌else◌, List, length, sum_by, Option, Some, None, IfSome}
+use Rattle.std.specs.Prelude.{◌≡◌, ℕ, zero, suc, ◌+◌, ◌-◌, ◌^◌, ◌<◌, ◌≤◌, nat_eq, nat_le, if◌then◌else◌, List, length}
+use Rattle.std.specs.Prelude.{sum_by, Option, Some, None, IfSome}
 use Rattle.indexmap.specs.IndexMap.{IndexMap, get, spare, IsUnique}
 use Rattle.access_slots.specs.declared.slot.Record.{Record}
 use Rattle.access_slots.specs.declared.slot.Mode.{Mode}

@@ -12,5 +12,6 @@ invariant-loop-lock l = record {
   rising : Rising (drop l.lock-index l.locks);
   few : AreFewIn (drop l.lock-index l.locks) (get record_eq l.records);
   room : length l.locks ≤ spare l.records + l.lock-index;
-  left : (r : Record) → held_more (mode_in (drop l.lock-index l.locks) r) (get record_eq l.records r) ≡ held_more (mode_in l.locks r) (get record_eq l.fn.records r);
+  left : (r : Record)
+      → held_more (mode_in (drop l.lock-index l.locks) r) (get record_eq l.records r) ≡ held_more (mode_in l.locks r) (get record_eq l.fn.records r);
 }

@@ -9,5 +9,6 @@ use Rattle.lock_table.proofs.table.take_holders.Given as goal
 abbrev pub invariant-loop-lock : goal.invariant-loop-lock
 invariant-loop-lock l = record {
   rising : Rising (drop l.lock-index l.locks);
-  left : (r : Record) → held_less (mode_in (drop l.lock-index l.locks) r) (get record_eq l.records r) ≡ held_less (mode_in l.locks r) (get record_eq l.fn.records r);
+  left : (r : Record)
+      → held_less (mode_in (drop l.lock-index l.locks) r) (get record_eq l.records r) ≡ held_less (mode_in l.locks r) (get record_eq l.fn.records r);
 }
