@@ -10,5 +10,3 @@ pub mod encode;
 pub mod insn;
 mod read;
 pub mod slot;
-#[cfg(test)]
-mod tests;

@@ -8,5 +8,3 @@ pub mod memory;
 pub mod pause;
 mod registers;
 mod state;
-#[cfg(test)]
-mod tests;

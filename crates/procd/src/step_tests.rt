@@ -1,7 +1,5 @@
 // Each call once, where it succeeds.
 
-use crate::step::{Illegal, Outcome, Step};
-use crate::world::World;
 use access_slots::decl::Decl;
 use access_slots::op::{Reply, Said};
 use access_slots::slot::{Key, Mode, Record, Slot};
@@ -12,6 +10,8 @@ use std::process::Abort;
 use std::test::Fail;
 use tc_core::state::{Call, Receipt, TcState};
 use tc_log::event::Outcome as Ending;
+use tc_world::step::{Illegal, Outcome, Step};
+use tc_world::world::World;
 use verifier::verify::{Verified, verify};
 
 // ldxdw r6, [r1+8]; mov r1, 0; call 5; stxdw [r0+0], r6; mov r1, 0; call 2; exit: inserts its second

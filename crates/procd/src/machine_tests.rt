@@ -5,13 +5,13 @@ ghost use Rattle.access_slots.specs.Access.{fits, is_no_room};
 ghost use Rattle.interpreter.specs.Paused.{IsPaused};
 ghost use Rattle.interpreter.specs.declared.pause.Pause.TheVariants.{Ask};
 
-use crate::layout::Layout;
-use crate::machine::Machine;
-use crate::pause::Pause;
 use access_slots::decl::Decl;
 use access_slots::op::{Op, Said, fits};
 use access_slots::slot::{Key, Mode, Record, Slot, Value};
 use bpf_encoding::decode::decode;
+use interpreter::layout::Layout;
+use interpreter::machine::Machine;
+use interpreter::pause::Pause;
 use std::alloc::Global;
 use std::process::Abort;
 use std::test::Fail;

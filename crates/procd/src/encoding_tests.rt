@@ -1,7 +1,7 @@
-use crate::code::Code;
-use crate::decode::{DecodeFault, decode};
-use crate::encode::encode;
-use crate::insn::{
+use bpf_encoding::code::Code;
+use bpf_encoding::decode::{DecodeFault, decode};
+use bpf_encoding::encode::encode;
+use bpf_encoding::insn::{
     AtomicOperation, Condition, Insn, Operation, Place, Register, Size, Source, Width,
 };
 use std::test::Fail;
