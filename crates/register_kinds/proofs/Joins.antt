@@ -31,12 +31,12 @@ same_fits : (s : Setting) (t : Bool) (k : Kind) (v : Option ℕ) → (t ≡ true
 same_fits s true k v f some = f refl
 same_fits s false k v f some = some
 
-both : (a b : Bool) → (a && b) ≡ true → (a ≡ true) × (b ≡ true)
+pub both : (a b : Bool) → (a && b) ≡ true → (a ≡ true) × (b ≡ true)
 both true true e = (refl, refl)
 both true false e = absurd cc
 both false b e = absurd cc
 
-int_is : (o p : ℤ) → int_eq o p ≡ true → o ≡ p
+pub int_is : (o p : ℤ) → int_eq o p ≡ true → o ≡ p
 int_is o p e = (Decides-int_eq o p).0 e
 
 left_fits : (s : Setting) (a b : Kind) (v : Option ℕ) → Fits s a v → Fits s (join_of a b) v

@@ -61,26 +61,34 @@ impl Kinds {
     pub fn after_call(&self, answer: Kind) -> Kinds
         ensures { result ≡ after_call self.now answer }
     {
-        let mut registers = self.registers;
-        registers[0] = answer;
-        registers[1] = Kind::Empty;
-        registers[2] = Kind::Empty;
-        registers[3] = Kind::Empty;
-        registers[4] = Kind::Empty;
-        registers[5] = Kind::Empty;
-        Kinds { registers }
+        let mut kinds = *self;
+        kinds.call(answer);
+        kinds
     }
 
-    /// What is known where two ways meet, register by register.
-    pub fn join(&self, other: &Kinds) -> Kinds
-        ensures value { result ≡ join_kinds self.now other.now }
-        // What fits either fits the join.
-        ensures weaker { IsWeaker self.now result × IsWeaker other.now result }
+    /// A call with this kind of answer: registers 1 to 5 are empty from now on.
+    pub fn call(&mut self, answer: Kind)
+        ensures { self.new ≡ after_call self.old answer }
     {
-        let mut registers = self.registers;
+        self.registers[0] = answer;
+        self.registers[1] = Kind::Empty;
+        self.registers[2] = Kind::Empty;
+        self.registers[3] = Kind::Empty;
+        self.registers[4] = Kind::Empty;
+        self.registers[5] = Kind::Empty;
+    }
+
+    /// Only what is known on either way stays, register by register: here two ways meet.
+    pub fn join(&mut self, other: &Kinds)
+        ensures value { self.new ≡ join_kinds self.old other.now }
+        // What fits either fits the join.
+        ensures weaker { IsWeaker self.old self.new × IsWeaker other.now self.new }
+        // Joins may be taken in any order.
+        ensures either_first { self.new ≡ join_kinds other.now self.old }
+        ensures any_order { (ks : Kinds) → join_kinds self.new ks ≡ join_kinds self.old (join_kinds other.now ks) }
+    {
         for r in 0..11 {
-            registers[r] = self.registers[r].join(other.registers[r]);
+            self.registers[r] = self.registers[r].join(other.registers[r]);
         }
-        Kinds { registers }
     }
 }

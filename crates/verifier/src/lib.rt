@@ -4,5 +4,6 @@
 
 pub mod first_pass;
 pub mod flat;
+pub mod pending;
 pub mod second_pass;
 pub mod verify;

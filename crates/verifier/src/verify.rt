@@ -14,7 +14,7 @@ use access_slots::decl::Decl;
 use bpf_encoding::code::Code;
 use bpf_encoding::insn::{Insn, Place};
 use register_kinds::kind::Violation;
-use std::alloc::{AllocError, Global};
+use std::alloc::Global;
 use std::marker::Model;
 
 /// Why code was refused.
@@ -51,31 +51,16 @@ impl Model for Verified {
     ghost invariant = { λ v. IsAccepted v.decl v.code × (v.flat ≡ v.code) × (v.calls ≡ count_by is_call_place v.code) };
 }
 
-// The first violation by the kinds, in a table that is made for it.
-fn violation_in(
-    alloc: Global,
-    code: &[Place],
-    decl: &Decl,
-) -> Result<Option<(usize, Violation)>, AllocError>
-    requires some { 0 < length code.now }
-    requires short { length code.now ≤ 4096 }
-    ensures { IfOk result (λ found. found ≡ first_violation decl.now code.now) }
-{
-    let mut table = vec![in alloc; None; code.len()]?;
-    Ok(first_violation(&mut table, code, decl))
-}
-
 // What is wrong with the code, the first pass before the second.
 fn check(alloc: Global, code: &[Place], decl: &Decl) -> Result<(), VerifyFault>
-    requires some { 0 < length code.now }
-    requires short { length code.now ≤ 4096 }
+    requires { length code.now ≤ 4096 }
     ensures ok { IfOk result (λ _. verdict decl.now code.now ≡ None) }
     ensures err { IfErr result (IsVerdict decl.now code.now) }
 {
     if let Some((slot, violation)) = first_flaw(code) {
         return Err(VerifyFault::At(slot, violation));
     }
-    match violation_in(alloc, code, decl) {
+    match first_violation(alloc, code, decl) {
         Err(_) => Err(VerifyFault::Memory),
         Ok(Some((slot, violation))) => Err(VerifyFault::At(slot, violation)),
         Ok(None) => Ok(()),

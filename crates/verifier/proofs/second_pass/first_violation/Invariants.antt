@@ -6,6 +6,6 @@ use Rattle.verifier.proofs.second_pass.first_violation.Given as goal
 
 abbrev pub invariant-loop-at : goal.invariant-loop-at
 invariant-loop-at l = record {
-  arrived : HasArrived l.decl l.code l.at l.table;
+  arrived : HasArrived l.decl l.code l.at l.falling l.pending;
   none : first_from (violation_at l.decl l.code) l.at (length l.code - l.at) ≡ first_violation l.decl l.code;
 }

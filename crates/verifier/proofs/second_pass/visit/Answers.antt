@@ -1,31 +1,53 @@
-use Rattle.std.proofs.Common.{◌≡◌, ℕ, ◌+◌, ◌<◌, length, Option, Some, Ok, Result, sym, ap, ◌∙◌, rules, arith}
+use Rattle.std.proofs.Common.{◌≡◌, ℕ, ◌+◌, ◌<◌, length, Option, Some, None, refl, ap, ◌∙◌, arith}
 use Rattle.std.specs.Prelude.{slice_get}
 use Rattle.std.proofs.lemmas.Option.{slice_get-get_or}
+use Rattle.std.proofs.lemmas.Result.{IfOk-weaker}
 use Rattle.bpf_encoding.specs.declared.insn.Place.{Place}
 use Rattle.bpf_encoding.specs.declared.insn.Place.TheVariants as place
-use Rattle.register_kinds.specs.declared.effect.Effect.{Effect}
-use Rattle.register_kinds.specs.declared.kinds.Ways.{Ways}
 use Rattle.register_kinds.specs.declared.kind.Violation.{Violation}
-use Rattle.register_kinds.specs.Arriving.{jump_place, along, along_ways}
-use Rattle.register_kinds.specs.Effects.{next_by, jump_by, result_by}
-use Rattle.register_kinds.specs.Transfer.{transfer_of}
-use Rattle.verifier.specs.Table.{kept}
-use Rattle.verifier.proofs.Arrived.{arrived_on, next_is}
+use Rattle.register_kinds.specs.Arriving.{along_from}
+use Rattle.verifier.specs.Table.{kept, known, HasArrived}
+use Rattle.verifier.proofs.Arrived.{arrived_on, known_here, violation_is}
 use Rattle.verifier.proofs.second_pass.visit.Goals as goal
 
-pub returns-clause-arrived : goal.returns-clause-arrived
-returns-clause-arrived c = λ none.
+pub returns-in-Insn-clause-arrived : goal.returns-in-Insn-clause-arrived
+returns-in-Insn-clause-arrived c =
     let at = c.args.at in
+    let code = c.args.code.now in
+    let decl = c.args.decl.now in
     let i = c.in-Insn.insn in
-    let ks = c.in-Some.kinds in
-    let e = c.in-Ok.effect in
-    let here : slice_get c.args.code.now at ≡ Some (place.Insn i) = slice_get-get_or c.args.code.now at _ c.requires.within ∙ ap (λ (p : Place). Some p) c.in-Insn.is in
-    let long : length c.go_on.new.table ≡ length c.args.table.now = search rules in
-    let next = ap (λ (n : ℕ). at + n) c.slots.ensures.value ∙ next_is at i in
-    let is : result_by ks (Ok e) ≡ transfer_of c.args.decl.now i ks = ap (result_by ks) (sym c.in-Ok.is) ∙ c.effect_of.ensures in
-    arrived_on c.args.decl.now c.args.code.now at c.args.table.now c.go_on.new.table (Some (place.Insn i)) (Some ks) c.requires.within here c.in-Some.is c.requires.arrived long (λ k lt.
-    let inside : k < length c.args.table.now = omega (arith, c.requires.arrived.long) in
-    c.go_on.ensures k inside
-    ∙ ap (λ (to : Option ℕ). along to (jump_by ks e) k (along (Some (at + c.slots.result)) (next_by ks e) k (kept c.args.table.now k))) c.jump_place.ensures
-    ∙ ap (λ (n : ℕ). along (jump_place at i) (jump_by ks e) k (along (Some n) (next_by ks e) k (kept c.args.table.now k))) next
-    ∙ ap (λ (r : Result Ways Violation). along_ways at i r k (kept c.args.table.now k)) is)
+    let here = c.reach.new.falling in
+    let reached = c.reach.new.pending in
+    let later = c.step.new.falling in
+    let new = c.step.new.pending in
+    let stands : slice_get code at ≡ Some (place.Insn i) = slice_get-get_or code at _ c.requires.within ∙ ap (λ (p : Place). Some p) c.in-Insn.is in
+    IfOk-weaker c.step.result
+    (λ (v : Option Violation).
+    v ≡ None → (k : ℕ) → at < k → k < length reached → known (at + 1) later new k ≡ along_from decl at (Some (place.Insn i)) here k (kept reached k))
+    (λ (v : Option Violation). v ≡ None → HasArrived decl code (at + 1) later new)
+    (λ v ways none.
+    arrived_on decl code at (Some (place.Insn i)) c.args.falling.now here later c.args.pending.now reached new c.requires.within stands
+    c.requires.arrived c.reach.ensures.here c.reach.ensures.others (c.step.ensures.long ∙ c.reach.ensures.long)
+    (λ k after inside. ways none k after (omega (arith, inside, c.reach.ensures.long, c.requires.arrived.long))))
+    c.step.ensures.ways
+
+pub returns-in-Second-clause-violation : goal.returns-in-Second-clause-violation
+returns-in-Second-clause-violation c =
+    let at = c.args.at in
+    let code = c.args.code.now in
+    let decl = c.args.decl.now in
+    let here = c.reach.new.falling in
+    let stands : slice_get code at ≡ Some place.Second = slice_get-get_or code at _ c.requires.within ∙ ap (λ (p : Place). Some p) c.in-Second.is in
+    let is = known_here decl code at c.args.falling.now here c.args.pending.now c.requires.within c.requires.arrived c.reach.ensures.here in
+    violation_is decl code at (Some place.Second) here stands is
+
+pub returns-in-Second-clause-arrived : goal.returns-in-Second-clause-arrived
+returns-in-Second-clause-arrived c = λ none.
+    let at = c.args.at in
+    let code = c.args.code.now in
+    let decl = c.args.decl.now in
+    let here = c.reach.new.falling in
+    let reached = c.reach.new.pending in
+    let stands : slice_get code at ≡ Some place.Second = slice_get-get_or code at _ c.requires.within ∙ ap (λ (p : Place). Some p) c.in-Second.is in
+    arrived_on decl code at (Some place.Second) c.args.falling.now here None c.args.pending.now reached reached c.requires.within stands
+    c.requires.arrived c.reach.ensures.here c.reach.ensures.others c.reach.ensures.long (λ k after inside. refl)
