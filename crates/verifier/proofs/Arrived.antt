@@ -1,5 +1,6 @@
 -- What is known of each slot by the ways from those before it.
-use Rattle.std.proofs.Common.{◌≡◌, ◌≢◌, ℕ, ◌+◌, ◌<◌, ◌≤◌, Bool, true, false, Option, Some, None, Result, Ok, List, [], ◌∷◌, length, cond, refl, sym, ap, ap₂, ◌∙◌, arith, add-one}
+use Rattle.std.proofs.Common.{◌≡◌, ◌≢◌, ℕ, ◌+◌, ◌<◌, ◌≤◌, Bool, true, false, Option, Some, None, Result, Ok, List, []}
+use Rattle.std.proofs.Common.{◌∷◌, length, cond, refl, sym, ap, ap₂, ◌∙◌, arith, add-one}
 use Rattle.std.specs.Prelude.{slice_get}
 use Rattle.std.proofs.lemmas.Bool.{eq-eqb, ne_eqb}
 use Rattle.bpf_encoding.specs.Spelling.{is_wide, places_from, places_of}
@@ -64,17 +65,20 @@ arrived_on decl code at p falling here later old reached new lt stands arrived i
 }
 
 -- what is known of the slot that is reached
-pub violation_is : (decl : Declaration) (code : List Place) (at : ℕ) (p : Option Place) (here : Option Kinds) → slice_get code at ≡ p → here ≡ arriving decl code at at
+pub violation_is : (decl : Declaration) (code : List Place) (at : ℕ) (p : Option Place) (here : Option Kinds)
+    → slice_get code at ≡ p → here ≡ arriving decl code at at
     → violation_by decl p here ≡ violation_at decl code at
 violation_is decl code at p here stands known = ap₂ (violation_by decl) (sym stands) known
 
-pub known_here : (decl : Declaration) (code : List Place) (at : ℕ) (falling here : Option Kinds) (waiting : Table) → at < length code → HasArrived decl code at falling waiting
+pub known_here : (decl : Declaration) (code : List Place) (at : ℕ) (falling here : Option Kinds) (waiting : Table)
+    → at < length code → HasArrived decl code at falling waiting
     → here ≡ along (Some at) falling at (kept waiting at) → here ≡ arriving decl code at at
 known_here decl code at falling here waiting lt arrived is = is ∙ arrived.each at (omega arith) lt
 
 -- ---- the entry
 
-pub entered : (decl : Declaration) (code : List Place) (waiting : Table) → length waiting ≡ length code → ((at : ℕ) → kept waiting at ≡ None) → HasArrived decl code 0 (Some entry_kinds) waiting
+pub entered : (decl : Declaration) (code : List Place) (waiting : Table) → length waiting ≡ length code
+    → ((at : ℕ) → kept waiting at ≡ None) → HasArrived decl code 0 (Some entry_kinds) waiting
 entered decl code waiting long blank = record { long = long; each = λ at le lt. ap (along (Some 0) (Some entry_kinds) at) (blank at) }
 
 next_when : (at : ℕ) (i : Insn) (b : Bool) → is_wide i ≡ b → at + length (places_of (i ∷ [])) ≡ next_place at i

@@ -1,5 +1,7 @@
 -- What the first pass found, and what is known behind an instruction.
-use Rattle.std.proofs.Common.{◌≡◌, ℕ, zero, suc, ◌+◌, ◌-◌, ◌<◌, ◌≤◌, Bool, true, false, ◌&&◌, Option, Some, None, Result, Ok, Err, List, [], ◌∷◌, length, eqb, cond, leb, refl, sym, ap, ◌∙◌, subst, inl, inr, arith}
+use Rattle.std.proofs.Common.{◌≡◌, ℕ, zero, suc, ◌+◌, ◌-◌, ◌<◌, ◌≤◌, Bool, true, false, ◌&&◌, Option, Some, None}
+use Rattle.std.proofs.Common.{Result, Ok, Err, List, [], ◌∷◌, length, eqb, cond, leb, refl, sym, ap, ◌∙◌, subst, inl}
+use Rattle.std.proofs.Common.{inr, arith}
 use Rattle.std.specs.Prelude.{ℤ, pos, ◌+ℤ◌, slice_get}
 use Rattle.std.proofs.lemmas.Bool.{eq-eqb, cases_lt}
 use Rattle.std.proofs.lemmas.Bool.Decides.{nat_tests}
@@ -37,10 +39,12 @@ along_weaker (Some to) (Some after) at ks ls w =
       | false ↦ (ls, refl, w)
     ]
 
-pub known_on : (to : Option ℕ) (after : Option Kinds) (at : ℕ) (ks : Kinds) (o : Option Kinds) → KnownWeaker ks o → KnownWeaker ks (along to after at o)
+pub known_on : (to : Option ℕ) (after : Option Kinds) (at : ℕ) (ks : Kinds) (o : Option Kinds) → KnownWeaker ks o
+    → KnownWeaker ks (along to after at o)
 known_on to after at ks o h = subst (λ (p : Option Kinds). KnownWeaker ks (along to after at p)) (sym h.1) (along_weaker to after at ks h.0 h.2)
 
-known_from : (decl : Declaration) (from : ℕ) (p : Option Place) (kinds : Option Kinds) (at : ℕ) (ks : Kinds) (o : Option Kinds) → KnownWeaker ks o → KnownWeaker ks (along_from decl from p kinds at o)
+known_from : (decl : Declaration) (from : ℕ) (p : Option Place) (kinds : Option Kinds) (at : ℕ) (ks : Kinds) (o : Option Kinds)
+    → KnownWeaker ks o → KnownWeaker ks (along_from decl from p kinds at o)
 known_from decl from None kinds at ks o h = h
 known_from decl from (Some place.Second) kinds at ks o h = h
 known_from decl from (Some (place.Insn i)) None at ks o h = h
@@ -50,7 +54,8 @@ known_from decl from (Some (place.Insn i)) (Some ls) at ks o h =
       | Err v ↦ h
     ]
 
-grown : (decl : Declaration) (code : List Place) (n m at : ℕ) (ks : Kinds) → KnownWeaker ks (arriving decl code n at) → KnownWeaker ks (arriving decl code (m + n) at)
+grown : (decl : Declaration) (code : List Place) (n m at : ℕ) (ks : Kinds) → KnownWeaker ks (arriving decl code n at)
+    → KnownWeaker ks (arriving decl code (m + n) at)
 grown decl code n zero at ks h = let e : n ≡ 0 + n = omega arith in subst (λ (k : ℕ). KnownWeaker ks (arriving decl code k at)) e h
 grown decl code n (suc m) at ks h =
     let e : suc (m + n) ≡ suc m + n = omega arith in
@@ -58,7 +63,8 @@ grown decl code n (suc m) at ks h =
     (known_from decl (m + n) (slice_get code (m + n)) (arriving decl code (m + n) (m + n)) at ks (arriving decl code (m + n) at) (grown decl code n m at ks h))
 
 -- what arrives by the first n slots is known at a later slot
-pub known_later : (decl : Declaration) (code : List Place) (n at : ℕ) (ks : Kinds) → n ≤ at → KnownWeaker ks (arriving decl code n at) → KnownWeaker ks (kinds_at decl code at)
+pub known_later : (decl : Declaration) (code : List Place) (n at : ℕ) (ks : Kinds) → n ≤ at
+    → KnownWeaker ks (arriving decl code n at) → KnownWeaker ks (kinds_at decl code at)
 known_later decl code n at ks le h = let e : at - n + n ≡ at = omega arith in subst (λ (k : ℕ). KnownWeaker ks (arriving decl code k at)) e (grown decl code n (at - n) at ks h)
 
 pub arrives : (to : ℕ) (after : Kinds) (before : Option Kinds) → KnownWeaker after (along (Some to) (Some after) to before)
@@ -84,7 +90,8 @@ behind_wide [] whole lt = absurd cc
 behind_wide (place.Insn i ∷ code) whole lt = absurd cc
 behind_wide (place.Second ∷ code) whole lt = head_insn code whole (omega arith)
 
-behind_at : (i : Insn) (w : Bool) (code : List Place) → is_wide i ≡ w → is_whole w code ≡ true → next_place 0 i < suc (length code) → HasInsn (place.Insn i ∷ code) (next_place 0 i)
+behind_at : (i : Insn) (w : Bool) (code : List Place) → is_wide i ≡ w → is_whole w code ≡ true
+    → next_place 0 i < suc (length code) → HasInsn (place.Insn i ∷ code) (next_place 0 i)
 behind_at i true code e whole lt =
     let two : next_place 0 i ≡ 2 = ap (λ (b : Bool). cond b (0 + 2) (0 + 1)) e in
     let h = behind_wide code whole (omega (arith, two)) in
@@ -97,7 +104,8 @@ behind_at i false code e whole lt =
 next_suc : (k : ℕ) (i : Insn) → next_place (suc k) i ≡ suc (next_place k i)
 next_suc k i = elim (is_wide i) as (λ b. cond b (suc k + 2) (suc k + 1) ≡ suc (cond b (k + 2) (k + 1))) [ true ↦ omega arith | false ↦ omega arith ]
 
-pub behind : (due : Bool) (code : List Place) (k : ℕ) (i : Insn) → is_whole due code ≡ true → slice_get code k ≡ Some (place.Insn i) → next_place k i < length code → HasInsn code (next_place k i)
+pub behind : (due : Bool) (code : List Place) (k : ℕ) (i : Insn) → is_whole due code ≡ true
+    → slice_get code k ≡ Some (place.Insn i) → next_place k i < length code → HasInsn code (next_place k i)
 behind due [] k i whole h lt = absurd cc
 behind false (place.Insn j ∷ code) zero i whole h lt =
     let same = insn_both j i h in
@@ -133,7 +141,8 @@ pub record LeadsOn (code : List Place) (at to : ℕ) : Type 0 where
 not_nat_le : (a b : ℕ) (v : Violation) (o : Option Violation) → cond (leb a b) (Some v) o ≡ None → (b < a) × (o ≡ None)
 not_nat_le a b v o h = elim (cases_lt b a) [ inl lt ↦ (lt, (let f : leb a b ≡ false = grind (arith, nat_tests) in sym (ap (λ (t : Bool). cond t (Some v) o) f) ∙ h)) | inr le ↦ (let f : leb a b ≡ true = grind (arith, nat_tests) in let bad : Some v ≡ None = sym (ap (λ (t : Bool). cond t (Some v) o) f) ∙ h in absurd cc) ]
 
-slot_insn : (code : List Place) (to : ℕ) (p : Option Place) (v : Violation) → slice_get code to ≡ p → to < length code → cond (is_second_slot p) (Some v) None ≡ None → HasInsn code to
+slot_insn : (code : List Place) (to : ℕ) (p : Option Place) (v : Violation) → slice_get code to ≡ p → to < length code
+    → cond (is_second_slot p) (Some v) None ≡ None → HasInsn code to
 slot_insn code to None v e lt h = let some = slice_get-get_or code to place.Second lt in let bad = sym e ∙ some in absurd cc
 slot_insn code to (Some (place.Insn i)) v e lt h = (i, e)
 slot_insn code to (Some place.Second) v e lt h = absurd cc
@@ -144,7 +153,8 @@ leads_on code at to h =
     let q = not_nat_le (length code) to OutOfCode _ p.1 in
     record { forward = p.0; insn = slot_insn code to (slice_get code to) IntoWide refl q.0 q.1 }
 
-target_some : (code : List Place) (at : ℕ) (target : Option ℕ) → target_flaw code at target ≡ None → (to : ℕ) × (target ≡ Some to) × LeadsOn code at to
+target_some : (code : List Place) (at : ℕ) (target : Option ℕ) → target_flaw code at target ≡ None
+    → (to : ℕ) × (target ≡ Some to) × LeadsOn code at to
 target_some code at None h = absurd cc
 target_some code at (Some to) h = (to, refl, leads_on code at to h)
 
@@ -155,7 +165,8 @@ pub lands : (code : List Place) (at : ℕ) (offset : Option ℤ) → jump_flaw c
 lands code at None h = tt
 lands code at (Some z) h = let t = target_some code at (place_of (pos (at + 1) +ℤ z)) h in (t.0, t.1)
 
-pub jump_leads : (code : List Place) (at to : ℕ) (offset : Option ℤ) → jump_flaw code at offset ≡ None → target_by at offset ≡ Some to → LeadsOn code at to
+pub jump_leads : (code : List Place) (at to : ℕ) (offset : Option ℤ) → jump_flaw code at offset ≡ None
+    → target_by at offset ≡ Some to → LeadsOn code at to
 jump_leads code at to None h e = absurd cc
 jump_leads code at to (Some z) h e =
     let t = target_some code at (place_of (pos (at + 1) +ℤ z)) h in
@@ -171,7 +182,8 @@ ok w = Ok w
 ways_is : (v w : Ways) → ok v ≡ ok w → v ≡ w
 ways_is v w e = cc
 
-pub next_goes_on : (decl : Declaration) (i : Insn) (ks after : Kinds) (w : Ways) → transfer_of decl i ks ≡ Ok w → w.next ≡ Some after → goes_on i ≡ true
+pub next_goes_on : (decl : Declaration) (i : Insn) (ks after : Kinds) (w : Ways) → transfer_of decl i ks ≡ Ok w
+    → w.next ≡ Some after → goes_on i ≡ true
 next_goes_on decl (Jump offset) ks after w t n = no_next (Jump offset) w after (ap (λ (x : Ways). x.next) (sym (ways_is _ w t))) n
 next_goes_on decl (JumpLong offset) ks after w t n = no_next (JumpLong offset) w after (ap (λ (x : Ways). x.next) (sym (ways_is _ w t))) n
 next_goes_on decl Exit ks after w t n = exits (is_present (kind_at ks 0)) (is_plain (kind_at ks 0)) t

@@ -6,19 +6,22 @@ use Rattle.register_kinds.specs.declared.kind.Violation.{Violation}
 use Rattle.verifier.specs.Verdict.{or_at, first_from}
 
 -- nothing is wrong here, so the first is behind
-pub goes_on : (wrong : ℕ → Option Violation) (at n : ℕ) (total : Option (ℕ × Violation)) → at < n → wrong at ≡ None → first_from wrong at (n - at) ≡ total → first_from wrong (at + 1) (n - (at + 1)) ≡ total
+pub goes_on : (wrong : ℕ → Option Violation) (at n : ℕ) (total : Option (ℕ × Violation)) → at < n → wrong at ≡ None
+    → first_from wrong at (n - at) ≡ total → first_from wrong (at + 1) (n - (at + 1)) ≡ total
 goes_on wrong at n total lt none so_far =
     let k : n - at ≡ suc (n - (at + 1)) = omega arith in
     ap (λ (m : ℕ). first_from wrong m (n - (at + 1))) (add-one at)
     ∙ ap (λ (o : Option Violation). or_at at o (first_from wrong (suc at) (n - (at + 1)))) (sym none)
     ∙ ap (first_from wrong at) (sym k) ∙ so_far
 
-pub is_here : (wrong : ℕ → Option Violation) (at n : ℕ) (v : Violation) (total : Option (ℕ × Violation)) → at < n → wrong at ≡ Some v → first_from wrong at (n - at) ≡ total → total ≡ Some (at, v)
+pub is_here : (wrong : ℕ → Option Violation) (at n : ℕ) (v : Violation) (total : Option (ℕ × Violation)) → at < n
+    → wrong at ≡ Some v → first_from wrong at (n - at) ≡ total → total ≡ Some (at, v)
 is_here wrong at n v total lt some so_far =
     let k : n - at ≡ suc (n - (at + 1)) = omega arith in
     sym so_far ∙ ap (first_from wrong at) k ∙ ap (λ (o : Option Violation). or_at at o (first_from wrong (suc at) (n - (at + 1)))) some
 
-pub is_none : (wrong : ℕ → Option Violation) (at n : ℕ) (total : Option (ℕ × Violation)) → n ≤ at → first_from wrong at (n - at) ≡ total → total ≡ None
+pub is_none : (wrong : ℕ → Option Violation) (at n : ℕ) (total : Option (ℕ × Violation)) → n ≤ at
+    → first_from wrong at (n - at) ≡ total → total ≡ None
 is_none wrong at n total le so_far =
     let k : n - at ≡ 0 = omega arith in
     sym so_far ∙ ap (first_from wrong at) k

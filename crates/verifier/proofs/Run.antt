@@ -1,5 +1,7 @@
 -- Code with which nothing is wrong is safe.
-use Rattle.std.proofs.Common.{◌≡◌, ℕ, zero, suc, ◌+◌, ◌-◌, ◌*◌, ◌<◌, ◌≤◌, ◌^◌, Bool, true, false, cond, ◌==◌, Option, Some, None, Result, Ok, Err, List, [], ◌∷◌, ◌++◌, length, take, refl, sym, ap, ap₂, ◌∙◌, subst, inl, inr, arith}
+use Rattle.std.proofs.Common.{◌≡◌, ℕ, zero, suc, ◌+◌, ◌-◌, ◌*◌, ◌<◌, ◌≤◌, ◌^◌, Bool, true, false, cond, ◌==◌, Option}
+use Rattle.std.proofs.Common.{Some, None, Result, Ok, Err, List, [], ◌∷◌, ◌++◌, length, take, refl, sym, ap, ap₂, ◌∙◌}
+use Rattle.std.proofs.Common.{subst, inl, inr, arith}
 use Rattle.std.specs.Prelude.{ℤ, pos, ◌+ℤ◌, slice_get, slice_set, count_by}
 use Rattle.std.proofs.lemmas.List.Recursion.{is_count_by}
 use Rattle.std.specs.List.{slice_index_or, flat_map}
@@ -16,13 +18,20 @@ use Rattle.bpf_encoding.specs.Fields.{Fields}
 use Rattle.bpf_encoding.specs.Spelling.{number_of, fields_of}
 use Rattle.bpf_encoding.specs.Reading.{is_64}
 use Rattle.bpf_encoding.specs.declared.insn.Insn.{Insn}
-use Rattle.bpf_encoding.specs.declared.insn.Insn.TheVariants.{Alu, Negate, MoveSigned, Order, LoadWide, Jump, JumpLong, JumpIf, Load, LoadSigned, StoreImm, Store, Atomic, Call, Exit}
+use Rattle.bpf_encoding.specs.declared.insn.Insn.TheVariants.{Alu, Negate, MoveSigned, Order, LoadWide, Jump}
+use Rattle.bpf_encoding.specs.declared.insn.Insn.TheVariants.{JumpLong, JumpIf, Load, LoadSigned, StoreImm, Store}
+use Rattle.bpf_encoding.specs.declared.insn.Insn.TheVariants.{Atomic, Call, Exit}
 use Rattle.bpf_encoding.specs.declared.insn.Place.{Place}
 use Rattle.bpf_encoding.specs.declared.insn.Place.TheVariants as place
 use Rattle.semantics.specs.Arithmetic.{width_of}
 use Rattle.semantics.specs.Memory.{Memory, bytes_at, written}
-use Rattle.semantics.specs.Step.{Config, Cause, EmptyRead, WroteR10, Step, Next, Ask, Done, Trap, Bases, Setting, address, step, register, need, put, place_of, goes_to, if_taken, loaded, stored, fetched, replaced}
-use Rattle.semantics.specs.Reach.{Stop, Asked, Exited, Trapped, Unfinished, IsLayout, AreArguments, IsBySlot, AnswersFit, FitsStop, buffer_regions, entry_memory, advance, onwards, on_from, run, answered, reach, entry, from_step, IsFineStop, IsSafe, calls_helper, AsksAtMost, AsksOnceByEach}
+use Rattle.semantics.specs.Step.{Config, Cause, EmptyRead, WroteR10, Step, Next, Ask, Done, Trap, Bases, Setting}
+use Rattle.semantics.specs.Step.{address, step, register, need, put, place_of, goes_to, if_taken, loaded, stored}
+use Rattle.semantics.specs.Step.{fetched, replaced}
+use Rattle.semantics.specs.Reach.{Stop, Asked, Exited, Trapped, Unfinished, IsLayout, AreArguments, IsBySlot}
+use Rattle.semantics.specs.Reach.{AnswersFit, FitsStop, buffer_regions, entry_memory, advance, onwards, on_from, run}
+use Rattle.semantics.specs.Reach.{answered, reach, entry, from_step, IsFineStop, IsSafe, calls_helper, AsksAtMost}
+use Rattle.semantics.specs.Reach.{AsksOnceByEach}
 use Rattle.semantics.specs.Instruction.{instruction_step, program_of, setting, value_of, left_of, receiver, expected_of, exchanged_by}
 use Rattle.semantics.proofs.Bridge.{slot_at, step-instruction, length-program}
 use Rattle.semantics.proofs.Extended.{address_zero}
@@ -31,7 +40,8 @@ use Rattle.register_kinds.specs.declared.kinds.Kinds.{Kinds}
 use Rattle.register_kinds.specs.declared.kinds.Ways.{Ways}
 use Rattle.register_kinds.specs.Kinds.{entry_kinds, kind_at}
 use Rattle.register_kinds.specs.Transfer.{transfer_of}
-use Rattle.register_kinds.specs.Arriving.{next_place, jump_offset, jump_place, along, along_ways, along_from, arriving, kinds_at, violation_of, violation_by, violation_at}
+use Rattle.register_kinds.specs.Arriving.{next_place, jump_offset, jump_place, along, along_ways, along_from}
+use Rattle.register_kinds.specs.Arriving.{arriving, kinds_at, violation_of, violation_by, violation_at}
 use Rattle.register_kinds.specs.Fitting.{Fits, AllFit, IsSetting, IsStanding, IsSound, WentOn, Shape, shapes, buffer_shapes}
 use Rattle.register_kinds.proofs.Memory.{laid_of}
 use Rattle.register_kinds.proofs.Sound.{step_sound}
@@ -40,7 +50,8 @@ use Rattle.verifier.specs.Verdict.{first_flaw, first_violation, or_first}
 use Rattle.verifier.specs.Checked.{IsAccepted}
 use Rattle.verifier.specs.Calls.{is_call, is_call_place}
 use Rattle.verifier.proofs.Firsts.{all_none}
-use Rattle.verifier.proofs.Behind.{KnownWeaker, known_on, known_later, arrives, HasInsn, head_insn, behind, or_none, both_none, lands, jump_leads, next_goes_on, falls_within, next_later}
+use Rattle.verifier.proofs.Behind.{KnownWeaker, known_on, known_later, arrives, HasInsn, head_insn, behind, or_none}
+use Rattle.verifier.proofs.Behind.{both_none, lands, jump_leads, next_goes_on, falls_within, next_later}
 
 transfer_ok : (r : Result Ways Violation) → violation_of r ≡ None → (w : Ways) × (r ≡ Ok w)
 transfer_ok (Ok w) h = (w, refl)
@@ -131,7 +142,8 @@ fetched_asks b c into old None = tt
 fetched_asks b c None old (Some m) = tt
 fetched_asks b c (Some r) old (Some m) = put_asks b (record c { memory = m }) 1 r old
 
-replaced_asks : (b : Bool) (c : Config) (w : Width) (at : ℕ) (into : Option ℕ) (compute : ℕ → ℕ) (o : Option (List ℕ)) → AsksOnly b (replaced c w at into compute o)
+replaced_asks : (b : Bool) (c : Config) (w : Width) (at : ℕ) (into : Option ℕ) (compute : ℕ → ℕ) (o : Option (List ℕ))
+    → AsksOnly b (replaced c w at into compute o)
 replaced_asks b c w at into compute None = tt
 replaced_asks b c w at into compute (Some bytes) = fetched_asks b c into (from_le_bytes w bytes) (written c.memory at (to_le_bytes w (compute (from_le_bytes w bytes))))
 
@@ -172,7 +184,8 @@ from_first : (code : List Place) → calls_from code 0 ≡ calls_of code
 from_first [] = refl
 from_first (p ∷ ps) = refl
 
-from_call : (code : List Place) (at : ℕ) (i : Insn) → slice_get code at ≡ Some (place.Insn i) → is_call i ≡ true → calls_from code at ≡ suc (calls_from code (suc at))
+from_call : (code : List Place) (at : ℕ) (i : Insn) → slice_get code at ≡ Some (place.Insn i) → is_call i ≡ true
+    → calls_from code at ≡ suc (calls_from code (suc at))
 from_call [] at i e call = absurd cc
 from_call (p ∷ ps) zero i e call =
     let same : p ≡ place.Insn i = cc in
@@ -240,10 +253,12 @@ module _ (code : List Place) (decl : Declaration) (accepted : IsAccepted decl co
   SafeStep at (Trap cause) = ⊥
 
   -- the kinds that a way brings fit where it leads
-  fits_there : (c : Config) (ks : Kinds) → KnownWeaker ks (kinds_at decl code c.place) → AllFit here ks c.registers → HasInsn code c.place → IsStanding here c → c.taken ≤ c.place → FitsAt here code c
+  fits_there : (c : Config) (ks : Kinds) → KnownWeaker ks (kinds_at decl code c.place) → AllFit here ks c.registers
+      → HasInsn code c.place → IsStanding here c → c.taken ≤ c.place → FitsAt here code c
   fits_there c ks known all insn standing few = record { insn = insn.0; stands = insn.1; kinds = known.0; known = known.1; all = known.2.fits here c.registers all; standing = standing; few = few }
 
-  went_on : (c : Config) (w : Ways) (at : FitsAt here code c) → transfer_of decl at.insn at.kinds ≡ Ok w → (c' : Config) → WentOn here c.place c.taken at.insn w c' → FitsLater c.place c'
+  went_on : (c : Config) (w : Ways) (at : FitsAt here code c) → transfer_of decl at.insn at.kinds ≡ Ok w
+      → (c' : Config) → WentOn here c.place c.taken at.insn w c' → FitsLater c.place c'
   went_on c w at t c' sound = elim sound.2 [ inl next ↦ by_next next | inr jump ↦ by_jump jump ]
     where
       lt : c.place < length code
@@ -255,15 +270,19 @@ module _ (code : List Place) (decl : Declaration) (accepted : IsAccepted decl co
       falls : or_none (jump_flaw code c.place (jump_offset at.insn)) (or_else (fall_flaw code c.place at.insn) (call_flaw at.insn))
       falls = both_none _ _ flow
 
-      arrived : (to : ℕ) (o : Option Kinds) → along_from decl c.place (Some (place.Insn at.insn)) (Some at.kinds) to o ≡ along (jump_place c.place at.insn) w.jump to (along (Some (next_place c.place at.insn)) w.next to o)
+      arrived : (to : ℕ) (o : Option Kinds)
+          → along_from decl c.place (Some (place.Insn at.insn)) (Some at.kinds) to o ≡ along (jump_place c.place at.insn) w.jump to (along (Some (next_place c.place at.insn)) w.next to o)
       arrived to o = ap (λ (r : Result Ways Violation). along_ways c.place at.insn r to o) t
 
-      sent : (to : ℕ) → arriving decl code (suc c.place) to ≡ along (jump_place c.place at.insn) w.jump to (along (Some (next_place c.place at.insn)) w.next to (arriving decl code c.place to))
+      sent : (to : ℕ)
+          → arriving decl code (suc c.place) to ≡ along (jump_place c.place at.insn) w.jump to (along (Some (next_place c.place at.insn)) w.next to (arriving decl code c.place to))
       sent to =
           ap₂ (λ (p : Option Place) (ks : Option Kinds). along_from decl c.place p ks to (arriving decl code c.place to)) at.stands at.known
           ∙ arrived to (arriving decl code c.place to)
 
-      known_by : (to : ℕ) (ks : Kinds) → suc c.place ≤ to → KnownWeaker ks (along (jump_place c.place at.insn) w.jump to (along (Some (next_place c.place at.insn)) w.next to (arriving decl code c.place to))) → KnownWeaker ks (kinds_at decl code to)
+      known_by : (to : ℕ) (ks : Kinds) → suc c.place ≤ to
+          → KnownWeaker ks (along (jump_place c.place at.insn) w.jump to (along (Some (next_place c.place at.insn)) w.next to (arriving decl code c.place to)))
+          → KnownWeaker ks (kinds_at decl code to)
       known_by to ks le h = known_later decl code (suc c.place) to ks le (subst (KnownWeaker ks) (sym (sent to)) h)
 
       by_next : ((ks : Kinds) × (w.next ≡ Some ks) × (c'.place ≡ next_place c.place at.insn) × AllFit here ks c'.registers) → FitsLater c.place c'
@@ -280,7 +299,8 @@ module _ (code : List Place) (decl : Declaration) (accepted : IsAccepted decl co
             omega (arith, later, e),
           )
 
-      by_jump : ((ks : Kinds) × (w.jump ≡ Some ks) × (jump_place c.place at.insn ≡ Some c'.place) × AllFit here ks c'.registers) → FitsLater c.place c'
+      by_jump : ((ks : Kinds) × (w.jump ≡ Some ks) × (jump_place c.place at.insn ≡ Some c'.place) × AllFit here ks c'.registers)
+          → FitsLater c.place c'
       by_jump j =
           let leads = jump_leads code c.place c'.place (jump_offset at.insn) falls.0 j.2 in
           let before = along (Some (next_place c.place at.insn)) w.next c'.place (arriving decl code c.place c'.place) in
@@ -292,7 +312,8 @@ module _ (code : List Place) (decl : Declaration) (accepted : IsAccepted decl co
             forward,
           )
 
-  step_fits : (c : Config) (w : Ways) (at : FitsAt here code c) → transfer_of decl at.insn at.kinds ≡ Ok w → (s : Step) → IsSound here c.place c.taken at.insn w s → SafeStep c.place s
+  step_fits : (c : Config) (w : Ways) (at : FitsAt here code c) → transfer_of decl at.insn at.kinds ≡ Ok w
+      → (s : Step) → IsSound here c.place c.taken at.insn w s → SafeStep c.place s
   step_fits c w at t (Next c') sound = went_on c w at t c' sound
   step_fits c w at t (Ask slot operation c') sound =
       let taken = sound.1 in
@@ -317,7 +338,9 @@ module _ (code : List Place) (decl : Declaration) (accepted : IsAccepted decl co
   SafeStop (Trapped cause) = ⊥
   SafeStop Unfinished = ⊥
 
-  go_on : (n at : ℕ) (s : Step) → at < length code → length code ≤ suc n + at → ((c : Config) → FitsAt here code c → length code ≤ n + c.place → SafeStop (advance here n c)) → SafeStep at s → SafeStop (from_step s (advance here n))
+  go_on : (n at : ℕ) (s : Step) → at < length code → length code ≤ suc n + at
+      → ((c : Config) → FitsAt here code c → length code ≤ n + c.place → SafeStop (advance here n c)) → SafeStep at s
+      → SafeStop (from_step s (advance here n))
   go_on n at (Next c) lt le more safe = more c safe.0 (omega (arith, safe.1))
   go_on n at (Ask slot operation c) lt le more safe =
       let place = safe.1 in
@@ -404,7 +427,9 @@ module _ (code : List Place) (decl : Declaration) (accepted : IsAccepted decl co
   lower_stop at to le (Trapped cause) h = tt
   lower_stop at to le Unfinished h = tt
 
-  go_counted : (n at : ℕ) (s : Step) → SafeStep at s → CountedStep at s → ((c : Config) → FitsAt here code c → CountedStop c.place (advance here n c)) → CountedStop at (from_step s (advance here n))
+  go_counted : (n at : ℕ) (s : Step) → SafeStep at s → CountedStep at s
+      → ((c : Config) → FitsAt here code c → CountedStop c.place (advance here n c))
+      → CountedStop at (from_step s (advance here n))
   go_counted n at (Next c) safe h more = let later = safe.1 in lower_stop at c.place (omega (arith, later)) (advance here n c) (more c safe.0)
   go_counted n at (Ask slot operation c) safe h more = let same : c.place ≡ at = safe.1 in (omega (arith, same), subst IsCallAt (sym same) h)
   go_counted n at (Done v c) safe h more = tt
@@ -433,13 +458,15 @@ module _ (code : List Place) (decl : Declaration) (accepted : IsAccepted decl co
   no_answers from (Trapped cause) h = tt
   no_answers from Unfinished h = tt
 
-  one_more_answer : (n from at : ℕ) (s : Stop) → suc (calls_from code (suc at)) ≤ calls_from code from → FewAnswers n (suc at) s → FewAnswers (suc n) from s
+  one_more_answer : (n from at : ℕ) (s : Stop) → suc (calls_from code (suc at)) ≤ calls_from code from
+      → FewAnswers n (suc at) s → FewAnswers (suc n) from s
   one_more_answer n from at (Asked slot operation c) le h = omega (arith, le, h)
   one_more_answer n from at (Exited v c) le h = tt
   one_more_answer n from at (Trapped cause) le h = tt
   one_more_answer n from at Unfinished le h = tt
 
-  after_counted : (from : ℕ) (s : Stop) (a : Said) (later : List Said) → SafeStop s → CountedStop from s → FitsStop s a (λ k c'. AnswersFit here (answered here k c' a) later)
+  after_counted : (from : ℕ) (s : Stop) (a : Said) (later : List Said) → SafeStop s → CountedStop from s
+      → FitsStop s a (λ k c'. AnswersFit here (answered here k c' a) later)
       → ((c : Config) → FitsAt here code c → AnswersFit here c later → FewAnswers (length later) c.place (run here c later))
       → FewAnswers (suc (length later)) from (on_from here s (λ k c'. run here (answered here k c' a) later))
   after_counted from (Asked slot operation c) a later safe h f more =
@@ -453,13 +480,15 @@ module _ (code : List Place) (decl : Declaration) (accepted : IsAccepted decl co
   after_counted from (Trapped cause) a later safe h f more = tt
   after_counted from Unfinished a later safe h f more = tt
 
-  run_counted : (answers : List Said) (c : Config) → FitsAt here code c → AnswersFit here c answers → FewAnswers (length answers) c.place (run here c answers)
+  run_counted : (answers : List Said) (c : Config) → FitsAt here code c → AnswersFit here c answers
+      → FewAnswers (length answers) c.place (run here c answers)
   run_counted [] c at f = no_answers c.place (onwards here c) (whole_counted c at)
   run_counted (a ∷ later) c at f = after_counted c.place (onwards here c) a later (whole_safe c at) (whole_counted c at) f (run_counted later)
 
   -- ---- each question stands at a call, further on than the questions before it
 
-  later_on : (from : ℕ) (s : Stop) (a : Said) (later : List Said) → SafeStop s → CountedStop from s → FitsStop s a (λ k c'. AnswersFit here (answered here k c' a) later)
+  later_on : (from : ℕ) (s : Stop) (a : Said) (later : List Said) → SafeStop s → CountedStop from s
+      → FitsStop s a (λ k c'. AnswersFit here (answered here k c' a) later)
       → ((c : Config) → FitsAt here code c → AnswersFit here c later → CountedStop c.place (run here c later)) → CountedStop from (on_from here s (λ k c'. run here (answered here k c' a) later))
   later_on from (Asked slot operation c) a later safe h f more =
       let on = h.0 in
@@ -487,7 +516,8 @@ module _ (code : List Place) (decl : Declaration) (accepted : IsAccepted decl co
     next_further (Trapped cause) a later safe f e e' = absurd cc
     next_further Unfinished a later safe f e e' = absurd cc
 
-    on_further : (s : Stop) (x : Said) (earlier answers : List Said) → SafeStop s → FitsStop s x (λ k c'. AnswersFit here (answered here k c' x) answers)
+    on_further : (s : Stop) (x : Said) (earlier answers : List Said) → SafeStop s
+        → FitsStop s x (λ k c'. AnswersFit here (answered here k c' x) answers)
         → on_from here s (λ k c'. run here (answered here k c' x) earlier) ≡ Asked slot operation there → on_from here s (λ k c'. run here (answered here k c' x) answers) ≡ Asked slot' operation' there'
         → ((c : Config) → FitsAt here code c → AnswersFit here c answers → run here c earlier ≡ Asked slot operation there → run here c answers ≡ Asked slot' operation' there' → there.place < there'.place)
         → there.place < there'.place
@@ -519,7 +549,8 @@ accepted_asks_once code decl accepted = record {
 }
 
 -- each question of a run is of another call slot, so there are more of these than answers before it
-pub accepted_asks_few : (code : List Place) (decl : Declaration) → IsAccepted decl code → AsksAtMost (program_of code decl) (count_by is_call_place code)
+pub accepted_asks_few : (code : List Place) (decl : Declaration) → IsAccepted decl code
+    → AsksAtMost (program_of code decl) (count_by is_call_place code)
 accepted_asks_few code decl accepted = record {
   few = λ args b answers slot operation c layout arguments fit asked.
       let counted = run_counted code decl accepted args b layout arguments answers (entry (setting code decl args b)) (entry_fits code decl accepted args b layout arguments) fit in

@@ -84,7 +84,8 @@ place_within places slot k e =
     ]
 
 -- what was read there is the slot's place
-pub stood : (places : List (Option ℕ)) (slot : ℕ) (x o : Option ℕ) → slot < length places → x ≡ slice_index_or places slot x → x ≡ o → place_at places slot ≡ o
+pub stood : (places : List (Option ℕ)) (slot : ℕ) (x o : Option ℕ) → slot < length places
+    → x ≡ slice_index_or places slot x → x ≡ o → place_at places slot ≡ o
 stood places slot x o lt read is = sym (get_or_read places slot x lt read None) ∙ is
 
 pub found : (targets : List Target) (k : ℕ) (t : Target) → k < length targets → t ≡ slice_index_or targets k t → slice_get targets k ≡ Some t
@@ -118,7 +119,8 @@ same_kept : (places places' : List (Option ℕ)) (targets targets' : List Target
 same_kept places places' targets targets' at same = kept_is places' targets' at ∙ same ∙ sym (kept_is places targets at)
 
 -- the target at a slot's place, where the targets at all places but one are as before
-same_in : (targets targets' : List Target) (p : Option ℕ) → ((j : ℕ) → p ≡ Some j → slice_get targets' j ≡ slice_get targets j) → kinds_in targets' p ≡ kinds_in targets p
+same_in : (targets targets' : List Target) (p : Option ℕ)
+    → ((j : ℕ) → p ≡ Some j → slice_get targets' j ≡ slice_get targets j) → kinds_in targets' p ≡ kinds_in targets p
 same_in targets targets' None same = refl
 same_in targets targets' (Some j) same = ap kinds_of (same j refl)
 
@@ -415,7 +417,8 @@ module _ (places : List (Option ℕ)) (targets : List Target) (slot k : ℕ) (d 
   empty_by None is = at_slot
   empty_by (Some moved) is = now_empty moved is
 
-  kept_by : (o : Option Target) → slice_get rest k ≡ o → (at : ℕ) → at ≢ slot → kinds_in rest (place_at (mended emptied o k) at) ≡ kinds_in targets (place_at places at)
+  kept_by : (o : Option Target) → slice_get rest k ≡ o → (at : ℕ) → at ≢ slot
+      → kinds_in rest (place_at (mended emptied o k) at) ≡ kinds_in targets (place_at places at)
   kept_by None is at ne = last_kept is at ne
   kept_by (Some moved) is at ne = moved_kept moved is at ne
 
