@@ -1,10 +1,10 @@
 // Workers over one lock.
 
-ghost use Rattle.std.specs.Prelude.{◌≡◌, ◌<◌, ◌≤◌, ℕ, [], length, Some, slice_get, IfOk, IfErr, replicate, vec_capacity, MatchResult};
+ghost use Rattle.std.specs.Prelude.{◌≡◌, ◌⊎◌, ◌<◌, ◌≤◌, ℕ, [], true, false, length, Some, slice_get, IfOk, IfErr, replicate, vec_capacity, MatchResult};
 ghost use Rattle.tc_core.specs.Core.{Core};
 ghost use Rattle.worker_pool.specs.Seen.{IsAnswered, AnswersStay};
 ghost use Rattle.worker_pool.specs.Reports.{Reports};
-ghost use Rattle.worker_pool.specs.Faults.{state_of, InRange, FaultFits};
+ghost use Rattle.worker_pool.specs.Faults.{state_of, InRange, WorkersFit, TriesFit, FaultFits};
 
 use crate::answer::{Answer, Progress};
 use crate::desk::{Desk, Naming, Next, Sending};
@@ -287,6 +287,22 @@ fn work_all<J: Naming + Send + Sync, R: Threads + Wait + Sync, L: Link + Sync, G
     )
 }
 
+// Whether so many workers can be started.
+fn are_workers(workers: usize) -> bool
+    ensures yes { result ≡ true → WorkersFit workers }
+    ensures no { result ≡ false → (workers ≡ 0) ⊎ (64 < workers) }
+{
+    (1..=MOST_WORKERS).contains(&workers)
+}
+
+// Whether a request can be sent so often.
+fn are_tries(tries: u64) -> bool
+    ensures yes { result ≡ true → TriesFit tries }
+    ensures no { result ≡ false → (tries ≡ 0) ⊎ (1000 < tries) }
+{
+    (1..=MOST_TRIES).contains(&tries)
+}
+
 // The run, under a name for its first state and its calls.
 fn run_named<J: Naming + Send + Sync, R: Threads + Wait + Sync, L: Link + Sync, G: Gate + Sync>(
     rt: &R,
@@ -304,10 +320,10 @@ fn run_named<J: Naming + Send + Sync, R: Threads + Wait + Sync, L: Link + Sync, 
     ensures fault { IfErr result (λ f. state_of f ≡ J.start) }
     ensures which { MatchResult result (λ _. InRange workers tries) (λ f. FaultFits workers tries f) }
 {
-    if !(1..=MOST_WORKERS).contains(&workers) {
+    if !are_workers(workers) {
         return Err(RunFault::Workers(state));
     }
-    if !(1..=MOST_TRIES).contains(&tries) {
+    if !are_tries(tries) {
         return Err(RunFault::Tries(state));
     }
     let Ok(answers) = room_for(alloc, calls.len()) else {
