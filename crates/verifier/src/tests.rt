@@ -77,6 +77,7 @@ fn codes_of_four_slots(rt: HostRuntime) -> Result<(), Fail> {
 }
 
 // Numbers at random (Marsaglia's xorshift, 2003).
+#[derive(Drop)]
 struct Draw {
     state: u64,
 }
