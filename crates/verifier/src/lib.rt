@@ -5,5 +5,9 @@
 pub mod first_pass;
 pub mod flat;
 pub mod pending;
+#[cfg(test)]
+mod plain_verify;
 pub mod second_pass;
+#[cfg(test)]
+mod tests;
 pub mod verify;

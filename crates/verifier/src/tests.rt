@@ -1,0 +1,367 @@
+//! `verify` beside the pass with a row of kinds for every slot.
+
+use crate::plain_verify::plain_verify;
+use crate::verify::{VerifyFault, verify};
+use access_slots::decl::Decl;
+use access_slots::slot::{Key, Mode, Slot};
+use bpf_encoding::code::Code;
+use bpf_encoding::insn::{
+    AtomicOperation, ByteOrder, Condition, Extension, Insn, Operation, OrderWidth, Register,
+    SignedSize, Size, Source, Width,
+};
+use std::alloc::{AllocError, Global};
+use std::test::Fail;
+
+// A declaration of so many arguments and of two slots, the second for reading alone.
+fn decl(args: u8) -> Result<Decl, Fail> {
+    let slot = |mode, key| Slot {
+        mode,
+        dc: 0,
+        table: 0,
+        key,
+    };
+    Ok(Decl::new(
+        args,
+        &[
+            slot(Mode::Write, Key::Fixed(1)),
+            slot(Mode::Read, Key::Fixed(2)),
+        ],
+    )?)
+}
+
+// Whether both passes find the same first violation, at the same slot, or both none.
+fn agree(alloc: Global, insns: &[Insn], args: u8) -> Result<bool, Fail> {
+    let code = Code::from_insns(alloc, insns)?;
+    let plain = plain_verify(alloc, code.places(), &decl(args)?)?;
+    Ok(match (verify(alloc, code, decl(args)?), plain) {
+        (Ok(_), None) => true,
+        (Err(VerifyFault::At(slot, violation)), Some(found)) => (slot, violation) == found,
+        _ => false,
+    })
+}
+
+// Five instructions, of which codes of four slots are made.
+fn small_insn(number: u32) -> Insn {
+    match number % 5 {
+        0 => Insn::Alu(Width::Bits64, Operation::Mov, Register::R0, Source::Imm(0)),
+        1 => Insn::Alu(
+            Width::Bits64,
+            Operation::Mov,
+            Register::R0,
+            Source::Reg(Register::R1),
+        ),
+        2 => Insn::JumpIf(
+            Width::Bits64,
+            Condition::Equal,
+            Register::R0,
+            Source::Imm(0),
+            1,
+        ),
+        3 => Insn::Jump(1),
+        _ => Insn::Exit,
+    }
+}
+
+#[test]
+fn codes_of_four_slots(rt: HostRuntime) -> Result<(), Fail> {
+    for n in 0..625u32 {
+        let code = [
+            small_insn(n),
+            small_insn(n / 5),
+            small_insn(n / 25),
+            small_insn(n / 125),
+        ];
+        assert!(rt; agree(rt.alloc(), &code, 0)?, "code {n}");
+    }
+    Ok(())
+}
+
+// Numbers at random (Marsaglia's xorshift, 2003).
+#[derive(Drop)]
+struct Draw {
+    state: u64,
+}
+
+impl Draw {
+    ghost use Rattle.std.specs.Prelude.{◌<◌, length};
+
+    fn below(&mut self, end: u64) -> u64
+        requires { 0 < end }
+        ensures { result < end }
+    {
+        self.state ^= self.state << 13;
+        self.state ^= self.state >> 7;
+        self.state ^= self.state << 17;
+        (self.state >> 16) % end
+    }
+
+    fn one<T: Copy>(&mut self, of: &[T]) -> T
+        requires { 0 < length of.now }
+    {
+        of[self.below(of.len() as u64) as usize]
+    }
+
+    // Low registers more often, so that more of them are known.
+    fn register(&mut self) -> Register {
+        self.one(&[
+            Register::R0,
+            Register::R0,
+            Register::R1,
+            Register::R1,
+            Register::R2,
+            Register::R2,
+            Register::R3,
+            Register::R4,
+            Register::R5,
+            Register::R6,
+            Register::R7,
+            Register::R8,
+            Register::R9,
+            Register::R10,
+            Register::R10,
+        ])
+    }
+
+    fn width(&mut self) -> Width {
+        self.one(&[Width::Bits32, Width::Bits64, Width::Bits64])
+    }
+
+    fn imm(&mut self) -> i32 {
+        self.one(&[0, 0, 0, 1, 1, 2, 8, 64, -8, -64, -512, 0x7fff_ffff])
+    }
+
+    fn source(&mut self) -> Source {
+        match self.below(2) {
+            0 => Source::Imm(self.imm()),
+            _ => Source::Reg(self.register()),
+        }
+    }
+
+    // The offset of a load or store.
+    fn offset(&mut self) -> i16 {
+        self.one(&[0, 0, 0, 8, 16, 56, 60, 64, -1, -8, -64, -512, -520])
+    }
+
+    // The offset of a jump: mostly on, not far.
+    fn ahead(&mut self) -> i16 {
+        self.one(&[0, 0, 1, 1, 1, 2, 2, 3, 4, 5, 7, 9, 14, 30, -1])
+    }
+
+    fn size(&mut self) -> Size {
+        self.one(&[Size::Word, Size::Half, Size::Byte, Size::Double])
+    }
+
+    fn operation(&mut self) -> Operation {
+        self.one(&[
+            Operation::Add,
+            Operation::Add,
+            Operation::Sub,
+            Operation::Mul,
+            Operation::Div,
+            Operation::SignedDiv,
+            Operation::Or,
+            Operation::And,
+            Operation::LeftShift,
+            Operation::RightShift,
+            Operation::Mod,
+            Operation::SignedMod,
+            Operation::Xor,
+            Operation::Mov,
+            Operation::Mov,
+            Operation::Mov,
+            Operation::SignedRightShift,
+        ])
+    }
+
+    fn condition(&mut self) -> Condition {
+        self.one(&[
+            Condition::Equal,
+            Condition::Equal,
+            Condition::Greater,
+            Condition::GreaterOrEqual,
+            Condition::AnyBit,
+            Condition::NotEqual,
+            Condition::NotEqual,
+            Condition::SignedGreater,
+            Condition::SignedGreaterOrEqual,
+            Condition::Less,
+            Condition::LessOrEqual,
+            Condition::SignedLess,
+            Condition::SignedLessOrEqual,
+        ])
+    }
+
+    fn atomic(&mut self) -> AtomicOperation {
+        self.one(&[
+            AtomicOperation::Add,
+            AtomicOperation::Or,
+            AtomicOperation::And,
+            AtomicOperation::Xor,
+            AtomicOperation::FetchAdd,
+            AtomicOperation::FetchOr,
+            AtomicOperation::FetchAnd,
+            AtomicOperation::FetchXor,
+            AtomicOperation::Exchange,
+            AtomicOperation::CompareExchange,
+        ])
+    }
+
+    fn conversion(&mut self) -> Insn {
+        let dst = self.register();
+        match self.below(3) {
+            0 => Insn::Negate(self.width(), dst),
+            1 => {
+                let extension = self.one(&[
+                    Extension::Byte64,
+                    Extension::Half64,
+                    Extension::Word64,
+                    Extension::Byte32,
+                    Extension::Half32,
+                ]);
+                Insn::MoveSigned(extension, dst, self.register())
+            }
+            _ => {
+                let order = self.one(&[ByteOrder::Little, ByteOrder::Big, ByteOrder::Swap]);
+                let width = self.one(&[
+                    OrderWidth::Order16,
+                    OrderWidth::Order32,
+                    OrderWidth::Order64,
+                ]);
+                Insn::Order(order, width, dst)
+            }
+        }
+    }
+
+    fn access(&mut self) -> Insn {
+        let base = self.register();
+        let offset = self.offset();
+        match self.below(5) {
+            0 => Insn::Load(self.size(), self.register(), base, offset),
+            1 => {
+                let size = self.one(&[
+                    SignedSize::SignedWord,
+                    SignedSize::SignedHalf,
+                    SignedSize::SignedByte,
+                ]);
+                Insn::LoadSigned(size, self.register(), base, offset)
+            }
+            2 => Insn::StoreImm(self.size(), base, offset, self.imm()),
+            3 => Insn::Store(self.size(), base, self.register(), offset),
+            _ => Insn::Atomic(self.width(), self.atomic(), base, self.register(), offset),
+        }
+    }
+
+    fn jump(&mut self) -> Insn {
+        match self.below(6) {
+            0 => Insn::Jump(self.ahead()),
+            1 => Insn::JumpLong(i32::from(self.ahead())),
+            _ => Insn::JumpIf(
+                self.width(),
+                self.condition(),
+                self.register(),
+                self.source(),
+                self.ahead(),
+            ),
+        }
+    }
+
+    fn insn(&mut self) -> Insn {
+        match self.below(16) {
+            0..=6 => Insn::Alu(
+                self.width(),
+                self.operation(),
+                self.register(),
+                self.source(),
+            ),
+            7 => self.conversion(),
+            8 => Insn::LoadWide(self.register(), self.below(1 << 40)),
+            9..=11 => self.jump(),
+            12 | 13 => self.access(),
+            14 => Insn::Call(self.one(&[1, 1, 2, 3, 4, 5, 5, 6])),
+            _ => self.one(&[Insn::Exit, Insn::Call(1), Insn::Call(5)]),
+        }
+    }
+}
+
+// Code of 2 to 64 slots and some more behind them: registers are written, anything follows, and
+// the end is an exit.
+fn drawn_code(alloc: Global, draw: &mut Draw) -> Result<Vec<Insn>, AllocError> {
+    let mut code = Vec::new(alloc);
+    for register in [Register::R0, Register::R1, Register::R2, Register::R6] {
+        if draw.below(4) != 0 {
+            let source = draw.source();
+            code.push(Insn::Alu(Width::Bits64, Operation::Mov, register, source))?;
+        }
+    }
+    for _ in 0..1 + draw.below(58) {
+        code.push(draw.insn())?;
+    }
+    code.push(Insn::Exit)?;
+    Ok(code)
+}
+
+#[test]
+fn codes_at_random(rt: HostRuntime) -> Result<(), Fail> {
+    let mut draw = Draw {
+        state: 0x9e37_79b9_7f4a_7c15,
+    };
+    for n in 0..20_000u32 {
+        let code = drawn_code(rt.alloc(), &mut draw)?;
+        assert!(rt; agree(rt.alloc(), &code, 2)?, "code {n}");
+    }
+    Ok(())
+}
+
+fn constant(register: Register, imm: i32) -> Insn {
+    Insn::Alu(Width::Bits64, Operation::Mov, register, Source::Imm(imm))
+}
+
+fn jump_at_null(offset: i16) -> Insn {
+    Insn::JumpIf(
+        Width::Bits64,
+        Condition::Equal,
+        Register::R0,
+        Source::Imm(0),
+        offset,
+    )
+}
+
+// A record is put, got, and deleted with a wrong address.
+#[test]
+fn procedures(rt: HostRuntime) -> Result<(), Fail> {
+    let put = [
+        Insn::Load(Size::Double, Register::R6, Register::R1, 8),
+        constant(Register::R1, 0),
+        Insn::Call(5),
+        Insn::Store(Size::Double, Register::R0, Register::R6, 0),
+        constant(Register::R1, 0),
+        Insn::Call(2),
+        Insn::Exit,
+    ];
+    let get = [
+        constant(Register::R1, 0),
+        Insn::Call(1),
+        jump_at_null(2),
+        constant(Register::R0, 0),
+        Insn::Exit,
+        constant(Register::R0, 1),
+        Insn::Exit,
+    ];
+    let bad = [
+        constant(Register::R1, 0),
+        Insn::Call(1),
+        jump_at_null(5),
+        Insn::StoreImm(Size::Double, Register::R0, 0, 7),
+        constant(Register::R1, 0),
+        Insn::Call(3),
+        constant(Register::R0, 5),
+        Insn::Exit,
+        constant(Register::R0, 1),
+        Insn::Exit,
+    ];
+    assert!(rt; agree(rt.alloc(), &put, 2)?);
+    assert!(rt; agree(rt.alloc(), &put, 1)?);
+    assert!(rt; agree(rt.alloc(), &get, 1)?);
+    assert!(rt; agree(rt.alloc(), &bad, 1)?);
+    Ok(())
+}
