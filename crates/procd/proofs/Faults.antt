@@ -1,31 +1,12 @@
 -- A fault is always among what a run may give.
 use Rattle.std.proofs.Common.{arith, ◌≡◌, ℕ, Bool, List, Option, Some, None, [], map, option_map, unwrap_or, refl}
-use Rattle.std.proofs.Common.{inl, inr, length, true, false, codes, ◌||◌, ◌∙◌, ap₂}
-use Rattle.std.specs.Prelude.{IfSome, Result, Ok, Err, ◌≤◌, if◌then◌else◌}
+use Rattle.std.proofs.Common.{inl, inr, true, false, codes, ◌||◌, ◌∙◌, ap₂}
+use Rattle.std.specs.Prelude.{IfSome, ◌≤◌}
 use Rattle.std.specs.Borrow.{Bor}
-use Rattle.procd.specs.Said.{IsFlag, Runs, RunsInput}
-use Rattle.procd.specs.Execution.{status_of}
-use Rattle.procd.specs.Hex.{Hex, hex_of}
-use Rattle.procd.specs.Task.{Wish, Exec, Asm, Dis, Verify, World, Run}
-use Rattle.std.specs.List.{list_any}
-use Rattle.scripts.specs.Reading.{Contents, Reading, script_said}
-use Rattle.procd.specs.Loading.{refusal_of}
-use Rattle.procd.specs.Running.{IsRunBy, IsCallsRun, Ran, Stopped, begun}
-use Rattle.procd.specs.WorldReport.{IsWorldBy, status_of_steps}
-use Rattle.scripts.specs.declared.keyword.Command.TheVariants as command
-use Rattle.scripts.specs.declared.reading.Fault.{Fault}
-use Rattle.scripts.specs.declared.script.Call.{Call}
-use Rattle.scripts.specs.declared.script.Procedure.{Procedure}
-use Rattle.tc_core.specs.Core.{Core}
-use Rattle.procd.specs.Verification.{is_refused, status_by_fault, status_of_reading}
-use Rattle.procd.specs.Report.{IsReport, IsAssembly, IsDisassembly, IsDisassemblyOf, IsHexDisassembly}
-use Rattle.bpf_asm.specs.Lines.{assembled}
-use Rattle.bpf_asm.specs.declared.assemble.AsmFault.{AsmFault}
-use Rattle.bpf_encoding.specs.Spells.{fault_in}
-use Rattle.bpf_encoding.specs.declared.decode.DecodeFault.{DecodeFault}
-use Rattle.bpf_encoding.specs.declared.insn.Place.{Place}
-use Rattle.procd.specs.declared.execute.Execution.{Execution}
-use Rattle.procd.specs.declared.execute.Execution.TheVariants.{Answer, NotHex, Code, TooManyArgs, Refused}
+use Rattle.procd.specs.Said.{IsFlag}
+use Rattle.procd.specs.Streams.{Stream, IsKept, Begins, Ends, EndsOn, Runs, cannot_read_line}
+use Rattle.procd.specs.Task.{Wish}
+use Rattle.procd.proofs.Statuses.{report_low}
 
 pub some_some : {X : Type 0} (x y : X) → Some x ≡ Some y → x ≡ y
 some_some x y e = cc
@@ -51,75 +32,15 @@ known_is : (input : Option (List ℕ)) → IfSome input (λ text. known input �
 known_is None = tt
 known_is (Some text) = refl
 
-pub cannot_read_fits : (wish : Wish) (input old new : Option (List ℕ)) (result : ℕ) → result ≡ 3 → new ≡ old → RunsInput wish input old new result
-cannot_read_fits wish input old new result is kept = (known input, known_is input, inl (is, kept))
+module _ (file : List ℕ) (wish : Wish) (input : Option (List ℕ)) (out err : Stream) (status : ℕ) where
+  pub cannot_read_fits : status ≡ 3 → IsKept out → Begins err (cannot_read_line file) → EndsOn file wish input out err status
+  cannot_read_fits is kept told = (known input, known_is input, inl (is, kept, told))
 
-pub no_memory_fits : (wish : Wish) (input old new : Option (List ℕ)) (result : ℕ) → result ≡ 4 → new ≡ old → RunsInput wish input old new result
-no_memory_fits wish input old new result is kept = (known input, known_is input, inr (inl (is, kept)))
+  pub no_memory_fits : status ≡ 4 → IsKept out → Begins err (codes "memory\n") → EndsOn file wish input out err status
+  no_memory_fits is kept told = (known input, known_is input, inr (inl (is, kept, told)))
 
-pub no_memory_runs : (file : List ℕ) (wish : Wish) (input old new : Option (List ℕ)) (result : ℕ) → result ≡ 4
-    → new ≡ old → Runs file wish input old new result
-no_memory_runs file wish input old new result is kept = (known input, (λ e. known_is input), inr (inl (is, kept)))
-
--- ---- a command's status is 0 or 1
-
-execution_low : (e : Execution) → status_of e ≤ 1
-execution_low (Answer value executed) = omega arith
-execution_low (NotHex at) = omega arith
-execution_low (Code fault) = omega arith
-execution_low TooManyArgs = omega arith
-execution_low (Refused slot violation) = omega arith
-
-assembly_low : (r : Result (List Place) AsmFault) (status : ℕ) (lines : List ℕ) → IsAssembly r status lines → status ≤ 1
-assembly_low (Ok code) status lines h = omega (arith, h.0)
-assembly_low (Err e) status lines h = omega (arith, h.0)
-
-disassembly_of_low : (fault : Option DecodeFault) (bytes : List ℕ) (status : ℕ) (lines : List ℕ)
-    → IsDisassemblyOf fault bytes status lines → status ≤ 1
-disassembly_of_low (Some fault) bytes status lines h = omega (arith, h.0)
-disassembly_of_low None bytes status lines h = omega (arith, h.0)
-
-hex_low : (hex : Hex) (status : ℕ) (lines : List ℕ) → IsHexDisassembly hex status lines → status ≤ 1
-hex_low (Err at) status lines h = omega (arith, h.0)
-hex_low (Ok bytes) status lines h = disassembly_of_low (fault_in bytes) bytes status lines h
-
-disassembly_low : (raw : Bool) (text : List ℕ) (status : ℕ) (lines : List ℕ) → IsDisassembly raw text status lines → status ≤ 1
-disassembly_low true text status lines h = disassembly_of_low (fault_in text) text status lines h
-disassembly_low false text status lines h = hex_low (hex_of text) status lines h
-
-fault_low : (fault : Option Fault) (procedures : List Procedure) → status_by_fault fault procedures ≤ 1
-fault_low (Some fault) procedures = omega arith
-fault_low None procedures = elim (list_any is_refused procedures) as (λ b. (if b then 1 else 0) ≤ 1) [ true ↦ omega arith | false ↦ omega arith ]
-
-reading_low : (r : Reading) → status_of_reading r ≤ 1
-reading_low r = fault_low r.fault r.contents.procedures
-
-calls_low : (start : Core) (first calls : List Call) (dcs workers tries status : ℕ) (lines : List ℕ)
-    → IsCallsRun start first calls dcs workers tries status lines → status ≤ 1
-calls_low start first calls dcs workers tries status lines (Ran fit is run) = omega (arith, is)
-calls_low start first calls dcs workers tries status lines (Stopped fault when is line) = omega (arith, is)
-
-run_low : (refusal : Option (List ℕ)) (contents : Contents) (workers tries status : ℕ) (lines : List ℕ)
-    → IsRunBy refusal contents workers tries status lines → status ≤ 1
-run_low (Some refusal) contents workers tries status lines h = omega (arith, h.0)
-run_low None contents workers tries status lines h = calls_low (begun contents) contents.first contents.calls (length contents.dcs) workers tries status lines h
-
-steps_low : (all : Bool) → status_of_steps all ≤ 1
-steps_low true = omega arith
-steps_low false = omega arith
-
-world_low : (refusal : Option (List ℕ)) (contents : Contents) (log : Bool) (status : ℕ) (lines : List ℕ)
-    → IsWorldBy refusal contents log status lines → status ≤ 1
-world_low (Some refusal) contents log status lines h = omega (arith, h.0)
-world_low None contents log status lines h = omega (arith, h.status_is, steps_low h.all)
-
-report_low : (wish : Wish) (text : List ℕ) (status : ℕ) (lines : List ℕ) → IsReport wish text status lines → status ≤ 1
-report_low (Exec raw numbers) text status lines h = omega (arith, h.2, execution_low h.0)
-report_low Asm text status lines h = assembly_low (assembled text) status lines h
-report_low (Dis raw) text status lines h = disassembly_low raw text status lines h
-report_low Verify text status lines h = omega (arith, h.0, reading_low (script_said command.Verify text))
-report_low (World log) text status lines h = let r = script_said command.World text in world_low (refusal_of r) r.contents log status lines h
-report_low (Run workers tries stats) text status lines h = let r = script_said command.Run text in run_low (refusal_of r) r.contents workers tries status lines h
+  pub no_memory_runs : status ≡ 4 → IsKept out → Begins err (codes "memory\n") → Runs file wish input out err status
+  no_memory_runs is kept told = (known input, (λ e. known_is input), inr (inl (is, kept, told)))
 
 not_three : (result : ℕ) → result ≡ 3 → result ≡ 2 → ⊥
 not_three result three two = omega (arith, three, two)
@@ -130,16 +51,24 @@ not_four result four two = omega (arith, four, two)
 not_low : (result : ℕ) → result ≤ 1 → result ≡ 2 → ⊥
 not_low result low two = omega (arith, low, two)
 
--- a command never ends as a wrong command line does
-pub never_wrong : (file : List ℕ) (wish : Wish) (input old new : Option (List ℕ)) (result : ℕ) → Runs file wish input old new result → result ≡ 2 → ⊥
-never_wrong file wish input old new result h is =
-    elim h.2 [
-      | inl read ↦ not_three result read.0 is
+ends_otherwise : (file : List ℕ) (wish : Wish) (text : List ℕ) (out err : Stream) (status : ℕ)
+    → Ends file wish text out err status → status ≡ 2 → ⊥
+ends_otherwise file wish text out err status h is =
+    elim h [
+      | inl read ↦ not_three status read.0 is
       | inr rest ↦ elim rest [
-        | inl four ↦ not_four result four.0 is
-        | inr others ↦ elim others [ inl write ↦ not_three result write.3 is | inr said ↦ not_low result (report_low wish h.0 result said.0 said.1) is ]
+        | inl memory ↦ not_four status memory.0 is
+        | inr others ↦ elim others [
+          | inl write ↦ not_three status write.3 is
+          | inr done ↦ not_low status (report_low wish text status done.0 done.1) is
+        ]
       ]
     ]
+
+-- a command never ends as a wrong command line does
+pub never_wrong : (file : List ℕ) (wish : Wish) (input : Option (List ℕ)) (out err : Stream) (status : ℕ)
+    → Runs file wish input out err status → status ≡ 2 → ⊥
+never_wrong file wish input out err status h is = ends_otherwise file wish h.0 out err status h.2 is
 
 -- a command with one argument more that isn't global
 pub still_local : (new old : Bool) (global : Bool) → new ≡ (old || global) → old ≡ false → global ≡ false → new ≡ false

@@ -1,5 +1,7 @@
 pub mod HexLemmas
 pub mod Answered
+pub mod Statuses
+pub mod Streaming
 pub mod Faults
 pub mod Wishes
 pub mod RowLemmas

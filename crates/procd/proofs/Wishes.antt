@@ -1,10 +1,17 @@
 -- What the command of a name wants.
-use Rattle.std.proofs.Common.{arith, slice_index, ◌≡◌, ℕ, Bool, List, Option, Some, None, option_map, codes, refl, sym, subst, ap, ap₂, ◌∙◌}
-use Rattle.std.specs.Prelude.{◌<◌, Result}
-use Rattle.clap.specs.Words.{Row, Text, one_of, subcommand_rows_of}
+use Rattle.std.proofs.Common.{arith, slice_index, ◌≡◌, ℕ, Bool, List, [], Option, Some, None, option_map, unwrap_or, codes, refl, sym}
+use Rattle.std.proofs.Common.{subst, ap, ap₂, ◌∙◌, ◌+◌, ◌∷◌, false, inl, inr, eq-or-lt_of_le}
+use Rattle.std.specs.Prelude.{◌<◌, ◌≤◌, Result, slice_get}
+use Rattle.std.proofs.lemmas.Bool.{or_parts}
+use Rattle.procd.proofs.Faults.{some_some}
+use Rattle.clap.specs.Words.{HasKind, IsAmong, Kinds, Row, Text, all_of, fault_of, first_of, kind_of, one_of, subcommand_rows_of}
+use Rattle.clap.specs.declared.error.Error.{Error}
+use Rattle.clap.specs.declared.error.kind.ErrorKind.{ErrorKind}
+use Rattle.std.specs.List.{list_any}
 use Rattle.clap.specs.Matches.{subcommand_name_of}
 use Rattle.clap.specs.declared.parser.matches.ArgMatches.{ArgMatches}
 use Rattle.clap.specs.declared.parser.matches.ArgMatches.TheViews.{out-ArgMatches}
+use Rattle.procd.specs.Said.{AllNumbers, IsNoCount, LacksNumber, Argument, Workers, Tries, IsWrong, Refused, NoCommand, NoNumber, procd_app, shows}
 use Rattle.procd.specs.Said.{IsFlag, SaysCount, SaysNumber, SaysNumbers, SaysRun, SaysWish, value_of}
 use Rattle.procd.specs.Task.{Wish, Exec, Asm, Dis, Verify, World, Run, command_name}
 use Rattle.procd.specs.Wanted.{IsTaskOrNoMemory}
@@ -115,3 +122,73 @@ count_said (Some said) text default n e says = let same : said ≡ text = cc in 
 pub count_silent : (o : Option Text) (default n : ℕ) → None ≡ o → SaysCount o default n → n ≡ default
 count_silent None default n e says = says
 count_silent (Some said) default n e says = absurd (cc)
+
+-- ---- numbers that are wanted, and aren't there
+
+pub count_is : (o : Option Text) (text : Text) → Some text ≡ o → SaysNumber text → ¬ IsNoCount o
+count_is None text e number = absurd (cc)
+count_is (Some said) text e number = let same : text ≡ said = cc in λ none. none (subst SaysNumber same number)
+
+pub silent_is : (o : Option Text) → None ≡ o → ¬ IsNoCount o
+silent_is None e = λ none. none
+silent_is (Some said) e = absurd (cc)
+
+-- only these two commands take numbers
+pub lacks_nothing : (name : Text) (rows : List Row) → (name ≡ codes "exec" → ⊥) → (name ≡ codes "run" → ⊥) → ¬ LacksNumber name rows
+lacks_nothing name rows not_exec not_run (Argument exec none) = not_exec exec
+lacks_nothing name rows not_exec not_run (Workers run none) = not_run run
+lacks_nothing name rows not_exec not_run (Tries run none) = not_run run
+
+pub lacks_no_argument : (name : Text) (rows : List Row) → name ≡ codes "exec" → AllNumbers (unwrap_or (all_of (codes "arg") rows) [])
+    → ¬ LacksNumber name rows
+lacks_no_argument name rows is all (Argument exec none) = none all
+lacks_no_argument name rows is all (Workers run none) = exec_not_run (sym is ∙ run)
+lacks_no_argument name rows is all (Tries run none) = exec_not_run (sym is ∙ run)
+
+pub lacks_no_count : (rows : List Row) → ¬ IsNoCount (first_of (codes "workers") rows) → ¬ IsNoCount (first_of (codes "tries") rows)
+    → ¬ LacksNumber (codes "run") rows
+lacks_no_count rows workers tries (Argument exec none) = exec_not_run (sym exec)
+lacks_no_count rows workers tries (Workers run none) = workers none
+lacks_no_count rows workers tries (Tries run none) = tries none
+
+pub asm_lacks_nothing : (name : Text) (rows : List Row) → name ≡ codes "asm" → ¬ LacksNumber name rows
+asm_lacks_nothing name rows is = lacks_nothing name rows (λ e. exec_not_asm (sym e ∙ is)) (λ e. asm_not_run (sym is ∙ e))
+
+pub dis_lacks_nothing : (name : Text) (rows : List Row) → name ≡ codes "dis" → ¬ LacksNumber name rows
+dis_lacks_nothing name rows is = lacks_nothing name rows (λ e. exec_not_dis (sym e ∙ is)) (λ e. dis_not_run (sym is ∙ e))
+
+pub verify_lacks_nothing : (name : Text) (rows : List Row) → name ≡ codes "verify" → ¬ LacksNumber name rows
+verify_lacks_nothing name rows is = lacks_nothing name rows (λ e. exec_not_verify (sym e ∙ is)) (λ e. verify_not_run (sym is ∙ e))
+
+pub world_lacks_nothing : (name : Text) (rows : List Row) → name ≡ codes "world" → ¬ LacksNumber name rows
+world_lacks_nothing name rows is = lacks_nothing name rows (λ e. exec_not_world (sym e ∙ is)) (λ e. world_not_run (sym is ∙ e))
+
+pub more_numbers : (texts : List Text) (i : ℕ) (said : Text) → slice_get texts i ≡ Some said → SaysNumber said
+    → ((k : ℕ) (t : Text) → k < i → slice_get texts k ≡ Some t → SaysNumber t)
+    → (k : ℕ) (t : Text) → k < i + 1 → slice_get texts k ≡ Some t → SaysNumber t
+more_numbers texts i said is says before k t less at =
+    let low : k ≤ i = omega (arith, less) in
+    elim (eq-or-lt_of_le low) [
+      | inl same ↦ let found : Some said ≡ Some t = sym is ∙ ap (slice_get texts) (sym same) ∙ at in subst SaysNumber (some_some said t found) says
+      | inr below ↦ before k t below at
+    ]
+
+-- ---- faults of wrong words
+
+shows_none : (kinds : Kinds) (k : ErrorKind) → list_any shows kinds ≡ false → IsAmong k kinds → shows k ≡ false
+shows_none [] k none among = absurd among
+shows_none (x ∷ kinds) k none among =
+    let both = or_parts (shows x) (list_any shows kinds) none in
+    elim among [ inl same ↦ subst (λ (y : ErrorKind). shows y ≡ false) (sym same) both.0 | inr later ↦ shows_none kinds k both.1 later ]
+
+empty_has_none : (kinds : Kinds) (k : ErrorKind) → kinds ≡ [] → IsAmong k kinds → ⊥
+empty_has_none kinds k empty among = subst (IsAmong k) empty among
+
+wrong_kind : (words : List Text) (k : ErrorKind) → IsWrong words → IsAmong k (fault_of procd_app words) → shows k ≡ false
+wrong_kind words k (Refused refused) among = shows_none (fault_of procd_app words) k refused.1 among
+wrong_kind words k (NoCommand accepted none) among = absurd (empty_has_none (fault_of procd_app words) k accepted among)
+wrong_kind words k (NoNumber accepted name rows entered lacks) among = absurd (empty_has_none (fault_of procd_app words) k accepted among)
+
+pub wrong_shows_nothing : (words : List Text) (e : Error) → HasKind (fault_of procd_app words) e → IsWrong words → shows (kind_of e) ≡ false
+wrong_shows_nothing words e has wrong =
+    elim has [ inl memory ↦ ap shows memory | inr among ↦ wrong_kind words (kind_of e) wrong among ]

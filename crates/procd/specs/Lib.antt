@@ -12,4 +12,5 @@ pub mod Stepping
 pub mod WorldReport
 pub mod Report
 pub mod Said
+pub mod Streams
 pub mod Wanted

@@ -1,10 +1,12 @@
--- What the command line says, and what a run gives for it.
-use Rattle.std.specs.Prelude.{◌≡◌, ℕ, Bool, List, [], ◌<◌, ◌^◌, map, slice_get, unwrap_or, Option, Some, None, codes, true, false, ◌⊎◌, IfSome}
-use Rattle.std.specs.Io.KnownBytes.{Appends}
-use Rattle.clap.specs.Words.{App, Row, Rule, Text, all_of, first_of, one_of, new_app, new_rule, subcommand_of, takes, with_rule, with_subcommand}
+-- What the command line says, and when it is wrong.
+use Rattle.std.specs.Prelude.{◌≡◌, ◌≢◌, ℕ, Bool, List, [], ◌<◌, ◌^◌, map, slice_get, unwrap_or, Option, Some, None, codes, true, false, ◌⊎◌}
+use Rattle.std.specs.List.{list_any}
+use Rattle.clap.specs.Words.{App, Kinds, Row, Rule, Text, all_of, fault_of, first_of, one_of, new_app, new_rule}
+use Rattle.clap.specs.Words.{subcommand_of, takes, with_rule, with_subcommand}
+use Rattle.clap.specs.declared.error.kind.ErrorKind.{ErrorKind}
+use Rattle.clap.specs.declared.error.kind.ErrorKind.TheVariants as kind
 use Rattle.clap.specs.declared.builder.ArgAction.TheVariants.{Set, SetTrue, Append}
 use Rattle.std.specs.Str.Parse.{IsNumeral, digits_value, without_leading_plus}
-use Rattle.procd.specs.Report.{IsReport}
 use Rattle.procd.specs.Task.{Wish, Exec, Asm, Dis, Verify, World, Run, command_name}
 
 abbrev pub raw_rule : Rule
@@ -105,31 +107,32 @@ pub record Says (words : List Text) (file : Text) (wish : Wish) : Type 0 where
   pub file_is : first_of (codes "file") rows ≡ Some file
   pub wish_is : SaysWish rows wish
 
--- lines are written that say what the text comes to, and the status is theirs
-abbrev pub WritesReport : Wish → List ℕ → Option (List ℕ) → Option (List ℕ) → ℕ → Type 0
-WritesReport wish text old new result = (lines : List ℕ) × IsReport wish text result lines × Appends old new lines
+-- ---- wrong command lines
 
--- status 3 and nothing written: the file can't be read
-abbrev pub IsReadFault : Option (List ℕ) → Option (List ℕ) → ℕ → Type 0
-IsReadFault old new result = (result ≡ 3) × (new ≡ old)
+-- help is printed, which is no fault
+abbrev pub shows : ErrorKind → Bool
+shows kind.DisplayHelp = true
+shows kind.DisplayVersion = true
+shows other = false
 
--- status 4 and nothing written: memory ran out
-abbrev pub IsMemoryFault : Option (List ℕ) → Option (List ℕ) → ℕ → Type 0
-IsMemoryFault old new result = (result ≡ 4) × (new ≡ old)
+-- there is a fault, and none that prints help
+abbrev pub AreRefusals : Kinds → Type 0
+AreRefusals kinds = (kinds ≢ []) × (list_any shows kinds ≡ false)
 
--- status 3: there is a report, and it can't be written
-abbrev pub IsWriteFault : Wish → List ℕ → ℕ → Type 0
-IsWriteFault wish text result = (status : ℕ) × (lines : List ℕ) × IsReport wish text status lines × (result ≡ 3)
+-- an option is there, and isn't a number of 64 bits
+abbrev pub IsNoCount : Option Text → Type 0
+IsNoCount None = ⊥
+IsNoCount (Some text) = ¬ SaysNumber text
 
--- the file can't be read, memory ran out, standard output can't be written, or what was read is done
-abbrev pub Writes : Wish → List ℕ → Option (List ℕ) → Option (List ℕ) → ℕ → Type 0
-Writes wish text old new result = IsReadFault old new result
-    ⊎ (IsMemoryFault old new result ⊎ (IsWriteFault wish text result ⊎ WritesReport wish text old new result))
+-- what is to be a number isn't one
+pub data LacksNumber (name : Text) (rows : List Row) : Type 0 where
+  Argument : name ≡ codes "exec" → ¬ AllNumbers (unwrap_or (all_of (codes "arg") rows) []) → LacksNumber name rows
+  Workers : name ≡ codes "run" → IsNoCount (first_of (codes "workers") rows) → LacksNumber name rows
+  Tries : name ≡ codes "run" → IsNoCount (first_of (codes "tries") rows) → LacksNumber name rows
 
--- the same of some text, which is what is there to be read, where that is known
-abbrev pub RunsInput : Wish → Option (List ℕ) → Option (List ℕ) → Option (List ℕ) → ℕ → Type 0
-RunsInput wish input old new result = (text : List ℕ) × IfSome input (λ known. text ≡ known) × Writes wish text old new result
-
--- the same of a file, which may be standard input
-abbrev pub Runs : Text → Wish → Option (List ℕ) → Option (List ℕ) → Option (List ℕ) → ℕ → Type 0
-Runs file wish input old new result = (text : List ℕ) × (file ≡ codes "-" → IfSome input (λ known. text ≡ known)) × Writes wish text old new result
+-- the words are refused by the command line's rules, name no command, or lack a number
+pub data IsWrong (words : List Text) : Type 0 where
+  Refused : AreRefusals (fault_of procd_app words) → IsWrong words
+  NoCommand : fault_of procd_app words ≡ [] → subcommand_of procd_app words ≡ None → IsWrong words
+  NoNumber : fault_of procd_app words ≡ [] → (name : Text) (rows : List Row) → subcommand_of procd_app words ≡ Some (name, rows)
+      → LacksNumber name rows → IsWrong words

@@ -36,3 +36,8 @@ reads_text (Dis raw) = false
 reads_text Verify = true
 reads_text (World log) = true
 reads_text (Run workers tries stats) = true
+
+-- whether there may be something to tell on standard error: a run that is asked for its figures
+abbrev pub may_tell : Wish → Bool
+may_tell (Run workers tries stats) = stats
+may_tell other = false

@@ -1,8 +1,9 @@
 -- What was read of the words.
-use Rattle.std.specs.Prelude.{◌≡◌, ℕ, List, Result, Ok, Err}
+use Rattle.std.specs.Prelude.{◌≡◌, ℕ, false, List, Result, Ok, Err}
 use Rattle.std.specs.Global.{Vec}
 use Rattle.clap.specs.Words.{Text, kind_of}
 use Rattle.clap.specs.declared.error.kind.ErrorKind.TheVariants.{OutOfMemory}
+use Rattle.procd.specs.Said.{shows}
 use Rattle.procd.specs.Task.{Wish, wish_of}
 use Rattle.procd.specs.declared.words.Task.{Task}
 use Rattle.procd.specs.declared.words.Wanted.{Wanted}
@@ -32,3 +33,16 @@ WantsOrNoMemory file wish (Err (Clap e)) = kind_of e ≡ OutOfMemory
 WantsOrNoMemory file wish (Err NotNumber) = ⊥
 WantsOrNoMemory file wish (Err NoCommand) = ⊥
 WantsOrNoMemory file wish (Err Memory) = Unit {0}
+
+-- ---- wrong command lines
+
+-- a fault that isn't the command line parser's
+abbrev pub IsWordFault : WordFault → Type 0
+IsWordFault (Clap e) = ⊥
+IsWordFault other = Unit {0}
+
+-- nothing is wanted, and no help is asked for
+abbrev pub IsWrongOrNoMemory : Result Wanted WordFault → Type 0
+IsWrongOrNoMemory (Ok w) = ⊥
+IsWrongOrNoMemory (Err (Clap e)) = shows (kind_of e) ≡ false
+IsWrongOrNoMemory (Err other) = Unit {0}

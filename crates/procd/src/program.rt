@@ -1,7 +1,10 @@
 //! The program, over readers and writers that are handed in.
 
-ghost use Rattle.std.specs.Prelude.{◌≡◌, ℕ, List, None, map};
-ghost use Rattle.procd.specs.Said.{Says, Runs, RunsInput, Writes};
+ghost use Rattle.std.specs.Prelude.{◌≡◌, ◌≤◌, ◌++◌, ℕ, List, IfSome, None, Some, true, false};
+ghost use Rattle.std.specs.Prelude.{codes, length, map, take, unwrap_or};
+ghost use Rattle.std.specs.Io.KnownBytes.{Appends};
+ghost use Rattle.procd.specs.Said.{Says, IsWrong, shows};
+ghost use Rattle.procd.specs.Streams.{stream, IsKept, Gets, Begins, Ends, EndsOn, Runs, IsMisuse, cannot_read_line};
 ghost use Rattle.procd.specs.Task.{Wish, wish_of};
 ghost use Rattle.clap.specs.Words.{kind_of};
 
@@ -13,7 +16,7 @@ use clap::error::ErrorKind;
 use std::alloc::Global;
 use std::convert::AsStr;
 use std::fs::File;
-use std::io::{Read, Write};
+use std::io::{self, Read, Write};
 use std::rt::Files;
 use std::sync::Wait;
 use std::thread::Threads;
@@ -28,32 +31,63 @@ const FILE_FAULT: u8 = 3;
 /// Memory ran out.
 const MEMORY: u8 = 4;
 
-// Says something on the standard error. What can't be written there is lost.
-fn complain<E: Write>(err: &mut E, text: &str) {
-    let _ = err.write_all(text.as_bytes());
+/// How often a text is written on at most: the end of a writer that is always interrupted.
+const WRITES: u64 = 65_536;
+
+// Writes some of these bytes, and answers how many, or `None` where the writer takes no more.
+fn write_some<W: Write>(to: &mut W, bytes: &[u8]) -> Option<usize>
+    ensures bound { IfSome result (λ n. n ≤ length bytes.now) }
+    ensures bytes { Appends (W.contents to.old) (W.contents to.new) (take (unwrap_or result 0) bytes.now) }
+{
+    match to.write(bytes) {
+        Ok(0) => None,
+        Ok(n) => Some(n),
+        Err(e) if e.kind() == io::ErrorKind::Interrupted => Some(0),
+        Err(_) => None,
+    }
+}
+
+// Writes the text, and says whether all of it was written. What isn't is lost.
+#[tactic(auto, using(crate::proofs::Streaming::begins_by))]
+fn tell<W: Write>(to: &mut W, text: &str) -> bool
+    ensures whole { result ≡ true → Gets (stream (W.contents to.old) (W.contents to.new)) text.now }
+    ensures part { Begins (stream (W.contents to.old) (W.contents to.new)) text.now }
+{
+    let mut rest = text.as_bytes();
+    for _ in 0..WRITES {
+        if rest.is_empty() {
+            return true;
+        }
+        match write_some(to, rest) {
+            Some(n) => rest = &rest[n..],
+            None => return false,
+        }
+    }
+    false
 }
 
 /// Says that memory ran out, and answers the status for it.
 pub fn no_memory<E: Write>(err: &mut E) -> u8
-    ensures { result ≡ 4 }
+    ensures status { result ≡ 4 }
+    ensures told { Begins (stream (E.contents err.old) (E.contents err.new)) (codes "memory\n") }
 {
-    complain(err, "memory\n");
+    let _ = tell(err, "memory\n");
     MEMORY
 }
 
 fn cannot_write<E: Write>(err: &mut E) -> u8
-    ensures { result ≡ 3 }
+    ensures status { result ≡ 3 }
+    ensures told { Begins (stream (E.contents err.old) (E.contents err.new)) (codes "cannot write\n") }
 {
-    complain(err, "cannot write\n");
+    let _ = tell(err, "cannot write\n");
     FILE_FAULT
 }
 
 fn cannot_read<E: Write>(err: &mut E, name: &str) -> u8
-    ensures { result ≡ 3 }
+    ensures status { result ≡ 3 }
+    ensures told { Begins (stream (E.contents err.old) (E.contents err.new)) (cannot_read_line name.now) }
 {
-    complain(err, "cannot read ");
-    complain(err, name);
-    complain(err, "\n");
+    let _ = tell(err, "cannot read ") && tell(err, name) && tell(err, "\n");
     FILE_FAULT
 }
 
@@ -66,7 +100,9 @@ fn run_text<F: Clock + Threads + Wait + Sync, W: Write, E: Write>(
     out: &mut W,
     err: &mut E,
 ) -> u8
-    ensures { Writes (wish_of wanted.now.task) text.now (W.contents out.old) (W.contents out.new) result }
+    ensures { Ends wanted.now.file.now (wish_of wanted.now.task) text.now
+        (stream (W.contents out.old) (W.contents out.new))
+        (stream (E.contents err.old) (E.contents err.new)) result }
 {
     let report = match report_on(rt, alloc, &wanted.task, text) {
         Ok(report) => report,
@@ -76,8 +112,8 @@ fn run_text<F: Clock + Threads + Wait + Sync, W: Write, E: Write>(
     if out.write_all(report.lines.as_bytes()).is_err() {
         return cannot_write(err);
     }
-    if let Some(notes) = &report.notes {
-        complain(err, notes.as_str());
+    if let (true, Some(notes)) = (wanted.task.may_tell(), &report.notes) {
+        let _ = tell(err, notes.as_str());
     }
     report.status
 }
@@ -91,7 +127,9 @@ fn run_input<F: Clock + Threads + Wait + Sync, R: Read, W: Write, E: Write>(
     out: &mut W,
     err: &mut E,
 ) -> u8
-    ensures { RunsInput (wish_of wanted.now.task) (R.remaining input.old) (W.contents out.old) (W.contents out.new) result }
+    ensures { EndsOn wanted.now.file.now (wish_of wanted.now.task) (R.remaining input.old)
+        (stream (W.contents out.old) (W.contents out.new))
+        (stream (E.contents err.old) (E.contents err.new)) result }
 {
     match read_all(alloc, input) {
         Ok(text) => run_text(rt, alloc, wanted, text.as_slice(), out, err),
@@ -108,7 +146,9 @@ fn run_file<F: Files + Clock + Threads + Wait + Sync, W: Write, E: Write>(
     out: &mut W,
     err: &mut E,
 ) -> u8
-    ensures { RunsInput (wish_of wanted.now.task) None (W.contents out.old) (W.contents out.new) result }
+    ensures { EndsOn wanted.now.file.now (wish_of wanted.now.task) None
+        (stream (W.contents out.old) (W.contents out.new))
+        (stream (E.contents err.old) (E.contents err.new)) result }
 {
     match File::open(rt, wanted.file) {
         Ok(mut file) => run_input(rt, alloc, wanted, &mut file, out, err),
@@ -125,7 +165,9 @@ fn run_wanted<F: Files + Clock + Threads + Wait + Sync, R: Read, W: Write, E: Wr
     out: &mut W,
     err: &mut E,
 ) -> u8
-    ensures { Runs wanted.now.file.now (wish_of wanted.now.task) (R.remaining input.old) (W.contents out.old) (W.contents out.new) result }
+    ensures { Runs wanted.now.file.now (wish_of wanted.now.task) (R.remaining input.old)
+        (stream (W.contents out.old) (W.contents out.new))
+        (stream (E.contents err.old) (E.contents err.new)) result }
 {
     if wanted.file == "-" {
         return run_input(rt, alloc, wanted, input, out, err);
@@ -135,7 +177,11 @@ fn run_wanted<F: Files + Clock + Threads + Wait + Sync, R: Read, W: Write, E: Wr
 
 // A command line that asks for help, or is wrong.
 fn misuse<W: Write, E: Write>(error: Error, out: &mut W, err: &mut E) -> u8
-    ensures memory { kind_of error ≡ ErrorKind.OutOfMemory → (result ≡ 4) × (W.contents out.new ≡ W.contents out.old) }
+    ensures memory { kind_of error ≡ ErrorKind.OutOfMemory → (result ≡ 4)
+        × (W.contents out.new ≡ W.contents out.old)
+        × Begins (stream (E.contents err.old) (E.contents err.new)) (codes "memory\n") }
+    ensures refused { shows (kind_of error) ≡ false
+        → IsMisuse (stream (W.contents out.old) (W.contents out.new)) result }
     ensures wrong { result ≡ 2 → W.contents out.new ≡ W.contents out.old }
 {
     if error.kind() == ErrorKind::OutOfMemory {
@@ -154,8 +200,7 @@ fn misuse<W: Write, E: Write>(error: Error, out: &mut W, err: &mut E) -> u8
 fn wrong_words<E: Write>(err: &mut E, text: &str) -> u8
     ensures { result ≡ 2 }
 {
-    complain(err, text);
-    complain(err, "\n\nFor more information, try 'procd --help'.\n");
+    let _ = tell(err, text) && tell(err, "\n\nFor more information, try 'procd --help'.\n");
     MISUSE
 }
 
@@ -177,8 +222,13 @@ pub fn program<F: Files + Clock + Threads + Wait + Sync, S: AsStr, R: Read, W: W
     err: &mut E,
 ) -> u8
     // What is written is what the command makes of the text of its file or of standard input.
-    ensures runs { (file : List ℕ) (wish : Wish) → Says (map S.text words.now) file wish → Runs file wish (R.remaining input.old) (W.contents out.old) (W.contents out.new) result }
-    // At a wrong command line nothing is written.
+    ensures runs { (file : List ℕ) (wish : Wish) → Says (map S.text words.now) file wish
+        → Runs file wish (R.remaining input.old)
+        (stream (W.contents out.old) (W.contents out.new))
+        (stream (E.contents err.old) (E.contents err.new)) result }
+    // A wrong command line is told on standard error alone, and its status is 2, or 4 where memory ran out.
+    ensures misuse { IsWrong (map S.text words.now)
+        → IsMisuse (stream (W.contents out.old) (W.contents out.new)) result }
     ensures wrong { result ≡ 2 → W.contents out.new ≡ W.contents out.old }
 {
     match wanted_of(alloc, words) {

@@ -1,12 +1,13 @@
 //! The command line.
 
-ghost use Rattle.std.specs.Prelude.{◌≡◌, ℕ, Bool, List, [], true, false, Some, map, unwrap_or, IfOk, IfErr, option_map, codes};
-ghost use Rattle.clap.specs.Words.{Row, app_of, rule_of, kind_of, subcommand_of, subcommand_rows_of, takes, rows_of, found_of, first_of, all_of};
+ghost use Rattle.std.specs.Prelude.{◌≡◌, ℕ, Bool, List, [], true, false, Some, map, unwrap_or, IfOk, IfErr, IfSome, option_map, codes};
+ghost use Rattle.clap.specs.Words.{Row, app_of, rule_of, kind_of, subcommand_of, subcommand_rows_of, takes, rows_of, found_of, first_of, all_of, fault_of, FailsBy};
 ghost use Rattle.clap.specs.declared.builder.command.Command.TheViews.{out-Command};
-ghost use Rattle.procd.specs.Wanted.{WantsOrNoMemory, IsTaskOrNoMemory, IsNumbersOrNoMemory};
+ghost use Rattle.procd.specs.Wanted.{WantsOrNoMemory, IsTaskOrNoMemory, IsNumbersOrNoMemory, IsWordFault, IsWrongOrNoMemory};
 ghost use Rattle.procd.specs.Task.{Wish, Run, command_name};
 ghost use Rattle.procd.specs.Said.{procd_app, exec_app, asm_app, dis_app, verify_app, world_app, run_app, file_rule, raw_rule, log_rule};
 ghost use Rattle.procd.specs.Said.{count_rule, stats_rule, Says, SaysWish, SaysRun, SaysCount, SaysNumbers, AllNumbers, value_of};
+ghost use Rattle.procd.specs.Said.{IsWrong, IsNoCount, LacksNumber};
 
 use clap::error::ErrorKind;
 use clap::{Arg, ArgAction, ArgMatches, Command, Error};
@@ -40,6 +41,21 @@ pub enum Task {
         tries: u64,
         stats: bool,
     },
+}
+
+impl Task {
+    ghost use Rattle.std.specs.Prelude.{◌≡◌};
+    ghost use Rattle.procd.specs.Task.{may_tell, wish_of};
+
+    /// Whether figures are to be told on standard error.
+    pub fn may_tell(&self) -> bool
+        ensures { result ≡ may_tell (wish_of self.now) }
+    {
+        match self {
+            Task::Run { stats, .. } => *stats,
+            _ => false,
+        }
+    }
 }
 
 /// The workers of a run, where the words say nothing of them.
@@ -234,6 +250,7 @@ fn procd_command<'a>(alloc: Global) -> Result<Command<'a>, AllocError>
 fn said<'a, S: AsStr>(alloc: Global, words: &'a [S]) -> Result<ArgMatches<'a>, Error>
     ensures ok { IfOk result (λ m. subcommand_rows_of m ≡ subcommand_of procd_app (map S.text words.entry.now)) }
     ensures err { IfErr result (λ e. takes procd_app (map S.text words.entry.now) ≡ true → kind_of e ≡ ErrorKind.OutOfMemory) }
+    ensures kinds { FailsBy (fault_of procd_app (map S.text words.entry.now)) result }
 {
     let command = procd_command(alloc)?;
     command.try_get_matches_from(words)
@@ -241,7 +258,8 @@ fn said<'a, S: AsStr>(alloc: Global, words: &'a [S]) -> Result<ArgMatches<'a>, E
 
 // The numbers that texts say, or `None` where one says none.
 fn numbers_of(alloc: Global, texts: &[&str]) -> Result<Option<Vec<u64>>, AllocError>
-    ensures { IfOk result (λ r. AllNumbers (map (λ s. s.now) texts.now) → option_map (λ v. v.items) r ≡ Some (map value_of (map (λ s. s.now) texts.now))) }
+    ensures some { IfOk result (λ r. AllNumbers (map (λ s. s.now) texts.now) → option_map (λ v. v.items) r ≡ Some (map value_of (map (λ s. s.now) texts.now))) }
+    ensures all { IfOk result (λ r. IfSome r (λ v. AllNumbers (map (λ s. s.now) texts.now))) }
 {
     let mut numbers = Vec::new(alloc);
     for text in texts {
@@ -255,7 +273,9 @@ fn numbers_of(alloc: Global, texts: &[&str]) -> Result<Option<Vec<u64>>, AllocEr
 
 // The numbers that the arguments say.
 fn numbers_in(alloc: Global, matches: &ArgMatches) -> Result<Vec<u64>, WordFault>
-    ensures { (numbers : List ℕ) → SaysNumbers (rows_of (found_of matches.now)) numbers → IsNumbersOrNoMemory numbers result }
+    ensures numbers { (numbers : List ℕ) → SaysNumbers (rows_of (found_of matches.now)) numbers → IsNumbersOrNoMemory numbers result }
+    ensures all { IfOk result (λ v. AllNumbers (unwrap_or (all_of (codes "arg") (rows_of (found_of matches.now))) [])) }
+    ensures err { IfErr result IsWordFault }
 {
     match numbers_of(alloc, matches.get_strs("arg").unwrap_or(&[])) {
         Ok(Some(numbers)) => Ok(numbers),
@@ -266,7 +286,9 @@ fn numbers_in(alloc: Global, matches: &ArgMatches) -> Result<Vec<u64>, WordFault
 
 // The number that an option says, or this one where it isn't there.
 fn number_or(matches: &ArgMatches, name: &str, default: u64) -> Result<u64, WordFault>
-    ensures { (n : ℕ) → SaysCount (first_of name.now (rows_of (found_of matches.now))) default n → result ≡ Ok n }
+    ensures count { (n : ℕ) → SaysCount (first_of name.now (rows_of (found_of matches.now))) default n → result ≡ Ok n }
+    ensures wrong { IfOk result (λ n. ¬ IsNoCount (first_of name.now (rows_of (found_of matches.now)))) }
+    ensures err { IfErr result IsWordFault }
 {
     match matches.get_str(name) {
         Some(text) => match text.parse::<u64>() {
@@ -279,7 +301,9 @@ fn number_or(matches: &ArgMatches, name: &str, default: u64) -> Result<u64, Word
 
 // How calls are to be run.
 fn run_task(matches: &ArgMatches) -> Result<Task, WordFault>
-    ensures { (workers tries : ℕ) (stats : Bool) → SaysRun (rows_of (found_of matches.now)) workers tries stats → IsTaskOrNoMemory (Run workers tries stats) result }
+    ensures task { (workers tries : ℕ) (stats : Bool) → SaysRun (rows_of (found_of matches.now)) workers tries stats → IsTaskOrNoMemory (Run workers tries stats) result }
+    ensures wrong { IfOk result (λ task. ¬ LacksNumber (codes "run") (rows_of (found_of matches.now))) }
+    ensures err { IfErr result IsWordFault }
 {
     let workers = number_or(matches, "workers", WORKERS)?;
     let tries = number_or(matches, "tries", TRIES)?;
@@ -292,7 +316,9 @@ fn run_task(matches: &ArgMatches) -> Result<Task, WordFault>
 
 // The task of the command of this name.
 fn task_of(alloc: Global, name: &str, matches: &ArgMatches) -> Result<Task, WordFault>
-    ensures { (wish : Wish) → name.now ≡ command_name wish → SaysWish (rows_of (found_of matches.now)) wish → IsTaskOrNoMemory wish result }
+    ensures task { (wish : Wish) → name.now ≡ command_name wish → SaysWish (rows_of (found_of matches.now)) wish → IsTaskOrNoMemory wish result }
+    ensures wrong { IfOk result (λ task. ¬ LacksNumber name.now (rows_of (found_of matches.now))) }
+    ensures err { IfErr result IsWordFault }
 {
     match name {
         "exec" => Ok(Task::Exec {
@@ -314,7 +340,8 @@ fn task_of(alloc: Global, name: &str, matches: &ArgMatches) -> Result<Task, Word
 
 /// What the words want.
 pub fn wanted_of<'a, S: AsStr>(alloc: Global, words: &'a [S]) -> Result<Wanted<'a>, WordFault>
-    ensures { (file : List ℕ) (wish : Wish) → Says (map S.text words.entry.now) file wish → WantsOrNoMemory file wish result }
+    ensures wanted { (file : List ℕ) (wish : Wish) → Says (map S.text words.entry.now) file wish → WantsOrNoMemory file wish result }
+    ensures wrong { IsWrong (map S.text words.entry.now) → IsWrongOrNoMemory result }
 {
     let matches = match said(alloc, words) {
         Ok(matches) => matches,

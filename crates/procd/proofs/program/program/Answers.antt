@@ -5,7 +5,7 @@ use Rattle.procd.proofs.program.program.Goals as goal
 
 pub returns-in-Ok-clause-runs : goal.returns-in-Ok-clause-runs
 returns-in-Ok-clause-runs g c = λ file wish says.
-    let w = c.in-Ok.ensures file wish says in
+    let w = c.in-Ok.ensures.wanted file wish says in
     rw (← w.0, ← w.1) c.run_wanted.ensures
 
 pub returns-in-Ok-clause-wrong : goal.returns-in-Ok-clause-wrong
@@ -13,14 +13,21 @@ returns-in-Ok-clause-wrong g c = λ is. absurd (never_wrong c.in-Ok.wanted.file.
 
 pub returns-in-Err-Clap-clause-runs : goal.returns-in-Err-Clap-clause-runs
 returns-in-Err-Clap-clause-runs g c = λ file wish says.
-    let m = c.misuse.ensures.memory (rw c.in-Err-Clap.field-0-is (rw c.in-Err-Clap.field-0-is at (c.in-Err-Clap.ensures file wish says))) in
-    no_memory_runs file wish _ _ _ _ m.0 m.1
+    let m = c.misuse.ensures.memory (rw c.in-Err-Clap.field-0-is (rw c.in-Err-Clap.field-0-is at (c.in-Err-Clap.ensures.wanted file wish says))) in
+    no_memory_runs file wish _ _ _ _ m.0 m.1 m.2
 
 pub returns-in-Err-Memory-clause-runs : goal.returns-in-Err-Memory-clause-runs
-returns-in-Err-Memory-clause-runs g c = λ file wish says. no_memory_runs file wish _ _ _ _ c.no_memory.ensures refl
+returns-in-Err-Memory-clause-runs g c = λ file wish says. no_memory_runs file wish _ _ _ _ c.no_memory.ensures.status refl c.no_memory.ensures.told
 
 pub returns-in-Err-NotNumber-clause-runs : goal.returns-in-Err-NotNumber-clause-runs
-returns-in-Err-NotNumber-clause-runs g c = λ file wish says. absurd (rw c.in-Err-NotNumber.field-0-is at (c.in-Err-NotNumber.ensures file wish says))
+returns-in-Err-NotNumber-clause-runs g c = λ file wish says. absurd (rw c.in-Err-NotNumber.field-0-is at (c.in-Err-NotNumber.ensures.wanted file wish says))
 
 pub returns-in-Err-NoCommand-clause-runs : goal.returns-in-Err-NoCommand-clause-runs
-returns-in-Err-NoCommand-clause-runs g c = λ file wish says. absurd (rw c.in-Err-NoCommand.field-0-is at (c.in-Err-NoCommand.ensures file wish says))
+returns-in-Err-NoCommand-clause-runs g c = λ file wish says. absurd (rw c.in-Err-NoCommand.field-0-is at (c.in-Err-NoCommand.ensures.wanted file wish says))
+
+pub returns-in-Ok-clause-misuse : goal.returns-in-Ok-clause-misuse
+returns-in-Ok-clause-misuse g c = λ wrong. absurd (c.in-Ok.ensures.wrong wrong)
+
+pub returns-in-Err-Clap-clause-misuse : goal.returns-in-Err-Clap-clause-misuse
+returns-in-Err-Clap-clause-misuse g c = λ wrong.
+    c.misuse.ensures.refused (rw c.in-Err-Clap.field-0-is (rw c.in-Err-Clap.field-0-is at (c.in-Err-Clap.ensures.wrong wrong)))

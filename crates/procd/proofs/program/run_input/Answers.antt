@@ -4,7 +4,9 @@ use Rattle.procd.proofs.Faults.{cannot_read_fits, no_memory_fits}
 use Rattle.procd.proofs.program.run_input.Goals as goal
 
 pub returns-in-Err-Memory : goal.returns-in-Err-Memory
-returns-in-Err-Memory g c = no_memory_fits (wish_of c.args.wanted.now.task) _ _ _ _ c.no_memory.ensures refl
+returns-in-Err-Memory g c =
+    no_memory_fits c.args.wanted.now.file.now (wish_of c.args.wanted.now.task) _ _ _ _ c.no_memory.ensures.status refl c.no_memory.ensures.told
 
 pub returns-in-Err-Read : goal.returns-in-Err-Read
-returns-in-Err-Read g c = cannot_read_fits (wish_of c.args.wanted.now.task) _ _ _ _ c.cannot_read.ensures refl
+returns-in-Err-Read g c =
+    cannot_read_fits c.args.wanted.now.file.now (wish_of c.args.wanted.now.task) _ _ _ _ c.cannot_read.ensures.status refl c.cannot_read.ensures.told

@@ -1,0 +1,84 @@
+-- A command's status is 0 or 1.
+use Rattle.std.proofs.Common.{arith, ℕ, Bool, List, Option, Some, None}
+use Rattle.std.proofs.Common.{length, true, false}
+use Rattle.std.specs.Prelude.{Result, Ok, Err, ◌≤◌, if◌then◌else◌}
+use Rattle.procd.specs.Execution.{status_of}
+use Rattle.procd.specs.Hex.{Hex, hex_of}
+use Rattle.procd.specs.Task.{Wish, Exec, Asm, Dis, Verify, World, Run}
+use Rattle.std.specs.List.{list_any}
+use Rattle.scripts.specs.Reading.{Contents, Reading, script_said}
+use Rattle.procd.specs.Loading.{refusal_of}
+use Rattle.procd.specs.Running.{IsRunBy, IsCallsRun, Ran, Stopped, begun}
+use Rattle.procd.specs.WorldReport.{IsWorldBy, status_of_steps}
+use Rattle.scripts.specs.declared.keyword.Command.TheVariants as command
+use Rattle.scripts.specs.declared.reading.Fault.{Fault}
+use Rattle.scripts.specs.declared.script.Call.{Call}
+use Rattle.scripts.specs.declared.script.Procedure.{Procedure}
+use Rattle.tc_core.specs.Core.{Core}
+use Rattle.procd.specs.Verification.{is_refused, status_by_fault, status_of_reading}
+use Rattle.procd.specs.Report.{IsReport, IsAssembly, IsDisassembly, IsDisassemblyOf, IsHexDisassembly}
+use Rattle.bpf_asm.specs.Lines.{assembled}
+use Rattle.bpf_asm.specs.declared.assemble.AsmFault.{AsmFault}
+use Rattle.bpf_encoding.specs.Spells.{fault_in}
+use Rattle.bpf_encoding.specs.declared.decode.DecodeFault.{DecodeFault}
+use Rattle.bpf_encoding.specs.declared.insn.Place.{Place}
+use Rattle.procd.specs.declared.execute.Execution.{Execution}
+use Rattle.procd.specs.declared.execute.Execution.TheVariants.{Answer, NotHex, Code, TooManyArgs, Refused}
+
+execution_low : (e : Execution) → status_of e ≤ 1
+execution_low (Answer value executed) = omega arith
+execution_low (NotHex at) = omega arith
+execution_low (Code fault) = omega arith
+execution_low TooManyArgs = omega arith
+execution_low (Refused slot violation) = omega arith
+
+assembly_low : (r : Result (List Place) AsmFault) (status : ℕ) (lines : List ℕ) → IsAssembly r status lines → status ≤ 1
+assembly_low (Ok code) status lines h = omega (arith, h.0)
+assembly_low (Err e) status lines h = omega (arith, h.0)
+
+disassembly_of_low : (fault : Option DecodeFault) (bytes : List ℕ) (status : ℕ) (lines : List ℕ)
+    → IsDisassemblyOf fault bytes status lines → status ≤ 1
+disassembly_of_low (Some fault) bytes status lines h = omega (arith, h.0)
+disassembly_of_low None bytes status lines h = omega (arith, h.0)
+
+hex_low : (hex : Hex) (status : ℕ) (lines : List ℕ) → IsHexDisassembly hex status lines → status ≤ 1
+hex_low (Err at) status lines h = omega (arith, h.0)
+hex_low (Ok bytes) status lines h = disassembly_of_low (fault_in bytes) bytes status lines h
+
+disassembly_low : (raw : Bool) (text : List ℕ) (status : ℕ) (lines : List ℕ) → IsDisassembly raw text status lines → status ≤ 1
+disassembly_low true text status lines h = disassembly_of_low (fault_in text) text status lines h
+disassembly_low false text status lines h = hex_low (hex_of text) status lines h
+
+fault_low : (fault : Option Fault) (procedures : List Procedure) → status_by_fault fault procedures ≤ 1
+fault_low (Some fault) procedures = omega arith
+fault_low None procedures = elim (list_any is_refused procedures) as (λ b. (if b then 1 else 0) ≤ 1) [ true ↦ omega arith | false ↦ omega arith ]
+
+reading_low : (r : Reading) → status_of_reading r ≤ 1
+reading_low r = fault_low r.fault r.contents.procedures
+
+calls_low : (start : Core) (first calls : List Call) (dcs workers tries status : ℕ) (lines : List ℕ)
+    → IsCallsRun start first calls dcs workers tries status lines → status ≤ 1
+calls_low start first calls dcs workers tries status lines (Ran fit is run) = omega (arith, is)
+calls_low start first calls dcs workers tries status lines (Stopped fault when is line) = omega (arith, is)
+
+run_low : (refusal : Option (List ℕ)) (contents : Contents) (workers tries status : ℕ) (lines : List ℕ)
+    → IsRunBy refusal contents workers tries status lines → status ≤ 1
+run_low (Some refusal) contents workers tries status lines h = omega (arith, h.0)
+run_low None contents workers tries status lines h = calls_low (begun contents) contents.first contents.calls (length contents.dcs) workers tries status lines h
+
+steps_low : (all : Bool) → status_of_steps all ≤ 1
+steps_low true = omega arith
+steps_low false = omega arith
+
+world_low : (refusal : Option (List ℕ)) (contents : Contents) (log : Bool) (status : ℕ) (lines : List ℕ)
+    → IsWorldBy refusal contents log status lines → status ≤ 1
+world_low (Some refusal) contents log status lines h = omega (arith, h.0)
+world_low None contents log status lines h = omega (arith, h.status_is, steps_low h.all)
+
+pub report_low : (wish : Wish) (text : List ℕ) (status : ℕ) (lines : List ℕ) → IsReport wish text status lines → status ≤ 1
+report_low (Exec raw numbers) text status lines h = omega (arith, h.2, execution_low h.0)
+report_low Asm text status lines h = assembly_low (assembled text) status lines h
+report_low (Dis raw) text status lines h = disassembly_low raw text status lines h
+report_low Verify text status lines h = omega (arith, h.0, reading_low (script_said command.Verify text))
+report_low (World log) text status lines h = let r = script_said command.World text in world_low (refusal_of r) r.contents log status lines h
+report_low (Run workers tries stats) text status lines h = let r = script_said command.Run text in run_low (refusal_of r) r.contents workers tries status lines h

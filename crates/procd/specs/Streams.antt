@@ -1,0 +1,68 @@
+-- What a run gives for a command line: the exit status, and what stands on standard output and standard error.
+use Rattle.std.specs.Prelude.{◌≡◌, ◌⊎◌, ℕ, Bool, true, false, List, ◌++◌, take, Option, IfSome, codes}
+use Rattle.std.specs.Io.KnownBytes.{Appends, Keeps}
+use Rattle.procd.specs.Report.{IsReport}
+use Rattle.procd.specs.Task.{Wish, may_tell}
+
+-- what a stream held before and holds afterwards, where that is known
+pub record Stream : Type 0 where
+  pub old : Option (List ℕ)
+  pub new : Option (List ℕ)
+
+abbrev pub stream : Option (List ℕ) → Option (List ℕ) → Stream
+stream old new = record { old = old; new = new }
+
+-- nothing was written
+abbrev pub IsKept : Stream → Type 0
+IsKept s = s.new ≡ s.old
+
+-- the text was written
+abbrev pub Gets : Stream → List ℕ → Type 0
+Gets s text = Appends s.old s.new text
+
+-- the text was written, or its first bytes where the stream takes no more
+abbrev pub Begins : Stream → List ℕ → Type 0
+Begins s text = (n : ℕ) × Gets s (take n text)
+
+abbrev pub cannot_read_line : List ℕ → List ℕ
+cannot_read_line file = (codes "cannot read " ++ file) ++ codes "\n"
+
+-- the file can't be read
+abbrev pub IsReadFault : List ℕ → Stream → Stream → ℕ → Type 0
+IsReadFault file out err status = (status ≡ 3) × IsKept out × Begins err (cannot_read_line file)
+
+-- memory ran out
+abbrev pub IsMemoryFault : Stream → Stream → ℕ → Type 0
+IsMemoryFault out err status = (status ≡ 4) × IsKept out × Begins err (codes "memory\n")
+
+-- there is a report, and standard output doesn't take it
+abbrev pub IsWriteFault : Wish → List ℕ → Stream → ℕ → Type 0
+IsWriteFault wish text err status =
+    (meant : ℕ) × (lines : List ℕ) × IsReport wish text meant lines × (status ≡ 3) × Begins err (codes "cannot write\n")
+
+-- where figures are asked for, they are told
+abbrev pub TellsIf : Bool → Stream → Type 0
+TellsIf true err = (figures : List ℕ) × Begins err figures
+TellsIf false err = IsKept err
+
+-- the report's lines are written, and the status is its own
+abbrev pub IsDone : Wish → List ℕ → Stream → Stream → ℕ → Type 0
+IsDone wish text out err status = (lines : List ℕ) × IsReport wish text status lines × Gets out lines × TellsIf (may_tell wish) err
+
+-- the file can't be read, memory ran out, standard output can't be written, or what was read is done
+abbrev pub Ends : List ℕ → Wish → List ℕ → Stream → Stream → ℕ → Type 0
+Ends file wish text out err status =
+    IsReadFault file out err status ⊎ (IsMemoryFault out err status ⊎ (IsWriteFault wish text err status ⊎ IsDone wish text out err status))
+
+-- the same of some text, which is what is there to be read, where that is known
+abbrev pub EndsOn : List ℕ → Wish → Option (List ℕ) → Stream → Stream → ℕ → Type 0
+EndsOn file wish input out err status = (text : List ℕ) × IfSome input (λ known. text ≡ known) × Ends file wish text out err status
+
+-- the same of a file, which may be standard input
+abbrev pub Runs : List ℕ → Wish → Option (List ℕ) → Stream → Stream → ℕ → Type 0
+Runs file wish input out err status =
+    (text : List ℕ) × (file ≡ codes "-" → IfSome input (λ known. text ≡ known)) × Ends file wish text out err status
+
+-- nothing is written to standard output, and the status says that the command line is wrong, or that memory ran out
+abbrev pub IsMisuse : Stream → ℕ → Type 0
+IsMisuse out status = ((status ≡ 2) ⊎ (status ≡ 4)) × IsKept out
