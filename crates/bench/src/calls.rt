@@ -71,7 +71,17 @@ fn moved<R: Threads + Wait + Sync, L: Link + Sync>(
     let workers = workers as usize;
     let first = before.ends() as u64;
     let state = before.state;
-    let after = run(rt, alloc, state, moves.as_slice(), workers, 3, link, &OpenGate).ok()?;
+    let after = run(
+        rt,
+        alloc,
+        state,
+        moves.as_slice(),
+        workers,
+        3,
+        link,
+        &OpenGate,
+    )
+    .ok()?;
     first.checked_add(after.ends() as u64)
 }
 
