@@ -4,9 +4,10 @@ use crate::procedures::{move_one, put, state};
 use data_component::dc::Dc;
 use std::alloc::Global;
 use std::sync::Wait;
+use std::thread;
 use std::thread::Threads;
 use tc_core::state::Call;
-use worker_pool::{LockedDcs, OpenGate, run};
+use worker_pool::{Link, LockedDcs, OpenGate, RingLink, run};
 
 /// How many records there are.
 pub const RECORDS: u64 = 1000;
@@ -40,28 +41,33 @@ pub fn puts(alloc: Global, records: u64) -> Option<Vec<Call>> {
     Some(made)
 }
 
-/// A data component with room for the records and so many moves.
-pub fn link(alloc: Global, calls: u64) -> Option<LockedDcs> {
+// A data component with room for the records and so many moves.
+fn store(alloc: Global, calls: u64) -> Option<Dc> {
     let ops = calls.checked_mul(4)?.checked_add(RECORDS)?;
-    let dc = Dc::new(alloc, RECORDS as usize, ops as usize).ok()?;
+    Dc::new(alloc, RECORDS as usize, ops as usize).ok()
+}
+
+/// A link to a data component with room for the records and so many moves.
+pub fn link(alloc: Global, calls: u64) -> Option<LockedDcs> {
+    let dc = store(alloc, calls)?;
     let mut dcs = Vec::with_capacity(alloc, 1).ok()?;
     dcs.push(dc).ok()?;
     LockedDcs::new(alloc, dcs).ok()
 }
 
-/// A thousand records are put, and then so many calls move 1 between two of them, by so many
-/// workers. How many transactions have ended.
-pub fn repeat<R: Threads + Wait + Sync>(
+// A thousand records are put over the link, and then so many calls move 1 between two of them, by so
+// many workers. How many transactions have ended.
+fn moved<R: Threads + Wait + Sync, L: Link + Sync>(
     rt: &R,
     alloc: Global,
     workers: u64,
     calls: u64,
+    link: &L,
 ) -> Option<u64> {
-    let link = link(alloc, calls)?;
     let puts = puts(alloc, RECORDS)?;
     let moves = moves(alloc, calls)?;
     let state = state(alloc)?;
-    let before = run(rt, alloc, state, puts.as_slice(), 1, 3, &link, &OpenGate).ok()?;
+    let before = run(rt, alloc, state, puts.as_slice(), 1, 3, link, &OpenGate).ok()?;
     let workers = workers as usize;
     let first = before.ends() as u64;
     let state = before.state;
@@ -72,9 +78,54 @@ pub fn repeat<R: Threads + Wait + Sync>(
         moves.as_slice(),
         workers,
         3,
-        &link,
+        link,
         &OpenGate,
     )
     .ok()?;
     first.checked_add(after.ends() as u64)
+}
+
+/// The puts and the moves over a data component that the workers call themselves.
+pub fn repeat<R: Threads + Wait + Sync>(
+    rt: &R,
+    alloc: Global,
+    workers: u64,
+    calls: u64,
+) -> Option<u64> {
+    let link = link(alloc, calls)?;
+    moved(rt, alloc, workers, calls, &link)
+}
+
+// The puts and the moves, and then the end of the serving.
+fn moved_and_closed<R: Threads + Wait + Sync>(
+    rt: &R,
+    alloc: Global,
+    workers: u64,
+    calls: u64,
+    rings: &RingLink,
+) -> Option<u64> {
+    let ended = moved(rt, alloc, workers, calls, rings);
+    rings.close();
+    ended
+}
+
+/// The puts and the moves, by 1 to 64 workers, over a data component in a thread of its own.
+pub fn repeat_served<R: Threads + Wait + Sync>(
+    rt: &R,
+    alloc: Global,
+    workers: u64,
+    calls: u64,
+) -> Option<u64> {
+    if !(1..=64).contains(&workers) {
+        return None;
+    }
+    let dc = store(alloc, calls)?;
+    let rings = RingLink::new(alloc, 1, workers as usize).ok()?;
+    let rings = &rings;
+    let (_dc, ended) = thread::join(
+        rt,
+        move || rings.serve(rt, 0, dc),
+        move || moved_and_closed(rt, alloc, workers, calls, rings),
+    );
+    ended
 }

@@ -29,6 +29,7 @@ const USAGE: &str = "usage:
   bench store ROWS UPDATES RESTARTS    inserts ROWS records, UPDATES them in turn, and RESTARTS
   bench steps ENDED OPEN TIMES         ENDED transactions have ended, OPEN are open; one more is run to its end TIMES
   bench calls WORKERS CALLS            CALLS move an amount between two of 1000 records, by WORKERS at once
+  bench rings WORKERS CALLS            the same over a data component in a thread of its own
   bench storm SEED WORKERS CALLS       the same over a link that loses, repeats, delays and answers late
 ";
 
@@ -78,6 +79,7 @@ fn line_of<R: Threads + Wait + Sync>(
         "store" => store::repeat(alloc, first, second, number(words, 4)?)?,
         "steps" => steps::repeat(alloc, first, second, number(words, 4)?)?,
         "calls" => calls::repeat(rt, alloc, first, second)?,
+        "rings" => calls::repeat_served(rt, alloc, first, second)?,
         "storm" => {
             let ended = storm::repeat(rt, alloc, first, second, number(words, 4)?)?;
             return weathered(alloc, &ended);

@@ -2,6 +2,7 @@
 #![tactic(auto)]
 
 mod answer_lines;
+mod answering;
 mod assembly;
 mod execute;
 mod fault_names;
@@ -46,6 +47,8 @@ fn main(rt: HostRuntime) -> ExitCode {
 mod encoding_tests;
 #[cfg(test)]
 mod machine_tests;
+#[cfg(test)]
+mod ring_tests;
 #[cfg(test)]
 mod run_tests;
 #[cfg(test)]

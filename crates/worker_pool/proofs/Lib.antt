@@ -4,3 +4,4 @@ pub mod Doubtful
 pub mod Refusing
 pub mod Steps
 pub mod Reported
+pub mod Serving

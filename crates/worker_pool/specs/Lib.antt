@@ -5,3 +5,4 @@ pub mod Seen
 pub mod Moves
 pub mod Reports
 pub mod Faults
+pub mod Serving

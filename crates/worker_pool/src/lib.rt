@@ -18,7 +18,8 @@
 //!
 //! A [`Link`] of your own carries wires to data components elsewhere. It may lose, repeat, delay and
 //! change what it carries; the report stays true of the log. [`LockedDcs`] is the link to data
-//! components of this process. A [`Gate`] is told when a call is admitted and when it is answered.
+//! components of this process that workers call themselves, and [`RingLink`] the one to components
+//! that have threads of their own. A [`Gate`] is told when a call is admitted and when it is answered.
 #![tactic(auto)]
 
 mod answer;
@@ -26,8 +27,11 @@ mod desk;
 mod locked_dcs;
 mod pool;
 mod report;
+mod ring;
+mod ring_link;
 
 pub use answer::{Answer, Progress};
 pub use locked_dcs::LockedDcs;
 pub use pool::{Gate, Link, OpenGate, RunFault, run};
 pub use report::Report;
+pub use ring_link::RingLink;

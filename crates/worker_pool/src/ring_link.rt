@@ -1,0 +1,191 @@
+// The link to data components in threads of their own.
+
+ghost use Rattle.std.specs.Prelude.{◌≡◌, ◌<◌, ◌≤◌, None, vec_len, IfOk, IfSome};
+ghost use Rattle.std.specs.Option.{ForSome};
+ghost use Rattle.access_slots.specs.Locks.{target};
+ghost use Rattle.data_component.specs.Store.{performed, replied};
+ghost use Rattle.worker_pool.specs.Serving.{IsServed};
+
+use crate::pool::Link;
+use crate::ring::Ring;
+use access_slots::op::{Reply, Wire};
+use data_component::dc::Dc;
+use std::alloc::{AllocError, Global};
+use std::sync::Wait;
+use std::sync::atomic::{AtomicU64, Ordering};
+
+// A worker has one wire on its way, so one note comes; the other place is for one of a wire that was
+// left behind.
+const NOTES: usize = 2;
+
+// A wire, with the worker that sent it.
+#[derive(Clone, Copy, Drop)]
+struct Parcel {
+    worker: usize,
+    wire: Wire,
+}
+
+// What became of the wire of this number: its reply, or silence.
+#[derive(Drop)]
+struct Note {
+    number: u64,
+    reply: Option<Reply>,
+    ghost same: { ForSome reply (λ r. r.number ≡ number) },
+}
+
+// What a component does with a wire, as a note.
+fn note_of(dc: &mut Dc, wire: &Wire) -> Note
+    ensures store { dc.new ≡ performed dc.old wire.now }
+    ensures number { result.number ≡ wire.now.number }
+    ensures reply { result.reply ≡ replied dc.old wire.now }
+{
+    Note {
+        number: wire.number,
+        reply: dc.perform(wire),
+    }
+}
+
+/// A link to data components that run in threads of their own, numbered from 0: a worker puts a wire
+/// into the component's inbox and waits for the note that comes back.
+///
+/// ```
+/// let link = RingLink::new(alloc, 1, 4)?;
+/// let (report, dc) = thread::scope(thread::scope_env(), rt, |scope| {
+///     let server = scope.spawn(|| link.serve(rt, 0, dc))?;
+///     let report = run(rt, alloc, state, calls, 4, 3, &link, &OpenGate);
+///     link.close();
+///     (report, server.join(rt))
+/// });
+/// ```
+///
+/// Each component is to be served by one thread, and each worker's number used by one thread at a
+/// time: two that share a number would take one another's notes.
+#[derive(Drop)]
+pub struct RingLink {
+    inboxes: Vec<Ring<Parcel>>,
+    notes: Vec<Ring<Note>>,
+    closed: AtomicU64,
+}
+
+// So many inboxes, each with a place for a wire of every worker.
+fn inboxes(alloc: Global, dcs: usize, workers: usize) -> Result<Vec<Ring<Parcel>>, AllocError>
+    requires { 0 < workers }
+    ensures { IfOk result (λ rings. vec_len rings ≡ dcs) }
+{
+    let mut rings = Vec::with_capacity(alloc, dcs)?;
+    for dc in 0..dcs {
+        rings.push(Ring::new(alloc, workers)?)?;
+    }
+    Ok(rings)
+}
+
+// A ring of notes for each worker.
+fn rings_of_notes(alloc: Global, workers: usize) -> Result<Vec<Ring<Note>>, AllocError>
+    ensures { IfOk result (λ rings. vec_len rings ≡ workers) }
+{
+    let mut rings = Vec::with_capacity(alloc, workers)?;
+    for worker in 0..workers {
+        rings.push(Ring::new(alloc, NOTES)?)?;
+    }
+    Ok(rings)
+}
+
+impl RingLink {
+    /// Rings for so many components and 1 to 64 workers. Nothing is made where memory is refused.
+    pub fn new(alloc: Global, dcs: usize, workers: usize) -> Result<RingLink, AllocError>
+        requires { (1 ≤ workers) × (workers ≤ 64) }
+        ensures { IfOk result (λ link. (vec_len link.inboxes ≡ dcs) × (vec_len link.notes ≡ workers)) }
+    {
+        Ok(RingLink {
+            inboxes: inboxes(alloc, dcs, workers)?,
+            notes: rings_of_notes(alloc, workers)?,
+            closed: AtomicU64::new(0),
+        })
+    }
+
+    /// Performs the wires of this component's inbox, and puts a note of each, silence too, into the
+    /// ring of the worker that sent it. Hands the component back once the link is closed and the
+    /// inbox was found empty; at once where there is no inbox of this number.
+    pub fn serve<R: Wait>(&self, rt: &R, number: usize, dc: Dc) -> Dc
+        ensures served { IsServed dc result }
+        ensures absent { vec_len self.now.inboxes ≤ number → result ≡ dc }
+    {
+        match self.inboxes.get(number) {
+            Some(inbox) => self.serve_inbox(rt, inbox, dc),
+            None => dc,
+        }
+    }
+
+    // Performs the wires of an inbox until it is closed and empty.
+    fn serve_inbox<R: Wait>(&self, rt: &R, inbox: &Ring<Parcel>, mut dc: Dc) -> Dc
+        ensures { IsServed dc result }
+    {
+        for _ in rt.forever() {
+            let Some(parcel) = inbox.take(rt, &self.closed) else {
+                return dc;
+            };
+            let note = note_of(&mut dc, &parcel.wire);
+            self.hand_back(rt, parcel.worker, note);
+        }
+        unreachable!()
+    }
+
+    // Puts a note into a worker's ring. It is lost where the ring is full of notes that the worker
+    // doesn't wait for.
+    fn hand_back<R: Wait>(&self, rt: &R, worker: usize, note: Note) {
+        if let Some(notes) = self.notes.get(worker) {
+            let _ = notes.put(rt, note);
+        }
+    }
+
+    /// Ends all waiting: each component is handed back once its inbox is empty, and what is carried
+    /// from now on is lost. To close again changes nothing.
+    pub fn close(&self) {
+        self.closed.store(1, Ordering::SeqCst);
+        for inbox in &self.inboxes {
+            inbox.wake();
+        }
+        for notes in &self.notes {
+            notes.wake();
+        }
+    }
+
+    fn is_closed(&self) -> bool {
+        self.closed.load(Ordering::SeqCst) != 0
+    }
+
+    // Waits for the note of this number, and drops those of others.
+    fn reply_to<R: Wait>(&self, rt: &R, notes: &Ring<Note>, number: u64) -> Option<Reply>
+        ensures { IfSome result (λ reply. reply.number ≡ number) }
+    {
+        for _ in rt.forever() {
+            let note = notes.take(rt, &self.closed)?;
+            if note.number == number {
+                return note.reply;
+            }
+        }
+        unreachable!()
+    }
+}
+
+impl Link for RingLink {
+    /// What the wire's component replies. Nothing where there is no such component or no such
+    /// worker, where the inbox is full, and where the link is closed, also while it waits.
+    fn carry<R: Wait>(&self, rt: &R, worker: usize, wire: &Wire) -> Option<Reply>
+        ensures absent { vec_len self.now.inboxes ≤ (target wire.now.op).dc → result ≡ None }
+        ensures stranger { vec_len self.now.notes ≤ worker → result ≡ None }
+        ensures number { IfSome result (λ reply. reply.number ≡ wire.now.number) }
+    {
+        let inbox = self.inboxes.get(usize::from(wire.op.record().dc))?;
+        let notes = self.notes.get(worker)?;
+        if self.is_closed() {
+            return None;
+        }
+        let parcel = Parcel {
+            worker,
+            wire: *wire,
+        };
+        inbox.put(rt, parcel).ok()?;
+        self.reply_to(rt, notes, wire.number)
+    }
+}
