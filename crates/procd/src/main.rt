@@ -45,15 +45,27 @@ fn main(rt: HostRuntime) -> ExitCode {
 #[cfg(test)]
 mod encoding_tests;
 #[cfg(test)]
+mod link_tests;
+#[cfg(test)]
+mod log_tests;
+#[cfg(test)]
 mod machine_tests;
+#[cfg(test)]
+mod pool_tests;
 #[cfg(test)]
 mod run_tests;
 #[cfg(test)]
 mod script_tests;
 #[cfg(test)]
+mod state_tests;
+#[cfg(test)]
 mod step_tests;
 #[cfg(test)]
+mod test_pool;
+#[cfg(test)]
 mod test_scripts;
+#[cfg(test)]
+mod test_state;
 #[cfg(test)]
 mod tests;
 #[cfg(test)]
