@@ -1,15 +1,17 @@
 #!/usr/bin/env python3
-"""Requests for memory behind an admission: a transaction that is admitted is to make none to its end.
+"""Requests for memory: none behind an admission, and each refused in turn where there are some.
 
-usage: tools/requests.py [--tests PATH] [--procd PATH] [--scripts N] [--steps N] [--seed N]
+usage: tools/requests.py [--tests PATH] [--procd PATH] [--scripts N] [--steps N] [--seed N] [SECTION..]
 
-The worked runs are tests of `procd`, in pairs: one stops at the admission, the other goes on to the end. Both are
-run, their requests counted, and the second is to make no more than the first. Then random scripts (those of
-explore.py) go through `world`; of the requests of each it is counted which were made within each call of the
-transaction component. The status is 1 where a request was made that is to be none.
+`pairs`: the worked runs are tests of `procd`, in pairs: one stops at the admission, the other goes on to the end.
+Both are run, their requests counted, and the second is to make no more than the first. `worlds`: random scripts
+(those of explore.py) go through `world`; of the requests of each it is counted which were made within each call of
+the transaction component. `refused`: of each test of calls that ask for memory the first request is refused, then
+the second, until a run meets none; it is to pass each time. The status is 1 where something was wrong.
 """
 import argparse
 import collections
+import itertools
 import os
 import pathlib
 import random
@@ -20,12 +22,14 @@ import sys
 import tempfile
 
 from explore import Procd, Steps
+from hostile_faults import faults_library
 
 TOP = pathlib.Path(__file__).resolve().parent.parent
 PAIRS = [("put_admitted", "put_ended"), ("abort_admitted", "abort_ended"), ("delete_admitted", "delete_stuck")]
 ASKING = ["admit"]  # calls that may ask for memory
 CALLS = ["ask", "undo_next", "wire", "answer", "give_up", "end"]
 NUMBER = 8  # bytes
+SHOWN = 5  # of what is wrong, how much is shown
 
 
 class Counting:
@@ -56,11 +60,11 @@ def test_requests(counting, tests, name):
     return counts[0]
 
 
-def pairs_agree(tests, folder):
+def pairs_agree(options, folder):
     """Whether each run to its end asks for memory as often as the one that stops at the admission."""
     counting, good = Counting(folder), True
     for admitted, ended in PAIRS:
-        first, second = [test_requests(counting, tests, name) for name in (admitted, ended)]
+        first, second = [test_requests(counting, options.tests, name) for name in (admitted, ended)]
         print(f"{admitted}: {first} requests, {ended}: {second}, between: {second - first}", flush=True)
         good = good and first == second > 0
     return good
@@ -114,6 +118,35 @@ def worlds_agree(options, folder):
     return good
 
 
+def refused_once(tests, name, library, told):
+    """How many requests of a test were refused, one in each run, and those runs in which it didn't pass."""
+    failed = []
+    for at in itertools.count(1):
+        told.write_bytes(bytes(NUMBER))
+        faults = {"LD_PRELOAD": str(library), "ALLOCATIONS_TO": str(told), "ALLOCATION_FAILS": str(at)}
+        ran = subprocess.run([tests, name], capture_output=True, text=True, env={**os.environ, **faults})
+        if ran.returncode or "test result: ok" not in ran.stdout:
+            failed.append(f"{name}, request {at}: status {ran.returncode}, {ran.stdout}{ran.stderr}".strip())
+        if int.from_bytes(told.read_bytes(), "little") < at:
+            return at - 1, failed
+
+
+def refusals_pass(options, folder):
+    """Whether each test of calls that ask for memory passes whichever request is refused."""
+    library, good = faults_library(folder) or sys.exit("there is no C compiler"), True
+    listed = subprocess.run([options.tests, "--list"], capture_output=True, text=True, check=True).stdout
+    for name in re.findall(r"^(memory_\w*tests::\w+): test$", listed, re.MULTILINE):
+        refused, failed = refused_once(options.tests, name, library, folder / "allocations")
+        print(f"{name}: {refused} requests refused, {len(failed) or 'none'} failed", flush=True)
+        for text in failed[:SHOWN]:
+            print(f"  {text}")
+        good = good and refused > 0 and not failed
+    return good
+
+
+SECTIONS = {"pairs": pairs_agree, "worlds": worlds_agree, "refused": refusals_pass}
+
+
 def main():
     parser = argparse.ArgumentParser(description=__doc__, formatter_class=argparse.RawDescriptionHelpFormatter)
     out = TOP / "crates" / "procd" / "out"
@@ -122,14 +155,18 @@ def main():
     parser.add_argument("--scripts", type=int, default=10000, help="how many scripts (10000)")
     parser.add_argument("--steps", type=int, default=40, help="steps a script (40)")
     parser.add_argument("--seed", type=int, default=1, help="the first script's seed (1); then the next")
+    parser.add_argument("sections", nargs="*", metavar="SECTION", help=f"{', '.join(SECTIONS)} (all)")
     options = parser.parse_args()
-    for path, built in ((options.tests, "rt test"), (options.procd, "./procd")):
+    if not set(options.sections) <= set(SECTIONS):
+        parser.error(f"the sections are {', '.join(SECTIONS)}")
+    sections = options.sections or list(SECTIONS)
+    for section in sections:
+        path, builds = (options.procd, "./procd") if section == "worlds" else (options.tests, "rt test")
         if not pathlib.Path(path).exists():
-            parser.error(f"there is no {path}: {built} in crates/procd builds it")
+            parser.error(f"there is no {path}: {builds} in crates/procd builds it")
     with tempfile.TemporaryDirectory() as folder:
-        tests_good = pairs_agree(options.tests, pathlib.Path(folder))
-        good = worlds_agree(options, pathlib.Path(folder)) and tests_good
-    sys.exit(0 if good else 1)
+        good = [SECTIONS[section](options, pathlib.Path(folder)) for section in sections]
+    sys.exit(0 if all(good) else 1)
 
 
 if __name__ == "__main__":

@@ -51,6 +51,10 @@ mod log_tests;
 #[cfg(test)]
 mod machine_tests;
 #[cfg(test)]
+mod memory_state_tests;
+#[cfg(test)]
+mod memory_tests;
+#[cfg(test)]
 mod pool_tests;
 #[cfg(test)]
 mod run_tests;
