@@ -16,7 +16,7 @@ use verifier::verify::{Verified, verify};
 
 // ldxdw r6, [r1+8]; mov r1, 0; call 5; stxdw [r0+0], r6; mov r1, 0; call 2; exit: inserts its second
 // argument under the key that is its first.
-const PUT: [u64; 7] = [
+pub(crate) const PUT: [u64; 7] = [
     0x0000_0000_0008_1679,
     0x0000_0000_0000_01b7,
     0x0000_0005_0000_0085,
@@ -26,7 +26,8 @@ const PUT: [u64; 7] = [
     0x0000_0000_0000_0095,
 ];
 
-fn put(rt: &impl Abort, alloc: Global) -> Result<Verified, Fail> {
+/// The procedure, over this data component.
+pub(crate) fn put_in(rt: &impl Abort, alloc: Global, dc: u16) -> Result<Verified, Fail> {
     let mut bytes = Vec::new(alloc);
     for slot in PUT {
         bytes.extend_from_slice(&slot.to_le_bytes())?;
@@ -36,7 +37,7 @@ fn put(rt: &impl Abort, alloc: Global) -> Result<Verified, Fail> {
     };
     let slot = Slot {
         mode: Mode::Write,
-        dc: 0,
+        dc,
         table: 0,
         key: Key::Arg(0),
     };
@@ -58,7 +59,7 @@ fn call(alloc: Global) -> Result<Call, Fail> {
 // One data component, and a transaction component that has the procedure.
 fn world(rt: &impl Abort, alloc: Global) -> Result<World, Fail> {
     let mut state = TcState::new(alloc, 1)?;
-    if state.load("put", put(rt, alloc)?).is_err() {
+    if state.load("put", put_in(rt, alloc, 0)?).is_err() {
         panic!(rt; "not loaded");
     }
     let mut dcs = Vec::new(alloc);

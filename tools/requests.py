@@ -1,0 +1,173 @@
+#!/usr/bin/env python3
+"""Requests for memory: none behind an admission, and each refused in turn where there are some.
+
+usage: tools/requests.py [--tests PATH] [--procd PATH] [--scripts N] [--steps N] [--seed N] [SECTION..]
+
+`pairs`: the worked runs are tests of `procd`, in pairs: one stops at the admission, the other goes on to the end.
+Both are run, their requests counted, and the second is to make no more than the first. `worlds`: random scripts
+(those of explore.py) go through `world`; of the requests of each it is counted which were made within each call of
+the transaction component. `refused`: of each test of calls that ask for memory the first request is refused, then
+the second, until a run meets none; it is to pass each time. The status is 1 where something was wrong.
+"""
+import argparse
+import collections
+import itertools
+import os
+import pathlib
+import random
+import re
+import shutil
+import subprocess
+import sys
+import tempfile
+
+from explore import Procd, Steps
+from hostile_faults import faults_library
+
+TOP = pathlib.Path(__file__).resolve().parent.parent
+PAIRS = [("put_admitted", "put_ended"), ("abort_admitted", "abort_ended"), ("delete_admitted", "delete_stuck")]
+ASKING = ["admit"]  # calls that may ask for memory
+CALLS = ["ask", "undo_next", "wire", "answer", "give_up", "end"]
+NUMBER = 8  # bytes
+SHOWN = 5  # of what is wrong, how much is shown
+
+
+class Counting:
+    """Runs a program before which requests.c counts."""
+
+    def __init__(self, folder, functions=()):
+        compiler = shutil.which("cc") or shutil.which("clang") or sys.exit("there is no C compiler")
+        self.library, self.counts = folder / "requests.so", folder / "counts"
+        source = pathlib.Path(__file__).with_name("requests.c")
+        subprocess.run([compiler, "-O1", "-shared", "-fPIC", "-o", self.library, source, "-ldl"], check=True)
+        self.functions = list(functions)
+
+    def run(self, words):
+        """How it ran; how many requests it made, and how many within each function."""
+        self.counts.write_bytes(bytes(NUMBER * (1 + len(self.functions))))
+        ranges = ",".join(f"{begin:x}-{begin + size:x}" for _, begin, size in self.functions)
+        settings = {"LD_PRELOAD": str(self.library), "COUNTS_TO": str(self.counts), "FUNCTIONS": ranges}
+        ran = subprocess.run(list(map(str, words)), capture_output=True, text=True, env={**os.environ, **settings})
+        numbers = self.counts.read_bytes()
+        return ran, [int.from_bytes(numbers[at : at + NUMBER], "little") for at in range(0, len(numbers), NUMBER)]
+
+
+def test_requests(counting, tests, name):
+    """How many requests a test makes."""
+    ran, counts = counting.run([tests, f"state_tests::{name}"])
+    if ran.returncode or "test result: ok" not in ran.stdout:
+        sys.exit(f"state_tests::{name}: status {ran.returncode}, {ran.stdout}{ran.stderr}")
+    return counts[0]
+
+
+def pairs_agree(options, folder):
+    """Whether each run to its end asks for memory as often as the one that stops at the admission."""
+    counting, good = Counting(folder), True
+    for admitted, ended in PAIRS:
+        first, second = [test_requests(counting, options.tests, name) for name in (admitted, ended)]
+        print(f"{admitted}: {first} requests, {ended}: {second}, between: {second - first}", flush=True)
+        good = good and first == second > 0
+    return good
+
+
+def functions_of(program):
+    """The calls of the transaction component that are functions of the program: name, begin, size."""
+    found = {}
+    symbols = subprocess.run(["nm", "-S", program], capture_output=True, text=True, check=True).stdout
+    for line in symbols.splitlines():
+        words = line.split(maxsplit=3)
+        called = len(words) == 4 and re.fullmatch(r"tc_core::\w+::\w+::(\w+)(::<.*>)?", words[3])
+        if called and called[1] in ASKING + CALLS:
+            found[words[3]] = (words[3], int(words[0], 16), int(words[1], 16))
+    return [found[name] for name in sorted(found)]
+
+
+class CountedProcd(Procd):
+    """The program, with a count of its requests."""
+
+    def __init__(self, path, folder):
+        super().__init__(path, folder / "script.txt")
+        self.counting, self.made = Counting(folder, functions_of(path)), collections.Counter()
+
+    def __call__(self, words, text):
+        self.file.write_text(text)
+        ran, counts = self.counting.run([self.path, *words, self.file])
+        names = ["in all", *(name for name, *_ in self.counting.functions)]
+        self.made.update(dict(zip(names, counts)))
+        return ran.stdout.splitlines(), ran.returncode, ran.stderr
+
+
+def worlds_agree(options, folder):
+    """Whether no call asked for memory but those that may."""
+    procd, steps, good = CountedProcd(options.procd, folder), collections.Counter(), True
+    names = [name for name, *_ in procd.counting.functions]
+    for call in ASKING + CALLS:
+        if not any(re.search(rf"::{call}\b", name) for name in names):
+            print(f"{call} is no function of its own in {options.procd}: its requests aren't seen")
+            good = good and call not in CALLS
+    for seed in range(options.seed, options.seed + options.scripts):
+        script = Steps.drawn(random.Random(seed), options.steps)
+        differs = script.difference(procd)
+        if differs:
+            sys.exit(f"seed {seed}, {differs[1]}")
+        steps.update(script.made())
+    print(f"{options.scripts} scripts of {sum(steps.values())} steps, {procd.made['in all']} requests, of which within")
+    for name in names:
+        print(f"{procd.made[name]:>10} {name}", flush=True)
+        good = good and (not procd.made[name] or any(re.search(rf"::{call}\b", name) for call in ASKING))
+    return good
+
+
+def refused_once(tests, name, library, told):
+    """How many requests of a test were refused, one in each run, and those runs in which it didn't pass."""
+    failed = []
+    for at in itertools.count(1):
+        told.write_bytes(bytes(NUMBER))
+        faults = {"LD_PRELOAD": str(library), "ALLOCATIONS_TO": str(told), "ALLOCATION_FAILS": str(at)}
+        ran = subprocess.run([tests, name], capture_output=True, text=True, env={**os.environ, **faults})
+        if ran.returncode or "test result: ok" not in ran.stdout:
+            failed.append(f"{name}, request {at}: status {ran.returncode}, {ran.stdout}{ran.stderr}".strip())
+        if int.from_bytes(told.read_bytes(), "little") < at:
+            return at - 1, failed
+
+
+def refusals_pass(options, folder):
+    """Whether each test of calls that ask for memory passes whichever request is refused."""
+    library, good = faults_library(folder) or sys.exit("there is no C compiler"), True
+    listed = subprocess.run([options.tests, "--list"], capture_output=True, text=True, check=True).stdout
+    for name in re.findall(r"^(memory_\w*tests::\w+): test$", listed, re.MULTILINE):
+        refused, failed = refused_once(options.tests, name, library, folder / "allocations")
+        print(f"{name}: {refused} requests refused, {len(failed) or 'none'} failed", flush=True)
+        for text in failed[:SHOWN]:
+            print(f"  {text}")
+        good = good and refused > 0 and not failed
+    return good
+
+
+SECTIONS = {"pairs": pairs_agree, "worlds": worlds_agree, "refused": refusals_pass}
+
+
+def main():
+    parser = argparse.ArgumentParser(description=__doc__, formatter_class=argparse.RawDescriptionHelpFormatter)
+    out = TOP / "crates" / "procd" / "out"
+    parser.add_argument("--tests", default=out / "procd_tests", help="the built tests (those of crates/procd/out)")
+    parser.add_argument("--procd", default=out / "procd", help="the program (that of crates/procd/out)")
+    parser.add_argument("--scripts", type=int, default=10000, help="how many scripts (10000)")
+    parser.add_argument("--steps", type=int, default=40, help="steps a script (40)")
+    parser.add_argument("--seed", type=int, default=1, help="the first script's seed (1); then the next")
+    parser.add_argument("sections", nargs="*", metavar="SECTION", help=f"{', '.join(SECTIONS)} (all)")
+    options = parser.parse_args()
+    if not set(options.sections) <= set(SECTIONS):
+        parser.error(f"the sections are {', '.join(SECTIONS)}")
+    sections = options.sections or list(SECTIONS)
+    for section in sections:
+        path, builds = (options.procd, "./procd") if section == "worlds" else (options.tests, "rt test")
+        if not pathlib.Path(path).exists():
+            parser.error(f"there is no {path}: {builds} in crates/procd builds it")
+    with tempfile.TemporaryDirectory() as folder:
+        good = [SECTIONS[section](options, pathlib.Path(folder)) for section in sections]
+    sys.exit(0 if all(good) else 1)
+
+
+if __name__ == "__main__":
+    main()
