@@ -41,8 +41,8 @@ pub fn puts(alloc: Global, records: u64) -> Option<Vec<Call>> {
     Some(made)
 }
 
-// A data component with room for the records and so many moves.
-fn store(alloc: Global, calls: u64) -> Option<Dc> {
+/// A data component with room for the records and so many moves.
+pub fn store(alloc: Global, calls: u64) -> Option<Dc> {
     let ops = calls.checked_mul(4)?.checked_add(RECORDS)?;
     Dc::new(alloc, RECORDS as usize, ops as usize).ok()
 }

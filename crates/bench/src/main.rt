@@ -19,7 +19,7 @@ use std::io::{Read, Write};
 use std::process::ExitCode;
 use std::sync::Wait;
 use std::thread::Threads;
-use storm::Ended;
+use storm::Weathered;
 
 const USAGE: &str = "usage:
   bench code LOADS RUNS < WORKLOADS    decodes and verifies each workload LOADS times, runs it RUNS times
@@ -30,7 +30,8 @@ const USAGE: &str = "usage:
   bench steps ENDED OPEN TIMES         ENDED transactions have ended, OPEN are open; one more is run to its end TIMES
   bench calls WORKERS CALLS            CALLS move an amount between two of 1000 records, by WORKERS at once
   bench rings WORKERS CALLS            the same over a data component in a thread of its own
-  bench storm SEED WORKERS CALLS       the same over a link that loses, repeats, delays and answers late
+  bench storm SEED WORKERS CALLS       the same over a link that loses, repeats, delays, forges and answers late
+  bench trace SEED WORKERS CALLS       the same, and the events of its log, 192 hex digits each
 ";
 
 // The number that a word is.
@@ -55,10 +56,12 @@ fn report(alloc: Global, done: &Done) -> Option<String> {
     .ok()
 }
 
-fn weathered(alloc: Global, ended: &Ended) -> Option<String> {
+fn weathered(alloc: Global, weathered: &Weathered) -> Option<String> {
+    let ended = &weathered.ended;
+    let log = weathered.log.as_ref()?;
     format!(in alloc;
-        "committed {} in doubt {} blocked {} other {}\n",
-        ended.committed, ended.in_doubt, ended.blocked, ended.other
+        "committed {} in doubt {} blocked {} other {}\n{}",
+        ended.committed, ended.in_doubt, ended.blocked, ended.other, log
     )
     .ok()
 }
@@ -80,8 +83,10 @@ fn line_of<R: Threads + Wait + Sync>(
         "steps" => steps::repeat(alloc, first, second, number(words, 4)?)?,
         "calls" => calls::repeat(rt, alloc, first, second)?,
         "rings" => calls::repeat_served(rt, alloc, first, second)?,
-        "storm" => {
-            let ended = storm::repeat(rt, alloc, first, second, number(words, 4)?)?;
+        "storm" | "trace" => {
+            let calls = number(words, 4)?;
+            let traced = words.get(1)?.as_str() == "trace";
+            let ended = storm::repeat(rt, alloc, first, second, calls, traced)?;
             return weathered(alloc, &ended);
         }
         _ => return None,

@@ -1,15 +1,17 @@
-//! Calls over a link that loses, repeats, delays and answers late, at random from a seed.
+//! Calls over a link that loses, repeats, delays, forges and answers late, and over a data component
+//! that restarts, at random from a seed.
 
-use crate::calls::{RECORDS, link, moves, puts};
+use crate::calls::{RECORDS, moves, puts, store};
 use crate::procedures::state;
-use access_slots::op::{Reply, Wire};
+use access_slots::op::{Reply, Said, Wire};
+use data_component::dc::Dc;
 use std::alloc::Global;
 use std::sync::atomic::{AtomicU64, Ordering};
 use std::sync::{Mutex, Wait};
 use std::thread::Threads;
 use std::{mem, thread};
 use tc_core::state::{Call, TcState};
-use worker_pool::{Answer, Link, LockedDcs, OpenGate, Report, run};
+use worker_pool::{Answer, Link, OpenGate, Report, run};
 
 /// How the calls ended.
 #[derive(Clone, Copy, Debug, Default, PartialEq, Eq)]
@@ -22,14 +24,36 @@ pub struct Ended {
     pub other: u64,
 }
 
+/// How the calls ended, and the events of the log as hex text, where there is memory for them.
+#[derive(Drop)]
+pub struct Weathered {
+    pub ended: Ended,
+    pub log: Option<String>,
+}
+
 // A number is sent so often at most.
 const TRIES: u64 = 10;
 
+// One of so many wires finds that the data component has restarted.
+const RESTARTS: u64 = 4096;
+
 #[derive(Drop)]
 struct Storm {
-    dcs: LockedDcs,
+    dc: Mutex<Dc>,
     seed: AtomicU64,
     late: Mutex<Option<Reply>>,
+}
+
+// The same data component over a link that loses nothing.
+#[derive(Drop)]
+struct Calm<'a> {
+    storm: &'a Storm,
+}
+
+impl Link for Calm<'_> {
+    fn carry<R: Wait>(&self, rt: &R, _worker: usize, wire: &Wire) -> Option<Reply> {
+        self.storm.perform(rt, wire)
+    }
 }
 
 // The output function of splitmix64 (Steele, Lea, Flood, 2014).
@@ -47,31 +71,61 @@ impl Storm {
         )
     }
 
+    fn perform<R: Wait>(&self, rt: &R, wire: &Wire) -> Option<Reply> {
+        self.dc.lock(rt).perform(wire)
+    }
+
+    fn restart<R: Wait>(&self, rt: &R) {
+        self.dc.lock(rt).restart();
+    }
+
     // The reply to an earlier wire; the one to this wire comes later, if at all.
-    fn late<R: Wait>(&self, rt: &R, worker: usize, wire: &Wire) -> Option<Reply> {
-        let reply = self.dcs.carry(rt, worker, wire);
+    fn late<R: Wait>(&self, rt: &R, wire: &Wire) -> Option<Reply> {
+        let reply = self.perform(rt, wire);
         mem::replace(&mut *self.late.lock(rt), reply)
     }
 }
 
+// A reply to another number, which nobody may take for one to this wire.
+const fn to_another(wire: &Wire) -> Option<Reply> {
+    Some(Reply {
+        number: wire.number ^ 1,
+        said: Said::Absent,
+    })
+}
+
+// A reply that fits no operation.
+const fn that_does_not_fit(wire: &Wire) -> Option<Reply> {
+    Some(Reply {
+        number: wire.number,
+        said: Said::Old,
+    })
+}
+
 impl Link for Storm {
-    fn carry<R: Wait>(&self, rt: &R, worker: usize, wire: &Wire) -> Option<Reply> {
-        match self.draw() % 8 {
-            0 => None,
-            1 => {
-                let _lost = self.dcs.carry(rt, worker, wire);
+    fn carry<R: Wait>(&self, rt: &R, _worker: usize, wire: &Wire) -> Option<Reply> {
+        let drawn = self.draw();
+        if (drawn >> 32) % RESTARTS == 0 {
+            self.restart(rt);
+        }
+        match drawn % 16 {
+            0 | 1 => None,
+            2 | 3 => {
+                let _lost = self.perform(rt, wire);
                 None
             }
-            2 => {
-                let _first = self.dcs.carry(rt, worker, wire);
-                self.dcs.carry(rt, worker, wire)
+            4 | 5 => {
+                let _first = self.perform(rt, wire);
+                self.perform(rt, wire)
             }
-            3 => self.late(rt, worker, wire),
-            4 => {
+            6 => self.late(rt, wire),
+            7 => to_another(wire),
+            8 => that_does_not_fit(wire),
+            9 => {
                 thread::yield_now();
-                self.dcs.carry(rt, worker, wire)
+                self.perform(rt, wire)
             }
-            _ => self.dcs.carry(rt, worker, wire),
+            _ => self.perform(rt, wire),
         }
     }
 }
@@ -94,14 +148,33 @@ fn counted(report: &Report) -> Ended {
     ended
 }
 
-// A thousand records are put over the link.
+// The events of the report's log as hex text, where they are asked for.
+fn events(alloc: Global, report: &Report, traced: bool) -> Option<String> {
+    if !traced {
+        return Some(String::new(alloc));
+    }
+    let bytes = report.state.log().print(alloc).ok()?;
+    hex::encode(alloc, bytes).ok()
+}
+
+// A thousand records are put over the link that loses nothing.
 fn put_all<R: Threads + Wait + Sync>(
     rt: &R,
     alloc: Global,
     puts: &[Call],
-    link: &LockedDcs,
+    storm: &Storm,
 ) -> Option<Report> {
-    run(rt, alloc, state(alloc)?, puts, 1, 1, link, &OpenGate).ok()
+    run(
+        rt,
+        alloc,
+        state(alloc)?,
+        puts,
+        1,
+        1,
+        &Calm { storm },
+        &OpenGate,
+    )
+    .ok()
 }
 
 // Runs the calls over the storm.
@@ -112,29 +185,34 @@ fn weather<R: Threads + Wait + Sync>(
     calls: &[Call],
     workers: usize,
     storm: &Storm,
-) -> Option<Ended> {
+    traced: bool,
+) -> Option<Weathered> {
     let report = run(rt, alloc, state, calls, workers, TRIES, storm, &OpenGate).ok()?;
-    Some(counted(&report))
+    Some(Weathered {
+        ended: counted(&report),
+        log: events(alloc, &report, traced),
+    })
 }
 
 /// A thousand records are put over a link that loses nothing; then so many calls move 1 between two
-/// of them over the storm of this seed, by so many workers, each number sent ten times at most.
+/// of them over the storm of this seed, by so many workers, each number sent ten times at most. The
+/// log is answered where it is asked for.
 pub fn repeat<R: Threads + Wait + Sync>(
     rt: &R,
     alloc: Global,
     seed: u64,
     workers: u64,
     calls: u64,
-) -> Option<Ended> {
+    traced: bool,
+) -> Option<Weathered> {
     let puts = puts(alloc, RECORDS)?;
     let moves = moves(alloc, calls)?;
-    let dcs = link(alloc, calls)?;
-    let before = put_all(rt, alloc, puts.as_slice(), &dcs)?;
     let storm = Storm {
-        dcs,
+        dc: Mutex::new(store(alloc, calls)?),
         seed: AtomicU64::new(seed),
         late: Mutex::new(None),
     };
+    let before = put_all(rt, alloc, puts.as_slice(), &storm)?;
     weather(
         rt,
         alloc,
@@ -142,5 +220,6 @@ pub fn repeat<R: Threads + Wait + Sync>(
         moves.as_slice(),
         workers as usize,
         &storm,
+        traced,
     )
 }

@@ -1,0 +1,77 @@
+#!/usr/bin/env python3
+"""Calls by workers over links that are against them, and what their logs say.
+
+usage: tools/storms.py [--bench PATH] [--runs N] [--calls N] [--workers N] [--seed N]
+
+Each run is one of `bench trace`: so many calls that move 1 between two of a thousand records, by so
+many workers, over a link that loses, repeats, delays, forges and answers late, and over a data
+component that restarts, at random from the run's seed. Its log is gone through by the plain model,
+which shares no code with the crates: numbers are given out one after another, each operation is
+covered by its transaction's locks, locks that are held and operations in flight don't exclude each
+other, an answer belongs to an operation in flight, and there is an End for each call that was
+answered by one. A difference is told with its seed, and the status is then 1.
+
+crates/bench/out/bench has to be there: `rt run` in crates/bench builds it.
+"""
+import argparse
+import pathlib
+import subprocess
+import sys
+import time
+
+from plain_model import replayed
+
+TOP = pathlib.Path(__file__).resolve().parent.parent
+BENCH = TOP / "crates" / "bench" / "out" / "bench"
+RECORDS = 1000
+EVENT = 96
+END, COMMITTED = 5, 1
+
+
+def traced(bench, workers, calls, seed):
+    """What a run counted, and the events of its log."""
+    words = [bench, "trace", str(seed), str(workers), str(calls)]
+    ran = subprocess.run(words, stdin=subprocess.DEVNULL, capture_output=True, text=True)
+    if ran.returncode != 0:
+        sys.exit(f"seed {seed}: {bench} ended with status {ran.returncode}: {ran.stderr.strip()}")
+    said, text = ran.stdout.split("\n", 1)
+    words = said.split()
+    counts = {"committed": words[1], "in doubt": words[4], "blocked": words[6], "other": words[8]}
+    data = bytes.fromhex(text)
+    return {name: int(count) for name, count in counts.items()}, [data[i : i + EVENT] for i in range(0, len(data), EVENT)]
+
+
+def difference(counts, log, calls):
+    """What is wrong with a run, or None."""
+    if sum(counts.values()) != calls or counts["other"]:
+        return f"the calls ended as {counts}"
+    committed = sum(event[0] == END and event[1] == COMMITTED for event in log)
+    if committed != RECORDS + counts["committed"]:
+        return f"{committed} committed Ends, and {counts['committed']} calls answered committed behind {RECORDS}"
+    return replayed(log, ["put", "move"])
+
+
+def main():
+    parser = argparse.ArgumentParser(description=__doc__, formatter_class=argparse.RawDescriptionHelpFormatter)
+    parser.add_argument("--bench", default=BENCH)
+    parser.add_argument("--runs", type=int, default=200)
+    parser.add_argument("--calls", type=int, default=5000)
+    parser.add_argument("--workers", type=int, default=8)
+    parser.add_argument("--seed", type=int, default=1)
+    options = parser.parse_args()
+    total, events, begun = {}, 0, time.monotonic()
+    for seed in range(options.seed, options.seed + options.runs):
+        counts, log = traced(options.bench, options.workers, options.calls, seed)
+        why = difference(counts, log, options.calls)
+        if why:
+            sys.exit(f"seed {seed}: {why}")
+        events += len(log)
+        total = {name: total.get(name, 0) + count for name, count in counts.items()}
+    told = ", ".join(f"{count:,} {name}" for name, count in total.items())
+    took = time.monotonic() - begun
+    print(f"storms: {options.runs} runs of {options.calls:,} calls by {options.workers} workers: {told};")
+    print(f"{events:,} events of their logs, no difference, {took:.0f} s")
+
+
+if __name__ == "__main__":
+    main()
