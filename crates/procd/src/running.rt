@@ -130,7 +130,7 @@ fn run_calls<R: Clock + Threads + Wait + Sync>(
 ) -> Result<Report, AllocError>
     ensures { (said_first said_calls : List ScriptCall) → AreCallsOf said_first first.now → AreCallsOf said_calls calls.now → IfOk result (λ r. IsCallsRun state said_first said_calls (vec_len dcs) workers tries r.status (string_bytes r.lines)) }
 {
-    match answer_served(
+    let (answered, dcs) = answer_served(
         rt,
         alloc,
         state,
@@ -140,10 +140,13 @@ fn run_calls<R: Clock + Threads + Wait + Sync>(
         tries,
         rings,
         dcs,
-    ) {
-        (Ok(answered), Ok(dcs)) => ran(alloc, &answered, dcs.as_slice(), stats),
-        (Ok(_), Err(AllocError)) => Err(AllocError),
-        (Err(fault), _) => stopped(alloc, &fault),
+    );
+    match answered {
+        Ok(answered) => match dcs {
+            Ok(dcs) => ran(alloc, &answered, dcs.as_slice(), stats),
+            Err(AllocError) => Err(AllocError),
+        },
+        Err(fault) => stopped(alloc, &fault),
     }
 }
 
