@@ -5,8 +5,8 @@ usage: tools/long_runs.py [--procd PATH] [--bench PATH] [--calls N] [--seed N]
 
 1. `procd run --workers 8` on a script of N calls (200,000) that move an amount between two of a
    thousand records: each call has to be committed, and the records' sum has to stay.
-2. The same by the program `bench` over a link that loses, repeats, delays and answers late, at random
-   from the seed, each number sent ten times at most: each call has to be committed, in doubt, or
+2. The same by the program `bench` over a link that loses, repeats, delays, forges and answers late, at
+   random from the seed, each number sent ten times at most: each call has to be committed, in doubt, or
    blocked on a record of one in doubt.
 
 crates/procd/out/procd and crates/bench/out/bench have to be there: `rt run` in each crate builds it.

@@ -472,9 +472,27 @@ class Replay:
             return f"number {n} isn't the next"
         if self.locks.get(txn, {}).get(record) not in (("read", "write") if sub == SUBS["read"] else ("write",)):
             return "the operation isn't covered by a lock"
-        if any(r == record and (sub, other) != (SUBS["read"],) * 2 for r, other in self.flying.values()):
+        if any(r == record and (sub, other) != (SUBS["read"],) * 2 for r, other, _ in self.flying.values()):
             return "two operations in flight conflict"
-        self.flying[n] = (record, sub)
+        if self.waits(txn):
+            return f"transaction {txn} has an operation in flight already"
+        self.flying[n] = (record, sub, txn)
+        return None
+
+    def waits(self, txn):
+        return any(other == txn for _, _, other in self.flying.values())
+
+    def answered(self, txn, n):
+        if self.flying.get(n, (None, None, None))[2] != txn:
+            return f"number {n} isn't in flight for transaction {txn}"
+        del self.flying[n]
+        return None
+
+    def ended(self, txn):
+        if self.waits(txn):
+            return f"transaction {txn} has an operation in flight"
+        if self.locks.pop(txn, None) is None:
+            return f"transaction {txn} isn't open"
         return None
 
     def event(self, data):
@@ -486,11 +504,9 @@ class Replay:
         if kind in (2, 4):
             dc, table = int.from_bytes(data[2:4], "little"), int.from_bytes(data[4:6], "little")
             return self.sent(txn, sub, word, (dc, table, key))
-        if kind == 3 and self.flying.pop(word, None) is None:
-            return f"number {word} isn't open"
-        if kind == 5:
-            del self.locks[txn]
-        return None
+        if kind == 3:
+            return self.answered(txn, word)
+        return self.ended(txn) if kind == 5 else f"kind {kind}"
 
 
 def replayed(log, names):
