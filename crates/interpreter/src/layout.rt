@@ -15,6 +15,13 @@ const ARGUMENTS: u64 = ARGUMENTS_BYTES as u64;
 
 const BUFFER: u64 = BUFFER_BYTES as u64;
 
+// The buffers' addresses in a plain layout. Behind a reference they are copied, and not each
+// written by itself.
+const PLAIN_BUFFERS: &[u64; 16] = &[
+    196608, 196864, 197120, 197376, 197632, 197888, 198144, 198400, 198656, 198912, 199168, 199424,
+    199680, 199936, 200192, 200448,
+];
+
 /// Regions end here at most.
 const REACH: u64 = 0x8000_0000_0000;
 
@@ -119,10 +126,7 @@ impl Layout {
         Layout {
             stack: 65536,
             args: 131072,
-            buffers: [
-                196608, 196864, 197120, 197376, 197632, 197888, 198144, 198400, 198656, 198912,
-                199168, 199424, 199680, 199936, 200192, 200448,
-            ],
+            buffers: *PLAIN_BUFFERS,
         }
     }
 
