@@ -10,7 +10,7 @@ use Rattle.access_slots.specs.declared.slot.Mode.TheVariants as mode
 use Rattle.access_slots.specs.declared.slot.Slot.{Slot}
 use Rattle.access_slots.specs.declared.lock.Lock.{Lock}
 use Rattle.access_slots.specs.Access.{record_of}
-use Rattle.access_slots.specs.Adding.{added, lock, locked_at, raised, raised_by}
+use Rattle.access_slots.specs.Joining.Adding.{added, lock, locked_at, raised, raised_by}
 use Rattle.access_slots.specs.Locks.{record_eq, record_less, greater, greatest, mode_named, mode_in, RisingFrom, Rising, AreLocksOf}
 use Rattle.access_slots.specs.Declaration.{decl_fault, first_bad, names_argument}
 use Rattle.access_slots.specs.declared.decl.DeclFault.{DeclFault}

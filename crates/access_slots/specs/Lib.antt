@@ -2,4 +2,4 @@ pub mod Access
 pub mod Declaration
 pub mod Locks
 pub mod Held
-pub mod Adding
+pub mod Joining

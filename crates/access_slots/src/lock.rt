@@ -2,7 +2,7 @@
 
 ghost use Rattle.std.specs.Prelude.{◌≡◌, ◌<◌, ◌≤◌, length, slice_get};
 ghost use Rattle.std.specs.List.{prefix_len};
-ghost use Rattle.access_slots.specs.Adding.{added, locked_at, raised};
+ghost use Rattle.access_slots.specs.Joining.Adding.{added, locked_at, raised};
 ghost use Rattle.access_slots.specs.Locks.{record_eq, record_less, greater, mode_in, covered};
 
 use crate::op::Op;
@@ -100,7 +100,7 @@ fn copy_of(locks: &[Lock]) -> ArrayVec<Lock, 16>
 
 impl LockSet {
     ghost use Rattle.std.specs.Prelude.{◌≡◌, ◌↔◌, ◌<◌, ◌≤◌, true, [], length};
-    ghost use Rattle.access_slots.specs.Adding.{added};
+    ghost use Rattle.access_slots.specs.Joining.Adding.{added};
     ghost use Rattle.access_slots.specs.Locks.{covered, mode_in, Rising};
 
     /// No lock.

@@ -3,6 +3,6 @@ pub mod Mnemonics
 pub mod Numbers
 pub mod Operand
 pub mod Lines
-pub mod Texts
 pub mod Refused
 pub mod Parts
+pub mod Joining

@@ -13,7 +13,7 @@ use Rattle.bpf_encoding.specs.Fields.{Fields, fields_of_bytes, slots_from, slots
 use Rattle.bpf_encoding.specs.Spelling.{number_of, fields, fields_of, second_fields, high_half, is_wide, fields_behind, fields_of_code, is_whole}
 use Rattle.bpf_encoding.specs.Faults.{fault_of}
 use Rattle.bpf_encoding.specs.Spells.{Spells, or_later, is_wide_opcode, first_fault, IsFirstFault}
-use Rattle.bpf_encoding.specs.Taking.{TakesSlot, IsFaultHere}
+use Rattle.bpf_encoding.specs.Joining.Taking.{TakesSlot, IsFaultHere}
 use Rattle.bpf_encoding.proofs.NoFault.{fault_of-fields_of, is_wide_opcode-fields_of}
 use Rattle.bpf_encoding.specs.declared.insn.Register.{Register}
 use Rattle.bpf_encoding.specs.declared.insn.Insn.{Insn}

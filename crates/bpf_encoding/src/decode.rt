@@ -5,8 +5,8 @@ ghost use Rattle.std.specs.Int.{w32, cast_unsigned};
 ghost use Rattle.bpf_encoding.specs.Fields.{slots_of};
 ghost use Rattle.bpf_encoding.specs.Spelling.{fields_of_code, is_whole};
 ghost use Rattle.bpf_encoding.specs.Spells.{Spells, at_slot, first_fault, fault_in, IsFirstFault};
-ghost use Rattle.bpf_encoding.specs.Taking.{TakesSlot, IsFaultHere};
-ghost use Rattle.bpf_encoding.specs.Viewed.{viewed};
+ghost use Rattle.bpf_encoding.specs.Joining.Taking.{TakesSlot, IsFaultHere};
+ghost use Rattle.bpf_encoding.specs.Joining.Viewed.{viewed};
 ghost use Rattle.bpf_encoding.specs.Named.{wide_named, code_named};
 ghost use Rattle.bpf_encoding.specs.declared.insn.Place.{Place};
 

@@ -2,7 +2,7 @@
 
 ghost use Rattle.std.specs.Prelude.{◌≡◌, ◌<◌, length};
 ghost use Rattle.bpf_encoding.specs.Fields.{fields_of_bytes};
-ghost use Rattle.bpf_encoding.specs.Viewed.{viewed};
+ghost use Rattle.bpf_encoding.specs.Joining.Viewed.{viewed};
 
 use byteorder::{ByteOrder, LittleEndian};
 use thiserror::Error;

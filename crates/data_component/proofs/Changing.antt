@@ -15,7 +15,7 @@ use Rattle.access_slots.specs.declared.op.Said.TheVariants.{Value, Absent, Done,
 use Rattle.access_slots.specs.Locks.{record_eq, record_less, target}
 use Rattle.data_component.specs.Performed.{left, counted, said_to, said_to_read, said_to_insert, said_to_change}
 use Rattle.data_component.specs.Sorted.{Rows, row_of, row_place, SortedRows, IsFoundAt, IsMissingAt}
-use Rattle.data_component.specs.Performing.{Performs}
+use Rattle.data_component.specs.Joining.Performing.{Performs}
 use Rattle.data_component.proofs.Finding.{length_inserted, value_at, find_at, sorted_inserted, find_inserted}
 use Rattle.data_component.proofs.Finding.{sorted_set, find_set, sorted_removed, find_removed}
 use Rattle.data_component.proofs.Orders.{records}

@@ -12,7 +12,7 @@ use Rattle.access_slots.specs.declared.op.Said.{Said}
 use Rattle.access_slots.specs.Locks.{record_eq, target}
 use Rattle.data_component.specs.Performed.{Performed, left, counted, said_to, count, answer, said_under, IsRight}
 use Rattle.data_component.specs.Sorted.{Rows, Kept, place_of, kept_place}
-use Rattle.data_component.specs.Performing.{Performs}
+use Rattle.data_component.specs.Joining.Performing.{Performs}
 use Rattle.data_component.specs.Keeping.{AreRowsOf, AreKept, AllBelow, Keeps, said_by, said_in}
 use Rattle.data_component.proofs.Finding.{length_inserted, find_inserted, sorted_inserted}
 use Rattle.data_component.proofs.Orders.{numbers, number_eq}

@@ -1,5 +1,5 @@
 pub mod Performed
 pub mod Store
 pub mod Sorted
-pub mod Performing
 pub mod Keeping
+pub mod Joining

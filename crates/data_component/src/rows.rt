@@ -3,7 +3,7 @@
 ghost use Rattle.std.specs.Prelude.{ℕ, ◌≡◌, ◌<◌, ◌≤◌, true, length, option_copied, IfErr, IfOk, vec_capacity};
 ghost use Rattle.std.specs.List.{insert};
 ghost use Rattle.access_slots.specs.declared.op.Op.TheVariants.{Read, Insert, Update, Delete};
-ghost use Rattle.data_component.specs.Performing.{Performs};
+ghost use Rattle.data_component.specs.Joining.Performing.{Performs};
 ghost use Rattle.data_component.specs.Sorted.{row_of, row_place, SortedRows, IsFoundAt, IsMissingAt};
 
 use access_slots::op::{Op, Said};

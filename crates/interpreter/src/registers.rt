@@ -18,7 +18,7 @@ pub(crate) struct Registers {
 
 impl Model for Registers {
     ghost use Rattle.std.specs.Prelude.{ℕ, List, Option};
-    ghost use Rattle.interpreter.specs.Filled.{filled_ones, AreEleven};
+    ghost use Rattle.interpreter.specs.Joining.Filled.{filled_ones, AreEleven};
 
     ghost Value = { List (Option ℕ) };
 

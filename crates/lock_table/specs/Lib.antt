@@ -1,3 +1,2 @@
-pub mod Barring
 pub mod Facts
-pub mod Holds
+pub mod Joining

@@ -14,7 +14,7 @@ use Rattle.clap.specs.declared.parser.matches.ArgMatches.TheViews.{out-ArgMatche
 use Rattle.procd.specs.Said.{AllNumbers, IsNoCount, LacksNumber, Argument, Workers, Tries, IsWrong, Refused, NoCommand, NoNumber, procd_app, shows}
 use Rattle.procd.specs.Said.{IsFlag, SaysCount, SaysNumber, SaysNumbers, SaysRun, SaysWish, value_of}
 use Rattle.procd.specs.Task.{Wish, Exec, Asm, Dis, Verify, World, Run, command_name}
-use Rattle.procd.specs.Wanted.{IsTaskOrNoMemory}
+use Rattle.procd.specs.Joining.Wanted.{IsTaskOrNoMemory}
 use Rattle.procd.specs.declared.words.Task.{Task}
 use Rattle.procd.specs.declared.words.WordFault.{WordFault}
 

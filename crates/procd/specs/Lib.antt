@@ -13,4 +13,4 @@ pub mod WorldReport
 pub mod Report
 pub mod Said
 pub mod Streams
-pub mod Wanted
+pub mod Joining

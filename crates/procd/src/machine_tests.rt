@@ -2,7 +2,7 @@
 
 ghost use Rattle.std.specs.Prelude.{◌≡◌, length, true, false};
 ghost use Rattle.access_slots.specs.Access.{fits, is_no_room};
-ghost use Rattle.interpreter.specs.Paused.{IsPaused};
+ghost use Rattle.interpreter.specs.Joining.Paused.{IsPaused};
 ghost use Rattle.interpreter.specs.declared.pause.Pause.TheVariants.{Ask};
 
 use access_slots::decl::Decl;

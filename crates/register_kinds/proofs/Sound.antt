@@ -39,7 +39,7 @@ use Rattle.register_kinds.specs.Transfer.{is_left_present, is_writable, falls, w
 use Rattle.register_kinds.specs.Transfer.{filled_kinds, loaded_kinds, stored_kinds, null_test, branch_ways}
 use Rattle.register_kinds.specs.Transfer.{is_expected_present, received_ways, exchanged_ways, transfer_of}
 use Rattle.register_kinds.specs.Arriving.{next_place, jump_offset, target_by}
-use Rattle.register_kinds.specs.Fitting.{Fits, AllFit, IsSetting, IsStanding, IsSound, KeepsKinds, Lands}
+use Rattle.register_kinds.specs.Joining.Fitting.{Fits, AllFit, IsSetting, IsStanding, IsSound, KeepsKinds, Lands}
 use Rattle.register_kinds.proofs.Memory.{HasBytes, IsWritten}
 use Rattle.register_kinds.proofs.Values.{alu_fits}
 use Rattle.register_kinds.proofs.Accesses.{loadable, storable, load_allowed}

@@ -3,6 +3,5 @@ pub mod Computed
 pub mod Access
 pub mod Calls
 pub mod Transfer
-pub mod Effects
 pub mod Arriving
-pub mod Fitting
+pub mod Joining

@@ -17,7 +17,7 @@ pub struct Undos {
 
 impl Model for Undos {
     ghost use Rattle.std.specs.Prelude.{◌-◌, reverse, vec_len, vec_capacity};
-    ghost use Rattle.tc_core.specs.Writes.{Writes};
+    ghost use Rattle.tc_core.specs.Joining.Writes.{Writes};
 
     ghost Value = { Writes };
 

@@ -1,4 +1,4 @@
 pub mod History
 pub mod Printed
-pub mod Laid
 pub mod Reading
+pub mod Joining

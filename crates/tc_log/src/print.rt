@@ -4,7 +4,7 @@ ghost use Rattle.std.specs.Prelude.{◌≡◌, true, ◌≤◌, ◌++◌, length
 ghost use Rattle.std.specs.List.{flat_map};
 ghost use Rattle.std.specs.Int.{w16, w64, to_le_bytes};
 ghost use Rattle.tc_log.specs.Printed.{op_cells, said_cells, outcome_cells, args_bytes, zeros, cells_of, cells_bytes, head_bytes, number_bytes, printed};
-ghost use Rattle.tc_log.specs.Laid.{laid, laid_if, laid_parts, admit_cells, body_bytes, is_printable};
+ghost use Rattle.tc_log.specs.Joining.Laid.{laid, laid_if, laid_parts, admit_cells, body_bytes, is_printable};
 
 use crate::event::{Args, Event, Outcome};
 use crate::log::Log;

@@ -15,7 +15,7 @@ use Rattle.transactions.proofs.Headline.{awaited}
 use Rattle.tc_core.specs.Core.{Core, Asking}
 use Rattle.tc_core.specs.Doubts.{with_number, with_number_by}
 use Rattle.tc_core.specs.GivingUp.{IsOpenHere, with_given_up}
-use Rattle.tc_world.specs.Waiting.{asking_by, request_of, AreWaiting}
+use Rattle.tc_world.specs.Joining.Waiting.{asking_by, request_of, AreWaiting}
 use Rattle.tc_world.proofs.Requests.{IsThere}
 use Rattle.tc_world.proofs.Messages.{in_the_air}
 

@@ -25,8 +25,8 @@ use Rattle.tc_core.proofs.ReplyLemmas.{next-unknown}
 use Rattle.tc_core.proofs.KeptLemmas.{slice_get-index}
 use Rattle.tc_log.specs.declared.event.Outcome.TheVariants as ending
 use Rattle.tc_world.specs.Whole.{Whole}
-use Rattle.tc_world.specs.Waiting.{asking, asking_by, AreWaiting}
-use Rattle.tc_world.specs.Telling.{requests_of}
+use Rattle.tc_world.specs.Joining.Waiting.{asking, asking_by, AreWaiting}
+use Rattle.tc_world.specs.Joining.Telling.{requests_of}
 use Rattle.tc_world.specs.Steps.{Goes, Stops, MayGo, asks, undoes, told, sends, resends, resends_by, resends_sent}
 use Rattle.tc_world.specs.Steps.{takes_reply, takes_by, takes_fit, with_core}
 use Rattle.tc_world.specs.declared.step.Illegal.TheVariants as illegal

@@ -14,7 +14,7 @@ use Rattle.transactions.proofs.StandingLemmas.{eq-true, eq-false, some_same, non
 use Rattle.transactions.proofs.Flights.{standing_flight, flight}
 use Rattle.transactions.proofs.Headline.{awaited}
 use Rattle.tc_core.specs.Core.{Asking}
-use Rattle.tc_world.specs.Waiting.{asking_by, request_of, Distinct, AreWaiting}
+use Rattle.tc_world.specs.Joining.Waiting.{asking_by, request_of, Distinct, AreWaiting}
 
 pub none_if : {X : Type 0} (o : Option X) → ((x : X) → o ≡ Some x → ⊥) → o ≡ None
 none_if None h = refl

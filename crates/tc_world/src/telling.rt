@@ -1,7 +1,7 @@
 // What a world does with an answer of `ask` or `undo_next`.
 
 ghost use Rattle.std.specs.Prelude.{◌≡◌, ◌<◌, ◌++◌, length, vec_len, vec_capacity, OnOk};
-ghost use Rattle.tc_world.specs.Telling.{requests_of, wires_of, told_as};
+ghost use Rattle.tc_world.specs.Joining.Telling.{requests_of, wires_of, told_as};
 
 use crate::step::{Illegal, Outcome};
 use access_slots::op::Wire;

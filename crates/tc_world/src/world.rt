@@ -34,7 +34,7 @@ pub struct World {
 
 impl Model for World {
     ghost use Rattle.tc_world.specs.Whole.{Whole};
-    ghost use Rattle.tc_world.specs.Waiting.{AreWaiting};
+    ghost use Rattle.tc_world.specs.Joining.Waiting.{AreWaiting};
 
     ghost Value = { Whole };
 

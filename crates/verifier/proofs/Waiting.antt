@@ -10,8 +10,8 @@ use Rattle.register_kinds.specs.declared.kinds.Kinds.{Kinds}
 use Rattle.register_kinds.specs.Kinds.{join_kinds}
 use Rattle.register_kinds.specs.Arriving.{merge, along}
 use Rattle.verifier.specs.declared.pending.Target.{Target}
-use Rattle.verifier.specs.Table.{Table, kept}
-use Rattle.verifier.specs.Pending.{slot_of, kinds_of, place_at, kinds_in, table_of, mended, AreTied}
+use Rattle.verifier.specs.Joining.Table.{Table, kept}
+use Rattle.verifier.specs.Joining.Pending.{slot_of, kinds_of, place_at, kinds_in, table_of, mended, AreTied}
 
 -- ---- elements of a list
 

@@ -1,7 +1,6 @@
 pub mod Flow
 pub mod Verdict
 pub mod Checked
-pub mod Table
-pub mod Pending
 pub mod Calls
 pub mod Flat
+pub mod Joining

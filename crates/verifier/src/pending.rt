@@ -2,8 +2,8 @@
 
 ghost use Rattle.std.specs.Prelude.{◌≡◌, ◌==◌, ◌<◌, ℕ, Some, None, if◌then◌else◌, length, IfOk, IfSome, OnOk, slice_get};
 ghost use Rattle.register_kinds.specs.Arriving.{along};
-ghost use Rattle.verifier.specs.Table.{kept};
-ghost use Rattle.verifier.specs.Pending.{mended};
+ghost use Rattle.verifier.specs.Joining.Table.{kept};
+ghost use Rattle.verifier.specs.Joining.Pending.{mended};
 
 use register_kinds::kinds::Kinds;
 use std::alloc::{AllocError, Global};
@@ -26,8 +26,8 @@ pub(crate) struct Pending {
 }
 
 impl Model for Pending {
-    ghost use Rattle.verifier.specs.Table.{Table};
-    ghost use Rattle.verifier.specs.Pending.{table_of, AreTied};
+    ghost use Rattle.verifier.specs.Joining.Table.{Table};
+    ghost use Rattle.verifier.specs.Joining.Pending.{table_of, AreTied};
 
     ghost Value = { Table };
 

@@ -14,7 +14,7 @@ use Rattle.worker_pool.specs.declared.answer.Progress.TheVariants.{Waiting, Begu
 use Rattle.tc_core.specs.Admission.{call_of}
 use Rattle.worker_pool.specs.Answers.{place_of, has_place, AnswerFits}
 use Rattle.worker_pool.specs.Kept.{serial_of, txn_of, place_in, is_placed, Keeps}
-use Rattle.worker_pool.specs.Seen.{told_by, AreToldBy}
+use Rattle.worker_pool.specs.Joining.Seen.{told_by, AreToldBy}
 use Rattle.worker_pool.specs.Reports.{Reports, Tells}
 use Rattle.worker_pool.specs.Reports as reports
 

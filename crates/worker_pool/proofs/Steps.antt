@@ -38,8 +38,8 @@ use Rattle.tc_core.specs.Admission.{call_of}
 use Rattle.worker_pool.specs.Answers.{place_of, has_place, is_some, answer_of, StandsBehind, IsAdmitted, Sends}
 use Rattle.worker_pool.specs.Answers.{IsEnded, IsInDoubt, IsBlocked, RefusalFits, AnswerFits}
 use Rattle.worker_pool.specs.Kept.{ends, serial_of, txn_of, place_in, is_placed, IsOpen, IsBegun, Fits, IsOfCall, StaysBut, Keeps}
-use Rattle.worker_pool.specs.Seen.{IsAnswered, AnswersStay}
-use Rattle.worker_pool.specs.Moves.{MovesOn}
+use Rattle.worker_pool.specs.Joining.Seen.{IsAnswered, AnswersStay}
+use Rattle.worker_pool.specs.Joining.Moves.{MovesOn}
 use Rattle.worker_pool.specs.declared.desk.Next.{Next}
 use Rattle.worker_pool.specs.declared.desk.Next.TheVariants as next
 use Rattle.worker_pool.proofs.Lists.{get_set, set_here, set_other, length_set, count_set}

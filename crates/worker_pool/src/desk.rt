@@ -7,8 +7,8 @@ ghost use Rattle.tc_log.specs.declared.event.Outcome.{Outcome};
 ghost use Rattle.tc_core.specs.Admission.{call_of};
 ghost use Rattle.worker_pool.specs.Answers.{answer_of, AnswerFits, AdmitRefusalFits};
 ghost use Rattle.worker_pool.specs.Doubts.{IsDoubtful, IsGoing};
-ghost use Rattle.worker_pool.specs.Moves.{IsCarry};
-ghost use Rattle.worker_pool.specs.Seen.{IsAnswered, AreToldBy};
+ghost use Rattle.worker_pool.specs.Joining.Moves.{IsCarry};
+ghost use Rattle.worker_pool.specs.Joining.Seen.{IsAnswered, AreToldBy};
 
 use crate::answer::{Answer, Progress};
 use crate::report::Report;
@@ -74,7 +74,7 @@ pub struct Desk<J: Naming> {
 }
 
 impl<J: Naming> Model for Desk<J> {
-    ghost use Rattle.worker_pool.specs.Seen.{Seen};
+    ghost use Rattle.worker_pool.specs.Joining.Seen.{Seen};
 
     ghost Value = { Seen };
 
@@ -87,8 +87,8 @@ impl<J: Naming> Model for Desk<J> {
 }
 
 impl<J: Naming> Desk<J> {
-    ghost use Rattle.worker_pool.specs.Moves.{MovesOn};
-    ghost use Rattle.worker_pool.specs.Seen.{IsAnswered, AnswersStay};
+    ghost use Rattle.worker_pool.specs.Joining.Moves.{MovesOn};
+    ghost use Rattle.worker_pool.specs.Joining.Seen.{IsAnswered, AnswersStay};
     ghost use Rattle.worker_pool.specs.Answers.{place_of};
     ghost use Rattle.worker_pool.specs.Reports.{Reports};
 

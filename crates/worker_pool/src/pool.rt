@@ -2,7 +2,7 @@
 
 ghost use Rattle.std.specs.Prelude.{◌≡◌, ◌⊎◌, ◌<◌, ◌≤◌, ℕ, [], true, false, length, Some, slice_get, IfOk, IfErr, replicate, vec_capacity, MatchResult};
 ghost use Rattle.tc_core.specs.Core.{Core};
-ghost use Rattle.worker_pool.specs.Seen.{IsAnswered, AnswersStay};
+ghost use Rattle.worker_pool.specs.Joining.Seen.{IsAnswered, AnswersStay};
 ghost use Rattle.worker_pool.specs.Reports.{Reports};
 ghost use Rattle.worker_pool.specs.Faults.{state_of, InRange, WorkersFit, TriesFit, FaultFits};
 

@@ -7,7 +7,7 @@ use Rattle.bpf_encoding.specs.Spelling.{fields_of_code}
 use Rattle.bpf_encoding.specs.Spells.{first_fault}
 use Rattle.bpf_encoding.specs.Named.{named_from}
 use Rattle.bpf_encoding.specs.declared.insn.Register.{Register}
-use Rattle.bpf_encoding.specs.Taking.{due_fields, half_of, TakesSlot, IsFaultHere}
+use Rattle.bpf_encoding.specs.Joining.Taking.{due_fields, half_of, TakesSlot, IsFaultHere}
 use Rattle.bpf_encoding.specs.declared.decode.Due.{Due}
 use Rattle.bpf_encoding.specs.declared.decode.DecodeFault.TheVariants.{WideCut}
 use Rattle.bpf_encoding.proofs.Growing.{fields_go_on, faults_go_on, named_goes_on, fault_is_first}

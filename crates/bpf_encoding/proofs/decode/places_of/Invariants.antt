@@ -4,7 +4,7 @@ use Rattle.bpf_encoding.specs.Fields.{slots_from, slots_of}
 use Rattle.bpf_encoding.specs.Spelling.{fields_of_code, is_whole}
 use Rattle.bpf_encoding.specs.Spells.{first_fault}
 use Rattle.bpf_encoding.specs.Named.{named_from, code_named}
-use Rattle.bpf_encoding.specs.Taking.{due_fields, half_of}
+use Rattle.bpf_encoding.specs.Joining.Taking.{due_fields, half_of}
 use Rattle.bpf_encoding.proofs.decode.places_of.Given as goal
 
 abbrev pub invariant-loop-at : goal.invariant-loop-at

@@ -1,6 +1,6 @@
 use Rattle.std.proofs.Common.{◌≡◌, false, refl, rules}
 use Rattle.bpf_encoding.specs.Spelling.{fields_of, is_wide}
-use Rattle.bpf_encoding.specs.Viewed.{viewed}
+use Rattle.bpf_encoding.specs.Joining.Viewed.{viewed}
 use Rattle.bpf_encoding.specs.declared.insn.Insn.TheVariants.{LoadWide}
 use Rattle.bpf_encoding.proofs.Growing.{takes_insn, takes_wide}
 use Rattle.bpf_encoding.proofs.decode.take_first.Goals as goal

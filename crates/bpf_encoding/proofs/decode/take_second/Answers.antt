@@ -6,8 +6,8 @@ use Rattle.std.specs.Int.RustNames.{FitsSigned}
 use Rattle.bpf_encoding.specs.Fields.{Fields}
 use Rattle.bpf_encoding.specs.Spelling.{fields}
 use Rattle.bpf_encoding.specs.Named.{wide_named}
-use Rattle.bpf_encoding.specs.Viewed.{viewed}
-use Rattle.bpf_encoding.specs.Taking.{TakesSlot}
+use Rattle.bpf_encoding.specs.Joining.Viewed.{viewed}
+use Rattle.bpf_encoding.specs.Joining.Taking.{TakesSlot}
 use Rattle.bpf_encoding.proofs.Growing.{takes_second, blank_fields}
 use Rattle.bpf_encoding.proofs.decode.take_second.Goals as goal
 

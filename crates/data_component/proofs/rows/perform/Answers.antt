@@ -1,7 +1,7 @@
 use Rattle.std.proofs.Common.{subst}
 use Rattle.access_slots.specs.declared.op.Op.TheVariants.{Read}
 use Rattle.data_component.specs.Sorted.{Rows}
-use Rattle.data_component.specs.Performing.{Performs}
+use Rattle.data_component.specs.Joining.Performing.{Performs}
 use Rattle.data_component.proofs.rows.perform.Goals as goal
 
 pub returns-in-Read-clause-performs : goal.returns-in-Read-clause-performs

@@ -1,5 +1,5 @@
 use Rattle.std.proofs.Common.{◌≡◌, drop}
-use Rattle.lock_table.specs.Barring.{first_busy}
+use Rattle.lock_table.specs.Joining.Barring.{first_busy}
 use Rattle.lock_table.proofs.table.first_busy.Given as goal
 
 abbrev pub invariant-locks : goal.invariant-locks

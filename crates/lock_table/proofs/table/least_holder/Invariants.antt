@@ -1,5 +1,5 @@
 use Rattle.std.proofs.Common.{◌≡◌}
-use Rattle.lock_table.specs.Barring.{least_holder}
+use Rattle.lock_table.specs.Joining.Barring.{least_holder}
 use Rattle.lock_table.proofs.Barring.{lesser}
 use Rattle.lock_table.proofs.table.least_holder.Given as goal
 

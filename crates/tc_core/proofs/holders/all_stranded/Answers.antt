@@ -1,7 +1,7 @@
 use Rattle.std.proofs.Common.{ap, inl, inr, ◌∙◌, ◌≡◌, ℕ, Bool, not, ◌&&◌, Some, None, true, false, subst, sym, refl, arith, Contains}
 use Rattle.slab.proofs.SlabLemmas.{Contains-cons, Contains-cons_cases, Contains-entries}
-use Rattle.tc_core.specs.Clashes.{clashes}
-use Rattle.tc_core.specs.Holders.{stands_still, HoldsUp}
+use Rattle.tc_core.specs.Joining.Clashes.{clashes}
+use Rattle.tc_core.specs.Joining.Holders.{stands_still, HoldsUp}
 use Rattle.tc_core.specs.declared.transaction.Tx.{Tx}
 use Rattle.tc_core.proofs.holders.all_stranded.Goals as goal
 

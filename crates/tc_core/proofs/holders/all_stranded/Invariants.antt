@@ -1,7 +1,7 @@
 use Rattle.std.proofs.Common.{◌≡◌, ℕ, Some, true, false, Contains}
 use Rattle.slab.specs.Slab.{get}
-use Rattle.tc_core.specs.Clashes.{clashes}
-use Rattle.tc_core.specs.Holders.{stands_still}
+use Rattle.tc_core.specs.Joining.Clashes.{clashes}
+use Rattle.tc_core.specs.Joining.Holders.{stands_still}
 use Rattle.tc_core.specs.declared.transaction.Tx.{Tx}
 use Rattle.tc_core.proofs.holders.all_stranded.Given as goal
 

@@ -1,7 +1,7 @@
 use Rattle.std.proofs.Common.{◌≡◌, ◌-◌, length, Some, refl, arith, ap, subst, sym, ◌∙◌}
 use Rattle.register_kinds.specs.declared.kinds.Kinds.{Kinds}
 use Rattle.register_kinds.specs.Arriving.{violation_at}
-use Rattle.verifier.specs.Table.{HasArrived}
+use Rattle.verifier.specs.Joining.Table.{HasArrived}
 use Rattle.verifier.specs.Verdict.{first_from}
 use Rattle.verifier.proofs.Firsts.{goes_on, is_here, is_none}
 use Rattle.verifier.proofs.Arrived.{entered}

@@ -1,6 +1,6 @@
 use Rattle.std.proofs.Common.{◌≡◌, ◌-◌, length}
 use Rattle.register_kinds.specs.Arriving.{violation_at}
-use Rattle.verifier.specs.Table.{HasArrived}
+use Rattle.verifier.specs.Joining.Table.{HasArrived}
 use Rattle.verifier.specs.Verdict.{first_from, first_violation}
 use Rattle.verifier.proofs.second_pass.first_violation.Given as goal
 

@@ -6,7 +6,7 @@ use Rattle.bpf_encoding.specs.declared.insn.Place.{Place}
 use Rattle.bpf_encoding.specs.declared.insn.Place.TheVariants as place
 use Rattle.register_kinds.specs.declared.kind.Violation.{Violation}
 use Rattle.register_kinds.specs.Arriving.{along_from}
-use Rattle.verifier.specs.Table.{kept, known, HasArrived}
+use Rattle.verifier.specs.Joining.Table.{kept, known, HasArrived}
 use Rattle.verifier.proofs.Arrived.{arrived_on, known_here, violation_is}
 use Rattle.verifier.proofs.second_pass.visit.Goals as goal
 

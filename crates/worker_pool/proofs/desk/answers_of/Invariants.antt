@@ -1,6 +1,6 @@
 use Rattle.std.proofs.Common.{◌≡◌, ◌≤◌, take, length, vec_len}
 use Rattle.std.specs.Vec.{vec_capacity}
-use Rattle.worker_pool.specs.Seen.{AreToldBy}
+use Rattle.worker_pool.specs.Joining.Seen.{AreToldBy}
 use Rattle.worker_pool.proofs.desk.answers_of.Given as goal
 
 abbrev pub invariant-loop-p : goal.invariant-loop-p

@@ -1,4 +1,4 @@
-use Rattle.worker_pool.specs.Moves.{MovesOn}
+use Rattle.worker_pool.specs.Joining.Moves.{MovesOn}
 use Rattle.worker_pool.proofs.pool.finish.Given as goal
 
 abbrev pub invariant-loop : goal.invariant-loop

@@ -1,5 +1,5 @@
 use Rattle.std.proofs.Common.{◌<◌, ℕ}
-use Rattle.worker_pool.specs.Seen.{IsAnswered}
+use Rattle.worker_pool.specs.Joining.Seen.{IsAnswered}
 use Rattle.worker_pool.proofs.pool.finish_all.Given as goal
 
 abbrev pub invariant-loop-k : goal.invariant-loop-k

@@ -3,7 +3,7 @@ use Rattle.std.specs.Prelude.{slice_index_or}
 use Rattle.std.proofs.lemmas.List.{take_more}
 use Rattle.access_slots.specs.Access.{record_of}
 use Rattle.access_slots.specs.Declaration.{first_bad}
-use Rattle.access_slots.specs.Adding.{added}
+use Rattle.access_slots.specs.Joining.Adding.{added}
 use Rattle.access_slots.specs.Locks.{AreLocksOf, Rising}
 use Rattle.access_slots.specs.declared.slot.Slot.{Slot}
 use Rattle.access_slots.specs.declared.slot.Record.{Record}

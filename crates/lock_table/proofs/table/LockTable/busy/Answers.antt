@@ -1,7 +1,7 @@
 use Rattle.std.proofs.Common.{ap, ap₂, subst, ◌∙◌, List}
 use Rattle.access_slots.specs.declared.lock.Lock.{Lock}
 use Rattle.lock_table.specs.Facts.{Sets, Table}
-use Rattle.lock_table.specs.Barring.{first_busy}
+use Rattle.lock_table.specs.Joining.Barring.{first_busy}
 use Rattle.lock_table.proofs.Barring.{none_is, some_is_busy}
 use Rattle.lock_table.proofs.Steps.{AreSingle, single}
 use Rattle.lock_table.proofs.table.LockTable.busy.Goals as goal

@@ -2,13 +2,13 @@ use Rattle.std.proofs.Common.{rules, ◌≡◌, ◌+◌, ◌*◌, ◌<◌, ◌�
 use Rattle.std.specs.Prelude.{slice_get}
 use Rattle.verifier.specs.Checked.{Checked}
 use Rattle.tc_core.specs.Core.{Core, Asking}
-use Rattle.tc_core.specs.Kept.{core_of, IsBook}
+use Rattle.tc_core.specs.Joining.Kept.{core_of, IsBook}
 use Rattle.tc_core.specs.Replies.{IsAnswer}
-use Rattle.tc_core.specs.Hearing.{MayHear, Accepts}
+use Rattle.tc_core.specs.Joining.Hearing.{MayHear, Accepts}
 use Rattle.tc_core.specs.declared.transaction.Tx.{Tx}
 use Rattle.transactions.proofs.StandingLemmas.{some_same}
 use Rattle.history.specs.Flight.{given}
-use Rattle.tc_core.specs.Kept.{is_doubted}
+use Rattle.tc_core.specs.Joining.Kept.{is_doubted}
 use Rattle.tc_core.proofs.KeyLemmas.{keys-moved}
 use Rattle.tc_core.proofs.MarkedLemmas.{marked-moved}
 use Rattle.tc_core.proofs.KeptLemmas.{seen, Seen, may-answer, kept-answer, slice_get-short, is-answer, answer-accepts}

@@ -8,9 +8,9 @@ use Rattle.lock_table.specs.Facts.{held_by}
 use Rattle.history.specs.Calls.{Call, held, locks_of}
 use Rattle.history.specs.Flight.{given}
 use Rattle.transactions.specs.Reached.{calls_in, decls}
-use Rattle.tc_core.specs.Kept.{is_doubted}
-use Rattle.tc_core.specs.Running.{Runs}
-use Rattle.tc_core.specs.Writes.{Writes}
+use Rattle.tc_core.specs.Joining.Kept.{is_doubted}
+use Rattle.tc_core.specs.Joining.Running.{Runs}
+use Rattle.tc_core.specs.Joining.Writes.{Writes}
 use Rattle.transactions.proofs.StandingLemmas.{open-serial}
 use Rattle.tc_core.proofs.KeyLemmas.{keys-entered}
 use Rattle.tc_core.proofs.MarkedLemmas.{marked-moved}

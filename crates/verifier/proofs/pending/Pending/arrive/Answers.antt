@@ -1,8 +1,8 @@
 use Rattle.std.proofs.Common.{◌≡◌, ◌<◌, ℕ, Some, None, Option, List, length, slice_set, sym, subst, ap, ap₂, ◌∙◌, arith}
 use Rattle.register_kinds.specs.Arriving.{along}
 use Rattle.verifier.specs.declared.pending.Target.{Target}
-use Rattle.verifier.specs.Table.{Table, kept}
-use Rattle.verifier.specs.Pending.{table_of, AreTied}
+use Rattle.verifier.specs.Joining.Table.{Table, kept}
+use Rattle.verifier.specs.Joining.Pending.{table_of, AreTied}
 use Rattle.verifier.proofs.Waiting.{stood, found, target_within, joined_tied, joined_kept, pushed_tied, pushed_kept}
 use Rattle.verifier.proofs.pending.Pending.arrive.Goals as goal
 

@@ -1,5 +1,5 @@
 use Rattle.std.proofs.Common.{◌≡◌, ℕ, Option, None, List, replicate, ap, ◌∙◌, rules}
-use Rattle.verifier.specs.Pending.{place_at}
+use Rattle.verifier.specs.Joining.Pending.{place_at}
 use Rattle.verifier.proofs.Waiting.{kept_none, none_placed}
 use Rattle.verifier.proofs.pending.Pending.new.Goals as goal
 

@@ -2,8 +2,8 @@ use Rattle.std.proofs.Common.{◌≡◌, ◌==◌, ◌<◌, ℕ, Some, None, Opt
 use Rattle.std.specs.Prelude.{IfSome, slice_get, swap_remove}
 use Rattle.std.proofs.lemmas.List.{take_at}
 use Rattle.verifier.specs.declared.pending.Target.{Target}
-use Rattle.verifier.specs.Table.{Table, kept}
-use Rattle.verifier.specs.Pending.{table_of, mended, AreTied}
+use Rattle.verifier.specs.Joining.Table.{Table, kept}
+use Rattle.verifier.specs.Joining.Pending.{table_of, mended, AreTied}
 use Rattle.verifier.proofs.Waiting.{stood, found, long_as, waits_there, target_within, taken_tied, taken_kept, moved_inside}
 use Rattle.verifier.proofs.pending.Pending.take.Goals as goal
 

@@ -1,5 +1,5 @@
 use Rattle.std.proofs.Common.{◌≡◌, ◌∙◌, ◌<◌, Some, None, slice_get, refl, ap, sym, subst, false, true, inl, inr}
-use Rattle.worker_pool.specs.Seen.{Seen}
+use Rattle.worker_pool.specs.Joining.Seen.{Seen}
 use Rattle.tc_core.specs.Admission.{call_of}
 use Rattle.worker_pool.specs.Answers.{AdmitRefusalFits}
 use Rattle.worker_pool.specs.declared.answer.Progress.TheVariants.{Waiting, Begun}

@@ -1,5 +1,5 @@
 use Rattle.std.proofs.Common.{◌≡◌, ◌∙◌, ◌<◌, Some, None, slice_get, refl, ap, sym, subst, false, true, inl, inr}
-use Rattle.worker_pool.specs.Seen.{Seen}
+use Rattle.worker_pool.specs.Joining.Seen.{Seen}
 use Rattle.worker_pool.specs.Doubts.{IsGoing}
 use Rattle.worker_pool.specs.declared.answer.Progress.TheVariants.{Begun}
 use Rattle.worker_pool.proofs.Steps.{asked}

@@ -1,6 +1,6 @@
 use Rattle.std.proofs.Common.{◌≡◌, ◌<◌, ◌∙◌, ℕ, List, length, ap, sym, subst}
 use Rattle.worker_pool.specs.declared.answer.Progress.{Progress}
-use Rattle.worker_pool.specs.Seen.{Seen, AreToldBy, IsAnswered}
+use Rattle.worker_pool.specs.Joining.Seen.{Seen, AreToldBy, IsAnswered}
 use Rattle.worker_pool.proofs.Reported.{reported}
 use Rattle.worker_pool.proofs.desk.Desk.close.Goals as goal
 

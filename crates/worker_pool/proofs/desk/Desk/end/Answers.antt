@@ -1,6 +1,6 @@
 use Rattle.std.proofs.Common.{◌≡◌, ◌∙◌, ◌<◌, Some, None, slice_get, refl, ap, sym, subst, false, true, inl, inr}
 use Rattle.tc_core.specs.Replies.{end_of}
-use Rattle.worker_pool.specs.Seen.{Seen}
+use Rattle.worker_pool.specs.Joining.Seen.{Seen}
 use Rattle.worker_pool.specs.declared.answer.Progress.{Progress}
 use Rattle.worker_pool.specs.declared.answer.Progress.TheVariants.{Begun, Answered}
 use Rattle.worker_pool.specs.declared.answer.Answer.{Answer}

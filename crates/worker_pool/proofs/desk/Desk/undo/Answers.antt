@@ -1,7 +1,7 @@
 use Rattle.std.proofs.Common.{◌≡◌, ◌∙◌, refl, ap, sym, subst, false, true, inl, inr}
 use Rattle.tc_core.specs.Replies.{ask_reply}
 use Rattle.tc_core.specs.declared.state.Asked.TheVariants.{Undoing}
-use Rattle.worker_pool.specs.Seen.{Seen}
+use Rattle.worker_pool.specs.Joining.Seen.{Seen}
 use Rattle.worker_pool.proofs.Steps.{undone}
 use Rattle.worker_pool.proofs.Doubtful.{undo_sends, IsRequest}
 use Rattle.worker_pool.proofs.desk.Desk.undo.Goals as goal

@@ -3,7 +3,7 @@ use Rattle.std.specs.Prelude.{ℕ, List}
 use Rattle.worker_pool.specs.declared.answer.Progress.{Progress}
 use Rattle.worker_pool.specs.declared.desk.Next.{Next}
 use Rattle.worker_pool.specs.declared.desk.Next.TheVariants.{Begun, Carry, Busy, Over}
-use Rattle.worker_pool.specs.Seen.{IsAnswered, AnswersStay}
+use Rattle.worker_pool.specs.Joining.Seen.{IsAnswered, AnswersStay}
 
 -- answers stay, and where nothing is left to do the call is answered
 abbrev pub MovesOn : List Progress → List Progress → ℕ → Next → Type 0

@@ -3,7 +3,7 @@ use Rattle.std.specs.Prelude.{◌≡◌, ℕ, List, map, Option, Some, None, sli
 use Rattle.std.specs.List.{slice_index_or}
 use Rattle.register_kinds.specs.declared.kinds.Kinds.{Kinds}
 use Rattle.verifier.specs.declared.pending.Target.{Target}
-use Rattle.verifier.specs.Table.{Table}
+use Rattle.verifier.specs.Joining.Table.{Table}
 
 abbrev pub slot_of : Option Target → Option ℕ
 slot_of None = None

@@ -1,0 +1,9 @@
+-- Definitions that only join bodies to those beside this folder: no contract that others see speaks of them.
+pub mod Clashes
+pub mod Hearing
+pub mod Holders
+pub mod Kept
+pub mod Rooms
+pub mod Running
+pub mod Sends
+pub mod Writes
