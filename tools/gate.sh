@@ -17,7 +17,8 @@ fi
 for example in examples/*/; do
     if tools/example.sh "$example"; then passed=$((passed + 1)); else failed=$((failed + 1)); fi
 done
-for tried in tools/believed.py "tools/hostile.py --every 25" "tools/explore.py --seconds 20" "tools/storms.py --runs 5 --calls 1000"; do
+for tried in tools/believed.py "tools/hostile.py --every 25" "tools/explore.py --seconds 20" \
+    "tools/storms.py --runs 5 --calls 1000"; do
     if $tried; then passed=$((passed + 1)); else failed=$((failed + 1)); fi
 done
 echo "$passed passed, $failed failed"
