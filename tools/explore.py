@@ -1,7 +1,7 @@
 #!/usr/bin/env python3
 """Random schedules: `procd world --log` and `procd run` beside a plain model that shares no code with them.
 
-usage: tools/explore.py [--procd PATH] [--seconds N] [--seed N] [--steps N]
+usage: tools/explore.py [--procd PATH] [--seconds N] [--seed N] [--seeds N] [--steps N]
 
 From each seed come a world and some runs. The script of a world has random steps: calls that overlap,
 operations asked for in any order, messages that are lost, repeated, late and forged, data components that
@@ -384,9 +384,11 @@ def tell(seed, place, case, why, shows):
 
 
 def explored(procd, options, made):
-    """Counts what is made from each seed until the time is over; tells of the first difference, if any."""
-    shows, seed, until = shows_again(procd), options.seed, time.monotonic() + options.seconds
-    while time.monotonic() < until:
+    """Counts what is made from each seed until the time or the seeds are over; tells of the first difference, if any."""
+    shows, until = shows_again(procd), time.monotonic() + options.seconds
+    for seed in range(options.seed, options.seed + options.seeds):
+        if time.monotonic() > until:
+            break
         draw = random.Random(seed)
         for place, kind in enumerate((Steps, Calls, Calls)):
             case = kind.drawn(draw, options.steps)
@@ -396,7 +398,6 @@ def explored(procd, options, made):
                 return False
             made.update(case.made())
             made[kind] += 1
-        seed += 1
     return True
 
 
@@ -406,6 +407,7 @@ def main():
     parser.add_argument("--procd", default=path, help="the program (that of crates/procd/out)")
     parser.add_argument("--seconds", type=float, default=60, help="how long to go on (60)")
     parser.add_argument("--seed", type=int, default=1, help="the first seed (1); then the next")
+    parser.add_argument("--seeds", type=int, default=1_000_000, help="how many seeds at most (1,000,000)")
     parser.add_argument("--steps", type=int, default=500, help="steps a script (500)")
     options, made = parser.parse_args(), collections.Counter()
     if not pathlib.Path(options.procd).exists():
