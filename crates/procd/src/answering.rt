@@ -166,6 +166,7 @@ pub fn answer_served<R: Clock + Threads + Wait + Sync>(
         {
             let count = dcs.len();
             let mut servers = servers;
+            // There is room for each server; one that found none would count as one that isn't there.
             for (number, dc) in dcs.into_iter().enumerate() {
                 if let Ok(server) = scope.spawn(move || link.serve(rt, number, dc)) {
                     let _ = servers.push(server);
