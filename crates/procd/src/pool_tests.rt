@@ -1,7 +1,7 @@
 // Runs by one, two and eight workers, with a gate that holds a call, and links that wait, lose and
 // change what they carry.
 
-use crate::test_pool::{all_commit, answers, behind_put, dcs, moves, value_at};
+use crate::test_pool::{all_commit, answers, begun, behind_put, dcs, moves, state_of, value_at};
 use crate::test_state::{BADS, GETS, MOVES, PUTS, call, record, state, value};
 use access_slots::op::{Reply, Wire};
 use lock_table::table::Busy;
@@ -351,30 +351,33 @@ fn are_logged(rt: &impl Abort, state: &TcState, wires: &[Wire]) {
     }
 }
 
-// What is sent is what the log says, and at most as often as there are tries, which are four.
-fn record_wires<R: Threads + Wait + Sync + Abort>(
+// The state behind these calls over the link, each request sent four times at most.
+fn recorded<R: Threads + Wait + Sync>(
     rt: &R,
     alloc: Global,
-    link: Records,
-) -> Result<(), Fail> {
-    let calls = moves_and_aborts(alloc)?;
+    link: &Records,
+    calls: &[Call],
+) -> Result<TcState, Fail> {
     let state = state(alloc, "")?;
-    match run(rt, alloc, state, calls.as_slice(), 4, 4, &link, &OpenGate) {
-        Ok(report) => {
-            are_logged(rt, &report.state, link.wires.into_inner().as_slice());
-            Ok(())
-        }
-        Err(_) => Err(Fail::from("no call was begun")),
-    }
+    begun(run(rt, alloc, state, calls, 4, 4, link, &OpenGate)).map(state_of)
 }
 
+fn are_recorded<R: Wait + Abort>(rt: &R, link: &Records, state: &TcState) {
+    let wires = link.wires.lock(rt);
+    are_logged(rt, state, wires.as_slice());
+}
+
+// What is sent is what the log says, and at most as often as there are tries.
 #[test]
 fn wires_are_the_logs(rt: HostRuntime) -> Result<(), Fail> {
     let link = Records {
         dcs: dcs(rt.alloc(), 4)?,
         wires: Mutex::new(Vec::new(rt.alloc())),
     };
-    record_wires(&rt, rt.alloc(), link)
+    let calls = moves_and_aborts(rt.alloc())?;
+    let state = recorded(&rt, rt.alloc(), &link, calls.as_slice())?;
+    are_recorded(&rt, &link, &state);
+    Ok(())
 }
 
 // The fault of a run that doesn't begin, and the state that is handed back.

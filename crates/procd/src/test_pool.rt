@@ -9,7 +9,7 @@ use std::sync::Wait;
 use std::test::Fail;
 use std::thread::Threads;
 use tc_core::state::{Call, TcState};
-use worker_pool::{Answer, Gate, Link, LockedDcs, OpenGate, run};
+use worker_pool::{Answer, Gate, Link, LockedDcs, OpenGate, Report, RunFault, run};
 
 /// A data component with room for so many rows.
 pub(crate) fn dcs(alloc: Global, rows: usize) -> Result<LockedDcs, AllocError> {
@@ -32,6 +32,24 @@ pub(crate) fn moves(alloc: Global, count: usize) -> Result<Vec<Call>, AllocError
     Ok(calls)
 }
 
+/// The report of calls that were begun.
+pub(crate) fn begun(run: Result<Report, RunFault>) -> Result<Report, Fail> {
+    match run {
+        Ok(report) => Ok(report),
+        Err(_) => Err(Fail::from("no call was begun")),
+    }
+}
+
+/// The answers, without the state.
+pub(crate) fn answers_of(report: Report) -> Vec<Answer> {
+    report.answers
+}
+
+/// The state, without the answers.
+pub(crate) fn state_of(report: Report) -> TcState {
+    report.state
+}
+
 /// What these calls are answered by so many workers, each request sent three times at most.
 pub(crate) fn answers<R: Threads + Wait + Sync, L: Link + Sync, G: Gate + Sync>(
     rt: &R,
@@ -42,10 +60,25 @@ pub(crate) fn answers<R: Threads + Wait + Sync, L: Link + Sync, G: Gate + Sync>(
     link: &L,
     gate: &G,
 ) -> Result<Vec<Answer>, Fail> {
-    match run(rt, alloc, state, calls, workers, 3, link, gate) {
-        Ok(report) => Ok(report.answers),
-        Err(_) => Err(Fail::from("no call was begun")),
-    }
+    begun(run(rt, alloc, state, calls, workers, 3, link, gate)).map(answers_of)
+}
+
+// Whether the report is that of one call whose end is the fourth event.
+fn is_first_put(report: &Report) -> bool {
+    report.ends() == 1 && report.answers.as_slice() == [Answer::Committed(3)].as_slice()
+}
+
+// The state after the first call by one worker.
+fn behind_first<R: Threads + Wait + Sync + Abort, L: Link + Sync>(
+    rt: &R,
+    alloc: Global,
+    link: &L,
+    first: &[Call],
+) -> Result<TcState, Fail> {
+    let state = state(alloc, "")?;
+    let report = begun(run(rt, alloc, state, first, 1, 3, link, &OpenGate))?;
+    assert!(rt; is_first_put(&report));
+    Ok(state_of(report))
 }
 
 /// The state after `put 5 100` by one worker.
@@ -55,18 +88,7 @@ pub(crate) fn behind_put<R: Threads + Wait + Sync + Abort, L: Link + Sync>(
     link: &L,
 ) -> Result<TcState, Fail> {
     let first = [call(alloc, PUTS, &[5, 100])?];
-    let state = state(alloc, "")?;
-    match run(rt, alloc, state, &first, 1, 3, link, &OpenGate) {
-        Ok(report) => {
-            assert_eq!(rt;
-                report.answers.as_slice(),
-                [Answer::Committed(3)].as_slice()
-            );
-            assert_eq!(rt; report.ends(), 1);
-            Ok(report.state)
-        }
-        Err(_) => Err(Fail::from("no call was begun")),
-    }
+    behind_first(rt, alloc, link, &first)
 }
 
 /// Whether so many calls were made, and all are committed.
