@@ -7,7 +7,8 @@ usage: tools/requests.py [--tests PATH] [--procd PATH] [--scripts N] [--steps N]
 Both are run, their requests counted, and the second is to make no more than the first. `worlds`: random scripts
 (those of explore.py) go through `world`; of the requests of each it is counted which were made within each call of
 the transaction component. `refused`: of each test of calls that ask for memory the first request is refused, then
-the second, until a run meets none; it is to pass each time. The status is 1 where something was wrong. Without a SECTION the first two are run.
+the second, until a run meets none; it is to pass each time. With no SECTION the first two are run. The status is 1
+where something was wrong.
 """
 import argparse
 import collections
