@@ -7,7 +7,8 @@ usage: tools/requests.py [--tests PATH] [--procd PATH] [--scripts N] [--steps N]
 Both are run, their requests counted, and the second is to make no more than the first. `worlds`: random scripts
 (those of explore.py) go through `world`; of the requests of each it is counted which were made within each call of
 the transaction component. `refused`: of each test of calls that ask for memory the first request is refused, then
-the second, until a run meets none; it is to pass each time. The status is 1 where something was wrong.
+the second, until a run meets none; it is to pass each time. With no SECTION the first two are run. The status is 1
+where something was wrong.
 """
 import argparse
 import collections
@@ -135,7 +136,10 @@ def refusals_pass(options, folder):
     """Whether each test of calls that ask for memory passes whichever request is refused."""
     library, good = faults_library(folder) or sys.exit("there is no C compiler"), True
     listed = subprocess.run([options.tests, "--list"], capture_output=True, text=True, check=True).stdout
-    for name in re.findall(r"^(memory_\w*tests::\w+): test$", listed, re.MULTILINE):
+    names = re.findall(r"^(memory_\w*tests::\w+): test$", listed, re.MULTILINE)
+    if not names:
+        sys.exit(f"{options.tests} has no test of calls that ask for memory")
+    for name in names:
         refused, failed = refused_once(options.tests, name, library, folder / "allocations")
         print(f"{name}: {refused} requests refused, {len(failed) or 'none'} failed", flush=True)
         for text in failed[:SHOWN]:
@@ -155,11 +159,11 @@ def main():
     parser.add_argument("--scripts", type=int, default=10000, help="how many scripts (10000)")
     parser.add_argument("--steps", type=int, default=40, help="steps a script (40)")
     parser.add_argument("--seed", type=int, default=1, help="the first script's seed (1); then the next")
-    parser.add_argument("sections", nargs="*", metavar="SECTION", help=f"{', '.join(SECTIONS)} (all)")
+    parser.add_argument("sections", nargs="*", metavar="SECTION", help=f"{', '.join(SECTIONS)} (the first two)")
     options = parser.parse_args()
     if not set(options.sections) <= set(SECTIONS):
         parser.error(f"the sections are {', '.join(SECTIONS)}")
-    sections = options.sections or list(SECTIONS)
+    sections = options.sections or ["pairs", "worlds"]
     for section in sections:
         path, builds = (options.procd, "./procd") if section == "worlds" else (options.tests, "rt test")
         if not pathlib.Path(path).exists():

@@ -46,17 +46,9 @@ fn main(rt: HostRuntime) -> ExitCode {
 #[cfg(test)]
 mod encoding_tests;
 #[cfg(test)]
-mod link_tests;
-#[cfg(test)]
 mod log_tests;
 #[cfg(test)]
 mod machine_tests;
-#[cfg(test)]
-mod memory_state_tests;
-#[cfg(test)]
-mod memory_tests;
-#[cfg(test)]
-mod pool_tests;
 #[cfg(test)]
 mod ring_tests;
 #[cfg(test)]
@@ -67,8 +59,6 @@ mod script_tests;
 mod state_tests;
 #[cfg(test)]
 mod step_tests;
-#[cfg(test)]
-mod test_pool;
 #[cfg(test)]
 mod test_scripts;
 #[cfg(test)]

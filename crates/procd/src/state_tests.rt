@@ -318,6 +318,15 @@ fn are_refused(rt: &impl Abort, tc: &mut TcState, none: &Call, short: &Call) {
     assert!(rt; !tc.blocked(none) && !tc.blocked(short));
 }
 
+// The first transaction is open, and no other.
+fn is_found(rt: &impl Abort, tc: &TcState) {
+    assert!(rt; tc.find_txn(2).is_none());
+    match tc.find_txn(1) {
+        Some(txn) => assert_eq!(rt; txn.serial(), 1),
+        None => panic!(rt; "not open"),
+    }
+}
+
 // No such procedure, and too few arguments.
 #[test]
 fn calls_that_are_refused(rt: HostRuntime) -> Result<(), Fail> {
@@ -325,8 +334,7 @@ fn calls_that_are_refused(rt: HostRuntime) -> Result<(), Fail> {
     let short = call(rt.alloc(), PUTS, &[5])?;
     let (mut tc, _txn) = before_put(&rt, rt.alloc())?;
     are_refused(&rt, &mut tc, &none, &short);
-    assert_eq!(rt; tc.find_txn(1).map(|txn| txn.serial()), Some(1));
-    assert!(rt; tc.find_txn(2).is_none());
+    is_found(&rt, &tc);
     Ok(())
 }
 

@@ -16,7 +16,7 @@ use verifier::verify::{Verified, verify};
 
 // ldxdw r6, [r1+8]; mov r1, 0; call 5; stxdw [r0+0], r6; mov r1, 0; call 2; exit: inserts its second
 // argument under the key that is its first.
-pub(crate) const PUT: [u64; 7] = [
+const PUT: [u64; 7] = [
     0x0000_0000_0008_1679,
     0x0000_0000_0000_01b7,
     0x0000_0005_0000_0085,

@@ -11,14 +11,8 @@ use tc_core::state::{Call, TcState};
 /// The number of `put`.
 pub(crate) const PUTS: usize = 0;
 
-/// The number of `get`.
-pub(crate) const GETS: usize = 1;
-
 /// The number of `bad`.
 pub(crate) const BADS: usize = 2;
-
-/// The number of `move`.
-pub(crate) const MOVES: usize = 3;
 
 /// A state of one data component in which the four procedures are loaded, and those of this text.
 pub(crate) fn state(alloc: Global, more: &str) -> Result<TcState, Fail> {
