@@ -9,7 +9,7 @@ use std::sync::Wait;
 use std::sync::atomic::{AtomicU64, Ordering};
 
 // How often who waits looks at the bell before it sleeps.
-const LOOKS: u32 = 100;
+const LOOKS: u32 = 2_000;
 
 // What those who wait at a queue listen to.
 #[derive(Drop)]
