@@ -2,7 +2,6 @@
 #![tactic(auto)]
 
 mod answer_lines;
-mod answering;
 mod assembly;
 mod execute;
 mod fault_names;
@@ -49,8 +48,6 @@ mod encoding_tests;
 mod log_tests;
 #[cfg(test)]
 mod machine_tests;
-#[cfg(test)]
-mod ring_tests;
 #[cfg(test)]
 mod run_tests;
 #[cfg(test)]
