@@ -53,13 +53,9 @@ mod run_tests;
 #[cfg(test)]
 mod script_tests;
 #[cfg(test)]
-mod state_tests;
-#[cfg(test)]
 mod step_tests;
 #[cfg(test)]
 mod test_scripts;
-#[cfg(test)]
-mod test_state;
 #[cfg(test)]
 mod tests;
 #[cfg(test)]

@@ -26,8 +26,7 @@ const PUT: [u64; 7] = [
     0x0000_0000_0000_0095,
 ];
 
-/// The procedure, over this data component.
-pub(crate) fn put_in(rt: &impl Abort, alloc: Global, dc: u16) -> Result<Verified, Fail> {
+fn put(rt: &impl Abort, alloc: Global) -> Result<Verified, Fail> {
     let mut bytes = Vec::new(alloc);
     for slot in PUT {
         bytes.extend_from_slice(&slot.to_le_bytes())?;
@@ -37,7 +36,7 @@ pub(crate) fn put_in(rt: &impl Abort, alloc: Global, dc: u16) -> Result<Verified
     };
     let slot = Slot {
         mode: Mode::Write,
-        dc,
+        dc: 0,
         table: 0,
         key: Key::Arg(0),
     };
@@ -59,7 +58,7 @@ fn call(alloc: Global) -> Result<Call, Fail> {
 // One data component, and a transaction component that has the procedure.
 fn world(rt: &impl Abort, alloc: Global) -> Result<World, Fail> {
     let mut state = TcState::new(alloc, 1)?;
-    if state.load("put", put_in(rt, alloc, 0)?).is_err() {
+    if state.load("put", put(rt, alloc)?).is_err() {
         panic!(rt; "not loaded");
     }
     let mut dcs = Vec::new(alloc);
