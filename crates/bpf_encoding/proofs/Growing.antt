@@ -1,6 +1,6 @@
 -- A row of places that grows, and its slots.
 use Rattle.std.proofs.Common.{◌≡◌, ℕ, zero, suc, ◌+◌, ◌-◌, ◌/◌, ◌%◌, ◌<◌, ◌≤◌, ◌^◌, Bool, true, false, if◌then◌else◌}
-use Rattle.std.proofs.Common.{List, [], ◌∷◌, ◌++◌, length, take, drop, Option, Some, None, refl, sym, ap, subst, ◌∙◌}
+use Rattle.std.proofs.Common.{List, [], ◌∷◌, ◌++◌, length, take, drop, Option, Some, None, refl, sym, ap, ap₂, subst, ◌∙◌}
 use Rattle.std.proofs.Common.{arith, append_assoc, add-one}
 use Rattle.std.specs.Prelude.{ℤ, pos, is_some}
 use Rattle.std.specs.Int.{w32, cast_signed, cast_unsigned}
@@ -23,8 +23,7 @@ use Rattle.bpf_encoding.specs.declared.insn.Place.TheVariants as place
 use Rattle.bpf_encoding.specs.declared.slot.SlotFault.{SlotFault}
 use Rattle.bpf_encoding.specs.declared.decode.Due.{Due}
 use Rattle.bpf_encoding.specs.declared.decode.DecodeFault.{DecodeFault}
-use Rattle.bpf_encoding.specs.declared.decode.DecodeFault.TheVariants.{NoCode, Length, TooLong, WideCut, UnusedField}
-use Rattle.bpf_encoding.specs.declared.decode.DecodeFault.TheVariants.{Undefined, OutsideProfile, Memory}
+use Rattle.bpf_encoding.specs.declared.decode.DecodeFault.TheVariants.{Memory}
 
 pub fields_behind-append : (high : ℕ) (xs : List Place) (i : Insn) (ys : List Place)
     → fields_behind high (xs ++ place.Insn i ∷ ys) ≡ fields_behind high xs ++ fields_of i ∷ fields_behind (high_half i) ys
@@ -39,11 +38,19 @@ length-fields_behind high (place.Second ∷ xs) = ap suc (length-fields_behind 0
 
 pub is_whole-append : (due : Bool) (xs ys : List Place) → is_whole due xs ≡ true → is_whole due (xs ++ ys) ≡ is_whole false ys
 is_whole-append false [] ys h = refl
-is_whole-append true [] ys h = absurd cc
 is_whole-append false (place.Insn i ∷ xs) ys h = is_whole-append (is_wide i) xs ys h
-is_whole-append true (place.Insn i ∷ xs) ys h = absurd cc
-is_whole-append false (place.Second ∷ xs) ys h = absurd cc
 is_whole-append true (place.Second ∷ xs) ys h = is_whole-append false xs ys h
+is_whole-append due xs ys h = absurd cc
+
+no_fault : (i : Insn) (f : Fields) → fields_of i ≡ f → (place : ℕ) (later : Option DecodeFault) → or_later place (fault_of f) later ≡ later
+no_fault i f is place later = ap (λ (o : Option SlotFault). or_later place o later) (ap fault_of (sym is) ∙ fault_of-fields_of i)
+
+opcode_is : (i : Insn) (f : Fields) → fields_of i ≡ f → is_wide_opcode f ≡ is_wide i
+opcode_is i f is = ap is_wide_opcode (sym is) ∙ is_wide_opcode-fields_of i
+
+named_narrow : (f : Fields) (fs : List Fields) → is_wide_opcode f ≡ false → named_from None (f ∷ fs) ≡ place.Insn (insn_named f) ∷ named_from None fs
+named_narrow f fs narrow =
+    ap (λ (b : Bool). if b then named_from (Some (register_named f.dst, cast_unsigned w32 f.imm)) fs else place.Insn (insn_named f) ∷ named_from None fs) narrow
 
 -- an instruction of one slot
 pub takes_insn : (places : List Place) (i : Insn) (f : Fields) → is_wide i ≡ false → fields_of i ≡ f
@@ -54,12 +61,14 @@ takes_insn places i f narrow is = record {
       ∙ ap (λ (fs : List Fields). fs ++ f ∷ []) (sym (append-nil (fields_of_code places)));
   whole = λ h. is_whole-append false places (place.Insn i ∷ []) h ∙ ap (λ (b : Bool). is_whole b []) narrow;
   named = λ fs.
-      append_assoc places (place.Insn i ∷ []) (named_from None fs) ∙ ap (λ (j : Insn). places ++ place.Insn j ∷ named_from None fs) (sym (ap insn_named (sym is) ∙ insn_named-fields_of i narrow))
-      ∙ ap (λ (b : Bool). places ++ (if b then named_from (Some (register_named f.dst, cast_unsigned w32 f.imm)) fs else place.Insn (insn_named f) ∷ named_from None fs)) (sym (ap is_wide_opcode (sym is) ∙ is_wide_opcode-fields_of i ∙ narrow));
-  faults = λ place fs.
-      ap (λ (o : Option SlotFault). or_later place o (first_fault (is_wide_opcode f) (suc place) fs)) (ap fault_of (sym is) ∙ fault_of-fields_of i)
-      ∙ ap (λ (b : Bool). first_fault b (suc place) fs) (ap is_wide_opcode (sym is) ∙ is_wide_opcode-fields_of i ∙ narrow);
+      let named_is = ap insn_named (sym is) ∙ insn_named-fields_of i narrow in
+      append_assoc places (place.Insn i ∷ []) (named_from None fs) ∙ ap (λ (j : Insn). places ++ place.Insn j ∷ named_from None fs) (sym named_is)
+      ∙ ap (λ (ps : List Place). places ++ ps) (sym (named_narrow f fs (opcode_is i f is ∙ narrow)));
+  faults = λ place fs. no_fault i f is place _ ∙ ap (λ (b : Bool). first_fault b (suc place) fs) (opcode_is i f is ∙ narrow);
 }
+
+abbrev wide_fields : Register → ℕ → Fields
+wide_fields dst low = fields 0x18 (number_of dst) 0 (pos 0) (cast_signed w32 low)
 
 -- the first slot of a wide instruction
 pub takes_wide : (places : List Place) (dst : Register) (value : ℕ) (f : Fields) (due : Due)
@@ -67,16 +76,14 @@ pub takes_wide : (places : List Place) (dst : Register) (value : ℕ) (f : Field
     → TakesSlot places None f places (Some due)
 takes_wide places dst value f due is dst_is low_is = record {
   fields =
-      ap (λ (g : Fields). fields_of_code places ++ g ∷ []) (ap (λ (r : Register). fields 0x18 (number_of r) 0 (pos 0) (cast_signed w32 due.low)) dst_is ∙ ap (λ (n : ℕ). fields 0x18 (number_of dst) 0 (pos 0) (cast_signed w32 n)) low_is ∙ is)
+      ap (λ (g : Fields). fields_of_code places ++ g ∷ []) (ap₂ wide_fields dst_is low_is ∙ is)
       ∙ ap (λ (fs : List Fields). fs ++ f ∷ []) (sym (append-nil (fields_of_code places)));
   whole = λ h. h;
   named = λ fs.
       ap (λ (r : Register). places ++ named_from (Some (r, due.low)) fs) (dst_is ∙ sym (register_named-number_of dst))
       ∙ ap (λ (n : ℕ). places ++ named_from (Some (register_named (number_of dst), n)) fs) (low_is ∙ sym (of_z-to_z w32 (value % 2 ^ 32) (omega arith)))
       ∙ ap (λ (g : Fields). places ++ named_from None (g ∷ fs)) is;
-  faults = λ place fs.
-      ap (λ (o : Option SlotFault). or_later place o (first_fault (is_wide_opcode f) (suc place) fs)) (ap fault_of (sym is) ∙ fault_of-fields_of (LoadWide dst value))
-      ∙ ap (λ (b : Bool). first_fault b (suc place) fs) (ap is_wide_opcode (sym is));
+  faults = λ place fs. no_fault (LoadWide dst value) f is place _ ∙ ap (λ (b : Bool). first_fault b (suc place) fs) (ap is_wide_opcode (sym is));
 }
 
 -- the second
@@ -85,17 +92,18 @@ pub takes_second : (places : List Place) (due : Due) (value : ℕ) (imm : ℤ) �
     → FitsSigned w32 imm
     → TakesSlot places (Some due) (fields 0 0 0 (pos 0) imm) ((places ++ place.Insn (LoadWide due.dst value) ∷ []) ++ place.Second ∷ []) None
 takes_second places due value imm low_is high_is value_is fits =
-    let both = append_assoc places (place.Insn (LoadWide due.dst value) ∷ []) (place.Second ∷ []) in
-    let first : fields_of (LoadWide due.dst value) ≡ fields 0x18 (number_of due.dst) 0 (pos 0) (cast_signed w32 due.low) = ap (λ (n : ℕ). fields 0x18 (number_of due.dst) 0 (pos 0) (cast_signed w32 n)) low_is in
-    let second : second_fields (value / 2 ^ 32 % 2 ^ 32) ≡ fields 0 0 0 (pos 0) imm = ap second_fields high_is ∙ ap (fields 0 0 0 (pos 0)) (to_z-of_z w32 imm fits) in
+    let i : Insn = LoadWide due.dst value in
+    let before = fields_of_code places in
+    let both = append_assoc places (place.Insn i ∷ []) (place.Second ∷ []) in
+    let first : fields_of i ≡ wide_fields due.dst due.low = ap (wide_fields due.dst) low_is in
+    let second : second_fields (high_half i) ≡ fields 0 0 0 (pos 0) imm = ap second_fields high_is ∙ ap (fields 0 0 0 (pos 0)) (to_z-of_z w32 imm fits) in
     record {
       fields =
-          append-nil (fields_of_code ((places ++ place.Insn (LoadWide due.dst value) ∷ []) ++ place.Second ∷ [])) ∙ ap fields_of_code both ∙ fields_behind-append 0 places (LoadWide due.dst value) (place.Second ∷ [])
-          ∙ ap (λ (g : Fields). fields_of_code places ++ g ∷ second_fields (value / 2 ^ 32 % 2 ^ 32) ∷ []) first ∙ ap (λ (g : Fields). fields_of_code places ++ fields 0x18 (number_of due.dst) 0 (pos 0) (cast_signed w32 due.low) ∷ g ∷ []) second
-          ∙ sym (append_assoc (fields_of_code places) (fields 0x18 (number_of due.dst) 0 (pos 0) (cast_signed w32 due.low) ∷ []) (fields 0 0 0 (pos 0) imm ∷ []));
-      whole = λ h. ap (is_whole false) both ∙ is_whole-append false places (place.Insn (LoadWide due.dst value) ∷ place.Second ∷ []) h;
+          append-nil (fields_of_code ((places ++ place.Insn i ∷ []) ++ place.Second ∷ [])) ∙ ap fields_of_code both ∙ fields_behind-append 0 places i (place.Second ∷ [])
+          ∙ ap₂ (λ (f g : Fields). before ++ f ∷ g ∷ []) first second ∙ sym (append_assoc before (wide_fields due.dst due.low ∷ []) (fields 0 0 0 (pos 0) imm ∷ []));
+      whole = λ h. ap (is_whole false) both ∙ is_whole-append false places (place.Insn i ∷ place.Second ∷ []) h;
       named = λ fs.
-          ap (λ (ps : List Place). ps ++ named_from None fs) both ∙ append_assoc places (place.Insn (LoadWide due.dst value) ∷ place.Second ∷ []) (named_from None fs)
+          ap (λ (ps : List Place). ps ++ named_from None fs) both ∙ append_assoc places (place.Insn i ∷ place.Second ∷ []) (named_from None fs)
           ∙ ap (λ (n : ℕ). places ++ place.Insn (LoadWide due.dst n) ∷ place.Second ∷ named_from None fs) value_is;
       faults = λ place fs. refl;
     }
@@ -106,36 +114,36 @@ blank_fields opcode dst src offset imm o d s z = cc
 
 -- ---- the loop over the slots
 
+slots_on : (count at : ℕ) (rest : List ℕ) → at < count → slots_from (count - at) rest ≡ fields_of_bytes (take 8 rest) ∷ slots_from (count - (at + 1)) (drop 8 rest)
+slots_on count at rest lt = (let k : count - at ≡ suc (count - (at + 1)) = omega arith in ap (λ (n : ℕ). slots_from n rest) k)
+
 pub fields_go_on : (count at : ℕ) (before : List Fields) (rest : List ℕ) (after : List Fields) (total : List Fields)
     → at < count → after ≡ before ++ fields_of_bytes (take 8 rest) ∷ []
     → before ++ slots_from (count - at) rest ≡ total → after ++ slots_from (count - (at + 1)) (drop 8 rest) ≡ total
 fields_go_on count at before rest after total lt is so_far =
-    let k : count - at ≡ suc (count - (at + 1)) = omega arith in
     let tail = slots_from (count - (at + 1)) (drop 8 rest) in
-    ap (λ (fs : List Fields). fs ++ tail) is ∙ append_assoc before (fields_of_bytes (take 8 rest) ∷ []) tail ∙ ap (λ (n : ℕ). before ++ slots_from n rest) (sym k) ∙ so_far
+    let joined = append_assoc before (fields_of_bytes (take 8 rest) ∷ []) tail in
+    ap (λ (fs : List Fields). fs ++ tail) is ∙ joined ∙ ap (λ (fs : List Fields). before ++ fs) (sym (slots_on count at rest lt)) ∙ so_far
 
 pub faults_go_on : (count at : ℕ) (due due' : Bool) (rest : List ℕ) (total : Option DecodeFault) → at < count
     → ((place : ℕ) (fs : List Fields) → first_fault due place (fields_of_bytes (take 8 rest) ∷ fs) ≡ first_fault due' (suc place) fs)
     → first_fault due at (slots_from (count - at) rest) ≡ total → first_fault due' (at + 1) (slots_from (count - (at + 1)) (drop 8 rest)) ≡ total
 faults_go_on count at due due' rest total lt is so_far =
-    let k : count - at ≡ suc (count - (at + 1)) = omega arith in
     let tail = slots_from (count - (at + 1)) (drop 8 rest) in
-    ap (λ (n : ℕ). first_fault due' n tail) (add-one at) ∙ sym (is at tail) ∙ ap (λ (n : ℕ). first_fault due at (slots_from n rest)) (sym k) ∙ so_far
+    ap (λ (n : ℕ). first_fault due' n tail) (add-one at) ∙ sym (is at tail) ∙ ap (first_fault due at) (sym (slots_on count at rest lt)) ∙ so_far
 
 pub named_goes_on : (count at : ℕ) (half half' : Option (Register × ℕ)) (before after : List Place) (rest : List ℕ) (total : List Place) → at < count
     → ((fs : List Fields) → after ++ named_from half' fs ≡ before ++ named_from half (fields_of_bytes (take 8 rest) ∷ fs))
     → before ++ named_from half (slots_from (count - at) rest) ≡ total → after ++ named_from half' (slots_from (count - (at + 1)) (drop 8 rest)) ≡ total
 named_goes_on count at half half' before after rest total lt is so_far =
-    let k : count - at ≡ suc (count - (at + 1)) = omega arith in
-    is (slots_from (count - (at + 1)) (drop 8 rest)) ∙ ap (λ (n : ℕ). before ++ named_from half (slots_from n rest)) (sym k) ∙ so_far
+    is (slots_from (count - (at + 1)) (drop 8 rest)) ∙ ap (λ (fs : List Fields). before ++ named_from half fs) (sym (slots_on count at rest lt)) ∙ so_far
 
 pub fault_is_first : (count at : ℕ) (due : Option Due) (rest : List ℕ) (total : Option DecodeFault) (e : DecodeFault)
     → at < count → IsFaultHere due at (fields_of_bytes (take 8 rest)) e
     → first_fault (is_some due) at (slots_from (count - at) rest) ≡ total → IsFirstFault total e
 fault_is_first count at due rest total e lt here so_far =
-    let k : count - at ≡ suc (count - (at + 1)) = omega arith in
     let tail = slots_from (count - (at + 1)) (drop 8 rest) in
-    let is : first_fault (is_some due) at (fields_of_bytes (take 8 rest) ∷ tail) ≡ total = ap (λ (n : ℕ). first_fault (is_some due) at (slots_from n rest)) (sym k) ∙ so_far in
+    let is : first_fault (is_some due) at (fields_of_bytes (take 8 rest) ∷ tail) ≡ total = ap (first_fault (is_some due) at) (sym (slots_on count at rest lt)) ∙ so_far in
     let P : Option DecodeFault → Type 0 = λ o. IsFirstFault o e in
     subst P is (here.first tail)
 
@@ -148,24 +156,15 @@ length-slots_from (suc n) bytes = ap suc (length-slots_from n (drop 8 bytes))
 no_fault_from : (high : ℕ) (due : Bool) (places : List Place) (at : ℕ) → is_whole due places ≡ true
     → first_fault due at (fields_behind high places) ≡ None
 no_fault_from high false [] at h = refl
-no_fault_from high true [] at h = absurd cc
 no_fault_from high false (place.Insn i ∷ places) at h =
-    ap (λ (o : Option SlotFault). or_later at o (first_fault (is_wide_opcode (fields_of i)) (suc at) (fields_behind (high_half i) places))) (fault_of-fields_of i)
-    ∙ ap (λ (b : Bool). first_fault b (suc at) (fields_behind (high_half i) places)) (is_wide_opcode-fields_of i)
+    no_fault i (fields_of i) refl at _ ∙ ap (λ (b : Bool). first_fault b (suc at) (fields_behind (high_half i) places)) (is_wide_opcode-fields_of i)
     ∙ no_fault_from (high_half i) (is_wide i) places (suc at) h
-no_fault_from high true (place.Insn i ∷ places) at h = absurd cc
-no_fault_from high false (place.Second ∷ places) at h = absurd cc
 no_fault_from high true (place.Second ∷ places) at h = no_fault_from 0 false places (suc at) h
+no_fault_from high due places at h = absurd cc
 
 none_first : (first : Option DecodeFault) (e : DecodeFault) → first ≡ None → IsFirstFault first e → e ≡ Memory
 none_first first Memory none h = refl
-none_first first NoCode none h = let both = sym none ∙ h in absurd cc
-none_first first Length none h = let both = sym none ∙ h in absurd cc
-none_first first TooLong none h = let both = sym none ∙ h in absurd cc
-none_first first (WideCut slot) none h = let both = sym none ∙ h in absurd cc
-none_first first (UnusedField slot) none h = let both = sym none ∙ h in absurd cc
-none_first first (Undefined slot) none h = let both = sym none ∙ h in absurd cc
-none_first first (OutsideProfile slot which) none h = let both = sym none ∙ h in absurd cc
+none_first first e none h = let both = sym none ∙ h in absurd cc
 
 pub only_memory : (bytes : List ℕ) (places : List Place) (e : DecodeFault) → Spells bytes places
     → IsFirstFault (first_fault false 0 (slots_of bytes)) e → e ≡ Memory
