@@ -8,6 +8,7 @@ use access_slots::decl::{Decl, DeclFault};
 use access_slots::lock::LockSet;
 use access_slots::slot::{Key, Mode, Record, Slot};
 use std::alloc::Global;
+use std::process::Abort;
 use std::test::Fail;
 
 fn slot(mode: Mode, key: u64) -> Slot {
@@ -39,12 +40,12 @@ fn busy(key: u64, holder: u64) -> Busy {
 }
 
 // Two readers, a writer of another record, and a set that waits for all of them.
-#[test]
-fn the_least_record_and_its_least_holder(rt: HostRuntime) -> Result<(), Fail> {
+fn waits_for_all(rt: &impl Abort, table: &mut LockTable) -> Result<(), Fail>
+    requires { (t : ℕ) → HoldsNothing (held_by table.old) t }
+{
     let reader = set(&[slot(Mode::Read, 5)])?;
     let writer = set(&[slot(Mode::Write, 4)])?;
     let both = set(&[slot(Mode::Write, 4), slot(Mode::Write, 5)])?;
-    let mut table = LockTable::new(rt.alloc());
     table.reserve(&reader)?;
     assert!(rt; table.ready(&reader));
     assert!(rt; !table.ready(&writer));
@@ -65,6 +66,14 @@ fn the_least_record_and_its_least_holder(rt: HostRuntime) -> Result<(), Fail> {
     table.release(2);
     assert_eq!(rt; table.busy(&both), None);
     Ok(())
+}
+
+#[test]
+fn the_least_record_and_its_least_holder(rt: HostRuntime) -> Result<(), Fail> {
+    let mut table = LockTable::new(rt.alloc());
+    let passed = waits_for_all(&rt, &mut table);
+    drop(table);
+    passed
 }
 
 // ---- the map beside a row of claims
