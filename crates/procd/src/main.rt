@@ -2,6 +2,7 @@
 #![tactic(auto)]
 
 mod answer_lines;
+mod answering;
 mod assembly;
 mod execute;
 mod fault_names;
