@@ -4,6 +4,7 @@ ghost use Rattle.std.specs.Prelude.{◌≡◌, ℕ, IfOk, IfErr, OnOk, vec_len};
 ghost use Rattle.worker_pool.specs.Faults.{InRange};
 ghost use Rattle.procd.specs.Running.{AreAnswered, Stops, cause_of};
 
+use crate::watching::{Waits, Watch};
 use data_component::dc::Dc;
 use std::alloc::{AllocError, Global};
 use std::sync::Wait;
@@ -36,13 +37,14 @@ fn cause(fault: RunFault) -> Unbegun
     cause
 }
 
-/// What the calls of both lists were answered, and how long those of the second took, if the clock
-/// can be read.
+/// What the calls of both lists were answered, how long those of the second took in all, if the clock
+/// can be read, and how long the longest of them.
 #[derive(Drop)]
 pub struct Answered {
     pub first: Vec<Answer>,
     pub calls: Vec<Answer>,
     pub elapsed: Option<Duration>,
+    pub longest: Duration,
 }
 
 // How long ago that was, if the clock can be read.
@@ -69,6 +71,7 @@ fn answer_all<R: Clock + Threads + Wait + Sync>(
     workers: usize,
     tries: u64,
     link: &RingLink,
+    waits: &Waits,
 ) -> Result<Answered, Unbegun>
     ensures answered { IfOk result (λ a. AreAnswered state first.now calls.now a.first.items a.calls.items) }
     ensures range { IfOk result (λ _. InRange workers tries) }
@@ -83,11 +86,15 @@ fn answer_all<R: Clock + Threads + Wait + Sync>(
         answers: first,
     } = begun;
     let start = Instant::now(rt).ok();
-    match run(rt, alloc, state, calls, workers, tries, link, &OpenGate) {
+    let watch = Watch::new(rt, waits);
+    let ended = run(rt, alloc, state, calls, workers, tries, link, &watch);
+    waits.end();
+    match ended {
         Ok(report) => Ok(Answered {
             first,
             calls: answers_of(report),
             elapsed: since(rt, start),
+            longest: waits.longest(),
         }),
         Err(fault) => Err(cause(fault)),
     }
@@ -129,12 +136,13 @@ fn answer_and_close<R: Clock + Threads + Wait + Sync>(
     workers: usize,
     tries: u64,
     link: &RingLink,
+    waits: &Waits,
 ) -> Result<Answered, Unbegun>
     ensures answered { IfOk result (λ a. AreAnswered state first.now calls.now a.first.items a.calls.items) }
     ensures range { IfOk result (λ _. InRange workers tries) }
     ensures fault { IfErr result (Stops workers tries) }
 {
-    let answered = answer_all(rt, alloc, state, first, calls, workers, tries, link);
+    let answered = answer_all(rt, alloc, state, first, calls, workers, tries, link, waits);
     link.close();
     answered
 }
@@ -174,6 +182,7 @@ pub fn answer_served<R: Clock + Threads + Wait + Sync>(
     tries: u64,
     rings: Rings,
     dcs: Vec<Dc>,
+    waits: &Waits,
 ) -> (Result<Answered, Unbegun>, Result<Vec<Dc>, AllocError>)
     ensures answered { IfOk result.0 (λ a. AreAnswered state first.now calls.now a.first.items a.calls.items) }
     ensures range { IfOk result.0 (λ _. InRange workers tries) }
@@ -201,7 +210,7 @@ pub fn answer_served<R: Clock + Threads + Wait + Sync>(
             }
             if servers.len() == count {
                 let answered = answer_and_close(
-                    rt, alloc, state, first, calls, workers, tries, link,
+                    rt, alloc, state, first, calls, workers, tries, link, waits,
                 );
                 (answered, handed_back(rt, alloc, servers))
             } else {

@@ -12,14 +12,16 @@ ghost use Rattle.procd.specs.Running.{said_call, AreCallsOf, is_want_of_memory, 
 
 use crate::answer_lines::{fault_line, write_answers};
 use crate::answering::{Answered, Rings, Unbegun, answer_served};
-use crate::figures::{figures, rate};
+use crate::figures::{figures, longest_wait, rate};
 use crate::loading::{Loaded, Loading, load};
 use crate::outcome_lines::write_all_rows;
 use crate::report::Report;
+use crate::watching::Waits;
 use data_component::dc::Dc;
 use scripts::keyword::Command;
 use scripts::script;
 use std::alloc::{AllocError, Global};
+use std::io::Stderr;
 use std::sync::Wait;
 use std::thread::Threads;
 use std::time::Clock;
@@ -77,6 +79,8 @@ fn notes(alloc: Global, answered: &Answered) -> Result<String, AllocError> {
     if let Some(elapsed) = answered.elapsed {
         let rate = rate(alloc, calls.len(), elapsed)?;
         notes.push_str(rate.as_str())?;
+        let wait = longest_wait(alloc, answered.longest)?;
+        notes.push_str(wait.as_str())?;
     }
     Ok(notes)
 }
@@ -115,12 +119,14 @@ fn stopped(alloc: Global, fault: Unbegun) -> Result<Report, AllocError>
     })
 }
 
-// What the lists of a script are run with: their calls, and the rings to the data components.
+// What the lists of a script are run with: their calls, the rings to the data components, and what
+// is known of the calls meanwhile.
 #[derive(Drop)]
 struct Prepared {
     first: Vec<Call>,
     calls: Vec<Call>,
     rings: Rings,
+    waits: Waits,
 }
 
 // Makes the calls that both lists say, and rings to so many components.
@@ -130,6 +136,8 @@ fn prepare(
     calls: &[script::Call],
     dcs: usize,
     workers: u64,
+    stats: bool,
+    terminal: Option<Stderr>,
 ) -> Result<Prepared, AllocError>
     ensures first { IfOk result (λ p. AreCallsOf first.now p.first.items) }
     ensures calls { IfOk result (λ p. AreCallsOf calls.now p.calls.items) }
@@ -137,10 +145,13 @@ fn prepare(
     let first = calls_of(alloc, first)?;
     let calls = calls_of(alloc, calls)?;
     let rings = Rings::new(alloc, dcs, workers)?;
+    let watched = if stats { calls.len() } else { 0 };
+    let waits = Waits::new(alloc, watched, terminal)?;
     Ok(Prepared {
         first,
         calls,
         rings,
+        waits,
     })
 }
 
@@ -161,6 +172,7 @@ fn run_calls<R: Clock + Threads + Wait + Sync>(
         first,
         calls,
         rings,
+        waits,
     } = prepared;
     let (answered, dcs) = answer_served(
         rt,
@@ -172,6 +184,7 @@ fn run_calls<R: Clock + Threads + Wait + Sync>(
         tries,
         rings,
         dcs,
+        &waits,
     );
     match answered {
         Ok(answered) => ran(alloc, &answered, dcs?.as_slice(), stats),
@@ -187,6 +200,7 @@ fn run_loaded<R: Clock + Threads + Wait + Sync>(
     workers: u64,
     tries: u64,
     stats: bool,
+    terminal: Option<Stderr>,
 ) -> Result<Report, AllocError>
     ensures { IfOk result (λ r. IsCallsRun loaded.state loaded.first.items loaded.calls.items (vec_len loaded.dcs) workers tries r.status (string_bytes r.lines)) }
 {
@@ -203,6 +217,8 @@ fn run_loaded<R: Clock + Threads + Wait + Sync>(
         calls.as_slice(),
         dcs.len(),
         workers,
+        stats,
+        terminal,
     ) {
         Ok(ready) => run_calls(rt, alloc, state, dcs, ready, workers, tries, stats),
         Err(AllocError) => Err(AllocError),
@@ -211,7 +227,8 @@ fn run_loaded<R: Clock + Threads + Wait + Sync>(
 
 /// Runs the calls of a script: the first list by one worker, and then the other by so many, each
 /// request sent so often at most. Prints what each call was answered, and then what is kept; with
-/// `stats` the figures of the second list are the report's notes.
+/// `stats` the figures of the second list are the report's notes. Where there is a terminal, it is
+/// told once a second how many of them are answered.
 pub fn running<R: Clock + Threads + Wait + Sync>(
     rt: &R,
     alloc: Global,
@@ -219,11 +236,12 @@ pub fn running<R: Clock + Threads + Wait + Sync>(
     workers: u64,
     tries: u64,
     stats: bool,
+    terminal: Option<Stderr>,
 ) -> Result<Report, AllocError>
     ensures { IfOk result (λ r. IsRun workers tries (script_said command.Run text.now) r.status (string_bytes r.lines)) }
 {
     match load(alloc, Command::Run, text)? {
-        Loading::Ready(loaded) => run_loaded(rt, alloc, loaded, workers, tries, stats),
+        Loading::Ready(loaded) => run_loaded(rt, alloc, loaded, workers, tries, stats, terminal),
         Loading::Refused(report) => Ok(report),
     }
 }
