@@ -70,11 +70,10 @@ fn moved<R: Threads + Wait + Sync, L: Link + Sync>(
     let before = run(rt, alloc, state, puts.as_slice(), 1, 3, link, &OpenGate).ok()?;
     let workers = workers as usize;
     let first = before.ends() as u64;
-    let state = before.state;
     let after = run(
         rt,
         alloc,
-        state,
+        before.state,
         moves.as_slice(),
         workers,
         3,
@@ -82,7 +81,9 @@ fn moved<R: Threads + Wait + Sync, L: Link + Sync>(
         &OpenGate,
     )
     .ok()?;
-    first.checked_add(after.ends() as u64)
+    let second = after.ends() as u64;
+    drop(after);
+    first.checked_add(second)
 }
 
 /// The puts and the moves over a data component that the workers call themselves.

@@ -81,7 +81,10 @@ pub fn state(alloc: Global) -> Option<TcState> {
     let mut state = TcState::new(alloc, 1).ok()?;
     match load_both(alloc, &mut state) {
         Some(()) => Some(state),
-        None => None,
+        None => {
+            drop(state);
+            None
+        }
     }
 }
 

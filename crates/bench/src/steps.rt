@@ -69,5 +69,8 @@ fn run(alloc: Global, state: &mut TcState, ended: u64, opened: u64, times: u64) 
 /// end so many times. The length of the log, in events: four for each that has ended, and one for
 /// each that is open.
 pub fn repeat(alloc: Global, ended: u64, opened: u64, times: u64) -> Option<u64> {
-    run(alloc, &mut state(alloc)?, ended, opened, times)
+    let mut state = state(alloc)?;
+    let events = run(alloc, &mut state, ended, opened, times);
+    drop(state);
+    events
 }

@@ -188,10 +188,10 @@ fn weather<R: Threads + Wait + Sync>(
     traced: bool,
 ) -> Option<Weathered> {
     let report = run(rt, alloc, state, calls, workers, TRIES, storm, &OpenGate).ok()?;
-    Some(Weathered {
-        ended: counted(&report),
-        log: events(alloc, &report, traced),
-    })
+    let ended = counted(&report);
+    let log = events(alloc, &report, traced);
+    drop(report);
+    Some(Weathered { ended, log })
 }
 
 /// A thousand records are put over a link that loses nothing; then so many calls move 1 between two

@@ -6,6 +6,7 @@ pub mod Faults
 pub mod Wishes
 pub mod RowLemmas
 pub mod AnswerLemmas
+pub mod LoadLemmas
 pub mod RunLemmas
 pub mod StepLemmas
 pub mod WorldLemmas

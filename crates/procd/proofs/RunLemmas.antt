@@ -3,12 +3,12 @@ use Rattle.std.proofs.Common.{◌≡◌, ℕ, List, Some}
 use Rattle.std.specs.Prelude.{IfOk, Result, Ok, Err, string_bytes}
 use Rattle.scripts.specs.declared.script.Call.{Call}
 use Rattle.tc_core.specs.Core.{Core}
-use Rattle.worker_pool.specs.declared.pool.RunFault.{RunFault}
+use Rattle.procd.specs.declared.answering.Unbegun.{Unbegun}
 use Rattle.procd.specs.AnswerLines.{fault_line}
 use Rattle.procd.specs.Running.{Stops, IsCallsRun, Stopped}
 use Rattle.procd.specs.declared.report.Report.{Report}
 
-pub stopped_run : {E : Type 0} (r : Result Report E) (fault : RunFault) (start : Core) (first calls : List Call) (dcs workers tries : ℕ)
+pub stopped_run : {E : Type 0} (r : Result Report E) (fault : Unbegun) (start : Core) (first calls : List Call) (dcs workers tries : ℕ)
     → Stops workers tries fault
     → IfOk r (λ report. fault_line fault ≡ Some (string_bytes report.lines)) → IfOk r (λ report. report.status ≡ 1)
     → IfOk r (λ report. IsCallsRun start first calls dcs workers tries report.status (string_bytes report.lines))

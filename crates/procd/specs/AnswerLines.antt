@@ -2,8 +2,8 @@
 use Rattle.std.specs.Prelude.{ℕ, ◌+◌, List, [], ◌∷◌, ◌++◌, Option, Some, None, codes, decimal}
 use Rattle.worker_pool.specs.declared.answer.Answer.{Answer}
 use Rattle.worker_pool.specs.declared.answer.Answer.TheVariants.{Committed, Aborted, NoRoom, InDoubt, Blocked, Refused}
-use Rattle.worker_pool.specs.declared.pool.RunFault.{RunFault}
-use Rattle.worker_pool.specs.declared.pool.RunFault.TheVariants.{Workers, Tries, Memory, NoThread}
+use Rattle.procd.specs.declared.answering.Unbegun.{Unbegun}
+use Rattle.procd.specs.declared.answering.Unbegun.TheVariants.{Workers, Tries, Memory, NoThread}
 use Rattle.procd.specs.OutcomeLines.{record_text, refusal_text}
 
 -- what a call was answered
@@ -28,8 +28,8 @@ abbrev pub answer_lines : List ℕ → List Answer → List ℕ
 answer_lines word answers = answer_lines_from word 0 answers
 
 -- why no call was begun; want of memory has no line, it ends the program
-abbrev pub fault_line : RunFault → Option (List ℕ)
-fault_line (Workers state) = Some (codes "refused G1 Workers\n")
-fault_line (Tries state) = Some (codes "refused G2 Tries\n")
-fault_line (Memory state) = None
-fault_line (NoThread state) = Some (codes "refused G4 NoThread\n")
+abbrev pub fault_line : Unbegun → Option (List ℕ)
+fault_line Workers = Some (codes "refused G1 Workers\n")
+fault_line Tries = Some (codes "refused G2 Tries\n")
+fault_line Memory = None
+fault_line NoThread = Some (codes "refused G4 NoThread\n")

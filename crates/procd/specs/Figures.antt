@@ -34,3 +34,7 @@ figure_lines answers =
 -- how many of so many calls were answered in a second, when all took so many nanoseconds
 abbrev pub rate_line : ℕ → ℕ → List ℕ
 rate_line calls nanoseconds = codes "calls a second " ++ (decimal (calls * 1_000_000 / max (nanoseconds / 1_000) 1) ++ codes "\n")
+
+-- how many microseconds the call took that took longest, of so many nanoseconds
+abbrev pub wait_line : ℕ → List ℕ
+wait_line nanoseconds = codes "longest wait " ++ (decimal (nanoseconds / 1_000) ++ codes " us\n")

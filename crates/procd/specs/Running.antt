@@ -14,7 +14,9 @@ use Rattle.worker_pool.specs.Reports.{Reports}
 use Rattle.worker_pool.specs.declared.answer.Answer.{Answer}
 use Rattle.worker_pool.specs.declared.answer.Answer.TheVariants.{Refused}
 use Rattle.worker_pool.specs.declared.pool.RunFault.{RunFault}
-use Rattle.worker_pool.specs.declared.pool.RunFault.TheVariants.{Workers, Tries, Memory, NoThread}
+use Rattle.worker_pool.specs.declared.pool.RunFault.TheVariants as fault
+use Rattle.procd.specs.declared.answering.Unbegun.{Unbegun}
+use Rattle.procd.specs.declared.answering.Unbegun.TheVariants.{Workers, Tries, Memory, NoThread}
 use Rattle.procd.specs.AnswerLines.{answer_lines, fault_line}
 use Rattle.procd.specs.Loading.{refusal_of, with_procedures, empty_core}
 use Rattle.procd.specs.OutcomeLines.{AddsRowLines}
@@ -44,11 +46,18 @@ pub record AreAnswered (start : Core) (first calls : List Call) (first_answers o
   pub calls_run : Reports middle calls last other_answers
 
 -- when none of the calls is begun, or those of the second list aren't: the first list has one worker
-abbrev pub Stops : ℕ → ℕ → RunFault → Type 0
-Stops workers tries (Tries state) = (tries ≡ 0) ⊎ (1000 < tries)
-Stops workers tries (Workers state) = TriesFit tries × ((workers ≡ 0) ⊎ (64 < workers))
-Stops workers tries (Memory state) = TriesFit tries
-Stops workers tries (NoThread state) = TriesFit tries
+abbrev pub Stops : ℕ → ℕ → Unbegun → Type 0
+Stops workers tries Tries = (tries ≡ 0) ⊎ (1000 < tries)
+Stops workers tries Workers = TriesFit tries × ((workers ≡ 0) ⊎ (64 < workers))
+Stops workers tries Memory = TriesFit tries
+Stops workers tries NoThread = TriesFit tries
+
+-- why, without the state
+abbrev pub cause_of : RunFault → Unbegun
+cause_of (fault.Workers state) = Workers
+cause_of (fault.Tries state) = Tries
+cause_of (fault.Memory state) = Memory
+cause_of (fault.NoThread state) = NoThread
 
 -- ---- the report
 
@@ -73,7 +82,7 @@ pub record ArePrinted (start : Core) (first calls : List said.Call) (dcs : ℕ) 
 -- they are run, whatever they are answered, or it is printed why not
 pub data IsCallsRun (start : Core) (first calls : List said.Call) (dcs workers tries status : ℕ) (lines : List ℕ) : Type 0 where
   Ran : InRange workers tries → status ≡ 0 → ArePrinted start first calls dcs lines → IsCallsRun start first calls dcs workers tries status lines
-  Stopped : (fault : RunFault) → Stops workers tries fault → status ≡ 1 → fault_line fault ≡ Some lines
+  Stopped : (cause : Unbegun) → Stops workers tries cause → status ≡ 1 → fault_line cause ≡ Some lines
       → IsCallsRun start first calls dcs workers tries status lines
 
 -- its procedures are loaded, and nothing has happened

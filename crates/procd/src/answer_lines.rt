@@ -3,9 +3,10 @@
 ghost use Rattle.std.specs.Prelude.{◌≡◌, ◌++◌, IfOk, OnOk, option_map, string_bytes};
 ghost use Rattle.procd.specs.AnswerLines.{answer_text, answer_line, answer_lines, fault_line};
 
+use crate::answering::Unbegun;
 use crate::outcome_lines::{record_text, refusal_text};
 use std::alloc::{AllocError, Global};
-use worker_pool::{Answer, RunFault};
+use worker_pool::Answer;
 
 // What a call was answered.
 fn answer_text(alloc: Global, answer: &Answer) -> Result<String, AllocError>
@@ -59,13 +60,13 @@ pub fn write_answers(
 
 /// The line that says why no call was begun. There is none for want of memory, which ends the
 /// program.
-pub fn fault_line(fault: &RunFault) -> Option<&'static str>
-    ensures { option_map (λ s. s.now) result ≡ fault_line fault.now }
+pub fn fault_line(fault: Unbegun) -> Option<&'static str>
+    ensures { option_map (λ s. s.now) result ≡ fault_line fault }
 {
     match fault {
-        RunFault::Workers(_) => Some("refused G1 Workers\n"),
-        RunFault::Tries(_) => Some("refused G2 Tries\n"),
-        RunFault::Memory(_) => None,
-        RunFault::NoThread(_) => Some("refused G4 NoThread\n"),
+        Unbegun::Workers => Some("refused G1 Workers\n"),
+        Unbegun::Tries => Some("refused G2 Tries\n"),
+        Unbegun::Memory => None,
+        Unbegun::NoThread => Some("refused G4 NoThread\n"),
     }
 }

@@ -2,7 +2,7 @@
 
 ghost use Rattle.std.specs.Prelude.{◌≡◌, ◌++◌, IfOk, OnOk, count_by, string_bytes};
 ghost use Rattle.std.specs.Duration.{as_nanos};
-ghost use Rattle.procd.specs.Figures.{is_committed, is_aborted, is_in_doubt, is_blocked, figure_line, figure_lines, rate_line};
+ghost use Rattle.procd.specs.Figures.{is_committed, is_aborted, is_in_doubt, is_blocked, figure_line, figure_lines, rate_line, wait_line};
 
 use std::alloc::{AllocError, Global};
 use std::time::Duration;
@@ -79,4 +79,12 @@ pub fn rate(alloc: Global, calls: usize, elapsed: Duration) -> Result<String, Al
     let micros = elapsed.as_micros().max(1);
     let rate = (calls as u128) * 1_000_000 / micros;
     format!(in alloc; "calls a second {rate}\n")
+}
+
+/// The line of the longest time that a call took from its beginning to its answer.
+pub fn longest_wait(alloc: Global, longest: Duration) -> Result<String, AllocError>
+    ensures { IfOk result (λ s. string_bytes s ≡ wait_line (as_nanos longest)) }
+{
+    let micros = longest.as_micros();
+    format!(in alloc; "longest wait {micros} us\n")
 }

@@ -2,6 +2,8 @@
 
 ghost use Rattle.std.specs.Prelude.{◌≡◌, [], ◌∷◌, length, map, None, IfOk, IfErr, OnOk, string_bytes};
 ghost use Rattle.scripts.specs.Reading.{script_said};
+ghost use Rattle.procd.specs.Verification.{script_refusal};
+ghost use Rattle.procd.specs.Joining.Loads.{IsReadied, IsRefusal};
 ghost use Rattle.procd.specs.Loading.{unverified, first_unverified, unverified_line, IsUnloaded, with_procedures, empty_core, empty_store, IsLoading};
 
 use crate::fault_names::violation_name;
@@ -10,7 +12,7 @@ use crate::verification::refusal;
 use data_component::dc::Dc;
 use register_kinds::kind::Violation;
 use scripts::keyword::Command;
-use scripts::reading::{Parsed, parse};
+use scripts::reading::{Fault, Parsed, parse};
 use scripts::script::{self, Call, Procedure, Script, Step};
 use std::alloc::{AllocError, Global};
 use tc_core::state::TcState;
@@ -111,8 +113,13 @@ fn state_of(alloc: Global, dcs: usize, procedures: Vec<Procedure>) -> Result<TcS
         return Err(Unloaded::Memory);
     };
     let mut state = TcState::new(alloc, dcs)?;
-    load_all(alloc, &mut state, procedures)?;
-    Ok(state)
+    match load_all(alloc, &mut state, procedures) {
+        Ok(()) => Ok(state),
+        Err(unloaded) => {
+            drop(state);
+            Err(unloaded)
+        }
+    }
 }
 
 // The data components, empty.
@@ -126,18 +133,51 @@ fn empty_dcs(alloc: Global, dcs: &[script::Dc]) -> Result<Vec<Dc>, AllocError>
     Ok(made)
 }
 
-fn unverified_report(alloc: Global, unverified: Unverified) -> Result<Report, AllocError>
-    ensures lines { IfOk result (λ r. string_bytes r.lines ≡ unverified_line unverified) }
-    ensures status { IfOk result (λ r. r.status ≡ 1) }
+// Nothing is loaded, since the verifier refuses this procedure.
+fn refused_procedure(alloc: Global, unverified: Unverified) -> Result<Loading, AllocError>
+    ensures { IfOk result (IsRefusal (unverified_line unverified)) }
 {
     let line = unverified.line;
     let slot = unverified.slot;
     let violation = violation_name(unverified.violation);
-    Ok(Report {
+    Ok(Loading::Refused(Report {
         status: 1,
         lines: format!(in alloc; "refused line {line} F7 Verify {violation} slot {slot}\n")?,
         notes: None,
-    })
+    }))
+}
+
+// Nothing is loaded, since the text has this fault.
+fn refused_text(alloc: Global, fault: Fault) -> Result<Loading, AllocError>
+    ensures { IfOk result (IsRefusal (script_refusal fault)) }
+{
+    Ok(Loading::Refused(refusal(alloc, fault)?))
+}
+
+// What the steps and calls begin with.
+fn ready(
+    alloc: Global,
+    state: TcState,
+    dcs: &[script::Dc],
+    steps: Vec<Step>,
+    first: Vec<Call>,
+    calls: Vec<Call>,
+) -> Result<Loading, AllocError>
+    ensures { IfOk result (IsReadied state dcs.now steps.items first.items calls.items) }
+{
+    match empty_dcs(alloc, dcs) {
+        Ok(dcs) => Ok(Loading::Ready(Loaded {
+            state,
+            dcs,
+            steps,
+            first,
+            calls,
+        })),
+        Err(AllocError) => {
+            drop(state);
+            Err(AllocError)
+        }
+    }
 }
 
 /// Reads a text as a script of this command, verifies and loads its procedures, and makes its
@@ -153,21 +193,15 @@ pub fn load(alloc: Global, command: Command, text: &str) -> Result<Loading, Allo
         first,
         calls,
     } = script;
-    let state = match state_of(alloc, dcs.len(), procedures) {
-        Ok(state) => state,
-        Err(Unloaded::Refused(unverified)) => {
-            return Ok(Loading::Refused(unverified_report(alloc, unverified)?));
-        }
-        Err(Unloaded::Memory) => return Err(AllocError),
-    };
-    if let Some(fault) = fault {
-        return Ok(Loading::Refused(refusal(alloc, fault)?));
+    match state_of(alloc, dcs.len(), procedures) {
+        Ok(state) => match fault {
+            None => ready(alloc, state, dcs.as_slice(), steps, first, calls),
+            Some(fault) => {
+                drop(state);
+                refused_text(alloc, fault)
+            }
+        },
+        Err(Unloaded::Refused(unverified)) => refused_procedure(alloc, unverified),
+        Err(Unloaded::Memory) => Err(AllocError),
     }
-    Ok(Loading::Ready(Loaded {
-        state,
-        dcs: empty_dcs(alloc, dcs.as_slice())?,
-        steps,
-        first,
-        calls,
-    }))
 }

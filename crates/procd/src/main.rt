@@ -2,6 +2,7 @@
 #![tactic(auto)]
 
 mod answer_lines;
+mod answering;
 mod assembly;
 mod execute;
 mod fault_names;
@@ -16,12 +17,13 @@ mod report;
 mod running;
 mod stepping;
 mod verification;
+mod watching;
 mod words;
 mod world;
 
 use program::{no_memory, not_text, program};
 use std::env;
-use std::io::ErrorKind;
+use std::io::{ErrorKind, IsTerminal};
 use std::process::ExitCode;
 
 fn main(rt: HostRuntime) -> ExitCode {
@@ -39,7 +41,16 @@ fn main(rt: HostRuntime) -> ExitCode {
     let Ok(words) = args.collect::<Vec<String>>(alloc) else {
         return ExitCode::from(no_memory(&mut err));
     };
-    ExitCode::from(program(&rt, alloc, words.as_slice(), &mut input, &mut out, &mut err))
+    let terminal = err.is_terminal().then_some(err);
+    ExitCode::from(program(
+        &rt,
+        alloc,
+        words.as_slice(),
+        &mut input,
+        &mut out,
+        &mut err,
+        terminal,
+    ))
 }
 
 #[cfg(test)]

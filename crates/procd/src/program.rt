@@ -16,7 +16,7 @@ use clap::error::ErrorKind;
 use std::alloc::Global;
 use std::convert::AsStr;
 use std::fs::File;
-use std::io::{self, Read, Write};
+use std::io::{self, Read, Stderr, Write};
 use std::rt::Files;
 use std::sync::Wait;
 use std::thread::Threads;
@@ -99,12 +99,13 @@ fn run_text<F: Clock + Threads + Wait + Sync, W: Write, E: Write>(
     text: &[u8],
     out: &mut W,
     err: &mut E,
+    terminal: Option<Stderr>,
 ) -> u8
     ensures { Ends wanted.now.file.now (wish_of wanted.now.task) text.now
         (stream (W.contents out.old) (W.contents out.new))
         (stream (E.contents err.old) (E.contents err.new)) result }
 {
-    let report = match report_on(rt, alloc, &wanted.task, text) {
+    let report = match report_on(rt, alloc, &wanted.task, text, terminal) {
         Ok(report) => report,
         Err(ReportFault::Memory) => return no_memory(err),
         Err(ReportFault::NotText) => return cannot_read(err, wanted.file),
@@ -126,13 +127,14 @@ fn run_input<F: Clock + Threads + Wait + Sync, R: Read, W: Write, E: Write>(
     input: &mut R,
     out: &mut W,
     err: &mut E,
+    terminal: Option<Stderr>,
 ) -> u8
     ensures { EndsOn wanted.now.file.now (wish_of wanted.now.task) (R.remaining input.old)
         (stream (W.contents out.old) (W.contents out.new))
         (stream (E.contents err.old) (E.contents err.new)) result }
 {
     match read_all(alloc, input) {
-        Ok(text) => run_text(rt, alloc, wanted, text.as_slice(), out, err),
+        Ok(text) => run_text(rt, alloc, wanted, text.as_slice(), out, err, terminal),
         Err(ReadFault::Memory) => no_memory(err),
         Err(ReadFault::Read) => cannot_read(err, wanted.file),
     }
@@ -145,13 +147,14 @@ fn run_file<F: Files + Clock + Threads + Wait + Sync, W: Write, E: Write>(
     wanted: &Wanted,
     out: &mut W,
     err: &mut E,
+    terminal: Option<Stderr>,
 ) -> u8
     ensures { EndsOn wanted.now.file.now (wish_of wanted.now.task) None
         (stream (W.contents out.old) (W.contents out.new))
         (stream (E.contents err.old) (E.contents err.new)) result }
 {
     match File::open(rt, wanted.file) {
-        Ok(mut file) => run_input(rt, alloc, wanted, &mut file, out, err),
+        Ok(mut file) => run_input(rt, alloc, wanted, &mut file, out, err, terminal),
         Err(_) => cannot_read(err, wanted.file),
     }
 }
@@ -164,15 +167,16 @@ fn run_wanted<F: Files + Clock + Threads + Wait + Sync, R: Read, W: Write, E: Wr
     input: &mut R,
     out: &mut W,
     err: &mut E,
+    terminal: Option<Stderr>,
 ) -> u8
     ensures { Runs wanted.now.file.now (wish_of wanted.now.task) (R.remaining input.old)
         (stream (W.contents out.old) (W.contents out.new))
         (stream (E.contents err.old) (E.contents err.new)) result }
 {
     if wanted.file == "-" {
-        return run_input(rt, alloc, wanted, input, out, err);
+        return run_input(rt, alloc, wanted, input, out, err, terminal);
     }
-    run_file(rt, alloc, wanted, out, err)
+    run_file(rt, alloc, wanted, out, err, terminal)
 }
 
 // A command line that asks for help, or is wrong.
@@ -212,7 +216,8 @@ pub fn not_text<E: Write>(err: &mut E) -> u8
 }
 
 /// Runs the program with these words, its name first, and answers its exit status: 0 done, 1
-/// refused, 2 wrong command line, 3 file fault, 4 want of memory.
+/// refused, 2 wrong command line, 3 file fault, 4 want of memory. A long run tells how far it is to
+/// the terminal, if there is one, beside what stands on `err`.
 pub fn program<F: Files + Clock + Threads + Wait + Sync, S: AsStr, R: Read, W: Write, E: Write>(
     rt: &F,
     alloc: Global,
@@ -220,6 +225,7 @@ pub fn program<F: Files + Clock + Threads + Wait + Sync, S: AsStr, R: Read, W: W
     input: &mut R,
     out: &mut W,
     err: &mut E,
+    terminal: Option<Stderr>,
 ) -> u8
     // What is written is what the command makes of the text of its file or of standard input.
     ensures runs { (file : List ℕ) (wish : Wish) → Says (map S.text words.now) file wish
@@ -232,7 +238,7 @@ pub fn program<F: Files + Clock + Threads + Wait + Sync, S: AsStr, R: Read, W: W
     ensures wrong { result ≡ 2 → W.contents out.new ≡ W.contents out.old }
 {
     match wanted_of(alloc, words) {
-        Ok(wanted) => run_wanted(rt, alloc, &wanted, input, out, err),
+        Ok(wanted) => run_wanted(rt, alloc, &wanted, input, out, err, terminal),
         Err(WordFault::Clap(error)) => misuse(error, out, err),
         Err(WordFault::Memory) => no_memory(err),
         Err(WordFault::NotNumber) => {

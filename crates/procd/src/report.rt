@@ -14,6 +14,7 @@ use crate::verification::verification;
 use crate::words::Task;
 use crate::world::world;
 use std::alloc::{AllocError, Global};
+use std::io::Stderr;
 use std::sync::Wait;
 use std::thread::Threads;
 use std::time::Clock;
@@ -63,6 +64,7 @@ pub fn report_on<R: Clock + Threads + Wait + Sync>(
     alloc: Global,
     task: &Task,
     text: &[u8],
+    terminal: Option<Stderr>,
 ) -> Result<Report, ReportFault>
     ensures ok { IfOk result (λ r. IsReport (wish_of task.now) text.now r.status (string_bytes r.lines)) }
     // Only assembly text and scripts have to be UTF-8.
@@ -87,7 +89,7 @@ pub fn report_on<R: Clock + Threads + Wait + Sync>(
             tries,
             stats,
         } => match str::from_utf8(text) {
-            Ok(text) => Ok(running(rt, alloc, text, *workers, *tries, *stats)?),
+            Ok(text) => Ok(running(rt, alloc, text, *workers, *tries, *stats, terminal)?),
             Err(_) => Err(ReportFault::NotText),
         },
         Task::Dis { raw } => Ok(disassembly(alloc, *raw, text)?),

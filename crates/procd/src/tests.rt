@@ -23,7 +23,7 @@ pub(crate) fn run<R: Files + Clock + AllocGlobal + Threads + Wait + Sync>(
 ) -> Ended {
     let mut out = Vec::new(rt.alloc());
     let mut err = Vec::new(rt.alloc());
-    let status = program(rt, rt.alloc(), words, &mut input, &mut out, &mut err);
+    let status = program(rt, rt.alloc(), words, &mut input, &mut out, &mut err, None);
     Ended { out, err, status }
 }
 
@@ -596,7 +596,7 @@ fn reads_that_fail(rt: HostRuntime) {
         };
         let mut out = Vec::new(rt.alloc());
         let mut err = Vec::new(rt.alloc());
-        let status = program(&rt, rt.alloc(), &EXEC, &mut input, &mut out, &mut err);
+        let status = program(&rt, rt.alloc(), &EXEC, &mut input, &mut out, &mut err, None);
         if left == TWO.len() + 1 {
             assert_eq!(rt; out.as_slice(), b"answer 7\nexecuted 2\n".as_slice());
             assert_eq!(rt; status, 0);
@@ -618,7 +618,7 @@ fn writes_that_fail(rt: HostRuntime) {
         };
         let mut err = Vec::new(rt.alloc());
         let mut input = TWO;
-        let status = program(&rt, rt.alloc(), &EXEC, &mut input, &mut out, &mut err);
+        let status = program(&rt, rt.alloc(), &EXEC, &mut input, &mut out, &mut err, None);
         assert_eq!(rt; out.taken.as_slice(), &want[..room]);
         if room == want.len() {
             assert_eq!(rt; status, 0);

@@ -1,0 +1,128 @@
+//! How long the calls of a run wait for their answers, and how many are answered so far.
+
+use std::alloc::{AllocError, Global};
+use std::io::{Stderr, Write};
+use std::sync::atomic::{AtomicU64, Ordering};
+use std::time::{Clock, Duration, Instant};
+use worker_pool::Gate;
+
+// A line of progress a second, in nanoseconds.
+const TOLD_EACH: u64 = 1_000_000_000;
+
+/// What is known of a run's calls while it lasts: how long each takes from its beginning to its
+/// answer, where that is asked for, and how many are answered, which a terminal is told once a
+/// second.
+#[derive(Drop)]
+pub struct Waits {
+    // Of each call, in nanoseconds: 0, then when it began, and at last how long it took.
+    calls: Vec<AtomicU64>,
+    terminal: Option<Stderr>,
+    answered: AtomicU64,
+    told: AtomicU64,
+}
+
+impl Waits {
+    /// Room for the times of so many calls, of which none has begun.
+    pub fn new(alloc: Global, calls: usize, terminal: Option<Stderr>) -> Result<Waits, AllocError> {
+        let mut times = Vec::with_capacity(alloc, calls)?;
+        for _ in 0..calls {
+            times.push(AtomicU64::new(0))?;
+        }
+        Ok(Waits {
+            calls: times,
+            terminal,
+            answered: AtomicU64::new(0),
+            told: AtomicU64::new(0),
+        })
+    }
+
+    // Whether nobody asks for what is known.
+    fn is_idle(&self) -> bool {
+        self.calls.is_empty() && self.terminal.is_none()
+    }
+
+    // Writes how many calls are answered over the line of before, where that is a second old.
+    fn tell(&self, mut terminal: Stderr, now: u64) {
+        let answered = self.answered.fetch_add(1, Ordering::SeqCst).wrapping_add(1);
+        let last = self.told.load(Ordering::SeqCst);
+        if now.saturating_sub(last) >= TOLD_EACH
+            && self
+                .told
+                .compare_exchange(last, now, Ordering::SeqCst, Ordering::SeqCst)
+                .is_ok()
+        {
+            let _ = write!(terminal, "\r{answered} calls answered");
+        }
+    }
+
+    /// Ends the line of progress, if there is one.
+    pub fn end(&self) {
+        if let (Some(mut terminal), true) = (self.terminal, self.told.load(Ordering::SeqCst) > 0) {
+            let _ = terminal.write_all(b"\n");
+        }
+    }
+
+    /// The longest time that a call took from its beginning to its answer, once all are answered.
+    pub fn longest(&self) -> Duration {
+        let mut longest = 0;
+        for call in &self.calls {
+            longest = longest.max(call.load(Ordering::SeqCst));
+        }
+        Duration::from_nanos(longest)
+    }
+}
+
+/// Who watches the calls of a run by a clock.
+#[derive(Drop)]
+pub struct Watch<'a, R> {
+    clock: &'a R,
+    start: Option<Instant>,
+    waits: &'a Waits,
+}
+
+impl<'a, R: Clock> Watch<'a, R> {
+    /// Watches from now on, where somebody asks for what is known and the clock can be read.
+    pub fn new(clock: &'a R, waits: &'a Waits) -> Watch<'a, R> {
+        Watch {
+            clock,
+            start: if waits.is_idle() {
+                None
+            } else {
+                Instant::now(clock).ok()
+            },
+            waits,
+        }
+    }
+
+    // The nanoseconds since the start.
+    fn now(&self) -> Option<u64> {
+        let elapsed = self.start?.elapsed(self.clock).ok()?;
+        u64::try_from(elapsed.as_nanos()).ok()
+    }
+}
+
+impl<R: Clock> Gate for Watch<'_, R> {
+    fn begun(&self, call: usize) {
+        if let (Some(call), Some(now)) = (self.waits.calls.get(call), self.now()) {
+            call.store(now.max(1), Ordering::SeqCst);
+        }
+    }
+
+    fn answered(&self, call: usize) {
+        let Some(now) = self.now() else {
+            return;
+        };
+        if let Some(call) = self.waits.calls.get(call) {
+            let begun = call.load(Ordering::SeqCst);
+            let took = if begun == 0 {
+                0
+            } else {
+                now.saturating_sub(begun)
+            };
+            call.store(took, Ordering::SeqCst);
+        }
+        if let Some(terminal) = self.waits.terminal {
+            self.waits.tell(terminal, now);
+        }
+    }
+}
