@@ -53,8 +53,6 @@ mod run_tests;
 #[cfg(test)]
 mod script_tests;
 #[cfg(test)]
-mod step_tests;
-#[cfg(test)]
 mod test_scripts;
 #[cfg(test)]
 mod tests;
