@@ -45,8 +45,6 @@ fn main(rt: HostRuntime) -> ExitCode {
 #[cfg(test)]
 mod encoding_tests;
 #[cfg(test)]
-mod log_tests;
-#[cfg(test)]
 mod machine_tests;
 #[cfg(test)]
 mod run_tests;

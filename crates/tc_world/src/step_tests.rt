@@ -1,7 +1,7 @@
 // Each call once, where it succeeds.
 
 use crate::step::{Illegal, Outcome, Step};
-use crate::test_state::{PUT, call, state};
+use crate::test_state::{PUT, call, closed, state};
 use crate::world::World;
 use access_slots::op::{Reply, Said};
 use data_component::dc::Dc;
@@ -18,11 +18,6 @@ fn world(rt: &impl Abort, alloc: Global) -> Result<World, Fail> {
     let state = state(rt, alloc)?;
     assert_eq!(rt; state.open_count(), 0);
     Ok(World::new(alloc, state, dcs))
-}
-
-// Ends a world in whose requests nothing is looked for.
-fn closed(world: World) {
-    let (_state, _dcs) = world.close();
 }
 
 // The first transaction's request is sent under one number twice.

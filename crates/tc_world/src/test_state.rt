@@ -1,6 +1,7 @@
 //! A state in which the tests' procedures are loaded, and calls of them.
 
 use crate::test_procedures::{BAD_CODE, DROP_CODE, GET_CODE, MOVE_CODE, keyed, procedure, put_in};
+use crate::world::World;
 use access_slots::slot::{Mode, Record, Value};
 use std::alloc::{AllocError, Global};
 use std::process::Abort;
@@ -52,6 +53,11 @@ pub(crate) fn state(rt: &impl Abort, alloc: Global) -> Result<TcState, Fail> {
     let mut tc = TcState::new(alloc, 1)?;
     load_all(rt, alloc, &mut tc)?;
     Ok(tc)
+}
+
+/// Closes a world, and lets its parts go.
+pub(crate) fn closed(world: World) {
+    let (_state, _dcs) = world.close();
 }
 
 /// A call of the procedure with this number.
