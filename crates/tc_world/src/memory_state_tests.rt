@@ -1,7 +1,7 @@
 // Calls on a state and a world that are refused memory once, and are then made again: what they were
 // refused on is as before. tools/requests.py refuses each request in turn.
 
-use crate::memory_tests::verified;
+use crate::memory_tests::{dc, verified};
 use crate::step::{Illegal, Outcome, Step};
 use crate::test_state::{closed, load, record, value};
 use crate::world::World;
@@ -24,12 +24,17 @@ fn put(alloc: Global, key: u64) -> Result<Call, AllocError> {
     Ok(Call { proc: 0, args })
 }
 
-// Nothing was loaded, and the code comes back.
-fn loaded_again(rt: &impl Abort, tc: &mut TcState, fault: LoadFault) -> Result<usize, LoadRefusal> {
-    let LoadFault { why, code } = fault;
+// Nothing was loaded, for want of memory.
+fn nothing_is_loaded(rt: &impl Abort, tc: &TcState, why: LoadRefusal) {
     assert_eq!(rt; why, LoadRefusal::Memory);
     assert_eq!(rt; tc.find("put"), None);
     assert!(rt; tc.procs().is_empty());
+}
+
+// The code comes back, and is loaded then.
+fn loaded_again(rt: &impl Abort, tc: &mut TcState, fault: LoadFault) -> Result<usize, LoadRefusal> {
+    let LoadFault { why, code } = fault;
+    nothing_is_loaded(rt, tc, why);
     load(tc, "put", code)
 }
 
@@ -40,12 +45,22 @@ fn loaded(rt: &impl Abort, tc: &mut TcState, code: Verified) -> Result<usize, Lo
     }
 }
 
+fn put_loaded(rt: &impl Abort, alloc: Global, tc: &mut TcState) -> Result<(), Fail> {
+    let code = verified(alloc)?;
+    assert_eq!(rt; loaded(rt, tc, code), Ok(0));
+    Ok(())
+}
+
 // A state in which `put` is loaded.
 fn state(rt: &impl Abort, alloc: Global) -> Result<TcState, Fail> {
-    let code = verified(alloc)?;
     let mut tc = TcState::new(alloc, 1)?;
-    assert_eq!(rt; loaded(rt, &mut tc, code), Ok(0));
-    Ok(tc)
+    match put_loaded(rt, alloc, &mut tc) {
+        Ok(()) => Ok(tc),
+        Err(fault) => {
+            drop(tc);
+            Err(fault)
+        }
+    }
 }
 
 // No event, no lock, no number and no place is taken.
@@ -65,21 +80,20 @@ fn admitted(rt: &impl Abort, tc: &mut TcState, call: &Call) -> Result<TxnId, Ref
     }
 }
 
-#[test]
-fn an_admission(rt: HostRuntime) -> Result<(), Fail> {
-    let call = put(rt.alloc(), 5)?;
-    let mut tc = state(&rt, rt.alloc())?;
-    let txn = admitted(&rt, &mut tc, &call);
+fn put_admitted(rt: &impl Abort, alloc: Global, tc: &mut TcState) -> Result<(), AllocError> {
+    let call = put(alloc, 5)?;
+    let txn = admitted(rt, tc, &call);
     assert_eq!(rt; txn.map(|txn| txn.serial()), Ok(1));
     assert_eq!(rt; (tc.log().len(), tc.open_count()), (1, 1));
     Ok(())
 }
 
-fn dc(alloc: Global) -> Result<Dc, AllocError> {
-    match Dc::new(alloc, 4, 100) {
-        Ok(dc) => Ok(dc),
-        Err(_) => Dc::new(alloc, 4, 100),
-    }
+#[test]
+fn an_admission(rt: HostRuntime) -> Result<(), Fail> {
+    let mut tc = state(&rt, rt.alloc())?;
+    let passed = put_admitted(&rt, rt.alloc(), &mut tc);
+    drop(tc);
+    Ok(passed?)
 }
 
 // One data component.
@@ -94,10 +108,15 @@ fn dcs(alloc: Global) -> Result<Vec<Dc>, AllocError> {
 }
 
 fn world(rt: &impl Abort, alloc: Global) -> Result<World, Fail> {
-    let dcs = dcs(alloc)?;
     let state = state(rt, alloc)?;
     assert_eq!(rt; state.open_count(), 0);
-    Ok(World::new(alloc, state, dcs))
+    match dcs(alloc) {
+        Ok(dcs) => Ok(World::new(alloc, state, dcs)),
+        Err(fault) => {
+            drop(state);
+            Err(Fail::from(fault))
+        }
+    }
 }
 
 // No event of a step that is refused memory is logged.
@@ -112,9 +131,9 @@ fn stepped(rt: &impl Abort, world: &mut World, step: &Step) -> Result<Outcome, I
     }
 }
 
-// The step goes so, and so many events are logged.
-fn goes(rt: &impl Abort, world: &mut World, step: &Step, outcome: &str, events: usize) {
-    let word = match stepped(rt, world, step) {
+// What a step did, as a word.
+fn word(stepped: Result<Outcome, Illegal>) -> &'static str {
+    match stepped {
         Ok(Outcome::Admitted(1)) => "admitted",
         Ok(Outcome::Sent(0, _)) => "sent",
         Ok(Outcome::Sent(1, _)) => "sent again",
@@ -124,8 +143,13 @@ fn goes(rt: &impl Abort, world: &mut World, step: &Step, outcome: &str, events: 
         Ok(Outcome::Took(1)) => "took",
         Ok(Outcome::Over(1)) => "over",
         _ => "another",
-    };
-    assert_eq!(rt; word, outcome);
+    }
+}
+
+// The step goes so, and so many events are logged.
+fn goes(rt: &impl Abort, world: &mut World, step: &Step, outcome: &str, events: usize) {
+    let stepped = stepped(rt, world, step);
+    assert_eq!(rt; word(stepped), outcome);
     assert_eq!(rt; world.state().log().len(), events);
 }
 
@@ -151,10 +175,12 @@ fn ends(rt: &impl Abort, world: &mut World) {
         txn: 1,
         outcome: Ending::Committed,
     };
-    assert_eq!(rt;
-        stepped(rt, world, &Step::End(1)),
-        Ok(Outcome::Ended(receipt))
-    );
+    let end = stepped(rt, world, &Step::End(1));
+    assert_eq!(rt; end, Ok(Outcome::Ended(receipt)));
+}
+
+// The record stands at each data component.
+fn is_put(rt: &impl Abort, world: &World) {
     for dc in world.dcs() {
         assert_eq!(rt; dc.get(&record(5)), Some(value(100)));
     }
@@ -166,6 +192,7 @@ fn steps_of_a_world(rt: HostRuntime) -> Result<(), Fail> {
     let mut world = world(&rt, rt.alloc())?;
     all_go(&rt, &mut world, &admit);
     ends(&rt, &mut world);
+    is_put(&rt, &world);
     closed(world);
     Ok(())
 }

@@ -5,6 +5,7 @@ ghost use Rattle.std.specs.Prelude.{◌≤◌, OnOk};
 
 use crate::log_tests::{PUT_AND_ABORT, printed};
 use crate::test_procedures::{PUT_CODE, bytes_of, put_decl};
+use access_slots::decl::Decl;
 use access_slots::lock::LockSet;
 use bpf_encoding::code::Code;
 use bpf_encoding::decode::{DecodeFault, decode};
@@ -50,35 +51,48 @@ fn put_bytes(alloc: Global) -> Result<Vec<u8>, AllocError> {
     }
 }
 
+// The code has these bytes.
+fn encodes_to(rt: &impl Abort, alloc: Global, code: &Code, bytes: &[u8]) -> Result<(), AllocError> {
+    let encoded = encoded(alloc, code)?;
+    assert_eq!(rt; encoded.as_slice(), bytes);
+    Ok(())
+}
+
 #[test]
 fn code_and_its_bytes(rt: HostRuntime) -> Result<(), Fail> {
     let bytes = put_bytes(rt.alloc())?;
     let code = decoded(rt.alloc(), bytes.as_slice())?;
-    assert_eq!(rt; encoded(rt.alloc(), &code)?.as_slice(), bytes.as_slice());
+    encodes_to(&rt, rt.alloc(), &code, bytes.as_slice())?;
     let code = made(rt.alloc(), &[Insn::Exit])?;
-    assert_eq!(rt;
-        encoded(rt.alloc(), &code)?.as_slice(),
-        [0x95, 0, 0, 0, 0, 0, 0, 0].as_slice()
-    );
+    encodes_to(&rt, rt.alloc(), &code, &[0x95, 0, 0, 0, 0, 0, 0, 0])?;
     Ok(())
+}
+
+fn put_code(alloc: Global) -> Result<Code, Fail> {
+    let bytes = put_bytes(alloc)?;
+    Ok(decoded(alloc, bytes.as_slice())?)
+}
+
+fn verified_once(alloc: Global) -> Result<Result<Verified, VerifyFault>, Fail> {
+    let decl = put_decl(0)?;
+    let code = put_code(alloc)?;
+    Ok(verify(alloc, code, decl))
 }
 
 /// `put`. A verdict that isn't reached leaves neither code nor declaration.
 pub(crate) fn verified(alloc: Global) -> Result<Verified, Fail> {
-    let bytes = put_bytes(alloc)?;
-    let code = decoded(alloc, bytes.as_slice())?;
-    let again = decoded(alloc, bytes.as_slice())?;
-    match verify(alloc, code, put_decl(0)?) {
-        Ok(verified) => Ok(verified),
-        Err(VerifyFault::Memory) => Ok(verify(alloc, again, put_decl(0)?)?),
-        Err(VerifyFault::At(..)) => Err(Fail::from("refused by the verifier")),
+    match verified_once(alloc)? {
+        Err(VerifyFault::Memory) => Ok(verified_once(alloc)??),
+        verified => Ok(verified?),
     }
 }
 
 #[test]
 fn code_that_is_verified(rt: HostRuntime) -> Result<(), Fail> {
     let put = verified(rt.alloc())?;
-    assert_eq!(rt; (put.code().len(), put.calls()), (7, 2));
+    let size = (put.code().len(), put.calls());
+    drop(put);
+    assert_eq!(rt; size, (7, 2));
     Ok(())
 }
 
@@ -96,16 +110,27 @@ fn printed_again(alloc: Global, log: &Log) -> Result<Vec<u8>, AllocError> {
     }
 }
 
+// The bytes of the log of a put and an abort.
+fn log_bytes(alloc: Global) -> Result<Vec<u8>, AllocError> {
+    match printed(alloc, &PUT_AND_ABORT) {
+        Ok(bytes) => Ok(bytes),
+        Err(_) => printed(alloc, &PUT_AND_ABORT),
+    }
+}
+
+fn prints_to(rt: &impl Abort, alloc: Global, log: &Log, bytes: &[u8]) -> Result<(), AllocError> {
+    let again = printed_again(alloc, log)?;
+    assert_eq!(rt; again.as_slice(), bytes);
+    Ok(())
+}
+
 #[test]
 fn a_log_and_its_bytes(rt: HostRuntime) -> Result<(), Fail> {
-    let bytes = match printed(rt.alloc(), &PUT_AND_ABORT) {
-        Ok(bytes) => bytes,
-        Err(_) => printed(rt.alloc(), &PUT_AND_ABORT)?,
-    };
+    let bytes = log_bytes(rt.alloc())?;
     let log = read(rt.alloc(), bytes.as_slice())?;
-    let again = printed_again(rt.alloc(), &log)?;
-    assert_eq!(rt; again.as_slice(), bytes.as_slice());
-    Ok(())
+    let passed = prints_to(&rt, rt.alloc(), &log, bytes.as_slice());
+    drop(log);
+    Ok(passed?)
 }
 
 // The log has as many events as before, whose places stay.
@@ -122,11 +147,10 @@ fn reserved_in_log(rt: &impl Abort, log: &mut Log) -> Result<(), AllocError>
     }
 }
 
-#[test]
-fn events_of_a_log(rt: HostRuntime) -> Result<(), Fail> {
-    let mut log = Log::new(rt.alloc());
+// Twenty events are logged.
+fn twenty_are_logged(rt: &impl Abort, log: &mut Log) -> Result<(), AllocError> {
     for txn in 0..20u64 {
-        reserved_in_log(&rt, &mut log)?;
+        reserved_in_log(rt, log)?;
         log.push(Event::End {
             txn,
             outcome: Outcome::Committed,
@@ -135,6 +159,14 @@ fn events_of_a_log(rt: HostRuntime) -> Result<(), Fail> {
     assert_eq!(rt; log.len(), 20);
     assert!(rt; matches!(log.at(7), Some(Event::End { txn: 7, .. })));
     Ok(())
+}
+
+#[test]
+fn events_of_a_log(rt: HostRuntime) -> Result<(), Fail> {
+    let mut log = Log::new(rt.alloc());
+    let passed = twenty_are_logged(&rt, &mut log);
+    drop(log);
+    Ok(passed?)
 }
 
 // The last number and those that are open stay.
@@ -151,14 +183,21 @@ fn reserved_in_numbers(rt: &impl Abort, numbers: &mut Numbers) -> Result<(), All
     }
 }
 
-#[test]
-fn numbers_that_are_given_out(rt: HostRuntime) -> Result<(), Fail> {
-    let mut numbers = Numbers::new(rt.alloc());
+// The numbers up to 19 are given out.
+fn are_given_out(rt: &impl Abort, numbers: &mut Numbers) -> Result<(), AllocError> {
     for number in 1..20u64 {
-        reserved_in_numbers(&rt, &mut numbers)?;
+        reserved_in_numbers(rt, numbers)?;
         assert_eq!(rt; numbers.next().ok(), Some(number));
     }
     Ok(())
+}
+
+#[test]
+fn numbers_that_are_given_out(rt: HostRuntime) -> Result<(), Fail> {
+    let mut numbers = Numbers::new(rt.alloc());
+    let passed = are_given_out(&rt, &mut numbers);
+    drop(numbers);
+    Ok(passed?)
 }
 
 // What is held stays, here nothing.
@@ -177,27 +216,46 @@ fn reserved_in_table(
     }
 }
 
+// The locks are ready, and nothing stands in their way.
+fn are_ready(rt: &impl Abort, table: &LockTable, set: &LockSet) {
+    assert!(rt; table.ready(set));
+    assert_eq!(rt; table.busy(set), None);
+}
+
+// The locks that a declaration of two arguments asks for under five keys.
+fn five_are_ready(rt: &impl Abort, table: &mut LockTable, decl: &Decl) -> Result<(), AllocError> {
+    assert_eq!(rt; decl.args(), 2);
+    for key in 0..5u64 {
+        let set = decl.resolve(&[key, 0]);
+        reserved_in_table(rt, table, &set)?;
+        are_ready(rt, table, &set);
+    }
+    Ok(())
+}
+
 #[test]
 fn locks_that_are_ready(rt: HostRuntime) -> Result<(), Fail> {
     let decl = put_decl(0)?;
     let mut table = LockTable::new(rt.alloc());
-    assert_eq!(rt; decl.args(), 2);
-    for key in 0..5u64 {
-        let set = decl.resolve(&[key, 0]);
-        reserved_in_table(&rt, &mut table, &set)?;
-        assert!(rt; table.ready(&set));
-        assert_eq!(rt; table.busy(&set), None);
+    let passed = five_are_ready(&rt, &mut table, &decl);
+    drop(table);
+    Ok(passed?)
+}
+
+/// A data component of room for four records.
+pub(crate) fn dc(alloc: Global) -> Result<Dc, AllocError> {
+    match Dc::new(alloc, 4, 100) {
+        Ok(dc) => Ok(dc),
+        Err(_) => Dc::new(alloc, 4, 100),
     }
-    Ok(())
 }
 
 // A data component that isn't made takes nothing.
 #[test]
 fn a_data_component(rt: HostRuntime) -> Result<(), Fail> {
-    let dc = match Dc::new(rt.alloc(), 4, 100) {
-        Ok(dc) => dc,
-        Err(_) => Dc::new(rt.alloc(), 4, 100)?,
-    };
-    assert_eq!(rt; (dc.rows().len(), dc.mark()), (0, 0));
+    let dc = dc(rt.alloc())?;
+    let size = (dc.rows().len(), dc.mark());
+    drop(dc);
+    assert_eq!(rt; size, (0, 0));
     Ok(())
 }

@@ -5,12 +5,13 @@ use crate::test_procedures::put_in;
 use crate::test_state::{BAD, DROP, PUT, call, load, record, state, value};
 use access_slots::op::{Op, Reply, Said, Wire};
 use lock_table::table::Busy;
-use std::alloc::Global;
+use std::alloc::{AllocError, Global};
 use std::process::Abort;
 use std::test::Fail;
 use tc_core::procs::{LoadRefusal, Procs};
 use tc_core::state::{Asked, Call, NotOver, Receipt, Refusal, Request, Stranger, TcState, TxnId};
 use tc_log::event::Outcome;
+use verifier::verify::Verified;
 
 fn wire(number: u64, low_water: u64, op: Op) -> Wire {
     Wire {
@@ -99,12 +100,10 @@ fn ends(rt: &impl Abort, tc: &mut TcState, txn: TxnId, place: usize, outcome: Ou
     assert_eq!(rt; tc.end(txn), Ok(receipt));
 }
 
-// A state in which the first transaction, which puts 100 under 5, is open.
-fn before_put(rt: &impl Abort, alloc: Global) -> Result<(TcState, TxnId), Fail> {
+// The first transaction, which puts 100 under 5, is open.
+fn before_put(rt: &impl Abort, alloc: Global, tc: &mut TcState) -> Result<TxnId, AllocError> {
     let put = call(alloc, PUT, &[5, 100])?;
-    let mut tc = state(rt, alloc)?;
-    let txn = admitted(rt, &mut tc, &put, 1);
-    Ok((tc, txn))
+    Ok(admitted(rt, tc, &put, 1))
 }
 
 // 100 is put under 5 by the first transaction.
@@ -118,26 +117,38 @@ fn put_five(rt: &impl Abort, tc: &mut TcState, txn: TxnId) {
 // Asks for memory as often as the next test does, which asks for none behind the admission.
 #[test]
 fn put_admitted(rt: HostRuntime) -> Result<(), Fail> {
-    let (_tc, _txn) = before_put(&rt, rt.alloc())?;
+    let mut tc = state(&rt, rt.alloc())?;
+    let txn = before_put(&rt, rt.alloc(), &mut tc);
+    drop(tc);
+    txn?;
     Ok(())
 }
 
 // A put that commits.
-#[test]
-fn put_ended(rt: HostRuntime) -> Result<(), Fail> {
-    let (mut tc, txn) = before_put(&rt, rt.alloc())?;
-    put_five(&rt, &mut tc, txn);
+fn put_commits(rt: &impl Abort, alloc: Global, tc: &mut TcState) -> Result<(), AllocError> {
+    let txn = before_put(rt, alloc, tc)?;
+    put_five(rt, tc, txn);
     Ok(())
 }
 
-// A state in which 100 was put under 5, and the second transaction, of the procedure with this
-// number, is open.
-fn behind_put(rt: &impl Abort, alloc: Global, proc: usize) -> Result<(TcState, TxnId), Fail> {
+#[test]
+fn put_ended(rt: HostRuntime) -> Result<(), Fail> {
+    let mut tc = state(&rt, rt.alloc())?;
+    let passed = put_commits(&rt, rt.alloc(), &mut tc);
+    drop(tc);
+    Ok(passed?)
+}
+
+// 100 was put under 5, and the second transaction, of the procedure with this number, is open.
+fn behind_put(
+    rt: &impl Abort,
+    alloc: Global,
+    tc: &mut TcState,
+    proc: usize,
+) -> Result<TxnId, AllocError> {
     let next = call(alloc, proc, &[5])?;
-    let (mut tc, put) = before_put(rt, alloc)?;
-    put_five(rt, &mut tc, put);
-    let txn = admitted(rt, &mut tc, &next, 2);
-    Ok((tc, txn))
+    put_commits(rt, alloc, tc)?;
+    Ok(admitted(rt, tc, &next, 2))
 }
 
 // 7 is written over 100, and is to be undone.
@@ -162,44 +173,72 @@ fn undid_seven(rt: &impl Abort, tc: &mut TcState, bad: TxnId) {
 // Asks for memory as often as the next test does, which asks for none behind the admission.
 #[test]
 fn abort_admitted(rt: HostRuntime) -> Result<(), Fail> {
-    let (_tc, _bad) = behind_put(&rt, rt.alloc(), BAD)?;
+    let mut tc = state(&rt, rt.alloc())?;
+    let bad = behind_put(&rt, rt.alloc(), &mut tc, BAD);
+    drop(tc);
+    bad?;
     Ok(())
 }
 
 // A procedure that ends with 5, whose update is undone.
+fn put_and_abort(rt: &impl Abort, alloc: Global, tc: &mut TcState) -> Result<(), AllocError> {
+    let bad = behind_put(rt, alloc, tc, BAD)?;
+    wrote_seven(rt, tc, bad);
+    undid_seven(rt, tc, bad);
+    Ok(())
+}
+
 #[test]
 fn abort_ended(rt: HostRuntime) -> Result<(), Fail> {
-    let (mut tc, bad) = behind_put(&rt, rt.alloc(), BAD)?;
-    wrote_seven(&rt, &mut tc, bad);
-    undid_seven(&rt, &mut tc, bad);
+    let mut tc = state(&rt, rt.alloc())?;
+    let passed = put_and_abort(&rt, rt.alloc(), &mut tc);
+    drop(tc);
+    Ok(passed?)
+}
+
+// The log is this one.
+fn logged(
+    rt: &impl Abort,
+    alloc: Global,
+    tc: &TcState,
+    records: &[(u8, u8, u64, u64, u64, [u64; 2])],
+) -> Result<(), AllocError> {
+    let want = printed(alloc, records)?;
+    let bytes = tc.log().print(alloc)?;
+    assert_eq!(rt; bytes.as_slice(), want.as_slice());
     Ok(())
+}
+
+fn put_and_abort_are_logged(
+    rt: &impl Abort,
+    alloc: Global,
+    tc: &mut TcState,
+) -> Result<(), AllocError> {
+    put_and_abort(rt, alloc, tc)?;
+    logged(rt, alloc, tc, &PUT_AND_ABORT)
 }
 
 // What the two log.
 #[test]
 fn put_and_abort_logged(rt: HostRuntime) -> Result<(), Fail> {
-    let want = printed(rt.alloc(), &PUT_AND_ABORT)?;
-    let (mut tc, bad) = behind_put(&rt, rt.alloc(), BAD)?;
-    wrote_seven(&rt, &mut tc, bad);
-    undid_seven(&rt, &mut tc, bad);
-    match tc.log().print(rt.alloc()) {
-        Ok(bytes) => assert_eq!(rt; bytes.as_slice(), want.as_slice()),
-        Err(_) => panic!(rt; "not printed"),
-    }
-    Ok(())
+    let mut tc = state(&rt, rt.alloc())?;
+    let passed = put_and_abort_are_logged(&rt, rt.alloc(), &mut tc);
+    drop(tc);
+    Ok(passed?)
 }
 
-// A delete behind a put, another put beside it, and a call that the delete stands in the way of.
-fn deleted_beside_put(
+// A delete behind a put, and another put beside it; nothing stands in the way of this call yet.
+fn delete_and_put(
     rt: &impl Abort,
     alloc: Global,
-) -> Result<(TcState, TxnId, TxnId, Call), Fail> {
-    let again = call(alloc, PUT, &[5, 1])?;
+    tc: &mut TcState,
+    again: &Call,
+) -> Result<(TxnId, TxnId), AllocError> {
     let beside = call(alloc, PUT, &[6, 1])?;
-    let (mut tc, delete) = behind_put(rt, alloc, DROP)?;
-    let put = admitted(rt, &mut tc, &beside, 3);
-    assert!(rt; !tc.blocked(&again));
-    Ok((tc, delete, put, again))
+    let delete = behind_put(rt, alloc, tc, DROP)?;
+    let put = admitted(rt, tc, &beside, 3);
+    assert!(rt; !tc.blocked(again));
+    Ok((delete, put))
 }
 
 // The row is deleted, and is to be put back.
@@ -225,47 +264,79 @@ fn not_put_back(rt: &impl Abort, tc: &mut TcState, delete: TxnId) {
     }
 }
 
-// It is stuck, and stands in the way of the call.
-fn stuck(rt: &impl Abort, tc: &mut TcState, delete: TxnId, again: &Call) {
+// It is stuck.
+fn is_stuck(rt: &impl Abort, tc: &mut TcState, delete: TxnId) {
     assert_eq!(rt; undo_word(tc, delete), ("stuck", 7));
     assert_eq!(rt; ask_word(tc, delete), ("stuck", 7));
     assert_eq!(rt; tc.end(delete), Err(NotOver));
+    assert_eq!(rt; tc.open_count(), 1);
+}
+
+// It stands in the way of the call.
+fn is_in_the_way(rt: &impl Abort, tc: &mut TcState, again: &Call) {
     let busy = Busy {
         name: record(5),
         holder: 2,
     };
     assert_eq!(rt; tc.admit(again), Err(Refusal::Busy(busy)));
     assert!(rt; tc.blocked(again));
-    assert_eq!(rt; tc.open_count(), 1);
+}
+
+// The two transactions are admitted.
+fn two_admitted(rt: &impl Abort, alloc: Global, tc: &mut TcState) -> Result<(), AllocError> {
+    let again = call(alloc, PUT, &[5, 1])?;
+    delete_and_put(rt, alloc, tc, &again)?;
+    Ok(())
 }
 
 // Asks for memory as often as the next test does, which asks for none behind the admissions.
 #[test]
 fn delete_admitted(rt: HostRuntime) -> Result<(), Fail> {
-    let (_tc, _delete, _put, _again) = deleted_beside_put(&rt, rt.alloc())?;
-    Ok(())
+    let mut tc = state(&rt, rt.alloc())?;
+    let passed = two_admitted(&rt, rt.alloc(), &mut tc);
+    drop(tc);
+    Ok(passed?)
 }
 
 // A delete that can't be undone, since the row's place was taken.
-#[test]
-fn delete_stuck(rt: HostRuntime) -> Result<(), Fail> {
-    let (mut tc, delete, put, again) = deleted_beside_put(&rt, rt.alloc())?;
-    deleted(&rt, &mut tc, delete);
-    put_beside(&rt, &mut tc, put);
-    not_put_back(&rt, &mut tc, delete);
-    stuck(&rt, &mut tc, delete, &again);
+fn delete_is_stuck(rt: &impl Abort, alloc: Global, tc: &mut TcState) -> Result<(), AllocError> {
+    let again = call(alloc, PUT, &[5, 1])?;
+    let (delete, put) = delete_and_put(rt, alloc, tc, &again)?;
+    deleted(rt, tc, delete);
+    put_beside(rt, tc, put);
+    not_put_back(rt, tc, delete);
+    is_stuck(rt, tc, delete);
+    is_in_the_way(rt, tc, &again);
     Ok(())
 }
 
+#[test]
+fn delete_stuck(rt: HostRuntime) -> Result<(), Fail> {
+    let mut tc = state(&rt, rt.alloc())?;
+    let passed = delete_is_stuck(&rt, rt.alloc(), &mut tc);
+    drop(tc);
+    Ok(passed?)
+}
+
+fn is_not_loaded(rt: &impl Abort, tc: &mut TcState, name: &str, code: Verified, why: LoadRefusal) {
+    assert_eq!(rt; load(tc, name, code), Err(why));
+}
+
 // A name that is taken, and a slot of a data component that isn't there.
+fn are_not_loaded(rt: &impl Abort, alloc: Global, tc: &mut TcState) -> Result<(), Fail> {
+    let taken = put_in(alloc, 1)?;
+    is_not_loaded(rt, tc, "put", taken, LoadRefusal::NameTaken);
+    let far = put_in(alloc, 1)?;
+    is_not_loaded(rt, tc, "far", far, LoadRefusal::DcUnknown(0));
+    Ok(())
+}
+
 #[test]
 fn procedures_not_loaded(rt: HostRuntime) -> Result<(), Fail> {
-    let taken = put_in(rt.alloc(), 1)?;
-    let far = put_in(rt.alloc(), 1)?;
     let mut tc = state(&rt, rt.alloc())?;
-    assert_eq!(rt; load(&mut tc, "put", taken), Err(LoadRefusal::NameTaken));
-    assert_eq!(rt; load(&mut tc, "far", far), Err(LoadRefusal::DcUnknown(0)));
-    Ok(())
+    let passed = are_not_loaded(&rt, rt.alloc(), &mut tc);
+    drop(tc);
+    passed
 }
 
 // The procedures by their numbers and names.
@@ -279,6 +350,9 @@ fn are_lent(rt: &impl Abort, procs: &Procs) {
     assert_eq!(rt; (procs.dcs(), procs.len(), procs.is_empty()), (1, 5, false));
     assert!(rt; procs.get(DROP).is_some());
     assert!(rt; procs.get(5).is_none());
+}
+
+fn are_named(rt: &impl Abort, procs: &Procs) {
     assert_eq!(rt; procs.find("bad"), Some(BAD));
     assert_eq!(rt; procs.name(BAD), Some("bad"));
 }
@@ -288,6 +362,8 @@ fn procedures_that_are_loaded(rt: HostRuntime) -> Result<(), Fail> {
     let tc = state(&rt, rt.alloc())?;
     are_loaded(&rt, &tc);
     are_lent(&rt, tc.procs());
+    are_named(&rt, tc.procs());
+    drop(tc);
     Ok(())
 }
 
@@ -308,14 +384,21 @@ fn is_found(rt: &impl Abort, tc: &TcState) {
 }
 
 // No such procedure, and too few arguments.
+fn two_are_refused(rt: &impl Abort, alloc: Global, tc: &mut TcState) -> Result<(), AllocError> {
+    let none = call(alloc, 5, &[])?;
+    let short = call(alloc, PUT, &[5])?;
+    before_put(rt, alloc, tc)?;
+    are_refused(rt, tc, &none, &short);
+    is_found(rt, tc);
+    Ok(())
+}
+
 #[test]
 fn calls_that_are_refused(rt: HostRuntime) -> Result<(), Fail> {
-    let none = call(rt.alloc(), 5, &[])?;
-    let short = call(rt.alloc(), PUT, &[5])?;
-    let (mut tc, _txn) = before_put(&rt, rt.alloc())?;
-    are_refused(&rt, &mut tc, &none, &short);
-    is_found(&rt, &tc);
-    Ok(())
+    let mut tc = state(&rt, rt.alloc())?;
+    let passed = two_are_refused(&rt, rt.alloc(), &mut tc);
+    drop(tc);
+    Ok(passed?)
 }
 
 // A value is no answer to an insert: the request comes back, and is given up.
@@ -338,15 +421,26 @@ fn asked_for_put(rt: &impl Abort, tc: &mut TcState, txn: TxnId) {
     not_answered(rt, tc, request);
 }
 
-// A reply that isn't one, and a number that is given up: the transaction waits for it, and what
-// wants its lock is blocked.
+// The transaction waits for its request, and what wants its lock is blocked.
+fn waits(rt: &impl Abort, tc: &mut TcState, txn: TxnId, again: &Call) {
+    assert_eq!(rt; ask_word(tc, txn), ("waits", 1));
+    assert!(rt; tc.blocked(again));
+    assert_eq!(rt; tc.log().len(), 2);
+}
+
+// A reply that isn't one, and a number that is given up.
+fn is_given_up(rt: &impl Abort, alloc: Global, tc: &mut TcState) -> Result<(), AllocError> {
+    let again = call(alloc, PUT, &[5, 1])?;
+    let txn = before_put(rt, alloc, tc)?;
+    asked_for_put(rt, tc, txn);
+    waits(rt, tc, txn, &again);
+    Ok(())
+}
+
 #[test]
 fn a_request_given_up(rt: HostRuntime) -> Result<(), Fail> {
-    let again = call(rt.alloc(), PUT, &[5, 1])?;
-    let (mut tc, txn) = before_put(&rt, rt.alloc())?;
-    asked_for_put(&rt, &mut tc, txn);
-    assert_eq!(rt; ask_word(&mut tc, txn), ("waits", 1));
-    assert!(rt; tc.blocked(&again));
-    assert_eq!(rt; tc.log().len(), 2);
-    Ok(())
+    let mut tc = state(&rt, rt.alloc())?;
+    let passed = is_given_up(&rt, rt.alloc(), &mut tc);
+    drop(tc);
+    Ok(passed?)
 }

@@ -5,33 +5,58 @@ use crate::test_state::{PUT, call, closed, state};
 use crate::world::World;
 use access_slots::op::{Reply, Said};
 use data_component::dc::Dc;
-use std::alloc::Global;
+use std::alloc::{AllocError, Global};
 use std::process::Abort;
 use std::test::Fail;
-use tc_core::state::{Call, Receipt};
+use tc_core::state::{Call, Receipt, TcState};
 use tc_log::event::Outcome as Ending;
+
+// One data component.
+fn dcs(alloc: Global) -> Result<Vec<Dc>, AllocError> {
+    let dc = Dc::new(alloc, 4, 100)?;
+    let mut dcs = Vec::new(alloc);
+    match dcs.push(dc) {
+        Ok(()) => Ok(dcs),
+        Err(fault) => {
+            drop(dcs);
+            Err(AllocError::from(fault))
+        }
+    }
+}
 
 // One data component, and a transaction component that has the procedures.
 fn world(rt: &impl Abort, alloc: Global) -> Result<World, Fail> {
-    let mut dcs = Vec::new(alloc);
-    dcs.push(Dc::new(alloc, 4, 100)?)?;
     let state = state(rt, alloc)?;
     assert_eq!(rt; state.open_count(), 0);
-    Ok(World::new(alloc, state, dcs))
+    match dcs(alloc) {
+        Ok(dcs) => Ok(World::new(alloc, state, dcs)),
+        Err(fault) => {
+            drop(state);
+            Err(Fail::from(fault))
+        }
+    }
 }
 
-// The first transaction's request is sent under one number twice.
-fn is_sent(rt: &impl Abort, world: &mut World, admit: &Step) {
+// The first transaction asks.
+fn is_asked(rt: &impl Abort, world: &mut World, admit: &Step) {
     assert!(rt; matches!(world.step(admit), Ok(Outcome::Admitted(1))));
     assert!(rt; matches!(world.step(&Step::Ask(1)), Ok(Outcome::Sent(0, _))));
+}
+
+// Its request is sent again, under the same number.
+fn is_sent_again(rt: &impl Abort, world: &mut World) {
     assert!(rt; matches!(world.step(&Step::Ask(1)), Err(Illegal::Waits(1))));
     assert!(rt; matches!(world.step(&Step::Resend(1)), Ok(Outcome::Sent(1, _))));
 }
 
-// It is answered, and the transaction is over.
-fn is_answered(rt: &impl Abort, world: &mut World) {
+// It is performed, and the data component restarts.
+fn is_performed(rt: &impl Abort, world: &mut World) {
     assert!(rt; matches!(world.step(&Step::Perform(1)), Ok(Outcome::Replied(0, _))));
     assert!(rt; matches!(world.step(&Step::Restart(0)), Ok(Outcome::Restarted(0))));
+}
+
+// The reply is taken, and the transaction is over.
+fn is_answered(rt: &impl Abort, world: &mut World) {
     assert!(rt; matches!(world.step(&Step::Take(0)), Ok(Outcome::Took(1))));
     assert!(rt; matches!(world.step(&Step::Ask(1)), Ok(Outcome::Over(1))));
 }
@@ -50,17 +75,23 @@ fn ends(rt: &impl Abort, world: &mut World) {
 fn steps_of_a_transaction(rt: HostRuntime) -> Result<(), Fail> {
     let admit = Step::Admit(call(rt.alloc(), PUT, &[5, 100])?);
     let mut world = world(&rt, rt.alloc())?;
-    is_sent(&rt, &mut world, &admit);
+    is_asked(&rt, &mut world, &admit);
+    is_sent_again(&rt, &mut world);
+    is_performed(&rt, &mut world);
     is_answered(&rt, &mut world);
     ends(&rt, &mut world);
     closed(world);
     Ok(())
 }
 
-// The steps leave one row and no open transaction.
+// The steps leave no open transaction.
 fn all_go(rt: &impl Abort, world: &mut World, steps: &[Step]) {
     assert_eq!(rt; world.run(steps), Ok(()));
     assert_eq!(rt; world.state().open_count(), 0);
+}
+
+// They leave one row.
+fn one_row(rt: &impl Abort, world: &World) {
     for dc in world.dcs() {
         assert_eq!(rt; dc.rows().len(), 1);
     }
@@ -89,6 +120,7 @@ fn all_steps_at_once(rt: HostRuntime) -> Result<(), Fail> {
     ];
     let mut world = world(&rt, rt.alloc())?;
     all_go(&rt, &mut world, &steps);
+    one_row(&rt, &world);
     second_stops(&rt, &mut world);
     closed(world);
     Ok(())
@@ -96,14 +128,12 @@ fn all_steps_at_once(rt: HostRuntime) -> Result<(), Fail> {
 
 // The request of an open transaction doesn't stand in the way of a call.
 fn is_open(rt: &impl Abort, world: &mut World, admit: &Step, other: &Call) {
-    assert!(rt; matches!(world.step(admit), Ok(Outcome::Admitted(1))));
-    assert!(rt; matches!(world.step(&Step::Ask(1)), Ok(Outcome::Sent(0, _))));
+    is_asked(rt, world, admit);
     assert!(rt; !world.state().blocked(other));
 }
 
 // It does so once it is given up.
-fn is_given_up(rt: &impl Abort, world: World, other: &Call) {
-    let (state, dcs) = world.close();
+fn is_given_up(rt: &impl Abort, state: &TcState, dcs: &[Dc], other: &Call) {
     assert_eq!(rt; dcs.len(), 1);
     assert!(rt; state.blocked(other));
 }
@@ -114,6 +144,9 @@ fn open_requests_are_given_up(rt: HostRuntime) -> Result<(), Fail> {
     let admit = Step::Admit(call(rt.alloc(), PUT, &[5, 100])?);
     let mut world = world(&rt, rt.alloc())?;
     is_open(&rt, &mut world, &admit, &other);
-    is_given_up(&rt, world, &other);
+    let (state, dcs) = world.close();
+    is_given_up(&rt, &state, dcs.as_slice(), &other);
+    drop(state);
+    drop(dcs);
     Ok(())
 }

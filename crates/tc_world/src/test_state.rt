@@ -6,7 +6,7 @@ use access_slots::slot::{Mode, Record, Value};
 use std::alloc::{AllocError, Global};
 use std::process::Abort;
 use std::test::Fail;
-use tc_core::procs::LoadRefusal;
+use tc_core::procs::{LoadFault, LoadRefusal};
 use tc_core::state::{Call, TcState};
 use verifier::verify::Verified;
 
@@ -27,37 +27,63 @@ pub(crate) const DROP: usize = 4;
 pub(crate) fn load(tc: &mut TcState, name: &str, code: Verified) -> Result<usize, LoadRefusal> {
     match tc.load(name, code) {
         Ok(number) => Ok(number),
-        Err(fault) => Err(fault.why),
+        Err(LoadFault { why, code }) => {
+            drop(code);
+            Err(why)
+        }
     }
+}
+
+// Loads a procedure, which gets this number.
+fn load_as(rt: &impl Abort, tc: &mut TcState, name: &str, code: Verified, number: usize) {
+    assert_eq!(rt; load(tc, name, code), Ok(number));
+}
+
+// Loads `put` and `get`.
+fn load_put_and_get(rt: &impl Abort, alloc: Global, tc: &mut TcState) -> Result<(), Fail> {
+    load_as(rt, tc, "put", put_in(alloc, 0)?, PUT);
+    let get = procedure(alloc, &GET_CODE, 1, &[keyed(Mode::Read, 0, 0)])?;
+    load_as(rt, tc, "get", get, GET);
+    Ok(())
+}
+
+// Loads `bad` and `move` behind them.
+fn load_bad_and_move(rt: &impl Abort, alloc: Global, tc: &mut TcState) -> Result<(), Fail> {
+    let write = keyed(Mode::Write, 0, 0);
+    let bad = procedure(alloc, &BAD_CODE, 1, &[write])?;
+    load_as(rt, tc, "bad", bad, BAD);
+    let to = keyed(Mode::Write, 0, 1);
+    let mover = procedure(alloc, &MOVE_CODE, 3, &[write, to])?;
+    load_as(rt, tc, "move", mover, MOVE);
+    Ok(())
 }
 
 // Loads the five procedures.
 fn load_all(rt: &impl Abort, alloc: Global, tc: &mut TcState) -> Result<(), Fail> {
-    let put = put_in(alloc, 0)?;
-    assert_eq!(rt; load(tc, "put", put), Ok(PUT));
-    let get = procedure(alloc, &GET_CODE, 1, &[keyed(Mode::Read, 0, 0)])?;
-    assert_eq!(rt; load(tc, "get", get), Ok(GET));
-    let write = keyed(Mode::Write, 0, 0);
-    let bad = procedure(alloc, &BAD_CODE, 1, &[write])?;
-    assert_eq!(rt; load(tc, "bad", bad), Ok(BAD));
-    let to = keyed(Mode::Write, 0, 1);
-    let mover = procedure(alloc, &MOVE_CODE, 3, &[write, to])?;
-    assert_eq!(rt; load(tc, "move", mover), Ok(MOVE));
-    let drop = procedure(alloc, &DROP_CODE, 1, &[write])?;
-    assert_eq!(rt; load(tc, "drop", drop), Ok(DROP));
+    load_put_and_get(rt, alloc, tc)?;
+    load_bad_and_move(rt, alloc, tc)?;
+    let dropper = procedure(alloc, &DROP_CODE, 1, &[keyed(Mode::Write, 0, 0)])?;
+    load_as(rt, tc, "drop", dropper, DROP);
     Ok(())
 }
 
 /// A state of one data component in which the five procedures are loaded.
 pub(crate) fn state(rt: &impl Abort, alloc: Global) -> Result<TcState, Fail> {
     let mut tc = TcState::new(alloc, 1)?;
-    load_all(rt, alloc, &mut tc)?;
-    Ok(tc)
+    match load_all(rt, alloc, &mut tc) {
+        Ok(()) => Ok(tc),
+        Err(fault) => {
+            drop(tc);
+            Err(fault)
+        }
+    }
 }
 
 /// Closes a world, and lets its parts go.
 pub(crate) fn closed(world: World) {
-    let (_state, _dcs) = world.close();
+    let (state, dcs) = world.close();
+    drop(state);
+    drop(dcs);
 }
 
 /// A call of the procedure with this number.
