@@ -51,7 +51,13 @@ pub(crate) fn printed(
     Ok(bytes)
 }
 
-fn prints_to(rt: &impl Abort, alloc: Global, log: &Log, bytes: &[u8]) -> Result<(), AllocError> {
+/// The log prints to these bytes.
+pub(crate) fn prints_to(
+    rt: &impl Abort,
+    alloc: Global,
+    log: &Log,
+    bytes: &[u8],
+) -> Result<(), AllocError> {
     let again = log.print(alloc)?;
     assert_eq!(rt; again.as_slice(), bytes);
     Ok(())

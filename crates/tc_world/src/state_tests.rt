@@ -1,6 +1,6 @@
 // Worked runs on the state without a world, and calls and replies that are refused.
 
-use crate::log_tests::{PUT_AND_ABORT, printed};
+use crate::log_tests::{PUT_AND_ABORT, printed, prints_to};
 use crate::test_procedures::put_in;
 use crate::test_state::{BAD, DROP, PUT, call, load, record, state, value};
 use access_slots::op::{Op, Reply, Said, Wire};
@@ -196,26 +196,14 @@ fn abort_ended(rt: HostRuntime) -> Result<(), Fail> {
     Ok(passed?)
 }
 
-// The log is this one.
-fn logged(
-    rt: &impl Abort,
-    alloc: Global,
-    tc: &TcState,
-    records: &[(u8, u8, u64, u64, u64, [u64; 2])],
-) -> Result<(), AllocError> {
-    let want = printed(alloc, records)?;
-    let bytes = tc.log().print(alloc)?;
-    assert_eq!(rt; bytes.as_slice(), want.as_slice());
-    Ok(())
-}
-
 fn put_and_abort_are_logged(
     rt: &impl Abort,
     alloc: Global,
     tc: &mut TcState,
 ) -> Result<(), AllocError> {
     put_and_abort(rt, alloc, tc)?;
-    logged(rt, alloc, tc, &PUT_AND_ABORT)
+    let want = printed(alloc, &PUT_AND_ABORT)?;
+    prints_to(rt, alloc, tc.log(), want.as_slice())
 }
 
 // What the two log.
@@ -268,6 +256,10 @@ fn not_put_back(rt: &impl Abort, tc: &mut TcState, delete: TxnId) {
 fn is_stuck(rt: &impl Abort, tc: &mut TcState, delete: TxnId) {
     assert_eq!(rt; undo_word(tc, delete), ("stuck", 7));
     assert_eq!(rt; ask_word(tc, delete), ("stuck", 7));
+}
+
+// It doesn't end, and no other is open.
+fn stays_open(rt: &impl Abort, tc: &mut TcState, delete: TxnId) {
     assert_eq!(rt; tc.end(delete), Err(NotOver));
     assert_eq!(rt; tc.open_count(), 1);
 }
@@ -306,6 +298,7 @@ fn delete_is_stuck(rt: &impl Abort, alloc: Global, tc: &mut TcState) -> Result<(
     put_beside(rt, tc, put);
     not_put_back(rt, tc, delete);
     is_stuck(rt, tc, delete);
+    stays_open(rt, tc, delete);
     is_in_the_way(rt, tc, &again);
     Ok(())
 }
