@@ -124,24 +124,23 @@ fn with_255(alloc: Global, bytes: &[u8], at: usize) -> Result<Vec<u8>, AllocErro
     Ok(hostile)
 }
 
-// Each byte of the event at this index, of such a kind.
-fn each_byte_set(
+// The log with this byte set to 255 is one only where the byte may be any.
+fn a_byte_set(
     rt: &impl Abort,
     alloc: Global,
     bytes: &[u8],
-    index: usize,
-    (kind, sub): (u8, u8),
+    at: usize,
+    is_free: bool,
 ) -> Result<(), AllocError> {
-    for place in 0..RECORD {
-        let hostile = with_255(alloc, bytes, index * RECORD + place)?;
-        let want = if is_free(kind, sub, place) {
-            Ok(PUT_AND_ABORT.len())
-        } else {
-            Err(LogFault::Kind(index))
-        };
-        let events = read(rt, alloc, hostile.as_slice());
-        assert_eq!(rt; events, want, "at {place} of event {index}");
-    }
+    let (index, place) = (at / RECORD, at % RECORD);
+    let want = if is_free {
+        Ok(PUT_AND_ABORT.len())
+    } else {
+        Err(LogFault::Kind(index))
+    };
+    let hostile = with_255(alloc, bytes, at)?;
+    let events = read(rt, alloc, hostile.as_slice());
+    assert_eq!(rt; events, want, "at {place} of event {index}");
     Ok(())
 }
 
@@ -149,7 +148,11 @@ fn each_byte_set(
 fn each_byte_of_a_log_set_to_255(rt: HostRuntime) -> Result<(), Fail> {
     let bytes = printed(rt.alloc(), &PUT_AND_ABORT)?;
     for (index, (kind, sub, ..)) in PUT_AND_ABORT.iter().enumerate() {
-        each_byte_set(&rt, rt.alloc(), bytes.as_slice(), index, (*kind, *sub))?;
+        for place in 0..RECORD {
+            let at = index * RECORD + place;
+            let is_free = is_free(*kind, *sub, place);
+            a_byte_set(&rt, rt.alloc(), bytes.as_slice(), at, is_free)?;
+        }
     }
     Ok(())
 }

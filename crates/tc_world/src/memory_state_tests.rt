@@ -26,8 +26,7 @@ fn put(alloc: Global, key: u64) -> Result<Call, AllocError> {
 
 // Nothing was loaded, for want of memory.
 fn nothing_is_loaded(rt: &impl Abort, tc: &TcState, why: LoadRefusal) {
-    assert_eq!(rt; why, LoadRefusal::Memory);
-    assert_eq!(rt; tc.find("put"), None);
+    assert_eq!(rt; (why, tc.find("put")), (LoadRefusal::Memory, None));
     assert!(rt; tc.procs().is_empty());
 }
 
@@ -80,10 +79,14 @@ fn admitted(rt: &impl Abort, tc: &mut TcState, call: &Call) -> Result<TxnId, Ref
     }
 }
 
+// The transaction is the first.
+fn is_first(rt: &impl Abort, txn: Result<TxnId, Refusal>) {
+    assert_eq!(rt; txn.map(|txn| txn.serial()), Ok(1));
+}
+
 fn put_admitted(rt: &impl Abort, alloc: Global, tc: &mut TcState) -> Result<(), AllocError> {
     let call = put(alloc, 5)?;
-    let txn = admitted(rt, tc, &call);
-    assert_eq!(rt; txn.map(|txn| txn.serial()), Ok(1));
+    is_first(rt, admitted(rt, tc, &call));
     assert_eq!(rt; (tc.log().len(), tc.open_count()), (1, 1));
     Ok(())
 }
@@ -148,9 +151,8 @@ fn word(stepped: Result<Outcome, Illegal>) -> &'static str {
 
 // The step goes so, and so many events are logged.
 fn goes(rt: &impl Abort, world: &mut World, step: &Step, outcome: &str, events: usize) {
-    let stepped = stepped(rt, world, step);
-    assert_eq!(rt; word(stepped), outcome);
-    assert_eq!(rt; world.state().log().len(), events);
+    let word = word(stepped(rt, world, step));
+    assert_eq!(rt; (word, world.state().log().len()), (outcome, events));
 }
 
 // A put up to its end.
@@ -186,13 +188,18 @@ fn is_put(rt: &impl Abort, world: &World) {
     }
 }
 
+fn put_goes(rt: &impl Abort, alloc: Global, world: &mut World) -> Result<(), AllocError> {
+    let admit = Step::Admit(put(alloc, 5)?);
+    all_go(rt, world, &admit);
+    ends(rt, world);
+    is_put(rt, world);
+    Ok(())
+}
+
 #[test]
 fn steps_of_a_world(rt: HostRuntime) -> Result<(), Fail> {
-    let admit = Step::Admit(put(rt.alloc(), 5)?);
     let mut world = world(&rt, rt.alloc())?;
-    all_go(&rt, &mut world, &admit);
-    ends(&rt, &mut world);
-    is_put(&rt, &world);
+    let passed = put_goes(&rt, rt.alloc(), &mut world);
     closed(world);
-    Ok(())
+    Ok(passed?)
 }

@@ -63,13 +63,8 @@ fn request_in(rt: &impl Abort, asked: Asked) -> Request {
     }
 }
 
-// The request is sent as this wire, and answered so.
-fn carried(rt: &impl Abort, tc: &mut TcState, request: Request, wire: Wire, said: Said) {
-    assert_eq!(rt; tc.wire(&request), wire);
-    let reply = Reply {
-        number: wire.number,
-        said,
-    };
+// The request is answered so.
+fn answered(rt: &impl Abort, tc: &mut TcState, request: Request, reply: Reply) {
     match tc.answer(request, reply) {
         Ok(()) => {}
         Err(Stranger { request }) => {
@@ -77,6 +72,16 @@ fn carried(rt: &impl Abort, tc: &mut TcState, request: Request, wire: Wire, said
             panic!(rt; "a stranger");
         }
     }
+}
+
+// The request is sent as this wire, and answered so.
+fn carried(rt: &impl Abort, tc: &mut TcState, request: Request, wire: Wire, said: Said) {
+    assert_eq!(rt; tc.wire(&request), wire);
+    let reply = Reply {
+        number: wire.number,
+        said,
+    };
+    answered(rt, tc, request, reply);
 }
 
 // The transaction asks so, and is answered so.
@@ -151,21 +156,29 @@ fn behind_put(
     Ok(admitted(rt, tc, &next, 2))
 }
 
-// 7 is written over 100, and is to be undone.
+// 7 is written over 100.
 fn wrote_seven(rt: &impl Abort, tc: &mut TcState, bad: TxnId) {
     let read = wire(2, 1, Op::Read(record(5)));
     asks(rt, tc, bad, read, Said::Value(value(100)));
     let update = wire(3, 2, Op::Update(record(5), value(7)));
     asks(rt, tc, bad, update, Said::Done(Some(value(100))));
+}
+
+// It is to be undone.
+fn is_undoing(rt: &impl Abort, tc: &mut TcState, bad: TxnId) {
     assert_eq!(rt; ask_word(tc, bad), ("undoing", 0));
     assert_eq!(rt; tc.end(bad), Err(NotOver));
 }
 
-// 100 stands again, and the transaction ends with 5; it is unknown then.
+// 100 stands again.
 fn undid_seven(rt: &impl Abort, tc: &mut TcState, bad: TxnId) {
     let undo = wire(4, 3, Op::Update(record(5), value(100)));
     undoes(rt, tc, bad, undo, Said::Done(Some(value(7))));
     assert_eq!(rt; undo_word(tc, bad), ("over", 0));
+}
+
+// The transaction ends with 5; it is unknown then.
+fn aborts(rt: &impl Abort, tc: &mut TcState, bad: TxnId) {
     ends(rt, tc, bad, 11, Outcome::Aborted(5));
     assert_eq!(rt; ask_word(tc, bad), ("unknown", 0));
 }
@@ -184,7 +197,9 @@ fn abort_admitted(rt: HostRuntime) -> Result<(), Fail> {
 fn put_and_abort(rt: &impl Abort, alloc: Global, tc: &mut TcState) -> Result<(), AllocError> {
     let bad = behind_put(rt, alloc, tc, BAD)?;
     wrote_seven(rt, tc, bad);
+    is_undoing(rt, tc, bad);
     undid_seven(rt, tc, bad);
+    aborts(rt, tc, bad);
     Ok(())
 }
 
@@ -332,10 +347,9 @@ fn procedures_not_loaded(rt: HostRuntime) -> Result<(), Fail> {
     passed
 }
 
-// The procedures by their numbers and names.
+// The procedures by their names.
 fn are_loaded(rt: &impl Abort, tc: &TcState) {
-    assert_eq!(rt; tc.find("drop"), Some(DROP));
-    assert_eq!(rt; tc.find("far"), None);
+    assert_eq!(rt; (tc.find("drop"), tc.find("far")), (Some(DROP), None));
     assert_eq!(rt; tc.dcs(), 1);
 }
 
@@ -346,8 +360,10 @@ fn are_lent(rt: &impl Abort, procs: &Procs) {
 }
 
 fn are_named(rt: &impl Abort, procs: &Procs) {
-    assert_eq!(rt; procs.find("bad"), Some(BAD));
-    assert_eq!(rt; procs.name(BAD), Some("bad"));
+    assert_eq!(rt;
+        (procs.find("bad"), procs.name(BAD)),
+        (Some(BAD), Some("bad"))
+    );
 }
 
 #[test]
@@ -360,10 +376,14 @@ fn procedures_that_are_loaded(rt: HostRuntime) -> Result<(), Fail> {
     Ok(())
 }
 
-// Neither call is admitted, nor blocked by what is open.
+// Neither call is admitted.
 fn are_refused(rt: &impl Abort, tc: &mut TcState, none: &Call, short: &Call) {
     assert_eq!(rt; tc.admit(none), Err(Refusal::NoProcedure));
     assert_eq!(rt; tc.admit(short), Err(Refusal::ArgumentCount));
+}
+
+// Neither call is blocked by what is open.
+fn not_blocked(rt: &impl Abort, tc: &TcState, none: &Call, short: &Call) {
     assert!(rt; !tc.blocked(none) && !tc.blocked(short));
 }
 
@@ -382,6 +402,7 @@ fn two_are_refused(rt: &impl Abort, alloc: Global, tc: &mut TcState) -> Result<(
     let short = call(alloc, PUT, &[5])?;
     before_put(rt, alloc, tc)?;
     are_refused(rt, tc, &none, &short);
+    not_blocked(rt, tc, &none, &short);
     is_found(rt, tc);
     Ok(())
 }
@@ -406,11 +427,16 @@ fn not_answered(rt: &impl Abort, tc: &mut TcState, request: Request) {
     }
 }
 
-// The first request of a put, which isn't answered.
-fn asked_for_put(rt: &impl Abort, tc: &mut TcState, txn: TxnId) {
-    let request = request_in(rt, tc.ask(txn));
+// The first request of a put.
+fn is_for_put(rt: &impl Abort, request: &Request) {
     assert_eq!(rt; (request.txn(), request.number()), (1, 1));
     assert_eq!(rt; request.op(), Op::Insert(record(5), value(100)));
+}
+
+// The put asks, and isn't answered.
+fn asked_for_put(rt: &impl Abort, tc: &mut TcState, txn: TxnId) {
+    let request = request_in(rt, tc.ask(txn));
+    is_for_put(rt, &request);
     not_answered(rt, tc, request);
 }
 

@@ -61,8 +61,12 @@ fn is_answered(rt: &impl Abort, world: &mut World) {
     assert!(rt; matches!(world.step(&Step::Ask(1)), Ok(Outcome::Over(1))));
 }
 
-fn ends(rt: &impl Abort, world: &mut World) {
+// A transaction that runs isn't undone.
+fn not_undone(rt: &impl Abort, world: &mut World) {
     assert!(rt; matches!(world.step(&Step::Undo(1)), Err(Illegal::Running)));
+}
+
+fn ends(rt: &impl Abort, world: &mut World) {
     let receipt = Receipt {
         place: 3,
         txn: 1,
@@ -71,17 +75,23 @@ fn ends(rt: &impl Abort, world: &mut World) {
     assert_eq!(rt; world.step(&Step::End(1)), Ok(Outcome::Ended(receipt)));
 }
 
+fn put_goes(rt: &impl Abort, alloc: Global, world: &mut World) -> Result<(), AllocError> {
+    let admit = Step::Admit(call(alloc, PUT, &[5, 100])?);
+    is_asked(rt, world, &admit);
+    is_sent_again(rt, world);
+    is_performed(rt, world);
+    is_answered(rt, world);
+    not_undone(rt, world);
+    ends(rt, world);
+    Ok(())
+}
+
 #[test]
 fn steps_of_a_transaction(rt: HostRuntime) -> Result<(), Fail> {
-    let admit = Step::Admit(call(rt.alloc(), PUT, &[5, 100])?);
     let mut world = world(&rt, rt.alloc())?;
-    is_asked(&rt, &mut world, &admit);
-    is_sent_again(&rt, &mut world);
-    is_performed(&rt, &mut world);
-    is_answered(&rt, &mut world);
-    ends(&rt, &mut world);
+    let passed = put_goes(&rt, rt.alloc(), &mut world);
     closed(world);
-    Ok(())
+    Ok(passed?)
 }
 
 // The steps leave no open transaction.
@@ -109,44 +119,66 @@ fn second_stops(rt: &impl Abort, world: &mut World) {
     );
 }
 
-#[test]
-fn all_steps_at_once(rt: HostRuntime) -> Result<(), Fail> {
+fn put_goes_at_once(rt: &impl Abort, alloc: Global, world: &mut World) -> Result<(), AllocError> {
     let steps = [
-        Step::Admit(call(rt.alloc(), PUT, &[5, 100])?),
+        Step::Admit(call(alloc, PUT, &[5, 100])?),
         Step::Ask(1),
         Step::Perform(0),
         Step::Take(0),
         Step::End(1),
     ];
-    let mut world = world(&rt, rt.alloc())?;
-    all_go(&rt, &mut world, &steps);
-    one_row(&rt, &world);
-    second_stops(&rt, &mut world);
-    closed(world);
+    all_go(rt, world, &steps);
+    one_row(rt, world);
+    second_stops(rt, world);
     Ok(())
 }
 
+#[test]
+fn all_steps_at_once(rt: HostRuntime) -> Result<(), Fail> {
+    let mut world = world(&rt, rt.alloc())?;
+    let passed = put_goes_at_once(&rt, rt.alloc(), &mut world);
+    closed(world);
+    Ok(passed?)
+}
+
 // The request of an open transaction doesn't stand in the way of a call.
-fn is_open(rt: &impl Abort, world: &mut World, admit: &Step, other: &Call) {
-    is_asked(rt, world, admit);
+fn is_open(
+    rt: &impl Abort,
+    alloc: Global,
+    world: &mut World,
+    other: &Call,
+) -> Result<(), AllocError> {
+    let admit = Step::Admit(call(alloc, PUT, &[5, 100])?);
+    is_asked(rt, world, &admit);
     assert!(rt; !world.state().blocked(other));
+    Ok(())
 }
 
 // It does so once it is given up.
-fn is_given_up(rt: &impl Abort, state: &TcState, dcs: &[Dc], other: &Call) {
+fn is_in_the_way(rt: &impl Abort, state: &TcState, dcs: &[Dc], other: &Call) {
     assert_eq!(rt; dcs.len(), 1);
     assert!(rt; state.blocked(other));
+}
+
+fn is_given_up(rt: &impl Abort, world: World, other: &Call) {
+    let (state, dcs) = world.close();
+    is_in_the_way(rt, &state, dcs.as_slice(), other);
+    drop(state);
+    drop(dcs);
 }
 
 #[test]
 fn open_requests_are_given_up(rt: HostRuntime) -> Result<(), Fail> {
     let other = call(rt.alloc(), PUT, &[5, 100])?;
-    let admit = Step::Admit(call(rt.alloc(), PUT, &[5, 100])?);
     let mut world = world(&rt, rt.alloc())?;
-    is_open(&rt, &mut world, &admit, &other);
-    let (state, dcs) = world.close();
-    is_given_up(&rt, &state, dcs.as_slice(), &other);
-    drop(state);
-    drop(dcs);
-    Ok(())
+    match is_open(&rt, rt.alloc(), &mut world, &other) {
+        Ok(()) => {
+            is_given_up(&rt, world, &other);
+            Ok(())
+        }
+        Err(fault) => {
+            closed(world);
+            Err(Fail::from(fault))
+        }
+    }
 }
