@@ -58,14 +58,27 @@ fn encodes_to(rt: &impl Abort, alloc: Global, code: &Code, bytes: &[u8]) -> Resu
     Ok(())
 }
 
+// The code of `put` has the bytes that it was decoded from.
+fn put_and_its_bytes(rt: &impl Abort, alloc: Global) -> Result<(), Fail> {
+    let bytes = put_bytes(alloc)?;
+    let code = decoded(alloc, bytes.as_slice())?;
+    let passed = encodes_to(rt, alloc, &code, bytes.as_slice());
+    drop(code);
+    Ok(passed?)
+}
+
+// The bytes of code that was made from an instruction.
+fn exit_and_its_bytes(rt: &impl Abort, alloc: Global) -> Result<(), Fail> {
+    let code = made(alloc, &[Insn::Exit])?;
+    let passed = encodes_to(rt, alloc, &code, &[0x95, 0, 0, 0, 0, 0, 0, 0]);
+    drop(code);
+    Ok(passed?)
+}
+
 #[test]
 fn code_and_its_bytes(rt: HostRuntime) -> Result<(), Fail> {
-    let bytes = put_bytes(rt.alloc())?;
-    let code = decoded(rt.alloc(), bytes.as_slice())?;
-    encodes_to(&rt, rt.alloc(), &code, bytes.as_slice())?;
-    let code = made(rt.alloc(), &[Insn::Exit])?;
-    encodes_to(&rt, rt.alloc(), &code, &[0x95, 0, 0, 0, 0, 0, 0, 0])?;
-    Ok(())
+    put_and_its_bytes(&rt, rt.alloc())?;
+    exit_and_its_bytes(&rt, rt.alloc())
 }
 
 fn put_code(alloc: Global) -> Result<Code, Fail> {
