@@ -56,15 +56,11 @@ fn main(rt: HostRuntime) -> ExitCode {
 #[cfg(test)]
 mod encoding_tests;
 #[cfg(test)]
-mod log_tests;
-#[cfg(test)]
 mod machine_tests;
 #[cfg(test)]
 mod run_tests;
 #[cfg(test)]
 mod script_tests;
-#[cfg(test)]
-mod step_tests;
 #[cfg(test)]
 mod test_scripts;
 #[cfg(test)]

@@ -25,43 +25,71 @@ pub(crate) const PUT_AND_ABORT: [(u8, u8, u64, u64, u64, [u64; 2]); 12] = [
     (5, 2, 2, 5, 0, [0, 0]),
 ];
 
+// Adds the bytes of a record.
+fn print_record(
+    bytes: &mut Vec<u8>,
+    record: &(u8, u8, u64, u64, u64, [u64; 2]),
+) -> Result<(), AllocError> {
+    let (kind, sub, txn, word, key, body) = record;
+    bytes.extend_from_slice(&[*kind, *sub, 0, 0, 0, 0, 0, 0])?;
+    for word in [txn, word, key, &body[0], &body[1]] {
+        bytes.extend_from_slice(&word.to_le_bytes())?;
+    }
+    bytes.extend_from_slice(&[0; 48])?;
+    Ok(())
+}
+
 /// The bytes of such records.
 pub(crate) fn printed(
     alloc: Global,
     records: &[(u8, u8, u64, u64, u64, [u64; 2])],
 ) -> Result<Vec<u8>, AllocError> {
     let mut bytes = Vec::new(alloc);
-    for (kind, sub, txn, word, key, body) in records {
-        bytes.extend_from_slice(&[*kind, *sub, 0, 0, 0, 0, 0, 0])?;
-        bytes.extend_from_slice(&txn.to_le_bytes())?;
-        bytes.extend_from_slice(&word.to_le_bytes())?;
-        bytes.extend_from_slice(&key.to_le_bytes())?;
-        bytes.extend_from_slice(&body[0].to_le_bytes())?;
-        bytes.extend_from_slice(&body[1].to_le_bytes())?;
-        bytes.extend_from_slice(&[0; 48])?;
+    for record in records {
+        print_record(&mut bytes, record)?;
     }
     Ok(bytes)
+}
+
+/// The log prints to these bytes.
+pub(crate) fn prints_to(
+    rt: &impl Abort,
+    alloc: Global,
+    log: &Log,
+    bytes: &[u8],
+) -> Result<(), AllocError> {
+    let again = log.print(alloc)?;
+    assert_eq!(rt; again.as_slice(), bytes);
+    Ok(())
 }
 
 // How many events these bytes are, which print to them again; or the fault.
 fn read(rt: &impl Abort, alloc: Global, bytes: &[u8]) -> Result<usize, LogFault> {
     let log = Log::read(alloc, bytes)?;
-    assert_eq!(rt; log.print(alloc)?.as_slice(), bytes);
-    Ok(log.len())
+    let events = log.len();
+    let printed = prints_to(rt, alloc, &log, bytes);
+    drop(log);
+    printed?;
+    Ok(events)
+}
+
+// The first so many bytes of a log are a log where they are whole events.
+fn is_prefix_read(rt: &impl Abort, alloc: Global, bytes: &[u8], length: usize) {
+    let want = if length % RECORD == 0 {
+        Ok(length / RECORD)
+    } else {
+        Err(LogFault::Length)
+    };
+    if let Some(prefix) = bytes.get(..length) {
+        assert_eq!(rt; read(rt, alloc, prefix), want, "of {length} bytes");
+    }
 }
 
 #[test]
 fn each_prefix_of_a_log(rt: HostRuntime) -> Result<(), Fail> {
     let bytes = printed(rt.alloc(), &PUT_AND_ABORT)?;
     for length in 0..=bytes.len() {
-        let want = if length % RECORD == 0 {
-            Ok(length / RECORD)
-        } else {
-            Err(LogFault::Length)
-        };
-        if let Some(prefix) = bytes.get(..length) {
-            assert_eq!(rt; read(&rt, rt.alloc(), prefix), want, "of {length} bytes");
-        }
+        is_prefix_read(&rt, rt.alloc(), bytes.as_slice(), length);
     }
     Ok(())
 }
@@ -96,22 +124,34 @@ fn with_255(alloc: Global, bytes: &[u8], at: usize) -> Result<Vec<u8>, AllocErro
     Ok(hostile)
 }
 
+// The log with this byte set to 255 is one only where the byte may be any.
+fn a_byte_set(
+    rt: &impl Abort,
+    alloc: Global,
+    bytes: &[u8],
+    at: usize,
+    is_free: bool,
+) -> Result<(), AllocError> {
+    let (index, place) = (at / RECORD, at % RECORD);
+    let want = if is_free {
+        Ok(PUT_AND_ABORT.len())
+    } else {
+        Err(LogFault::Kind(index))
+    };
+    let hostile = with_255(alloc, bytes, at)?;
+    let events = read(rt, alloc, hostile.as_slice());
+    assert_eq!(rt; events, want, "at {place} of event {index}");
+    Ok(())
+}
+
 #[test]
 fn each_byte_of_a_log_set_to_255(rt: HostRuntime) -> Result<(), Fail> {
     let bytes = printed(rt.alloc(), &PUT_AND_ABORT)?;
     for (index, (kind, sub, ..)) in PUT_AND_ABORT.iter().enumerate() {
         for place in 0..RECORD {
-            let hostile = with_255(rt.alloc(), bytes.as_slice(), index * RECORD + place)?;
-            let want = if is_free(*kind, *sub, place) {
-                Ok(PUT_AND_ABORT.len())
-            } else {
-                Err(LogFault::Kind(index))
-            };
-            assert_eq!(rt;
-                read(&rt, rt.alloc(), hostile.as_slice()),
-                want,
-                "at {place} of event {index}"
-            );
+            let at = index * RECORD + place;
+            let is_free = is_free(*kind, *sub, place);
+            a_byte_set(&rt, rt.alloc(), bytes.as_slice(), at, is_free)?;
         }
     }
     Ok(())
