@@ -24,11 +24,17 @@
 
 mod answer;
 mod desk;
+#[cfg(test)]
+mod link_tests;
 mod locked_dcs;
 mod pool;
 mod report;
 mod ring;
 mod ring_link;
+#[cfg(test)]
+mod test_pool;
+#[cfg(test)]
+mod test_state;
 
 pub use answer::{Answer, Progress};
 pub use locked_dcs::LockedDcs;
