@@ -28,6 +28,8 @@ mod desk;
 mod link_tests;
 mod locked_dcs;
 mod pool;
+#[cfg(test)]
+mod pool_tests;
 mod report;
 mod ring;
 mod ring_link;
