@@ -34,6 +34,8 @@ mod report;
 mod ring;
 mod ring_link;
 #[cfg(test)]
+mod ring_tests;
+#[cfg(test)]
 mod test_pool;
 #[cfg(test)]
 mod test_state;
