@@ -27,6 +27,8 @@ mod desk;
 #[cfg(test)]
 mod link_tests;
 mod locked_dcs;
+#[cfg(test)]
+mod memory_tests;
 mod pool;
 #[cfg(test)]
 mod pool_tests;

@@ -95,45 +95,39 @@ fn slot(mode: Mode, dc: u16, argument: u8) -> Slot {
     }
 }
 
-fn verified(alloc: Global, args: u8, slots: &[Slot], text: &str) -> Result<Verified, Fail> {
-    let code = assemble(alloc, text)?;
-    let decl = Decl::new(args, slots)?;
-    match verify(alloc, code, decl) {
-        Ok(code) => Ok(code),
-        Err(_) => Err(Fail::from("refused by the verifier")),
-    }
+fn verified(alloc: Global, args: u8, slots: &[Slot], text: &str) -> Option<Verified> {
+    let code = assemble(alloc, text).ok()?;
+    let decl = Decl::new(args, slots).ok()?;
+    verify(alloc, code, decl).ok()
 }
 
-fn load(state: &mut TcState, name: &str, code: Verified) -> Result<(), Fail> {
-    match state.load(name, code) {
-        Ok(_) => Ok(()),
-        Err(_) => Err(Fail::from("not loaded")),
-    }
+fn load(state: &mut TcState, name: &str, code: Verified) -> Option<usize> {
+    state.load(name, code).ok()
 }
 
-fn load_puts(alloc: Global, state: &mut TcState, name: &str, dc: u16) -> Result<(), Fail> {
+fn load_puts(alloc: Global, state: &mut TcState, name: &str, dc: u16) -> Option<usize> {
     let code = verified(alloc, 2, &[slot(Mode::Write, dc, 0)], PUT_TEXT)?;
     load(state, name, code)
 }
 
-fn load_get(alloc: Global, state: &mut TcState) -> Result<(), Fail> {
+fn load_get(alloc: Global, state: &mut TcState) -> Option<usize> {
     let code = verified(alloc, 1, &[slot(Mode::Read, 0, 0)], GET_TEXT)?;
     load(state, "get", code)
 }
 
-fn load_bad(alloc: Global, state: &mut TcState) -> Result<(), Fail> {
+fn load_bad(alloc: Global, state: &mut TcState) -> Option<usize> {
     let code = verified(alloc, 1, &[slot(Mode::Write, 0, 0)], BAD_TEXT)?;
     load(state, "bad", code)
 }
 
-fn load_move(alloc: Global, state: &mut TcState) -> Result<(), Fail> {
+fn load_move(alloc: Global, state: &mut TcState) -> Option<usize> {
     let slots = [slot(Mode::Write, 0, 0), slot(Mode::Write, 0, 1)];
     let code = verified(alloc, 3, &slots, MOVE_TEXT)?;
     load(state, "move", code)
 }
 
-// The procedures have their numbers by the order in which they are loaded.
-fn load_all(alloc: Global, state: &mut TcState) -> Result<(), Fail> {
+// The number of the last. They have their numbers by the order in which they are loaded.
+fn load_all(alloc: Global, state: &mut TcState) -> Option<usize> {
     load_puts(alloc, state, "put", 0)?;
     load_get(alloc, state)?;
     load_bad(alloc, state)?;
@@ -141,12 +135,20 @@ fn load_all(alloc: Global, state: &mut TcState) -> Result<(), Fail> {
     load_puts(alloc, state, "put beside", 1)
 }
 
-/// A state for two components in which the procedures are loaded.
-pub(crate) fn state(alloc: Global) -> Result<TcState, Fail> {
-    let mut state = TcState::new(alloc, 2)?;
+/// A state for two components in which the procedures are loaded; none where memory is refused.
+pub(crate) fn loaded(alloc: Global) -> Option<TcState> {
+    let mut state = TcState::new(alloc, 2).ok()?;
     match load_all(alloc, &mut state) {
-        Ok(()) => Ok(state),
-        Err(fail) => Err(fail),
+        Some(PUT_BESIDE) => Some(state),
+        _ => None,
+    }
+}
+
+/// The same, which a test that is refused no memory has.
+pub(crate) fn state(alloc: Global) -> Result<TcState, Fail> {
+    match loaded(alloc) {
+        Some(state) => Ok(state),
+        None => Err(Fail::from("a procedure isn't loaded")),
     }
 }
 

@@ -1,0 +1,125 @@
+// Calls by workers where a request for memory is refused: what is refused is asked for once more,
+// so each test passes wherever one request of its run is refused.
+
+use crate::answer::Answer;
+use crate::locked_dcs::LockedDcs;
+use crate::pool::{OpenGate, run};
+use crate::test_pool::{locked_dc, value_at};
+use crate::test_state::{PUT, call, loaded, state, value};
+use std::alloc::{AllocError, Global};
+use std::process::Abort;
+use std::sync::Wait;
+use std::test::Fail;
+use std::thread::Threads;
+use tc_core::state::{Call, Refusal, TcState};
+
+fn state_in_the_end(alloc: Global) -> Result<TcState, Fail> {
+    match loaded(alloc) {
+        Some(state) => Ok(state),
+        None => state(alloc),
+    }
+}
+
+fn link_in_the_end(alloc: Global) -> Result<LockedDcs, AllocError> {
+    match locked_dc(alloc, 4) {
+        Ok(link) => Ok(link),
+        Err(_) => locked_dc(alloc, 4),
+    }
+}
+
+// `put` under 0, 1 and 2.
+fn three_puts(alloc: Global) -> Result<Vec<Call>, AllocError> {
+    let mut calls = Vec::new(alloc);
+    for key in 0..3u64 {
+        calls.push(call(alloc, PUT, &[key, 100])?)?;
+    }
+    Ok(calls)
+}
+
+fn calls_in_the_end(alloc: Global) -> Result<Vec<Call>, AllocError> {
+    match three_puts(alloc) {
+        Ok(calls) => Ok(calls),
+        Err(_) => three_puts(alloc),
+    }
+}
+
+// What the calls are answered, or the state that comes back.
+fn begun<R: Threads + Wait + Sync>(
+    rt: &R,
+    alloc: Global,
+    state: TcState,
+    calls: &[Call],
+    workers: usize,
+    link: &LockedDcs,
+) -> Result<Vec<Answer>, TcState> {
+    match run(rt, alloc, state, calls, workers, 3, link, &OpenGate) {
+        Ok(report) => Ok(report.answers),
+        Err(fault) => Err(fault.into_state()),
+    }
+}
+
+// The same on a state that came back, in which nothing has happened.
+fn begun_again<R: Threads + Wait + Sync + Abort>(
+    rt: &R,
+    alloc: Global,
+    back: TcState,
+    calls: &[Call],
+    workers: usize,
+    link: &LockedDcs,
+) -> Result<Vec<Answer>, Fail> {
+    assert_eq!(rt; back.log().len(), 0);
+    match begun(rt, alloc, back, calls, workers, link) {
+        Ok(answers) => Ok(answers),
+        Err(_) => Err(Fail::from("no call was begun")),
+    }
+}
+
+fn answers<R: Threads + Wait + Sync + Abort>(
+    rt: &R,
+    alloc: Global,
+    state: TcState,
+    calls: &[Call],
+    workers: usize,
+    link: &LockedDcs,
+) -> Result<Vec<Answer>, Fail> {
+    match begun(rt, alloc, state, calls, workers, link) {
+        Ok(answers) => Ok(answers),
+        Err(back) => begun_again(rt, alloc, back, calls, workers, link),
+    }
+}
+
+// A call that isn't admitted for want of memory leaves no row, and the others go on.
+fn rows_are_those(rt: &impl Abort, link: &mut LockedDcs, answers: &[Answer]) {
+    assert_eq!(rt; answers.len(), 3);
+    for (key, answer) in (0..3u64).zip(answers) {
+        let row = value_at(link, key);
+        match answer {
+            Answer::Committed(_) => assert_eq!(rt; row, Some(value(100))),
+            Answer::Refused(Refusal::Memory) => assert_eq!(rt; row, None),
+            _ => panic!(rt; "another answer"),
+        }
+    }
+}
+
+fn run_puts<R: Threads + Wait + Sync + Abort>(
+    rt: &R,
+    alloc: Global,
+    workers: usize,
+) -> Result<(), Fail> {
+    let mut link = link_in_the_end(alloc)?;
+    let calls = calls_in_the_end(alloc)?;
+    let state = state_in_the_end(alloc)?;
+    let answers = answers(rt, alloc, state, calls.as_slice(), workers, &link)?;
+    rows_are_those(rt, &mut link, answers.as_slice());
+    Ok(())
+}
+
+#[test]
+fn calls_by_one_worker(rt: HostRuntime) -> Result<(), Fail> {
+    run_puts(&rt, rt.alloc(), 1)
+}
+
+#[test]
+fn calls_by_two_workers(rt: HostRuntime) -> Result<(), Fail> {
+    run_puts(&rt, rt.alloc(), 2)
+}
