@@ -3,8 +3,8 @@
 use crate::answer::Answer;
 use crate::locked_dcs::LockedDcs;
 use crate::pool::{Link, OpenGate};
-use crate::test_pool::{all_commit, answers, behind_put, locked_dc, value_at};
-use crate::test_state::{GET, PUT, call, moves, record, state, value};
+use crate::test_pool::{all_commit, answers_behind_put, first_answers, locked_dc, value_at};
+use crate::test_state::{GET, PUT, moves, one_call, record, value};
 use access_slots::op::{Op, Reply, Said, Wire};
 use std::alloc::{AllocError, Global};
 use std::mem;
@@ -89,25 +89,43 @@ impl Link for Hostile {
     }
 }
 
-// One worker makes this call over the link: its answer, and how often was carried.
-fn check<R: Threads + Wait + Sync + Abort>(
-    rt: &R,
-    alloc: Global,
-    link: &Hostile,
-    call: Call,
-    answer: Answer,
-    carried: u64,
-) -> Result<(), Fail> {
-    let state = state(alloc)?;
-    let answers = answers(rt, alloc, state, &[call], 1, link, &OpenGate)?;
+fn are_answered(rt: &impl Abort, answers: &[Answer], answer: Answer, harm: Harm) {
+    assert_eq!(rt; answers, [answer].as_slice(), "over {harm:?}");
+}
+
+fn is_carried(rt: &impl Abort, link: &Hostile, carried: u64) {
     let harm = link.harm;
-    assert_eq!(rt; answers.as_slice(), [answer].as_slice(), "over {harm:?}");
     assert_eq!(rt;
         link.carried.load(Ordering::SeqCst),
         carried,
         "over {harm:?}"
     );
+}
+
+// One worker makes this call over the link: its answer, and how often was carried.
+fn check<R: Threads + Wait + Sync + Abort>(
+    rt: &R,
+    alloc: Global,
+    link: &Hostile,
+    call: Vec<Call>,
+    answer: Answer,
+    carried: u64,
+) -> Result<(), Fail> {
+    let answers = first_answers(rt, alloc, call, 1, link, &OpenGate)?;
+    are_answered(rt, answers.as_slice(), answer, link.harm);
+    is_carried(rt, link, carried);
     Ok(())
+}
+
+fn check_put_over<R: Threads + Wait + Sync + Abort>(
+    rt: &R,
+    alloc: Global,
+    link: &Hostile,
+    answer: Answer,
+    carried: u64,
+) -> Result<(), Fail> {
+    let put = one_call(alloc, PUT, &[5, 1])?;
+    check(rt, alloc, link, put, answer, carried)
 }
 
 fn check_put<R: Threads + Wait + Sync + Abort>(
@@ -118,8 +136,9 @@ fn check_put<R: Threads + Wait + Sync + Abort>(
     carried: u64,
 ) -> Result<(), Fail> {
     let link = Hostile::new(alloc, harm)?;
-    let put = call(alloc, PUT, &[5, 1])?;
-    check(rt, alloc, &link, put, answer, carried)
+    let checked = check_put_over(rt, alloc, &link, answer, carried);
+    drop(link);
+    checked
 }
 
 // `put 5 1`, where no reply is one to its request, and where each reply comes late.
@@ -136,20 +155,47 @@ fn puts_over_hostile_links(rt: HostRuntime) -> Result<(), Fail> {
     Ok(())
 }
 
-// `get 5`, where the record is there.
-#[test]
-fn a_read_that_is_told_of_nothing(rt: HostRuntime) -> Result<(), Fail> {
+// Inserts record 5 behind the back of the run.
+fn insert<R: Wait + Abort>(rt: &R, dcs: &LockedDcs) {
     let insert = Wire {
         number: 1000,
         low_water: 0,
         op: Op::Insert(record(5), value(100)),
     };
-    let get = call(rt.alloc(), GET, &[5])?;
-    let mut link = Hostile::new(rt.alloc(), Harm::Absent)?;
-    let inserted = link.dcs.carry(&rt, 0, &insert);
-    assert!(rt; inserted.is_some());
-    check(&rt, rt.alloc(), &link, get, Answer::Aborted(1, 3), 1)?;
+    assert!(rt; dcs.carry(rt, 0, &insert).is_some());
+}
+
+fn check_get_over<R: Threads + Wait + Sync + Abort>(
+    rt: &R,
+    alloc: Global,
+    link: &mut Hostile,
+) -> Result<(), Fail> {
+    insert(rt, &link.dcs);
+    let get = one_call(alloc, GET, &[5])?;
+    check(rt, alloc, link, get, Answer::Aborted(1, 3), 1)?;
     assert_eq!(rt; value_at(&mut link.dcs, 5), Some(value(100)));
+    Ok(())
+}
+
+// `get 5`, where the record is there.
+#[test]
+fn a_read_that_is_told_of_nothing(rt: HostRuntime) -> Result<(), Fail> {
+    let mut link = Hostile::new(rt.alloc(), Harm::Absent)?;
+    let checked = check_get_over(&rt, rt.alloc(), &mut link);
+    drop(link);
+    checked
+}
+
+fn moved_over<R: Threads + Wait + Sync + Abort>(
+    rt: &R,
+    alloc: Global,
+    workers: usize,
+    link: &mut Hostile,
+) -> Result<(), Fail> {
+    let calls = moves(alloc, 1, 8)?;
+    let answers = answers_behind_put(rt, alloc, calls, workers, link)?;
+    assert!(rt; all_commit(answers.as_slice(), 8));
+    assert_eq!(rt; value_at(&mut link.dcs, 5), Some(value(108)));
     Ok(())
 }
 
@@ -159,20 +205,9 @@ fn moved_thrice<R: Threads + Wait + Sync + Abort>(
     workers: usize,
 ) -> Result<(), Fail> {
     let mut link = Hostile::new(alloc, Harm::Thrice)?;
-    let calls = moves(alloc, 1, 8)?;
-    let state = behind_put(rt, alloc, &link)?;
-    let answers = answers(
-        rt,
-        alloc,
-        state,
-        calls.as_slice(),
-        workers,
-        &link,
-        &OpenGate,
-    )?;
-    assert!(rt; all_commit(answers.as_slice(), 8));
-    assert_eq!(rt; value_at(&mut link.dcs, 5), Some(value(108)));
-    Ok(())
+    let passed = moved_over(rt, alloc, workers, &mut link);
+    drop(link);
+    passed
 }
 
 // Each wire is performed three times: eight moves of 1 onto itself add up to 8.

@@ -4,8 +4,9 @@
 use crate::answer::Answer;
 use crate::locked_dcs::LockedDcs;
 use crate::pool::{OpenGate, run};
-use crate::test_pool::{locked_dc, value_at};
-use crate::test_state::{PUT, call, loaded, state, value};
+use crate::test_pool::{answers_of, locked_dc, value_at};
+use crate::test_state::{PUT, all_pushed, loaded, push_call, state, value};
+use access_slots::slot::Value;
 use std::alloc::{AllocError, Global};
 use std::process::Abort;
 use std::sync::Wait;
@@ -27,13 +28,18 @@ fn link_in_the_end(alloc: Global) -> Result<LockedDcs, AllocError> {
     }
 }
 
+fn push_puts(alloc: Global, calls: &mut Vec<Call>) -> Result<(), AllocError> {
+    for key in 0..3u64 {
+        push_call(alloc, calls, PUT, &[key, 100])?;
+    }
+    Ok(())
+}
+
 // `put` under 0, 1 and 2.
 fn three_puts(alloc: Global) -> Result<Vec<Call>, AllocError> {
     let mut calls = Vec::new(alloc);
-    for key in 0..3u64 {
-        calls.push(call(alloc, PUT, &[key, 100])?)?;
-    }
-    Ok(calls)
+    let pushed = push_puts(alloc, &mut calls);
+    all_pushed(calls, pushed)
 }
 
 fn calls_in_the_end(alloc: Global) -> Result<Vec<Call>, AllocError> {
@@ -53,7 +59,7 @@ fn begun<R: Threads + Wait + Sync>(
     link: &LockedDcs,
 ) -> Result<Vec<Answer>, TcState> {
     match run(rt, alloc, state, calls, workers, 3, link, &OpenGate) {
-        Ok(report) => Ok(report.answers),
+        Ok(report) => Ok(answers_of(report)),
         Err(fault) => Err(fault.into_state()),
     }
 }
@@ -70,35 +76,69 @@ fn begun_again<R: Threads + Wait + Sync + Abort>(
     assert_eq!(rt; back.log().len(), 0);
     match begun(rt, alloc, back, calls, workers, link) {
         Ok(answers) => Ok(answers),
-        Err(_) => Err(Fail::from("no call was begun")),
+        Err(back) => {
+            drop(back);
+            Err(Fail::from("no call was begun"))
+        }
     }
 }
 
 fn answers<R: Threads + Wait + Sync + Abort>(
     rt: &R,
     alloc: Global,
-    state: TcState,
     calls: &[Call],
     workers: usize,
     link: &LockedDcs,
 ) -> Result<Vec<Answer>, Fail> {
+    let state = state_in_the_end(alloc)?;
     match begun(rt, alloc, state, calls, workers, link) {
         Ok(answers) => Ok(answers),
         Err(back) => begun_again(rt, alloc, back, calls, workers, link),
     }
 }
 
-// A call that isn't admitted for want of memory leaves no row, and the others go on.
+// The row that a call leaves. One that isn't admitted for want of memory leaves none.
+fn left_by(rt: &impl Abort, answer: &Answer) -> Option<Value> {
+    match answer {
+        Answer::Committed(_) => Some(value(100)),
+        Answer::Refused(Refusal::Memory) => None,
+        _ => panic!(rt; "another answer"),
+    }
+}
+
+fn row_is_left(rt: &impl Abort, row: Option<Value>, answer: &Answer) {
+    assert_eq!(rt; row, left_by(rt, answer));
+}
+
+// Where a call isn't admitted, the others go on.
 fn rows_are_those(rt: &impl Abort, link: &mut LockedDcs, answers: &[Answer]) {
     assert_eq!(rt; answers.len(), 3);
     for (key, answer) in (0..3u64).zip(answers) {
-        let row = value_at(link, key);
-        match answer {
-            Answer::Committed(_) => assert_eq!(rt; row, Some(value(100))),
-            Answer::Refused(Refusal::Memory) => assert_eq!(rt; row, None),
-            _ => panic!(rt; "another answer"),
-        }
+        row_is_left(rt, value_at(link, key), answer);
     }
+}
+
+fn put_answers<R: Threads + Wait + Sync + Abort>(
+    rt: &R,
+    alloc: Global,
+    workers: usize,
+    link: &LockedDcs,
+) -> Result<Vec<Answer>, Fail> {
+    let calls = calls_in_the_end(alloc)?;
+    let answered = answers(rt, alloc, calls.as_slice(), workers, link);
+    drop(calls);
+    answered
+}
+
+fn run_puts_over<R: Threads + Wait + Sync + Abort>(
+    rt: &R,
+    alloc: Global,
+    workers: usize,
+    link: &mut LockedDcs,
+) -> Result<(), Fail> {
+    let answers = put_answers(rt, alloc, workers, link)?;
+    rows_are_those(rt, link, answers.as_slice());
+    Ok(())
 }
 
 fn run_puts<R: Threads + Wait + Sync + Abort>(
@@ -107,11 +147,9 @@ fn run_puts<R: Threads + Wait + Sync + Abort>(
     workers: usize,
 ) -> Result<(), Fail> {
     let mut link = link_in_the_end(alloc)?;
-    let calls = calls_in_the_end(alloc)?;
-    let state = state_in_the_end(alloc)?;
-    let answers = answers(rt, alloc, state, calls.as_slice(), workers, &link)?;
-    rows_are_those(rt, &mut link, answers.as_slice());
-    Ok(())
+    let passed = run_puts_over(rt, alloc, workers, &mut link);
+    drop(link);
+    passed
 }
 
 #[test]

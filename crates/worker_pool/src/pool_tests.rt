@@ -6,9 +6,13 @@ use crate::locked_dcs::LockedDcs;
 use crate::pool::{Gate, Link, OpenGate, RunFault, run};
 use crate::report::Report;
 use crate::test_pool::{
-    Hold, all_commit, answers, begun, behind_put, locked_dc, state_of, value_at,
+    Hold, all_commit, answers, answers_behind_put, begun, behind_put, first_answers, locked_dc,
+    state_of, value_at,
 };
-use crate::test_state::{BAD, GET, MOVE, NO_PROCEDURE, PUT, call, moves, record, state, value};
+use crate::test_state::{
+    BAD, GET, MOVE, NO_PROCEDURE, PUT, all_pushed, moves, one_call, push_call, record, state,
+    two_puts, value,
+};
 use access_slots::op::{Reply, Wire};
 use lock_table::table::Busy;
 use std::alloc::{AllocError, Global};
@@ -20,12 +24,21 @@ use std::thread::Threads;
 use tc_core::state::{Call, Refusal, TcState};
 use tc_log::event::Event;
 
-// `put 5 1` and `put KEY 2`.
-fn two_puts(alloc: Global, key: u64) -> Result<Vec<Call>, AllocError> {
-    let mut calls = Vec::new(alloc);
-    calls.push(call(alloc, PUT, &[5, 1])?)?;
-    calls.push(call(alloc, PUT, &[key, 2])?)?;
-    Ok(calls)
+fn holds(rt: &impl Abort, link: &mut LockedDcs, number: u64) {
+    assert_eq!(rt; value_at(link, 5), Some(value(number)));
+}
+
+fn one_move_over<R: Threads + Wait + Sync + Abort>(
+    rt: &R,
+    alloc: Global,
+    workers: usize,
+    link: &mut LockedDcs,
+) -> Result<(), Fail> {
+    let calls = moves(alloc, 10, 1)?;
+    let answers = answers_behind_put(rt, alloc, calls, workers, link)?;
+    assert_eq!(rt; answers.as_slice(), [Answer::Committed(13)].as_slice());
+    holds(rt, link, 110);
+    Ok(())
 }
 
 fn moved_onto_itself<R: Threads + Wait + Sync + Abort>(
@@ -34,20 +47,9 @@ fn moved_onto_itself<R: Threads + Wait + Sync + Abort>(
     workers: usize,
 ) -> Result<(), Fail> {
     let mut link = locked_dc(alloc, 4)?;
-    let calls = moves(alloc, 10, 1)?;
-    let state = behind_put(rt, alloc, &link)?;
-    let answers = answers(
-        rt,
-        alloc,
-        state,
-        calls.as_slice(),
-        workers,
-        &link,
-        &OpenGate,
-    )?;
-    assert_eq!(rt; answers.as_slice(), [Answer::Committed(13)].as_slice());
-    assert_eq!(rt; value_at(&mut link, 5), Some(value(110)));
-    Ok(())
+    let passed = one_move_over(rt, alloc, workers, &mut link);
+    drop(link);
+    passed
 }
 
 // `move 5 5 10`: the last write of the record stands.
@@ -59,26 +61,28 @@ fn one_record_moved_onto_itself(rt: HostRuntime) -> Result<(), Fail> {
     Ok(())
 }
 
+fn eight_moves_over<R: Threads + Wait + Sync + Abort>(
+    rt: &R,
+    alloc: Global,
+    workers: usize,
+    link: &mut LockedDcs,
+) -> Result<(), Fail> {
+    let calls = moves(alloc, 1, 8)?;
+    let answers = answers_behind_put(rt, alloc, calls, workers, link)?;
+    assert!(rt; all_commit(answers.as_slice(), 8));
+    holds(rt, link, 108);
+    Ok(())
+}
+
 fn eight_moved<R: Threads + Wait + Sync + Abort>(
     rt: &R,
     alloc: Global,
     workers: usize,
 ) -> Result<(), Fail> {
     let mut link = locked_dc(alloc, 4)?;
-    let calls = moves(alloc, 1, 8)?;
-    let state = behind_put(rt, alloc, &link)?;
-    let answers = answers(
-        rt,
-        alloc,
-        state,
-        calls.as_slice(),
-        workers,
-        &link,
-        &OpenGate,
-    )?;
-    assert!(rt; all_commit(answers.as_slice(), 8));
-    assert_eq!(rt; value_at(&mut link, 5), Some(value(108)));
-    Ok(())
+    let passed = eight_moves_over(rt, alloc, workers, &mut link);
+    drop(link);
+    passed
 }
 
 #[test]
@@ -89,55 +93,76 @@ fn eight_moves_by_any_number_of_workers(rt: HostRuntime) -> Result<(), Fail> {
     Ok(())
 }
 
+fn push_three(alloc: Global, calls: &mut Vec<Call>) -> Result<(), AllocError> {
+    push_call(alloc, calls, BAD, &[5])?;
+    push_call(alloc, calls, GET, &[6])?;
+    push_call(alloc, calls, PUT, &[6, 1])
+}
+
 // An abort, a read of what isn't there, and an insert.
 fn three_calls(alloc: Global) -> Result<Vec<Call>, AllocError> {
     let mut calls = Vec::new(alloc);
-    calls.push(call(alloc, BAD, &[5])?)?;
-    calls.push(call(alloc, GET, &[6])?)?;
-    calls.push(call(alloc, PUT, &[6, 1])?)?;
-    Ok(calls)
+    let pushed = push_three(alloc, &mut calls);
+    all_pushed(calls, pushed)
 }
 
 // The abort is undone; the read answers 1; the insert finds no room.
-#[test]
-fn aborts_and_no_room(rt: HostRuntime) -> Result<(), Fail> {
-    let mut link = locked_dc(rt.alloc(), 1)?;
-    let calls = three_calls(rt.alloc())?;
-    let state = behind_put(&rt, rt.alloc(), &link)?;
-    let answers = answers(
-        &rt,
-        rt.alloc(),
-        state,
-        calls.as_slice(),
-        1,
-        &link,
-        &OpenGate,
-    )?;
+fn three_calls_over<R: Threads + Wait + Sync + Abort>(
+    rt: &R,
+    alloc: Global,
+    link: &mut LockedDcs,
+) -> Result<(), Fail> {
+    let answers = answers_behind_put(rt, alloc, three_calls(alloc)?, 1, link)?;
     let wanted = [
         Answer::Aborted(5, 11),
         Answer::Aborted(1, 15),
         Answer::NoRoom(19),
     ];
     assert_eq!(rt; answers.as_slice(), wanted.as_slice());
-    assert_eq!(rt; value_at(&mut link, 5), Some(value(100)));
+    holds(rt, link, 100);
     Ok(())
 }
 
 #[test]
-fn refused_calls(rt: HostRuntime) -> Result<(), Fail> {
-    let link = locked_dc(rt.alloc(), 4)?;
-    let calls = [
-        call(rt.alloc(), NO_PROCEDURE, &[5])?,
-        call(rt.alloc(), GET, &[5, 6])?,
-    ];
-    let state = behind_put(&rt, rt.alloc(), &link)?;
-    let answers = answers(&rt, rt.alloc(), state, &calls, 2, &link, &OpenGate)?;
+fn aborts_and_no_room(rt: HostRuntime) -> Result<(), Fail> {
+    let mut link = locked_dc(rt.alloc(), 1)?;
+    let passed = three_calls_over(&rt, rt.alloc(), &mut link);
+    drop(link);
+    passed
+}
+
+fn push_refused(alloc: Global, calls: &mut Vec<Call>) -> Result<(), AllocError> {
+    push_call(alloc, calls, NO_PROCEDURE, &[5])?;
+    push_call(alloc, calls, GET, &[5, 6])
+}
+
+// Calls of no procedure, and of one that has another number of arguments.
+fn two_refused(alloc: Global) -> Result<Vec<Call>, AllocError> {
+    let mut calls = Vec::new(alloc);
+    let pushed = push_refused(alloc, &mut calls);
+    all_pushed(calls, pushed)
+}
+
+fn refused_over<R: Threads + Wait + Sync + Abort>(
+    rt: &R,
+    alloc: Global,
+    link: &LockedDcs,
+) -> Result<(), Fail> {
+    let answers = answers_behind_put(rt, alloc, two_refused(alloc)?, 2, link)?;
     let wanted = [
         Answer::Refused(Refusal::NoProcedure),
         Answer::Refused(Refusal::ArgumentCount),
     ];
     assert_eq!(rt; answers.as_slice(), wanted.as_slice());
     Ok(())
+}
+
+#[test]
+fn refused_calls(rt: HostRuntime) -> Result<(), Fail> {
+    let link = locked_dc(rt.alloc(), 4)?;
+    let passed = refused_over(&rt, rt.alloc(), &link);
+    drop(link);
+    passed
 }
 
 // Counts the calls that it is told of as begun and as answered.
@@ -195,18 +220,28 @@ impl Gate for HoldsBegun {
     }
 }
 
+// Whether `put 5 1` and `put 6 2` are committed by two workers.
+fn do_both_commit<R: Threads + Wait + Sync, L: Link + Sync, G: Gate + Sync>(
+    rt: &R,
+    alloc: Global,
+    link: &L,
+    gate: &G,
+) -> Result<bool, Fail> {
+    let answers = first_answers(rt, alloc, two_puts(alloc, 6)?, 2, link, gate)?;
+    Ok(all_commit(answers.as_slice(), 2))
+}
+
 // Two workers are at work at once, and no lock is held while a gate is told.
 #[test]
 fn two_calls_at_once_by_a_gate(rt: HostRuntime) -> Result<(), Fail> {
-    let link = locked_dc(rt.alloc(), 4)?;
-    let calls = two_puts(rt.alloc(), 6)?;
     let gate = HoldsBegun {
         hold: Hold::new(),
         counts: Counts::new(),
     };
-    let state = state(rt.alloc())?;
-    let answers = answers(&rt, rt.alloc(), state, calls.as_slice(), 2, &link, &gate)?;
-    assert!(rt; all_commit(answers.as_slice(), 2));
+    let link = locked_dc(rt.alloc(), 4)?;
+    let both = do_both_commit(&rt, rt.alloc(), &link, &gate);
+    drop(link);
+    assert!(rt; both?);
     assert!(rt; !gate.hold.is_too_late());
     assert_eq!(rt; gate.counts.told(), (2, 2));
     Ok(())
@@ -243,11 +278,11 @@ fn two_calls_at_once_by_a_link(rt: HostRuntime) -> Result<(), Fail> {
         dcs: locked_dc(rt.alloc(), 4)?,
         hold: Hold::new(),
     };
-    let calls = two_puts(rt.alloc(), 6)?;
-    let state = state(rt.alloc())?;
-    let answers = answers(&rt, rt.alloc(), state, calls.as_slice(), 2, &link, &link)?;
-    assert!(rt; all_commit(answers.as_slice(), 2));
-    assert!(rt; !link.hold.is_too_late());
+    let both = do_both_commit(&rt, rt.alloc(), &link, &link);
+    let is_too_late = link.hold.is_too_late();
+    drop(link);
+    assert!(rt; both?);
+    assert!(rt; !is_too_late);
     Ok(())
 }
 
@@ -264,21 +299,25 @@ impl Link for Loses {
     }
 }
 
-#[test]
-fn in_doubt_after_three_carries_and_blocked(rt: HostRuntime) -> Result<(), Fail> {
-    let link = Loses {
-        carried: AtomicU64::new(0),
-    };
-    let calls = two_puts(rt.alloc(), 5)?;
-    let gate = Counts::new();
-    let state = state(rt.alloc())?;
-    let answers = answers(&rt, rt.alloc(), state, calls.as_slice(), 1, &link, &gate)?;
+// `put 5 1` falls in doubt, and is in the way of `put 5 2`.
+fn are_lost(rt: &impl Abort, answers: &[Answer]) {
     let in_the_way = Busy {
         name: record(5),
         holder: 1,
     };
     let wanted = [Answer::InDoubt(1), Answer::Blocked(in_the_way)];
-    assert_eq!(rt; answers.as_slice(), wanted.as_slice());
+    assert_eq!(rt; answers, wanted.as_slice());
+}
+
+#[test]
+fn in_doubt_after_three_carries_and_blocked(rt: HostRuntime) -> Result<(), Fail> {
+    let link = Loses {
+        carried: AtomicU64::new(0),
+    };
+    let gate = Counts::new();
+    let calls = two_puts(rt.alloc(), 5)?;
+    let answers = first_answers(&rt, rt.alloc(), calls, 1, &link, &gate)?;
+    are_lost(&rt, answers.as_slice());
     assert_eq!(rt; link.carried.load(Ordering::SeqCst), 3);
     assert_eq!(rt; gate.told(), (1, 2));
     Ok(())
@@ -344,15 +383,20 @@ fn sent(wires: &[Wire], number: u64) -> usize {
     wires.iter().filter(|wire| wire.number == number).count()
 }
 
+fn push_moves_and_aborts(alloc: Global, calls: &mut Vec<Call>) -> Result<(), AllocError> {
+    push_call(alloc, calls, PUT, &[5, 100])?;
+    for _ in 0..8 {
+        push_call(alloc, calls, MOVE, &[5, 5, 1])?;
+        push_call(alloc, calls, BAD, &[5])?;
+    }
+    Ok(())
+}
+
 // Calls of which some commit, some abort, and some fall in doubt.
 fn moves_and_aborts(alloc: Global) -> Result<Vec<Call>, AllocError> {
     let mut calls = Vec::new(alloc);
-    calls.push(call(alloc, PUT, &[5, 100])?)?;
-    for _ in 0..8 {
-        calls.push(call(alloc, MOVE, &[5, 5, 1])?)?;
-        calls.push(call(alloc, BAD, &[5])?)?;
-    }
-    Ok(calls)
+    let pushed = push_moves_and_aborts(alloc, &mut calls);
+    all_pushed(calls, pushed)
 }
 
 // Each wire stands in the log, and was sent four times at most.
@@ -375,9 +419,32 @@ fn recorded<R: Threads + Wait + Sync>(
     begun(run(rt, alloc, state, calls, 4, 4, link, &OpenGate)).map(state_of)
 }
 
+// The state behind moves and aborts.
+fn moved_and_aborted<R: Threads + Wait + Sync>(
+    rt: &R,
+    alloc: Global,
+    link: &Records,
+) -> Result<TcState, Fail> {
+    let calls = moves_and_aborts(alloc)?;
+    let recorded = recorded(rt, alloc, link, calls.as_slice());
+    drop(calls);
+    recorded
+}
+
 fn are_recorded<R: Wait + Abort>(rt: &R, link: &Records, state: &TcState) {
     let wires = link.wires.lock(rt);
     are_logged(rt, state, wires.as_slice());
+}
+
+fn wires_over<R: Threads + Wait + Sync + Abort>(
+    rt: &R,
+    alloc: Global,
+    link: &Records,
+) -> Result<(), Fail> {
+    let state = moved_and_aborted(rt, alloc, link)?;
+    are_recorded(rt, link, &state);
+    drop(state);
+    Ok(())
 }
 
 // What is sent is what the log says, and at most as often as there are tries.
@@ -387,18 +454,27 @@ fn wires_are_the_logs(rt: HostRuntime) -> Result<(), Fail> {
         dcs: locked_dc(rt.alloc(), 4)?,
         wires: Mutex::new(Vec::new(rt.alloc())),
     };
-    let calls = moves_and_aborts(rt.alloc())?;
-    let state = recorded(&rt, rt.alloc(), &link, calls.as_slice())?;
-    are_recorded(&rt, &link, &state);
-    Ok(())
+    let passed = wires_over(&rt, rt.alloc(), &link);
+    drop(link);
+    passed
+}
+
+fn name(fault: &RunFault) -> &'static str {
+    match fault {
+        RunFault::Workers(_) => "G1",
+        RunFault::Tries(_) => "G2",
+        _ => "another",
+    }
 }
 
 // The fault of a run that doesn't begin, and the state that is handed back.
-fn faulted(run: Result<Report, RunFault>) -> Result<(&'static str, TcState), Fail> {
-    match run {
-        Err(RunFault::Workers(state)) => Ok(("G1", state)),
-        Err(RunFault::Tries(state)) => Ok(("G2", state)),
-        _ => Err(Fail::from("begun, or another fault")),
+fn faulted(ran: Result<Report, RunFault>) -> Result<(&'static str, TcState), Fail> {
+    match ran {
+        Err(fault) => Ok((name(&fault), fault.into_state())),
+        Ok(report) => {
+            drop(state_of(report));
+            Err(Fail::from("begun"))
+        }
     }
 }
 
@@ -428,14 +504,35 @@ fn all_faults<R: Threads + Wait + Sync + Abort>(
     faults(rt, alloc, state, link, (1, 0, "G2"))
 }
 
+fn answers_behind_faults<R: Threads + Wait + Sync + Abort>(
+    rt: &R,
+    alloc: Global,
+    calls: &[Call],
+    link: &LockedDcs,
+) -> Result<Vec<Answer>, Fail> {
+    let state = behind_put(rt, alloc, link)?;
+    let state = all_faults(rt, alloc, state, link)?;
+    answers(rt, alloc, state, calls, 64, link, &OpenGate)
+}
+
+fn read_behind_faults<R: Threads + Wait + Sync + Abort>(
+    rt: &R,
+    alloc: Global,
+    link: &LockedDcs,
+) -> Result<Vec<Answer>, Fail> {
+    let get = one_call(alloc, GET, &[5])?;
+    let answered = answers_behind_faults(rt, alloc, get.as_slice(), link);
+    drop(get);
+    answered
+}
+
 // What comes back runs.
 #[test]
 fn faults_hand_the_state_back(rt: HostRuntime) -> Result<(), Fail> {
-    let calls = [call(rt.alloc(), GET, &[5])?];
     let link = locked_dc(rt.alloc(), 4)?;
-    let state = behind_put(&rt, rt.alloc(), &link)?;
-    let state = all_faults(&rt, rt.alloc(), state, &link)?;
-    let answers = answers(&rt, rt.alloc(), state, &calls, 64, &link, &OpenGate)?;
+    let answered = read_behind_faults(&rt, rt.alloc(), &link);
+    drop(link);
+    let answers = answered?;
     assert_eq!(rt; answers.as_slice(), [Answer::Committed(7)].as_slice());
     Ok(())
 }

@@ -8,7 +8,9 @@ use crate::pool::{Gate, Link, OpenGate, RunFault, run};
 use crate::report::Report;
 use crate::ring_link::RingLink;
 use crate::test_pool::{Hold, all_commit, answers_of, begun, state_of};
-use crate::test_state::{PUT, PUT_BESIDE, call, dc, moves, record, state, value};
+use crate::test_state::{
+    PUT, PUT_BESIDE, all_pushed, dc, moves, one_call, push_call, record, state, two_puts, value,
+};
 use access_slots::op::{Op, Reply, Wire};
 use access_slots::slot::{Record, Value};
 use data_component::dc::Dc;
@@ -73,19 +75,52 @@ fn run_open<R: Threads + Wait + Sync>(
     )
 }
 
+// A component, and a state.
+fn dc_and_state(alloc: Global) -> Result<(Dc, TcState), Fail> {
+    let state = state(alloc)?;
+    match dc(alloc, ROWS) {
+        Ok(dc) => Ok((dc, state)),
+        Err(error) => {
+            drop(state);
+            Err(Fail::from(error))
+        }
+    }
+}
+
+// The state behind one call, which is committed.
+fn behind_one(rt: &impl Abort, ran: Result<Report, RunFault>) -> Result<TcState, Fail> {
+    let report = begun(ran)?;
+    assert!(rt; all_commit(report.answers.as_slice(), 1));
+    Ok(state_of(report))
+}
+
 // The component and the state behind the first call by one worker.
 fn behind_first<R: Threads + Wait + Sync + Abort>(
     rt: &R,
     alloc: Global,
     first: &[Call],
     rings: &RingLink,
-    dc: Dc,
 ) -> Result<(Dc, TcState), Fail> {
-    let state = state(alloc)?;
+    let (dc, state) = dc_and_state(alloc)?;
     let (dc, ran) = run_open(rt, alloc, state, first, 1, rings, dc);
-    let report = begun(ran)?;
-    assert!(rt; all_commit(report.answers.as_slice(), 1));
-    Ok((dc, state_of(report)))
+    match behind_one(rt, ran) {
+        Ok(state) => Ok((dc, state)),
+        Err(fail) => {
+            drop(dc);
+            Err(fail)
+        }
+    }
+}
+
+fn behind_put_over<R: Threads + Wait + Sync + Abort>(
+    rt: &R,
+    alloc: Global,
+    rings: &RingLink,
+) -> Result<(Dc, TcState), Fail> {
+    let first = one_call(alloc, PUT, &[5, 100])?;
+    let behind = behind_first(rt, alloc, first.as_slice(), rings);
+    drop(first);
+    behind
 }
 
 // The component and the state behind `put 5 100`.
@@ -93,10 +128,10 @@ fn behind_put<R: Threads + Wait + Sync + Abort>(
     rt: &R,
     alloc: Global,
 ) -> Result<(Dc, TcState), Fail> {
-    let first = [call(alloc, PUT, &[5, 100])?];
     let rings = RingLink::new(alloc, 1, 1)?;
-    let dc = dc(alloc, ROWS)?;
-    behind_first(rt, alloc, &first, &rings, dc)
+    let behind = behind_put_over(rt, alloc, &rings);
+    drop(rings);
+    behind
 }
 
 // What record 5 holds once so many workers have committed all these calls.
@@ -110,9 +145,36 @@ fn left<R: Threads + Wait + Sync + Abort>(
     dc: Dc,
 ) -> Result<Option<Value>, Fail> {
     let (dc, ran) = run_open(rt, alloc, state, calls, workers, rings, dc);
+    let left = dc.get(&record(5));
+    drop(dc);
     let answers = begun(ran).map(answers_of)?;
     assert!(rt; all_commit(answers.as_slice(), calls.len()));
-    Ok(dc.get(&record(5)))
+    Ok(left)
+}
+
+fn left_behind_put<R: Threads + Wait + Sync + Abort>(
+    rt: &R,
+    alloc: Global,
+    calls: &[Call],
+    workers: usize,
+    rings: &RingLink,
+) -> Result<Option<Value>, Fail> {
+    let (dc, state) = behind_put(rt, alloc)?;
+    left(rt, alloc, state, calls, workers, rings, dc)
+}
+
+fn moved_over<R: Threads + Wait + Sync + Abort>(
+    rt: &R,
+    alloc: Global,
+    amount: u64,
+    times: usize,
+    workers: usize,
+    rings: &RingLink,
+) -> Result<Option<Value>, Fail> {
+    let calls = moves(alloc, amount, times)?;
+    let left = left_behind_put(rt, alloc, calls.as_slice(), workers, rings);
+    drop(calls);
+    left
 }
 
 // What `move 5 5 AMOUNT`, so many times, behind `put 5 100` leaves in record 5.
@@ -125,27 +187,49 @@ fn moved<R: Threads + Wait + Sync + Abort>(
 ) -> Result<Option<Value>, Fail>
     requires { (1 ≤ workers) × (workers ≤ 64) }
 {
-    let calls = moves(alloc, amount, times)?;
     let rings = RingLink::new(alloc, 1, workers)?;
-    let (dc, state) = behind_put(rt, alloc)?;
-    left(rt, alloc, state, calls.as_slice(), workers, &rings, dc)
+    let left = moved_over(rt, alloc, amount, times, workers, &rings);
+    drop(rings);
+    left
+}
+
+fn moved_once<R: Threads + Wait + Sync + Abort>(
+    rt: &R,
+    alloc: Global,
+    workers: usize,
+) -> Result<(), Fail>
+    requires { (1 ≤ workers) × (workers ≤ 64) }
+{
+    let left = moved(rt, alloc, 10, 1, workers)?;
+    assert_eq!(rt; left, Some(value(110)));
+    Ok(())
 }
 
 // The last write of the record stands.
 #[test]
 fn one_record_moved_onto_itself(rt: HostRuntime) -> Result<(), Fail> {
-    assert_eq!(rt; moved(&rt, rt.alloc(), 10, 1, 1)?, Some(value(110)));
-    assert_eq!(rt; moved(&rt, rt.alloc(), 10, 1, 2)?, Some(value(110)));
-    assert_eq!(rt; moved(&rt, rt.alloc(), 10, 1, 8)?, Some(value(110)));
+    moved_once(&rt, rt.alloc(), 1)?;
+    moved_once(&rt, rt.alloc(), 2)?;
+    moved_once(&rt, rt.alloc(), 8)
+}
+
+fn moved_eight_times<R: Threads + Wait + Sync + Abort>(
+    rt: &R,
+    alloc: Global,
+    workers: usize,
+) -> Result<(), Fail>
+    requires { (1 ≤ workers) × (workers ≤ 64) }
+{
+    let left = moved(rt, alloc, 1, 8, workers)?;
+    assert_eq!(rt; left, Some(value(108)));
     Ok(())
 }
 
 #[test]
 fn eight_moves_by_any_number_of_workers(rt: HostRuntime) -> Result<(), Fail> {
-    assert_eq!(rt; moved(&rt, rt.alloc(), 1, 8, 1)?, Some(value(108)));
-    assert_eq!(rt; moved(&rt, rt.alloc(), 1, 8, 2)?, Some(value(108)));
-    assert_eq!(rt; moved(&rt, rt.alloc(), 1, 8, 8)?, Some(value(108)));
-    Ok(())
+    moved_eight_times(&rt, rt.alloc(), 1)?;
+    moved_eight_times(&rt, rt.alloc(), 2)?;
+    moved_eight_times(&rt, rt.alloc(), 8)
 }
 
 // Holds call 0 until call 1 is answered: as a gate where it is begun, as a link at the first carry
@@ -188,7 +272,8 @@ fn run_held<R: Threads + Wait + Sync>(
     dc: Dc,
 ) -> Result<Report, RunFault> {
     let rings = &holds.rings;
-    let (_dc, ran) = run_beside(rt, alloc, state, calls, 2, rings, holds, holds, dc);
+    let (dc, ran) = run_beside(rt, alloc, state, calls, 2, rings, holds, holds, dc);
+    drop(dc);
     ran
 }
 
@@ -199,9 +284,20 @@ fn held<R: Threads + Wait + Sync>(
     calls: &[Call],
     holds: &Holds,
 ) -> Result<Vec<Answer>, Fail> {
-    let dc = dc(alloc, ROWS)?;
-    let state = state(alloc)?;
+    let (dc, state) = dc_and_state(alloc)?;
     begun(run_held(rt, alloc, state, calls, holds, dc)).map(answers_of)
+}
+
+fn do_both_commit<R: Threads + Wait + Sync>(
+    rt: &R,
+    alloc: Global,
+    holds: &Holds,
+) -> Result<bool, Fail> {
+    let calls = two_puts(alloc, 6)?;
+    let answered = held(rt, alloc, calls.as_slice(), holds);
+    drop(calls);
+    let answers = answered?;
+    Ok(all_commit(answers.as_slice(), 2))
 }
 
 // Whether two calls at once, the first of which is held until the second is answered, are committed
@@ -211,14 +307,15 @@ fn are_two_at_once<R: Threads + Wait + Sync>(
     alloc: Global,
     holds_begun: bool,
 ) -> Result<bool, Fail> {
-    let calls = [call(alloc, PUT, &[5, 1])?, call(alloc, PUT, &[6, 2])?];
     let holds = Holds {
         rings: RingLink::new(alloc, 1, 2)?,
         hold: Hold::new(),
         holds_begun,
     };
-    let answers = held(rt, alloc, &calls, &holds)?;
-    Ok(all_commit(answers.as_slice(), 2) && !holds.hold.is_too_late())
+    let both = do_both_commit(rt, alloc, &holds);
+    let is_too_late = holds.hold.is_too_late();
+    drop(holds);
+    Ok(both? && !is_too_late)
 }
 
 // Two workers are at work at once, and nothing is locked while a gate is told or a wire is carried.
@@ -256,12 +353,33 @@ fn run_beside_both<R: Threads + Wait + Sync>(
     right: Dc,
 ) -> Result<Report, RunFault> {
     let gate = Closes { rings };
-    let (_right, (_left, ran)) = thread::join(
+    let (right, (left, ran)) = thread::join(
         rt,
         move || rings.serve(rt, 1, right),
         move || run_beside(rt, alloc, state, calls, 2, rings, rings, &gate, left),
     );
+    drop(right);
+    drop(left);
     ran
+}
+
+fn answers_over_both<R: Threads + Wait + Sync>(
+    rt: &R,
+    alloc: Global,
+    calls: &[Call],
+    rings: &RingLink,
+) -> Result<Vec<Answer>, Fail> {
+    let (left, state) = dc_and_state(alloc)?;
+    match dc(alloc, ROWS) {
+        Ok(right) => {
+            begun(run_beside_both(rt, alloc, state, calls, rings, left, right)).map(answers_of)
+        }
+        Err(error) => {
+            drop(left);
+            drop(state);
+            Err(Fail::from(error))
+        }
+    }
 }
 
 // The answers of these calls over both components, where the link is closed under way.
@@ -271,30 +389,40 @@ fn closed_under_way<R: Threads + Wait + Sync>(
     calls: &[Call],
 ) -> Result<Vec<Answer>, Fail> {
     let rings = RingLink::new(alloc, 2, 2)?;
-    let left = dc(alloc, ROWS)?;
-    let right = dc(alloc, ROWS)?;
-    let state = state(alloc)?;
-    begun(run_beside_both(rt, alloc, state, calls, &rings, left, right)).map(answers_of)
+    let answered = answers_over_both(rt, alloc, calls, &rings);
+    drop(rings);
+    answered
+}
+
+fn push_puts(alloc: Global, calls: &mut Vec<Call>) -> Result<(), AllocError> {
+    for key in 0..50u64 {
+        push_call(alloc, calls, PUT, &[key, 1])?;
+        push_call(alloc, calls, PUT_BESIDE, &[key, 1])?;
+    }
+    Ok(())
 }
 
 // A hundred calls, each of a key of its own, in both components in turn.
 fn hundred_puts(alloc: Global) -> Result<Vec<Call>, AllocError> {
     let mut calls = Vec::new(alloc);
-    for key in 0..50u64 {
-        calls.push(call(alloc, PUT, &[key, 1])?)?;
-        calls.push(call(alloc, PUT_BESIDE, &[key, 1])?)?;
+    let pushed = push_puts(alloc, &mut calls);
+    all_pushed(calls, pushed)
+}
+
+fn commit_or_fall_in_doubt(rt: &impl Abort, answers: &[Answer]) {
+    assert_eq!(rt; answers.len(), 100);
+    for answer in answers {
+        assert!(rt; matches!(answer, Answer::Committed(_) | Answer::InDoubt(_)));
     }
-    Ok(calls)
 }
 
 #[test]
 fn closed_while_two_workers_carry(rt: HostRuntime) -> Result<(), Fail> {
     let calls = hundred_puts(rt.alloc())?;
-    let answers = closed_under_way(&rt, rt.alloc(), calls.as_slice())?;
-    assert_eq!(rt; answers.len(), 100);
-    for answer in &answers {
-        assert!(rt; matches!(answer, Answer::Committed(_) | Answer::InDoubt(_)));
-    }
+    let answered = closed_under_way(&rt, rt.alloc(), calls.as_slice());
+    drop(calls);
+    let answers = answered?;
+    commit_or_fall_in_doubt(&rt, answers.as_slice());
     Ok(())
 }
 
@@ -310,17 +438,38 @@ fn wire(dc: u16) -> Wire {
     }
 }
 
+fn carries_nothing<R: Wait + Abort>(rt: &R, rings: &RingLink, worker: usize, dc: u16) {
+    assert_eq!(rt; rings.carry(rt, worker, &wire(dc)), None);
+}
+
+fn serves_nothing<R: Wait + Abort>(rt: &R, rings: &RingLink, number: usize, dc: Dc) -> Dc {
+    let dc = rings.serve(rt, number, dc);
+    assert_eq!(rt; dc.rows().len(), 0);
+    dc
+}
+
+fn nothing_over<R: Wait + Abort>(rt: &R, rings: &RingLink, dc: Dc) {
+    carries_nothing(rt, rings, 0, 1);
+    carries_nothing(rt, rings, 1, 0);
+    let unserved = serves_nothing(rt, rings, 1, dc);
+    rings.close();
+    carries_nothing(rt, rings, 0, 0);
+    drop(serves_nothing(rt, rings, 0, unserved));
+}
+
 // No such component, no such worker, and a link that is closed; what has no inbox comes back.
 #[test]
 fn nothing_to_carry(rt: HostRuntime) -> Result<(), Fail> {
-    let rings = RingLink::new(rt.alloc(), 1, 1)?;
-    assert_eq!(rt; rings.carry(&rt, 0, &wire(1)), None);
-    assert_eq!(rt; rings.carry(&rt, 1, &wire(0)), None);
-    let unserved = rings.serve(&rt, 1, dc(rt.alloc(), ROWS)?);
-    assert_eq!(rt; unserved.rows().len(), 0);
-    rings.close();
-    assert_eq!(rt; rings.carry(&rt, 0, &wire(0)), None);
-    let served = rings.serve(&rt, 0, unserved);
-    assert_eq!(rt; served.rows().len(), 0);
-    Ok(())
+    let dc = dc(rt.alloc(), ROWS)?;
+    match RingLink::new(rt.alloc(), 1, 1) {
+        Ok(rings) => {
+            nothing_over(&rt, &rings, dc);
+            drop(rings);
+            Ok(())
+        }
+        Err(error) => {
+            drop(dc);
+            Err(Fail::from(error))
+        }
+    }
 }

@@ -4,7 +4,7 @@ use crate::answer::Answer;
 use crate::locked_dcs::LockedDcs;
 use crate::pool::{Gate, Link, OpenGate, RunFault, run};
 use crate::report::Report;
-use crate::test_state::{PUT, call, dc, record, state};
+use crate::test_state::{PUT, dc, one_call, record, state};
 use access_slots::slot::Value;
 use std::alloc::{AllocError, Global};
 use std::process::Abort;
@@ -31,18 +31,25 @@ pub(crate) fn value_at(dcs: &mut LockedDcs, key: u64) -> Option<Value> {
 pub(crate) fn begun(ran: Result<Report, RunFault>) -> Result<Report, Fail> {
     match ran {
         Ok(report) => Ok(report),
-        Err(_) => Err(Fail::from("no call was begun")),
+        Err(fault) => {
+            drop(fault.into_state());
+            Err(Fail::from("no call was begun"))
+        }
     }
 }
 
 /// The answers, without the state.
 pub(crate) fn answers_of(report: Report) -> Vec<Answer> {
-    report.answers
+    let Report { state, answers } = report;
+    drop(state);
+    answers
 }
 
 /// The state, without the answers.
 pub(crate) fn state_of(report: Report) -> TcState {
-    report.state
+    let Report { state, answers } = report;
+    drop(answers);
+    state
 }
 
 /// What these calls are answered by so many workers, each request sent three times at most.
@@ -61,6 +68,33 @@ pub(crate) fn answers<R: Threads + Wait + Sync, L: Link + Sync, G: Gate + Sync>(
 // Whether the report is that of one call whose end is the fourth event.
 fn is_first_put(report: &Report) -> bool {
     report.ends() == 1 && report.answers.as_slice() == [Answer::Committed(3)].as_slice()
+}
+
+// What these calls are answered where nothing is before them.
+fn slice_answers<R: Threads + Wait + Sync, L: Link + Sync, G: Gate + Sync>(
+    rt: &R,
+    alloc: Global,
+    calls: &[Call],
+    workers: usize,
+    link: &L,
+    gate: &G,
+) -> Result<Vec<Answer>, Fail> {
+    let state = state(alloc)?;
+    answers(rt, alloc, state, calls, workers, link, gate)
+}
+
+/// What these calls are answered where nothing is before them.
+pub(crate) fn first_answers<R: Threads + Wait + Sync, L: Link + Sync, G: Gate + Sync>(
+    rt: &R,
+    alloc: Global,
+    calls: Vec<Call>,
+    workers: usize,
+    link: &L,
+    gate: &G,
+) -> Result<Vec<Answer>, Fail> {
+    let answered = slice_answers(rt, alloc, calls.as_slice(), workers, link, gate);
+    drop(calls);
+    answered
 }
 
 // The state after the first call by one worker.
@@ -82,8 +116,34 @@ pub(crate) fn behind_put<R: Threads + Wait + Sync + Abort, L: Link + Sync>(
     alloc: Global,
     link: &L,
 ) -> Result<TcState, Fail> {
-    let first = [call(alloc, PUT, &[5, 100])?];
-    behind_first(rt, alloc, link, &first)
+    let first = one_call(alloc, PUT, &[5, 100])?;
+    let behind = behind_first(rt, alloc, link, first.as_slice());
+    drop(first);
+    behind
+}
+
+fn slice_answers_behind_put<R: Threads + Wait + Sync + Abort, L: Link + Sync>(
+    rt: &R,
+    alloc: Global,
+    calls: &[Call],
+    workers: usize,
+    link: &L,
+) -> Result<Vec<Answer>, Fail> {
+    let state = behind_put(rt, alloc, link)?;
+    answers(rt, alloc, state, calls, workers, link, &OpenGate)
+}
+
+/// What these calls are answered behind `put 5 100`.
+pub(crate) fn answers_behind_put<R: Threads + Wait + Sync + Abort, L: Link + Sync>(
+    rt: &R,
+    alloc: Global,
+    calls: Vec<Call>,
+    workers: usize,
+    link: &L,
+) -> Result<Vec<Answer>, Fail> {
+    let answered = slice_answers_behind_put(rt, alloc, calls.as_slice(), workers, link);
+    drop(calls);
+    answered
 }
 
 /// Whether so many calls were made, and all are committed.

@@ -140,7 +140,10 @@ pub(crate) fn loaded(alloc: Global) -> Option<TcState> {
     let mut state = TcState::new(alloc, 2).ok()?;
     match load_all(alloc, &mut state) {
         Some(PUT_BESIDE) => Some(state),
-        _ => None,
+        _ => {
+            drop(state);
+            None
+        }
     }
 }
 
@@ -157,21 +160,74 @@ pub(crate) fn dc(alloc: Global, rows: usize) -> Result<Dc, AllocError> {
     Dc::new(alloc, rows, 10_000)
 }
 
-/// A call of the procedure with this number.
-pub(crate) fn call(alloc: Global, proc: usize, args: &[u64]) -> Result<Call, AllocError> {
+fn call(alloc: Global, proc: usize, args: &[u64]) -> Result<Call, AllocError> {
     Ok(Call {
         proc,
         args: Vec::from_slice(alloc, args)?,
     })
 }
 
+/// Appends a call of the procedure with this number.
+pub(crate) fn push_call(
+    alloc: Global,
+    calls: &mut Vec<Call>,
+    proc: usize,
+    args: &[u64],
+) -> Result<(), AllocError> {
+    calls.push(call(alloc, proc, args)?)?;
+    Ok(())
+}
+
+/// The calls, where all were appended.
+pub(crate) fn all_pushed(
+    calls: Vec<Call>,
+    pushed: Result<(), AllocError>,
+) -> Result<Vec<Call>, AllocError> {
+    match pushed {
+        Ok(()) => Ok(calls),
+        Err(error) => {
+            drop(calls);
+            Err(error)
+        }
+    }
+}
+
+/// One call of the procedure with this number.
+pub(crate) fn one_call(alloc: Global, proc: usize, args: &[u64]) -> Result<Vec<Call>, AllocError> {
+    let mut calls = Vec::new(alloc);
+    let pushed = push_call(alloc, &mut calls, proc, args);
+    all_pushed(calls, pushed)
+}
+
+fn push_puts(alloc: Global, calls: &mut Vec<Call>, key: u64) -> Result<(), AllocError> {
+    push_call(alloc, calls, PUT, &[5, 1])?;
+    push_call(alloc, calls, PUT, &[key, 2])
+}
+
+/// `put 5 1` and `put KEY 2`.
+pub(crate) fn two_puts(alloc: Global, key: u64) -> Result<Vec<Call>, AllocError> {
+    let mut calls = Vec::new(alloc);
+    let pushed = push_puts(alloc, &mut calls, key);
+    all_pushed(calls, pushed)
+}
+
+fn push_moves(
+    alloc: Global,
+    calls: &mut Vec<Call>,
+    amount: u64,
+    count: usize,
+) -> Result<(), AllocError> {
+    for _ in 0..count {
+        push_call(alloc, calls, MOVE, &[5, 5, amount])?;
+    }
+    Ok(())
+}
+
 /// So many calls that move this amount from record 5 onto itself.
 pub(crate) fn moves(alloc: Global, amount: u64, count: usize) -> Result<Vec<Call>, AllocError> {
     let mut calls = Vec::new(alloc);
-    for _ in 0..count {
-        calls.push(call(alloc, MOVE, &[5, 5, amount])?)?;
-    }
-    Ok(calls)
+    let pushed = push_moves(alloc, &mut calls, amount, count);
+    all_pushed(calls, pushed)
 }
 
 /// The record under this key.
