@@ -6,8 +6,8 @@ use crate::locked_dcs::LockedDcs;
 use crate::pool::{Gate, Link, OpenGate, RunFault, run};
 use crate::report::Report;
 use crate::test_pool::{
-    Hold, all_commit, answers, answers_behind_put, begun, behind_put, first_answers, locked_dc,
-    state_of, value_at,
+    Hold, all_commit, answers, answers_behind_put, are_those, begun, behind_put, first_answers,
+    locked_dc, state_of, value_at,
 };
 use crate::test_state::{
     BAD, GET, MOVE, NO_PROCEDURE, PUT, all_pushed, moves, one_call, push_call, record, state,
@@ -36,7 +36,7 @@ fn one_move_over<R: Threads + Wait + Sync + Abort>(
 ) -> Result<(), Fail> {
     let calls = moves(alloc, 10, 1)?;
     let answers = answers_behind_put(rt, alloc, calls, workers, link)?;
-    assert_eq!(rt; answers.as_slice(), [Answer::Committed(13)].as_slice());
+    are_those(rt, answers.as_slice(), &[Answer::Committed(13)]);
     holds(rt, link, 110);
     Ok(())
 }
@@ -118,7 +118,7 @@ fn three_calls_over<R: Threads + Wait + Sync + Abort>(
         Answer::Aborted(1, 15),
         Answer::NoRoom(19),
     ];
-    assert_eq!(rt; answers.as_slice(), wanted.as_slice());
+    are_those(rt, answers.as_slice(), &wanted);
     holds(rt, link, 100);
     Ok(())
 }
@@ -153,7 +153,7 @@ fn refused_over<R: Threads + Wait + Sync + Abort>(
         Answer::Refused(Refusal::NoProcedure),
         Answer::Refused(Refusal::ArgumentCount),
     ];
-    assert_eq!(rt; answers.as_slice(), wanted.as_slice());
+    are_those(rt, answers.as_slice(), &wanted);
     Ok(())
 }
 
@@ -299,16 +299,6 @@ impl Link for Loses {
     }
 }
 
-// `put 5 1` falls in doubt, and is in the way of `put 5 2`.
-fn are_lost(rt: &impl Abort, answers: &[Answer]) {
-    let in_the_way = Busy {
-        name: record(5),
-        holder: 1,
-    };
-    let wanted = [Answer::InDoubt(1), Answer::Blocked(in_the_way)];
-    assert_eq!(rt; answers, wanted.as_slice());
-}
-
 #[test]
 fn in_doubt_after_three_carries_and_blocked(rt: HostRuntime) -> Result<(), Fail> {
     let link = Loses {
@@ -317,7 +307,12 @@ fn in_doubt_after_three_carries_and_blocked(rt: HostRuntime) -> Result<(), Fail>
     let gate = Counts::new();
     let calls = two_puts(rt.alloc(), 5)?;
     let answers = first_answers(&rt, rt.alloc(), calls, 1, &link, &gate)?;
-    are_lost(&rt, answers.as_slice());
+    let in_the_way = Busy {
+        name: record(5),
+        holder: 1,
+    };
+    let wanted = [Answer::InDoubt(1), Answer::Blocked(in_the_way)];
+    are_those(&rt, answers.as_slice(), &wanted);
     assert_eq!(rt; link.carried.load(Ordering::SeqCst), 3);
     assert_eq!(rt; gate.told(), (1, 2));
     Ok(())
@@ -478,6 +473,10 @@ fn faulted(ran: Result<Report, RunFault>) -> Result<(&'static str, TcState), Fai
     }
 }
 
+fn are_same(rt: &impl Abort, found: &str, wanted: &str) {
+    assert_eq!(rt; found, wanted);
+}
+
 // Sees that a run by so many workers and tries has this fault, and hands the state back.
 fn faults<R: Threads + Wait + Sync + Abort>(
     rt: &R,
@@ -487,7 +486,7 @@ fn faults<R: Threads + Wait + Sync + Abort>(
     (workers, tries, fault): (usize, u64, &'static str),
 ) -> Result<TcState, Fail> {
     let (found, state) = faulted(run(rt, alloc, state, &[], workers, tries, link, &OpenGate))?;
-    assert_eq!(rt; found, fault);
+    are_same(rt, found, fault);
     Ok(state)
 }
 
@@ -533,6 +532,6 @@ fn faults_hand_the_state_back(rt: HostRuntime) -> Result<(), Fail> {
     let answered = read_behind_faults(&rt, rt.alloc(), &link);
     drop(link);
     let answers = answered?;
-    assert_eq!(rt; answers.as_slice(), [Answer::Committed(7)].as_slice());
+    are_those(&rt, answers.as_slice(), &[Answer::Committed(7)]);
     Ok(())
 }

@@ -146,6 +146,11 @@ pub(crate) fn answers_behind_put<R: Threads + Wait + Sync + Abort, L: Link + Syn
     answered
 }
 
+/// Sees that the answers are those.
+pub(crate) fn are_those(rt: &impl Abort, answers: &[Answer], wanted: &[Answer]) {
+    assert_eq!(rt; answers, wanted);
+}
+
 /// Whether so many calls were made, and all are committed.
 pub(crate) fn all_commit(answers: &[Answer], calls: usize) -> bool {
     answers.len() == calls
