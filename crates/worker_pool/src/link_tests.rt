@@ -3,7 +3,7 @@
 use crate::answer::Answer;
 use crate::locked_dcs::LockedDcs;
 use crate::pool::{Link, OpenGate};
-use crate::test_pool::{all_commit, answers_behind_put, first_answers, locked_dc, value_at};
+use crate::test_pool::{all_commit, answers_behind_put, first_answers, holds, locked_dc};
 use crate::test_state::{GET, PUT, moves, one_call, record, value};
 use access_slots::op::{Op, Reply, Said, Wire};
 use std::alloc::{AllocError, Global};
@@ -173,7 +173,7 @@ fn check_get_over<R: Threads + Wait + Sync + Abort>(
     insert(rt, &link.dcs);
     let get = one_call(alloc, GET, &[5])?;
     check(rt, alloc, link, get, Answer::Aborted(1, 3), 1)?;
-    assert_eq!(rt; value_at(&mut link.dcs, 5), Some(value(100)));
+    holds(rt, &mut link.dcs, 100);
     Ok(())
 }
 
@@ -195,7 +195,7 @@ fn moved_over<R: Threads + Wait + Sync + Abort>(
     let calls = moves(alloc, 1, 8)?;
     let answers = answers_behind_put(rt, alloc, calls, workers, link)?;
     assert!(rt; all_commit(answers.as_slice(), 8));
-    assert_eq!(rt; value_at(&mut link.dcs, 5), Some(value(108)));
+    holds(rt, &mut link.dcs, 108);
     Ok(())
 }
 

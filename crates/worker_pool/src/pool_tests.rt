@@ -7,11 +7,11 @@ use crate::pool::{Gate, Link, OpenGate, RunFault, run};
 use crate::report::Report;
 use crate::test_pool::{
     Hold, all_commit, answers, answers_behind_put, are_those, begun, behind_put, first_answers,
-    locked_dc, state_of, value_at,
+    holds, locked_dc, state_of,
 };
 use crate::test_state::{
     BAD, GET, MOVE, NO_PROCEDURE, PUT, all_pushed, moves, one_call, push_call, record, state,
-    two_puts, value,
+    two_puts,
 };
 use access_slots::op::{Reply, Wire};
 use lock_table::table::Busy;
@@ -23,10 +23,6 @@ use std::test::Fail;
 use std::thread::Threads;
 use tc_core::state::{Call, Refusal, TcState};
 use tc_log::event::Event;
-
-fn holds(rt: &impl Abort, link: &mut LockedDcs, number: u64) {
-    assert_eq!(rt; value_at(link, 5), Some(value(number)));
-}
 
 fn one_move_over<R: Threads + Wait + Sync + Abort>(
     rt: &R,
@@ -189,6 +185,10 @@ impl Counts {
     }
 }
 
+fn is_told(rt: &impl Abort, counts: &Counts, told: (u64, u64)) {
+    assert_eq!(rt; counts.told(), told);
+}
+
 impl Gate for Counts {
     fn begun(&self, _call: usize) {
         self.begun.fetch_add(1, Ordering::SeqCst);
@@ -243,7 +243,7 @@ fn two_calls_at_once_by_a_gate(rt: HostRuntime) -> Result<(), Fail> {
     drop(link);
     assert!(rt; both?);
     assert!(rt; !gate.hold.is_too_late());
-    assert_eq!(rt; gate.counts.told(), (2, 2));
+    is_told(&rt, &gate.counts, (2, 2));
     Ok(())
 }
 
@@ -299,6 +299,20 @@ impl Link for Loses {
     }
 }
 
+// `put 5 1` falls in doubt, and is in the way of `put 5 2`.
+fn are_lost(rt: &impl Abort, answers: &[Answer]) {
+    let in_the_way = Busy {
+        name: record(5),
+        holder: 1,
+    };
+    let wanted = [Answer::InDoubt(1), Answer::Blocked(in_the_way)];
+    are_those(rt, answers, &wanted);
+}
+
+fn is_carried(rt: &impl Abort, link: &Loses, carried: u64) {
+    assert_eq!(rt; link.carried.load(Ordering::SeqCst), carried);
+}
+
 #[test]
 fn in_doubt_after_three_carries_and_blocked(rt: HostRuntime) -> Result<(), Fail> {
     let link = Loses {
@@ -307,14 +321,9 @@ fn in_doubt_after_three_carries_and_blocked(rt: HostRuntime) -> Result<(), Fail>
     let gate = Counts::new();
     let calls = two_puts(rt.alloc(), 5)?;
     let answers = first_answers(&rt, rt.alloc(), calls, 1, &link, &gate)?;
-    let in_the_way = Busy {
-        name: record(5),
-        holder: 1,
-    };
-    let wanted = [Answer::InDoubt(1), Answer::Blocked(in_the_way)];
-    are_those(&rt, answers.as_slice(), &wanted);
-    assert_eq!(rt; link.carried.load(Ordering::SeqCst), 3);
-    assert_eq!(rt; gate.told(), (1, 2));
+    are_lost(&rt, answers.as_slice());
+    is_carried(&rt, &link, 3);
+    is_told(&rt, &gate, (1, 2));
     Ok(())
 }
 

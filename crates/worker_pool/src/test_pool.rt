@@ -4,7 +4,7 @@ use crate::answer::Answer;
 use crate::locked_dcs::LockedDcs;
 use crate::pool::{Gate, Link, OpenGate, RunFault, run};
 use crate::report::Report;
-use crate::test_state::{PUT, dc, one_call, record, state};
+use crate::test_state::{PUT, dc, one_call, record, state, value};
 use access_slots::slot::Value;
 use std::alloc::{AllocError, Global};
 use std::process::Abort;
@@ -144,6 +144,11 @@ pub(crate) fn answers_behind_put<R: Threads + Wait + Sync + Abort, L: Link + Syn
     let answered = slice_answers_behind_put(rt, alloc, calls.as_slice(), workers, link);
     drop(calls);
     answered
+}
+
+/// Sees that record 5 holds this number, where no worker is at work.
+pub(crate) fn holds(rt: &impl Abort, dcs: &mut LockedDcs, number: u64) {
+    assert_eq!(rt; value_at(dcs, 5), Some(value(number)));
 }
 
 /// Sees that the answers are those.
