@@ -231,6 +231,17 @@ fn do_both_commit<R: Threads + Wait + Sync, L: Link + Sync, G: Gate + Sync>(
     Ok(all_commit(answers.as_slice(), 2))
 }
 
+fn do_both_commit_by<R: Threads + Wait + Sync>(
+    rt: &R,
+    alloc: Global,
+    gate: &HoldsBegun,
+) -> Result<bool, Fail> {
+    let link = locked_dc(alloc, 4)?;
+    let both = do_both_commit(rt, alloc, &link, gate);
+    drop(link);
+    both
+}
+
 // Two workers are at work at once, and no lock is held while a gate is told.
 #[test]
 fn two_calls_at_once_by_a_gate(rt: HostRuntime) -> Result<(), Fail> {
@@ -238,10 +249,8 @@ fn two_calls_at_once_by_a_gate(rt: HostRuntime) -> Result<(), Fail> {
         hold: Hold::new(),
         counts: Counts::new(),
     };
-    let link = locked_dc(rt.alloc(), 4)?;
-    let both = do_both_commit(&rt, rt.alloc(), &link, &gate);
-    drop(link);
-    assert!(rt; both?);
+    let both = do_both_commit_by(&rt, rt.alloc(), &gate)?;
+    assert!(rt; both);
     assert!(rt; !gate.hold.is_too_late());
     is_told(&rt, &gate.counts, (2, 2));
     Ok(())
@@ -309,6 +318,17 @@ fn are_lost(rt: &impl Abort, answers: &[Answer]) {
     are_those(rt, answers, &wanted);
 }
 
+fn lost_over<R: Threads + Wait + Sync + Abort>(
+    rt: &R,
+    alloc: Global,
+    link: &Loses,
+    gate: &Counts,
+) -> Result<(), Fail> {
+    let answers = first_answers(rt, alloc, two_puts(alloc, 5)?, 1, link, gate)?;
+    are_lost(rt, answers.as_slice());
+    Ok(())
+}
+
 fn is_carried(rt: &impl Abort, link: &Loses, carried: u64) {
     assert_eq!(rt; link.carried.load(Ordering::SeqCst), carried);
 }
@@ -319,9 +339,7 @@ fn in_doubt_after_three_carries_and_blocked(rt: HostRuntime) -> Result<(), Fail>
         carried: AtomicU64::new(0),
     };
     let gate = Counts::new();
-    let calls = two_puts(rt.alloc(), 5)?;
-    let answers = first_answers(&rt, rt.alloc(), calls, 1, &link, &gate)?;
-    are_lost(&rt, answers.as_slice());
+    lost_over(&rt, rt.alloc(), &link, &gate)?;
     is_carried(&rt, &link, 3);
     is_told(&rt, &gate, (1, 2));
     Ok(())
