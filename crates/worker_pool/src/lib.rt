@@ -24,11 +24,23 @@
 
 mod answer;
 mod desk;
+#[cfg(test)]
+mod link_tests;
 mod locked_dcs;
+#[cfg(test)]
+mod memory_tests;
 mod pool;
+#[cfg(test)]
+mod pool_tests;
 mod report;
 mod ring;
 mod ring_link;
+#[cfg(test)]
+mod ring_tests;
+#[cfg(test)]
+mod test_pool;
+#[cfg(test)]
+mod test_state;
 
 pub use answer::{Answer, Progress};
 pub use locked_dcs::LockedDcs;

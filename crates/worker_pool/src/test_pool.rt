@@ -1,0 +1,211 @@
+//! Runs of calls by workers, of which the tests look at the answers.
+
+use crate::answer::Answer;
+use crate::locked_dcs::LockedDcs;
+use crate::pool::{Gate, Link, OpenGate, RunFault, run};
+use crate::report::Report;
+use crate::test_state::{PUT, dc, one_call, record, state, value};
+use access_slots::slot::Value;
+use std::alloc::{AllocError, Global};
+use std::process::Abort;
+use std::sync::Wait;
+use std::sync::atomic::{AtomicU64, Ordering};
+use std::test::Fail;
+use std::thread;
+use std::thread::Threads;
+use tc_core::state::{Call, TcState};
+
+/// A data component with room for so many rows, behind a lock.
+pub(crate) fn locked_dc(alloc: Global, rows: usize) -> Result<LockedDcs, AllocError> {
+    let mut dcs = Vec::new(alloc);
+    dcs.push(dc(alloc, rows)?)?;
+    LockedDcs::new(alloc, dcs)
+}
+
+/// The value of a row, where no worker is at work.
+pub(crate) fn value_at(dcs: &mut LockedDcs, key: u64) -> Option<Value> {
+    dcs.get_mut(0)?.get(&record(key))
+}
+
+/// The report of calls that were begun.
+pub(crate) fn begun(ran: Result<Report, RunFault>) -> Result<Report, Fail> {
+    match ran {
+        Ok(report) => Ok(report),
+        Err(fault) => {
+            drop(fault.into_state());
+            Err(Fail::from("no call was begun"))
+        }
+    }
+}
+
+/// The answers, without the state.
+pub(crate) fn answers_of(report: Report) -> Vec<Answer> {
+    let Report { state, answers } = report;
+    drop(state);
+    answers
+}
+
+/// The state, without the answers.
+pub(crate) fn state_of(report: Report) -> TcState {
+    let Report { state, answers } = report;
+    drop(answers);
+    state
+}
+
+/// What these calls are answered by so many workers, each request sent three times at most.
+pub(crate) fn answers<R: Threads + Wait + Sync, L: Link + Sync, G: Gate + Sync>(
+    rt: &R,
+    alloc: Global,
+    state: TcState,
+    calls: &[Call],
+    workers: usize,
+    link: &L,
+    gate: &G,
+) -> Result<Vec<Answer>, Fail> {
+    begun(run(rt, alloc, state, calls, workers, 3, link, gate)).map(answers_of)
+}
+
+// Whether the report is that of one call whose end is the fourth event.
+fn is_first_put(report: &Report) -> bool {
+    report.ends() == 1 && report.answers.as_slice() == [Answer::Committed(3)].as_slice()
+}
+
+// What these calls are answered where nothing is before them.
+fn slice_answers<R: Threads + Wait + Sync, L: Link + Sync, G: Gate + Sync>(
+    rt: &R,
+    alloc: Global,
+    calls: &[Call],
+    workers: usize,
+    link: &L,
+    gate: &G,
+) -> Result<Vec<Answer>, Fail> {
+    let state = state(alloc)?;
+    answers(rt, alloc, state, calls, workers, link, gate)
+}
+
+/// What these calls are answered where nothing is before them.
+pub(crate) fn first_answers<R: Threads + Wait + Sync, L: Link + Sync, G: Gate + Sync>(
+    rt: &R,
+    alloc: Global,
+    calls: Vec<Call>,
+    workers: usize,
+    link: &L,
+    gate: &G,
+) -> Result<Vec<Answer>, Fail> {
+    let answered = slice_answers(rt, alloc, calls.as_slice(), workers, link, gate);
+    drop(calls);
+    answered
+}
+
+// The state after the first call by one worker.
+fn behind_first<R: Threads + Wait + Sync + Abort, L: Link + Sync>(
+    rt: &R,
+    alloc: Global,
+    link: &L,
+    first: &[Call],
+) -> Result<TcState, Fail> {
+    let state = state(alloc)?;
+    let report = begun(run(rt, alloc, state, first, 1, 3, link, &OpenGate))?;
+    assert!(rt; is_first_put(&report));
+    Ok(state_of(report))
+}
+
+/// The state after `put 5 100` by one worker.
+pub(crate) fn behind_put<R: Threads + Wait + Sync + Abort, L: Link + Sync>(
+    rt: &R,
+    alloc: Global,
+    link: &L,
+) -> Result<TcState, Fail> {
+    let first = one_call(alloc, PUT, &[5, 100])?;
+    let behind = behind_first(rt, alloc, link, first.as_slice());
+    drop(first);
+    behind
+}
+
+fn slice_answers_behind_put<R: Threads + Wait + Sync + Abort, L: Link + Sync>(
+    rt: &R,
+    alloc: Global,
+    calls: &[Call],
+    workers: usize,
+    link: &L,
+) -> Result<Vec<Answer>, Fail> {
+    let state = behind_put(rt, alloc, link)?;
+    answers(rt, alloc, state, calls, workers, link, &OpenGate)
+}
+
+/// What these calls are answered behind `put 5 100`.
+pub(crate) fn answers_behind_put<R: Threads + Wait + Sync + Abort, L: Link + Sync>(
+    rt: &R,
+    alloc: Global,
+    calls: Vec<Call>,
+    workers: usize,
+    link: &L,
+) -> Result<Vec<Answer>, Fail> {
+    let answered = slice_answers_behind_put(rt, alloc, calls.as_slice(), workers, link);
+    drop(calls);
+    answered
+}
+
+/// Sees that record 5 holds this number, where no worker is at work.
+pub(crate) fn holds(rt: &impl Abort, dcs: &mut LockedDcs, number: u64) {
+    assert_eq!(rt; value_at(dcs, 5), Some(value(number)));
+}
+
+/// Sees that the answers are those.
+pub(crate) fn are_those(rt: &impl Abort, answers: &[Answer], wanted: &[Answer]) {
+    assert_eq!(rt; answers, wanted);
+}
+
+/// Whether so many calls were made, and all are committed.
+pub(crate) fn all_commit(answers: &[Answer], calls: usize) -> bool {
+    answers.len() == calls
+        && answers
+            .iter()
+            .all(|answer| matches!(answer, Answer::Committed(_)))
+}
+
+// A turn is one look at an atomic flag, and yields; says whether the flag was set in time.
+fn is_set_in_time(flag: &AtomicU64) -> bool {
+    for _ in 0..100_000_000u64 {
+        if flag.load(Ordering::SeqCst) == 1 {
+            return true;
+        }
+        thread::yield_now();
+    }
+    false
+}
+
+/// What holds call 0 until call 1 is answered, for so long as a test may take.
+#[derive(Drop)]
+pub(crate) struct Hold {
+    is_answered: AtomicU64,
+    is_too_late: AtomicU64,
+}
+
+impl Hold {
+    pub(crate) fn new() -> Hold {
+        Hold {
+            is_answered: AtomicU64::new(0),
+            is_too_late: AtomicU64::new(0),
+        }
+    }
+
+    /// Holds who calls it.
+    pub(crate) fn wait(&self) {
+        if !is_set_in_time(&self.is_answered) {
+            self.is_too_late.store(1, Ordering::SeqCst);
+        }
+    }
+
+    /// Ends the holding where this is call 1.
+    pub(crate) fn answered(&self, call: usize) {
+        if call == 1 {
+            self.is_answered.store(1, Ordering::SeqCst);
+        }
+    }
+
+    /// Whether it held for too long.
+    pub(crate) fn is_too_late(&self) -> bool {
+        self.is_too_late.load(Ordering::SeqCst) == 1
+    }
+}
