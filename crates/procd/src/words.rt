@@ -1,7 +1,7 @@
 //! The command line.
 
 ghost use Rattle.std.specs.Prelude.{◌≡◌, ℕ, Bool, List, [], true, false, Some, map, unwrap_or, IfOk, IfErr, IfSome, option_map, codes};
-ghost use Rattle.clap.specs.Words.{Row, app_of, rule_of, kind_of, subcommand_of, subcommand_rows_of, takes, rows_of, found_of, first_of, all_of, fault_of, FailsBy};
+ghost use Rattle.clap.specs.Words.{App, Row, app_of, with_subcommand, rule_of, kind_of, subcommand_of, subcommand_rows_of, takes, rows_of, found_of, first_of, all_of, fault_of, FailsBy};
 ghost use Rattle.clap.specs.declared.builder.command.Command.TheViews.{out-Command};
 ghost use Rattle.procd.specs.Joining.Wanted.{WantsOrNoMemory, IsTaskOrNoMemory, IsNumbersOrNoMemory, IsWordFault, IsWrongOrNoMemory};
 ghost use Rattle.procd.specs.Task.{Wish, Run, command_name};
@@ -216,34 +216,60 @@ fn run_command<'a>(alloc: Global) -> Result<Command<'a>, AllocError>
         .arg(file_arg(alloc, SCRIPT_HELP))
 }
 
+// Adds a subcommand, once it is made, with what its help begins with.
+fn with_command<'a>(
+    procd: Command<'a>,
+    made: Result<Command<'a>, AllocError>,
+    about: &'a str,
+) -> Result<Command<'a>, AllocError>
+    ensures { (app : App) → IfOk made.entry (λ c. app_of c ≡ app) → IfOk made.entry (λ c. (out-Command c).has_globals ≡ false)
+        → IfOk result (λ r. app_of r ≡ with_subcommand (app_of procd.entry) app.top) }
+{
+    match made {
+        Ok(command) => procd.subcommand(command.about(about)),
+        Err(AllocError) => {
+            drop(procd);
+            Err(AllocError)
+        }
+    }
+}
+
 // The command line of the program.
 fn procd_command<'a>(alloc: Global) -> Result<Command<'a>, AllocError>
     ensures { IfOk result (λ c. app_of c ≡ procd_app) }
 {
-    let exec = exec_command(alloc)?.about(
+    let procd = Command::new(alloc, "procd");
+    let with_exec = with_command(
+        procd,
+        exec_command(alloc),
         "Verify code and run it: prints `answer V` and `executed N`, or `refused ..` with status 1",
-    );
-    let asm = asm_command(alloc)?.about(
+    )?;
+    let with_asm = with_command(
+        with_exec,
+        asm_command(alloc),
         "Assemble text, an instruction a line: prints its slots in hex, one a line",
-    );
-    let dis = dis_command(alloc)?.about("Disassemble code: prints its text, an instruction a line");
-    let verify = verify_command(alloc)?.about(
+    )?;
+    let with_dis = with_command(
+        with_asm,
+        dis_command(alloc),
+        "Disassemble code: prints its text, an instruction a line",
+    )?;
+    let with_verify = with_command(
+        with_dis,
+        verify_command(alloc),
         "Verify the procedures of a script: prints `NAME accepted SLOTS` or `NAME V.. slot N` for each",
-    );
-    let world = world_command(alloc)?.about(
+    )?;
+    let with_world = with_command(
+        with_verify,
+        world_command(alloc),
         "Take the steps of a script one by one: prints a line for each, then `row DC/TABLE/KEY VALUE` for what is kept",
-    );
-    let run = run_command(alloc)?.about(
+    )?;
+    let with_run = with_command(
+        with_world,
+        run_command(alloc),
         "Run the calls of a script by workers: prints what each was answered, as `call I committed`, and then the rows",
-    );
-    let procd = Command::new(alloc, "procd")
-        .subcommand(exec)?
-        .subcommand(asm)?
-        .subcommand(dis)?
-        .subcommand(verify)?
-        .subcommand(world)?
-        .subcommand(run)?;
-    Ok(procd.about("A transaction component that runs verified BPF procedures"))
+    )?;
+    Ok(with_run.about("A transaction component that runs verified BPF procedures"))
 }
 
 // What the words say.
