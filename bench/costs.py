@@ -29,7 +29,7 @@ def each(what, held, times, scale, unit):
 
 def main():
     for held in (10, 1_000, 10_000, 100_000):
-        each("locks", held, 20_000_000 // (held + 200), 1e6, "us a grant and a release")
+        each("locks", held, 1_000_000, 1e6, "us a grant and a release")
     for held in (1, 100, 10_000, 100_000):
         each("numbers", held, 20_000_000 // (held + 200), 1e6, "us to give out and answer a number")
     for events in (1_000, 10_923, 100_000):
