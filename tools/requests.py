@@ -18,6 +18,7 @@ import pathlib
 import random
 import re
 import shutil
+import struct
 import subprocess
 import sys
 import tempfile
@@ -30,6 +31,7 @@ PAIRS = [("put_admitted", "put_ended"), ("abort_admitted", "abort_ended"), ("del
 ASKING = ["admit"]  # calls that may ask for memory
 CALLS = ["ask", "undo_next", "wire", "answer", "give_up", "end"]
 NUMBER = 8  # bytes
+MOST = 64  # functions that are watched at once
 SHOWN = 5  # of what is wrong, how much is shown
 
 
@@ -44,21 +46,21 @@ class Counting:
         self.functions = list(functions)
 
     def run(self, words):
-        """How it ran; how many requests it made, and how many within each function."""
-        self.counts.write_bytes(bytes(NUMBER * (1 + len(self.functions))))
-        ranges = ",".join(f"{begin:x}-{begin + size:x}" for _, begin, size in self.functions)
-        settings = {"LD_PRELOAD": str(self.library), "COUNTS_TO": str(self.counts), "FUNCTIONS": ranges}
+        """How it ran; how many requests it made; how often each function was entered, and the requests within."""
+        self.counts.write_bytes(bytes(NUMBER * (1 + 2 * MOST)))
+        places = ",".join(f"{begin:x}" for _, begin in self.functions)
+        settings = {"LD_PRELOAD": str(self.library), "COUNTS_TO": str(self.counts), "FUNCTIONS": places}
         ran = subprocess.run(list(map(str, words)), capture_output=True, text=True, env={**os.environ, **settings})
-        numbers = self.counts.read_bytes()
-        return ran, [int.from_bytes(numbers[at : at + NUMBER], "little") for at in range(0, len(numbers), NUMBER)]
+        requests, *numbers = struct.unpack(f"<{1 + 2 * MOST}q", self.counts.read_bytes())
+        return ran, requests, list(zip(numbers[::2], numbers[1::2]))[: len(self.functions)]
 
 
 def test_requests(counting, tests, name):
     """How many requests a test makes."""
-    ran, counts = counting.run([tests, f"state_tests::{name}"])
+    ran, requests, _ = counting.run([tests, f"state_tests::{name}"])
     if ran.returncode or "test result: ok" not in ran.stdout:
         sys.exit(f"state_tests::{name}: status {ran.returncode}, {ran.stdout}{ran.stderr}")
-    return counts[0]
+    return requests
 
 
 def pairs_agree(options, folder):
@@ -72,14 +74,14 @@ def pairs_agree(options, folder):
 
 
 def functions_of(program):
-    """The calls of the transaction component that are functions of the program: name, begin, size."""
+    """The calls of the transaction component that are functions of the program, and where they begin."""
     found = {}
-    symbols = subprocess.run(["nm", "-S", program], capture_output=True, text=True, check=True).stdout
+    symbols = subprocess.run(["nm", program], capture_output=True, text=True, check=True).stdout
     for line in symbols.splitlines():
-        words = line.split(maxsplit=3)
-        called = len(words) == 4 and re.fullmatch(r"tc_core::\w+::\w+::(\w+)(::<.*>)?", words[3])
+        words = line.split(maxsplit=2)
+        called = len(words) == 3 and re.fullmatch(r"tc_core::\w+::\w+::(\w+)(::<.*>)?", words[2])
         if called and called[1] in ASKING + CALLS:
-            found[words[3]] = (words[3], int(words[0], 16), int(words[1], 16))
+            found[words[2]] = (words[2], int(words[0], 16))
     return [found[name] for name in sorted(found)]
 
 
@@ -88,34 +90,34 @@ class CountedProcd(Procd):
 
     def __init__(self, path, folder):
         super().__init__(path, folder / "script.txt")
-        self.counting, self.made = Counting(folder, functions_of(path)), collections.Counter()
+        self.counting = Counting(folder, functions_of(path))
+        self.requests, self.entries, self.within = 0, collections.Counter(), collections.Counter()
 
     def __call__(self, words, text):
         self.file.write_text(text)
-        ran, counts = self.counting.run([self.path, *words, self.file])
-        names = ["in all", *(name for name, *_ in self.counting.functions)]
-        self.made.update(dict(zip(names, counts)))
+        ran, requests, functions = self.counting.run([self.path, *words, self.file])
+        self.requests += requests
+        for (name, _), (entries, within) in zip(self.counting.functions, functions):
+            self.entries[name] += entries
+            self.within[name] += within
         return ran.stdout.splitlines(), ran.returncode, ran.stderr
 
 
 def worlds_agree(options, folder):
-    """Whether no call asked for memory but those that may."""
+    """Whether each call of the transaction component was entered, and none asked for memory but those that may."""
     procd, steps, good = CountedProcd(options.procd, folder), collections.Counter(), True
-    names = [name for name, *_ in procd.counting.functions]
-    for call in ASKING + CALLS:
-        if not any(re.search(rf"::{call}\b", name) for name in names):
-            print(f"{call} is no function of its own in {options.procd}: its requests aren't seen")
-            good = good and call not in CALLS
     for seed in range(options.seed, options.seed + options.scripts):
         script = Steps.drawn(random.Random(seed), options.steps)
         differs = script.difference(procd)
         if differs:
             sys.exit(f"seed {seed}, {differs[1]}")
         steps.update(script.made())
-    print(f"{options.scripts} scripts of {sum(steps.values())} steps, {procd.made['in all']} requests, of which within")
-    for name in names:
-        print(f"{procd.made[name]:>10} {name}", flush=True)
-        good = good and (not procd.made[name] or any(re.search(rf"::{call}\b", name) for call in ASKING))
+    print(f"{options.scripts} scripts of {sum(steps.values())} steps, {procd.requests} requests, of which within")
+    for call in ASKING + CALLS:
+        names = [name for name in procd.entries if re.search(rf"::{call}\b", name)]
+        entries, within = [sum(counted[name] for name in names) for counted in (procd.entries, procd.within)]
+        print(f"{call}, entered {entries} times: {within}", flush=True)
+        good = good and entries > 0 and (within == 0 or call in ASKING)
     return good
 
 
