@@ -4,6 +4,14 @@
 # (docs/TESTING.md). The last line is `N passed, M failed`.
 set -e
 cd "$(dirname "$0")/.."
+# A check takes up to 4 GB here. `rt` thinks of twice that and more, and would have the largest crate, which all
+# wait for, stand back until little else runs; where there is room it is told to have a task a processor.
+most=$(awk '/MemAvailable/ { print int($2 / 5000000) }' /proc/meminfo)
+limit=$(cat /sys/fs/cgroup/memory.max 2>/dev/null || echo max)
+if [ -z "$RT_JOBS" ] && [ "$limit" = max ] && [ "$most" -ge "$(nproc)" ]; then
+    RT_JOBS=$(nproc)
+    export RT_JOBS
+fi
 said=$(mktemp)
 trap 'rm -f "$said"' EXIT
 rt ci 2>&1 | tee "$said" | grep --line-buffered -vE '^[0-9]+ passed, [0-9]+ failed$' || true

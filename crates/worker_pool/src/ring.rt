@@ -1,8 +1,10 @@
 // Bounded queues with a bell, through which threads hand one another messages.
 
-ghost use Rattle.std.specs.Prelude.{◌≡◌, ◌<◌, IfErr};
+ghost use Rattle.std.specs.Prelude.{◌≡◌, ◌<◌, ℕ, [], ◌∷◌, None, IfErr};
+ghost use Rattle.crossbeam_queue.specs.Fifo.{Admits, Held, Learns, Pops};
 
-use crossbeam_queue::ArrayQueue;
+use crossbeam_queue::RuledArrayQueue;
+use crossbeam_queue::protocol::{Free, Lesson, Outcome, Protocol};
 use std::alloc::{AllocError, Global};
 use std::hint;
 use std::sync::Wait;
@@ -54,40 +56,43 @@ impl Bell {
     }
 }
 
-// A queue of messages, whose bell is rung at each.
+// A queue of messages, whose bell is rung at each. A link's queues are `Free`. What is said here of a
+// queue that was found empty is said under any rule `P`: so it can't be had but by a look at the queue.
 #[derive(Drop)]
-pub struct Ring<T> {
-    queue: ArrayQueue<T>,
+pub struct Ring<T, V, P: Protocol<T, V>> {
+    queue: RuledArrayQueue<T, V, P>,
     bell: Bell,
 }
 
-impl<T: Drop> Ring<T> {
+impl<T: Drop, V, P: Protocol<T, V>> Ring<T, V, P> {
     // A ring of so many places.
-    pub fn new(alloc: Global, places: usize) -> Result<Ring<T>, AllocError>
-        requires { 0 < places }
+    pub fn new(alloc: Global, places: usize) -> Result<Ring<T, V, P>, AllocError>
+        requires places { 0 < places }
+        requires rule { P.holds [] (P.first ∷ []) }
     {
+        let (queue, _) = RuledArrayQueue::ruled(alloc, places)?;
         Ok(Ring {
-            queue: ArrayQueue::new(alloc, places)?,
+            queue,
             bell: Bell::new(),
         })
     }
 
-    // Puts a message behind the others; it comes back where there is no room.
-    pub fn put<R: Wait>(&self, rt: &R, message: T) -> Result<(), T>
-        ensures { IfErr result (λ back. back ≡ message) }
-    {
-        self.queue.push(rt, message)?;
-        self.bell.ring();
-        Ok(())
-    }
-
     // The oldest message. Waits for one until the rings are closed; nothing where they were closed
     // before none was found.
-    pub fn take<R: Wait>(&self, rt: &R, closed: &AtomicU64) -> Option<T> {
+    pub fn take<M: Outcome<T, V> + Lesson<T, V>, R: Wait>(
+        &self,
+        rt: &R,
+        closed: &AtomicU64,
+    ) -> Option<T>
+        requires admits { Admits P.holds P.first }
+        requires pops { (pass : ℕ) → Pops P.holds pass P.first (M.then P.first) }
+        requires learns { (pass : ℕ) → Learns P.holds pass P.first (M.fact P.first) }
+        ensures empty { result ≡ None → Held 0 (M.fact P.first) }
+    {
         for _ in rt.forever() {
             let rung = self.bell.rung();
             let is_closed = closed.load(Ordering::SeqCst) != 0;
-            match self.queue.pop(rt) {
+            match self.queue.pop_as::<M, R>(rt, &mut self.queue.pass()) {
                 Some(message) => return Some(message),
                 None if is_closed => return None,
                 None => self.bell.wait(rt, rung),
@@ -99,5 +104,17 @@ impl<T: Drop> Ring<T> {
     // Has whoever waits look again.
     pub fn wake(&self) {
         self.bell.ring();
+    }
+}
+
+impl<T: Drop> Ring<T, (), Free> {
+    // Puts a message behind the others; it comes back where there is no room.
+    pub fn put<R: Wait>(&self, rt: &R, message: T) -> Result<(), T>
+        ensures { IfErr result (λ back. back ≡ message) }
+    {
+        self.queue
+            .push_as::<Free, R>(rt, &mut self.queue.pass(), message)?;
+        self.bell.ring();
+        Ok(())
     }
 }

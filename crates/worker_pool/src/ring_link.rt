@@ -1,14 +1,16 @@
 // The link to data components in threads of their own.
 
-ghost use Rattle.std.specs.Prelude.{◌≡◌, ◌<◌, ◌≤◌, None, vec_len, IfOk, IfSome};
+ghost use Rattle.std.specs.Prelude.{◌≡◌, ◌<◌, ◌≤◌, ℕ, None, vec_len, IfOk, IfSome};
 ghost use Rattle.std.specs.Option.{ForSome};
 ghost use Rattle.access_slots.specs.Locks.{target};
+ghost use Rattle.crossbeam_queue.specs.Fifo.{Admits, Held, Learns, Pops};
 ghost use Rattle.data_component.specs.Store.{performed, replied};
 ghost use Rattle.worker_pool.specs.Serving.{IsServed};
 
 use crate::pool::Link;
 use crate::ring::Ring;
 use access_slots::op::{Reply, Wire};
+use crossbeam_queue::protocol::{Free, Lesson, Outcome, Protocol};
 use data_component::dc::Dc;
 use std::alloc::{AllocError, Global};
 use std::sync::Wait;
@@ -32,6 +34,10 @@ struct Note {
     reply: Option<Reply>,
     ghost same: { ForSome reply (λ r. r.number ≡ number) },
 }
+
+type Inbox = Ring<Parcel, (), Free>;
+
+type Notes = Ring<Note, (), Free>;
 
 // What a component does with a wire, as a note.
 fn note_of(dc: &mut Dc, wire: &Wire) -> Note
@@ -62,13 +68,13 @@ fn note_of(dc: &mut Dc, wire: &Wire) -> Note
 /// time: two that share a number would take one another's notes.
 #[derive(Drop)]
 pub struct RingLink {
-    inboxes: Vec<Ring<Parcel>>,
-    notes: Vec<Ring<Note>>,
+    inboxes: Vec<Inbox>,
+    notes: Vec<Notes>,
     closed: AtomicU64,
 }
 
 // So many inboxes, each with a place for a wire of every worker.
-fn inboxes(alloc: Global, dcs: usize, workers: usize) -> Result<Vec<Ring<Parcel>>, AllocError>
+fn inboxes(alloc: Global, dcs: usize, workers: usize) -> Result<Vec<Inbox>, AllocError>
     requires { 0 < workers }
     ensures { IfOk result (λ rings. vec_len rings ≡ dcs) }
 {
@@ -80,7 +86,7 @@ fn inboxes(alloc: Global, dcs: usize, workers: usize) -> Result<Vec<Ring<Parcel>
 }
 
 // A ring of notes for each worker.
-fn rings_of_notes(alloc: Global, workers: usize) -> Result<Vec<Ring<Note>>, AllocError>
+fn rings_of_notes(alloc: Global, workers: usize) -> Result<Vec<Notes>, AllocError>
     ensures { IfOk result (λ rings. vec_len rings ≡ workers) }
 {
     let mut rings = Vec::with_capacity(alloc, workers)?;
@@ -111,17 +117,26 @@ impl RingLink {
         ensures absent { vec_len self.now.inboxes ≤ number → result ≡ dc }
     {
         match self.inboxes.get(number) {
-            Some(inbox) => self.serve_inbox(rt, inbox, dc),
+            Some(inbox) => self.serve_inbox::<(), Free, Free, R>(rt, inbox, dc),
             None => dc,
         }
     }
 
-    // Performs the wires of an inbox until it is closed and empty.
-    fn serve_inbox<R: Wait>(&self, rt: &R, inbox: &Ring<Parcel>, mut dc: Dc) -> Dc
-        ensures { IsServed dc result }
+    // Performs the wires of an inbox until it is closed and empty: at one moment of the call it was.
+    fn serve_inbox<V, P: Protocol<Parcel, V>, M: Outcome<Parcel, V> + Lesson<Parcel, V>, R: Wait>(
+        &self,
+        rt: &R,
+        inbox: &Ring<Parcel, V, P>,
+        mut dc: Dc,
+    ) -> Dc
+        requires admits { Admits P.holds P.first }
+        requires pops { (pass : ℕ) → Pops P.holds pass P.first (M.then P.first) }
+        requires learns { (pass : ℕ) → Learns P.holds pass P.first (M.fact P.first) }
+        ensures served { IsServed dc result }
+        ensures empty { Held 0 (M.fact P.first) }
     {
         for _ in rt.forever() {
-            let Some(parcel) = inbox.take(rt, &self.closed) else {
+            let Some(parcel) = inbox.take::<M, R>(rt, &self.closed) else {
                 return dc;
             };
             let note = note_of(&mut dc, &parcel.wire);
@@ -155,11 +170,11 @@ impl RingLink {
     }
 
     // Waits for the note of this number, and drops those of others.
-    fn reply_to<R: Wait>(&self, rt: &R, notes: &Ring<Note>, number: u64) -> Option<Reply>
+    fn reply_to<R: Wait>(&self, rt: &R, notes: &Notes, number: u64) -> Option<Reply>
         ensures { IfSome result (λ reply. reply.number ≡ number) }
     {
         for _ in rt.forever() {
-            let note = notes.take(rt, &self.closed)?;
+            let note = notes.take::<Free, R>(rt, &self.closed)?;
             if note.number == number {
                 return note.reply;
             }
