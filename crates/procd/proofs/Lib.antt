@@ -1,12 +1,5 @@
-pub mod HexLemmas
-pub mod Answered
 pub mod Statuses
 pub mod Streaming
 pub mod Faults
-pub mod Wishes
-pub mod RowLemmas
 pub mod AnswerLemmas
-pub mod LoadLemmas
 pub mod RunLemmas
-pub mod StepLemmas
-pub mod WorldLemmas

@@ -6,7 +6,7 @@ use Rattle.tc_core.specs.Core.{Core}
 use Rattle.procd.specs.declared.answering.Unbegun.{Unbegun}
 use Rattle.procd.specs.AnswerLines.{fault_line}
 use Rattle.procd.specs.Running.{Stops, IsCallsRun, Stopped}
-use Rattle.procd.specs.declared.report.Report.{Report}
+use Rattle.text_commands.specs.declared.report.Report.{Report}
 
 pub stopped_run : {E : Type 0} (r : Result Report E) (fault : Unbegun) (start : Core) (first calls : List Call) (dcs workers tries : ℕ)
     → Stops workers tries fault

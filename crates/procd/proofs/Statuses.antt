@@ -2,28 +2,29 @@
 use Rattle.std.proofs.Common.{arith, ℕ, Bool, List, Option, Some, None}
 use Rattle.std.proofs.Common.{length, true, false}
 use Rattle.std.specs.Prelude.{Result, Ok, Err, ◌≤◌, if◌then◌else◌}
-use Rattle.procd.specs.Execution.{status_of}
-use Rattle.procd.specs.Hex.{Hex, hex_of}
-use Rattle.procd.specs.Task.{Wish, Exec, Asm, Dis, Verify, World, Run}
+use Rattle.text_commands.specs.Execution.{status_of}
+use Rattle.text_commands.specs.Hex.{Hex, hex_of}
+use Rattle.command_line.specs.Task.{Wish, Exec, Asm, Dis, Verify, World, Run}
 use Rattle.std.specs.List.{list_any}
 use Rattle.scripts.specs.Reading.{Contents, Reading, script_said}
-use Rattle.procd.specs.Loading.{refusal_of}
+use Rattle.world_command.specs.Loading.{refusal_of}
 use Rattle.procd.specs.Running.{IsRunBy, IsCallsRun, Ran, Stopped, begun}
-use Rattle.procd.specs.WorldReport.{IsWorldBy, status_of_steps}
+use Rattle.world_command.specs.WorldReport.{IsWorldBy, status_of_steps}
 use Rattle.scripts.specs.declared.keyword.Command.TheVariants as command
 use Rattle.scripts.specs.declared.reading.Fault.{Fault}
 use Rattle.scripts.specs.declared.script.Call.{Call}
 use Rattle.scripts.specs.declared.script.Procedure.{Procedure}
 use Rattle.tc_core.specs.Core.{Core}
-use Rattle.procd.specs.Verification.{is_refused, status_by_fault, status_of_reading}
-use Rattle.procd.specs.Report.{IsReport, IsAssembly, IsDisassembly, IsDisassemblyOf, IsHexDisassembly}
+use Rattle.text_commands.specs.Verification.{is_refused, status_by_fault, status_of_reading}
+use Rattle.procd.specs.Report.{IsReport}
+use Rattle.text_commands.specs.CodeReport.{IsAssembly, IsDisassembly, IsDisassemblyOf, IsHexDisassembly}
 use Rattle.bpf_asm.specs.Lines.{assembled}
 use Rattle.bpf_asm.specs.declared.assemble.AsmFault.{AsmFault}
 use Rattle.bpf_encoding.specs.Spells.{fault_in}
 use Rattle.bpf_encoding.specs.declared.decode.DecodeFault.{DecodeFault}
 use Rattle.bpf_encoding.specs.declared.insn.Place.{Place}
-use Rattle.procd.specs.declared.execute.Execution.{Execution}
-use Rattle.procd.specs.declared.execute.Execution.TheVariants.{Answer, NotHex, Code, TooManyArgs, Refused}
+use Rattle.text_commands.specs.declared.execute.Execution.{Execution}
+use Rattle.text_commands.specs.declared.execute.Execution.TheVariants.{Answer, NotHex, Code, TooManyArgs, Refused}
 
 execution_low : (e : Execution) → status_of e ≤ 1
 execution_low (Answer value executed) = omega arith

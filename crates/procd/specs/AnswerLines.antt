@@ -4,7 +4,7 @@ use Rattle.worker_pool.specs.declared.answer.Answer.{Answer}
 use Rattle.worker_pool.specs.declared.answer.Answer.TheVariants.{Committed, Aborted, NoRoom, InDoubt, Blocked, Refused}
 use Rattle.procd.specs.declared.answering.Unbegun.{Unbegun}
 use Rattle.procd.specs.declared.answering.Unbegun.TheVariants.{Workers, Tries, Memory, NoThread}
-use Rattle.procd.specs.OutcomeLines.{record_text, refusal_text}
+use Rattle.world_command.specs.OutcomeLines.{record_text, refusal_text}
 
 -- what a call was answered
 abbrev pub answer_text : Answer → List ℕ

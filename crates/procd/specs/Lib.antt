@@ -1,16 +1,5 @@
-pub mod Hex
-pub mod FaultNames
-pub mod Execution
-pub mod OutcomeLines
-pub mod Task
-pub mod Verification
-pub mod Loading
 pub mod AnswerLines
 pub mod Figures
 pub mod Running
-pub mod Stepping
-pub mod WorldReport
 pub mod Report
-pub mod Said
 pub mod Streams
-pub mod Joining

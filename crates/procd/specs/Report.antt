@@ -1,52 +1,14 @@
 -- What is printed, and the exit status.
-use Rattle.std.specs.Prelude.{◌≡◌, ℕ, Bool, true, false, List, ◌++◌, Option, Some, None, Result, Ok, Err, codes}
-use Rattle.bpf_encoding.specs.Named.{code_named}
-use Rattle.bpf_encoding.specs.Spells.{Spells, fault_in}
-use Rattle.bpf_encoding.specs.declared.insn.Place.{Place}
-use Rattle.bpf_encoding.specs.declared.decode.DecodeFault.{DecodeFault}
+use Rattle.std.specs.Prelude.{◌≡◌, ℕ, List}
 use Rattle.bpf_asm.specs.Lines.{assembled}
-use Rattle.bpf_asm.specs.Parts.{text_of}
-use Rattle.bpf_asm.specs.declared.assemble.AsmFault.{AsmFault}
-use Rattle.procd.specs.Hex.{Hex, hex_of, hex_lines}
-use Rattle.procd.specs.Execution.{text_execution, lines_of, status_of}
-use Rattle.procd.specs.declared.execute.Execution.{Execution}
-use Rattle.procd.specs.declared.execute.Execution.TheVariants.{NotHex, Code}
-use Rattle.procd.specs.FaultNames.{asm_fault_name}
-use Rattle.procd.specs.Verification.{verification_lines, verification_status}
+use Rattle.command_line.specs.Task.{Wish, Exec, Asm, Dis, Verify, World, Run}
 use Rattle.scripts.specs.Reading.{script_said}
 use Rattle.scripts.specs.declared.keyword.Command.TheVariants as command
-use Rattle.procd.specs.WorldReport.{IsWorld}
+use Rattle.text_commands.specs.CodeReport.{IsExecution, IsAssembly, IsDisassembly}
+use Rattle.text_commands.specs.Execution.{text_execution}
+use Rattle.text_commands.specs.Verification.{verification_lines, verification_status}
+use Rattle.world_command.specs.WorldReport.{IsWorld}
 use Rattle.procd.specs.Running.{IsRun}
-use Rattle.procd.specs.Task.{Wish, Exec, Asm, Dis, Verify, World, Run}
-
--- ---- assembling
-
-abbrev pub asm_refusal : AsmFault → List ℕ
-asm_refusal e = (codes "refused " ++ asm_fault_name e) ++ codes "\n"
-
--- bytes that spell the text's code, or its first fault
-abbrev pub IsAssembly : Result (List Place) AsmFault → ℕ → List ℕ → Type 0
-IsAssembly (Ok code) status lines = (status ≡ 0) × ((bytes : List ℕ) × Spells bytes code × (lines ≡ hex_lines bytes))
-IsAssembly (Err e) status lines = (status ≡ 1) × (lines ≡ asm_refusal e)
-
--- ---- disassembling
-
-abbrev pub IsDisassemblyOf : Option DecodeFault → List ℕ → ℕ → List ℕ → Type 0
-IsDisassemblyOf (Some fault) bytes status lines = (status ≡ 1) × (lines ≡ lines_of (Code fault))
-IsDisassemblyOf None bytes status lines = (status ≡ 0) × (lines ≡ text_of (code_named bytes))
-
-abbrev pub IsHexDisassembly : Hex → ℕ → List ℕ → Type 0
-IsHexDisassembly (Err at) status lines = (status ≡ 1) × (lines ≡ lines_of (NotHex at))
-IsHexDisassembly (Ok bytes) status lines = IsDisassemblyOf (fault_in bytes) bytes status lines
-
-abbrev pub IsDisassembly : Bool → List ℕ → ℕ → List ℕ → Type 0
-IsDisassembly true text status lines = IsDisassemblyOf (fault_in text) text status lines
-IsDisassembly false text status lines = IsHexDisassembly (hex_of text) status lines
-
--- ---- all commands
-
-abbrev pub IsExecution : Option Execution → ℕ → List ℕ → Type 0
-IsExecution execution status lines = (e : Execution) × (execution ≡ Some e) × (status ≡ status_of e) × (lines ≡ lines_of e)
 
 -- what a command prints of a text, and its exit status
 abbrev pub IsReport : Wish → List ℕ → ℕ → List ℕ → Type 0

@@ -18,8 +18,8 @@ use Rattle.worker_pool.specs.declared.pool.RunFault.TheVariants as fault
 use Rattle.procd.specs.declared.answering.Unbegun.{Unbegun}
 use Rattle.procd.specs.declared.answering.Unbegun.TheVariants.{Workers, Tries, Memory, NoThread}
 use Rattle.procd.specs.AnswerLines.{answer_lines, fault_line}
-use Rattle.procd.specs.Loading.{refusal_of, with_procedures, empty_core}
-use Rattle.procd.specs.OutcomeLines.{AddsRowLines}
+use Rattle.world_command.specs.Loading.{refusal_of, with_procedures, empty_core}
+use Rattle.world_command.specs.OutcomeLines.{AddsRowLines}
 
 -- ---- calls
 

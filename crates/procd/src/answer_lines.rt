@@ -4,9 +4,9 @@ ghost use Rattle.std.specs.Prelude.{◌≡◌, ◌++◌, IfOk, OnOk, option_map,
 ghost use Rattle.procd.specs.AnswerLines.{answer_text, answer_line, answer_lines, fault_line};
 
 use crate::answering::Unbegun;
-use crate::outcome_lines::{record_text, refusal_text};
 use std::alloc::{AllocError, Global};
 use worker_pool::Answer;
+use world_command::outcome_lines::{record_text, refusal_text};
 
 // What a call was answered.
 fn answer_text(alloc: Global, answer: &Answer) -> Result<String, AllocError>

@@ -3,23 +3,12 @@
 
 mod answer_lines;
 mod answering;
-mod assembly;
-mod execute;
-mod fault_names;
 mod figures;
-mod hex;
-mod lines;
-mod loading;
-mod outcome_lines;
 mod program;
 mod reading;
 mod report;
 mod running;
-mod stepping;
-mod verification;
 mod watching;
-mod words;
-mod world;
 
 use program::{no_memory, not_text, program};
 use std::env;
@@ -53,10 +42,6 @@ fn main(rt: HostRuntime) -> ExitCode {
     ))
 }
 
-#[cfg(test)]
-mod encoding_tests;
-#[cfg(test)]
-mod machine_tests;
 #[cfg(test)]
 mod run_tests;
 #[cfg(test)]

@@ -3,16 +3,16 @@
 ghost use Rattle.std.specs.Prelude.{◌≡◌, ◌≤◌, ◌++◌, ℕ, List, IfSome, None, Some, true, false};
 ghost use Rattle.std.specs.Prelude.{codes, length, map, take, unwrap_or};
 ghost use Rattle.std.specs.Io.KnownBytes.{Appends};
-ghost use Rattle.procd.specs.Said.{Says, IsWrong, shows};
+ghost use Rattle.command_line.specs.Said.{Says, IsWrong, shows};
 ghost use Rattle.procd.specs.Streams.{stream, IsKept, Gets, Begins, Ends, EndsOn, Runs, IsMisuse, cannot_read_line};
-ghost use Rattle.procd.specs.Task.{Wish, wish_of};
+ghost use Rattle.command_line.specs.Task.{Wish, wish_of};
 ghost use Rattle.clap.specs.Words.{kind_of};
 
 use crate::reading::{ReadFault, read_all};
 use crate::report::{ReportFault, report_on};
-use crate::words::{Wanted, WordFault, wanted_of};
 use clap::Error;
 use clap::error::ErrorKind;
+use command_line::words::{Wanted, WordFault, wanted_of};
 use std::alloc::Global;
 use std::convert::AsStr;
 use std::fs::File;

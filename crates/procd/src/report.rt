@@ -2,30 +2,21 @@
 
 ghost use Rattle.std.specs.Prelude.{◌≡◌, true, IfOk, IfErr, string_bytes};
 ghost use Rattle.std.specs.Str.{IsUtf8};
-ghost use Rattle.procd.specs.Execution.{text_execution};
-ghost use Rattle.procd.specs.Report.{IsReport, IsExecution};
-ghost use Rattle.procd.specs.Task.{wish_of, reads_text};
+ghost use Rattle.procd.specs.Report.{IsReport};
+ghost use Rattle.command_line.specs.Task.{wish_of, reads_text};
 
-use crate::assembly::{assembly, disassembly};
-use crate::execute::execute_text;
-use crate::lines::{lines, status};
 use crate::running::running;
-use crate::verification::verification;
-use crate::words::Task;
-use crate::world::world;
+use command_line::words::Task;
 use std::alloc::{AllocError, Global};
 use std::io::Stderr;
 use std::sync::Wait;
 use std::thread::Threads;
 use std::time::Clock;
-
-/// The lines to print, the exit status, and what is told on standard error, if anything.
-#[derive(Drop)]
-pub struct Report {
-    pub status: u8,
-    pub lines: String,
-    pub notes: Option<String>,
-}
+use text_commands::assembly::{assembly, disassembly};
+use text_commands::lines::execution;
+use text_commands::report::Report;
+use text_commands::verification::verification;
+use world_command::world::world;
 
 /// Why there is no report.
 #[derive(Clone, Copy, Debug, PartialEq, Eq)]
@@ -44,18 +35,6 @@ impl From<AllocError> for ReportFault {
     fn from(_e: AllocError) -> ReportFault {
         ReportFault::Memory
     }
-}
-
-// Runs code.
-fn execution(alloc: Global, raw: bool, text: &[u8], numbers: &[u64]) -> Result<Report, AllocError>
-    ensures { IfOk result (λ r. IsExecution (text_execution raw text.now numbers.now) r.status (string_bytes r.lines)) }
-{
-    let execution = execute_text(alloc, raw, text, numbers)?;
-    Ok(Report {
-        status: status(&execution),
-        lines: lines(alloc, &execution)?,
-        notes: None,
-    })
 }
 
 /// What the task makes of the text.

@@ -7,15 +7,12 @@ ghost use Rattle.scripts.specs.declared.keyword.Command.TheVariants as command;
 ghost use Rattle.scripts.specs.declared.script.Call.{Call as ScriptCall};
 ghost use Rattle.tc_core.specs.Admission.{call_of};
 ghost use Rattle.procd.specs.AnswerLines.{answer_lines, fault_line};
-ghost use Rattle.procd.specs.OutcomeLines.{AddsRowLines};
+ghost use Rattle.world_command.specs.OutcomeLines.{AddsRowLines};
 ghost use Rattle.procd.specs.Running.{said_call, AreCallsOf, is_want_of_memory, AreLinesOf, IsCallsRun, IsRun};
 
 use crate::answer_lines::{fault_line, write_answers};
 use crate::answering::{Answered, Rings, Unbegun, answer_served};
 use crate::figures::{figures, longest_wait, rate};
-use crate::loading::{Loaded, Loading, load};
-use crate::outcome_lines::write_all_rows;
-use crate::report::Report;
 use crate::watching::Waits;
 use data_component::dc::Dc;
 use scripts::keyword::Command;
@@ -26,7 +23,10 @@ use std::sync::Wait;
 use std::thread::Threads;
 use std::time::Clock;
 use tc_core::state::{Call, Refusal, TcState};
+use text_commands::report::Report;
 use worker_pool::Answer;
+use world_command::loading::{Loaded, Loading, load};
+use world_command::outcome_lines::write_all_rows;
 
 // The call that a line of the script says.
 fn call_of(alloc: Global, said: &script::Call) -> Result<Call, AllocError>

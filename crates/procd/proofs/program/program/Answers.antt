@@ -1,5 +1,5 @@
 use Rattle.std.proofs.Common.{refl}
-use Rattle.procd.specs.Task.{wish_of}
+use Rattle.command_line.specs.Task.{wish_of}
 use Rattle.procd.proofs.Faults.{no_memory_runs, never_wrong}
 use Rattle.procd.proofs.program.program.Goals as goal
 

@@ -1,5 +1,5 @@
 use Rattle.std.proofs.Common.{refl}
-use Rattle.procd.specs.Task.{wish_of}
+use Rattle.command_line.specs.Task.{wish_of}
 use Rattle.procd.proofs.Faults.{cannot_read_fits, no_memory_fits}
 use Rattle.procd.proofs.program.run_input.Goals as goal
 

@@ -1,0 +1,194 @@
+-- What the command of a name wants.
+use Rattle.std.proofs.Common.{arith, slice_index, ◌≡◌, ℕ, Bool, List, [], Option, Some, None, option_map, unwrap_or, codes, refl, sym}
+use Rattle.std.proofs.Common.{subst, ap, ap₂, ◌∙◌, ◌+◌, ◌∷◌, false, inl, inr, eq-or-lt_of_le}
+use Rattle.std.specs.Prelude.{◌<◌, ◌≤◌, Result, slice_get}
+use Rattle.std.proofs.lemmas.Bool.{or_parts}
+use Rattle.command_line.proofs.Options.{some_some}
+use Rattle.clap.specs.Words.{HasKind, IsAmong, Kinds, Row, Text, all_of, fault_of, first_of, kind_of, one_of, subcommand_rows_of}
+use Rattle.clap.specs.declared.error.Error.{Error}
+use Rattle.clap.specs.declared.error.kind.ErrorKind.{ErrorKind}
+use Rattle.std.specs.List.{list_any}
+use Rattle.clap.specs.Matches.{subcommand_name_of}
+use Rattle.clap.specs.declared.parser.matches.ArgMatches.{ArgMatches}
+use Rattle.clap.specs.declared.parser.matches.ArgMatches.TheViews.{out-ArgMatches}
+use Rattle.command_line.specs.Said.{AllNumbers, IsNoCount, LacksNumber, Argument, Workers, Tries, IsWrong, Refused, NoCommand, NoNumber, procd_app, shows}
+use Rattle.command_line.specs.Said.{IsFlag, SaysCount, SaysNumber, SaysNumbers, SaysRun, SaysWish, value_of}
+use Rattle.command_line.specs.Task.{Wish, Exec, Asm, Dis, Verify, World, Run, command_name}
+use Rattle.command_line.specs.Joining.Wanted.{IsTaskOrNoMemory}
+use Rattle.command_line.specs.declared.words.Task.{Task}
+use Rattle.command_line.specs.declared.words.WordFault.{WordFault}
+
+exec_not_asm : codes "exec" ≡ codes "asm" → ⊥
+exec_not_asm e = cc
+
+exec_not_dis : codes "exec" ≡ codes "dis" → ⊥
+exec_not_dis e = cc
+
+exec_not_verify : codes "exec" ≡ codes "verify" → ⊥
+exec_not_verify e = cc
+
+dis_not_verify : codes "dis" ≡ codes "verify" → ⊥
+dis_not_verify e = cc
+
+exec_not_world : codes "exec" ≡ codes "world" → ⊥
+exec_not_world e = cc
+
+asm_not_world : codes "asm" ≡ codes "world" → ⊥
+asm_not_world e = cc
+
+dis_not_world : codes "dis" ≡ codes "world" → ⊥
+dis_not_world e = cc
+
+verify_not_world : codes "verify" ≡ codes "world" → ⊥
+verify_not_world e = cc
+
+exec_not_run : codes "exec" ≡ codes "run" → ⊥
+exec_not_run e = cc
+
+apart_first : (s t : List ℕ) (m n : ℕ) → m < n → slice_index s 0 ≡ m → slice_index t 0 ≡ n → s ≡ t → ⊥
+apart_first s t m n less at_m at_n same = omega (arith, less, at_m, at_n, ap (λ (text : List ℕ). slice_index text 0) same)
+
+asm_not_run : codes "asm" ≡ codes "run" → ⊥
+asm_not_run e = apart_first (codes "asm") (codes "run") 97 114 (omega arith) refl refl e
+
+dis_not_run : codes "dis" ≡ codes "run" → ⊥
+dis_not_run e = apart_first (codes "dis") (codes "run") 100 114 (omega arith) refl refl e
+
+verify_not_run : codes "verify" ≡ codes "run" → ⊥
+verify_not_run e = cc
+
+world_not_run : codes "world" ≡ codes "run" → ⊥
+world_not_run e = cc
+
+apart : (a d : ℕ) → a ≡ 97 → d ≡ 100 → a ≡ d → ⊥
+apart a d is_a is_d same = omega (arith, is_a, is_d, same)
+
+asm_not_dis : codes "asm" ≡ codes "dis" → ⊥
+asm_not_dis e = apart (slice_index (codes "asm") 0) (slice_index (codes "dis") 0) refl refl (ap (λ (t : List ℕ). slice_index t 0) e)
+
+pub wants_exec : (name : List ℕ) (rows : List Row) (raw : Bool) (numbers : List ℕ) → name ≡ codes "exec"
+    → ((r : Bool) → IsFlag r (one_of (codes "raw") rows) → raw ≡ r)
+    → ((ns : List ℕ) → SaysNumbers rows ns → numbers ≡ ns) → (wish : Wish) → name ≡ command_name wish → SaysWish rows wish → Exec raw numbers ≡ wish
+wants_exec name rows raw numbers is flag all (Exec r ns) named says = ap₂ Exec (flag r says.0) (all ns says.1)
+wants_exec name rows raw numbers is flag all Asm named says = absurd (exec_not_asm (sym is ∙ named))
+wants_exec name rows raw numbers is flag all (Dis r) named says = absurd (exec_not_dis (sym is ∙ named))
+wants_exec name rows raw numbers is flag all Verify named says = absurd (exec_not_verify (sym is ∙ named))
+wants_exec name rows raw numbers is flag all (World log) named says = absurd (exec_not_world (sym is ∙ named))
+wants_exec name rows raw numbers is flag all (Run workers tries stats) named says = absurd (exec_not_run (sym is ∙ named))
+
+pub wants_dis : (name : List ℕ) (rows : List Row) (raw : Bool) → name ≡ codes "dis" → ((r : Bool) → IsFlag r (one_of (codes "raw") rows) → raw ≡ r)
+    → (wish : Wish) → name ≡ command_name wish → SaysWish rows wish → Dis raw ≡ wish
+wants_dis name rows raw is flag (Exec r ns) named says = absurd (exec_not_dis (sym named ∙ is))
+wants_dis name rows raw is flag Asm named says = absurd (asm_not_dis (sym named ∙ is))
+wants_dis name rows raw is flag (Dis r) named says = ap Dis (flag r says)
+wants_dis name rows raw is flag Verify named says = absurd (dis_not_verify (sym is ∙ named))
+wants_dis name rows raw is flag (World log) named says = absurd (dis_not_world (sym is ∙ named))
+wants_dis name rows raw is flag (Run workers tries stats) named says = absurd (dis_not_run (sym is ∙ named))
+
+pub wants_world : (name : List ℕ) (rows : List Row) (log : Bool) → name ≡ codes "world"
+    → ((l : Bool) → IsFlag l (one_of (codes "log") rows) → log ≡ l)
+    → (wish : Wish) → name ≡ command_name wish → SaysWish rows wish → World log ≡ wish
+wants_world name rows log is flag (Exec r ns) named says = absurd (exec_not_world (sym named ∙ is))
+wants_world name rows log is flag Asm named says = absurd (asm_not_world (sym named ∙ is))
+wants_world name rows log is flag (Dis r) named says = absurd (dis_not_world (sym named ∙ is))
+wants_world name rows log is flag Verify named says = absurd (verify_not_world (sym named ∙ is))
+wants_world name rows log is flag (World l) named says = ap World (flag l says)
+wants_world name rows log is flag (Run workers tries stats) named says = absurd (world_not_run (sym is ∙ named))
+
+pub wants_run : (name : List ℕ) (rows : List Row) (result : Result Task WordFault) → name ≡ codes "run"
+    → ((workers tries : ℕ) (stats : Bool) → SaysRun rows workers tries stats → IsTaskOrNoMemory (Run workers tries stats) result)
+    → (wish : Wish) → name ≡ command_name wish → SaysWish rows wish → IsTaskOrNoMemory wish result
+wants_run name rows result is all (Exec r ns) named says = absurd (exec_not_run (sym named ∙ is))
+wants_run name rows result is all Asm named says = absurd (asm_not_run (sym named ∙ is))
+wants_run name rows result is all (Dis r) named says = absurd (dis_not_run (sym named ∙ is))
+wants_run name rows result is all Verify named says = absurd (verify_not_run (sym named ∙ is))
+wants_run name rows result is all (World log) named says = absurd (world_not_run (sym named ∙ is))
+wants_run name rows result is all (Run workers tries stats) named says = all workers tries stats says
+
+composed : {A B C : Type 0} (g : A → B) (f : B → C) (o : Option A) → option_map (λ a. f (g a)) o ≡ option_map f (option_map g o)
+composed g f None = refl
+composed g f (Some a) = refl
+
+-- the name of the subcommand is that of its rows
+pub name_of_rows : (m : ArgMatches) → subcommand_name_of m ≡ option_map (λ p. p.0) (subcommand_rows_of m)
+name_of_rows m = composed _ (λ p. p.0) (out-ArgMatches m).subcommand
+
+-- ---- an option with a number
+
+pub count_said : (o : Option Text) (text : Text) (default n : ℕ) → Some text ≡ o → SaysCount o default n → SaysNumber text × (n ≡ value_of text)
+count_said None text default n e says = absurd (cc)
+count_said (Some said) text default n e says = let same : said ≡ text = cc in subst (λ (t : Text). SaysNumber t × (n ≡ value_of t)) same says
+
+pub count_silent : (o : Option Text) (default n : ℕ) → None ≡ o → SaysCount o default n → n ≡ default
+count_silent None default n e says = says
+count_silent (Some said) default n e says = absurd (cc)
+
+-- ---- numbers that are wanted, and aren't there
+
+pub count_is : (o : Option Text) (text : Text) → Some text ≡ o → SaysNumber text → ¬ IsNoCount o
+count_is None text e number = absurd (cc)
+count_is (Some said) text e number = let same : text ≡ said = cc in λ none. none (subst SaysNumber same number)
+
+pub silent_is : (o : Option Text) → None ≡ o → ¬ IsNoCount o
+silent_is None e = λ none. none
+silent_is (Some said) e = absurd (cc)
+
+-- only these two commands take numbers
+pub lacks_nothing : (name : Text) (rows : List Row) → (name ≡ codes "exec" → ⊥) → (name ≡ codes "run" → ⊥) → ¬ LacksNumber name rows
+lacks_nothing name rows not_exec not_run (Argument exec none) = not_exec exec
+lacks_nothing name rows not_exec not_run (Workers run none) = not_run run
+lacks_nothing name rows not_exec not_run (Tries run none) = not_run run
+
+pub lacks_no_argument : (name : Text) (rows : List Row) → name ≡ codes "exec" → AllNumbers (unwrap_or (all_of (codes "arg") rows) [])
+    → ¬ LacksNumber name rows
+lacks_no_argument name rows is all (Argument exec none) = none all
+lacks_no_argument name rows is all (Workers run none) = exec_not_run (sym is ∙ run)
+lacks_no_argument name rows is all (Tries run none) = exec_not_run (sym is ∙ run)
+
+pub lacks_no_count : (rows : List Row) → ¬ IsNoCount (first_of (codes "workers") rows) → ¬ IsNoCount (first_of (codes "tries") rows)
+    → ¬ LacksNumber (codes "run") rows
+lacks_no_count rows workers tries (Argument exec none) = exec_not_run (sym exec)
+lacks_no_count rows workers tries (Workers run none) = workers none
+lacks_no_count rows workers tries (Tries run none) = tries none
+
+pub asm_lacks_nothing : (name : Text) (rows : List Row) → name ≡ codes "asm" → ¬ LacksNumber name rows
+asm_lacks_nothing name rows is = lacks_nothing name rows (λ e. exec_not_asm (sym e ∙ is)) (λ e. asm_not_run (sym is ∙ e))
+
+pub dis_lacks_nothing : (name : Text) (rows : List Row) → name ≡ codes "dis" → ¬ LacksNumber name rows
+dis_lacks_nothing name rows is = lacks_nothing name rows (λ e. exec_not_dis (sym e ∙ is)) (λ e. dis_not_run (sym is ∙ e))
+
+pub verify_lacks_nothing : (name : Text) (rows : List Row) → name ≡ codes "verify" → ¬ LacksNumber name rows
+verify_lacks_nothing name rows is = lacks_nothing name rows (λ e. exec_not_verify (sym e ∙ is)) (λ e. verify_not_run (sym is ∙ e))
+
+pub world_lacks_nothing : (name : Text) (rows : List Row) → name ≡ codes "world" → ¬ LacksNumber name rows
+world_lacks_nothing name rows is = lacks_nothing name rows (λ e. exec_not_world (sym e ∙ is)) (λ e. world_not_run (sym is ∙ e))
+
+pub more_numbers : (texts : List Text) (i : ℕ) (said : Text) → slice_get texts i ≡ Some said → SaysNumber said
+    → ((k : ℕ) (t : Text) → k < i → slice_get texts k ≡ Some t → SaysNumber t)
+    → (k : ℕ) (t : Text) → k < i + 1 → slice_get texts k ≡ Some t → SaysNumber t
+more_numbers texts i said is says before k t less at =
+    let low : k ≤ i = omega (arith, less) in
+    elim (eq-or-lt_of_le low) [
+      | inl same ↦ let found : Some said ≡ Some t = sym is ∙ ap (slice_get texts) (sym same) ∙ at in subst SaysNumber (some_some said t found) says
+      | inr below ↦ before k t below at
+    ]
+
+-- ---- faults of wrong words
+
+shows_none : (kinds : Kinds) (k : ErrorKind) → list_any shows kinds ≡ false → IsAmong k kinds → shows k ≡ false
+shows_none [] k none among = absurd among
+shows_none (x ∷ kinds) k none among =
+    let both = or_parts (shows x) (list_any shows kinds) none in
+    elim among [ inl same ↦ subst (λ (y : ErrorKind). shows y ≡ false) (sym same) both.0 | inr later ↦ shows_none kinds k both.1 later ]
+
+empty_has_none : (kinds : Kinds) (k : ErrorKind) → kinds ≡ [] → IsAmong k kinds → ⊥
+empty_has_none kinds k empty among = subst (IsAmong k) empty among
+
+wrong_kind : (words : List Text) (k : ErrorKind) → IsWrong words → IsAmong k (fault_of procd_app words) → shows k ≡ false
+wrong_kind words k (Refused refused) among = shows_none (fault_of procd_app words) k refused.1 among
+wrong_kind words k (NoCommand accepted none) among = absurd (empty_has_none (fault_of procd_app words) k accepted among)
+wrong_kind words k (NoNumber accepted name rows entered lacks) among = absurd (empty_has_none (fault_of procd_app words) k accepted among)
+
+pub wrong_shows_nothing : (words : List Text) (e : Error) → HasKind (fault_of procd_app words) e → IsWrong words → shows (kind_of e) ≡ false
+wrong_shows_nothing words e has wrong =
+    elim has [ inl memory ↦ ap shows memory | inr among ↦ wrong_kind words (kind_of e) wrong among ]

@@ -1,0 +1,138 @@
+-- What the command line says, and when it is wrong.
+use Rattle.std.specs.Prelude.{◌≡◌, ◌≢◌, ℕ, Bool, List, [], ◌<◌, ◌^◌, map, slice_get, unwrap_or, Option, Some, None, codes, true, false, ◌⊎◌}
+use Rattle.std.specs.List.{list_any}
+use Rattle.clap.specs.Words.{App, Kinds, Row, Rule, Text, all_of, fault_of, first_of, one_of, new_app, new_rule}
+use Rattle.clap.specs.Words.{subcommand_of, takes, with_rule, with_subcommand}
+use Rattle.clap.specs.declared.error.kind.ErrorKind.{ErrorKind}
+use Rattle.clap.specs.declared.error.kind.ErrorKind.TheVariants as kind
+use Rattle.clap.specs.declared.builder.ArgAction.TheVariants.{Set, SetTrue, Append}
+use Rattle.std.specs.Str.Parse.{IsNumeral, digits_value, without_leading_plus}
+use Rattle.command_line.specs.Task.{Wish, Exec, Asm, Dis, Verify, World, Run, command_name}
+
+abbrev pub raw_rule : Rule
+raw_rule = record (new_rule (codes "raw")) { long = Some (codes "raw"); action = Some SetTrue }
+
+abbrev pub log_rule : Rule
+log_rule = record (new_rule (codes "log")) { long = Some (codes "log"); action = Some SetTrue }
+
+abbrev pub file_rule : Rule
+file_rule = record (new_rule (codes "file")) { required = true; action = Some Set; value_names = 1 }
+
+abbrev pub arg_rule : Rule
+arg_rule = record (new_rule (codes "arg")) { action = Some Append; value_names = 1 }
+
+-- an option with a number
+abbrev pub count_rule : Text → Rule
+count_rule name = record (new_rule name) { long = Some name; action = Some Set; value_names = 1 }
+
+abbrev pub stats_rule : Rule
+stats_rule = record (new_rule (codes "stats")) { long = Some (codes "stats"); action = Some SetTrue }
+
+-- exec [--raw] FILE [ARG]...
+abbrev pub exec_app : App
+exec_app = with_rule (with_rule (with_rule (new_app (codes "exec")) raw_rule) file_rule) arg_rule
+
+-- asm FILE
+abbrev pub asm_app : App
+asm_app = with_rule (new_app (codes "asm")) file_rule
+
+-- dis [--raw] FILE
+abbrev pub dis_app : App
+dis_app = with_rule (with_rule (new_app (codes "dis")) raw_rule) file_rule
+
+-- verify FILE
+abbrev pub verify_app : App
+verify_app = with_rule (new_app (codes "verify")) file_rule
+
+-- world [--log] FILE
+abbrev pub world_app : App
+world_app = with_rule (with_rule (new_app (codes "world")) log_rule) file_rule
+
+-- run [--workers N] [--tries N] [--stats] FILE
+abbrev pub run_app : App
+run_app = with_rule (with_rule (with_rule (with_rule (new_app (codes "run")) (count_rule (codes "workers"))) (count_rule (codes "tries"))) stats_rule) file_rule
+
+-- the commands that take code
+abbrev pub code_app : App
+code_app = with_subcommand (with_subcommand (with_subcommand (new_app (codes "procd")) exec_app.top) asm_app.top) dis_app.top
+
+-- the command line of the program
+unfoldable pub procd_app : App
+procd_app = with_subcommand (with_subcommand (with_subcommand code_app verify_app.top) world_app.top) run_app.top
+
+-- the number that a text says in decimal, and whether it says one of 64 bits
+abbrev pub value_of : Text → ℕ
+value_of t = digits_value 10 (without_leading_plus t)
+
+abbrev pub SaysNumber : Text → Type 0
+SaysNumber t = IsNumeral 10 (without_leading_plus t) × (value_of t < 2 ^ 64)
+
+abbrev pub AllNumbers : List Text → Type 0
+AllNumbers texts = (k : ℕ) (t : Text) → slice_get texts k ≡ Some t → SaysNumber t
+
+-- whether the flag is there
+abbrev pub IsFlag : Bool → Option Text → Type 0
+IsFlag true o = o ≡ Some (codes "true")
+IsFlag false o = (o ≡ None) ⊎ (o ≡ Some (codes "false"))
+
+-- the numbers that the arguments say
+abbrev pub SaysNumbers : List Row → List ℕ → Type 0
+SaysNumbers rows numbers =
+    AllNumbers (unwrap_or (all_of (codes "arg") rows) []) × (numbers ≡ map value_of (unwrap_or (all_of (codes "arg") rows) []))
+
+-- the number of an option, or this one where it isn't there
+abbrev pub SaysCount : Option Text → ℕ → ℕ → Type 0
+SaysCount None default n = n ≡ default
+SaysCount (Some text) default n = SaysNumber text × (n ≡ value_of text)
+
+-- 4 workers and 3 tries, where nothing is said of them
+abbrev pub SaysRun : List Row → ℕ → ℕ → Bool → Type 0
+SaysRun rows workers tries stats =
+    SaysCount (first_of (codes "workers") rows) 4 workers × SaysCount (first_of (codes "tries") rows) 3 tries × IsFlag stats (one_of (codes "stats") rows)
+
+-- what a command's rows say
+abbrev pub SaysWish : List Row → Wish → Type 0
+SaysWish rows (Exec raw numbers) = IsFlag raw (one_of (codes "raw") rows) × SaysNumbers rows numbers
+SaysWish rows Asm = Unit {0}
+SaysWish rows (Dis raw) = IsFlag raw (one_of (codes "raw") rows)
+SaysWish rows Verify = Unit {0}
+SaysWish rows (World log) = IsFlag log (one_of (codes "log") rows)
+SaysWish rows (Run workers tries stats) = SaysRun rows workers tries stats
+
+-- the words are a command line of the program, and say this command with this file
+pub record Says (words : List Text) (file : Text) (wish : Wish) : Type 0 where
+  pub rows : List Row
+  pub parses : takes procd_app words ≡ true
+  pub entered : subcommand_of procd_app words ≡ Some (command_name wish, rows)
+  pub file_is : first_of (codes "file") rows ≡ Some file
+  pub wish_is : SaysWish rows wish
+
+-- ---- wrong command lines
+
+-- help is printed, which is no fault
+abbrev pub shows : ErrorKind → Bool
+shows kind.DisplayHelp = true
+shows kind.DisplayVersion = true
+shows other = false
+
+-- there is a fault, and none that prints help
+abbrev pub AreRefusals : Kinds → Type 0
+AreRefusals kinds = (kinds ≢ []) × (list_any shows kinds ≡ false)
+
+-- an option is there, and isn't a number of 64 bits
+abbrev pub IsNoCount : Option Text → Type 0
+IsNoCount None = ⊥
+IsNoCount (Some text) = ¬ SaysNumber text
+
+-- what is to be a number isn't one
+pub data LacksNumber (name : Text) (rows : List Row) : Type 0 where
+  Argument : name ≡ codes "exec" → ¬ AllNumbers (unwrap_or (all_of (codes "arg") rows) []) → LacksNumber name rows
+  Workers : name ≡ codes "run" → IsNoCount (first_of (codes "workers") rows) → LacksNumber name rows
+  Tries : name ≡ codes "run" → IsNoCount (first_of (codes "tries") rows) → LacksNumber name rows
+
+-- the words are refused by the command line's rules, name no command, or lack a number
+pub data IsWrong (words : List Text) : Type 0 where
+  Refused : AreRefusals (fault_of procd_app words) → IsWrong words
+  NoCommand : fault_of procd_app words ≡ [] → subcommand_of procd_app words ≡ None → IsWrong words
+  NoNumber : fault_of procd_app words ≡ [] → (name : Text) (rows : List Row) → subcommand_of procd_app words ≡ Some (name, rows)
+      → LacksNumber name rows → IsWrong words

@@ -1,0 +1,9 @@
+//! What the words of `procd`'s command line ask for.
+//!
+//! ```
+//! let wanted = wanted_of(alloc, &["procd", "world", "--log", "-"])?;
+//! // wanted.file is "-", wanted.task is Task::World { log: true }
+//! ```
+#![tactic(auto)]
+
+pub mod words;

@@ -1,0 +1,384 @@
+//! The command line.
+
+ghost use Rattle.std.specs.Prelude.{◌≡◌, ℕ, Bool, List, [], true, false, Some, map, unwrap_or, IfOk, IfErr, IfSome, option_map, codes};
+ghost use Rattle.clap.specs.Words.{App, Row, app_of, with_subcommand, rule_of, kind_of, subcommand_of, subcommand_rows_of, takes, rows_of, found_of, first_of, all_of, fault_of, FailsBy};
+ghost use Rattle.clap.specs.declared.builder.command.Command.TheViews.{out-Command};
+ghost use Rattle.command_line.specs.Joining.Wanted.{WantsOrNoMemory, IsTaskOrNoMemory, IsNumbersOrNoMemory, IsWordFault, IsWrongOrNoMemory};
+ghost use Rattle.command_line.specs.Task.{Wish, Run, command_name};
+ghost use Rattle.command_line.specs.Said.{procd_app, exec_app, asm_app, dis_app, verify_app, world_app, run_app, file_rule, raw_rule, log_rule};
+ghost use Rattle.command_line.specs.Said.{count_rule, stats_rule, Says, SaysWish, SaysRun, SaysCount, SaysNumbers, AllNumbers, value_of};
+ghost use Rattle.command_line.specs.Said.{IsWrong, IsNoCount, LacksNumber};
+
+use clap::error::ErrorKind;
+use clap::{Arg, ArgAction, ArgMatches, Command, Error};
+use std::alloc::{AllocError, Global};
+use std::convert::AsStr;
+
+/// A command, but for its file.
+#[derive(Drop)]
+pub enum Task {
+    /// Run code with these arguments; raw code is bytes, other is hex text.
+    Exec {
+        raw: bool,
+        numbers: Vec<u64>,
+    },
+    /// Assemble text.
+    Asm,
+    /// Disassemble code.
+    Dis {
+        raw: bool,
+    },
+    /// Verify the procedures of a script.
+    Verify,
+    /// Take the steps of a script; with `log`, print each event of the log behind the rows.
+    World {
+        log: bool,
+    },
+    /// Run the calls of a script by so many workers, and send each request so often at most. With
+    /// `stats` the figures of the run are told on standard error.
+    Run {
+        workers: u64,
+        tries: u64,
+        stats: bool,
+    },
+}
+
+impl Task {
+    ghost use Rattle.std.specs.Prelude.{◌≡◌};
+    ghost use Rattle.command_line.specs.Task.{may_tell, wish_of};
+
+    /// Whether figures are to be told on standard error.
+    pub fn may_tell(&self) -> bool
+        ensures { result ≡ may_tell (wish_of self.now) }
+    {
+        match self {
+            Task::Run { stats, .. } => *stats,
+            _ => false,
+        }
+    }
+}
+
+/// The workers of a run, where the words say nothing of them.
+const WORKERS: u64 = 4;
+
+/// The tries of a run, where the words say nothing of them.
+const TRIES: u64 = 3;
+
+/// What the words ask for.
+#[derive(Drop)]
+pub struct Wanted<'a> {
+    /// A path, or `-` for standard input.
+    pub file: &'a str,
+    pub task: Task,
+}
+
+/// Why nothing is wanted.
+#[derive(Drop)]
+pub enum WordFault {
+    Clap(Error),
+    /// An ARG or N is no number of 64 bits in decimal.
+    NotNumber,
+    NoCommand,
+    Memory,
+}
+
+// FILE
+fn file_arg<'a>(alloc: Global, help: &'a str) -> Arg<'a>
+    ensures rule { rule_of result ≡ file_rule }
+    ensures local { result.global ≡ false }
+{
+    Arg::new(alloc, "file")
+        .required(true)
+        .action(ArgAction::Set)
+        .value_name("FILE")
+        .help(help)
+}
+
+// --raw
+fn raw_arg<'a>(alloc: Global) -> Arg<'a>
+    ensures rule { rule_of result ≡ raw_rule }
+    ensures local { result.global ≡ false }
+{
+    Arg::new(alloc, "raw")
+        .long("raw")
+        .action(ArgAction::SetTrue)
+        .help("Read the code's bytes themselves, not hex text")
+}
+
+const CODE_HELP: &str = "The code: a path, or - for standard input. Hex text is pairs of digits";
+
+// `exec [--raw] FILE [ARG]...`
+fn exec_command<'a>(alloc: Global) -> Result<Command<'a>, AllocError>
+    ensures app { IfOk result (λ c. app_of c ≡ exec_app) }
+    ensures local { IfOk result (λ c. (out-Command c).has_globals ≡ false) }
+{
+    let arg = Arg::new(alloc, "arg")
+        .action(ArgAction::Append)
+        .value_name("ARG")
+        .help("The code's arguments, at most 8: numbers of 64 bits in decimal");
+    Command::new(alloc, "exec")
+        .arg(raw_arg(alloc))?
+        .arg(file_arg(alloc, CODE_HELP))?
+        .arg(arg)
+}
+
+// `asm FILE`
+fn asm_command<'a>(alloc: Global) -> Result<Command<'a>, AllocError>
+    ensures app { IfOk result (λ c. app_of c ≡ asm_app) }
+    ensures local { IfOk result (λ c. (out-Command c).has_globals ≡ false) }
+{
+    Command::new(alloc, "asm").arg(file_arg(alloc, "The text: a path, or - for standard input"))
+}
+
+// `dis [--raw] FILE`
+fn dis_command<'a>(alloc: Global) -> Result<Command<'a>, AllocError>
+    ensures app { IfOk result (λ c. app_of c ≡ dis_app) }
+    ensures local { IfOk result (λ c. (out-Command c).has_globals ≡ false) }
+{
+    Command::new(alloc, "dis")
+        .arg(raw_arg(alloc))?
+        .arg(file_arg(alloc, CODE_HELP))
+}
+
+const SCRIPT_HELP: &str = "The script: a path, or - for standard input";
+
+// `verify FILE`
+fn verify_command<'a>(alloc: Global) -> Result<Command<'a>, AllocError>
+    ensures app { IfOk result (λ c. app_of c ≡ verify_app) }
+    ensures local { IfOk result (λ c. (out-Command c).has_globals ≡ false) }
+{
+    Command::new(alloc, "verify").arg(file_arg(alloc, SCRIPT_HELP))
+}
+
+// --log
+fn log_arg<'a>(alloc: Global) -> Arg<'a>
+    ensures rule { rule_of result ≡ log_rule }
+    ensures local { result.global ≡ false }
+{
+    Arg::new(alloc, "log")
+        .long("log")
+        .action(ArgAction::SetTrue)
+        .help("Print each event of the log as well: 192 hex digits a line, the oldest first")
+}
+
+// `world [--log] FILE`
+fn world_command<'a>(alloc: Global) -> Result<Command<'a>, AllocError>
+    ensures app { IfOk result (λ c. app_of c ≡ world_app) }
+    ensures local { IfOk result (λ c. (out-Command c).has_globals ≡ false) }
+{
+    Command::new(alloc, "world")
+        .arg(log_arg(alloc))?
+        .arg(file_arg(alloc, SCRIPT_HELP))
+}
+
+// An option with a number.
+fn count_arg<'a>(alloc: Global, name: &'a str, help: &'a str) -> Arg<'a>
+    ensures rule { rule_of result ≡ count_rule name.entry.now }
+    ensures local { result.global ≡ false }
+{
+    Arg::new(alloc, name)
+        .long(name)
+        .action(ArgAction::Set)
+        .value_name("N")
+        .help(help)
+}
+
+// --stats
+fn stats_arg<'a>(alloc: Global) -> Arg<'a>
+    ensures rule { rule_of result ≡ stats_rule }
+    ensures local { result.global ≡ false }
+{
+    Arg::new(alloc, "stats")
+        .long("stats")
+        .action(ArgAction::SetTrue)
+        .help("Tell on standard error how many calls were answered how, and how many a second")
+}
+
+// `run [--workers N] [--tries N] [--stats] FILE`
+fn run_command<'a>(alloc: Global) -> Result<Command<'a>, AllocError>
+    ensures app { IfOk result (λ c. app_of c ≡ run_app) }
+    ensures local { IfOk result (λ c. (out-Command c).has_globals ≡ false) }
+{
+    let workers = count_arg(
+        alloc,
+        "workers",
+        "How many workers make the `call` lines' calls at once: 1 to 64, or 4 where it isn't said",
+    );
+    let tries = count_arg(
+        alloc,
+        "tries",
+        "How often a request is sent at most: 1 to 1000, or 3 where it isn't said",
+    );
+    Command::new(alloc, "run")
+        .arg(workers)?
+        .arg(tries)?
+        .arg(stats_arg(alloc))?
+        .arg(file_arg(alloc, SCRIPT_HELP))
+}
+
+// Adds a subcommand, once it is made, with what its help begins with.
+fn with_command<'a>(
+    procd: Command<'a>,
+    made: Result<Command<'a>, AllocError>,
+    about: &'a str,
+) -> Result<Command<'a>, AllocError>
+    ensures { (app : App) → IfOk made.entry (λ c. app_of c ≡ app) → IfOk made.entry (λ c. (out-Command c).has_globals ≡ false)
+        → IfOk result (λ r. app_of r ≡ with_subcommand (app_of procd.entry) app.top) }
+{
+    match made {
+        Ok(command) => procd.subcommand(command.about(about)),
+        Err(AllocError) => {
+            drop(procd);
+            Err(AllocError)
+        }
+    }
+}
+
+// The command line of the program.
+fn procd_command<'a>(alloc: Global) -> Result<Command<'a>, AllocError>
+    ensures { IfOk result (λ c. app_of c ≡ procd_app) }
+{
+    let procd = Command::new(alloc, "procd");
+    let with_exec = with_command(
+        procd,
+        exec_command(alloc),
+        "Verify code and run it: prints `answer V` and `executed N`, or `refused ..` with status 1",
+    )?;
+    let with_asm = with_command(
+        with_exec,
+        asm_command(alloc),
+        "Assemble text, an instruction a line: prints its slots in hex, one a line",
+    )?;
+    let with_dis = with_command(
+        with_asm,
+        dis_command(alloc),
+        "Disassemble code: prints its text, an instruction a line",
+    )?;
+    let with_verify = with_command(
+        with_dis,
+        verify_command(alloc),
+        "Verify the procedures of a script: prints `NAME accepted SLOTS` or `NAME V.. slot N` for each",
+    )?;
+    let with_world = with_command(
+        with_verify,
+        world_command(alloc),
+        "Take the steps of a script one by one: prints a line for each, then `row DC/TABLE/KEY VALUE` for what is kept",
+    )?;
+    let with_run = with_command(
+        with_world,
+        run_command(alloc),
+        "Run the calls of a script by workers: prints what each was answered, as `call I committed`, and then the rows",
+    )?;
+    Ok(with_run.about("A transaction component that runs verified BPF procedures"))
+}
+
+// What the words say.
+fn said<'a, S: AsStr>(alloc: Global, words: &'a [S]) -> Result<ArgMatches<'a>, Error>
+    ensures ok { IfOk result (λ m. subcommand_rows_of m ≡ subcommand_of procd_app (map S.text words.entry.now)) }
+    ensures err { IfErr result (λ e. takes procd_app (map S.text words.entry.now) ≡ true → kind_of e ≡ ErrorKind.OutOfMemory) }
+    ensures kinds { FailsBy (fault_of procd_app (map S.text words.entry.now)) result }
+{
+    let command = procd_command(alloc)?;
+    command.try_get_matches_from(words)
+}
+
+// The numbers that texts say, or `None` where one says none.
+fn numbers_of(alloc: Global, texts: &[&str]) -> Result<Option<Vec<u64>>, AllocError>
+    ensures some { IfOk result (λ r. AllNumbers (map (λ s. s.now) texts.now) → option_map (λ v. v.items) r ≡ Some (map value_of (map (λ s. s.now) texts.now))) }
+    ensures all { IfOk result (λ r. IfSome r (λ v. AllNumbers (map (λ s. s.now) texts.now))) }
+{
+    let mut numbers = Vec::new(alloc);
+    for text in texts {
+        let Ok(n) = text.parse::<u64>() else {
+            return Ok(None);
+        };
+        numbers.push(n)?;
+    }
+    Ok(Some(numbers))
+}
+
+// The numbers that the arguments say.
+fn numbers_in(alloc: Global, matches: &ArgMatches) -> Result<Vec<u64>, WordFault>
+    ensures numbers { (numbers : List ℕ) → SaysNumbers (rows_of (found_of matches.now)) numbers → IsNumbersOrNoMemory numbers result }
+    ensures all { IfOk result (λ v. AllNumbers (unwrap_or (all_of (codes "arg") (rows_of (found_of matches.now))) [])) }
+    ensures err { IfErr result IsWordFault }
+{
+    match numbers_of(alloc, matches.get_strs("arg").unwrap_or(&[])) {
+        Ok(Some(numbers)) => Ok(numbers),
+        Ok(None) => Err(WordFault::NotNumber),
+        Err(AllocError) => Err(WordFault::Memory),
+    }
+}
+
+// The number that an option says, or this one where it isn't there.
+fn number_or(matches: &ArgMatches, name: &str, default: u64) -> Result<u64, WordFault>
+    ensures count { (n : ℕ) → SaysCount (first_of name.now (rows_of (found_of matches.now))) default n → result ≡ Ok n }
+    ensures wrong { IfOk result (λ n. ¬ IsNoCount (first_of name.now (rows_of (found_of matches.now)))) }
+    ensures err { IfErr result IsWordFault }
+{
+    match matches.get_str(name) {
+        Some(text) => match text.parse::<u64>() {
+            Ok(n) => Ok(n),
+            Err(_) => Err(WordFault::NotNumber),
+        },
+        None => Ok(default),
+    }
+}
+
+// How calls are to be run.
+fn run_task(matches: &ArgMatches) -> Result<Task, WordFault>
+    ensures task { (workers tries : ℕ) (stats : Bool) → SaysRun (rows_of (found_of matches.now)) workers tries stats → IsTaskOrNoMemory (Run workers tries stats) result }
+    ensures wrong { IfOk result (λ task. ¬ LacksNumber (codes "run") (rows_of (found_of matches.now))) }
+    ensures err { IfErr result IsWordFault }
+{
+    let workers = number_or(matches, "workers", WORKERS)?;
+    let tries = number_or(matches, "tries", TRIES)?;
+    Ok(Task::Run {
+        workers,
+        tries,
+        stats: matches.get_flag("stats"),
+    })
+}
+
+// The task of the command of this name.
+fn task_of(alloc: Global, name: &str, matches: &ArgMatches) -> Result<Task, WordFault>
+    ensures task { (wish : Wish) → name.now ≡ command_name wish → SaysWish (rows_of (found_of matches.now)) wish → IsTaskOrNoMemory wish result }
+    ensures wrong { IfOk result (λ task. ¬ LacksNumber name.now (rows_of (found_of matches.now))) }
+    ensures err { IfErr result IsWordFault }
+{
+    match name {
+        "exec" => Ok(Task::Exec {
+            raw: matches.get_flag("raw"),
+            numbers: numbers_in(alloc, matches)?,
+        }),
+        "asm" => Ok(Task::Asm),
+        "dis" => Ok(Task::Dis {
+            raw: matches.get_flag("raw"),
+        }),
+        "verify" => Ok(Task::Verify),
+        "world" => Ok(Task::World {
+            log: matches.get_flag("log"),
+        }),
+        "run" => run_task(matches),
+        _ => Err(WordFault::NoCommand),
+    }
+}
+
+/// What the words want.
+pub fn wanted_of<'a, S: AsStr>(alloc: Global, words: &'a [S]) -> Result<Wanted<'a>, WordFault>
+    ensures wanted { (file : List ℕ) (wish : Wish) → Says (map S.text words.entry.now) file wish → WantsOrNoMemory file wish result }
+    ensures wrong { IsWrong (map S.text words.entry.now) → IsWrongOrNoMemory result }
+{
+    let matches = match said(alloc, words) {
+        Ok(matches) => matches,
+        Err(error) => return Err(WordFault::Clap(error)),
+    };
+    let Some((name, inner)) = matches.subcommand() else {
+        return Err(WordFault::NoCommand);
+    };
+    let Some(file) = inner.get_str("file") else {
+        return Err(WordFault::NoCommand);
+    };
+    let task = task_of(alloc, name, inner)?;
+    Ok(Wanted { file, task })
+}

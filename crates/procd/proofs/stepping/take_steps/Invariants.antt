@@ -1,7 +1,0 @@
-use Rattle.std.proofs.Common.{take}
-use Rattle.std.specs.Prelude.{string_bytes}
-use Rattle.procd.specs.Stepping.{AreTaken}
-use Rattle.procd.proofs.stepping.take_steps.Given as goal
-
-abbrev pub invariant-loop-line : goal.invariant-loop-line
-invariant-loop-line l = AreTaken l.fn.world (take l.line-index l.steps) l.world (string_bytes l.fn.lines) (string_bytes l.lines) l.all

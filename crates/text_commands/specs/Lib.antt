@@ -1,0 +1,5 @@
+pub mod Hex
+pub mod FaultNames
+pub mod Execution
+pub mod CodeReport
+pub mod Verification

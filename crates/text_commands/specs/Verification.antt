@@ -1,0 +1,46 @@
+-- What `verify` prints of a script, and its exit status.
+use Rattle.std.specs.Prelude.{ℕ, Bool, if◌then◌else◌, List, ◌++◌, length, is_some, Option, Some, None, codes, decimal}
+use Rattle.std.specs.List.{flat_map, list_any}
+use Rattle.register_kinds.specs.declared.kind.Violation.{Violation}
+use Rattle.scripts.specs.Reading.{Reading, script_said}
+use Rattle.scripts.specs.declared.keyword.Command.TheVariants as command
+use Rattle.scripts.specs.declared.reading.Fault.{Fault}
+use Rattle.scripts.specs.declared.script.Procedure.{Procedure}
+use Rattle.verifier.specs.Verdict.{verdict}
+use Rattle.text_commands.specs.FaultNames.{violation_name, script_fault_name}
+
+abbrev pub line_by_verdict : Option (ℕ × Violation) → Procedure → List ℕ
+line_by_verdict None p = ((p.name ++ codes " accepted ") ++ decimal (length p.code)) ++ codes "\n"
+line_by_verdict (Some (slot, violation)) p = ((((p.name ++ codes " ") ++ violation_name violation) ++ codes " slot ") ++ decimal slot) ++ codes "\n"
+
+-- a procedure's line: its length in slots, or what the verifier finds first
+abbrev pub procedure_line : Procedure → List ℕ
+procedure_line p = line_by_verdict (verdict p.decl p.code) p
+
+abbrev pub is_refused : Procedure → Bool
+is_refused p = is_some (verdict p.decl p.code)
+
+abbrev pub script_refusal : Fault → List ℕ
+script_refusal f = codes "refused line " ++ (decimal f.line ++ (codes " " ++ (script_fault_name f.fault ++ codes "\n")))
+
+abbrev pub lines_by_fault : Option Fault → List Procedure → List ℕ
+lines_by_fault (Some fault) procedures = script_refusal fault
+lines_by_fault None procedures = flat_map procedure_line procedures
+
+abbrev pub status_by_fault : Option Fault → List Procedure → ℕ
+status_by_fault (Some fault) procedures = 1
+status_by_fault None procedures = if list_any is_refused procedures then 1 else 0
+
+abbrev pub lines_of_reading : Reading → List ℕ
+lines_of_reading r = lines_by_fault r.fault r.contents.procedures
+
+abbrev pub status_of_reading : Reading → ℕ
+status_of_reading r = status_by_fault r.fault r.contents.procedures
+
+-- a line for each procedure, or the script's first fault alone
+abbrev pub verification_lines : List ℕ → List ℕ
+verification_lines text = lines_of_reading (script_said command.Verify text)
+
+-- 1 where the script or a procedure is refused, else 0
+abbrev pub verification_status : List ℕ → ℕ
+verification_status text = status_of_reading (script_said command.Verify text)

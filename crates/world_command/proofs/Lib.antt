@@ -1,0 +1,4 @@
+pub mod RowLemmas
+pub mod LoadLemmas
+pub mod StepLemmas
+pub mod WorldLemmas

@@ -1,0 +1,5 @@
+pub mod OutcomeLines
+pub mod Loading
+pub mod Stepping
+pub mod WorldReport
+pub mod Joining

@@ -1,0 +1,120 @@
+-- Records, values, operations and answers as text; the lines of steps, of refusals and of rows.
+use Rattle.std.specs.Prelude.{◌≡◌, ℕ, ◌==◌, if◌then◌else◌, List, [], ◌∷◌, ◌++◌, take, drop, Some, None, Result, Ok, Err, codes, decimal}
+use Rattle.std.specs.Int.{w64, from_le_bytes}
+use Rattle.std.specs.List.{list_all, flat_map}
+use Rattle.access_slots.specs.declared.slot.Record.{Record}
+use Rattle.access_slots.specs.declared.op.Op.{Op}
+use Rattle.access_slots.specs.declared.op.Op.TheVariants.{Read, Insert, Update, Delete}
+use Rattle.access_slots.specs.declared.op.Said.{Said}
+use Rattle.access_slots.specs.declared.op.Said.TheVariants.{Value, Absent, Done, Duplicate, Missing, NoRoom, Old}
+use Rattle.access_slots.specs.declared.op.Wire.{Wire}
+use Rattle.data_component.specs.Store.{Store}
+use Rattle.data_component.specs.Sorted.{Rows}
+use Rattle.data_component.specs.Keeping.{AreRowsOf}
+use Rattle.lock_table.specs.declared.table.Busy.{Busy}
+use Rattle.tc_log.specs.declared.event.Outcome.{Outcome as Ending}
+use Rattle.tc_log.specs.declared.event.Outcome.TheVariants as ending
+use Rattle.tc_core.specs.declared.state.Refusal.{Refusal}
+use Rattle.tc_core.specs.declared.state.Refusal.TheVariants as refusal
+use Rattle.tc_world.specs.declared.step.Outcome.{Outcome}
+use Rattle.tc_world.specs.declared.step.Outcome.TheVariants as outcome
+use Rattle.tc_world.specs.declared.step.Illegal.{Illegal}
+use Rattle.tc_world.specs.declared.step.Illegal.TheVariants as illegal
+use Rattle.text_commands.specs.Hex.{hex_text}
+
+-- ---- records, values, operations and answers
+
+-- DC/TABLE/KEY
+abbrev pub record_text : Record → List ℕ
+record_text r = decimal r.dc ++ (codes "/" ++ (decimal r.table ++ (codes "/" ++ decimal r.key)))
+
+-- the number that the first eight bytes say, the lowest first, where the others are zero; else `x` and all bytes in hex
+abbrev pub value_text : List ℕ → List ℕ
+value_text v = if list_all (λ b. b == 0) (drop 8 v) then decimal (from_le_bytes w64 (take 8 v)) else codes "x" ++ hex_text v
+
+abbrev pub op_text : Op → List ℕ
+op_text (Read r) = codes "read " ++ record_text r
+op_text (Insert r v) = codes "insert " ++ (record_text r ++ (codes " " ++ value_text v))
+op_text (Update r v) = codes "update " ++ (record_text r ++ (codes " " ++ value_text v))
+op_text (Delete r) = codes "delete " ++ record_text r
+
+abbrev pub said_text : Said → List ℕ
+said_text (Value v) = codes "value " ++ value_text v
+said_text Absent = codes "absent"
+said_text (Done None) = codes "done"
+said_text (Done (Some former)) = codes "done was " ++ value_text former
+said_text Duplicate = codes "duplicate"
+said_text Missing = codes "missing"
+said_text NoRoom = codes "noroom"
+said_text Old = codes "old"
+
+-- ---- steps that were taken
+
+abbrev pub sent_line : ℕ → Wire → List ℕ
+sent_line place x = codes "sent " ++ (decimal place ++ (codes " number " ++ (decimal x.number ++ (codes " " ++ (op_text x.op ++ (codes " low " ++ (decimal x.low_water ++ codes "\n")))))))
+
+abbrev pub ended_line : ℕ → ℕ → Ending → List ℕ
+ended_line place txn ending.Committed = codes "ended " ++ (decimal txn ++ (codes " committed at " ++ (decimal place ++ codes "\n")))
+ended_line place txn (ending.Aborted v) = codes "ended " ++ (decimal txn ++ (codes " aborted " ++ (decimal v ++ (codes " at " ++ (decimal place ++ codes "\n")))))
+ended_line place txn ending.NoRoom = codes "ended " ++ (decimal txn ++ (codes " noroom at " ++ (decimal place ++ codes "\n")))
+
+abbrev pub outcome_line : Outcome → List ℕ
+outcome_line (outcome.Admitted t) = codes "admitted " ++ (decimal t ++ codes "\n")
+outcome_line (outcome.Sent place x) = sent_line place x
+outcome_line (outcome.Undoing t) = codes "undoing " ++ (decimal t ++ codes "\n")
+outcome_line (outcome.Over t) = codes "over " ++ (decimal t ++ codes "\n")
+outcome_line (outcome.Stuck t n) = codes "stuck " ++ (decimal t ++ (codes " number " ++ (decimal n ++ codes "\n")))
+outcome_line (outcome.Replied place x) = codes "reply " ++ (decimal place ++ (codes " number " ++ (decimal x.number ++ (codes " " ++ (said_text x.said ++ codes "\n")))))
+outcome_line outcome.Silent = codes "silent\n"
+outcome_line (outcome.Took n) = codes "took number " ++ (decimal n ++ codes "\n")
+outcome_line (outcome.Ended r) = ended_line r.place r.txn r.outcome
+outcome_line (outcome.Restarted d) = codes "restarted " ++ (decimal d ++ codes "\n")
+outcome_line (outcome.Forged place) = codes "forged " ++ (decimal place ++ codes "\n")
+
+-- ---- steps that weren't possible
+
+abbrev pub busy_text : Busy → List ℕ
+busy_text b = codes "B1 Busy " ++ (record_text b.name ++ (codes " holder " ++ decimal b.holder))
+
+-- code, name and detail
+abbrev pub refusal_text : Refusal → List ℕ
+refusal_text refusal.NoProcedure = codes "B4 NoProcedure"
+refusal_text refusal.ArgumentCount = codes "B5 ArgumentCount"
+refusal_text (refusal.Busy b) = busy_text b
+refusal_text refusal.NumbersSpent = codes "B2 NumbersSpent"
+refusal_text refusal.Memory = codes "B3 Memory"
+
+abbrev pub illegal_line : Illegal → List ℕ
+illegal_line (illegal.Refused r) = codes "illegal I1 Refused " ++ (refusal_text r ++ codes "\n")
+illegal_line illegal.NoTxn = codes "illegal I2 NoTxn\n"
+illegal_line (illegal.Waits n) = codes "illegal I3 Waits " ++ (decimal n ++ codes "\n")
+illegal_line illegal.Running = codes "illegal I4 Running\n"
+illegal_line illegal.NotOver = codes "illegal I5 NotOver\n"
+illegal_line illegal.NothingOpen = codes "illegal I6 NothingOpen\n"
+illegal_line illegal.NoCopy = codes "illegal I7 NoCopy\n"
+illegal_line illegal.NoReply = codes "illegal I8 NoReply\n"
+illegal_line illegal.Stranger = codes "illegal I9 Stranger\n"
+illegal_line illegal.NoDc = codes "illegal I10 NoDc\n"
+illegal_line illegal.Memory = codes "illegal I11 Memory\n"
+
+abbrev pub step_line : Result Outcome Illegal → List ℕ
+step_line (Ok o) = outcome_line o
+step_line (Err why) = illegal_line why
+
+-- ---- what is kept
+
+abbrev pub row_line : Record × List ℕ → List ℕ
+row_line row = codes "row " ++ (record_text row.0 ++ (codes " " ++ (value_text row.1 ++ codes "\n")))
+
+abbrev pub row_lines : Rows → List ℕ
+row_lines rows = flat_map row_line rows
+
+-- the rows of one data component after another
+abbrev pub AreRowLines : List Store → List ℕ → Type 0
+AreRowLines [] lines = lines ≡ []
+AreRowLines (d ∷ ds) lines = (rows : Rows) × (rest : List ℕ) × AreRowsOf rows d.list × (lines ≡ row_lines rows ++ rest) × AreRowLines ds rest
+
+pub record AddsRowLines (ds : List Store) (old new : List ℕ) : Type 0 where
+  pub lines : List ℕ
+  pub rows : AreRowLines ds lines
+  pub added : new ≡ old ++ lines
