@@ -1,5 +1,5 @@
 -- Texts that are written in parts.
-use Rattle.std.proofs.Common.{◌≡◌, true, false, ◌∙◌, ℕ, ◌-◌, List, [], ◌∷◌, ◌++◌, length, take, drop, Option, Some, None, ap, sym, subst}
+use Rattle.std.proofs.Common.{◌≡◌, true, false, ◌∙◌, ℕ, ◌-◌, List, [], ◌++◌, length, take, drop, Option, ap, sym, subst}
 use Rattle.std.proofs.Common.{append_assoc, take-append-drop}
 use Rattle.std.proofs.lemmas.List.{take_rest}
 use Rattle.std.proofs.Math.Seq.{take-append_seam, take-length}

@@ -1,7 +1,7 @@
 -- How many calls were answered how, as lines.
 use Rattle.std.specs.Prelude.{ℕ, ◌*◌, ◌/◌, max, Bool, true, false, List, ◌++◌, length, count_by, codes, decimal}
 use Rattle.worker_pool.specs.declared.answer.Answer.{Answer}
-use Rattle.worker_pool.specs.declared.answer.Answer.TheVariants.{Committed, Aborted, NoRoom, InDoubt, Blocked, Refused}
+use Rattle.worker_pool.specs.declared.answer.Answer.TheVariants.{Committed, Aborted, NoRoom, InDoubt, Blocked}
 
 abbrev pub is_committed : Answer → Bool
 is_committed (Committed place) = true

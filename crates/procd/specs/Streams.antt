@@ -1,6 +1,6 @@
 -- What a run gives for a command line: the exit status, and what stands on standard output and standard error.
 use Rattle.std.specs.Prelude.{◌≡◌, ◌⊎◌, ℕ, Bool, true, false, List, ◌++◌, take, Option, IfSome, codes}
-use Rattle.std.specs.Io.KnownBytes.{Appends, Keeps}
+use Rattle.std.specs.Io.KnownBytes.{Appends}
 use Rattle.procd.specs.Report.{IsReport}
 use Rattle.command_line.specs.Task.{Wish, may_tell}
 
