@@ -7,6 +7,8 @@ pub mod flat;
 pub mod pending;
 #[cfg(test)]
 mod plain_verify;
+#[cfg(test)]
+mod refusal_tests;
 pub mod second_pass;
 #[cfg(test)]
 mod tests;

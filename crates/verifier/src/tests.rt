@@ -5,15 +5,17 @@ use crate::verify::{VerifyFault, verify};
 use access_slots::decl::Decl;
 use access_slots::slot::{Key, Mode, Slot};
 use bpf_encoding::code::Code;
+use bpf_encoding::insn::Register::{R0, R1, R2, R6, R7, R8};
 use bpf_encoding::insn::{
     AtomicOperation, ByteOrder, Condition, Extension, Insn, Operation, OrderWidth, Register,
     SignedSize, Size, Source, Width,
 };
+use register_kinds::kind::Violation;
 use std::alloc::{AllocError, Global};
 use std::test::Fail;
 
 // A declaration of so many arguments and of two slots, the second for reading alone.
-fn decl(args: u8) -> Result<Decl, Fail> {
+pub(crate) fn decl(args: u8) -> Result<Decl, Fail> {
     let slot = |mode, key| Slot {
         mode,
         dc: 0,
@@ -38,6 +40,47 @@ fn agree(alloc: Global, insns: &[Insn], args: u8) -> Result<bool, Fail> {
         (Err(VerifyFault::At(slot, violation)), Some(found)) => (slot, violation) == found,
         _ => false,
     })
+}
+
+// What `verify` finds first, and where.
+fn found_by_verify(
+    alloc: Global,
+    code: Code,
+    decl: Decl,
+) -> Result<Option<(usize, Violation)>, Fail> {
+    match verify(alloc, code, decl) {
+        Ok(_) => Ok(None),
+        Err(VerifyFault::At(slot, violation)) => Ok(Some((slot, violation))),
+        Err(fault) => Err(fault)?,
+    }
+}
+
+// Whether this is what both passes find first.
+fn both_find(
+    alloc: Global,
+    insns: &[Insn],
+    decl: Decl,
+    found: Option<(usize, Violation)>,
+) -> Result<bool, Fail> {
+    let code = Code::from_insns(alloc, insns)?;
+    let plain = plain_verify(alloc, code.places(), &decl)?;
+    Ok(plain == found && found_by_verify(alloc, code, decl)? == found)
+}
+
+// Whether both passes accept the code.
+pub(crate) fn both_accept(alloc: Global, insns: &[Insn], decl: Decl) -> Result<bool, Fail> {
+    both_find(alloc, insns, decl, None)
+}
+
+// Whether both passes refuse the code at this slot, with this violation.
+pub(crate) fn both_refuse(
+    alloc: Global,
+    insns: &[Insn],
+    decl: Decl,
+    slot: usize,
+    violation: Violation,
+) -> Result<bool, Fail> {
+    both_find(alloc, insns, decl, Some((slot, violation)))
 }
 
 // Five instructions, of which codes of four slots are made.
@@ -312,11 +355,11 @@ fn codes_at_random(rt: HostRuntime) -> Result<(), Fail> {
     Ok(())
 }
 
-fn constant(register: Register, imm: i32) -> Insn {
+pub(crate) fn constant(register: Register, imm: i32) -> Insn {
     Insn::Alu(Width::Bits64, Operation::Mov, register, Source::Imm(imm))
 }
 
-fn jump_at_null(offset: i16) -> Insn {
+pub(crate) fn jump_at_null(offset: i16) -> Insn {
     Insn::JumpIf(
         Width::Bits64,
         Condition::Equal,
@@ -326,42 +369,139 @@ fn jump_at_null(offset: i16) -> Insn {
     )
 }
 
-// A record is put, got, and deleted with a wrong address.
-#[test]
-fn procedures(rt: HostRuntime) -> Result<(), Fail> {
-    let put = [
-        Insn::Load(Size::Double, Register::R6, Register::R1, 8),
-        constant(Register::R1, 0),
+pub(crate) fn copy(dst: Register, src: Register) -> Insn {
+    Insn::Alu(Width::Bits64, Operation::Mov, dst, Source::Reg(src))
+}
+
+// Adds a constant.
+pub(crate) fn add(dst: Register, imm: i32) -> Insn {
+    Insn::Alu(Width::Bits64, Operation::Add, dst, Source::Imm(imm))
+}
+
+// Loads 8 bytes.
+pub(crate) fn load(dst: Register, base: Register, offset: i16) -> Insn {
+    Insn::Load(Size::Double, dst, base, offset)
+}
+
+// Stores 8 bytes.
+pub(crate) fn store(base: Register, offset: i16, src: Register) -> Insn {
+    Insn::Store(Size::Double, base, src, offset)
+}
+
+// On 8 bytes.
+pub(crate) fn atomic(
+    operation: AtomicOperation,
+    base: Register,
+    src: Register,
+    offset: i16,
+) -> Insn {
+    Insn::Atomic(Width::Bits64, operation, base, src, offset)
+}
+
+// A slot whose key is an argument.
+fn keyed(mode: Mode, argument: u8) -> Slot {
+    Slot {
+        mode,
+        dc: 0,
+        table: 0,
+        key: Key::Arg(argument),
+    }
+}
+
+// Inserts a record with a number.
+fn put() -> [Insn; 7] {
+    [
+        load(R6, R1, 8),
+        constant(R1, 0),
         Insn::Call(5),
-        Insn::Store(Size::Double, Register::R0, Register::R6, 0),
-        constant(Register::R1, 0),
+        store(R0, 0, R6),
+        constant(R1, 0),
         Insn::Call(2),
         Insn::Exit,
-    ];
-    let get = [
-        constant(Register::R1, 0),
+    ]
+}
+
+// Reads a record; ends with 1 where there is none.
+fn get() -> [Insn; 7] {
+    [
+        constant(R1, 0),
         Insn::Call(1),
         jump_at_null(2),
-        constant(Register::R0, 0),
+        constant(R0, 0),
         Insn::Exit,
-        constant(Register::R0, 1),
+        constant(R0, 1),
         Insn::Exit,
-    ];
-    let bad = [
-        constant(Register::R1, 0),
+    ]
+}
+
+// Updates a record, and ends with 5, so that it is undone.
+fn bad() -> [Insn; 10] {
+    [
+        constant(R1, 0),
         Insn::Call(1),
         jump_at_null(5),
-        Insn::StoreImm(Size::Double, Register::R0, 0, 7),
-        constant(Register::R1, 0),
+        Insn::StoreImm(Size::Double, R0, 0, 7),
+        constant(R1, 0),
         Insn::Call(3),
-        constant(Register::R0, 5),
+        constant(R0, 5),
         Insn::Exit,
-        constant(Register::R0, 1),
+        constant(R0, 1),
         Insn::Exit,
-    ];
-    assert!(rt; agree(rt.alloc(), &put, 2)?);
-    assert!(rt; agree(rt.alloc(), &put, 1)?);
-    assert!(rt; agree(rt.alloc(), &get, 1)?);
-    assert!(rt; agree(rt.alloc(), &bad, 1)?);
+    ]
+}
+
+// Moves an amount, the third argument, from one record to another.
+fn move_amount() -> [Insn; 22] {
+    [
+        load(R6, R1, 16),
+        constant(R1, 0),
+        Insn::Call(1),
+        jump_at_null(16),
+        copy(R7, R0),
+        constant(R1, 1),
+        Insn::Call(1),
+        jump_at_null(12),
+        copy(R8, R0),
+        load(R2, R7, 0),
+        Insn::Alu(Width::Bits64, Operation::Sub, R2, Source::Reg(R6)),
+        store(R7, 0, R2),
+        load(R2, R8, 0),
+        Insn::Alu(Width::Bits64, Operation::Add, R2, Source::Reg(R6)),
+        store(R8, 0, R2),
+        constant(R1, 0),
+        Insn::Call(3),
+        constant(R1, 1),
+        Insn::Call(3),
+        Insn::Exit,
+        constant(R0, 1),
+        Insn::Exit,
+    ]
+}
+
+#[test]
+fn procedures(rt: HostRuntime) -> Result<(), Fail> {
+    let written = Decl::new(2, &[keyed(Mode::Write, 0)])?;
+    assert!(rt; both_accept(rt.alloc(), &put(), written)?);
+    let read = Decl::new(1, &[keyed(Mode::Read, 0)])?;
+    assert!(rt; both_accept(rt.alloc(), &get(), read)?);
+    let updated = Decl::new(1, &[keyed(Mode::Write, 0)])?;
+    assert!(rt; both_accept(rt.alloc(), &bad(), updated)?);
+    let two = [keyed(Mode::Write, 0), keyed(Mode::Write, 1)];
+    assert!(rt; both_accept(rt.alloc(), &move_amount(), Decl::new(3, &two)?)?);
+    Ok(())
+}
+
+// Each of the four goes wrong where its declaration is turned in one place.
+#[test]
+fn procedures_of_other_declarations(rt: HostRuntime) -> Result<(), Fail> {
+    let fewer = Decl::new(1, &[keyed(Mode::Write, 0)])?;
+    assert!(rt; both_refuse(rt.alloc(), &put(), fewer, 0, Violation::OutOfBounds)?);
+    let none = Decl::new(1, &[])?;
+    assert!(rt; both_refuse(rt.alloc(), &get(), none, 1, Violation::SlotUnknown)?);
+    let read = Decl::new(1, &[keyed(Mode::Read, 0)])?;
+    assert!(rt; both_refuse(rt.alloc(), &bad(), read, 5, Violation::ModeTooWeak)?);
+    let one_read = [keyed(Mode::Write, 0), keyed(Mode::Read, 1)];
+    let weak = Decl::new(3, &one_read)?;
+    assert!(rt; both_refuse(rt.alloc(), &move_amount(), weak, 18, Violation::ModeTooWeak)?);
     Ok(())
 }
