@@ -175,12 +175,16 @@ class Trial:
 
 def refusal(said, crate, function):
     """Why the function isn't proved, apart from what it calls."""
-    for line in said.split("\n"):
-        head = re.match(rf"fn {crate}::(?:\w+::)*?{re.escape(function)}: (?!proved)(.*)", line)
-        if head:
-            why = CALLS.sub("", head[1]).removeprefix("no proof: ").removeprefix("not proved: ").strip("; ")
-            return why if why not in ("", "no proof", "not proved") else None
-    return None
+    head = re.search(rf"(?m)^fn {crate}::((?:\w+::)*?{re.escape(function)}): (?!proved)(.*)$", said)
+    if not head:
+        return None
+    why = CALLS.sub("", head[2]).removeprefix("no proof: ").strip("; ")
+    if why not in ("no proof", "not proved"):
+        return why or None
+    # (a proof by hand says it where it stands)
+    folder = head[1].replace("::", "/")
+    error = re.search(rf"(?m)^(?:\./)?(proofs/{re.escape(folder)}/\S+: error: .*)$", said)
+    return error and error[1]
 
 
 def tell(text):
