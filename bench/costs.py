@@ -1,5 +1,5 @@
 #!/usr/bin/env python3
-"""How the cost of locks, numbers, the log, a data component and transactions grows with what there is.
+"""How long a machine takes to start, and how the cost of locks, numbers, the log, a data component and transactions grows with what there is.
 
 usage: bench/costs.py
 
@@ -28,6 +28,8 @@ def each(what, held, times, scale, unit):
 
 
 def main():
+    for slots in (0, 2, 16):
+        each("starts", slots, 5_000_000, 1e9, "ns a machine's start and two instructions")
     for held in (10, 1_000, 10_000, 100_000):
         each("locks", held, 1_000_000, 1e6, "us a grant and a release")
     for held in (1, 100, 10_000, 100_000):

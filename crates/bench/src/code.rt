@@ -3,6 +3,7 @@
 ghost use Rattle.std.specs.Prelude.{◌≡◌, length, IfSome};
 
 use access_slots::decl::Decl;
+use access_slots::slot::{Key, Mode, Slot};
 use bpf_encoding::decode::decode;
 use interpreter::layout::Layout;
 use interpreter::machine::Machine;
@@ -54,14 +55,14 @@ pub fn read_workload(alloc: Global, line: &str) -> Option<Workload> {
     })
 }
 
-// Decodes and verifies code that takes so many arguments and declares no slots.
-fn load(alloc: Global, bytes: &[u8], args: &[u64]) -> Option<Verified>
+// Decodes and verifies code that takes so many arguments and declares these slots.
+fn load(alloc: Global, bytes: &[u8], args: &[u64], slots: &[Slot]) -> Option<Verified>
     ensures { IfSome result (λ v. length args.now ≡ v.decl.args) }
 {
     if args.len() > 8 {
         return None;
     }
-    let Ok(decl) = Decl::new(args.len() as u8, &[]) else {
+    let Ok(decl) = Decl::new(args.len() as u8, slots) else {
         return None;
     };
     let code = decode(alloc, bytes).ok()?;
@@ -86,12 +87,12 @@ impl Workload {
     /// Decodes and verifies it so many times, and then runs it so many times.
     pub fn repeat(&self, alloc: Global, loads: u64, runs: u64, done: &mut Done) -> Option<()> {
         let args = self.args.as_slice();
-        let Some(verified) = load(alloc, self.bytes.as_slice(), args) else {
+        let Some(verified) = load(alloc, self.bytes.as_slice(), args, &[]) else {
             done.refused = done.refused.wrapping_add(1);
             return Some(());
         };
         for _ in 0..loads {
-            let loaded = load(alloc, self.bytes.as_slice(), args)?;
+            let loaded = load(alloc, self.bytes.as_slice(), args, &[])?;
             done.slots = done.slots.wrapping_add(loaded.code().len() as u64);
         }
         for _ in 0..runs {
@@ -103,4 +104,30 @@ impl Workload {
         }
         Some(())
     }
+}
+
+// mov r0, 0; exit
+const TWO: &[u8] = &[0xb7, 0, 0, 0, 0, 0, 0, 0, 0x95, 0, 0, 0, 0, 0, 0, 0];
+
+/// Starts a machine for code of two instructions with so many declared slots, and runs it to its
+/// end, so many times. How many instructions were executed; `None` for more than 16 slots.
+pub fn repeat_starts(alloc: Global, slots: u64, times: u64) -> Option<u64> {
+    let mut declared = Vec::new(alloc);
+    for key in 0..slots {
+        declared
+            .push(Slot {
+                mode: Mode::Read,
+                dc: 0,
+                table: 0,
+                key: Key::Fixed(key),
+            })
+            .ok()?;
+    }
+    let verified = load(alloc, TWO, &[], declared.as_slice())?;
+    let mut executed: u64 = 0;
+    for _ in 0..times {
+        let (_, count) = run(&verified, &[])?;
+        executed = executed.wrapping_add(u64::from(count));
+    }
+    Some(executed)
 }

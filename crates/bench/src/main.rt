@@ -23,6 +23,7 @@ use storm::Weathered;
 
 const USAGE: &str = "usage:
   bench code LOADS RUNS < WORKLOADS    decodes and verifies each workload LOADS times, runs it RUNS times
+  bench starts SLOTS TIMES             starts a machine for code of two instructions and SLOTS slots, and runs it, TIMES
   bench locks HELD TIMES               HELD transactions hold a lock; one more takes and gives back TIMES
   bench numbers OPEN TIMES             OPEN numbers are open; one more is given out and answered TIMES
   bench log EVENTS TIMES               prints and reads a log of EVENTS events TIMES
@@ -76,6 +77,7 @@ fn line_of<R: Threads + Wait + Sync>(
     let (first, second) = (number(words, 2)?, number(words, 3)?);
     let count = match words.get(1)?.as_str() {
         "code" => return report(alloc, &run_all(alloc, text, first, second)?),
+        "starts" => code::repeat_starts(alloc, first, second)?,
         "locks" => locks::repeat(alloc, first, second)?,
         "numbers" => numbers::repeat(alloc, first, second)?,
         "log" => log::repeat(alloc, first, second)?,

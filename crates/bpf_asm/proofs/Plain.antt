@@ -260,5 +260,7 @@ pub line_stays : (name : List ℕ) (ts : List (List ℕ)) → is_solid name ≡ 
 line_stays [] ts solid others = absurd (false≢true solid)
 line_stays (x ∷ xs) ts solid others =
     let line : List ℕ = (x ∷ xs) ++ tail_text ts in
-    let last : (slice_index line (length line - 1) == 13) ≡ false = ap (λ (b : ℕ). b == 13) (ap (λ (k : ℕ). slice_index line k) (one_less x (xs ++ tail_text ts)) ∙ last_is 0 x (xs ++ tail_text ts)) ∙ not_return (last_or x (xs ++ tail_text ts)) (ends_line x xs ts (solid_all (x ∷ xs) solid) others) in
+    let last : (slice_index line (length line - 1) == 13) ≡ false = ap (λ (b : ℕ). b == 13)
+    (ap (λ (k : ℕ). slice_index line k) (one_less x (xs ++ tail_text ts)) ∙ last_is 0 x (xs ++ tail_text ts))
+    ∙ not_return (last_or x (xs ++ tail_text ts)) (ends_line x xs ts (solid_all (x ∷ xs) solid) others) in
     ap (λ (b : Bool). if b then take (length line - 1) line else line) last

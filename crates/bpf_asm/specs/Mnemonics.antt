@@ -148,7 +148,33 @@ operand_count Call = 1
 operand_count Exit = 0
 
 abbrev pub mnemonics : List Mnemonic
-mnemonics = (Alu Bits64 Add) ∷ (Alu Bits64 Sub) ∷ (Alu Bits64 Mul) ∷ (Alu Bits64 Div) ∷ (Alu Bits64 SignedDiv) ∷ (Alu Bits64 Or) ∷ (Alu Bits64 And) ∷ (Alu Bits64 LeftShift) ∷ (Alu Bits64 RightShift) ∷ (Alu Bits64 Mod) ∷ (Alu Bits64 SignedMod) ∷ (Alu Bits64 Xor) ∷ (Alu Bits64 Mov) ∷ (Alu Bits64 SignedRightShift) ∷ (Alu Bits32 Add) ∷ (Alu Bits32 Sub) ∷ (Alu Bits32 Mul) ∷ (Alu Bits32 Div) ∷ (Alu Bits32 SignedDiv) ∷ (Alu Bits32 Or) ∷ (Alu Bits32 And) ∷ (Alu Bits32 LeftShift) ∷ (Alu Bits32 RightShift) ∷ (Alu Bits32 Mod) ∷ (Alu Bits32 SignedMod) ∷ (Alu Bits32 Xor) ∷ (Alu Bits32 Mov) ∷ (Alu Bits32 SignedRightShift) ∷ (Negate Bits64) ∷ (Negate Bits32) ∷ (MoveSigned Byte64) ∷ (MoveSigned Half64) ∷ (MoveSigned Word64) ∷ (MoveSigned Byte32) ∷ (MoveSigned Half32) ∷ (Order Little Order16) ∷ (Order Little Order32) ∷ (Order Little Order64) ∷ (Order Big Order16) ∷ (Order Big Order32) ∷ (Order Big Order64) ∷ (Order Swap Order16) ∷ (Order Swap Order32) ∷ (Order Swap Order64) ∷ LoadWide ∷ Jump ∷ JumpLong ∷ (JumpIf Bits64 Equal) ∷ (JumpIf Bits64 Greater) ∷ (JumpIf Bits64 GreaterOrEqual) ∷ (JumpIf Bits64 AnyBit) ∷ (JumpIf Bits64 NotEqual) ∷ (JumpIf Bits64 SignedGreater) ∷ (JumpIf Bits64 SignedGreaterOrEqual) ∷ (JumpIf Bits64 Less) ∷ (JumpIf Bits64 LessOrEqual) ∷ (JumpIf Bits64 SignedLess) ∷ (JumpIf Bits64 SignedLessOrEqual) ∷ (JumpIf Bits32 Equal) ∷ (JumpIf Bits32 Greater) ∷ (JumpIf Bits32 GreaterOrEqual) ∷ (JumpIf Bits32 AnyBit) ∷ (JumpIf Bits32 NotEqual) ∷ (JumpIf Bits32 SignedGreater) ∷ (JumpIf Bits32 SignedGreaterOrEqual) ∷ (JumpIf Bits32 Less) ∷ (JumpIf Bits32 LessOrEqual) ∷ (JumpIf Bits32 SignedLess) ∷ (JumpIf Bits32 SignedLessOrEqual) ∷ (Load Byte) ∷ (Load Half) ∷ (Load Word) ∷ (Load Double) ∷ (LoadSigned SignedByte) ∷ (LoadSigned SignedHalf) ∷ (LoadSigned SignedWord) ∷ (StoreImm Byte) ∷ (StoreImm Half) ∷ (StoreImm Word) ∷ (StoreImm Double) ∷ (Store Byte) ∷ (Store Half) ∷ (Store Word) ∷ (Store Double) ∷ (Atomic Bits32 atomic.Add) ∷ (Atomic Bits32 atomic.Or) ∷ (Atomic Bits32 atomic.And) ∷ (Atomic Bits32 atomic.Xor) ∷ (Atomic Bits32 atomic.FetchAdd) ∷ (Atomic Bits32 atomic.FetchOr) ∷ (Atomic Bits32 atomic.FetchAnd) ∷ (Atomic Bits32 atomic.FetchXor) ∷ (Atomic Bits32 atomic.Exchange) ∷ (Atomic Bits32 atomic.CompareExchange) ∷ (Atomic Bits64 atomic.Add) ∷ (Atomic Bits64 atomic.Or) ∷ (Atomic Bits64 atomic.And) ∷ (Atomic Bits64 atomic.Xor) ∷ (Atomic Bits64 atomic.FetchAdd) ∷ (Atomic Bits64 atomic.FetchOr) ∷ (Atomic Bits64 atomic.FetchAnd) ∷ (Atomic Bits64 atomic.FetchXor) ∷ (Atomic Bits64 atomic.Exchange) ∷ (Atomic Bits64 atomic.CompareExchange) ∷ Call ∷ Exit ∷ []
+mnemonics = (Alu Bits64 Add) ∷ (Alu Bits64 Sub) ∷ (Alu Bits64 Mul) ∷ (Alu Bits64 Div) ∷ (Alu Bits64 SignedDiv) ∷
+    (Alu Bits64 Or) ∷ (Alu Bits64 And) ∷ (Alu Bits64 LeftShift) ∷ (Alu Bits64 RightShift) ∷ (Alu Bits64 Mod) ∷
+    (Alu Bits64 SignedMod) ∷ (Alu Bits64 Xor) ∷ (Alu Bits64 Mov) ∷ (Alu Bits64 SignedRightShift) ∷
+    (Alu Bits32 Add) ∷ (Alu Bits32 Sub) ∷ (Alu Bits32 Mul) ∷ (Alu Bits32 Div) ∷ (Alu Bits32 SignedDiv) ∷
+    (Alu Bits32 Or) ∷ (Alu Bits32 And) ∷ (Alu Bits32 LeftShift) ∷ (Alu Bits32 RightShift) ∷ (Alu Bits32 Mod) ∷
+    (Alu Bits32 SignedMod) ∷ (Alu Bits32 Xor) ∷ (Alu Bits32 Mov) ∷ (Alu Bits32 SignedRightShift) ∷
+    (Negate Bits64) ∷ (Negate Bits32) ∷ (MoveSigned Byte64) ∷ (MoveSigned Half64) ∷ (MoveSigned Word64) ∷
+    (MoveSigned Byte32) ∷ (MoveSigned Half32) ∷ (Order Little Order16) ∷ (Order Little Order32) ∷
+    (Order Little Order64) ∷ (Order Big Order16) ∷ (Order Big Order32) ∷ (Order Big Order64) ∷
+    (Order Swap Order16) ∷ (Order Swap Order32) ∷ (Order Swap Order64) ∷ LoadWide ∷ Jump ∷ JumpLong ∷
+    (JumpIf Bits64 Equal) ∷ (JumpIf Bits64 Greater) ∷ (JumpIf Bits64 GreaterOrEqual) ∷ (JumpIf Bits64 AnyBit) ∷
+    (JumpIf Bits64 NotEqual) ∷ (JumpIf Bits64 SignedGreater) ∷ (JumpIf Bits64 SignedGreaterOrEqual) ∷
+    (JumpIf Bits64 Less) ∷ (JumpIf Bits64 LessOrEqual) ∷ (JumpIf Bits64 SignedLess) ∷
+    (JumpIf Bits64 SignedLessOrEqual) ∷ (JumpIf Bits32 Equal) ∷ (JumpIf Bits32 Greater) ∷
+    (JumpIf Bits32 GreaterOrEqual) ∷ (JumpIf Bits32 AnyBit) ∷ (JumpIf Bits32 NotEqual) ∷
+    (JumpIf Bits32 SignedGreater) ∷ (JumpIf Bits32 SignedGreaterOrEqual) ∷ (JumpIf Bits32 Less) ∷
+    (JumpIf Bits32 LessOrEqual) ∷ (JumpIf Bits32 SignedLess) ∷ (JumpIf Bits32 SignedLessOrEqual) ∷ (Load Byte) ∷
+    (Load Half) ∷ (Load Word) ∷ (Load Double) ∷ (LoadSigned SignedByte) ∷ (LoadSigned SignedHalf) ∷
+    (LoadSigned SignedWord) ∷ (StoreImm Byte) ∷ (StoreImm Half) ∷ (StoreImm Word) ∷ (StoreImm Double) ∷
+    (Store Byte) ∷ (Store Half) ∷ (Store Word) ∷ (Store Double) ∷ (Atomic Bits32 atomic.Add) ∷
+    (Atomic Bits32 atomic.Or) ∷ (Atomic Bits32 atomic.And) ∷ (Atomic Bits32 atomic.Xor) ∷
+    (Atomic Bits32 atomic.FetchAdd) ∷ (Atomic Bits32 atomic.FetchOr) ∷ (Atomic Bits32 atomic.FetchAnd) ∷
+    (Atomic Bits32 atomic.FetchXor) ∷ (Atomic Bits32 atomic.Exchange) ∷ (Atomic Bits32 atomic.CompareExchange) ∷
+    (Atomic Bits64 atomic.Add) ∷ (Atomic Bits64 atomic.Or) ∷ (Atomic Bits64 atomic.And) ∷
+    (Atomic Bits64 atomic.Xor) ∷ (Atomic Bits64 atomic.FetchAdd) ∷ (Atomic Bits64 atomic.FetchOr) ∷
+    (Atomic Bits64 atomic.FetchAnd) ∷ (Atomic Bits64 atomic.FetchXor) ∷ (Atomic Bits64 atomic.Exchange) ∷
+    (Atomic Bits64 atomic.CompareExchange) ∷ Call ∷ Exit ∷ []
 
 abbrev pub mnemonic_said : List ℕ → Result Mnemonic LineFault
 mnemonic_said text = named mnemonic_name UnknownWord mnemonics text

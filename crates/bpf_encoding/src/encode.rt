@@ -1,7 +1,8 @@
 //! From code to bytes.
 
 ghost use Rattle.std.specs.Prelude.{◌≡◌, ◌<◌, ◌≤◌, ◌+◌, ◌*◌, pos, length, IfOk};
-ghost use Rattle.bpf_encoding.specs.Spelling.{number_of, fields, alu_class, jump_class, operation_code, operation_offset, extension_opcode, extension_bits, order_opcode, order_bits, condition_code, size_code, signed_size_code, atomic_opcode, atomic_imm, source_bit, source_register, source_imm, fields_of, place_fields, high_behind, fields_of_code};
+ghost use Rattle.bpf_encoding.specs.Spelling.{number_of, fields, alu_class, jump_class, operation_code, operation_offset, extension_opcode, extension_bits, order_opcode, order_bits, condition_code};
+ghost use Rattle.bpf_encoding.specs.Spelling.{size_code, signed_size_code, atomic_opcode, atomic_imm, source_bit, source_register, source_imm, fields_of, place_fields, high_behind, fields_of_code};
 ghost use Rattle.bpf_encoding.specs.Fields.{fields_of_bytes, slots_of};
 ghost use Rattle.bpf_encoding.specs.Joining.Viewed.{viewed};
 ghost use Rattle.bpf_encoding.specs.Spells.{Spells};

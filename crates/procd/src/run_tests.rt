@@ -1,4 +1,5 @@
-use crate::test_scripts::{BAD, GET, PUT, check_script, joined, script};
+use crate::test_scripts::{BAD, GET, PUT, joined, script};
+use crate::tests::check;
 use std::alloc::AllocError;
 use std::process::Abort;
 use std::rt::Files;
@@ -16,7 +17,7 @@ fn check_calls<R: Files + Clock + AllocGlobal + Threads + Wait + Abort + Sync>(
     status: u8,
 ) -> Result<(), AllocError> {
     let script = script(rt.alloc(), "dc 4 100\n", calls)?;
-    check_script(rt, words, script.as_str(), want, status);
+    check(rt, words, script.as_str(), want, status);
     Ok(())
 }
 
@@ -107,7 +108,7 @@ row 0/0/5 100
 fn every_answer(rt: HostRuntime) -> Result<(), Fail> {
     let words = ["procd", "run", "--workers", "1", "-"];
     let script = joined(rt.alloc(), &["dc 1 9\n", PUT, GET, BAD, EVERY_CALL])?;
-    check_script(&rt, &words, script.as_str(), EVERY_ANSWERED, 0);
+    check(&rt, &words, script.as_str(), EVERY_ANSWERED, 0);
     Ok(())
 }
 
@@ -145,13 +146,13 @@ fn too_many_tries(rt: HostRuntime) -> Result<(), Fail> {
 fn refused_procedure(rt: HostRuntime) {
     let script = "dc 1 1\nproc a 0\nexit\nend\ncall a\n";
     let want = "refused line 4 F7 Verify V5 EmptyRegister slot 0\n";
-    check_script(&rt, &RUN, script, want, 1);
+    check(&rt, &RUN, script, want, 1);
 }
 
 #[test]
 fn unknown_procedure(rt: HostRuntime) {
     let script = "dc 1 1\nproc a 0\nmov r0, 0\nexit\nend\ncall b\n";
-    check_script(&rt, &RUN, script, "refused line 6 F4 NameUnknown\n", 1);
+    check(&rt, &RUN, script, "refused line 6 F4 NameUnknown\n", 1);
 }
 
 #[test]
@@ -164,5 +165,5 @@ fn first_after_call(rt: HostRuntime) -> Result<(), Fail> {
 #[test]
 fn no_number(rt: HostRuntime) {
     let words = ["procd", "run", "--workers", "x", "-"];
-    check_script(&rt, &words, "dc 1 1\n", "", 2);
+    check(&rt, &words, "dc 1 1\n", "", 2);
 }

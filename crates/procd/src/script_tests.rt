@@ -1,5 +1,5 @@
-use crate::test_scripts::{BAD, GET, MOVE, check_script, joined, script};
-use crate::tests::run;
+use crate::test_scripts::{BAD, GET, MOVE, joined, script};
+use crate::tests::check;
 use std::test::Fail;
 
 const VERIFY: [&str; 3] = ["procd", "verify", "-"];
@@ -52,7 +52,7 @@ const VERIFIED: [(&str, &str, u8); 9] = [
 #[test]
 fn scripts(rt: HostRuntime) {
     for (script, want, status) in VERIFIED {
-        check_script(&rt, &VERIFY, script, want, status);
+        check(&rt, &VERIFY, script, want, status);
     }
 }
 
@@ -65,7 +65,7 @@ move accepted 22
 #[test]
 fn four_procedures(rt: HostRuntime) -> Result<(), Fail> {
     let script = script(rt.alloc(), "dc 4 100\n", "")?;
-    check_script(&rt, &VERIFY, script.as_str(), ACCEPTED, 0);
+    check(&rt, &VERIFY, script.as_str(), ACCEPTED, 0);
     Ok(())
 }
 
@@ -94,7 +94,7 @@ fn one_of_four_is_refused(rt: HostRuntime) -> Result<(), Fail> {
         rt.alloc(),
         &["dc 4 100\n", BEYOND_ITS_ARGUMENTS, GET, BAD, MOVE],
     )?;
-    check_script(&rt, &VERIFY, script.as_str(), REFUSED_AND_ACCEPTED, 1);
+    check(&rt, &VERIFY, script.as_str(), REFUSED_AND_ACCEPTED, 1);
     Ok(())
 }
 
@@ -179,10 +179,8 @@ const MISWRITTEN: [(&str, usize, &str); 42] = [
 #[test]
 fn miswritten_scripts(rt: HostRuntime) -> Result<(), Fail> {
     for (script, line, why) in MISWRITTEN {
-        let ended = run(&rt, &VERIFY, script.as_bytes());
         let want = format!(in rt.alloc(); "refused line {line} {why}\n")?;
-        assert_eq!(rt; ended.out.as_slice(), want.as_bytes(), "of {script}");
-        assert_eq!(rt; ended.status, 1, "of {script}");
+        check(&rt, &VERIFY, script, want.as_str(), 1);
     }
     Ok(())
 }
@@ -190,17 +188,16 @@ fn miswritten_scripts(rt: HostRuntime) -> Result<(), Fail> {
 // Code has 4096 slots, and not 4097.
 #[test]
 fn long_code(rt: HostRuntime) -> Result<(), Fail> {
-    for (count, want) in [
-        (4095, "a accepted 4096\n"),
-        (4096, "refused line 4099 F6 Asm A7 TooLong\n"),
+    for (count, want, status) in [
+        (4095, "a accepted 4096\n", 0),
+        (4096, "refused line 4099 F6 Asm A7 TooLong\n", 1),
     ] {
         let mut script = String::from_str(rt.alloc(), "dc 1 1\nproc a 0\n")?;
         for _ in 0..count {
             script.push_str("mov r0, 0\n")?;
         }
         script.push_str("exit\nend\n")?;
-        let ended = run(&rt, &VERIFY, script.as_bytes());
-        assert_eq!(rt; ended.out.as_slice(), want.as_bytes());
+        check(&rt, &VERIFY, script.as_str(), want, status);
     }
     Ok(())
 }
@@ -208,17 +205,16 @@ fn long_code(rt: HostRuntime) -> Result<(), Fail> {
 // 16 slots are declared, and not 17.
 #[test]
 fn many_slots(rt: HostRuntime) -> Result<(), Fail> {
-    for (count, want) in [
-        (16, "a accepted 2\n"),
-        (17, "refused line 22 F5 Decl S2 TooManySlots\n"),
+    for (count, want, status) in [
+        (16, "a accepted 2\n", 0),
+        (17, "refused line 22 F5 Decl S2 TooManySlots\n", 1),
     ] {
         let mut script = String::from_str(rt.alloc(), "dc 1 1\nproc a 0\n")?;
         for _ in 0..count {
             script.push_str("slot read 0 0 1\n")?;
         }
         script.push_str("mov r0, 0\nexit\nend\n")?;
-        let ended = run(&rt, &VERIFY, script.as_bytes());
-        assert_eq!(rt; ended.out.as_slice(), want.as_bytes());
+        check(&rt, &VERIFY, script.as_str(), want, status);
     }
     Ok(())
 }

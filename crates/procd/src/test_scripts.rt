@@ -1,12 +1,6 @@
-//! Procedures that the tests' scripts have, and how a script is tried.
+//! Procedures that the tests' scripts have.
 
-use crate::tests::run;
 use std::alloc::{AllocError, Global};
-use std::process::Abort;
-use std::rt::Files;
-use std::sync::Wait;
-use std::thread::Threads;
-use std::time::Clock;
 
 /// Inserts a record with a number.
 pub(crate) const PUT: &str = "proc put 2
@@ -91,17 +85,4 @@ pub(crate) fn joined(alloc: Global, parts: &[&str]) -> Result<String, AllocError
 /// A script of a data component, the four procedures and what stands behind them.
 pub(crate) fn script(alloc: Global, dc: &str, rest: &str) -> Result<String, AllocError> {
     joined(alloc, &[dc, PUT, GET, BAD, MOVE, rest])
-}
-
-/// Runs a script, and looks at what is printed and at the status.
-pub(crate) fn check_script<R: Files + Clock + AllocGlobal + Threads + Wait + Abort + Sync>(
-    rt: &R,
-    words: &[&str],
-    script: &str,
-    want: &str,
-    status: u8,
-) {
-    let ended = run(rt, words, script.as_bytes());
-    assert_eq!(rt; ended.out.as_slice(), want.as_bytes(), "of {script}");
-    assert_eq!(rt; ended.status, status, "of {script}");
 }

@@ -2,6 +2,7 @@ use crate::program::program;
 use std::alloc::{AllocError, Global};
 use std::io;
 use std::io::{Read, Write};
+use std::process::Abort;
 use std::rt::Files;
 use std::sync::Wait;
 use std::test::Fail;
@@ -10,13 +11,13 @@ use std::time::Clock;
 
 // What a run of the program wrote, and its status.
 #[derive(Drop)]
-pub(crate) struct Ended {
+struct Ended {
     pub out: Vec<u8>,
     pub err: Vec<u8>,
     pub status: u8,
 }
 
-pub(crate) fn run<R: Files + Clock + AllocGlobal + Threads + Wait + Sync>(
+fn run<R: Files + Clock + AllocGlobal + Threads + Wait + Sync>(
     rt: &R,
     words: &[&str],
     mut input: &[u8],
@@ -25,6 +26,33 @@ pub(crate) fn run<R: Files + Clock + AllocGlobal + Threads + Wait + Sync>(
     let mut err = Vec::new(rt.alloc());
     let status = program(rt, rt.alloc(), words, &mut input, &mut out, &mut err, None);
     Ended { out, err, status }
+}
+
+// Runs the program on a text, and looks at what is printed and at the status. Nothing is told on
+// standard error.
+pub(crate) fn check<R: Files + Clock + AllocGlobal + Threads + Wait + Abort + Sync>(
+    rt: &R,
+    words: &[&str],
+    text: &str,
+    want: &str,
+    status: u8,
+) {
+    let ended = run(rt, words, text.as_bytes());
+    assert_eq!(rt; ended.out.as_slice(), want.as_bytes(), "of {text}");
+    assert!(rt; ended.err.is_empty(), "of {text}");
+    assert_eq!(rt; ended.status, status, "of {text}");
+}
+
+// Runs the program on a text that it refuses.
+fn check_refusal<R: Files + Clock + AllocGlobal + Threads + Wait + Abort + Sync>(
+    rt: &R,
+    words: &[&str],
+    text: &str,
+    why: &str,
+) -> Result<(), AllocError> {
+    let want = format!(in rt.alloc(); "refused {why}\n")?;
+    check(rt, words, text, want.as_str(), 1);
+    Ok(())
 }
 
 const EXEC: [&str; 3] = ["procd", "exec", "-"];
@@ -96,14 +124,10 @@ const ANSWERS: [(&str, &str); 11] = [
 ];
 
 #[test]
-fn answers(rt: HostRuntime) -> Result<(), Fail> {
+fn answers(rt: HostRuntime) {
     for (text, want) in ANSWERS {
-        let ended = run(&rt, &EXEC, text.as_bytes());
-        assert_eq!(rt; ended.out.as_slice(), want.as_bytes(), "of {text}");
-        assert_eq!(rt; ended.status, 0);
-        assert!(rt; ended.err.is_empty());
+        check(&rt, &EXEC, text, want, 0);
     }
-    Ok(())
 }
 
 // Code, and why it is refused.
@@ -154,10 +178,7 @@ const REFUSALS: [(&str, &str); 29] = [
 #[test]
 fn refusals(rt: HostRuntime) -> Result<(), Fail> {
     for (text, want) in REFUSALS {
-        let want = format!(in rt.alloc(); "refused {want}\n")?;
-        let ended = run(&rt, &EXEC, text.as_bytes());
-        assert_eq!(rt; ended.out.as_slice(), want.as_bytes(), "of {text}");
-        assert_eq!(rt; ended.status, 1);
+        check_refusal(&rt, &EXEC, text, want)?;
     }
     Ok(())
 }
@@ -198,14 +219,45 @@ const ASM: [&str; 3] = ["procd", "asm", "-"];
 
 const DIS: [&str; 3] = ["procd", "dis", "-"];
 
+// A text's code in hex.
+fn assembled<R: Files + Clock + AllocGlobal + Threads + Wait + Abort + Sync>(
+    rt: &R,
+    text: &str,
+) -> Vec<u8> {
+    let Ended {
+        out,
+        err: _,
+        status,
+    } = run(rt, &ASM, text.as_bytes());
+    assert_eq!(rt; status, 0, "of {text}");
+    out
+}
+
+// What a text's code prints when it is run with these arguments.
+fn executed<R: Files + Clock + AllocGlobal + Threads + Wait + Abort + Sync>(
+    rt: &R,
+    text: &str,
+    args: &[&str],
+) -> Result<Vec<u8>, AllocError> {
+    let hex = assembled(rt, text);
+    let mut words = Vec::new(rt.alloc());
+    words.extend_from_slice(&EXEC)?;
+    words.extend_from_slice(args)?;
+    let Ended {
+        out,
+        err: _,
+        status: _,
+    } = run(rt, words.as_slice(), hex.as_slice());
+    Ok(out)
+}
+
 #[test]
-fn assembled_code(rt: HostRuntime) {
+fn assembled_code(rt: HostRuntime) -> Result<(), Fail> {
     for (text, want) in ASSEMBLED {
-        let hex = run(&rt, &ASM, text.as_bytes());
-        assert_eq!(rt; hex.status, 0, "of {text}");
-        let ended = run(&rt, &EXEC, hex.out.as_slice());
-        assert_eq!(rt; ended.out.as_slice(), want.as_bytes(), "of {text}");
+        let printed = executed(&rt, text, &[])?;
+        assert_eq!(rt; printed.as_slice(), want.as_bytes(), "of {text}");
     }
+    Ok(())
 }
 
 // Assembly text that uses memory, the arguments it is run with, and what is printed.
@@ -336,13 +388,8 @@ const WITH_MEMORY: [(&str, &[&str], &str); 25] = [
 #[test]
 fn memory(rt: HostRuntime) -> Result<(), Fail> {
     for (text, args, want) in WITH_MEMORY {
-        let hex = run(&rt, &ASM, text.as_bytes());
-        assert_eq!(rt; hex.status, 0, "of {text}");
-        let mut words = Vec::new(rt.alloc());
-        words.extend_from_slice(&EXEC)?;
-        words.extend_from_slice(args)?;
-        let ended = run(&rt, words.as_slice(), hex.out.as_slice());
-        assert_eq!(rt; ended.out.as_slice(), want.as_bytes(), "of {text}");
+        let printed = executed(&rt, text, args)?;
+        assert_eq!(rt; printed.as_slice(), want.as_bytes(), "of {text}");
     }
     Ok(())
 }
@@ -368,15 +415,13 @@ const SPELLED: [(&str, &str); 6] = [
 ];
 
 #[test]
-fn text_and_hex(rt: HostRuntime) {
+fn text_and_hex(rt: HostRuntime) -> Result<(), Fail> {
     for (text, hex) in SPELLED {
-        let assembled = run(&rt, &ASM, text.as_bytes());
-        assert_eq!(rt; assembled.out.as_slice(), hex.as_bytes(), "of {text}");
-        let shown = run(&rt, &DIS, hex.as_bytes());
-        assert!(rt; shown.out.starts_with(text.as_bytes()), "of {text}");
-        assert!(rt; shown.out.ends_with(b"\n"));
-        assert_eq!(rt; shown.out.len(), text.len() + 1);
+        check(&rt, &ASM, text, hex, 0);
+        let shown = format!(in rt.alloc(); "{text}\n")?;
+        check(&rt, &DIS, hex, shown.as_str(), 0);
     }
+    Ok(())
 }
 
 // Assembly text, and why it is refused.
@@ -408,10 +453,7 @@ const MISSPELLED: [(&str, &str); 22] = [
 #[test]
 fn misspelled_text(rt: HostRuntime) -> Result<(), Fail> {
     for (text, want) in MISSPELLED {
-        let want = format!(in rt.alloc(); "refused {want}\n")?;
-        let ended = run(&rt, &ASM, text.as_bytes());
-        assert_eq!(rt; ended.out.as_slice(), want.as_bytes(), "of {text}");
-        assert_eq!(rt; ended.status, 1);
+        check_refusal(&rt, &ASM, text, want)?;
     }
     Ok(())
 }
@@ -422,16 +464,10 @@ fn the_longest_text(rt: HostRuntime) -> Result<(), Fail> {
     for _ in 0..2048 {
         text.push_str("lddw r0, 1\n")?;
     }
-    let longest = run(&rt, &ASM, text.as_bytes());
-    assert_eq!(rt; longest.status, 0);
-    assert_eq!(rt; longest.out.len(), 4096 * 24);
+    let longest = assembled(&rt, text.as_str());
+    assert_eq!(rt; longest.len(), 4096 * 24);
     text.push_str("\nexit\n")?;
-    let ended = run(&rt, &ASM, text.as_bytes());
-    assert_eq!(rt;
-        ended.out.as_slice(),
-        b"refused A7 TooLong line 2050\n".as_slice()
-    );
-    assert_eq!(rt; ended.status, 1);
+    check_refusal(&rt, &ASM, text.as_str(), "A7 TooLong line 2050")?;
     Ok(())
 }
 
@@ -443,38 +479,39 @@ fn text_that_is_no_utf8(rt: HostRuntime) {
     assert_eq!(rt; ended.status, 3);
 }
 
+const RAW: [&str; 4] = ["procd", "exec", "--raw", "-"];
+
+// Runs code of these slots, and looks at what is printed and at the status.
+fn check_raw<R: Files + Clock + AllocGlobal + Threads + Wait + Abort + Sync>(
+    rt: &R,
+    slots: &[u64],
+    want: &str,
+    status: u8,
+) -> Result<(), AllocError> {
+    let code = bytes_of(rt.alloc(), slots)?;
+    let ended = run(rt, &RAW, code.as_slice());
+    assert_eq!(rt; ended.out.as_slice(), want.as_bytes());
+    assert_eq!(rt; ended.status, status);
+    Ok(())
+}
+
 #[test]
 fn the_longest_code(rt: HostRuntime) -> Result<(), Fail> {
-    let raw = ["procd", "exec", "--raw", "-"];
     let mut slots = Vec::new(rt.alloc());
     for _ in 0..4095 {
         slots.push(0xb7)?;
     }
     slots.push(0x95)?;
-    let ended = run(
-        &rt,
-        &raw,
-        bytes_of(rt.alloc(), slots.as_slice())?.as_slice(),
-    );
-    assert_eq!(rt;
-        ended.out.as_slice(),
-        b"answer 0\nexecuted 4096\n".as_slice()
-    );
+    check_raw(&rt, slots.as_slice(), "answer 0\nexecuted 4096\n", 0)?;
     slots.push(0x95)?;
-    let ended = run(
-        &rt,
-        &raw,
-        bytes_of(rt.alloc(), slots.as_slice())?.as_slice(),
-    );
-    assert_eq!(rt; ended.out.as_slice(), b"refused E3 TooLong\n".as_slice());
-    assert_eq!(rt; ended.status, 1);
+    check_raw(&rt, slots.as_slice(), "refused E3 TooLong\n", 1)?;
     Ok(())
 }
 
 // Too many arguments come behind what is wrong with the text and the code, and before what the
 // verifier says.
 #[test]
-fn arguments(rt: HostRuntime) -> Result<(), Fail> {
+fn arguments(rt: HostRuntime) {
     let nine = [
         "procd", "exec", "-", "1", "2", "3", "4", "5", "6", "7", "8", "9",
     ];
@@ -484,13 +521,10 @@ fn arguments(rt: HostRuntime) -> Result<(), Fail> {
         ("b700000000000000", "refused S1 TooManyArgs\n"),
     ];
     for (text, want) in cases {
-        let ended = run(&rt, &nine, text.as_bytes());
-        assert_eq!(rt; ended.out.as_slice(), want.as_bytes(), "of {text}");
-        assert_eq!(rt; ended.status, 1);
+        check(&rt, &nine, text, want, 1);
     }
-    let eight = run(&rt, &nine[..11], b"b700000000000000 9500000000000000");
-    assert_eq!(rt; eight.out.as_slice(), b"answer 0\nexecuted 2\n".as_slice());
-    Ok(())
+    let two = "b700000000000000 9500000000000000";
+    check(&rt, &nine[..11], two, "answer 0\nexecuted 2\n", 0);
 }
 
 #[test]
@@ -585,46 +619,61 @@ impl Write for Full {
 
 const TWO: &[u8] = b"b700000007000000 9500000000000000";
 
+// Looks at what a run whose reads fail after so many bytes wrote, and at its status.
+fn check_halting<R: Files + Clock + AllocGlobal + Threads + Wait + Abort + Sync>(
+    rt: &R,
+    left: usize,
+    want: &str,
+    told: &str,
+    status: u8,
+) {
+    let mut input = Halting {
+        rest: TWO,
+        left,
+        interrupted: false,
+    };
+    let mut out = Vec::new(rt.alloc());
+    let mut err = Vec::new(rt.alloc());
+    let ended = program(rt, rt.alloc(), &EXEC, &mut input, &mut out, &mut err, None);
+    assert_eq!(rt; out.as_slice(), want.as_bytes(), "after {left}");
+    assert_eq!(rt; err.as_slice(), told.as_bytes(), "after {left}");
+    assert_eq!(rt; ended, status, "after {left}");
+}
+
 #[test]
 fn reads_that_fail(rt: HostRuntime) {
-    // The last of these reads finds the end.
-    for left in 0..TWO.len() + 2 {
-        let mut input = Halting {
-            rest: TWO,
-            left,
-            interrupted: false,
-        };
-        let mut out = Vec::new(rt.alloc());
-        let mut err = Vec::new(rt.alloc());
-        let status = program(&rt, rt.alloc(), &EXEC, &mut input, &mut out, &mut err, None);
-        if left == TWO.len() + 1 {
-            assert_eq!(rt; out.as_slice(), b"answer 7\nexecuted 2\n".as_slice());
-            assert_eq!(rt; status, 0);
-        } else {
-            assert!(rt; out.is_empty());
-            assert_eq!(rt; err.as_slice(), b"cannot read -\n".as_slice());
-            assert_eq!(rt; status, 3);
-        }
+    // The last read finds the end.
+    for left in 0..TWO.len() + 1 {
+        check_halting(&rt, left, "", "cannot read -\n", 3);
     }
+    check_halting(&rt, TWO.len() + 1, "answer 7\nexecuted 2\n", "", 0);
+}
+
+// Looks at what a run whose writes fail after so many bytes wrote, and at its status.
+fn check_full<R: Files + Clock + AllocGlobal + Threads + Wait + Abort + Sync>(
+    rt: &R,
+    room: usize,
+    want: &[u8],
+    told: &str,
+    status: u8,
+) {
+    let mut out = Full {
+        taken: Vec::new(rt.alloc()),
+        room,
+    };
+    let mut err = Vec::new(rt.alloc());
+    let mut input = TWO;
+    let ended = program(rt, rt.alloc(), &EXEC, &mut input, &mut out, &mut err, None);
+    assert_eq!(rt; out.taken.as_slice(), want);
+    assert_eq!(rt; err.as_slice(), told.as_bytes());
+    assert_eq!(rt; ended, status);
 }
 
 #[test]
 fn writes_that_fail(rt: HostRuntime) {
     let want = b"answer 7\nexecuted 2\n".as_slice();
-    for room in 0..want.len() + 1 {
-        let mut out = Full {
-            taken: Vec::new(rt.alloc()),
-            room,
-        };
-        let mut err = Vec::new(rt.alloc());
-        let mut input = TWO;
-        let status = program(&rt, rt.alloc(), &EXEC, &mut input, &mut out, &mut err, None);
-        assert_eq!(rt; out.taken.as_slice(), &want[..room]);
-        if room == want.len() {
-            assert_eq!(rt; status, 0);
-        } else {
-            assert_eq!(rt; err.as_slice(), b"cannot write\n".as_slice());
-            assert_eq!(rt; status, 3);
-        }
+    for room in 0..want.len() {
+        check_full(&rt, room, &want[..room], "cannot write\n", 3);
     }
+    check_full(&rt, want.len(), want, "", 0);
 }

@@ -1,4 +1,5 @@
-use crate::test_scripts::{check_script, script};
+use crate::test_scripts::script;
+use crate::tests::check;
 use std::test::Fail;
 
 const WORLD: [&str; 3] = ["procd", "world", "-"];
@@ -274,7 +275,7 @@ row 0/0/6 1
 fn worlds(rt: HostRuntime) -> Result<(), Fail> {
     for (dc, steps, want, status) in WORLDS {
         let script = script(rt.alloc(), dc, steps)?;
-        check_script(&rt, &WORLD, script.as_str(), want, status);
+        check(&rt, &WORLD, script.as_str(), want, status);
     }
     Ok(())
 }
@@ -381,7 +382,7 @@ row 0/0/5 100
 fn logs(rt: HostRuntime) -> Result<(), Fail> {
     for (dc, steps, want, status) in LOGS {
         let script = script(rt.alloc(), dc, steps)?;
-        check_script(&rt, &LOGGED, script.as_str(), want, status);
+        check(&rt, &LOGGED, script.as_str(), want, status);
     }
     Ok(())
 }
@@ -407,7 +408,7 @@ end
 fn misplaced(rt: HostRuntime) -> Result<(), Fail> {
     for (rest, want) in MISPLACED {
         let script = script(rt.alloc(), "dc 4 100\n", rest)?;
-        check_script(&rt, &WORLD, script.as_str(), want, 1);
+        check(&rt, &WORLD, script.as_str(), want, 1);
     }
     Ok(())
 }
@@ -428,6 +429,6 @@ const REFUSED: [(&str, &str); 2] = [
 #[test]
 fn refused(rt: HostRuntime) {
     for (script, want) in REFUSED {
-        check_script(&rt, &WORLD, script, want, 1);
+        check(&rt, &WORLD, script, want, 1);
     }
 }

@@ -11,7 +11,8 @@ ghost use Rattle.register_kinds.specs.Joining.Effects.{result_by, ways_by};
 ghost use Rattle.register_kinds.specs.Computed.{source_kind, alu_kind};
 ghost use Rattle.register_kinds.specs.Access.{is_within, bounds, access};
 ghost use Rattle.register_kinds.specs.Calls.{is_helper, writes_by, suffices, answer_kind, called_at, called_slot};
-ghost use Rattle.register_kinds.specs.Transfer.{is_left_present, is_writable, written_kinds, alu_ways, converted_ways, filled_kinds, loaded_kinds, stored_kinds, stored_register_kinds, null_test, branch_ways, compared_ways, is_expected_present, received_ways, exchanged_ways, atomic_ways, called_ways, exit_ways, transfer_of};
+ghost use Rattle.register_kinds.specs.Transfer.{is_left_present, is_writable, written_kinds, alu_ways, converted_ways, filled_kinds, loaded_kinds, stored_kinds, stored_register_kinds};
+ghost use Rattle.register_kinds.specs.Transfer.{null_test, branch_ways, compared_ways, is_expected_present, received_ways, exchanged_ways, atomic_ways, called_ways, exit_ways, transfer_of};
 
 use crate::kind::{Kind, Violation};
 use crate::kinds::Kinds;

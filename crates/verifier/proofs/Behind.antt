@@ -139,7 +139,10 @@ pub record LeadsOn (code : List Place) (at to : ℕ) : Type 0 where
   pub insn : HasInsn code to
 
 not_nat_le : (a b : ℕ) (v : Violation) (o : Option Violation) → cond (leb a b) (Some v) o ≡ None → (b < a) × (o ≡ None)
-not_nat_le a b v o h = elim (cases_lt b a) [ inl lt ↦ (lt, (let f : leb a b ≡ false = grind (arith, nat_tests) in sym (ap (λ (t : Bool). cond t (Some v) o) f) ∙ h)) | inr le ↦ (let f : leb a b ≡ true = grind (arith, nat_tests) in let bad : Some v ≡ None = sym (ap (λ (t : Bool). cond t (Some v) o) f) ∙ h in absurd cc) ]
+not_nat_le a b v o h = elim (cases_lt b a) [
+  | inl lt ↦ (lt, (let f : leb a b ≡ false = grind (arith, nat_tests) in sym (ap (λ (t : Bool). cond t (Some v) o) f) ∙ h))
+  | inr le ↦ (let f : leb a b ≡ true = grind (arith, nat_tests) in let bad : Some v ≡ None = sym (ap (λ (t : Bool). cond t (Some v) o) f) ∙ h in absurd cc)
+]
 
 slot_insn : (code : List Place) (to : ℕ) (p : Option Place) (v : Violation) → slice_get code to ≡ p → to < length code
     → cond (is_second_slot p) (Some v) None ≡ None → HasInsn code to

@@ -19,4 +19,6 @@ returns-clause-ok c =
     let P : Fields → Type 0 = λ f. TakesSlot c.args.places.now.items (Some c.args.due) f c.push-2.new.self.items None in
     subst P blank
     (rw (c.in_ok-push-2.ensures.items, c.in_ok-push.ensures.items)
-    (takes_second c.args.places.now.items c.args.due c.wide_value-value.result c.args.slot.now.imm c.wide_value-value.ensures.low (c.wide_value-value.ensures.high ∙ ap (cast_unsigned w32) (to_z-of_z w32 c.args.slot.now.imm fits)) (c.wide_value-value.ensures.whole ∙ ap (λ (z : ℤ). wide_named c.args.due.low (cast_unsigned w32 z)) (to_z-of_z w32 c.args.slot.now.imm fits)) fits))
+    (takes_second c.args.places.now.items c.args.due c.wide_value-value.result c.args.slot.now.imm c.wide_value-value.ensures.low
+    (c.wide_value-value.ensures.high ∙ ap (cast_unsigned w32) (to_z-of_z w32 c.args.slot.now.imm fits))
+    (c.wide_value-value.ensures.whole ∙ ap (λ (z : ℤ). wide_named c.args.due.low (cast_unsigned w32 z)) (to_z-of_z w32 c.args.slot.now.imm fits)) fits))
