@@ -221,23 +221,29 @@ def try_all(crate, edits):
     return lost
 
 
-def in_turn(waiting, said, process, lanes):
-    """Tries the edits of each crate once it is proved; answers how many aren't refused, or weren't tried."""
-    running, failed = [], 0
+def has_room():
+    """Whether there is memory for one check more; the largest take 4 GB."""
+    with open("/proc/meminfo", encoding="ascii") as it:
+        return int(re.search(r"MemAvailable:\s+(\d+)", it.read())[1]) > 5_000_000
+
+
+def in_turn(waiting, said, process):
+    """Tries the edits of each crate once it is proved, of the highest crates first, since these take longest; answers
+    how many aren't refused, or weren't tried."""
+    running, failed, lanes = [], 0, len(os.sched_getaffinity(0))
     with ThreadPoolExecutor(lanes) as pool:
         while waiting:
             ended = process and not os.path.exists(f"/proc/{process}")
-            for crate, edits in list(waiting):
-                proved = True if not said else verdict_in(said, crate.name)
-                if proved:
-                    running.append(pool.submit(try_all, crate, edits))
-                elif proved is False or ended:
-                    tell(f"{crate.name}: not proved, so its {len(edits)} edits aren't tried")
-                    failed += len(edits)
-                else:
-                    continue
+            proved = {crate.name: verdict_in(said, crate.name) if said else True for crate, _ in waiting}
+            for crate, edits in [it for it in waiting if proved[it[0].name] is False or ended and not proved[it[0].name]]:
+                tell(f"{crate.name}: not proved, so its {len(edits)} edits aren't tried")
+                failed += len(edits)
                 waiting.remove((crate, edits))
-            time.sleep(1)
+            ready = [it for it in waiting if proved[it[0].name]]
+            if ready and sum(not it.done() for it in running) < lanes and (has_room() or all(it.done() for it in running)):
+                waiting.remove(ready[-1])
+                running.append(pool.submit(try_all, *ready[-1]))
+            time.sleep(2)
     return failed + sum(it.result() for it in running)
 
 
@@ -255,7 +261,7 @@ def main():
     crates = [it for it in rt.rtlib.crates_below(given.tree) if not given.names or it.name in given.names]
     found = [(crate, *edits_of(crate)) for crate in sorted(crates, key=lambda it: len(it.below()))]
     count = sum(len(edits) for _, edits, _ in found)
-    lost = in_turn([(crate, edits) for crate, edits, _ in found if edits], given.said, given.process, 2)
+    lost = in_turn([(crate, edits) for crate, edits, _ in found if edits], given.said, given.process)
     failed = lost + sum(faults for _, _, faults in found)
     print(f"{count - lost} refused, {failed} not")
     return 1 if failed else 0

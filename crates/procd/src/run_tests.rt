@@ -161,9 +161,3 @@ fn first_after_call(rt: HostRuntime) -> Result<(), Fail> {
     check_calls(&rt, &RUN, calls, "refused line 62 F9 Order\n", 1)?;
     Ok(())
 }
-
-#[test]
-fn no_number(rt: HostRuntime) {
-    let words = ["procd", "run", "--workers", "x", "-"];
-    check(&rt, &words, "dc 1 1\n", "", 2);
-}

@@ -529,12 +529,16 @@ fn arguments(rt: HostRuntime) {
 
 #[test]
 fn wrong_command_lines(rt: HostRuntime) -> Result<(), Fail> {
-    let cases: [(&[&str], &str); 4] = [
+    let cases: [(&[&str], &str); 5] = [
         (&["procd"], "error: a command is missing"),
         (&["procd", "dance"], "error: "),
         (&["procd", "exec"], "error: "),
         (
             &["procd", "exec", "-", "18446744073709551616"],
+            "error: an ARG or N is no number of 64 bits in decimal",
+        ),
+        (
+            &["procd", "run", "--workers", "x", "-"],
             "error: an ARG or N is no number of 64 bits in decimal",
         ),
     ];
