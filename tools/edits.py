@@ -126,6 +126,7 @@ class Trial:
         self.crate, self.kept = crate, kept
 
     def check(self, texts, *only):
+        wait_for_room()
         words = [it for name in only for it in ("--only", name)]
         return rt.checked(self.crate, texts, ["--jobs", "1", *words], self.kept)
 
@@ -167,6 +168,7 @@ class Trial:
         return sum(not self.alone(it, None) for it in lost)
 
     def alone(self, edit, kept):
+        wait_for_room()
         well, text = rt.must_fail(self.crate, edit.path, ["--jobs", "1"], kept)
         if well or not kept:
             tell(text)
@@ -221,10 +223,17 @@ def try_all(crate, edits):
     return lost
 
 
-def has_room():
-    """Whether there is memory for one check more; the largest take 4 GB."""
+def wait_for_room():
+    """Waits, ten minutes at most, for memory for one check more beside those of `rt ci`, each of which may take 4 GB."""
+    for _ in range(200):
+        if available() > 5_000_000:
+            return
+        time.sleep(3)
+
+
+def available():
     with open("/proc/meminfo", encoding="ascii") as it:
-        return int(re.search(r"MemAvailable:\s+(\d+)", it.read())[1]) > 5_000_000
+        return int(re.search(r"MemAvailable:\s+(\d+)", it.read())[1])
 
 
 def in_turn(waiting, said, process):
@@ -240,7 +249,7 @@ def in_turn(waiting, said, process):
                 failed += len(edits)
                 waiting.remove((crate, edits))
             ready = [it for it in waiting if proved[it[0].name]]
-            if ready and sum(not it.done() for it in running) < lanes and (has_room() or all(it.done() for it in running)):
+            if ready and sum(not it.done() for it in running) < lanes:
                 waiting.remove(ready[-1])
                 running.append(pool.submit(try_all, *ready[-1]))
             time.sleep(2)
