@@ -28,7 +28,7 @@ pub enum VerifyFault {
 
 /// Code that never goes wrong, with its declaration. Only [`verify`] makes one: a value of this
 /// type is the evidence. It keeps the code that was handed in, 24 bytes a slot, and beside it the
-/// form in which it is run, 16 bytes a slot.
+/// form in which it is run, 12 bytes a slot.
 #[derive(Drop)]
 pub struct Verified {
     code: Code,
