@@ -28,7 +28,7 @@ HERE = os.path.dirname(os.path.realpath(__file__))
 REPOSITORY = os.path.dirname(HERE)
 FN = re.compile(r"^( *)(?:pub(?:\([a-z]+\))? )?(?:const )?fn (\w+)")
 IMPL = re.compile(r"^impl(?:<[^{]*?>)? (\w+)(?:<[^{]*>)?(?: where.*)? \{$")
-CALLS = re.compile(r"(?:; )?it calls `[^`]*`(?:, `[^`]*`)*(?: and `[^`]*`)?, which (?:is|are) not proved")
+CALLS = re.compile(r"(?:; )?it calls [^;]*?, which (?:is|are) not proved")
 
 
 def load_rt():
