@@ -36,19 +36,32 @@ pub enum Said {
 }
 
 /// An operation on its way to a data component, under its number, and the low-water mark: all
-/// numbers up to it were answered (Lomet, Fekete, Weikum, Zwilling, CIDR 2009).
+/// numbers up to it were answered (Lomet, Fekete, Weikum, Zwilling, CIDR 2009). It is for one
+/// incarnation of the data component; another is silent to it.
 #[derive(Clone, Copy, Debug, PartialEq, Eq)]
 pub struct Wire {
     pub number: u64,
     pub low_water: u64,
+    pub incarnation: u64,
+    /// Whether it redoes an operation that was answered before and may be lost.
+    pub redo: bool,
     pub op: Op,
 }
 
-/// What a data component says to a number.
+/// What a data component says to a number, and which of its incarnations says it.
 #[derive(Clone, Copy, Debug, PartialEq, Eq)]
 pub struct Reply {
     pub number: u64,
+    pub incarnation: u64,
     pub said: Said,
+}
+
+/// What a data component tells of its restart: its new incarnation, and the low-water mark that its
+/// last checkpoint kept. What it performed above that mark may be lost.
+#[derive(Clone, Copy, Debug, PartialEq, Eq)]
+pub struct News {
+    pub incarnation: u64,
+    pub mark: u64,
 }
 
 /// Whether the answer can be one to the operation. Old is none to any.

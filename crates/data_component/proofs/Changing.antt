@@ -25,99 +25,92 @@ unchanged true o = refl
 unchanged false o = refl
 
 -- an operation that leaves the rows as they are
-stays : (limit : ℕ) (rows : Rows) (o : Op) (said : Said)
-    → said ≡ said_to limit (length rows) (row_of rows (target o)) o
+stays : (has_room : Bool) (rows : Rows) (o : Op) (said : Said)
+    → said ≡ said_to has_room (row_of rows (target o)) o
     → ((was : Option (List ℕ)) → left o said was ≡ was) → counted o said (length rows) ≡ length rows → SortedRows rows
-    → Performs limit rows rows o said
-stays limit rows o said is same many sorted = record {
+    → Performs has_room rows rows o said
+stays has_room rows o said is same many sorted = record {
   answer = is;
   values = λ r. unchanged (record_eq (target o) r) (row_of rows r) ∙ ap (λ (w : Option (List ℕ)). if record_eq (target o) r then w else row_of rows r) (sym (same (row_of rows r)));
   count = sym many;
   sorted = sorted;
-  fits = λ few. few;
 }
 
-pub read_found : (limit : ℕ) (rows : Rows) (r : Record) (v : List ℕ) → row_of rows r ≡ Some v → SortedRows rows
-    → Performs limit rows rows (Read r) (Value v)
-read_found limit rows r v is sorted = stays limit rows (Read r) (Value v) (ap said_to_read (sym is)) (λ was. refl) refl sorted
+pub read_found : (has_room : Bool) (rows : Rows) (r : Record) (v : List ℕ) → row_of rows r ≡ Some v → SortedRows rows
+    → Performs has_room rows rows (Read r) (Value v)
+read_found has_room rows r v is sorted = stays has_room rows (Read r) (Value v) (ap said_to_read (sym is)) (λ was. refl) refl sorted
 
-pub read_absent : (limit : ℕ) (rows : Rows) (r : Record) → row_of rows r ≡ None → SortedRows rows → Performs limit rows rows (Read r) Absent
-read_absent limit rows r is sorted = stays limit rows (Read r) Absent (ap said_to_read (sym is)) (λ was. refl) refl sorted
+pub read_absent : (has_room : Bool) (rows : Rows) (r : Record) → row_of rows r ≡ None → SortedRows rows → Performs has_room rows rows (Read r) Absent
+read_absent has_room rows r is sorted = stays has_room rows (Read r) Absent (ap said_to_read (sym is)) (λ was. refl) refl sorted
 
-pub insert_duplicate : (limit : ℕ) (rows : Rows) (r : Record) (v : List ℕ) (i : ℕ) → IsFoundAt rows r i
-    → SortedRows rows → Performs limit rows rows (Insert r v) Duplicate
-insert_duplicate limit rows r v i at sorted = stays limit rows (Insert r v) Duplicate (ap (λ (o : Option (List ℕ)). said_to_insert o (nat_lt (length rows) limit)) (sym (at.value (r, v)))) (λ was. refl) refl sorted
+pub insert_duplicate : (has_room : Bool) (rows : Rows) (r : Record) (v : List ℕ) (i : ℕ) → IsFoundAt rows r i
+    → SortedRows rows → Performs has_room rows rows (Insert r v) Duplicate
+insert_duplicate has_room rows r v i at sorted = stays has_room rows (Insert r v) Duplicate (ap (λ (o : Option (List ℕ)). said_to_insert o has_room) (sym (at.value (r, v)))) (λ was. refl) refl sorted
 
-no_room : (n limit : ℕ) → limit ≤ n → nat_lt n limit ≡ false
-no_room n limit full = grind (arith, nat_tests)
+pub insert_no_room : (has_room : Bool) (rows : Rows) (r : Record) (v : List ℕ) (i : ℕ) → IsMissingAt rows r i
+    → has_room ≡ false → SortedRows rows → Performs has_room rows rows (Insert r v) NoRoom
+insert_no_room has_room rows r v i at full sorted = stays has_room rows (Insert r v) NoRoom (ap₂ (λ (o : Option (List ℕ)) (b : Bool). said_to_insert o b) (sym at.missing) (sym full)) (λ was. refl) refl sorted
 
-pub insert_no_room : (limit : ℕ) (rows : Rows) (r : Record) (v : List ℕ) (i : ℕ) → IsMissingAt rows r i
-    → limit ≤ length rows → SortedRows rows → Performs limit rows rows (Insert r v) NoRoom
-insert_no_room limit rows r v i at full sorted = stays limit rows (Insert r v) NoRoom (ap₂ (λ (o : Option (List ℕ)) (b : Bool). said_to_insert o b) (sym at.missing) (sym (no_room (length rows) limit full))) (λ was. refl) refl sorted
+pub update_missing : (has_room : Bool) (rows : Rows) (r : Record) (v : List ℕ) (i : ℕ) → IsMissingAt rows r i
+    → SortedRows rows → Performs has_room rows rows (Update r v) Missing
+update_missing has_room rows r v i at sorted = stays has_room rows (Update r v) Missing (ap said_to_change (sym at.missing)) (λ was. refl) refl sorted
 
-pub update_missing : (limit : ℕ) (rows : Rows) (r : Record) (v : List ℕ) (i : ℕ) → IsMissingAt rows r i
-    → SortedRows rows → Performs limit rows rows (Update r v) Missing
-update_missing limit rows r v i at sorted = stays limit rows (Update r v) Missing (ap said_to_change (sym at.missing)) (λ was. refl) refl sorted
+pub delete_missing : (has_room : Bool) (rows : Rows) (r : Record) (i : ℕ) → IsMissingAt rows r i → SortedRows rows
+    → Performs has_room rows rows (Delete r) Missing
+delete_missing has_room rows r i at sorted = stays has_room rows (Delete r) Missing (ap said_to_change (sym at.missing)) (λ was. refl) refl sorted
 
-pub delete_missing : (limit : ℕ) (rows : Rows) (r : Record) (i : ℕ) → IsMissingAt rows r i → SortedRows rows
-    → Performs limit rows rows (Delete r) Missing
-delete_missing limit rows r i at sorted = stays limit rows (Delete r) Missing (ap said_to_change (sym at.missing)) (λ was. refl) refl sorted
-
-inserted : (limit : ℕ) (rows : Rows) (r : Record) (v : List ℕ) → row_of rows r ≡ None → length rows < limit → SortedRows rows
-    → Performs limit rows (insert rows (row_place rows r) (r, v)) (Insert r v) (Done None)
-inserted limit rows r v is room sorted = record {
-  answer = ap₂ (λ (o : Option (List ℕ)) (b : Bool). said_to_insert o b) (sym is) (sym (lt-ltb (length rows) limit room));
+inserted : (has_room : Bool) (rows : Rows) (r : Record) (v : List ℕ) → row_of rows r ≡ None → has_room ≡ true → SortedRows rows
+    → Performs has_room rows (insert rows (row_place rows r) (r, v)) (Insert r v) (Done None)
+inserted has_room rows r v is room sorted = record {
+  answer = ap₂ (λ (o : Option (List ℕ)) (b : Bool). said_to_insert o b) (sym is) (sym room);
   values = λ q. find_inserted record_eq record_less records r q v rows;
   count = length_inserted rows (row_place rows r) (r, v);
   sorted = sorted_inserted record_eq record_less records r v rows is sorted;
-  fits = λ few. omega (arith, length_inserted rows (row_place rows r) (r, v), room);
 }
 
-pub insert_done : (limit : ℕ) (rows new : Rows) (r : Record) (v : List ℕ) (i : ℕ) → IsMissingAt rows r i
-    → length rows < limit → SortedRows rows → new ≡ insert rows i (r, v)
-    → Performs limit rows new (Insert r v) (Done None)
-insert_done limit rows new r v i at room sorted is =
-    subst (λ (xs : Rows). Performs limit rows xs (Insert r v) (Done None)) (sym (is ∙ ap (λ (j : ℕ). insert rows j (r, v)) at.is)) (inserted limit rows r v at.missing room sorted)
+pub insert_done : (has_room : Bool) (rows new : Rows) (r : Record) (v : List ℕ) (i : ℕ) → IsMissingAt rows r i
+    → has_room ≡ true → SortedRows rows → new ≡ insert rows i (r, v)
+    → Performs has_room rows new (Insert r v) (Done None)
+insert_done has_room rows new r v i at room sorted is =
+    subst (λ (xs : Rows). Performs has_room rows xs (Insert r v) (Done None)) (sym (is ∙ ap (λ (j : ℕ). insert rows j (r, v)) at.is)) (inserted has_room rows r v at.missing room sorted)
 
-changed : (limit : ℕ) (rows : Rows) (r : Record) (v w : List ℕ) → row_of rows r ≡ Some w → SortedRows rows
-    → Performs limit rows (slice_set rows (row_place rows r) (r, v)) (Update r v) (Done (Some w))
-changed limit rows r v w is sorted = record {
+changed : (has_room : Bool) (rows : Rows) (r : Record) (v w : List ℕ) → row_of rows r ≡ Some w → SortedRows rows
+    → Performs has_room rows (slice_set rows (row_place rows r) (r, v)) (Update r v) (Done (Some w))
+changed has_room rows r v w is sorted = record {
   answer = ap said_to_change (sym is);
   values = λ q. find_set record_eq record_less records r q v w rows is sorted;
   count = length-set rows (row_place rows r) (r, v);
   sorted = sorted_set record_eq record_less records r v w rows is sorted;
-  fits = λ few. omega (arith, few, length-set rows (row_place rows r) (r, v));
 }
 
-pub update_done : (limit : ℕ) (rows new : Rows) (r : Record) (v w : List ℕ) (i : ℕ) (d : Record × List ℕ)
+pub update_done : (has_room : Bool) (rows new : Rows) (r : Record) (v w : List ℕ) (i : ℕ) (d : Record × List ℕ)
     → IsFoundAt rows r i → SortedRows rows → w ≡ (slice_index_or rows i d).1 → new ≡ slice_set rows i (r, v)
-    → Performs limit rows new (Update r v) (Done (Some w))
-update_done limit rows new r v w i d at sorted former is =
-    subst (λ (xs : Rows). Performs limit rows xs (Update r v) (Done (Some w))) (sym (is ∙ ap (λ (j : ℕ). slice_set rows j (r, v)) at.is))
-    (changed limit rows r v w (at.value d ∙ ap Some (sym former)) sorted)
+    → Performs has_room rows new (Update r v) (Done (Some w))
+update_done has_room rows new r v w i d at sorted former is =
+    subst (λ (xs : Rows). Performs has_room rows xs (Update r v) (Done (Some w))) (sym (is ∙ ap (λ (j : ℕ). slice_set rows j (r, v)) at.is))
+    (changed has_room rows r v w (at.value d ∙ ap Some (sym former)) sorted)
 
 length_removed : (rows : Rows) (i : ℕ) → i < length rows → length (remove rows i) ≡ length rows - 1
 length_removed [] i inside = absurd (omega (arith, inside))
 length_removed (x ∷ rows) zero inside = omega arith
 length_removed (x ∷ rows) (suc i) inside = omega (arith, inside, length_removed rows i (omega (arith, inside)))
 
-removed : (limit : ℕ) (rows : Rows) (r : Record) (w : List ℕ) → row_of rows r ≡ Some w → row_place rows r < length rows → SortedRows rows
-    → Performs limit rows (remove rows (row_place rows r)) (Delete r) (Done (Some w))
-removed limit rows r w is inside sorted = record {
+removed : (has_room : Bool) (rows : Rows) (r : Record) (w : List ℕ) → row_of rows r ≡ Some w → row_place rows r < length rows → SortedRows rows
+    → Performs has_room rows (remove rows (row_place rows r)) (Delete r) (Done (Some w))
+removed has_room rows r w is inside sorted = record {
   answer = ap said_to_change (sym is);
   values = λ q. find_removed record_eq record_less records r q w rows is sorted;
   count = length_removed rows (row_place rows r) inside;
   sorted = sorted_removed record_eq record_less records r w rows is sorted;
-  fits = λ few. omega (arith, few, length_removed rows (row_place rows r) inside);
 }
 
-pub delete_done : (limit : ℕ) (rows new : Rows) (r : Record) (row : Record × List ℕ) (i : ℕ) → IsFoundAt rows r i
+pub delete_done : (has_room : Bool) (rows new : Rows) (r : Record) (row : Record × List ℕ) (i : ℕ) → IsFoundAt rows r i
     → SortedRows rows → row ≡ slice_index_or rows i row → new ≡ remove rows i
-    → Performs limit rows new (Delete r) (Done (Some row.1))
-delete_done limit rows new r row i at sorted former is =
+    → Performs has_room rows new (Delete r) (Done (Some row.1))
+delete_done has_room rows new r row i at sorted former is =
     let found : row_of rows r ≡ Some row.1 = at.value row ∙ ap (λ (x : Record × List ℕ). Some x.1) (sym former) in
-    subst (λ (xs : Rows). Performs limit rows xs (Delete r) (Done (Some row.1))) (sym (is ∙ ap (λ (j : ℕ). remove rows j) at.is))
-    (removed limit rows r row.1 found (subst (λ (j : ℕ). j < length rows) at.is at.inside) sorted)
+    subst (λ (xs : Rows). Performs has_room rows xs (Delete r) (Done (Some row.1))) (sym (is ∙ ap (λ (j : ℕ). remove rows j) at.is))
+    (removed has_room rows r row.1 found (subst (λ (j : ℕ). j < length rows) at.is at.inside) sorted)
 
 -- ---- what stands at a record's place
 

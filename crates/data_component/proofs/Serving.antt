@@ -1,16 +1,19 @@
 -- What a data component keeps, one operation after another.
 use Rattle.std.proofs.Common.{arith, ◌≡◌, ℕ, zero, suc, ◌+◌, ◌<◌, ◌≤◌, nat_lt, Bool, true, false, if◌then◌else◌, List}
 use Rattle.std.proofs.Common.{[], ◌∷◌, ◌++◌, length, take, drop, sym, refl, ap, ap₂, subst, ◌∙◌}
-use Rattle.std.specs.Prelude.{Option, Some, None, slice_get, slice_index_or, ◌==◌, reverse}
+use Rattle.std.specs.Prelude.{Option, Some, None, slice_get, slice_index_or, ◌==◌, ◌||◌, not, reverse}
 use Rattle.std.specs.List.{insert}
 use Rattle.std.proofs.lemmas.Bool.{cond-true, cond-false}
 use Rattle.std.proofs.lemmas.Bool.Decides.{nat_tests}
 use Rattle.std.proofs.lemmas.Grind.{take_at_read}
-use Rattle.std.proofs.lemmas.List.{length-append, length-take-le, reverse-append, take-append-drop}
+use Rattle.std.proofs.lemmas.List.{length-append, length-take-le, length-reverse, reverse-append, take-append-drop}
+use Rattle.access_slots.specs.Access.{is_no_room}
 use Rattle.access_slots.specs.declared.op.Op.{Op}
+use Rattle.access_slots.specs.declared.op.Op.TheVariants.{Read, Insert, Update, Delete}
 use Rattle.access_slots.specs.declared.op.Said.{Said}
+use Rattle.access_slots.specs.declared.op.Said.TheVariants.{Value, Absent, Done, Duplicate, Missing, NoRoom, Old}
 use Rattle.access_slots.specs.Locks.{record_eq, target}
-use Rattle.data_component.specs.Performed.{Performed, left, counted, said_to, count, answer, said_under, IsRight}
+use Rattle.data_component.specs.Performed.{Performed, RecordValue, left, value_of, counted, said_to, count, answer, has_room, said_under, IsAnswerBehind, IsRight}
 use Rattle.data_component.specs.Sorted.{Rows, Kept, place_of, kept_place}
 use Rattle.data_component.specs.Joining.Performing.{Performs}
 use Rattle.data_component.specs.Keeping.{AreRowsOf, AreKept, AllBelow, Keeps, said_by, said_in}
@@ -20,17 +23,54 @@ use Rattle.data_component.proofs.Orders.{numbers, number_eq}
 -- ---- rows
 
 -- what is said to an operation is what the list gives
-pub says : (limit : ℕ) (table new : Rows) (list : List Performed) (o : Op) (said : Said) → AreRowsOf table list
-    → Performs limit table new o said → said ≡ answer limit list o
-says limit table new list o said rows does = does.answer ∙ ap₂ (λ (n : ℕ) (v : Option (List ℕ)). said_to limit n v o) rows.count (rows.values (target o))
+pub says : (room : Bool) (table new : Rows) (list : List Performed) (o : Op) (said : Said) → AreRowsOf table list
+    → Performs room table new o said → said ≡ answer room list o
+says room table new list o said rows does = does.answer ∙ ap (λ (v : Option (List ℕ)). said_to room v o) (rows.values (target o))
 
-pub more_rows : (limit : ℕ) (table new : Rows) (list : List Performed) (n : ℕ) (o : Op) (said : Said)
-    → AreRowsOf table list → Performs limit table new o said → AreRowsOf new ((n, o, said) ∷ list)
-more_rows limit table new list n o said rows does = record {
+-- as long as fewer than the limit are present, and for one that is redone
+pub says_within : (limit : ℕ) (redo room : Bool) (table new : Rows) (list : List Performed) (o : Op) (said : Said) → AreRowsOf table list
+    → room ≡ (redo || nat_lt (length table) limit) → Performs room table new o said → said ≡ answer (has_room limit redo list) list o
+says_within limit redo room table new list o said rows is does =
+    says room table new list o said rows does
+    ∙ ap (λ (b : Bool). answer b list o) (is ∙ ap (λ (n : ℕ). redo || nat_lt n limit) rows.count)
+
+pub more_rows : (room : Bool) (table new : Rows) (list : List Performed) (n : ℕ) (o : Op) (said : Said)
+    → AreRowsOf table list → Performs room table new o said → AreRowsOf new ((n, o, said) ∷ list)
+more_rows room table new list n o said rows does = record {
   sorted = does.sorted;
   values = λ r. does.values r ∙ ap (λ (v : Option (List ℕ)). if record_eq (target o) r then left o said v else v) (rows.values r);
   count = does.count ∙ ap (counted o said) rows.count;
 }
+
+-- an operation adds at most one record
+counted_few : (o : Op) (said : Said) (n : ℕ) → counted o said n ≤ n + 1
+counted_few (Read r) said n = omega arith
+counted_few (Insert r v) (Value w) n = omega arith
+counted_few (Insert r v) Absent n = omega arith
+counted_few (Insert r v) (Done former) n = omega arith
+counted_few (Insert r v) Duplicate n = omega arith
+counted_few (Insert r v) Missing n = omega arith
+counted_few (Insert r v) NoRoom n = omega arith
+counted_few (Insert r v) Old n = omega arith
+counted_few (Update r v) said n = omega arith
+counted_few (Delete r) (Value w) n = omega arith
+counted_few (Delete r) Absent n = omega arith
+counted_few (Delete r) (Done former) n = omega arith
+counted_few (Delete r) Duplicate n = omega arith
+counted_few (Delete r) Missing n = omega arith
+counted_few (Delete r) NoRoom n = omega arith
+counted_few (Delete r) Old n = omega arith
+
+-- so there are at most as many records as operations
+count_few : (list : List Performed) → count list ≤ length list
+count_few [] = omega arith
+count_few (e ∷ list) = omega (arith, counted_few e.1 e.2 (count list), count_few list)
+
+pub few_rows : (table : Rows) (performed : List Performed) → AreRowsOf table (reverse performed) → length table ≤ length performed
+few_rows table performed rows = omega (arith, rows.count, count_few (reverse performed), length-reverse performed)
+
+pub few_behind : (table : Rows) (performed : List Performed) (k : ℕ) → k ≤ length performed → AreRowsOf table (reverse (take k performed)) → length table ≤ k
+few_behind table performed k inside rows = omega (arith, few_rows table (take k performed) rows, length-take-le k performed inside)
 
 -- ---- places
 
@@ -128,18 +168,17 @@ same_kept kept mark performed e are low = record {
 pub higher_mark : (kept : Kept) (mark high : ℕ) (performed : List Performed) → mark ≤ high → AreKept kept mark performed → AreKept kept high performed
 higher_mark kept mark high performed up are = record { sorted = are.sorted; within = are.within; few = are.few; found = λ n above. are.found n (omega (arith, up, above)) }
 
-pub keeps_more : (table new : Rows) (performed : List Performed) (kept : Kept) (mark limit ops n : ℕ) (o : Op) (said : Said)
+pub keeps_more : (redo room : Bool) (table new : Rows) (performed : List Performed) (kept : Kept) (mark limit ops n : ℕ) (o : Op) (said : Said)
     → Keeps table performed kept mark limit ops → mark < n → said_under (reverse performed) n ≡ None
-    → length performed < ops → Performs limit table new o said → Keeps new (performed ++ (n, o, said) ∷ []) (kept_more kept n (length performed)) mark limit ops
-keeps_more table new performed kept mark limit ops n o said was above fresh room does =
+    → length performed < ops → room ≡ (redo || nat_lt (length table) limit) → Performs room table new o said → Keeps new (performed ++ (n, o, said) ∷ []) (kept_more kept n (length performed)) mark limit ops
+keeps_more redo room table new performed kept mark limit ops n o said was above fresh inside is does =
     let list = reverse performed in
     let more = sym (pushed (n, o, said) performed) in
     record {
-      right = subst (IsRight limit) more (fresh, says limit table new list o said was.rows does, was.right);
-      rows = subst (AreRowsOf new) more (more_rows limit table new list n o said was.rows does);
+      right = subst (IsRight limit) more (fresh, (redo, says_within limit redo room table new list o said was.rows is does), was.right);
+      rows = subst (AreRowsOf new) more (more_rows room table new list n o said was.rows does);
       kept = more_kept kept mark performed n o said was.kept above fresh;
-      fits = does.fits was.fits;
-      few = omega (arith, room, length-append performed ((n, o, said) ∷ []));
+      few = omega (arith, inside, length-append performed ((n, o, said) ∷ []));
     }
 
 -- ---- the list, from its oldest entry on
@@ -162,27 +201,51 @@ next_is_right limit performed k d inside right =
     let behind = right_behind limit (reverse (drop (k + 1) performed)) (reverse (take (k + 1) performed)) (subst (IsRight limit) (taken performed (k + 1)) right) in
     subst (IsRight limit) (ap reverse (taken_more performed k d inside) ∙ pushed (slice_index_or performed k d) (take k performed)) behind
 
+-- the oldest entries are right by themselves
+pub right_cut : (limit k : ℕ) (performed : List Performed) → IsRight limit (reverse performed) → IsRight limit (reverse (take k performed))
+right_cut limit k performed right =
+    right_behind limit (reverse (drop k performed)) (reverse (take k performed)) (subst (IsRight limit) (taken performed k) right)
+
 -- ---- as the code has it
 
-pub keeps_next : (table new : Rows) (performed longer : List Performed) (kept more : Kept) (mark limit ops n : ℕ) (o : Op) (said : Said) (place : ℕ)
+pub keeps_next : (redo room : Bool) (table new : Rows) (performed longer : List Performed) (kept more : Kept) (mark limit ops n : ℕ) (o : Op) (said : Said) (place : ℕ)
     → Keeps table performed kept mark limit ops → mark < n → said_under (reverse performed) n ≡ None
-    → length performed < ops → Performs limit table new o said → longer ≡ performed ++ (n, o, said) ∷ [] → more ≡ insert kept (kept_place kept n) (n, place) → place ≡ length performed → Keeps new longer more mark limit ops
-keeps_next table new performed longer kept more mark limit ops n o said place was above fresh room does grown put at =
+    → length performed < ops → room ≡ (redo || nat_lt (length table) limit) → Performs room table new o said → longer ≡ performed ++ (n, o, said) ∷ [] → more ≡ insert kept (kept_place kept n) (n, place) → place ≡ length performed → Keeps new longer more mark limit ops
+keeps_next redo room table new performed longer kept more mark limit ops n o said place was above fresh inside is does grown put at =
     let whole = put ∙ ap (λ (i : ℕ). insert kept (kept_place kept n) (n, i)) at in
     subst (λ (l : List Performed). Keeps new l more mark limit ops) (sym grown)
     (subst (λ (k : Kept). Keeps new (performed ++ (n, o, said) ∷ []) k mark limit ops) (sym whole)
-    (keeps_more table new performed kept mark limit ops n o said was above fresh room does))
+    (keeps_more redo room table new performed kept mark limit ops n o said was above fresh inside is does))
+
+-- an answer tells whether there was room, where that mattered
+found_room : (room : Bool) (value : RecordValue) (o : Op) → said_to (not (is_no_room (said_to room value o))) value o ≡ said_to room value o
+found_room room value (Read r) = refl
+found_room true None (Insert r v) = refl
+found_room false None (Insert r v) = refl
+found_room true (Some w) (Insert r v) = refl
+found_room false (Some w) (Insert r v) = refl
+found_room room value (Update r v) = refl
+found_room room value (Delete r) = refl
+
+pub answers_again : (limit : ℕ) (list : List Performed) (o : Op) (said : Said) → IsAnswerBehind limit list o said
+    → answer (not (is_no_room said)) list o ≡ said
+answers_again limit list o said is =
+    let room = has_room limit is.0 list in
+    ap (λ (s : Said). answer (not (is_no_room s)) list o) is.1 ∙ found_room room (value_of list (target o)) o ∙ sym is.1
 
 -- the rows behind one more entry of the list
-pub rows_next : (limit : ℕ) (table new : Rows) (performed : List Performed) (k : ℕ) (d : Performed) (said : Said)
+pub rows_next : (limit : ℕ) (again : Bool) (table new : Rows) (performed : List Performed) (k : ℕ) (d : Performed) (said : Said)
     → k < length performed → IsRight limit (reverse performed) → AreRowsOf table (reverse (take k performed))
-    → Performs limit table new (slice_index_or performed k d).1 said → AreRowsOf new (reverse (take (k + 1) performed))
-rows_next limit table new performed k d said inside right rows does =
+    → again ≡ not (is_no_room (slice_index_or performed k d).2) → Performs again table new (slice_index_or performed k d).1 said
+    → AreRowsOf new (reverse (take (k + 1) performed))
+rows_next limit again table new performed k d said inside right rows found does =
     let e = slice_index_or performed k d in
+    let behind = reverse (take k performed) in
     let next = next_is_right limit performed k d inside right in
-    let same : said ≡ e.2 = says limit table new (reverse (take k performed)) e.1 said rows does ∙ sym next.1 in
+    let same : said ≡ e.2
+        = says again table new behind e.1 said rows does ∙ ap (λ (b : Bool). answer b behind e.1) found ∙ answers_again limit behind e.1 e.2 next.1 in
     subst (AreRowsOf new) (sym (ap reverse (taken_more performed k d inside) ∙ pushed e (take k performed)))
-    (subst (λ (s : Said). AreRowsOf new ((e.0, e.1, s) ∷ reverse (take k performed))) same (more_rows limit table new (reverse (take k performed)) e.0 e.1 said rows does))
+    (subst (λ (s : Said). AreRowsOf new ((e.0, e.1, s) ∷ behind)) same (more_rows again table new behind e.0 e.1 said rows does))
 
 pub kept_next : (limit : ℕ) (kept more : Kept) (mark : ℕ) (performed : List Performed) (k place n : ℕ) (d : Performed)
     → k < length performed → IsRight limit (reverse performed) → AreKept kept mark (take k performed)
@@ -202,3 +265,17 @@ pub kept_still : (kept : Kept) (mark : ℕ) (performed : List Performed) (k n : 
 kept_still kept mark performed k n d inside are number low =
     subst (λ (l : List Performed). AreKept kept mark l) (sym (taken_more performed k d inside))
     (same_kept kept mark (take k performed) (slice_index_or performed k d) are (subst (λ (m : ℕ). m ≤ mark) number low))
+
+-- cut back to the oldest entries
+pub keeps_cut : (table new : Rows) (performed cut seen : List Performed) (kept more : Kept) (mark low limit ops saved : ℕ)
+    → Keeps table performed kept mark limit ops → saved ≤ length performed → cut ≡ take saved performed → seen ≡ cut
+    → AreRowsOf new (reverse seen) → AreKept more low seen → Keeps new cut more low limit ops
+keeps_cut table new performed cut seen kept more mark low limit ops saved was inside is same rows are =
+    let many : length cut ≡ saved = ap length is ∙ length-take-le saved performed inside in
+    let few = was.few in
+    record {
+      right = subst (λ (l : List Performed). IsRight limit (reverse l)) (sym is) (right_cut limit saved performed was.right);
+      rows = subst (λ (l : List Performed). AreRowsOf new (reverse l)) same rows;
+      kept = subst (λ (l : List Performed). AreKept more low l) same are;
+      few = omega (arith, many, inside, few);
+    }

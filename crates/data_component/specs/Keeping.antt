@@ -34,5 +34,4 @@ pub record Keeps (table : Rows) (performed : List Performed) (index : Kept) (mar
   pub right : IsRight limit (reverse performed)
   pub rows : AreRowsOf table (reverse performed)
   pub kept : AreKept index mark performed
-  pub fits : length table ≤ limit
   pub few : length performed ≤ ops

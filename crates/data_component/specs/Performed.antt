@@ -1,6 +1,6 @@
 -- The list of what a data component has performed, the newest first, and what it says of records (Lomet, Fekete, Weikum, Zwilling,
 -- CIDR 2009: the data component performs each request once).
-use Rattle.std.specs.Prelude.{◌≡◌, ℕ, ◌+◌, ◌-◌, Bool, true, false, ◌==◌, nat_lt, if◌then◌else◌, List, [], ◌∷◌, Option, Some, None}
+use Rattle.std.specs.Prelude.{◌≡◌, ℕ, ◌+◌, ◌-◌, Bool, true, false, ◌||◌, ◌==◌, nat_lt, if◌then◌else◌, List, [], ◌∷◌, Option, Some, None}
 use Rattle.access_slots.specs.declared.slot.Record.{Record}
 use Rattle.access_slots.specs.declared.op.Op.{Op}
 use Rattle.access_slots.specs.declared.op.Op.TheVariants.{Read, Insert, Update, Delete}
@@ -56,15 +56,19 @@ abbrev pub said_to_change : RecordValue → Said
 said_to_change None = Missing
 said_to_change (Some v) = Done (Some v)
 
--- to an operation on a record with this value, where so many records are present and no more than the limit may be
-abbrev pub said_to : ℕ → ℕ → RecordValue → Op → Said
-said_to limit present value (Read r) = said_to_read value
-said_to limit present value (Insert r v) = said_to_insert value (nat_lt present limit)
-said_to limit present value (Update r v) = said_to_change value
-said_to limit present value (Delete r) = said_to_change value
+-- to an operation on a record with this value, where a further record has room or not
+abbrev pub said_to : Bool → RecordValue → Op → Said
+said_to has_room value (Read r) = said_to_read value
+said_to has_room value (Insert r v) = said_to_insert value has_room
+said_to has_room value (Update r v) = said_to_change value
+said_to has_room value (Delete r) = said_to_change value
 
-abbrev pub answer : ℕ → List Performed → Op → Said
-answer limit list o = said_to limit (count list) (value_of list (target o)) o
+abbrev pub answer : Bool → List Performed → Op → Said
+answer has_room list o = said_to has_room (value_of list (target o)) o
+
+-- a further record has room where fewer than the limit are present, and always for an operation that is redone
+abbrev pub has_room : ℕ → Bool → List Performed → Bool
+has_room limit redo list = redo || nat_lt (count list) limit
 
 -- ---- numbers
 
@@ -73,7 +77,11 @@ abbrev pub said_under : List Performed → ℕ → Option Said
 said_under [] n = None
 said_under (e ∷ list) n = if e.0 == n then Some e.2 else said_under list n
 
+-- the answer is what the list before it gives, to the operation itself or as it is redone
+abbrev pub IsAnswerBehind : ℕ → List Performed → Op → Said → Type 0
+IsAnswerBehind limit list o said = (redo : Bool) × (said ≡ answer (has_room limit redo list) list o)
+
 -- no number stands twice, and each answer is what the list before it gives
 abbrev pub IsRight : ℕ → List Performed → Type 0
 IsRight limit [] = Unit {0}
-IsRight limit (e ∷ list) = (said_under list e.0 ≡ None) × (e.2 ≡ answer limit list e.1) × IsRight limit list
+IsRight limit (e ∷ list) = (said_under list e.0 ≡ None) × IsAnswerBehind limit list e.1 e.2 × IsRight limit list

@@ -1,13 +1,15 @@
 //! The data component.
 
-ghost use Rattle.std.specs.Prelude.{◌≡◌, ◌<◌, ◌≤◌, [], Some, None, length, reverse, IfOk, vec_capacity};
+ghost use Rattle.std.specs.Prelude.{◌≡◌, ◌↔◌, ◌<◌, ◌≤◌, [], Some, None, length, reverse, IsErr, IfOk, OnOk, OnErr, not, vec_capacity};
+ghost use Rattle.access_slots.specs.Access.{is_no_room};
 ghost use Rattle.data_component.specs.Performed.{value_of, said_under, IsRight};
-ghost use Rattle.data_component.specs.Store.{marked, fate, fate_of_new, reply_by, store_by, replied, performed};
+ghost use Rattle.data_component.specs.Store.{empty, marked, fate, fate_of_new, reply_by, store_by, replied, performed};
+ghost use Rattle.data_component.specs.Store.{checkpointed, IsSpent, restarted, news_of};
 ghost use Rattle.data_component.specs.Keeping.{AreRowsOf, AreKept};
 
 use crate::kept::{Kept, keep, place_of};
 use crate::rows::{self, Row};
-use access_slots::op::{Op, Reply, Said, Wire};
+use access_slots::op::{News, Op, Reply, Said, Wire};
 use access_slots::slot::{Record, Value};
 use std::alloc::{AllocError, Global};
 use std::marker::Model;
@@ -15,44 +17,66 @@ use std::marker::Model;
 /// A number, its operation and what was said to it.
 pub type Performed = (u64, Op, Said);
 
+/// 2^62 incarnations are over (K1).
+#[derive(Clone, Copy, Debug, PartialEq, Eq)]
+pub struct IncarnationsSpent;
+
+const MOST_INCARNATIONS: u64 = 1 << 62;
+
 /// A store of records that performs each numbered operation once (Lomet, Fekete, Weikum, Zwilling,
-/// CIDR 2009: idempotence by unique request IDs). Its list of what was performed and its low-water
-/// mark outlive a restart; the rows, and the places of the numbers above the mark, are rebuilt
-/// from them.
+/// CIDR 2009: idempotence by unique request IDs). A checkpoint keeps its list of what was performed
+/// and its low-water mark; a restart cuts both back to the last checkpoint, and begins a new
+/// incarnation. The rows, and the places of the numbers above the mark, are rebuilt from the list.
 #[derive(Drop)]
 pub struct Dc {
     rows: Vec<Row>,
     performed: Vec<Performed>,
     kept: Vec<Kept>,
     mark: u64,
+    // So many operations, and this mark, the last checkpoint kept.
+    saved: usize,
+    saved_mark: u64,
+    incarnation: u64,
     row_limit: usize,
     op_limit: usize,
 }
 
 impl Model for Dc {
-    ghost use Rattle.std.specs.Prelude.{◌≤◌, reverse, vec_capacity};
+    ghost use Rattle.std.specs.Prelude.{◌≤◌, length, reverse, take, vec_capacity};
     ghost use Rattle.data_component.specs.Store.{Store};
     ghost use Rattle.data_component.specs.Keeping.{Keeps};
 
     ghost Value = { Store };
 
-    ghost view = { λ d. record { list = reverse d.performed.items; mark = d.mark; rows = d.row_limit; ops = d.op_limit } };
+    ghost view = { λ d. record {
+        list = reverse d.performed.items;
+        mark = d.mark;
+        saved = reverse (take d.saved d.performed.items);
+        saved_mark = d.saved_mark;
+        incarnation = d.incarnation;
+        rows = d.row_limit;
+        ops = d.op_limit } };
 
     ghost invariant = { λ d.
         Keeps d.rows.items d.performed.items d.kept.items d.mark d.row_limit d.op_limit
-        × (d.row_limit ≤ vec_capacity d.rows) × (d.op_limit ≤ vec_capacity d.performed) × (d.op_limit ≤ vec_capacity d.kept) };
+        × (d.op_limit ≤ vec_capacity d.rows) × (d.op_limit ≤ vec_capacity d.performed) × (d.op_limit ≤ vec_capacity d.kept)
+        × (d.saved ≤ length d.performed.items) };
 }
 
 impl Dc {
-    /// An empty store for so many records and so many operations. All its memory is taken here.
+    /// An empty store for so many records, beside those that are redone, and so many operations. All
+    /// its memory is taken here.
     pub fn new(alloc: Global, rows: usize, ops: usize) -> Result<Dc, AllocError>
-        ensures { IfOk result (λ d. d ≡ record { list = []; mark = 0; rows = rows; ops = ops }) }
+        ensures { IfOk result (λ d. d ≡ empty rows ops) }
     {
         Ok(Dc {
-            rows: Vec::with_capacity(alloc, rows)?,
+            rows: Vec::with_capacity(alloc, rows.saturating_add(ops))?,
             performed: Vec::with_capacity(alloc, ops)?,
             kept: Vec::with_capacity(alloc, ops)?,
             mark: 0,
+            saved: 0,
+            saved_mark: 0,
+            incarnation: 0,
             row_limit: rows,
             op_limit: ops,
         })
@@ -60,19 +84,24 @@ impl Dc {
 
     /// Performs a wire, in this order:
     ///
-    /// 1. The mark rises to the wire's low-water mark, if that is greater.
-    /// 2. A number at or under the mark is answered [`Said::Old`].
-    /// 3. A number that was performed before gets its first answer again.
-    /// 4. Where there is no room for a further operation, there is no reply.
-    /// 5. Else the operation is performed, and kept under its number with its answer.
+    /// 1. To a wire for another incarnation there is no reply, and nothing changes.
+    /// 2. The mark rises to the wire's low-water mark, if that is greater.
+    /// 3. A number at or under the mark is answered [`Said::Old`].
+    /// 4. A number that was performed before gets its first answer again.
+    /// 5. Where there is no room for a further operation, there is no reply.
+    /// 6. Else the operation is performed, and kept under its number with its answer. An insert that
+    ///    is redone finds room for its record.
     ///
     /// It takes no memory.
     pub fn perform(&mut self, wire: &Wire) -> Option<Reply>
         ensures reply { result ≡ replied self.old wire.now }
         ensures store { self.new ≡ performed self.old wire.now }
     {
+        if wire.incarnation != self.incarnation {
+            return None;
+        }
         self.raise(wire.low_water);
-        self.perform_marked(wire.number, &wire.op)
+        self.perform_marked(wire.number, wire.redo, &wire.op)
     }
 
     // The mark rises, or stays.
@@ -83,19 +112,27 @@ impl Dc {
     }
 
     // Performs an operation where the mark is raised.
-    fn perform_marked(&mut self, number: u64, op: &Op) -> Option<Reply>
-        ensures reply { result ≡ reply_by number (fate self.old number op.now) }
-        ensures store { self.new ≡ store_by self.old number op.now (fate self.old number op.now) }
+    fn perform_marked(&mut self, number: u64, redo: bool, op: &Op) -> Option<Reply>
+        ensures reply { result ≡ reply_by self.old number (fate self.old number redo op.now) }
+        ensures store { self.new ≡ store_by self.old number op.now (fate self.old number redo op.now) }
     {
         if number <= self.mark {
-            return Some(Reply {
-                number,
-                said: Said::Old,
-            });
+            return Some(self.reply(number, Said::Old));
         }
         match self.said_under(number) {
-            Some(said) => Some(Reply { number, said }),
-            None => self.perform_new(number, op),
+            Some(said) => Some(self.reply(number, said)),
+            None => self.perform_new(number, redo, op),
+        }
+    }
+
+    // What this incarnation says to a number.
+    fn reply(&self, number: u64, said: Said) -> Reply
+        ensures { result ≡ record { number = number; incarnation = self.now.incarnation; said = said } }
+    {
+        Reply {
+            number,
+            incarnation: self.incarnation,
+            said,
         }
     }
 
@@ -111,26 +148,58 @@ impl Dc {
     }
 
     // Performs an operation under a number above the mark that wasn't performed.
-    fn perform_new(&mut self, number: u64, op: &Op) -> Option<Reply>
+    fn perform_new(&mut self, number: u64, redo: bool, op: &Op) -> Option<Reply>
         requires above { self.old.mark < number }
         requires fresh { said_under self.old.list number ≡ None }
-        ensures reply { result ≡ reply_by number (fate_of_new self.old op.now) }
-        ensures store { self.new ≡ store_by self.old number op.now (fate_of_new self.old op.now) }
+        ensures reply { result ≡ reply_by self.old number (fate_of_new self.old redo op.now) }
+        ensures store { self.new ≡ store_by self.old number op.now (fate_of_new self.old redo op.now) }
     {
         if self.performed.len() >= self.op_limit {
             return None;
         }
-        let said = rows::perform(&mut self.rows, self.row_limit, op);
+        let has_room = redo || self.rows.len() < self.row_limit;
+        let said = rows::perform(&mut self.rows, has_room, op);
         keep(&mut self.kept, number, self.performed.len());
         self.performed.push_reserved((number, *op, said));
-        Some(Reply { number, said })
+        Some(Reply {
+            number,
+            incarnation: self.incarnation,
+            said,
+        })
     }
 
-    /// Loses the rows and the places of numbers, and rebuilds both from the list and the mark, as
-    /// after a crash of the component. It takes no memory.
-    pub fn restart(&mut self)
-        ensures { self.new ≡ self.old }
+    /// Keeps the list and the mark, and says the mark. It takes no memory.
+    pub fn checkpoint(&mut self) -> u64
+        ensures mark { result ≡ self.old.mark }
+        ensures store { self.new ≡ checkpointed self.old }
     {
+        self.saved = self.performed.len();
+        self.saved_mark = self.mark;
+        self.mark
+    }
+
+    /// Which incarnation it is: 0 at first, and one more at each restart.
+    pub fn incarnation(&self) -> u64
+        ensures { result ≡ self.now.incarnation }
+    {
+        self.incarnation
+    }
+
+    /// Cuts the list and the mark back to the last checkpoint, loses the rows and the places of
+    /// numbers and rebuilds both, as after a crash of the component, and begins the next incarnation;
+    /// refused, with nothing changed, where 2^62 of them are over. It takes no memory.
+    pub fn restart(&mut self) -> Result<News, IncarnationsSpent>
+        ensures spent { IsErr result ↔ IsSpent self.old }
+        ensures ok { OnOk result (self.new ≡ restarted self.old) }
+        ensures news { IfOk result (λ n. n ≡ news_of self.new) }
+        ensures err { OnErr result (self.new ≡ self.old) }
+    {
+        if self.incarnation >= MOST_INCARNATIONS {
+            return Err(IncarnationsSpent);
+        }
+        self.performed.truncate(self.saved);
+        self.mark = self.saved_mark;
+        self.incarnation += 1;
         self.rows.clear();
         self.kept.clear();
         rebuild(
@@ -140,6 +209,10 @@ impl Dc {
             self.mark,
             self.row_limit,
         );
+        Ok(News {
+            incarnation: self.incarnation,
+            mark: self.mark,
+        })
     }
 
     /// The record's value, if it is present.
@@ -152,13 +225,13 @@ impl Dc {
     /// The records that are present, rising, with their values.
     pub fn rows(&self) -> &[Row]
         ensures rows { AreRowsOf result.now self.now.list }
-        ensures few { length result.now ≤ self.now.rows }
+        ensures few { length result.now ≤ length self.now.list }
     {
         self.rows.as_slice()
     }
 
     /// What was performed, the oldest first. No number stands twice, and each answer is what the
-    /// operations before it give.
+    /// operations before it give, to an operation or to one that is redone.
     pub fn performed(&self) -> &[Performed]
         ensures list { result.now ≡ reverse self.now.list }
         ensures right { IsRight self.now.rows self.now.list }
@@ -175,6 +248,13 @@ impl Dc {
     }
 }
 
+// Whether the answer isn't want of room.
+fn found_room(said: &Said) -> bool
+    ensures { result ≡ not (is_no_room said.now) }
+{
+    !matches!(said, Said::NoRoom)
+}
+
 // Rows, and the places of the numbers above the mark, from the list of what was performed.
 fn rebuild(
     rows: &mut Vec<Row>,
@@ -186,15 +266,16 @@ fn rebuild(
     requires right { IsRight row_limit (reverse performed.now) }
     requires no_rows { rows.old.items ≡ [] }
     requires none_kept { kept.old.items ≡ [] }
-    requires room { row_limit ≤ vec_capacity rows.old }
+    requires room { length performed.now ≤ vec_capacity rows.old }
     requires places { length performed.now ≤ vec_capacity kept.old }
     ensures rows { AreRowsOf rows.new.items (reverse performed.now) }
-    ensures fits { length rows.new.items ≤ row_limit }
+    ensures few { length rows.new.items ≤ length performed.now }
     ensures kept { AreKept kept.new.items mark performed.now }
     ensures capacity { (vec_capacity rows.new ≡ vec_capacity rows.old) × (vec_capacity kept.new ≡ vec_capacity kept.old) }
 {
-    'performed: for (place, (number, op, _)) in performed.iter().enumerate() {
-        let _ = rows::perform(rows, row_limit, op);
+    let _ = row_limit;
+    'performed: for (place, (number, op, said)) in performed.iter().enumerate() {
+        let _ = rows::perform(rows, found_room(said), op);
         if *number > mark {
             keep(kept, *number, place);
         }

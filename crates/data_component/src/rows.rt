@@ -1,6 +1,6 @@
 //! Rows, sorted by record.
 
-ghost use Rattle.std.specs.Prelude.{ℕ, ◌≡◌, ◌<◌, ◌≤◌, true, length, option_copied, IfErr, IfOk, vec_capacity};
+ghost use Rattle.std.specs.Prelude.{Bool, ◌≡◌, ◌<◌, ◌≤◌, true, length, option_copied, IfErr, IfOk, vec_capacity};
 ghost use Rattle.std.specs.List.{insert};
 ghost use Rattle.access_slots.specs.declared.op.Op.TheVariants.{Read, Insert, Update, Delete};
 ghost use Rattle.data_component.specs.Joining.Performing.{Performs};
@@ -53,7 +53,7 @@ pub(crate) fn value_of<'a>(rows: &'a [Row], record: &Record) -> Option<&'a Value
 #[tactic(auto, using(crate::proofs::Changing::read_found, crate::proofs::Changing::read_absent))]
 fn read(rows: &[Row], record: &Record) -> Said
     requires { SortedRows rows.now }
-    ensures { (limit : ℕ) → Performs limit rows.now rows.now (Read «record».now) result }
+    ensures { (has_room : Bool) → Performs has_room rows.now rows.now (Read «record».now) result }
 {
     match value_of(rows, record) {
         Some(value) => Said::Value(*value),
@@ -75,15 +75,15 @@ fn put_in(rows: &mut Vec<Row>, place: usize, row: Row)
 }
 
 #[tactic(auto, using(crate::proofs::Changing::insert_duplicate, crate::proofs::Changing::insert_no_room, crate::proofs::Changing::insert_done))]
-fn insert(rows: &mut Vec<Row>, limit: usize, record: &Record, value: &Value) -> Said
+fn insert(rows: &mut Vec<Row>, has_room: bool, record: &Record, value: &Value) -> Said
     requires sorted { SortedRows rows.old.items }
-    requires room { limit ≤ vec_capacity rows.old }
-    ensures performs { Performs limit rows.old.items rows.new.items (Insert «record».now value.now) result }
+    requires room { length rows.old.items < vec_capacity rows.old }
+    ensures performs { Performs has_room rows.old.items rows.new.items (Insert «record».now value.now) result }
     ensures capacity { vec_capacity rows.new ≡ vec_capacity rows.old }
 {
     match find(rows.as_slice(), record) {
         Ok(_) => Said::Duplicate,
-        Err(_) if rows.len() >= limit => Said::NoRoom,
+        Err(_) if !has_room => Said::NoRoom,
         Err(place) => {
             put_in(rows, place, (*record, *value));
             Said::Done(None)
@@ -94,7 +94,7 @@ fn insert(rows: &mut Vec<Row>, limit: usize, record: &Record, value: &Value) -> 
 #[tactic(auto, using(crate::proofs::Changing::update_missing, crate::proofs::Changing::update_done))]
 fn update(rows: &mut Vec<Row>, record: &Record, value: &Value) -> Said
     requires { SortedRows rows.old.items }
-    ensures performs { (limit : ℕ) → Performs limit rows.old.items rows.new.items (Update «record».now value.now) result }
+    ensures performs { (has_room : Bool) → Performs has_room rows.old.items rows.new.items (Update «record».now value.now) result }
     ensures capacity { vec_capacity rows.new ≡ vec_capacity rows.old }
 {
     match find(rows.as_slice(), record) {
@@ -110,7 +110,7 @@ fn update(rows: &mut Vec<Row>, record: &Record, value: &Value) -> Said
 #[tactic(auto, using(crate::proofs::Changing::delete_missing, crate::proofs::Changing::delete_done))]
 fn delete(rows: &mut Vec<Row>, record: &Record) -> Said
     requires { SortedRows rows.old.items }
-    ensures performs { (limit : ℕ) → Performs limit rows.old.items rows.new.items (Delete «record».now) result }
+    ensures performs { (has_room : Bool) → Performs has_room rows.old.items rows.new.items (Delete «record».now) result }
     ensures capacity { vec_capacity rows.new ≡ vec_capacity rows.old }
 {
     match find(rows.as_slice(), record) {
@@ -119,16 +119,16 @@ fn delete(rows: &mut Vec<Row>, record: &Record) -> Said
     }
 }
 
-/// Performs the operation where at most so many records may be present.
-pub(crate) fn perform(rows: &mut Vec<Row>, limit: usize, op: &Op) -> Said
+/// Performs the operation, where a further record has room or not. The vector has room for one.
+pub(crate) fn perform(rows: &mut Vec<Row>, has_room: bool, op: &Op) -> Said
     requires sorted { SortedRows rows.old.items }
-    requires room { limit ≤ vec_capacity rows.old }
-    ensures performs { Performs limit rows.old.items rows.new.items op.now result }
+    requires room { length rows.old.items < vec_capacity rows.old }
+    ensures performs { Performs has_room rows.old.items rows.new.items op.now result }
     ensures capacity { vec_capacity rows.new ≡ vec_capacity rows.old }
 {
     match op {
         Op::Read(record) => read(rows.as_slice(), record),
-        Op::Insert(record, value) => insert(rows, limit, record, value),
+        Op::Insert(record, value) => insert(rows, has_room, record, value),
         Op::Update(record, value) => update(rows, record, value),
         Op::Delete(record) => delete(rows, record),
     }

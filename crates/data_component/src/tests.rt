@@ -1,5 +1,5 @@
 use crate::dc::Dc;
-use access_slots::op::{Op, Reply, Said, Wire};
+use access_slots::op::{News, Op, Reply, Said, Wire};
 use access_slots::slot::{Record, Value};
 use std::test::Fail;
 
@@ -20,18 +20,28 @@ fn value(first: u8) -> Value {
 
 // What is said to the operation under this number, with this low-water mark.
 fn said(dc: &mut Dc, number: u64, low_water: u64, op: Op) -> Option<Said> {
-    let wire = Wire {
-        number,
-        low_water,
-        op,
-    };
-    match dc.perform(&wire) {
+    said_to(
+        dc,
+        &Wire {
+            number,
+            low_water,
+            incarnation: dc.incarnation(),
+            redo: false,
+            op,
+        },
+    )
+}
+
+// What this incarnation says to a wire.
+fn said_to(dc: &mut Dc, wire: &Wire) -> Option<Said> {
+    match dc.perform(wire) {
         Some(
             Reply {
-                number: under,
+                number,
+                incarnation,
                 said,
             },
-        ) if under == number => Some(said),
+        ) if number == wire.number && incarnation == dc.incarnation() => Some(said),
         _ => None,
     }
 }
@@ -57,13 +67,61 @@ fn one_record_and_four_operations(rt: HostRuntime) -> Result<(), Fail> {
     assert_eq!(rt; said(&mut dc, 2, 0, six), Some(Said::Old));
     assert_eq!(rt; said(&mut dc, 5, 3, Op::Read(record(6))), None);
     assert_eq!(rt; dc.mark(), 3);
-    dc.restart();
+    assert_eq!(rt; dc.checkpoint(), 3);
+    let news = News {
+        incarnation: 1,
+        mark: 3,
+    };
+    assert_eq!(rt; dc.restart(), Ok(news));
     assert_eq!(rt;
         said(&mut dc, 4, 3, Op::Read(record(6))),
         Some(Said::Absent)
     );
     assert_eq!(rt; dc.performed().len(), 4);
     assert!(rt; dc.rows().is_empty());
+    Ok(())
+}
+
+// A restart loses what was performed behind the last checkpoint, and wires that were sent before it
+// aren't answered; what is redone finds room beyond the limit.
+#[test]
+fn a_restart_goes_back_to_the_checkpoint(rt: HostRuntime) -> Result<(), Fail> {
+    let mut dc = Dc::new(rt.alloc(), 1, 4)?;
+    let five = Op::Insert(record(5), value(100));
+    let six = Op::Insert(record(6), value(1));
+    let old = Wire {
+        number: 3,
+        low_water: 2,
+        incarnation: 0,
+        redo: false,
+        op: six,
+    };
+    assert_eq!(rt; said(&mut dc, 1, 0, five), Some(Said::Done(None)));
+    assert_eq!(rt; dc.checkpoint(), 0);
+    assert_eq!(rt;
+        said(&mut dc, 2, 0, Op::Delete(record(5))),
+        Some(Said::Done(Some(value(100))))
+    );
+    assert_eq!(rt; said_to(&mut dc, &old), Some(Said::Done(None)));
+    let news = News {
+        incarnation: 1,
+        mark: 0,
+    };
+    assert_eq!(rt; dc.restart(), Ok(news));
+    assert_eq!(rt; dc.incarnation(), 1);
+    assert_eq!(rt; dc.performed().len(), 1);
+    assert_eq!(rt; dc.get(&record(5)), Some(value(100)));
+    assert_eq!(rt; said_to(&mut dc, &old), None);
+    assert_eq!(rt; dc.mark(), 0);
+    let redone = Wire {
+        low_water: 0,
+        incarnation: 1,
+        redo: true,
+        ..old
+    };
+    assert_eq!(rt; said(&mut dc, 4, 0, six), Some(Said::NoRoom));
+    assert_eq!(rt; said_to(&mut dc, &redone), Some(Said::Done(None)));
+    assert_eq!(rt; dc.rows().len(), 2);
     Ok(())
 }
 
@@ -94,7 +152,8 @@ fn rows_rise(rt: HostRuntime) -> Result<(), Fail> {
         (record(7), value(9)),
     ];
     assert_eq!(rt; dc.rows(), want.as_slice());
-    dc.restart();
+    assert_eq!(rt; dc.checkpoint(), 0);
+    assert!(rt; dc.restart().is_ok());
     assert_eq!(rt; dc.rows(), want.as_slice());
     assert_eq!(rt; dc.get(&record(3)), Some(value(2)));
     assert_eq!(rt; dc.get(&record(4)), None);

@@ -40,6 +40,15 @@ open_call (Answer u n said ∷ h) t = open_call h t
 open_call (Undo u n o ∷ h) t = open_call h t
 open_call (End u o ∷ h) t = if u == t then None else open_call h t
 
+-- the call with which a transaction was admitted, whether it ended or not
+abbrev pub call_of : List Event → ℕ → Option Call
+call_of [] t = None
+call_of (Admit u p args ∷ h) t = if u == t then Some (record { proc = p; args = args }) else call_of h t
+call_of (Ask u n o ∷ h) t = call_of h t
+call_of (Answer u n said ∷ h) t = call_of h t
+call_of (Undo u n o ∷ h) t = call_of h t
+call_of (End u o ∷ h) t = call_of h t
+
 -- the locks of a procedure's call: each record that a slot names, in its greatest mode
 abbrev pub locks_by : Option Declaration → List ℕ → Wanted
 locks_by None args r = None

@@ -1,3 +1,4 @@
 pub mod Calls
 pub mod Flight
 pub mod Places
+pub mod Redo

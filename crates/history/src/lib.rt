@@ -1,6 +1,6 @@
 //! What a history of events says: which locks are held, which operations are in flight, and the
-//! low-water mark. Definitions are in `specs/`; there is no code here but the laws, as functions
-//! that do nothing.
+//! low-water mark; what was answered, and what of it is redone. Definitions are in `specs/`; there
+//! is no code here but the laws, as functions that do nothing.
 #![tactic(auto)]
 
 ghost use Rattle.std.specs.Prelude.{◌≡◌, ◌↔◌, ℕ, List, ◌++◌, Some, reverse, slice_get};
@@ -9,6 +9,17 @@ ghost use Rattle.request_numbers.specs.Given.{holds};
 ghost use Rattle.request_numbers.specs.LowWater.{IsLowWater as IsMark};
 ghost use Rattle.history.specs.Flight.{given, is_open, open_numbers, low_water, IsLowWater};
 ghost use Rattle.history.specs.Places.{StandsAt, Begins, StartsWith};
+
+use access_slots::op::{Op, Said};
+
+/// An operation and its transaction, its number, and what was said to it.
+#[derive(Clone, Copy, Debug, PartialEq, Eq)]
+pub struct Answered {
+    pub txn: u64,
+    pub number: u64,
+    pub op: Op,
+    pub said: Said,
+}
 
 /// The numbers that were given out and aren't answered are those with an operation in flight.
 pub fn open_numbers_are_in_flight()

@@ -2,3 +2,4 @@ pub mod Barring
 pub mod Counting
 pub mod Keeping
 pub mod Steps
+pub mod Holding

@@ -1,8 +1,9 @@
 //! The table of locks.
 
-ghost use Rattle.std.specs.Prelude.{ℕ, ◌≡◌, ◌==◌, nat_eq, false, ◌↔◌, ◌+◌, ◌≤◌, ◌<◌, ◌^◌, Some, None, true, length, IfErr, IfSome, IfNone, OnErr, OnOk};
+ghost use Rattle.std.specs.Prelude.{ℕ, ◌≡◌, ◌==◌, nat_eq, false, ◌↔◌, ◌+◌, ◌≤◌, ◌<◌, ◌^◌, Some, None, true, length, IfErr, IfSome, IfNone, OnErr, OnOk, IsTrue, IsFalse, is_some};
 ghost use Rattle.indexmap.specs.IndexMap.{get, spare, index_map_len, insert_entry, Updates, IsUnique};
 ghost use Rattle.access_slots.specs.declared.slot.Record.{Record};
+ghost use Rattle.access_slots.specs.declared.slot.Mode.{Mode as ModeValue};
 ghost use Rattle.access_slots.specs.Locks.{record_eq, mode_in, Rising};
 ghost use Rattle.access_slots.specs.Held.{excludes, Compatible, IsFirstInTheWay};
 ghost use Rattle.lock_table.specs.Facts.{held_by, nobody, granted, released, AreHeld, HoldsNothing};
@@ -72,6 +73,14 @@ impl LockTable {
         ensures some { IfSome result (λ b. IsFirstInTheWay (held_by self.now) (mode_in set.now) b.name b.holder) }
     {
         first_busy(&self.records, &self.sets, set.locks())
+    }
+
+    /// Whether anybody holds the record: one look, however many transactions there are.
+    pub fn is_held(&self, name: &Record) -> bool
+        ensures free { IsFalse result → (t : ℕ) → held_by self.now t name.now ≡ None }
+        ensures held { IsTrue result → (t : ℕ) × (m : ModeValue) × (held_by self.now t name.now ≡ Some m) }
+    {
+        is_in(&self.records, name)
     }
 
     /// Makes the set ready until the next grant or release. No lock is changed; a refusal leaves
@@ -223,6 +232,16 @@ fn excludes(wanted: Mode, held: Mode) -> bool
     ensures { result ≡ excludes (Some wanted) (Some held) }
 {
     wanted == Mode::Write || held == Mode::Write
+}
+
+// Whether the record is held.
+fn is_in(records: &IndexMap<Record, Hold>, name: &Record) -> bool
+    ensures { result ≡ is_some (get record_eq records.now name.now) }
+{
+    match records.get(name) {
+        Some(_) => true,
+        None => false,
+    }
 }
 
 // Whether the lock's record is held in a mode that excludes the lock.

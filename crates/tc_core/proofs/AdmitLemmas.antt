@@ -83,6 +83,7 @@ book-room ps b b' is o =
       most = omega (arith, most, given_same, promised, more_given_up);
       marked = marked-room _ _ _ _ _ _ is.marked o.given_up o.events o.slots;
       keyed = keys-room _ _ _ _ is.keyed o.keys o.slots;
+      starts = rw (o.events, o.sites, o.starts) is.starts;
     }
 
 total_to-few : (h : List Event) (n : ℕ) → total_to places_left h n ≤ total_to each_one h n

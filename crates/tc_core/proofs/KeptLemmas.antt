@@ -35,7 +35,9 @@ use Rattle.slab.specs.Slab.{Slab, get, slab_len, Updates}
 use Rattle.tc_core.specs.Joining.Running.{Runs, as_reached}
 use Rattle.tc_core.specs.declared.transaction.Tx.{Tx}
 use Rattle.tc_core.specs.Core.{Core, Asking}
-use Rattle.tc_core.specs.Replies.{IsAnswer, over_in}
+use Rattle.tc_core.specs.Replies.{is_heard, IsAnswer, over_in}
+use Rattle.access_slots.specs.declared.op.Reply.{Reply}
+use Rattle.transactions.specs.InFlight.{site_of}
 use Rattle.tc_core.specs.Joining.Hearing.{MayHear, Accepts, Heard}
 use Rattle.tc_core.specs.Joining.Kept.{Keeps, Matches, IsOpen, StandsAt, HasKey, Places, Rooms, Kept}
 use Rattle.tc_core.proofs.Resuming.{paused_reached}
@@ -455,13 +457,14 @@ kept-answer ps log log' table numbers numbers' txns txns' serials owed promised 
     }
 
 -- a reply is one to the request where the transaction as it is kept waits for it
-pub is-answer : (c : Core) (r : Asking) (number : ℕ) (said : Said) (tx : Tx) (w : Seen c.procs c.events r.txn tx)
-    → Accepts tx r.number r.op number said → IsAnswer c r number said
-is-answer c r number said tx w a = record { s = w.s; is = w.is; sent = a.r; waits = sym w.matches.keeps.sent ∙ a.waits; same_number = a.same_number; same_op = a.same_op; agree = a.agree; fit = a.fit }
+pub is-answer : (c : Core) (r : Asking) (x : Reply) (tx : Tx) (w : Seen c.procs c.events r.txn tx)
+    → is_heard (site_of c.sites r.op) x ≡ true → Accepts tx r.number r.op x.number x.said → IsAnswer c r x
+is-answer c r x tx w heard a =
+    record { s = w.s; is = w.is; sent = a.r; waits = sym w.matches.keeps.sent ∙ a.waits; same_number = a.same_number; same_op = a.same_op; heard = heard; agree = a.agree; fit = a.fit }
 
-pub answer-accepts : (c : Core) (r : Asking) (number : ℕ) (said : Said) (tx : Tx) (w : Seen c.procs c.events r.txn tx)
-    → IsAnswer c r number said → Accepts tx r.number r.op number said
-answer-accepts c r number said tx w a =
+pub answer-accepts : (c : Core) (r : Asking) (x : Reply) (tx : Tx) (w : Seen c.procs c.events r.txn tx)
+    → IsAnswer c r x → Accepts tx r.number r.op x.number x.said
+answer-accepts c r x tx w a =
     let same : a.s ≡ w.s = some_same a.s w.s (sym a.is ∙ w.is) in
     record { r = a.sent; waits = w.matches.keeps.sent ∙ (sym (ap (λ (x : Standing). x.sent) same) ∙ a.waits); same_number = a.same_number; same_op = a.same_op; agree = a.agree; fit = a.fit }
 

@@ -1,9 +1,12 @@
 -- Definitions that only join bodies to those beside this folder: no contract that others see speaks of them.
 pub mod Clashes
+pub mod Follows
 pub mod Hearing
 pub mod Holders
 pub mod Kept
+pub mod Numbered
 pub mod Rooms
 pub mod Running
+pub mod Scanning
 pub mod Sends
 pub mod Writes

@@ -1,11 +1,15 @@
 -- What each call answers, and the state after it, as functions of the state before.
-use Rattle.std.specs.Prelude.{◌≡◌, ℕ, ◌+◌, ◌<◌, Bool, true, false, List, [], ◌∷◌, length, Option, Some, None, Result, Ok, Err}
+use Rattle.std.specs.Prelude.{◌≡◌, ℕ, ◌+◌, ◌<◌, Bool, true, false, ◌&&◌, ◌==◌, List, [], ◌∷◌, length, Option, Some, None, Result, Ok, Err}
 use Rattle.access_slots.specs.Access.{fits}
 use Rattle.access_slots.specs.declared.op.Op.{Op}
+use Rattle.access_slots.specs.declared.op.Reply.{Reply}
 use Rattle.access_slots.specs.declared.op.Said.{Said}
 use Rattle.tc_log.specs.declared.event.Event.{Event}
 use Rattle.tc_log.specs.declared.event.Event.TheVariants.{Admit, Ask, Answer, Undo, End}
 use Rattle.history.specs.Flight.{given}
+use Rattle.transactions.specs.declared.Redoing.{Redoing}
+use Rattle.transactions.specs.declared.Site.{Site}
+use Rattle.transactions.specs.InFlight.{site_of}
 use Rattle.transactions.specs.declared.Sent.{Sent}
 use Rattle.transactions.specs.declared.Next.{Next}
 use Rattle.transactions.specs.declared.Next.TheVariants as next
@@ -49,16 +53,25 @@ after_ask c (Waits n) = c
 after_ask c Running = c
 after_ask c Unknown = c
 
--- the request is open here, the numbers agree and the answer fits
-pub record IsAnswer (c : Core) (r : Asking) (number : ℕ) (said : Said) : Type 0 where
+abbrev pub is_up : Option Redoing → Bool
+is_up None = true
+is_up (Some redo) = false
+
+-- the reply is of the known incarnation of a data component that is up
+abbrev pub is_heard : Site → Reply → Bool
+is_heard s x = is_up s.redo && (s.incarnation == x.incarnation)
+
+-- the request is open here, its data component is up, the incarnations and the numbers agree and the answer fits
+pub record IsAnswer (c : Core) (r : Asking) (x : Reply) : Type 0 where
   pub s : Standing
   pub is : standing c.events r.txn ≡ Some s
   pub sent : Sent
   pub waits : s.sent ≡ Some sent
   pub same_number : sent.number ≡ r.number
   pub same_op : sent.op ≡ r.op
-  pub agree : number ≡ r.number
-  pub fit : fits r.op said ≡ true
+  pub heard : is_heard (site_of c.sites r.op) x ≡ true
+  pub agree : x.number ≡ r.number
+  pub fit : fits r.op x.said ≡ true
 
 abbrev pub after_answer : Core → Asking → Said → Core
 after_answer c r said = with_event c (Answer r.txn r.number said)

@@ -107,6 +107,7 @@ impl Book {
         ensures serial { result.serial ≡ admitted self.old.log.events + 1 }
         ensures events { self.new.log.events ≡ Admit result.serial proc own.args ∷ self.old.log.events }
         ensures given_up { self.new.given_up ≡ self.old.given_up }
+        ensures sites { self.new.sites ≡ self.old.sites }
     {
         let _ = procs;
         let serial = self.serials + 1;
@@ -139,6 +140,7 @@ impl Book {
     pub fn admit(&mut self, alloc: Global, procs: &Procs, call: &Call) -> Result<TxnId, Refusal>
         requires { IsBook procs.now.codes self.old }
         ensures kept { IsBook procs.now.codes self.new }
+        ensures sites { length self.new.sites.items ≡ length self.old.sites.items }
         ensures ok { IfOk result (λ id. id.serial ≡ admitted self.old.log.events + 1) }
         ensures state { IfOk result (λ id. core_of procs.now self.new ≡ with_event (core_of procs.now self.old) (Admit id.serial call.now.proc call.now.args.items)) }
         ensures admitted { OnOk result (IsAdmissible (core_of procs.now self.old) (call_of call.now)) }

@@ -1,6 +1,6 @@
 // What has happened, and what is kept beside it.
 
-ghost use Rattle.std.specs.Prelude.{◌≡◌, ◌↔◌, ◌+◌, ◌<◌, ◌^◌, ℕ, List, [], ◌∷◌, ◌++◌, Some, None, IsOk, OnOk, IfErr, OnErr, IfSome, IfNone, IsSome};
+ghost use Rattle.std.specs.Prelude.{◌≡◌, ◌↔◌, ◌+◌, ◌<◌, ◌^◌, ℕ, List, [], ◌∷◌, ◌++◌, length, replicate, Some, None, IsOk, IfOk, OnOk, IsTrue, IfErr, OnErr, IfSome, IfNone, IsSome};
 ghost use Rattle.verifier.specs.Checked.{Checked};
 ghost use Rattle.transactions.specs.Standing.{standing};
 ghost use Rattle.transactions.specs.Room.{each_one, total};
@@ -10,6 +10,8 @@ ghost use Rattle.tc_core.specs.Replies.{ask_reply, after_ask, IsAnswer, after_an
 ghost use Rattle.tc_core.specs.Replies as Replies;
 ghost use Rattle.tc_core.specs.Lent.{wire_of};
 ghost use Rattle.tc_core.specs.GivingUp.{IsOpenHere, with_given_up};
+ghost use Rattle.tc_core.specs.Redo.{news_fault, after_told, redo_reply, after_redo, IsRedone, after_redone};
+ghost use Rattle.transactions.specs.InFlight.{untold};
 
 use crate::given_up::GivenUp;
 use crate::places::{
@@ -17,20 +19,26 @@ use crate::places::{
     send_at, send_undo_at, take_out,
 };
 use crate::procs::Procs;
-use crate::state::{Asked, NotOver, Receipt, Request, Stranger, TxnId};
+use crate::redo::find_done;
+use crate::sites::{is_heard, known, site_of, starts, untold};
+use crate::state::{
+    Asked, Down, NewsFault, NotOver, Receipt, Redo, Request, Stranger, Stranger2, TxnId,
+};
 use crate::transaction::Tx;
-use access_slots::op::{Reply, Wire};
+use access_slots::op::{News, Reply, Wire};
 use indexmap::IndexMap;
 use lock_table::table::LockTable;
 use request_numbers::numbers::Numbers;
 use slab::Slab;
-use std::alloc::Global;
+use history::Answered;
+use std::alloc::{AllocError, Global};
 use tc_log::event::{Event, Outcome};
 use tc_log::log::Log;
-use transactions::Next;
+use transactions::{Next, Redoing, Site};
 
 /// The log, and beside it what the log says: open transactions, locks, numbers, and how much open
-/// transactions may still log and number. `procs` is in each call the procedures of the log.
+/// transactions may still log and number; and what was told of data components. `procs` is in each
+/// call the procedures of the log.
 #[derive(Drop)]
 pub struct Book {
     pub txns: Slab<Tx>,
@@ -39,6 +47,9 @@ pub struct Book {
     pub numbers: Numbers,
     pub log: Log,
     pub given_up: GivenUp,
+    pub sites: Vec<Site>,
+    // For each data component a place of the log before which its redo needs not look.
+    pub starts: Vec<usize>,
     pub serials: u64,
     pub owed: usize,
     pub promised: u64,
@@ -59,6 +70,15 @@ fn next_number(numbers: &mut Numbers) -> u64
     }
 }
 
+// Whether the reply is what was said to the operation, of this incarnation.
+fn is_said(answered: &Answered, incarnation: u64, reply: &Reply) -> bool
+    ensures { IsTrue result ↔ ((reply.now.number ≡ answered.now.number) × (reply.now.incarnation ≡ incarnation) × (reply.now.said ≡ answered.now.said)) }
+{
+    reply.number == answered.number
+        && reply.incarnation == incarnation
+        && reply.said == answered.said
+}
+
 // One that has committed isn't to be undone.
 fn undone(outcome: Outcome) -> Asked
     ensures { result ≡ Replies.undone outcome }
@@ -70,36 +90,145 @@ fn undone(outcome: Outcome) -> Asked
 }
 
 impl Book {
-    /// Nothing has happened. It takes no memory.
-    pub fn new(alloc: Global) -> Book
-        ensures kept { (codes : List Checked) → AllGood codes → IsBook codes result }
-        ensures events { result.log.events ≡ [] }
-        ensures given_up { result.given_up.numbers ≡ [] }
+    /// Nothing has happened.
+    pub fn new(alloc: Global, dcs: u16) -> Result<Book, AllocError>
+        ensures kept { IfOk result (λ b. (codes : List Checked) → AllGood codes → IsBook codes b) }
+        ensures events { IfOk result (λ b. b.log.events ≡ []) }
+        ensures given_up { IfOk result (λ b. b.given_up.numbers ≡ []) }
+        ensures sites { IfOk result (λ b. b.sites.items ≡ replicate dcs untold) }
     {
-        Book {
+        let sites = untold(alloc, dcs)?;
+        let starts = starts(alloc, dcs)?;
+        Ok(Book {
             txns: Slab::new(alloc),
             keys: IndexMap::new(alloc),
             locks: LockTable::new(alloc),
             numbers: Numbers::new(alloc),
             log: Log::new(alloc),
             given_up: GivenUp::new(alloc),
+            sites,
+            starts,
             serials: 0,
             owed: 0,
             promised: 0,
-        }
+        })
     }
 
     /// What is sent for a request now.
-    pub fn wire(&self, procs: &Procs, request: &Request) -> Wire
+    pub fn wire(&self, procs: &Procs, request: &Request) -> Result<Wire, Down>
         requires { IsBook procs.now.codes self.now }
         ensures { result ≡ wire_of (core_of procs.now self.now) request.now }
     {
         let _ = procs;
-        Wire {
-            number: request.number,
-            low_water: self.numbers.low_water(),
-            op: request.op,
+        let site = site_of(self.sites.as_slice(), &request.op);
+        match site.redo {
+            Some(_) => Err(Down),
+            None => Ok(Wire {
+                number: request.number,
+                low_water: self.numbers.low_water(),
+                incarnation: site.incarnation,
+                redo: false,
+                op: request.op,
+            }),
         }
+    }
+
+    /// A restart is told: the data component is down, and its redo begins above the mark.
+    pub fn told(&mut self, procs: &Procs, dc: u16, news: News) -> Result<(), NewsFault>
+        requires { IsBook procs.now.codes self.old }
+        ensures kept { IsBook procs.now.codes self.new }
+        ensures sites { length self.new.sites.items ≡ length self.old.sites.items }
+        ensures taken { OnOk result (news_fault (core_of procs.now self.old) dc news ≡ None) }
+        ensures ok { OnOk result (core_of procs.now self.new ≡ after_told (core_of procs.now self.old) dc news) }
+        ensures fault { IfErr result (λ f. news_fault (core_of procs.now self.old) dc news ≡ Some f) }
+        ensures err { OnErr result (core_of procs.now self.new ≡ core_of procs.now self.old) }
+    {
+        let _ = procs;
+        let at = usize::from(dc);
+        if at >= self.sites.len() {
+            return Err(NewsFault::NoDc);
+        }
+        if news.incarnation <= self.sites[at].incarnation {
+            return Err(NewsFault::OldNews);
+        }
+        self.sites[at] = Site {
+            incarnation: news.incarnation,
+            redo: Some(Redoing {
+                mark: news.mark,
+                redone: news.mark,
+            }),
+        };
+        self.starts[at] = 0;
+        Ok(())
+    }
+
+    /// What is sent to redo the next operation of a data component that is down; where none is left it
+    /// is up.
+    pub fn redo_next(&mut self, procs: &Procs, dc: u16) -> Redo
+        requires { IsBook procs.now.codes self.old }
+        ensures kept { IsBook procs.now.codes self.new }
+        ensures sites { length self.new.sites.items ≡ length self.old.sites.items }
+        ensures reply { result ≡ redo_reply (core_of procs.now self.old) dc }
+        ensures state { core_of procs.now self.new ≡ after_redo (core_of procs.now self.old) dc result }
+    {
+        let _ = procs;
+        let Some((site, start)) = known(self.sites.as_slice(), self.starts.as_slice(), dc) else {
+            return Redo::NoDc;
+        };
+        let Some(redo) = site.redo else {
+            return Redo::NotDown;
+        };
+        match find_done(self.log.events(), start, dc, redo.redone) {
+            Some((_, answered)) => Redo::Send(Wire {
+                number: answered.number,
+                low_water: redo.mark,
+                incarnation: site.incarnation,
+                redo: true,
+                op: answered.op,
+            }),
+            None => {
+                let at = usize::from(dc);
+                self.sites[at] = Site {
+                    incarnation: site.incarnation,
+                    redo: None,
+                };
+                Redo::Finished
+            }
+        }
+    }
+
+    /// Takes a reply in that is one to the operation under redo; another changes nothing.
+    pub fn redone(&mut self, procs: &Procs, dc: u16, reply: &Reply) -> Result<(), Stranger2>
+        requires { IsBook procs.now.codes self.old }
+        ensures kept { IsBook procs.now.codes self.new }
+        ensures sites { length self.new.sites.items ≡ length self.old.sites.items }
+        ensures accepted { IsOk result ↔ IsRedone (core_of procs.now self.old) dc reply.now }
+        ensures ok { OnOk result (core_of procs.now self.new ≡ after_redone (core_of procs.now self.old) dc reply.now.number) }
+        ensures err { OnErr result (core_of procs.now self.new ≡ core_of procs.now self.old) }
+    {
+        let _ = procs;
+        let Some((site, start)) = known(self.sites.as_slice(), self.starts.as_slice(), dc) else {
+            return Err(Stranger2);
+        };
+        let Some(redo) = site.redo else {
+            return Err(Stranger2);
+        };
+        let Some((place, answered)) = find_done(self.log.events(), start, dc, redo.redone) else {
+            return Err(Stranger2);
+        };
+        if !is_said(&answered, site.incarnation, reply) {
+            return Err(Stranger2);
+        }
+        let at = usize::from(dc);
+        self.sites[at] = Site {
+            incarnation: site.incarnation,
+            redo: Some(Redoing {
+                mark: redo.mark,
+                redone: answered.number,
+            }),
+        };
+        self.starts[at] = place + 1;
+        Ok(())
     }
 
     /// The open transaction with this serial number.
@@ -135,6 +264,7 @@ impl Book {
     pub fn ask(&mut self, procs: &Procs, txn: TxnId) -> Asked
         requires { IsBook procs.now.codes self.old }
         ensures kept { IsBook procs.now.codes self.new }
+        ensures sites { length self.new.sites.items ≡ length self.old.sites.items }
         ensures reply { result ≡ ask_reply (core_of procs.now self.old) txn.serial }
         ensures state { core_of procs.now self.new ≡ after_ask (core_of procs.now self.old) result }
     {
@@ -170,6 +300,7 @@ impl Book {
     pub fn undo_next(&mut self, procs: &Procs, txn: TxnId) -> Asked
         requires { IsBook procs.now.codes self.old }
         ensures kept { IsBook procs.now.codes self.new }
+        ensures sites { length self.new.sites.items ≡ length self.old.sites.items }
         ensures reply { result ≡ undo_reply (core_of procs.now self.old) txn.serial }
         ensures state { core_of procs.now self.new ≡ after_undo (core_of procs.now self.old) result }
     {
@@ -205,11 +336,15 @@ impl Book {
     pub fn answer(&mut self, procs: &Procs, request: Request, reply: Reply) -> Result<(), Stranger>
         requires { IsBook procs.now.codes self.old }
         ensures kept { IsBook procs.now.codes self.new }
-        ensures accepted { IsOk result ↔ IsAnswer (core_of procs.now self.old) request reply.number reply.said }
+        ensures sites { length self.new.sites.items ≡ length self.old.sites.items }
+        ensures accepted { IsOk result ↔ IsAnswer (core_of procs.now self.old) request reply }
         ensures ok { OnOk result (core_of procs.now self.new ≡ after_answer (core_of procs.now self.old) request reply.said) }
         ensures err { OnErr result (core_of procs.now self.new ≡ core_of procs.now self.old) }
         ensures back { IfErr result (λ stranger. stranger.request ≡ request) }
     {
+        if !is_heard(&site_of(self.sites.as_slice(), &request.op), &reply) {
+            return Err(Stranger { request });
+        }
         let Some(key) = find(&self.txns, &self.keys, request.txn) else {
             return Err(Stranger { request });
         };
@@ -230,6 +365,7 @@ impl Book {
     pub fn give_up(&mut self, procs: &Procs, request: Request) -> u64
         requires { IsBook procs.now.codes self.old }
         ensures kept { IsBook procs.now.codes self.new }
+        ensures sites { self.new.sites ≡ self.old.sites }
         ensures number { result ≡ request.number }
         ensures events { self.new.log ≡ self.old.log }
         ensures open_here { IsOpenHere (core_of procs.now self.old) request → core_of procs.now self.new ≡ with_given_up (core_of procs.now self.old) request.number }
@@ -252,6 +388,7 @@ impl Book {
     pub fn end(&mut self, procs: &Procs, txn: TxnId) -> Result<Receipt, NotOver>
         requires { IsBook procs.now.codes self.old }
         ensures kept { IsBook procs.now.codes self.new }
+        ensures sites { length self.new.sites.items ≡ length self.old.sites.items }
         ensures reply { result ≡ end_reply (core_of procs.now self.old) txn.serial (end_of (core_of procs.now self.old) txn.serial) }
         ensures state { core_of procs.now self.new ≡ after_end (core_of procs.now self.old) txn.serial (end_of (core_of procs.now self.old) txn.serial) }
     {

@@ -19,7 +19,7 @@ use access_slots::op::{Op, Reply, Said, fits};
 use indexmap::IndexMap;
 use slab::Slab;
 use tc_log::event::Outcome;
-use transactions::Next;
+use transactions::{Next, Sent};
 use verifier::verify::Verified;
 
 /// The key of the transaction with this serial number, by one look.
@@ -174,4 +174,12 @@ pub fn doubt_at(txns: &mut Slab<Tx>, key: usize)
     ensures len { slab_len txns.new ≡ slab_len txns.old }
 {
     txns[key].in_doubt = true;
+}
+
+/// What the transaction at a key waits for.
+pub fn sent_at(txns: &Slab<Tx>, key: usize) -> Option<Sent>
+    requires { ContainsKey txns.now key }
+    ensures { (tx : TxValue) → get txns.now key ≡ Some tx → result ≡ tx.sent }
+{
+    txns[key].sent
 }

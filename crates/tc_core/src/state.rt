@@ -1,6 +1,6 @@
 //! The state, and the calls on it.
 
-ghost use Rattle.std.specs.Prelude.{◌≡◌, ◌↔◌, ◌+◌, [], ◌∷◌, ◌++◌, length, Some, None, IsTrue, IsOk, IfOk, OnOk, IfErr, OnErr, IfSome, IfNone, IsSome};
+ghost use Rattle.std.specs.Prelude.{◌≡◌, ◌↔◌, ◌+◌, [], ◌∷◌, ◌++◌, length, replicate, Some, None, IsTrue, IsOk, IfOk, OnOk, IfErr, OnErr, IfSome, IfNone, IsSome};
 ghost use Rattle.tc_log.specs.declared.event.Event.TheVariants.{Admit};
 ghost use Rattle.history.specs.Calls.{admitted};
 ghost use Rattle.transactions.specs.Standing.{standing};
@@ -15,10 +15,12 @@ ghost use Rattle.tc_core.specs.Admission.{call_of, IsAdmissible, IsRefused};
 ghost use Rattle.tc_core.specs.Lent.{wire_of};
 ghost use Rattle.tc_core.specs.GivingUp.{IsOpenHere, with_given_up};
 ghost use Rattle.tc_core.specs.Blocked.{IsBlocked};
+ghost use Rattle.tc_core.specs.Redo.{news_fault, after_told, redo_reply, after_redo, IsRedone, after_redone};
+ghost use Rattle.transactions.specs.InFlight.{untold};
 
 use crate::book::Book;
 use crate::procs::{LoadFault, Procs};
-use access_slots::op::{Op, Reply, Wire};
+use access_slots::op::{News, Op, Reply, Wire};
 use lock_table::table::Busy;
 use std::alloc::{AllocError, Global};
 use std::marker::Model;
@@ -141,6 +143,36 @@ pub struct Stranger {
     pub request: Request,
 }
 
+/// The data component is down.
+#[derive(Clone, Copy, Debug, PartialEq, Eq)]
+pub struct Down;
+
+/// Why news of a restart aren't taken.
+#[derive(Clone, Copy, Debug, PartialEq, Eq)]
+pub enum NewsFault {
+    /// Q1: there is no such data component.
+    NoDc,
+    /// Q2: their incarnation isn't above the known one.
+    OldNews,
+}
+
+/// How the redo of a data component goes on.
+#[derive(Clone, Copy, Debug, PartialEq, Eq)]
+pub enum Redo {
+    /// This is to be sent: the operation under redo. It is the same until [`TcState::redone`].
+    Send(Wire),
+    /// Nothing is left to be redone, and the data component is up.
+    Finished,
+    /// The data component isn't down.
+    NotDown,
+    /// There is no such data component.
+    NoDc,
+}
+
+/// A reply that isn't one to the operation under redo.
+#[derive(Clone, Copy, Debug, PartialEq, Eq)]
+pub struct Stranger2;
+
 /// The state of a transaction component.
 #[derive(Drop)]
 pub struct TcState {
@@ -150,6 +182,7 @@ pub struct TcState {
 }
 
 impl Model for TcState {
+    ghost use Rattle.std.specs.Prelude.{◌≡◌, length};
     ghost use Rattle.tc_core.specs.Core.{Core};
     ghost use Rattle.tc_core.specs.Joining.Kept.{core_of, IsBook};
 
@@ -157,23 +190,21 @@ impl Model for TcState {
 
     ghost view = { λ s. core_of s.procs s.book };
 
-    ghost invariant = { λ s. IsBook s.procs.codes s.book };
+    ghost invariant = { λ s. IsBook s.procs.codes s.book × (length s.book.sites.items ≡ s.procs.dcs) };
 }
 
 impl TcState {
     /// For data components numbered below `dcs`: no procedure is loaded, and nothing has happened.
     pub fn new(alloc: Global, dcs: u16) -> Result<TcState, AllocError>
-        ensures made { IsOk result }
         ensures dcs { IfOk result (λ s. s.dcs ≡ dcs) }
         ensures procs { IfOk result (λ s. (s.procs ≡ []) × (s.names ≡ [])) }
         ensures events { IfOk result (λ s. s.events ≡ []) }
         ensures given_up { IfOk result (λ s. s.given_up ≡ []) }
+        ensures sites { IfOk result (λ s. s.sites ≡ replicate dcs untold) }
     {
-        Ok(TcState {
-            alloc,
-            procs: Procs::new(alloc, dcs),
-            book: Book::new(alloc),
-        })
+        let procs = Procs::new(alloc, dcs);
+        let book = Book::new(alloc, dcs)?;
+        Ok(TcState { alloc, procs, book })
     }
 
     /// What the type keeps, told to a caller.
@@ -181,6 +212,7 @@ impl TcState {
         ensures legal { Legal self.now.procs self.now.events }
         ensures good { AllGood self.now.procs }
         ensures reach { AllReach self.now.dcs self.now.procs }
+        ensures sites { length self.now.sites ≡ self.now.dcs }
     {
         self.procs.known();
     }
@@ -276,22 +308,54 @@ impl TcState {
         self.book.undo_next(&self.procs, txn)
     }
 
-    /// What is sent for a request now: its number and operation, and the low-water mark of now. A
-    /// resend makes it again.
-    pub fn wire(&self, request: &Request) -> Wire
+    /// What is sent for a request now: its number and operation, the low-water mark of now and the
+    /// known incarnation of its data component. A resend makes it again. Nothing is sent while the
+    /// data component is down.
+    pub fn wire(&self, request: &Request) -> Result<Wire, Down>
         ensures { result ≡ wire_of self.now request.now }
     {
         self.book.wire(&self.procs, request)
     }
 
-    /// Takes a reply in. One that isn't to the request changes nothing.
+    /// Takes a reply in. One that isn't to the request, or isn't of the known incarnation, or comes
+    /// while the data component is down, changes nothing.
     pub fn answer(&mut self, request: Request, reply: Reply) -> Result<(), Stranger>
-        ensures accepted { IsOk result ↔ IsAnswer self.old request reply.number reply.said }
+        ensures accepted { IsOk result ↔ IsAnswer self.old request reply }
         ensures ok { OnOk result (self.new ≡ after_answer self.old request reply.said) }
         ensures err { OnErr result (self.new ≡ self.old) }
         ensures back { IfErr result (λ stranger. stranger.request ≡ request) }
     {
         self.book.answer(&self.procs, request, reply)
+    }
+
+    /// A data component has restarted: it is down, also where it was down already, and what was done
+    /// there above the mark is to be redone.
+    pub fn told(&mut self, dc: u16, news: News) -> Result<(), NewsFault>
+        ensures taken { OnOk result (news_fault self.old dc news ≡ None) }
+        ensures ok { OnOk result (self.new ≡ after_told self.old dc news) }
+        ensures fault { IfErr result (λ f. news_fault self.old dc news ≡ Some f) }
+        ensures err { OnErr result (self.new ≡ self.old) }
+    {
+        self.book.told(&self.procs, dc, news)
+    }
+
+    /// What is sent to redo the next operation of a data component that is down, the same until it is
+    /// redone; where none is left the data component is up, and open requests are sent again.
+    pub fn redo_next(&mut self, dc: u16) -> Redo
+        ensures reply { result ≡ redo_reply self.old dc }
+        ensures state { self.new ≡ after_redo self.old dc result }
+    {
+        self.book.redo_next(&self.procs, dc)
+    }
+
+    /// Takes a reply in that says of the operation under redo what was said to it before. Another
+    /// changes nothing.
+    pub fn redone(&mut self, dc: u16, reply: &Reply) -> Result<(), Stranger2>
+        ensures accepted { IsOk result ↔ IsRedone self.old dc reply.now }
+        ensures ok { OnOk result (self.new ≡ after_redone self.old dc reply.now.number) }
+        ensures err { OnErr result (self.new ≡ self.old) }
+    {
+        self.book.redone(&self.procs, dc, reply)
     }
 
     /// Gives a request up, and says its number. The operation stays open and the locks stay held. If

@@ -61,7 +61,7 @@ impl Log {
     }
 
     /// The events, the oldest first.
-    pub(crate) fn events(&self) -> &[Event]
+    pub fn events(&self) -> &[Event]
         ensures { result.now ≡ reverse self.now.events }
     {
         self.events.as_slice()

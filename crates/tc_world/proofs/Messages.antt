@@ -1,7 +1,8 @@
 -- What requests and the log say of each other.
-use Rattle.std.proofs.Common.{◌≡◌, ◌≢◌, ℕ, ◌+◌, Bool, true, List, [], ◌++◌, Option, Some, None, refl, sym, ◌∙◌, ap, subst}
-use Rattle.std.specs.Prelude.{slice_get, slice_index_or, IsSome}
+use Rattle.std.proofs.Common.{◌≡◌, ◌≢◌, ℕ, ◌+◌, Bool, true, false, ◌&&◌, List, [], ◌++◌, Option, Some, None, refl, sym, ◌∙◌, ap, subst}
+use Rattle.std.specs.Prelude.{slice_get, slice_index_or, IsSome, Result, Ok, Err, IfOk, IfErr}
 use Rattle.access_slots.specs.Access.{fits}
+use Rattle.access_slots.specs.Locks.{target}
 use Rattle.access_slots.specs.declared.op.Op.{Op}
 use Rattle.access_slots.specs.declared.op.Said.{Said}
 use Rattle.access_slots.specs.declared.op.Wire.{Wire}
@@ -17,8 +18,11 @@ use Rattle.transactions.proofs.StandingLemmas.{some_same}
 use Rattle.transactions.proofs.Flights.{standing_flight, flight}
 use Rattle.transactions.proofs.Headline.{awaited}
 use Rattle.tc_core.specs.Core.{Core, Asking}
-use Rattle.tc_core.specs.Replies.{next_at, asked_by, undo_by, ask_reply, undo_reply, after_ask, after_undo, after_answer, with_event, IsAnswer}
+use Rattle.tc_core.specs.Replies.{next_at, asked_by, undo_by, ask_reply, undo_reply, after_ask, after_undo, after_answer, with_event, is_heard, IsAnswer}
 use Rattle.tc_core.specs.Lent.{wire_of}
+use Rattle.tc_core.specs.Redo.{IsRedone}
+use Rattle.tc_core.specs.declared.state.Down.{Down}
+use Rattle.transactions.specs.InFlight.{site_of}
 use Rattle.tc_core.specs.declared.state.Asked.{Asked}
 use Rattle.tc_core.specs.declared.state.Asked.TheVariants.{Request, Undoing, Over, Stuck, Waits, Running, Unknown}
 use Rattle.tc_core.proofs.ReplyLemmas.{next-unknown}
@@ -27,8 +31,10 @@ use Rattle.tc_log.specs.declared.event.Outcome.TheVariants as ending
 use Rattle.tc_world.specs.Whole.{Whole}
 use Rattle.tc_world.specs.Joining.Waiting.{asking, asking_by, AreWaiting}
 use Rattle.tc_world.specs.Joining.Telling.{requests_of}
-use Rattle.tc_world.specs.Steps.{Goes, Stops, MayGo, asks, undoes, told, sends, resends, resends_by, resends_sent}
-use Rattle.tc_world.specs.Steps.{takes_reply, takes_by, takes_fit, with_core}
+use Rattle.tc_world.specs.Steps.{Goes, Stops, MayGo, asks, undoes, told, sends, resends, resends_by, resends_sent, resends_wire}
+use Rattle.tc_world.specs.Steps.{takes_answer, TakesRedo, TakesBy, TakesReply, Takes, IsStrangeTo, IsNotTaken, with_core}
+use Rattle.tc_world.specs.declared.step.Illegal.{Illegal}
+use Rattle.tc_world.specs.declared.step.Outcome.{Outcome}
 use Rattle.tc_world.specs.declared.step.Illegal.TheVariants as illegal
 use Rattle.tc_world.specs.declared.step.Outcome.TheVariants as outcome
 use Rattle.tc_log.specs.declared.event.Event.TheVariants.{Answer}
@@ -116,12 +122,12 @@ pub not_in_the_air : (rs : List Asking) (h : List Event) (n : ℕ) → AreWaitin
     → ((k : ℕ) (r : Asking) → slice_get rs k ≡ Some r → r.number ≢ n) → in_flight h n ≡ None
 not_in_the_air rs h n w absent = not_flown n (in_flight h n) (sym (w.each n) ∙ none_of rs n absent)
 
-pub is_answer : (c : Core) (rs : List Asking) (k : ℕ) (r : Asking) (number : ℕ) (said : Said) → Legal c.procs c.events
-    → AreWaiting rs c.events → slice_get rs k ≡ Some r → number ≡ r.number → fits r.op said ≡ true
-    → IsAnswer c r number said
-is_answer c rs k r number said legal w at agree fit =
+pub is_answer : (c : Core) (rs : List Asking) (k : ℕ) (r : Asking) (x : Reply) → Legal c.procs c.events
+    → AreWaiting rs c.events → slice_get rs k ≡ Some r → x.number ≡ r.number → is_heard (site_of c.sites r.op) x ≡ true → fits r.op x.said ≡ true
+    → IsAnswer c r x
+is_answer c rs k r x legal w at agree heard fit =
     let a = awaited c.procs c.events legal r.number (flight r.txn r.op) (in_the_air rs c.events k r w at) in
-    record { s = a.s; is = a.is; sent = a.r; waits = a.waits; same_number = a.number; same_op = a.op; agree = agree; fit = fit }
+    record { s = a.s; is = a.is; sent = a.r; waits = a.waits; same_number = a.number; same_op = a.op; heard = heard; agree = agree; fit = fit }
 
 -- ---- resend
 
@@ -143,40 +149,86 @@ resends_nothing w rs t legal waiting open_yet absent =
     let st = stands (standing w.core.events t) open_yet in
     ap (resends_by w t) st.is ∙ ap (resends_sent w t) (nothing_sent w.core.procs rs w.core.events t st.s legal waiting absent st.is)
 
+same_asking : (t n : ℕ) (o : Op) (r : Asking) → r.txn ≡ t → n ≡ r.number → o ≡ r.op
+    → (let a : Asking = record { txn = t; number = n; op = o } in a ≡ r)
+same_asking t n o r own number same =
+    ap (λ (u : ℕ). let a : Asking = record { txn = u; number = n; op = o } in a) (sym own)
+    ∙ (ap (λ (m : ℕ). let a : Asking = record { txn = r.txn; number = m; op = o } in a) number
+    ∙ ap (λ (q : Op). let a : Asking = record { txn = r.txn; number = r.number; op = q } in a) same)
+
 pub resends_found : (w : Whole) (rs : List Asking) (t k : ℕ) (r : Asking) → Legal w.core.procs w.core.events
     → AreWaiting rs w.core.events → slice_get rs k ≡ Some r → r.txn ≡ t
-    → resends w t ≡ sends w (wire_of w.core r)
+    → resends w t ≡ resends_wire w r.op (wire_of w.core r)
 resends_found w rs t k r legal waiting at own =
     let a = awaited w.core.procs w.core.events legal r.number (flight r.txn r.op) (in_the_air rs w.core.events k r waiting at) in
     let here : standing w.core.events t ≡ Some a.s = ap (standing w.core.events) (sym own) ∙ a.is in
     let one : resends w t ≡ resends_sent w t (Some a.r) = ap (resends_by w t) here ∙ ap (resends_sent w t) a.waits in
-    let two = ap (λ (n : ℕ). let x : Wire = record { number = n; low_water = low_water w.core.events; op = a.r.op } in sends w x) a.number in
-    let three = ap (λ (o : Op). let x : Wire = record { number = r.number; low_water = low_water w.core.events; op = o } in sends w x) a.op in
-    one ∙ (two ∙ three)
+    one ∙ ap (λ (x : Asking). resends_wire w x.op (wire_of w.core x)) (same_asking t a.r.number a.r.op r own a.number a.op)
 
-pub may_resend : (w : Whole) (rs : List Asking) (t k : ℕ) (r : Asking) → Legal w.core.procs w.core.events
-    → AreWaiting rs w.core.events → slice_get rs k ≡ Some r → r.txn ≡ t → MayGo (resends w t)
-may_resend w rs t k r legal waiting at own = (_, _, resends_found w rs t k r legal waiting at own)
+pub resends_sent_to : (w : Whole) (rs : List Asking) (t k : ℕ) (r : Asking) (x : Wire) → Legal w.core.procs w.core.events
+    → AreWaiting rs w.core.events → slice_get rs k ≡ Some r → r.txn ≡ t → wire_of w.core r ≡ Ok x
+    → resends w t ≡ sends w x
+resends_sent_to w rs t k r x legal waiting at own is = resends_found w rs t k r legal waiting at own ∙ ap (resends_wire w r.op) is
+
+pub resends_down : (w : Whole) (rs : List Asking) (t k : ℕ) (r : Asking) (down : Down) → Legal w.core.procs w.core.events
+    → AreWaiting rs w.core.events → slice_get rs k ≡ Some r → r.txn ≡ t → wire_of w.core r ≡ Err down
+    → resends w t ≡ Stops (illegal.Down (target r.op).dc)
+resends_down w rs t k r down legal waiting at own is = resends_found w rs t k r legal waiting at own ∙ ap (resends_wire w r.op) is
+
+pub may_resend : (w : Whole) (rs : List Asking) (t k : ℕ) (r : Asking) (x : Wire) → Legal w.core.procs w.core.events
+    → AreWaiting rs w.core.events → slice_get rs k ≡ Some r → r.txn ≡ t → wire_of w.core r ≡ Ok x → MayGo (resends w t)
+may_resend w rs t k r x legal waiting at own is = (_, _, resends_sent_to w rs t k r x legal waiting at own is)
 
 -- ---- take
 
-pub takes_stranger : (w : Whole) (rs : List Asking) (x : Reply) → AreWaiting rs w.core.events
-    → ((k : ℕ) (r : Asking) → slice_get rs k ≡ Some r → r.number ≢ x.number)
-    → takes_reply w (Some x) ≡ Stops illegal.Stranger
-takes_stranger w rs x waiting absent = ap (takes_by w x) (not_in_the_air rs w.core.events x.number waiting absent)
+pub if_ok_so : {A E : Type 0} (r : Result A E) (P Q : A → Type 0) → ((x : A) → P x → Q x) → IfOk r P → IfOk r Q
+if_ok_so (Ok x) P Q so is = so x is
+if_ok_so (Err e) P Q so is = is
 
-pub takes_found : (w : Whole) (rs : List Asking) (k : ℕ) (r : Asking) (x : Reply) (b : Bool)
-    → AreWaiting rs w.core.events → slice_get rs k ≡ Some r → r.number ≡ x.number → fits r.op x.said ≡ b
-    → takes_reply w (Some x) ≡ takes_fit w (flight r.txn r.op) x b
-takes_found w rs k r x b waiting at same fit =
-    let air : in_flight w.core.events x.number ≡ Some (flight r.txn r.op) = ap (in_flight w.core.events) (sym same) ∙ in_the_air rs w.core.events k r waiting at in
-    ap (takes_by w x) air ∙ ap (takes_fit w (flight r.txn r.op) x) fit
+pub if_err_so : {A E : Type 0} (r : Result A E) (P Q : E → Type 0) → ((e : E) → P e → Q e) → IfErr r P → IfErr r Q
+if_err_so (Ok x) P Q so is = is
+if_err_so (Err e) P Q so is = so e is
 
-pub takes_taken : (w : Whole) (rs : List Asking) (k : ℕ) (r : Asking) (x : Reply) → AreWaiting rs w.core.events
-    → slice_get rs k ≡ Some r → r.number ≡ x.number → fits r.op x.said ≡ true
-    → takes_reply w (Some x) ≡ Goes (outcome.Took x.number) (with_core w (after_answer w.core r x.said))
-takes_taken w rs k r x waiting at same fit =
-    takes_found w rs k r x true waiting at same fit ∙ ap (λ (n : ℕ). Goes (outcome.Took x.number) (with_core w (with_event w.core (Answer r.txn n x.said)))) (sym same)
+-- a reply to a number that no request has is taken as the redo's, or not at all
+pub takes_again : (w v : Whole) (rs : List Asking) (i : ℕ) (x : Reply) (o : Outcome) → AreWaiting rs w.core.events
+    → slice_get w.replies i ≡ Some x → ((k : ℕ) (r : Asking) → slice_get rs k ≡ Some r → r.number ≢ x.number)
+    → TakesRedo w x o v → Takes w i o v
+takes_again w v rs i x o waiting sent absent takes =
+    subst (λ (y : Option Reply). TakesReply w y o v) (sym sent)
+    (subst (λ (f : Option Flight). TakesBy w x f o v) (sym (not_in_the_air rs w.core.events x.number waiting absent)) takes)
+
+pub takes_not_again : (w : Whole) (rs : List Asking) (i : ℕ) (x : Reply) (why : Illegal) → AreWaiting rs w.core.events
+    → slice_get w.replies i ≡ Some x → ((k : ℕ) (r : Asking) → slice_get rs k ≡ Some r → r.number ≢ x.number)
+    → why ≡ illegal.Stranger → ((d : ℕ) → IsRedone w.core d x → ⊥) → IsNotTaken w (slice_get w.replies i) why
+takes_not_again w rs i x why waiting sent absent is none =
+    subst (λ (y : Option Reply). IsNotTaken w y why) (sym sent)
+    (is, subst (λ (f : Option Flight). IsStrangeTo w x f) (sym (not_in_the_air rs w.core.events x.number waiting absent)) none)
+
+in_flight_there : (w : Whole) (rs : List Asking) (k : ℕ) (r : Asking) (n : ℕ) → AreWaiting rs w.core.events → slice_get rs k ≡ Some r → r.number ≡ n
+    → in_flight w.core.events n ≡ Some (flight r.txn r.op)
+in_flight_there w rs k r n waiting at same = ap (in_flight w.core.events) (sym same) ∙ in_the_air rs w.core.events k r waiting at
+
+pub takes_stranger : (w : Whole) (rs : List Asking) (i k : ℕ) (r : Asking) (x : Reply) → AreWaiting rs w.core.events
+    → slice_get w.replies i ≡ Some x → slice_get rs k ≡ Some r → r.number ≡ x.number
+    → (is_heard (site_of w.core.sites r.op) x && fits r.op x.said) ≡ false → IsNotTaken w (slice_get w.replies i) illegal.Stranger
+takes_stranger w rs i k r x waiting sent at same not_heard =
+    subst (λ (y : Option Reply). IsNotTaken w y illegal.Stranger) (sym sent)
+    (refl, subst (λ (f : Option Flight). IsStrangeTo w x f) (sym (in_flight_there w rs k r x.number waiting at same)) (ap (takes_answer w (flight r.txn r.op) x) not_heard))
+
+pub takes_taken : (w : Whole) (rs : List Asking) (i k : ℕ) (r : Asking) (x : Reply) → AreWaiting rs w.core.events
+    → slice_get w.replies i ≡ Some x → slice_get rs k ≡ Some r → r.number ≡ x.number
+    → (is_heard (site_of w.core.sites r.op) x && fits r.op x.said) ≡ true
+    → Takes w i (outcome.Took x.number) (with_core w (after_answer w.core r x.said))
+takes_taken w rs i k r x waiting sent at same heard =
+    let number = ap (λ (n : ℕ). Goes (outcome.Took x.number) (with_core w (with_event w.core (Answer r.txn n x.said)))) (sym same) in
+    subst (λ (y : Option Reply). TakesReply w y (outcome.Took x.number) (with_core w (after_answer w.core r x.said))) (sym sent)
+    (subst (λ (f : Option Flight). TakesBy w x f (outcome.Took x.number) (with_core w (after_answer w.core r x.said))) (sym (in_flight_there w rs k r x.number waiting at same))
+    (ap (takes_answer w (flight r.txn r.op) x) heard ∙ number))
+
+pub and_parts : (a b : Bool) → (a && b) ≡ true → (a ≡ true) × (b ≡ true)
+and_parts true true e = (refl, refl)
+and_parts true false e = absurd cc
+and_parts false b e = absurd cc
 
 -- ---- what an index reads
 

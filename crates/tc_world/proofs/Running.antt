@@ -2,11 +2,13 @@
 use Rattle.std.proofs.Common.{◌≡◌, ◌≢◌, ℕ, true, false, List, [], ◌∷◌, ◌++◌, Some, refl, sym, ap, subst, length, ◌<◌, arith, zero, suc}
 use Rattle.std.specs.Prelude.{slice_get, slice_index_or}
 use Rattle.access_slots.specs.Locks.{allows, target, is_read, conflict}
-use Rattle.history.specs.Calls.{held}
+use Rattle.history.specs.Calls.{held, held_for, call_of}
 use Rattle.history.specs.Flight.{Flight, in_flight}
 use Rattle.transactions.specs.Legal.{Legal}
 use Rattle.transactions.specs.Reached.{decls, AllGood}
-use Rattle.transactions.proofs.Headline.{flight_covered, flights_apart}
+use Rattle.transactions.specs.InFlight.{InFlight}
+use Rattle.transactions.proofs.Headline.{flight_covered}
+use Rattle.transactions.proofs.Restarts.{in_flight_covered, in_flight_apart}
 use Rattle.tc_core.specs.Core.{Core}
 use Rattle.tc_world.specs.Whole.{Whole}
 use Rattle.tc_world.specs.declared.step.Step.{Step}
@@ -17,17 +19,23 @@ pub runs_push : (w mid w' : Whole) (xs : List Step) (x : Step) (o : Outcome) →
 runs_push w mid w' [] x o e last = (o, w', subst (λ (v : Whole). Steps v x o w') e last, refl)
 runs_push w mid w' (y ∷ xs) x o run last = (run.0, run.1, run.2, runs_push run.1 mid w' xs x o run.3 last)
 
+abbrev pub AllHeld : Core → Type 0
+AllHeld c = (n : ℕ) (f : Flight) → in_flight c.events n ≡ Some f → allows (held (decls c.procs) c.events f.txn (target f.op)) (is_read f.op) ≡ true
+
 abbrev pub AllCovered : Core → Type 0
-AllCovered c = (n : ℕ) (f : Flight) → in_flight c.events n ≡ Some f → allows (held (decls c.procs) c.events f.txn (target f.op)) (is_read f.op) ≡ true
+AllCovered c = (n : ℕ) (f : Flight) → InFlight c.events c.sites n f → allows (held_for (decls c.procs) (call_of c.events f.txn) (target f.op)) (is_read f.op) ≡ true
 
 abbrev pub AllApart : Core → Type 0
-AllApart c = (m n : ℕ) (f g : Flight) → in_flight c.events m ≡ Some f → in_flight c.events n ≡ Some g → m ≢ n → conflict f.op g.op ≡ false
+AllApart c = (m n : ℕ) (f g : Flight) → InFlight c.events c.sites m f → InFlight c.events c.sites n g → m ≢ n → conflict f.op g.op ≡ false
+
+pub all_held : (c d : Core) → c ≡ d → Legal c.procs c.events → AllGood c.procs → AllHeld d
+all_held c d same legal good = subst AllHeld same (λ n f is. flight_covered c.procs c.events good legal n f is)
 
 pub all_covered : (c d : Core) → c ≡ d → Legal c.procs c.events → AllGood c.procs → AllCovered d
-all_covered c d same legal good = subst AllCovered same (λ n f is. flight_covered c.procs c.events good legal n f is)
+all_covered c d same legal good = subst AllCovered same (λ n f is. in_flight_covered c.procs c.events c.sites good legal n f is)
 
 pub all_apart : (c d : Core) → c ≡ d → Legal c.procs c.events → AllGood c.procs → AllApart d
-all_apart c d same legal good = subst AllApart same (λ m n f g is are differ. flights_apart c.procs c.events good legal m n f g is are differ)
+all_apart c d same legal good = subst AllApart same (λ m n f g is are differ. in_flight_apart c.procs c.events c.sites good legal m n f g is are differ)
 
 pub is_legal : (c d : Core) → c ≡ d → Legal c.procs c.events → Legal d.procs d.events
 is_legal c d same legal = subst (λ (x : Core). Legal x.procs x.events) same legal

@@ -1,23 +1,36 @@
 -- Low-water marks in a world (Lomet, Fekete, Weikum, Zwilling, CIDR 2009: LWM).
-use Rattle.std.specs.Prelude.{◌≡◌, ℕ, ◌≤◌, ◌<◌, true, []}
+use Rattle.std.specs.Prelude.{◌≡◌, ℕ, ◌≤◌, ◌<◌, true, [], Option, Some, None}
 use Rattle.std.specs.List.{All}
 use Rattle.access_slots.specs.declared.op.Wire.{Wire}
+use Rattle.access_slots.specs.declared.op.News.{News}
+use Rattle.transactions.specs.declared.Redoing.{Redoing}
+use Rattle.transactions.specs.declared.Site.{Site}
 use Rattle.history.specs.Flight.{low_water, is_open}
 use Rattle.data_component.specs.Store.{Store}
 use Rattle.tc_world.specs.Whole.{Whole}
 
--- nothing has happened: no event, nothing sent, nothing performed, and each mark is 0
+-- nothing has happened: no event, nothing sent, nothing performed or kept by a checkpoint, no news, each mark is 0, and no data
+-- component is down
 pub record IsFresh (w : Whole) : Type 0 where
   pub events : w.core.events ≡ []
   pub copies : w.copies ≡ []
   pub replies : w.replies ≡ []
-  pub lists : All (λ (d : Store). d.list ≡ []) w.dcs
-  pub marks : All (λ (d : Store). d.mark ≡ 0) w.dcs
+  pub news : w.news ≡ []
+  pub lists : All (λ (d : Store). (d.list ≡ []) × (d.saved ≡ [])) w.dcs
+  pub marks : All (λ (d : Store). (d.mark ≡ 0) × (d.saved_mark ≡ 0)) w.dcs
+  pub up : All (λ (s : Site). s.redo ≡ None) w.core.sites
 
--- no wire and no data component has a mark above the history's
+abbrev pub IsLow : ℕ → Option Redoing → Type 0
+IsLow most None = Unit {0}
+IsLow most (Some r) = r.mark ≤ most
+
+-- no mark is above the history's: of a wire, of a data component or its last checkpoint, of news, or of a redo
 pub record AreMarksLow (w : Whole) : Type 0 where
   pub copies : All (λ (x : Wire). x.low_water ≤ low_water w.core.events) w.copies
   pub dcs : All (λ (d : Store). d.mark ≤ low_water w.core.events) w.dcs
+  pub saved : All (λ (d : Store). d.saved_mark ≤ low_water w.core.events) w.dcs
+  pub news : All (λ (x : ℕ × News). x.1.mark ≤ low_water w.core.events) w.news
+  pub redo : All (λ (s : Site). IsLow (low_water w.core.events) s.redo) w.core.sites
 
 -- each open number is above the mark of each data component
 abbrev pub IsOpenAboveMarks : Whole → Type 0

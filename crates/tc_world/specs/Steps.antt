@@ -1,23 +1,32 @@
 -- The steps of a world: what each does, or why it isn't possible.
-use Rattle.std.specs.Prelude.{◌≡◌, ◌≢◌, ℕ, ◌+◌, take, Bool, true, false, List, [], ◌∷◌, ◌++◌, length, Option, Some, None, slice_get, slice_set}
+use Rattle.std.specs.Prelude.{◌≡◌, ◌≢◌, ℕ, ◌+◌, ◌^◌, nat_le, take, Bool, true, false, ◌&&◌, List, [], ◌∷◌, ◌++◌, length, Option, Some, None, Result, Ok, Err, slice_get, slice_set}
 use Rattle.access_slots.specs.Access.{fits}
 use Rattle.access_slots.specs.Locks.{target}
+use Rattle.access_slots.specs.declared.op.Op.{Op}
 use Rattle.access_slots.specs.declared.op.Wire.{Wire}
 use Rattle.access_slots.specs.declared.op.Reply.{Reply}
+use Rattle.access_slots.specs.declared.op.News.{News}
 use Rattle.tc_log.specs.declared.event.Outcome.{Outcome as Ending}
 use Rattle.tc_log.specs.declared.event.Event.TheVariants as event
 use Rattle.history.specs.Calls.{admitted}
 use Rattle.history.specs.Flight.{Flight, in_flight}
 use Rattle.transactions.specs.declared.Sent.{Sent}
 use Rattle.transactions.specs.Standing.{Standing, standing}
-use Rattle.data_component.specs.Store.{Store, replied, performed}
-use Rattle.tc_core.specs.Core.{Core}
-use Rattle.tc_core.specs.Replies.{with_event, ask_reply, after_ask, undo_reply, after_undo, end_of}
+use Rattle.transactions.specs.InFlight.{site_of}
+use Rattle.data_component.specs.Store.{Store, replied, performed, checkpointed, restarted, news_of}
+use Rattle.tc_core.specs.Core.{Core, Asking}
+use Rattle.tc_core.specs.Replies.{with_event, ask_reply, after_ask, undo_reply, after_undo, end_of, is_heard}
 use Rattle.tc_core.specs.Lent.{wire_of}
+use Rattle.tc_core.specs.Redo.{news_fault, after_told, redo_reply, after_redo, IsRedone, after_redone}
 use Rattle.tc_core.specs.Admission.{call_of, IsAdmissible, IsRefused}
 use Rattle.tc_core.specs.declared.state.Asked.{Asked}
 use Rattle.tc_core.specs.declared.state.Asked.TheVariants as reply
 use Rattle.tc_core.specs.declared.state.Call.{Call}
+use Rattle.tc_core.specs.declared.state.Down.{Down}
+use Rattle.tc_core.specs.declared.state.NewsFault.{NewsFault}
+use Rattle.tc_core.specs.declared.state.NewsFault.TheVariants as fault
+use Rattle.tc_core.specs.declared.state.Redo.{Redo}
+use Rattle.tc_core.specs.declared.state.Redo.TheVariants as redo
 use Rattle.tc_world.specs.Whole.{Whole}
 use Rattle.tc_world.specs.declared.step.Step.{Step}
 use Rattle.tc_world.specs.declared.step.Step.TheVariants as step
@@ -34,24 +43,32 @@ pub data Fate : Type 0 where
   Stops : Illegal → Fate
 
 abbrev pub with_core : Whole → Core → Whole
-with_core w c = record { core = c; dcs = w.dcs; copies = w.copies; replies = w.replies }
+with_core w c = record w { core = c }
 
 abbrev pub with_dcs : Whole → List Store → Whole
-with_dcs w ds = record { core = w.core; dcs = ds; copies = w.copies; replies = w.replies }
+with_dcs w ds = record w { dcs = ds }
 
 abbrev pub with_copy : Whole → Wire → Whole
-with_copy w x = record { core = w.core; dcs = w.dcs; copies = w.copies ++ x ∷ []; replies = w.replies }
+with_copy w x = record w { copies = w.copies ++ x ∷ [] }
 
 abbrev pub with_reply : Whole → Reply → Whole
-with_reply w x = record { core = w.core; dcs = w.dcs; copies = w.copies; replies = w.replies ++ x ∷ [] }
+with_reply w x = record w { replies = w.replies ++ x ∷ [] }
+
+abbrev pub with_news : Whole → ℕ → News → Whole
+with_news w d n = record w { news = w.news ++ (d, n) ∷ [] }
 
 -- a wire is sent
 abbrev pub sends : Whole → Wire → Fate
 sends w x = Goes (outcome.Sent (length w.copies) x) (with_copy w x)
 
+-- a new request is sent, or held back while its data component is down
+abbrev pub sends_or_holds : Whole → Asking → Result Wire Down → Fate
+sends_or_holds w r (Ok x) = sends w x
+sends_or_holds w r (Err down) = Goes (outcome.Held r.number r.op) w
+
 -- the transaction component answered so, and is this one now
 abbrev pub told : Whole → ℕ → Core → Asked → Fate
-told w t c (reply.Request r) = sends (with_core w c) (wire_of c r)
+told w t c (reply.Request r) = sends_or_holds (with_core w c) r (wire_of c r)
 told w t c reply.Undoing = Goes (outcome.Undoing t) w
 told w t c reply.Over = Goes (outcome.Over t) w
 told w t c (reply.Stuck n) = Goes (outcome.Stuck t n) w
@@ -73,9 +90,13 @@ ends_by w t (Some s) (Some o) = Goes (outcome.Ended (record { place = length w.c
 abbrev pub ends : Whole → ℕ → Fate
 ends w t = ends_by w t (standing w.core.events t) (end_of w.core t)
 
+abbrev pub resends_wire : Whole → Op → Result Wire Down → Fate
+resends_wire w o (Ok x) = sends w x
+resends_wire w o (Err down) = Stops (illegal.Down (target o).dc)
+
 abbrev pub resends_sent : Whole → ℕ → Option Sent → Fate
 resends_sent w t None = Stops illegal.NothingOpen
-resends_sent w t (Some r) = sends w (wire_of w.core (record { txn = t; number = r.number; op = r.op }))
+resends_sent w t (Some r) = resends_wire w r.op (wire_of w.core (record { txn = t; number = r.number; op = r.op }))
 
 abbrev pub resends_by : Whole → ℕ → Option Standing → Fate
 resends_by w t None = Stops illegal.NoTxn
@@ -104,29 +125,82 @@ performs_copy w (Some x) = performs_at w x (slice_get w.dcs (dc_of x))
 abbrev pub performs : Whole → ℕ → Fate
 performs w i = performs_copy w (slice_get w.copies i)
 
-abbrev pub takes_fit : Whole → Flight → Reply → Bool → Fate
-takes_fit w f x true = Goes (outcome.Took x.number) (with_core w (with_event w.core (event.Answer f.txn x.number x.said)))
-takes_fit w f x false = Stops illegal.Stranger
+abbrev pub takes_answer : Whole → Flight → Reply → Bool → Fate
+takes_answer w f x true = Goes (outcome.Took x.number) (with_core w (with_event w.core (event.Answer f.txn x.number x.said)))
+takes_answer w f x false = Stops illegal.Stranger
 
-abbrev pub takes_by : Whole → Reply → Option Flight → Fate
-takes_by w x None = Stops illegal.Stranger
-takes_by w x (Some f) = takes_fit w f x (fits f.op x.said)
+-- a reply to a number that is open: its data component is up and of that incarnation, and the answer fits
+abbrev pub takes_open : Whole → Flight → Reply → Fate
+takes_open w f x = takes_answer w f x (is_heard (site_of w.core.sites f.op) x && fits f.op x.said)
 
-abbrev pub takes_reply : Whole → Option Reply → Fate
-takes_reply w None = Stops illegal.NoReply
-takes_reply w (Some x) = takes_by w x (in_flight w.core.events x.number)
+-- another is tried as one to an operation under redo
+pub record TakesRedo (w : Whole) (x : Reply) (o : Outcome) (w' : Whole) : Type 0 where
+  pub dc : ℕ
+  pub is : IsRedone w.core dc x
+  pub outcome : o ≡ outcome.Redone x.number
+  pub next : w' ≡ with_core w (after_redone w.core dc x.number)
 
--- any reply that was ever sent may come, and is taken where the operation under its number is in flight and it fits
-abbrev pub takes : Whole → ℕ → Fate
-takes w i = takes_reply w (slice_get w.replies i)
+abbrev pub TakesBy : Whole → Reply → Option Flight → Outcome → Whole → Type 0
+TakesBy w x (Some f) o w' = takes_open w f x ≡ Goes o w'
+TakesBy w x None o w' = TakesRedo w x o w'
+
+-- any reply that was ever sent may come
+abbrev pub TakesReply : Whole → Option Reply → Outcome → Whole → Type 0
+TakesReply w None o w' = ⊥
+TakesReply w (Some x) o w' = TakesBy w x (in_flight w.core.events x.number) o w'
+
+abbrev pub Takes : Whole → ℕ → Outcome → Whole → Type 0
+Takes w i o w' = TakesReply w (slice_get w.replies i) o w'
+
+abbrev pub IsStrangeTo : Whole → Reply → Option Flight → Type 0
+IsStrangeTo w x (Some f) = takes_open w f x ≡ Stops illegal.Stranger
+IsStrangeTo w x None = (d : ℕ) → IsRedone w.core d x → ⊥
+
+abbrev pub IsNotTaken : Whole → Option Reply → Illegal → Type 0
+IsNotTaken w None why = why ≡ illegal.NoReply
+IsNotTaken w (Some x) why = (why ≡ illegal.Stranger) × IsStrangeTo w x (in_flight w.core.events x.number)
+
+abbrev pub restarts_as : Whole → ℕ → Store → Bool → Fate
+restarts_as w d s true = Stops illegal.IncarnationsSpent
+restarts_as w d s false = Goes (outcome.Restarted d) (with_news (with_dcs w (slice_set w.dcs d (restarted s))) d (news_of (restarted s)))
 
 abbrev pub restarts_at : Whole → ℕ → Option Store → Fate
 restarts_at w d None = Stops illegal.NoDc
-restarts_at w d (Some s) = Goes (outcome.Restarted d) w
+restarts_at w d (Some s) = restarts_as w d s (nat_le (2 ^ 62) s.incarnation)
 
--- what a data component keeps outlives its restart
+-- what the last checkpoint kept is left, and news are made
 abbrev pub restarts : Whole → ℕ → Fate
 restarts w d = restarts_at w d (slice_get w.dcs d)
+
+abbrev pub checkpoints_at : Whole → ℕ → Option Store → Fate
+checkpoints_at w d None = Stops illegal.NoDc
+checkpoints_at w d (Some s) = Goes (outcome.Checkpointed d s.mark) (with_dcs w (slice_set w.dcs d (checkpointed s)))
+
+abbrev pub checkpoints : Whole → ℕ → Fate
+checkpoints w d = checkpoints_at w d (slice_get w.dcs d)
+
+abbrev pub tells_unless : Whole → ℕ → News → Option NewsFault → Fate
+tells_unless w d n None = Goes (outcome.Told d n) (with_core w (after_told w.core d n))
+tells_unless w d n (Some fault.NoDc) = Stops illegal.NoDc
+tells_unless w d n (Some fault.OldNews) = Stops illegal.OldNews
+
+abbrev pub tells_news : Whole → Option (ℕ × News) → Fate
+tells_news w None = Stops illegal.NoNews
+tells_news w (Some x) = tells_unless w x.0 x.1 (news_fault w.core x.0 x.1)
+
+-- any news that were ever made may come
+abbrev pub tells : Whole → ℕ → Fate
+tells w i = tells_news w (slice_get w.news i)
+
+abbrev pub redoes_by : Whole → ℕ → Redo → Fate
+redoes_by w d (redo.Send x) = Goes (outcome.Redoing (length w.copies) x) (with_copy w x)
+redoes_by w d redo.Finished = Goes (outcome.Up d) (with_core w (after_redo w.core d redo.Finished))
+redoes_by w d redo.NotDown = Stops illegal.NotDown
+redoes_by w d redo.NoDc = Stops illegal.NoDc
+
+-- the operation under redo is sent, or the redo ends
+abbrev pub redoes : Whole → ℕ → Fate
+redoes w d = redoes_by w d (redo_reply w.core d)
 
 abbrev pub forges : Whole → Reply → Fate
 forges w x = Goes (outcome.Forged (length w.replies)) (with_reply w x)
@@ -157,9 +231,12 @@ Steps w (step.Undo t) o w' = undoes w t ≡ Goes o w'
 Steps w (step.End t) o w' = ends w t ≡ Goes o w'
 Steps w (step.Resend t) o w' = resends w t ≡ Goes o w'
 Steps w (step.Perform i) o w' = performs w i ≡ Goes o w'
-Steps w (step.Take i) o w' = takes w i ≡ Goes o w'
+Steps w (step.Take i) o w' = Takes w i o w'
 Steps w (step.Restart d) o w' = restarts w d ≡ Goes o w'
 Steps w (step.Forge x) o w' = forges w x ≡ Goes o w'
+Steps w (step.Checkpoint d) o w' = checkpoints w d ≡ Goes o w'
+Steps w (step.Tell i) o w' = tells w i ≡ Goes o w'
+Steps w (step.Redo d) o w' = redoes w d ≡ Goes o w'
 
 -- the step isn't possible, and this is why; want of memory comes at a step that is possible and makes a list longer, and at an
 -- ask or undo of any open transaction, since its lists grow first
@@ -170,9 +247,12 @@ IsIllegal w (step.Undo t) why = StopsOr (standing w.core.events t ≢ None) (und
 IsIllegal w (step.End t) why = ends w t ≡ Stops why
 IsIllegal w (step.Resend t) why = StopsOr (MayGo (resends w t)) (resends w t) why
 IsIllegal w (step.Perform i) why = StopsOr (MayGo (performs w i)) (performs w i) why
-IsIllegal w (step.Take i) why = takes w i ≡ Stops why
-IsIllegal w (step.Restart d) why = restarts w d ≡ Stops why
+IsIllegal w (step.Take i) why = IsNotTaken w (slice_get w.replies i) why
+IsIllegal w (step.Restart d) why = StopsOr (MayGo (restarts w d)) (restarts w d) why
 IsIllegal w (step.Forge x) why = StopsOr (MayGo (forges w x)) (forges w x) why
+IsIllegal w (step.Checkpoint d) why = checkpoints w d ≡ Stops why
+IsIllegal w (step.Tell i) why = tells w i ≡ Stops why
+IsIllegal w (step.Redo d) why = StopsOr (MayGo (redoes w d)) (redoes w d) why
 
 -- one step after another
 abbrev pub Runs : Whole → List Step → Whole → Type 0

@@ -1,7 +1,8 @@
 // What a world does with an answer of `ask` or `undo_next`.
 
 ghost use Rattle.std.specs.Prelude.{◌≡◌, ◌<◌, ◌++◌, length, vec_len, vec_capacity, OnOk};
-ghost use Rattle.tc_world.specs.Joining.Telling.{requests_of, wires_of, told_as};
+ghost use Rattle.tc_core.specs.Lent.{wire_of};
+ghost use Rattle.tc_world.specs.Joining.Telling.{requests_of, wires_by, wires_of, sent_or_held, told_as};
 
 use crate::step::{Illegal, Outcome};
 use access_slots::op::Wire;
@@ -20,7 +21,24 @@ pub fn make_room(copies: &mut Vec<Wire>, requests: &mut Vec<Request>) -> Result<
     Ok(())
 }
 
-/// Tells what a transaction was answered. A request is sent, and kept until its answer comes.
+// A new request is sent, or held back while its data component is down.
+fn send_or_hold(request: &Request, state: &TcState, copies: &mut Vec<Wire>) -> Outcome
+    requires { vec_len copies.old < vec_capacity copies.old }
+    ensures outcome { result ≡ sent_or_held (length copies.old.items) request.now (wire_of state.now request.now) }
+    ensures copies { copies.new.items ≡ copies.old.items ++ wires_by (wire_of state.now request.now) }
+{
+    match state.wire(request) {
+        Ok(wire) => {
+            let place = copies.len();
+            copies.push_reserved(wire);
+            Outcome::Sent(place, wire)
+        }
+        Err(_) => Outcome::Held(request.number(), request.op()),
+    }
+}
+
+/// Tells what a transaction was answered. A request is sent, or held back while its data component is
+/// down, and kept until its answer comes.
 pub fn tell(
     txn: u64,
     asked: Asked,
@@ -36,11 +54,9 @@ pub fn tell(
 {
     match asked {
         Asked::Request(request) => {
-            let place = copies.len();
-            let wire = state.wire(&request);
-            copies.push_reserved(wire);
+            let outcome = send_or_hold(&request, state, copies);
             requests.push_reserved(request);
-            Ok(Outcome::Sent(place, wire))
+            Ok(outcome)
         }
         Asked::Undoing => Ok(Outcome::Undoing(txn)),
         Asked::Over => Ok(Outcome::Over(txn)),

@@ -2,26 +2,32 @@
 
 ghost use Rattle.std.specs.Prelude.{◌≡◌, ◌≢◌, ℕ, ◌||◌, [], Some, true, false, slice_get, IfOk, OnOk, IfErr, OnErr};
 ghost use Rattle.access_slots.specs.Locks.{allows, target, is_read, conflict};
-ghost use Rattle.history.specs.Calls.{held};
+ghost use Rattle.history.specs.Calls.{held, held_for, call_of};
+ghost use Rattle.transactions.specs.InFlight.{InFlight};
 ghost use Rattle.history.specs.Flight.{Flight, in_flight, is_open};
 ghost use Rattle.request_numbers.specs.Given.{holds};
 ghost use Rattle.transactions.specs.Legal.{Legal};
 ghost use Rattle.transactions.specs.Reached.{decls};
 ghost use Rattle.transactions.specs.Room.{each_one, total};
 ghost use Rattle.tc_world.specs.Marks.{AreMarksLow, IsFresh, IsOpenAboveMarks};
+ghost use Rattle.tc_world.specs.OneAtATime.{is_forge, NoForge, AllKnown, IsOneAtATime};
+ghost use Rattle.tc_world.specs.Joining.Listed.{IsListed};
 ghost use Rattle.tc_world.specs.Steps.{Goes, Stops, Steps, IsIllegal, Runs, StopsAt};
 ghost use Rattle.tc_world.specs.Steps as Steps;
+ghost use Rattle.tc_core.specs.Redo.{IsRedone};
+ghost use Rattle.tc_world.specs.declared.step.Illegal.TheVariants as illegal;
 ghost use Rattle.tc_world.specs.declared.step.Step.TheVariants as step;
 
 use crate::asking::{find_number, find_txn};
-use crate::parts::{at, perform_at, restart_at, target};
+use crate::parts::{at, checkpoint_at, is_spent_at, perform_at, restart_at, target};
 use crate::step::{Illegal, Outcome, Step};
+use crate::taking::{hears, redone_somewhere};
 use crate::telling::{make_room, tell};
-use access_slots::op::{Reply, Wire, fits};
+use access_slots::op::{News, Reply, Wire};
 use data_component::dc::Dc;
 use std::alloc::Global;
 use std::marker::Model;
-use tc_core::state::{Call, Request, TcState};
+use tc_core::state::{Call, NewsFault, Redo, Request, TcState};
 
 /// A transaction component, its data components, and every wire and reply that was ever sent.
 pub struct World {
@@ -29,6 +35,7 @@ pub struct World {
     dcs: Vec<Dc>,
     copies: Vec<Wire>,
     replies: Vec<Reply>,
+    news: Vec<(u16, News)>,
     requests: Vec<Request>,
 }
 
@@ -38,7 +45,7 @@ impl Model for World {
 
     ghost Value = { Whole };
 
-    ghost view = { λ w. record { core = w.state; dcs = w.dcs.items; copies = w.copies.items; replies = w.replies.items } };
+    ghost view = { λ w. record { core = w.state; dcs = w.dcs.items; copies = w.copies.items; replies = w.replies.items; news = w.news.items } };
 
     ghost invariant = { λ w. AreWaiting w.requests.items w.state.events };
 }
@@ -47,7 +54,7 @@ impl World {
     /// A world in which nothing was sent. No transaction may be open. It takes no memory.
     pub fn new(alloc: Global, state: TcState, dcs: Vec<Dc>) -> World
         requires { total each_one state.events ≡ 0 }
-        ensures { result ≡ record { core = state; dcs = dcs.items; copies = []; replies = [] } }
+        ensures { result ≡ record { core = state; dcs = dcs.items; copies = []; replies = []; news = [] } }
     {
         state.known();
         World {
@@ -55,6 +62,7 @@ impl World {
             dcs,
             copies: Vec::new(alloc),
             replies: Vec::new(alloc),
+            news: Vec::new(alloc),
             requests: Vec::new(alloc),
         }
     }
@@ -85,6 +93,7 @@ impl World {
             dcs,
             copies: _,
             replies: _,
+            news: _,
             mut requests,
         } = self;
         while let Some(request) = requests.pop() {
@@ -160,9 +169,12 @@ impl World {
         let Some(at) = find_txn(self.requests.as_slice(), serial) else {
             return Err(Illegal::NothingOpen);
         };
+        let wire = match self.state.wire(&self.requests[at]) {
+            Ok(wire) => wire,
+            Err(_) => return Err(Illegal::Down(target(&self.requests[at].op()).dc)),
+        };
         self.copies.reserve(1)?;
         let place = self.copies.len();
-        let wire = self.state.wire(&self.requests[at]);
         self.copies.push_reserved(wire);
         Ok(Outcome::Sent(place, wire))
     }
@@ -190,19 +202,31 @@ impl World {
         }
     }
 
-    fn take(&mut self, reply: usize) -> Result<Outcome, Illegal>
-        ensures ok { IfOk result (λ o. Steps.takes self.old reply ≡ Goes o self.new) }
+    // A reply to no open request is tried as one to the operation under redo of each data component.
+    fn take_redo(&mut self, reply: &Reply) -> Result<Outcome, Illegal>
+        ensures ok { IfOk result (λ o. Steps.TakesRedo self.old reply.now o self.new) }
         ensures err { OnErr result (self.new ≡ self.old) }
-        ensures why { IfErr result (λ i. Steps.takes self.old reply ≡ Stops i) }
+        ensures why { IfErr result (λ i. (i ≡ illegal.Stranger) × ((d : ℕ) → IsRedone self.old.core d reply.now → ⊥)) }
+    {
+        let Some(_) = redone_somewhere(&mut self.state, reply) else {
+            return Err(Illegal::Stranger);
+        };
+        Ok(Outcome::Redone(reply.number))
+    }
+
+    fn take(&mut self, reply: usize) -> Result<Outcome, Illegal>
+        ensures ok { IfOk result (λ o. Steps.Takes self.old reply o self.new) }
+        ensures err { OnErr result (self.new ≡ self.old) }
+        ensures why { IfErr result (λ i. Steps.IsNotTaken self.old (slice_get self.old.replies reply) i) }
     {
         self.state.known();
         let Some(reply) = at(self.replies.as_slice(), reply) else {
             return Err(Illegal::NoReply);
         };
         let Some(at) = find_number(self.requests.as_slice(), reply.number) else {
-            return Err(Illegal::Stranger);
+            return self.take_redo(&reply);
         };
-        if !fits(&self.requests[at].op(), &reply.said) {
+        if !hears(&self.state, &self.requests[at], &reply) {
             return Err(Illegal::Stranger);
         }
         let request = self.requests.remove(at);
@@ -216,13 +240,63 @@ impl World {
     fn restart(&mut self, dc: u16) -> Result<Outcome, Illegal>
         ensures ok { IfOk result (λ o. Steps.restarts self.old dc ≡ Goes o self.new) }
         ensures err { OnErr result (self.new ≡ self.old) }
-        ensures why { IfErr result (λ i. Steps.restarts self.old dc ≡ Stops i) }
+        ensures why { IfErr result (λ i. IsIllegal self.old (step.Restart dc) i) }
     {
         if dc as usize >= self.dcs.len() {
             return Err(Illegal::NoDc);
         }
-        restart_at(&mut self.dcs, dc as usize);
+        if is_spent_at(self.dcs.as_slice(), dc as usize) {
+            return Err(Illegal::IncarnationsSpent);
+        }
+        self.news.reserve(1)?;
+        let news = restart_at(&mut self.dcs, dc as usize);
+        self.news.push_reserved((dc, news));
         Ok(Outcome::Restarted(dc))
+    }
+
+    fn checkpoint(&mut self, dc: u16) -> Result<Outcome, Illegal>
+        ensures ok { IfOk result (λ o. Steps.checkpoints self.old dc ≡ Goes o self.new) }
+        ensures err { OnErr result (self.new ≡ self.old) }
+        ensures why { IfErr result (λ i. Steps.checkpoints self.old dc ≡ Stops i) }
+    {
+        if dc as usize >= self.dcs.len() {
+            return Err(Illegal::NoDc);
+        }
+        let mark = checkpoint_at(&mut self.dcs, dc as usize);
+        Ok(Outcome::Checkpointed(dc, mark))
+    }
+
+    fn tell(&mut self, news: usize) -> Result<Outcome, Illegal>
+        ensures ok { IfOk result (λ o. Steps.tells self.old news ≡ Goes o self.new) }
+        ensures err { OnErr result (self.new ≡ self.old) }
+        ensures why { IfErr result (λ i. Steps.tells self.old news ≡ Stops i) }
+    {
+        let Some((dc, news)) = at(self.news.as_slice(), news) else {
+            return Err(Illegal::NoNews);
+        };
+        match self.state.told(dc, news) {
+            Ok(()) => Ok(Outcome::Told(dc, news)),
+            Err(NewsFault::NoDc) => Err(Illegal::NoDc),
+            Err(NewsFault::OldNews) => Err(Illegal::OldNews),
+        }
+    }
+
+    fn redo(&mut self, dc: u16) -> Result<Outcome, Illegal>
+        ensures ok { IfOk result (λ o. Steps.redoes self.old dc ≡ Goes o self.new) }
+        ensures err { OnErr result (self.new ≡ self.old) }
+        ensures why { IfErr result (λ i. IsIllegal self.old (step.Redo dc) i) }
+    {
+        match self.state.redo_next(dc) {
+            Redo::Send(wire) => {
+                self.copies.reserve(1)?;
+                let place = self.copies.len();
+                self.copies.push_reserved(wire);
+                Ok(Outcome::Redoing(place, wire))
+            }
+            Redo::Finished => Ok(Outcome::Up(dc)),
+            Redo::NotDown => Err(Illegal::NotDown),
+            Redo::NoDc => Err(Illegal::NoDc),
+        }
     }
 
     fn forge(&mut self, reply: Reply) -> Result<Outcome, Illegal>
@@ -262,6 +336,9 @@ impl World {
             Step::Take(reply) => self.take(*reply),
             Step::Restart(dc) => self.restart(*dc),
             Step::Forge(reply) => self.forge(*reply),
+            Step::Checkpoint(dc) => self.checkpoint(*dc),
+            Step::Tell(news) => self.tell(*news),
+            Step::Redo(dc) => self.redo(*dc),
         }
     }
 
@@ -271,6 +348,7 @@ impl World {
         ensures err { OnErr result (self.new ≡ self.old) }
         ensures why { IfErr result (λ i. IsIllegal self.old step.now i) }
         ensures marks { AreMarksLow self.old → AreMarksLow self.new }
+        ensures listed { is_forge step.now ≡ false → IsListed self.old → IsListed self.new }
     {
         let outcome = self.try_step(step)?;
         self.state.known();
@@ -278,18 +356,23 @@ impl World {
     }
 
     /// Takes steps up to the first illegal one, and says its place. Whatever the steps were, the
-    /// history is legal, each operation in flight is covered by its transaction's locks, and no two
-    /// conflict.
+    /// history is legal, each operation in flight is covered by its transaction's locks, which are held
+    /// where its number is open, and no two conflict. From a fresh world that knows the incarnations of
+    /// its data components, with no reply forged, the calls that ended are as if they were run one after
+    /// another, in the order of their ends, however often data components restarted.
     pub fn run(&mut self, steps: &[Step]) -> Result<(), (usize, Illegal)>
         ensures ok { OnOk result (Runs self.old steps.now self.new) }
         ensures err { IfErr result (λ e. StopsAt self.old steps.now e.0 e.1 self.new) }
         ensures legal { Legal self.new.core.procs self.new.core.events }
-        ensures covered { (n : ℕ) (f : Flight) → in_flight self.new.core.events n ≡ Some f
+        ensures covered { (n : ℕ) (f : Flight) → InFlight self.new.core.events self.new.core.sites n f
+            → allows (held_for (decls self.new.core.procs) (call_of self.new.core.events f.txn) (target f.op)) (is_read f.op) ≡ true }
+        ensures held { (n : ℕ) (f : Flight) → in_flight self.new.core.events n ≡ Some f
             → allows (held (decls self.new.core.procs) self.new.core.events f.txn (target f.op)) (is_read f.op) ≡ true }
-        ensures apart { (m n : ℕ) (f g : Flight) → in_flight self.new.core.events m ≡ Some f → in_flight self.new.core.events n ≡ Some g
+        ensures apart { (m n : ℕ) (f g : Flight) → InFlight self.new.core.events self.new.core.sites m f → InFlight self.new.core.events self.new.core.sites n g
             → m ≢ n → conflict f.op g.op ≡ false }
         ensures marks { AreMarksLow self.old → AreMarksLow self.new }
         ensures open_above { IsFresh self.old → IsOpenAboveMarks self.new }
+        ensures one_at_a_time { IsFresh self.old → AllKnown self.old → NoForge steps.now → IsOneAtATime self.new }
     {
         for (k, step) in steps.iter().enumerate() {
             match self.step(step) {

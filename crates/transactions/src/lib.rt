@@ -11,8 +11,9 @@
 ghost use Rattle.std.specs.Prelude.{◌≡◌, ◌≢◌, ◌↔◌, ◌+◌, ◌*◌, ◌<◌, ◌≤◌, ◌++◌, [], ◌∷◌, ℕ, List, Some, true, false};
 ghost use Rattle.access_slots.specs.declared.op.Op.{Op as Operation};
 ghost use Rattle.access_slots.specs.Locks.{allows, target, is_read, conflict};
-ghost use Rattle.history.specs.Calls.{held};
+ghost use Rattle.history.specs.Calls.{held, held_for, call_of};
 ghost use Rattle.history.specs.Flight.{Flight, given, in_flight, AllAnswered, low_water};
+ghost use Rattle.history.specs.Redo.{to_redo, IsToRedo};
 ghost use Rattle.history.specs.Places.{StandsAt};
 ghost use Rattle.tc_log.specs.declared.event.Event.{Event};
 ghost use Rattle.tc_log.specs.declared.event.Event.TheVariants.{Admit};
@@ -23,6 +24,8 @@ ghost use Rattle.transactions.specs.Reached.{calls, decls, AllGood};
 ghost use Rattle.transactions.specs.Legal.{Legal, Allowed, CanAsk, CanUndo, CanEnd};
 ghost use Rattle.transactions.specs.Next.{next_in};
 ghost use Rattle.transactions.specs.Sending.{IsSentBehind};
+ghost use Rattle.transactions.specs.InFlight.{InFlight};
+ghost use Rattle.transactions.specs.declared.Site.{Site as SiteValue};
 ghost use Rattle.transactions.specs.declared.Sent.{Sent as SentValue};
 ghost use Rattle.transactions.specs.declared.Next.{Next as NextValue};
 
@@ -35,6 +38,22 @@ pub struct Sent {
     pub number: u64,
     pub op: Op,
     pub undoing: bool,
+}
+
+/// How far the redo of a data component is: the mark above which it began, and the last number that
+/// was redone since, the mark itself at first.
+#[derive(Clone, Copy, Debug, PartialEq, Eq)]
+pub struct Redoing {
+    pub mark: u64,
+    pub redone: u64,
+}
+
+/// What is known of a data component: its incarnation, and where it is down, from when its restart is
+/// told until its redo ends, how far that is.
+#[derive(Clone, Copy, Debug, PartialEq, Eq)]
+pub struct Site {
+    pub incarnation: u64,
+    pub redo: Option<Redoing>,
 }
 
 /// What an open transaction does next.
@@ -117,4 +136,25 @@ pub fn low_water_never_falls()
 #[tactic(auto, using(crate::proofs::LowWater::flight_above))]
 pub fn in_flight_above_low_water()
     ensures { (ps : List Checked) (h : List Event) → Legal ps h → (n : ℕ) (f : Flight) → in_flight h n ≡ Some f → low_water h < n }
+{}
+
+/// What is to be redone at a data component, if anything is, was done there under the least number
+/// above the last one redone.
+#[tactic(auto, using(crate::proofs::Restarts::to_redo_is))]
+pub fn redone_in_order()
+    ensures { (ps : List Checked) (h : List Event) → Legal ps h → (d redone : ℕ) → IsToRedo h d redone (to_redo h d redone) }
+{}
+
+/// Behind every legal history, and whatever is known of data components, each operation in flight is
+/// covered by the locks of its transaction's call.
+pub fn all_in_flight_covered()
+    ensures { (ps : List Checked) (h : List Event) (sites : List SiteValue) → AllGood ps → Legal ps h → (n : ℕ) (f : Flight) → InFlight h sites n f
+        → allows (held_for (decls ps) (call_of h f.txn) (target f.op)) (is_read f.op) ≡ true }
+{}
+
+/// And no two of them conflict.
+#[tactic(auto, using(crate::proofs::Restarts::in_flight_apart))]
+pub fn none_in_flight_conflict()
+    ensures { (ps : List Checked) (h : List Event) (sites : List SiteValue) → AllGood ps → Legal ps h → (m n : ℕ) (f g : Flight) → InFlight h sites m f → InFlight h sites n g
+        → m ≢ n → conflict f.op g.op ≡ false }
 {}

@@ -1,10 +1,11 @@
 -- What the state keeps: the log is legal, and everything else is what the log says.
-use Rattle.std.specs.Prelude.{◌≡◌, ℕ, ◌<◌, Bool, true, false, ◌+◌, ◌-◌, ◌*◌, ◌≤◌, ◌^◌, List, [], ◌∷◌, length, Option, Some, None, slice_get, nat_eq}
+use Rattle.std.specs.Prelude.{◌≡◌, ℕ, ◌<◌, Bool, true, false, ◌+◌, ◌-◌, ◌*◌, ◌≤◌, ◌^◌, List, [], ◌∷◌, length, reverse, take, Option, Some, None, slice_get, nat_eq}
 use Rattle.indexmap.specs.IndexMap.{IndexMap, get as key_of}
 use Rattle.verifier.specs.Checked.{Checked}
 use Rattle.lock_table.specs.Facts.{Table, AreHeld}
 use Rattle.request_numbers.specs.Given.{Given}
 use Rattle.tc_log.specs.declared.event.Event.{Event}
+use Rattle.tc_log.specs.declared.event.Event.TheVariants.{Admit, Ask, Answer, Undo, End}
 use Rattle.tc_log.specs.History.{History}
 use Rattle.history.specs.Calls.{admitted, held}
 use Rattle.history.specs.Flight.{given, open_numbers}
@@ -18,6 +19,8 @@ use Rattle.access_slots.specs.declared.slot.Record.{Record}
 use Rattle.access_slots.specs.Locks.{mode_in, mode_named}
 use Rattle.request_numbers.specs.Given.{holds}
 use Rattle.transactions.specs.declared.Sent.{Sent}
+use Rattle.transactions.specs.declared.Redoing.{Redoing}
+use Rattle.transactions.specs.declared.Site.{Site}
 use Rattle.tc_core.specs.Core.{Core}
 use Rattle.tc_core.specs.Loaded.{Loaded}
 use Rattle.tc_core.specs.declared.transaction.Tx.{Tx}
@@ -98,12 +101,33 @@ pub record AreKeys {S : Type 0} (keys : IndexMap ℕ ℕ S) (txns : Slab Tx) : T
   pub keyed : (key : ℕ) (tx : Tx) → get txns key ≡ Some tx → key_of nat_eq keys tx.serial ≡ Some key
   pub listed : (t key : ℕ) → key_of nat_eq keys t ≡ Some key → StandsAt txns key t
 
+-- each number sent in these events is at most this one
+abbrev pub AreSentUpTo : ℕ → List Event → Type 0
+AreSentUpTo n [] = Unit {0}
+AreSentUpTo n (Admit t p args ∷ es) = AreSentUpTo n es
+AreSentUpTo n (Ask t m o ∷ es) = (m ≤ n) × AreSentUpTo n es
+AreSentUpTo n (Answer t m said ∷ es) = AreSentUpTo n es
+AreSentUpTo n (Undo t m o ∷ es) = (m ≤ n) × AreSentUpTo n es
+AreSentUpTo n (End t o ∷ es) = AreSentUpTo n es
+
+-- a data component's redo needs not look at the log, oldest event first, before its place
+abbrev pub MayBegin : List Event → ℕ → Option Redoing → Type 0
+MayBegin h place None = Unit {0}
+MayBegin h place (Some r) = AreSentUpTo r.redone (take place (reverse h))
+
+-- each data component has such a place
+pub record AreStarts (sites : List Site) (starts : List ℕ) (h : List Event) : Type 0 where
+  pub count : length starts ≡ length sites
+  pub inside : (d place : ℕ) → slice_get starts d ≡ Some place → place ≤ length h
+  pub begin : (d place : ℕ) (s : Site) → slice_get starts d ≡ Some place → slice_get sites d ≡ Some s → MayBegin h place s.redo
+
 -- what is kept of these procedures' log
 pub record IsBook (ps : List Checked) (b : Book) : Type 0 where
   pub kept : Kept ps b.log b.locks b.numbers b.txns b.serials b.owed b.promised
   pub most : given b.log.events + b.promised ≤ b.given_up.most
   pub marked : Marked b.given_up.numbers b.log.events b.txns
   pub keyed : AreKeys b.keys b.txns
+  pub starts : AreStarts b.sites.items b.starts.items b.log.events
 
 abbrev pub core_of : Loaded → Book → Core
-core_of p b = record { procs = p.codes; names = p.names; dcs = p.dcs; events = b.log.events; given_up = b.given_up.numbers }
+core_of p b = record { procs = p.codes; names = p.names; dcs = p.dcs; events = b.log.events; given_up = b.given_up.numbers; sites = b.sites.items }

@@ -3,6 +3,7 @@ use Rattle.std.specs.Prelude.{ℕ, List, [], ◌∷◌, Result, Ok, Err}
 use Rattle.access_slots.specs.declared.op.Wire.{Wire}
 use Rattle.tc_core.specs.Core.{Core, Asking}
 use Rattle.tc_core.specs.Lent.{wire_of}
+use Rattle.tc_core.specs.declared.state.Down.{Down}
 use Rattle.tc_core.specs.declared.state.Asked.{Asked}
 use Rattle.tc_core.specs.declared.state.Asked.TheVariants as reply
 use Rattle.tc_world.specs.declared.step.Outcome.{Outcome}
@@ -20,9 +21,13 @@ requests_of (reply.Waits n) = []
 requests_of reply.Running = []
 requests_of reply.Unknown = []
 
--- its wire
+abbrev pub wires_by : Result Wire Down → List Wire
+wires_by (Ok x) = x ∷ []
+wires_by (Err down) = []
+
+-- its wire, unless its data component is down
 abbrev pub wires_of : Core → Asked → List Wire
-wires_of c (reply.Request r) = wire_of c r ∷ []
+wires_of c (reply.Request r) = wires_by (wire_of c r)
 wires_of c reply.Undoing = []
 wires_of c reply.Over = []
 wires_of c (reply.Stuck n) = []
@@ -30,9 +35,13 @@ wires_of c (reply.Waits n) = []
 wires_of c reply.Running = []
 wires_of c reply.Unknown = []
 
+abbrev pub sent_or_held : ℕ → Asking → Result Wire Down → Outcome
+sent_or_held sent r (Ok x) = outcome.Sent sent x
+sent_or_held sent r (Err down) = outcome.Held r.number r.op
+
 -- what the step of this transaction is answered, where so many wires were sent before
 abbrev pub told_as : ℕ → ℕ → Core → Asked → Result Outcome Illegal
-told_as t sent c (reply.Request r) = Ok (outcome.Sent sent (wire_of c r))
+told_as t sent c (reply.Request r) = Ok (sent_or_held sent r (wire_of c r))
 told_as t sent c reply.Undoing = Ok (outcome.Undoing t)
 told_as t sent c reply.Over = Ok (outcome.Over t)
 told_as t sent c (reply.Stuck n) = Ok (outcome.Stuck t n)

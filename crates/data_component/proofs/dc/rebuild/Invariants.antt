@@ -6,7 +6,7 @@ use Rattle.data_component.proofs.dc.rebuild.Given as goal
 abbrev pub invariant-performed : goal.invariant-performed
 invariant-performed l = record {
   rows : AreRowsOf l.rows.items (reverse (take l.place l.performed));
-  fits : length l.rows.items ≤ l.row_limit;
+  fits : length l.rows.items ≤ l.place;
   kept : AreKept l.kept.items l.mark (take l.place l.performed);
   rows_room : vec_capacity l.rows ≡ vec_capacity l.fn.rows;
   kept_room : vec_capacity l.kept ≡ vec_capacity l.fn.kept;

@@ -1,14 +1,17 @@
-use Rattle.std.proofs.Common.{rules, ◌≡◌, ◌+◌, ◌*◌, ◌<◌, ◌≤◌, ℕ, Some, None, arith, refl, sym, ◌∙◌, ap, subst, Option, true, false}
+use Rattle.std.proofs.Common.{rules, ◌≡◌, ◌+◌, ◌*◌, ◌<◌, ◌≤◌, ℕ, List, Some, None, arith, refl, sym, ◌∙◌, ap, subst, Option, true, false}
 use Rattle.std.specs.Prelude.{slice_get}
 use Rattle.verifier.specs.Checked.{Checked}
 use Rattle.tc_core.specs.Core.{Core, Asking}
 use Rattle.tc_core.specs.Joining.Kept.{core_of, IsBook}
-use Rattle.tc_core.specs.Replies.{IsAnswer}
+use Rattle.tc_core.specs.Replies.{is_heard, IsAnswer}
+use Rattle.transactions.specs.declared.Site.{Site}
+use Rattle.transactions.specs.InFlight.{site_of}
 use Rattle.tc_core.specs.Joining.Hearing.{MayHear, Accepts}
 use Rattle.tc_core.specs.declared.transaction.Tx.{Tx}
 use Rattle.transactions.proofs.StandingLemmas.{some_same}
 use Rattle.history.specs.Flight.{given}
 use Rattle.tc_core.specs.Joining.Kept.{is_doubted}
+use Rattle.tc_core.proofs.StartLemmas.{starts_event}
 use Rattle.tc_core.proofs.KeyLemmas.{keys-moved}
 use Rattle.tc_core.proofs.MarkedLemmas.{marked-moved}
 use Rattle.tc_core.proofs.KeptLemmas.{seen, Seen, may-answer, kept-answer, slice_get-short, is-answer, answer-accepts}
@@ -22,7 +25,7 @@ returns-then-not-accepts_at-clause-accepted c =
     let w' : Seen core.procs core.events c.args.request.txn at.tx = subst (λ (x : Asking). Seen core.procs core.events x.txn at.tx) c.request.view_is w in (
       λ e. absurd (cc),
       λ a.
-          let b = answer-accepts core c.args.request c.args.reply.number c.args.reply.said at.tx w' a in
+          let b = answer-accepts core c.args.request c.args.reply at.tx w' a in
           let b' = subst (λ (x : Asking). Accepts at.tx x.number x.op c.args.reply.number c.args.reply.said) (sym c.request.view_is) b in
           sym c.if-not-accepts_at.true ∙ (c.accepts_at.ensures at.tx at.found).1 b',
     )
@@ -86,6 +89,7 @@ returns-clause-kept c =
       most = rw more c.requires.most;
       marked = marked-moved _ c.args.self.now.log.events _ _ _ _ _ c.requires.marked (omega (arith, more)) heard.updates (heard.certain ∙ sym (ap (is_doubted _) silent));
       keyed = keys-moved _ _ _ _ at.tx _ c.requires.keyed at.found heard.updates heard.serial;
+      starts = starts_event _ _ _ _ _ c.push.ensures.events c.requires.starts;
     }
 
 pub returns-clause-accepted : goal.returns-clause-accepted
@@ -96,5 +100,9 @@ returns-clause-accepted c =
     let w' : Seen core.procs core.events c.args.request.txn at.tx = subst (λ (x : Asking). Seen core.procs core.events x.txn at.tx) c.request.view_is w in
     let a = (c.accepts_at.ensures at.tx at.found).0 c.if-not-accepts_at.false in
     let a' = subst (λ (x : Asking). Accepts at.tx x.number x.op c.args.reply.number c.args.reply.said) c.request.view_is a in
-    let it = is-answer core c.args.request c.args.reply.number c.args.reply.said at.tx w' a' in
+    let sites = ap (λ (ss : List Site). is_heard (site_of ss c.request.inside.op) c.args.reply) c.as_slice.ensures.value in
+    let here : is_heard (site_of core.sites c.request.inside.op) c.args.reply ≡ true
+        = sym sites ∙ (ap (λ (s : Site). is_heard s c.args.reply) (sym c.site_of.ensures) ∙ (sym c.is_heard.ensures ∙ c.if-not-is_heard.false)) in
+    let heard = subst (λ (x : Asking). is_heard (site_of core.sites x.op) c.args.reply ≡ true) c.request.view_is here in
+    let it = is-answer core c.args.request c.args.reply at.tx w' heard a' in
     (λ e. it, λ b. refl)

@@ -7,6 +7,7 @@ use Rattle.tc_core.specs.declared.transaction.Tx.{Tx}
 use Rattle.tc_core.proofs.ReplyLemmas.{next-unknown, next-known}
 use Rattle.transactions.proofs.StandingLemmas.{some_same}
 use Rattle.history.specs.Flight.{given}
+use Rattle.tc_core.proofs.StartLemmas.{starts_event}
 use Rattle.tc_core.proofs.KeyLemmas.{keys-moved}
 use Rattle.tc_core.proofs.MarkedLemmas.{marked-moved}
 use Rattle.tc_core.proofs.KeptLemmas.{places-absent, seen, may-send, kept-ask}
@@ -66,6 +67,7 @@ returns-in-Asks-clause-kept c =
       most = omega (arith, c.requires.most, more, promised);
       marked = marked-moved _ h _ _ _ _ _ c.requires.marked (omega (arith, more)) (c.send_at.ensures.updates at.tx at.found) (sym (c.requires.marked.early _ late));
       keyed = keys-moved _ _ _ _ at.tx _ c.requires.keyed at.found (c.send_at.ensures.updates at.tx at.found) refl;
+      starts = starts_event _ _ _ _ _ c.push.ensures.events c.requires.starts;
     }
 
 pub returns-in-Waits-clause-reply : goal.returns-in-Waits-clause-reply

@@ -5,6 +5,7 @@ use Rattle.tc_core.specs.Joining.Kept.{core_of, IsBook}
 use Rattle.tc_core.specs.Replies.{end_of, end_reply, after_end}
 use Rattle.tc_core.proofs.ReplyLemmas.{end-unknown, end-known}
 use Rattle.history.specs.Flight.{given}
+use Rattle.tc_core.proofs.StartLemmas.{starts_event}
 use Rattle.tc_core.proofs.KeyLemmas.{keys-ended}
 use Rattle.tc_core.proofs.MarkedLemmas.{marked-ended}
 use Rattle.tc_core.proofs.KeptLemmas.{places-absent, seen, may-end, kept-end}
@@ -81,6 +82,7 @@ returns-clause-kept c =
       most = omega (arith, c.requires.most, same);
       marked = marked-ended _ c.args.self.now.log.events _ _ _ _ c.requires.marked (omega (arith, same)) c.take_out.ensures.updates;
       keyed = keys-ended _ _ _ _ _ at.tx c.requires.keyed at.found c.take_out.ensures.updates (rw (← at.serial) at c.swap_remove.ensures.updates);
+      starts = starts_event _ _ _ _ _ c.push.ensures.events c.requires.starts;
     }
 
 pub returns-clause-reply : goal.returns-clause-reply

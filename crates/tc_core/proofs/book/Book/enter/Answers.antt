@@ -12,6 +12,7 @@ use Rattle.tc_core.specs.Joining.Kept.{is_doubted}
 use Rattle.tc_core.specs.Joining.Running.{Runs}
 use Rattle.tc_core.specs.Joining.Writes.{Writes}
 use Rattle.transactions.proofs.StandingLemmas.{open-serial}
+use Rattle.tc_core.proofs.StartLemmas.{starts_event}
 use Rattle.tc_core.proofs.KeyLemmas.{keys-entered}
 use Rattle.tc_core.proofs.MarkedLemmas.{marked-moved}
 use Rattle.tc_core.proofs.AdmitLemmas.{kept-admit, keeps_fresh, free_same, nothing_new, admitted-length, wanted_locks}
@@ -68,4 +69,5 @@ returns-clause-kept c =
       marked = marked-moved _ b.log.events _ _ _ _ _ m.book.marked (omega (arith, same)) c.insert_reserved-key.ensures.updates (g.locks.1 ∙ sym (ap (is_doubted _) g.fresh.0));
       keyed = keys-entered _ _ _ _ _ c.begin-tx.result m.book.keyed c.insert_reserved-key.ensures.was_vacant c.insert_reserved-key.ensures.updates (rw (← g.names.0) at c.list_key.ensures)
           (λ k ty at same. (let o = m.book.kept.places.stands k ty at in let late = open-serial ps b.log.events m.book.kept.legal ty.serial o.s o.is in let serials = m.book.kept.serials_are in absurd (omega (arith, late.1, same, g.names.0, serials))));
+      starts = starts_event _ _ _ _ _ c.push.ensures.events m.book.starts;
     }

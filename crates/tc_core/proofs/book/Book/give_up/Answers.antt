@@ -70,4 +70,5 @@ returns-clause-kept c =
       most = rw c.add.ensures.most c.requires.most;
       marked = rw c.add.ensures.numbers (marked-doubt core.procs _ _ _ _ _ _ at.tx a.r c.requires.kept.legal c.requires.kept.places c.requires.marked at.found a.waits a.same_number few up);
       keyed = keys-moved _ _ _ _ at.tx _ c.requires.keyed at.found up refl;
+      starts = c.requires.starts;
     }

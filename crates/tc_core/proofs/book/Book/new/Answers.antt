@@ -1,6 +1,7 @@
 use Rattle.std.proofs.Common.{◌≡◌, ℕ, Some, None, arith, refl, ap}
 use Rattle.history.specs.Flight.{given}
 use Rattle.request_numbers.specs.Given.{holds}
+use Rattle.tc_core.proofs.StartLemmas.{starts_none}
 use Rattle.tc_core.proofs.KeptLemmas.{kept-none}
 use Rattle.tc_core.proofs.book.Book.new.Goals as goal
 
@@ -16,4 +17,5 @@ returns-clause-kept c = λ codes good. record {
     keyed = λ key tx at. absurd (let none : None ≡ Some tx = rw c.new.ensures.empty at at in cc);
     listed = λ t key at. absurd (let none : None ≡ Some key = rw c.new-2.ensures.empty at at in cc);
   };
+  starts = rw (c.in_ok-sites.ensures, c.in_ok-starts.ensures, c.new-5.ensures) (starts_none c.args.dcs);
 }

@@ -1,0 +1,305 @@
+//! Whether a log, whoever made it, is one of a transaction component.
+
+ghost use Rattle.std.specs.Prelude.{◌≡◌, ◌↔◌, ◌<◌, ◌∷◌, length, IsTrue, IsFalse, IsOk, IfOk, OnOk, IfErr};
+ghost use Rattle.lock_table.specs.Facts.{AreHeld};
+ghost use Rattle.tc_log.specs.declared.event.Event.TheVariants.{Admit, Ask, Answer, Undo, End};
+ghost use Rattle.history.specs.Calls.{held};
+ghost use Rattle.history.specs.Places.{StandsAt};
+ghost use Rattle.transactions.specs.Standing.{standing};
+ghost use Rattle.transactions.specs.Legal.{Legal, CanAsk, CanAnswer, CanUndo, CanEnd};
+ghost use Rattle.transactions.specs.Reached.{decls};
+ghost use Rattle.transactions.specs.Room.{each_one, total};
+ghost use Rattle.tc_core.specs.Checking.{IsFault};
+ghost use Rattle.tc_core.specs.Joining.Kept.{IsBook};
+ghost use Rattle.tc_core.specs.Joining.Follows.{IsRequest, IsAsked, IsUnlike, awaited_by, awaited_in};
+
+use crate::book::Book;
+use crate::places::{find, sent_at};
+use crate::procs::Procs;
+use crate::state::{Asked, Call, Refusal, Request, Stranger, TxnId};
+use access_slots::op::{Op, Reply, Said};
+use lock_table::table::LockTable;
+use std::alloc::Global;
+use tc_log::event::{Args, Event, Outcome};
+use tc_log::log::Log;
+use transactions::Sent;
+
+/// Why a log isn't found to be legal.
+#[derive(Clone, Copy, Debug, PartialEq, Eq)]
+pub enum CheckFault {
+    /// U1: the event at this place, counted from 0, is the first that isn't allowed behind the ones
+    /// before it.
+    LogIllegal(usize),
+    /// U5: memory ran out.
+    Memory,
+}
+
+/// What stands behind a legal log: the locks that are held, and how many transactions are open.
+#[derive(Drop)]
+pub struct Checked {
+    pub locks: LockTable,
+    pub open: usize,
+}
+
+// Why an event isn't taken into a book.
+#[derive(Clone, Copy)]
+enum Unlike {
+    Illegal,
+    Memory,
+}
+
+// Whether a request is one under this number with this operation. It is spent.
+fn is_request(request: Request, number: u64, op: &Op) -> bool
+    ensures { IsTrue result ↔ IsRequest request number op.now }
+{
+    let Request {
+        txn: _,
+        number: given,
+        op: asked,
+    } = request;
+    given == number && asked == *op
+}
+
+// Whether a book's answer is a request under this number with this operation.
+fn is_asked(asked: Asked, number: u64, op: &Op) -> bool
+    ensures { IsTrue result ↔ IsAsked asked number op.now }
+{
+    match asked {
+        Asked::Request(request) => is_request(request, number, op),
+        Asked::Undoing => false,
+        Asked::Over => false,
+        Asked::Stuck(_) => false,
+        Asked::Waits(_) => false,
+        Asked::Running => false,
+        Asked::Unknown => false,
+    }
+}
+
+// The operation of what is awaited, where it is awaited under this number.
+fn awaited_by(sent: Option<Sent>, number: u64) -> Option<Op>
+    ensures { result ≡ awaited_by sent number }
+{
+    match sent {
+        None => None,
+        Some(sent) => {
+            if sent.number == number {
+                Some(sent.op)
+            } else {
+                None
+            }
+        }
+    }
+}
+
+// Whether a request was answered. One that wasn't is spent.
+fn is_answered(answered: Result<(), Stranger>) -> bool
+    ensures { IsTrue result ↔ IsOk answered }
+{
+    match answered {
+        Ok(()) => true,
+        Err(stranger) => {
+            let Stranger { request } = stranger;
+            let Request {
+                txn: _,
+                number: _,
+                op: _,
+            } = request;
+            false
+        }
+    }
+}
+
+impl Book {
+    // The operation that the transaction awaits under this number.
+    fn awaited(&self, procs: &Procs, txn: u64, number: u64) -> Option<Op>
+        requires { IsBook procs.now.codes self.now }
+        ensures { result ≡ awaited_in (standing self.now.log.events txn) number }
+    {
+        let _ = procs;
+        let Some(key) = find(&self.txns, &self.keys, txn) else {
+            return None;
+        };
+        awaited_by(sent_at(&self.txns, key), number)
+    }
+
+    // Takes an Ask in, where it may come next.
+    fn follow_ask(&mut self, procs: &Procs, txn: u64, number: u64, op: &Op) -> bool
+        requires { IsBook procs.now.codes self.old }
+        ensures kept { IsBook procs.now.codes self.new }
+        ensures sites { length self.new.sites.items ≡ length self.old.sites.items }
+        ensures follows { IsTrue result → self.new.log.events ≡ Ask txn number op.now ∷ self.old.log.events }
+        ensures illegal { IsFalse result → CanAsk procs.now.codes self.old.log.events txn number op.now → ⊥ }
+    {
+        let asked = self.ask(procs, TxnId { serial: txn });
+        is_asked(asked, number, op)
+    }
+
+    // Takes an Undo in, where it may come next.
+    fn follow_undo(&mut self, procs: &Procs, txn: u64, number: u64, op: &Op) -> bool
+        requires { IsBook procs.now.codes self.old }
+        ensures kept { IsBook procs.now.codes self.new }
+        ensures sites { length self.new.sites.items ≡ length self.old.sites.items }
+        ensures follows { IsTrue result → self.new.log.events ≡ Undo txn number op.now ∷ self.old.log.events }
+        ensures illegal { IsFalse result → CanUndo procs.now.codes self.old.log.events txn number op.now → ⊥ }
+    {
+        let asked = self.undo_next(procs, TxnId { serial: txn });
+        is_asked(asked, number, op)
+    }
+
+    // Takes an Answer in, where it may come next.
+    fn follow_answer(&mut self, procs: &Procs, txn: u64, number: u64, said: Said) -> bool
+        requires book { IsBook procs.now.codes self.old }
+        requires sites { length self.old.sites.items ≡ 0 }
+        ensures kept { IsBook procs.now.codes self.new }
+        ensures sites { length self.new.sites.items ≡ length self.old.sites.items }
+        ensures follows { IsTrue result → self.new.log.events ≡ Answer txn number said ∷ self.old.log.events }
+        ensures illegal { IsFalse result → CanAnswer procs.now.codes self.old.log.events txn number said → ⊥ }
+    {
+        let Some(op) = self.awaited(procs, txn, number) else {
+            return false;
+        };
+        let request = Request { txn, number, op };
+        let reply = Reply {
+            number,
+            incarnation: 0,
+            said,
+        };
+        is_answered(self.answer(procs, request, reply))
+    }
+
+    // Takes an End in, where it may come next.
+    fn follow_end(&mut self, procs: &Procs, txn: u64, outcome: Outcome) -> bool
+        requires { IsBook procs.now.codes self.old }
+        ensures kept { IsBook procs.now.codes self.new }
+        ensures sites { length self.new.sites.items ≡ length self.old.sites.items }
+        ensures follows { IsTrue result → self.new.log.events ≡ End txn outcome ∷ self.old.log.events }
+        ensures illegal { IsFalse result → CanEnd procs.now.codes self.old.log.events txn outcome → ⊥ }
+    {
+        match self.end(procs, TxnId { serial: txn }) {
+            Ok(receipt) => receipt.outcome == outcome,
+            Err(_) => false,
+        }
+    }
+
+    // Takes an Admit in, where it may come next.
+    fn follow_admit(
+        &mut self,
+        alloc: Global,
+        procs: &Procs,
+        txn: u64,
+        proc: usize,
+        args: &Args,
+    ) -> Result<(), Unlike>
+        requires { IsBook procs.now.codes self.old }
+        ensures kept { IsBook procs.now.codes self.new }
+        ensures sites { length self.new.sites.items ≡ length self.old.sites.items }
+        ensures follows { OnOk result (self.new.log.events ≡ Admit txn proc args.now ∷ self.old.log.events) }
+        ensures why { IfErr result (IsUnlike procs.now.codes self.old.log.events (Admit txn proc args.now)) }
+    {
+        if self.serials.checked_add(1) != Some(txn) {
+            return Err(Unlike::Illegal);
+        }
+        let Ok(args) = Vec::from_slice(alloc, args.as_slice()) else {
+            return Err(Unlike::Memory);
+        };
+        let call = Call { proc, args };
+        match self.admit(alloc, procs, &call) {
+            Ok(_) => Ok(()),
+            Err(Refusal::NoProcedure) => Err(Unlike::Illegal),
+            Err(Refusal::ArgumentCount) => Err(Unlike::Illegal),
+            Err(Refusal::Busy(_)) => Err(Unlike::Illegal),
+            Err(Refusal::NumbersSpent) => Err(Unlike::Memory),
+            Err(Refusal::Memory) => Err(Unlike::Memory),
+        }
+    }
+
+    // Takes an event in, where it may come next.
+    fn follow(&mut self, alloc: Global, procs: &Procs, event: &Event) -> Result<(), Unlike>
+        requires book { IsBook procs.now.codes self.old }
+        requires sites { length self.old.sites.items ≡ 0 }
+        ensures kept { IsBook procs.now.codes self.new }
+        ensures sites { length self.new.sites.items ≡ length self.old.sites.items }
+        ensures follows { OnOk result (self.new.log.events ≡ event.now ∷ self.old.log.events) }
+        ensures why { IfErr result (IsUnlike procs.now.codes self.old.log.events event.now) }
+    {
+        let follows = match event {
+            Event::Admit { txn, proc, args } => {
+                return self.follow_admit(alloc, procs, *txn, *proc, args);
+            }
+            Event::Ask { txn, number, op } => self.follow_ask(procs, *txn, *number, op),
+            Event::Answer { txn, number, said } => self.follow_answer(procs, *txn, *number, *said),
+            Event::Undo { txn, number, op } => self.follow_undo(procs, *txn, *number, op),
+            Event::End { txn, outcome } => self.follow_end(procs, *txn, *outcome),
+        };
+        if follows {
+            Ok(())
+        } else {
+            Err(Unlike::Illegal)
+        }
+    }
+}
+
+// The event at a place that the log has.
+fn event_at(log: &Log, place: usize) -> &Event
+    requires { place < length log.now.events }
+    ensures { StandsAt log.now.events place result.now }
+{
+    match log.at(place) {
+        Some(event) => event,
+        None => unreachable!(),
+    }
+}
+
+// A book of a log's events, where each is allowed.
+fn book_of(alloc: Global, procs: &Procs, log: &Log) -> Result<Book, CheckFault>
+    ensures kept { IfOk result (IsBook procs.now.codes) }
+    ensures log { IfOk result (λ book. book.log.events ≡ log.now.events) }
+    ensures fault { IfErr result (IsFault procs.now.codes log.now.events) }
+{
+    procs.known();
+    let Ok(mut book) = Book::new(alloc, 0) else {
+        return Err(CheckFault::Memory);
+    };
+    for place in 0..log.len() {
+        match book.follow(alloc, procs, event_at(log, place)) {
+            Ok(()) => {}
+            Err(Unlike::Illegal) => return Err(CheckFault::LogIllegal(place)),
+            Err(Unlike::Memory) => return Err(CheckFault::Memory),
+        }
+    }
+    Ok(book)
+}
+
+/// What stands behind a log, where it is legal.
+pub fn stands_behind(alloc: Global, procs: &Procs, log: &Log) -> Result<Checked, CheckFault>
+    ensures legal { OnOk result (Legal procs.now.codes log.now.events) }
+    ensures locks { IfOk result (λ b. AreHeld b.locks (held (decls procs.now.codes) log.now.events)) }
+    ensures open { IfOk result (λ b. b.open ≡ total each_one log.now.events) }
+    ensures fault { IfErr result (IsFault procs.now.codes log.now.events) }
+{
+    let book = book_of(alloc, procs, log)?;
+    let open = book.open_count(procs);
+    let Book {
+        txns: _,
+        keys: _,
+        locks,
+        numbers: _,
+        log: _,
+        given_up: _,
+        serials: _,
+        owed: _,
+        promised: _,
+        sites: _,
+        starts: _,
+    } = book;
+    Ok(Checked { locks, open })
+}
+
+/// Whether a log is legal: each event was allowed behind the ones before it.
+pub fn check_log(alloc: Global, procs: &Procs, log: &Log) -> Result<(), CheckFault>
+    ensures legal { OnOk result (Legal procs.now.codes log.now.events) }
+    ensures fault { IfErr result (IsFault procs.now.codes log.now.events) }
+{
+    let _book = book_of(alloc, procs, log)?;
+    Ok(())
+}
