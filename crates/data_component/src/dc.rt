@@ -161,11 +161,7 @@ impl Dc {
         let said = rows::perform(&mut self.rows, has_room, op);
         keep(&mut self.kept, number, self.performed.len());
         self.performed.push_reserved((number, *op, said));
-        Some(Reply {
-            number,
-            incarnation: self.incarnation,
-            said,
-        })
+        Some(self.reply(number, said))
     }
 
     /// Keeps the list and the mark, and says the mark. It takes no memory.

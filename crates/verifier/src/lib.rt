@@ -2,14 +2,14 @@
 //! answers to its questions.
 #![tactic(auto)]
 
-pub mod first_pass;
+mod first_pass;
 pub mod flat;
-pub mod pending;
+mod pending;
 #[cfg(test)]
 mod plain_verify;
 #[cfg(test)]
 mod refusal_tests;
-pub mod second_pass;
+mod second_pass;
 #[cfg(test)]
 mod tests;
 pub mod verify;
