@@ -1,7 +1,7 @@
 /* Accounts: a record of table 0 has the balance in its first eight bytes. */
 #include "../procedure.h"
 
-enum { UNKNOWN_ACCOUNT = 1, TOO_LITTLE = 2 };
+enum { UNKNOWN_ACCOUNT = 1, TOO_LITTLE = 2, SAME_ACCOUNT = 3 };
 
 /* deposit ACCOUNT AMOUNT: opens the account where there is none. */
 PROCEDURE(deposit) {
@@ -15,9 +15,12 @@ PROCEDURE(deposit) {
     return record_insert(0);
 }
 
-/* move FROM TO AMOUNT: aborts with 1 where an account is unknown, with 2 where the balance is too small. */
+/* move FROM TO AMOUNT: aborts with 1 where an account is unknown, with 2 where the balance is too small, with 3
+ * where both are one account: its two buffers would each hold the balance of before, and the second would stay. */
 PROCEDURE(move) {
     u64 amount = args[2];
+    if (args[0] == args[1])
+        return SAME_ACCOUNT;
     u64 *from = record_read(0);
     if (!from)
         return UNKNOWN_ACCOUNT;
