@@ -20,6 +20,7 @@ import time
 TOP = os.path.dirname(os.path.dirname(os.path.realpath(__file__)))
 PARTS = ("src", "specs", "proofs")
 GIGABYTE = 1 << 30
+SHORTEST = 5  # seconds: what took less was built before, and says nothing of the pace
 
 
 class Crate:
@@ -151,7 +152,8 @@ class Plan:
             if proof.run.returncode:
                 return proof
             self.running.remove(proof)
-            self.seen.append((time.time() - proof.began, proof.crate.work))
+            if (took := time.time() - proof.began) > SHORTEST:
+                self.seen.append((took, proof.crate.work))
             proof.bring_back()
             self.tell_of(proof.crate)
         return None
@@ -161,7 +163,7 @@ class Plan:
         open_ones = [*self.left, *(it.crate for it in self.running)]
         done = self.count - len(open_ones)
         text = f"{done} of {self.count} crates proved ({crate.name}), {clock(time.time() - self.began)} so far"
-        if open_ones:
+        if open_ones and self.seen:
             pace = sum(it for it, _ in self.seen) / sum(it for _, it in self.seen)
             chain = max(self.behind[it] for it in open_ones)
             text += f", some {clock(pace * max(chain, sum(it.work for it in open_ones) / self.lanes))} left"

@@ -12,3 +12,6 @@ mod mnemonic;
 pub mod number;
 mod operand;
 mod parts;
+
+pub use assemble::AsmFault;
+pub use line::LineFault;

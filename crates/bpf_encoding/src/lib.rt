@@ -10,3 +10,8 @@ pub mod encode;
 pub mod insn;
 mod read;
 pub mod slot;
+
+pub use code::{Code, MOST_SLOTS};
+pub use decode::DecodeFault;
+pub use insn::{Insn, Place, Register};
+pub use slot::{Outside, SlotFault};

@@ -8,3 +8,8 @@ pub mod memory;
 pub mod pause;
 mod registers;
 mod state;
+
+pub use layout::Layout;
+pub use machine::Machine;
+pub use memory::Memory;
+pub use pause::Pause;

@@ -6,3 +6,5 @@ mod plain_table;
 pub mod table;
 #[cfg(test)]
 mod tests;
+
+pub use table::{Busy, LockTable};

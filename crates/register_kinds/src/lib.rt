@@ -5,3 +5,7 @@ pub mod effect;
 pub mod kind;
 pub mod kinds;
 pub mod transfer;
+
+pub use effect::Effect;
+pub use kind::{Kind, Violation};
+pub use kinds::{Kinds, Ways};

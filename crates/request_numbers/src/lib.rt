@@ -5,3 +5,5 @@
 pub mod numbers;
 #[cfg(test)]
 mod tests;
+
+pub use numbers::Numbers;

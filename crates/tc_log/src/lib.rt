@@ -7,3 +7,7 @@ mod print;
 pub mod read;
 #[cfg(test)]
 mod tests;
+
+pub use event::{Args, Event, Outcome};
+pub use log::Log;
+pub use read::LogFault;

@@ -13,3 +13,6 @@ mod second_pass;
 #[cfg(test)]
 mod tests;
 pub mod verify;
+
+pub use flat::FlatCode;
+pub use verify::{Verified, VerifyFault};

@@ -2,7 +2,7 @@
 //! what each did, what the data components keep and, where it is wanted, the log.
 //!
 //! ```
-//! let report = world(alloc, true, "dc 8 64\n...\nstep admit put 5 100\nstep ask 1\n")?;
+//! let report = world(alloc, true, "dc 8 64\n...\nadmit put 5 100\nask 1\n")?;
 //! // report.status is 0 where each step was possible, and 1 otherwise
 //! ```
 #![tactic(auto)]
