@@ -1,8 +1,8 @@
 #!/usr/bin/env python3
-"""outside_rows.py: code and answers of others as rows for the definitions.
+"""outside_rows.py: code and the answers that others give to it, as rows for the definitions.
 
-outside/SUITE/cases.jsonl has code as hex, its arguments and the answer that the suite's own tool
-gave; outside/README.md says where each suite comes from. Each case becomes a lemma of
+outside/SUITE/cases.jsonl has code as hex, its arguments and the answer of an interpreter or a
+compiler; outside/README.md says where each suite comes from. Each case becomes a lemma of
 crates/semantics/proofs/SUITERows.antt: the definitions, computed by the prover on these bytes,
 give that answer. A suite that is too long for one file is cut into SUITERows1.antt, SUITERows2.antt
 and so on. Writes these files."""
@@ -16,21 +16,17 @@ PROOFS = os.path.join(HERE, "..", "crates", "semantics", "proofs")
 
 LINES_IN_A_FILE = 780
 
-HEAD = """-- Code and answers of others: {said}.
+HEAD = """-- Code, and answers of others to it: {said}.
 -- The definitions, computed, give these answers.
 -- A slot is written as the 64-bit number that its bytes are, little-endian. Made by tools/outside_rows.py.
 use Rattle.std.proofs.Common.{{◌≡◌, [], ◌∷◌, Some, refl}}
-use Rattle.semantics.specs.Row.{{{words}}}
+use Rattle.semantics.specs.Row.{{answer_to}}
 """
 
 SAID = {
     "atomics": "the Linux kernel's interpreter, on programs with each atomic operation",
     "boundaries": "the Linux kernel's interpreter, on programs at the boundaries of each instruction",
     "c-functions": "compiled C functions, and what the same functions answer on the host",
-    "dpdk": "DPDK's tests of its BPF library",
-    "each-opcode": "cases of the other suites' sources, chosen so that each opcode is there",
-    "kernel-test-bpf": "the Linux kernel's lib/test_bpf.c",
-    "kernel-verifier-progs": "the Linux kernel's programs for its verifier",
 }
 
 
@@ -51,25 +47,14 @@ def wrapped(statement):
     return lines.replace("\0", " ")
 
 
-def is_row(case):
-    """Whether it is code of this profile whose answer is told."""
-    return not case.get("note", "").startswith("reads before written")
-
-
 def rows(path, suite):
     with open(path) as file:
         for number, line in enumerate(file):
             case = json.loads(line)
-            if not is_row(case):
-                continue
-            wanted = case["expected"] if case["compare"] == "u64" else case.get("whole")
-            word = "answer_to"
-            if wanted is None:
-                word, wanted = "low_answer_to", case["expected"] % 2**32
             args = listed(str(a) for a in case["args"])
             name = f"{suite.replace('-', '_')}_{number}"
-            statement = f"{name} : {word} ({listed(slots(case['hex']))}) ({args}) ≡ Some {wanted}"
-            yield word, f"-- {case['name']}\n{wrapped(statement)}\n{name} = refl\n"
+            statement = f"{name} : answer_to ({listed(slots(case['hex']))}) ({args}) ≡ Some {case['expected']}"
+            yield f"-- {case['name']}\n{wrapped(statement)}\n{name} = refl\n"
 
 
 def files(suite, made):
@@ -77,10 +62,10 @@ def files(suite, made):
     parts = [[]]
     lines = 0
     for row in made:
-        lines += row[1].count("\n") + 1
+        lines += row.count("\n") + 1
         if lines > LINES_IN_A_FILE:
             parts.append([])
-            lines = row[1].count("\n") + 1
+            lines = row.count("\n") + 1
         parts[-1].append(row)
     module = "".join(part.capitalize() for part in suite.split("-")) + "Rows"
     for number, part in enumerate(parts, 1):
@@ -88,9 +73,8 @@ def files(suite, made):
 
 
 def write(module, suite, made):
-    words = [word for word in ("answer_to", "low_answer_to") if any(word == used for used, _ in made)]
     with open(os.path.join(PROOFS, module + ".antt"), "w") as file:
-        file.write(HEAD.format(said=SAID[suite], words=", ".join(words)) + "\n" + "\n".join(text for _, text in made))
+        file.write(HEAD.format(said=SAID[suite]) + "\n" + "\n".join(made))
     print(module, len(made))
 
 

@@ -14,11 +14,11 @@ def number(register, value):
     return f"r{register} = {value} ll"
 
 
-def around(said, zero=OTHER, one=OTHER, at="r10 - 8"):
-    """The operation on the old number, and a sum that tells memory and both registers."""
-    before = [number(2, OLD), "*(u64 *)(r10 - 8) = r2", "*(u64 *)(r10 - 16) = r2", number(0, zero), number(1, one)]
+def around(said, zero):
+    """What is said of the old number, and a sum that tells memory and both registers."""
+    before = [number(2, OLD), "*(u64 *)(r10 - 8) = r2", "*(u64 *)(r10 - 16) = r2", number(0, zero), number(1, OTHER)]
     after = ["r0 *= 31", "r0 += r1", "r0 *= 31", "r3 = *(u64 *)(r10 - 8)", "r0 += r3", "r0 *= 31", "r3 = *(u64 *)(r10 - 16)", "r0 += r3"]
-    return before + [said.replace("AT", at)] + after
+    return before + said + after
 
 
 def plain():
@@ -32,17 +32,15 @@ def plain():
 
 
 def compared():
-    yield "cmpxchg_dw", "r0 = cmpxchg_64(AT, r0, r1)"
-    yield "cmpxchg_w", "w0 = cmpxchg32_32(AT, w0, w1)"
+    yield "cmpxchg_dw", "r0 = cmpxchg_64(r10 - 8, r0, r1)"
+    yield "cmpxchg_w", "w0 = cmpxchg32_32(r10 - 8, w0, w1)"
 
 
 def programs():
-    for one in (OTHER, 1, 2**64 - OLD, 2**32 - LOW_OF_OLD):
-        for name, said in plain():
-            yield f"{name} with {one:#x}", around(said, one=one) + ["exit"]
+    # the second time across both numbers, with what the first one left in register 1
     for name, said in plain():
-        yield f"{name} at an odd address", around(said, at="r10 - 13") + ["exit"]
+        yield name, around([said.replace("AT", at) for at in ("r10 - 8", "r10 - 13")], OTHER) + ["exit"]
     # equal in all bits, in the low half alone, in the high half alone, in none
     for zero in (OLD, OTHER - OTHER % 2**32 + LOW_OF_OLD, OLD ^ 1, LOW_OF_OLD, OTHER):
         for name, said in compared():
-            yield f"{name} against {zero:#x}", around(said, zero=zero) + ["exit"]
+            yield f"{name} against {zero:#x}", around([said], zero) + ["exit"]
