@@ -1,5 +1,5 @@
 -- Atomic operations: worked rows, and the traps that they can have, by what the prover computes.
-use Rattle.std.proofs.Common.{◌≡◌, ℕ, List, [], ◌∷◌, ◌++◌, Some, None, refl}
+use Rattle.std.proofs.Common.{◌≡◌, ℕ, List, [], ◌∷◌, ◌++◌, Some, refl}
 use Rattle.std.specs.List.{range_with_len}
 use Rattle.std.specs.Int.{w64, to_le_bytes}
 use Rattle.access_slots.specs.declared.slot.Record.{Record}
