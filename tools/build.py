@@ -34,7 +34,20 @@ class Crate:
         files = [f"{at}/{it}" for part in PARTS for at, _, names in os.walk(f"{self.folder}/{part}") for it in names]
         self.work = sum(count_of_lines(it) * (3 if it.endswith(".rt") else 1) for it in files if not it.endswith("tests.rt"))
         # A check takes one gigabyte, and more by what it proves and what it loads of the crates below.
-        self.memory = GIGABYTE + (self.work // 2 + sum(it.work for it in self.below) // 20) * 1_000_000
+        self.memory = GIGABYTE + (self.work // 3 + sum(it.work for it in self.below) // 40) * 1_000_000
+
+    def stored_words(self):
+        """The words that the program is run with."""
+        path = f"{self.folder}/args"
+        if not os.path.isfile(path):
+            return []
+        with open(path, encoding="utf-8") as it:
+            return it.read().split("\n")[:-1]
+
+    def stored_input(self):
+        """The file that it is run on."""
+        path = f"{self.folder}/stdin"
+        return path if os.path.isfile(path) else os.devnull
 
 
 class Known(dict):
@@ -95,9 +108,9 @@ class Proof:
     def begun(self):
         words, given = ["rt", "lib", "--jobs", str(self.jobs)], os.devnull
         if self.crate.is_program:
-            with open(f"{self.crate.folder}/args", encoding="utf-8") as it:
-                words = ["rt", "run", "--jobs", str(self.jobs), "--", *it.read().split("\n")[:-1]]
-            given = f"{self.crate.folder}/stdin"
+            # To build a program is to run it, here on what is stored for it.
+            words = ["rt", "run", "--jobs", str(self.jobs), "--", *self.crate.stored_words()]
+            given = self.crate.stored_input()
         with open(given, "rb") as given, open(f"{self.place}/said", "wb") as said:
             where = f"{self.place}/crates/{self.crate.name}"
             return subprocess.Popen(words, cwd=where, stdin=given, stdout=said, stderr=subprocess.STDOUT, start_new_session=True)
