@@ -19,7 +19,7 @@ import subprocess
 import sys
 import time
 
-from plain_model import replayed
+from plain_log import replayed
 
 TOP = pathlib.Path(__file__).resolve().parent.parent
 BENCH = TOP / "crates" / "bench" / "out" / "bench"
