@@ -26,7 +26,7 @@ import sys
 import tempfile
 import time
 
-from plain_log import alone, audit, read_event, replayed, serial
+from plain_log import alone, audit, read_log, replayed, serial
 from plain_model import PROCEDURES, TEXTS, ZEROS, World, fits, put_at, record_text, said_text, value_text
 
 TOP = pathlib.Path(__file__).resolve().parent.parent
@@ -221,18 +221,18 @@ class Steps:
         illegal = int(any(line.startswith(("illegal", "refused")) for line in wanted))
         if status != illegal:
             return len(printed), f"status {status}, wanted {illegal}"
-        why = replayed(world.log, self.names, world.notes) or self.unexplained(world)
+        why = replayed(read_log(world.log), self.names, world.notes) or self.unexplained(world)
         return why and (len(printed), why)
 
     def unexplained(self, world):
         """Why the calls one after another don't explain this world, or None; forged replies are no lies of theirs."""
         if any(step[0] == "forge" for step in self.parts):
             return None
-        return serial(world.log, self.names, {d: world.dcs[d].rows for d in world.heard()})
+        return serial(read_log(world.log), self.names, {d: world.dcs[d].rows for d in world.heard()})
 
     def audited(self, procd, world):
         """The line of the audit, where it is asked for."""
-        return [audit([read_event(data) for data in world.log], self.names, world.dcs)] if procd.audit else []
+        return [audit(read_log(world.log), self.names, world.dcs)] if procd.audit else []
 
     def made(self):
         for step, line in zip(self.parts, self.told()[0]):

@@ -1,8 +1,8 @@
 """What holds of every log by itself, and of the data components beside it, by the plain model alone.
 
-A log is a list of events of 96 bytes. `replayed`: which locks and operations may be together; `legal`: which
-event may come next; `serial`: the calls one after another; `audit`: all of that beside the lists and rows of the
-data components, in the words that procd prints.
+A log is a list of events, which `read_log` makes of their bytes. `replayed`: which locks and operations may be
+together; `Legal`: which event may come next; `serial`: the calls one after another; `audit`: all of that beside
+the lists and rows of the data components, in the words that procd prints.
 """
 import collections
 
@@ -27,6 +27,10 @@ def read_event(data):
     if kind == ANSWER:
         said = {1: ("value", value), 4: ("done", value)}.get(sub) or ANSWERS[sub]
     return Event(kind, sub, txn, word, op, said, tuple(args[:sub]))
+
+
+def read_log(records):
+    return [read_event(data) for data in records]
 
 
 def outcome_of(event):
@@ -101,9 +105,8 @@ class Replay:
             reads_only[record] = is_read
         return None
 
-    def event(self, data):
+    def event(self, event):
         """Takes an event in, and answers why it can't come here, or None."""
-        event = read_event(data)
         takes = {ADMIT: self.admitted, ASK: self.sent, ANSWER: self.answered, UNDO: self.sent, END: self.finished}
         return takes[event.kind](event)
 
@@ -186,6 +189,10 @@ class Legal:
         takes = {ADMIT: self.admits, ASK: self.sends, ANSWER: self.answers, UNDO: self.sends, END: self.ends}
         return takes[event.kind](event)
 
+    def first_illegal(self, log):
+        """Takes events in up to the first that can't come there, whose place is answered, or None."""
+        return next((place for place, event in enumerate(log) if not self.event(event)), None)
+
 
 # ---- calls one after another
 
@@ -207,7 +214,7 @@ def serial(log, names, dcs):
     `dcs` has the rows of those data components that are up, by number. A call that got no room leaves nothing.
     """
     rows, calls = {}, {}
-    for event in map(read_event, log):
+    for event in log:
         if event.kind == ADMIT:
             calls[event.txn] = (names[event.word], event.args)
         if event.kind == END:
@@ -274,15 +281,15 @@ def other_rows(dcs, left, held):
 
 
 def audit(log, names, dcs):
-    """The line of an audit of these events and data components."""
-    legal, ended = Legal(names), 0
-    for place, event in enumerate(log):
-        if not legal.event(event):
-            return f"refused U1 LogIllegal place {place}"
-        ended += event.kind == END
+    """The line of an audit of this log and these data components."""
+    legal = Legal(names)
+    place = legal.first_illegal(log)
+    if place is not None:
+        return f"refused U1 LogIllegal place {place}"
     numbers = Numbers(log)
     why = numbers.not_asked(dcs)
     if not why:
         why, left = numbers.mismatch(dcs)
     why = why or other_rows(dcs, left, {record for txn in legal.txns.values() for record in txn.locks})
+    ended = sum(event.kind == END for event in log)
     return f"refused {why}" if why else f"audit ok ended {ended} open {len(legal.txns)}"

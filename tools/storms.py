@@ -5,11 +5,14 @@ usage: tools/storms.py [--bench PATH] [--runs N] [--calls N] [--workers N] [--se
 
 Each run is one of `bench trace`: so many calls that move 1 between two of a thousand records, by so
 many workers, over a link that loses, repeats, delays, forges and answers late, and over a data
-component that restarts, at random from the run's seed. Its log is gone through by the plain model,
-which shares no code with the crates: numbers are given out one after another, each operation is
-covered by its transaction's locks, locks that are held and operations in flight don't exclude each
-other, an answer belongs to an operation in flight, and there is an End for each call that was
-answered by one. A difference is told with its seed, and the status is then 1.
+component that keeps checkpoints and restarts, whose news are lost, late and repeated, at random from
+the run's seed. Behind it the component restarts once more, is redone, and is audited with the log.
+The log is gone through by the plain model, which shares no code with the crates: numbers are given
+out one after another, each operation is covered by its transaction's locks, locks that are held and
+operations in flight don't exclude each other, an answer belongs to an operation in flight; each event
+is the one that its transaction's procedure comes to; the calls one after another, in the order of
+their Ends, end the same; and there is an End for each call that was answered by one. A difference is
+told with its seed, and the status is then 1.
 
 crates/bench/out/bench has to be there: `rt run` in crates/bench builds it.
 """
@@ -19,36 +22,45 @@ import subprocess
 import sys
 import time
 
-from plain_log import replayed
+from plain_log import END, Legal, read_log, replayed, serial
 
 TOP = pathlib.Path(__file__).resolve().parent.parent
 BENCH = TOP / "crates" / "bench" / "out" / "bench"
 RECORDS = 1000
 EVENT = 96
-END, COMMITTED = 5, 1
+COMMITTED = 1
+PROCEDURES = ["put", "move"]
 
 
 def traced(bench, workers, calls, seed):
-    """What a run counted, and the events of its log."""
+    """What a run counted, what its audit said, and the events of its log."""
     words = [bench, "trace", str(seed), str(workers), str(calls)]
     ran = subprocess.run(words, stdin=subprocess.DEVNULL, capture_output=True, text=True)
     if ran.returncode != 0:
         sys.exit(f"seed {seed}: {bench} ended with status {ran.returncode}: {ran.stderr.strip()}")
-    said, text = ran.stdout.split("\n", 1)
+    said, audit, text = ran.stdout.split("\n", 2)
     words = said.split()
     counts = {"committed": words[1], "in doubt": words[4], "blocked": words[6], "other": words[8]}
     data = bytes.fromhex(text)
-    return {name: int(count) for name, count in counts.items()}, [data[i : i + EVENT] for i in range(0, len(data), EVENT)]
+    log = read_log(data[i : i + EVENT] for i in range(0, len(data), EVENT))
+    return {name: int(count) for name, count in counts.items()}, audit, log
 
 
-def difference(counts, log, calls):
+def difference(counts, audit, log, calls):
     """What is wrong with a run, or None."""
     if sum(counts.values()) != calls or counts["other"]:
         return f"the calls ended as {counts}"
-    committed = sum(event[0] == END and event[1] == COMMITTED for event in log)
+    ends = [event for event in log if event.kind == END]
+    committed = sum(event.sub == COMMITTED for event in ends)
     if committed != RECORDS + counts["committed"]:
         return f"{committed} committed Ends, and {counts['committed']} calls answered committed behind {RECORDS}"
-    return replayed(log, ["put", "move"])
+    legal = Legal(PROCEDURES)
+    place = legal.first_illegal(log)
+    if place is not None:
+        return f"event {place}: no procedure comes to it"
+    if audit != f"audit ok ended {len(ends)} open {len(legal.txns)}":
+        return f"{len(ends)} ended, {len(legal.txns)} are open: {audit}"
+    return replayed(log, PROCEDURES) or serial(log, PROCEDURES, {})
 
 
 def main():
@@ -61,8 +73,8 @@ def main():
     options = parser.parse_args()
     total, events, begun = {}, 0, time.monotonic()
     for seed in range(options.seed, options.seed + options.runs):
-        counts, log = traced(options.bench, options.workers, options.calls, seed)
-        why = difference(counts, log, options.calls)
+        counts, audit, log = traced(options.bench, options.workers, options.calls, seed)
+        why = difference(counts, audit, log, options.calls)
         if why:
             sys.exit(f"seed {seed}: {why}")
         events += len(log)

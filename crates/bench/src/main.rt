@@ -11,6 +11,7 @@ mod procedures;
 mod steps;
 mod store;
 mod storm;
+mod weather;
 
 use code::{Done, read_workload};
 use std::alloc::Global;
@@ -19,7 +20,7 @@ use std::io::{Read, Write};
 use std::process::ExitCode;
 use std::sync::Wait;
 use std::thread::Threads;
-use storm::Weathered;
+use weather::Weathered;
 
 const USAGE: &str = "usage:
   bench code LOADS RUNS < WORKLOADS    decodes and verifies each workload LOADS times, runs it RUNS times
@@ -27,11 +28,12 @@ const USAGE: &str = "usage:
   bench locks HELD TIMES               HELD transactions hold a lock; one more takes and gives back TIMES
   bench numbers OPEN TIMES             OPEN numbers are open; one more is given out and answered TIMES
   bench log EVENTS TIMES               prints and reads a log of EVENTS events TIMES
-  bench store ROWS UPDATES RESTARTS    inserts ROWS records, UPDATES them in turn, and RESTARTS
+  bench store ROWS UPDATES RESTARTS    inserts ROWS records, UPDATES them in turn, keeps a checkpoint, and RESTARTS
   bench steps ENDED OPEN TIMES         ENDED transactions have ended, OPEN are open; one more is run to its end TIMES
   bench calls WORKERS CALLS            CALLS move an amount between two of 1000 records, by WORKERS at once
   bench rings WORKERS CALLS            the same over a data component in a thread of its own
-  bench storm SEED WORKERS CALLS       the same over a link that loses, repeats, delays, forges and answers late
+  bench storm SEED WORKERS CALLS       the same over a link that loses, repeats, delays, forges and answers late, to a
+                                       data component that keeps checkpoints and restarts, and an audit of it
   bench trace SEED WORKERS CALLS       the same, and the events of its log, 192 hex digits each
 ";
 
@@ -59,10 +61,9 @@ fn report(alloc: Global, done: &Done) -> Option<String> {
 
 fn weathered(alloc: Global, weathered: &Weathered) -> Option<String> {
     let ended = &weathered.ended;
-    let log = weathered.log.as_ref()?;
     format!(in alloc;
-        "committed {} in doubt {} blocked {} other {}\n{}",
-        ended.committed, ended.in_doubt, ended.blocked, ended.other, log
+        "committed {} in doubt {} blocked {} other {}\n{}{}",
+        ended.committed, ended.in_doubt, ended.blocked, ended.other, weathered.audit, weathered.log
     )
     .ok()
 }
@@ -88,7 +89,7 @@ fn line_of<R: Threads + Wait + Sync>(
         "storm" | "trace" => {
             let calls = number(words, 4)?;
             let traced = words.get(1)?.as_str() == "trace";
-            let ended = storm::repeat(rt, alloc, first, second, calls, traced)?;
+            let ended = weather::repeat(rt, alloc, first, second, calls, traced)?;
             return weathered(alloc, &ended);
         }
         _ => return None,
