@@ -15,6 +15,7 @@ crates/procd/out/procd and crates/bench/out/bench have to be there: `rt run` in 
 import argparse
 import pathlib
 import random
+import re
 import subprocess
 import sys
 import tempfile
@@ -56,7 +57,7 @@ def by_script(procd, calls, seed):
 def by_storm(bench, calls, seed):
     words = [bench, "storm", str(seed), "8", str(calls)]
     ran = subprocess.run(words, stdin=subprocess.DEVNULL, capture_output=True, text=True)
-    good = ran.returncode == 0 and " other 0\naudit ok " in ran.stdout
+    good = ran.returncode == 0 and bool(re.search(r" other 0 restarts \d+\naudit ok ", ran.stdout))
     print(f"storm of seed {seed}: {', '.join(ran.stdout.splitlines())}{'' if good else ' WRONG'}", flush=True)
     return good
 

@@ -20,7 +20,7 @@ use std::io::{Read, Write};
 use std::process::ExitCode;
 use std::sync::Wait;
 use std::thread::Threads;
-use weather::Weathered;
+use weather::{Weather, Weathered};
 
 const USAGE: &str = "usage:
   bench code LOADS RUNS < WORKLOADS    decodes and verifies each workload LOADS times, runs it RUNS times
@@ -35,6 +35,8 @@ const USAGE: &str = "usage:
   bench storm SEED WORKERS CALLS       the same over a link that loses, repeats, delays, forges and answers late, to a
                                        data component that keeps checkpoints and restarts, and an audit of it
   bench trace SEED WORKERS CALLS       the same, and the events of its log, 192 hex digits each
+  bench restarts SEED WORKERS CALLS    the same as trace over a link that loses nothing, to a data component that keeps
+                                       a checkpoint at every fifth wire and restarts at every seventh
 ";
 
 // The number that a word is.
@@ -61,8 +63,9 @@ fn report(alloc: Global, done: &Done) -> Option<String> {
 
 fn weathered(alloc: Global, weathered: &Weathered) -> Option<String> {
     let ended = &weathered.ended;
+    let restarts = weathered.restarts;
     format!(in alloc;
-        "committed {} in doubt {} blocked {} other {}\n{}{}",
+        "committed {} in doubt {} blocked {} other {} restarts {restarts}\n{}{}",
         ended.committed, ended.in_doubt, ended.blocked, ended.other, weathered.audit, weathered.log
     )
     .ok()
@@ -86,13 +89,11 @@ fn line_of<R: Threads + Wait + Sync>(
         "steps" => steps::repeat(alloc, first, second, number(words, 4)?)?,
         "calls" => calls::repeat(rt, alloc, first, second)?,
         "rings" => calls::repeat_served(rt, alloc, first, second)?,
-        "storm" | "trace" => {
+        word => {
             let calls = number(words, 4)?;
-            let traced = words.get(1)?.as_str() == "trace";
-            let ended = weather::repeat(rt, alloc, first, second, calls, traced)?;
+            let ended = weather::repeat(rt, alloc, Weather::of_word(word)?, first, second, calls)?;
             return weathered(alloc, &ended);
         }
-        _ => return None,
     };
     format!(in alloc; "count {}\n", count).ok()
 }

@@ -49,6 +49,32 @@ impl Link for Calm<'_> {
     }
 }
 
+/// The same data component over a link that loses nothing, where it keeps a checkpoint at every fifth
+/// wire and restarts at every seventh.
+#[derive(Drop)]
+pub struct Regular<'a> {
+    pub storm: &'a Storm,
+    pub carried: AtomicU64,
+}
+
+impl Link for Regular<'_> {
+    fn carry<R: Wait>(&self, rt: &R, _worker: usize, wire: &Wire) -> Option<Reply> {
+        let carried = self.carried.fetch_add(1, Ordering::Relaxed);
+        if carried % 7 == 6 {
+            self.storm.restart(rt);
+        }
+        let reply = self.storm.perform(rt, wire);
+        if carried % 5 == 4 {
+            self.storm.checkpoint(rt);
+        }
+        reply
+    }
+
+    fn news<R: Wait>(&self, rt: &R, _worker: usize, _dc: u16) -> Option<News> {
+        self.storm.told.lock(rt).last
+    }
+}
+
 // The output function of splitmix64 (Steele, Lea, Flood, 2014).
 const fn mixed(seed: u64) -> u64 {
     let first = (seed ^ (seed >> 30)).wrapping_mul(0xbf58_476d_1ce4_e5b9);
@@ -84,6 +110,10 @@ impl Storm {
         self.dc.lock(rt).perform(wire)
     }
 
+    fn checkpoint<R: Wait>(&self, rt: &R) {
+        let _mark = self.dc.lock(rt).checkpoint();
+    }
+
     fn restart<R: Wait>(&self, rt: &R) {
         let news = self.dc.lock(rt).restart().ok();
         let mut told = self.told.lock(rt);
@@ -96,7 +126,7 @@ impl Storm {
     // What befalls the data component before a wire comes.
     fn befall<R: Wait>(&self, rt: &R, drawn: u64, redo: bool) {
         if drawn.is_multiple_of(CHECKPOINTS) {
-            let _mark = self.dc.lock(rt).checkpoint();
+            self.checkpoint(rt);
         }
         let restarts = if redo { RESTARTS_IN_REDO } else { RESTARTS };
         if (drawn >> 16).is_multiple_of(restarts) {

@@ -2,11 +2,12 @@
 
 use crate::calls::{RECORDS, moves, puts, store};
 use crate::procedures::state;
-use crate::storm::{Calm, Storm};
+use crate::storm::{Calm, Regular, Storm};
 use audit::auditing::audit;
 use data_component::dc::Dc;
 use std::alloc::Global;
 use std::sync::Wait;
+use std::sync::atomic::AtomicU64;
 use std::thread::Threads;
 use tc_core::state::{Call, Redo, TcState};
 use worker_pool::{Answer, OpenGate, Report, run};
@@ -22,11 +23,35 @@ pub struct Ended {
     pub other: u64,
 }
 
-/// How the calls ended, a line of the audit, and where they are asked for the events of the log as
-/// hex text.
+/// What a run is over, and whether its log is asked for.
+#[derive(Clone, Copy, Debug, PartialEq, Eq)]
+pub enum Weather {
+    /// A storm.
+    Storm,
+    /// A storm, and the log is asked for.
+    Traced,
+    /// A link that loses nothing, and a data component that restarts all the time; the log is asked for.
+    Regular,
+}
+
+impl Weather {
+    /// The weather of this command, if it has one.
+    pub fn of_word(word: &str) -> Option<Weather> {
+        match word {
+            "storm" => Some(Weather::Storm),
+            "trace" => Some(Weather::Traced),
+            "restarts" => Some(Weather::Regular),
+            _ => None,
+        }
+    }
+}
+
+/// How the calls ended, how often the data component restarted, a line of the audit, and where they
+/// are asked for the events of the log as hex text.
 #[derive(Drop)]
 pub struct Weathered {
     pub ended: Ended,
+    pub restarts: u64,
     pub audit: String,
     pub log: String,
 }
@@ -53,8 +78,8 @@ fn counted(report: &Report) -> Ended {
 }
 
 // The events of the report's log as hex text, where they are asked for.
-fn events(alloc: Global, report: &Report, traced: bool) -> Option<String> {
-    if !traced {
+fn events(alloc: Global, report: &Report, weather: Weather) -> Option<String> {
+    if weather == Weather::Storm {
         return Some(String::new(alloc));
     }
     let bytes = report.state.log().print(alloc).ok()?;
@@ -110,52 +135,58 @@ fn put_all<R: Threads + Wait + Sync>(
     .ok()
 }
 
-// Runs the calls over the storm.
-fn weather<R: Threads + Wait + Sync>(
+// Runs the calls over the storm, or over its data component alone.
+fn run_all<R: Threads + Wait + Sync>(
     rt: &R,
     alloc: Global,
     state: TcState,
     calls: &[Call],
     workers: usize,
-    storm: Storm,
-    traced: bool,
-) -> Option<Weathered> {
-    let report = run(rt, alloc, state, calls, workers, TRIES, &storm, &OpenGate).ok()?;
+    storm: &Storm,
+    weather: Weather,
+) -> Option<Report> {
+    if weather == Weather::Regular {
+        let carried = AtomicU64::new(0);
+        let link = Regular { storm, carried };
+        return run(rt, alloc, state, calls, workers, TRIES, &link, &OpenGate).ok();
+    }
+    run(rt, alloc, state, calls, workers, TRIES, storm, &OpenGate).ok()
+}
+
+// What came of a run, and of its data component.
+fn weathered(alloc: Global, report: Report, dc: Dc, weather: Weather) -> Option<Weathered> {
     let ended = counted(&report);
-    let log = events(alloc, &report, traced)?;
+    let restarts = dc.incarnation();
+    let log = events(alloc, &report, weather)?;
     let Report { mut state, answers } = report;
     drop(answers);
-    let audit = audited(alloc, &mut state, storm.into_dc());
+    let audit = audited(alloc, &mut state, dc);
     drop(state);
     Some(Weathered {
         ended,
+        restarts,
         audit: audit?,
         log,
     })
 }
 
 /// A thousand records are put over a link that loses nothing; then so many calls move 1 between two
-/// of them over the storm of this seed, by so many workers, each number sent ten times at most. The
-/// log is answered where it is asked for.
+/// of them in this weather, drawn from this seed, by so many workers, each number sent ten times at
+/// most.
 pub fn repeat<R: Threads + Wait + Sync>(
     rt: &R,
     alloc: Global,
+    weather: Weather,
     seed: u64,
     workers: u64,
     calls: u64,
-    traced: bool,
 ) -> Option<Weathered> {
     let puts = puts(alloc, RECORDS)?;
     let moves = moves(alloc, calls)?;
     let storm = Storm::new(store(alloc, calls)?, seed);
     let before = put_all(rt, alloc, puts.as_slice(), &storm)?;
-    weather(
-        rt,
-        alloc,
-        before.state,
-        moves.as_slice(),
-        workers as usize,
-        storm,
-        traced,
-    )
+    let workers = workers as usize;
+    let moves = moves.as_slice();
+    let report = run_all(rt, alloc, before.state, moves, workers, &storm, weather)?;
+    weathered(alloc, report, storm.into_dc(), weather)
 }
