@@ -228,11 +228,16 @@ class Steps:
         """Why the calls one after another don't explain this world, or None; forged replies are no lies of theirs."""
         if any(step[0] == "forge" for step in self.parts):
             return None
-        return serial(read_log(world.log), self.names, {d: world.dcs[d].rows for d in world.heard()})
+        lost = dict(world.unheard())
+        rows = {d: dc.rows for d, dc in enumerate(world.dcs) if d not in lost}
+        return serial(read_log(world.log), self.names, rows)
 
     def audited(self, procd, world):
-        """The line of the audit, where it is asked for."""
-        return [audit(read_log(world.log), self.names, world.dcs)] if procd.audit else []
+        """The line of the audit, where it is asked for: a data component that is down or not known isn't audited."""
+        if not procd.audit:
+            return []
+        skipped = [f"audit skipped dc {d} {why}" for d, why in world.unheard()]
+        return skipped[:1] or [audit(read_log(world.log), self.names, world.dcs)]
 
     def made(self):
         for step, line in zip(self.parts, self.told()[0]):

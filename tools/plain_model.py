@@ -560,10 +560,13 @@ class World:
         self.replies.append(Reply(n, 0, said))
         return f"forged {len(self.replies) - 1}"
 
-    def heard(self):
-        """The data components that are up and of the incarnation that is known."""
-        known = [(site.is_down(), site.incarnation) for site in self.sites]
-        return [d for d, dc in enumerate(self.dcs) if known[d] == (False, dc.incarnation)]
+    def unheard(self):
+        """The data components that are down or of another incarnation than the one known, and which of it."""
+        for d, (site, dc) in enumerate(zip(self.sites, self.dcs)):
+            if site.is_down():
+                yield d, "down"
+            elif site.incarnation != dc.incarnation:
+                yield d, "restarted"
 
     def rows(self):
         return [f"row {record_text(r)} {value_text(dc.rows[r])}" for dc in self.dcs for r in sorted(dc.rows)]

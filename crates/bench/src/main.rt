@@ -2,6 +2,7 @@
 //! so that its output is the same every time; how long it takes is measured from outside.
 #![tactic(auto)]
 
+mod audits;
 mod calls;
 mod code;
 mod locks;
@@ -37,6 +38,8 @@ const USAGE: &str = "usage:
   bench trace SEED WORKERS CALLS       the same, and the events of its log, 192 hex digits each
   bench restarts SEED WORKERS CALLS    the same as trace over a link that loses nothing, to a data component that keeps
                                        a checkpoint at every fifth wire and restarts at every seventh
+  bench audit 0 0 < TEXT               audits a log and data components: a script of `world`, a line `log`, the log in
+                                       hex, and lines `restart DC` and `list DC EVENTS`
 ";
 
 // The number that a word is.
@@ -81,6 +84,7 @@ fn line_of<R: Threads + Wait + Sync>(
     let (first, second) = (number(words, 2)?, number(words, 3)?);
     let count = match words.get(1)?.as_str() {
         "code" => return report(alloc, &run_all(alloc, text, first, second)?),
+        "audit" => return audits::repeat(alloc, text),
         "starts" => code::repeat_starts(alloc, first, second)?,
         "locks" => locks::repeat(alloc, first, second)?,
         "numbers" => numbers::repeat(alloc, first, second)?,

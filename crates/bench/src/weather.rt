@@ -1,9 +1,9 @@
 //! Calls over a storm, how they ended, and what an audit says behind it.
 
+use crate::audits::audit_line;
 use crate::calls::{RECORDS, moves, puts, store};
 use crate::procedures::state;
 use crate::storm::{Calm, Regular, Storm};
-use audit::auditing::audit;
 use data_component::dc::Dc;
 use std::alloc::Global;
 use std::sync::Wait;
@@ -109,10 +109,7 @@ fn audited(alloc: Global, state: &mut TcState, dc: Dc) -> Option<String> {
     }
     let mut dcs = Vec::with_capacity(alloc, 1).ok()?;
     dcs.push(dc).ok()?;
-    match audit(alloc, state.procs(), state.log(), dcs.as_slice()) {
-        Ok(found) => format!(in alloc; "audit ok ended {} open {}\n", found.ended, found.left).ok(),
-        Err(fault) => format!(in alloc; "audit {fault:?}\n").ok(),
-    }
+    audit_line(alloc, state.procs(), state.log(), dcs.as_slice())
 }
 
 // A thousand records are put over the link that loses nothing.
