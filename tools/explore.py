@@ -1,14 +1,16 @@
 #!/usr/bin/env python3
 """Random schedules: `procd world --log` and `procd run` beside a plain model that shares no code with them.
 
-usage: tools/explore.py [--procd PATH] [--seconds N] [--seed N] [--seeds N] [--steps N]
+usage: tools/explore.py [--procd PATH] [--audit] [--seconds N] [--seed N] [--seeds N] [--steps N]
 
 From each seed come a world and some runs. The script of a world has random steps: calls that overlap,
 operations asked for in any order, messages that are lost, repeated, late and forged, data components that
-restart, undo. The model says what each step prints, which rows are left and what is logged; and the
-log that procd prints is replayed by itself: no two operations in flight conflict, each is covered by its
-transaction's locks, numbers rise one by one. The script of a run has random calls, made by up to 64
-workers; there has to be an order of the calls in which the model, call after call, gives each its answer
+keep checkpoints and restart, news of that which come late and again, redo, undos that fail. The model says
+what each step prints, which rows are left and what is logged; and the log that procd prints is replayed by
+itself: no two operations in flight conflict, each is covered by its transaction's locks, numbers rise one by
+one. Where no message was forged, the calls one after another have to give the same answers and rows. With
+`--audit` procd's audit has to say what the model's does. The script of a run has random calls, made by up to
+64 workers; there has to be an order of the calls in which the model, call after call, gives each its answer
 and leaves the rows.
 
 At the first difference the seed and a short script that shows it are printed, with status 1: no step of it
@@ -24,26 +26,29 @@ import sys
 import tempfile
 import time
 
-from plain_model import PROCEDURES, TEXTS, ZEROS, World, alone, fits, put_at
-from plain_model import record_text, replayed, said_text, value_text
+from plain_log import alone, audit, read_log, replayed, serial
+from plain_model import PROCEDURES, TEXTS, ZEROS, World, fits, put_at, record_text, said_text, value_text
 
 TOP = pathlib.Path(__file__).resolve().parent.parent
 AMPLE = [(20, 5000)] * 2  # rows and operations of the data components, where they don't matter
 HUNTED = 300  # how many further scripts are looked through for a shorter one
 AGAIN = 10  # how often a script of calls is run before it is said to show nothing
-WORDS = {"admit": 3, "ask": 2, "undo": 2, "end": 2, "resend": 3, "perform": 5, "take": 5, "restart": 1, "forge": 1}
+WORDS = {"admit": 3, "ask": 2, "undo": 2, "end": 2, "resend": 3, "perform": 5, "take": 5}
+WORDS |= {"checkpoint": 1, "restart": 1, "tell": 2, "redo": 2, "forge": 1}
+FORGED, RESTARTED = [0, 0, 1, 5], [0, 1, 3]  # weights of these words, of which a script has one
+FAILURES = [0, 3, 3, 1, 3, 4]  # of the undos of a write in a script with forged replies, how many are to fail
 
 
 class Procd:
-    """The program, and the file that it reads scripts from."""
+    """The program, the file that it reads scripts from, and whether it audits."""
 
-    def __init__(self, path, file):
-        self.path, self.file = path, file
+    def __init__(self, path, file, audit=False):
+        self.path, self.file, self.audit = path, file, ["--audit"] if audit else []
 
     def __call__(self, words, text):
         """Its lines, its status and what it said on standard error."""
         self.file.write_text(text)
-        ran = subprocess.run([self.path, *words, self.file], capture_output=True, text=True)
+        ran = subprocess.run([self.path, *words, *self.audit, self.file], capture_output=True, text=True)
         return ran.stdout.splitlines(), ran.returncode, ran.stderr
 
 
@@ -95,7 +100,7 @@ def some_admission(draw):
     return "admit", name, *args
 
 
-def next_step(draw, world):
+def next_step(draw, world, weights):
     """A step with which some open transaction goes on, or None."""
     going = [serial for serial, txn in world.txns.items() if txn.open or not txn.is_stuck()]
     if not going:
@@ -103,13 +108,54 @@ def next_step(draw, world):
     serial = draw.choice(going)
     txn = world.txns[serial]
     if txn.open:
-        here = [i for i, (n, _) in enumerate(world.replies) if n == txn.open]
-        if here:
-            return "take", draw.choice(here)
-        return "perform", draw.choice([i for i, (n, *_) in enumerate(world.copies) if n == txn.open])
+        return waiting_step(draw, world, serial, weights)
     if txn.outcome:
         return ("undo" if txn.to_undo() else "end"), serial
     return "ask", serial
+
+
+def waiting_step(draw, world, serial, weights):
+    """A step with which a transaction comes nearer to the answer that it waits for."""
+    n = world.txns[serial].open
+    _, op, is_undo = world.unanswered[n]
+    site = world.sites[op[1][0]]
+    if site.is_down():
+        return redoing_step(draw, world, op[1][0])
+    if is_undo and weights["forge"] and site.incarnation == 0 and is_to_fail(world.txns[serial], serial):
+        return failing_step(world, n, ("duplicate",) if op[0] == "insert" else ("missing",))
+    heard = [i for i, (other, by, said) in enumerate(world.replies) if (other, by) == (n, site.incarnation)]
+    heard = [i for i in heard if fits(op, world.replies[i].said)]
+    return ("take", draw.choice(heard)) if heard else performing_step(draw, world, n, op[1][0], ("resend", serial))
+
+
+def is_to_fail(txn, serial):
+    """Whether this undo of the transaction's last write is to fail."""
+    return txn.tries <= FAILURES[(serial + len(txn.writes)) % len(FAILURES)]
+
+
+def failing_step(world, n, said):
+    """A step with which an undo comes nearer to being answered so, by a reply that nobody sent."""
+    forged = [i for i, reply in enumerate(world.replies) if reply == (n, 0, said)]
+    return ("take", forged[0]) if forged else ("forge", n, said)
+
+
+def redoing_step(draw, world, d):
+    """A step with which a data component that is down comes nearer to being up."""
+    n = world.under_redo(d)
+    if n is None:
+        return "redo", d
+    wanted = (n, world.sites[d].incarnation, world.done[n][1])
+    heard = [i for i, reply in enumerate(world.replies) if reply == wanted]
+    return ("take", draw.choice(heard)) if heard else performing_step(draw, world, n, d, ("redo", d))
+
+
+def performing_step(draw, world, n, d, send):
+    """A step with which this number comes nearer to being performed; `send` makes a wire for it."""
+    known = world.sites[d].incarnation
+    if known != world.dcs[d].incarnation:
+        return "tell", max(i for i, news in enumerate(world.news) if news.dc == d)
+    here = [i for i, wire in enumerate(world.copies) if (wire.number, wire.incarnation) == (n, known)]
+    return ("perform", draw.choice(here)) if here else send
 
 
 def any_step(draw, world, weights):
@@ -119,7 +165,8 @@ def any_step(draw, world, weights):
         return some_admission(draw)
     if word == "forge":
         return some_forgery(draw, world)
-    places = {"perform": world.copies, "take": world.replies, "restart": world.dcs}
+    places = {"perform": world.copies, "take": world.replies, "tell": world.news}
+    places |= dict.fromkeys(("restart", "checkpoint", "redo"), world.dcs)
     if word in places:
         return word, draw.randrange(len(places[word]) + 1)
     return word, draw.choice(list(world.txns) + [0, world.serials + 1])
@@ -127,13 +174,13 @@ def any_step(draw, world, weights):
 
 def some_step(draw, world, weights):
     if draw.random() < 0.6:
-        return next_step(draw, world) or some_admission(draw)
+        return next_step(draw, world, weights) or some_admission(draw)
     return any_step(draw, world, weights) if draw.random() < 0.7 else some_admission(draw)
 
 
-# What a step refers to: transactions, wires, replies or numbers, and in which of its words.
+# What a step refers to in its first word: a transaction, a wire, a reply, a number or news.
 REFERS = dict.fromkeys(("ask", "undo", "end", "resend"), "txn")
-REFERS |= {"perform": "wire", "take": "reply", "forge": "number"}
+REFERS |= {"perform": "wire", "take": "reply", "forge": "number", "tell": "news"}
 
 
 class Steps:
@@ -145,7 +192,8 @@ class Steps:
     @staticmethod
     def drawn(draw, count):
         dcs = [(draw.choice([1, 2, 3, 20]), draw.choice([50] + 7 * [5000])) for _ in range(2)]
-        world, steps, weights = World(dcs, list(PROCEDURES)), [], {**WORDS, "forge": draw.choice([0, 1, 5])}
+        weights = {**WORDS, "forge": draw.choice(FORGED), "restart": draw.choice(RESTARTED)}
+        world, steps = World(dcs, list(PROCEDURES)), []
         for _ in range(count):
             steps.append(some_step(draw, world, weights))
             world.step(*steps[-1])
@@ -153,6 +201,9 @@ class Steps:
 
     def text(self):
         return script_of(self.dcs, self.names, [line_of(step) for step in self.parts])
+
+    def words(self):
+        return ["world", "--log"]
 
     def told(self):
         """What the model prints of each step, and the world behind them."""
@@ -162,16 +213,31 @@ class Steps:
     def difference(self, procd):
         """The place of the first line that differs from the model's, and how, or None."""
         told, world = self.told()
-        rows = [f"row {record_text(r)} {value_text(dc.rows[r])}" for dc in world.dcs for r in sorted(dc.rows)]
-        wanted = int(any(line.startswith("illegal") for line in told))
-        printed, status, said = procd(["world", "--log"], self.text())
-        differs = first_difference(printed, told + rows + [data.hex() for data in world.log])
+        printed, status, said = procd(self.words(), self.text())
+        wanted = told + world.rows() + self.audited(procd, world) + [data.hex() for data in world.log]
+        differs = first_difference(printed, wanted)
         if differs:
             return differs if not said else (differs[0], f"{differs[1]} ({said.strip()})")
-        if status != wanted:
-            return len(printed), f"status {status}, wanted {wanted}"
-        why = replayed(world.log, self.names)
+        illegal = int(any(line.startswith(("illegal", "refused")) for line in wanted))
+        if status != illegal:
+            return len(printed), f"status {status}, wanted {illegal}"
+        why = replayed(read_log(world.log), self.names, world.notes) or self.unexplained(world)
         return why and (len(printed), why)
+
+    def unexplained(self, world):
+        """Why the calls one after another don't explain this world, or None; forged replies are no lies of theirs."""
+        if any(step[0] == "forge" for step in self.parts):
+            return None
+        lost = dict(world.unheard())
+        rows = {d: dc.rows for d, dc in enumerate(world.dcs) if d not in lost}
+        return serial(read_log(world.log), self.names, rows)
+
+    def audited(self, procd, world):
+        """The line of the audit, where it is asked for: a data component that is down or not known isn't audited."""
+        if not procd.audit:
+            return []
+        skipped = [f"audit skipped dc {d} {why}" for d, why in world.unheard()]
+        return skipped[:1] or [audit(read_log(world.log), self.names, world.dcs)]
 
     def made(self):
         for step, line in zip(self.parts, self.told()[0]):
@@ -205,24 +271,26 @@ class Steps:
             if not is_left_out:
                 fewer = sum(other < step[1] for other in gone[kind]) if kind else 0
                 kept.append((step[0], step[1] - fewer, *step[2:]) if fewer else step)
-            for what, which in new_things(step, line):
+            for what, which in new_things(step, line, made):
                 made[what] += 1
                 if is_left_out:
                     gone[what].add(which)
         return kept
 
 
-def new_things(step, line):
-    """What a step made, by its printed line: a transaction, a wire, a reply, a number."""
+def new_things(step, line, made):
+    """What a step made, by its printed line: a transaction, a wire, a reply, a number, or news, which are counted."""
     words = line.split()
     if words[0] == "admitted":
         yield "txn", int(words[1])
-    if words[0] == "sent":
+    if words[0] in ("sent", "redo"):
         yield "wire", int(words[1])
-        if step[0] != "resend":
-            yield "number", int(words[3])
+    if words[0] in ("sent", "held") and step[0] != "resend":
+        yield "number", int(words[words.index("number") + 1])
     if words[0] in ("reply", "forged"):
         yield "reply", int(words[1])
+    if words[0] == "restarted":
+        yield "news", made["news"]
 
 
 # ---- calls by workers
@@ -258,9 +326,12 @@ class Calls:
         lines += [" ".join(map(str, ("call", *call))) + "\n" for call in self.parts]
         return script_of([(1000, 50000)] * 2, self.names, lines)
 
+    def words(self):
+        return ["run", "--workers", str(self.workers)]
+
     def run(self, procd):
         """What each call was answered, and the rows; None where the lines aren't those of such calls."""
-        printed, status, _ = procd(["run", "--workers", str(self.workers)], self.text())
+        printed, status, _ = procd(self.words(), self.text())
         places = [f"first {i} " for i in range(len(self.first))] + [f"call {i} " for i in range(len(self.parts))]
         answers = [line[len(place) :] for line, place in zip(printed, places) if line.startswith(place)]
         return (answers, printed[len(places) :]) if status == 0 and len(answers) == len(places) else None
@@ -278,6 +349,9 @@ class Calls:
         if ran is None:
             return 0, "the lines aren't answers of these calls"
         answers, rows = ran
+        if procd.audit and rows[-1:] != [f"audit ok ended {len(answers)} open 0"]:
+            return 0, f"the audit says {rows[-1:]}"
+        rows = rows[: len(rows) - len(procd.audit)]
         self.answers = answers[len(self.first) :]
         for group, (first, calls) in self.groups(answers).items():
             here = [row for row in rows if int(row.split()[1].split("/")[2]) // KEYS == group]
@@ -374,10 +448,11 @@ def hunted(seed, case, shows):
     return case
 
 
-def tell(seed, place, case, why, shows):
+def tell(seed, place, case, why, procd):
+    shows = shows_again(procd)
     print(f"seed {seed}, script {place}: {why}", flush=True)
     short = hunted(seed, shortest(case, shows), shows) if shows(case) else case
-    command = f"run --workers {short.workers}" if isinstance(short, Calls) else "world --log"
+    command = " ".join(short.words() + procd.audit)
     _, why = shows(short) or (0, f"it didn't come again in {AGAIN} runs")
     print(f"a short script of {len(short.parts)} steps, for `procd {command}`: {why}")
     print(short.text(), end="")
@@ -385,7 +460,7 @@ def tell(seed, place, case, why, shows):
 
 def explored(procd, options, made):
     """Counts what is made from each seed until the time or the seeds are over; tells of the first difference, if any."""
-    shows, until = shows_again(procd), time.monotonic() + options.seconds
+    until = time.monotonic() + options.seconds
     for seed in range(options.seed, options.seed + options.seeds):
         if time.monotonic() > until:
             break
@@ -394,7 +469,7 @@ def explored(procd, options, made):
             case = kind.drawn(draw, options.steps)
             differs = case.difference(procd)
             if differs:
-                tell(seed, place, case, differs[1], shows)
+                tell(seed, place, case, differs[1], procd)
                 return False
             made.update(case.made())
             made[kind] += 1
@@ -405,6 +480,7 @@ def main():
     parser = argparse.ArgumentParser(description=__doc__, formatter_class=argparse.RawDescriptionHelpFormatter)
     path = TOP / "crates" / "procd" / "out" / "procd"
     parser.add_argument("--procd", default=path, help="the program (that of crates/procd/out)")
+    parser.add_argument("--audit", action="store_true", help="let the program audit each run")
     parser.add_argument("--seconds", type=float, default=60, help="how long to go on (60)")
     parser.add_argument("--seed", type=int, default=1, help="the first seed (1); then the next")
     parser.add_argument("--seeds", type=int, default=1_000_000, help="how many seeds at most (1,000,000)")
@@ -413,7 +489,7 @@ def main():
     if not pathlib.Path(options.procd).exists():
         parser.error(f"there is no {options.procd}: ./procd builds it")
     with tempfile.TemporaryDirectory() as folder:
-        if not explored(Procd(options.procd, pathlib.Path(folder) / "script.txt"), options, made):
+        if not explored(Procd(options.procd, pathlib.Path(folder) / "script.txt", options.audit), options, made):
             sys.exit(1)
     worlds, runs = made.pop(Steps, 0), made.pop(Calls, 0)
     calls = sum(count for word, count in made.items() if word.startswith("call "))

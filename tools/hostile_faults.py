@@ -11,13 +11,13 @@ import shutil
 import signal
 import subprocess
 
-from hostile_worlds import SCRIPT, STEPS
+from hostile_worlds import SCRIPT, recovered
 from trying import Ran, undocumented
 
 HEX = b"b7 00 00 00 07 00 00 00\nb7 01 00 00 05 00 00 00\n0f 10 00 00 00 00 00 00\n95 00 00 00 00 00 00 00\n"
 RAW = bytes.fromhex("7910080000000000 9500000000000000")
 ASSEMBLY = b"lddw r0, 0x0000000100000007\nmod32 r0, 0 ; stays\nexit\n"
-WORLD = (SCRIPT + "".join(f"{step}\n" for step, _ in STEPS)).encode()
+WORLD = (SCRIPT + "".join(f"{step}\n" for step, _ in recovered(15, True).steps)).encode()
 RUN = (SCRIPT + "first put 5 100\n" + "call bad 5\n" * 3 + "call put 6 1\n").encode()
 NO_MEMORY = Ran(4, b"", b"memory\n")
 NO_THREAD = Ran(1, b"refused G4 NoThread\n", b"")

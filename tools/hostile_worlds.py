@@ -1,9 +1,12 @@
 """Hostile worlds: a transaction that commits and one that is undone, whose lines are known, and behind
-each step in turn a restart, a reply that nobody sent, a repeated operation or a repeated request.
+each step in turn a reply that nobody sent, a repeated operation, a repeated request or a restart.
 
-What is printed stays but for the line that is added, and places of later wires and replies, one greater.
+What is printed stays but for the lines that are added, and places of later wires and replies, greater by as
+many as were added. A restart that nobody is told of leaves no row, and the first wire behind it is not heard;
+one that is told of, with a checkpoint before it or none, and whose redo is gone through, leaves all as it was.
 """
 import re
+from collections import namedtuple
 
 from trying import some_of
 
@@ -61,34 +64,130 @@ SAIDS = ["value 7", "absent", "done", "done was 7", "duplicate", "missing", "nor
 PLACES = {"take": "reply", "perform": "sent"}
 
 
+Tried = namedtuple("Tried", "steps rows status")
+
+
+def as_ever(steps):
+    """A script whose rows and status are those of the steps alone."""
+    return Tried(steps, ROWS, 0)
+
+
 def count_of(word, lines):
     """How many wires were sent, or replies."""
     words = ("reply", "forged") if word == "reply" else (word,)
     return sum(line.split()[0] in words for line in lines)
 
 
-def moved(text, words, first):
-    """The text with its place one greater, where it begins with one of the words and isn't below the first."""
+def moved(text, words, first, by):
+    """The text with its place greater, where it begins with one of the words and isn't below the first."""
     word, _, rest = text.partition(" ")
     found = re.fullmatch(r"(\d+)(.*)", rest)
     if word not in words or not found or int(found[1]) < first:
         return text
-    return f"{word} {int(found[1]) + 1}{found[2]}"
+    return f"{word} {int(found[1]) + by}{found[2]}"
+
+
+def moved_all(steps, made, first, by):
+    """The steps and lines with so many wires (`sent`) or replies more before those from the first on."""
+    words = {made, "take" if made == "reply" else "perform"}
+    return [(moved(step, words, first, by), moved(line, words, first, by)) for step, line in steps]
 
 
 def inserted(at, step, line, made):
-    """The steps and lines with one more at this place, which makes a wire (`sent`), a reply or nothing."""
-    first = count_of(made, [line for _, line in STEPS[:at]]) if made else 0
-    later = STEPS[at:]
-    if made:
-        words = {made, "take" if made == "reply" else "perform"}
-        later = [(moved(one, words, first), moved(other, words, first)) for one, other in later]
-    return [*STEPS[:at], (step, line.format(first)), *later]
+    """The steps and lines with one more at this place, which makes a wire (`sent`) or a reply."""
+    first = count_of(made, [line for _, line in STEPS[:at]])
+    return as_ever([*STEPS[:at], (step, line.format(first)), *moved_all(STEPS[at:], made, first, 1)])
+
+
+# ---- restarts
+
+
+class Told:
+    """What the lines of the first steps say: which requests were sent, performed and answered."""
+
+    def __init__(self, at):
+        words = [step.split() for step, _ in STEPS[:at]]
+        lines = [line for _, line in STEPS[:at]]
+        self.txns = [(word[1], line) for word, line in zip(words, lines) if line.startswith("sent")]
+        self.said = [line.split(maxsplit=4)[4] for line in lines if line.startswith("reply")]
+        self.taken = count_of("took", lines)
+
+    def request(self, place):
+        """The number of this wire, its operation, and its mark."""
+        return re.fullmatch(r"sent \d+ number (\d+) (.*) low (\d+)", self.txns[place][1]).groups()
+
+    def mark(self):
+        """The data component's mark: that of the last wire that it performed."""
+        return int(self.request(len(self.said) - 1)[2]) if self.said else 0
+
+
+def redone(told, mark):
+    """The steps and lines of a redo from above this mark: each operation answered Done, and then none is left."""
+    steps, wire, reply = [], len(told.txns), len(told.said)
+    for place in range(told.taken):
+        number, operation, _ = told.request(place)
+        if int(number) > mark and told.said[place].startswith("done"):
+            steps += [("redo 0", f"redo {wire} number {number} {operation}")]
+            steps += [(f"perform {wire}", f"reply {reply} number {number} {told.said[place]}")]
+            steps += [(f"take {reply}", f"redone number {number}")]
+            wire, reply = wire + 1, reply + 1
+    return steps + [("redo 0", "up 0")]
+
+
+def recovered(at, is_kept):
+    """The script with a restart, its news and its redo more; the open request, if any, is sent and performed again."""
+    told = Told(at)
+    mark = told.mark() if is_kept else 0
+    steps = [("checkpoint 0", f"checkpoint 0 mark {mark}")] if is_kept else []
+    redo = redone(told, mark)
+    steps += [("restart 0", "restarted 0"), ("tell 0", f"told 0 incarnation 1 mark {mark}"), *redo]
+    again = len(redo) // 3  # how many were redone, by three steps each, with a wire and a reply more
+    wires, replies, later = len(told.txns), len(told.said), STEPS[at:]
+    first, by = wires, again
+    if told.taken < wires:
+        txn, line = told.txns[-1]
+        steps += [(f"resend {txn}", moved(line, {"sent"}, 0, again + 1))]
+        first, by = wires - 1, again + 1
+    later = moved_all(later, "sent", first, by)
+    first, by = replies, again
+    if told.taken < replies:
+        number = told.request(replies - 1)[0]
+        steps += [(f"perform {wires + again}", f"reply {replies + again} number {number} {told.said[-1]}")]
+        first, by = replies - 1, again + 1
+    return as_ever([*STEPS[:at], *steps, *moved_all(later, "reply", first, by)])
+
+
+# What a step says once the first wire behind a restart wasn't heard, by whose transaction it was.
+UNHEARD = {
+    "1": {"ask 1": "I3 Waits 1", "end 1": "I5 NotOver", "admit bad 5": "I1 Refused B1 Busy 0/0/5 holder 1"},
+    "2": dict.fromkeys(("ask 2", "undo 2"), "I3 Waits {}") | {"end 2": "I5 NotOver"},
+}
+
+
+def unheard(at):
+    """The script with a restart more that nobody is told of."""
+    steps, txn, number = [*STEPS[:at], ("restart 0", "restarted 0")], None, None
+    for step, line in STEPS[at:]:
+        word, _, whom = step.partition(" ")
+        if txn is None and word == "perform":
+            txn, number = "1" if whom == "0" else "2", int(whom) + 1
+            line = "silent"
+        elif txn:
+            known = {"take": "I8 NoReply", "perform": "I7 NoCopy"}.get(word, "I2 NoTxn")
+            line = "illegal " + UNHEARD[txn].get(step, known).format(number)
+        steps.append((step, line))
+    return Tried(steps, [], int(txn is not None))
 
 
 def restarted():
-    """Each script with a restart more, as steps and the lines that they are to print."""
-    return [inserted(at, "restart 0", "restarted 0", None) for at in range(len(STEPS) + 1)]
+    """Each script with a restart more."""
+    for at in range(len(STEPS) + 1):
+        yield unheard(at)
+        yield recovered(at, False)
+        yield recovered(at, True)
+
+
+# ---- messages
 
 
 def forged():
@@ -112,13 +211,13 @@ def repeated(at):
 def hostile_worlds(program, tally, every):
     """Runs each of them; of those with a forged reply one of so many."""
     again = [script for at in range(len(STEPS)) for script in repeated(at)]
-    for steps in [STEPS, *restarted(), *again, *some_of(forged(), every)]:
+    for steps, rows, status in [as_ever(STEPS), *restarted(), *again, *some_of(forged(), every)]:
         text = SCRIPT + "".join(step + "\n" for step, _ in steps)
         ran = program.run(["world", "-"], text.encode())
         lines = ran.out.decode().splitlines()
         tally.add("scripts")
         tally.add("steps", len(steps))
-        wanted = [line for _, line in steps] + ROWS
-        if lines != wanted or ran.status != 0:
+        wanted = [line for _, line in steps] + rows
+        if lines != wanted or ran.status != status:
             differs = next((it for it in zip(lines, wanted) if it[0] != it[1]), (len(lines), len(wanted)))
             tally.fault(f"{[step for step, _ in steps]}: status {ran.status}, {differs[0]} for {differs[1]}")

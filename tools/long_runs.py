@@ -5,15 +5,17 @@ usage: tools/long_runs.py [--procd PATH] [--bench PATH] [--calls N] [--seed N]
 
 1. `procd run --workers 8` on a script of N calls (200,000) that move an amount between two of a
    thousand records: each call has to be committed, and the records' sum has to stay.
-2. The same by the program `bench` over a link that loses, repeats, delays, forges and answers late, at
-   random from the seed, each number sent ten times at most: each call has to be committed, in doubt, or
-   blocked on a record of one in doubt.
+2. The same by the program `bench` over a link that loses, repeats, delays, forges and answers late, and
+   a data component that keeps checkpoints and restarts, at random from the seed, each number sent ten
+   times at most: each call has to be committed, in doubt, or blocked on a record of one in doubt, and
+   the audit behind it has to say ok.
 
 crates/procd/out/procd and crates/bench/out/bench have to be there: `rt run` in each crate builds it.
 """
 import argparse
 import pathlib
 import random
+import re
 import subprocess
 import sys
 import tempfile
@@ -55,9 +57,8 @@ def by_script(procd, calls, seed):
 def by_storm(bench, calls, seed):
     words = [bench, "storm", str(seed), "8", str(calls)]
     ran = subprocess.run(words, stdin=subprocess.DEVNULL, capture_output=True, text=True)
-    words = ran.stdout.split()
-    good = ran.returncode == 0 and words[-2:] == ["other", "0"]
-    print(f"storm of seed {seed}: {ran.stdout.strip()}{'' if good else ' WRONG'}", flush=True)
+    good = ran.returncode == 0 and bool(re.search(r" other 0 restarts \d+\naudit ok ", ran.stdout))
+    print(f"storm of seed {seed}: {', '.join(ran.stdout.splitlines())}{'' if good else ' WRONG'}", flush=True)
     return good
 
 

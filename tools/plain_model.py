@@ -1,8 +1,9 @@
 """A plain model of what `procd world` and `procd run` do, which shares no code with procd.
 
-Procedures as generators of operations that are sent the answers; data components; transactions that
-undo; the world of messages, whose steps answer the lines that procd is to print; the log's bytes; and
-what holds of every log by itself. Written from the formats (docs/FORMATS.md) and from the paper.
+Procedures as generators of operations that are sent the answers; data components whose restarts lose;
+transactions that undo; the world of messages, whose steps answer the lines that procd is to print; the
+log's bytes. Written from the formats (docs/FORMATS.md) and from the paper. What holds of every log by
+itself is in plain_log.py.
 """
 import collections
 
@@ -242,33 +243,57 @@ def end_bytes(txn, outcome):
 
 # ---- the model
 
+SPENT = 2**62  # the incarnation with which a data component restarts no more
+
+Wire = collections.namedtuple("Wire", "number low incarnation redo op")
+Reply = collections.namedtuple("Reply", "number incarnation said")
+News = collections.namedtuple("News", "dc incarnation mark")
+
 
 class DataComponent:
-    """Performs each number once, and keeps what it answered (CIDR 2009)."""
+    """Performs each number once, and keeps what it answered (CIDR 2009); a restart loses what came after the
+    last checkpoint, and is an incarnation of its own, which hears no other's wires.
+    """
 
     def __init__(self, rows, ops):
-        self.rows_most, self.ops_most = rows, ops
-        self.rows, self.replies, self.mark = {}, {}, 0
+        self.rows_most, self.ops_most, self.incarnation = rows, ops, 0
+        self.rows, self.list, self.mark = {}, {}, 0
+        self.checkpoint()
 
-    def perform(self, n, low, op):
-        self.mark = max(self.mark, low)
-        if n <= self.mark:
-            return ("old",)
-        if n in self.replies:
-            return self.replies[n]
-        if len(self.replies) >= self.ops_most:
+    def checkpoint(self):
+        self.saved = dict(self.rows), dict(self.list), self.mark
+
+    def restart(self):
+        """Its new incarnation and the mark that it kept."""
+        rows, performed, self.mark = self.saved
+        self.rows, self.list = dict(rows), dict(performed)
+        self.incarnation += 1
+        return self.incarnation, self.mark
+
+    def perform(self, wire):
+        """What it says to this wire, or None: silence."""
+        if wire.incarnation != self.incarnation:
             return None
-        self.replies[n] = self.first(op)
-        return self.replies[n]
+        self.mark = max(self.mark, wire.low)
+        if wire.number <= self.mark:
+            return ("old",)
+        if wire.number in self.list:
+            return self.list[wire.number][1]
+        if len(self.list) >= self.ops_most:
+            return None
+        said = self.first(wire.op, wire.redo)
+        self.list[wire.number] = wire.op, said
+        return said
 
-    def first(self, op):
+    def first(self, op, redo):
+        """What it says to an operation that it performs; one that is redone always has room."""
         there = self.rows.get(op[1])
         if op[0] == "read":
             return ("absent",) if there is None else ("value", there)
         if op[0] == "insert":
             if there is not None:
                 return ("duplicate",)
-            if len(self.rows) >= self.rows_most:
+            if len(self.rows) >= self.rows_most and not redo:
                 return ("noroom",)
             self.rows[op[1]] = op[2]
             return ("done", None)
@@ -279,6 +304,24 @@ class DataComponent:
         else:
             del self.rows[op[1]]
         return ("done", there)
+
+
+class Site:
+    """What the transaction component knows of a data component: its incarnation, and while it is down the mark of
+    the news and the number from above which is to be redone.
+    """
+
+    def __init__(self):
+        self.incarnation, self.mark, self.redone = 0, None, None
+
+    def is_down(self):
+        return self.redone is not None
+
+    def told(self, news):
+        self.incarnation, self.mark, self.redone = news.incarnation, news.mark, news.mark
+
+    def up(self):
+        self.mark, self.redone = None, None
 
 
 def fits(op, said):
@@ -329,23 +372,30 @@ class Transaction:
 
 
 class World:
-    """Data components (rows and operations at most), procedures by name, and what was sent."""
+    """Data components (rows and operations at most), procedures by name, and what was sent.
+
+    Beside the log `notes` has what was told and redone, each with the length that the log had then.
+    """
 
     def __init__(self, dcs, names):
         self.dcs, self.names = [DataComponent(*it) for it in dcs], names
-        self.txns, self.copies, self.replies, self.log = {}, [], [], []
-        self.serials, self.last, self.unanswered = 0, 0, {}
+        self.sites = [Site() for _ in dcs]
+        self.txns, self.copies, self.replies, self.news, self.log, self.notes = {}, [], [], [], [], []
+        self.serials, self.last, self.unanswered, self.done = 0, 0, {}, {}
 
     def low(self):
         return min(self.unanswered, default=self.last + 1) - 1
 
     def send(self, n, op):
-        self.copies.append((n, self.low(), op))
+        self.copies.append(Wire(n, self.low(), self.sites[op[1][0]].incarnation, False, op))
         return f"sent {len(self.copies) - 1} number {n} {op_text(op)} low {self.low()}"
 
     def step(self, word, *args):
         """The line that this step is answered with."""
         return getattr(self, word)(*args)
+
+    def note(self, word, *args):
+        self.notes.append((len(self.log), word, *args))
 
     def holders(self, record, mode):
         """The transactions whose locks exclude this one."""
@@ -366,10 +416,13 @@ class World:
         return f"admitted {self.serials}"
 
     def give(self, kind, t, op):
+        """Gives the operation a number, and sends it where its data component isn't down."""
         self.last += 1
         self.txns[t].open, self.txns[t].last = self.last, self.last
         self.unanswered[self.last] = (t, op, kind == 4)
         self.log.append(sent_bytes(kind, t, self.last, op))
+        if self.sites[op[1][0]].is_down():
+            return f"held number {self.last} {op_text(op)}"
         return self.send(self.last, op)
 
     def ask(self, t):
@@ -412,122 +465,108 @@ class World:
     def resend(self, t):
         if t not in self.txns:
             return "illegal I2 NoTxn"
-        if not self.txns[t].open:
-            return "illegal I6 NothingOpen"
         n = self.txns[t].open
-        return self.send(n, self.unanswered[n][1])
+        if not n:
+            return "illegal I6 NothingOpen"
+        op = self.unanswered[n][1]
+        if self.sites[op[1][0]].is_down():
+            return f"illegal I13 Down {op[1][0]}"
+        return self.send(n, op)
 
     def perform(self, i):
         if i >= len(self.copies):
             return "illegal I7 NoCopy"
-        n, low, op = self.copies[i]
-        said = self.dcs[op[1][0]].perform(n, low, op)
+        wire = self.copies[i]
+        dc = self.dcs[wire.op[1][0]]
+        said = dc.perform(wire)
         if said is None:
             return "silent"
-        self.replies.append((n, said))
-        return f"reply {len(self.replies) - 1} number {n} {said_text(said)}"
+        self.replies.append(Reply(wire.number, dc.incarnation, said))
+        return f"reply {len(self.replies) - 1} number {wire.number} {said_text(said)}"
 
     def take(self, i):
         if i >= len(self.replies):
             return "illegal I8 NoReply"
-        n, said = self.replies[i]
-        if n not in self.unanswered or not fits(self.unanswered[n][1], said):
+        n, incarnation, said = self.replies[i]
+        if n not in self.unanswered:
+            return self.take_redone(self.replies[i])
+        t, op, is_undo = self.unanswered[n]
+        site = self.sites[op[1][0]]
+        if site.is_down() or incarnation != site.incarnation or not fits(op, said):
             return "illegal I9 Stranger"
-        t, op, is_undo = self.unanswered.pop(n)
+        del self.unanswered[n]
+        if said[0] == "done":
+            self.done[n] = op, said
         self.log.append(answer_bytes(t, n, said))
         self.txns[t].answered(op, is_undo, said)
         return f"took number {n}"
 
+    def under_redo(self, d):
+        """The number that is redone at a data component that is down: the least one answered Done above the last."""
+        above = self.sites[d].redone
+        return min((n for n, (op, _) in self.done.items() if op[1][0] == d and n > above), default=None)
+
+    def take_redone(self, reply):
+        """A reply to a number that isn't open can be the one to what is redone somewhere, by the logged answer."""
+        for d, site in enumerate(self.sites):
+            if not site.is_down() or self.under_redo(d) != reply.number:
+                continue
+            if (reply.incarnation, reply.said) == (site.incarnation, self.done[reply.number][1]):
+                site.redone = reply.number
+                self.note("redone", d, reply.number)
+                return f"redone number {reply.number}"
+        return "illegal I9 Stranger"
+
+    def checkpoint(self, d):
+        if d >= len(self.dcs):
+            return "illegal I10 NoDc"
+        self.dcs[d].checkpoint()
+        return f"checkpoint {d} mark {self.dcs[d].mark}"
+
     def restart(self, d):
-        return f"restarted {d}" if d < len(self.dcs) else "illegal I10 NoDc"
+        if d >= len(self.dcs):
+            return "illegal I10 NoDc"
+        if self.dcs[d].incarnation >= SPENT:
+            return "illegal I12 IncarnationsSpent"
+        self.news.append(News(d, *self.dcs[d].restart()))
+        return f"restarted {d}"
+
+    def tell(self, i):
+        if i >= len(self.news):
+            return "illegal I14 NoNews"
+        news = self.news[i]
+        if news.incarnation <= self.sites[news.dc].incarnation:
+            return "illegal I15 OldNews"
+        self.sites[news.dc].told(news)
+        self.note("told", news.dc, news.mark)
+        return f"told {news.dc} incarnation {news.incarnation} mark {news.mark}"
+
+    def redo(self, d):
+        if d >= len(self.dcs):
+            return "illegal I10 NoDc"
+        site = self.sites[d]
+        if not site.is_down():
+            return "illegal I16 NotDown"
+        n = self.under_redo(d)
+        if n is None:
+            site.up()
+            self.note("up", d)
+            return f"up {d}"
+        op = self.done[n][0]
+        self.copies.append(Wire(n, site.mark, site.incarnation, True, op))
+        return f"redo {len(self.copies) - 1} number {n} {op_text(op)}"
 
     def forge(self, n, said):
-        self.replies.append((n, said))
+        self.replies.append(Reply(n, 0, said))
         return f"forged {len(self.replies) - 1}"
+
+    def unheard(self):
+        """The data components that are down or of another incarnation than the one known, and which of it."""
+        for d, (site, dc) in enumerate(zip(self.sites, self.dcs)):
+            if site.is_down():
+                yield d, "down"
+            elif site.incarnation != dc.incarnation:
+                yield d, "restarted"
 
     def rows(self):
         return [f"row {record_text(r)} {value_text(dc.rows[r])}" for dc in self.dcs for r in sorted(dc.rows)]
-
-
-# ---- the log by itself: what holds of every history
-
-
-class Replay:
-    """Locks that are held and operations in flight, event by event."""
-
-    def __init__(self, names):
-        self.names, self.locks, self.flying, self.numbers = names, {}, {}, 0
-
-    def admitted(self, txn, sub, place, args):
-        wanted = PROCEDURES[self.names[place]].locks(args[:sub])
-        for held in self.locks.values():
-            if any(r in held and "write" in (held[r], wanted[r]) for r in wanted):
-                return "locks that exclude each other are held"
-        self.locks[txn] = wanted
-        return None
-
-    def sent(self, txn, sub, n, record):
-        self.numbers += 1
-        if n != self.numbers:
-            return f"number {n} isn't the next"
-        if self.locks.get(txn, {}).get(record) not in (("read", "write") if sub == SUBS["read"] else ("write",)):
-            return "the operation isn't covered by a lock"
-        if any(r == record and (sub, other) != (SUBS["read"],) * 2 for r, other, _ in self.flying.values()):
-            return "two operations in flight conflict"
-        if self.waits(txn):
-            return f"transaction {txn} has an operation in flight already"
-        self.flying[n] = (record, sub, txn)
-        return None
-
-    def waits(self, txn):
-        return any(other == txn for _, _, other in self.flying.values())
-
-    def answered(self, txn, n):
-        if self.flying.get(n, (None, None, None))[2] != txn:
-            return f"number {n} isn't in flight for transaction {txn}"
-        del self.flying[n]
-        return None
-
-    def ended(self, txn):
-        if self.waits(txn):
-            return f"transaction {txn} has an operation in flight"
-        if self.locks.pop(txn, None) is None:
-            return f"transaction {txn} isn't open"
-        return None
-
-    def event(self, data):
-        """Takes an event in, and answers why it can't come here, or None."""
-        kind, sub = data[0], data[1]
-        txn, word, key, *args = [int.from_bytes(data[i : i + 8], "little") for i in range(8, 96, 8)]
-        if kind == 1:
-            return self.admitted(txn, sub, word, args)
-        if kind in (2, 4):
-            dc, table = int.from_bytes(data[2:4], "little"), int.from_bytes(data[4:6], "little")
-            return self.sent(txn, sub, word, (dc, table, key))
-        if kind == 3:
-            return self.answered(txn, word)
-        return self.ended(txn) if kind == 5 else f"kind {kind}"
-
-
-def replayed(log, names):
-    """Why this log can't be one, or None."""
-    replay = Replay(names)
-    for at, data in enumerate(log):
-        why = replay.event(data)
-        if why:
-            return f"event {at}: {why}"
-    return None
-
-
-# ---- calls one after another
-
-
-def alone(rows, name, args):
-    """What a call that nothing disturbs is answered, and the rows that it leaves; room is ample."""
-    store, numbers, txn = DataComponent(1 << 30, 1 << 30), 0, Transaction(PROCEDURES[name], args)
-    store.rows = dict(rows)
-    while txn.next or txn.to_undo():
-        is_undo, numbers = not txn.next, numbers + 1
-        op = txn.writes[-1] if is_undo else txn.next
-        txn.answered(op, is_undo, store.perform(numbers, 0, op))
-    return " ".join(map(str, txn.outcome)), store.rows

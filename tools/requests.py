@@ -29,7 +29,8 @@ from hostile_faults import faults_library
 TOP = pathlib.Path(__file__).resolve().parent.parent
 PAIRS = [("put_admitted", "put_ended"), ("abort_admitted", "abort_ended"), ("delete_admitted", "delete_stuck")]
 ASKING = ["admit"]  # calls that may ask for memory
-CALLS = ["ask", "undo_next", "answer", "give_up", "end"]  # `wire` is part of its callers' code in the program
+# `wire` and `told` may be part of their callers' code in the program.
+CALLS = ["ask", "undo_next", "answer", "give_up", "end", "redo_next", "redone"]
 NUMBER = 8  # bytes
 MOST = 64  # functions that are watched at once
 SHOWN = 5  # of what is wrong, how much is shown

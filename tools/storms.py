@@ -5,50 +5,63 @@ usage: tools/storms.py [--bench PATH] [--runs N] [--calls N] [--workers N] [--se
 
 Each run is one of `bench trace`: so many calls that move 1 between two of a thousand records, by so
 many workers, over a link that loses, repeats, delays, forges and answers late, and over a data
-component that restarts, at random from the run's seed. Its log is gone through by the plain model,
-which shares no code with the crates: numbers are given out one after another, each operation is
-covered by its transaction's locks, locks that are held and operations in flight don't exclude each
-other, an answer belongs to an operation in flight, and there is an End for each call that was
-answered by one. A difference is told with its seed, and the status is then 1.
+component that keeps checkpoints and restarts, whose news are lost, late and repeated, at random from
+the run's seed. The last run is one of `bench restarts`: over a component that does it all the time.
+Behind each the component restarts once more, is redone, and is audited with the log. The log is gone
+through by the plain model, which shares no code with the crates: numbers are given out one after another, each operation is covered by its transaction's locks, locks that are held and
+operations in flight don't exclude each other, an answer belongs to an operation in flight; each event
+is the one that its transaction's procedure comes to; the calls one after another, in the order of
+their Ends, end the same; and there is an End for each call that was answered by one. A difference is
+told with its seed, and the status is then 1.
 
 crates/bench/out/bench has to be there: `rt run` in crates/bench builds it.
 """
 import argparse
+import collections
 import pathlib
+import re
 import subprocess
 import sys
 import time
 
-from plain_model import replayed
+from plain_log import END, Legal, read_log, replayed, serial
 
 TOP = pathlib.Path(__file__).resolve().parent.parent
 BENCH = TOP / "crates" / "bench" / "out" / "bench"
 RECORDS = 1000
 EVENT = 96
-END, COMMITTED = 5, 1
+COMMITTED = 1
+ENDED = ["committed", "in doubt", "blocked"]  # how calls may end
+PROCEDURES = ["put", "move"]
 
 
-def traced(bench, workers, calls, seed):
-    """What a run counted, and the events of its log."""
-    words = [bench, "trace", str(seed), str(workers), str(calls)]
+def traced(bench, weather, workers, calls, seed):
+    """What a run counted, what its audit said, and the events of its log."""
+    words = [bench, weather, str(seed), str(workers), str(calls)]
     ran = subprocess.run(words, stdin=subprocess.DEVNULL, capture_output=True, text=True)
     if ran.returncode != 0:
-        sys.exit(f"seed {seed}: {bench} ended with status {ran.returncode}: {ran.stderr.strip()}")
-    said, text = ran.stdout.split("\n", 1)
-    words = said.split()
-    counts = {"committed": words[1], "in doubt": words[4], "blocked": words[6], "other": words[8]}
+        sys.exit(f"{weather} of seed {seed}: {bench} ended with status {ran.returncode}: {ran.stderr.strip()}")
+    said, audit, text = ran.stdout.split("\n", 2)
+    counts = {name: int(count) for name, count in re.findall(r"(\D+) (\d+) ?", said)}
     data = bytes.fromhex(text)
-    return {name: int(count) for name, count in counts.items()}, [data[i : i + EVENT] for i in range(0, len(data), EVENT)]
+    return counts, audit, read_log(data[i : i + EVENT] for i in range(0, len(data), EVENT))
 
 
-def difference(counts, log, calls):
+def difference(counts, audit, log, calls):
     """What is wrong with a run, or None."""
-    if sum(counts.values()) != calls or counts["other"]:
+    if sum(counts[name] for name in ENDED) != calls:
         return f"the calls ended as {counts}"
-    committed = sum(event[0] == END and event[1] == COMMITTED for event in log)
+    ends = [event for event in log if event.kind == END]
+    committed = sum(event.sub == COMMITTED for event in ends)
     if committed != RECORDS + counts["committed"]:
         return f"{committed} committed Ends, and {counts['committed']} calls answered committed behind {RECORDS}"
-    return replayed(log, ["put", "move"])
+    legal = Legal(PROCEDURES)
+    place = legal.first_illegal(log)
+    if place is not None:
+        return f"event {place}: no procedure comes to it"
+    if audit != f"audit ok ended {len(ends)} open {len(legal.txns)}":
+        return f"{len(ends)} ended, {len(legal.txns)} are open: {audit}"
+    return replayed(log, PROCEDURES) or serial(log, PROCEDURES, {})
 
 
 def main():
@@ -59,17 +72,18 @@ def main():
     parser.add_argument("--workers", type=int, default=8)
     parser.add_argument("--seed", type=int, default=1)
     options = parser.parse_args()
-    total, events, begun = {}, 0, time.monotonic()
-    for seed in range(options.seed, options.seed + options.runs):
-        counts, log = traced(options.bench, options.workers, options.calls, seed)
-        why = difference(counts, log, options.calls)
+    total, events, begun = collections.Counter(), 0, time.monotonic()
+    runs = [("trace", seed) for seed in range(options.seed, options.seed + options.runs)]
+    for weather, seed in [*runs, ("restarts", options.seed)]:
+        counts, audit, log = traced(options.bench, weather, options.workers, options.calls, seed)
+        why = difference(counts, audit, log, options.calls)
         if why:
-            sys.exit(f"seed {seed}: {why}")
+            sys.exit(f"{weather} of seed {seed}: {why}")
         events += len(log)
-        total = {name: total.get(name, 0) + count for name, count in counts.items()}
+        total.update(counts)
     told = ", ".join(f"{count:,} {name}" for name, count in total.items())
     took = time.monotonic() - begun
-    print(f"storms: {options.runs} runs of {options.calls:,} calls by {options.workers} workers: {told};")
+    print(f"storms: {len(runs) + 1} runs of {options.calls:,} calls by {options.workers} workers: {told};")
     print(f"{events:,} events of their logs, no difference, {took:.0f} s")
 
 

@@ -2,6 +2,7 @@
 //! so that its output is the same every time; how long it takes is measured from outside.
 #![tactic(auto)]
 
+mod audits;
 mod calls;
 mod code;
 mod locks;
@@ -11,6 +12,7 @@ mod procedures;
 mod steps;
 mod store;
 mod storm;
+mod weather;
 
 use code::{Done, read_workload};
 use std::alloc::Global;
@@ -19,7 +21,7 @@ use std::io::{Read, Write};
 use std::process::ExitCode;
 use std::sync::Wait;
 use std::thread::Threads;
-use storm::Weathered;
+use weather::{Weather, Weathered};
 
 const USAGE: &str = "usage:
   bench code LOADS RUNS < WORKLOADS    decodes and verifies each workload LOADS times, runs it RUNS times
@@ -27,12 +29,17 @@ const USAGE: &str = "usage:
   bench locks HELD TIMES               HELD transactions hold a lock; one more takes and gives back TIMES
   bench numbers OPEN TIMES             OPEN numbers are open; one more is given out and answered TIMES
   bench log EVENTS TIMES               prints and reads a log of EVENTS events TIMES
-  bench store ROWS UPDATES RESTARTS    inserts ROWS records, UPDATES them in turn, and RESTARTS
+  bench store ROWS UPDATES RESTARTS    inserts ROWS records, UPDATES them in turn, keeps a checkpoint, and RESTARTS
   bench steps ENDED OPEN TIMES         ENDED transactions have ended, OPEN are open; one more is run to its end TIMES
   bench calls WORKERS CALLS            CALLS move an amount between two of 1000 records, by WORKERS at once
   bench rings WORKERS CALLS            the same over a data component in a thread of its own
-  bench storm SEED WORKERS CALLS       the same over a link that loses, repeats, delays, forges and answers late
+  bench storm SEED WORKERS CALLS       the same over a link that loses, repeats, delays, forges and answers late, to a
+                                       data component that keeps checkpoints and restarts, and an audit of it
   bench trace SEED WORKERS CALLS       the same, and the events of its log, 192 hex digits each
+  bench restarts SEED WORKERS CALLS    the same as trace over a link that loses nothing, to a data component that keeps
+                                       a checkpoint at every fifth wire and restarts at every seventh
+  bench audit 0 0 < TEXT               audits a log and data components: a script of `world`, a line `log`, the log in
+                                       hex, and lines `restart DC` and `list DC EVENTS`
 ";
 
 // The number that a word is.
@@ -59,10 +66,10 @@ fn report(alloc: Global, done: &Done) -> Option<String> {
 
 fn weathered(alloc: Global, weathered: &Weathered) -> Option<String> {
     let ended = &weathered.ended;
-    let log = weathered.log.as_ref()?;
+    let restarts = weathered.restarts;
     format!(in alloc;
-        "committed {} in doubt {} blocked {} other {}\n{}",
-        ended.committed, ended.in_doubt, ended.blocked, ended.other, log
+        "committed {} in doubt {} blocked {} other {} restarts {restarts}\n{}{}",
+        ended.committed, ended.in_doubt, ended.blocked, ended.other, weathered.audit, weathered.log
     )
     .ok()
 }
@@ -77,6 +84,7 @@ fn line_of<R: Threads + Wait + Sync>(
     let (first, second) = (number(words, 2)?, number(words, 3)?);
     let count = match words.get(1)?.as_str() {
         "code" => return report(alloc, &run_all(alloc, text, first, second)?),
+        "audit" => return audits::repeat(alloc, text),
         "starts" => code::repeat_starts(alloc, first, second)?,
         "locks" => locks::repeat(alloc, first, second)?,
         "numbers" => numbers::repeat(alloc, first, second)?,
@@ -85,13 +93,11 @@ fn line_of<R: Threads + Wait + Sync>(
         "steps" => steps::repeat(alloc, first, second, number(words, 4)?)?,
         "calls" => calls::repeat(rt, alloc, first, second)?,
         "rings" => calls::repeat_served(rt, alloc, first, second)?,
-        "storm" | "trace" => {
+        word => {
             let calls = number(words, 4)?;
-            let traced = words.get(1)?.as_str() == "trace";
-            let ended = storm::repeat(rt, alloc, first, second, calls, traced)?;
+            let ended = weather::repeat(rt, alloc, Weather::of_word(word)?, first, second, calls)?;
             return weathered(alloc, &ended);
         }
-        _ => return None,
     };
     format!(in alloc; "count {}\n", count).ok()
 }

@@ -9,6 +9,7 @@ use tc_core::state::{Asked, Request, Stranger, TcState, TxnId};
 fn answer(state: &mut TcState, request: Request) {
     let reply = Reply {
         number: request.number(),
+        incarnation: 0,
         said: Said::Done(None),
     };
     if let Err(Stranger { request }) = state.answer(request, reply) {

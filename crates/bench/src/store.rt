@@ -19,6 +19,8 @@ fn perform(dc: &mut Dc, number: u64, op: Op) -> u64 {
     let wire = Wire {
         number,
         low_water: number.saturating_sub(1),
+        incarnation: 0,
+        redo: false,
         op,
     };
     u64::from(dc.perform(&wire).is_some())
@@ -40,12 +42,14 @@ fn filled(alloc: Global, rows: u64, updates: u64, replies: &mut u64) -> Option<D
     Some(dc)
 }
 
-/// So many rows and updates of them, and then so many restarts. How many operations were replied to.
+/// So many rows and updates of them, a checkpoint that keeps them all, and then so many restarts. How
+/// many operations were replied to.
 pub fn repeat(alloc: Global, rows: u64, updates: u64, restarts: u64) -> Option<u64> {
     let mut replies = 0;
     let mut dc = filled(alloc, rows, updates, &mut replies)?;
+    let _mark = dc.checkpoint();
     for _ in 0..restarts {
-        dc.restart();
+        dc.restart().ok()?;
     }
     Some(replies)
 }

@@ -1,58 +1,77 @@
-//! Calls over a link that loses, repeats, delays, forges and answers late, and over a data component
-//! that restarts, at random from a seed.
+//! A link that loses, repeats, delays, forges and answers late, at random from a seed, to a data
+//! component that keeps checkpoints and restarts.
 
-use crate::calls::{RECORDS, moves, puts, store};
-use crate::procedures::state;
-use access_slots::op::{Reply, Said, Wire};
+use access_slots::op::{News, Reply, Said, Wire};
 use data_component::dc::Dc;
-use std::alloc::Global;
 use std::sync::atomic::{AtomicU64, Ordering};
 use std::sync::{Mutex, Wait};
-use std::thread::Threads;
 use std::{mem, thread};
-use tc_core::state::{Call, TcState};
-use worker_pool::{Answer, Link, OpenGate, Report, run};
+use worker_pool::Link;
 
-/// How the calls ended.
-#[derive(Clone, Copy, Debug, Default, PartialEq, Eq)]
-pub struct Ended {
-    pub committed: u64,
-    pub in_doubt: u64,
-    /// Blocked on a record of a transaction in doubt.
-    pub blocked: u64,
-    /// Anything else: there is to be none.
-    pub other: u64,
-}
+// One of so many wires finds that the data component has kept a checkpoint.
+const CHECKPOINTS: u64 = 1024;
 
-/// How the calls ended, and the events of the log as hex text, where there is memory for them.
-#[derive(Drop)]
-pub struct Weathered {
-    pub ended: Ended,
-    pub log: Option<String>,
-}
-
-// A number is sent so often at most.
-const TRIES: u64 = 10;
-
-// One of so many wires finds that the data component has restarted.
+// One of so many wires finds that it has restarted.
 const RESTARTS: u64 = 4096;
 
+// The same of wires that redo, which are more than the others: each restart has them all sent again.
+const RESTARTS_IN_REDO: u64 = 65536;
+
+// What was told of the last restart, and of the one before.
+#[derive(Clone, Copy, Default)]
+struct Told {
+    last: Option<News>,
+    before: Option<News>,
+}
+
+/// The link, and the data component behind it.
 #[derive(Drop)]
-struct Storm {
+pub struct Storm {
     dc: Mutex<Dc>,
     seed: AtomicU64,
     late: Mutex<Option<Reply>>,
+    told: Mutex<Told>,
 }
 
-// The same data component over a link that loses nothing.
+/// The same data component over a link that loses nothing; it keeps no checkpoint then.
 #[derive(Drop)]
-struct Calm<'a> {
-    storm: &'a Storm,
+pub struct Calm<'a> {
+    pub storm: &'a Storm,
 }
 
 impl Link for Calm<'_> {
     fn carry<R: Wait>(&self, rt: &R, _worker: usize, wire: &Wire) -> Option<Reply> {
         self.storm.perform(rt, wire)
+    }
+
+    fn news<R: Wait>(&self, _rt: &R, _worker: usize, _dc: u16) -> Option<News> {
+        None
+    }
+}
+
+/// The same data component over a link that loses nothing, where it keeps a checkpoint at every fifth
+/// wire and restarts at every seventh.
+#[derive(Drop)]
+pub struct Regular<'a> {
+    pub storm: &'a Storm,
+    pub carried: AtomicU64,
+}
+
+impl Link for Regular<'_> {
+    fn carry<R: Wait>(&self, rt: &R, _worker: usize, wire: &Wire) -> Option<Reply> {
+        let carried = self.carried.fetch_add(1, Ordering::Relaxed);
+        if carried % 7 == 6 {
+            self.storm.restart(rt);
+        }
+        let reply = self.storm.perform(rt, wire);
+        if carried % 5 == 4 {
+            self.storm.checkpoint(rt);
+        }
+        reply
+    }
+
+    fn news<R: Wait>(&self, rt: &R, _worker: usize, _dc: u16) -> Option<News> {
+        self.storm.told.lock(rt).last
     }
 }
 
@@ -64,6 +83,22 @@ const fn mixed(seed: u64) -> u64 {
 }
 
 impl Storm {
+    /// A storm of this seed.
+    pub fn new(dc: Dc, seed: u64) -> Storm {
+        Storm {
+            dc: Mutex::new(dc),
+            seed: AtomicU64::new(seed),
+            late: Mutex::new(None),
+            told: Mutex::new(Told::default()),
+        }
+    }
+
+    /// The data component as it is.
+    pub fn into_dc(self) -> Dc {
+        let Storm { dc, .. } = self;
+        dc.into_inner()
+    }
+
     fn draw(&self) -> u64 {
         mixed(
             self.seed
@@ -75,8 +110,28 @@ impl Storm {
         self.dc.lock(rt).perform(wire)
     }
 
+    fn checkpoint<R: Wait>(&self, rt: &R) {
+        let _mark = self.dc.lock(rt).checkpoint();
+    }
+
     fn restart<R: Wait>(&self, rt: &R) {
-        self.dc.lock(rt).restart();
+        let news = self.dc.lock(rt).restart().ok();
+        let mut told = self.told.lock(rt);
+        *told = Told {
+            last: news,
+            before: told.last,
+        };
+    }
+
+    // What befalls the data component before a wire comes.
+    fn befall<R: Wait>(&self, rt: &R, drawn: u64, redo: bool) {
+        if drawn.is_multiple_of(CHECKPOINTS) {
+            self.checkpoint(rt);
+        }
+        let restarts = if redo { RESTARTS_IN_REDO } else { RESTARTS };
+        if (drawn >> 16).is_multiple_of(restarts) {
+            self.restart(rt);
+        }
     }
 
     // The reply to an earlier wire; the one to this wire comes later, if at all.
@@ -90,6 +145,7 @@ impl Storm {
 const fn to_another(wire: &Wire) -> Option<Reply> {
     Some(Reply {
         number: wire.number ^ 1,
+        incarnation: wire.incarnation,
         said: Said::Absent,
     })
 }
@@ -98,6 +154,7 @@ const fn to_another(wire: &Wire) -> Option<Reply> {
 const fn that_does_not_fit(wire: &Wire) -> Option<Reply> {
     Some(Reply {
         number: wire.number,
+        incarnation: wire.incarnation,
         said: Said::Old,
     })
 }
@@ -105,9 +162,7 @@ const fn that_does_not_fit(wire: &Wire) -> Option<Reply> {
 impl Link for Storm {
     fn carry<R: Wait>(&self, rt: &R, _worker: usize, wire: &Wire) -> Option<Reply> {
         let drawn = self.draw();
-        if (drawn >> 32) % RESTARTS == 0 {
-            self.restart(rt);
-        }
+        self.befall(rt, drawn >> 32, wire.redo);
         match drawn % 16 {
             0 | 1 => None,
             2 | 3 => {
@@ -128,98 +183,14 @@ impl Link for Storm {
             _ => self.perform(rt, wire),
         }
     }
-}
 
-fn count(state: &TcState, answer: &Answer, ended: &mut Ended) {
-    let counter = match answer {
-        Answer::Committed(_) => &mut ended.committed,
-        Answer::InDoubt(_) => &mut ended.in_doubt,
-        Answer::Blocked(busy) if state.find_txn(busy.holder).is_some() => &mut ended.blocked,
-        _ => &mut ended.other,
-    };
-    *counter = counter.wrapping_add(1);
-}
-
-fn counted(report: &Report) -> Ended {
-    let mut ended = Ended::default();
-    for answer in &report.answers {
-        count(&report.state, answer, &mut ended);
+    // News are lost, come late, and come again and again.
+    fn news<R: Wait>(&self, rt: &R, _worker: usize, _dc: u16) -> Option<News> {
+        let told = *self.told.lock(rt);
+        match self.draw() % 8 {
+            0 | 1 => None,
+            2 | 3 => told.before,
+            _ => told.last,
+        }
     }
-    ended
-}
-
-// The events of the report's log as hex text, where they are asked for.
-fn events(alloc: Global, report: &Report, traced: bool) -> Option<String> {
-    if !traced {
-        return Some(String::new(alloc));
-    }
-    let bytes = report.state.log().print(alloc).ok()?;
-    hex::encode(alloc, bytes).ok()
-}
-
-// A thousand records are put over the link that loses nothing.
-fn put_all<R: Threads + Wait + Sync>(
-    rt: &R,
-    alloc: Global,
-    puts: &[Call],
-    storm: &Storm,
-) -> Option<Report> {
-    run(
-        rt,
-        alloc,
-        state(alloc)?,
-        puts,
-        1,
-        1,
-        &Calm { storm },
-        &OpenGate,
-    )
-    .ok()
-}
-
-// Runs the calls over the storm.
-fn weather<R: Threads + Wait + Sync>(
-    rt: &R,
-    alloc: Global,
-    state: TcState,
-    calls: &[Call],
-    workers: usize,
-    storm: &Storm,
-    traced: bool,
-) -> Option<Weathered> {
-    let report = run(rt, alloc, state, calls, workers, TRIES, storm, &OpenGate).ok()?;
-    let ended = counted(&report);
-    let log = events(alloc, &report, traced);
-    drop(report);
-    Some(Weathered { ended, log })
-}
-
-/// A thousand records are put over a link that loses nothing; then so many calls move 1 between two
-/// of them over the storm of this seed, by so many workers, each number sent ten times at most. The
-/// log is answered where it is asked for.
-pub fn repeat<R: Threads + Wait + Sync>(
-    rt: &R,
-    alloc: Global,
-    seed: u64,
-    workers: u64,
-    calls: u64,
-    traced: bool,
-) -> Option<Weathered> {
-    let puts = puts(alloc, RECORDS)?;
-    let moves = moves(alloc, calls)?;
-    let storm = Storm {
-        dc: Mutex::new(store(alloc, calls)?),
-        seed: AtomicU64::new(seed),
-        late: Mutex::new(None),
-    };
-    let before = put_all(rt, alloc, puts.as_slice(), &storm)?;
-    weather(
-        rt,
-        alloc,
-        before.state,
-        moves.as_slice(),
-        workers as usize,
-        &storm,
-        traced,
-    )
 }
