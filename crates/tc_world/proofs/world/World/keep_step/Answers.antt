@@ -3,7 +3,7 @@ use Rattle.tc_world.specs.Whole.{Whole}
 use Rattle.tc_world.proofs.Running.{is_legal}
 use Rattle.tc_world.proofs.Marks.{stay_low}
 use Rattle.tc_world.proofs.Listed.{is_known, stay_listed}
-use Rattle.tc_world.proofs.world.World.step.Goals as goal
+use Rattle.tc_world.proofs.world.World.keep_step.Goals as goal
 
 pub returns-clause-marks : goal.returns-clause-marks
 returns-clause-marks c low =
