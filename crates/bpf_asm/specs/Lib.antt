@@ -5,4 +5,4 @@ pub mod Operand
 pub mod Lines
 pub mod Refused
 pub mod Parts
-pub mod Joining
+pub mod Texts

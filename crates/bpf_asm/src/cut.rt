@@ -3,7 +3,7 @@
 ghost use Rattle.std.specs.Prelude.{◌≡◌, ◌<◌, ◌==◌, length, map, IfSome, IfNone};
 ghost use Rattle.std.specs.List.{before_first};
 ghost use Rattle.bpf_asm.specs.Cutting.{is_blank, trim, word_of, rest_of, operand_texts};
-ghost use Rattle.bpf_asm.specs.Joining.Texts.{AreOperands};
+ghost use Rattle.bpf_asm.specs.Texts.{AreOperands};
 
 /// Whether it is a space or a tab; a form feed is part of a word.
 pub fn is_blank(byte: u8) -> bool

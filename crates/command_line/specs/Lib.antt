@@ -1,3 +1,3 @@
 pub mod Task
 pub mod Said
-pub mod Joining
+pub mod Wanted

@@ -8,7 +8,7 @@ use Rattle.tc_log.specs.declared.event.Event.{Event}
 use Rattle.tc_log.specs.declared.event.Event.TheVariants.{Admit, Ask, Answer, Undo, End}
 use Rattle.request_numbers.specs.Given.{holds, others}
 use Rattle.request_numbers.specs.LowWater as mark
-use Rattle.history.specs.Flight.{Flight, given, in_flight, is_flight, is_open, open_numbers, mark_to, low_water, AllAnswered, IsLowWater}
+use Rattle.history.specs.Flight.{Flight, given, open_op, is_flight, is_open, open_numbers, mark_to, low_water, AllAnswered, IsLowWater}
 
 -- ---- open numbers
 
@@ -58,9 +58,9 @@ answered false m n ns o is was = holds_others m n ns is ∙ was ∙ sym (ap is_f
 pub open_are_in_flight : (h : List Event) (n : ℕ) → holds n (open_numbers h) ≡ is_open h n
 open_are_in_flight [] n = refl
 open_are_in_flight (Admit t p args ∷ h) n = open_are_in_flight h n
-open_are_in_flight (Ask t m o ∷ h) n = asked (m == n) n m (open_numbers h) (record { txn = t; op = o }) (in_flight h n) refl (open_are_in_flight h n)
-open_are_in_flight (Answer t m said ∷ h) n = answered (m == n) n m (open_numbers h) (in_flight h n) refl (open_are_in_flight h n)
-open_are_in_flight (Undo t m o ∷ h) n = asked (m == n) n m (open_numbers h) (record { txn = t; op = o }) (in_flight h n) refl (open_are_in_flight h n)
+open_are_in_flight (Ask t m o ∷ h) n = asked (m == n) n m (open_numbers h) (record { txn = t; op = o }) (open_op h n) refl (open_are_in_flight h n)
+open_are_in_flight (Answer t m said ∷ h) n = answered (m == n) n m (open_numbers h) (open_op h n) refl (open_are_in_flight h n)
+open_are_in_flight (Undo t m o ∷ h) n = asked (m == n) n m (open_numbers h) (record { txn = t; op = o }) (open_op h n) refl (open_are_in_flight h n)
 open_are_in_flight (End t o ∷ h) n = open_are_in_flight h n
 
 -- ---- the low-water mark

@@ -22,13 +22,13 @@ pub record Flight : Type 0 where
   pub op : Op
 
 -- the operation under a number that was given out and isn't answered
-abbrev pub in_flight : List Event → ℕ → Option Flight
-in_flight [] m = None
-in_flight (Admit t p args ∷ h) m = in_flight h m
-in_flight (Ask t n o ∷ h) m = if n == m then Some (record { txn = t; op = o }) else in_flight h m
-in_flight (Answer t n said ∷ h) m = if n == m then None else in_flight h m
-in_flight (Undo t n o ∷ h) m = if n == m then Some (record { txn = t; op = o }) else in_flight h m
-in_flight (End t o ∷ h) m = in_flight h m
+abbrev pub open_op : List Event → ℕ → Option Flight
+open_op [] m = None
+open_op (Admit t p args ∷ h) m = open_op h m
+open_op (Ask t n o ∷ h) m = if n == m then Some (record { txn = t; op = o }) else open_op h m
+open_op (Answer t n said ∷ h) m = if n == m then None else open_op h m
+open_op (Undo t n o ∷ h) m = if n == m then Some (record { txn = t; op = o }) else open_op h m
+open_op (End t o ∷ h) m = open_op h m
 
 abbrev pub is_flight : Option Flight → Bool
 is_flight None = false
@@ -36,7 +36,7 @@ is_flight (Some f) = true
 
 -- the number was given out and isn't answered
 abbrev pub is_open : List Event → ℕ → Bool
-is_open h n = is_flight (in_flight h n)
+is_open h n = is_flight (open_op h n)
 
 -- the open numbers, in the order in which they were given out
 abbrev pub open_numbers : List Event → List ℕ

@@ -7,7 +7,7 @@ use Rattle.access_slots.specs.declared.op.Said.{Said}
 use Rattle.access_slots.specs.declared.op.Said.TheVariants.{Value, Absent, Done, Duplicate, Missing, NoRoom, Old}
 use Rattle.tc_log.specs.declared.event.Event.{Event}
 use Rattle.tc_log.specs.declared.event.Event.TheVariants.{Admit, Ask, Answer, Undo, End}
-use Rattle.history.specs.Flight.{Flight, given, in_flight}
+use Rattle.history.specs.Flight.{Flight, given, open_op}
 use Rattle.history.specs.declared.Answered.{Answered}
 
 abbrev pub with_answer : ℕ → Said → Option Flight → Option Answered
@@ -19,7 +19,7 @@ abbrev pub answered : List Event → ℕ → Option Answered
 answered [] m = None
 answered (Admit t p args ∷ h) m = answered h m
 answered (Ask t n o ∷ h) m = answered h m
-answered (Answer t n said ∷ h) m = if n == m then with_answer m said (in_flight h m) else answered h m
+answered (Answer t n said ∷ h) m = if n == m then with_answer m said (open_op h m) else answered h m
 answered (Undo t n o ∷ h) m = answered h m
 answered (End t o ∷ h) m = answered h m
 

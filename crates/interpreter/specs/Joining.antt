@@ -1,5 +1,4 @@
 -- Definitions that only join bodies to those beside this folder: no contract that others see speaks of them.
 pub mod Asking
 pub mod Filled
-pub mod Held
 pub mod Paused

@@ -16,7 +16,7 @@ use Rattle.lock_table.specs.declared.table.Busy.{Busy}
 use Rattle.lock_table.specs.declared.table.Hold.{Hold}
 use Rattle.lock_table.specs.Facts.{Sets, mode_among, held_in}
 use Rattle.lock_table.specs.Joining.Barring.{bars, least, least_holder, busy_at, first_busy}
-use Rattle.lock_table.specs.Joining.Holds.{hold_mode}
+use Rattle.lock_table.specs.Holds.{hold_mode}
 use Rattle.lock_table.proofs.Counting.{held_at, way_first}
 use Rattle.lock_table.proofs.Steps.{AreSingle, opened}
 

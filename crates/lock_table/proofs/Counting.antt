@@ -18,7 +18,7 @@ use Rattle.access_slots.specs.Locks.{mode_in}
 use Rattle.access_slots.specs.Held.{excludes}
 use Rattle.lock_table.specs.declared.table.Hold.{Hold}
 use Rattle.lock_table.specs.Facts.{Sets, mode_among}
-use Rattle.lock_table.specs.Joining.Holds.{hold, reads, writes, readers, writers, hold_of, hold_mode, held_more, held_less}
+use Rattle.lock_table.specs.Holds.{hold, reads, writes, readers, writers, hold_of, hold_mode, held_more, held_less}
 
 -- ---- a count over sets
 

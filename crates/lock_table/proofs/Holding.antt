@@ -9,7 +9,7 @@ use Rattle.access_slots.specs.Held.{excludes}
 use Rattle.lock_table.specs.declared.table.Hold.{Hold}
 use Rattle.lock_table.specs.Facts.{Sets, held_in}
 use Rattle.lock_table.specs.Joining.Barring.{least_holder}
-use Rattle.lock_table.specs.Joining.Holds.{hold_mode}
+use Rattle.lock_table.specs.Holds.{hold_mode}
 use Rattle.lock_table.proofs.Barring.{way_is, nobody_bars, least_bars}
 use Rattle.lock_table.proofs.Counting.{held_at}
 use Rattle.lock_table.proofs.Steps.{AreSingle}

@@ -10,7 +10,7 @@ use Rattle.access_slots.specs.Held.{Compatible}
 use Rattle.lock_table.specs.declared.table.Busy.{Busy}
 use Rattle.lock_table.specs.declared.table.Hold.{Hold}
 use Rattle.lock_table.specs.Facts.{Sets, held_in, HoldsNothing}
-use Rattle.lock_table.specs.Joining.Holds.{readers, writers, held_more, held_less, AreExclusive, IsKept}
+use Rattle.lock_table.specs.Holds.{readers, writers, held_more, held_less, AreExclusive, IsKept}
 use Rattle.lock_table.proofs.Barring.{free_at}
 use Rattle.lock_table.proofs.Counting.{IsFree, held_at, put_held, put_exclusive, taken_held, taken_exclusive}
 use Rattle.lock_table.proofs.Steps.{AreSingle, single}

@@ -7,7 +7,7 @@ ghost use Rattle.access_slots.specs.declared.slot.Mode.{Mode as ModeValue};
 ghost use Rattle.access_slots.specs.Locks.{record_eq, mode_in, Rising};
 ghost use Rattle.access_slots.specs.Held.{excludes, Compatible, IsFirstInTheWay};
 ghost use Rattle.lock_table.specs.Facts.{held_by, nobody, granted, released, AreHeld, HoldsNothing};
-ghost use Rattle.lock_table.specs.Joining.Holds.{hold_mode, held_more, held_less, AreHolds, AreFew};
+ghost use Rattle.lock_table.specs.Holds.{hold_mode, held_more, held_less, AreHolds, AreFew};
 ghost use Rattle.lock_table.specs.Joining.Barring.{bars, least, least_holder, first_busy};
 
 use access_slots::lock::{Lock, LockSet};
@@ -44,7 +44,7 @@ pub struct LockTable {
 impl Model for LockTable {
     ghost use Rattle.std.specs.Prelude.{IfSome};
     ghost use Rattle.lock_table.specs.Facts.{Table};
-    ghost use Rattle.lock_table.specs.Joining.Holds.{IsKept, HasRoom};
+    ghost use Rattle.lock_table.specs.Holds.{IsKept, HasRoom};
 
     ghost Value = { Table };
 

@@ -10,7 +10,7 @@ use Rattle.register_kinds.specs.declared.kind.Kind.{Kind}
 use Rattle.register_kinds.specs.declared.kind.Kind.TheVariants.{Empty, Number, Const, Stack, Args, Buffer, MaybeBuffer}
 use Rattle.register_kinds.specs.declared.kind.Violation.TheVariants.{OutOfBounds}
 use Rattle.register_kinds.specs.Access.{is_within, bounds, access}
-use Rattle.register_kinds.specs.Joining.Fitting.{Fits, shapes, shapes_of, IsSetting}
+use Rattle.register_kinds.specs.Fitting.{Fits, shapes, shapes_of, IsSetting}
 use Rattle.register_kinds.proofs.Memory.{both, HasBytes, IsWritten, readable, laid_of, stack_at, arguments_at}
 use Rattle.register_kinds.proofs.Memory.{buffer_at, stack_written, buffer_written}
 

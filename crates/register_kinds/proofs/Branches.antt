@@ -21,7 +21,7 @@ use Rattle.register_kinds.specs.declared.kinds.Kinds.{Kinds}
 use Rattle.register_kinds.specs.declared.kinds.Ways.{Ways}
 use Rattle.register_kinds.specs.Kinds.{kind_at, with_kind}
 use Rattle.register_kinds.specs.Transfer.{null_if_zero, null_test, branch_ways}
-use Rattle.register_kinds.specs.Joining.Fitting.{Fits, AllFit, IsSetting}
+use Rattle.register_kinds.specs.Fitting.{Fits, AllFit, IsSetting}
 use Rattle.register_kinds.proofs.Memory.{laid_of}
 use Rattle.register_kinds.proofs.Registers.{narrowed}
 

@@ -25,7 +25,7 @@ use Rattle.register_kinds.specs.declared.kinds.Ways.{Ways}
 use Rattle.register_kinds.specs.Kinds.{kind_at, with_kind, after_call, is_present, check}
 use Rattle.register_kinds.specs.Calls.{is_helper, suffices, answer_kind, called_at, called_slot, called_by}
 use Rattle.register_kinds.specs.Transfer.{called_ways}
-use Rattle.register_kinds.specs.Joining.Fitting.{Fits, AllFit, IsSetting, IsStanding, IsSound, WentOn, Shape, shape, shapes, shapes_of}
+use Rattle.register_kinds.specs.Fitting.{Fits, AllFit, IsSetting, IsStanding, IsSound, WentOn, Shape, shape, shapes, shapes_of}
 use Rattle.register_kinds.proofs.Memory.{both, region_of, shapes-set, laid_of, buffer_at}
 use Rattle.register_kinds.proofs.Undoing.{ok, check_ok, refused, ok_is}
 use Rattle.register_kinds.proofs.Registers.{put_fits}

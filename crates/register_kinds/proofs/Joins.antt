@@ -11,7 +11,7 @@ use Rattle.register_kinds.specs.declared.kind.Kind.TheVariants.{Empty, Number, C
 use Rattle.register_kinds.specs.declared.kinds.Kinds.{Kinds}
 use Rattle.register_kinds.specs.Kinds.{join_of, join_all, join_kinds, is_present, same_or_number}
 use Rattle.register_kinds.specs.Arriving.{merge}
-use Rattle.register_kinds.specs.Joining.Fitting.{Fits, IsWeaker}
+use Rattle.register_kinds.specs.Fitting.{Fits, IsWeaker}
 
 some_by : (v : Option ℕ) (n : ℕ) → v ≡ Some n → IsSome v
 some_by v n e = subst (λ (o : Option ℕ). IsSome o) (sym e) refl

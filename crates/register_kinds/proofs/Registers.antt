@@ -20,7 +20,7 @@ use Rattle.register_kinds.specs.declared.kinds.Kinds.{Kinds}
 use Rattle.register_kinds.specs.Kinds.{kind_at, with_kind, is_present}
 use Rattle.register_kinds.specs.Computed.{source_kind}
 use Rattle.register_kinds.specs.Transfer.{is_left_present}
-use Rattle.register_kinds.specs.Joining.Fitting.{Fits, AllFit}
+use Rattle.register_kinds.specs.Fitting.{Fits, AllFit}
 use Rattle.register_kinds.proofs.Values.{LeftFits}
 
 abbrev pub HasNumber : Option ℕ → Type 0

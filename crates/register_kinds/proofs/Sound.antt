@@ -38,7 +38,7 @@ use Rattle.register_kinds.specs.Transfer.{falls, written_kinds, converted_ways}
 use Rattle.register_kinds.specs.Transfer.{filled_kinds, loaded_kinds, null_test, branch_ways}
 use Rattle.register_kinds.specs.Transfer.{is_expected_present, received_ways, transfer_of}
 use Rattle.register_kinds.specs.Arriving.{next_place, jump_offset, target_by}
-use Rattle.register_kinds.specs.Joining.Fitting.{Fits, AllFit, IsSetting, IsStanding, IsSound, KeepsKinds, Lands}
+use Rattle.register_kinds.specs.Fitting.{Fits, AllFit, IsSetting, IsStanding, IsSound, KeepsKinds, Lands}
 use Rattle.register_kinds.proofs.Memory.{IsWritten}
 use Rattle.register_kinds.proofs.Values.{alu_fits}
 use Rattle.register_kinds.proofs.Accesses.{loadable, storable, load_allowed}

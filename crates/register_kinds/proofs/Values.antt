@@ -15,7 +15,7 @@ use Rattle.semantics.proofs.Extended.{extended-cast_signed, extended_back, addre
 use Rattle.register_kinds.specs.declared.kind.Kind.{Kind}
 use Rattle.register_kinds.specs.declared.kind.Kind.TheVariants.{Empty, Number, Const, Stack, Args, Buffer, MaybeBuffer}
 use Rattle.register_kinds.specs.Computed.{near, or_number, moved_by, sum_kind, difference_kind, copied_kind, alu_kind}
-use Rattle.register_kinds.specs.Joining.Fitting.{Fits}
+use Rattle.register_kinds.specs.Fitting.{Fits}
 
 some_is : (x y : ℕ) → Some x ≡ Some y → x ≡ y
 some_is x y e = cc

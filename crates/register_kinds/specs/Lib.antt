@@ -4,4 +4,5 @@ pub mod Access
 pub mod Calls
 pub mod Transfer
 pub mod Arriving
-pub mod Joining
+pub mod Effects
+pub mod Fitting

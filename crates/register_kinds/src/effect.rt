@@ -7,7 +7,7 @@ ghost use Rattle.bpf_encoding.specs.Reading.{is_64};
 ghost use Rattle.semantics.specs.Arithmetic.{width_of};
 ghost use Rattle.semantics.specs.Instruction.{size_width, signed_size_width, receiver};
 ghost use Rattle.register_kinds.specs.Kinds.{kind_at, check, refuse, is_present};
-ghost use Rattle.register_kinds.specs.Joining.Effects.{result_by, ways_by};
+ghost use Rattle.register_kinds.specs.Effects.{result_by, ways_by};
 ghost use Rattle.register_kinds.specs.Computed.{source_kind, alu_kind};
 ghost use Rattle.register_kinds.specs.Access.{is_within, bounds, access};
 ghost use Rattle.register_kinds.specs.Calls.{is_helper, writes_by, suffices, answer_kind, called_at, called_slot};

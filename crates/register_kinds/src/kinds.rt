@@ -2,7 +2,7 @@
 
 ghost use Rattle.std.specs.Prelude.{◌≡◌};
 ghost use Rattle.bpf_encoding.specs.Spelling.{number_of};
-ghost use Rattle.register_kinds.specs.Joining.Fitting.{IsWeaker};
+ghost use Rattle.register_kinds.specs.Fitting.{IsWeaker};
 ghost use Rattle.register_kinds.specs.Kinds.{entry_kinds, kind_at, with_kind, join_kinds, after_call};
 
 use crate::kind::Kind;

@@ -1,8 +1,8 @@
 //! The kinds behind an instruction.
 
 ghost use Rattle.std.specs.Prelude.{◌≡◌, IfOk};
-ghost use Rattle.register_kinds.specs.Joining.Effects.{ways_by};
-ghost use Rattle.register_kinds.specs.Joining.Fitting.{KeepsKinds};
+ghost use Rattle.register_kinds.specs.Effects.{ways_by};
+ghost use Rattle.register_kinds.specs.Fitting.{KeepsKinds};
 ghost use Rattle.register_kinds.specs.Transfer.{transfer_of};
 
 use crate::effect::{Effect, effect_of};

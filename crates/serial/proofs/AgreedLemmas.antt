@@ -11,7 +11,7 @@ use Rattle.access_slots.proofs.Records.{eq_is}
 use Rattle.tc_log.specs.declared.event.Event.{Event}
 use Rattle.tc_log.specs.declared.event.Event.TheVariants.{Admit, Ask, Answer, Undo, End}
 use Rattle.verifier.specs.Checked.{Checked}
-use Rattle.history.specs.Flight.{Flight, in_flight}
+use Rattle.history.specs.Flight.{Flight, open_op}
 use Rattle.data_component.specs.Performed.{Performed, RecordValue, value_of, said_under}
 use Rattle.data_component.specs.Store.{Store}
 use Rattle.transactions.specs.Reached.{AllGood}
@@ -37,13 +37,13 @@ use Rattle.serial.proofs.AuditLemmas.{legal_tail, logged_stays, value_before, va
 abbrev Tells : List Event → ℕ → Op → Said → Type 0
 Tells h n o said = (said ≡ told (value_to h (pred n)) o) ⊎ (said ≡ NoRoom)
 
-tells_one : (ps : List Checked) (later h : List Event) (t m : ℕ) (s : Said) (n : ℕ) (o : Op) (said : Said) → AllGood ps → Legal ps (later ++ Answer t m s ∷ h) → HonestTo (in_flight h m) s (now h)
+tells_one : (ps : List Checked) (later h : List Event) (t m : ℕ) (s : Said) (n : ℕ) (o : Op) (said : Said) → AllGood ps → Legal ps (later ++ Answer t m s ∷ h) → HonestTo (open_op h m) s (now h)
     → logged (later ++ Answer t m s ∷ h) n ≡ Some o → said_under (done (Answer t m s ∷ h)) n ≡ Some said → (said_under (done h) n ≡ Some said → Tells (later ++ Answer t m s ∷ h) n o said) → Tells (later ++ Answer t m s ∷ h) n o said
 tells_one ps later h t m s n o said good legal honest logs under before =
     let H = later ++ Answer t m s ∷ h in
     let all = legal_tail ps later (Answer t m s ∷ h) legal in
     let f : Flight = flight t all.0.r.op in
-    let flies : in_flight h m ≡ Some f = answered_flight ps h t m s all.1 all.0 in
+    let flies : open_op h m ≡ Some f = answered_flight ps h t m s all.1 all.0 in
     let under' : said_under ((m, f.op, s) ∷ done h) n ≡ Some said = subst (λ (x : List Performed). said_under x n ≡ Some said) (done_answer h t m f s flies) under in
     elim (cases_eq m n) [
       | inl same ↦
@@ -86,7 +86,7 @@ no_writes r (x ∷ list) none = writes_none r x list (λ same. absurd (none zero
 module _ (ps : List Checked) (h : List Event) (dcs : List Store) (good : AllGood ps) (legal : Legal ps h) (honest : Honest h) where
   -- a data component's list stands beside the log, and where it never restarted, all that was answered is there
   abbrev pub Stands : Type 0
-  Stands = (d : ℕ) (s : Store) → slice_get dcs d ≡ Some s → Beside (logged h) (in_flight h) (done h) d s.list × (s.incarnation ≡ 0 → StandsWhole (logged h) (done h) d s.list)
+  Stands = (d : ℕ) (s : Store) → slice_get dcs d ≡ Some s → Beside (logged h) (open_op h) (done h) d s.list × (s.incarnation ≡ 0 → StandsWhole (logged h) (done h) d s.list)
 
   -- what was answered was said by a data component that is there
   abbrev pub WasThere : Type 0
@@ -96,7 +96,7 @@ module _ (ps : List Checked) (h : List Event) (dcs : List Store) (good : AllGood
   stands_there stands n o said s at logs was =
       subst (λ (x : Option Store). StandsSo (said_under (list_of x) n) said (incarnation_of x)) (sym at) (by (said_under s.list n) refl)
     where
-      it : Beside (logged h) (in_flight h) (done h) (dc_of o) s.list × (s.incarnation ≡ 0 → StandsWhole (logged h) (done h) (dc_of o) s.list)
+      it : Beside (logged h) (open_op h) (done h) (dc_of o) s.list × (s.incarnation ≡ 0 → StandsWhole (logged h) (done h) (dc_of o) s.list)
       it = stands (dc_of o) s at
 
       by : (u : Option Said) → said_under s.list n ≡ u → StandsSo u said s.incarnation

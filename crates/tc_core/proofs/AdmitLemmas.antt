@@ -29,7 +29,7 @@ use Rattle.transactions.specs.Room.{numbers_left, events_left, places_left, each
 use Rattle.transactions.specs.Legal.{Legal}
 use Rattle.transactions.proofs.StandingLemmas.{some_same, none_some, standing-same, standing-other, standing-above, total-admit}
 use Rattle.slab.specs.Slab.{Slab, get, slab_len, Updates}
-use Rattle.tc_core.specs.Joining.Running.{Runs}
+use Rattle.tc_core.specs.Running.{Runs}
 use Rattle.tc_core.specs.declared.transaction.Tx.{Tx}
 use Rattle.tc_core.specs.declared.book.Book.{Book}
 use Rattle.tc_core.specs.Joining.Rooms.{OnlyRoom, HasRoom, MayEnter}
@@ -39,7 +39,7 @@ use Rattle.tc_core.specs.Admission.{IsCalled, Takes, needed, IsFree, IsAdmissibl
 use Rattle.tc_core.specs.declared.transaction.Own.{Own}
 use Rattle.tc_core.proofs.MarkedLemmas.{marked-room}
 use Rattle.tc_core.proofs.KeyLemmas.{keys-room}
-use Rattle.tc_core.specs.Joining.Kept.{IsBook, core_of, Keeps, Matches, IsOpen, StandsAt, HasKey, Places, Rooms, Kept}
+use Rattle.tc_core.specs.Kept.{IsBook, core_of, Keeps, Matches, IsOpen, StandsAt, HasKey, Places, Rooms, Kept}
 use Rattle.tc_core.proofs.KeptLemmas.{calls_kept, held-admitted}
 
 pub book-room : (ps : List Checked) (b b' : Book) → IsBook ps b → OnlyRoom b b' → IsBook ps b'

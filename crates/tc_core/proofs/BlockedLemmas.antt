@@ -28,13 +28,13 @@ use Rattle.transactions.proofs.Running.{get_decl}
 use Rattle.transactions.proofs.Headline.{held_is, no_call}
 use Rattle.slab.specs.Slab.{Slab, get}
 use Rattle.tc_core.specs.Core.{Core}
-use Rattle.tc_core.specs.Joining.Running.{as_reached}
+use Rattle.tc_core.specs.Running.{as_reached}
 use Rattle.tc_core.specs.Replies.{next_at}
 use Rattle.tc_core.specs.Admission.{IsCalled, IsUncallable, Takes}
 use Rattle.tc_core.specs.Blocked.{IsBlocked, stranded_by, is_stranded, stands_in_the_way}
 use Rattle.tc_core.specs.Joining.Clashes.{clashes}
 use Rattle.tc_core.specs.Joining.Holders.{stuck_by, stands_still, HoldsUp}
-use Rattle.tc_core.specs.Joining.Kept.{Kept, IsBook, StandsAt, core_of, is_doubted}
+use Rattle.tc_core.specs.Kept.{Kept, IsBook, StandsAt, core_of, is_doubted}
 use Rattle.tc_core.specs.Loaded.{Loaded}
 use Rattle.tc_core.specs.declared.book.Book.{Book}
 use Rattle.tc_core.specs.declared.state.Refusal.{Refusal}

@@ -6,7 +6,7 @@ use Rattle.request_numbers.specs.Given.{holds}
 use Rattle.verifier.specs.Checked.{Checked}
 use Rattle.tc_log.specs.declared.event.Event.{Event}
 use Rattle.tc_log.specs.declared.event.Event.TheVariants.{Admit, Ask, Answer, Undo, End}
-use Rattle.history.specs.Flight.{Flight, in_flight, given}
+use Rattle.history.specs.Flight.{Flight, open_op, given}
 use Rattle.transactions.specs.Legal.{Legal}
 use Rattle.transactions.specs.Room.{one_if}
 use Rattle.transactions.proofs.StandingLemmas.{eq-true, eq-false, none_some}
@@ -87,7 +87,7 @@ pub room_for : (ns : List ℕ) (n most : ℕ) → 0 < n → n ≤ most → holds
 room_for ns n most some inside free a = omega (arith, a.count, marks_lt ns n most some inside free)
 
 -- what is in flight has a number from 1 on
-pub flight_some : (ps : List Checked) (h : List Event) → Legal ps h → (n : ℕ) (f : Flight) → in_flight h n ≡ Some f → 0 < n
+pub flight_some : (ps : List Checked) (h : List Event) → Legal ps h → (n : ℕ) (f : Flight) → open_op h n ≡ Some f → 0 < n
 flight_some ps [] legal n f is = absurd cc
 flight_some ps (Admit u p args ∷ h) legal n f is = flight_some ps h legal.1 n f is
 flight_some ps (Ask u m o ∷ h) legal n f is = elim (cases_eq m n) [
@@ -99,7 +99,7 @@ flight_some ps (Undo u m o ∷ h) legal n f is = elim (cases_eq m n) [
   | inr differ ↦ flight_some ps h legal.1 n f (sym (cond-false _ _ _ (eq-false m n differ)) ∙ is)
 ]
 flight_some ps (Answer u m said ∷ h) legal n f is = elim (cases_eq m n) [
-  | inl same ↦ absurd (none_some _ f (cond-true _ None (in_flight h n) (eq-true m n same)) is)
-  | inr differ ↦ flight_some ps h legal.1 n f (sym (cond-false _ None (in_flight h n) (eq-false m n differ)) ∙ is)
+  | inl same ↦ absurd (none_some _ f (cond-true _ None (open_op h n) (eq-true m n same)) is)
+  | inr differ ↦ flight_some ps h legal.1 n f (sym (cond-false _ None (open_op h n) (eq-false m n differ)) ∙ is)
 ]
 flight_some ps (End u outcome ∷ h) legal n f is = flight_some ps h legal.1 n f is

@@ -12,8 +12,8 @@ use Rattle.transactions.specs.Standing.{Standing, answered, answers_after, full_
 use Rattle.transactions.specs.Standing.{told_to, found_full, undo_done, tries_done}
 use Rattle.transactions.specs.Reached.{Asks, reached_of, stop_at, Fitting, calls_in}
 use Rattle.transactions.proofs.StandingLemmas.{some_same}
-use Rattle.tc_core.specs.Joining.Running.{Runs, MayResume}
-use Rattle.tc_core.specs.Joining.Kept.{Keeps}
+use Rattle.tc_core.specs.Running.{Runs, MayResume}
+use Rattle.tc_core.specs.Kept.{Keeps}
 use Rattle.tc_core.specs.Joining.Hearing.{MayHear}
 use Rattle.tc_core.specs.declared.transaction.Tx.{Tx}
 

@@ -32,14 +32,14 @@ use Rattle.transactions.proofs.Sound.{Sound, standing_sound, ask_leaves, undo_le
 use Rattle.transactions.proofs.Flights.{open_flight, flight_holds}
 use Rattle.transactions.proofs.Nexts.{may_ask, may_undo, may_end}
 use Rattle.slab.specs.Slab.{Slab, get, slab_len, Updates}
-use Rattle.tc_core.specs.Joining.Running.{Runs, as_reached}
+use Rattle.tc_core.specs.Running.{Runs, as_reached}
 use Rattle.tc_core.specs.declared.transaction.Tx.{Tx}
 use Rattle.tc_core.specs.Core.{Core, Asking}
 use Rattle.tc_core.specs.Replies.{is_heard, IsAnswer, over_in}
 use Rattle.access_slots.specs.declared.op.Reply.{Reply}
 use Rattle.transactions.specs.InFlight.{site_of}
 use Rattle.tc_core.specs.Joining.Hearing.{MayHear, Accepts, Heard}
-use Rattle.tc_core.specs.Joining.Kept.{Keeps, Matches, IsOpen, StandsAt, HasKey, Places, Rooms, Kept}
+use Rattle.tc_core.specs.Kept.{Keeps, Matches, IsOpen, StandsAt, HasKey, Places, Rooms, Kept}
 use Rattle.tc_core.proofs.Resuming.{paused_reached}
 
 none_if : {X : Type 0} (o : Option X) → ((x : X) → o ≡ Some x → ⊥) → o ≡ None

@@ -12,7 +12,7 @@ use Rattle.transactions.proofs.StandingLemmas.{total-same}
 use Rattle.transactions.proofs.Grows.{get_grows, held_grows, calls_grow, legal_grows, good_grows}
 use Rattle.slab.specs.Slab.{Slab, get}
 use Rattle.tc_core.specs.declared.transaction.Tx.{Tx}
-use Rattle.tc_core.specs.Joining.Kept.{Matches, IsOpen, Places, Rooms, Kept, IsBook}
+use Rattle.tc_core.specs.Kept.{Matches, IsOpen, Places, Rooms, Kept, IsBook}
 use Rattle.tc_core.specs.declared.book.Book.{Book}
 
 pub kept-load : (ps : List Checked) (q : Checked) (log : History) (table : Table) (numbers : Given) (txns : Slab Tx) (serials owed promised : ℕ)

@@ -8,15 +8,15 @@ use Rattle.lock_table.specs.Facts.{Table}
 use Rattle.verifier.specs.Checked.{Checked}
 use Rattle.tc_log.specs.declared.event.Event.{Event}
 use Rattle.tc_log.specs.History.{History}
-use Rattle.history.specs.Flight.{Flight, given, in_flight}
+use Rattle.history.specs.Flight.{Flight, given, open_op}
 use Rattle.transactions.specs.declared.Sent.{Sent}
 use Rattle.transactions.specs.Legal.{Legal}
 use Rattle.transactions.specs.Standing.{Standing, standing}
 use Rattle.transactions.proofs.StandingLemmas.{some_same, none_some}
 use Rattle.transactions.proofs.Flights.{standing_flight, flight}
 use Rattle.slab.specs.Slab.{Slab, get, slab_len, Updates}
-use Rattle.tc_core.specs.Joining.Kept.{Keeps, Matches, IsOpen, StandsAt, Places, Kept, Marked, is_doubted}
-use Rattle.tc_core.specs.Joining.Running.{Runs}
+use Rattle.tc_core.specs.Kept.{Keeps, Matches, IsOpen, StandsAt, Places, Kept, Marked, is_doubted}
+use Rattle.tc_core.specs.Running.{Runs}
 use Rattle.tc_core.specs.Doubts.{with_number, with_number_by}
 use Rattle.tc_core.specs.declared.transaction.Tx.{Tx}
 use Rattle.tc_core.proofs.DoubtLemmas.{holds_other, holds_same}
@@ -69,7 +69,7 @@ apart : (ps : List Checked) (h : List Event) → Legal ps h → (t u : ℕ) (s v
 apart ps h legal t u s v r q is is' waits waits' same =
     let f = standing_flight ps h legal t s r is waits in
     let g = standing_flight ps h legal u v q is' waits' in
-    let e : flight t r.op ≡ flight u q.op = some_same _ _ (sym f.1 ∙ (ap (in_flight h) same ∙ g.1)) in
+    let e : flight t r.op ≡ flight u q.op = some_same _ _ (sym f.1 ∙ (ap (open_op h) same ∙ g.1)) in
     ap (λ (x : Flight). x.txn) e
 
 -- it waits for another number than this one

@@ -5,7 +5,7 @@ use Rattle.transactions.specs.Legal.{first_undo}
 use Rattle.transactions.specs.Standing.{Standing, standing}
 use Rattle.transactions.specs.Next.{next_by, next_of, next_in}
 use Rattle.tc_core.specs.Core.{Core}
-use Rattle.tc_core.specs.Joining.Running.{as_reached}
+use Rattle.tc_core.specs.Running.{as_reached}
 use Rattle.tc_log.specs.declared.event.Outcome.{Outcome}
 use Rattle.tc_core.specs.Replies.{next_at, end_of, over_in}
 use Rattle.tc_core.specs.declared.transaction.Tx.{Tx}

@@ -14,7 +14,7 @@ use Rattle.interpreter.specs.declared.pause.Pause.{Pause}
 use Rattle.interpreter.specs.declared.pause.Pause.TheVariants as pause
 use Rattle.transactions.specs.Reached.{Reached, Asks, Ends, Nowhere, reached_of, plain, stop_at, Fitting}
 use Rattle.transactions.proofs.Running.{fitting_snoc}
-use Rattle.tc_core.specs.Joining.Running.{Runs, MayResume, as_reached}
+use Rattle.tc_core.specs.Running.{Runs, MayResume, as_reached}
 use Rattle.tc_core.specs.declared.transaction.Tx.{Tx}
 
 -- what the machine stopped at is what the run has reached

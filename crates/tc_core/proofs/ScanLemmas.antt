@@ -12,13 +12,13 @@ use Rattle.verifier.specs.Checked.{Checked}
 use Rattle.tc_log.specs.declared.event.Event.{Event}
 use Rattle.tc_log.specs.declared.event.Event.TheVariants.{Admit, Ask, Answer, Undo, End}
 use Rattle.history.specs.declared.Answered.{Answered}
-use Rattle.history.specs.Flight.{Flight, given, in_flight}
+use Rattle.history.specs.Flight.{Flight, given, open_op}
 use Rattle.history.specs.Redo.{answered, with_answer, is_done, is_done_at, if_done_at, done_at, or_else, to_redo, IsToRedo}
 use Rattle.transactions.specs.Legal.{Legal, Allowed}
 use Rattle.transactions.proofs.StandingLemmas.{eq-true, eq-false, some_same, none_some}
 use Rattle.transactions.proofs.Flights.{standing_flight}
 use Rattle.transactions.proofs.Restarts.{flight_given, done_number, to_redo_is, to_redo_only}
-use Rattle.tc_core.specs.Joining.Kept.{AreSentUpTo}
+use Rattle.tc_core.specs.Kept.{AreSentUpTo}
 use Rattle.tc_core.specs.Joining.Scanning.{said_in, is_sought, if_done, done_behind, first_in, scan}
 use Rattle.tc_core.specs.Joining.Numbered.{AreNumbered, sent_by, sent_in, with_said, done_in}
 
@@ -110,15 +110,15 @@ numbered ps h legal = (is_numbered ps h legal).numbered
 -- ---- both orders say the same of a number
 
 record Agrees (h : List Event) (es : List Event) (n : ℕ) : Type 0 where
-  open_sent : (f : Flight) → in_flight h n ≡ Some f → sent_in es n ≡ Some f
-  open_unsaid : (f : Flight) → in_flight h n ≡ Some f → said_in es n ≡ None
+  open_sent : (f : Flight) → open_op h n ≡ Some f → sent_in es n ≡ Some f
+  open_unsaid : (f : Flight) → open_op h n ≡ Some f → said_in es n ≡ None
   same : answered h n ≡ with_said n (sent_in es n) (said_in es n)
   late_unsent : given h < n → sent_in es n ≡ None
   late_unsaid : given h < n → said_in es n ≡ None
 
 -- an event that neither sends nor answers the number
 still : (h es : List Event) (e : Event) (n : ℕ) → Agrees h es n → sent_in (e ∷ []) n ≡ None → said_in (e ∷ []) n ≡ None
-    → in_flight (e ∷ h) n ≡ in_flight h n → answered (e ∷ h) n ≡ answered h n → given h ≤ given (e ∷ h) → Agrees (e ∷ h) (es ++ e ∷ []) n
+    → open_op (e ∷ h) n ≡ open_op h n → answered (e ∷ h) n ≡ answered h n → given h ≤ given (e ∷ h) → Agrees (e ∷ h) (es ++ e ∷ []) n
 still h es e n a sends says flight_same answer_same more =
     let sent : sent_in (es ++ e ∷ []) n ≡ sent_in es n = sent_more es e n ∙ ap (orelse (sent_in es n)) sends ∙ or_none (sent_in es n) in
     let said : said_in (es ++ e ∷ []) n ≡ said_in es n = said_more es e n ∙ ap (orelse (said_in es n)) says ∙ or_none (said_in es n) in
@@ -132,7 +132,7 @@ still h es e n a sends says flight_same answer_same more =
 
 -- an event that sends the number
 sends_it : (h es : List Event) (e : Event) (n : ℕ) (f : Flight) → Agrees h es n → given h < n → sent_in (e ∷ []) n ≡ Some f → said_in (e ∷ []) n ≡ None
-    → in_flight (e ∷ h) n ≡ Some f → answered (e ∷ h) n ≡ answered h n → n ≤ given (e ∷ h) → Agrees (e ∷ h) (es ++ e ∷ []) n
+    → open_op (e ∷ h) n ≡ Some f → answered (e ∷ h) n ≡ answered h n → n ≤ given (e ∷ h) → Agrees (e ∷ h) (es ++ e ∷ []) n
 sends_it h es e n f a late sends says flight_is answer_same given_now =
     let sent : sent_in (es ++ e ∷ []) n ≡ Some f = sent_more es e n ∙ ap (λ (o : Option Flight). orelse o (sent_in (e ∷ []) n)) (a.late_unsent late) ∙ sends in
     let said : said_in (es ++ e ∷ []) n ≡ None = said_more es e n ∙ ap (λ (o : Option Said). orelse o (said_in (e ∷ []) n)) (a.late_unsaid late) ∙ says in
@@ -145,16 +145,16 @@ sends_it h es e n f a late sends says flight_is answer_same given_now =
     }
 
 -- an event that answers it
-answers_it : (h es : List Event) (e : Event) (n : ℕ) (f : Flight) (said : Said) → Agrees h es n → in_flight h n ≡ Some f → n ≤ given (e ∷ h)
+answers_it : (h es : List Event) (e : Event) (n : ℕ) (f : Flight) (said : Said) → Agrees h es n → open_op h n ≡ Some f → n ≤ given (e ∷ h)
     → sent_in (e ∷ []) n ≡ None → said_in (e ∷ []) n ≡ Some said
-    → in_flight (e ∷ h) n ≡ None → answered (e ∷ h) n ≡ with_answer n said (in_flight h n) → Agrees (e ∷ h) (es ++ e ∷ []) n
+    → open_op (e ∷ h) n ≡ None → answered (e ∷ h) n ≡ with_answer n said (open_op h n) → Agrees (e ∷ h) (es ++ e ∷ []) n
 answers_it h es e n f said a is few sends says flight_is answer_is =
-    let sent : sent_in (es ++ e ∷ []) n ≡ in_flight h n = sent_more es e n ∙ ap (orelse (sent_in es n)) sends ∙ or_none (sent_in es n) ∙ a.open_sent f is ∙ sym is in
+    let sent : sent_in (es ++ e ∷ []) n ≡ open_op h n = sent_more es e n ∙ ap (orelse (sent_in es n)) sends ∙ or_none (sent_in es n) ∙ a.open_sent f is ∙ sym is in
     let now : said_in (es ++ e ∷ []) n ≡ Some said = said_more es e n ∙ ap (λ (o : Option Said). orelse o (said_in (e ∷ []) n)) (a.open_unsaid f is) ∙ says in
     record {
       open_sent = λ g bad. absurd (none_some _ g flight_is bad);
       open_unsaid = λ g bad. absurd (none_some _ g flight_is bad);
-      same = answer_is ∙ sym (ap (λ (o : Option Flight). with_said n o (said_in (es ++ e ∷ []) n)) sent ∙ ap (with_said n (in_flight h n)) now);
+      same = answer_is ∙ sym (ap (λ (o : Option Flight). with_said n o (said_in (es ++ e ∷ []) n)) sent ∙ ap (with_said n (open_op h n)) now);
       late_unsent = λ later. absurd (omega (arith, later, few));
       late_unsaid = λ later. absurd (omega (arith, later, few));
     }
@@ -176,7 +176,7 @@ agrees_more ps h es (Answer t m said) n legal allowed a = elim (cases_eq m n) [
       let e = eq-true m n same in
       let waits = standing_flight ps h legal t allowed.s allowed.r allowed.is allowed.waits in
       let number : allowed.r.number ≡ n = allowed.number ∙ same in
-      let is : in_flight h n ≡ Some (flight t allowed.r.op) = ap (in_flight h) (sym number) ∙ waits.1 in
+      let is : open_op h n ≡ Some (flight t allowed.r.op) = ap (open_op h) (sym number) ∙ waits.1 in
       let few = waits.0 in
       answers_it h es (Answer t m said) n (flight t allowed.r.op) said a is (omega (arith, few, number)) refl (cond-true _ _ _ e) (cond-true _ _ _ e) (cond-true _ _ _ e)
   | inr differ ↦

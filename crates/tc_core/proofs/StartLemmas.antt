@@ -16,7 +16,7 @@ use Rattle.access_slots.specs.declared.op.Reply.{Reply}
 use Rattle.history.specs.declared.Answered.{Answered}
 use Rattle.tc_core.specs.Core.{Core}
 use Rattle.tc_core.specs.Redo.{with_site, sends_again, redo_by, redo_at, redo_reply, redone_to, redone_at, after_redone, IsRedone}
-use Rattle.tc_core.specs.Joining.Kept.{AreSentUpTo, MayBegin, AreStarts}
+use Rattle.tc_core.specs.Kept.{AreSentUpTo, MayBegin, AreStarts}
 use Rattle.tc_core.specs.Joining.Scanning.{scan}
 use Rattle.tc_core.proofs.ScanLemmas.{reversed, scan_is, scan_from}
 

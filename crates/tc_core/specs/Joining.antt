@@ -3,10 +3,8 @@ pub mod Clashes
 pub mod Follows
 pub mod Hearing
 pub mod Holders
-pub mod Kept
 pub mod Numbered
 pub mod Rooms
-pub mod Running
 pub mod Scanning
 pub mod Sends
 pub mod Writes

@@ -8,7 +8,7 @@ ghost use Rattle.lock_table.specs.Facts.{held_by, granted, AreHeld, HoldsNothing
 ghost use Rattle.tc_log.specs.declared.event.Event.TheVariants.{Admit};
 ghost use Rattle.history.specs.Calls.{admitted};
 ghost use Rattle.transactions.specs.Reached.{calls_in};
-ghost use Rattle.tc_core.specs.Joining.Kept.{core_of, IsBook};
+ghost use Rattle.tc_core.specs.Kept.{core_of, IsBook};
 ghost use Rattle.tc_core.specs.Replies.{with_event};
 ghost use Rattle.tc_core.specs.Admission.{call_of, IsCalled, IsUncallable, IsAdmissible, IsRefused};
 ghost use Rattle.tc_core.specs.Joining.Rooms.{OnlyRoom, HasRoom, MayEnter};

@@ -10,7 +10,7 @@ ghost use Rattle.transactions.specs.Legal.{Legal, CanAsk, CanAnswer, CanUndo, Ca
 ghost use Rattle.transactions.specs.Reached.{decls};
 ghost use Rattle.transactions.specs.Room.{each_one, total};
 ghost use Rattle.tc_core.specs.Checking.{IsFault};
-ghost use Rattle.tc_core.specs.Joining.Kept.{IsBook};
+ghost use Rattle.tc_core.specs.Kept.{IsBook};
 ghost use Rattle.tc_core.specs.Joining.Follows.{IsRequest, IsAsked, IsUnlike, awaited_by, awaited_in};
 
 use crate::book::Book;

@@ -6,7 +6,7 @@ ghost use Rattle.access_slots.specs.Held.{excludes};
 ghost use Rattle.access_slots.specs.Locks.{mode_in};
 ghost use Rattle.transactions.specs.Legal.{first_undo};
 ghost use Rattle.transactions.specs.Next.{next_by};
-ghost use Rattle.tc_core.specs.Joining.Running.{as_reached};
+ghost use Rattle.tc_core.specs.Running.{as_reached};
 ghost use Rattle.tc_core.specs.Joining.Clashes.{clashes};
 ghost use Rattle.tc_core.specs.Joining.Holders.{stuck_by, stands_still, HoldsUp};
 ghost use Rattle.tc_core.specs.declared.transaction.Tx.{Tx as TxValue};

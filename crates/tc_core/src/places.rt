@@ -7,10 +7,10 @@ ghost use Rattle.transactions.specs.Next.{next_by};
 ghost use Rattle.transactions.specs.Legal.{first_undo};
 ghost use Rattle.transactions.specs.Standing.{Standing, answered};
 ghost use Rattle.indexmap.specs.IndexMap.{spare, Updates as KeyUpdates};
-ghost use Rattle.tc_core.specs.Joining.Kept.{StandsAt, Keeps, AreKeys};
+ghost use Rattle.tc_core.specs.Kept.{StandsAt, Keeps, AreKeys};
 ghost use Rattle.tc_core.specs.Joining.Hearing.{MayHear, Accepts, Heard};
 ghost use Rattle.tc_core.specs.GivingUp.{Awaits};
-ghost use Rattle.tc_core.specs.Joining.Running.{as_reached};
+ghost use Rattle.tc_core.specs.Running.{as_reached};
 ghost use Rattle.tc_core.specs.Replies.{over_in};
 ghost use Rattle.tc_core.specs.declared.transaction.Tx.{Tx as TxValue};
 

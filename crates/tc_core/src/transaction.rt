@@ -9,12 +9,12 @@ ghost use Rattle.transactions.specs.Standing as Standings;
 ghost use Rattle.transactions.specs.Standing.{Standing, rest_of, told_to, found_full, undo_done, tries_done, answered};
 ghost use Rattle.tc_core.specs.Joining.Hearing.{MayHear};
 ghost use Rattle.tc_core.specs.Joining.Sends.{asking_under, undoing_under};
-ghost use Rattle.tc_core.specs.Joining.Kept.{Keeps};
+ghost use Rattle.tc_core.specs.Kept.{Keeps};
 ghost use Rattle.semantics.specs.Reach.{AreArguments};
 ghost use Rattle.transactions.specs.Legal.{first_undo};
 ghost use Rattle.transactions.specs.Next.{next_by};
 ghost use Rattle.transactions.specs.Next as Nexts;
-ghost use Rattle.tc_core.specs.Joining.Running.{Runs, MayResume, as_reached};
+ghost use Rattle.tc_core.specs.Running.{Runs, MayResume, as_reached};
 
 use crate::undos::Undos;
 use access_slots::lock::LockSet;

@@ -6,7 +6,7 @@ use Rattle.std.proofs.Math.Bool.{or-false}
 use Rattle.std.proofs.lemmas.Bool.{cases_eq, cond-true, cond-false}
 use Rattle.request_numbers.specs.Given.{holds}
 use Rattle.tc_log.specs.declared.event.Event.{Event}
-use Rattle.history.specs.Flight.{Flight, in_flight, is_flight, is_open}
+use Rattle.history.specs.Flight.{Flight, open_op, is_flight, is_open}
 use Rattle.transactions.specs.Legal.{Legal}
 use Rattle.transactions.specs.Standing.{standing}
 use Rattle.transactions.proofs.StandingLemmas.{eq-true, eq-false}
@@ -15,7 +15,7 @@ use Rattle.transactions.proofs.Headline.{awaited}
 use Rattle.tc_core.specs.Core.{Core, Asking}
 use Rattle.tc_core.specs.Doubts.{with_number, with_number_by}
 use Rattle.tc_core.specs.GivingUp.{IsOpenHere, with_given_up}
-use Rattle.tc_world.specs.Joining.Waiting.{asking_by, request_of, AreWaiting}
+use Rattle.tc_world.specs.Waiting.{asking_by, request_of, AreWaiting}
 use Rattle.tc_world.proofs.Requests.{IsThere}
 use Rattle.tc_world.proofs.Messages.{in_the_air}
 
@@ -72,7 +72,7 @@ asked_none [] n none = refl
 asked_none (r ∷ rs) n none = absurd (omega (arith, none))
 
 asked_open : (rs : List Asking) (h : List Event) (n : ℕ) → AreWaiting rs h → is_asked rs n ≡ is_open h n
-asked_open rs h n w = ap is_request (w.each n) ∙ by (in_flight h n)
+asked_open rs h n w = ap is_request (w.each n) ∙ by (open_op h n)
   where
     by : (o : Option Flight) → is_request (asking_by n o) ≡ is_flight o
     by None = refl

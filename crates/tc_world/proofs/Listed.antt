@@ -16,7 +16,7 @@ use Rattle.tc_log.specs.declared.event.Event.{Event}
 use Rattle.tc_log.specs.declared.event.Event.TheVariants as event
 use Rattle.tc_log.specs.declared.event.Outcome.{Outcome as Ending}
 use Rattle.verifier.specs.Checked.{Checked}
-use Rattle.history.specs.Flight.{Flight, in_flight, given}
+use Rattle.history.specs.Flight.{Flight, open_op, given}
 use Rattle.data_component.specs.Performed.{Performed, said_under}
 use Rattle.data_component.specs.Store.{Store, replied, performed, checkpointed, restarted, news_of}
 use Rattle.transactions.specs.declared.Sent.{Sent}
@@ -106,32 +106,32 @@ all_at P xs k x at all = subst P (slice_get-index xs k x x at) (all k x (slice_g
 -- ---- what happens to a world
 
 abbrev Lists : Whole → Core → Type 0
-Lists w c = AreOk (logged c.events) (in_flight c.events) (done c.events) (given c.events) c.sites w.dcs w.copies w.replies w.news
+Lists w c = AreOk (logged c.events) (open_op c.events) (done c.events) (given c.events) c.sites w.dcs w.copies w.replies w.news
 
 -- a new number is given out
 asked : (ps : List Checked) (w : Whole) (e : Event) (t n : ℕ) (o : Op) → Legal ps w.core.events → n ≡ given w.core.events + 1
     → logged (e ∷ w.core.events) ≡ (λ m. if n == m then Some o else logged w.core.events m)
-    → in_flight (e ∷ w.core.events) ≡ (λ m. if n == m then Some (flight t o) else in_flight w.core.events m)
+    → open_op (e ∷ w.core.events) ≡ (λ m. if n == m then Some (flight t o) else open_op w.core.events m)
     → done (e ∷ w.core.events) ≡ done w.core.events → given (e ∷ w.core.events) ≡ n
     → Lists w w.core → Lists w (with_event w.core e)
 asked ps w e t n o legal next lg fl dn top k =
     let h = w.core.events in
     let new : (m : ℕ) (q : Op) → logged h m ≡ Some q → n ≢ m = (λ m q is. let b = logged_below ps h legal m q is in omega (arith, next, b)) in
-    let now = ok_sent (logged h) (in_flight h) (done h) (given h) w.core.sites w.dcs w.copies w.replies w.news n (flight t o) (omega (arith, next)) new (λ m said is. done_logged ps h legal m said is) k in
-    subst (λ (g : ℕ → Option Op). AreOk g (in_flight (e ∷ h)) (done (e ∷ h)) (given (e ∷ h)) w.core.sites w.dcs w.copies w.replies w.news) (sym lg)
+    let now = ok_sent (logged h) (open_op h) (done h) (given h) w.core.sites w.dcs w.copies w.replies w.news n (flight t o) (omega (arith, next)) new (λ m said is. done_logged ps h legal m said is) k in
+    subst (λ (g : ℕ → Option Op). AreOk g (open_op (e ∷ h)) (done (e ∷ h)) (given (e ∷ h)) w.core.sites w.dcs w.copies w.replies w.news) (sym lg)
     (subst (λ (g : ℕ → Option Flight). AreOk (λ m. if n == m then Some o else logged h m) g (done (e ∷ h)) (given (e ∷ h)) w.core.sites w.dcs w.copies w.replies w.news) (sym fl)
-    (subst (λ (g : List Performed). AreOk (λ m. if n == m then Some o else logged h m) (λ m. if n == m then Some (flight t o) else in_flight h m) g (given (e ∷ h)) w.core.sites w.dcs w.copies w.replies w.news) (sym dn)
-    (subst (λ (g : ℕ). AreOk (λ m. if n == m then Some o else logged h m) (λ m. if n == m then Some (flight t o) else in_flight h m) (done h) g w.core.sites w.dcs w.copies w.replies w.news) (sym top) now)))
+    (subst (λ (g : List Performed). AreOk (λ m. if n == m then Some o else logged h m) (λ m. if n == m then Some (flight t o) else open_op h m) g (given (e ∷ h)) w.core.sites w.dcs w.copies w.replies w.news) (sym dn)
+    (subst (λ (g : ℕ). AreOk (λ m. if n == m then Some o else logged h m) (λ m. if n == m then Some (flight t o) else open_op h m) (done h) g w.core.sites w.dcs w.copies w.replies w.news) (sym top) now)))
 
 abbrev IsCopy : Whole → (ℕ → List Performed) → Wire → Type 0
-IsCopy w v x = CopyOk (logged w.core.events) (in_flight w.core.events) (done w.core.events) (given w.core.events) w.core.sites w.dcs v x
+IsCopy w v x = CopyOk (logged w.core.events) (open_op w.core.events) (done w.core.events) (given w.core.events) w.core.sites w.dcs v x
 
 copied : (w : Whole) (x : Wire) → (s : IsListed w) → IsCopy w s.ok.v x → IsListed (with_copy w x)
 copied w x s y =
-    record { honest = s.honest; ok = ok_copy (logged w.core.events) (in_flight w.core.events) (done w.core.events) (given w.core.events) w.core.sites w.dcs w.copies w.replies w.news x s.ok y }
+    record { honest = s.honest; ok = ok_copy (logged w.core.events) (open_op w.core.events) (done w.core.events) (given w.core.events) w.core.sites w.dcs w.copies w.replies w.news x s.ok y }
 
 -- the wire of an open number
-wire_ok : (w : Whole) (v : ℕ → List Performed) (r : Asking) (f : Flight) (redo : Option Redoing) (x : Wire) → Legal w.core.procs w.core.events → logged w.core.events r.number ≡ Some r.op → in_flight w.core.events r.number ≡ Some f
+wire_ok : (w : Whole) (v : ℕ → List Performed) (r : Asking) (f : Flight) (redo : Option Redoing) (x : Wire) → Legal w.core.procs w.core.events → logged w.core.events r.number ≡ Some r.op → open_op w.core.events r.number ≡ Some f
     → (site_of w.core.sites r.op).redo ≡ redo → Ok x ≡ wire_by w.core r (site_of w.core.sites r.op).incarnation redo → IsCopy w v x
 wire_ok w v r f (Some redo) x legal logs flies up is = absurd cc
 wire_ok w v r f None x legal logs flies up is =
@@ -139,7 +139,7 @@ wire_ok w v r f None x legal logs flies up is =
     let same : y ≡ x = cc in
     subst (IsCopy w v) same (record { logs = logs; known = omega arith; ahead = λ z is less. refl; over = over_low w.core.procs w.core.events legal; now = λ now. inl (record { up = up; runs = inl (f, flies) }) })
 
-sent_listed : (w v : Whole) (r : Asking) (f : Flight) (x : Result Wire Down) (o : Outcome) → Known v.core → x ≡ wire_of w.core r → logged w.core.events r.number ≡ Some r.op → in_flight w.core.events r.number ≡ Some f → IsListed w → sends_or_holds w r x ≡ Goes o v → IsListed v
+sent_listed : (w v : Whole) (r : Asking) (f : Flight) (x : Result Wire Down) (o : Outcome) → Known v.core → x ≡ wire_of w.core r → logged w.core.events r.number ≡ Some r.op → open_op w.core.events r.number ≡ Some f → IsListed w → sends_or_holds w r x ≡ Goes o v → IsListed v
 sent_listed w v r f (Ok x) o known is logs flies s goes =
     let was = known_behind _ o (with_copy w x) v known goes in
     behind _ o (with_copy w x) v (copied w x s (wire_ok w s.ok.v r f (site_of w.core.sites r.op).redo x was.legal logs flies refl is)) goes
@@ -157,8 +157,8 @@ asks_listed w v t (reply.Request r) o known s goes = by (wire_of c r) refl goes
     logs : logged c.events r.number ≡ Some r.op
     logs = if_some r.number r.number (Some r.op) (logged w.core.events r.number) refl
 
-    flies : in_flight c.events r.number ≡ Some (flight r.txn r.op)
-    flies = if_some r.number r.number (Some (flight r.txn r.op)) (in_flight w.core.events r.number) refl
+    flies : open_op c.events r.number ≡ Some (flight r.txn r.op)
+    flies = if_some r.number r.number (Some (flight r.txn r.op)) (open_op w.core.events r.number) refl
 
     by : (x : Result Wire Down) → x ≡ wire_of c r → sends_or_holds (with_core w c) r x ≡ Goes o v → IsListed v
     by (Ok x) is goes' = sent_listed (with_core w c) v r (flight r.txn r.op) (Ok x) o known is logs flies (mid (known_behind _ o (with_copy (with_core w c) x) v known goes')) goes'
@@ -182,8 +182,8 @@ undoes_listed w v t (reply.Request r) o known s goes = by (wire_of c r) refl goe
     logs : logged c.events r.number ≡ Some r.op
     logs = if_some r.number r.number (Some r.op) (logged w.core.events r.number) refl
 
-    flies : in_flight c.events r.number ≡ Some (flight r.txn r.op)
-    flies = if_some r.number r.number (Some (flight r.txn r.op)) (in_flight w.core.events r.number) refl
+    flies : open_op c.events r.number ≡ Some (flight r.txn r.op)
+    flies = if_some r.number r.number (Some (flight r.txn r.op)) (open_op w.core.events r.number) refl
 
     by : (x : Result Wire Down) → x ≡ wire_of c r → sends_or_holds (with_core w c) r x ≡ Goes o v → IsListed v
     by (Ok x) is goes' = sent_listed (with_core w c) v r (flight r.txn r.op) (Ok x) o known is logs flies (mid (known_behind _ o (with_copy (with_core w c) x) v known goes')) goes'
@@ -228,7 +228,7 @@ gets_known w v (Some x) o known goes = known_behind _ o (with_reply w x) v known
 gets_listed : (w v : Whole) (x : Option Reply) (o : Outcome) → (s : IsListed w) → ((y : Reply) → x ≡ Some y → ReplyOk (logged w.core.events) w.core.sites w.dcs s.ok.v y) → gets_reply w x ≡ Goes o v → IsListed v
 gets_listed w v None o s said goes = behind _ o w v s goes
 gets_listed w v (Some x) o s said goes =
-    behind _ o (with_reply w x) v (record { honest = s.honest; ok = ok_reply (logged w.core.events) (in_flight w.core.events) (done w.core.events) (given w.core.events) w.core.sites w.dcs w.copies w.replies w.news x s.ok (said x refl) }) goes
+    behind _ o (with_reply w x) v (record { honest = s.honest; ok = ok_reply (logged w.core.events) (open_op w.core.events) (done w.core.events) (given w.core.events) w.core.sites w.dcs w.copies w.replies w.news x s.ok (said x refl) }) goes
 
 performs_at_listed : (w v : Whole) (x : Wire) (d : Option Store) (o : Outcome) → Known v.core → slice_get w.dcs (dc_of x.op) ≡ d → (s : IsListed w) → IsCopy w s.ok.v x → performs_at w x d ≡ Goes o v → IsListed v
 performs_at_listed w v x None o known at s y goes = absurd (stopped _ o v goes)
@@ -240,14 +240,14 @@ performs_at_listed w v x (Some d) o known at s y goes = gets_listed (with_store 
     j : ℕ
     j = dc_of x.op
 
-    facts : LogFacts (logged w.core.events) (in_flight w.core.events) (done w.core.events)
+    facts : LogFacts (logged w.core.events) (open_op w.core.events) (done w.core.events)
     facts = log_facts w.core.procs w.core.events was.good was.legal s.honest
 
-    becomes : Becomes (logged w.core.events) (in_flight w.core.events) (done w.core.events) (given w.core.events) (dc_of x.op) d (performed d x) (site_at w.core.sites (dc_of x.op)) (s.ok.v (dc_of x.op))
-    becomes = performs_ok (logged w.core.events) (in_flight w.core.events) (done w.core.events) (given w.core.events) d (site_at w.core.sites j) (s.ok.v j) x facts (λ m g is. flight_logged w.core.events m g is) y.logs y.known (y.ahead d at) y.over y.now (s.ok.stores j d at)
+    becomes : Becomes (logged w.core.events) (open_op w.core.events) (done w.core.events) (given w.core.events) (dc_of x.op) d (performed d x) (site_at w.core.sites (dc_of x.op)) (s.ok.v (dc_of x.op))
+    becomes = performs_ok (logged w.core.events) (open_op w.core.events) (done w.core.events) (given w.core.events) d (site_at w.core.sites j) (s.ok.v j) x facts (λ m g is. flight_logged w.core.events m g is) y.logs y.known (y.ahead d at) y.over y.now (s.ok.stores j d at)
 
-    both : (l : AreOk (logged w.core.events) (in_flight w.core.events) (done w.core.events) (given w.core.events) w.core.sites (slice_set w.dcs (dc_of x.op) (performed d x)) w.copies w.replies w.news) × (l.v ≡ (λ i. if dc_of x.op == i then becomes.u else s.ok.v i))
-    both = ok_stored (logged w.core.events) (in_flight w.core.events) (done w.core.events) (given w.core.events) w.core.sites w.dcs w.copies w.replies w.news j d (performed d x) becomes.u at s.ok
+    both : (l : AreOk (logged w.core.events) (open_op w.core.events) (done w.core.events) (given w.core.events) w.core.sites (slice_set w.dcs (dc_of x.op) (performed d x)) w.copies w.replies w.news) × (l.v ≡ (λ i. if dc_of x.op == i then becomes.u else s.ok.v i))
+    both = ok_stored (logged w.core.events) (open_op w.core.events) (done w.core.events) (given w.core.events) w.core.sites w.dcs w.copies w.replies w.news j d (performed d x) becomes.u at s.ok
         (let same = becomes.incarnation in omega (arith, same)) becomes.grows (λ less p to. subst (StandsTo (logged w.core.events) (done w.core.events) j p) (sym (becomes.lists less)) to) becomes.ok
 
     said : (z : Reply) → replied d x ≡ Some z → ReplyOk (logged w.core.events) w.core.sites (slice_set w.dcs (dc_of x.op) (performed d x)) both.0.v z
@@ -285,7 +285,7 @@ up_by : (redo : Option Redoing) (b : Bool) → (is_up redo && b) ≡ true → re
 up_by None b e = refl
 up_by (Some r) b e = absurd cc
 
-took : (w : Whole) (f : Flight) (x : Reply) → Known (with_event w.core (event.Answer f.txn x.number x.said)) → in_flight w.core.events x.number ≡ Some f → is_heard (site_of w.core.sites f.op) x ≡ true → fits f.op x.said ≡ true
+took : (w : Whole) (f : Flight) (x : Reply) → Known (with_event w.core (event.Answer f.txn x.number x.said)) → open_op w.core.events x.number ≡ Some f → is_heard (site_of w.core.sites f.op) x ≡ true → fits f.op x.said ≡ true
     → (s : IsListed w) → ReplyOk (logged w.core.events) w.core.sites w.dcs s.ok.v x → IsListed (with_core w (with_event w.core (event.Answer f.txn x.number x.said)))
 took w f x known flies heard fit s y =
     let h = w.core.events in
@@ -305,11 +305,11 @@ took w f x known flies heard fit s y =
     let becomes : done (event.Answer f.txn x.number x.said ∷ h) ≡ (x.number, f.op, x.said) ∷ done h = done_answer h f.txn x.number f x.said flies in
     record {
       honest = (subst (λ (z : Option Flight). HonestTo z x.said (serial_now h)) (sym flies) honest, s.honest);
-      ok = subst (λ (z : List Performed). AreOk (logged h) (λ m. if x.number == m then None else in_flight h m) z (given h) w.core.sites w.dcs w.copies w.replies w.news) (sym becomes)
-          (ok_answered (logged h) (in_flight h) (done h) (given h) w.core.sites w.dcs w.copies w.replies w.news x.number f x.said y.s flies logs fit (flights w.core.procs h known.good legal x.number f flies) (flight_absent w.core.procs h legal x.number f flies) at up s.ok there);
+      ok = subst (λ (z : List Performed). AreOk (logged h) (λ m. if x.number == m then None else open_op h m) z (given h) w.core.sites w.dcs w.copies w.replies w.news) (sym becomes)
+          (ok_answered (logged h) (open_op h) (done h) (given h) w.core.sites w.dcs w.copies w.replies w.news x.number f x.said y.s flies logs fit (flights w.core.procs h known.good legal x.number f flies) (flight_absent w.core.procs h legal x.number f flies) at up s.ok there);
     }
 
-takes_answer_listed : (w v : Whole) (f : Flight) (x : Reply) (b : Bool) (o : Outcome) → Known v.core → in_flight w.core.events x.number ≡ Some f → (is_heard (site_of w.core.sites f.op) x && fits f.op x.said) ≡ b
+takes_answer_listed : (w v : Whole) (f : Flight) (x : Reply) (b : Bool) (o : Outcome) → Known v.core → open_op w.core.events x.number ≡ Some f → (is_heard (site_of w.core.sites f.op) x && fits f.op x.said) ≡ b
     → (s : IsListed w) → ReplyOk (logged w.core.events) w.core.sites w.dcs s.ok.v x → takes_answer w f x b ≡ Goes o v → IsListed v
 takes_answer_listed w v f x false o known flies fit s y goes = absurd (stopped _ o v goes)
 takes_answer_listed w v f x true o known flies fit s y goes =
@@ -385,16 +385,16 @@ redone_listed w x d known is s y =
           | inr not_below ↦ omega (arith, not_below)
         ]
 
-    now_ok : AreOk (logged w.core.events) (in_flight w.core.events) (done w.core.events) (given w.core.events) (slice_set w.core.sites d (record is.site { redo = Some (record is.r { redone = x.number }) })) w.dcs w.copies w.replies w.news
-    now_ok = ok_resited (logged h) (in_flight h) (done h) (given h) w.core.sites w.dcs w.copies w.replies w.news d is.site t' is.there refl (λ up. absurd (none_some _ is.r up is.down)) s.ok
+    now_ok : AreOk (logged w.core.events) (open_op w.core.events) (done w.core.events) (given w.core.events) (slice_set w.core.sites d (record is.site { redo = Some (record is.r { redone = x.number }) })) w.dcs w.copies w.replies w.news
+    now_ok = ok_resited (logged h) (open_op h) (done h) (given h) w.core.sites w.dcs w.copies w.replies w.news d is.site t' is.there refl (λ up. absurd (none_some _ is.r up is.down)) s.ok
         (λ r down. (y.s, subst (λ (i : ℕ). slice_get w.dcs i ≡ Some y.s) here y.at))
-        (λ z ok. site_redone (logged h) (in_flight h) (done h) (given h) d z is.site (s.ok.v d) is.r x.number is.a.op is.a.said is.down next rises there ok)
+        (λ z ok. site_redone (logged h) (open_op h) (done h) (given h) d z is.site (s.ok.v d) is.r x.number is.a.op is.a.said is.down next rises there ok)
 
 takes_listed : (w v : Whole) (i : ℕ) (x : Option Reply) (o : Outcome) → Known v.core → slice_get w.replies i ≡ x → IsListed w → TakesReply w x o v → IsListed v
 takes_listed w v i None o known at s takes = absurd takes
-takes_listed w v i (Some x) o known at s takes = by (in_flight w.core.events x.number) refl takes
+takes_listed w v i (Some x) o known at s takes = by (open_op w.core.events x.number) refl takes
   where
-    by : (f : Option Flight) → in_flight w.core.events x.number ≡ f → TakesBy w x f o v → IsListed v
+    by : (f : Option Flight) → open_op w.core.events x.number ≡ f → TakesBy w x f o v → IsListed v
     by None flies takes' =
         let was : Known w.core = known_redone w x.number takes'.dc (slice_get w.core.sites takes'.dc) (subst (λ (z : Whole). Known z.core) takes'.next known) in
         subst IsListed (sym takes'.next) (redone_listed w x takes'.dc was takes'.is s (all_at (λ (z : Reply). ReplyOk (logged w.core.events) w.core.sites w.dcs s.ok.v z) w.replies i x at s.ok.replies))
@@ -413,8 +413,8 @@ checkpoints_listed : (w v : Whole) (d : ℕ) (x : Option Store) (o : Outcome) �
 checkpoints_listed w v d None o at s goes = absurd (stopped _ o v goes)
 checkpoints_listed w v d (Some x) o at s goes =
     let h = w.core.events in
-    let site = site_checkpoint (logged h) (in_flight h) (done h) (given h) d x (site_at w.core.sites d) (s.ok.v d) (s.ok.stores d x at) in
-    let both = ok_stored (logged h) (in_flight h) (done h) (given h) w.core.sites w.dcs w.copies w.replies w.news d x (checkpointed x) (s.ok.v d) at s.ok (omega arith) (same_ghost w s d) (λ less p to. to) site in
+    let site = site_checkpoint (logged h) (open_op h) (done h) (given h) d x (site_at w.core.sites d) (s.ok.v d) (s.ok.stores d x at) in
+    let both = ok_stored (logged h) (open_op h) (done h) (given h) w.core.sites w.dcs w.copies w.replies w.news d x (checkpointed x) (s.ok.v d) at s.ok (omega arith) (same_ghost w s d) (λ less p to. to) site in
     behind _ o (with_dcs w (slice_set w.dcs d (checkpointed x))) v (record { honest = s.honest; ok = both.0 }) goes
 
 restarts_listed : (w v : Whole) (d : ℕ) (x : Option Store) (o : Outcome) → slice_get w.dcs d ≡ x → IsListed w → restarts_at w d x ≡ Goes o v → IsListed v
@@ -424,13 +424,13 @@ restarts_listed w v d (Some x) o at s goes = by (nat_le (2 ^ 62) x.incarnation) 
     h : List Event
     h = w.core.events
 
-    was : SiteOk (logged w.core.events) (in_flight w.core.events) (done w.core.events) (given w.core.events) d x (site_at w.core.sites d) (s.ok.v d)
+    was : SiteOk (logged w.core.events) (open_op w.core.events) (done w.core.events) (given w.core.events) d x (site_at w.core.sites d) (s.ok.v d)
     was = s.ok.stores d x at
 
-    both : (l : AreOk (logged w.core.events) (in_flight w.core.events) (done w.core.events) (given w.core.events) w.core.sites (slice_set w.dcs d (restarted x)) w.copies w.replies w.news) × (l.v ≡ (λ i. if d == i then s.ok.v d else s.ok.v i))
-    both = ok_stored (logged h) (in_flight h) (done h) (given h) w.core.sites w.dcs w.copies w.replies w.news d x (restarted x) (s.ok.v d) at s.ok (omega arith) (same_ghost w s d)
+    both : (l : AreOk (logged w.core.events) (open_op w.core.events) (done w.core.events) (given w.core.events) w.core.sites (slice_set w.dcs d (restarted x)) w.copies w.replies w.news) × (l.v ≡ (λ i. if d == i then s.ok.v d else s.ok.v i))
+    both = ok_stored (logged h) (open_op h) (done h) (given h) w.core.sites w.dcs w.copies w.replies w.news d x (restarted x) (s.ok.v d) at s.ok (omega arith) (same_ghost w s d)
         (λ less p to. subst (StandsTo (logged h) (done h) d p) (was.idle less) to)
-        (site_restart (logged h) (in_flight h) (done h) (given h) d x (site_at w.core.sites d) (s.ok.v d) was)
+        (site_restart (logged h) (open_op h) (done h) (given h) d x (site_at w.core.sites d) (s.ok.v d) was)
 
     by : (b : Bool) → restarts_as w d x b ≡ Goes o v → IsListed v
     by true goes' = absurd (stopped _ o v goes')
@@ -439,14 +439,14 @@ restarts_listed w v d (Some x) o at s goes = by (nat_le (2 ^ 62) x.incarnation) 
         behind _ o (with_news (with_dcs w (slice_set w.dcs d (restarted x))) d (news_of (restarted x))) v
         (record {
           honest = s.honest;
-          ok = ok_news (logged h) (in_flight h) (done h) (given h) w.core.sites (slice_set w.dcs d (restarted x)) w.copies w.replies w.news n both.0
+          ok = ok_news (logged h) (open_op h) (done h) (given h) w.core.sites (slice_set w.dcs d (restarted x)) w.copies w.replies w.news n both.0
               (record { s = restarted x; at = set_same w.dcs d x (restarted x) at; over = was.saved_over; made = omega arith; later = λ less. was.saved_to });
         }) goes'
 
 lt_true : (a b : ℕ) → nat_lt a b ≡ true → a < b
 lt_true a b e = grind (arith, nat_tests)
 
-told_by : (w v : Whole) (x : ℕ × News) (t : Option Site) (o : Outcome) → slice_get w.core.sites x.0 ≡ t → NewsOk (logged w.core.events) (in_flight w.core.events) (done w.core.events) (given w.core.events) w.core.sites w.dcs x → IsListed w → tells_unless w x.0 x.1 (news_fault_by t x.1) ≡ Goes o v → IsListed v
+told_by : (w v : Whole) (x : ℕ × News) (t : Option Site) (o : Outcome) → slice_get w.core.sites x.0 ≡ t → NewsOk (logged w.core.events) (open_op w.core.events) (done w.core.events) (given w.core.events) w.core.sites w.dcs x → IsListed w → tells_unless w x.0 x.1 (news_fault_by t x.1) ≡ Goes o v → IsListed v
 told_by w v x None o at y s goes = absurd (stopped _ o v goes)
 told_by w v x (Some t) o at y s goes = by (nat_lt t.incarnation x.1.incarnation) refl goes
   where
@@ -459,12 +459,12 @@ told_by w v x (Some t) o at y s goes = by (nat_lt t.incarnation x.1.incarnation)
         let later : t.incarnation < x.1.incarnation = lt_true t.incarnation x.1.incarnation less in
         let known : (site_at w.core.sites x.0).incarnation ≡ t.incarnation = ap (λ (z : Option Site). (site_by z).incarnation) at in
         behind _ o (with_core w (after_told w.core x.0 x.1)) v
-        (record { honest = s.honest; ok = ok_told (logged h) (in_flight h) (done h) (given h) w.core.sites w.dcs w.copies w.replies w.news x.0 x.1.incarnation x.1.mark y.s t at y.at later y.made (y.later (omega (arith, known, later))) y.over s.ok }) goes'
+        (record { honest = s.honest; ok = ok_told (logged h) (open_op h) (done h) (given h) w.core.sites w.dcs w.copies w.replies w.news x.0 x.1.incarnation x.1.mark y.s t at y.at later y.made (y.later (omega (arith, known, later))) y.over s.ok }) goes'
 
 tells_listed : (w v : Whole) (i : ℕ) (x : Option (ℕ × News)) (o : Outcome) → slice_get w.news i ≡ x → IsListed w → tells_news w x ≡ Goes o v → IsListed v
 tells_listed w v i None o at s goes = absurd (stopped _ o v goes)
 tells_listed w v i (Some x) o at s goes =
-    told_by w v x (slice_get w.core.sites x.0) o refl (all_at (NewsOk (logged w.core.events) (in_flight w.core.events) (done w.core.events) (given w.core.events) w.core.sites w.dcs) w.news i x at s.ok.news) s goes
+    told_by w v x (slice_get w.core.sites x.0) o refl (all_at (NewsOk (logged w.core.events) (open_op w.core.events) (done w.core.events) (given w.core.events) w.core.sites w.dcs) w.news i x at s.ok.news) s goes
 
 redoes_listed : (w v : Whole) (d : ℕ) (x : Option Site) (o : Outcome) → Known v.core → slice_get w.core.sites d ≡ x → IsListed w → redoes_by w d (redo_at w.core d x) ≡ Goes o v → IsListed v
 redoes_listed w v d None o known at s goes = absurd (stopped _ o v goes)
@@ -483,7 +483,7 @@ redoes_listed w v d (Some x) o known at s goes = by x.redo refl goes
         store : (z : Store) × (slice_get w.dcs d ≡ Some z)
         store = s.ok.there d r down
 
-        site : SiteOk (logged w.core.events) (in_flight w.core.events) (done w.core.events) (given w.core.events) d store.0 (site_at w.core.sites d) (s.ok.v d)
+        site : SiteOk (logged w.core.events) (open_op w.core.events) (done w.core.events) (given w.core.events) d store.0 (site_at w.core.sites d) (s.ok.v d)
         site = s.ok.stores d store.0 store.1
 
         sends : (a : Option Answered) → to_redo w.core.events d r.redone ≡ a → redoes_by w d (sends_again x.incarnation r.mark a) ≡ Goes o v → IsListed v
@@ -520,9 +520,9 @@ redoes_listed w v d (Some x) o known at s goes = by x.redo refl goes
             let t' : Site = record x { redo = None } in
             let was : Known w.core = known_up w d (slice_get w.core.sites d) (known_behind _ o (with_core w (after_redo w.core d redo.Finished)) v known goes'') in
             let facts = log_facts w.core.procs h was.good was.legal s.honest in
-            let ok = ok_resited (logged h) (in_flight h) (done h) (given h) w.core.sites w.dcs w.copies w.replies w.news d x t' at refl (λ up. refl) s.ok
+            let ok = ok_resited (logged h) (open_op h) (done h) (given h) w.core.sites w.dcs w.copies w.replies w.news d x t' at refl (λ up. refl) s.ok
             (λ q e. absurd (none_some _ q refl e))
-            (λ z k. site_up (logged h) (in_flight h) (done h) (given h) d z x (s.ok.v d) r facts is (λ n q said logs dc was' did. none_left w.core.procs h was.legal d r.redone next n q said logs dc was' did) k) in
+            (λ z k. site_up (logged h) (open_op h) (done h) (given h) d z x (s.ok.v d) r facts is (λ n q said logs dc was' did. none_left w.core.procs h was.legal d r.redone next n q said logs dc was' did) k) in
             behind _ o (with_core w (after_redo w.core d redo.Finished)) v
             (subst (λ (y : Option Site). IsListed (with_core w (up_again w.core d y))) (sym at) (record { honest = s.honest; ok = ok })) goes''
           where
@@ -573,11 +573,11 @@ pub fresh_listed : (w : Whole) → IsFresh w → IsListed w
 fresh_listed w fresh =
     record {
       honest = subst Honest (sym fresh.events) tt;
-      ok = subst (λ (h : List Event). AreOk (logged h) (in_flight h) (done h) (given h) w.core.sites w.dcs w.copies w.replies w.news) (sym fresh.events) (record {
+      ok = subst (λ (h : List Event). AreOk (logged h) (open_op h) (done h) (given h) w.core.sites w.dcs w.copies w.replies w.news) (sym fresh.events) (record {
         v = λ d. [];
-        copies = subst (All (CopyOk (logged []) (in_flight []) (done []) 0 w.core.sites w.dcs (λ d. []))) (sym fresh.copies) (λ k x inside. absurd (omega (arith, inside)));
+        copies = subst (All (CopyOk (logged []) (open_op []) (done []) 0 w.core.sites w.dcs (λ d. []))) (sym fresh.copies) (λ k x inside. absurd (omega (arith, inside)));
         replies = subst (All (ReplyOk (logged []) w.core.sites w.dcs (λ d. []))) (sym fresh.replies) (λ k x inside. absurd (omega (arith, inside)));
-        news = subst (All (NewsOk (logged []) (in_flight []) (done []) 0 w.core.sites w.dcs)) (sym fresh.news) (λ k x inside. absurd (omega (arith, inside)));
+        news = subst (All (NewsOk (logged []) (open_op []) (done []) 0 w.core.sites w.dcs)) (sym fresh.news) (λ k x inside. absurd (omega (arith, inside)));
         stores = λ d s at.
             let lists = all_at (λ (x : Store). (x.list ≡ []) × (x.saved ≡ [])) w.dcs d s at fresh.lists in
             let marks = all_at (λ (x : Store). (x.mark ≡ 0) × (x.saved_mark ≡ 0)) w.dcs d s at fresh.marks in
@@ -588,10 +588,10 @@ fresh_listed w fresh =
     }
 
 -- the list of a data component that is up, and of the incarnation that is known, stands beside the log
-beside_known : (w : Whole) → IsListed w → (d : ℕ) (x : Store) → slice_get w.dcs d ≡ Some x → IsKnown w d x → Beside (logged w.core.events) (in_flight w.core.events) (done w.core.events) d x.list
+beside_known : (w : Whole) → IsListed w → (d : ℕ) (x : Store) → slice_get w.dcs d ≡ Some x → IsKnown w d x → Beside (logged w.core.events) (open_op w.core.events) (done w.core.events) d x.list
 beside_known w s d x at is =
     let k = s.ok.stores d x at in
-    subst (Beside (logged w.core.events) (in_flight w.core.events) (done w.core.events) d) (sym (k.same is.now)) (k.up is.up)
+    subst (Beside (logged w.core.events) (open_op w.core.events) (done w.core.events) d) (sym (k.same is.now)) (k.up is.up)
 
 pub one_at_a_time : (w : Whole) → Known w.core → IsListed w → IsOneAtATime w
 one_at_a_time w known s =
@@ -605,8 +605,8 @@ one_at_a_time w known s =
       between = λ d x r at is dc. in_step w.core.procs w.core.events d x.list known.good known.legal (beside_known w s d x at is) r dc;
     }
   where
-    cut : (d : ℕ) (x : Store) → slice_get w.dcs d ≡ Some x → Behind (logged w.core.events) (in_flight w.core.events) (done w.core.events) d x.list
-    cut d x at = (let k = s.ok.stores d x at in behind_end (logged w.core.events) (in_flight w.core.events) (done w.core.events) d (s.ok.v d) x.list k.cut k.behind)
+    cut : (d : ℕ) (x : Store) → slice_get w.dcs d ≡ Some x → Behind (logged w.core.events) (open_op w.core.events) (done w.core.events) d x.list
+    cut d x at = (let k = s.ok.stores d x at in behind_end (logged w.core.events) (open_op w.core.events) (done w.core.events) d (s.ok.v d) x.list k.cut k.behind)
 
 -- and where each is, an audit finds nothing
 pub agrees : (w : Whole) → Known w.core → IsListed w → EachIsKnown w → IsAgreed w.core.procs w.core.events w.dcs

@@ -11,7 +11,7 @@ use Rattle.access_slots.specs.declared.op.News.{News}
 use Rattle.tc_log.specs.declared.event.Outcome.{Outcome as Ending}
 use Rattle.tc_log.specs.declared.event.Event.TheVariants as event
 use Rattle.history.specs.Calls.{admitted}
-use Rattle.history.specs.Flight.{Flight, in_flight, is_flight, low_water}
+use Rattle.history.specs.Flight.{Flight, open_op, is_flight, low_water}
 use Rattle.history.specs.Redo.{to_redo}
 use Rattle.history.specs.declared.Answered.{Answered}
 use Rattle.transactions.specs.declared.Sent.{Sent}
@@ -287,7 +287,7 @@ takes_redo_low w v x o low takes = subst AreMarksLow (sym takes.next) (by (slice
 
 takes_low : (w v : Whole) (x : Option Reply) (o : Outcome) → LegalCore v.core → AreMarksLow w → TakesReply w x o v → AreMarksLow v
 takes_low w v None o legal low takes = absurd takes
-takes_low w v (Some x) o legal low takes = by (in_flight w.core.events x.number) takes
+takes_low w v (Some x) o legal low takes = by (open_op w.core.events x.number) takes
   where
     by : (f : Option Flight) → TakesBy w x f o v → AreMarksLow v
     by None takes' = takes_redo_low w v x o low takes'
@@ -387,5 +387,5 @@ above_by n m (Some f) above is = above f refl
 pub open_above_marks : (w : Whole) → LegalCore w.core → AreMarksLow w → IsOpenAboveMarks w
 open_above_marks w legal low n is k d inside =
     let few = low.dcs k d inside in
-    let above = above_by n (low_water w.core.events) (in_flight w.core.events n) (flight_above w.core.procs w.core.events legal n) is in
+    let above = above_by n (low_water w.core.events) (open_op w.core.events n) (flight_above w.core.procs w.core.events legal n) is in
     omega (arith, few, above)

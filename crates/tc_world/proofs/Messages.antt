@@ -8,7 +8,7 @@ use Rattle.access_slots.specs.declared.op.Wire.{Wire}
 use Rattle.access_slots.specs.declared.op.Reply.{Reply}
 use Rattle.verifier.specs.Checked.{Checked}
 use Rattle.tc_log.specs.declared.event.Event.{Event}
-use Rattle.history.specs.Flight.{Flight, in_flight, given}
+use Rattle.history.specs.Flight.{Flight, open_op, given}
 use Rattle.transactions.specs.Legal.{Legal}
 use Rattle.transactions.specs.Standing.{Standing, standing}
 use Rattle.transactions.specs.declared.Next.{Next}
@@ -28,7 +28,7 @@ use Rattle.tc_core.proofs.ReplyLemmas.{next-unknown}
 use Rattle.tc_core.proofs.KeptLemmas.{slice_get-index}
 use Rattle.tc_log.specs.declared.event.Outcome.TheVariants as ending
 use Rattle.tc_world.specs.Whole.{Whole}
-use Rattle.tc_world.specs.Joining.Waiting.{asking, asking_by, AreWaiting}
+use Rattle.tc_world.specs.Waiting.{asking, asking_by, AreWaiting}
 use Rattle.tc_world.specs.Joining.Telling.{requests_of}
 use Rattle.tc_world.specs.Steps.{Goes, Stops, MayGo, asks, undoes, told, sends, resends, resends_by, resends_sent, resends_wire}
 use Rattle.tc_world.specs.Steps.{takes_answer, TakesRedo, TakesBy, TakesReply, Takes, IsStrangeTo, IsNotTaken, with_core}
@@ -110,16 +110,16 @@ flown n None r e = absurd cc
 flown n (Some f) r e = (let same : r ≡ asking n f = some_same r (asking n f) e in ap (λ (a : Asking). Some (flight a.txn a.op)) (sym same))
 
 pub in_the_air : (rs : List Asking) (h : List Event) (k : ℕ) (r : Asking) → AreWaiting rs h → slice_get rs k ≡ Some r
-    → in_flight h r.number ≡ Some (flight r.txn r.op)
-in_the_air rs h k r w at = flown r.number (in_flight h r.number) r (sym (found_at rs k r w.once at) ∙ w.each r.number)
+    → open_op h r.number ≡ Some (flight r.txn r.op)
+in_the_air rs h k r w at = flown r.number (open_op h r.number) r (sym (found_at rs k r w.once at) ∙ w.each r.number)
 
 not_flown : (n : ℕ) (o : Option Flight) → asking_by n o ≡ None → o ≡ None
 not_flown n None e = refl
 not_flown n (Some f) e = absurd cc
 
 pub not_in_the_air : (rs : List Asking) (h : List Event) (n : ℕ) → AreWaiting rs h
-    → ((k : ℕ) (r : Asking) → slice_get rs k ≡ Some r → r.number ≢ n) → in_flight h n ≡ None
-not_in_the_air rs h n w absent = not_flown n (in_flight h n) (sym (w.each n) ∙ none_of rs n absent)
+    → ((k : ℕ) (r : Asking) → slice_get rs k ≡ Some r → r.number ≢ n) → open_op h n ≡ None
+not_in_the_air rs h n w absent = not_flown n (open_op h n) (sym (w.each n) ∙ none_of rs n absent)
 
 pub is_answer : (c : Core) (rs : List Asking) (k : ℕ) (r : Asking) (x : Reply) → Legal c.procs c.events
     → AreWaiting rs c.events → slice_get rs k ≡ Some r → x.number ≡ r.number → is_heard (site_of c.sites r.op) x ≡ true → fits r.op x.said ≡ true
@@ -204,8 +204,8 @@ takes_not_again w rs i x why waiting sent absent is none =
     (is, subst (λ (f : Option Flight). IsStrangeTo w x f) (sym (not_in_the_air rs w.core.events x.number waiting absent)) none)
 
 in_flight_there : (w : Whole) (rs : List Asking) (k : ℕ) (r : Asking) (n : ℕ) → AreWaiting rs w.core.events → slice_get rs k ≡ Some r → r.number ≡ n
-    → in_flight w.core.events n ≡ Some (flight r.txn r.op)
-in_flight_there w rs k r n waiting at same = ap (in_flight w.core.events) (sym same) ∙ in_the_air rs w.core.events k r waiting at
+    → open_op w.core.events n ≡ Some (flight r.txn r.op)
+in_flight_there w rs k r n waiting at same = ap (open_op w.core.events) (sym same) ∙ in_the_air rs w.core.events k r waiting at
 
 pub takes_stranger : (w : Whole) (rs : List Asking) (i k : ℕ) (r : Asking) (x : Reply) → AreWaiting rs w.core.events
     → slice_get w.replies i ≡ Some x → slice_get rs k ≡ Some r → r.number ≡ x.number

@@ -7,14 +7,14 @@ use Rattle.access_slots.specs.declared.op.Said.{Said}
 use Rattle.verifier.specs.Checked.{Checked}
 use Rattle.tc_log.specs.declared.event.Event.{Event}
 use Rattle.tc_log.specs.declared.event.Event.TheVariants.{Ask, Answer, Undo}
-use Rattle.history.specs.Flight.{Flight, in_flight, given}
+use Rattle.history.specs.Flight.{Flight, open_op, given}
 use Rattle.transactions.specs.Legal.{Legal}
 use Rattle.transactions.specs.Room.{each_one, total}
 use Rattle.transactions.proofs.StandingLemmas.{eq-true, eq-false, some_same, none_some, total-part}
 use Rattle.transactions.proofs.Flights.{standing_flight, flight}
 use Rattle.transactions.proofs.Headline.{awaited}
 use Rattle.tc_core.specs.Core.{Asking}
-use Rattle.tc_world.specs.Joining.Waiting.{asking_by, request_of, Distinct, AreWaiting}
+use Rattle.tc_world.specs.Waiting.{asking_by, request_of, Distinct, AreWaiting}
 
 pub none_if : {X : Type 0} (o : Option X) → ((x : X) → o ≡ Some x → ⊥) → o ≡ None
 none_if None h = refl
@@ -108,8 +108,8 @@ removed_same (x ∷ xs) (suc k) r once e =
 -- ---- from event to event
 
 -- nothing is in flight under a number that wasn't given
-pub not_yet : (ps : List Checked) (h : List Event) → Legal ps h → (n : ℕ) → given h < n → in_flight h n ≡ None
-not_yet ps h legal n above = none_if (in_flight h n) (λ f is.
+pub not_yet : (ps : List Checked) (h : List Event) → Legal ps h → (n : ℕ) → given h < n → open_op h n ≡ None
+not_yet ps h legal n above = none_if (open_op h n) (λ f is.
     let a = awaited ps h legal n f is in
     let few = (standing_flight ps h legal f.txn a.s a.r a.is a.waits).0 in
     omega (arith, few, above, a.number))
@@ -123,11 +123,11 @@ now_sent r m before same =
     let it : asking_by m (if r.number == m then Some (flight r.txn r.op) else before) ≡ asking_by m (Some (flight r.txn r.op)) = ap (asking_by m) (cond-true _ _ _ (eq-true r.number m same)) in
     ap (λ (k : ℕ). let a : Asking = record { txn = r.txn; number = k; op = r.op } in Some a) same ∙ sym it
 
-sent_each : (rs : List Asking) (h : List Event) (r : Asking) → AreWaiting rs h → in_flight h r.number ≡ None → (m : ℕ)
-    → request_of (rs ++ r ∷ []) m ≡ asking_by m (if r.number == m then Some (flight r.txn r.op) else in_flight h m)
+sent_each : (rs : List Asking) (h : List Event) (r : Asking) → AreWaiting rs h → open_op h r.number ≡ None → (m : ℕ)
+    → request_of (rs ++ r ∷ []) m ≡ asking_by m (if r.number == m then Some (flight r.txn r.op) else open_op h m)
 sent_each rs h r w none m = elim (cases_eq r.number m) [
-  | inl same ↦ ap (request_of (rs ++ r ∷ [])) (sym same) ∙ (push_new rs r (w.each r.number ∙ asking_none r.number _ none) ∙ now_sent r m (in_flight h m) same)
-  | inr other ↦ push_other rs r m other ∙ (w.each m ∙ ap (asking_by m) (sym (cond-false _ (Some (flight r.txn r.op)) (in_flight h m) (eq-false r.number m other))))
+  | inl same ↦ ap (request_of (rs ++ r ∷ [])) (sym same) ∙ (push_new rs r (w.each r.number ∙ asking_none r.number _ none) ∙ now_sent r m (open_op h m) same)
+  | inr other ↦ push_other rs r m other ∙ (w.each m ∙ ap (asking_by m) (sym (cond-false _ (Some (flight r.txn r.op)) (open_op h m) (eq-false r.number m other))))
 ]
 
 pub waiting_asked : (ps : List Checked) (rs : List Asking) (h : List Event) (r : Asking) → Legal ps h
@@ -144,10 +144,10 @@ waiting_undone ps rs h r legal w next =
 
 answered_each : (rs : List Asking) (h : List Event) (k t : ℕ) (r : Asking) (said : Said) → AreWaiting rs h
     → slice_get rs k ≡ Some r → (m : ℕ)
-    → request_of (remove rs k) m ≡ asking_by m (in_flight (Answer t r.number said ∷ h) m)
+    → request_of (remove rs k) m ≡ asking_by m (open_op (Answer t r.number said ∷ h) m)
 answered_each rs h k t r said w at m = elim (cases_eq r.number m) [
-  | inl same ↦ ap (request_of (remove rs k)) (sym same) ∙ (removed_same rs k r w.once at ∙ sym (asking_none m _ (cond-true _ None (in_flight h m) (eq-true r.number m same))))
-  | inr other ↦ removed_other rs k r m at other ∙ (w.each m ∙ ap (asking_by m) (sym (cond-false _ None (in_flight h m) (eq-false r.number m other))))
+  | inl same ↦ ap (request_of (remove rs k)) (sym same) ∙ (removed_same rs k r w.once at ∙ sym (asking_none m _ (cond-true _ None (open_op h m) (eq-true r.number m same))))
+  | inr other ↦ removed_other rs k r m at other ∙ (w.each m ∙ ap (asking_by m) (sym (cond-false _ None (open_op h m) (eq-false r.number m other))))
 ]
 
 pub waiting_answered : (rs : List Asking) (h : List Event) (k t : ℕ) (r : Asking) (said : Said) → AreWaiting rs h
@@ -157,7 +157,7 @@ waiting_answered rs h k t r said w at = record { each = answered_each rs h k t r
 -- no request is open where no transaction is
 pub waiting_none : (ps : List Checked) (h : List Event) → Legal ps h → total each_one h ≡ 0 → AreWaiting [] h
 waiting_none ps h legal none = record {
-  each = λ n. sym (asking_none n _ (none_if (in_flight h n) (λ f is.
+  each = λ n. sym (asking_none n _ (none_if (open_op h n) (λ f is.
       let a = awaited ps h legal n f is in
       let part = total-part each_one ps h legal f.txn a.s a.is in
       omega (arith, part, none))));

@@ -3,7 +3,7 @@ use Rattle.std.proofs.Common.{◌≡◌, ◌≢◌, ℕ, true, false, List, [], 
 use Rattle.std.specs.Prelude.{slice_get, slice_index_or}
 use Rattle.access_slots.specs.Locks.{allows, target, is_read, conflict}
 use Rattle.history.specs.Calls.{held, held_for, call_of}
-use Rattle.history.specs.Flight.{Flight, in_flight}
+use Rattle.history.specs.Flight.{Flight, open_op}
 use Rattle.transactions.specs.Legal.{Legal}
 use Rattle.transactions.specs.Reached.{decls, AllGood}
 use Rattle.transactions.specs.InFlight.{InFlight}
@@ -20,7 +20,7 @@ runs_push w mid w' [] x o e last = (o, w', subst (λ (v : Whole). Steps v x o w'
 runs_push w mid w' (y ∷ xs) x o run last = (run.0, run.1, run.2, runs_push run.1 mid w' xs x o run.3 last)
 
 abbrev pub AllHeld : Core → Type 0
-AllHeld c = (n : ℕ) (f : Flight) → in_flight c.events n ≡ Some f → allows (held (decls c.procs) c.events f.txn (target f.op)) (is_read f.op) ≡ true
+AllHeld c = (n : ℕ) (f : Flight) → open_op c.events n ≡ Some f → allows (held (decls c.procs) c.events f.txn (target f.op)) (is_read f.op) ≡ true
 
 abbrev pub AllCovered : Core → Type 0
 AllCovered c = (n : ℕ) (f : Flight) → InFlight c.events c.sites n f → allows (held_for (decls c.procs) (call_of c.events f.txn) (target f.op)) (is_read f.op) ≡ true

@@ -9,7 +9,7 @@ use Rattle.access_slots.specs.declared.op.News.{News}
 use Rattle.tc_log.specs.declared.event.Outcome.{Outcome as Ending}
 use Rattle.tc_log.specs.declared.event.Event.TheVariants as event
 use Rattle.history.specs.Calls.{admitted}
-use Rattle.history.specs.Flight.{Flight, in_flight}
+use Rattle.history.specs.Flight.{Flight, open_op}
 use Rattle.transactions.specs.declared.Sent.{Sent}
 use Rattle.transactions.specs.Standing.{Standing, standing}
 use Rattle.transactions.specs.InFlight.{site_of}
@@ -147,7 +147,7 @@ TakesBy w x None o w' = TakesRedo w x o w'
 -- any reply that was ever sent may come
 abbrev pub TakesReply : Whole → Option Reply → Outcome → Whole → Type 0
 TakesReply w None o w' = ⊥
-TakesReply w (Some x) o w' = TakesBy w x (in_flight w.core.events x.number) o w'
+TakesReply w (Some x) o w' = TakesBy w x (open_op w.core.events x.number) o w'
 
 abbrev pub Takes : Whole → ℕ → Outcome → Whole → Type 0
 Takes w i o w' = TakesReply w (slice_get w.replies i) o w'
@@ -158,7 +158,7 @@ IsStrangeTo w x None = (d : ℕ) → IsRedone w.core d x → ⊥
 
 abbrev pub IsNotTaken : Whole → Option Reply → Illegal → Type 0
 IsNotTaken w None why = why ≡ illegal.NoReply
-IsNotTaken w (Some x) why = (why ≡ illegal.Stranger) × IsStrangeTo w x (in_flight w.core.events x.number)
+IsNotTaken w (Some x) why = (why ≡ illegal.Stranger) × IsStrangeTo w x (open_op w.core.events x.number)
 
 abbrev pub restarts_as : Whole → ℕ → Store → Bool → Fate
 restarts_as w d s true = Stops illegal.IncarnationsSpent

@@ -8,7 +8,7 @@ use Rattle.tc_log.specs.declared.event.Event.{Event}
 use Rattle.tc_log.specs.declared.event.Event.TheVariants.{Admit, Ask, Answer, Undo, End}
 use Rattle.request_numbers.specs.Given.{holds}
 use Rattle.history.specs.Calls.{Call, admitted}
-use Rattle.history.specs.Flight.{Flight, given, in_flight, is_flight, is_open, open_numbers}
+use Rattle.history.specs.Flight.{Flight, given, open_op, is_flight, is_open, open_numbers}
 use Rattle.history.proofs.Laws.{open_are_in_flight}
 use Rattle.transactions.specs.declared.Sent.{Sent}
 use Rattle.transactions.specs.Standing.{Standing, standing, moved, fresh, asked, undone, answered, sent_as}
@@ -36,7 +36,7 @@ sent_now h u t m o b r same e next =
 
 -- what a transaction waits for is in flight, under a number that was given
 pub standing_flight : (ps : List Checked) (h : List Event) → Legal ps h → (t : ℕ) (s : Standing) (r : Sent) → standing h t ≡ Some s → s.sent ≡ Some r
-    → (r.number ≤ given h) × (in_flight h r.number ≡ Some (flight t r.op))
+    → (r.number ≤ given h) × (open_op h r.number ≡ Some (flight t r.op))
 standing_flight ps [] legal t s r is waits = cc
 standing_flight ps (Admit u p args ∷ h) legal t s r is waits =
     elim (cases_eq u t) [
@@ -50,7 +50,7 @@ standing_flight ps (Ask u m o ∷ h) legal t s r is waits =
           let was : standing h t ≡ Some a.s = ap (standing h) (sym same) ∙ a.is in
           let e = some_same _ s (sym (standing-same (Ask u m o) h t same ∙ ap (moved (Ask u m o)) was) ∙ is) in
           let now = sent_now h u t m o false r same (ap (λ (x : Standing). x.sent) e ∙ waits) a.next in
-          (now.0, now.1 (in_flight h r.number))
+          (now.0, now.1 (open_op h r.number))
       | inr other ↦
           let ih = standing_flight ps h legal.1 t s r (sym (standing-other (Ask u m o) h t other) ∙ is) waits in
           let differ : m ≢ r.number = omega (arith, a.next, ih.0) in
@@ -63,7 +63,7 @@ standing_flight ps (Undo u m o ∷ h) legal t s r is waits =
           let was : standing h t ≡ Some a.s = ap (standing h) (sym same) ∙ a.is in
           let e = some_same _ s (sym (standing-same (Undo u m o) h t same ∙ ap (moved (Undo u m o)) was) ∙ is) in
           let now = sent_now h u t m o true r same (ap (λ (x : Standing). x.sent) e ∙ waits) a.next in
-          (now.0, now.1 (in_flight h r.number))
+          (now.0, now.1 (open_op h r.number))
       | inr other ↦
           let ih = standing_flight ps h legal.1 t s r (sym (standing-other (Undo u m o) h t other) ∙ is) waits in
           let differ : m ≢ r.number = omega (arith, a.next, ih.0) in
@@ -80,7 +80,7 @@ standing_flight ps (Answer u m said ∷ h) legal t s r is waits =
           let ih = standing_flight ps h legal.1 t s r (sym (standing-other (Answer u m said) h t other) ∙ is) waits in
           let mine = standing_flight ps h legal.1 u a.s a.r a.is a.waits in
           let differ : m ≢ r.number = (λ same.
-          let g : Some (flight u a.r.op) ≡ Some (flight t r.op) = sym mine.1 ∙ (ap (in_flight h) (a.number ∙ same) ∙ ih.1) in
+          let g : Some (flight u a.r.op) ≡ Some (flight t r.op) = sym mine.1 ∙ (ap (open_op h) (a.number ∙ same) ∙ ih.1) in
           other (ap (λ (x : Flight). x.txn) (some_same (flight u a.r.op) (flight t r.op) g))) in
           (ih.0, cond-false _ _ _ (eq-false m r.number differ) ∙ ih.1)
     ]

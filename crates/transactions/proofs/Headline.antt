@@ -14,7 +14,7 @@ use Rattle.verifier.specs.Checked.{Checked}
 use Rattle.tc_log.specs.declared.event.Event.{Event}
 use Rattle.tc_log.specs.declared.event.Event.TheVariants.{Admit, Ask, Answer, Undo, End}
 use Rattle.history.specs.Calls.{Call, admitted, txn_of, held, held_for, open_call, locks_of}
-use Rattle.history.specs.Flight.{Flight, given, in_flight}
+use Rattle.history.specs.Flight.{Flight, given, open_op}
 use Rattle.transactions.specs.declared.Sent.{Sent}
 use Rattle.transactions.specs.Standing.{Standing, standing, moved, fresh, asked, undone, answered, sent_as}
 use Rattle.transactions.specs.Reached.{decls, covers, AllGood}
@@ -158,7 +158,7 @@ idle_other h u n f s is idle a same =
     let one : s ≡ a.s = some_same s a.s (sym is ∙ (ap (standing h) same ∙ a.is)) in
     none_some s.sent a.r idle (ap (λ (x : Standing). x.sent) one ∙ a.waits)
 
-pub awaited : (ps : List Checked) (h : List Event) → Legal ps h → (n : ℕ) (f : Flight) → in_flight h n ≡ Some f → Awaits h n f
+pub awaited : (ps : List Checked) (h : List Event) → Legal ps h → (n : ℕ) (f : Flight) → open_op h n ≡ Some f → Awaits h n f
 awaited ps [] legal n f is = absurd cc
 awaited ps (Admit u p args ∷ h) legal n f is =
     let ih = awaited ps h legal.1 n f is in
@@ -184,9 +184,9 @@ awaited ps (Undo u m o ∷ h) legal n f is =
 awaited ps (Answer u m said ∷ h) legal n f is =
     let a = legal.0 in
     elim (cases_eq m n) [
-      | inl same ↦ absurd (none_some _ f (cond-true _ None (in_flight h n) (eq-true m n same)) is)
+      | inl same ↦ absurd (none_some _ f (cond-true _ None (open_op h n) (eq-true m n same)) is)
       | inr differ ↦
-          let ih = awaited ps h legal.1 n f (sym (cond-false _ None (in_flight h n) (eq-false m n differ)) ∙ is) in
+          let ih = awaited ps h legal.1 n f (sym (cond-false _ None (open_op h n) (eq-false m n differ)) ∙ is) in
           let other : u ≢ f.txn = (λ same.
           let one : a.s ≡ ih.s = some_same a.s ih.s (sym a.is ∙ (ap (standing h) same ∙ ih.is)) in
           let sent : a.r ≡ ih.r = some_same a.r ih.r (sym a.waits ∙ (ap (λ (x : Standing). x.sent) one ∙ ih.waits)) in
@@ -200,7 +200,7 @@ awaited ps (End u outcome ∷ h) legal n f is =
 -- ---- the headline
 
 pub flight_covered : (ps : List Checked) (h : List Event) → AllGood ps → Legal ps h → (n : ℕ) (f : Flight)
-    → in_flight h n ≡ Some f → allows (held (decls ps) h f.txn (target f.op)) (is_read f.op) ≡ true
+    → open_op h n ≡ Some f → allows (held (decls ps) h f.txn (target f.op)) (is_read f.op) ≡ true
 flight_covered ps h good legal n f is =
     let a = awaited ps h legal n f is in
     let within = (standing_sound ps good h legal f.txn a.s a.is).within a.r a.waits in
@@ -218,7 +218,7 @@ both_read (Some mode.Write) (Some mode.Read) ra rb e f x = absurd cc
 both_read (Some mode.Write) (Some mode.Write) ra rb e f x = absurd cc
 
 pub flights_apart : (ps : List Checked) (h : List Event) → AllGood ps → Legal ps h → (m n : ℕ) (f g : Flight)
-    → in_flight h m ≡ Some f → in_flight h n ≡ Some g → m ≢ n → conflict f.op g.op ≡ false
+    → open_op h m ≡ Some f → open_op h n ≡ Some g → m ≢ n → conflict f.op g.op ≡ false
 flights_apart ps h good legal m n f g is are differ = by (record_eq (target f.op) (target g.op)) refl
   where
     other : f.txn ≢ g.txn

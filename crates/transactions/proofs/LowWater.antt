@@ -5,7 +5,7 @@ use Rattle.std.proofs.lemmas.Bool.{cases_eq, cond-true, cond-false, cases_lt}
 use Rattle.verifier.specs.Checked.{Checked}
 use Rattle.tc_log.specs.declared.event.Event.{Event}
 use Rattle.tc_log.specs.declared.event.Event.TheVariants.{Admit, Ask, Answer, Undo, End}
-use Rattle.history.specs.Flight.{Flight, given, in_flight, is_flight, is_open, AllAnswered, IsLowWater, low_water}
+use Rattle.history.specs.Flight.{Flight, given, open_op, is_flight, is_open, AllAnswered, IsLowWater, low_water}
 use Rattle.history.proofs.Laws.{computed_is}
 use Rattle.transactions.specs.Legal.{Legal, Allowed}
 use Rattle.transactions.proofs.StandingLemmas.{eq-true, eq-false, none_some}
@@ -25,12 +25,12 @@ pub answered_stay : (ps : List Checked) (h : List Event) (e : Event) (n : ℕ) �
 answered_stay ps h (Admit t p args) n a all = record { given_out = all.given_out; answered = all.answered }
 answered_stay ps h (Ask t m o) n a all = (let few = all.given_out in let next = a.next in record {
   given_out = omega (arith, few);
-  answered = λ k some most. above m k (in_flight h k) (record { txn = t; op = o }) (omega (arith, few, next, most)) (all.answered k some most);
+  answered = λ k some most. above m k (open_op h k) (record { txn = t; op = o }) (omega (arith, few, next, most)) (all.answered k some most);
 })
-answered_stay ps h (Answer t m said) n a all = record { given_out = all.given_out; answered = λ k some most. closed_still m k (in_flight h k) (all.answered k some most) }
+answered_stay ps h (Answer t m said) n a all = record { given_out = all.given_out; answered = λ k some most. closed_still m k (open_op h k) (all.answered k some most) }
 answered_stay ps h (Undo t m o) n a all = (let few = all.given_out in let next = a.next in record {
   given_out = omega (arith, few);
-  answered = λ k some most. above m k (in_flight h k) (record { txn = t; op = o }) (omega (arith, few, next, most)) (all.answered k some most);
+  answered = λ k some most. above m k (open_op h k) (record { txn = t; op = o }) (omega (arith, few, next, most)) (all.answered k some most);
 })
 answered_stay ps h (End t outcome) n a all = record { given_out = all.given_out; answered = all.answered }
 
@@ -39,7 +39,7 @@ pub mark_rises : (ps : List Checked) (h : List Event) (e : Event) → Allowed ps
 mark_rises ps h e a = (computed_is (e ∷ h)).greatest (low_water h) (answered_stay ps h e (low_water h) a (computed_is h).all)
 
 -- what is in flight has a number from 1 on
-pub flight_some : (ps : List Checked) (h : List Event) → Legal ps h → (n : ℕ) (f : Flight) → in_flight h n ≡ Some f → 0 < n
+pub flight_some : (ps : List Checked) (h : List Event) → Legal ps h → (n : ℕ) (f : Flight) → open_op h n ≡ Some f → 0 < n
 flight_some ps [] legal n f is = absurd cc
 flight_some ps (Admit u p args ∷ h) legal n f is = flight_some ps h legal.1 n f is
 flight_some ps (Ask u m o ∷ h) legal n f is = elim (cases_eq m n) [
@@ -51,13 +51,13 @@ flight_some ps (Undo u m o ∷ h) legal n f is = elim (cases_eq m n) [
   | inr differ ↦ flight_some ps h legal.1 n f (sym (cond-false _ _ _ (eq-false m n differ)) ∙ is)
 ]
 flight_some ps (Answer u m said ∷ h) legal n f is = elim (cases_eq m n) [
-  | inl same ↦ absurd (none_some _ f (cond-true _ None (in_flight h n) (eq-true m n same)) is)
-  | inr differ ↦ flight_some ps h legal.1 n f (sym (cond-false _ None (in_flight h n) (eq-false m n differ)) ∙ is)
+  | inl same ↦ absurd (none_some _ f (cond-true _ None (open_op h n) (eq-true m n same)) is)
+  | inr differ ↦ flight_some ps h legal.1 n f (sym (cond-false _ None (open_op h n) (eq-false m n differ)) ∙ is)
 ]
 flight_some ps (End u outcome ∷ h) legal n f is = flight_some ps h legal.1 n f is
 
 -- and lies above the mark
-pub flight_above : (ps : List Checked) (h : List Event) → Legal ps h → (n : ℕ) (f : Flight) → in_flight h n ≡ Some f → low_water h < n
+pub flight_above : (ps : List Checked) (h : List Event) → Legal ps h → (n : ℕ) (f : Flight) → open_op h n ≡ Some f → low_water h < n
 flight_above ps h legal n f is = elim (cases_lt (low_water h) n) [
   | inl above_it ↦ above_it
   | inr under ↦

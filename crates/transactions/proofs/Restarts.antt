@@ -13,7 +13,7 @@ use Rattle.tc_log.specs.declared.event.Event.{Event}
 use Rattle.tc_log.specs.declared.event.Event.TheVariants.{Admit, Ask, Answer, Undo, End}
 use Rattle.history.specs.declared.Answered.{Answered}
 use Rattle.history.specs.Calls.{Call, admitted, held, held_for, open_call, call_of, locks_of}
-use Rattle.history.specs.Flight.{Flight, given, in_flight}
+use Rattle.history.specs.Flight.{Flight, given, open_op}
 use Rattle.history.specs.Redo.{answered, with_answer, is_done, is_done_at, if_done_at, done_at, or_else, first_done, to_redo, IsToRedo}
 use Rattle.transactions.specs.declared.Redoing.{Redoing}
 use Rattle.transactions.specs.declared.Site.{Site}
@@ -41,7 +41,7 @@ answers_to (Some f) n said a is =
     let e = some_same _ a is in
     record { flight = f; is = refl; txn = sym (ap (λ (x : Answered). x.txn) e); number = sym (ap (λ (x : Answered). x.number) e); op = sym (ap (λ (x : Answered). x.op) e); same = sym (ap (λ (x : Answered). x.said) e) }
 
-pub flight_given : (ps : List Checked) (h : List Event) → Legal ps h → (n : ℕ) (f : Flight) → in_flight h n ≡ Some f → n ≤ given h
+pub flight_given : (ps : List Checked) (h : List Event) → Legal ps h → (n : ℕ) (f : Flight) → open_op h n ≡ Some f → n ≤ given h
 flight_given ps h legal n f is =
     let a = awaited ps h legal n f is in
     let few = (standing_flight ps h legal f.txn a.s a.r a.is a.waits).0 in
@@ -52,7 +52,7 @@ answered_number [] n a is = absurd cc
 answered_number (Admit t p args ∷ h) n a is = answered_number h n a is
 answered_number (Ask t m o ∷ h) n a is = answered_number h n a is
 answered_number (Answer t m said ∷ h) n a is = elim (cases_eq m n) [
-  | inl same ↦ (answers_to (in_flight h n) n said a (sym (cond-true _ _ _ (eq-true m n same)) ∙ is)).number
+  | inl same ↦ (answers_to (open_op h n) n said a (sym (cond-true _ _ _ (eq-true m n same)) ∙ is)).number
   | inr differ ↦ answered_number h n a (sym (cond-false _ _ _ (eq-false m n differ)) ∙ is)
 ]
 answered_number (Undo t m o ∷ h) n a is = answered_number h n a is
@@ -65,7 +65,7 @@ answered_given ps (Admit t p args ∷ h) legal n a is = answered_given ps h lega
 answered_given ps (Ask t m o ∷ h) legal n a is = (let few = answered_given ps h legal.1 n a is in omega (arith, few))
 answered_given ps (Answer t m said ∷ h) legal n a is = elim (cases_eq m n) [
   | inl same ↦
-      let it = answers_to (in_flight h n) n said a (sym (cond-true _ _ _ (eq-true m n same)) ∙ is) in
+      let it = answers_to (open_op h n) n said a (sym (cond-true _ _ _ (eq-true m n same)) ∙ is) in
       flight_given ps h legal.1 n it.flight it.is
   | inr differ ↦ answered_given ps h legal.1 n a (sym (cond-false _ _ _ (eq-false m n differ)) ∙ is)
 ]
@@ -210,7 +210,7 @@ called_early ps (Answer u n said ∷ h) legal t c is = called_early ps h legal.1
 called_early ps (Undo u n o ∷ h) legal t c is = called_early ps h legal.1 t c is
 called_early ps (End u o ∷ h) legal t c is = called_early ps h legal.1 t c is
 
-covered_flight : (ps : List Checked) (h : List Event) → AllGood ps → Legal ps h → (n : ℕ) (f : Flight) → in_flight h n ≡ Some f → IsCovered ps h f.txn f.op
+covered_flight : (ps : List Checked) (h : List Event) → AllGood ps → Legal ps h → (n : ℕ) (f : Flight) → open_op h n ≡ Some f → IsCovered ps h f.txn f.op
 covered_flight ps h good legal n f is = by (open_call h f.txn) refl (flight_covered ps h good legal n f is)
   where
     by : (c : Option Call) → open_call h f.txn ≡ c → allows (held_for (decls ps) c (target f.op)) (is_read f.op) ≡ true → IsCovered ps h f.txn f.op
@@ -229,7 +229,7 @@ covered_answer ps (Ask u m o ∷ h) good legal n a is =
     (let c = covered_answer ps h good legal.1 n a is in record { call = c.call; is = c.is; allowed = c.allowed })
 covered_answer ps (Answer u m said ∷ h) good legal n a is = elim (cases_eq m n) [
   | inl same ↦
-      let it = answers_to (in_flight h n) n said a (sym (cond-true _ _ _ (eq-true m n same)) ∙ is) in
+      let it = answers_to (open_op h n) n said a (sym (cond-true _ _ _ (eq-true m n same)) ∙ is) in
       let c = covered_flight ps h good legal.1 n it.flight it.is in
       record {
         call = c.call;

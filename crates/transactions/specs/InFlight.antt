@@ -4,7 +4,7 @@ use Rattle.std.specs.Prelude.{◌≡◌, ℕ, Bool, true, false, List, Option, S
 use Rattle.access_slots.specs.Locks.{target}
 use Rattle.access_slots.specs.declared.op.Op.{Op}
 use Rattle.tc_log.specs.declared.event.Event.{Event}
-use Rattle.history.specs.Flight.{Flight, in_flight}
+use Rattle.history.specs.Flight.{Flight, open_op}
 use Rattle.history.specs.Redo.{to_redo}
 use Rattle.history.specs.declared.Answered.{Answered}
 use Rattle.transactions.specs.declared.Redoing.{Redoing}
@@ -35,7 +35,7 @@ under_redo h sites d = to_redo_by h d (site_at sites d).redo
 
 -- its number is open, and its data component is up
 pub record IsOpenAtSite (h : List Event) (sites : List Site) (n : ℕ) (f : Flight) : Type 0 where
-  pub is_open : in_flight h n ≡ Some f
+  pub is_open : open_op h n ≡ Some f
   pub up : (site_of sites f.op).redo ≡ None
 
 -- it is under redo at its data component, which is down

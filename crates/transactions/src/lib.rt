@@ -12,7 +12,7 @@ ghost use Rattle.std.specs.Prelude.{◌≡◌, ◌≢◌, ◌↔◌, ◌+◌, �
 ghost use Rattle.access_slots.specs.declared.op.Op.{Op as Operation};
 ghost use Rattle.access_slots.specs.Locks.{allows, target, is_read, conflict};
 ghost use Rattle.history.specs.Calls.{held, held_for, call_of};
-ghost use Rattle.history.specs.Flight.{Flight, given, in_flight, AllAnswered, low_water};
+ghost use Rattle.history.specs.Flight.{Flight, given, open_op, AllAnswered, low_water};
 ghost use Rattle.history.specs.Redo.{to_redo, IsToRedo};
 ghost use Rattle.history.specs.Places.{StandsAt};
 ghost use Rattle.tc_log.specs.declared.event.Event.{Event};
@@ -81,13 +81,13 @@ pub fn numbers_suffice()
 /// Behind every legal history, each operation in flight is covered by its transaction's locks.
 #[tactic(auto, using(crate::proofs::Headline::flight_covered))]
 pub fn all_covered()
-    ensures { (ps : List Checked) (h : List Event) → AllGood ps → Legal ps h → (n : ℕ) (f : Flight) → in_flight h n ≡ Some f → allows (held (decls ps) h f.txn (target f.op)) (is_read f.op) ≡ true }
+    ensures { (ps : List Checked) (h : List Event) → AllGood ps → Legal ps h → (n : ℕ) (f : Flight) → open_op h n ≡ Some f → allows (held (decls ps) h f.txn (target f.op)) (is_read f.op) ≡ true }
 {}
 
 /// And no two of them conflict.
 #[tactic(auto, using(crate::proofs::Headline::flights_apart))]
 pub fn none_conflict()
-    ensures { (ps : List Checked) (h : List Event) → AllGood ps → Legal ps h → (m n : ℕ) (f g : Flight) → in_flight h m ≡ Some f → in_flight h n ≡ Some g → m ≢ n → conflict f.op g.op ≡ false }
+    ensures { (ps : List Checked) (h : List Event) → AllGood ps → Legal ps h → (m n : ℕ) (f g : Flight) → open_op h m ≡ Some f → open_op h n ≡ Some g → m ≢ n → conflict f.op g.op ≡ false }
 {}
 
 /// A legal history stays legal when one more procedure is loaded.
@@ -135,7 +135,7 @@ pub fn low_water_never_falls()
 /// Behind every legal history, each operation in flight has a number above the low-water mark.
 #[tactic(auto, using(crate::proofs::LowWater::flight_above))]
 pub fn in_flight_above_low_water()
-    ensures { (ps : List Checked) (h : List Event) → Legal ps h → (n : ℕ) (f : Flight) → in_flight h n ≡ Some f → low_water h < n }
+    ensures { (ps : List Checked) (h : List Event) → Legal ps h → (n : ℕ) (f : Flight) → open_op h n ≡ Some f → low_water h < n }
 {}
 
 /// What is to be redone at a data component, if anything is, was done there under the least number

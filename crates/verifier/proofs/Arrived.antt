@@ -14,7 +14,7 @@ use Rattle.register_kinds.specs.declared.kinds.Kinds.{Kinds}
 use Rattle.register_kinds.specs.declared.kinds.Ways.{Ways}
 use Rattle.register_kinds.specs.Kinds.{entry_kinds, join_kinds}
 use Rattle.register_kinds.specs.Arriving.{next_place, jump_place, merge, along, along_ways, along_from, arriving, violation_by, violation_at}
-use Rattle.register_kinds.specs.Joining.Effects.{next_by, jump_by, result_by}
+use Rattle.register_kinds.specs.Effects.{next_by, jump_by, result_by}
 use Rattle.register_kinds.specs.Transfer.{transfer_of}
 use Rattle.register_kinds.proofs.Orders.{along_swap}
 use Rattle.verifier.specs.Joining.Table.{Table, kept, HasArrived}

@@ -20,7 +20,7 @@ use Rattle.register_kinds.specs.declared.kinds.Ways.{Ways}
 use Rattle.register_kinds.specs.Kinds.{join_kinds, kind_at, is_present, is_plain, check}
 use Rattle.register_kinds.specs.Transfer.{transfer_of}
 use Rattle.register_kinds.specs.Arriving.{next_place, target_by, jump_place, merge, along, along_ways, along_from, arriving, kinds_at}
-use Rattle.register_kinds.specs.Joining.Fitting.{IsWeaker, Lands}
+use Rattle.register_kinds.specs.Fitting.{IsWeaker, Lands}
 use Rattle.register_kinds.proofs.Joins.{weaker_trans, weaker_left, weaker_merge}
 use Rattle.verifier.specs.Flow.{is_second_slot, target_flaw, jump_flaw, goes_on, fall_flaw, or_else}
 

@@ -41,7 +41,7 @@ use Rattle.register_kinds.specs.Kinds.{entry_kinds, kind_at}
 use Rattle.register_kinds.specs.Transfer.{transfer_of}
 use Rattle.register_kinds.specs.Arriving.{next_place, jump_offset, jump_place, along, along_ways, along_from}
 use Rattle.register_kinds.specs.Arriving.{arriving, kinds_at, violation_of, violation_by, violation_at}
-use Rattle.register_kinds.specs.Joining.Fitting.{Fits, AllFit, IsSetting, IsStanding, IsSound, WentOn, Shape, shapes, shapes_of, buffer_shapes}
+use Rattle.register_kinds.specs.Fitting.{Fits, AllFit, IsSetting, IsStanding, IsSound, WentOn, Shape, shapes, shapes_of, buffer_shapes}
 use Rattle.register_kinds.proofs.Memory.{laid_of}
 use Rattle.register_kinds.proofs.Sound.{step_sound}
 use Rattle.verifier.specs.Flow.{jump_flaw, fall_flaw, call_flaw, or_else, flow_violation, flow_by, flow_at}

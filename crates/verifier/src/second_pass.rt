@@ -2,7 +2,7 @@
 
 ghost use Rattle.std.specs.Prelude.{◌≡◌, ◌≢◌, ◌<◌, ◌≤◌, ◌+◌, ℕ, Some, None, if◌then◌else◌, length, IfOk, OnOk};
 ghost use Rattle.register_kinds.specs.Arriving.{along, along_from, violation_by, violation_at};
-ghost use Rattle.register_kinds.specs.Joining.Effects.{next_by, jump_by};
+ghost use Rattle.register_kinds.specs.Effects.{next_by, jump_by};
 ghost use Rattle.verifier.specs.Joining.Table.{kept, known, HasArrived};
 ghost use Rattle.verifier.specs.Verdict.{first_violation};
 

@@ -9,7 +9,7 @@ use Rattle.slab.specs.Slab.{Slab, Updates}
 use Rattle.access_slots.specs.declared.op.Op.{Op}
 use Rattle.transactions.specs.Reached.{Asks, reached_of, stop_at, Fitting}
 use Rattle.tc_core.specs.declared.transaction.Tx.{Tx}
-use Rattle.tc_core.specs.Joining.Kept.{Keeps}
+use Rattle.tc_core.specs.Kept.{Keeps}
 
 -- it waits for this answer
 pub record MayHear (q : Checked) (tx : Tx) (s : Standing) (said : Said) : Type 0 where

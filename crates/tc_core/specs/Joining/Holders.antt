@@ -6,7 +6,7 @@ use Rattle.transactions.specs.declared.Next.{Next}
 use Rattle.transactions.specs.declared.Next.TheVariants as next
 use Rattle.transactions.specs.Legal.{first_undo}
 use Rattle.transactions.specs.Next.{next_by}
-use Rattle.tc_core.specs.Joining.Running.{as_reached}
+use Rattle.tc_core.specs.Running.{as_reached}
 use Rattle.tc_core.specs.Joining.Clashes.{clashes}
 use Rattle.tc_core.specs.declared.transaction.Tx.{Tx}
 

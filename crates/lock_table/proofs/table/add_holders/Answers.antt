@@ -1,7 +1,7 @@
 use Rattle.std.proofs.Common.{arith, refl, ◌∙◌}
 use Rattle.indexmap.specs.IndexMap.{get}
 use Rattle.access_slots.specs.Locks.{record_eq}
-use Rattle.lock_table.specs.Joining.Holds.{held_more}
+use Rattle.lock_table.specs.Holds.{held_more}
 use Rattle.lock_table.proofs.Steps.{rising_after, left_after, few_after}
 use Rattle.lock_table.proofs.table.add_holders.Goals as goal
 

@@ -2,7 +2,7 @@ use Rattle.std.proofs.Common.{◌≡◌, ◌+◌, ◌≤◌, length, drop}
 use Rattle.indexmap.specs.IndexMap.{get, spare}
 use Rattle.access_slots.specs.declared.slot.Record.{Record}
 use Rattle.access_slots.specs.Locks.{record_eq, mode_in, Rising}
-use Rattle.lock_table.specs.Joining.Holds.{held_more}
+use Rattle.lock_table.specs.Holds.{held_more}
 use Rattle.lock_table.proofs.Steps.{AreFewIn}
 use Rattle.lock_table.proofs.table.add_holders.Given as goal
 

@@ -1,7 +1,7 @@
 use Rattle.std.proofs.Common.{refl, ◌∙◌}
 use Rattle.indexmap.specs.IndexMap.{get}
 use Rattle.access_slots.specs.Locks.{record_eq}
-use Rattle.lock_table.specs.Joining.Holds.{held_less}
+use Rattle.lock_table.specs.Holds.{held_less}
 use Rattle.lock_table.proofs.Steps.{rising_after, left_after}
 use Rattle.lock_table.proofs.table.take_holders.Goals as goal
 

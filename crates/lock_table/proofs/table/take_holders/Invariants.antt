@@ -2,7 +2,7 @@ use Rattle.std.proofs.Common.{◌≡◌, drop}
 use Rattle.indexmap.specs.IndexMap.{get}
 use Rattle.access_slots.specs.declared.slot.Record.{Record}
 use Rattle.access_slots.specs.Locks.{record_eq, mode_in, Rising}
-use Rattle.lock_table.specs.Joining.Holds.{held_less}
+use Rattle.lock_table.specs.Holds.{held_less}
 use Rattle.lock_table.proofs.table.take_holders.Given as goal
 
 -- what is left to do leads to what the function promises

@@ -3,7 +3,7 @@ use Rattle.std.specs.Prelude.{slice_get}
 use Rattle.std.proofs.lemmas.Option.{slice_get-get_or}
 use Rattle.access_slots.specs.declared.slot.Slot.{Slot}
 use Rattle.register_kinds.specs.Calls.{called_at, called_slot}
-use Rattle.register_kinds.specs.Joining.Effects.{result_by}
+use Rattle.register_kinds.specs.Effects.{result_by}
 use Rattle.register_kinds.proofs.effect.called_slot.Goals as goal
 
 pub returns-in-Some : goal.returns-in-Some

@@ -1,6 +1,6 @@
 use Rattle.std.proofs.Common.{◌≡◌, length}
 use Rattle.history.specs.Places.{Begins}
-use Rattle.tc_core.specs.Joining.Kept.{IsBook}
+use Rattle.tc_core.specs.Kept.{IsBook}
 use Rattle.tc_core.proofs.checking.book_of.Given as goal
 
 abbrev pub invariant-loop-place : goal.invariant-loop-place

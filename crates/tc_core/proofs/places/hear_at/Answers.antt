@@ -2,7 +2,7 @@ use Rattle.std.proofs.Common.{◌≡◌, ℕ, Some, refl, sym, ◌∙◌, ap, su
 use Rattle.slab.proofs.SlabLemmas.{Updates-with_value}
 use Rattle.transactions.proofs.StandingLemmas.{some_same}
 use Rattle.transactions.specs.Standing.{Standing, answered}
-use Rattle.tc_core.specs.Joining.Kept.{Keeps}
+use Rattle.tc_core.specs.Kept.{Keeps}
 use Rattle.tc_core.specs.Joining.Hearing.{MayHear}
 use Rattle.tc_core.specs.declared.transaction.Tx.{Tx}
 use Rattle.tc_core.proofs.places.hear_at.Goals as goal

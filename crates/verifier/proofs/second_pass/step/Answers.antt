@@ -2,7 +2,7 @@ use Rattle.std.proofs.Common.{◌≡◌, ℕ, ◌+◌, Bool, Option, Some, None,
 use Rattle.bpf_encoding.specs.declared.insn.Place.TheVariants as place
 use Rattle.register_kinds.specs.declared.kinds.Kinds.{Kinds}
 use Rattle.register_kinds.specs.Arriving.{along, along_from}
-use Rattle.register_kinds.specs.Joining.Effects.{result_by}
+use Rattle.register_kinds.specs.Effects.{result_by}
 use Rattle.register_kinds.specs.Transfer.{transfer_of}
 use Rattle.verifier.specs.Joining.Table.{kept}
 use Rattle.verifier.proofs.Arrived.{stepped, next_is}

@@ -2,7 +2,7 @@ use Rattle.std.proofs.Common.{◌≡◌, ◌≢◌, ◌<◌, length, arith, belo
 use Rattle.std.proofs.lemmas.List.{length-set}
 use Rattle.register_kinds.specs.declared.kind.Kind.{Kind}
 use Rattle.register_kinds.specs.declared.kinds.Kinds.{Kinds}
-use Rattle.register_kinds.specs.Joining.Fitting.{IsWeaker}
+use Rattle.register_kinds.specs.Fitting.{IsWeaker}
 use Rattle.register_kinds.specs.Kinds.{join_of, join_kinds, kind_at}
 use Rattle.register_kinds.proofs.Joins.{weaker_left, weaker_right}
 use Rattle.register_kinds.proofs.Orders.{kinds_swap, kinds_three}

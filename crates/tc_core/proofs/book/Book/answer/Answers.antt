@@ -2,7 +2,7 @@ use Rattle.std.proofs.Common.{rules, ◌≡◌, ◌+◌, ◌*◌, ◌<◌, ◌�
 use Rattle.std.specs.Prelude.{slice_get}
 use Rattle.verifier.specs.Checked.{Checked}
 use Rattle.tc_core.specs.Core.{Core, Asking}
-use Rattle.tc_core.specs.Joining.Kept.{core_of, IsBook}
+use Rattle.tc_core.specs.Kept.{core_of, IsBook}
 use Rattle.tc_core.specs.Replies.{is_heard, IsAnswer}
 use Rattle.transactions.specs.declared.Site.{Site}
 use Rattle.transactions.specs.InFlight.{site_of}
@@ -10,7 +10,7 @@ use Rattle.tc_core.specs.Joining.Hearing.{MayHear, Accepts}
 use Rattle.tc_core.specs.declared.transaction.Tx.{Tx}
 use Rattle.transactions.proofs.StandingLemmas.{some_same}
 use Rattle.history.specs.Flight.{given}
-use Rattle.tc_core.specs.Joining.Kept.{is_doubted}
+use Rattle.tc_core.specs.Kept.{is_doubted}
 use Rattle.tc_core.proofs.StartLemmas.{starts_event}
 use Rattle.tc_core.proofs.KeyLemmas.{keys-moved}
 use Rattle.tc_core.proofs.MarkedLemmas.{marked-moved}

@@ -1,7 +1,7 @@
 use Rattle.std.proofs.Common.{rules, ◌≡◌, ◌+◌, ◌<◌, ◌≤◌, ℕ, Some, None, arith, refl, sym, ◌∙◌, ap, subst, Option, true, false}
 use Rattle.tc_log.specs.declared.event.Event.TheVariants.{Ask}
 use Rattle.tc_core.specs.Core.{Core, Asking}
-use Rattle.tc_core.specs.Joining.Kept.{core_of, IsBook}
+use Rattle.tc_core.specs.Kept.{core_of, IsBook}
 use Rattle.tc_core.specs.Replies.{ask_reply, asked_by, next_at}
 use Rattle.tc_core.specs.declared.transaction.Tx.{Tx}
 use Rattle.tc_core.proofs.ReplyLemmas.{next-unknown, next-known}

@@ -1,7 +1,7 @@
 use Rattle.std.proofs.Common.{rules, ◌≡◌, ◌+◌, ◌*◌, ◌<◌, ◌≤◌, ℕ, Some, None, arith, refl, sym, ◌∙◌, ap, subst, Option, true, false}
 use Rattle.tc_log.specs.declared.event.Outcome.{Outcome}
 use Rattle.tc_core.specs.Core.{Core, Asking}
-use Rattle.tc_core.specs.Joining.Kept.{core_of, IsBook}
+use Rattle.tc_core.specs.Kept.{core_of, IsBook}
 use Rattle.tc_core.specs.Replies.{end_of, end_reply, after_end}
 use Rattle.tc_core.proofs.ReplyLemmas.{end-unknown, end-known}
 use Rattle.history.specs.Flight.{given}

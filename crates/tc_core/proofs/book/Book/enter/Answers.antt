@@ -8,8 +8,8 @@ use Rattle.lock_table.specs.Facts.{held_by}
 use Rattle.history.specs.Calls.{Call, held, locks_of}
 use Rattle.history.specs.Flight.{given}
 use Rattle.transactions.specs.Reached.{calls_in, decls}
-use Rattle.tc_core.specs.Joining.Kept.{is_doubted}
-use Rattle.tc_core.specs.Joining.Running.{Runs}
+use Rattle.tc_core.specs.Kept.{is_doubted}
+use Rattle.tc_core.specs.Running.{Runs}
 use Rattle.tc_core.specs.Joining.Writes.{Writes}
 use Rattle.transactions.proofs.StandingLemmas.{open-serial}
 use Rattle.tc_core.proofs.StartLemmas.{starts_event}

@@ -1,5 +1,5 @@
 use Rattle.std.proofs.Common.{sym, subst}
-use Rattle.tc_core.specs.Joining.Kept.{IsBook}
+use Rattle.tc_core.specs.Kept.{IsBook}
 use Rattle.tc_core.specs.declared.book.Book.{Book}
 use Rattle.tc_core.proofs.book.Book.follow.Goals.{in-Ask, in-Answer, in-Undo, in-End}
 use Rattle.tc_core.proofs.book.Book.follow.Goals as goal

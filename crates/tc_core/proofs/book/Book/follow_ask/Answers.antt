@@ -1,6 +1,6 @@
 use Rattle.std.proofs.Common.{◌≡◌, true, false, sym, ◌∙◌}
 use Rattle.tc_core.specs.Core.{Core}
-use Rattle.tc_core.specs.Joining.Kept.{core_of}
+use Rattle.tc_core.specs.Kept.{core_of}
 use Rattle.tc_core.proofs.FollowLemmas.{ask_else}
 use Rattle.tc_core.proofs.book.Book.follow_ask.Goals as goal
 

@@ -1,6 +1,6 @@
 use Rattle.std.proofs.Common.{◌≡◌, Err, sym, ◌∙◌}
 use Rattle.tc_core.specs.Core.{Core}
-use Rattle.tc_core.specs.Joining.Kept.{core_of}
+use Rattle.tc_core.specs.Kept.{core_of}
 use Rattle.tc_core.proofs.FollowLemmas.{end_never}
 use Rattle.tc_core.proofs.book.Book.follow_end.Goals as goal
 

@@ -3,7 +3,7 @@ use Rattle.transactions.specs.Standing.{Standing, standing}
 use Rattle.history.specs.Flight.{given}
 use Rattle.transactions.proofs.StandingLemmas.{none_some}
 use Rattle.tc_core.specs.Core.{Core, Asking}
-use Rattle.tc_core.specs.Joining.Kept.{core_of, IsBook}
+use Rattle.tc_core.specs.Kept.{core_of, IsBook}
 use Rattle.tc_core.specs.GivingUp.{IsOpenHere, Awaits}
 use Rattle.tc_core.proofs.KeyLemmas.{keys-moved}
 use Rattle.tc_core.proofs.MarkedLemmas.{kept-doubt, marked-doubt}

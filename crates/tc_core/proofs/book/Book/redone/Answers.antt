@@ -8,7 +8,7 @@ use Rattle.transactions.specs.declared.Site.{Site}
 use Rattle.transactions.specs.declared.Redoing.{Redoing}
 use Rattle.transactions.proofs.StandingLemmas.{some_same, none_some}
 use Rattle.tc_core.specs.Core.{Core}
-use Rattle.tc_core.specs.Joining.Kept.{core_of, IsBook}
+use Rattle.tc_core.specs.Kept.{core_of, IsBook}
 use Rattle.tc_core.specs.Joining.Scanning.{scan, first_in}
 use Rattle.tc_core.specs.Redo.{redo_reply, up_again, IsRedone}
 use Rattle.tc_core.proofs.ScanLemmas.{begin_behind}

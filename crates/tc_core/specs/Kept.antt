@@ -14,7 +14,7 @@ use Rattle.transactions.specs.Reached.{decls, calls_in, AllGood}
 use Rattle.transactions.specs.Room.{numbers_left, events_left, places_left, each_one, total}
 use Rattle.transactions.specs.Legal.{Legal}
 use Rattle.slab.specs.Slab.{Slab, get, slab_len}
-use Rattle.tc_core.specs.Joining.Running.{Runs}
+use Rattle.tc_core.specs.Running.{Runs}
 use Rattle.access_slots.specs.declared.slot.Record.{Record}
 use Rattle.access_slots.specs.Locks.{mode_in, mode_named}
 use Rattle.request_numbers.specs.Given.{holds}
