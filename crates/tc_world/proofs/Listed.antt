@@ -1,10 +1,10 @@
 -- Each step but a forged reply keeps the lists beside the log, and then calls run one after another.
-use Rattle.std.proofs.Common.{◌≡◌, ◌≢◌, ◌⊎◌, ℕ, ◌+◌, ◌<◌, ◌≤◌, Bool, true, false, List, [], ◌∷◌, ◌++◌, length, Option, Some, None, arith, refl, sym, ◌∙◌, ap, subst}
-use Rattle.std.proofs.Common.{inl, inr, ◌==◌, ◌&&◌, if◌then◌else◌, zero, suc}
+use Rattle.std.proofs.Common.{◌≡◌, ◌≢◌, ◌⊎◌, ℕ, ◌+◌, ◌<◌, ◌≤◌, Bool, true, false, List, [], ◌∷◌, length, Option, Some, None, arith, refl, sym, ◌∙◌, ap, subst}
+use Rattle.std.proofs.Common.{inl, inr, ◌==◌, ◌&&◌, if◌then◌else◌}
 use Rattle.std.specs.Prelude.{slice_get, slice_set, slice_index_or, nat_lt, nat_le, ◌^◌, Result, Ok, Err}
 use Rattle.std.proofs.lemmas.Bool.Decides.{nat_tests}
 use Rattle.std.specs.List.{All}
-use Rattle.std.proofs.lemmas.Bool.{cases_eq, cases_lt}
+use Rattle.std.proofs.lemmas.Bool.{cases_lt}
 use Rattle.access_slots.specs.Access.{fits}
 use Rattle.access_slots.specs.declared.op.Op.{Op}
 use Rattle.access_slots.specs.declared.op.Op.TheVariants.{Read, Insert, Update, Delete}
@@ -16,23 +16,20 @@ use Rattle.tc_log.specs.declared.event.Event.{Event}
 use Rattle.tc_log.specs.declared.event.Event.TheVariants as event
 use Rattle.tc_log.specs.declared.event.Outcome.{Outcome as Ending}
 use Rattle.verifier.specs.Checked.{Checked}
-use Rattle.history.specs.Calls.{admitted}
 use Rattle.history.specs.Flight.{Flight, open_op, given}
-use Rattle.data_component.specs.Performed.{Performed, value_of, said_under}
+use Rattle.data_component.specs.Performed.{Performed, said_under}
 use Rattle.data_component.specs.Store.{Store, replied, performed, checkpointed, restarted, news_of}
 use Rattle.transactions.specs.declared.Sent.{Sent}
 use Rattle.transactions.specs.Standing.{Standing, standing}
 use Rattle.transactions.specs.Reached.{AllGood}
-use Rattle.transactions.specs.Legal.{Legal, CanAnswer}
+use Rattle.transactions.specs.Legal.{Legal}
 use Rattle.transactions.proofs.StandingLemmas.{some_same, none_some}
 use Rattle.transactions.proofs.Flights.{flight, standing_flight}
 use Rattle.tc_core.specs.Core.{Core, Asking}
 use Rattle.tc_core.specs.Replies.{with_event, ask_reply, after_ask, undo_reply, after_undo, end_of, is_heard, is_up}
-use Rattle.tc_core.specs.Redo.{with_site, news_fault, news_fault_by, IsRedone, down_by, after_told, redo_wire, redo_reply, redo_at, redo_by, sends_again, after_redo, after_redone, redone_to, redone_at, up_again}
+use Rattle.tc_core.specs.Redo.{with_site, news_fault_by, IsRedone, after_told, redo_wire, redo_at, redo_by, sends_again, after_redo, after_redone, redone_to, redone_at, up_again}
 use Rattle.tc_core.specs.declared.state.Down.{Down}
-use Rattle.tc_core.specs.declared.state.NewsFault.{NewsFault}
 use Rattle.tc_core.specs.declared.state.NewsFault.TheVariants as fault
-use Rattle.tc_core.specs.declared.state.Redo.{Redo}
 use Rattle.tc_core.specs.declared.state.Redo.TheVariants as redo
 use Rattle.history.specs.Redo.{done_at, to_redo, IsToRedo}
 use Rattle.history.specs.declared.Answered.{Answered}
@@ -47,22 +44,23 @@ use Rattle.tc_core.specs.declared.state.Asked.TheVariants as reply
 use Rattle.tc_core.proofs.KeptLemmas.{slice_get-index, slice_get-short}
 use Rattle.tc_world.specs.Whole.{Whole}
 use Rattle.tc_world.specs.Marks.{IsFresh}
-use Rattle.tc_world.specs.Steps.{Goes, Stops, Steps, Runs, with_core, with_dcs, with_copy, with_reply, told, sends_or_holds, ends_by, resends_wire, resends_sent}
-use Rattle.tc_world.specs.Steps.{resends_by, gets_reply, performs_at, performs_copy, takes_answer, takes_open, TakesBy, TakesReply}
+use Rattle.tc_world.specs.Steps.{Goes, Stops, Steps, with_core, with_dcs, with_copy, with_reply, told, sends_or_holds, ends_by, resends_wire, resends_sent}
+use Rattle.tc_world.specs.Steps.{resends_by, gets_reply, performs_at, performs_copy, takes_answer, TakesBy, TakesReply}
 use Rattle.tc_world.specs.Steps.{restarts_as, restarts_at, checkpoints_at, tells_unless, tells_news, redoes_by, with_news}
 use Rattle.tc_world.specs.declared.step.Step.{Step}
 use Rattle.tc_world.specs.declared.step.Step.TheVariants as step
 use Rattle.tc_world.specs.declared.step.Outcome.{Outcome}
 use Rattle.tc_world.specs.declared.step.Illegal.{Illegal}
-use Rattle.tc_world.specs.OneAtATime.{is_forge, NoForge, IsKnown, IsOneAtATime}
+use Rattle.tc_world.specs.OneAtATime.{is_forge, NoForge, IsKnown, EachIsKnown, IsOneAtATime}
 use Rattle.tc_world.specs.Joining.Listed.{IsListed}
 use Rattle.serial.specs.Values.{is_done}
-use Rattle.serial.specs.Serial.{serial, done, HonestTo, Honest, IsUnwritten}
+use Rattle.serial.specs.Serial.{done, HonestTo, Honest}
 use Rattle.serial.specs.Serial.{now as serial_now}
 use Rattle.serial.specs.Lists.{logged, dc_of}
+use Rattle.serial.specs.Audit.{IsAgreed}
 use Rattle.serial.specs.Joining.Beside.{Beside}
 use Rattle.serial.specs.Joining.Behind.{Behind, StandsTo, IsEnd, IsNext}
-use Rattle.serial.specs.Joining.Site.{Over, SiteOk}
+use Rattle.serial.specs.Joining.Site.{SiteOk}
 use Rattle.serial.specs.Joining.Sites.{CopyOk, ReplyOk, NewsOk, AreOk}
 use Rattle.serial.proofs.LockLemmas.{both_left, both_right}
 use Rattle.serial.proofs.KeepLemmas.{ends_as_serial}
@@ -70,6 +68,7 @@ use Rattle.serial.proofs.ListLemmas.{beside_none, if_some}
 use Rattle.serial.proofs.NumberLemmas.{logged_below, flight_logged, done_answer, done_logged, flights, flight_absent}
 use Rattle.serial.proofs.StoreLemmas.{reply_case, ReplyCase, is_old, listed}
 use Rattle.serial.proofs.OrderLemmas.{list_serial, in_step}
+use Rattle.serial.proofs.AgreedLemmas.{agreed}
 use Rattle.serial.proofs.AnsweredLemmas.{IsSo, answered_so}
 use Rattle.serial.proofs.RedoLemmas.{LogFacts, beside_behind}
 use Rattle.serial.proofs.LogLemmas.{log_facts}
@@ -522,8 +521,8 @@ redoes_listed w v d (Some x) o known at s goes = by x.redo refl goes
             let was : Known w.core = known_up w d (slice_get w.core.sites d) (known_behind _ o (with_core w (after_redo w.core d redo.Finished)) v known goes'') in
             let facts = log_facts w.core.procs h was.good was.legal s.honest in
             let ok = ok_resited (logged h) (open_op h) (done h) (given h) w.core.sites w.dcs w.copies w.replies w.news d x t' at refl (λ up. refl) s.ok
-                (λ q e. absurd (none_some _ q refl e))
-                (λ z k. site_up (logged h) (open_op h) (done h) (given h) d z x (s.ok.v d) r facts is (λ n q said logs dc was' did. none_left w.core.procs h was.legal d r.redone next n q said logs dc was' did) k) in
+            (λ q e. absurd (none_some _ q refl e))
+            (λ z k. site_up (logged h) (open_op h) (done h) (given h) d z x (s.ok.v d) r facts is (λ n q said logs dc was' did. none_left w.core.procs h was.legal d r.redone next n q said logs dc was' did) k) in
             behind _ o (with_core w (after_redo w.core d redo.Finished)) v
             (subst (λ (y : Option Site). IsListed (with_core w (up_again w.core d y))) (sym at) (record { honest = s.honest; ok = ok })) goes''
           where
@@ -561,6 +560,7 @@ site_fresh d s t list saved mark saved_mark up =
       saved_cut = subst (λ (l : List Performed). IsEnd l s.saved) (sym list) saved;
       mark_to = λ n o said logs dc was did low. absurd (none_some _ o refl logs);
       mark_over = record { given_out = omega (arith, mark); answered = λ m low. refl };
+      whole = λ never n o said logs dc was. absurd (none_some _ o refl logs);
       saved_to = λ n o said logs dc was did low. absurd (none_some _ o refl logs);
       saved_over = record { given_out = omega (arith, saved_mark); answered = λ m low. refl };
     }
@@ -587,25 +587,31 @@ fresh_listed w fresh =
       });
     }
 
+-- the list of a data component that is up, and of the incarnation that is known, stands beside the log
+beside_known : (w : Whole) → IsListed w → (d : ℕ) (x : Store) → slice_get w.dcs d ≡ Some x → IsKnown w d x → Beside (logged w.core.events) (open_op w.core.events) (done w.core.events) d x.list
+beside_known w s d x at is =
+    let k = s.ok.stores d x at in
+    subst (Beside (logged w.core.events) (open_op w.core.events) (done w.core.events) d) (sym (k.same is.now)) (k.up is.up)
+
 pub one_at_a_time : (w : Whole) → Known w.core → IsListed w → IsOneAtATime w
 one_at_a_time w known s =
     record {
       answers = ends_as_serial w.core.procs w.core.events known.good known.legal s.honest;
-      values = λ d x r at is dc un. list_serial w.core.procs w.core.events d x.list known.good known.legal s.honest (beside d x at is) r dc un;
+      values = λ d x r at is dc un. list_serial w.core.procs w.core.events d x.list known.good known.legal s.honest (beside_known w s d x at is) r dc un;
       there = λ n o said logs was. s.ok.said n o said logs was;
-      stands = λ d x n o said at is dc logs was did. (beside d x at is).answers n o said logs dc was did;
+      stands = λ d x n o said at is dc logs was did. (beside_known w s d x at is).answers n o said logs dc was did;
       once = λ d x at. (cut d x at).once;
       asked = λ d x k e at is. (cut d x at).entries k e is;
-      between = λ d x r at is dc. in_step w.core.procs w.core.events d x.list known.good known.legal (beside d x at is) r dc;
+      between = λ d x r at is dc. in_step w.core.procs w.core.events d x.list known.good known.legal (beside_known w s d x at is) r dc;
     }
   where
-    beside : (d : ℕ) (x : Store) → slice_get w.dcs d ≡ Some x → IsKnown w d x → Beside (logged w.core.events) (open_op w.core.events) (done w.core.events) d x.list
-    beside d x at is =
-        let k = s.ok.stores d x at in
-        subst (Beside (logged w.core.events) (open_op w.core.events) (done w.core.events) d) (sym (k.same is.now)) (k.up is.up)
-
     cut : (d : ℕ) (x : Store) → slice_get w.dcs d ≡ Some x → Behind (logged w.core.events) (open_op w.core.events) (done w.core.events) d x.list
     cut d x at = (let k = s.ok.stores d x at in behind_end (logged w.core.events) (open_op w.core.events) (done w.core.events) d (s.ok.v d) x.list k.cut k.behind)
+
+-- and where each is, an audit finds nothing
+pub agrees : (w : Whole) → Known w.core → IsListed w → EachIsKnown w → IsAgreed w.core.procs w.core.events w.dcs
+agrees w known s each =
+    agreed w.core.procs w.core.events w.dcs known.good known.legal s.honest (λ d x at. (beside_known w s d x at (each d x at), (s.ok.stores d x at).whole)) s.ok.said
 
 pub honest_at : (xs : List Step) (k : ℕ) (x : Step) → NoForge xs → k < length xs → x ≡ slice_index_or xs k x → is_forge x ≡ false
 honest_at xs k x none inside is = ap is_forge is ∙ none k x inside

@@ -4,12 +4,11 @@ use Rattle.std.specs.Prelude.{slice_get, slice_index_or, IsSome, Result, Ok, Err
 use Rattle.access_slots.specs.Access.{fits}
 use Rattle.access_slots.specs.Locks.{target}
 use Rattle.access_slots.specs.declared.op.Op.{Op}
-use Rattle.access_slots.specs.declared.op.Said.{Said}
 use Rattle.access_slots.specs.declared.op.Wire.{Wire}
 use Rattle.access_slots.specs.declared.op.Reply.{Reply}
 use Rattle.verifier.specs.Checked.{Checked}
 use Rattle.tc_log.specs.declared.event.Event.{Event}
-use Rattle.history.specs.Flight.{Flight, open_op, given, low_water}
+use Rattle.history.specs.Flight.{Flight, open_op, given}
 use Rattle.transactions.specs.Legal.{Legal}
 use Rattle.transactions.specs.Standing.{Standing, standing}
 use Rattle.transactions.specs.declared.Next.{Next}

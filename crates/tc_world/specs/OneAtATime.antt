@@ -37,6 +37,10 @@ pub record IsKnown (w : Whole) (d : ℕ) (s : Store) : Type 0 where
   pub up : (site_at w.core.sites d).redo ≡ None
   pub now : (site_at w.core.sites d).incarnation ≡ s.incarnation
 
+-- each data component is so
+abbrev pub EachIsKnown : Whole → Type 0
+EachIsKnown w = (d : ℕ) (s : Store) → slice_get w.dcs d ≡ Some s → IsKnown w d s
+
 pub record IsOneAtATime (w : Whole) : Type 0 where
   -- each call that was committed or aborted ended as it does when calls are run one after another
   pub answers : EndsAsSerial w.core.procs w.core.events

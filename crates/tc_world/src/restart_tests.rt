@@ -73,7 +73,12 @@ fn is_told(rt: &impl Abort, world: &mut World) {
 
 // The put is redone, and the component is up.
 fn is_redone(rt: &impl Abort, world: &mut World) {
-    goes(rt, world, &Step::Redo(0), Outcome::Redoing(1, redo_of_put()));
+    goes(
+        rt,
+        world,
+        &Step::Redo(0),
+        Outcome::Redoing(1, redo_of_put()),
+    );
     let reply = Reply {
         number: 1,
         incarnation: 1,
@@ -86,7 +91,11 @@ fn is_redone(rt: &impl Abort, world: &mut World) {
     goes(rt, world, &Step::Redo(0), Outcome::Up(0));
 }
 
-fn put_lost_and_redone(rt: &impl Abort, alloc: Global, world: &mut World) -> Result<(), AllocError> {
+fn put_lost_and_redone(
+    rt: &impl Abort,
+    alloc: Global,
+    world: &mut World,
+) -> Result<(), AllocError> {
     five_is_put(rt, alloc, world)?;
     row_is_lost(rt, world);
     is_told(rt, world);

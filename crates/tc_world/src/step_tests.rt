@@ -52,7 +52,12 @@ fn is_sent_again(rt: &impl Abort, world: &mut World) {
 // It is performed, and the data component keeps it.
 fn is_performed(rt: &impl Abort, world: &mut World) {
     assert!(rt; matches!(world.step(&Step::Perform(1)), Ok(Outcome::Replied(0, _))));
-    assert!(rt; matches!(world.step(&Step::Checkpoint(0)), Ok(Outcome::Checkpointed(0, 0))));
+    assert!(rt;
+        matches!(
+            world.step(&Step::Checkpoint(0)),
+            Ok(Outcome::Checkpointed(0, 0))
+        )
+    );
 }
 
 // The reply is taken, and the transaction is over.

@@ -10,7 +10,8 @@ ghost use Rattle.transactions.specs.Legal.{Legal};
 ghost use Rattle.transactions.specs.Reached.{decls};
 ghost use Rattle.transactions.specs.Room.{each_one, total};
 ghost use Rattle.tc_world.specs.Marks.{AreMarksLow, IsFresh, IsOpenAboveMarks};
-ghost use Rattle.tc_world.specs.OneAtATime.{is_forge, NoForge, IsOneAtATime};
+ghost use Rattle.serial.specs.Audit.{IsAgreed};
+ghost use Rattle.tc_world.specs.OneAtATime.{is_forge, NoForge, EachIsKnown, IsOneAtATime};
 ghost use Rattle.tc_world.specs.Joining.Listed.{IsListed};
 ghost use Rattle.tc_world.specs.Steps.{Goes, Stops, Steps, IsIllegal, Runs, StopsAt};
 ghost use Rattle.tc_world.specs.Steps as Steps;
@@ -369,7 +370,8 @@ impl World {
     /// history is legal, each operation in flight is covered by its transaction's locks, which are held
     /// where its number is open, and no two conflict. From a fresh world, with no reply forged, the calls
     /// that ended are as if they were run one after another, in the order of their ends, however often
-    /// data components restarted.
+    /// data components restarted; and where each data component is up, and of the incarnation that is
+    /// known, the log and the data components agree in all that an audit compares.
     pub fn run(&mut self, steps: &[Step]) -> Result<(), (usize, Illegal)>
         ensures ok { OnOk result (Runs self.old steps.now self.new) }
         ensures err { IfErr result (λ e. StopsAt self.old steps.now e.0 e.1 self.new) }
@@ -383,6 +385,7 @@ impl World {
         ensures marks { AreMarksLow self.old → AreMarksLow self.new }
         ensures open_above { IsFresh self.old → IsOpenAboveMarks self.new }
         ensures one_at_a_time { IsFresh self.old → NoForge steps.now → IsOneAtATime self.new }
+        ensures agreed { IsFresh self.old → NoForge steps.now → EachIsKnown self.new → IsAgreed self.new.core.procs self.new.core.events self.new.dcs }
     {
         for (k, step) in steps.iter().enumerate() {
             match self.keep_step(step) {

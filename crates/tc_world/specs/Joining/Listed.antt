@@ -1,5 +1,4 @@
 -- What every world keeps that began fresh, and in which no reply was forged.
-use Rattle.std.specs.Prelude.{ℕ}
 use Rattle.history.specs.Flight.{open_op, given}
 use Rattle.serial.specs.Serial.{done, Honest}
 use Rattle.serial.specs.Lists.{logged}

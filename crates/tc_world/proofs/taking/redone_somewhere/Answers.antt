@@ -1,4 +1,4 @@
-use Rattle.std.proofs.Common.{◌≡◌, ℕ, ◌<◌, ◌≤◌, true, false, Some, arith, refl, sym, ◌∙◌, ap, subst, inl, inr}
+use Rattle.std.proofs.Common.{◌≡◌, ℕ, true, false, arith, refl, sym, ◌∙◌, ap, subst, inl, inr}
 use Rattle.std.proofs.lemmas.Bool.{cases_eq}
 use Rattle.std.proofs.lemmas.Option.{slice_get_within}
 use Rattle.tc_core.specs.Core.{Core}
@@ -19,7 +19,7 @@ loop-dc-preserved c =
       λ d below is. elim (cases_eq d c.loop-dc.dc) [
         | inl here ↦
             let mine : IsRedone c.loop-dc.state c.loop-dc.dc c.args.reply.now
-                = subst (λ (s : Core). IsRedone s c.loop-dc.dc c.args.reply.now) (sym same) (subst (λ (i : ℕ). IsRedone c.args.state.now i c.args.reply.now) here is) in
+            = subst (λ (s : Core). IsRedone s c.loop-dc.dc c.args.reply.now) (sym same) (subst (λ (i : ℕ). IsRedone c.args.state.now i c.args.reply.now) here is) in
             let bad : false ≡ true = c.in-Err.ensures.accepted.1 mine in
             absurd cc
         | inr other ↦ c.loop-dc.invariant.1 d (omega (arith, below, other)) is

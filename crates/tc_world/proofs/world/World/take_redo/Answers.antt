@@ -1,4 +1,4 @@
-use Rattle.std.proofs.Common.{◌≡◌, ℕ, refl, subst}
+use Rattle.std.proofs.Common.{ℕ, refl, subst}
 use Rattle.tc_core.specs.Redo.{IsRedone}
 use Rattle.tc_world.specs.Whole.{Whole}
 use Rattle.tc_world.proofs.world.World.take_redo.Goals as goal
