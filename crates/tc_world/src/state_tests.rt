@@ -13,7 +13,7 @@ use tc_core::state::{Asked, Call, NotOver, Receipt, Refusal, Request, Stranger, 
 use tc_log::event::Outcome;
 use verifier::verify::Verified;
 
-fn wire(number: u64, low_water: u64, op: Op) -> Wire {
+pub(crate) fn wire(number: u64, low_water: u64, op: Op) -> Wire {
     Wire {
         number,
         low_water,
@@ -24,7 +24,7 @@ fn wire(number: u64, low_water: u64, op: Op) -> Wire {
 }
 
 // The transaction of a call that is admitted under this serial number.
-fn admitted(rt: &impl Abort, tc: &mut TcState, call: &Call, serial: u64) -> TxnId {
+pub(crate) fn admitted(rt: &impl Abort, tc: &mut TcState, call: &Call, serial: u64) -> TxnId {
     match tc.admit(call) {
         Ok(txn) => {
             assert_eq!(rt; txn.serial(), serial);
@@ -47,12 +47,12 @@ fn word(tc: &mut TcState, asked: Asked) -> (&'static str, u64) {
     }
 }
 
-fn ask_word(tc: &mut TcState, txn: TxnId) -> (&'static str, u64) {
+pub(crate) fn ask_word(tc: &mut TcState, txn: TxnId) -> (&'static str, u64) {
     let asked = tc.ask(txn);
     word(tc, asked)
 }
 
-fn undo_word(tc: &mut TcState, txn: TxnId) -> (&'static str, u64) {
+pub(crate) fn undo_word(tc: &mut TcState, txn: TxnId) -> (&'static str, u64) {
     let asked = tc.undo_next(txn);
     word(tc, asked)
 }
@@ -88,18 +88,18 @@ fn carried(rt: &impl Abort, tc: &mut TcState, request: Request, wire: Wire, said
 }
 
 // The transaction asks so, and is answered so.
-fn asks(rt: &impl Abort, tc: &mut TcState, txn: TxnId, wire: Wire, said: Said) {
+pub(crate) fn asks(rt: &impl Abort, tc: &mut TcState, txn: TxnId, wire: Wire, said: Said) {
     let request = request_in(rt, tc.ask(txn));
     carried(rt, tc, request, wire, said);
 }
 
 // The transaction undoes so, and is answered so.
-fn undoes(rt: &impl Abort, tc: &mut TcState, txn: TxnId, wire: Wire, said: Said) {
+pub(crate) fn undoes(rt: &impl Abort, tc: &mut TcState, txn: TxnId, wire: Wire, said: Said) {
     let request = request_in(rt, tc.undo_next(txn));
     carried(rt, tc, request, wire, said);
 }
 
-fn ends(rt: &impl Abort, tc: &mut TcState, txn: TxnId, place: usize, outcome: Outcome) {
+pub(crate) fn ends(rt: &impl Abort, tc: &mut TcState, txn: TxnId, place: usize, outcome: Outcome) {
     let receipt = Receipt {
         place,
         txn: txn.serial(),

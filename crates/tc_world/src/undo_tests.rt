@@ -1,0 +1,100 @@
+// Undos that fail: four tries for each write, and no room for one.
+
+use crate::state_tests::{admitted, ask_word, asks, ends, undo_word, undoes, wire};
+use crate::test_procedures::{keyed, procedure};
+use crate::test_state::{DROP, call, load, record, state, value};
+use access_slots::op::{Op, Said, Wire};
+use access_slots::slot::Mode;
+use std::alloc::{AllocError, Global};
+use std::process::Abort;
+use std::test::Fail;
+use tc_core::state::{TcState, TxnId};
+use tc_log::event::Outcome;
+
+// Deletes what stands under both its arguments, and ends with 5: mov r1, 0; call 4; mov r1, 1;
+// call 4; mov r0, 5; exit.
+const DROP_BOTH_CODE: [u64; 6] = [
+    0x1b7,
+    0x4_0000_0085,
+    0x1_0000_01b7,
+    0x4_0000_0085,
+    0x5_0000_00b7,
+    0x95,
+];
+
+const DROP_BOTH: usize = 5;
+
+fn load_drop_both(rt: &impl Abort, alloc: Global, tc: &mut TcState) -> Result<(), Fail> {
+    let slots = [keyed(Mode::Write, 0, 0), keyed(Mode::Write, 0, 1)];
+    let code = procedure(alloc, &DROP_BOTH_CODE, 2, &slots)?;
+    assert_eq!(rt; load(tc, "drop_both", code), Ok(DROP_BOTH));
+    Ok(())
+}
+
+// What is sent under this number, when all before it are answered.
+fn sent(number: u64, op: Op) -> Wire {
+    wire(number, number.saturating_sub(1), op)
+}
+
+// 100 under this key is deleted.
+fn deletes(rt: &impl Abort, tc: &mut TcState, txn: TxnId, number: u64, key: u64) {
+    let delete = sent(number, Op::Delete(record(key)));
+    asks(rt, tc, txn, delete, Said::Done(Some(value(100))));
+}
+
+// It is to be put back, and this is told.
+fn puts_back(rt: &impl Abort, tc: &mut TcState, txn: TxnId, number: u64, key: u64, said: Said) {
+    let insert = sent(number, Op::Insert(record(key), value(100)));
+    undoes(rt, tc, txn, insert, said);
+}
+
+// It is put back by the last of four tries.
+fn put_back_at_last(rt: &impl Abort, tc: &mut TcState, txn: TxnId, first: u64, key: u64) {
+    puts_back(rt, tc, txn, first, key, Said::Duplicate);
+    puts_back(rt, tc, txn, first + 1, key, Said::NoRoom);
+    puts_back(rt, tc, txn, first + 2, key, Said::Duplicate);
+    puts_back(rt, tc, txn, first + 3, key, Said::Done(None));
+}
+
+fn both_are_put_back(rt: &impl Abort, alloc: Global, tc: &mut TcState) -> Result<(), Fail> {
+    load_drop_both(rt, alloc, tc)?;
+    let both = call(alloc, DROP_BOTH, &[5, 6])?;
+    let txn = admitted(rt, tc, &both, 1);
+    deletes(rt, tc, txn, 1, 5);
+    deletes(rt, tc, txn, 2, 6);
+    assert_eq!(rt; ask_word(tc, txn), ("undoing", 0));
+    put_back_at_last(rt, tc, txn, 3, 6);
+    put_back_at_last(rt, tc, txn, 7, 5);
+    assert_eq!(rt; undo_word(tc, txn), ("over", 0));
+    ends(rt, tc, txn, 21, Outcome::Aborted(5));
+    Ok(())
+}
+
+// Each of two writes has four tries of its own.
+#[test]
+fn two_writes_undone(rt: HostRuntime) -> Result<(), Fail> {
+    let mut tc = state(&rt, rt.alloc())?;
+    let passed = both_are_put_back(&rt, rt.alloc(), &mut tc);
+    drop(tc);
+    passed
+}
+
+fn is_put_back(rt: &impl Abort, alloc: Global, tc: &mut TcState) -> Result<(), AllocError> {
+    let one = call(alloc, DROP, &[5])?;
+    let txn = admitted(rt, tc, &one, 1);
+    deletes(rt, tc, txn, 1, 5);
+    puts_back(rt, tc, txn, 2, 5, Said::NoRoom);
+    puts_back(rt, tc, txn, 3, 5, Said::Done(None));
+    assert_eq!(rt; undo_word(tc, txn), ("over", 0));
+    ends(rt, tc, txn, 7, Outcome::Aborted(5));
+    Ok(())
+}
+
+// No room for an undo is a try that failed: the procedure's own answer stays the outcome.
+#[test]
+fn no_room_for_an_undo(rt: HostRuntime) -> Result<(), Fail> {
+    let mut tc = state(&rt, rt.alloc())?;
+    let passed = is_put_back(&rt, rt.alloc(), &mut tc);
+    drop(tc);
+    Ok(passed?)
+}
