@@ -34,10 +34,10 @@ COMMANDS = [
     Command(["dis", "--raw"], [], RAW),
     Command(["verify"], [], SCRIPT.encode()),
     Command(["verify"], [], SCRIPT.replace("r1+8", "r1+16").encode()),
-    Command(["world", "--log"], [], WORLD),
+    Command(["world", "--log", "--audit"], [], WORLD),
     Command(["world"], [], WORLD.replace(b"ask 1", b"ask 3")),
     Command(["run", "--workers", 1], [], RUN),
-    Command(["run", "--workers", 8], [], RUN),
+    Command(["run", "--audit", "--workers", 8], [], RUN),
     Command(["run", "--workers", 65], [], RUN),
 ]
 NO_FILE = [["--help"], ["exec", "--help"], ["exec"], ["fly"], [], ["exec", "-", "x"], ["run", "--tries", "-1", "-"]]

@@ -25,6 +25,7 @@ STEP = rf"(admitted \d+|sent \d+ number \d+ {OPERATION} low \d+|held number \d+ 
 STEP += rf"|stuck \d+ number \d+|reply \d+ number \d+ {SAID}|silent|forged \d+|took number \d+"
 STEP += rf"|ended \d+ {ENDED} at \d+|checkpoint \d+ mark \d+|restarted \d+|told \d+ incarnation \d+ mark \d+"
 STEP += rf"|redo \d+ number \d+ {OPERATION}|redone number \d+|up \d+|illegal {ILLEGAL})"
+AUDIT = r"audit (ok ended \d+ open \d+|skipped dc \d+ (down|restarted))\n"
 ROW, EVENT = rf"row {RECORD} {VALUE}", "[0-9a-f]{192}"
 CALL = rf"(first|call) \d+ ({ENDED}|in doubt \d+|blocked {RECORD}|refused {REFUSAL})"
 
@@ -34,8 +35,8 @@ DONE = {
     "asm": r"((\w\w ){7}\w\w\n)+",
     "dis": r"([a-z][a-z0-9_]*( [^\n]+)?\n)+",
     "verify": rf"([a-z0-9_]{{1,32}} (accepted \d+|{VIOLATION})\n)*",
-    "world": rf"({STEP}\n)*({ROW}\n)*({EVENT}\n)*",
-    "run": rf"({CALL}\n)*({ROW}\n)*",
+    "world": rf"({STEP}\n)*({ROW}\n)*({AUDIT})?({EVENT}\n)*",
+    "run": rf"({CALL}\n)*({ROW}\n)*({AUDIT})?",
 }
 REFUSALS = {
     "exec": rf"refused {CODE}\n|{REFUSED.decode()}",
