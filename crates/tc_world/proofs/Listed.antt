@@ -54,7 +54,7 @@ use Rattle.tc_world.specs.declared.step.Step.{Step}
 use Rattle.tc_world.specs.declared.step.Step.TheVariants as step
 use Rattle.tc_world.specs.declared.step.Outcome.{Outcome}
 use Rattle.tc_world.specs.declared.step.Illegal.{Illegal}
-use Rattle.tc_world.specs.OneAtATime.{is_forge, NoForge, IsKnown, AllKnown, IsOneAtATime}
+use Rattle.tc_world.specs.OneAtATime.{is_forge, NoForge, IsKnown, IsOneAtATime}
 use Rattle.tc_world.specs.Joining.Listed.{IsListed}
 use Rattle.serial.specs.Values.{is_done}
 use Rattle.serial.specs.Serial.{serial, done, HonestTo, Honest, IsUnwritten}
@@ -125,7 +125,7 @@ asked ps w e t n o legal next lg fl dn top k =
     (subst (λ (g : ℕ). AreOk (λ m. if n == m then Some o else logged h m) (λ m. if n == m then Some (flight t o) else in_flight h m) (done h) g w.core.sites w.dcs w.copies w.replies w.news) (sym top) now)))
 
 abbrev IsCopy : Whole → (ℕ → List Performed) → Wire → Type 0
-IsCopy w v x = CopyOk (logged w.core.events) (in_flight w.core.events) (done w.core.events) (given w.core.events) w.core.sites v x
+IsCopy w v x = CopyOk (logged w.core.events) (in_flight w.core.events) (done w.core.events) (given w.core.events) w.core.sites w.dcs v x
 
 copied : (w : Whole) (x : Wire) → (s : IsListed w) → IsCopy w s.ok.v x → IsListed (with_copy w x)
 copied w x s y =
@@ -138,7 +138,7 @@ wire_ok w v r f (Some redo) x legal logs flies up is = absurd cc
 wire_ok w v r f None x legal logs flies up is =
     let y : Wire = wire_for w.core r (site_of w.core.sites r.op).incarnation in
     let same : y ≡ x = cc in
-    subst (IsCopy w v) same (record { logs = logs; known = omega arith; over = over_low w.core.procs w.core.events legal; now = λ now. inl (record { up = up; runs = inl (f, flies) }) })
+    subst (IsCopy w v) same (record { logs = logs; known = omega arith; ahead = λ z is less. refl; over = over_low w.core.procs w.core.events legal; now = λ now. inl (record { up = up; runs = inl (f, flies) }) })
 
 sent_listed : (w v : Whole) (r : Asking) (f : Flight) (x : Result Wire Down) (o : Outcome) → Known v.core → x ≡ wire_of w.core r → logged w.core.events r.number ≡ Some r.op → in_flight w.core.events r.number ≡ Some f → IsListed w → sends_or_holds w r x ≡ Goes o v → IsListed v
 sent_listed w v r f (Ok x) o known is logs flies s goes =
@@ -245,7 +245,7 @@ performs_at_listed w v x (Some d) o known at s y goes = gets_listed (with_store 
     facts = log_facts w.core.procs w.core.events was.good was.legal s.honest
 
     becomes : Becomes (logged w.core.events) (in_flight w.core.events) (done w.core.events) (given w.core.events) (dc_of x.op) d (performed d x) (site_at w.core.sites (dc_of x.op)) (s.ok.v (dc_of x.op))
-    becomes = performs_ok (logged w.core.events) (in_flight w.core.events) (done w.core.events) (given w.core.events) d (site_at w.core.sites j) (s.ok.v j) x facts (λ m g is. flight_logged w.core.events m g is) y.logs y.known y.over y.now (s.ok.stores j d at)
+    becomes = performs_ok (logged w.core.events) (in_flight w.core.events) (done w.core.events) (given w.core.events) d (site_at w.core.sites j) (s.ok.v j) x facts (λ m g is. flight_logged w.core.events m g is) y.logs y.known (y.ahead d at) y.over y.now (s.ok.stores j d at)
 
     both : (l : AreOk (logged w.core.events) (in_flight w.core.events) (done w.core.events) (given w.core.events) w.core.sites (slice_set w.dcs (dc_of x.op) (performed d x)) w.copies w.replies w.news) × (l.v ≡ (λ i. if dc_of x.op == i then becomes.u else s.ok.v i))
     both = ok_stored (logged w.core.events) (in_flight w.core.events) (done w.core.events) (given w.core.events) w.core.sites w.dcs w.copies w.replies w.news j d (performed d x) becomes.u at s.ok
@@ -503,6 +503,7 @@ redoes_listed w v d (Some x) o known at s goes = by x.redo refl goes
             behind _ o (with_copy w y) v (copied w y s (record {
               logs = so.0;
               known = subst (λ (i : ℕ). x.incarnation ≤ (site_at w.core.sites i).incarnation) (sym dc) (let e = ap (λ (z : Option Site). (site_by z).incarnation) at in omega (arith, e));
+              ahead = λ z is less. subst (λ (i : ℕ). x.incarnation ≡ (site_at w.core.sites i).incarnation) (sym dc) (sym (ap (λ (z : Option Site). (site_by z).incarnation) at));
               over = redone.told_over;
               now = λ now. inr (record {
                 redo = refl;
@@ -547,15 +548,15 @@ stay_listed w v (step.Redo d) o known honest goes s = redoes_listed w v d (slice
 
 -- ---- a fresh world
 
-site_fresh : (d : ℕ) (s : Store) (t : Site) → s.list ≡ [] → s.saved ≡ [] → s.mark ≡ 0 → s.saved_mark ≡ 0 → t.redo ≡ None → t.incarnation ≡ s.incarnation → SiteOk (λ n. None) (λ n. None) [] 0 d s t []
-site_fresh d s t list saved mark saved_mark up now =
+site_fresh : (d : ℕ) (s : Store) (t : Site) → s.list ≡ [] → s.saved ≡ [] → s.mark ≡ 0 → s.saved_mark ≡ 0 → t.redo ≡ None → SiteOk (λ n. None) (λ n. None) [] 0 d s t []
+site_fresh d s t list saved mark saved_mark up =
     record {
       up = λ e. beside_none d;
       behind = beside_behind (λ n. None) (λ n. None) [] d [] (beside_none d);
       down = λ r e. absurd (none_some _ r up e);
-      known_le = omega (arith, now);
+      ahead = λ less. record { known = refl; now = list; kept = saved };
       same = λ e. list;
-      idle = λ less. absurd (omega (arith, now, less));
+      idle = λ less. list ∙ sym saved;
       cut = list;
       saved_cut = subst (λ (l : List Performed). IsEnd l s.saved) (sym list) saved;
       mark_to = λ n o said logs dc was did low. absurd (none_some _ o refl logs);
@@ -568,19 +569,20 @@ fresh_up : (w : Whole) (d : ℕ) (t : Option Site) → IsFresh w → slice_get w
 fresh_up w d None fresh at = refl
 fresh_up w d (Some t) fresh at = all_at (λ (s : Site). s.redo ≡ None) w.core.sites d t at fresh.up
 
-pub fresh_listed : (w : Whole) → IsFresh w → AllKnown w → IsListed w
-fresh_listed w fresh known =
+pub fresh_listed : (w : Whole) → IsFresh w → IsListed w
+fresh_listed w fresh =
     record {
       honest = subst Honest (sym fresh.events) tt;
       ok = subst (λ (h : List Event). AreOk (logged h) (in_flight h) (done h) (given h) w.core.sites w.dcs w.copies w.replies w.news) (sym fresh.events) (record {
         v = λ d. [];
-        copies = subst (All (CopyOk (logged []) (in_flight []) (done []) 0 w.core.sites (λ d. []))) (sym fresh.copies) (λ k x inside. absurd (omega (arith, inside)));
+        copies = subst (All (CopyOk (logged []) (in_flight []) (done []) 0 w.core.sites w.dcs (λ d. []))) (sym fresh.copies) (λ k x inside. absurd (omega (arith, inside)));
         replies = subst (All (ReplyOk (logged []) w.core.sites w.dcs (λ d. []))) (sym fresh.replies) (λ k x inside. absurd (omega (arith, inside)));
         news = subst (All (NewsOk (logged []) (in_flight []) (done []) 0 w.core.sites w.dcs)) (sym fresh.news) (λ k x inside. absurd (omega (arith, inside)));
         stores = λ d s at.
             let lists = all_at (λ (x : Store). (x.list ≡ []) × (x.saved ≡ [])) w.dcs d s at fresh.lists in
             let marks = all_at (λ (x : Store). (x.mark ≡ 0) × (x.saved_mark ≡ 0)) w.dcs d s at fresh.marks in
-            site_fresh d s (site_at w.core.sites d) lists.0 lists.1 marks.0 marks.1 (fresh_up w d (slice_get w.core.sites d) fresh refl) (known d s at);
+            site_fresh d s (site_at w.core.sites d) lists.0 lists.1 marks.0 marks.1 (fresh_up w d (slice_get w.core.sites d) fresh refl);
+        said = λ n o said logs was. absurd (none_some _ o refl logs);
         there = λ d r down. absurd (none_some _ r (fresh_up w d (slice_get w.core.sites d) fresh refl) down);
       });
     }
@@ -590,6 +592,7 @@ one_at_a_time w known s =
     record {
       answers = ends_as_serial w.core.procs w.core.events known.good known.legal s.honest;
       values = λ d x r at is dc un. list_serial w.core.procs w.core.events d x.list known.good known.legal s.honest (beside d x at is) r dc un;
+      there = λ n o said logs was. s.ok.said n o said logs was;
       stands = λ d x n o said at is dc logs was did. (beside d x at is).answers n o said logs dc was did;
       once = λ d x at. (cut d x at).once;
       asked = λ d x k e at is. (cut d x at).entries k e is;

@@ -37,16 +37,14 @@ pub record IsKnown (w : Whole) (d : ℕ) (s : Store) : Type 0 where
   pub up : (site_at w.core.sites d).redo ≡ None
   pub now : (site_at w.core.sites d).incarnation ≡ s.incarnation
 
--- of each data component the incarnation is the one that is known
-abbrev pub AllKnown : Whole → Type 0
-AllKnown w = (d : ℕ) (s : Store) → slice_get w.dcs d ≡ Some s → (site_at w.core.sites d).incarnation ≡ s.incarnation
-
 pub record IsOneAtATime (w : Whole) : Type 0 where
   -- each call that was committed or aborted ended as it does when calls are run one after another
   pub answers : EndsAsSerial w.core.procs w.core.events
   -- each record that no open transaction may write has the value at its data component that these calls leave
   pub values : (d : ℕ) (s : Store) (r : Record) → slice_get w.dcs d ≡ Some s → IsKnown w d s → r.dc ≡ d → IsUnwritten w.core.procs w.core.events r → value_of s.list r ≡ serial w.core.procs w.core.events r
-  -- each operation that was done stands in its data component's list, with its answer
+  -- each operation that was answered is one of a data component that is there
+  pub there : (n : ℕ) (o : Op) (said : Said) → logged w.core.events n ≡ Some o → said_under (done w.core.events) n ≡ Some said → (s : Store) × (slice_get w.dcs (dc_of o) ≡ Some s)
+  -- each that was done stands in its list, with its answer
   pub stands : (d : ℕ) (s : Store) (n : ℕ) (o : Op) (said : Said) → slice_get w.dcs d ≡ Some s → IsKnown w d s → dc_of o ≡ d → logged w.core.events n ≡ Some o → said_under (done w.core.events) n ≡ Some said → is_done said ≡ true → said_under s.list n ≡ Some said
   -- whether it is up or not: no number stands twice
   pub once : (d : ℕ) (s : Store) → slice_get w.dcs d ≡ Some s → NoTwice s.list

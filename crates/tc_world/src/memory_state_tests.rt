@@ -164,6 +164,7 @@ fn all_go(rt: &impl Abort, world: &mut World, admit: &Step) {
     goes(rt, world, &Step::Perform(0), "reply again", 2);
     let reply = Reply {
         number: 1,
+        incarnation: 0,
         said: Said::Absent,
     };
     goes(rt, world, &Step::Forge(reply), "forged", 2);

@@ -17,6 +17,8 @@ fn wire(number: u64, low_water: u64, op: Op) -> Wire {
     Wire {
         number,
         low_water,
+        incarnation: 0,
+        redo: false,
         op,
     }
 }
@@ -76,9 +78,10 @@ fn answered(rt: &impl Abort, tc: &mut TcState, request: Request, reply: Reply) {
 
 // The request is sent as this wire, and answered so.
 fn carried(rt: &impl Abort, tc: &mut TcState, request: Request, wire: Wire, said: Said) {
-    assert_eq!(rt; tc.wire(&request), wire);
+    assert_eq!(rt; tc.wire(&request), Ok(wire));
     let reply = Reply {
         number: wire.number,
+        incarnation: 0,
         said,
     };
     answered(rt, tc, request, reply);
@@ -419,6 +422,7 @@ fn calls_that_are_refused(rt: HostRuntime) -> Result<(), Fail> {
 fn not_answered(rt: &impl Abort, tc: &mut TcState, request: Request) {
     let reply = Reply {
         number: 1,
+        incarnation: 0,
         said: Said::Value(value(7)),
     };
     match tc.answer(request, reply) {

@@ -25,7 +25,7 @@ fn dcs(alloc: Global) -> Result<Vec<Dc>, AllocError> {
 }
 
 // One data component, and a transaction component that has the procedures.
-fn world(rt: &impl Abort, alloc: Global) -> Result<World, Fail> {
+pub(crate) fn world(rt: &impl Abort, alloc: Global) -> Result<World, Fail> {
     let state = state(rt, alloc)?;
     assert_eq!(rt; state.open_count(), 0);
     match dcs(alloc) {
@@ -49,10 +49,10 @@ fn is_sent_again(rt: &impl Abort, world: &mut World) {
     assert!(rt; matches!(world.step(&Step::Resend(1)), Ok(Outcome::Sent(1, _))));
 }
 
-// It is performed, and the data component restarts.
+// It is performed, and the data component keeps it.
 fn is_performed(rt: &impl Abort, world: &mut World) {
     assert!(rt; matches!(world.step(&Step::Perform(1)), Ok(Outcome::Replied(0, _))));
-    assert!(rt; matches!(world.step(&Step::Restart(0)), Ok(Outcome::Restarted(0))));
+    assert!(rt; matches!(world.step(&Step::Checkpoint(0)), Ok(Outcome::Checkpointed(0, 0))));
 }
 
 // The reply is taken, and the transaction is over.
@@ -111,6 +111,7 @@ fn one_row(rt: &impl Abort, world: &World) {
 fn second_stops(rt: &impl Abort, world: &mut World) {
     let reply = Reply {
         number: 1,
+        incarnation: 0,
         said: Said::Absent,
     };
     assert_eq!(rt;

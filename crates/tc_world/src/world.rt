@@ -10,7 +10,7 @@ ghost use Rattle.transactions.specs.Legal.{Legal};
 ghost use Rattle.transactions.specs.Reached.{decls};
 ghost use Rattle.transactions.specs.Room.{each_one, total};
 ghost use Rattle.tc_world.specs.Marks.{AreMarksLow, IsFresh, IsOpenAboveMarks};
-ghost use Rattle.tc_world.specs.OneAtATime.{is_forge, NoForge, AllKnown, IsOneAtATime};
+ghost use Rattle.tc_world.specs.OneAtATime.{is_forge, NoForge, IsOneAtATime};
 ghost use Rattle.tc_world.specs.Joining.Listed.{IsListed};
 ghost use Rattle.tc_world.specs.Steps.{Goes, Stops, Steps, IsIllegal, Runs, StopsAt};
 ghost use Rattle.tc_world.specs.Steps as Steps;
@@ -357,9 +357,9 @@ impl World {
 
     /// Takes steps up to the first illegal one, and says its place. Whatever the steps were, the
     /// history is legal, each operation in flight is covered by its transaction's locks, which are held
-    /// where its number is open, and no two conflict. From a fresh world that knows the incarnations of
-    /// its data components, with no reply forged, the calls that ended are as if they were run one after
-    /// another, in the order of their ends, however often data components restarted.
+    /// where its number is open, and no two conflict. From a fresh world, with no reply forged, the calls
+    /// that ended are as if they were run one after another, in the order of their ends, however often
+    /// data components restarted.
     pub fn run(&mut self, steps: &[Step]) -> Result<(), (usize, Illegal)>
         ensures ok { OnOk result (Runs self.old steps.now self.new) }
         ensures err { IfErr result (λ e. StopsAt self.old steps.now e.0 e.1 self.new) }
@@ -372,7 +372,7 @@ impl World {
             → m ≢ n → conflict f.op g.op ≡ false }
         ensures marks { AreMarksLow self.old → AreMarksLow self.new }
         ensures open_above { IsFresh self.old → IsOpenAboveMarks self.new }
-        ensures one_at_a_time { IsFresh self.old → AllKnown self.old → NoForge steps.now → IsOneAtATime self.new }
+        ensures one_at_a_time { IsFresh self.old → NoForge steps.now → IsOneAtATime self.new }
     {
         for (k, step) in steps.iter().enumerate() {
             match self.step(step) {

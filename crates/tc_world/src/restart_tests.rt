@@ -1,0 +1,158 @@
+// Restarts that lose what came after the last checkpoint, and redo.
+
+use crate::step::{Illegal, Outcome, Step};
+use crate::step_tests::world;
+use crate::test_state::{PUT, call, closed, record, value};
+use crate::world::World;
+use access_slots::op::{News, Op, Reply, Said, Wire};
+use std::alloc::{AllocError, Global};
+use std::process::Abort;
+use std::test::Fail;
+
+// The steps of a call that puts 100 under 5, up to its end.
+fn five_is_put(rt: &impl Abort, alloc: Global, world: &mut World) -> Result<(), AllocError> {
+    let steps = [
+        Step::Admit(call(alloc, PUT, &[5, 100])?),
+        Step::Ask(1),
+        Step::Perform(0),
+        Step::Take(0),
+        Step::End(1),
+    ];
+    assert_eq!(rt; world.run(&steps), Ok(()));
+    Ok(())
+}
+
+// The row that was put stands, or doesn't.
+fn five_stands(rt: &impl Abort, world: &World, stands: bool) {
+    for dc in world.dcs() {
+        assert_eq!(rt; dc.get(&record(5)), stands.then_some(value(100)));
+    }
+}
+
+fn goes(rt: &impl Abort, world: &mut World, step: &Step, outcome: Outcome) {
+    assert_eq!(rt; world.step(step), Ok(outcome));
+}
+
+fn stops(rt: &impl Abort, world: &mut World, step: &Step, why: Illegal) {
+    assert_eq!(rt; world.step(step), Err(why));
+}
+
+// What redoes the put in the first incarnation behind a restart.
+fn redo_of_put() -> Wire {
+    Wire {
+        number: 1,
+        low_water: 0,
+        incarnation: 1,
+        redo: true,
+        op: Op::Insert(record(5), value(100)),
+    }
+}
+
+fn first_news() -> News {
+    News {
+        incarnation: 1,
+        mark: 0,
+    }
+}
+
+// The component restarts, and the row is lost; a late copy of the request changes nothing.
+fn row_is_lost(rt: &impl Abort, world: &mut World) {
+    goes(rt, world, &Step::Restart(0), Outcome::Restarted(0));
+    five_stands(rt, world, false);
+    goes(rt, world, &Step::Perform(0), Outcome::Silent);
+    five_stands(rt, world, false);
+}
+
+// The transaction component hears of it, once, and has something to redo.
+fn is_told(rt: &impl Abort, world: &mut World) {
+    stops(rt, world, &Step::Redo(0), Illegal::NotDown);
+    stops(rt, world, &Step::Tell(1), Illegal::NoNews);
+    goes(rt, world, &Step::Tell(0), Outcome::Told(0, first_news()));
+    stops(rt, world, &Step::Tell(0), Illegal::OldNews);
+}
+
+// The put is redone, and the component is up.
+fn is_redone(rt: &impl Abort, world: &mut World) {
+    goes(rt, world, &Step::Redo(0), Outcome::Redoing(1, redo_of_put()));
+    let reply = Reply {
+        number: 1,
+        incarnation: 1,
+        said: Said::Done(None),
+    };
+    goes(rt, world, &Step::Perform(1), Outcome::Replied(1, reply));
+    five_stands(rt, world, true);
+    stops(rt, world, &Step::Take(0), Illegal::Stranger);
+    goes(rt, world, &Step::Take(1), Outcome::Redone(1));
+    goes(rt, world, &Step::Redo(0), Outcome::Up(0));
+}
+
+fn put_lost_and_redone(rt: &impl Abort, alloc: Global, world: &mut World) -> Result<(), AllocError> {
+    five_is_put(rt, alloc, world)?;
+    row_is_lost(rt, world);
+    is_told(rt, world);
+    is_redone(rt, world);
+    Ok(())
+}
+
+#[test]
+fn a_row_lost_and_redone(rt: HostRuntime) -> Result<(), Fail> {
+    let mut world = world(&rt, rt.alloc())?;
+    let passed = put_lost_and_redone(&rt, rt.alloc(), &mut world);
+    closed(world);
+    Ok(passed?)
+}
+
+// The row is kept by a checkpoint, whose mark lies below the number that was answered last.
+fn row_is_kept(rt: &impl Abort, world: &mut World) {
+    goes(rt, world, &Step::Checkpoint(0), Outcome::Checkpointed(0, 0));
+    goes(rt, world, &Step::Restart(0), Outcome::Restarted(0));
+    five_stands(rt, world, true);
+    goes(rt, world, &Step::Tell(0), Outcome::Told(0, first_news()));
+}
+
+// A request while its component is down is held back, and sent once that is up.
+fn is_held(rt: &impl Abort, world: &mut World, admit: &Step) {
+    goes(rt, world, admit, Outcome::Admitted(2));
+    let insert = Op::Insert(record(6), value(1));
+    goes(rt, world, &Step::Ask(2), Outcome::Held(2, insert));
+    stops(rt, world, &Step::Resend(2), Illegal::Down(0));
+    is_redone(rt, world);
+    let wire = Wire {
+        number: 2,
+        low_water: 1,
+        incarnation: 1,
+        redo: false,
+        op: insert,
+    };
+    goes(rt, world, &Step::Resend(2), Outcome::Sent(2, wire));
+}
+
+fn put_kept_and_held(rt: &impl Abort, alloc: Global, world: &mut World) -> Result<(), AllocError> {
+    let admit = Step::Admit(call(alloc, PUT, &[6, 1])?);
+    five_is_put(rt, alloc, world)?;
+    row_is_kept(rt, world);
+    is_held(rt, world, &admit);
+    Ok(())
+}
+
+#[test]
+fn a_request_held_while_its_component_is_down(rt: HostRuntime) -> Result<(), Fail> {
+    let mut world = world(&rt, rt.alloc())?;
+    let passed = put_kept_and_held(&rt, rt.alloc(), &mut world);
+    closed(world);
+    Ok(passed?)
+}
+
+fn no_such_component(rt: &impl Abort, world: &mut World) {
+    stops(rt, world, &Step::Checkpoint(1), Illegal::NoDc);
+    stops(rt, world, &Step::Restart(1), Illegal::NoDc);
+    stops(rt, world, &Step::Redo(1), Illegal::NoDc);
+}
+
+#[test]
+fn a_component_that_is_not_there(rt: HostRuntime) -> Result<(), Fail> {
+    let mut world = world(&rt, rt.alloc())?;
+    no_such_component(&rt, &mut world);
+    closed(world);
+    Ok(())
+}
