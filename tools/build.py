@@ -86,6 +86,14 @@ def linked(one, other):
         shutil.copytree(one, other, copy_function=os.link)
 
 
+def removed(path):
+    """Removes a file or a folder, if there is one."""
+    if os.path.isdir(path):
+        shutil.rmtree(path)
+    elif os.path.lexists(path):
+        os.remove(path)
+
+
 class Proof:
     """One crate that is being proved, in a copy of what it needs."""
 
@@ -98,8 +106,8 @@ class Proof:
             for part in PARTS:
                 if os.path.isdir(f"{it.folder}/{part}"):
                     shutil.copytree(f"{it.folder}/{part}", f"{there}/{part}")
-            kept = "out" if it is crate else "out/rlib"
-            linked(f"{it.folder}/{kept}", f"{there}/{kept}")
+            for kept in ("rlib", "incremental") if it is crate else ("rlib",):
+                linked(f"{it.folder}/out/{kept}", f"{there}/out/{kept}")
         shutil.copyfile(f"{TOP}/HANDLES", f"{self.place}/HANDLES")
         with open(f"{self.place}/crates.txt", "w", encoding="utf-8") as listed:
             listed.writelines(it.line for it in needed)
@@ -123,8 +131,11 @@ class Proof:
         """Puts what rt made in the place of what was there, while no other rt works on it."""
         held = os.open(self.crate.folder, os.O_RDONLY)
         fcntl.flock(held, fcntl.LOCK_EX)
-        shutil.rmtree(f"{self.crate.folder}/out", ignore_errors=True)
-        os.rename(f"{self.place}/crates/{self.crate.name}/out", f"{self.crate.folder}/out")
+        made, kept = f"{self.place}/crates/{self.crate.name}/out", f"{self.crate.folder}/out"
+        os.makedirs(kept, exist_ok=True)
+        for name in os.listdir(made):
+            removed(f"{kept}/{name}")
+            os.rename(f"{made}/{name}", f"{kept}/{name}")
         os.close(held)
         shutil.rmtree(self.place)
 
