@@ -14,7 +14,7 @@ use Rattle.clap.specs.declared.parser.matches.ArgMatches.TheViews.{out-ArgMatche
 use Rattle.command_line.specs.Said.{AllNumbers, IsNoCount, LacksNumber, Argument, Workers, Tries, IsWrong, Refused, NoCommand, NoNumber, procd_app, shows}
 use Rattle.command_line.specs.Said.{IsFlag, SaysCount, SaysNumber, SaysNumbers, SaysRun, SaysWish, value_of}
 use Rattle.command_line.specs.Task.{Wish, Exec, Asm, Dis, Verify, World, Run, command_name}
-use Rattle.command_line.specs.Joining.Wanted.{IsTaskOrNoMemory}
+use Rattle.command_line.specs.Wanted.{IsTaskOrNoMemory}
 use Rattle.command_line.specs.declared.words.Task.{Task}
 use Rattle.command_line.specs.declared.words.WordFault.{WordFault}
 

@@ -3,7 +3,7 @@
 ghost use Rattle.std.specs.Prelude.{◌≡◌, ℕ, Bool, List, [], true, false, Some, map, unwrap_or, IfOk, IfErr, IfSome, option_map, codes};
 ghost use Rattle.clap.specs.Words.{App, Row, app_of, with_subcommand, rule_of, kind_of, subcommand_of, subcommand_rows_of, takes, rows_of, found_of, first_of, all_of, fault_of, FailsBy};
 ghost use Rattle.clap.specs.declared.builder.command.Command.TheViews.{out-Command};
-ghost use Rattle.command_line.specs.Joining.Wanted.{WantsOrNoMemory, IsTaskOrNoMemory, IsNumbersOrNoMemory, IsWordFault, IsWrongOrNoMemory};
+ghost use Rattle.command_line.specs.Wanted.{WantsOrNoMemory, IsTaskOrNoMemory, IsNumbersOrNoMemory, IsWordFault, IsWrongOrNoMemory};
 ghost use Rattle.command_line.specs.Task.{Wish, Run, command_name};
 ghost use Rattle.command_line.specs.Said.{procd_app, exec_app, asm_app, dis_app, verify_app, world_app, run_app, file_rule, raw_rule, log_rule, audit_rule};
 ghost use Rattle.command_line.specs.Said.{count_rule, stats_rule, Says, SaysWish, SaysRun, SaysCount, SaysNumbers, AllNumbers, value_of};
