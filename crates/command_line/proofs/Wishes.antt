@@ -73,8 +73,8 @@ wants_exec name rows raw numbers is flag all (Exec r ns) named says = ap₂ Exec
 wants_exec name rows raw numbers is flag all Asm named says = absurd (exec_not_asm (sym is ∙ named))
 wants_exec name rows raw numbers is flag all (Dis r) named says = absurd (exec_not_dis (sym is ∙ named))
 wants_exec name rows raw numbers is flag all Verify named says = absurd (exec_not_verify (sym is ∙ named))
-wants_exec name rows raw numbers is flag all (World log) named says = absurd (exec_not_world (sym is ∙ named))
-wants_exec name rows raw numbers is flag all (Run workers tries stats) named says = absurd (exec_not_run (sym is ∙ named))
+wants_exec name rows raw numbers is flag all (World log audit) named says = absurd (exec_not_world (sym is ∙ named))
+wants_exec name rows raw numbers is flag all (Run workers tries stats audit) named says = absurd (exec_not_run (sym is ∙ named))
 
 pub wants_dis : (name : List ℕ) (rows : List Row) (raw : Bool) → name ≡ codes "dis" → ((r : Bool) → IsFlag r (one_of (codes "raw") rows) → raw ≡ r)
     → (wish : Wish) → name ≡ command_name wish → SaysWish rows wish → Dis raw ≡ wish
@@ -82,28 +82,29 @@ wants_dis name rows raw is flag (Exec r ns) named says = absurd (exec_not_dis (s
 wants_dis name rows raw is flag Asm named says = absurd (asm_not_dis (sym named ∙ is))
 wants_dis name rows raw is flag (Dis r) named says = ap Dis (flag r says)
 wants_dis name rows raw is flag Verify named says = absurd (dis_not_verify (sym is ∙ named))
-wants_dis name rows raw is flag (World log) named says = absurd (dis_not_world (sym is ∙ named))
-wants_dis name rows raw is flag (Run workers tries stats) named says = absurd (dis_not_run (sym is ∙ named))
+wants_dis name rows raw is flag (World log audit) named says = absurd (dis_not_world (sym is ∙ named))
+wants_dis name rows raw is flag (Run workers tries stats audit) named says = absurd (dis_not_run (sym is ∙ named))
 
-pub wants_world : (name : List ℕ) (rows : List Row) (log : Bool) → name ≡ codes "world"
+pub wants_world : (name : List ℕ) (rows : List Row) (log audit : Bool) → name ≡ codes "world"
     → ((l : Bool) → IsFlag l (one_of (codes "log") rows) → log ≡ l)
-    → (wish : Wish) → name ≡ command_name wish → SaysWish rows wish → World log ≡ wish
-wants_world name rows log is flag (Exec r ns) named says = absurd (exec_not_world (sym named ∙ is))
-wants_world name rows log is flag Asm named says = absurd (asm_not_world (sym named ∙ is))
-wants_world name rows log is flag (Dis r) named says = absurd (dis_not_world (sym named ∙ is))
-wants_world name rows log is flag Verify named says = absurd (verify_not_world (sym named ∙ is))
-wants_world name rows log is flag (World l) named says = ap World (flag l says)
-wants_world name rows log is flag (Run workers tries stats) named says = absurd (world_not_run (sym is ∙ named))
+    → ((a : Bool) → IsFlag a (one_of (codes "audit") rows) → audit ≡ a)
+    → (wish : Wish) → name ≡ command_name wish → SaysWish rows wish → World log audit ≡ wish
+wants_world name rows log audit is flag other (Exec r ns) named says = absurd (exec_not_world (sym named ∙ is))
+wants_world name rows log audit is flag other Asm named says = absurd (asm_not_world (sym named ∙ is))
+wants_world name rows log audit is flag other (Dis r) named says = absurd (dis_not_world (sym named ∙ is))
+wants_world name rows log audit is flag other Verify named says = absurd (verify_not_world (sym named ∙ is))
+wants_world name rows log audit is flag other (World l a) named says = ap₂ World (flag l says.0) (other a says.1)
+wants_world name rows log audit is flag other (Run workers tries stats a) named says = absurd (world_not_run (sym is ∙ named))
 
 pub wants_run : (name : List ℕ) (rows : List Row) (result : Result Task WordFault) → name ≡ codes "run"
-    → ((workers tries : ℕ) (stats : Bool) → SaysRun rows workers tries stats → IsTaskOrNoMemory (Run workers tries stats) result)
+    → ((workers tries : ℕ) (stats audit : Bool) → SaysRun rows workers tries stats audit → IsTaskOrNoMemory (Run workers tries stats audit) result)
     → (wish : Wish) → name ≡ command_name wish → SaysWish rows wish → IsTaskOrNoMemory wish result
 wants_run name rows result is all (Exec r ns) named says = absurd (exec_not_run (sym named ∙ is))
 wants_run name rows result is all Asm named says = absurd (asm_not_run (sym named ∙ is))
 wants_run name rows result is all (Dis r) named says = absurd (dis_not_run (sym named ∙ is))
 wants_run name rows result is all Verify named says = absurd (verify_not_run (sym named ∙ is))
-wants_run name rows result is all (World log) named says = absurd (world_not_run (sym named ∙ is))
-wants_run name rows result is all (Run workers tries stats) named says = all workers tries stats says
+wants_run name rows result is all (World log audit) named says = absurd (world_not_run (sym named ∙ is))
+wants_run name rows result is all (Run workers tries stats audit) named says = all workers tries stats audit says
 
 composed : {A B C : Type 0} (g : A → B) (f : B → C) (o : Option A) → option_map (λ a. f (g a)) o ≡ option_map f (option_map g o)
 composed g f None = refl

@@ -15,6 +15,9 @@ raw_rule = record (new_rule (codes "raw")) { long = Some (codes "raw"); action =
 abbrev pub log_rule : Rule
 log_rule = record (new_rule (codes "log")) { long = Some (codes "log"); action = Some SetTrue }
 
+abbrev pub audit_rule : Rule
+audit_rule = record (new_rule (codes "audit")) { long = Some (codes "audit"); action = Some SetTrue }
+
 abbrev pub file_rule : Rule
 file_rule = record (new_rule (codes "file")) { required = true; action = Some Set; value_names = 1 }
 
@@ -44,13 +47,17 @@ dis_app = with_rule (with_rule (new_app (codes "dis")) raw_rule) file_rule
 abbrev pub verify_app : App
 verify_app = with_rule (new_app (codes "verify")) file_rule
 
--- world [--log] FILE
+-- world [--log] [--audit] FILE
 abbrev pub world_app : App
-world_app = with_rule (with_rule (new_app (codes "world")) log_rule) file_rule
+world_app = with_rule (with_rule (with_rule (new_app (codes "world")) log_rule) audit_rule) file_rule
 
--- run [--workers N] [--tries N] [--stats] FILE
+-- run [--workers N] [--tries N]
+abbrev pub counted_app : App
+counted_app = with_rule (with_rule (new_app (codes "run")) (count_rule (codes "workers"))) (count_rule (codes "tries"))
+
+-- run [--workers N] [--tries N] [--stats] [--audit] FILE
 abbrev pub run_app : App
-run_app = with_rule (with_rule (with_rule (with_rule (new_app (codes "run")) (count_rule (codes "workers"))) (count_rule (codes "tries"))) stats_rule) file_rule
+run_app = with_rule (with_rule (with_rule counted_app stats_rule) audit_rule) file_rule
 
 -- the commands that take code
 abbrev pub code_app : App
@@ -86,9 +93,10 @@ SaysCount None default n = n ≡ default
 SaysCount (Some text) default n = SaysNumber text × (n ≡ value_of text)
 
 -- 4 workers and 3 tries, where nothing is said of them
-abbrev pub SaysRun : List Row → ℕ → ℕ → Bool → Type 0
-SaysRun rows workers tries stats =
-    SaysCount (first_of (codes "workers") rows) 4 workers × SaysCount (first_of (codes "tries") rows) 3 tries × IsFlag stats (one_of (codes "stats") rows)
+abbrev pub SaysRun : List Row → ℕ → ℕ → Bool → Bool → Type 0
+SaysRun rows workers tries stats audit =
+    SaysCount (first_of (codes "workers") rows) 4 workers × SaysCount (first_of (codes "tries") rows) 3 tries
+    × IsFlag stats (one_of (codes "stats") rows) × IsFlag audit (one_of (codes "audit") rows)
 
 -- what a command's rows say
 abbrev pub SaysWish : List Row → Wish → Type 0
@@ -96,8 +104,8 @@ SaysWish rows (Exec raw numbers) = IsFlag raw (one_of (codes "raw") rows) × Say
 SaysWish rows Asm = Unit {0}
 SaysWish rows (Dis raw) = IsFlag raw (one_of (codes "raw") rows)
 SaysWish rows Verify = Unit {0}
-SaysWish rows (World log) = IsFlag log (one_of (codes "log") rows)
-SaysWish rows (Run workers tries stats) = SaysRun rows workers tries stats
+SaysWish rows (World log audit) = IsFlag log (one_of (codes "log") rows) × IsFlag audit (one_of (codes "audit") rows)
+SaysWish rows (Run workers tries stats audit) = SaysRun rows workers tries stats audit
 
 -- the words are a command line of the program, and say this command with this file
 pub record Says (words : List Text) (file : Text) (wish : Wish) : Type 0 where

@@ -9,24 +9,24 @@ pub data Wish : Type 0 where
   Asm : Wish
   Dis : (raw : Bool) → Wish
   Verify : Wish
-  World : (log : Bool) → Wish
-  Run : (workers tries : ℕ) (stats : Bool) → Wish
+  World : (log audit : Bool) → Wish
+  Run : (workers tries : ℕ) (stats audit : Bool) → Wish
 
 abbrev pub command_name : Wish → List ℕ
 command_name (Exec raw numbers) = codes "exec"
 command_name Asm = codes "asm"
 command_name (Dis raw) = codes "dis"
 command_name Verify = codes "verify"
-command_name (World log) = codes "world"
-command_name (Run workers tries stats) = codes "run"
+command_name (World log audit) = codes "world"
+command_name (Run workers tries stats audit) = codes "run"
 
 abbrev pub wish_of : Task → Wish
 wish_of (task.Exec raw numbers) = Exec raw numbers.items
 wish_of task.Asm = Asm
 wish_of (task.Dis raw) = Dis raw
 wish_of task.Verify = Verify
-wish_of (task.World log) = World log
-wish_of (task.Run workers tries stats) = Run workers tries stats
+wish_of (task.World log audit) = World log audit
+wish_of (task.Run workers tries stats audit) = Run workers tries stats audit
 
 -- whether what is read has to be UTF-8
 abbrev pub reads_text : Wish → Bool
@@ -34,10 +34,10 @@ reads_text (Exec raw numbers) = false
 reads_text Asm = true
 reads_text (Dis raw) = false
 reads_text Verify = true
-reads_text (World log) = true
-reads_text (Run workers tries stats) = true
+reads_text (World log audit) = true
+reads_text (Run workers tries stats audit) = true
 
 -- whether there may be something to tell on standard error: a run that is asked for its figures
 abbrev pub may_tell : Wish → Bool
-may_tell (Run workers tries stats) = stats
+may_tell (Run workers tries stats audit) = stats
 may_tell other = false

@@ -5,7 +5,7 @@ ghost use Rattle.clap.specs.Words.{App, Row, app_of, with_subcommand, rule_of, k
 ghost use Rattle.clap.specs.declared.builder.command.Command.TheViews.{out-Command};
 ghost use Rattle.command_line.specs.Wanted.{WantsOrNoMemory, IsTaskOrNoMemory, IsNumbersOrNoMemory, IsWordFault, IsWrongOrNoMemory};
 ghost use Rattle.command_line.specs.Task.{Wish, Run, command_name};
-ghost use Rattle.command_line.specs.Said.{procd_app, exec_app, asm_app, dis_app, verify_app, world_app, run_app, file_rule, raw_rule, log_rule};
+ghost use Rattle.command_line.specs.Said.{procd_app, exec_app, asm_app, dis_app, verify_app, world_app, run_app, file_rule, raw_rule, log_rule, audit_rule};
 ghost use Rattle.command_line.specs.Said.{count_rule, stats_rule, Says, SaysWish, SaysRun, SaysCount, SaysNumbers, AllNumbers, value_of};
 ghost use Rattle.command_line.specs.Said.{IsWrong, IsNoCount, LacksNumber};
 
@@ -30,16 +30,20 @@ pub enum Task {
     },
     /// Verify the procedures of a script.
     Verify,
-    /// Take the steps of a script; with `log`, print each event of the log behind the rows.
+    /// Take the steps of a script; behind the rows, with `audit`, print what an audit finds, and with
+    /// `log` each event of the log.
     World {
         log: bool,
+        audit: bool,
     },
     /// Run the calls of a script by so many workers, and send each request so often at most. With
-    /// `stats` the figures of the run are told on standard error.
+    /// `stats` the figures of the run are told on standard error; with `audit` what an audit finds is
+    /// printed behind the rows.
     Run {
         workers: u64,
         tries: u64,
         stats: bool,
+        audit: bool,
     },
 }
 
@@ -161,13 +165,27 @@ fn log_arg<'a>(alloc: Global) -> Arg<'a>
         .help("Print each event of the log as well: 192 hex digits a line, the oldest first")
 }
 
-// `world [--log] FILE`
+// --audit
+fn audit_arg<'a>(alloc: Global) -> Arg<'a>
+    ensures rule { rule_of result ≡ audit_rule }
+    ensures local { result.global ≡ false }
+{
+    Arg::new(alloc, "audit")
+        .long("audit")
+        .action(ArgAction::SetTrue)
+        .help(
+            "Print what an audit of the log and the data components finds: `audit ok ..`, or why not",
+        )
+}
+
+// `world [--log] [--audit] FILE`
 fn world_command<'a>(alloc: Global) -> Result<Command<'a>, AllocError>
     ensures app { IfOk result (λ c. app_of c ≡ world_app) }
     ensures local { IfOk result (λ c. (out-Command c).has_globals ≡ false) }
 {
     Command::new(alloc, "world")
         .arg(log_arg(alloc))?
+        .arg(audit_arg(alloc))?
         .arg(file_arg(alloc, SCRIPT_HELP))
 }
 
@@ -194,7 +212,7 @@ fn stats_arg<'a>(alloc: Global) -> Arg<'a>
         .help("Tell on standard error how many calls were answered how, and how many a second")
 }
 
-// `run [--workers N] [--tries N] [--stats] FILE`
+// `run [--workers N] [--tries N] [--stats] [--audit] FILE`
 fn run_command<'a>(alloc: Global) -> Result<Command<'a>, AllocError>
     ensures app { IfOk result (λ c. app_of c ≡ run_app) }
     ensures local { IfOk result (λ c. (out-Command c).has_globals ≡ false) }
@@ -213,6 +231,7 @@ fn run_command<'a>(alloc: Global) -> Result<Command<'a>, AllocError>
         .arg(workers)?
         .arg(tries)?
         .arg(stats_arg(alloc))?
+        .arg(audit_arg(alloc))?
         .arg(file_arg(alloc, SCRIPT_HELP))
 }
 
@@ -327,7 +346,7 @@ fn number_or(matches: &ArgMatches, name: &str, default: u64) -> Result<u64, Word
 
 // How calls are to be run.
 fn run_task(matches: &ArgMatches) -> Result<Task, WordFault>
-    ensures task { (workers tries : ℕ) (stats : Bool) → SaysRun (rows_of (found_of matches.now)) workers tries stats → IsTaskOrNoMemory (Run workers tries stats) result }
+    ensures task { (workers tries : ℕ) (stats audit : Bool) → SaysRun (rows_of (found_of matches.now)) workers tries stats audit → IsTaskOrNoMemory (Run workers tries stats audit) result }
     ensures wrong { IfOk result (λ task. ¬ LacksNumber (codes "run") (rows_of (found_of matches.now))) }
     ensures err { IfErr result IsWordFault }
 {
@@ -337,6 +356,7 @@ fn run_task(matches: &ArgMatches) -> Result<Task, WordFault>
         workers,
         tries,
         stats: matches.get_flag("stats"),
+        audit: matches.get_flag("audit"),
     })
 }
 
@@ -358,6 +378,7 @@ fn task_of(alloc: Global, name: &str, matches: &ArgMatches) -> Result<Task, Word
         "verify" => Ok(Task::Verify),
         "world" => Ok(Task::World {
             log: matches.get_flag("log"),
+            audit: matches.get_flag("audit"),
         }),
         "run" => run_task(matches),
         _ => Err(WordFault::NoCommand),

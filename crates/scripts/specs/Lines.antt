@@ -20,7 +20,7 @@ use Rattle.scripts.specs.declared.fault.ScriptFault.TheVariants.{BadLine, Order,
 use Rattle.scripts.specs.declared.keyword.Command.{Command}
 use Rattle.scripts.specs.declared.keyword.Keyword.{Keyword}
 use Rattle.scripts.specs.declared.keyword.Keyword.TheVariants.{Dc, Proc, Slot, End, Admit, Ask, Undo, Resend, Perform}
-use Rattle.scripts.specs.declared.keyword.Keyword.TheVariants.{Take, Restart, Forge, First, Call}
+use Rattle.scripts.specs.declared.keyword.Keyword.TheVariants.{Take, Restart, Checkpoint, Tell, Redo, Forge, First, Call}
 use Rattle.scripts.specs.declared.line.Line.{Line}
 use Rattle.scripts.specs.declared.line.Line.TheVariants as line
 use Rattle.scripts.specs.declared.script.Step.{Step}
@@ -75,9 +75,9 @@ one_number count number = with_words 1 count (decimal_said number)
 abbrev pub in_step : (ℕ → Step) → Result ℕ ScriptFault → Result Line ScriptFault
 in_step make number = and_then number (λ n. Ok (line.Step (make n)))
 
--- restart D
-abbrev pub restart_said : ℕ → List ℕ → Result Step ScriptFault
-restart_said count dc = with_words 1 count (and_then (number_to 65535 dc) (λ d. Ok (step.Restart d)))
+-- the one data component of a line
+abbrev pub one_dc : ℕ → List ℕ → Result ℕ ScriptFault
+one_dc count dc = with_words 1 count (number_to 65535 dc)
 
 -- what is said in one word
 abbrev pub plain_answer : List ℕ → Result Said ScriptFault
@@ -97,10 +97,10 @@ answer_said count word second third =
     if (count == 4) && (bytes_eq word (codes "done") && bytes_eq second (codes "was")) then and_then (decimal_said third) (λ n. Ok (said.Done (Some (value_of n)))) else
     Err BadLine
 
--- forge NUMBER SAID
+-- forge NUMBER SAID: a reply of incarnation 0
 abbrev pub forge_said : ℕ → List ℕ → List ℕ → List ℕ → List ℕ → Result Step ScriptFault
 forge_said count number word second third =
-    and_then (answer_said count word second third) (λ answer. and_then (decimal_said number) (λ n. Ok (step.Forge (record { number = n; said = answer }))))
+    and_then (answer_said count word second third) (λ answer. and_then (decimal_said number) (λ n. Ok (step.Forge (record { number = n; incarnation = 0; said = answer }))))
 
 abbrev pub as_step : Result Step ScriptFault → Result Line ScriptFault
 as_step said = and_then said (λ s. Ok (line.Step s))
@@ -117,7 +117,10 @@ fixed_by Undo is_step count a b c d = in_step step.Undo (one_number count a)
 fixed_by Resend is_step count a b c d = in_step step.Resend (one_number count a)
 fixed_by Perform is_step count a b c d = in_step step.Perform (one_number count a)
 fixed_by Take is_step count a b c d = in_step step.Take (one_number count a)
-fixed_by Restart is_step count a b c d = as_step (restart_said count a)
+fixed_by Restart is_step count a b c d = in_step step.Restart (one_dc count a)
+fixed_by Checkpoint is_step count a b c d = in_step step.Checkpoint (one_dc count a)
+fixed_by Tell is_step count a b c d = in_step step.Tell (one_number count a)
+fixed_by Redo is_step count a b c d = in_step step.Redo (one_dc count a)
 fixed_by Forge is_step count a b c d = as_step (forge_said count a b c d)
 fixed_by First is_step count a b c d = Err BadLine
 fixed_by Call is_step count a b c d = Err BadLine
@@ -146,6 +149,9 @@ known_said Resend is_step words = fixed_said Resend is_step words
 known_said Perform is_step words = fixed_said Perform is_step words
 known_said Take is_step words = fixed_said Take is_step words
 known_said Restart is_step words = fixed_said Restart is_step words
+known_said Checkpoint is_step words = fixed_said Checkpoint is_step words
+known_said Tell is_step words = fixed_said Tell is_step words
+known_said Redo is_step words = fixed_said Redo is_step words
 known_said Forge is_step words = fixed_said Forge is_step words
 known_said First is_step words = called_by line.First words
 known_said Call is_step words = called_by line.Call words

@@ -28,12 +28,15 @@ pub enum Keyword {
     Perform,
     Take,
     Restart,
+    Checkpoint,
+    Tell,
+    Redo,
     Forge,
     First,
     Call,
 }
 
-const KEYWORDS: [Keyword; 14] = [
+const KEYWORDS: [Keyword; 17] = [
     Keyword::Dc,
     Keyword::Proc,
     Keyword::Slot,
@@ -45,6 +48,9 @@ const KEYWORDS: [Keyword; 14] = [
     Keyword::Perform,
     Keyword::Take,
     Keyword::Restart,
+    Keyword::Checkpoint,
+    Keyword::Tell,
+    Keyword::Redo,
     Keyword::Forge,
     Keyword::First,
     Keyword::Call,
@@ -79,6 +85,9 @@ impl Keyword {
             Keyword::Perform => "perform",
             Keyword::Take => "take",
             Keyword::Restart => "restart",
+            Keyword::Checkpoint => "checkpoint",
+            Keyword::Tell => "tell",
+            Keyword::Redo => "redo",
             Keyword::Forge => "forge",
             Keyword::First => "first",
             Keyword::Call => "call",

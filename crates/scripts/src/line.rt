@@ -3,7 +3,7 @@
 ghost use Rattle.std.specs.Prelude.{◌≡◌};
 ghost use Rattle.scripts.specs.Words.{words_of};
 ghost use Rattle.scripts.specs.Numbers.{Gives, number_to};
-ghost use Rattle.scripts.specs.Lines.{value_of, dc_said, proc_said, mode_said, key_said, slot_said, end_said, one_number, restart_said, plain_answer, answer_said, forge_said};
+ghost use Rattle.scripts.specs.Lines.{value_of, dc_said, proc_said, mode_said, key_said, slot_said, end_said, one_number, one_dc, plain_answer, answer_said, forge_said};
 ghost use Rattle.scripts.specs.Lines.{fixed_by, named_said, known_said, foreign_fault, assembly_said, inside_said, outside_said, line_said};
 ghost use Rattle.scripts.specs.Keywords.{keyword_said};
 
@@ -130,14 +130,14 @@ fn one_number(words: &Words) -> Result<u64, ScriptFault>
     decimal(words.first)
 }
 
-// `restart D`
-fn restart(words: &Words) -> Result<Step, ScriptFault>
-    ensures { result ≡ restart_said words.now.count words.now.first.now }
+// The one data component of a line.
+fn one_dc(words: &Words) -> Result<u16, ScriptFault>
+    ensures { result ≡ one_dc words.now.count words.now.first.now }
 {
     if words.count != 1 {
         return Err(ScriptFault::BadLine);
     }
-    Ok(Step::Restart(short_number(words.first)?))
+    short_number(words.first)
 }
 
 // What is said in one word.
@@ -177,13 +177,14 @@ fn answer(words: &Words) -> Result<Said, ScriptFault>
     }
 }
 
-// `forge NUMBER SAID`
+// `forge NUMBER SAID`: a reply of incarnation 0.
 fn forge(words: &Words) -> Result<Step, ScriptFault>
     ensures { result ≡ forge_said words.now.count words.now.first.now words.now.second.now words.now.third.now words.now.fourth.now }
 {
     let said = answer(words)?;
     Ok(Step::Forge(Reply {
         number: decimal(words.first)?,
+        incarnation: 0,
         said,
     }))
 }
@@ -213,7 +214,10 @@ fn fixed<'a>(keyword: Keyword, is_step: bool, words: &Words<'a>) -> Result<Line<
         Keyword::Resend => Ok(Line::Step(Step::Resend(one_number(words)?))),
         Keyword::Perform => Ok(Line::Step(Step::Perform(one_number(words)?))),
         Keyword::Take => Ok(Line::Step(Step::Take(one_number(words)?))),
-        Keyword::Restart => Ok(Line::Step(restart(words)?)),
+        Keyword::Restart => Ok(Line::Step(Step::Restart(one_dc(words)?))),
+        Keyword::Checkpoint => Ok(Line::Step(Step::Checkpoint(one_dc(words)?))),
+        Keyword::Tell => Ok(Line::Step(Step::Tell(one_number(words)?))),
+        Keyword::Redo => Ok(Line::Step(Step::Redo(one_dc(words)?))),
         Keyword::Forge => Ok(Line::Step(forge(words)?)),
         Keyword::Admit | Keyword::First | Keyword::Call => Err(ScriptFault::BadLine),
     }

@@ -57,6 +57,12 @@ pub enum Step {
     Take(u64),
     /// The data component of this number.
     Restart(u16),
+    /// The data component of this number.
+    Checkpoint(u16),
+    /// The news at this place, from 0.
+    Tell(u64),
+    /// The data component of this number.
+    Redo(u16),
     Forge(Reply),
 }
 

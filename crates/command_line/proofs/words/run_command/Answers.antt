@@ -9,11 +9,13 @@ returns-clause-app c =
     let first = c.in_ok-arg.ensures.shape c.count_arg-workers.ensures.local ∙ ap₂ with_rule c.new.ensures.app c.count_arg-workers.ensures.rule in
     let second = c.in_ok-arg-2.ensures.shape c.count_arg-tries.ensures.local ∙ ap₂ with_rule first c.count_arg-tries.ensures.rule in
     let third = c.in_ok-arg-3.ensures.shape c.stats_arg.ensures.local ∙ ap₂ with_rule second c.stats_arg.ensures.rule in
-    IfOk-weaker c.arg-4.result _ _ (λ r h. h.shape c.file_arg.ensures.local ∙ ap₂ with_rule third c.file_arg.ensures.rule) c.arg-4.ensures
+    let fourth = c.in_ok-arg-4.ensures.shape c.audit_arg.ensures.local ∙ ap₂ with_rule third c.audit_arg.ensures.rule in
+    IfOk-weaker c.arg-5.result _ _ (λ r h. h.shape c.file_arg.ensures.local ∙ ap₂ with_rule fourth c.file_arg.ensures.rule) c.arg-5.ensures
 
 pub returns-clause-local : goal.returns-clause-local
 returns-clause-local c =
     let first = still_local _ _ _ c.in_ok-arg.ensures.globals c.new.ensures.local c.count_arg-workers.ensures.local in
     let second = still_local _ _ _ c.in_ok-arg-2.ensures.globals first c.count_arg-tries.ensures.local in
     let third = still_local _ _ _ c.in_ok-arg-3.ensures.globals second c.stats_arg.ensures.local in
-    IfOk-weaker c.arg-4.result _ _ (λ r h. still_local _ _ _ h.globals third c.file_arg.ensures.local) c.arg-4.ensures
+    let fourth = still_local _ _ _ c.in_ok-arg-4.ensures.globals third c.audit_arg.ensures.local in
+    IfOk-weaker c.arg-5.result _ _ (λ r h. still_local _ _ _ h.globals fourth c.file_arg.ensures.local) c.arg-5.ensures

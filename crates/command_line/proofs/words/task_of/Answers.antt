@@ -27,7 +27,9 @@ returns-in-world-clause-task c =
     let found = found_of c.args.matches.now in
     let text = one_text-rows found (codes "log") in
     let flag = flag_is (one_of (codes "log") (rows_of found)) c.get_flag-in-world.result (λ e. c.get_flag-in-world.ensures.none (text ∙ e)) (λ e. c.get_flag-in-world.ensures.value (text ∙ e)) (λ e. c.get_flag-in-world.ensures.other (text ∙ e)) in
-    wants_world c.args.name.now (rows_of found) c.get_flag-in-world.result c.in-world.is flag
+    let audit_text = one_text-rows found (codes "audit") in
+    let audited = flag_is (one_of (codes "audit") (rows_of found)) c.get_flag-in-world-2.result (λ e. c.get_flag-in-world-2.ensures.none (audit_text ∙ e)) (λ e. c.get_flag-in-world-2.ensures.value (audit_text ∙ e)) (λ e. c.get_flag-in-world-2.ensures.other (audit_text ∙ e)) in
+    wants_world c.args.name.now (rows_of found) c.get_flag-in-world.result c.get_flag-in-world-2.result c.in-world.is flag audited
 
 pub returns-in-run-clause-task : goal.returns-in-run-clause-task
 returns-in-run-clause-task c = wants_run c.args.name.now (rows_of (found_of c.args.matches.now)) c.run_task.result c.in-run.is c.run_task.ensures.task
