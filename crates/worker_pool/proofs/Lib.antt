@@ -1,7 +1,9 @@
 pub mod Lists
 pub mod Placed
 pub mod Doubtful
+pub mod GivenUp
 pub mod Refusing
 pub mod Steps
 pub mod Reported
 pub mod Serving
+pub mod Carrying

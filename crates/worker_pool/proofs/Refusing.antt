@@ -10,7 +10,7 @@ use Rattle.tc_log.specs.declared.event.Event.{Event}
 use Rattle.tc_log.specs.declared.event.Event.TheVariants.{Admit, Ask, Answer, Undo, End}
 use Rattle.history.specs.Calls.{Call, admitted, open_call, locks_of, held_for}
 use Rattle.history.specs.Flight.{given}
-use Rattle.history.specs.Places.{StandsAt}
+use Rattle.history.specs.Places.{StandsAt, Begins}
 use Rattle.lock_table.specs.declared.table.Busy.{Busy}
 use Rattle.verifier.specs.Checked.{Checked}
 use Rattle.verifier.specs.Calls.{is_call_place}
@@ -22,8 +22,10 @@ use Rattle.tc_core.specs.Admission.{IsCalled, Takes, IsRefused, needed}
 use Rattle.tc_core.specs.declared.state.Refusal.{Refusal}
 use Rattle.tc_core.specs.declared.state.Refusal.TheVariants as refusal
 use Rattle.transactions.proofs.StandingLemmas.{eq-true, eq-false, some_same}
-use Rattle.worker_pool.specs.Answers.{IsBlocked, AdmitRefusalFits}
-use Rattle.worker_pool.specs.Kept.{StaysBut}
+use Rattle.tc_core.specs.Blocked as stranded
+use Rattle.worker_pool.specs.declared.answer.Answer.TheVariants.{Blocked}
+use Rattle.worker_pool.specs.Answers.{StaysBut, AdmitRefusalFits, AnswerFits}
+use Rattle.worker_pool.proofs.GivenUp.{begin_same}
 use Rattle.worker_pool.proofs.Placed.{stands_more, stands_here}
 
 takes_start : (start c : Core) (call : Call) → c.procs ≡ start.procs → Takes c call → Takes start call
@@ -61,12 +63,36 @@ no_exclude : (wanted : Option Mode) → excludes wanted None ≡ true → ⊥
 no_exclude None is = cc
 no_exclude (Some m) is = cc
 
-barred : (start c : Core) (call : Call) (b : Busy) (o : Option Call) → Takes start call → open_call c.events b.holder ≡ o
-    → excludes (locks_of (decls start.procs) call b.name) (held_for (decls start.procs) o b.name) ≡ true → IsBlocked start c.events call None b
-barred start c call b None takes is stands = absurd (no_exclude (locks_of (decls start.procs) call b.name) stands)
-barred start c call b (Some other) takes is stands =
-    let was = open_admitted c.events b.holder other is in
-    record { waits = refl; takes = takes; other = other; place = was.place; admitted = was.at; excluded = stands }
+-- the call that a holder was admitted with, and where
+record Holding (start c : Core) (call : Call) (b : Busy) : Type 0 where
+  other : Call
+  was : WasAdmitted c.events b.holder other
+  excluded : excludes (locks_of (decls start.procs) call b.name) (locks_of (decls start.procs) other b.name) ≡ true
+
+holding : (start c : Core) (call : Call) (b : Busy) (o : Option Call) → open_call c.events b.holder ≡ o
+    → excludes (locks_of (decls start.procs) call b.name) (held_for (decls start.procs) o b.name) ≡ true → Holding start c call b
+holding start c call b None is stands = absurd (no_exclude (locks_of (decls start.procs) call b.name) stands)
+holding start c call b (Some other) is stands = record { other = other; was = open_admitted c.events b.holder other is; excluded = stands }
+
+-- a call that isn't admitted, where all that stand in its way are in doubt or stuck
+pub blocked_fits : (start c : Core) (call : Call) (b : Busy) → StaysBut start c → Begins start.events c.events
+    → IsRefused c call (refusal.Busy b) → stranded.IsBlocked c call → AnswerFits start c call (Blocked b) None
+blocked_fits start c call b stays begins it blocked =
+    let same : c.procs ≡ start.procs = ap (λ (s : Core). s.procs) stays in
+    let holder = holding start c call b (open_call c.events b.holder) refl
+    (subst (λ (ps : List Checked). excludes (locks_of (decls ps) call b.name) (held_for (decls ps) (open_call c.events b.holder) b.name) ≡ true) same it.1.stands) in
+    record {
+      waits = refl;
+      takes = takes_start start c call same it.0;
+      then = c;
+      moment = record { stays = stays; begins = begins; goes_on = record { later = []; is = refl }; given_up = begin_same c.given_up };
+      blocked = blocked;
+      first = it.1;
+      other = holder.other;
+      place = holder.was.place;
+      admitted = holder.was.at;
+      excluded = holder.excluded;
+    }
 
 -- ---- numbers
 
@@ -94,13 +120,10 @@ too_many : (c : Core) (q : Checked) → AllGood c.procs → IsGood q → 2 ^ 62 
 too_many c q good one many = (let few = calls_few q one in let all = total_few c.procs c.events good in omega arith)
 
 pub refused : (start c : Core) (call : Call) (why : Refusal) → StaysBut start c → AllGood c.procs
-    → IsRefused c call why → AdmitRefusalFits start c.events call why
+    → IsRefused c call why → AdmitRefusalFits start c call why
 refused start c call refusal.NoProcedure stays good it = ap (λ (s : Core). slice_get s.procs call.proc) (sym stays) ∙ it
 refused start c call refusal.ArgumentCount stays good it = (it.0, ap (λ (s : Core). slice_get s.procs call.proc) (sym stays) ∙ it.1, it.2)
-refused start c call (refusal.Busy b) stays good it =
-    let same : c.procs ≡ start.procs = ap (λ (s : Core). s.procs) stays in
-    barred start c call b (open_call c.events b.holder) (takes_start start c call same it.0) refl
-    (subst (λ (ps : List Checked). excludes (locks_of (decls ps) call b.name) (held_for (decls ps) (open_call c.events b.holder) b.name) ≡ true) same it.1.stands)
+refused start c call (refusal.Busy b) stays good it = it
 refused start c call refusal.NumbersSpent stays good it =
     let same : c.procs ≡ start.procs = ap (λ (s : Core). s.procs) stays in
     (takes_start start c call same it.0, too_many c it.0.q good (good call.proc it.0.q it.0.is.loaded) it.2)

@@ -99,7 +99,7 @@ reported start calls state ps answers keeps legal told = record {
         let both : Some m.p ≡ Some (Answered a it.txn) = sym m.at ∙ it.at in
         let same : m.p ≡ Answered a it.txn = cc in
         let txn : serial_of it.txn ≡ o = sym (ap txn_of same) ∙ m.is in
-        subst (AnswerFits start state.events (call_of c) a) txn (keeps.fits k (Answered a it.txn) c it.at of);
+        subst (AnswerFits start state (call_of c) a) txn (keeps.fits k (Answered a it.txn) c it.at of);
     own = λ i j t a b.
         let x = mapped_at ps i (Some t) a in
         let y = mapped_at ps j (Some t) b in

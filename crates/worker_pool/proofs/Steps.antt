@@ -17,11 +17,19 @@ use Rattle.history.specs.Calls as named
 use Rattle.history.specs.Flight.{given}
 use Rattle.history.specs.Places.{StandsAt}
 use Rattle.verifier.specs.Checked.{Checked}
+use Rattle.access_slots.specs.declared.op.News.{News}
+use Rattle.transactions.specs.declared.Site.{Site}
 use Rattle.transactions.specs.Standing.{Standing, standing, moved}
 use Rattle.transactions.proofs.StandingLemmas.{standing-same, standing-other}
 use Rattle.tc_core.specs.Core.{Core, Asking}
 use Rattle.tc_core.specs.Admission.{IsCalled, Takes, IsAdmissible}
 use Rattle.tc_core.specs.Replies.{with_event, after_ask, after_undo, after_answer, end_reply, after_end}
+use Rattle.tc_core.specs.GivingUp.{IsOpenHere, with_given_up}
+use Rattle.tc_core.specs.Redo.{after_told, up_again, after_redo, redone_at, after_redone}
+use Rattle.tc_core.specs.declared.state.NewsFault.{NewsFault}
+use Rattle.tc_core.specs.declared.state.Redo.{Redo}
+use Rattle.tc_core.specs.declared.state.Redo.TheVariants as redo
+use Rattle.tc_core.specs.declared.state.Stranger2.{Stranger2}
 use Rattle.tc_core.specs.declared.state.Receipt.{Receipt}
 use Rattle.tc_core.specs.declared.state.Stranger.{Stranger}
 use Rattle.tc_core.specs.declared.state.Call.{Call}
@@ -36,8 +44,8 @@ use Rattle.worker_pool.specs.declared.answer.Progress.{Progress}
 use Rattle.worker_pool.specs.declared.answer.Progress.TheVariants.{Waiting, Begun, Answered}
 use Rattle.tc_core.specs.Admission.{call_of}
 use Rattle.worker_pool.specs.Answers.{place_of, has_place, is_some, answer_of, StandsBehind, IsAdmitted, Sends}
-use Rattle.worker_pool.specs.Answers.{IsEnded, IsInDoubt, IsBlocked, RefusalFits, AnswerFits}
-use Rattle.worker_pool.specs.Kept.{ends, serial_of, txn_of, place_in, is_placed, IsOpen, IsBegun, Fits, IsOfCall, StaysBut, Keeps}
+use Rattle.worker_pool.specs.Answers.{IsEnded, IsInDoubt, RefusalFits, StaysBut, BeginWith, IsMoment, IsBlocked, AnswerFits}
+use Rattle.worker_pool.specs.Kept.{ends, serial_of, txn_of, place_in, is_placed, IsOpen, IsBegun, Fits, IsOfCall, Keeps}
 use Rattle.worker_pool.specs.Joining.Seen.{IsAnswered, AnswersStay}
 use Rattle.worker_pool.specs.Joining.Moves.{MovesOn}
 use Rattle.worker_pool.specs.declared.desk.Next.{Next}
@@ -46,6 +54,7 @@ use Rattle.worker_pool.proofs.Lists.{get_set, set_here, set_other, length_set, c
 use Rattle.worker_pool.proofs.Placed.{stands_more, stands_here, stood, stands_within, begins_more, begins_length}
 use Rattle.worker_pool.specs.Doubts.{IsDoubtful}
 use Rattle.worker_pool.proofs.Doubtful.{sends_more, doubtful_sent}
+use Rattle.worker_pool.proofs.GivenUp.{begin_same, begin_then, given_up_more}
 
 -- ---- one event more
 
@@ -64,7 +73,7 @@ given_more h (Undo t n o) = omega arith
 given_more h (End t o) = omega arith
 
 stays_more : (start c : Core) (e : Event) → StaysBut start c → StaysBut start (with_event c e)
-stays_more start c e stays = ap (λ (s : Core). record s { events = e ∷ c.events; given_up = c.given_up }) stays
+stays_more start c e stays = ap (λ (s : Core). record s { events = e ∷ c.events; given_up = c.given_up; sites = c.sites }) stays
 
 behind_more : (first h : List Event) (e : Event) (place : ℕ) (x : Event) → StandsBehind first h place x → StandsBehind first (e ∷ h) place x
 behind_more first h e place x at = record { behind = at.behind; stands = stands_more h e place x at.stands }
@@ -85,30 +94,76 @@ refusal_more start h e c (refusal.Busy b) it = it
 refusal_more start h e c refusal.NumbersSpent it = (it.0, (let many = it.1 in omega (arith, admitted_more h e, given_more h e, many)))
 refusal_more start h e c refusal.Memory it = it
 
-answer_more : (start : Core) (h : List Event) (e : Event) (c : named.Call) (a : Answer) (o : Option ℕ)
-    → AnswerFits start h c a o → AnswerFits start (e ∷ h) c a o
-answer_more start h e c (Committed p) o it = ended_more start h e c o p outcome.Committed it
-answer_more start h e c (Aborted v p) o it = ended_more start h e c o p (outcome.Aborted v) it
-answer_more start h e c (NoRoom p) o it = ended_more start h e c o p outcome.NoRoom it
-answer_more start h e c (InDoubt n) o it =
-    record { t = it.t; own = it.own; takes = it.takes; admitted = is_admitted_more start.events h e c it.t it.admitted; sent = sends_more start.events h e it.t n it.sent }
-answer_more start h e c (Blocked b) o it =
+-- one event more is one moment more
+moment_more : (start then now : Core) (e : Event) → IsMoment start then now → IsMoment start then (with_event now e)
+moment_more start then now e m = record { stays = m.stays; begins = m.begins; goes_on = begins_more then.events now.events e m.goes_on; given_up = m.given_up }
+
+answer_more : (start now : Core) (e : Event) (c : named.Call) (a : Answer) (o : Option ℕ)
+    → AnswerFits start now c a o → AnswerFits start (with_event now e) c a o
+answer_more start now e c (Committed p) o it = ended_more start now.events e c o p outcome.Committed it
+answer_more start now e c (Aborted v p) o it = ended_more start now.events e c o p (outcome.Aborted v) it
+answer_more start now e c (NoRoom p) o it = ended_more start now.events e c o p outcome.NoRoom it
+answer_more start now e c (InDoubt n) o it =
+    record {
+      t = it.t;
+      own = it.own;
+      takes = it.takes;
+      admitted = is_admitted_more start.events now.events e c it.t it.admitted;
+      sent = sends_more start.events now.events e it.t n it.sent;
+    }
+answer_more start now e c (Blocked b) o it =
     record {
       waits = it.waits;
       takes = it.takes;
+      then = it.then;
+      moment = moment_more start it.then now e it.moment;
+      blocked = it.blocked;
+      first = it.first;
       other = it.other;
       place = it.place;
-      admitted = stands_more h e it.place (Admit b.holder it.other.proc it.other.args) it.admitted;
+      admitted = stands_more now.events e it.place (Admit b.holder it.other.proc it.other.args) it.admitted;
       excluded = it.excluded;
     }
-answer_more start h e c (Refused why) o it = (it.0, refusal_more start h e c why it.1)
+answer_more start now e c (Refused why) o it = (it.0, refusal_more start now.events e c why it.1)
 
 -- where the transaction stays open
-fits_more : (start : Core) (h : List Event) (e : Event) (c : named.Call) (p : Progress)
-    → ((t : ℕ) → txn_of p ≡ Some t → IsOpen h t → IsOpen (e ∷ h) t) → Fits start h c p → Fits start (e ∷ h) c p
-fits_more start h e c Waiting still it = it
-fits_more start h e c (Begun t) still it = record { takes = it.takes; admitted = is_admitted_more start.events h e c t.serial it.admitted; still = still t.serial refl it.still }
-fits_more start h e c (Answered a o) still it = answer_more start h e c a (serial_of o) it
+fits_more : (start now : Core) (e : Event) (c : named.Call) (p : Progress)
+    → ((t : ℕ) → txn_of p ≡ Some t → IsOpen now.events t → IsOpen (e ∷ now.events) t) → Fits start now c p → Fits start (with_event now e) c p
+fits_more start now e c Waiting still it = it
+fits_more start now e c (Begun t) still it =
+    record { takes = it.takes; admitted = is_admitted_more start.events now.events e c t.serial it.admitted; still = still t.serial refl it.still }
+fits_more start now e c (Answered a o) still it = answer_more start now e c a (serial_of o) it
+
+-- ---- no event, but numbers given up or news of data components
+
+-- numbers given up stay, and sites are another matter
+answer_beside : (start now : Core) (numbers : List ℕ) (sites : List Site) (c : named.Call) (a : Answer) (o : Option ℕ)
+    → BeginWith now.given_up numbers → AnswerFits start now c a o → AnswerFits start (record now { given_up = numbers; sites = sites }) c a o
+answer_beside start now numbers sites c (Committed p) o more it = it
+answer_beside start now numbers sites c (Aborted v p) o more it = it
+answer_beside start now numbers sites c (NoRoom p) o more it = it
+answer_beside start now numbers sites c (InDoubt n) o more it = it
+answer_beside start now numbers sites c (Blocked b) o more it =
+    let m = it.moment in
+    record {
+      waits = it.waits;
+      takes = it.takes;
+      then = it.then;
+      moment = record { stays = m.stays; begins = m.begins; goes_on = m.goes_on; given_up = begin_then it.then.given_up now.given_up numbers m.given_up more };
+      blocked = it.blocked;
+      first = it.first;
+      other = it.other;
+      place = it.place;
+      admitted = it.admitted;
+      excluded = it.excluded;
+    }
+answer_beside start now numbers sites c (Refused why) o more it = it
+
+fits_beside : (start now : Core) (numbers : List ℕ) (sites : List Site) (c : named.Call) (p : Progress)
+    → BeginWith now.given_up numbers → Fits start now c p → Fits start (record now { given_up = numbers; sites = sites }) c p
+fits_beside start now numbers sites c Waiting more it = it
+fits_beside start now numbers sites c (Begun t) more it = it
+fits_beside start now numbers sites c (Answered a o) more it = answer_beside start now numbers sites c a (serial_of o) more it
 
 -- another's event leaves a transaction open
 open_other : (h : List Event) (e : Event) (t : ℕ) → named.txn_of e ≢ t → IsOpen h t → IsOpen (e ∷ h) t
@@ -158,14 +213,14 @@ no_place p place none is = (let bad : None ≡ Some place = sym none ∙ is in c
 -- nothing happened: a call is answered with no place, and keeps its transaction
 pub told : (start : Core) (calls : List Call) (state : Core) (ps : List Progress) (k : ℕ) (p p' : Progress) (c : Call)
     → Keeps start calls state ps → slice_get ps k ≡ Some p → slice_get calls k ≡ Some c
-    → Fits start state.events (call_of c) p' → txn_of p' ≡ txn_of p → place_in p ≡ None → place_in p' ≡ None
+    → Fits start state (call_of c) p' → txn_of p' ≡ txn_of p → place_in p ≡ None → place_in p' ≡ None
     → Keeps start calls state (set ps k p')
 told start calls state ps k p p' c keeps at of fits same was none = record {
   stays = keeps.stays;
   begins = keeps.begins;
   one_each = length_set ps k p' ∙ keeps.one_each;
   fits = λ i q d at' of'. elim (get_set ps k i p' q at') [
-    | inl x ↦ subst (λ (y : Progress). Fits start state.events (call_of d) y) x.1 (subst (λ (y : Call). Fits start state.events (call_of y) p') (same_call calls k i c d of x.0 of') fits)
+    | inl x ↦ subst (λ (y : Progress). Fits start state (call_of d) y) x.1 (subst (λ (y : Call). Fits start state (call_of y) p') (same_call calls k i c d of x.0 of') fits)
     | inr x ↦ keeps.fits i q d x.1 of'
   ];
   recent = λ i q t at' own. let o = owner ps k p p' at same i q t at' own in keeps.recent i o.progress t o.at o.own;
@@ -231,7 +286,7 @@ grown start calls state ps e quiet keeps =
       stays = stays_more start state e keeps.stays;
       begins = begins_more start.events h e keeps.begins;
       one_each = keeps.one_each;
-      fits = λ k p c at of. fits_more start h e (call_of c) p (λ t own. quiet.still t) (keeps.fits k p c at of);
+      fits = λ k p c at of. fits_more start state e (call_of c) p (λ t own. quiet.still t) (keeps.fits k p c at of);
       recent = λ k p t at own. let old = keeps.recent k p t at own in omega (arith, old, admitted_more h e);
       own = keeps.own;
       known = λ place t proc args low stands. elim (stood h e place (Admit t proc args) stands) [
@@ -274,24 +329,61 @@ pub heard : (start : Core) (calls : List Call) (old new : Core) (ps : List Progr
 heard start calls old new ps r said (Ok x) ok err keeps = rw ok (answered start calls old ps r said keeps)
 heard start calls old new ps r said (Err s) ok err keeps = rw err keeps
 
+-- no event, but more numbers given up, or something else known of data components
+beside : (start : Core) (calls : List Call) (old : Core) (ps : List Progress) (numbers : List ℕ) (sites : List Site)
+    → BeginWith old.given_up numbers → Keeps start calls old ps → Keeps start calls (record old { given_up = numbers; sites = sites }) ps
+beside start calls old ps numbers sites more keeps = record {
+  stays = ap (λ (s : Core). record s { events = old.events; given_up = numbers; sites = sites }) keeps.stays;
+  begins = keeps.begins;
+  one_each = keeps.one_each;
+  fits = λ k p c at of. fits_beside start old numbers sites (call_of c) p more (keeps.fits k p c at of);
+  recent = keeps.recent;
+  own = keeps.own;
+  known = keeps.known;
+  below = keeps.below;
+  places = keeps.places;
+  ends_placed = keeps.ends_placed;
+}
+
 -- a number more is given up, or none
-pub gave_up : (start : Core) (calls : List Call) (old new : Core) (ps : List Progress)
+pub gave_up : (start : Core) (calls : List Call) (old new : Core) (ps : List Progress) (r : Asking)
+    → (IsOpenHere old r → new ≡ with_given_up old r.number) → ((IsOpenHere old r → ⊥) → new ≡ old)
     → new ≡ record old { given_up = new.given_up } → Keeps start calls old ps → Keeps start calls new ps
-gave_up start calls old new ps rest keeps =
-    let stays : StaysBut start (record old { given_up = new.given_up }) = ap (λ (s : Core). record s { events = old.events; given_up = new.given_up }) keeps.stays in
-    let more : Keeps start calls (record old { given_up = new.given_up }) ps = record {
-      stays = stays;
-      begins = keeps.begins;
-      one_each = keeps.one_each;
-      fits = keeps.fits;
-      recent = keeps.recent;
-      own = keeps.own;
-      known = keeps.known;
-      below = keeps.below;
-      places = keeps.places;
-      ends_placed = keeps.ends_placed;
-    } in
-    subst (λ (s : Core). Keeps start calls s ps) (sym rest) more
+gave_up start calls old new ps r here elsewhere rest keeps =
+    subst (λ (s : Core). Keeps start calls s ps) (sym rest)
+    (beside start calls old ps new.given_up old.sites (given_up_more old new r here elsewhere) keeps)
+
+-- something else is known of data components
+sited : (start : Core) (calls : List Call) (old : Core) (ps : List Progress) (sites : List Site)
+    → Keeps start calls old ps → Keeps start calls (record old { sites = sites }) ps
+sited start calls old ps sites keeps = beside start calls old ps old.given_up sites (begin_same old.given_up) keeps
+
+pub restart_told : (start : Core) (calls : List Call) (old new : Core) (ps : List Progress) (d : ℕ) (news : News) (result : Result Unit NewsFault)
+    → OnOk result (new ≡ after_told old d news) → OnErr result (new ≡ old) → Keeps start calls old ps → Keeps start calls new ps
+restart_told start calls old new ps d news (Ok x) ok err keeps = rw ok (sited start calls old ps (after_told old d news).sites keeps)
+restart_told start calls old new ps d news (Err f) ok err keeps = rw err keeps
+
+up_again_keeps : (start : Core) (calls : List Call) (old : Core) (ps : List Progress) (d : ℕ) (o : Option Site)
+    → Keeps start calls old ps → Keeps start calls (up_again old d o) ps
+up_again_keeps start calls old ps d None keeps = keeps
+up_again_keeps start calls old ps d (Some s) keeps = sited start calls old ps (up_again old d (Some s)).sites keeps
+
+pub redo_asked : (start : Core) (calls : List Call) (old : Core) (ps : List Progress) (d : ℕ) (reply : Redo)
+    → Keeps start calls old ps → Keeps start calls (after_redo old d reply) ps
+redo_asked start calls old ps d (redo.Send w) keeps = keeps
+redo_asked start calls old ps d redo.Finished keeps = up_again_keeps start calls old ps d (slice_get old.sites d) keeps
+redo_asked start calls old ps d redo.NotDown keeps = keeps
+redo_asked start calls old ps d redo.NoDc keeps = keeps
+
+redone_keeps : (start : Core) (calls : List Call) (old : Core) (ps : List Progress) (d n : ℕ) (o : Option Site)
+    → Keeps start calls old ps → Keeps start calls (redone_at old d n o) ps
+redone_keeps start calls old ps d n None keeps = keeps
+redone_keeps start calls old ps d n (Some s) keeps = sited start calls old ps (redone_at old d n (Some s)).sites keeps
+
+pub redo_heard : (start : Core) (calls : List Call) (old new : Core) (ps : List Progress) (d n : ℕ) (result : Result Unit Stranger2)
+    → OnOk result (new ≡ after_redone old d n) → OnErr result (new ≡ old) → Keeps start calls old ps → Keeps start calls new ps
+redo_heard start calls old new ps d n (Ok x) ok err keeps = rw ok (redone_keeps start calls old ps d n (slice_get old.sites d) keeps)
+redo_heard start calls old new ps d n (Err f) ok err keeps = rw err keeps
 
 -- a call is admitted
 pub admitted_one : (start : Core) (calls : List Call) (state : Core) (ps : List Progress) (k : ℕ) (t : TxnId) (c : Call)
@@ -316,8 +408,8 @@ admitted_one start calls state ps k t c keeps at of there is =
       begins = begins_more start.events h e keeps.begins;
       one_each = length_set ps k p' ∙ keeps.one_each;
       fits = λ i q d at' of'. elim (get_set ps k i p' q at') [
-        | inl x ↦ subst (λ (y : Progress). Fits start (e ∷ h) (call_of d) y) x.1 (subst (λ (y : Call). Fits start (e ∷ h) (call_of y) p') (same_call calls k i c d of x.0 of') new)
-        | inr x ↦ fits_more start h e (call_of d) q
+        | inl x ↦ subst (λ (y : Progress). Fits start (with_event state e) (call_of d) y) x.1 (subst (λ (y : Call). Fits start (with_event state e) (call_of y) p') (same_call calls k i c d of x.0 of') new)
+        | inr x ↦ fits_more start state e (call_of d) q
             (λ u own. open_other h e u (λ tu. absurd (above u (ap (λ (n : ℕ). Some n) tu) (keeps.recent i q u x.1 own)))) (keeps.fits i q d x.1 of')
       ];
       recent = λ i q u at' own. elim (get_set ps k i p' q at') [
@@ -365,7 +457,7 @@ admitted_one start calls state ps k t c keeps at of there is =
 -- a call's transaction ends, and its answer names the end's place
 ended : (start : Core) (calls : List Call) (state : Core) (ps : List Progress) (k : ℕ) (t : TxnId) (o : Outcome) (a : Answer) (c : Call)
     → Keeps start calls state ps → slice_get ps k ≡ Some (Begun t) → slice_get calls k ≡ Some c
-    → AnswerFits start (End t.serial o ∷ state.events) (call_of c) a (Some t.serial) → place_of a ≡ Some (length state.events)
+    → AnswerFits start (with_event state (End t.serial o)) (call_of c) a (Some t.serial) → place_of a ≡ Some (length state.events)
     → Keeps start calls (with_event state (End t.serial o)) (set ps k (Answered a (Some t)))
 ended start calls state ps k t o a c keeps at of fits' place =
     let h = state.events in
@@ -378,8 +470,8 @@ ended start calls state ps k t o a c keeps at of fits' place =
       begins = begins_more start.events h e keeps.begins;
       one_each = length_set ps k p' ∙ keeps.one_each;
       fits = λ i q d at' of'. elim (get_set ps k i p' q at') [
-        | inl x ↦ subst (λ (y : Progress). Fits start (e ∷ h) (call_of d) y) x.1 (subst (λ (y : Call). Fits start (e ∷ h) (call_of y) p') (same_call calls k i c d of x.0 of') fits')
-        | inr x ↦ fits_more start h e (call_of d) q
+        | inl x ↦ subst (λ (y : Progress). Fits start (with_event state e) (call_of d) y) x.1 (subst (λ (y : Call). Fits start (with_event state e) (call_of y) p') (same_call calls k i c d of x.0 of') fits')
+        | inr x ↦ fits_more start state e (call_of d) q
             (λ u own. open_other h e u (λ tu. x.0 (keeps.own i k q p u x.1 at own (ap (λ (n : ℕ). Some n) tu)))) (keeps.fits i q d x.1 of')
       ];
       recent = λ i q u at' own. let w = owner ps k p p' at refl i q u at' own in keeps.recent i w.progress u w.at w.own;
@@ -415,20 +507,20 @@ ended start calls state ps k t o a c keeps at of fits' place =
     }
 
 -- the answer of an end fits, by its place
-ended_answer : (start : Core) (h : List Event) (c : named.Call) (t : ℕ) (o : Outcome) → length start.events ≤ length h
-    → IsBegun start h c t → AnswerFits start (End t o ∷ h) c (answer_of o (length h)) (Some t)
-ended_answer start h c t o low begun = by o
+ended_answer : (start now : Core) (c : named.Call) (t : ℕ) (o : Outcome) → length start.events ≤ length now.events
+    → IsBegun start now.events c t → AnswerFits start (with_event now (End t o)) c (answer_of o (length now.events)) (Some t)
+ended_answer start now c t o low begun = by o
   where
-    it : (how : Outcome) → IsEnded start (End t how ∷ h) c (Some t) (length h) how
+    it : (how : Outcome) → IsEnded start (End t how ∷ now.events) c (Some t) (length now.events) how
     it how = record {
       t = t;
       own = refl;
       takes = begun.takes;
-      admitted = is_admitted_more start.events h (End t how) c t begun.admitted;
-      ended = record { behind = low; stands = stands_here h (End t how) };
+      admitted = is_admitted_more start.events now.events (End t how) c t begun.admitted;
+      ended = record { behind = low; stands = stands_here now.events (End t how) };
     }
 
-    by : (how : Outcome) → AnswerFits start (End t how ∷ h) c (answer_of how (length h)) (Some t)
+    by : (how : Outcome) → AnswerFits start (with_event now (End t how)) c (answer_of how (length now.events)) (Some t)
     by outcome.Committed = it outcome.Committed
     by (outcome.Aborted v) = it (outcome.Aborted v)
     by outcome.NoRoom = it outcome.NoRoom
@@ -444,7 +536,7 @@ ended_one : (start : Core) (calls : List Call) (state : Core) (ps : List Progres
     → Keeps start calls (with_event state (End t.serial o)) (set ps k (Answered (answer_of o (length state.events)) (Some t)))
 ended_one start calls state ps k t o c keeps at of =
     ended start calls state ps k t o (answer_of o (length state.events)) c keeps at of
-    (ended_answer start state.events (call_of c) t.serial o (begins_length start.events state.events keeps.begins) (keeps.fits k (Begun t) c at of))
+    (ended_answer start state (call_of c) t.serial o (begins_length start.events state.events keeps.begins) (keeps.fits k (Begun t) c at of))
     (answer_place o (length state.events))
 
 pub ended_by : (start : Core) (calls : List Call) (old new : Core) (ps : List Progress) (k : ℕ) (t : TxnId) (c : Call) (receipt : Receipt) (o : Option Outcome)
@@ -460,7 +552,7 @@ ended_by start calls old new ps k t c receipt (Some o) keeps at of reply is =
 -- the answer of a transaction in doubt
 pub in_doubt_fits : (start : Core) (state : Core) (c : Call) (t : TxnId) (n : ℕ)
     → IsBegun start state.events (call_of c) t.serial → IsDoubtful state t.serial n
-    → AnswerFits start state.events (call_of c) (InDoubt n) (Some t.serial)
+    → AnswerFits start state (call_of c) (InDoubt n) (Some t.serial)
 in_doubt_fits start state c t n begun doubt =
     record { t = t.serial; own = refl; takes = begun.takes; admitted = begun.admitted; sent = doubtful_sent start.events state (call_of c) t.serial n begun.admitted begun.still doubt }
 
@@ -486,7 +578,7 @@ opened start calls =
       stays = refl;
       begins = record { later = []; is = refl };
       one_each = length-replicate n Waiting;
-      fits = λ k p c at of. subst (λ (y : Progress). Fits start start.events (call_of c) y) (all k p at) tt;
+      fits = λ k p c at of. subst (λ (y : Progress). Fits start start (call_of c) y) (all k p at) tt;
       recent = λ k p t at own. absurd (let bad : None ≡ Some t = ap txn_of (all k p at) ∙ own in cc);
       own = λ i j p q t a b pa qb. absurd (let bad : None ≡ Some t = ap txn_of (all i p a) ∙ pa in cc);
       known = λ place t proc args low stands. absurd (omega (arith, low, stands_within start.events place (Admit t proc args) stands));
@@ -523,12 +615,14 @@ stays_then old mid new first then k it = then k (first k it)
 moved_stays : (old new : List Progress) (k : ℕ) (n : Next) → MovesOn old new k n → AnswersStay old new
 moved_stays old new k next.Begun it = it
 moved_stays old new k (next.Carry sending) it = it
+moved_stays old new k (next.Unanswered sending) it = it
 moved_stays old new k next.Busy it = it
 moved_stays old new k next.Over it = it.1
 
 moves_then : (old mid new : List Progress) (k : ℕ) (n : Next) → AnswersStay old mid → MovesOn mid new k n → MovesOn old new k n
 moves_then old mid new k next.Begun first it = stays_then old mid new first it
 moves_then old mid new k (next.Carry sending) first it = stays_then old mid new first it
+moves_then old mid new k (next.Unanswered sending) first it = stays_then old mid new first it
 moves_then old mid new k next.Busy first it = stays_then old mid new first it
 moves_then old mid new k next.Over first it = (it.0, stays_then old mid new first it.1)
 

@@ -1,18 +1,19 @@
 -- What the answer to a call says of the log. A log is read with its newest event first, and places count from the oldest one.
-use Rattle.std.specs.Prelude.{◌≡◌, ◌+◌, ◌*◌, ◌^◌, ◌<◌, ◌≤◌, ℕ, List, Bool, true, false, length, Option, Some, None}
-use Rattle.access_slots.specs.Held.{excludes}
+use Rattle.std.specs.Prelude.{◌≡◌, ◌+◌, ◌*◌, ◌^◌, ◌<◌, ◌≤◌, ◌++◌, ℕ, List, Bool, true, false, length, Option, Some, None}
+use Rattle.access_slots.specs.Held.{excludes, IsFirstInTheWay}
 use Rattle.tc_log.specs.declared.event.Event.{Event}
 use Rattle.tc_log.specs.declared.event.Event.TheVariants.{Admit, Ask, Undo, End}
 use Rattle.tc_log.specs.declared.event.Outcome.{Outcome}
 use Rattle.tc_log.specs.declared.event.Outcome.TheVariants as outcome
-use Rattle.history.specs.Calls.{Call, admitted, locks_of}
+use Rattle.history.specs.Calls.{Call, admitted, held, locks_of}
 use Rattle.history.specs.Flight.{given}
-use Rattle.history.specs.Places.{StandsAt}
+use Rattle.history.specs.Places.{StandsAt, Begins}
 use Rattle.verifier.specs.Checked.{Checked}
 use Rattle.transactions.specs.Reached.{decls}
 use Rattle.lock_table.specs.declared.table.Busy.{Busy}
 use Rattle.tc_core.specs.Core.{Core}
 use Rattle.tc_core.specs.Admission.{Takes, IsRefused}
+use Rattle.tc_core.specs.Blocked as stranded
 use Rattle.tc_core.specs.declared.state.Refusal.{Refusal}
 use Rattle.tc_core.specs.declared.state.Refusal.TheVariants as refusal
 use Rattle.worker_pool.specs.declared.answer.Answer.{Answer}
@@ -77,15 +78,6 @@ module _ (start : Core) (h : List Event) (c : Call) where
     pub admitted : IsAdmitted start.events h c t
     pub sent : Sends start.events h t n
 
-  -- the holder was admitted, and its call's lock on the record and this call's exclude each other
-  pub record IsBlocked (txn : Option ℕ) (b : Busy) : Type 0 where
-    pub waits : txn ≡ None
-    pub takes : Takes start c
-    pub other : Call
-    pub place : ℕ
-    pub admitted : StandsAt h place (Admit b.holder other.proc other.args)
-    pub excluded : excludes (locks_of (decls start.procs) c b.name) (locks_of (decls start.procs) other b.name) ≡ true
-
   -- the numbers given, with five for each of 4,096 slots, for each call admitted and one more, are too many
   abbrev pub TooManyNumbers : Type 0
   TooManyNumbers = 2 ^ 62 < given h + 20480 * admitted h + 20480
@@ -98,18 +90,53 @@ module _ (start : Core) (h : List Event) (c : Call) where
   RefusalFits refusal.NumbersSpent = Takes start c × TooManyNumbers
   RefusalFits refusal.Memory = Takes start c
 
+-- ---- moments of a run
+
+-- nothing of the state changes but what happened, which numbers were given up, and what is known of data components
+abbrev pub StaysBut : Core → Core → Type 0
+StaysBut start c = c ≡ record start { events = c.events; given_up = c.given_up; sites = c.sites }
+
+-- the numbers given up, in the order in which they were, begin with others
+pub record BeginWith (first numbers : List ℕ) : Type 0 where
+  pub later : List ℕ
+  pub is : numbers ≡ first ++ later
+
+-- the run came from the first state to this one, and from there to the last one
+pub record IsMoment (start then now : Core) : Type 0 where
+  pub stays : StaysBut start then
+  pub begins : Begins start.events then.events
+  pub goes_on : Begins then.events now.events
+  pub given_up : BeginWith then.given_up now.given_up
+
+-- ---- what stands at the end of a run
+
+module _ (start now : Core) (c : Call) where
+  -- at one moment others stood in the way of the call, each of them in doubt or stuck, and this was the least record in the way and
+  -- its least holder. The holder was admitted, and its call's lock on the record and this call's exclude each other
+  pub record IsBlocked (txn : Option ℕ) (b : Busy) : Type 0 where
+    pub waits : txn ≡ None
+    pub takes : Takes start c
+    pub then : Core
+    pub moment : IsMoment start then now
+    pub blocked : stranded.IsBlocked then c
+    pub first : IsFirstInTheWay (held (decls then.procs) then.events) (locks_of (decls then.procs) c) b.name b.holder
+    pub other : Call
+    pub place : ℕ
+    pub admitted : StandsAt now.events place (Admit b.holder other.proc other.args)
+    pub excluded : excludes (locks_of (decls start.procs) c b.name) (locks_of (decls start.procs) other b.name) ≡ true
+
   -- what a refusal of an admission says
   abbrev pub AdmitRefusalFits : Refusal → Type 0
-  AdmitRefusalFits refusal.NoProcedure = RefusalFits refusal.NoProcedure
-  AdmitRefusalFits refusal.ArgumentCount = RefusalFits refusal.ArgumentCount
-  AdmitRefusalFits (refusal.Busy b) = IsBlocked None b
-  AdmitRefusalFits refusal.NumbersSpent = RefusalFits refusal.NumbersSpent
-  AdmitRefusalFits refusal.Memory = RefusalFits refusal.Memory
+  AdmitRefusalFits refusal.NoProcedure = RefusalFits start now.events c refusal.NoProcedure
+  AdmitRefusalFits refusal.ArgumentCount = RefusalFits start now.events c refusal.ArgumentCount
+  AdmitRefusalFits (refusal.Busy b) = IsRefused now c (refusal.Busy b)
+  AdmitRefusalFits refusal.NumbersSpent = RefusalFits start now.events c refusal.NumbersSpent
+  AdmitRefusalFits refusal.Memory = RefusalFits start now.events c refusal.Memory
 
   abbrev pub AnswerFits : Answer → Option ℕ → Type 0
-  AnswerFits (Committed p) txn = IsEnded txn p outcome.Committed
-  AnswerFits (Aborted v p) txn = IsEnded txn p (outcome.Aborted v)
-  AnswerFits (NoRoom p) txn = IsEnded txn p outcome.NoRoom
-  AnswerFits (InDoubt n) txn = IsInDoubt txn n
+  AnswerFits (Committed p) txn = IsEnded start now.events c txn p outcome.Committed
+  AnswerFits (Aborted v p) txn = IsEnded start now.events c txn p (outcome.Aborted v)
+  AnswerFits (NoRoom p) txn = IsEnded start now.events c txn p outcome.NoRoom
+  AnswerFits (InDoubt n) txn = IsInDoubt start now.events c txn n
   AnswerFits (Blocked b) txn = IsBlocked txn b
-  AnswerFits (Refused r) txn = (txn ≡ None) × RefusalFits r
+  AnswerFits (Refused r) txn = (txn ≡ None) × RefusalFits start now.events c r

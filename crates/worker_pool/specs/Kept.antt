@@ -13,7 +13,7 @@ use Rattle.tc_core.specs.declared.state.TxnId.{TxnId}
 use Rattle.worker_pool.specs.declared.answer.Answer.{Answer}
 use Rattle.worker_pool.specs.declared.answer.Progress.{Progress}
 use Rattle.worker_pool.specs.declared.answer.Progress.TheVariants.{Waiting, Begun, Answered}
-use Rattle.worker_pool.specs.Answers.{place_of, is_some, IsAdmitted, AnswerFits}
+use Rattle.worker_pool.specs.Answers.{place_of, is_some, IsAdmitted, StaysBut, AnswerFits}
 
 -- how many transactions ended
 abbrev pub ends : List Event → ℕ
@@ -54,10 +54,10 @@ pub record IsBegun (start : Core) (h : List Event) (c : named.Call) (t : ℕ) : 
   pub still : IsOpen h t
 
 -- what is known of a call that has come so far
-abbrev pub Fits : Core → List Event → named.Call → Progress → Type 0
-Fits start h c Waiting = Unit {0}
-Fits start h c (Begun t) = IsBegun start h c t.serial
-Fits start h c (Answered a t) = AnswerFits start h c a (serial_of t)
+abbrev pub Fits : Core → Core → named.Call → Progress → Type 0
+Fits start now c Waiting = Unit {0}
+Fits start now c (Begun t) = IsBegun start now.events c t.serial
+Fits start now c (Answered a t) = AnswerFits start now c a (serial_of t)
 
 -- the call in this place of the list was admitted as the transaction
 pub record IsOfCall (calls : List Call) (ps : List Progress) (t proc : ℕ) (args : List ℕ) : Type 0 where
@@ -69,15 +69,11 @@ pub record IsOfCall (calls : List Call) (ps : List Progress) (t proc : ℕ) (arg
   pub of : slice_get calls k ≡ Some c
   pub same : call_of c ≡ record { proc = proc; args = args }
 
--- nothing of the state changes but what happened and which numbers were given up
-abbrev pub StaysBut : Core → Core → Type 0
-StaysBut start c = c ≡ record start { events = c.events; given_up = c.given_up }
-
 pub record Keeps (start : Core) (calls : List Call) (state : Core) (ps : List Progress) : Type 0 where
   pub stays : StaysBut start state
   pub begins : Begins start.events state.events
   pub one_each : length ps ≡ length calls
-  pub fits : (k : ℕ) (p : Progress) (c : Call) → slice_get ps k ≡ Some p → slice_get calls k ≡ Some c → Fits start state.events (call_of c) p
+  pub fits : (k : ℕ) (p : Progress) (c : Call) → slice_get ps k ≡ Some p → slice_get calls k ≡ Some c → Fits start state (call_of c) p
   pub recent : (k : ℕ) (p : Progress) (t : ℕ) → slice_get ps k ≡ Some p → txn_of p ≡ Some t → t ≤ admitted state.events
   pub own : (i j : ℕ) (p q : Progress) (t : ℕ) → slice_get ps i ≡ Some p → slice_get ps j ≡ Some q → txn_of p ≡ Some t → txn_of q ≡ Some t → i ≡ j
   pub known : (place t proc : ℕ) (args : List ℕ) → length start.events ≤ place

@@ -4,4 +4,5 @@ pub mod Doubts
 pub mod Reports
 pub mod Faults
 pub mod Serving
+pub mod Wires
 pub mod Joining

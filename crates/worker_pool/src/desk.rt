@@ -1,20 +1,27 @@
 // What lies under the lock: the state, and how far each call has come.
 
-ghost use Rattle.std.specs.Prelude.{◌≡◌, ◌<◌, ◌≤◌, true, List, ℕ, [], length, replicate, reverse, Some, None, slice_get, OnOk, OnErr, IfErr, vec_capacity, map, false};
+ghost use Rattle.std.specs.Prelude.{◌≡◌, ◌<◌, ◌≤◌, true, List, ℕ, [], length, replicate, reverse, Some, None, slice_get, OnOk, OnErr, IfErr, IfSome, IfNone, vec_capacity, map, false};
 ghost use Rattle.tc_core.specs.Core.{Core, Asking};
 ghost use Rattle.tc_core.specs.Replies.{ask_reply, after_ask, end_of};
 ghost use Rattle.tc_log.specs.declared.event.Outcome.{Outcome};
-ghost use Rattle.tc_core.specs.Admission.{call_of};
+ghost use Rattle.tc_core.specs.Admission.{call_of, IsRefused};
 ghost use Rattle.worker_pool.specs.Answers.{answer_of, AnswerFits, AdmitRefusalFits};
 ghost use Rattle.worker_pool.specs.Doubts.{IsDoubtful, IsGoing};
-ghost use Rattle.worker_pool.specs.Joining.Moves.{IsCarry};
+ghost use Rattle.worker_pool.specs.Joining.Ups.{IsUpFor};
+ghost use Rattle.worker_pool.specs.Wires.{IsItsOwn, IsToRedo};
 ghost use Rattle.worker_pool.specs.Joining.Seen.{IsAnswered, AreToldBy};
 
 use crate::answer::{Answer, Progress};
+use crate::carried::Carried;
 use crate::report::Report;
-use access_slots::op::{Reply, Wire};
+use crate::sending::Sending;
+use access_slots::op::{News, Reply, Wire};
+use lock_table::table::Busy;
 use std::marker::{Brand, Model, PhantomData};
-use tc_core::state::{Asked, Call, NotOver, Receipt, Refusal, Request, Stranger, TcState, TxnId};
+use tc_core::state::{
+    Asked, Call, Down, NotOver, Receipt, Redo, Refusal, Request, Stranger, Stranger2, TcState,
+    TxnId,
+};
 use tc_log::event::Outcome;
 
 /// The state that is handed to a run, and its calls. Each run picks them.
@@ -31,31 +38,19 @@ pub trait Naming {
 impl Naming for Brand {
     ghost use Rattle.std.specs.Prelude.{[]};
 
-    ghost start = { record { procs = []; names = []; dcs = 0; events = []; given_up = [] } };
+    ghost start = { record { procs = []; names = []; dcs = 0; events = []; given_up = []; sites = [] } };
 
     ghost calls = { [] };
-}
-
-/// A request on its way, and how many more times it may be sent.
-pub struct Sending {
-    request: Request,
-    wire: Wire,
-    left: u64,
-}
-
-impl Sending {
-    /// What is sent.
-    pub fn wire(&self) -> &Wire {
-        &self.wire
-    }
 }
 
 /// What is to be done for a call without the lock.
 pub enum Next {
     /// It was admitted: the gate is told.
     Begun,
-    /// A request is to be carried.
+    /// A wire is to be carried.
     Carry(Sending),
+    /// Nothing came back that answers what was carried: the link is asked for news.
+    Unanswered(Sending),
     /// A transaction stands in its way: one that leaves is waited for.
     Busy,
     /// Its answer stands.
@@ -125,7 +120,7 @@ impl<J: Naming> Desk<J> {
         requires waits { slice_get self.old.progress k ≡ Some Progress.Waiting }
         ensures ok { OnOk result (AnswersStay self.old.progress self.new.progress) }
         ensures err { OnErr result ((self.new.state ≡ self.old.state) × (self.new.progress ≡ self.old.progress)) }
-        ensures refused { IfErr result (λ why. AdmitRefusalFits J.start self.old.state.events (call_of call.now) why) }
+        ensures refused { IfErr result (λ why. AdmitRefusalFits J.start self.old.state (call_of call.now) why) }
     {
         self.touched = true;
         self.state.known();
@@ -138,11 +133,19 @@ impl<J: Naming> Desk<J> {
         }
     }
 
+    // Whether all that stand in the way of a call that isn't admitted are in doubt or stuck.
+    fn is_blocked(&self, call: &Call, busy: Busy) -> bool
+        requires { IsRefused self.now.state (call_of call.now) (Refusal.Busy busy) }
+        ensures { result ≡ true → AnswerFits J.start self.now.state (call_of call.now) (Answer.Blocked busy) None }
+    {
+        self.state.blocked(call)
+    }
+
     // Answers a call that waits: no event is its.
     fn tell(&mut self, k: usize, call: &Call, answer: Answer)
         requires call { slice_get J.calls k ≡ Some call.now }
         requires waits { slice_get self.old.progress k ≡ Some Progress.Waiting }
-        requires fits { AnswerFits J.start self.old.state.events (call_of call.now) answer None }
+        requires fits { AnswerFits J.start self.old.state (call_of call.now) answer None }
         requires placeless { place_of answer ≡ None }
         ensures { IsAnswered self.new.progress k × AnswersStay self.old.progress self.new.progress }
     {
@@ -159,7 +162,7 @@ impl<J: Naming> Desk<J> {
         match self.admit(k, call) {
             Ok(()) => Next::Begun,
             Err(Refusal::Busy(busy)) => {
-                if !self.state.blocked(call) {
+                if !self.is_blocked(call, busy) {
                     return Next::Busy;
                 }
                 self.tell(k, call, Answer::Blocked(busy));
@@ -186,24 +189,67 @@ impl<J: Naming> Desk<J> {
         self.state.ask(txn)
     }
 
-    // A request is sent for the first time.
-    fn send(&self, request: Request) -> Next
-        ensures { IsCarry result }
+    // What is to be redone at a request's data component before the request can be sent, if anything is.
+    fn to_redo(&mut self, request: &Request) -> Option<Wire>
+        ensures redo { IfSome result (IsToRedo request.now) }
+        ensures up { IfNone result (IsUpFor self.new.state request.now) }
+        ensures same { self.new.progress ≡ self.old.progress }
     {
-        let wire = self.state.wire(&request);
-        let left = self.tries.saturating_sub(1);
-        Next::Carry(Sending {
+        self.touched = true;
+        match self.state.redo_next(request.op().record().dc) {
+            Redo::Send(wire) => Some(wire),
+            Redo::Finished | Redo::NotDown | Redo::NoDc => None,
+        }
+    }
+
+    // A request's own wire, where its data component is up.
+    fn wire(&self, request: &Request) -> Wire
+        requires { IsUpFor self.now.state request.now }
+        ensures { IsItsOwn request.now result }
+    {
+        match self.state.wire(request) {
+            Ok(wire) => wire,
+            Err(Down) => unreachable!(),
+        }
+    }
+
+    // What is carried for a request that may be sent so many more times. What is to be redone first may
+    // be sent as often as any request.
+    fn carry(&mut self, request: Request, left: u64) -> Sending
+        ensures { self.new.progress ≡ self.old.progress }
+    {
+        match self.to_redo(&request) {
+            Some(wire) => Sending::redo(request, wire, self.tries.saturating_sub(1), left),
+            None => {
+                let wire = self.wire(&request);
+                Sending::own(request, wire, left.saturating_sub(1))
+            }
+        }
+    }
+
+    // What is carried for a request next, its own tries as before.
+    fn carry_on(&mut self, sending: Sending) -> Sending
+        ensures { self.new.progress ≡ self.old.progress }
+    {
+        let Sending {
             request,
-            wire,
+            carried: _,
             left,
-        })
+        } = sending;
+        self.carry(request, left)
+    }
+
+    // A request is sent for the first time.
+    fn send(&mut self, request: Request) -> Sending
+        ensures { self.new.progress ≡ self.old.progress }
+    {
+        self.carry(request, self.tries)
     }
 
     // What undoes the last write that stands, of a transaction that is to be undone.
-    fn undo(&mut self, txn: TxnId) -> Next
+    fn undo(&mut self, txn: TxnId) -> Sending
         requires undoing { ask_reply self.old.state txn.serial ≡ Asked.Undoing }
-        ensures carry { IsCarry result }
-        ensures same { self.new.progress ≡ self.old.progress }
+        ensures { self.new.progress ≡ self.old.progress }
     {
         self.touched = true;
         match self.state.undo_next(txn) {
@@ -245,8 +291,8 @@ impl<J: Naming> Desk<J> {
         ensures { MovesOn self.old.progress self.new.progress k result }
     {
         match self.ask(k, call, txn) {
-            Asked::Request(request) => self.send(request),
-            Asked::Undoing => self.undo(txn),
+            Asked::Request(request) => Next::Carry(self.send(request)),
+            Asked::Undoing => Next::Carry(self.undo(txn)),
             Asked::Over => {
                 self.end(k, call, txn);
                 Next::Over
@@ -285,7 +331,8 @@ impl<J: Naming> Desk<J> {
 
     // Takes a reply in.
     fn answer(&mut self, request: Request, reply: Reply) -> Result<(), Stranger>
-        ensures { self.new.progress ≡ self.old.progress }
+        ensures same { self.new.progress ≡ self.old.progress }
+        ensures back { IfErr result (λ stranger. stranger.request ≡ request) }
     {
         self.touched = true;
         self.state.answer(request, reply)
@@ -299,46 +346,131 @@ impl<J: Naming> Desk<J> {
         let _number = self.state.give_up(request);
     }
 
-    // What is still to be answered once a reply, or silence, has come.
-    fn hear(&mut self, request: Request, reply: Option<Reply>) -> Option<Request>
+    // Gives a request up, and goes on with its call.
+    fn go_on_without(&mut self, k: usize, call: &Call, request: Request) -> Next
+        requires { slice_get J.calls k ≡ Some call.now }
+        ensures { MovesOn self.old.progress self.new.progress k result }
+    {
+        self.give_up(request);
+        self.advance(k, call)
+    }
+
+    // Takes in that an operation is redone.
+    fn redone(&mut self, dc: u16, reply: &Reply) -> Result<(), Stranger2>
         ensures { self.new.progress ≡ self.old.progress }
     {
-        let Some(reply) = reply else {
-            return Some(request);
-        };
-        match self.answer(request, reply) {
-            Ok(()) => None,
-            Err(stranger) => {
-                let Stranger { request } = stranger;
-                Some(request)
-            }
+        self.touched = true;
+        self.state.redone(dc, reply)
+    }
+
+    // Takes news of a restart in. Old ones change nothing: another worker was told of them before.
+    fn told(&mut self, dc: u16, news: News)
+        ensures { self.new.progress ≡ self.old.progress }
+    {
+        self.touched = true;
+        let _old = self.state.told(dc, news);
+    }
+
+    /// Takes in what came back for what was carried. The call goes on where that answers it; a stranger
+    /// counts as no answer.
+    pub fn hear(&mut self, k: usize, call: &Call, sending: Sending, reply: Reply) -> Next
+        requires { slice_get J.calls k ≡ Some call.now }
+        ensures { MovesOn self.old.progress self.new.progress k result }
+    {
+        match sending.carried {
+            Carried::Own(_) => self.hear_own(k, call, sending, reply),
+            Carried::Redo(..) => self.hear_redo(sending, reply),
         }
     }
 
-    /// Takes in what came back for a request, and goes on with the call. A request that isn't
-    /// answered is sent again, with the low-water mark of now, as often as is left, and then given up.
-    pub fn resume(&mut self, k: usize, call: &Call, sending: Sending, reply: Option<Reply>) -> Next
+    // The same for a request's own operation.
+    fn hear_own(&mut self, k: usize, call: &Call, sending: Sending, reply: Reply) -> Next
         requires { slice_get J.calls k ≡ Some call.now }
         ensures { MovesOn self.old.progress self.new.progress k result }
     {
         let Sending {
             request,
-            wire: _,
+            carried,
             left,
         } = sending;
-        let Some(request) = self.hear(request, reply) else {
-            return self.advance(k, call);
-        };
-        if left == 0 {
-            self.give_up(request);
-            return self.advance(k, call);
+        match self.answer(request, reply) {
+            Ok(()) => self.advance(k, call),
+            Err(Stranger { request }) => Next::Unanswered(Sending {
+                request,
+                carried,
+                left,
+            }),
         }
-        let wire = self.state.wire(&request);
-        Next::Carry(Sending {
+    }
+
+    // The same for what is redone.
+    fn hear_redo(&mut self, sending: Sending, reply: Reply) -> Next
+        ensures { (k : ℕ) → MovesOn self.old.progress self.new.progress k result }
+    {
+        if self.redone(sending.dc(), &reply).is_err() {
+            return Next::Unanswered(sending);
+        }
+        Next::Carry(self.carry_on(sending))
+    }
+
+    /// Goes on where nothing came back that answers what was carried, with the news that the link has.
+    pub fn go_on_unanswered(
+        &mut self,
+        k: usize,
+        call: &Call,
+        sending: Sending,
+        news: Option<News>,
+    ) -> Next
+        requires { slice_get J.calls k ≡ Some call.now }
+        ensures { MovesOn self.old.progress self.new.progress k result }
+    {
+        if let Some(news) = news {
+            self.told(sending.dc(), news);
+        }
+        match sending.carried {
+            Carried::Own(_) => self.send_again(k, call, sending),
+            Carried::Redo(wire, again) => self.redo_again(k, call, sending, wire.number, again),
+        }
+    }
+
+    // A request that isn't answered is sent again, with the low-water mark of now, as often as is left,
+    // and then given up.
+    fn send_again(&mut self, k: usize, call: &Call, sending: Sending) -> Next
+        requires { slice_get J.calls k ≡ Some call.now }
+        ensures { MovesOn self.old.progress self.new.progress k result }
+    {
+        let Sending {
             request,
-            wire,
-            left: left - 1,
-        })
+            carried: _,
+            left,
+        } = sending;
+        if left == 0 {
+            return self.go_on_without(k, call, request);
+        }
+        Next::Carry(self.carry(request, left))
+    }
+
+    // The same for a number that isn't redone: where it still is to be, it is sent as often as is left,
+    // and then the request that waits for it is given up.
+    fn redo_again(
+        &mut self,
+        k: usize,
+        call: &Call,
+        sending: Sending,
+        number: u64,
+        again: u64,
+    ) -> Next
+        requires { slice_get J.calls k ≡ Some call.now }
+        ensures { MovesOn self.old.progress self.new.progress k result }
+    {
+        let sending = self.carry_on(sending);
+        if !sending.redoes(number) {
+            return Next::Carry(sending);
+        }
+        if again == 0 {
+            return self.go_on_without(k, call, sending.into_request());
+        }
+        Next::Carry(sending.with_again(again - 1))
     }
 
     /// Whether the call was begun and isn't answered.

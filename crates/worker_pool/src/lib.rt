@@ -23,20 +23,26 @@
 #![tactic(auto)]
 
 mod answer;
+mod carried;
 mod desk;
 #[cfg(test)]
 mod link_tests;
 mod locked_dcs;
+#[cfg(test)]
+mod locked_tests;
 #[cfg(test)]
 mod memory_tests;
 mod pool;
 #[cfg(test)]
 mod pool_tests;
 mod report;
+#[cfg(test)]
+mod restart_tests;
 mod ring;
 mod ring_link;
 #[cfg(test)]
 mod ring_tests;
+mod sending;
 #[cfg(test)]
 mod test_pool;
 #[cfg(test)]
@@ -46,4 +52,4 @@ pub use answer::{Answer, Progress};
 pub use locked_dcs::LockedDcs;
 pub use pool::{Gate, Link, OpenGate, RunFault, run};
 pub use report::Report;
-pub use ring_link::RingLink;
+pub use ring_link::{RingLink, ServedFrom};

@@ -5,7 +5,7 @@ use crate::locked_dcs::LockedDcs;
 use crate::pool::{Link, OpenGate};
 use crate::test_pool::{all_commit, answers_behind_put, first_answers, holds, locked_dc};
 use crate::test_state::{GET, PUT, moves, one_call, record, value};
-use access_slots::op::{Op, Reply, Said, Wire};
+use access_slots::op::{News, Op, Reply, Said, Wire};
 use std::alloc::{AllocError, Global};
 use std::mem;
 use std::process::Abort;
@@ -41,6 +41,11 @@ struct Hostile {
     carried: AtomicU64,
 }
 
+// The reply, where it says something else.
+const fn saying(reply: Reply, said: Said) -> Reply {
+    Reply { said, ..reply }
+}
+
 impl Hostile {
     fn new(alloc: Global, harm: Harm) -> Result<Hostile, AllocError> {
         Ok(Hostile {
@@ -53,24 +58,14 @@ impl Hostile {
 
     // What comes back in place of this reply.
     fn harmed<R: Wait>(&self, rt: &R, wire: &Wire, reply: Reply) -> Option<Reply> {
-        let number = reply.number;
         match self.harm {
             Harm::OtherNumber => Some(Reply {
-                number: number.wrapping_add(1),
-                said: reply.said,
+                number: reply.number.wrapping_add(1),
+                ..reply
             }),
-            Harm::Old => Some(Reply {
-                number,
-                said: Said::Old,
-            }),
-            Harm::Misfit => Some(Reply {
-                number,
-                said: Said::Value(value(1)),
-            }),
-            Harm::Absent if wire.op.is_read() => Some(Reply {
-                number,
-                said: Said::Absent,
-            }),
+            Harm::Old => Some(saying(reply, Said::Old)),
+            Harm::Misfit => Some(saying(reply, Said::Value(value(1)))),
+            Harm::Absent if wire.op.is_read() => Some(saying(reply, Said::Absent)),
             Harm::Absent | Harm::Thrice => Some(reply),
             Harm::Late => mem::replace(&mut *self.late.lock(rt), Some(reply)),
         }
@@ -86,6 +81,10 @@ impl Link for Hostile {
         }
         let reply = self.dcs.carry(rt, worker, wire)?;
         self.harmed(rt, wire, reply)
+    }
+
+    fn news<R: Wait>(&self, _rt: &R, _worker: usize, _dc: u16) -> Option<News> {
+        None
     }
 }
 
@@ -160,6 +159,8 @@ fn insert<R: Wait + Abort>(rt: &R, dcs: &LockedDcs) {
     let insert = Wire {
         number: 1000,
         low_water: 0,
+        incarnation: 0,
+        redo: false,
         op: Op::Insert(record(5), value(100)),
     };
     assert!(rt; dcs.carry(rt, 0, &insert).is_some());

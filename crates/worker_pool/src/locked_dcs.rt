@@ -4,7 +4,7 @@ ghost use Rattle.std.specs.Prelude.{◌≡◌, ◌<◌, ◌≤◌, ◌↔◌, No
 ghost use Rattle.access_slots.specs.Locks.{target};
 
 use crate::pool::Link;
-use access_slots::op::{Reply, Wire};
+use access_slots::op::{News, Reply, Wire};
 use data_component::dc::Dc;
 use std::alloc::{AllocError, Global};
 use std::sync::{Mutex, Wait};
@@ -35,14 +35,17 @@ impl LockedDcs {
         self.dcs.len()
     }
 
-    /// The component with this number, if there is one, where no worker is at work.
+    /// The component with this number, if there is one, where no worker is at work. That it is the one
+    /// with which this link was made is no clause: of what a lock holds its type alone is known.
     pub fn get_mut(&mut self, dc: u16) -> Option<&mut Dc>
         ensures { IsSome result ↔ (dc < vec_len self.old.dcs) }
     {
         Some(self.dcs.get_mut(usize::from(dc))?.get_mut())
     }
 
-    /// The components, in their order, where no worker is at work.
+    /// The components, in their order, where no worker is at work. Of what was done to each no clause
+    /// tells, as of [`LockedDcs::get_mut`]; where that matters, a [`RingLink`](crate::RingLink) serves
+    /// them.
     pub fn into_dcs(self, alloc: Global) -> Result<Vec<Dc>, AllocError>
         ensures { IfOk result (λ dcs. vec_len dcs ≡ vec_len self.dcs) }
     {
@@ -63,5 +66,12 @@ impl Link for LockedDcs {
     {
         let dc = self.dcs.get(usize::from(wire.op.record().dc))?;
         dc.lock(rt).perform(wire)
+    }
+
+    /// Nothing: no component of this process restarts.
+    fn news<R: Wait>(&self, _rt: &R, _worker: usize, _dc: u16) -> Option<News>
+        ensures { result ≡ None }
+    {
+        None
     }
 }

@@ -7,9 +7,10 @@ ghost use Rattle.worker_pool.specs.Reports.{Reports};
 ghost use Rattle.worker_pool.specs.Faults.{state_of, InRange, WorkersFit, TriesFit, FaultFits};
 
 use crate::answer::{Answer, Progress};
-use crate::desk::{Desk, Naming, Next, Sending};
+use crate::desk::{Desk, Naming, Next};
 use crate::report::Report;
-use access_slots::op::{Reply, Wire};
+use crate::sending::Sending;
+use access_slots::op::{News, Reply, Wire};
 use std::alloc::{AllocError, Global};
 use std::marker::Brand;
 use std::sync::{Condvar, Mutex, MutexGuard, Wait};
@@ -25,6 +26,11 @@ const MOST_TRIES: u64 = 1000;
 pub trait Link {
     /// What came back, if anything did. It is called without the lock, by several workers at once.
     fn carry<R: Wait>(&self, rt: &R, worker: usize, wire: &Wire) -> Option<Reply>;
+
+    /// What the data component told of its last restart, if it is known of one. It is asked for after
+    /// each carry that brought no answer, without the lock, by several workers at once. It may give the
+    /// same news again.
+    fn news<R: Wait>(&self, rt: &R, worker: usize, dc: u16) -> Option<News>;
 }
 
 /// What is told of the calls, by their places in the list.
@@ -106,8 +112,14 @@ fn finish<J: Naming, R: Wait, L: Link, G: Gate>(
                 desk.advance(k, call)
             }
             Next::Carry(sending) => {
-                let reply = worker.link.carry(rt, worker.number, sending.wire());
-                desk.resume(k, call, sending, reply)
+                match worker.link.carry(rt, worker.number, sending.wire()) {
+                    Some(reply) => desk.hear(k, call, sending, reply),
+                    None => Next::Unanswered(sending),
+                }
+            }
+            Next::Unanswered(sending) => {
+                let news = worker.link.news(rt, worker.number, sending.dc());
+                desk.go_on_unanswered(k, call, sending, news)
             }
         };
     }
@@ -178,6 +190,7 @@ fn settle<J: Naming, R: Wait>(
         }
         Next::Begun => Next::Begun,
         Next::Carry(sending) => Next::Carry(sending),
+        Next::Unanswered(sending) => Next::Unanswered(sending),
     }
 }
 
@@ -191,18 +204,34 @@ fn advance<J: Naming, R: Wait>(rt: &R, pool: &Pool<J>, k: usize, call: &Call) ->
 }
 
 // The step of a call that what came back leads to.
-fn resume<J: Naming, R: Wait>(
+fn hear<J: Naming, R: Wait>(
     rt: &R,
     pool: &Pool<J>,
     k: usize,
     call: &Call,
     sending: Sending,
-    reply: Option<Reply>,
+    reply: Reply,
 ) -> Next
     requires { slice_get J.calls k ≡ Some call.now }
 {
     let mut desk = pool.desk.lock(rt);
-    let next = desk.resume(k, call, sending, reply);
+    let next = desk.hear(k, call, sending, reply);
+    settle(rt, pool, desk, next)
+}
+
+// The step of a call where nothing came back that answers what was carried.
+fn go_on_unanswered<J: Naming, R: Wait>(
+    rt: &R,
+    pool: &Pool<J>,
+    k: usize,
+    call: &Call,
+    sending: Sending,
+    news: Option<News>,
+) -> Next
+    requires { slice_get J.calls k ≡ Some call.now }
+{
+    let mut desk = pool.desk.lock(rt);
+    let next = desk.go_on_unanswered(k, call, sending, news);
     settle(rt, pool, desk, next)
 }
 
@@ -229,8 +258,14 @@ fn serve<J: Naming, R: Wait, L: Link, G: Gate>(
             }
             Next::Busy => advance(rt, pool, k, call),
             Next::Carry(sending) => {
-                let reply = worker.link.carry(rt, worker.number, sending.wire());
-                resume(rt, pool, k, call, sending, reply)
+                match worker.link.carry(rt, worker.number, sending.wire()) {
+                    Some(reply) => hear(rt, pool, k, call, sending, reply),
+                    None => Next::Unanswered(sending),
+                }
+            }
+            Next::Unanswered(sending) => {
+                let news = worker.link.news(rt, worker.number, sending.dc());
+                go_on_unanswered(rt, pool, k, call, sending, news)
             }
         };
     }
@@ -369,6 +404,11 @@ fn finished<J: Naming, R: Wait, L: Link, G: Gate>(
 
 /// Runs the calls by so many workers, each call to its answer, and a request that isn't answered is
 /// sent so often at most.
+///
+/// Behind each carry that isn't answered a worker asks the link for news of the data component. Once a
+/// restart is told, nothing is sent there until what was done above the checkpoint's mark is redone;
+/// each worker that wants to send something there redoes it, one number after the other, and sends each
+/// so often at most. Where a number isn't redone by then, the worker gives its own request up.
 ///
 /// A worker takes the next call and admits it; where another transaction stands in its way, it waits
 /// until one ends, falls in doubt or is stuck, and tries again, unless all that stand in its way are

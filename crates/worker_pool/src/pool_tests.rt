@@ -13,7 +13,7 @@ use crate::test_state::{
     BAD, GET, MOVE, NO_PROCEDURE, PUT, all_pushed, moves, one_call, push_call, record, state,
     two_puts,
 };
-use access_slots::op::{Reply, Wire};
+use access_slots::op::{News, Reply, Wire};
 use lock_table::table::Busy;
 use std::alloc::{AllocError, Global};
 use std::process::Abort;
@@ -270,6 +270,10 @@ impl Link for HoldsCarry {
         }
         self.dcs.carry(rt, worker, wire)
     }
+
+    fn news<R: Wait>(&self, _rt: &R, _worker: usize, _dc: u16) -> Option<News> {
+        None
+    }
 }
 
 impl Gate for HoldsCarry {
@@ -304,6 +308,10 @@ struct Loses {
 impl Link for Loses {
     fn carry<R: Wait>(&self, _rt: &R, _worker: usize, _wire: &Wire) -> Option<Reply> {
         self.carried.fetch_add(1, Ordering::SeqCst);
+        None
+    }
+
+    fn news<R: Wait>(&self, _rt: &R, _worker: usize, _dc: u16) -> Option<News> {
         None
     }
 }
@@ -371,10 +379,14 @@ impl Link for Records {
             0 => Some(reply),
             1 => Some(Reply {
                 number: reply.number.wrapping_add(1),
-                said: reply.said,
+                ..reply
             }),
             _ => None,
         }
+    }
+
+    fn news<R: Wait>(&self, _rt: &R, _worker: usize, _dc: u16) -> Option<News> {
+        None
     }
 }
 

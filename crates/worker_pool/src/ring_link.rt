@@ -5,16 +5,18 @@ ghost use Rattle.std.specs.Option.{ForSome};
 ghost use Rattle.access_slots.specs.Locks.{target};
 ghost use Rattle.crossbeam_queue.specs.Fifo.{Admits, Held, Learns, Pops};
 ghost use Rattle.data_component.specs.Store.{performed, replied};
-ghost use Rattle.worker_pool.specs.Serving.{IsServed};
+ghost use Rattle.worker_pool.specs.Serving.{IsFor, IsServed};
 
 use crate::pool::Link;
 use crate::ring::Ring;
-use access_slots::op::{Reply, Wire};
+use access_slots::op::{News, Reply, Wire};
 use crossbeam_queue::protocol::{Free, Lesson, Outcome, Protocol};
 use data_component::dc::Dc;
 use std::alloc::{AllocError, Global};
+use std::snapshot::Snapshot;
 use std::sync::Wait;
 use std::sync::atomic::{AtomicU64, Ordering};
+use std::thread::Promise;
 
 // A worker has one wire on its way, so one note comes; the other place is for one of a wire that was
 // left behind.
@@ -39,16 +41,31 @@ type Inbox = Ring<Parcel, (), Free>;
 
 type Notes = Ring<Note, (), Free>;
 
-// What a component does with a wire, as a note.
-fn note_of(dc: &mut Dc, wire: &Wire) -> Note
-    ensures store { dc.new ≡ performed dc.old wire.now }
+// What the component with this number does with a wire, as a note. One for another is met with silence.
+fn note_of(dc: &mut Dc, number: usize, wire: &Wire) -> Note
     ensures number { result.number ≡ wire.now.number }
-    ensures reply { result.reply ≡ replied dc.old wire.now }
+    ensures store { IsFor number wire.now → dc.new ≡ performed dc.old wire.now }
+    ensures reply { IsFor number wire.now → result.reply ≡ replied dc.old wire.now }
+    ensures other { (IsFor number wire.now → ⊥) → (dc.new ≡ dc.old) × (result.reply ≡ None) }
 {
+    let reply = if usize::from(wire.op.record().dc) == number {
+        dc.perform(wire)
+    } else {
+        None
+    };
     Note {
         number: wire.number,
-        reply: dc.perform(wire),
+        reply,
     }
+}
+
+/// What a thread that serves a component promises of the component that it hands back: it is the one
+/// with this number and of this kind at first, which performed wires for it and nothing else.
+#[derive(Drop)]
+pub struct ServedFrom(pub usize, pub Snapshot<Dc>);
+
+impl Promise<Dc> for ServedFrom {
+    ghost kept_by = { λ p dc. IsServed p.0 p.1.value dc };
 }
 
 /// A link to data components that run in threads of their own, numbered from 0: a worker puts a wire
@@ -111,13 +128,14 @@ impl RingLink {
 
     /// Performs the wires of this component's inbox, and puts a note of each, silence too, into the
     /// ring of the worker that sent it. Hands the component back once the link is closed and the
-    /// inbox was found empty; at once where there is no inbox of this number.
+    /// inbox was found empty; at once where there is no inbox of this number. A thread that is started
+    /// with [`ServedFrom`] for a promise tells so much of it at its join.
     pub fn serve<R: Wait>(&self, rt: &R, number: usize, dc: Dc) -> Dc
-        ensures served { IsServed dc result }
+        ensures served { IsServed number dc result }
         ensures absent { vec_len self.now.inboxes ≤ number → result ≡ dc }
     {
         match self.inboxes.get(number) {
-            Some(inbox) => self.serve_inbox::<(), Free, Free, R>(rt, inbox, dc),
+            Some(inbox) => self.serve_inbox::<(), Free, Free, R>(rt, inbox, number, dc),
             None => dc,
         }
     }
@@ -127,19 +145,20 @@ impl RingLink {
         &self,
         rt: &R,
         inbox: &Ring<Parcel, V, P>,
+        number: usize,
         mut dc: Dc,
     ) -> Dc
         requires admits { Admits P.holds P.first }
         requires pops { (pass : ℕ) → Pops P.holds pass P.first (M.then P.first) }
         requires learns { (pass : ℕ) → Learns P.holds pass P.first (M.fact P.first) }
-        ensures served { IsServed dc result }
+        ensures served { IsServed number dc result }
         ensures empty { Held 0 (M.fact P.first) }
     {
         for _ in rt.forever() {
             let Some(parcel) = inbox.take::<M, R>(rt, &self.closed) else {
                 return dc;
             };
-            let note = note_of(&mut dc, &parcel.wire);
+            let note = note_of(&mut dc, number, &parcel.wire);
             self.hand_back(rt, parcel.worker, note);
         }
         unreachable!()
@@ -202,5 +221,12 @@ impl Link for RingLink {
         };
         inbox.put(rt, parcel).ok()?;
         self.reply_to(rt, notes, wire.number)
+    }
+
+    /// Nothing: no component of this process restarts.
+    fn news<R: Wait>(&self, _rt: &R, _worker: usize, _dc: u16) -> Option<News>
+        ensures { result ≡ None }
+    {
+        None
     }
 }

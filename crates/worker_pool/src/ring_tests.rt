@@ -11,7 +11,7 @@ use crate::test_pool::{Hold, all_commit, answers_of, begun, state_of};
 use crate::test_state::{
     PUT, PUT_BESIDE, all_pushed, dc, moves, one_call, push_call, record, state, two_puts, value,
 };
-use access_slots::op::{Op, Reply, Wire};
+use access_slots::op::{News, Op, Reply, Wire};
 use access_slots::slot::{Record, Value};
 use data_component::dc::Dc;
 use std::alloc::{AllocError, Global};
@@ -260,6 +260,10 @@ impl Link for Holds {
         }
         self.rings.carry(rt, worker, wire)
     }
+
+    fn news<R: Wait>(&self, _rt: &R, _worker: usize, _dc: u16) -> Option<News> {
+        None
+    }
 }
 
 // What the calls come to by two workers over the first component, which goes.
@@ -430,6 +434,8 @@ fn wire(dc: u16) -> Wire {
     Wire {
         number: 1,
         low_water: 0,
+        incarnation: 0,
+        redo: false,
         op: Op::Read(Record {
             dc,
             table: 0,

@@ -24,5 +24,5 @@ returns-in-Ok-clause-ok g c =
 
 pub returns-in-Err-clause-refused : goal.returns-in-Err-clause-refused
 returns-in-Err-clause-refused g c =
-    subst (λ (v : Seen). AdmitRefusalFits g.J.Naming.start v.state.events (call_of c.args.call.now) c.in-Err.refusal) c.self.view_is
+    subst (λ (v : Seen). AdmitRefusalFits g.J.Naming.start v.state (call_of c.args.call.now) c.in-Err.refusal) c.self.view_is
     (refused g.J.Naming.start c.self.inside.state (call_of c.args.call.now) c.in-Err.refusal c.self.invariant.0.stays c.known.ensures.good c.in-Err.ensures.refused)

@@ -1,8 +1,9 @@
-use Rattle.std.proofs.Common.{◌≡◌, ◌∙◌, ◌<◌, Some, None, slice_get, refl, ap, sym, subst, false, true, inl, inr}
 use Rattle.worker_pool.proofs.Steps.{gave_up}
 use Rattle.worker_pool.proofs.desk.Desk.give_up.Goals as goal
 
 pub invariant_of-self : goal.invariant_of-self
 invariant_of-self g c =
-    let e = c.give_up-number.ensures in
-    (gave_up g.J.Naming.start g.J.Naming.calls c.self.inside.state c.give_up-number.new.self c.self.inside.progress.items e.rest c.self.invariant.0, λ bad. (cc))
+    let e = c.give_up-number.ensures in (
+      gave_up g.J.Naming.start g.J.Naming.calls c.self.inside.state c.give_up-number.new.self c.self.inside.progress.items c.args.request e.open_here e.elsewhere e.rest c.self.invariant.0,
+      λ bad. (cc),
+    )

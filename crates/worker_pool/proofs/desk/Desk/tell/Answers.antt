@@ -10,7 +10,7 @@ pub invariant_of-self : goal.invariant_of-self
 invariant_of-self g c =
     let ss = c.self.inside.progress.items in
     let at : slice_get ss c.args.k ≡ Some Waiting = ap (λ (v : Seen). slice_get v.progress c.args.k) c.self.view_is ∙ c.requires.waits in
-    let fits = subst (λ (v : Seen). AnswerFits g.J.Naming.start v.state.events (call_of c.args.call.now) c.args.answer None) (sym c.self.view_is) c.requires.fits in (
+    let fits = subst (λ (v : Seen). AnswerFits g.J.Naming.start v.state (call_of c.args.call.now) c.args.answer None) (sym c.self.view_is) c.requires.fits in (
       told g.J.Naming.start g.J.Naming.calls c.self.inside.state ss c.args.k Waiting (Answered c.args.answer None) c.args.call.now
           c.self.invariant.0 at c.requires.call fits refl refl c.requires.placeless,
       λ bad. (cc),

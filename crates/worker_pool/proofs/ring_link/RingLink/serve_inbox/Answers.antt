@@ -3,4 +3,5 @@ use Rattle.worker_pool.proofs.ring_link.RingLink.serve_inbox.Goals as goal
 
 pub loop-preserved : goal.loop-preserved
 loop-preserved g c =
-    served_on c.args.dc c.loop.dc c.note_of-note.new.dc c.in-Some-take.parcel.wire c.loop.invariant c.note_of-note.ensures.store
+    let e = c.note_of-note.ensures in
+    served_on c.args.number c.args.dc c.loop.dc c.note_of-note.new.dc c.in-Some-take.parcel.wire c.loop.invariant e.store (λ other. (e.other other).0)

@@ -1,0 +1,57 @@
+-- Numbers that were given up stay so.
+use Rattle.std.proofs.Common.{◌≡◌, ◌⊎◌, ℕ, Bool, true, false, List, [], ◌∷◌, ◌++◌, refl, sym, ◌∙◌, ap, subst, inl, inr}
+use Rattle.std.proofs.lemmas.Bool.{cases_eq}
+use Rattle.request_numbers.specs.Given.{holds}
+use Rattle.tc_core.specs.Core.{Core, Asking}
+use Rattle.tc_core.specs.Doubts.{with_number_by, with_number}
+use Rattle.tc_core.specs.GivingUp.{IsOpenHere, with_given_up}
+use Rattle.worker_pool.specs.Answers.{BeginWith}
+
+append_nil : (ns : List ℕ) → ns ++ [] ≡ ns
+append_nil [] = refl
+append_nil (n ∷ ns) = ap (λ (l : List ℕ). n ∷ l) (append_nil ns)
+
+append_again : (a b c : List ℕ) → (a ++ b) ++ c ≡ a ++ (b ++ c)
+append_again [] b c = refl
+append_again (n ∷ a) b c = ap (λ (l : List ℕ). n ∷ l) (append_again a b c)
+
+pub begin_same : (ns : List ℕ) → BeginWith ns ns
+begin_same ns = record { later = []; is = sym (append_nil ns) }
+
+pub begin_then : (first mid last : List ℕ) → BeginWith first mid → BeginWith mid last → BeginWith first last
+begin_then first mid last a b = record {
+  later = a.later ++ b.later;
+  is = b.is ∙ (ap (λ (l : List ℕ). l ++ b.later) a.is ∙ append_again first a.later b.later);
+}
+
+-- whether numbers begin with others
+begins : (first ns : List ℕ) → (BeginWith first ns) ⊎ (BeginWith first ns → ⊥)
+begins [] ns = inl (record { later = ns; is = refl })
+begins (m ∷ first) [] = inr (λ b. (let bad : [] ≡ m ∷ (first ++ b.later) = b.is in cc))
+begins (m ∷ first) (n ∷ ns) =
+    elim (cases_eq m n) [
+      | inl same ↦ elim (begins first ns) [
+        | inl b ↦ inl (record { later = b.later; is = (let rest = b.is in cc) })
+        | inr none ↦ inr (λ b. none (record { later = b.later; is = (let all : n ∷ ns ≡ m ∷ (first ++ b.later) = b.is in cc) }))
+      ]
+      | inr other ↦ inr (λ b. other (let all : n ∷ ns ≡ m ∷ (first ++ b.later) = b.is in cc))
+    ]
+
+one_more : (n : ℕ) (ns : List ℕ) (there : Bool) → BeginWith ns (with_number_by there n ns)
+one_more n ns true = begin_same ns
+one_more n ns false = record { later = n ∷ []; is = refl }
+
+-- one request more is given up, or none; which of both isn't looked at
+pub given_up_more : (old new : Core) (r : Asking) → (IsOpenHere old r → new ≡ with_given_up old r.number) → ((IsOpenHere old r → ⊥) → new ≡ old)
+    → BeginWith old.given_up new.given_up
+given_up_more old new r here elsewhere =
+    elim (begins old.given_up new.given_up) [
+      | inl it ↦ it
+      | inr none ↦ absurd (none (by_same (elsewhere (λ open_here. none (by_more (here open_here))))))
+    ]
+  where
+    by_same : new ≡ old → BeginWith old.given_up new.given_up
+    by_same same = subst (λ (c : Core). BeginWith old.given_up c.given_up) (sym same) (begin_same old.given_up)
+
+    by_more : new ≡ with_given_up old r.number → BeginWith old.given_up new.given_up
+    by_more same = subst (λ (c : Core). BeginWith old.given_up c.given_up) (sym same) (one_more r.number old.given_up (holds r.number old.given_up))

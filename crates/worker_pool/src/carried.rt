@@ -1,0 +1,13 @@
+// What is carried.
+
+use access_slots::op::Wire;
+
+/// What is carried for a request.
+#[derive(Clone, Copy)]
+pub enum Carried {
+    /// Its own operation.
+    Own(Wire),
+    /// What is to be redone next at its data component, which is down, and how many more times that
+    /// may be sent.
+    Redo(Wire, u64),
+}
