@@ -4,7 +4,7 @@ ghost use Rattle.std.specs.Prelude.{◌≡◌, ◌≢◌, ℕ, ◌||◌, [], Som
 ghost use Rattle.access_slots.specs.Locks.{allows, target, is_read, conflict};
 ghost use Rattle.history.specs.Calls.{held, held_for, call_of};
 ghost use Rattle.transactions.specs.InFlight.{InFlight};
-ghost use Rattle.history.specs.Flight.{Flight, in_flight, is_open};
+ghost use Rattle.history.specs.Flight.{Flight, open_op, is_open};
 ghost use Rattle.request_numbers.specs.Given.{holds};
 ghost use Rattle.transactions.specs.Legal.{Legal};
 ghost use Rattle.transactions.specs.Reached.{decls};
@@ -42,7 +42,7 @@ pub struct World {
 
 impl Model for World {
     ghost use Rattle.tc_world.specs.Whole.{Whole};
-    ghost use Rattle.tc_world.specs.Joining.Waiting.{AreWaiting};
+    ghost use Rattle.tc_world.specs.Waiting.{AreWaiting};
 
     ghost Value = { Whole };
 
@@ -368,7 +368,7 @@ impl World {
         ensures legal { Legal self.new.core.procs self.new.core.events }
         ensures covered { (n : ℕ) (f : Flight) → InFlight self.new.core.events self.new.core.sites n f
             → allows (held_for (decls self.new.core.procs) (call_of self.new.core.events f.txn) (target f.op)) (is_read f.op) ≡ true }
-        ensures held { (n : ℕ) (f : Flight) → in_flight self.new.core.events n ≡ Some f
+        ensures held { (n : ℕ) (f : Flight) → open_op self.new.core.events n ≡ Some f
             → allows (held (decls self.new.core.procs) self.new.core.events f.txn (target f.op)) (is_read f.op) ≡ true }
         ensures apart { (m n : ℕ) (f g : Flight) → InFlight self.new.core.events self.new.core.sites m f → InFlight self.new.core.events self.new.core.sites n g
             → m ≢ n → conflict f.op g.op ≡ false }
