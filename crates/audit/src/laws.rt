@@ -13,5 +13,6 @@ ghost use Rattle.audit.specs.declared.auditing.AuditFault.TheVariants.{Memory};
 /// Where the log is legal, and agrees with the data components in all that an audit compares, as it
 /// does behind every honest run, no fault is so but want of memory.
 pub fn agreement_has_no_fault()
-    ensures { (ps : List Checked) (h : List Event) (dcs : List Store) (f : AuditFault) → Legal ps h → IsAgreed ps h dcs → IsAuditFault ps h dcs f → f ≡ Memory }
+    ensures { (ps : List Checked) (h : List Event) (dcs : List Store) (f : AuditFault)
+        → Legal ps h → IsAgreed ps h dcs → IsAuditFault ps h dcs f → f ≡ Memory }
 {}

@@ -385,7 +385,8 @@ impl World {
         ensures marks { AreMarksLow self.old → AreMarksLow self.new }
         ensures open_above { IsFresh self.old → IsOpenAboveMarks self.new }
         ensures one_at_a_time { IsFresh self.old → NoForge steps.now → IsOneAtATime self.new }
-        ensures agreed { IsFresh self.old → NoForge steps.now → EachIsKnown self.new → IsAgreed self.new.core.procs self.new.core.events self.new.dcs }
+        ensures agreed { IsFresh self.old → NoForge steps.now → EachIsKnown self.new
+            → IsAgreed self.new.core.procs self.new.core.events self.new.dcs }
     {
         for (k, step) in steps.iter().enumerate() {
             match self.keep_step(step) {
