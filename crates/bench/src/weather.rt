@@ -151,7 +151,7 @@ fn run_all<R: Threads + Wait + Sync>(
 }
 
 // What came of a run, and of its data component.
-fn weathered(alloc: Global, report: Report, dc: Dc, weather: Weather) -> Option<Weathered> {
+fn outcome(alloc: Global, report: Report, dc: Dc, weather: Weather) -> Option<Weathered> {
     let ended = counted(&report);
     let restarts = dc.incarnation();
     let log = events(alloc, &report, weather)?;
@@ -185,5 +185,5 @@ pub fn repeat<R: Threads + Wait + Sync>(
     let workers = workers as usize;
     let moves = moves.as_slice();
     let report = run_all(rt, alloc, before.state, moves, workers, &storm, weather)?;
-    weathered(alloc, report, storm.into_dc(), weather)
+    outcome(alloc, report, storm.into_dc(), weather)
 }
