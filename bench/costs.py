@@ -1,56 +1,159 @@
 #!/usr/bin/env python3
-"""How long a machine takes to start, and how the cost of locks, numbers, the log, a data component and transactions grows with what there is.
+"""How long a machine takes to start, and how the cost of locks, numbers, the log, its check and audit, a data component, transactions and redo grows with what there is.
 
-usage: bench/costs.py
+usage: bench/costs.py [--bench PATH] [WHAT..]
 
-The program `bench` has to be built: `rt run` in crates/bench does that. Each figure is the least of
-several runs, timed from outside: a run with the work less a run without it.
+WHAT names some of the measurements (starts locks numbers log store restarts checkpoints steps redo
+checks audits); without it all are done. The program `bench` has to be built: `rt run` in crates/bench
+does that, and `tools/unproved.py bench` in a minute or two without the proofs. Each figure is the
+least of several runs, measured from outside: the processor time, or the peak of resident memory, of a
+run with the work less that of a run without it.
 """
+import argparse
+import os
 import pathlib
 import subprocess
-import time
 
-PROGRAM = pathlib.Path(__file__).resolve().parent.parent / "crates" / "bench" / "out" / "bench"
-
-
-def seconds(*words):
-    least = float("inf")
-    for _ in range(5):
-        begin = time.perf_counter()
-        subprocess.run([PROGRAM, *map(str, words)], stdin=subprocess.DEVNULL, stdout=subprocess.DEVNULL, check=True)
-        least = min(least, time.perf_counter() - begin)
-    return least
+BUILT = pathlib.Path(__file__).resolve().parent.parent / "crates" / "bench" / "out" / "bench"
+TRIES = 5
 
 
-def each(what, held, times, scale, unit):
-    cost = (seconds(what, held, times) - seconds(what, held, 0)) / times
-    print(f"{what:<10} {held:>9} {cost * scale:>10.2f} {unit}", flush=True)
+class Bench:
+    """The program that is measured."""
+
+    def __init__(self, path):
+        self.path = path
+
+    def run(self, *words):
+        """The least processor time, and the least peak of memory in bytes, of several runs."""
+        seconds, peak = float("inf"), float("inf")
+        for _ in range(TRIES):
+            child = subprocess.Popen([self.path, *map(str, words)], stdin=subprocess.DEVNULL, stdout=subprocess.DEVNULL)
+            _, status, used = os.wait4(child.pid, 0)
+            child.returncode = os.waitstatus_to_exitcode(status)
+            if child.returncode:
+                raise SystemExit(f"{self.path} {' '.join(map(str, words))} ended with {child.returncode}")
+            seconds = min(seconds, used.ru_utime + used.ru_stime)
+            peak = min(peak, used.ru_maxrss * 1024)
+        return seconds, peak
+
+    def each(self, *words, times):
+        """The seconds that each repeat takes, and the bytes that the first adds to the peak."""
+        seconds, _ = self.run(*words, times)
+        without, before = self.run(*words, 0)
+        _, peak = self.run(*words, 1)
+        return (seconds - without) / times, peak - before
+
+    def one(self, *words, times):
+        """The seconds that each repeat takes."""
+        return (self.run(*words, times)[0] - self.run(*words, 0)[0]) / times
+
+
+def say(what, beside, cost, unit):
+    print(f"{what:<10} {beside:>9} {cost:>10.2f} {unit}", flush=True)
+
+
+def starts(bench):
+    for slots in (0, 2, 16):
+        say("starts", slots, bench.one("starts", slots, times=5_000_000) * 1e9, "ns a machine's start and two instructions")
+
+
+def locks(bench):
+    for held in (10, 1_000, 10_000, 100_000):
+        say("locks", held, bench.one("locks", held, times=1_000_000) * 1e6, "us a grant and a release")
+
+
+def numbers(bench):
+    for held in (1, 100, 10_000, 100_000):
+        cost = bench.one("numbers", held, times=20_000_000 // (held + 200))
+        say("numbers", held, cost * 1e6, "us to give out and answer a number")
+
+
+def log(bench):
+    for events in (1_000, 10_923, 100_000):
+        cost = bench.one("log", events, times=1_000_000 // events) / events
+        say("log", events, cost * 1e9, "ns an event, printed and read")
+
+
+def store(bench):
+    for rows in (10, 1_000, 65_536):
+        cost = (bench.run("store", rows, 500_000, 0)[0] - bench.run("store", rows, 0, 0)[0]) / 500_000
+        say("update", rows, cost * 1e9, "ns an operation")
+    for rows in (10, 1_000, 65_536):
+        say("insert", rows, bench.run("store", rows, 0, 0)[0] / rows * 1e9, "ns an operation (and the program's start)")
+
+
+def restarts(bench):
+    for rows in (10, 1_000, 65_536):
+        cost = bench.one("store", rows, 1_000_000 - rows, times=3)
+        say("restart", rows, cost * 1e3, "ms for 1,000,000 operations")
+
+
+def checkpoints(bench):
+    for kept in (10, 1_000, 1_000_000):
+        cost = bench.one("checkpoints", 10, kept - 10, times=20_000_000)
+        say("checkpoint", kept, cost * 1e9, "ns a rise of the mark and a checkpoint, so many operations kept")
+
+
+# four events a transaction that has ended
+def steps(bench):
+    for events, opened in ((1_000, 0), (100_000, 0), (1_000_000, 0), (1_000, 1), (1_000, 100), (1_000, 10_000)):
+        times = 100_000 if opened < 10_000 else 10_000
+        cost = bench.one("steps", events // 4, opened, times=times)
+        say("steps", events, cost * 1e6, f"us a transaction of one insert, {opened} open")
+
+
+def redo(bench):
+    for events in (10_000, 100_000, 1_000_000):
+        cost = bench.one("redo", events // 4, 0, times=10_000_000 // events)
+        say("redo", events, cost / events * 1e9, "ns an event of the log, of which a quarter is redone")
+    for opened in (0, 1, 10, 100):
+        say("redo", 100_000, bench.one("redo", 25_000, opened, times=10) * 1e3, f"ms a redo, {opened} numbers open")
+
+
+def checks(bench):
+    for events in (10_000, 100_000, 1_000_000):
+        seconds, peak = bench.each("check", events // 4, times=2_000_000 // events)
+        say("check", events, seconds / events * 1e9, f"ns an event; {peak / events:.0f} bytes an event at the peak")
+
+
+# A row is put by four events and one entry; a call that moves an amount has ten and four.
+def audits(bench):
+    sizes = [(events, 1_000) for events in (10_000, 100_000, 1_000_000)]
+    for events, rows in (*sizes, (1_000_000, 10), (1_000_000, 65_536), (1_000_000, 250_000)):
+        ended = (events - 4 * rows) // 10
+        seconds, peak = bench.each("audits", ended, rows, times=2_000_000 // events)
+        beside = f"{4 * ended + rows} entries, {rows} rows"
+        say("audit", events, seconds / events * 1e9, f"ns an event; {peak / events:.0f} bytes an event at the peak; {beside}")
+
+
+MEASURED = {
+    "starts": starts,
+    "locks": locks,
+    "numbers": numbers,
+    "log": log,
+    "store": store,
+    "restarts": restarts,
+    "checkpoints": checkpoints,
+    "steps": steps,
+    "redo": redo,
+    "checks": checks,
+    "audits": audits,
+}
 
 
 def main():
-    for slots in (0, 2, 16):
-        each("starts", slots, 5_000_000, 1e9, "ns a machine's start and two instructions")
-    for held in (10, 1_000, 10_000, 100_000):
-        each("locks", held, 1_000_000, 1e6, "us a grant and a release")
-    for held in (1, 100, 10_000, 100_000):
-        each("numbers", held, 20_000_000 // (held + 200), 1e6, "us to give out and answer a number")
-    for events in (1_000, 10_923, 100_000):
-        each("log", events, 1_000_000 // events, 1e9 / events, "ns an event, printed and read")
-    for rows in (10, 1_000, 65_536):
-        updates = 500_000
-        cost = (seconds("store", rows, updates, 0) - seconds("store", rows, 0, 0)) / updates
-        print(f"{'update':<10} {rows:>9} {cost * 1e9:>10.1f} ns an operation", flush=True)
-    for rows in (10, 1_000, 65_536):
-        print(f"{'insert':<10} {rows:>9} {seconds('store', rows, 0, 0) / rows * 1e9:>10.1f} ns an operation (and the program's start)", flush=True)
-    for rows in (10, 1_000, 65_536):
-        updates = 1_000_000 - rows
-        cost = (seconds("store", rows, updates, 3) - seconds("store", rows, updates, 0)) / 3
-        print(f"{'restart':<10} {rows:>9} {cost * 1e3:>10.1f} ms for 1,000,000 operations", flush=True)
-    # four events a transaction that has ended
-    for events, opened in ((1_000, 0), (100_000, 0), (1_000_000, 0), (1_000, 1), (1_000, 100), (1_000, 10_000)):
-        transactions = 100_000 if opened < 10_000 else 10_000
-        cost = (seconds("steps", events // 4, opened, transactions) - seconds("steps", events // 4, opened, 0)) / transactions
-        print(f"{'steps':<10} {events:>9} {cost * 1e6:>10.2f} us a transaction of one insert, {opened} open", flush=True)
+    parser = argparse.ArgumentParser(usage=__doc__)
+    parser.add_argument("--bench", default=BUILT, type=pathlib.Path)
+    parser.add_argument("what", nargs="*")
+    given = parser.parse_args()
+    if unknown := [word for word in given.what if word not in MEASURED]:
+        parser.error(f"there is no measurement {unknown[0]}")
+    if not given.bench.is_file():
+        raise SystemExit(f"{given.bench} isn't there: `rt run` in crates/bench builds it")
+    bench = Bench(given.bench.resolve())
+    for word in given.what or MEASURED:
+        MEASURED[word](bench)
 
 
 main()

@@ -4,11 +4,13 @@
 
 mod audits;
 mod calls;
+mod checks;
 mod code;
 mod locks;
 mod log;
 mod numbers;
 mod procedures;
+mod redo;
 mod steps;
 mod store;
 mod storm;
@@ -31,6 +33,13 @@ const USAGE: &str = "usage:
   bench log EVENTS TIMES               prints and reads a log of EVENTS events TIMES
   bench store ROWS UPDATES RESTARTS    inserts ROWS records, UPDATES them in turn, keeps a checkpoint, and RESTARTS
   bench steps ENDED OPEN TIMES         ENDED transactions have ended, OPEN are open; one more is run to its end TIMES
+  bench checkpoints ROWS OPS TIMES     ROWS records are inserted, and OPS times updated; the mark rises and a checkpoint is
+                                       kept TIMES
+  bench redo ENDED OPEN TIMES          OPEN numbers are open, ENDED transactions have ended; a restart that lost all is
+                                       told, and everything is redone, TIMES
+  bench check ENDED TIMES              ENDED transactions have ended; their log is checked TIMES
+  bench audits ENDED ROWS TIMES        ROWS records were put, ENDED calls moved an amount from one to the next; the log
+                                       is audited beside their data component TIMES
   bench calls WORKERS CALLS            CALLS move an amount between two of 1000 records, by WORKERS at once
   bench rings WORKERS CALLS            the same over a data component in a thread of its own
   bench storm SEED WORKERS CALLS       the same over a link that loses, repeats, delays, forges and answers late, to a
@@ -91,6 +100,10 @@ fn line_of<R: Threads + Wait + Sync>(
         "log" => log::repeat(alloc, first, second)?,
         "store" => store::repeat(alloc, first, second, number(words, 4)?)?,
         "steps" => steps::repeat(alloc, first, second, number(words, 4)?)?,
+        "checkpoints" => store::repeat_checkpoints(alloc, first, second, number(words, 4)?)?,
+        "redo" => redo::repeat(alloc, first, second, number(words, 4)?)?,
+        "check" => checks::repeat(alloc, first, second)?,
+        "audits" => checks::repeat_audits(alloc, first, second, number(words, 4)?)?,
         "calls" => calls::repeat(rt, alloc, first, second)?,
         "rings" => calls::repeat_served(rt, alloc, first, second)?,
         word => {

@@ -28,8 +28,8 @@ fn ask_all(state: &mut TcState, txn: TxnId, most: u64) {
     }
 }
 
-// Admits a call under this key.
-fn admitted(alloc: Global, state: &mut TcState, key: u64) -> Option<TxnId> {
+/// Admits a call that inserts under this key.
+pub fn admitted(alloc: Global, state: &mut TcState, key: u64) -> Option<TxnId> {
     state.admit(&put(alloc, key, 1)?).ok()
 }
 
@@ -43,8 +43,8 @@ fn one(alloc: Global, state: &mut TcState, key: u64) -> Option<()> {
     }
 }
 
-// So many from admission to end, under one key.
-fn many(alloc: Global, state: &mut TcState, times: u64) -> Option<()> {
+/// So many inserts from admission to end, all under the key 0.
+pub fn many(alloc: Global, state: &mut TcState, times: u64) -> Option<()> {
     for _ in 0..times {
         one(alloc, state, 0)?;
     }

@@ -53,3 +53,27 @@ pub fn repeat(alloc: Global, rows: u64, updates: u64, restarts: u64) -> Option<u
     }
     Some(replies)
 }
+
+// All numbers up to this one are answered: the mark rises, and nothing else is done.
+fn raise(dc: &mut Dc, low_water: u64) {
+    let _reply = dc.perform(&Wire {
+        number: 0,
+        low_water,
+        incarnation: 0,
+        redo: false,
+        op: Op::Read(record(0)),
+    });
+}
+
+/// So many rows and updates of them; then the mark rises and a checkpoint is kept, so many times. The
+/// marks that were kept, added up.
+pub fn repeat_checkpoints(alloc: Global, rows: u64, updates: u64, times: u64) -> Option<u64> {
+    let mut replies = 0;
+    let mut dc = filled(alloc, rows, updates, &mut replies)?;
+    let mut marks: u64 = 0;
+    for count in 0..times {
+        raise(&mut dc, replies.wrapping_add(count));
+        marks = marks.wrapping_add(dc.checkpoint());
+    }
+    Some(marks)
+}
