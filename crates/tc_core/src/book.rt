@@ -11,7 +11,7 @@ ghost use Rattle.tc_core.specs.Replies as Replies;
 ghost use Rattle.tc_core.specs.Lent.{wire_of};
 ghost use Rattle.tc_core.specs.GivingUp.{IsOpenHere, with_given_up};
 ghost use Rattle.tc_core.specs.Redo.{news_fault, after_told, redo_reply, after_redo, IsRedone, after_redone};
-ghost use Rattle.transactions.specs.InFlight.{untold};
+ghost use Rattle.transactions.specs.InFlight.{untold, site_at};
 
 use crate::given_up::GivenUp;
 use crate::places::{
@@ -20,7 +20,7 @@ use crate::places::{
 };
 use crate::procs::Procs;
 use crate::redo::find_done;
-use crate::sites::{is_heard, known, site_of, starts, untold};
+use crate::sites::{is_heard, known, site_at, site_of, starts, untold};
 use crate::state::{
     Asked, Down, NewsFault, NotOver, Receipt, Redo, Request, Stranger, Stranger2, TxnId,
 };
@@ -112,6 +112,13 @@ impl Book {
             owed: 0,
             promised: 0,
         })
+    }
+
+    /// What is known of a data component.
+    pub fn site(&self, dc: usize) -> Site
+        ensures { result ≡ site_at self.now.sites.items dc }
+    {
+        site_at(self.sites.as_slice(), dc)
     }
 
     /// What is sent for a request now.

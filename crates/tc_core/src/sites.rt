@@ -1,7 +1,7 @@
 // What is known of data components.
 
 ghost use Rattle.std.specs.Prelude.{◌≡◌, ◌<◌, length, replicate, slice_get, Some, None, IfSome, IfNone, IfOk};
-ghost use Rattle.transactions.specs.InFlight.{untold, site_of};
+ghost use Rattle.transactions.specs.InFlight.{untold, site_at, site_of};
 ghost use Rattle.tc_core.specs.Replies.{is_heard};
 
 use access_slots::op::{Op, Reply};
@@ -42,14 +42,21 @@ pub fn known(sites: &[Site], starts: &[usize], dc: u16) -> Option<(Site, usize)>
     Some((sites[at], starts[at]))
 }
 
+/// What is known of a data component; of one that isn't there, as if nothing was told of it.
+pub fn site_at(sites: &[Site], dc: usize) -> Site
+    ensures { result ≡ site_at sites.now dc }
+{
+    match sites.get(dc) {
+        Some(site) => *site,
+        None => UNTOLD,
+    }
+}
+
 /// What is known of the data component that keeps an operation's record.
 pub fn site_of(sites: &[Site], op: &Op) -> Site
     ensures { result ≡ site_of sites.now op.now }
 {
-    match sites.get(usize::from(op.record().dc)) {
-        Some(site) => *site,
-        None => UNTOLD,
-    }
+    site_at(sites, usize::from(op.record().dc))
 }
 
 /// Whether the reply is of the known incarnation of a data component that is up.

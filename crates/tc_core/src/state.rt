@@ -16,7 +16,7 @@ ghost use Rattle.tc_core.specs.Lent.{wire_of};
 ghost use Rattle.tc_core.specs.GivingUp.{IsOpenHere, with_given_up};
 ghost use Rattle.tc_core.specs.Blocked.{IsBlocked};
 ghost use Rattle.tc_core.specs.Redo.{news_fault, after_told, redo_reply, after_redo, IsRedone, after_redone};
-ghost use Rattle.transactions.specs.InFlight.{untold};
+ghost use Rattle.transactions.specs.InFlight.{untold, site_at};
 
 use crate::book::Book;
 use crate::procs::{LoadFault, Procs};
@@ -26,6 +26,7 @@ use std::alloc::{AllocError, Global};
 use std::marker::Model;
 use tc_log::event::Outcome;
 use tc_log::log::Log;
+use transactions::Site;
 use verifier::verify::Verified;
 
 /// The name of a transaction.
@@ -306,6 +307,14 @@ impl TcState {
         ensures state { self.new ≡ after_undo self.old result }
     {
         self.book.undo_next(&self.procs, txn)
+    }
+
+    /// What is known of a data component: its incarnation, and whether it is down; of one that isn't
+    /// there, as if nothing was told of it.
+    pub fn site(&self, dc: usize) -> Site
+        ensures { result ≡ site_at self.now.sites dc }
+    {
+        self.book.site(dc)
     }
 
     /// What is sent for a request now: its number and operation, the low-water mark of now and the
