@@ -5,7 +5,7 @@ ghost use Rattle.verifier.specs.Checked.{Checked};
 ghost use Rattle.transactions.specs.Standing.{standing};
 ghost use Rattle.transactions.specs.Room.{each_one, total};
 ghost use Rattle.transactions.specs.Reached.{AllGood};
-ghost use Rattle.tc_core.specs.Joining.Kept.{core_of, IsBook};
+ghost use Rattle.tc_core.specs.Kept.{core_of, IsBook};
 ghost use Rattle.tc_core.specs.Replies.{ask_reply, after_ask, IsAnswer, after_answer, end_of, end_reply, after_end, undo_reply, after_undo};
 ghost use Rattle.tc_core.specs.Replies as Replies;
 ghost use Rattle.tc_core.specs.Lent.{wire_of};

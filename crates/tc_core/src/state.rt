@@ -185,7 +185,7 @@ pub struct TcState {
 impl Model for TcState {
     ghost use Rattle.std.specs.Prelude.{◌≡◌, length};
     ghost use Rattle.tc_core.specs.Core.{Core};
-    ghost use Rattle.tc_core.specs.Joining.Kept.{core_of, IsBook};
+    ghost use Rattle.tc_core.specs.Kept.{core_of, IsBook};
 
     ghost Value = { Core };
 
