@@ -35,10 +35,10 @@ IsReadFault file out err status = (status ≡ 3) × IsKept out × Begins err (ca
 abbrev pub IsMemoryFault : Stream → Stream → ℕ → Type 0
 IsMemoryFault out err status = (status ≡ 4) × IsKept out × Begins err (codes "memory\n")
 
--- there is a report, and standard output doesn't take it
-abbrev pub IsWriteFault : Wish → List ℕ → Stream → ℕ → Type 0
-IsWriteFault wish text err status =
-    (meant : ℕ) × (lines : List ℕ) × IsReport wish text meant lines × (status ≡ 3) × Begins err (codes "cannot write\n")
+-- there is a report, and standard output takes no more than the first bytes of its lines
+abbrev pub IsWriteFault : Wish → List ℕ → Stream → Stream → ℕ → Type 0
+IsWriteFault wish text out err status =
+    (meant : ℕ) × (lines : List ℕ) × IsReport wish text meant lines × (status ≡ 3) × Begins out lines × Begins err (codes "cannot write\n")
 
 -- where figures are asked for, they are told
 abbrev pub TellsIf : Bool → Stream → Type 0
@@ -52,7 +52,7 @@ IsDone wish text out err status = (lines : List ℕ) × IsReport wish text statu
 -- the file can't be read, memory ran out, standard output can't be written, or what was read is done
 abbrev pub Ends : List ℕ → Wish → List ℕ → Stream → Stream → ℕ → Type 0
 Ends file wish text out err status =
-    IsReadFault file out err status ⊎ (IsMemoryFault out err status ⊎ (IsWriteFault wish text err status ⊎ IsDone wish text out err status))
+    IsReadFault file out err status ⊎ (IsMemoryFault out err status ⊎ (IsWriteFault wish text out err status ⊎ IsDone wish text out err status))
 
 -- the same of some text, which is what is there to be read, where that is known
 abbrev pub EndsOn : List ℕ → Wish → Option (List ℕ) → Stream → Stream → ℕ → Type 0

@@ -32,7 +32,7 @@ const FILE_FAULT: u8 = 3;
 const MEMORY: u8 = 4;
 
 /// How often a text is written on at most: the end of a writer that is always interrupted.
-const WRITES: u64 = 65_536;
+const WRITES: u64 = 16_777_216;
 
 // Writes some of these bytes, and answers how many, or `None` where the writer takes no more.
 fn write_some<W: Write>(to: &mut W, bytes: &[u8]) -> Option<usize>
@@ -110,7 +110,7 @@ fn run_text<F: Clock + Threads + Wait + Sync, W: Write, E: Write>(
         Err(ReportFault::Memory) => return no_memory(err),
         Err(ReportFault::NotText) => return cannot_read(err, wanted.file),
     };
-    if out.write_all(report.lines.as_bytes()).is_err() {
+    if !tell(out, report.lines.as_str()) {
         return cannot_write(err);
     }
     if let (true, Some(notes)) = (wanted.task.may_tell(), &report.notes) {
