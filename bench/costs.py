@@ -15,7 +15,7 @@ import pathlib
 import subprocess
 
 BUILT = pathlib.Path(__file__).resolve().parent.parent / "crates" / "bench" / "out" / "bench"
-TRIES = 5
+TRIES = 3
 
 
 class Bench:
@@ -38,15 +38,14 @@ class Bench:
         return seconds, peak
 
     def each(self, *words, times):
-        """The seconds that each repeat takes, and the bytes that the first adds to the peak."""
-        seconds, _ = self.run(*words, times)
+        """The seconds that each repeat takes, and the bytes that they add to the peak."""
+        seconds, peak = self.run(*words, times)
         without, before = self.run(*words, 0)
-        _, peak = self.run(*words, 1)
         return (seconds - without) / times, peak - before
 
     def one(self, *words, times):
         """The seconds that each repeat takes."""
-        return (self.run(*words, times)[0] - self.run(*words, 0)[0]) / times
+        return self.each(*words, times=times)[0]
 
 
 def say(what, beside, cost, unit):
@@ -143,7 +142,7 @@ MEASURED = {
 
 
 def main():
-    parser = argparse.ArgumentParser(usage=__doc__)
+    parser = argparse.ArgumentParser(description=__doc__, formatter_class=argparse.RawDescriptionHelpFormatter)
     parser.add_argument("--bench", default=BUILT, type=pathlib.Path)
     parser.add_argument("what", nargs="*")
     given = parser.parse_args()
