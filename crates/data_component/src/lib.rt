@@ -6,3 +6,5 @@ mod kept;
 mod rows;
 #[cfg(test)]
 mod tests;
+
+pub use dc::{Dc, IncarnationsSpent};
