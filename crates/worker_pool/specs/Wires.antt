@@ -20,9 +20,9 @@ pub record IsToRedo (r : Asking) (w : Wire) : Type 0 where
 
 abbrev pub IsCarriedFor : Asking → Carried → Type 0
 IsCarriedFor r (Own w) = IsItsOwn r w
-IsCarriedFor r (Redo w again) = IsToRedo r w
+IsCarriedFor r (Redo w) = IsToRedo r w
 
 -- the wire itself
 abbrev pub wire_in : Carried → Wire
 wire_in (Own w) = w
-wire_in (Redo w again) = w
+wire_in (Redo w) = w

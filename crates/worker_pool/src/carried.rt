@@ -7,7 +7,6 @@ use access_slots::op::Wire;
 pub enum Carried {
     /// Its own operation.
     Own(Wire),
-    /// What is to be redone next at its data component, which is down, and how many more times that
-    /// may be sent.
-    Redo(Wire, u64),
+    /// What is to be redone next at its data component, which is down.
+    Redo(Wire),
 }

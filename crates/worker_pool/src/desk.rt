@@ -13,6 +13,7 @@ ghost use Rattle.worker_pool.specs.Joining.Seen.{IsAnswered, AreToldBy};
 
 use crate::answer::{Answer, Progress};
 use crate::carried::Carried;
+use crate::redos::Redos;
 use crate::report::Report;
 use crate::sending::Sending;
 use access_slots::op::{News, Reply, Wire};
@@ -213,37 +214,25 @@ impl<J: Naming> Desk<J> {
         }
     }
 
-    // What is carried for a request that may be sent so many more times. What is to be redone first may
-    // be sent as often as any request.
-    fn carry(&mut self, request: Request, left: u64) -> Sending
+    // What is carried for a request that may be sent so many more times: what is to be redone first, or
+    // its own operation.
+    fn carry(&mut self, request: Request, left: u64, redos: Redos) -> Sending
         ensures { self.new.progress ≡ self.old.progress }
     {
         match self.to_redo(&request) {
-            Some(wire) => Sending::redo(request, wire, self.tries.saturating_sub(1), left),
+            Some(wire) => Sending::redo(request, wire, left, redos.sent(&wire)),
             None => {
                 let wire = self.wire(&request);
-                Sending::own(request, wire, left.saturating_sub(1))
+                Sending::own(request, wire, left.saturating_sub(1), redos)
             }
         }
-    }
-
-    // What is carried for a request next, its own tries as before.
-    fn carry_on(&mut self, sending: Sending) -> Sending
-        ensures { self.new.progress ≡ self.old.progress }
-    {
-        let Sending {
-            request,
-            carried: _,
-            left,
-        } = sending;
-        self.carry(request, left)
     }
 
     // A request is sent for the first time.
     fn send(&mut self, request: Request) -> Sending
         ensures { self.new.progress ≡ self.old.progress }
     {
-        self.carry(request, self.tries)
+        self.carry(request, self.tries, Redos::new(self.tries))
     }
 
     // What undoes the last write that stands, of a transaction that is to be undone.
@@ -379,7 +368,7 @@ impl<J: Naming> Desk<J> {
     {
         match sending.carried {
             Carried::Own(_) => self.hear_own(k, call, sending, reply),
-            Carried::Redo(..) => self.hear_redo(sending, reply),
+            Carried::Redo(_) => self.hear_redo(k, call, sending, reply),
         }
     }
 
@@ -392,6 +381,7 @@ impl<J: Naming> Desk<J> {
             request,
             carried,
             left,
+            redos,
         } = sending;
         match self.answer(request, reply) {
             Ok(()) => self.advance(k, call),
@@ -399,21 +389,43 @@ impl<J: Naming> Desk<J> {
                 request,
                 carried,
                 left,
+                redos,
             }),
         }
     }
 
     // The same for what is redone.
-    fn hear_redo(&mut self, sending: Sending, reply: Reply) -> Next
-        ensures { (k : ℕ) → MovesOn self.old.progress self.new.progress k result }
+    fn hear_redo(&mut self, k: usize, call: &Call, sending: Sending, reply: Reply) -> Next
+        requires { slice_get J.calls k ≡ Some call.now }
+        ensures { MovesOn self.old.progress self.new.progress k result }
     {
         if self.redone(sending.dc(), &reply).is_err() {
             return Next::Unanswered(sending);
         }
-        Next::Carry(self.carry_on(sending))
+        self.carry_on(k, call, sending)
     }
 
-    /// Goes on where nothing came back that answers what was carried, with the news that the link has.
+    // What is carried for a request next. Where what is to be redone first was sent as often as it may
+    // be, the request is given up.
+    fn carry_on(&mut self, k: usize, call: &Call, sending: Sending) -> Next
+        requires { slice_get J.calls k ≡ Some call.now }
+        ensures { MovesOn self.old.progress self.new.progress k result }
+    {
+        let Sending {
+            request,
+            carried: _,
+            left,
+            redos,
+        } = sending;
+        let sending = self.carry(request, left, redos);
+        if sending.is_spent() {
+            return self.go_on_without(k, call, sending.into_request());
+        }
+        Next::Carry(sending)
+    }
+
+    /// Goes on where nothing came back that answers what was carried, with the news that the link has. A
+    /// request is sent again, with the low-water mark of now, as often as is left, and then given up.
     pub fn go_on_unanswered(
         &mut self,
         k: usize,
@@ -427,50 +439,10 @@ impl<J: Naming> Desk<J> {
         if let Some(news) = news {
             self.told(sending.dc(), news);
         }
-        match sending.carried {
-            Carried::Own(_) => self.send_again(k, call, sending),
-            Carried::Redo(wire, again) => self.redo_again(k, call, sending, wire.number, again),
-        }
-    }
-
-    // A request that isn't answered is sent again, with the low-water mark of now, as often as is left,
-    // and then given up.
-    fn send_again(&mut self, k: usize, call: &Call, sending: Sending) -> Next
-        requires { slice_get J.calls k ≡ Some call.now }
-        ensures { MovesOn self.old.progress self.new.progress k result }
-    {
-        let Sending {
-            request,
-            carried: _,
-            left,
-        } = sending;
-        if left == 0 {
-            return self.go_on_without(k, call, request);
-        }
-        Next::Carry(self.carry(request, left))
-    }
-
-    // The same for a number that isn't redone: where it still is to be, it is sent as often as is left,
-    // and then the request that waits for it is given up.
-    fn redo_again(
-        &mut self,
-        k: usize,
-        call: &Call,
-        sending: Sending,
-        number: u64,
-        again: u64,
-    ) -> Next
-        requires { slice_get J.calls k ≡ Some call.now }
-        ensures { MovesOn self.old.progress self.new.progress k result }
-    {
-        let sending = self.carry_on(sending);
-        if !sending.redoes(number) {
-            return Next::Carry(sending);
-        }
-        if again == 0 {
+        if sending.left == 0 && matches!(sending.carried, Carried::Own(_)) {
             return self.go_on_without(k, call, sending.into_request());
         }
-        Next::Carry(sending.with_again(again - 1))
+        self.carry_on(k, call, sending)
     }
 
     /// Whether the call was begun and isn't answered.

@@ -35,6 +35,7 @@ mod memory_tests;
 mod pool;
 #[cfg(test)]
 mod pool_tests;
+mod redos;
 mod report;
 #[cfg(test)]
 mod restart_tests;

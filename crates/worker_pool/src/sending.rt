@@ -5,37 +5,42 @@ ghost use Rattle.access_slots.specs.Locks.{target};
 ghost use Rattle.worker_pool.specs.Wires.{IsCarriedFor, IsItsOwn, IsToRedo, wire_in};
 
 use crate::carried::Carried;
+use crate::redos::Redos;
 use access_slots::op::Wire;
 use tc_core::state::Request;
 
-/// A request, what is carried for it, and how many more times its own operation may be sent.
+/// A request, what is carried for it, how many more times its own operation may be sent, and what was
+/// redone for it.
 pub struct Sending {
     pub(crate) request: Request,
     pub(crate) carried: Carried,
     pub(crate) left: u64,
+    pub(crate) redos: Redos,
     ghost fits: { ∥ IsCarriedFor request carried ∥₁ },
 }
 
 impl Sending {
     // A request's own operation is carried, and may be sent so many more times.
-    pub(crate) fn own(request: Request, wire: Wire, left: u64) -> Sending
+    pub(crate) fn own(request: Request, wire: Wire, left: u64, redos: Redos) -> Sending
         requires { IsItsOwn request wire }
     {
         Sending {
             request,
             carried: Carried::Own(wire),
             left,
+            redos,
         }
     }
 
-    // What is to be redone before the request is carried, and may be sent so many more times.
-    pub(crate) fn redo(request: Request, wire: Wire, again: u64, left: u64) -> Sending
+    // What is to be redone before the request is carried.
+    pub(crate) fn redo(request: Request, wire: Wire, left: u64, redos: Redos) -> Sending
         requires { IsToRedo request wire }
     {
         Sending {
             request,
-            carried: Carried::Redo(wire, again),
+            carried: Carried::Redo(wire),
             left,
+            redos,
         }
     }
 
@@ -44,7 +49,7 @@ impl Sending {
         ensures { result.now ≡ wire_in self.now.carried }
     {
         match &self.carried {
-            Carried::Own(wire) | Carried::Redo(wire, _) => wire,
+            Carried::Own(wire) | Carried::Redo(wire) => wire,
         }
     }
 
@@ -55,33 +60,9 @@ impl Sending {
         self.request.op().record().dc
     }
 
-    // Whether the operation under this number is what is redone.
-    pub(crate) fn redoes(&self, number: u64) -> bool {
-        match &self.carried {
-            Carried::Own(_) => false,
-            Carried::Redo(wire, _) => wire.number == number,
-        }
-    }
-
-    // The same, where what is redone may be sent so many more times.
-    pub(crate) fn with_again(self, again: u64) -> Sending {
-        let Sending {
-            request,
-            carried,
-            left,
-        } = self;
-        match carried {
-            Carried::Own(wire) => Sending {
-                request,
-                carried: Carried::Own(wire),
-                left,
-            },
-            Carried::Redo(wire, _) => Sending {
-                request,
-                carried: Carried::Redo(wire, again),
-                left,
-            },
-        }
+    // Whether what is redone was sent as often as it may be.
+    pub(crate) fn is_spent(&self) -> bool {
+        self.redos.is_spent()
     }
 
     // The request alone.
@@ -90,6 +71,7 @@ impl Sending {
             request,
             carried: _,
             left: _,
+            redos: _,
         } = self;
         request
     }
