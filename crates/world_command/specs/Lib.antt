@@ -1,4 +1,5 @@
 pub mod OutcomeLines
+pub mod AuditLines
 pub mod Loading
 pub mod Stepping
 pub mod WorldReport

@@ -1,14 +1,15 @@
 -- What a script's steps or calls begin with, or why the script is refused before them.
-use Rattle.std.specs.Prelude.{◌≡◌, ℕ, List, [], ◌∷◌, ◌++◌, length, map, Option, Some, None, codes, decimal, string_bytes}
+use Rattle.std.specs.Prelude.{◌≡◌, ℕ, List, [], ◌∷◌, ◌++◌, length, map, replicate, Option, Some, None, codes, decimal, string_bytes}
 use Rattle.register_kinds.specs.declared.kind.Violation.{Violation}
 use Rattle.verifier.specs.Checked.{Checked}
 use Rattle.verifier.specs.Verdict.{verdict}
-use Rattle.data_component.specs.Store.{Store}
+use Rattle.data_component.specs.Store.{Store, empty}
 use Rattle.scripts.specs.Reading.{Contents, Reading}
 use Rattle.scripts.specs.declared.reading.Fault.{Fault}
 use Rattle.scripts.specs.declared.script.Dc.{Dc}
 use Rattle.scripts.specs.declared.script.Procedure.{Procedure}
 use Rattle.tc_core.specs.Core.{Core}
+use Rattle.transactions.specs.InFlight.{untold}
 use Rattle.text_commands.specs.FaultNames.{violation_name}
 use Rattle.text_commands.specs.Verification.{script_refusal}
 use Rattle.world_command.specs.declared.loading.Unverified.{Unverified}
@@ -68,12 +69,12 @@ name_of p = p.name
 abbrev pub with_procedures : Core → List Procedure → Core
 with_procedures c ps = record c { procs = c.procs ++ map checked_of ps; names = c.names ++ map name_of ps }
 
--- nothing is loaded, and nothing has happened
+-- nothing is loaded, nothing has happened, and nothing was told of data components
 abbrev pub empty_core : ℕ → Core
-empty_core dcs = record { procs = []; names = []; dcs = dcs; events = []; given_up = [] }
+empty_core dcs = record { procs = []; names = []; dcs = dcs; events = []; given_up = []; sites = replicate dcs untold }
 
 abbrev pub empty_store : Dc → Store
-empty_store dc = record { list = []; mark = 0; rows = dc.rows; ops = dc.ops }
+empty_store dc = empty dc.rows dc.ops
 
 -- all procedures are loaded in their order, and the data components are empty
 pub record IsReady (contents : Contents) (loaded : Loaded) : Type 0 where

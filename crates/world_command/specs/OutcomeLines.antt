@@ -8,6 +8,7 @@ use Rattle.access_slots.specs.declared.op.Op.TheVariants.{Read, Insert, Update, 
 use Rattle.access_slots.specs.declared.op.Said.{Said}
 use Rattle.access_slots.specs.declared.op.Said.TheVariants.{Value, Absent, Done, Duplicate, Missing, NoRoom, Old}
 use Rattle.access_slots.specs.declared.op.Wire.{Wire}
+use Rattle.access_slots.specs.declared.op.News.{News}
 use Rattle.data_component.specs.Store.{Store}
 use Rattle.data_component.specs.Sorted.{Rows}
 use Rattle.data_component.specs.Keeping.{AreRowsOf}
@@ -53,6 +54,17 @@ said_text Old = codes "old"
 abbrev pub sent_line : ℕ → Wire → List ℕ
 sent_line place x = codes "sent " ++ (decimal place ++ (codes " number " ++ (decimal x.number ++ (codes " " ++ (op_text x.op ++ (codes " low " ++ (decimal x.low_water ++ codes "\n")))))))
 
+-- a request whose data component is down isn't sent
+abbrev pub held_line : ℕ → Op → List ℕ
+held_line number o = codes "held number " ++ (decimal number ++ (codes " " ++ (op_text o ++ codes "\n")))
+
+abbrev pub told_line : ℕ → News → List ℕ
+told_line dc news =
+    codes "told " ++ (decimal dc ++ (codes " incarnation " ++ (decimal news.incarnation ++ (codes " mark " ++ (decimal news.mark ++ codes "\n")))))
+
+abbrev pub redo_line : ℕ → Wire → List ℕ
+redo_line place x = codes "redo " ++ (decimal place ++ (codes " number " ++ (decimal x.number ++ (codes " " ++ (op_text x.op ++ codes "\n")))))
+
 abbrev pub ended_line : ℕ → ℕ → Ending → List ℕ
 ended_line place txn ending.Committed = codes "ended " ++ (decimal txn ++ (codes " committed at " ++ (decimal place ++ codes "\n")))
 ended_line place txn (ending.Aborted v) = codes "ended " ++ (decimal txn ++ (codes " aborted " ++ (decimal v ++ (codes " at " ++ (decimal place ++ codes "\n")))))
@@ -61,6 +73,7 @@ ended_line place txn ending.NoRoom = codes "ended " ++ (decimal txn ++ (codes " 
 abbrev pub outcome_line : Outcome → List ℕ
 outcome_line (outcome.Admitted t) = codes "admitted " ++ (decimal t ++ codes "\n")
 outcome_line (outcome.Sent place x) = sent_line place x
+outcome_line (outcome.Held n o) = held_line n o
 outcome_line (outcome.Undoing t) = codes "undoing " ++ (decimal t ++ codes "\n")
 outcome_line (outcome.Over t) = codes "over " ++ (decimal t ++ codes "\n")
 outcome_line (outcome.Stuck t n) = codes "stuck " ++ (decimal t ++ (codes " number " ++ (decimal n ++ codes "\n")))
@@ -70,6 +83,11 @@ outcome_line (outcome.Took n) = codes "took number " ++ (decimal n ++ codes "\n"
 outcome_line (outcome.Ended r) = ended_line r.place r.txn r.outcome
 outcome_line (outcome.Restarted d) = codes "restarted " ++ (decimal d ++ codes "\n")
 outcome_line (outcome.Forged place) = codes "forged " ++ (decimal place ++ codes "\n")
+outcome_line (outcome.Checkpointed d mark) = codes "checkpoint " ++ (decimal d ++ (codes " mark " ++ (decimal mark ++ codes "\n")))
+outcome_line (outcome.Told d news) = told_line d news
+outcome_line (outcome.Redoing place x) = redo_line place x
+outcome_line (outcome.Redone n) = codes "redone number " ++ (decimal n ++ codes "\n")
+outcome_line (outcome.Up d) = codes "up " ++ (decimal d ++ codes "\n")
 
 -- ---- steps that weren't possible
 
@@ -96,6 +114,11 @@ illegal_line illegal.NoReply = codes "illegal I8 NoReply\n"
 illegal_line illegal.Stranger = codes "illegal I9 Stranger\n"
 illegal_line illegal.NoDc = codes "illegal I10 NoDc\n"
 illegal_line illegal.Memory = codes "illegal I11 Memory\n"
+illegal_line illegal.IncarnationsSpent = codes "illegal I12 IncarnationsSpent\n"
+illegal_line (illegal.Down d) = codes "illegal I13 Down " ++ (decimal d ++ codes "\n")
+illegal_line illegal.NoNews = codes "illegal I14 NoNews\n"
+illegal_line illegal.OldNews = codes "illegal I15 OldNews\n"
+illegal_line illegal.NotDown = codes "illegal I16 NotDown\n"
 
 abbrev pub step_line : Result Outcome Illegal → List ℕ
 step_line (Ok o) = outcome_line o

@@ -35,6 +35,9 @@ IsStepOf (script.Resend t) s = s ≡ step.Resend t
 IsStepOf (script.Perform i) s = s ≡ step.Perform i
 IsStepOf (script.Take i) s = s ≡ step.Take i
 IsStepOf (script.Restart d) s = s ≡ step.Restart d
+IsStepOf (script.Checkpoint d) s = s ≡ step.Checkpoint d
+IsStepOf (script.Tell i) s = s ≡ step.Tell i
+IsStepOf (script.Redo d) s = s ≡ step.Redo d
 IsStepOf (script.Forge x) s = s ≡ step.Forge x
 
 abbrev pub Told : Type 0

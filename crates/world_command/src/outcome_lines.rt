@@ -4,9 +4,9 @@ ghost use Rattle.std.specs.Prelude.{◌≡◌, ◌==◌, ◌++◌, length, IfOk,
 ghost use Rattle.std.specs.List.{list_all};
 ghost use Rattle.std.specs.Int.{w64, from_le_bytes};
 ghost use Rattle.world_command.specs.OutcomeLines.{record_text, value_text, op_text, said_text};
-ghost use Rattle.world_command.specs.OutcomeLines.{sent_line, ended_line, outcome_line, busy_text, refusal_text, illegal_line, step_line, row_line, row_lines, AddsRowLines};
+ghost use Rattle.world_command.specs.OutcomeLines.{sent_line, held_line, told_line, redo_line, ended_line, outcome_line, busy_text, refusal_text, illegal_line, step_line, row_line, row_lines, AddsRowLines};
 
-use access_slots::op::{Op, Said, Wire};
+use access_slots::op::{News, Op, Said, Wire};
 use access_slots::slot::{Record, Value};
 use data_component::dc::Dc;
 use lock_table::table::Busy;
@@ -110,6 +110,29 @@ fn sent_line(alloc: Global, place: usize, wire: &Wire) -> Result<String, AllocEr
     format!(in alloc; "sent {place} number {number} {op} low {low_water}\n")
 }
 
+fn held_line(alloc: Global, number: u64, op: &Op) -> Result<String, AllocError>
+    ensures { IfOk result (λ s. string_bytes s ≡ held_line number op.now) }
+{
+    let op = op_text(alloc, op)?;
+    format!(in alloc; "held number {number} {op}\n")
+}
+
+fn told_line(alloc: Global, dc: u16, news: &News) -> Result<String, AllocError>
+    ensures { IfOk result (λ s. string_bytes s ≡ told_line dc news.now) }
+{
+    let incarnation = news.incarnation;
+    let mark = news.mark;
+    format!(in alloc; "told {dc} incarnation {incarnation} mark {mark}\n")
+}
+
+fn redo_line(alloc: Global, place: usize, wire: &Wire) -> Result<String, AllocError>
+    ensures { IfOk result (λ s. string_bytes s ≡ redo_line place wire.now) }
+{
+    let op = op_text(alloc, &wire.op)?;
+    let number = wire.number;
+    format!(in alloc; "redo {place} number {number} {op}\n")
+}
+
 fn ended_line(alloc: Global, receipt: &Receipt) -> Result<String, AllocError>
     ensures { IfOk result (λ s. string_bytes s ≡ ended_line receipt.now.place receipt.now.txn receipt.now.outcome) }
 {
@@ -129,6 +152,7 @@ fn outcome_line(alloc: Global, outcome: &Outcome) -> Result<String, AllocError>
     match outcome {
         Outcome::Admitted(txn) => format!(in alloc; "admitted {txn}\n"),
         Outcome::Sent(place, wire) => sent_line(alloc, *place, wire),
+        Outcome::Held(number, op) => held_line(alloc, *number, op),
         Outcome::Undoing(txn) => format!(in alloc; "undoing {txn}\n"),
         Outcome::Over(txn) => format!(in alloc; "over {txn}\n"),
         Outcome::Stuck(txn, number) => format!(in alloc; "stuck {txn} number {number}\n"),
@@ -142,6 +166,11 @@ fn outcome_line(alloc: Global, outcome: &Outcome) -> Result<String, AllocError>
         Outcome::Ended(receipt) => ended_line(alloc, receipt),
         Outcome::Restarted(dc) => format!(in alloc; "restarted {dc}\n"),
         Outcome::Forged(place) => format!(in alloc; "forged {place}\n"),
+        Outcome::Checkpointed(dc, mark) => format!(in alloc; "checkpoint {dc} mark {mark}\n"),
+        Outcome::Told(dc, news) => told_line(alloc, *dc, news),
+        Outcome::Redoing(place, wire) => redo_line(alloc, *place, wire),
+        Outcome::Redone(number) => format!(in alloc; "redone number {number}\n"),
+        Outcome::Up(dc) => format!(in alloc; "up {dc}\n"),
     }
 }
 
@@ -186,6 +215,11 @@ fn illegal_line(alloc: Global, why: &Illegal) -> Result<String, AllocError>
         Illegal::Stranger => String::from_str(alloc, "illegal I9 Stranger\n"),
         Illegal::NoDc => String::from_str(alloc, "illegal I10 NoDc\n"),
         Illegal::Memory => String::from_str(alloc, "illegal I11 Memory\n"),
+        Illegal::IncarnationsSpent => String::from_str(alloc, "illegal I12 IncarnationsSpent\n"),
+        Illegal::Down(dc) => format!(in alloc; "illegal I13 Down {dc}\n"),
+        Illegal::NoNews => String::from_str(alloc, "illegal I14 NoNews\n"),
+        Illegal::OldNews => String::from_str(alloc, "illegal I15 OldNews\n"),
+        Illegal::NotDown => String::from_str(alloc, "illegal I16 NotDown\n"),
     }
 }
 

@@ -27,6 +27,9 @@ fn step_of(alloc: Global, line: &script::Step) -> Result<Step, AllocError>
         script::Step::Perform(copy) => Step::Perform(*copy as usize),
         script::Step::Take(reply) => Step::Take(*reply as usize),
         script::Step::Restart(dc) => Step::Restart(*dc),
+        script::Step::Checkpoint(dc) => Step::Checkpoint(*dc),
+        script::Step::Tell(news) => Step::Tell(*news as usize),
+        script::Step::Redo(dc) => Step::Redo(*dc),
         script::Step::Forge(reply) => Step::Forge(*reply),
     })
 }

@@ -4,18 +4,44 @@ ghost use Rattle.std.specs.Prelude.{◌≡◌, ◌++◌, [], IfOk, OnOk, string_
 ghost use Rattle.scripts.specs.Reading.{Contents, script_said};
 ghost use Rattle.scripts.specs.declared.keyword.Command.TheVariants as command;
 ghost use Rattle.world_command.specs.Loading.{IsReady};
-ghost use Rattle.world_command.specs.Joining.Loads.{IsLeft};
-ghost use Rattle.world_command.specs.WorldReport.{logged, status_of_steps, IsStepped, IsWorld};
+ghost use Rattle.world_command.specs.AuditLines.{AddsIf, AddsStateAudit};
+ghost use Rattle.world_command.specs.WorldReport.{logged, IsLeft, IsStepped, IsWorld};
 
+use crate::audit_lines::write_state_audit;
 use crate::loading::{Loaded, Loading, load};
 use crate::outcome_lines::write_all_rows;
 use crate::stepping::{take_steps, write_log};
 use data_component::dc::Dc;
 use scripts::keyword::Command;
 use std::alloc::{AllocError, Global};
+use tc_core::state::TcState;
 use tc_log::log::Log;
 use tc_world::world::World;
 use text_commands::report::Report;
+
+/// What is printed behind the rows: the line of an audit, and each event of the log.
+#[derive(Clone, Copy, Debug)]
+pub struct Behind {
+    pub audit: bool,
+    pub log: bool,
+}
+
+// Adds the line of an audit, where one is wanted, and answers whether nothing is wrong.
+fn write_found(
+    alloc: Global,
+    with_audit: bool,
+    state: &TcState,
+    dcs: &[Dc],
+    lines: &mut String,
+) -> Result<bool, AllocError>
+    ensures { IfOk result (λ sound. AddsIf with_audit (string_bytes lines.old) (string_bytes lines.new) sound
+        (AddsStateAudit state.now.sites state.now.procs state.now.events dcs.now (string_bytes lines.old) (string_bytes lines.new) sound)) }
+{
+    if !with_audit {
+        return Ok(true);
+    }
+    write_state_audit(alloc, state, dcs, lines)
+}
 
 // Adds a line for each event, where they are wanted.
 fn write_events(
@@ -33,31 +59,31 @@ fn write_events(
     write_log(bytes.as_slice(), lines)
 }
 
-// The lines of the steps, and behind them those of what is kept and of the log.
+// The lines of the steps, and behind them those of what is left.
 fn report_of(
     alloc: Global,
-    with_log: bool,
+    behind: Behind,
     all: bool,
+    state: &TcState,
     dcs: &[Dc],
-    log: &Log,
     mut lines: String,
 ) -> Result<Report, AllocError>
-    ensures status { IfOk result (λ r. r.status ≡ status_of_steps all) }
-    ensures lines { IfOk result (λ r. IsLeft dcs.now with_log log.now.events (string_bytes lines) (string_bytes r.lines)) }
+    ensures { IfOk result (λ r. IsLeft state.now dcs.now behind all (string_bytes lines) r.status (string_bytes r.lines)) }
 {
     write_all_rows(alloc, dcs, &mut lines)?;
-    write_events(alloc, with_log, log, &mut lines)?;
+    let sound = write_found(alloc, behind.audit, state, dcs, &mut lines)?;
+    write_events(alloc, behind.log, state.log(), &mut lines)?;
     Ok(Report {
-        status: u8::from(!all),
+        status: u8::from(!(all && sound)),
         lines,
         notes: None,
     })
 }
 
 // Takes the steps, and says what they did and what is left.
-fn stepped(alloc: Global, with_log: bool, loaded: Loaded) -> Result<Report, AllocError>
+fn stepped(alloc: Global, behind: Behind, loaded: Loaded) -> Result<Report, AllocError>
     requires { loaded.state.events ≡ [] }
-    ensures { IfOk result (λ r. (contents : Contents) → IsReady contents loaded → IsStepped contents with_log r.status (string_bytes r.lines)) }
+    ensures { IfOk result (λ r. (contents : Contents) → IsReady contents loaded → IsStepped contents behind r.status (string_bytes r.lines)) }
 {
     let Loaded {
         state,
@@ -71,7 +97,7 @@ fn stepped(alloc: Global, with_log: bool, loaded: Loaded) -> Result<Report, Allo
     let taken = take_steps(alloc, &mut world, steps.as_slice(), &mut lines);
     let (state, dcs) = world.close();
     let report = match taken {
-        Ok(all) => report_of(alloc, with_log, all, dcs.as_slice(), state.log(), lines),
+        Ok(all) => report_of(alloc, behind, all, &state, dcs.as_slice(), lines),
         Err(AllocError) => Err(AllocError),
     };
     drop(state);
@@ -79,12 +105,12 @@ fn stepped(alloc: Global, with_log: bool, loaded: Loaded) -> Result<Report, Allo
 }
 
 /// Takes the steps of a script one after another, also behind one that isn't possible: a line for
-/// each, then a line for each record that is kept, and with `with_log` a line for each event.
-pub fn world(alloc: Global, with_log: bool, text: &str) -> Result<Report, AllocError>
-    ensures { IfOk result (λ r. IsWorld with_log (script_said command.World text.now) r.status (string_bytes r.lines)) }
+/// each, then a line for each record that is kept, and then what is wanted behind these.
+pub fn world(alloc: Global, behind: Behind, text: &str) -> Result<Report, AllocError>
+    ensures { IfOk result (λ r. IsWorld behind (script_said command.World text.now) r.status (string_bytes r.lines)) }
 {
     match load(alloc, Command::World, text)? {
-        Loading::Ready(loaded) => stepped(alloc, with_log, loaded),
+        Loading::Ready(loaded) => stepped(alloc, behind, loaded),
         Loading::Refused(report) => Ok(report),
     }
 }

@@ -25,9 +25,7 @@ returns c = elim c.match-taken.branch [
       let by_slice = subst (λ (xs : List ScriptStep). AreTaken start xs end (string_bytes c.new-lines.result) stepped w.in-Ok.all) c.as_slice.ensures.value w.in-Ok.ensures in
       let taken = subst (λ (old : List ℕ). AreTaken start c.args.loaded.steps.items end old stepped w.in-Ok.all) c.new-lines.ensures.bytes by_slice in
       let dcs = w.as_slice-in-Ok.ensures.value ∙ c.close-state.ensures.dcs in
-      let events = w.log.ensures ∙ ap (λ (k : Core). k.events) c.close-state.ensures.kept in
-      stepped_report c.match-taken.report w.report_of-report.result c.args.loaded c.args.with_log w.in-Ok.all start end stepped
-      w.as_slice-in-Ok.result.now w.log.result.now.events w.report-is dcs events c.new-world.ensures taken
-      w.report_of-report.ensures.status w.report_of-report.ensures.lines
-  | in-Err w ↦ none_reported c.match-taken.report c.args.loaded c.args.with_log _ w.report-is
+      stepped_report c.match-taken.report w.report_of-report.result c.args.loaded c.args.behind w.in-Ok.all start end stepped
+      c.close-state.result.0 w.as_slice-in-Ok.result.now w.report-is dcs c.close-state.ensures.kept c.new-world.ensures taken w.report_of-report.ensures
+  | in-Err w ↦ none_reported c.match-taken.report c.args.loaded c.args.behind _ w.report-is
 ]
