@@ -243,7 +243,7 @@ rows_next limit again table new performed k d said inside right rows found does 
     let behind = reverse (take k performed) in
     let next = next_is_right limit performed k d inside right in
     let same : said ≡ e.2
-        = says again table new behind e.1 said rows does ∙ ap (λ (b : Bool). answer b behind e.1) found ∙ answers_again limit behind e.1 e.2 next.1 in
+    = says again table new behind e.1 said rows does ∙ ap (λ (b : Bool). answer b behind e.1) found ∙ answers_again limit behind e.1 e.2 next.1 in
     subst (AreRowsOf new) (sym (ap reverse (taken_more performed k d inside) ∙ pushed e (take k performed)))
     (subst (λ (s : Said). AreRowsOf new ((e.0, e.1, s) ∷ behind)) same (more_rows again table new behind e.0 e.1 said rows does))
 

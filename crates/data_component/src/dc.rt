@@ -49,13 +49,14 @@ impl Model for Dc {
     ghost Value = { Store };
 
     ghost view = { λ d. record {
-        list = reverse d.performed.items;
-        mark = d.mark;
-        saved = reverse (take d.saved d.performed.items);
-        saved_mark = d.saved_mark;
-        incarnation = d.incarnation;
-        rows = d.row_limit;
-        ops = d.op_limit } };
+      list = reverse d.performed.items;
+      mark = d.mark;
+      saved = reverse (take d.saved d.performed.items);
+      saved_mark = d.saved_mark;
+      incarnation = d.incarnation;
+      rows = d.row_limit;
+      ops = d.op_limit;
+    } };
 
     ghost invariant = { λ d.
         Keeps d.rows.items d.performed.items d.kept.items d.mark d.row_limit d.op_limit

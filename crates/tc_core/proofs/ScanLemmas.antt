@@ -314,11 +314,14 @@ module _ (d after k t n : ℕ) (o : Op) (es : List Event) (next : n ≡ k + 1) (
     | inr differ ↦ done_other m differ ∙ is m above
   ]
   least_behind none (Some a) is =
-      let apart : n ≢ a.number = (λ same. done_sent es d a.number a is.1 (unsent_below (k + 1) es are a.number (omega (arith, same, next)))) in
-      (is.0, done_other a.number apart ∙ is.1, λ m above below. elim (cases_eq n m) [
-        | inl same ↦ done_own m same ∙ sym (behind_is d after t n o es (omega (arith, above, same))) ∙ none
-        | inr differ ↦ done_other m differ ∙ is.2 m above below
-      ])
+      let apart : n ≢ a.number = (λ same. done_sent es d a.number a is.1 (unsent_below (k + 1) es are a.number (omega (arith, same, next)))) in (
+        is.0,
+        done_other a.number apart ∙ is.1,
+        λ m above below. elim (cases_eq n m) [
+          | inl same ↦ done_own m same ∙ sym (behind_is d after t n o es (omega (arith, above, same))) ∙ none
+          | inr differ ↦ done_other m differ ∙ is.2 m above below
+        ],
+      )
 
   least_here : (first : Option Answered) → done_behind d after t n o es ≡ first → (rest : Option Answered) → IsLeast (λ m. done_in es d m) after rest
       → IsLeast done_now after (or_else first rest)
@@ -338,8 +341,8 @@ said_apart k d m said es few are n = elim (cases_eq m n) [
   | inl same ↦
       let none = unsent_below k es are n (omega (arith, few, same)) in
       let first : if_done_at d (with_said n (sent_in es n) (if m == n then Some said else said_in es n)) ≡ None
-          = ap (λ (s : Option Said). if_done_at d (with_said n (sent_in es n) s)) (cond-true _ (Some said) (said_in es n) (eq-true m n same))
-          ∙ ap (λ (f : Option Flight). if_done_at d (with_said n f (Some said))) none in
+      = ap (λ (s : Option Said). if_done_at d (with_said n (sent_in es n) s)) (cond-true _ (Some said) (said_in es n) (eq-true m n same))
+      ∙ ap (λ (f : Option Flight). if_done_at d (with_said n f (Some said))) none in
       first ∙ sym (unsent_done es d n none)
   | inr differ ↦ ap (λ (s : Option Said). if_done_at d (with_said n (sent_in es n) s)) (cond-false _ (Some said) (said_in es n) (eq-false m n differ))
 ]

@@ -58,7 +58,7 @@ begin_longer : (e : Event) (h : List Event) (place : ℕ) (r : Option Redoing) �
 begin_longer e h place None inside may = tt
 begin_longer e h place (Some r) inside may =
     let same : take place (reverse (e ∷ h)) ≡ take place (reverse h)
-        = ap (take place) (reversed e h) ∙ take-append-le place (reverse h) (e ∷ []) (omega (arith, inside, length-reverse h)) in
+    = ap (take place) (reversed e h) ∙ take-append-le place (reverse h) (e ∷ []) (omega (arith, inside, length-reverse h)) in
     subst (AreSentUpTo r.redone) (sym same) may
 
 pub starts_longer : (sites : List Site) (starts : List ℕ) (e : Event) (h : List Event) → AreStarts sites starts h → AreStarts sites starts (e ∷ h)

@@ -26,11 +26,11 @@ use crate::state::{
 };
 use crate::transaction::Tx;
 use access_slots::op::{News, Reply, Wire};
+use history::Answered;
 use indexmap::IndexMap;
 use lock_table::table::LockTable;
 use request_numbers::numbers::Numbers;
 use slab::Slab;
-use history::Answered;
 use std::alloc::{AllocError, Global};
 use tc_log::event::{Event, Outcome};
 use tc_log::log::Log;

@@ -101,10 +101,14 @@ first_is h d after (suc more) = by (done_at h d (after + 1)) refl (first_is h d 
       | inl same ↦ ap (done_at h d) same ∙ none
       | inr differ ↦ first m (omega (arith, above, differ)) (omega (arith, few))
     ]
-    later none (Some a) first = (let beyond = first.0 in (omega (arith, beyond), first.1, λ m above below. elim (cases_eq m (after + 1)) [
-      | inl same ↦ ap (done_at h d) same ∙ none
-      | inr differ ↦ first.2 m (omega (arith, above, differ)) below
-    ]))
+    later none (Some a) first = (let beyond = first.0 in (
+      omega (arith, beyond),
+      first.1,
+      λ m above below. elim (cases_eq m (after + 1)) [
+        | inl same ↦ ap (done_at h d) same ∙ none
+        | inr differ ↦ first.2 m (omega (arith, above, differ)) below
+      ],
+    ))
 
     by : (o : Option Answered) → done_at h d (after + 1) ≡ o → IsFirst h d (after + 1) more (first_done h d (after + 1) more)
         → IsFirst h d after (suc more) (or_else o (first_done h d (after + 1) more))

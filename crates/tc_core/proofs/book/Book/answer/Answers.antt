@@ -102,7 +102,7 @@ returns-clause-accepted c =
     let a' = subst (λ (x : Asking). Accepts at.tx x.number x.op c.args.reply.number c.args.reply.said) c.request.view_is a in
     let sites = ap (λ (ss : List Site). is_heard (site_of ss c.request.inside.op) c.args.reply) c.as_slice.ensures.value in
     let here : is_heard (site_of core.sites c.request.inside.op) c.args.reply ≡ true
-        = sym sites ∙ (ap (λ (s : Site). is_heard s c.args.reply) (sym c.site_of.ensures) ∙ (sym c.is_heard.ensures ∙ c.if-not-is_heard.false)) in
+    = sym sites ∙ (ap (λ (s : Site). is_heard s c.args.reply) (sym c.site_of.ensures) ∙ (sym c.is_heard.ensures ∙ c.if-not-is_heard.false)) in
     let heard = subst (λ (x : Asking). is_heard (site_of core.sites x.op) c.args.reply ≡ true) c.request.view_is here in
     let it = is-answer core c.args.request c.args.reply at.tx w' heard a' in
     (λ e. it, λ b. refl)

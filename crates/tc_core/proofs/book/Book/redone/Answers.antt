@@ -38,17 +38,19 @@ returns-then-not-is_said-clause-accepted c =
     let there : slice_get core.sites c.args.dc ≡ Some site = ap (λ (xs : List Site). slice_get xs c.args.dc) (sym c.as_slice.ensures.value) ∙ c.in-Some.ensures.site in
     let begin : slice_get c.args.self.now.starts.items c.args.dc ≡ Some start = ap (λ (xs : List ℕ). slice_get xs c.args.dc) (sym c.as_slice-2.ensures.value) ∙ c.in-Some.ensures.start in
     let whole = looks c.args.procs.now.codes core.sites c.args.self.now.starts.items h c.requires.kept.legal c.requires.starts c.args.dc start site r begin there c.in-Some-redo.is in
-    let next : to_redo h c.args.dc r.redone ≡ Some c.in-Some-find_done.answered = sym whole ∙ (ap (λ (es : List Event). scan c.args.dc r.redone (drop start es)) (sym c.events.ensures) ∙ c.in-Some-find_done.ensures.found) in
-    (λ e. absurd cc, λ is.
-      let said = redone_said core c.args.dc c.args.reply.now site r (Some c.in-Some-find_done.answered) there c.in-Some-redo.is next is in
-      let a = some_same c.in-Some-find_done.answered said.a said.is in
-      let yes : c.is_said.result ≡ true = c.is_said.ensures.1 (
-        said.number ∙ sym (ap (λ (x : Answered). x.number) a),
-        said.incarnation,
-        said.said ∙ sym (ap (λ (x : Answered). x.said) a),
-      ) in
-      let no = c.if-not-is_said.true in
-      absurd cc)
+    let next : to_redo h c.args.dc r.redone ≡ Some c.in-Some-find_done.answered = sym whole ∙ (ap (λ (es : List Event). scan c.args.dc r.redone (drop start es)) (sym c.events.ensures) ∙ c.in-Some-find_done.ensures.found) in (
+      λ e. absurd cc,
+      λ is.
+          let said = redone_said core c.args.dc c.args.reply.now site r (Some c.in-Some-find_done.answered) there c.in-Some-redo.is next is in
+          let a = some_same c.in-Some-find_done.answered said.a said.is in
+          let yes : c.is_said.result ≡ true = c.is_said.ensures.1 (
+            said.number ∙ sym (ap (λ (x : Answered). x.number) a),
+            said.incarnation,
+            said.said ∙ sym (ap (λ (x : Answered). x.said) a),
+          ) in
+          let no = c.if-not-is_said.true in
+          absurd cc,
+    )
 
 pub returns-clause-kept : goal.returns-clause-kept
 returns-clause-kept c =
@@ -56,7 +58,7 @@ returns-clause-kept c =
     let inside = c.in-Some-find_done.ensures.inside in
     let many = ap length c.events.ensures in
     let first : first_in c.args.dc c.in-Some-redo.redo.redone (drop c.in-Some-find_done.place (reverse h)) ≡ Some c.in-Some-find_done.answered
-        = ap (λ (es : List Event). first_in c.args.dc c.in-Some-redo.redo.redone (drop c.in-Some-find_done.place es)) (sym c.events.ensures) ∙ c.in-Some-find_done.ensures.there in
+    = ap (λ (es : List Event). first_in c.args.dc c.in-Some-redo.redo.redone (drop c.in-Some-find_done.place es)) (sym c.events.ensures) ∙ c.in-Some-find_done.ensures.there in
     record {
       kept = c.requires.kept;
       most = c.requires.most;
@@ -77,15 +79,17 @@ returns-clause-accepted c =
     let begin : slice_get c.args.self.now.starts.items c.args.dc ≡ Some start = ap (λ (xs : List ℕ). slice_get xs c.args.dc) (sym c.as_slice-2.ensures.value) ∙ c.in-Some.ensures.start in
     let whole = looks c.args.procs.now.codes core.sites c.args.self.now.starts.items h c.requires.kept.legal c.requires.starts c.args.dc start site r begin there c.in-Some-redo.is in
     let next : to_redo h c.args.dc r.redone ≡ Some c.in-Some-find_done.answered = sym whole ∙ (ap (λ (es : List Event). scan c.args.dc r.redone (drop start es)) (sym c.events.ensures) ∙ c.in-Some-find_done.ensures.found) in
-    let said = c.is_said.ensures.0 c.if-not-is_said.false in
-    (λ e. record {
-      site = site;
-      there = there;
-      r = r;
-      down = c.in-Some-redo.is;
-      a = c.in-Some-find_done.answered;
-      next = next;
-      same_number = said.0;
-      same_incarnation = said.1;
-      same_answer = said.2;
-    }, λ is. refl)
+    let said = c.is_said.ensures.0 c.if-not-is_said.false in (
+      λ e. record {
+        site = site;
+        there = there;
+        r = r;
+        down = c.in-Some-redo.is;
+        a = c.in-Some-find_done.answered;
+        next = next;
+        same_number = said.0;
+        same_incarnation = said.1;
+        same_answer = said.2;
+      },
+      λ is. refl,
+    )
