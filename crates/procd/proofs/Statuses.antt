@@ -1,7 +1,7 @@
 -- A command's status is 0 or 1.
 use Rattle.std.proofs.Common.{arith, ℕ, Bool, List, Option, Some, None}
 use Rattle.std.proofs.Common.{length, true, false}
-use Rattle.std.specs.Prelude.{Result, Ok, Err, ◌≤◌, if◌then◌else◌}
+use Rattle.std.specs.Prelude.{Result, Ok, Err, ◌≤◌, ◌&&◌, if◌then◌else◌}
 use Rattle.text_commands.specs.Execution.{status_of}
 use Rattle.text_commands.specs.Hex.{Hex, hex_of}
 use Rattle.command_line.specs.Task.{Wish, Exec, Asm, Dis, Verify, World, Run}
@@ -10,6 +10,7 @@ use Rattle.scripts.specs.Reading.{Contents, Reading, script_said}
 use Rattle.world_command.specs.Loading.{refusal_of}
 use Rattle.procd.specs.Running.{IsRunBy, IsCallsRun, Ran, Stopped, begun}
 use Rattle.world_command.specs.WorldReport.{IsWorldBy, status_of_steps}
+use Rattle.world_command.specs.declared.world.Behind.{Behind}
 use Rattle.scripts.specs.declared.keyword.Command.TheVariants as command
 use Rattle.scripts.specs.declared.reading.Fault.{Fault}
 use Rattle.scripts.specs.declared.script.Call.{Call}
@@ -57,29 +58,38 @@ fault_low None procedures = elim (list_any is_refused procedures) as (λ b. (if 
 reading_low : (r : Reading) → status_of_reading r ≤ 1
 reading_low r = fault_low r.fault r.contents.procedures
 
-calls_low : (start : Core) (first calls : List Call) (dcs workers tries status : ℕ) (lines : List ℕ)
-    → IsCallsRun start first calls dcs workers tries status lines → status ≤ 1
-calls_low start first calls dcs workers tries status lines (Ran fit is run) = omega (arith, is)
-calls_low start first calls dcs workers tries status lines (Stopped fault when is line) = omega (arith, is)
+sound_low : (sound : Bool) → (if sound then 0 else 1) ≤ 1
+sound_low true = omega arith
+sound_low false = omega arith
 
-run_low : (refusal : Option (List ℕ)) (contents : Contents) (workers tries status : ℕ) (lines : List ℕ)
-    → IsRunBy refusal contents workers tries status lines → status ≤ 1
-run_low (Some refusal) contents workers tries status lines h = omega (arith, h.0)
-run_low None contents workers tries status lines h = calls_low (begun contents) contents.first contents.calls (length contents.dcs) workers tries status lines h
+calls_low : (start : Core) (first calls : List Call) (dcs workers tries : ℕ) (audit : Bool) (status : ℕ) (lines : List ℕ)
+    → IsCallsRun start first calls dcs workers tries audit status lines → status ≤ 1
+calls_low start first calls dcs workers tries audit status lines (Ran fit run) =
+    let is = run.printed.status_is in
+    omega (arith, is, sound_low run.printed.sound)
+calls_low start first calls dcs workers tries audit status lines (Stopped fault when is line) = omega (arith, is)
+
+run_low : (refusal : Option (List ℕ)) (contents : Contents) (workers tries : ℕ) (audit : Bool) (status : ℕ) (lines : List ℕ)
+    → IsRunBy refusal contents workers tries audit status lines → status ≤ 1
+run_low (Some refusal) contents workers tries audit status lines h = omega (arith, h.0)
+run_low None contents workers tries audit status lines h =
+    calls_low (begun contents) contents.first contents.calls (length contents.dcs) workers tries audit status lines h
 
 steps_low : (all : Bool) → status_of_steps all ≤ 1
 steps_low true = omega arith
 steps_low false = omega arith
 
-world_low : (refusal : Option (List ℕ)) (contents : Contents) (log : Bool) (status : ℕ) (lines : List ℕ)
-    → IsWorldBy refusal contents log status lines → status ≤ 1
-world_low (Some refusal) contents log status lines h = omega (arith, h.0)
-world_low None contents log status lines h = omega (arith, h.status_is, steps_low h.all)
+world_low : (refusal : Option (List ℕ)) (contents : Contents) (behind : Behind) (status : ℕ) (lines : List ℕ)
+    → IsWorldBy refusal contents behind status lines → status ≤ 1
+world_low (Some refusal) contents behind status lines h = omega (arith, h.0)
+world_low None contents behind status lines h = omega (arith, h.left.status_is, steps_low (h.all && h.left.sound))
 
 pub report_low : (wish : Wish) (text : List ℕ) (status : ℕ) (lines : List ℕ) → IsReport wish text status lines → status ≤ 1
 report_low (Exec raw numbers) text status lines h = omega (arith, h.2, execution_low h.0)
 report_low Asm text status lines h = assembly_low (assembled text) status lines h
 report_low (Dis raw) text status lines h = disassembly_low raw text status lines h
 report_low Verify text status lines h = omega (arith, h.0, reading_low (script_said command.Verify text))
-report_low (World log) text status lines h = let r = script_said command.World text in world_low (refusal_of r) r.contents log status lines h
-report_low (Run workers tries stats) text status lines h = let r = script_said command.Run text in run_low (refusal_of r) r.contents workers tries status lines h
+report_low (World log audit) text status lines h =
+    let r = script_said command.World text in world_low (refusal_of r) r.contents (record { audit = audit; log = log }) status lines h
+report_low (Run workers tries stats audit) text status lines h =
+    let r = script_said command.Run text in run_low (refusal_of r) r.contents workers tries audit status lines h

@@ -16,5 +16,5 @@ IsReport (Exec raw numbers) text status lines = IsExecution (text_execution raw 
 IsReport Asm text status lines = IsAssembly (assembled text) status lines
 IsReport (Dis raw) text status lines = IsDisassembly raw text status lines
 IsReport Verify text status lines = (status ≡ verification_status text) × (lines ≡ verification_lines text)
-IsReport (World log) text status lines = IsWorld log (script_said command.World text) status lines
-IsReport (Run workers tries stats) text status lines = IsRun workers tries (script_said command.Run text) status lines
+IsReport (World log audit) text status lines = IsWorld (record { audit = audit; log = log }) (script_said command.World text) status lines
+IsReport (Run workers tries stats audit) text status lines = IsRun workers tries audit (script_said command.Run text) status lines

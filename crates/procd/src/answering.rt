@@ -37,10 +37,11 @@ fn cause(fault: RunFault) -> Unbegun
     cause
 }
 
-/// What the calls of both lists were answered, how long those of the second took in all, if the clock
-/// can be read, and how long the longest of them.
+/// What the calls of both lists were answered, the state behind them, how long those of the second
+/// took in all, if the clock can be read, and how long the longest of them.
 #[derive(Drop)]
 pub struct Answered {
+    pub state: TcState,
     pub first: Vec<Answer>,
     pub calls: Vec<Answer>,
     pub elapsed: Option<Duration>,
@@ -50,15 +51,6 @@ pub struct Answered {
 // How long ago that was, if the clock can be read.
 fn since<R: Clock>(rt: &R, start: Option<Instant>) -> Option<Duration> {
     start?.elapsed(rt).ok()
-}
-
-// The answers alone.
-fn answers_of(report: Report) -> Vec<Answer>
-    ensures { result ≡ report.answers }
-{
-    let Report { state, answers } = report;
-    drop(state);
-    answers
 }
 
 // Runs the first calls by one worker, and then the others by so many.
@@ -73,7 +65,7 @@ fn answer_all<R: Clock + Threads + Wait + Sync>(
     link: &RingLink,
     waits: &Waits,
 ) -> Result<Answered, Unbegun>
-    ensures answered { IfOk result (λ a. AreAnswered state first.now calls.now a.first.items a.calls.items) }
+    ensures answered { IfOk result (λ a. AreAnswered state first.now calls.now a.first.items a.calls.items a.state) }
     ensures range { IfOk result (λ _. InRange workers tries) }
     ensures fault { IfErr result (Stops workers tries) }
 {
@@ -90,9 +82,15 @@ fn answer_all<R: Clock + Threads + Wait + Sync>(
     let ended = run(rt, alloc, state, calls, workers, tries, link, &watch);
     waits.end();
     match ended {
-        Ok(report) => Ok(Answered {
+        Ok(
+            Report {
+                state,
+                answers: calls,
+            },
+        ) => Ok(Answered {
+            state,
             first,
-            calls: answers_of(report),
+            calls,
             elapsed: since(rt, start),
             longest: waits.longest(),
         }),
@@ -138,7 +136,7 @@ fn answer_and_close<R: Clock + Threads + Wait + Sync>(
     link: &RingLink,
     waits: &Waits,
 ) -> Result<Answered, Unbegun>
-    ensures answered { IfOk result (λ a. AreAnswered state first.now calls.now a.first.items a.calls.items) }
+    ensures answered { IfOk result (λ a. AreAnswered state first.now calls.now a.first.items a.calls.items a.state) }
     ensures range { IfOk result (λ _. InRange workers tries) }
     ensures fault { IfErr result (Stops workers tries) }
 {
@@ -184,7 +182,7 @@ pub fn answer_served<R: Clock + Threads + Wait + Sync>(
     dcs: Vec<Dc>,
     waits: &Waits,
 ) -> (Result<Answered, Unbegun>, Result<Vec<Dc>, AllocError>)
-    ensures answered { IfOk result.0 (λ a. AreAnswered state first.now calls.now a.first.items a.calls.items) }
+    ensures answered { IfOk result.0 (λ a. AreAnswered state first.now calls.now a.first.items a.calls.items a.state) }
     ensures range { IfOk result.0 (λ _. InRange workers tries) }
     ensures fault { IfErr result.0 (Stops workers tries) }
     ensures dcs { OnOk result.0 (IfOk result.1 (λ back. vec_len back ≡ vec_len dcs)) }
@@ -195,7 +193,7 @@ pub fn answer_served<R: Clock + Threads + Wait + Sync>(
         thread::scope_env(),
         rt,
         |scope| -> (Result<Answered, Unbegun>, Result<Vec<Dc>, AllocError>)
-            ensures answered { IfOk result.0 (λ a. AreAnswered state first.entry.now calls.entry.now a.first.items a.calls.items) }
+            ensures answered { IfOk result.0 (λ a. AreAnswered state first.entry.now calls.entry.now a.first.items a.calls.items a.state) }
             ensures range { IfOk result.0 (λ _. InRange workers tries) }
             ensures fault { IfErr result.0 (Stops workers tries) }
             ensures dcs { OnOk result.0 (IfOk result.1 (λ back. vec_len back ≡ vec_len dcs)) }

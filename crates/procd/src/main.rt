@@ -43,6 +43,8 @@ fn main(rt: HostRuntime) -> ExitCode {
 }
 
 #[cfg(test)]
+mod restart_tests;
+#[cfg(test)]
 mod run_tests;
 #[cfg(test)]
 mod script_tests;

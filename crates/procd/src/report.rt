@@ -5,7 +5,7 @@ ghost use Rattle.std.specs.Str.{IsUtf8};
 ghost use Rattle.procd.specs.Report.{IsReport};
 ghost use Rattle.command_line.specs.Task.{wish_of, reads_text};
 
-use crate::running::running;
+use crate::running::{Manner, running};
 use command_line::words::Task;
 use std::alloc::{AllocError, Global};
 use std::io::Stderr;
@@ -16,7 +16,7 @@ use text_commands::assembly::{assembly, disassembly};
 use text_commands::lines::execution;
 use text_commands::report::Report;
 use text_commands::verification::verification;
-use world_command::world::world;
+use world_command::world::{Behind, world};
 
 /// Why there is no report.
 #[derive(Clone, Copy, Debug, PartialEq, Eq)]
@@ -59,16 +59,32 @@ pub fn report_on<R: Clock + Threads + Wait + Sync>(
             Ok(text) => Ok(verification(alloc, text)?),
             Err(_) => Err(ReportFault::NotText),
         },
-        Task::World { log } => match str::from_utf8(text) {
-            Ok(text) => Ok(world(alloc, *log, text)?),
+        Task::World { log, audit } => match str::from_utf8(text) {
+            Ok(text) => Ok(world(
+                alloc,
+                Behind {
+                    audit: *audit,
+                    log: *log,
+                },
+                text,
+            )?),
             Err(_) => Err(ReportFault::NotText),
         },
         Task::Run {
             workers,
             tries,
             stats,
+            audit,
         } => match str::from_utf8(text) {
-            Ok(text) => Ok(running(rt, alloc, text, *workers, *tries, *stats, terminal)?),
+            Ok(text) => {
+                let manner = Manner {
+                    workers: *workers,
+                    tries: *tries,
+                    stats: *stats,
+                    audit: *audit,
+                };
+                Ok(running(rt, alloc, text, manner, terminal)?)
+            }
             Err(_) => Err(ReportFault::NotText),
         },
         Task::Dis { raw } => Ok(disassembly(alloc, *raw, text)?),

@@ -62,6 +62,15 @@ fn one_worker(rt: HostRuntime) -> Result<(), Fail> {
     Ok(())
 }
 
+// Nine calls have ended, and their answers, lists and rows agree.
+#[test]
+fn audited(rt: HostRuntime) -> Result<(), Fail> {
+    let words = ["procd", "run", "--audit", "-"];
+    let want = joined(rt.alloc(), &[EIGHT_COMMITTED, "audit ok ended 9 open 0\n"])?;
+    check_calls(&rt, &words, EIGHT_MOVES, want.as_str(), 0)?;
+    Ok(())
+}
+
 #[test]
 fn two_workers(rt: HostRuntime) -> Result<(), Fail> {
     let words = ["procd", "run", "--workers", "2", "--tries", "1", "-"];
@@ -153,6 +162,19 @@ fn refused_procedure(rt: HostRuntime) {
 fn unknown_procedure(rt: HostRuntime) {
     let script = "dc 1 1\nproc a 0\nmov r0, 0\nexit\nend\ncall b\n";
     check(&rt, &RUN, script, "refused line 6 F4 NameUnknown\n", 1);
+}
+
+// What only worlds know.
+#[test]
+fn word_of_worlds(rt: HostRuntime) -> Result<(), Fail> {
+    check_calls(
+        &rt,
+        &RUN,
+        "checkpoint 0\n",
+        "refused line 61 F1 BadLine\n",
+        1,
+    )?;
+    Ok(())
 }
 
 #[test]

@@ -7,6 +7,7 @@ ghost use Rattle.scripts.specs.declared.keyword.Command.TheVariants as command;
 ghost use Rattle.scripts.specs.declared.script.Call.{Call as ScriptCall};
 ghost use Rattle.tc_core.specs.Admission.{call_of};
 ghost use Rattle.procd.specs.AnswerLines.{answer_lines, fault_line};
+ghost use Rattle.world_command.specs.AuditLines.{AddsIf, AddsAudit};
 ghost use Rattle.world_command.specs.OutcomeLines.{AddsRowLines};
 ghost use Rattle.procd.specs.Running.{said_call, AreCallsOf, is_want_of_memory, AreLinesOf, IsCallsRun, IsRun};
 
@@ -25,8 +26,19 @@ use std::time::Clock;
 use tc_core::state::{Call, Refusal, TcState};
 use text_commands::report::Report;
 use worker_pool::Answer;
+use world_command::audit_lines::write_audit;
 use world_command::loading::{Loaded, Loading, load};
 use world_command::outcome_lines::write_all_rows;
+
+/// How the calls of a script are run: the second list by so many workers, each request sent so often
+/// at most; with the figures of that list as notes, and with an audit behind the rows.
+#[derive(Clone, Copy, Debug)]
+pub struct Manner {
+    pub workers: u64,
+    pub tries: u64,
+    pub stats: bool,
+    pub audit: bool,
+}
 
 // The call that a line of the script says.
 fn call_of(alloc: Global, said: &script::Call) -> Result<Call, AllocError>
@@ -85,20 +97,40 @@ fn notes(alloc: Global, answered: &Answered) -> Result<String, AllocError> {
     Ok(notes)
 }
 
+// Adds the line of an audit of a log and of these components, where one is wanted, and answers
+// whether nothing is wrong.
+fn write_found(
+    alloc: Global,
+    audit: bool,
+    state: &TcState,
+    dcs: &[Dc],
+    lines: &mut String,
+) -> Result<bool, AllocError>
+    ensures { IfOk result (λ sound. AddsIf audit (string_bytes lines.old) (string_bytes lines.new) sound
+        (AddsAudit state.now.procs state.now.events dcs.now (string_bytes lines.old) (string_bytes lines.new) sound)) }
+{
+    if !audit {
+        return Ok(true);
+    }
+    write_audit(alloc, state.procs(), state.log(), dcs, lines)
+}
+
 // The report of calls that were run, over components that are now these.
-fn ran(alloc: Global, answered: &Answered, dcs: &[Dc], stats: bool) -> Result<Report, AllocError>
-    ensures status { IfOk result (λ r. r.status ≡ 0) }
-    ensures lines { IfOk result (λ r. AreLinesOf answered.now.first.items answered.now.calls.items (length dcs.now) (string_bytes r.lines)) }
+fn ran(alloc: Global, answered: &Answered, dcs: &[Dc], manner: Manner) -> Result<Report, AllocError>
+    ensures { IfOk result (λ r. AreLinesOf answered.now.state manner.audit answered.now.first.items answered.now.calls.items
+        (length dcs.now) r.status (string_bytes r.lines)) }
 {
     let first = answered.first.as_slice();
     let calls = answered.calls.as_slice();
     if has_want_of_memory(first) || has_want_of_memory(calls) {
         return Err(AllocError);
     }
+    let mut lines = run_lines(alloc, first, calls, dcs)?;
+    let sound = write_found(alloc, manner.audit, &answered.state, dcs, &mut lines)?;
     Ok(Report {
-        status: 0,
-        lines: run_lines(alloc, first, calls, dcs)?,
-        notes: if stats {
+        status: u8::from(!sound),
+        lines,
+        notes: if manner.stats {
             Some(notes(alloc, answered)?)
         } else {
             None
@@ -135,8 +167,7 @@ fn prepare(
     first: &[script::Call],
     calls: &[script::Call],
     dcs: usize,
-    workers: u64,
-    stats: bool,
+    manner: Manner,
     terminal: Option<Stderr>,
 ) -> Result<Prepared, AllocError>
     ensures first { IfOk result (λ p. AreCallsOf first.now p.first.items) }
@@ -144,8 +175,8 @@ fn prepare(
 {
     let first = calls_of(alloc, first)?;
     let calls = calls_of(alloc, calls)?;
-    let rings = Rings::new(alloc, dcs, workers)?;
-    let watched = if stats { calls.len() } else { 0 };
+    let rings = Rings::new(alloc, dcs, manner.workers)?;
+    let watched = if manner.stats { calls.len() } else { 0 };
     let waits = Waits::new(alloc, watched, terminal)?;
     Ok(Prepared {
         first,
@@ -162,11 +193,11 @@ fn run_calls<R: Clock + Threads + Wait + Sync>(
     state: TcState,
     dcs: Vec<Dc>,
     prepared: Prepared,
-    workers: u64,
-    tries: u64,
-    stats: bool,
+    manner: Manner,
 ) -> Result<Report, AllocError>
-    ensures { (said_first said_calls : List ScriptCall) → AreCallsOf said_first prepared.first.items → AreCallsOf said_calls prepared.calls.items → IfOk result (λ r. IsCallsRun state said_first said_calls (vec_len dcs) workers tries r.status (string_bytes r.lines)) }
+    ensures { (said_first said_calls : List ScriptCall) → AreCallsOf said_first prepared.first.items
+        → AreCallsOf said_calls prepared.calls.items → IfOk result (λ r. IsCallsRun state said_first said_calls (vec_len dcs)
+        manner.workers manner.tries manner.audit r.status (string_bytes r.lines)) }
 {
     let Prepared {
         first,
@@ -180,14 +211,14 @@ fn run_calls<R: Clock + Threads + Wait + Sync>(
         state,
         first.as_slice(),
         calls.as_slice(),
-        workers as usize,
-        tries,
+        manner.workers as usize,
+        manner.tries,
         rings,
         dcs,
         &waits,
     );
     match answered {
-        Ok(answered) => ran(alloc, &answered, dcs?.as_slice(), stats),
+        Ok(answered) => ran(alloc, &answered, dcs?.as_slice(), manner),
         Err(cause) => stopped(alloc, cause),
     }
 }
@@ -197,12 +228,11 @@ fn run_loaded<R: Clock + Threads + Wait + Sync>(
     rt: &R,
     alloc: Global,
     loaded: Loaded,
-    workers: u64,
-    tries: u64,
-    stats: bool,
+    manner: Manner,
     terminal: Option<Stderr>,
 ) -> Result<Report, AllocError>
-    ensures { IfOk result (λ r. IsCallsRun loaded.state loaded.first.items loaded.calls.items (vec_len loaded.dcs) workers tries r.status (string_bytes r.lines)) }
+    ensures { IfOk result (λ r. IsCallsRun loaded.state loaded.first.items loaded.calls.items (vec_len loaded.dcs)
+        manner.workers manner.tries manner.audit r.status (string_bytes r.lines)) }
 {
     let Loaded {
         state,
@@ -216,32 +246,30 @@ fn run_loaded<R: Clock + Threads + Wait + Sync>(
         first.as_slice(),
         calls.as_slice(),
         dcs.len(),
-        workers,
-        stats,
+        manner,
         terminal,
     ) {
-        Ok(ready) => run_calls(rt, alloc, state, dcs, ready, workers, tries, stats),
+        Ok(ready) => run_calls(rt, alloc, state, dcs, ready, manner),
         Err(AllocError) => Err(AllocError),
     }
 }
 
-/// Runs the calls of a script: the first list by one worker, and then the other by so many, each
-/// request sent so often at most. Prints what each call was answered, and then what is kept; with
-/// `stats` the figures of the second list are the report's notes. Where there is a terminal, it is
-/// told once a second how many of them are answered.
+/// Runs the calls of a script: the first list by one worker, and then the other in this manner.
+/// Prints what each call was answered, then what is kept, and then, where it is wanted, what an audit
+/// finds. Where there is a terminal, it is told once a second how many of the second list's calls are
+/// answered.
 pub fn running<R: Clock + Threads + Wait + Sync>(
     rt: &R,
     alloc: Global,
     text: &str,
-    workers: u64,
-    tries: u64,
-    stats: bool,
+    manner: Manner,
     terminal: Option<Stderr>,
 ) -> Result<Report, AllocError>
-    ensures { IfOk result (λ r. IsRun workers tries (script_said command.Run text.now) r.status (string_bytes r.lines)) }
+    ensures { IfOk result (λ r. IsRun manner.workers manner.tries manner.audit (script_said command.Run text.now)
+        r.status (string_bytes r.lines)) }
 {
     match load(alloc, Command::Run, text)? {
-        Loading::Ready(loaded) => run_loaded(rt, alloc, loaded, workers, tries, stats, terminal),
+        Loading::Ready(loaded) => run_loaded(rt, alloc, loaded, manner, terminal),
         Loading::Refused(report) => Ok(report),
     }
 }

@@ -7,7 +7,7 @@ const WORLD: [&str; 3] = ["procd", "world", "-"];
 const LOGGED: [&str; 4] = ["procd", "world", "--log", "-"];
 
 // The data component, the steps, what is printed for them, and the status.
-const WORLDS: [(&str, &str, &str, u8); 8] = [
+const WORLDS: [(&str, &str, &str, u8); 7] = [
     (
         "dc 4 100\n",
         "admit get\nadmit get 5 6\n",
@@ -140,31 +140,6 @@ illegal I9 Stranger
 row 0/0/5 100
 ",
         1,
-    ),
-    (
-        "dc 4 100\n",
-        "admit put 5 100
-ask 1
-perform 0
-perform 0
-restart 0
-perform 0
-take 2
-ask 1
-end 1
-",
-        "admitted 1
-sent 0 number 1 insert 0/0/5 100 low 0
-reply 0 number 1 done
-reply 1 number 1 done
-restarted 0
-reply 2 number 1 done
-took number 1
-over 1
-ended 1 committed at 3
-row 0/0/5 100
-",
-        0,
     ),
     (
         "dc 4 1\n",
