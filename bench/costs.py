@@ -6,8 +6,9 @@ usage: bench/costs.py [--bench PATH] [WHAT..]
 WHAT names some of the measurements (starts locks numbers log store restarts checkpoints steps redo
 checks audits); without it all are done. The program `bench` has to be built: `rt run` in crates/bench
 does that, and `tools/unproved.py bench` in a minute or two without the proofs. Each figure is the
-least of several runs, measured from outside: the processor time, or the peak of resident memory, of a
-run with the work less that of a run without it.
+least of several runs, measured from outside: the processor time of a run with the work less that of
+one without it, and the peaks of resident memory of both, each told as 14 MB or so at least, which this
+script has itself.
 """
 import argparse
 import os
@@ -38,10 +39,10 @@ class Bench:
         return seconds, peak
 
     def each(self, *words, times):
-        """The seconds that each repeat takes, and the bytes that they add to the peak."""
+        """The seconds that each repeat takes; the peak of memory with them all, and without."""
         seconds, peak = self.run(*words, times)
         without, before = self.run(*words, 0)
-        return (seconds - without) / times, peak - before
+        return (seconds - without) / times, f"{peak / 1e6:.0f} MB at the peak, {before / 1e6:.0f} without"
 
     def one(self, *words, times):
         """The seconds that each repeat takes."""
@@ -112,8 +113,8 @@ def redo(bench):
 
 def checks(bench):
     for events in (10_000, 100_000, 1_000_000):
-        seconds, peak = bench.each("check", events // 4, times=2_000_000 // events)
-        say("check", events, seconds / events * 1e9, f"ns an event; {peak / events:.0f} bytes an event at the peak")
+        seconds, memory = bench.each("check", events // 4, times=2_000_000 // events)
+        say("check", events, seconds / events * 1e9, f"ns an event; {memory}")
 
 
 # A row is put by four events and one entry; a call that moves an amount has ten and four.
@@ -121,9 +122,9 @@ def audits(bench):
     sizes = [(events, 1_000) for events in (10_000, 100_000, 1_000_000)]
     for events, rows in (*sizes, (1_000_000, 10), (1_000_000, 65_536), (1_000_000, 250_000)):
         ended = (events - 4 * rows) // 10
-        seconds, peak = bench.each("audits", ended, rows, times=2_000_000 // events)
+        seconds, memory = bench.each("audits", ended, rows, times=2_000_000 // events)
         beside = f"{4 * ended + rows} entries, {rows} rows"
-        say("audit", events, seconds / events * 1e9, f"ns an event; {peak / events:.0f} bytes an event at the peak; {beside}")
+        say("audit", events, seconds / events * 1e9, f"ns an event, {beside}; {memory}")
 
 
 MEASURED = {
