@@ -29,8 +29,9 @@ for example in examples/*/; do
 done
 tried tools/believed.py
 tried tools/hostile.py --every 25
-tried tools/explore.py --seconds 20
+tried tools/explore.py --audit --seconds 20
 tried tools/storms.py --runs 5 --calls 1000
+tried tools/tampered.py --every 25
 took "all"
 echo "$passed passed, $failed failed"
 [ "$failed" -eq 0 ]
