@@ -23,6 +23,63 @@ fn check_calls<R: Files + Clock + AllocGlobal + Threads + Wait + Abort + Sync>(
 
 const RUN: [&str; 3] = ["procd", "run", "-"];
 
+// Each data component has room for another number of records.
+const UNEQUAL: &str = "dc 1 100
+dc 2 100
+dc 3 100
+proc one 1
+slot write 0 0 $0
+  mov r1, 0
+  call 2
+  exit
+end
+proc two 1
+slot write 1 0 $0
+  mov r1, 0
+  call 2
+  exit
+end
+proc three 1
+slot write 2 0 $0
+  mov r1, 0
+  call 2
+  exit
+end
+call one 1
+call one 2
+call two 1
+call two 2
+call two 3
+call three 1
+call three 2
+call three 3
+call three 4
+";
+
+const UNEQUAL_ROWS: &str = "call 0 committed
+call 1 noroom
+call 2 committed
+call 3 committed
+call 4 noroom
+call 5 committed
+call 6 committed
+call 7 committed
+call 8 noroom
+row 0/0/1 0
+row 1/0/1 0
+row 1/0/2 0
+row 2/0/1 0
+row 2/0/2 0
+row 2/0/3 0
+";
+
+// Each component has its own rows, in its place.
+#[test]
+fn unequal_components(rt: HostRuntime) {
+    let words = ["procd", "run", "--workers", "1", "-"];
+    check(&rt, &words, UNEQUAL, UNEQUAL_ROWS, 0);
+}
+
 // Both buffers are of one record: the last write stands.
 #[test]
 fn two_buffers(rt: HostRuntime) -> Result<(), Fail> {
