@@ -48,12 +48,13 @@ fn puts_back(rt: &impl Abort, tc: &mut TcState, txn: TxnId, number: u64, key: u6
     undoes(rt, tc, txn, insert, said);
 }
 
-// It is put back by the last of four tries.
-fn put_back_at_last(rt: &impl Abort, tc: &mut TcState, txn: TxnId, first: u64, key: u64) {
+// It is put back by the last of four tries, under these numbers.
+fn put_back_at_last(rt: &impl Abort, tc: &mut TcState, txn: TxnId, numbers: [u64; 4], key: u64) {
+    let [first, second, third, fourth] = numbers;
     puts_back(rt, tc, txn, first, key, Said::Duplicate);
-    puts_back(rt, tc, txn, first + 1, key, Said::NoRoom);
-    puts_back(rt, tc, txn, first + 2, key, Said::Duplicate);
-    puts_back(rt, tc, txn, first + 3, key, Said::Done(None));
+    puts_back(rt, tc, txn, second, key, Said::NoRoom);
+    puts_back(rt, tc, txn, third, key, Said::Duplicate);
+    puts_back(rt, tc, txn, fourth, key, Said::Done(None));
 }
 
 fn both_are_put_back(rt: &impl Abort, alloc: Global, tc: &mut TcState) -> Result<(), Fail> {
@@ -63,8 +64,8 @@ fn both_are_put_back(rt: &impl Abort, alloc: Global, tc: &mut TcState) -> Result
     deletes(rt, tc, txn, 1, 5);
     deletes(rt, tc, txn, 2, 6);
     assert_eq!(rt; ask_word(tc, txn), ("undoing", 0));
-    put_back_at_last(rt, tc, txn, 3, 6);
-    put_back_at_last(rt, tc, txn, 7, 5);
+    put_back_at_last(rt, tc, txn, [3, 4, 5, 6], 6);
+    put_back_at_last(rt, tc, txn, [7, 8, 9, 10], 5);
     assert_eq!(rt; undo_word(tc, txn), ("over", 0));
     ends(rt, tc, txn, 21, Outcome::Aborted(5));
     Ok(())
