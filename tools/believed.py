@@ -2,8 +2,9 @@
 """believed.py [--write] [--of CRATE[.NAME]]: looks whether docs/PROVED.md names, each with its lines, exactly the
 definitions that a reader has to believe: those of specs/ that a public item's contract speaks of (a function's
 clauses, what contracts see of a type and what the type keeps), and all that these are made of. None of them may
-stand in specs/Joining, whose definitions only join bodies to others. With --write the counts of lines are written
-anew. With --of it says instead which public items lead to that crate's definitions, or to the one of that name.
+stand in specs/Joining, whose definitions only join bodies to others. Of the headline alone it looks whether the page
+lists exactly the definitions that its table names and what these are made of. With --write the counts of lines, and
+that list, are written anew. With --of it says instead which public items lead to that crate's definitions, or to the one of that name.
 The status is 1 where something differs."""
 import pathlib
 import re
@@ -13,6 +14,9 @@ TOP = pathlib.Path(__file__).resolve().parent.parent
 PAGE = TOP / "docs" / "PROVED.md"
 ROW = re.compile(r"^(\|[^|]*\| )(`\w+`: [^|]*?)( \|)$", re.M)
 TOTAL = re.compile(r"^That is (\d+) lines", re.M)
+CLAUSES = re.compile(r"^## The headline, clause by clause\n.*?^## ", re.M | re.S)
+NAMED = re.compile(r"`(\w+)` in `(\w+)/specs/(\w+)\.antt`")
+ALONE = re.compile(r"^For the headline alone .*?(?=\n\n(?!- ))", re.M | re.S)
 WORD = re.compile(r"[^\s(){}\[\],;.λ→×⊎≡≢≤<+*&|∷∙=\"'`@:]+(?:\.[^\s(){}\[\],;.]+)*")
 USE = re.compile(r"use Rattle\.(\w+)\.specs\.((?:Joining\.)?\w+)(?:\.\{([^}]*)\}|\.(\w+))?(?: as (\w+))?;?")
 
@@ -180,8 +184,12 @@ def sources(all_modules):
 
 def believed(all_modules):
     """Each definition that has to be believed, with the public item that leads to it."""
+    return made_of([(target, item) for item, targets in sources(all_modules) for target in targets], all_modules)
+
+
+def made_of(wait, all_modules):
+    """These definitions and all that they are made of, each with the item that leads to it."""
     found = {}
-    wait = [(target, item) for item, targets in sources(all_modules) for target in targets]
     while wait:
         target, item = wait.pop()
         if target in found:
@@ -189,7 +197,7 @@ def believed(all_modules):
         found[target] = item
         crate, module, name = target
         home = all_modules[crate, module]
-        wait += [(made_of, item) for made_of in looked_up(home.words.get(name, ()), home.names, all_modules, (crate, module))]
+        wait += [(part, item) for part in looked_up(home.words.get(name, ()), home.names, all_modules, (crate, module))]
     return found
 
 
@@ -230,6 +238,20 @@ def recounted(page, lines, faults):
     return TOTAL.sub(f"That is {total} lines", page)
 
 
+def alone(page, all_modules):
+    """What the page is to say of the definitions that the headline needs."""
+    named = [((crate, file, name), "the headline") for name, crate, file in NAMED.findall(CLAUSES.search(page)[0])]
+    unknown = [f"{crate}.{file}.{name}" for (crate, file, name), _ in named if name not in all_modules[crate, file].lines]
+    if unknown:
+        sys.exit(f"believed: the headline's table names {', '.join(unknown)}, which isn't there")
+    lines = counted(made_of(named, all_modules), all_modules)
+    crates = {}
+    for (crate, module), count in lines.items():
+        crates.setdefault(crate, []).append(f"{module} {count}")
+    rows = [f"- `{crate}`: {', '.join(sorted(files))}" for crate, files in sorted(crates.items())]
+    return f"For the headline alone {sum(lines.values())} lines of {len(lines)} files are enough, those that its table names and what they are made of:\n\n" + "\n".join(rows)
+
+
 def told_of(wanted, found):
     crate, _, name = wanted.partition(".")
     for target, item in sorted(found.items()):
@@ -245,6 +267,10 @@ def main():
         return 0
     faults = []
     page = recounted(PAGE.read_text(), counted(found, all_modules), faults)
+    needed = alone(page, all_modules)
+    if ALONE.search(page)[0] != needed:
+        faults.append("of the headline alone it isn't as the page says")
+    page = ALONE.sub(lambda match: needed, page)
     faults += [f"{crate} {module} {name} stands in Joining, and {item} speaks of it" for (crate, module, name), item in sorted(found.items()) if module.startswith("Joining.")]
     if "--write" in sys.argv[1:]:
         PAGE.write_text(page)
