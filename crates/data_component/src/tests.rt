@@ -119,6 +119,13 @@ fn a_restart_goes_back_to_the_checkpoint(rt: HostRuntime) -> Result<(), Fail> {
         redo: true,
         ..old
     };
+    let of_a_later_one = Wire {
+        low_water: 3,
+        incarnation: 2,
+        ..redone
+    };
+    assert_eq!(rt; said_to(&mut dc, &of_a_later_one), None);
+    assert_eq!(rt; dc.mark(), 0);
     assert_eq!(rt; said(&mut dc, 4, 0, six), Some(Said::NoRoom));
     assert_eq!(rt; said_to(&mut dc, &redone), Some(Said::Done(None)));
     assert_eq!(rt; dc.rows().len(), 2);
