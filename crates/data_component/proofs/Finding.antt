@@ -253,3 +253,20 @@ module _ {K V : Type 0} (eq less : K → K → Bool) (order : IsOrder eq less) w
       → IsPartitionPoint (λ y. below k y ≡ true) (λ y. below k y ≡ false) xs i → i ≡ place k xs
   place_is k [] i few point = omega (arith, few)
   place_is k (x ∷ xs) i few point = point_choice (below k x) k x xs i refl few point (λ j fewer p. place_is k xs j fewer p)
+
+  -- ---- the last pair
+
+  place_of_none : (k : K) (xs : List (K × V)) → length xs ≡ 0 → place k xs ≡ length xs
+  place_of_none k [] none = refl
+  place_of_none k (x ∷ xs) none = absurd (omega (arith, none))
+
+  behind : (k : K) (x : K × V) (xs : List (K × V)) → below k x ≡ true → place k xs ≡ length xs → place k (x ∷ xs) ≡ length (x ∷ xs)
+  behind k x xs is later = further k x xs is ∙ ap suc later
+
+  -- where the last pair is below the key, all are
+  pub place_past : (k : K) (xs : List (K × V)) (i : ℕ) (d : K × V) → Sorted less xs → i + 1 ≡ length xs
+      → below k (slice_index_or xs i d) ≡ true → place k xs ≡ length xs
+  place_past k [] i d sorted last is = refl
+  place_past k (x ∷ xs) zero d sorted last is = behind k x xs is (place_of_none k xs (omega (arith, last)))
+  place_past k (x ∷ xs) (suc i) d sorted last is =
+      behind k x xs (all_below k x.0 xs i d sorted.0 (omega (arith, last)) is) (place_past k xs i d sorted.1 (omega (arith, last)) is)

@@ -1,10 +1,10 @@
 -- Numbers and their places in the list of what was performed.
-use Rattle.std.proofs.Common.{◌≡◌, ℕ, ◌<◌, ◌≤◌, nat_lt, length, sym, ap, ◌∙◌, ◌≢◌}
+use Rattle.std.proofs.Common.{◌≡◌, ℕ, ◌-◌, ◌<◌, ◌≤◌, nat_lt, true, length, sym, ap, subst, arith, ◌∙◌, ◌≢◌}
 use Rattle.std.specs.Prelude.{Option, Some, None, slice_get, slice_index_or}
 use Rattle.std.proofs.lemmas.Bool.{cond-true, cond-false, eq-eqb, ne_eqb}
-use Rattle.std.proofs.lemmas.Option.{slice_get_past, slice_get-get_or}
+use Rattle.std.proofs.lemmas.Option.{slice_get_past, slice_get_within, slice_get-get_or}
 use Rattle.data_component.specs.Sorted.{Kept, place_of, kept_place, SortedKept}
-use Rattle.data_component.proofs.Finding.{value_at, find_at}
+use Rattle.data_component.proofs.Finding.{value_at, find_at, place_past}
 use Rattle.data_component.proofs.Orders.{numbers, number_eq}
 
 -- ---- what stands at a number's place
@@ -34,3 +34,14 @@ missing_there kept n i d sorted at inside other = sym (
 
 pub none_there : (kept : Kept) (n i : ℕ) → SortedKept kept → i ≡ kept_place kept n → length kept ≤ i → None ≡ place_of kept n
 none_there kept n i sorted is past = sym (seen None kept n i sorted is (slice_get_past kept i past))
+
+-- ---- the last entry
+
+pub all_lesser : (kept : Kept) (n : ℕ) (last : ℕ × ℕ) → SortedKept kept → slice_get kept (length kept - 1) ≡ Some last
+    → nat_lt last.0 n ≡ true → kept_place kept n ≡ length kept
+all_lesser kept n last sorted at lesser =
+    let i = length kept - 1 in
+    let inside = slice_get_within kept i last at in
+    let both : Some (slice_index_or kept i last) ≡ Some last = sym (slice_get-get_or kept i last inside) ∙ at in
+    let same : slice_index_or kept i last ≡ last = cc in
+    place_past number_eq nat_lt numbers n kept i last sorted (omega (arith, inside)) (subst (λ (x : ℕ × ℕ). nat_lt x.0 n ≡ true) (sym same) lesser)

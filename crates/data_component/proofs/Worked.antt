@@ -1,5 +1,5 @@
 -- Worked rows: the definitions, computed by the prover, on a store for one record and four operations.
-use Rattle.std.proofs.Common.{◌≡◌, ℕ, List, [], ◌∷◌, Some, None, refl}
+use Rattle.std.proofs.Common.{◌≡◌, ℕ, List, ◌∷◌, Some, None, refl}
 use Rattle.std.specs.Prelude.{Bool, true, false, Option, replicate}
 use Rattle.access_slots.specs.declared.slot.Record.{Record}
 use Rattle.access_slots.specs.declared.op.Op.{Op}

@@ -1,7 +1,7 @@
 -- A data component: what it has performed, what its last checkpoint kept, and how it performs a wire, restarts and keeps a
 -- checkpoint (Lomet, Fekete, Weikum, Zwilling, CIDR 2009: a data component that fails is restored, and the transaction component
 -- sends its operations again).
-use Rattle.std.specs.Prelude.{◌≡◌, ℕ, ◌+◌, ◌≤◌, ◌^◌, Bool, nat_lt, nat_le, ◌==◌, if◌then◌else◌, List, [], ◌∷◌, length, Option, Some, None}
+use Rattle.std.specs.Prelude.{ℕ, ◌+◌, ◌≤◌, ◌^◌, Bool, nat_lt, nat_le, ◌==◌, if◌then◌else◌, List, [], ◌∷◌, length, Option, Some, None}
 use Rattle.access_slots.specs.declared.op.Op.{Op}
 use Rattle.access_slots.specs.declared.op.Said.{Said}
 use Rattle.access_slots.specs.declared.op.Said.TheVariants.{Old}

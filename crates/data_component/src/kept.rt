@@ -1,18 +1,33 @@
 //! Where the numbers above the mark stand in the list of what was performed, sorted by number.
 
-ghost use Rattle.std.specs.Prelude.{◌≡◌, ◌<◌, ◌≤◌, None, length, vec_capacity};
+ghost use Rattle.std.specs.Prelude.{◌≡◌, ◌<◌, ◌≤◌, true, None, length, vec_capacity};
 ghost use Rattle.std.specs.List.{insert};
 ghost use Rattle.data_component.specs.Sorted.{place_of, kept_place, SortedKept};
 
 /// A number and its place in the list.
 pub(crate) type Kept = (u64, usize);
 
-// How many entries are of lesser numbers.
+// Whether all entries are of lesser numbers.
+fn is_greatest(kept: &[Kept], number: u64) -> bool
+    requires { SortedKept kept.now }
+    ensures { result ≡ true → kept_place kept.now number ≡ length kept.now }
+{
+    match kept.last() {
+        Some(last) => last.0 < number,
+        None => true,
+    }
+}
+
+// How many entries are of lesser numbers. Numbers mostly come as they rise, so the last entry is looked at
+// first.
 fn count_before(kept: &[Kept], number: u64) -> usize
     requires { SortedKept kept.now }
     ensures value { result ≡ kept_place kept.now number }
     ensures few { result ≤ length kept.now }
 {
+    if is_greatest(kept, number) {
+        return kept.len();
+    }
     kept.partition_point(|entry| entry.0 < number)
 }
 
@@ -41,6 +56,10 @@ pub(crate) fn keep(kept: &mut Vec<Kept>, number: u64, place: usize)
     ensures capacity { vec_capacity kept.new ≡ vec_capacity kept.old }
 {
     let at = count_before(kept.as_slice(), number);
+    if at == kept.len() {
+        kept.push_reserved((number, place));
+        return;
+    }
     match kept.insert(at, (number, place)) {
         Ok(()) => {}
         Err(_) => unreachable!(),

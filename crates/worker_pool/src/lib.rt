@@ -48,6 +48,7 @@ mod sending;
 mod test_pool;
 #[cfg(test)]
 mod test_state;
+mod waiting;
 
 pub use answer::{Answer, Progress};
 pub use locked_dcs::LockedDcs;

@@ -4,6 +4,7 @@ ghost use Rattle.std.specs.Prelude.{◌≡◌, ◌<◌, ◌≤◌, ◌↔◌, No
 ghost use Rattle.access_slots.specs.Locks.{target};
 
 use crate::pool::Link;
+use crate::waiting::acquire;
 use access_slots::op::{News, Reply, Wire};
 use data_component::dc::Dc;
 use std::alloc::{AllocError, Global};
@@ -65,7 +66,7 @@ impl Link for LockedDcs {
         ensures number { IfSome result (λ reply. reply.number ≡ wire.now.number) }
     {
         let dc = self.dcs.get(usize::from(wire.op.record().dc))?;
-        dc.lock(rt).perform(wire)
+        acquire(rt, dc).perform(wire)
     }
 
     /// Nothing: no component of this process restarts.

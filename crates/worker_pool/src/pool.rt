@@ -10,6 +10,7 @@ use crate::answer::{Answer, Progress};
 use crate::desk::{Desk, Naming, Next};
 use crate::report::Report;
 use crate::sending::Sending;
+use crate::waiting::acquire;
 use access_slots::op::{News, Reply, Wire};
 use std::alloc::{AllocError, Global};
 use std::marker::Brand;
@@ -166,44 +167,67 @@ struct Pool<J: Naming> {
     freed: Condvar,
 }
 
-// The next call that no worker has taken.
-fn take_next<J: Naming, R: Wait>(rt: &R, pool: &Pool<J>) -> Option<usize> {
-    pool.desk.lock(rt).take()
+// What is to be done for a call without the lock.
+enum Errand {
+    // A wire is to be carried.
+    Carry(Sending),
+    // Nothing came back that answers what was carried: the link is asked for news.
+    Unanswered(Sending),
+    // The call's answer stands.
+    Over,
 }
 
-// What follows a step, under the taking of the lock in which the step was made: a call with another
-// in its way waits for a change, and one that is answered tells of a change.
+// What the steps under one taking of the lock lead to.
+struct Turn {
+    // Whether the call was admitted in them: then the gate is told first.
+    is_begun: bool,
+    errand: Errand,
+}
+
+// What follows a step, under the taking of the lock in which the step was made: a call that is admitted
+// goes on at once, one with another in its way waits for a change and tries again, and one that is answered
+// tells of a change, as soon as the lock is given back.
 fn settle<J: Naming, R: Wait>(
     rt: &R,
     pool: &Pool<J>,
-    desk: MutexGuard<'_, Desk<J>>,
-    next: Next,
-) -> Next {
-    match next {
-        Next::Busy => {
-            let _desk = pool.freed.wait(rt, desk);
-            Next::Busy
-        }
-        Next::Over => {
-            pool.freed.notify_all();
-            Next::Over
-        }
-        Next::Begun => Next::Begun,
-        Next::Carry(sending) => Next::Carry(sending),
-        Next::Unanswered(sending) => Next::Unanswered(sending),
-    }
-}
-
-// The next step of a call.
-fn advance<J: Naming, R: Wait>(rt: &R, pool: &Pool<J>, k: usize, call: &Call) -> Next
+    mut desk: MutexGuard<'_, Desk<J>>,
+    k: usize,
+    call: &Call,
+    mut next: Next,
+) -> Turn
     requires { slice_get J.calls k ≡ Some call.now }
 {
-    let mut desk = pool.desk.lock(rt);
-    let next = desk.advance(k, call);
-    settle(rt, pool, desk, next)
+    let mut is_begun = false;
+    for _ in rt.forever() {
+        next = match next {
+            Next::Begun => {
+                is_begun = true;
+                desk.advance(k, call)
+            }
+            Next::Busy => {
+                desk = pool.freed.wait(rt, desk);
+                desk.advance(k, call)
+            }
+            Next::Carry(sending) => {
+                let errand = Errand::Carry(sending);
+                return Turn { is_begun, errand };
+            }
+            Next::Unanswered(sending) => {
+                let errand = Errand::Unanswered(sending);
+                return Turn { is_begun, errand };
+            }
+            Next::Over => {
+                drop(desk);
+                pool.freed.notify_all();
+                let errand = Errand::Over;
+                return Turn { is_begun, errand };
+            }
+        };
+    }
+    unreachable!()
 }
 
-// The step of a call that what came back leads to.
+// The steps of a call that what came back leads to.
 fn hear<J: Naming, R: Wait>(
     rt: &R,
     pool: &Pool<J>,
@@ -211,68 +235,68 @@ fn hear<J: Naming, R: Wait>(
     call: &Call,
     sending: Sending,
     reply: Reply,
-) -> Next
+) -> Turn
     requires { slice_get J.calls k ≡ Some call.now }
 {
-    let mut desk = pool.desk.lock(rt);
+    let mut desk = acquire(rt, &pool.desk);
     let next = desk.hear(k, call, sending, reply);
-    settle(rt, pool, desk, next)
+    settle(rt, pool, desk, k, call, next)
 }
 
-// The step of a call where nothing came back that answers what was carried.
-fn go_on_unanswered<J: Naming, R: Wait>(
+// The steps of a call where nothing came back that answers what was carried. The link is asked for news
+// without the lock.
+fn go_on_unanswered<J: Naming, R: Wait, L: Link, G: Gate>(
     rt: &R,
     pool: &Pool<J>,
     k: usize,
     call: &Call,
     sending: Sending,
-    news: Option<News>,
-) -> Next
+    worker: &Worker<L, G>,
+) -> Turn
     requires { slice_get J.calls k ≡ Some call.now }
 {
-    let mut desk = pool.desk.lock(rt);
+    let news = worker.link.news(rt, worker.number, sending.dc());
+    let mut desk = acquire(rt, &pool.desk);
     let next = desk.go_on_unanswered(k, call, sending, news);
-    settle(rt, pool, desk, next)
+    settle(rt, pool, desk, k, call, next)
 }
 
-// Runs a call to its answer. Gate and link are called without the lock.
+// Runs a call from its first steps to its answer. Gate and link are called without the lock.
 fn serve<J: Naming, R: Wait, L: Link, G: Gate>(
     rt: &R,
     pool: &Pool<J>,
     k: usize,
     call: &Call,
+    first: Turn,
     worker: &Worker<L, G>,
 )
     requires { slice_get J.calls k ≡ Some call.now }
 {
-    let mut next = advance(rt, pool, k, call);
+    let mut turn = first;
     for _ in rt.forever() {
-        next = match next {
-            Next::Over => {
+        let Turn { is_begun, errand } = turn;
+        if is_begun {
+            worker.gate.begun(k);
+        }
+        turn = match errand {
+            Errand::Over => {
                 worker.gate.answered(k);
                 return;
             }
-            Next::Begun => {
-                worker.gate.begun(k);
-                advance(rt, pool, k, call)
-            }
-            Next::Busy => advance(rt, pool, k, call),
-            Next::Carry(sending) => {
+            Errand::Carry(sending) => {
                 match worker.link.carry(rt, worker.number, sending.wire()) {
                     Some(reply) => hear(rt, pool, k, call, sending, reply),
-                    None => Next::Unanswered(sending),
+                    None => go_on_unanswered(rt, pool, k, call, sending, worker),
                 }
             }
-            Next::Unanswered(sending) => {
-                let news = worker.link.news(rt, worker.number, sending.dc());
-                go_on_unanswered(rt, pool, k, call, sending, news)
-            }
+            Errand::Unanswered(sending) => go_on_unanswered(rt, pool, k, call, sending, worker),
         };
     }
     unreachable!()
 }
 
-// What a worker does: it takes calls until none is left.
+// What a worker does: it takes calls until none is left. A call is taken, admitted and asked for its first
+// operation under one taking of the lock.
 fn work<J: Naming, R: Wait, L: Link, G: Gate>(
     rt: &R,
     pool: &Pool<J>,
@@ -282,12 +306,16 @@ fn work<J: Naming, R: Wait, L: Link, G: Gate>(
     requires { calls.now ≡ J.calls }
 {
     for _ in calls {
-        let Some(k) = take_next(rt, pool) else {
+        let mut desk = acquire(rt, &pool.desk);
+        let Some(k) = desk.take() else {
             return;
         };
-        if let Some(call) = calls.get(k) {
-            serve(rt, pool, k, call, worker);
-        }
+        let Some(call) = calls.get(k) else {
+            return;
+        };
+        let next = desk.advance(k, call);
+        let first = settle(rt, pool, desk, k, call, next);
+        serve(rt, pool, k, call, first, worker);
     }
 }
 
