@@ -3,7 +3,7 @@ use Rattle.std.proofs.Common.{◌≡◌, ◌≢◌, ℕ, zero, suc, ◌+◌, ◌
 use Rattle.std.proofs.Common.{Some, None, arith, refl, sym, ◌∙◌, ap, subst, inl, inr}
 use Rattle.std.specs.Prelude.{reverse, replicate, slice_get, slice_set}
 use Rattle.std.proofs.lemmas.Bool.{cases_eq}
-use Rattle.std.proofs.lemmas.List.{length-reverse, length-set, take-append-le}
+use Rattle.std.proofs.lemmas.List.{length-replicate, length-reverse, length-set, take-append-le}
 use Rattle.tc_log.specs.declared.event.Event.{Event}
 use Rattle.transactions.specs.declared.Redoing.{Redoing}
 use Rattle.transactions.specs.declared.Site.{Site}
@@ -50,6 +50,19 @@ starts_none n = record {
   count = same_many n 0 untold;
   inside = λ d place at. (let none = got n d 0 place at in omega (arith, none));
   begin = λ d place s at is. subst (λ (x : Site). MayBegin [] place x.redo) (sym (got n d untold s is)) tt;
+}
+
+-- ---- a log that is looked through from its first event on
+
+begin_first : (h : List Event) (r : Option Redoing) → MayBegin h 0 r
+begin_first h None = tt
+begin_first h (Some r) = tt
+
+pub starts_first : (n : ℕ) (sites : List Site) (h : List Event) → length sites ≡ n → AreStarts sites (replicate n 0) h
+starts_first n sites h many = record {
+  count = length-replicate n 0 ∙ sym many;
+  inside = λ d place at. (let none = got n d 0 place at in omega (arith, none));
+  begin = λ d place s at is. subst (λ (p : ℕ). MayBegin h p s.redo) (sym (got n d 0 place at)) (begin_first h s.redo);
 }
 
 -- ---- one more event

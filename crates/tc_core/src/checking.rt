@@ -1,6 +1,6 @@
 //! Whether a log, whoever made it, is one of a transaction component.
 
-ghost use Rattle.std.specs.Prelude.{◌≡◌, ◌↔◌, ◌<◌, ◌∷◌, length, IsTrue, IsFalse, IsOk, IfOk, OnOk, IfErr};
+ghost use Rattle.std.specs.Prelude.{◌≡◌, ◌↔◌, ◌<◌, [], ◌∷◌, length, IsTrue, IsFalse, IsOk, IfOk, OnOk, IfErr};
 ghost use Rattle.lock_table.specs.Facts.{AreHeld};
 ghost use Rattle.tc_log.specs.declared.event.Event.TheVariants.{Admit, Ask, Answer, Undo, End};
 ghost use Rattle.history.specs.Calls.{held};
@@ -127,6 +127,7 @@ impl Book {
         requires { IsBook procs.now.codes self.old }
         ensures kept { IsBook procs.now.codes self.new }
         ensures sites { length self.new.sites.items ≡ length self.old.sites.items }
+        ensures given_up { self.new.given_up.numbers ≡ self.old.given_up.numbers }
         ensures follows { IsTrue result → self.new.log.events ≡ Ask txn number op.now ∷ self.old.log.events }
         ensures illegal { IsFalse result → CanAsk procs.now.codes self.old.log.events txn number op.now → ⊥ }
     {
@@ -139,6 +140,7 @@ impl Book {
         requires { IsBook procs.now.codes self.old }
         ensures kept { IsBook procs.now.codes self.new }
         ensures sites { length self.new.sites.items ≡ length self.old.sites.items }
+        ensures given_up { self.new.given_up.numbers ≡ self.old.given_up.numbers }
         ensures follows { IsTrue result → self.new.log.events ≡ Undo txn number op.now ∷ self.old.log.events }
         ensures illegal { IsFalse result → CanUndo procs.now.codes self.old.log.events txn number op.now → ⊥ }
     {
@@ -152,6 +154,7 @@ impl Book {
         requires sites { length self.old.sites.items ≡ 0 }
         ensures kept { IsBook procs.now.codes self.new }
         ensures sites { length self.new.sites.items ≡ length self.old.sites.items }
+        ensures given_up { self.new.given_up.numbers ≡ self.old.given_up.numbers }
         ensures follows { IsTrue result → self.new.log.events ≡ Answer txn number said ∷ self.old.log.events }
         ensures illegal { IsFalse result → CanAnswer procs.now.codes self.old.log.events txn number said → ⊥ }
     {
@@ -172,6 +175,7 @@ impl Book {
         requires { IsBook procs.now.codes self.old }
         ensures kept { IsBook procs.now.codes self.new }
         ensures sites { length self.new.sites.items ≡ length self.old.sites.items }
+        ensures given_up { self.new.given_up.numbers ≡ self.old.given_up.numbers }
         ensures follows { IsTrue result → self.new.log.events ≡ End txn outcome ∷ self.old.log.events }
         ensures illegal { IsFalse result → CanEnd procs.now.codes self.old.log.events txn outcome → ⊥ }
     {
@@ -193,6 +197,7 @@ impl Book {
         requires { IsBook procs.now.codes self.old }
         ensures kept { IsBook procs.now.codes self.new }
         ensures sites { length self.new.sites.items ≡ length self.old.sites.items }
+        ensures given_up { self.new.given_up.numbers ≡ self.old.given_up.numbers }
         ensures follows { OnOk result (self.new.log.events ≡ Admit txn proc args.now ∷ self.old.log.events) }
         ensures why { IfErr result (IsUnlike procs.now.codes self.old.log.events (Admit txn proc args.now)) }
     {
@@ -219,6 +224,7 @@ impl Book {
         requires sites { length self.old.sites.items ≡ 0 }
         ensures kept { IsBook procs.now.codes self.new }
         ensures sites { length self.new.sites.items ≡ length self.old.sites.items }
+        ensures given_up { self.new.given_up.numbers ≡ self.old.given_up.numbers }
         ensures follows { OnOk result (self.new.log.events ≡ event.now ∷ self.old.log.events) }
         ensures why { IfErr result (IsUnlike procs.now.codes self.old.log.events event.now) }
     {
@@ -251,8 +257,9 @@ fn event_at(log: &Log, place: usize) -> &Event
 }
 
 // A book of a log's events, where each is allowed.
-fn book_of(alloc: Global, procs: &Procs, log: &Log) -> Result<Book, CheckFault>
+pub(crate) fn book_of(alloc: Global, procs: &Procs, log: &Log) -> Result<Book, CheckFault>
     ensures kept { IfOk result (IsBook procs.now.codes) }
+    ensures given_up { IfOk result (λ book. book.given_up.numbers ≡ []) }
     ensures log { IfOk result (λ book. book.log.events ≡ log.now.events) }
     ensures fault { IfErr result (IsFault procs.now.codes log.now.events) }
 {

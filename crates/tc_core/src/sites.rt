@@ -8,7 +8,8 @@ use access_slots::op::{Op, Reply};
 use std::alloc::{AllocError, Global};
 use transactions::Site;
 
-const UNTOLD: Site = Site {
+/// Nothing was told of it.
+pub const UNTOLD: Site = Site {
     incarnation: 0,
     redo: None,
 };

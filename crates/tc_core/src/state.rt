@@ -16,10 +16,12 @@ ghost use Rattle.tc_core.specs.Lent.{wire_of};
 ghost use Rattle.tc_core.specs.GivingUp.{IsOpenHere, with_given_up};
 ghost use Rattle.tc_core.specs.Blocked.{IsBlocked};
 ghost use Rattle.tc_core.specs.Redo.{news_fault, after_told, redo_reply, after_redo, IsRedone, after_redone};
+ghost use Rattle.tc_core.specs.Recovery.{recovered, IsRecoverFault, open_request};
 ghost use Rattle.transactions.specs.InFlight.{untold, site_at};
 
 use crate::book::Book;
 use crate::procs::{LoadFault, Procs};
+use crate::recovery::{RecoverFault, SiteNote};
 use access_slots::op::{News, Op, Reply, Wire};
 use lock_table::table::Busy;
 use std::alloc::{AllocError, Global};
@@ -66,8 +68,8 @@ pub enum Refusal {
     Memory,
 }
 
-/// An operation to be sent. It can't be made or copied outside, and must be spent: by
-/// [`TcState::answer`] or [`TcState::give_up`].
+/// An operation to be sent. It can't be made outside, but by [`TcState::request`] again for a state that
+/// came back, and must be spent: by [`TcState::answer`] or [`TcState::give_up`].
 #[derive(Debug)]
 pub struct Request {
     pub(crate) txn: u64,
@@ -284,6 +286,50 @@ impl TcState {
         ensures { result ≡ total each_one self.now.events }
     {
         self.book.open_count(&self.procs)
+    }
+
+    /// Comes back from a log, if it is legal for the procedures loaded here, there is a note for each
+    /// data component, and nothing has happened here yet: what happened is the log, nothing is given
+    /// up, and of data components is known what was noted. Nobody holds a request:
+    /// [`TcState::request`] makes those that are open again.
+    pub fn recover(&mut self, log: &Log, notes: &[SiteNote]) -> Result<(), RecoverFault>
+        ensures begun { OnOk result (self.old.events ≡ []) }
+        ensures legal { OnOk result (Legal self.old.procs log.now.events) }
+        ensures count { OnOk result (length notes.now ≡ self.old.dcs) }
+        ensures ok { OnOk result (self.new ≡ recovered self.old log.now.events notes.now) }
+        ensures err { OnErr result (self.new ≡ self.old) }
+        ensures fault { IfErr result (IsRecoverFault self.old log.now.events (length notes.now)) }
+    {
+        if !self.book.log.is_empty() {
+            return Err(RecoverFault::Begun);
+        }
+        if notes.len() != usize::from(self.procs.dcs()) {
+            return Err(RecoverFault::DcCount);
+        }
+        match Book::recovered(self.alloc, &self.procs, log, notes) {
+            Ok(book) => {
+                self.book = book;
+                Ok(())
+            }
+            Err(fault) => Err(RecoverFault::Unfit(fault)),
+        }
+    }
+
+    /// The request of the operation that an open transaction waits for, made again: for a state that
+    /// came back, whose requests nobody holds. Where one is held, either can be answered, and the other
+    /// is then a [`Stranger`]'s.
+    pub fn request(&self, txn: TxnId) -> Option<Request>
+        ensures request { result ≡ open_request self.now txn.serial }
+        ensures open_here { IfSome result (IsOpenHere self.now) }
+    {
+        self.book.request(&self.procs, txn.serial)
+    }
+
+    /// The serial number of the last admission, or 0: open transactions have those up to it.
+    pub fn admitted(&self) -> u64
+        ensures { result ≡ admitted self.now.events }
+    {
+        self.book.admitted(&self.procs)
     }
 
     /// What happened.

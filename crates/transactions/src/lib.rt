@@ -3,18 +3,22 @@
 //! The definitions are in `specs/`. `Standing` says where a transaction stands, as one function of
 //! the log; `Reached` where its procedure's run stands on its answers; `Next` what it does next, as
 //! one function, and [`Next`] is that answer as code sees it; `Legal` which event may come, by a
-//! record for each kind; `Room` what open transactions may still do; `Sending` what a log sends. The
+//! record for each kind; `Room` what open transactions may still do; `Sending` what a log sends; `Rows` which logs are printed
+//! with a row for each event. The
 //! functions here do nothing: each is a law, told by its contract. A caller calls it where its proof
 //! needs the law, or cites the lemma that the attribute above it names.
 #![tactic(auto)]
 
-ghost use Rattle.std.specs.Prelude.{◌≡◌, ◌≢◌, ◌↔◌, ◌+◌, ◌*◌, ◌<◌, ◌≤◌, ◌++◌, [], ◌∷◌, ℕ, List, Some, true, false};
+ghost use Rattle.std.specs.Prelude.{◌≡◌, ◌≢◌, ◌↔◌, ◌+◌, ◌*◌, ◌<◌, ◌≤◌, ◌++◌, [], ◌∷◌, ℕ, List, Some, true, false, reverse};
+ghost use Rattle.std.specs.List.{flat_map};
 ghost use Rattle.access_slots.specs.declared.op.Op.{Op as Operation};
 ghost use Rattle.access_slots.specs.Locks.{allows, target, is_read, conflict};
 ghost use Rattle.history.specs.Calls.{held, held_for, call_of};
 ghost use Rattle.history.specs.Flight.{Flight, given, open_op, AllAnswered, low_water};
 ghost use Rattle.history.specs.Redo.{to_redo, IsToRedo};
 ghost use Rattle.history.specs.Places.{StandsAt};
+ghost use Rattle.tc_log.specs.Printed.{printed};
+ghost use Rattle.tc_log.specs.Reading.{ArePrinted};
 ghost use Rattle.tc_log.specs.declared.event.Event.{Event};
 ghost use Rattle.tc_log.specs.declared.event.Event.TheVariants.{Admit};
 ghost use Rattle.tc_log.specs.declared.event.Outcome.{Outcome as HowEnded};
@@ -23,6 +27,7 @@ ghost use Rattle.transactions.specs.Standing.{Standing, standing};
 ghost use Rattle.transactions.specs.Reached.{calls, decls, AllGood};
 ghost use Rattle.transactions.specs.Legal.{Legal, Allowed, CanAsk, CanUndo, CanEnd};
 ghost use Rattle.transactions.specs.Next.{next_in};
+ghost use Rattle.transactions.specs.Rows.{AllTakeFew};
 ghost use Rattle.transactions.specs.Sending.{IsSentBehind};
 ghost use Rattle.transactions.specs.InFlight.{InFlight};
 ghost use Rattle.transactions.specs.declared.Site.{Site as SiteValue};
@@ -157,4 +162,11 @@ pub fn all_in_flight_covered()
 pub fn none_in_flight_conflict()
     ensures { (ps : List Checked) (h : List Event) (sites : List SiteValue) → AllGood ps → Legal ps h → (m n : ℕ) (f g : Flight) → InFlight h sites m f → InFlight h sites n g
         → m ≢ n → conflict f.op g.op ≡ false }
+{}
+
+/// Each event of a legal log, of procedures that take at most 8 arguments, has a row of 96 bytes: no
+/// answer in it is Old, and no abort has the value 0.
+#[tactic(auto, using(crate::proofs::Rows::legal_prints))]
+pub fn legal_logs_are_printed()
+    ensures { (ps : List Checked) (h : List Event) → AllTakeFew ps → Legal ps h → ArePrinted (reverse h) (flat_map printed (reverse h)) }
 {}

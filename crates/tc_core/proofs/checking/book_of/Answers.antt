@@ -14,6 +14,7 @@ loop-place-init c = (
   subst (λ (xs : List Event). Begins xs c.args.log.now.events) (sym c.in-Ok.ensures.events) (begins_none c.args.log.now.events),
   ap (length {A = Event}) c.in-Ok.ensures.events,
   ap (length {A = Site}) c.in-Ok.ensures.sites,
+  c.in-Ok.ensures.given_up,
 )
 
 pub loop-place-preserved : goal.loop-place-preserved
@@ -24,7 +25,7 @@ loop-place-preserved c =
     let follows = c.in-Ok-follow.ensures.follows in
     let longer : length c.follow.new.self.log.events ≡ length (e ∷ h) = ap (length {A = Event}) follows in
     let before = c.loop-place.invariant.2 in
-    (c.follow.ensures.kept, subst (λ (xs : List Event). Begins xs whole) (sym follows) (begins_more whole h c.loop-place.place e c.loop-place.invariant.1 before c.event_at.ensures), omega (arith, longer, before), c.follow.ensures.sites ∙ c.loop-place.invariant.3)
+    (c.follow.ensures.kept, subst (λ (xs : List Event). Begins xs whole) (sym follows) (begins_more whole h c.loop-place.place e c.loop-place.invariant.1 before c.event_at.ensures), omega (arith, longer, before), c.follow.ensures.sites ∙ c.loop-place.invariant.3, c.follow.ensures.given_up ∙ c.loop-place.invariant.4)
 
 pub returns-in-Err-Illegal-clause-fault : goal.returns-in-Err-Illegal-clause-fault
 returns-in-Err-Illegal-clause-fault c =

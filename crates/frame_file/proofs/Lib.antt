@@ -1,0 +1,5 @@
+pub mod Frames
+pub mod Readings
+pub mod Torns
+mod Kept
+mod Moments

@@ -1,0 +1,61 @@
+-- What a crash leaves while a frame is being written.
+use Rattle.std.proofs.Common.{◌≡◌, ◌⊎◌, inl, inr, ℕ, ◌+◌, ◌≤◌, List, [], ◌∷◌, ◌++◌, length, refl, sym, ◌∙◌, ap, subst, arith, append_assoc, length-append}
+use Rattle.std.proofs.lemmas.List.{append-nil}
+use Rattle.frame_file.specs.Device.{Only, Follows, Torn}
+use Rattle.frame_file.specs.Frame.{framed, frames_from, IsPayload, ArePayloads}
+use Rattle.frame_file.specs.Reading.{Reads, IsTold, IsBeforeOrAfter}
+use Rattle.frame_file.proofs.Frames.{Goes, goes, fits_behind, length-framed}
+
+module _ (ps : List (List ℕ)) (p : List ℕ) (fit : ArePayloads ps) where
+  behind : (tail rest c : List ℕ) (all more : List (List ℕ)) → length tail ≤ 24 + length p → c ≡ frames_from 0 ps ++ tail → ArePayloads all → IsTold ps p c
+      → all ≡ ps ++ more → tail ≡ frames_from (0 + length ps) more ++ rest → (all ≡ ps) ⊎ (all ≡ ps ++ p ∷ [])
+  behind tail rest c all [] short is allfit told are left = inl (are ∙ append-nil ps)
+  behind tail rest c all (q ∷ more) short is allfit told are left =
+      let n = length ps in
+      let after = frames_from (n + 1) more ++ rest in
+      let here : tail ≡ framed n q ++ after
+      = left ∙ (ap (λ (k : ℕ). frames_from k (q ∷ more) ++ rest) (omega arith) ∙ append_assoc (framed n q) (frames_from (n + 1) more) rest) in
+      let one : q ≡ p = told q after (fits_behind ps more q (subst ArePayloads are allfit)) (is ∙ ap (λ (b : List ℕ). frames_from 0 ps ++ b) here) in
+      let size : length q ≡ length p = ap length one in
+      last more (λ r rest_of e. (
+      let long = ap length here in
+      let lengths = ap (λ (x : List (List ℕ)). length (frames_from (n + 1) x)) e in
+      omega (
+        arith,
+        short,
+        long,
+        lengths,
+        size,
+        length-append (framed n q) after,
+        length-framed n q,
+        length-append (frames_from (n + 1) more) rest,
+        length-append (framed (n + 1) r) (frames_from (n + 1 + 1) rest_of),
+        length-framed (n + 1) r,
+      ))) (λ none. inr (are ∙ (ap (λ (x : List (List ℕ)). ps ++ q ∷ x) none ∙ ap (λ (x : List ℕ). ps ++ x ∷ []) one)))
+    where
+      last : {X : Type 0} (xs : List (List ℕ)) → ((r : List ℕ) (rs : List (List ℕ)) → xs ≡ r ∷ rs → ⊥) → (xs ≡ [] → X) → X
+      last [] some none = none refl
+      last (r ∷ rs) some none = absurd (some r rs refl)
+
+  gone : (tail c : List ℕ) → c ≡ frames_from 0 ps ++ tail → (all : List (List ℕ)) (reads : Reads c all) → Goes 0 ps all tail reads.rest
+  gone tail c is all reads = goes 0 (length all) ps all tail reads.rest fit reads.fit (omega arith) reads.ends (sym is ∙ reads.is)
+
+  pub torn : (tail c : List ℕ) → length tail ≤ 24 + length p → c ≡ frames_from 0 ps ++ tail → IsBeforeOrAfter ps p c
+  torn tail c short is = record {
+    kept = λ all reads. (let g = gone tail c is all reads in record { more = g.more; is = g.are });
+    told = λ all reads told. (let g = gone tail c is all reads in behind tail reads.rest c all g.more short is reads.fit told g.are g.left);
+  }
+
+  -- nothing is written yet
+  pub whole : (c : List ℕ) → c ≡ frames_from 0 ps → IsBeforeOrAfter ps p c
+  whole c is = torn [] c (omega arith) (is ∙ sym (append-nil (frames_from 0 ps)))
+
+  -- the frame is being written
+  pub append_crash : (bytes : List ℕ) (n : ℕ) (old new : List ℕ → Type 0) → bytes ≡ framed n p → Only (frames_from 0 ps) old → Follows (Torn (length bytes)) old new
+      → (c : List ℕ) → new c → IsBeforeOrAfter ps p c
+  append_crash bytes n old new are only follows c left =
+      let from = follows c left in
+      let t = from.2 in
+      let short = t.short in
+      let size = ap length are in
+      torn t.tail c (omega (arith, short, size, length-framed n p)) (t.is ∙ ap (λ (b : List ℕ). b ++ t.tail) (only from.0 from.1))

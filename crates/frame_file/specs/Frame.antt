@@ -1,0 +1,54 @@
+-- Frames as bytes.
+use Rattle.std.specs.Prelude.{◌≡◌, ℕ, ◌+◌, ◌*◌, ◌%◌, ◌<◌, ◌^◌, List, [], ◌∷◌, ◌++◌, length, bit_xor}
+use Rattle.std.specs.Int.{w64, to_le_bytes}
+
+-- FNV-1a of 64 bits (Fowler, Noll, Vo): one byte more
+abbrev pub hash_step : ℕ → ℕ → ℕ
+hash_step hash byte = (bit_xor hash byte * 1099511628211) % 2 ^ 64
+
+unfoldable pub hashed : ℕ → List ℕ → ℕ
+hashed hash [] = hash
+hashed hash (byte ∷ bytes) = hashed (hash_step hash byte) bytes
+
+-- of the number, the length and the payload
+abbrev pub checksum : ℕ → List ℕ → ℕ
+checksum n payload = hashed (hashed (hashed 14695981039346656037 (to_le_bytes w64 n)) (to_le_bytes w64 (length payload))) payload
+
+-- 24 bytes: the number at 0, the length at 8, the checksum at 16
+unfoldable pub head_bytes : ℕ → List ℕ → List ℕ
+head_bytes n payload = (to_le_bytes w64 n ++ to_le_bytes w64 (length payload)) ++ to_le_bytes w64 (checksum n payload)
+
+abbrev pub framed : ℕ → List ℕ → List ℕ
+framed n payload = head_bytes n payload ++ payload
+
+-- one behind another, numbered from this number on
+abbrev pub frames_from : ℕ → List (List ℕ) → List ℕ
+frames_from n [] = []
+frames_from n (payload ∷ payloads) = framed n payload ++ frames_from (n + 1) payloads
+
+-- as long as a machine counts
+abbrev pub IsPayload : List ℕ → Type 0
+IsPayload payload = length payload < 2 ^ 64
+
+abbrev pub ArePayloads : List (List ℕ) → Type 0
+ArePayloads [] = Unit {0}
+ArePayloads (payload ∷ payloads) = IsPayload payload × ArePayloads payloads
+
+-- no frame of this number stands at the front of the bytes
+abbrev pub NoFrame : ℕ → List ℕ → Type 0
+NoFrame n bytes = (payload after : List ℕ) → IsPayload payload → bytes ≡ framed n payload ++ after → ⊥
+
+-- nor one of a later number
+abbrev pub NoneBegins : ℕ → List ℕ → Type 0
+NoneBegins n bytes = (number : ℕ) → n < number → number < 2 ^ 64 → NoFrame number bytes
+
+-- somewhere in the bytes stands a frame of a later number
+pub record LaterFrame (n : ℕ) (bytes : List ℕ) : Type 0 where
+  pub number : ℕ
+  pub later : n < number
+  pub small : number < 2 ^ 64
+  pub payload : List ℕ
+  pub fits : IsPayload payload
+  pub before : List ℕ
+  pub after : List ℕ
+  pub is : bytes ≡ before ++ (framed number payload ++ after)

@@ -1,0 +1,5 @@
+pub mod Device
+pub mod Frame
+pub mod Reading
+pub mod Past
+pub mod Memory

@@ -1,0 +1,88 @@
+// A file as a log sees it: what a read returns, and what a crash may leave.
+
+ghost use Rattle.std.specs.Prelude.{◌≡◌, ◌≤◌, ◌++◌, List, ℕ, length, take, IfOk, OnOk};
+ghost use Rattle.frame_file.specs.declared.device.DeviceError.TheVariants.{Memory};
+ghost use Rattle.frame_file.specs.Device.{Only, Follows, Torn, Cut, Elapses, HasCause};
+
+use std::alloc::{AllocError, AllocFailed, Global};
+
+/// Why a call of a device failed.
+#[derive(Clone, Copy, Debug, PartialEq, Eq)]
+pub enum DeviceError {
+    /// Memory ran out.
+    Memory,
+    /// The disk failed.
+    Failed,
+}
+
+impl From<AllocError> for DeviceError {
+    ghost from_gives = { λ _ e. e ≡ Memory };
+
+    fn from(_: AllocError) -> Self {
+        DeviceError::Memory
+    }
+}
+
+impl<T: Drop> From<AllocFailed<T>> for DeviceError {
+    ghost from_gives = { λ _ e. e ≡ Memory };
+
+    fn from(_: AllocFailed<T>) -> Self {
+        DeviceError::Memory
+    }
+}
+
+/// A file that grows at its end. Between two syncs a crash may leave any part of what was appended, and
+/// any bytes in its place.
+pub trait Device {
+    /// The bytes that a read returns.
+    ghost seen: { Self → List ℕ };
+
+    /// What a crash at this moment may leave.
+    ghost may_leave: { Self → List ℕ → Type 0 };
+
+    /// The moment, as a number that doesn't fall.
+    ghost moment: { Self → ℕ };
+
+    /// What a crash at some moment from that one on might have left, during a call or between two.
+    ghost left_since: { Self → ℕ → List ℕ → Type 0 };
+
+    /// How often the disk has failed.
+    ghost faults: { Self → ℕ };
+
+    /// All the bytes.
+    fn read(&mut self, alloc: Global) -> Result<Vec<u8>, DeviceError>
+        ensures bytes { IfOk result (λ bytes. bytes.items ≡ seen self.old) }
+        ensures seen { seen self.new ≡ seen self.old }
+        ensures crash { (c : List ℕ) → may_leave self.new c → may_leave self.old c }
+        ensures time { Elapses (moment self.old) (moment self.new) (left_since self.old) (left_since self.new) (may_leave self.new) }
+        ensures cause { HasCause (faults self.old) (faults self.new) result };
+
+    /// Writes behind the last byte. Until a sync, a crash may leave any bytes there, no more than these.
+    fn append(&mut self, bytes: &[u8]) -> Result<(), DeviceError>
+        ensures written { OnOk result (seen self.new ≡ seen self.old ++ bytes.now) }
+        ensures crash { Follows (Torn (length bytes.now)) (may_leave self.old) (may_leave self.new) }
+        ensures time { Elapses (moment self.old) (moment self.new) (left_since self.old) (left_since self.new) (may_leave self.new) }
+        ensures cause { HasCause (faults self.old) (faults self.new) result };
+
+    /// Cuts the file to a length.
+    fn cut(&mut self, len: usize) -> Result<(), DeviceError>
+        requires { len ≤ length (seen self.old) }
+        ensures cut { OnOk result (seen self.new ≡ take len (seen self.old)) }
+        ensures crash { Follows (Cut len) (may_leave self.old) (may_leave self.new) }
+        ensures time { Elapses (moment self.old) (moment self.new) (left_since self.old) (left_since self.new) (may_leave self.new) }
+        ensures cause { HasCause (faults self.old) (faults self.new) result };
+
+    /// After it, a crash leaves what a read returns.
+    fn sync(&mut self) -> Result<(), DeviceError>
+        ensures durable { OnOk result (Only (seen self.old) (may_leave self.new)) }
+        ensures seen { seen self.new ≡ seen self.old }
+        ensures crash { (c : List ℕ) → may_leave self.new c → may_leave self.old c }
+        ensures time { Elapses (moment self.old) (moment self.new) (left_since self.old) (left_since self.new) (may_leave self.new) }
+        ensures cause { HasCause (faults self.old) (faults self.new) result };
+
+    /// This moment is one of those since an earlier one.
+    ghost counts_now: { (file : Self) (t : ℕ) (c : List ℕ) → t ≤ moment file → may_leave file c → left_since file t c };
+
+    /// Since this moment there is no other.
+    ghost only_now: { (file : Self) (c : List ℕ) → left_since file (moment file) c → may_leave file c };
+}

@@ -1,0 +1,77 @@
+// A file of frames over a device.
+
+ghost use Rattle.std.specs.Prelude.{◌≡◌, ◌<◌, ◌≤◌, ◌+◌, ◌^◌, ◌++◌, [], ◌∷◌, ℕ, List, IfOk, OnOk, IsErrOf};
+ghost use Rattle.frame_file.specs.Device.{Only, LeavesOnly};
+ghost use Rattle.frame_file.specs.Reading.{Reads, IsDamaged, IsSettled, IsBeforeOrAfter, ReadsAs, payloads_in};
+ghost use Rattle.frame_file.specs.declared.device.DeviceError.TheVariants.{Failed};
+ghost use Rattle.frame_file.specs.declared.reading.FrameFault.TheVariants.{Device as DeviceFault, Full, Damaged};
+
+use crate::device::Device;
+use crate::frame::{HEAD, write_frame};
+use crate::reading::{FrameFault, read_frames};
+use std::alloc::Global;
+
+/// A file of frames: read by [`FrameFile::recover`] before anything is appended, and again after each
+/// `Err` of a call.
+#[derive(Drop)]
+pub struct FrameFile<D: Device> {
+    device: D,
+    count: u64,
+}
+
+impl<D: Device> FrameFile<D> {
+    /// Over a device whose file isn't read yet.
+    pub fn new(device: D) -> FrameFile<D>
+        ensures { result.device ≡ device }
+    {
+        FrameFile { device, count: 0 }
+    }
+
+    /// The device.
+    pub fn device(&self) -> &D
+        ensures { result.now ≡ self.now.device }
+    {
+        &self.device
+    }
+
+    /// The payloads of a file that a crash may have left. Its end, where it isn't a whole frame, is cut
+    /// off. This may be cut short by a crash too, which leaves a file that is read the same.
+    pub fn recover(&mut self, alloc: Global) -> Result<Vec<Vec<u8>>, FrameFault>
+        // After a restart, what is read is what is on the disk.
+        requires { Only (D.seen self.old.device) (D.may_leave self.old.device) }
+        ensures reads { IfOk result (λ payloads. Reads (D.seen self.old.device) (payloads_in payloads.items)) }
+        ensures settled { IfOk result (λ payloads. IsSettled D.seen D.may_leave self.new (payloads_in payloads.items)) }
+        ensures damaged { (number : ℕ) → IsErrOf result (Damaged number) → IsDamaged (D.seen self.old.device) number }
+        ensures any_moment { LeavesOnly D.moment D.left_since self.old.device self.new.device (ReadsAs (D.seen self.old.device)) }
+        ensures failed { IsErrOf result (DeviceFault Failed) → D.faults self.old.device < D.faults self.new.device }
+    {
+        let bytes = self.device.read(alloc)?;
+        let found = read_frames(alloc, &bytes)?;
+        self.device.cut(found.end)?;
+        self.device.sync()?;
+        self.count = found.payloads.len() as u64;
+        Ok(found.payloads)
+    }
+
+    /// One frame more, behind those that the file has. At `Ok` it is acknowledged: from then on each crash
+    /// leaves a file that has it. Refused as [`FrameFault::Full`] behind 2^64 - 1 frames.
+    pub fn append(&mut self, alloc: Global, payload: &[u8]) -> Result<(), FrameFault>
+        ensures acknowledged { (payloads : List (List ℕ)) → IsSettled D.seen D.may_leave self.old payloads → OnOk result (IsSettled D.seen D.may_leave self.new (payloads ++ payload.now ∷ [])) }
+        // A crash at any moment of the call leaves the frames from before it, with the new one or without.
+        ensures any_moment { (payloads : List (List ℕ)) → IsSettled D.seen D.may_leave self.old payloads
+            → LeavesOnly D.moment D.left_since self.old.device self.new.device (IsBeforeOrAfter payloads payload.now) }
+        // It doesn't give up by itself.
+        ensures failed { IsErrOf result (DeviceFault Failed) → D.faults self.old.device < D.faults self.new.device }
+        ensures full { IsErrOf result Full → 2 ^ 64 ≤ self.old.count + 1 }
+    {
+        let Some(next) = self.count.checked_add(1) else {
+            return Err(FrameFault::Full);
+        };
+        let mut frame = Vec::with_capacity(alloc, HEAD + payload.len())?;
+        write_frame(&mut frame, self.count, payload)?;
+        self.device.append(&frame)?;
+        self.device.sync()?;
+        self.count = next;
+        Ok(())
+    }
+}

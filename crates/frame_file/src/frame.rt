@@ -1,0 +1,124 @@
+// One frame: its 24 bytes of a head, and its payload.
+
+ghost use Rattle.std.specs.Prelude.{◌≡◌, ◌↔◌, ◌++◌, ◌<◌, ◌^◌, drop, length, IsTrue, IfSome, IfNone, OnOk};
+ghost use Rattle.std.specs.Int.{w64, to_le_bytes, from_le_bytes};
+ghost use Rattle.frame_file.specs.Frame.{hash_step, hashed, checksum, head_bytes, framed, IsPayload, NoFrame};
+
+use byteorder::{ByteOrder, LittleEndian};
+use std::alloc::AllocError;
+
+/// The bytes of a head.
+pub const HEAD: usize = 24;
+
+// The hash of no bytes, and the factor of each step.
+const BASIS: u64 = 0xcbf2_9ce4_8422_2325;
+
+const PRIME: u64 = 0x0100_0000_01b3;
+
+fn hash_step(hash: u64, byte: u8) -> u64
+    ensures { result ≡ hash_step hash byte }
+{
+    (hash ^ u64::from(byte)).wrapping_mul(PRIME)
+}
+
+// FNV-1a: since each step turns different hashes into different ones, bytes that differ at one place alone
+// have different hashes.
+#[tactic(auto, unfolding(crate::specs::Frame::hashed))]
+fn hashed(hash: u64, bytes: &[u8]) -> u64
+    ensures { result ≡ hashed hash bytes.now }
+{
+    let mut hash = hash;
+    for byte in bytes {
+        hash = hash_step(hash, *byte);
+    }
+    hash
+}
+
+// A number's bytes.
+fn long_bytes(number: u64) -> [u8; 8]
+    ensures { result ≡ to_le_bytes w64 number }
+{
+    let mut bytes = [0; 8];
+    LittleEndian::write_u64(&mut bytes, number);
+    bytes
+}
+
+fn checksum(number: u64, payload: &[u8]) -> u64
+    ensures { result ≡ checksum number payload.now }
+{
+    let numbered = hashed(BASIS, &long_bytes(number));
+    let measured = hashed(numbered, &long_bytes(payload.len() as u64));
+    hashed(measured, payload)
+}
+
+/// A number from its 8 bytes.
+#[tactic(auto, using(crate::proofs::Frames::long_is))]
+pub fn long(bytes: &[u8]) -> u64
+    requires { length bytes.now ≡ 8 }
+    ensures { result ≡ from_le_bytes w64 bytes.now }
+{
+    LittleEndian::read_u64(bytes)
+}
+
+fn write_long(out: &mut Vec<u8>, number: u64) -> Result<(), AllocError>
+    ensures { OnOk result (out.new.items ≡ out.old.items ++ to_le_bytes w64 number) }
+{
+    out.extend_from_slice(&long_bytes(number))
+}
+
+// The head of a frame.
+#[tactic(auto, unfolding(crate::specs::Frame::head_bytes))]
+fn write_head(out: &mut Vec<u8>, number: u64, payload: &[u8]) -> Result<(), AllocError>
+    ensures { OnOk result (out.new.items ≡ out.old.items ++ head_bytes number payload.now) }
+{
+    write_long(out, number)?;
+    write_long(out, payload.len() as u64)?;
+    write_long(out, checksum(number, payload))
+}
+
+/// Writes the frame of this number.
+pub fn write_frame(out: &mut Vec<u8>, number: u64, payload: &[u8]) -> Result<(), AllocError>
+    ensures { OnOk result (out.new.items ≡ out.old.items ++ framed number payload.now) }
+{
+    write_head(out, number, payload)?;
+    out.extend_from_slice(payload)
+}
+
+// Whether these 24 bytes are the head of a frame.
+fn is_head(head: &[u8], number: u64, payload: &[u8]) -> bool
+    requires { length head.now ≡ 24 }
+    ensures { IsTrue result ↔ (head.now ≡ head_bytes number payload.now) }
+{
+    let is_numbered = &head[..8] == long_bytes(number).as_slice();
+    let is_measured = &head[8..16] == long_bytes(payload.len() as u64).as_slice();
+    let is_checked = &head[16..] == long_bytes(checksum(number, payload)).as_slice();
+    if !is_numbered {
+        return false;
+    }
+    if !is_measured {
+        return false;
+    }
+    is_checked
+}
+
+/// The frame of this number that the bytes begin with: its payload, and the bytes behind it.
+pub fn first_frame(number: u64, bytes: &[u8]) -> Option<(&[u8], &[u8])>
+    ensures frame { IfSome result (λ r. bytes.now ≡ framed number r.0.now ++ r.1.now) }
+    ensures fits { IfSome result (λ r. IsPayload r.0.now) }
+    ensures none { IfNone result (NoFrame number bytes.now) }
+{
+    if bytes.len() < HEAD {
+        return None;
+    }
+    let (head, rest) = bytes.split_at(HEAD);
+    let length = long(&head[8..16]);
+    if length > rest.len() as u64 {
+        return None;
+    }
+    let (payload, after) = rest.split_at(length as usize);
+    if is_head(head, number, payload) {
+        Some((payload, after))
+    } else {
+        None
+    }
+}

@@ -1,0 +1,27 @@
+//! A file of numbered frames, each on the disk before its call is answered, over a device that says what
+//! a crash may leave.
+//!
+//! ```text
+//! let mut file = FrameFile::new(device);
+//! let payloads = file.recover(alloc)?;        // what was acknowledged, and perhaps the last one more
+//! file.append(alloc, &payload)?;              // acknowledged: each crash from now on leaves it
+//! ```
+//!
+//! A frame is its number, its length and a checksum, 8 bytes each, the lowest first, and its payload.
+//! Frames are numbered from 0 on. A crash in the middle of [`FrameFile::append`] leaves any bytes behind
+//! the frames before, no more than were to be written: these frames are read again whatever the bytes
+//! are, and no other, unless the checksum of one that nobody wrote is right by chance.
+#![tactic(auto)]
+
+mod device;
+mod file;
+mod frame;
+mod memory;
+mod reading;
+#[cfg(test)]
+mod tests;
+
+pub use device::{Device, DeviceError};
+pub use file::FrameFile;
+pub use memory::Memory;
+pub use reading::{Found, FrameFault, read_frames};

@@ -1,0 +1,118 @@
+use crate::{FrameFault, FrameFile, Memory, read_frames};
+use std::alloc::Global;
+use std::test::Fail;
+
+// Where the frames end that hold "first", nothing and "third".
+const ENDS: [usize; 3] = [29, 53, 82];
+
+// The hash of the first one's number, length and payload, by another program.
+const CHECKSUM: [u8; 8] = [238, 31, 210, 224, 250, 225, 117, 247];
+
+fn memory(alloc: Global, bytes: Vec<u8>) -> FrameFile<Memory> {
+    FrameFile::new(Memory::new(alloc, bytes))
+}
+
+// A file of these three frames.
+fn three(alloc: Global) -> Result<Vec<u8>, FrameFault> {
+    let mut file = memory(alloc, Vec::new(alloc));
+    file.recover(alloc)?;
+    file.append(alloc, b"first".as_slice())?;
+    file.append(alloc, &[])?;
+    file.append(alloc, b"third".as_slice())?;
+    Ok(Vec::from_slice(alloc, file.device().bytes())?)
+}
+
+// How many frames these bytes have, or the fault.
+fn count(alloc: Global, bytes: &[u8]) -> Result<usize, FrameFault> {
+    Ok(read_frames(alloc, bytes)?.payloads.len())
+}
+
+#[test]
+fn what_was_appended_is_read_again(rt: HostRuntime) -> Result<(), Fail> {
+    let alloc = rt.alloc();
+    let mut file = memory(alloc, three(alloc)?);
+    let payloads = file.recover(alloc)?;
+    assert_eq!(rt; payloads.len(), 3);
+    for (payload, want) in payloads
+        .iter()
+        .zip([b"first".as_slice(), &[], b"third".as_slice()])
+    {
+        assert_eq!(rt; payload.as_slice(), want);
+    }
+    file.append(alloc, b"fourth".as_slice())?;
+    let found = read_frames(alloc, file.device().bytes())?;
+    assert_eq!(rt; (found.payloads.len(), found.end), (4, 112));
+    Ok(())
+}
+
+#[test]
+fn bytes_of_a_frame(rt: HostRuntime) -> Result<(), Fail> {
+    let bytes = three(rt.alloc())?;
+    assert_eq!(rt; bytes.len(), ENDS[2]);
+    assert_eq!(rt; bytes.get(..8), Some([0u8; 8].as_slice()));
+    assert_eq!(rt;
+        bytes.get(8..16),
+        Some([5u8, 0, 0, 0, 0, 0, 0, 0].as_slice())
+    );
+    assert_eq!(rt; bytes.get(16..24), Some(CHECKSUM.as_slice()));
+    assert_eq!(rt; bytes.get(24..29), Some(b"first".as_slice()));
+    Ok(())
+}
+
+// How many frames end at or before this place.
+fn ended(place: usize) -> usize {
+    match place {
+        0..=28 => 0,
+        29..=52 => 1,
+        53..=81 => 2,
+        _ => 3,
+    }
+}
+
+// What is cut off is a frame that isn't whole.
+#[test]
+fn each_truncation_is_a_beginning(rt: HostRuntime) -> Result<(), Fail> {
+    let alloc = rt.alloc();
+    let bytes = three(alloc)?;
+    for len in 0..=bytes.len() {
+        if let Some(front) = bytes.get(..len) {
+            assert_eq!(rt; count(alloc, front), Ok(ended(len)));
+        }
+    }
+    Ok(())
+}
+
+// A changed byte of the last frame leaves an end that isn't whole, and one before it is damage.
+#[test]
+fn each_changed_byte_is_found(rt: HostRuntime) -> Result<(), Fail> {
+    let alloc = rt.alloc();
+    let bytes = three(alloc)?;
+    for place in 0..bytes.len() {
+        let mut changed = Vec::from_slice(alloc, &bytes)?;
+        if let Some(byte) = changed.get_mut(place) {
+            *byte ^= 0x10;
+        }
+        let want = match ended(place) {
+            0 => Err(FrameFault::Damaged(0)),
+            1 => Err(FrameFault::Damaged(1)),
+            frames => Ok(frames),
+        };
+        assert_eq!(rt; count(alloc, &changed), want, "at {place}");
+    }
+    Ok(())
+}
+
+// What a crash left of a frame is cut off, and the next one stands in its place.
+#[test]
+fn an_end_is_cut_off(rt: HostRuntime) -> Result<(), Fail> {
+    let alloc = rt.alloc();
+    let bytes = three(alloc)?;
+    let mut torn = Vec::from_slice(alloc, &bytes)?;
+    torn.truncate(ENDS[2] - 1);
+    let mut file = memory(alloc, torn);
+    assert_eq!(rt; file.recover(alloc)?.len(), 2);
+    assert_eq!(rt; file.device().bytes().len(), ENDS[1]);
+    file.append(alloc, b"third".as_slice())?;
+    assert_eq!(rt; file.device().bytes(), bytes.as_slice());
+    Ok(())
+}

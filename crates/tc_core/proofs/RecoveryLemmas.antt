@@ -1,0 +1,52 @@
+-- What no answer changes, and a request that is made again.
+use Rattle.std.proofs.Common.{◌≡◌, ℕ, true, false, List, [], ◌∷◌, length, ◌==◌, arith, Option, Some, None, Result, Ok, Err, refl, sym, ap, ◌∙◌}
+use Rattle.std.specs.Prelude.{IfSome, OnOk, OnErr}
+use Rattle.tc_log.specs.declared.event.Event.{Event}
+use Rattle.tc_log.specs.declared.event.Outcome.{Outcome}
+use Rattle.transactions.specs.declared.Sent.{Sent}
+use Rattle.transactions.specs.Standing.{Standing, standing}
+use Rattle.transactions.proofs.StandingLemmas.{eq-false}
+use Rattle.tc_core.specs.Core.{Core, Asking}
+use Rattle.tc_core.specs.Replies.{after_ask, after_undo, after_end, end_of}
+use Rattle.tc_core.specs.GivingUp.{IsOpenHere}
+use Rattle.tc_core.specs.Recovery.{asking_by, asking_in, open_request}
+use Rattle.tc_core.specs.declared.state.Asked.{Asked}
+use Rattle.tc_core.specs.declared.state.Asked.TheVariants as reply
+
+pub ask_gives_up_none : (c : Core) (a : Asked) → (after_ask c a).given_up ≡ c.given_up
+ask_gives_up_none c (reply.Request r) = refl
+ask_gives_up_none c reply.Undoing = refl
+ask_gives_up_none c reply.Over = refl
+ask_gives_up_none c (reply.Stuck n) = refl
+ask_gives_up_none c (reply.Waits n) = refl
+ask_gives_up_none c reply.Running = refl
+ask_gives_up_none c reply.Unknown = refl
+
+pub undo_gives_up_none : (c : Core) (a : Asked) → (after_undo c a).given_up ≡ c.given_up
+undo_gives_up_none c (reply.Request r) = refl
+undo_gives_up_none c reply.Undoing = refl
+undo_gives_up_none c reply.Over = refl
+undo_gives_up_none c (reply.Stuck n) = refl
+undo_gives_up_none c (reply.Waits n) = refl
+undo_gives_up_none c reply.Running = refl
+undo_gives_up_none c reply.Unknown = refl
+
+pub end_gives_up_none : (c : Core) (t : ℕ) (o : Option Outcome) → (after_end c t o).given_up ≡ c.given_up
+end_gives_up_none c t None = refl
+end_gives_up_none c t (Some o) = refl
+
+open_by : (c : Core) (t : ℕ) (s : Standing) → standing c.events t ≡ Some s → (sent : Option Sent) → s.sent ≡ sent → IfSome (asking_by t sent) (IsOpenHere c)
+open_by c t s is None waits = record {}
+open_by c t s is (Some r) waits = record { s = s; is = is; sent = r; waits = waits; same_number = refl; same_op = refl }
+
+open_in : (c : Core) (t : ℕ) (at : Option Standing) → standing c.events t ≡ at → IfSome (asking_in t at) (IsOpenHere c)
+open_in c t None is = record {}
+open_in c t (Some s) is = open_by c t s is s.sent refl
+
+-- what is made again is open here
+pub request_is_open : (c : Core) (t : ℕ) → IfSome (open_request c t) (IsOpenHere c)
+request_is_open c t = open_in c t (standing c.events t) refl
+
+pub none_there : (h : List Event) → (length h == 0) ≡ true → h ≡ []
+none_there [] e = refl
+none_there (x ∷ h) e = absurd (let bad : true ≡ false = sym e ∙ eq-false (length (x ∷ h)) 0 (λ same. omega (arith, same)) in cc)

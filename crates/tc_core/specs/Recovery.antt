@@ -1,0 +1,43 @@
+-- A state that comes back from what was written, and its open requests made again.
+use Rattle.std.specs.Prelude.{◌≢◌, ℕ, List, [], map, Option, Some, None}
+use Rattle.tc_log.specs.declared.event.Event.{Event}
+use Rattle.transactions.specs.declared.Sent.{Sent}
+use Rattle.transactions.specs.declared.Site.{Site}
+use Rattle.transactions.specs.InFlight.{untold}
+use Rattle.transactions.specs.Standing.{Standing, standing}
+use Rattle.tc_core.specs.Core.{Core, Asking}
+use Rattle.tc_core.specs.Checking.{IsFault}
+use Rattle.tc_core.specs.Redo.{down_by}
+use Rattle.tc_core.specs.declared.recovery.SiteNote.{SiteNote}
+use Rattle.tc_core.specs.declared.recovery.SiteNote.TheVariants.{Untold, Restarted, Up}
+use Rattle.tc_core.specs.declared.recovery.RecoverFault.{RecoverFault}
+use Rattle.tc_core.specs.declared.recovery.RecoverFault.TheVariants.{Begun, DcCount, Unfit}
+
+-- what is known of a data component of which this was written last
+abbrev pub site_noted : SiteNote → Site
+site_noted Untold = untold
+site_noted (Restarted news) = down_by news
+site_noted (Up n) = record { incarnation = n; redo = None }
+
+-- the same procedures behind this log, and data components as they were noted; nothing is given up
+abbrev pub recovered : Core → List Event → List SiteNote → Core
+recovered c h notes = record c { events = h; given_up = []; sites = map site_noted notes }
+
+-- the fault is so, of this log and so many notes: something has happened here, there is another number of data components, or the
+-- log isn't legal; want of memory says nothing
+abbrev pub IsRecoverFault : Core → List Event → ℕ → RecoverFault → Type 0
+IsRecoverFault c h notes Begun = c.events ≢ []
+IsRecoverFault c h notes DcCount = notes ≢ c.dcs
+IsRecoverFault c h notes (Unfit fault) = IsFault c.procs h fault
+
+abbrev pub asking_by : ℕ → Option Sent → Option Asking
+asking_by t None = None
+asking_by t (Some r) = Some (record { txn = t; number = r.number; op = r.op })
+
+abbrev pub asking_in : ℕ → Option Standing → Option Asking
+asking_in t None = None
+asking_in t (Some s) = asking_by t s.sent
+
+-- the request that the transaction waits for
+abbrev pub open_request : Core → ℕ → Option Asking
+open_request c t = asking_in t (standing c.events t)
