@@ -1,11 +1,11 @@
 -- A file is read as one list of payloads.
-use Rattle.std.proofs.Common.{◌≡◌, ℕ, ◌+◌, ◌-◌, ◌<◌, ◌≤◌, ◌^◌, zero, suc, List, [], ◌∷◌, ◌++◌, length, take, drop, map, Vec, refl, sym, ◌∙◌, ap, subst, arith, append_assoc, length-append, take-append-drop}
+use Rattle.std.proofs.Common.{◌≡◌, ℕ, ◌+◌, ◌-◌, ◌<◌, ◌≤◌, zero, suc, List, [], ◌∷◌, ◌++◌, length, take, drop, Vec, refl, sym, ◌∙◌, ap, subst, arith, append_assoc, length-append, take-append-drop}
 use Rattle.std.proofs.lemmas.List.{append-nil, drop_at, take_at}
 use Rattle.std.specs.declared.alloc.Global.{Global}
 use Rattle.frame_file.specs.Device.{Cut}
 use Rattle.frame_file.specs.Frame.{framed, frames_from, IsPayload, ArePayloads, NoFrame, NoneBegins, LaterFrame}
 use Rattle.frame_file.specs.Reading.{Reads, ReadsAs, payloads_in}
-use Rattle.frame_file.proofs.Frames.{Goes, goes, begun, frames_push, fit_push, length-framed}
+use Rattle.frame_file.proofs.Frames.{Goes, goes, frames_push, fit_push, length-framed}
 
 reads_goes : (file : List ℕ) (ps qs : List (List ℕ)) (a : Reads file ps) (b : Reads file qs) → Goes 0 ps qs a.rest b.rest
 reads_goes file ps qs a b = goes 0 (length qs) ps qs a.rest b.rest a.fit b.fit (omega arith) b.ends (sym a.is ∙ b.is)

@@ -2,7 +2,7 @@
 use Rattle.std.proofs.Common.{◌≡◌, ◌⊎◌, inl, inr, ℕ, ◌+◌, ◌≤◌, List, [], ◌∷◌, ◌++◌, length, refl, sym, ◌∙◌, ap, subst, arith, append_assoc, length-append}
 use Rattle.std.proofs.lemmas.List.{append-nil}
 use Rattle.frame_file.specs.Device.{Only, Follows, Torn}
-use Rattle.frame_file.specs.Frame.{framed, frames_from, IsPayload, ArePayloads}
+use Rattle.frame_file.specs.Frame.{framed, frames_from, ArePayloads}
 use Rattle.frame_file.specs.Reading.{Reads, IsTold, IsBeforeOrAfter}
 use Rattle.frame_file.proofs.Frames.{Goes, goes, fits_behind, length-framed}
 

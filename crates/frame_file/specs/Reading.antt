@@ -3,7 +3,6 @@ use Rattle.std.specs.Prelude.{◌≡◌, ◌⊎◌, ℕ, List, [], ◌∷◌, �
 use Rattle.std.specs.declared.alloc.Global.{Global}
 use Rattle.frame_file.specs.Device.{Only}
 use Rattle.frame_file.specs.Frame.{frames_from, framed, IsPayload, ArePayloads, NoFrame, LaterFrame}
-use Rattle.frame_file.specs.declared.device.DeviceError.{DeviceError}
 use Rattle.frame_file.specs.declared.device.DeviceError.TheVariants.{Memory}
 use Rattle.frame_file.specs.declared.file.FrameFile.{FrameFile}
 use Rattle.frame_file.specs.declared.reading.FrameFault.{FrameFault}

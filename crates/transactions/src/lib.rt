@@ -3,10 +3,10 @@
 //! The definitions are in `specs/`. `Standing` says where a transaction stands, as one function of
 //! the log; `Reached` where its procedure's run stands on its answers; `Next` what it does next, as
 //! one function, and [`Next`] is that answer as code sees it; `Legal` which event may come, by a
-//! record for each kind; `Room` what open transactions may still do; `Sending` what a log sends; `Rows` which logs are printed
-//! with a row for each event. The
-//! functions here do nothing: each is a law, told by its contract. A caller calls it where its proof
-//! needs the law, or cites the lemma that the attribute above it names.
+//! record for each kind; `Room` what open transactions may still do; `Sending` what a log sends;
+//! `Rows` for which procedures each event is printed with a row. The functions here do nothing: each
+//! is a law, told by its contract. A caller calls it where its proof needs the law, or cites the lemma
+//! that the attribute above it names.
 #![tactic(auto)]
 
 ghost use Rattle.std.specs.Prelude.{◌≡◌, ◌≢◌, ◌↔◌, ◌+◌, ◌*◌, ◌<◌, ◌≤◌, ◌++◌, [], ◌∷◌, ℕ, List, Some, true, false, reverse};

@@ -1,4 +1,4 @@
-use Rattle.std.proofs.Common.{◌≡◌, ◌≢◌, ℕ, ◌<◌, List, length, take, drop, true, false, sym, ◌∙◌, ap, arith, rules}
+use Rattle.std.proofs.Common.{◌≡◌, ℕ, List, length, take, drop, true, false, sym, ◌∙◌, ap, arith, rules}
 use Rattle.std.specs.Int.{w64, from_le_bytes}
 use Rattle.frame_file.proofs.Frames.{none_short, none_long, none_head}
 use Rattle.frame_file.proofs.frame.first_frame.Goals as goal

@@ -1,7 +1,7 @@
 use Rattle.std.proofs.Common.{◌≡◌, ℕ, ◌-◌, List, take, drop, length, true, false, sym, ◌∙◌, ap, rules}
 use Rattle.std.specs.Int.{w64, to_le_bytes}
 use Rattle.std.proofs.lemmas.List.{take_rest}
-use Rattle.frame_file.specs.Frame.{checksum, head_bytes}
+use Rattle.frame_file.specs.Frame.{checksum}
 use Rattle.frame_file.proofs.Frames.{first_part, second_part, third_part, head_parts}
 use Rattle.frame_file.proofs.frame.is_head.Goals as goal
 

@@ -1,4 +1,4 @@
-use Rattle.std.proofs.Common.{◌≡◌, ◌<◌, [], arith, rules}
+use Rattle.std.proofs.Common.{[], arith, rules}
 use Rattle.frame_file.proofs.Frames.{none_begins_short, none_begins}
 use Rattle.frame_file.proofs.reading.begins_later.Goals as goal
 

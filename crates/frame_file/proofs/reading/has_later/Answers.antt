@@ -1,4 +1,4 @@
-use Rattle.std.proofs.Common.{◌≡◌, arith, subst}
+use Rattle.std.proofs.Common.{arith, subst}
 use Rattle.std.proofs.lemmas.List.{take_rest}
 use Rattle.frame_file.specs.Frame.{LaterFrame}
 use Rattle.frame_file.proofs.Readings.{later_in, none_later}

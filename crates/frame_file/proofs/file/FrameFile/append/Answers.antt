@@ -1,7 +1,7 @@
-use Rattle.std.proofs.Common.{◌≡◌, ℕ, ◌+◌, ◌≤◌, List, [], ◌∷◌, ◌++◌, length, refl, sym, ◌∙◌, ap, subst, arith, length-append, rules}
+use Rattle.std.proofs.Common.{◌≡◌, ℕ, ◌+◌, List, [], ◌∷◌, ◌++◌, length, sym, ◌∙◌, ap, subst, arith, length-append, rules}
 use Rattle.frame_file.specs.Device.{Only}
 use Rattle.frame_file.specs.Frame.{framed, frames_from}
-use Rattle.frame_file.specs.Reading.{IsSettled, IsBeforeOrAfter}
+use Rattle.frame_file.specs.Reading.{IsBeforeOrAfter}
 use Rattle.frame_file.proofs.Frames.{frames_push, fit_push}
 use Rattle.frame_file.proofs.Torns.{whole, append_crash}
 use Rattle.frame_file.proofs.Moments.{started, goes_on}

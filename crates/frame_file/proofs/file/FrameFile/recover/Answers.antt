@@ -1,6 +1,5 @@
-use Rattle.std.proofs.Common.{◌≡◌, ℕ, List, length, arith, sym, ◌∙◌, ap, subst, take}
+use Rattle.std.proofs.Common.{ℕ, List, length, arith, sym, ◌∙◌, ap, subst, take}
 use Rattle.frame_file.specs.Device.{Only, Cut}
-use Rattle.frame_file.specs.Frame.{frames_from}
 use Rattle.frame_file.specs.Reading.{Reads, ReadsAs, payloads_in}
 use Rattle.frame_file.proofs.Readings.{cut_reads_as, cut_done, end_inside, count_payloads}
 use Rattle.frame_file.proofs.Moments.{started, goes_on}
