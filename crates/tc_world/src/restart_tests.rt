@@ -9,14 +9,20 @@ use std::alloc::{AllocError, Global};
 use std::process::Abort;
 use std::test::Fail;
 
-// The steps of a call that puts 100 under 5, up to its end.
-fn five_is_put(rt: &impl Abort, alloc: Global, world: &mut World) -> Result<(), AllocError> {
+// The steps of a call that puts 100, with its transaction, and the place of its wire and of its reply.
+fn is_put(
+    rt: &impl Abort,
+    alloc: Global,
+    world: &mut World,
+    (txn, place): (u64, usize),
+    key: u64,
+) -> Result<(), AllocError> {
     let steps = [
-        Step::Admit(call(alloc, PUT, &[5, 100])?),
-        Step::Ask(1),
-        Step::Perform(0),
-        Step::Take(0),
-        Step::End(1),
+        Step::Admit(call(alloc, PUT, &[key, 100])?),
+        Step::Ask(txn),
+        Step::Perform(place),
+        Step::Take(place),
+        Step::End(txn),
     ];
     assert_eq!(rt; world.run(&steps), Ok(()));
     Ok(())
@@ -96,7 +102,7 @@ fn put_lost_and_redone(
     alloc: Global,
     world: &mut World,
 ) -> Result<(), AllocError> {
-    five_is_put(rt, alloc, world)?;
+    is_put(rt, alloc, world, (1, 0), 5)?;
     row_is_lost(rt, world);
     is_told(rt, world);
     is_redone(rt, world);
@@ -138,7 +144,7 @@ fn is_held(rt: &impl Abort, world: &mut World, admit: &Step) {
 
 fn put_kept_and_held(rt: &impl Abort, alloc: Global, world: &mut World) -> Result<(), AllocError> {
     let admit = Step::Admit(call(alloc, PUT, &[6, 1])?);
-    five_is_put(rt, alloc, world)?;
+    is_put(rt, alloc, world, (1, 0), 5)?;
     row_is_kept(rt, world);
     is_held(rt, world, &admit);
     Ok(())
@@ -164,4 +170,47 @@ fn a_component_that_is_not_there(rt: HostRuntime) -> Result<(), Fail> {
     no_such_component(&rt, &mut world);
     closed(world);
     Ok(())
+}
+
+// News of the second restart are taken where those of the first were lost. What was done above the mark that the
+// checkpoint kept is redone under that mark, though it was kept too and the transaction component's own mark is
+// higher.
+fn second_restart_is_told(rt: &impl Abort, world: &mut World) {
+    goes(rt, world, &Step::Restart(0), Outcome::Restarted(0));
+    goes(rt, world, &Step::Restart(0), Outcome::Restarted(0));
+    let news = News {
+        incarnation: 2,
+        mark: 1,
+    };
+    goes(rt, world, &Step::Tell(1), Outcome::Told(0, news));
+    stops(rt, world, &Step::Tell(0), Illegal::OldNews);
+    let redo = Wire {
+        number: 2,
+        low_water: 1,
+        incarnation: 2,
+        redo: true,
+        op: Op::Insert(record(6), value(100)),
+    };
+    goes(rt, world, &Step::Redo(0), Outcome::Redoing(3, redo));
+}
+
+fn three_puts_and_two_restarts(
+    rt: &impl Abort,
+    alloc: Global,
+    world: &mut World,
+) -> Result<(), AllocError> {
+    is_put(rt, alloc, world, (1, 0), 5)?;
+    is_put(rt, alloc, world, (2, 1), 6)?;
+    goes(rt, world, &Step::Checkpoint(0), Outcome::Checkpointed(0, 1));
+    is_put(rt, alloc, world, (3, 2), 7)?;
+    second_restart_is_told(rt, world);
+    Ok(())
+}
+
+#[test]
+fn a_restart_that_nobody_was_told_of(rt: HostRuntime) -> Result<(), Fail> {
+    let mut world = world(&rt, rt.alloc())?;
+    let passed = three_puts_and_two_restarts(&rt, rt.alloc(), &mut world);
+    closed(world);
+    Ok(passed?)
 }
