@@ -1,8 +1,8 @@
 -- Pairs sorted by their first part: one more, one changed, one less.
-use Rattle.std.proofs.Common.{◌+◌, arith, ◌≡◌, ℕ, zero, suc, ◌<◌, ◌≤◌, Bool, true, false, if◌then◌else◌, List, []}
+use Rattle.std.proofs.Common.{◌+◌, arith, ◌≡◌, ℕ, zero, suc, ◌<◌, ◌≤◌, Bool, true, false, cond, if◌then◌else◌, List, []}
 use Rattle.std.proofs.Common.{◌∷◌, length, sym, refl, ap, subst, ◌∙◌, one-add}
 use Rattle.std.specs.Prelude.{Option, Some, None, slice_get, slice_set, slice_index_or}
-use Rattle.std.specs.List.{prefix_len, insert, remove}
+use Rattle.std.specs.List.{prefix_len, insert, remove, filter}
 use Rattle.std.specs.List.Sorted.{IsPartitionedBy, IsPartitionPoint}
 use Rattle.std.proofs.lemmas.Bool.{cond-true, cond-false}
 use Rattle.data_component.specs.Sorted.{find, AllAbove, Sorted}
@@ -21,6 +21,14 @@ pub record IsOrder {K : Type 0} (eq less : K → K → Bool) : Type 0 where
   pub turned : (a b : K) → eq a b ≡ eq b a
   pub trans : (a b c : K) → less a b ≡ true → less b c ≡ true → less a c ≡ true
   pub else_above : (a b : K) → less a b ≡ false → eq a b ≡ false → less b a ≡ true
+
+-- keys that a test tells apart
+told_apart : {K : Type 0} (eq less : K → K → Bool) → IsOrder eq less → (q : K → Bool) (a b : K) → (q a ≡ q b → ⊥) → eq a b ≡ false
+told_apart eq less order q a b differ = by_test (eq a b) refl
+  where
+    by_test : (e : Bool) → eq a b ≡ e → eq a b ≡ false
+    by_test false is = is
+    by_test true is = absurd (differ (ap q (order.same a b is)))
 
 module _ {K V : Type 0} (eq less : K → K → Bool) (order : IsOrder eq less) where
   abbrev pub below : K → K × V → Bool
@@ -270,3 +278,46 @@ module _ {K V : Type 0} (eq less : K → K → Bool) (order : IsOrder eq less) w
   place_past k (x ∷ xs) zero d sorted last is = behind k x xs is (place_of_none k xs (omega (arith, last)))
   place_past k (x ∷ xs) (suc i) d sorted last is =
       behind k x xs (all_below k x.0 xs i d sorted.0 (omega (arith, last)) is) (place_past k xs i d sorted.1 (omega (arith, last)) is)
+
+  -- ---- those that pass a test
+
+  all_or_not : (b : Bool) (a : K) (x : K × V) (xs : List (K × V)) → less a x.0 ≡ true → AllAbove less a xs → AllAbove less a (cond b (x ∷ xs) xs)
+  all_or_not true a x xs is all = (is, all)
+  all_or_not false a x xs is all = all
+
+  all_passed : (p : K × V → Bool) (a : K) (xs : List (K × V)) → AllAbove less a xs → AllAbove less a (filter p xs)
+  all_passed p a [] all = tt
+  all_passed p a (x ∷ xs) all = all_or_not (p x) a x (filter p xs) all.0 (all_passed p a xs all.1)
+
+  sorted_or_not : (b : Bool) (x : K × V) (xs : List (K × V)) → AllAbove less x.0 xs → Sorted less xs → Sorted less (cond b (x ∷ xs) xs)
+  sorted_or_not true x xs all sorted = (all, sorted)
+  sorted_or_not false x xs all sorted = sorted
+
+  pub sorted_passed : (p : K × V → Bool) (xs : List (K × V)) → Sorted less xs → Sorted less (filter p xs)
+  sorted_passed p [] sorted = tt
+  sorted_passed p (x ∷ xs) sorted = sorted_or_not (p x) x (filter p xs) (all_passed p x.0 xs sorted.0) (sorted_passed p xs sorted.1)
+
+  abbrev passing : (K → Bool) → List (K × V) → List (K × V)
+  passing q xs = filter (λ x. q x.0) xs
+
+  passed_or_not : (b : Bool) (q : K → Bool) (k : K) (x : K × V) (xs : List (K × V)) → q x.0 ≡ b → q k ≡ true
+      → find eq (passing q xs) k ≡ find eq xs k → find eq (cond b (x ∷ passing q xs) (passing q xs)) k ≡ find eq (x ∷ xs) k
+  passed_or_not true q k x xs is passes later = ap (λ (o : Option V). if eq x.0 k then Some x.1 else o) later
+  passed_or_not false q k x xs is passes later =
+      later ∙ sym (cond-false _ _ _ (told_apart eq less order q x.0 k (λ same. (let bad : false ≡ true = sym is ∙ same ∙ passes in cc))))
+
+  -- a key that passes is found as before
+  pub find_passed : (q : K → Bool) (k : K) (xs : List (K × V)) → q k ≡ true → find eq (passing q xs) k ≡ find eq xs k
+  find_passed q k [] passes = refl
+  find_passed q k (x ∷ xs) passes = passed_or_not (q x.0) q k x xs refl passes (find_passed q k xs passes)
+
+  barred_or_not : (b : Bool) (q : K → Bool) (k : K) (x : K × V) (xs : List (K × V)) → q x.0 ≡ b → q k ≡ false
+      → find eq (passing q xs) k ≡ None → find eq (cond b (x ∷ passing q xs) (passing q xs)) k ≡ None
+  barred_or_not true q k x xs is barred later =
+      cond-false _ _ _ (told_apart eq less order q x.0 k (λ same. (let bad : true ≡ false = sym is ∙ same ∙ barred in cc))) ∙ later
+  barred_or_not false q k x xs is barred later = later
+
+  -- and another isn't found
+  pub find_barred : (q : K → Bool) (k : K) (xs : List (K × V)) → q k ≡ false → find eq (passing q xs) k ≡ None
+  find_barred q k [] barred = refl
+  find_barred q k (x ∷ xs) barred = barred_or_not (q x.0) q k x xs refl barred (find_barred q k xs barred)

@@ -2,7 +2,7 @@
 use Rattle.std.proofs.Common.{arith, ◌≡◌, ℕ, zero, suc, ◌+◌, ◌<◌, ◌≤◌, nat_lt, Bool, true, false, if◌then◌else◌, List}
 use Rattle.std.proofs.Common.{[], ◌∷◌, ◌++◌, length, take, drop, sym, refl, ap, ap₂, subst, ◌∙◌}
 use Rattle.std.specs.Prelude.{Option, Some, None, slice_get, slice_index_or, ◌==◌, ◌||◌, not, reverse}
-use Rattle.std.specs.List.{insert}
+use Rattle.std.specs.List.{insert, filter}
 use Rattle.std.proofs.lemmas.Bool.{cond-true, cond-false}
 use Rattle.std.proofs.lemmas.Bool.Decides.{nat_tests}
 use Rattle.std.proofs.lemmas.Grind.{take_at_read}
@@ -14,10 +14,10 @@ use Rattle.access_slots.specs.declared.op.Said.{Said}
 use Rattle.access_slots.specs.declared.op.Said.TheVariants.{Value, Absent, Done, Duplicate, Missing, NoRoom, Old}
 use Rattle.access_slots.specs.Locks.{record_eq, target}
 use Rattle.data_component.specs.Performed.{Performed, RecordValue, left, value_of, counted, said_to, count, answer, has_room, said_under, IsAnswerBehind, IsRight}
-use Rattle.data_component.specs.Sorted.{Rows, Kept, place_of, kept_place}
+use Rattle.data_component.specs.Sorted.{Rows, Kept, SortedKept, place_of, kept_place}
 use Rattle.data_component.specs.Joining.Performing.{Performs}
 use Rattle.data_component.specs.Keeping.{AreRowsOf, AreKept, AllBelow, Keeps, said_by, said_in}
-use Rattle.data_component.proofs.Finding.{length_inserted, find_inserted, sorted_inserted}
+use Rattle.data_component.proofs.Finding.{length_inserted, find_inserted, sorted_inserted, sorted_passed, find_passed, find_barred}
 use Rattle.data_component.proofs.Orders.{numbers, number_eq}
 
 -- ---- rows
@@ -164,6 +164,29 @@ same_kept kept mark performed e are low = record {
   where
     lower : (n m high : ℕ) → n ≤ high → high < m → (n == m) ≡ false
     lower n m high few above = grind (arith, nat_tests)
+
+-- nor does one that is left out
+pub left_out : (kept new : Kept) (mark : ℕ) (performed : List Performed) → AreKept kept mark performed
+    → new ≡ filter (λ entry. nat_lt mark entry.0) kept → length new ≤ length kept → AreKept new mark performed
+left_out kept new mark performed are is fewer = record {
+  sorted = subst SortedKept (sym is) (sorted_passed number_eq nat_lt numbers (λ entry. nat_lt mark entry.0) kept are.sorted);
+  within = λ m place found. are.within m place (back m place (nat_lt mark m) refl found);
+  few = omega (arith, are.few, fewer);
+  found = λ n above. ap (said_in performed) (passes n (above_true n above)) ∙ are.found n above;
+}
+  where
+    above_true : (n : ℕ) → mark < n → nat_lt mark n ≡ true
+    above_true n above = grind (arith, nat_tests)
+
+    passes : (n : ℕ) → nat_lt mark n ≡ true → place_of new n ≡ place_of kept n
+    passes n above = ap (λ (k : Kept). place_of k n) is ∙ find_passed number_eq nat_lt numbers (nat_lt mark) n kept above
+
+    back : (m place : ℕ) (b : Bool) → nat_lt mark m ≡ b → place_of new m ≡ Some place → place_of kept m ≡ Some place
+    back m place true above found = sym (passes m above) ∙ found
+    back m place false low found = absurd (
+        let none : place_of new m ≡ None = ap (λ (k : Kept). place_of k m) is ∙ find_barred number_eq nat_lt numbers (nat_lt mark) m kept low in
+        let bad : None ≡ Some place = sym none ∙ found in
+        cc)
 
 pub higher_mark : (kept : Kept) (mark high : ℕ) (performed : List Performed) → mark ≤ high → AreKept kept mark performed → AreKept kept high performed
 higher_mark kept mark high performed up are = record { sorted = are.sorted; within = are.within; few = are.few; found = λ n above. are.found n (omega (arith, up, above)) }

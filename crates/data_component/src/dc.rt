@@ -7,7 +7,7 @@ ghost use Rattle.data_component.specs.Store.{empty, marked, fate, fate_of_new, r
 ghost use Rattle.data_component.specs.Store.{checkpointed, IsSpent, restarted, news_of};
 ghost use Rattle.data_component.specs.Keeping.{AreRowsOf, AreKept};
 
-use crate::kept::{Kept, keep, place_of};
+use crate::kept::{Kept, keep, leave_out_old, place_of};
 use crate::rows::{self, Row};
 use access_slots::op::{News, Op, Reply, Said, Wire};
 use access_slots::slot::{Record, Value};
@@ -110,6 +110,7 @@ impl Dc {
         ensures { self.new ≡ marked self.old low_water }
     {
         self.mark = self.mark.max(low_water);
+        leave_out_old(&mut self.kept, self.mark);
     }
 
     // Performs an operation where the mark is raised.

@@ -1,7 +1,9 @@
 //! Where the numbers above the mark stand in the list of what was performed, sorted by number.
 
-ghost use Rattle.std.specs.Prelude.{◌≡◌, ◌<◌, ◌≤◌, true, None, length, vec_capacity};
+ghost use Rattle.std.specs.Prelude.{◌≡◌, ◌<◌, ◌≤◌, List, true, None, length, vec_capacity};
 ghost use Rattle.std.specs.List.{insert};
+ghost use Rattle.data_component.specs.Keeping.{AreKept};
+ghost use Rattle.data_component.specs.Performed.{Performed};
 ghost use Rattle.data_component.specs.Sorted.{place_of, kept_place, SortedKept};
 
 /// A number and its place in the list.
@@ -64,4 +66,20 @@ pub(crate) fn keep(kept: &mut Vec<Kept>, number: u64, place: usize)
         Ok(()) => {}
         Err(_) => unreachable!(),
     }
+}
+
+// So few entries aren't worth a look for old ones.
+const FEW: usize = 128;
+
+/// Leaves out the entries at or under the mark, which nobody looks up, where they are half of all or more and
+/// all are many.
+pub(crate) fn leave_out_old(kept: &mut Vec<Kept>, mark: u64)
+    ensures kept { (performed : List Performed) → AreKept kept.old.items mark performed → AreKept kept.new.items mark performed }
+    ensures capacity { vec_capacity kept.new ≡ vec_capacity kept.old }
+{
+    let half = kept.len() / 2;
+    if half < FEW || kept[half].0 > mark {
+        return;
+    }
+    kept.retain(|entry| entry.0 > mark);
 }
