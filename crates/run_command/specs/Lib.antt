@@ -1,4 +1,3 @@
 pub mod AnswerLines
 pub mod Figures
 pub mod Running
-pub mod Joining

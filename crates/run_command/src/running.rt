@@ -1,6 +1,6 @@
 //! `run`: the calls of a script by workers, a line for each, and then what the data components keep.
 
-ghost use Rattle.std.specs.Prelude.{◌≡◌, ◌++◌, List, IfOk, IfErr, Some, codes, string_bytes};
+ghost use Rattle.std.specs.Prelude.{◌≡◌, ◌++◌, List, IfOk, IfErr, Some, codes, length, vec_len, string_bytes};
 ghost use Rattle.std.specs.List.{list_any};
 ghost use Rattle.scripts.specs.Reading.{script_said};
 ghost use Rattle.scripts.specs.declared.keyword.Command.TheVariants as command;
@@ -12,8 +12,7 @@ ghost use Rattle.state_lines.specs.RowLines.{AddsRowLines};
 ghost use Rattle.run_command.specs.Running.{said_call, AreCallsOf, is_want_of_memory, AreLinesOf, IsCallsRun, IsRun};
 
 use crate::answer_lines::{fault_line, write_answers};
-pub use crate::answering::Manner;
-use crate::answering::{Answered, Rings, Unbegun, Workload, answer_served};
+use crate::answering::{Answered, Rings, Unbegun, answer_served};
 use crate::figures::{figures, longest_wait, rate};
 use crate::watching::Waits;
 use data_component::dc::Dc;
@@ -30,6 +29,16 @@ use std::thread::Threads;
 use std::time::Clock;
 use tc_core::state::{Call, Refusal, TcState};
 use worker_pool::Answer;
+
+/// How the calls of a script are run: the second list by so many workers, each request sent so often
+/// at most; with the figures of that list as notes, and with an audit behind the rows.
+#[derive(Clone, Copy, Debug)]
+pub struct Manner {
+    pub workers: u64,
+    pub tries: u64,
+    pub stats: bool,
+    pub audit: bool,
+}
 
 // The call that a line of the script says.
 fn call_of(alloc: Global, said: &script::Call) -> Result<Call, AllocError>
@@ -66,8 +75,7 @@ fn run_lines(
     calls: &[Answer],
     dcs: &[Dc],
 ) -> Result<String, AllocError>
-    ensures { IfOk result (λ s. AddsRowLines dcs.now (answer_lines (codes "first") first.now ++ answer_lines (codes "call") calls.now)
-        (string_bytes s)) }
+    ensures { IfOk result (λ s. AddsRowLines dcs.now (answer_lines (codes "first") first.now ++ answer_lines (codes "call") calls.now) (string_bytes s)) }
 {
     let mut lines = String::new(alloc);
     write_answers(alloc, "first", first, &mut lines)?;
@@ -109,8 +117,8 @@ fn write_found(
 
 // The report of calls that were run, over components that are now these.
 fn ran(alloc: Global, answered: &Answered, dcs: &[Dc], manner: Manner) -> Result<Report, AllocError>
-    ensures { IfOk result (λ r. AreLinesOf answered.now.state dcs.now manner.audit answered.now.first.items answered.now.calls.items
-        r.status (string_bytes r.lines)) }
+    ensures { IfOk result (λ r. AreLinesOf answered.now.state manner.audit answered.now.first.items answered.now.calls.items
+        (length dcs.now) r.status (string_bytes r.lines)) }
 {
     let first = answered.first.as_slice();
     let calls = answered.calls.as_slice();
@@ -143,11 +151,14 @@ fn stopped(alloc: Global, fault: Unbegun) -> Result<Report, AllocError>
     })
 }
 
-// What calls are run with: they themselves, and the rings to the data components.
+// What the lists of a script are run with: their calls, the rings to the data components, and what
+// is known of the calls meanwhile.
 #[derive(Drop)]
 struct Prepared {
-    workload: Workload,
+    first: Vec<Call>,
+    calls: Vec<Call>,
     rings: Rings,
+    waits: Waits,
 }
 
 // Makes the calls that both lists say, and rings to so many components.
@@ -159,9 +170,8 @@ fn prepare(
     manner: Manner,
     terminal: Option<Stderr>,
 ) -> Result<Prepared, AllocError>
-    ensures first { IfOk result (λ p. AreCallsOf first.now p.workload.first.items) }
-    ensures calls { IfOk result (λ p. AreCallsOf calls.now p.workload.calls.items) }
-    ensures manner { IfOk result (λ p. p.workload.manner ≡ manner) }
+    ensures first { IfOk result (λ p. AreCallsOf first.now p.first.items) }
+    ensures calls { IfOk result (λ p. AreCallsOf calls.now p.calls.items) }
 {
     let first = calls_of(alloc, first)?;
     let calls = calls_of(alloc, calls)?;
@@ -169,13 +179,10 @@ fn prepare(
     let watched = if manner.stats { calls.len() } else { 0 };
     let waits = Waits::new(alloc, watched, terminal)?;
     Ok(Prepared {
-        workload: Workload {
-            first,
-            calls,
-            manner,
-            waits,
-        },
+        first,
+        calls,
         rings,
+        waits,
     })
 }
 
@@ -186,15 +193,32 @@ fn run_calls<R: Clock + Threads + Wait + Sync>(
     state: TcState,
     dcs: Vec<Dc>,
     prepared: Prepared,
+    manner: Manner,
 ) -> Result<Report, AllocError>
-    ensures { (said_first said_calls : List ScriptCall) → AreCallsOf said_first prepared.workload.first.items
-        → AreCallsOf said_calls prepared.workload.calls.items → IfOk result (λ r. IsCallsRun state dcs.items said_first said_calls
-        prepared.workload.manner.workers prepared.workload.manner.tries prepared.workload.manner.audit r.status (string_bytes r.lines)) }
+    ensures { (said_first said_calls : List ScriptCall) → AreCallsOf said_first prepared.first.items
+        → AreCallsOf said_calls prepared.calls.items → IfOk result (λ r. IsCallsRun state said_first said_calls (vec_len dcs)
+        manner.workers manner.tries manner.audit r.status (string_bytes r.lines)) }
 {
-    let Prepared { workload, rings } = prepared;
-    let (answered, dcs) = answer_served(rt, alloc, state, dcs, &workload, rings);
+    let Prepared {
+        first,
+        calls,
+        rings,
+        waits,
+    } = prepared;
+    let (answered, dcs) = answer_served(
+        rt,
+        alloc,
+        state,
+        first.as_slice(),
+        calls.as_slice(),
+        manner.workers as usize,
+        manner.tries,
+        rings,
+        dcs,
+        &waits,
+    );
     match answered {
-        Ok(answered) => ran(alloc, &answered, dcs?.as_slice(), workload.manner),
+        Ok(answered) => ran(alloc, &answered, dcs?.as_slice(), manner),
         Err(cause) => stopped(alloc, cause),
     }
 }
@@ -207,7 +231,7 @@ fn run_loaded<R: Clock + Threads + Wait + Sync>(
     manner: Manner,
     terminal: Option<Stderr>,
 ) -> Result<Report, AllocError>
-    ensures { IfOk result (λ r. IsCallsRun loaded.state loaded.dcs.items loaded.first.items loaded.calls.items
+    ensures { IfOk result (λ r. IsCallsRun loaded.state loaded.first.items loaded.calls.items (vec_len loaded.dcs)
         manner.workers manner.tries manner.audit r.status (string_bytes r.lines)) }
 {
     let Loaded {
@@ -225,7 +249,7 @@ fn run_loaded<R: Clock + Threads + Wait + Sync>(
         manner,
         terminal,
     ) {
-        Ok(ready) => run_calls(rt, alloc, state, dcs, ready),
+        Ok(ready) => run_calls(rt, alloc, state, dcs, ready, manner),
         Err(AllocError) => Err(AllocError),
     }
 }
