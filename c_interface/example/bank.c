@@ -1,0 +1,65 @@
+/* Accounts at two data components: a record of table 0 has the balance in its first eight bytes. */
+#include "mazzulpe_procedure.h"
+
+enum { UNKNOWN_ACCOUNT = 1, TOO_LITTLE = 2, LEFT_AGAIN = 7 };
+
+static inline __attribute__((always_inline)) u64 deposited(u64 amount) {
+    u64 *account = record_read(0);
+    if (account) {
+        account[0] += amount;
+        return record_update(0);
+    }
+    account = record_buffer(0);
+    account[0] = amount;
+    return record_insert(0);
+}
+
+/* deposit_here ACCOUNT AMOUNT: opens the account at data component 0 where there is none. */
+ACCESSES(deposit_here, TAKES(2), WRITES(0, 0, ARGUMENT(0)))
+PROCEDURE(deposit_here) {
+    return deposited(args[1]);
+}
+
+/* deposit_there ACCOUNT AMOUNT: the same at data component 1. */
+ACCESSES(deposit_there, TAKES(2), WRITES(1, 0, ARGUMENT(0)))
+PROCEDURE(deposit_there) {
+    return deposited(args[1]);
+}
+
+static inline __attribute__((always_inline)) u64 moved(u64 amount) {
+    u64 *from = record_read(0);
+    if (!from)
+        return UNKNOWN_ACCOUNT;
+    u64 *to = record_read(1);
+    if (!to)
+        return UNKNOWN_ACCOUNT;
+    if (from[0] < amount)
+        return TOO_LITTLE;
+    from[0] -= amount;
+    to[0] += amount;
+    record_update(0);
+    return record_update(1);
+}
+
+/* move FROM TO AMOUNT: from an account at data component 0 to one at data component 1. */
+ACCESSES(move, TAKES(3), WRITES(0, 0, ARGUMENT(0)), WRITES(1, 0, ARGUMENT(1)))
+PROCEDURE(move) {
+    return moved(args[2]);
+}
+
+/* move_back FROM TO AMOUNT: the other way. */
+ACCESSES(move_back, TAKES(3), WRITES(1, 0, ARGUMENT(0)), WRITES(0, 0, ARGUMENT(1)))
+PROCEDURE(move_back) {
+    return moved(args[2]);
+}
+
+/* touch ACCOUNT: adds 1, and then aborts, so that the addition is undone by the former value. */
+ACCESSES(touch, TAKES(1), WRITES(0, 0, ARGUMENT(0)))
+PROCEDURE(touch) {
+    u64 *account = record_read(0);
+    if (!account)
+        return UNKNOWN_ACCOUNT;
+    account[0] += 1;
+    record_update(0);
+    return LEFT_AGAIN;
+}

@@ -1,0 +1,171 @@
+#include "sqlite_dc.h"
+#include <stdio.h>
+
+enum { BEGIN, COMMIT, ROLLBACK, STANDING, RAISE, FORGET, FIND, KEEP, READ, INSERT, UPDATE, DELETE, STATEMENTS };
+
+static const char *const text[STATEMENTS] = {
+    "begin immediate", "commit", "rollback",
+    "select mark, incarnation from component", "update component set mark = ?1",
+    "delete from performed where number <= ?1", "select said, value from performed where number = ?1",
+    "insert or replace into performed values (?1, ?2, ?3)",
+    "select value from records where tab = ?1 and key = ?2", "insert into records values (?1, ?2, ?3)",
+    "update records set value = ?3 where tab = ?1 and key = ?2", "delete from records where tab = ?1 and key = ?2",
+};
+
+struct sqlite_dc {
+    sqlite3 *db;
+    sqlite3_stmt *s[STATEMENTS];
+    int forgetful;
+};
+
+static int is_done(sqlite_dc *dc, int which) {
+    int rc = sqlite3_step(dc->s[which]);
+    sqlite3_reset(dc->s[which]);
+    return rc == SQLITE_DONE;
+}
+
+static int executed(sqlite_dc *dc, char *sql) {
+    int ok = sql && sqlite3_exec(dc->db, sql, NULL, NULL, NULL) == SQLITE_OK;
+    if (!ok) fprintf(stderr, "sqlite: %s\n", sqlite3_errmsg(dc->db));
+    sqlite3_free(sql);
+    return ok;
+}
+
+/* A statement that gives one blob or nothing: 1 found, 0 not, -1 failed. */
+static int blob_of(sqlite_dc *dc, int which, int column, uint8_t *value, int *first) {
+    int rc = sqlite3_step(dc->s[which]), found = rc == SQLITE_ROW ? 1 : rc == SQLITE_DONE ? 0 : -1;
+    if (found == 1) {
+        if (first) *first = sqlite3_column_int(dc->s[which], 0);
+        memset(value, 0, MZ_VALUE);
+        if (sqlite3_column_bytes(dc->s[which], column) == MZ_VALUE) memcpy(value, sqlite3_column_blob(dc->s[which], column), MZ_VALUE);
+    }
+    sqlite3_reset(dc->s[which]);
+    return found;
+}
+
+/* The low-water mark and the incarnation. */
+static int standing(sqlite_dc *dc, mz_news *news) {
+    int found = sqlite3_step(dc->s[STANDING]) == SQLITE_ROW;
+    if (found) {
+        news->mark = (uint64_t)sqlite3_column_int64(dc->s[STANDING], 0);
+        news->incarnation = (uint64_t)sqlite3_column_int64(dc->s[STANDING], 1);
+    }
+    sqlite3_reset(dc->s[STANDING]);
+    return found;
+}
+
+static void bind_record(sqlite_dc *dc, int which, const mz_wire *w) {
+    sqlite3_bind_int(dc->s[which], 1, w->record.table);
+    sqlite3_bind_int64(dc->s[which], 2, (sqlite3_int64)w->record.key);
+    if (which == INSERT || which == UPDATE) sqlite3_bind_blob(dc->s[which], 3, w->value, MZ_VALUE, SQLITE_STATIC);
+}
+
+/* The operation itself. 0 where SQLite failed. */
+static int operate(sqlite_dc *dc, const mz_wire *w, mz_reply *r) {
+    static const int write[] = {0, 0, INSERT, UPDATE, DELETE};
+    bind_record(dc, READ, w);
+    int found = blob_of(dc, READ, 0, r->value, NULL);
+    if (found < 0) return 0;
+    r->said = w->op == MZ_READ ? (found ? MZ_VALUE_IS : MZ_ABSENT) : found ? MZ_DONE_WAS : MZ_DONE;
+    if (w->op == MZ_INSERT && found) r->said = MZ_DUPLICATE;
+    if (w->op > MZ_INSERT && !found) r->said = MZ_MISSING;
+    if (w->op == MZ_READ || r->said == MZ_DUPLICATE || r->said == MZ_MISSING) return 1;
+    bind_record(dc, write[w->op], w);
+    return is_done(dc, write[w->op]);
+}
+
+/* The wire, within a SQLite transaction: the mark rises; a number at or under it is old; one that was
+ * performed gets its answer again; else the operation is performed, and kept with its answer. */
+static int performed(sqlite_dc *dc, uint64_t mark, const mz_wire *w, mz_reply *r) {
+    if (w->low_water > mark) {
+        mark = w->low_water;
+        sqlite3_bind_int64(dc->s[RAISE], 1, (sqlite3_int64)mark);
+        sqlite3_bind_int64(dc->s[FORGET], 1, (sqlite3_int64)mark);
+        if (!is_done(dc, RAISE) || !is_done(dc, FORGET)) return 0;
+    }
+    r->number = w->number;
+    r->incarnation = w->incarnation;
+    memset(r->value, 0, MZ_VALUE);
+    if (w->number <= mark) {
+        r->said = MZ_OLD;
+        return 1;
+    }
+    int said;
+    sqlite3_bind_int64(dc->s[FIND], 1, (sqlite3_int64)w->number);
+    int found = dc->forgetful ? 0 : blob_of(dc, FIND, 1, r->value, &said);
+    if (found) {
+        r->said = (mz_said)said;
+        return found > 0;
+    }
+    if (!operate(dc, w, r)) return 0;
+    if (r->said != MZ_VALUE_IS && r->said != MZ_DONE_WAS) memset(r->value, 0, MZ_VALUE);
+    sqlite3_bind_int64(dc->s[KEEP], 1, (sqlite3_int64)w->number);
+    sqlite3_bind_int(dc->s[KEEP], 2, (int)r->said);
+    sqlite3_bind_blob(dc->s[KEEP], 3, r->value, MZ_VALUE, SQLITE_STATIC);
+    return is_done(dc, KEEP);
+}
+
+mz_carried sqlite_dc_perform(sqlite_dc *dc, const mz_wire *wire, mz_reply *reply, mz_news *news) {
+    if (!is_done(dc, BEGIN)) return MZ_LOST;
+    int known = standing(dc, news);
+    if (known && news->incarnation != wire->incarnation) {
+        is_done(dc, ROLLBACK);
+        return MZ_RESTARTED;
+    }
+    if (known && performed(dc, news->mark, wire, reply) && is_done(dc, COMMIT)) return MZ_REPLIED;
+    is_done(dc, ROLLBACK);
+    return MZ_LOST;
+}
+
+int sqlite_dc_put_back(sqlite_dc *dc, uint64_t incarnation, mz_news *news) {
+    char *sql = sqlite3_mprintf("update component set incarnation = %lld", (long long)incarnation);
+    return executed(dc, sql) && standing(dc, news);
+}
+
+int sqlite_dc_copy(sqlite_dc *dc, const char *path) {
+    remove(path);
+    return executed(dc, sqlite3_mprintf("vacuum into %Q", path));
+}
+
+sqlite_dc *sqlite_dc_open(const char *path, uint64_t session, int durable) {
+    sqlite_dc *dc = calloc(1, sizeof *dc);
+    if (!dc) return NULL;
+    int ok = sqlite3_open(path, &dc->db) == SQLITE_OK;
+    if (ok) sqlite3_busy_timeout(dc->db, 5000);
+    ok = ok && executed(dc, sqlite3_mprintf(
+        "pragma journal_mode = wal; pragma synchronous = %s;"
+        "create table if not exists records (tab integer, key integer, value blob not null, primary key (tab, key)) without rowid;"
+        "create table if not exists performed (number integer primary key, said integer not null, value blob not null);"
+        "create table if not exists component (session integer not null, mark integer not null, incarnation integer not null);"
+        "begin immediate;"
+        "delete from performed where not exists (select 1 from component where session = %lld);"
+        "delete from component where session <> %lld;"
+        "insert into component select %lld, 0, 0 where not exists (select 1 from component);"
+        "commit;", durable ? "full" : "off", (long long)session, (long long)session, (long long)session));
+    for (int i = 0; ok && i < STATEMENTS; i++) ok = sqlite3_prepare_v2(dc->db, text[i], -1, &dc->s[i], NULL) == SQLITE_OK;
+    if (ok) return dc;
+    sqlite_dc_close(dc);
+    return NULL;
+}
+
+void sqlite_dc_close(sqlite_dc *dc) {
+    if (!dc) return;
+    for (int i = 0; i < STATEMENTS; i++) sqlite3_finalize(dc->s[i]);
+    sqlite3_close(dc->db);
+    free(dc);
+}
+
+int64_t sqlite_dc_sum(sqlite_dc *dc) {
+    int64_t sum = 0;
+    sqlite3_stmt *s;
+    if (sqlite3_prepare_v2(dc->db, "select value from records", -1, &s, NULL) != SQLITE_OK) return -1;
+    while (sqlite3_step(s) == SQLITE_ROW) {
+        int64_t balance;
+        memcpy(&balance, sqlite3_column_blob(s, 0), sizeof balance);
+        sum += balance;
+    }
+    sqlite3_finalize(s);
+    return sum;
+}
+
+void sqlite_dc_forget_answers(sqlite_dc *dc) { dc->forgetful = 1; }

@@ -1,0 +1,85 @@
+/* Frames at random, to every kind of handle: fuzz CALLS SEED. It ends with 0 where nothing went wrong: run it
+ * under AddressSanitizer or valgrind. Half of a frame's fields stay from call to call, so that calls often
+ * mean something; one frame of forty is noise. */
+#include "mazzulpe_object.h"
+
+static uint64_t x;
+
+static uint64_t drawn(uint64_t below) {
+    x ^= x << 13;
+    x ^= x >> 7;
+    x ^= x << 17;
+    return (x >> 11) % below;
+}
+
+static mz_frame *begun(void) {
+    mz_code c;
+    char refused[MZ_NAME + 1];
+    if (drawn(4)) {
+        mz_tc *tc = mz_tc_new(2, &c);
+        if (!tc || mz_load_object_file(tc, "build/bank.o", refused, NULL) != MZ_OK) exit(2);
+        return (mz_frame *)tc;
+    }
+    if (drawn(2)) return (mz_frame *)mz_dc_new(50, 200, &c);
+    return (mz_frame *)mz_program_new(&c);
+}
+
+static void hand_in(mz_frame *f) {
+    static uint8_t code[MZ_CODE_BYTES];
+    static size_t size;
+    static const mz_slot slots[2] = {{1, 0, 0, 1, 0}, {1, 1, 0, 1, 1}};
+    if (!size) {
+        FILE *file = fopen("build/move.bin", "rb");
+        if (!file) exit(2);
+        size = fread(code, 1, sizeof code, file);
+        fclose(file);
+    }
+    mz_hand_in(f, code, size, slots, 2);
+}
+
+/* The next frame, which is often like the last. */
+static void changed(mz_frame *f) {
+    static const uint32_t whats[] = {20, 20, 20, 22, 22, 22, 23, 23, 24, 25, 25, 25, 25, 26, 27, 27, 28, 29, 30, 31, 32, 33, 33, 34, 34,
+                                     40, 40, 40, 41, 42, 43, 44, 45, 46, 47, 10, 11, 12, 13, 14, 21, 50, 51, 52, 52, 0, 1, 99};
+    if (drawn(2)) f->txn = 1 + drawn(6);
+    if (drawn(3) == 0) f->kind = (uint32_t)drawn(9);
+    if (drawn(3) == 0) f->op = (uint32_t)drawn(6);
+    if (drawn(3) == 0) f->count = (uint32_t)drawn(4);
+    if (drawn(3) == 0) f->dc = (uint16_t)drawn(3);
+    if (drawn(4) == 0) f->redo = (uint32_t)drawn(3);
+    if (drawn(4) == 0) f->incarnation = drawn(4);
+    if (drawn(4) == 0) f->low_water = drawn(8);
+    if (drawn(3) == 0) {
+        f->word = drawn(6);
+        f->key = drawn(4);
+        f->args[0] = drawn(4);
+        f->args[1] = drawn(4);
+    }
+    if (drawn(40) == 0)
+        for (uint8_t *at = (uint8_t *)f, *end = at + sizeof *f; at < end; at++) *at = (uint8_t)drawn(256);
+    f->what = whats[drawn(sizeof whats / sizeof *whats)];
+    if ((f->what == 13 || f->what == 50) && drawn(2)) {
+        uint32_t what = f->what;
+        hand_in(f);
+        f->what = what;
+        f->word = 3;
+    }
+}
+
+int main(int argc, char **argv) {
+    long calls = argc > 1 ? atol(argv[1]) : 100000, done = 0;
+    x = (argc > 2 ? strtoull(argv[2], NULL, 10) : 1) * 2654435761u | 1;
+    mz_frame *f = NULL;
+    for (long i = 0; i < calls; i++) {
+        if (i % 500 == 0) {
+            mz_free(f);
+            f = begun();
+            if (!f) return 2;
+        }
+        changed(f);
+        done += mazzulpe_call(f) == MZ_OK;
+    }
+    mz_free(f);
+    printf("%ld calls by random frames, %ld done\n", calls, done);
+    return 0;
+}

@@ -1,0 +1,826 @@
+/* mazzulpe.h: a verified transaction component, a data component and a BPF runner, for C and C++.
+ *
+ * A transaction component (mz_tc) takes all locks of a call, runs the call's stored procedure, keeps the
+ * log, and hands out numbered operations on records. Your storage is a data component: it performs each
+ * number once, and answers. Nothing here starts a thread, waits, reads a clock, a file or the environment,
+ * or ends the process; each call returns.
+ *
+ * A CALL'S WAY
+ *
+ *     mz_admit -> mz_ask -> MZ_REQUEST: carry the wire, mz_answer, mz_ask again
+ *                        -> MZ_DOWN: the data component restarted; once it is up again, mz_resend
+ *                        -> MZ_UNDOING: mz_undo instead of mz_ask, until it says MZ_OVER
+ *                        -> MZ_OVER: mz_end
+ *
+ * mz_run does that with a function of yours that carries.
+ *
+ * A DATA COMPONENT THAT RESTARTED and may have lost what came after its last checkpoint tells its new
+ * incarnation and the low-water mark that it kept:
+ *
+ *     mz_told -> mz_redo_next -> carry the wire, mz_redone, mz_redo_next again
+ *             -> *up: all is redone, and open requests are sent again
+ *
+ * ERRORS. A call answers MZ_OK (0), or why it did nothing: a letter and a number in one word, as
+ * MZ_CODE('B', 1) is "B1", a lock in the way. The handle is then as it was before; what was to be written
+ * through a pointer is written only where a function says so. Where a code isn't listed at a function,
+ * it doesn't come from it. MZ_BAD_ARGUMENT is a number, a count or a kind out of its range, and MZ_MEMORY
+ * want of memory; they may come from any function that takes such or takes memory. mz_code_text says a
+ * code in a word.
+ *
+ * THREADS. A handle has no lock: make one call on it at a time, and order calls of different threads by a
+ * lock of yours. Different handles have nothing in common. No call blocks, so a lock round a call is held
+ * for microseconds; carry a wire to your storage without the lock.
+ *
+ * MEMORY. A handle takes mazzulpe_size() bytes, and its tables more as they grow, all by the three
+ * functions of heap.c. The log grows by some 120 bytes an event, and stays. Once mz_admit has answered
+ * MZ_OK, no call on that transaction takes memory, but for mz_log_bytes and mz_log_at.
+ *
+ * RANGES. Data components are 0 to 65534, tables 0 to 65535, keys, numbers and arguments 64 bits, values
+ * 64 bytes; names UTF-8 of at most 256 bytes; code at most 4096 slots of 8 bytes; a procedure takes at
+ * most 8 arguments and has at most 16 access slots. Numbers of requests go to 2^62.
+ *
+ * What is proved, and what you have to see to yourself: docs/EMBEDDING.md.
+ */
+#ifndef MAZZULPE_H
+#define MAZZULPE_H
+
+#include <stddef.h>
+#include <stdint.h>
+#include <stdlib.h>
+#include <string.h>
+
+#ifdef __cplusplus
+extern "C" {
+#endif
+
+/* ---- what is handed over */
+
+#define MZ_VERSION 1 /* of this header and of the frame; mazzulpe_version() answers the library's */
+
+typedef uint32_t mz_code;
+#define MZ_CODE(letter, number) ((mz_code)((letter) << 8 | (number)))
+#define MZ_OK 0
+#define MZ_NO_SUCH_CALL MZ_CODE('W', 1)       /* the handle is of another kind */
+#define MZ_BAD_ARGUMENT MZ_CODE('W', 2)       /* a count, a kind or a number out of its range */
+#define MZ_NOT_TEXT MZ_CODE('W', 3)           /* a name isn't UTF-8 */
+#define MZ_BAD_OBJECT MZ_CODE('W', 4)         /* mz_load_object: the file isn't whole, or isn't such a file */
+#define MZ_MEMORY MZ_CODE('W', 5)
+#define MZ_NO_PLACE MZ_CODE('W', 6)           /* nothing has this place */
+#define MZ_SILENT MZ_CODE('W', 7)             /* mz_dc_perform: there is no reply to this wire */
+#define MZ_BUSY MZ_CODE('B', 1)               /* a lock of another transaction stands in the way */
+#define MZ_NUMBERS_SPENT MZ_CODE('B', 2)      /* too few of the 2^62 numbers are left */
+#define MZ_NO_PROCEDURE MZ_CODE('B', 4)       /* there is no such procedure */
+#define MZ_ARGUMENT_COUNT MZ_CODE('B', 5)     /* it takes another number of arguments */
+#define MZ_NO_TXN MZ_CODE('I', 2)             /* no such transaction is open */
+#define MZ_NOT_OVER MZ_CODE('I', 5)           /* it can't end now */
+#define MZ_NOTHING_OPEN MZ_CODE('I', 6)       /* it waits for no answer */
+#define MZ_STRANGER MZ_CODE('I', 9)           /* no reply to what is waited for, which is still waited for */
+#define MZ_NO_DC MZ_CODE('I', 10)             /* there is no such data component */
+#define MZ_INCARNATIONS_SPENT MZ_CODE('I', 12) /* it has restarted 2^62 times */
+#define MZ_DC_DOWN MZ_CODE('I', 13)           /* the data component is down, so nothing is sent there */
+#define MZ_OLD_NEWS MZ_CODE('I', 15)          /* this restart, or a later one, is known */
+#define MZ_NOT_DOWN MZ_CODE('I', 16)          /* the data component isn't down */
+#define MZ_NAME_TAKEN MZ_CODE('P', 1)
+#define MZ_DC_UNKNOWN MZ_CODE('P', 2)         /* an access slot names a data component that isn't there */
+/* 'E' 1 to 7: the bytes are no code; 'S' 1 to 3: the access slots are no declaration; 'V' 1 to 14: the
+ * verifier refuses an instruction. docs/FORMATS.md says what each means. */
+
+enum { MZ_ARGS = 8, MZ_SLOTS = 16, MZ_VALUE = 64, MZ_CODE_BYTES = 4096 * 8, MZ_NAME = 256, MZ_EVENT_BYTES = 96 };
+
+typedef struct { uint16_t dc, table; uint64_t key; } mz_record;
+
+/* The record that a procedure's access slot names: a fixed key, or an argument of the call. */
+typedef struct {
+    int write;       /* 0: reads alone; 1: reads and writes */
+    uint16_t dc, table;
+    int by_argument; /* 1: the key is argument number `key`, from 0 */
+    uint64_t key;
+} mz_slot;
+
+typedef enum { MZ_READ = 1, MZ_INSERT, MZ_UPDATE, MZ_DELETE } mz_op;
+
+/* What goes to the data component record.dc. */
+typedef struct {
+    uint64_t number;      /* 1, 2, ..: perform it once, and answer it alike ever after */
+    uint64_t low_water;   /* all numbers up to it are answered, and never come again */
+    uint64_t incarnation; /* for this one alone: another incarnation of the data component doesn't answer */
+    int redo;             /* 1: it was answered before, and may be lost; perform it, also where it is full */
+    mz_op op;
+    mz_record record;
+    uint8_t value[MZ_VALUE]; /* of an insert or an update; zeros else */
+} mz_wire;
+
+typedef enum {
+    MZ_VALUE_IS = 1, /* to a read: the value */
+    MZ_ABSENT,       /* to a read: no such record */
+    MZ_DONE,         /* to an insert */
+    MZ_DONE_WAS,     /* to an update or a delete, with the former value */
+    MZ_DUPLICATE,    /* to an insert: the record is there */
+    MZ_MISSING,      /* to an update or a delete: there is none */
+    MZ_NO_ROOM,      /* to an insert */
+    MZ_OLD           /* to a number at or under the low-water mark; mz_answer refuses it */
+} mz_said;
+
+typedef struct {
+    uint64_t number, incarnation; /* of the wire, and of the data component that says it */
+    mz_said said;
+    uint8_t value[MZ_VALUE];      /* of MZ_VALUE_IS and MZ_DONE_WAS */
+} mz_reply;
+
+/* What a data component tells of its restart: its new incarnation, above all earlier ones, and the
+ * low-water mark that it kept. What it performed under numbers above that mark may be lost. */
+typedef struct { uint64_t incarnation, mark; } mz_news;
+
+typedef enum {
+    MZ_REQUEST = 1, /* carry `wire` */
+    MZ_UNDOING,     /* mz_undo has to be asked instead */
+    MZ_OVER,        /* mz_end */
+    MZ_STUCK,       /* a write wasn't undone under four numbers, the last in wire.number; its locks stay held */
+    MZ_WAITS,       /* for the answer to wire.number */
+    MZ_RUNNING,     /* it isn't to be undone: mz_ask */
+    MZ_DOWN = 8     /* a request as MZ_REQUEST, which is held back: its data component, wire.record.dc, is down */
+} mz_next;
+
+typedef struct { mz_next next; mz_wire wire; } mz_asked;
+
+typedef enum { MZ_COMMITTED = 1, MZ_ABORTED, MZ_ENDED_NO_ROOM } mz_outcome;
+
+/* How a transaction ended, with the value of an abort, and the place of its end in the log, from 0. */
+typedef struct { mz_outcome outcome; uint64_t value; uint64_t place; } mz_receipt;
+
+/* Handles. Each begins with this frame, through which the functions below make their calls. Leave it
+ * alone: it is here so that they can be inlined. */
+typedef struct {
+    uint32_t what, kind, op, count;
+    uint16_t dc, table;
+    uint32_t redo;
+    uint64_t txn, number, low_water, incarnation, key, word, place;
+    uint64_t args[MZ_ARGS];
+    uint8_t value[MZ_VALUE];
+    uint8_t bytes[256];
+} mz_frame;
+
+typedef struct mz_tc { mz_frame frame; } mz_tc;
+typedef struct mz_dc { mz_frame frame; } mz_dc;
+typedef struct mz_program { mz_frame frame; } mz_program;
+
+/* The five functions of libmazzulpe.a. */
+size_t mazzulpe_size(void);
+void mazzulpe_open(mz_frame *room);    /* room for mazzulpe_size() bytes, aligned to 16 */
+uint32_t mazzulpe_call(mz_frame *handle);
+void mazzulpe_close(mz_frame *handle); /* its memory is room again */
+uint32_t mazzulpe_version(void);
+
+enum {
+    MZ_CALL_START_TC = 1, MZ_CALL_START_DC, MZ_CALL_START_CODE,
+    MZ_CALL_BYTES = 10, MZ_CALL_SLOT, MZ_CALL_CLEAR, MZ_CALL_LOAD, MZ_CALL_FIND,
+    MZ_CALL_ADMIT = 20, MZ_CALL_BLOCKED, MZ_CALL_ASK, MZ_CALL_UNDO, MZ_CALL_WIRE, MZ_CALL_ANSWER,
+    MZ_CALL_GIVE_UP, MZ_CALL_END, MZ_CALL_OPEN_COUNT, MZ_CALL_LOG_LENGTH, MZ_CALL_LOG_BYTES,
+    MZ_CALL_SITE, MZ_CALL_TOLD, MZ_CALL_REDO_NEXT, MZ_CALL_REDONE,
+    MZ_CALL_PERFORM = 40, MZ_CALL_RESTART, MZ_CALL_GET, MZ_CALL_ROWS, MZ_CALL_ROW, MZ_CALL_MARK,
+    MZ_CALL_CHECKPOINT, MZ_CALL_INCARNATION,
+    MZ_CALL_VERIFY = 50, MZ_CALL_RUN, MZ_CALL_RESUME
+};
+
+/* ---- inside: from C to the frame and back */
+
+static inline mz_code mz_make(mz_frame *f, uint32_t what) {
+    f->what = what;
+    return mazzulpe_call(f);
+}
+
+static inline mz_frame *mz_new(uint32_t what, uint64_t word, uint64_t place, mz_code *code) {
+    size_t size = (mazzulpe_size() + 15) / 16 * 16;
+    mz_frame *f = (mz_frame *)aligned_alloc(16, size);
+    if (!f) {
+        *code = MZ_MEMORY;
+        return NULL;
+    }
+    mazzulpe_open(f);
+    f->word = word;
+    f->place = place;
+    *code = mz_make(f, what);
+    if (*code != MZ_OK) {
+        mazzulpe_close(f);
+        free(f);
+        return NULL;
+    }
+    return f;
+}
+
+static inline void mz_free(mz_frame *f) {
+    if (f) {
+        mazzulpe_close(f);
+        free(f);
+    }
+}
+
+static inline void mz_put_record(mz_frame *f, const mz_record *r) {
+    f->dc = r->dc;
+    f->table = r->table;
+    f->key = r->key;
+}
+
+static inline void mz_get_record(const mz_frame *f, mz_record *r) {
+    r->dc = f->dc;
+    r->table = f->table;
+    r->key = f->key;
+}
+
+static inline void mz_put_wire(mz_frame *f, const mz_wire *w) {
+    f->number = w->number;
+    f->low_water = w->low_water;
+    f->incarnation = w->incarnation;
+    f->redo = w->redo ? 1 : 0;
+    f->op = (uint32_t)w->op;
+    mz_put_record(f, &w->record);
+    memcpy(f->value, w->value, MZ_VALUE);
+}
+
+static inline void mz_get_wire(const mz_frame *f, mz_wire *w) {
+    w->number = f->number;
+    w->low_water = f->low_water;
+    w->incarnation = f->incarnation;
+    w->redo = f->redo != 0;
+    w->op = (mz_op)f->op;
+    mz_get_record(f, &w->record);
+    memcpy(w->value, f->value, MZ_VALUE);
+}
+
+static inline void mz_put_reply(mz_frame *f, const mz_reply *r) {
+    f->number = r->number;
+    f->incarnation = r->incarnation;
+    f->kind = (uint32_t)r->said;
+    memcpy(f->value, r->value, MZ_VALUE);
+}
+
+static inline void mz_get_reply(const mz_frame *f, mz_reply *r) {
+    r->number = f->number;
+    r->incarnation = f->incarnation;
+    r->said = (mz_said)f->kind;
+    memcpy(r->value, f->value, MZ_VALUE);
+}
+
+static inline mz_code mz_put_text(mz_frame *f, const char *text) {
+    size_t length = strlen(text);
+    if (length > MZ_NAME) return MZ_BAD_ARGUMENT;
+    memcpy(f->bytes, text, length);
+    f->count = (uint32_t)length;
+    return MZ_OK;
+}
+
+static inline mz_code mz_put_args(mz_frame *f, const uint64_t *args, size_t count) {
+    if (count > MZ_ARGS) return MZ_BAD_ARGUMENT;
+    f->count = (uint32_t)count;
+    if (count) memcpy(f->args, args, count * sizeof *args);
+    return MZ_OK;
+}
+
+static inline mz_code mz_put_call(mz_frame *f, uint64_t procedure, const uint64_t *args, size_t count) {
+    f->word = procedure;
+    return mz_put_args(f, args, count);
+}
+
+static inline mz_code mz_hand_in(mz_frame *f, const void *code, size_t bytes, const mz_slot *slots, size_t count) {
+    if (bytes > MZ_CODE_BYTES + 8 || count > MZ_SLOTS + 1) return MZ_BAD_ARGUMENT;
+    mz_code c = mz_make(f, MZ_CALL_CLEAR);
+    const uint8_t *at = (const uint8_t *)code;
+    for (; c == MZ_OK && bytes; at += f->count, bytes -= f->count) {
+        f->count = bytes < 256 ? (uint32_t)bytes : 256;
+        memcpy(f->bytes, at, f->count);
+        c = mz_make(f, MZ_CALL_BYTES);
+    }
+    for (size_t i = 0; c == MZ_OK && i < count; i++) {
+        f->kind = slots[i].write ? 1 : 0;
+        f->dc = slots[i].dc;
+        f->table = slots[i].table;
+        f->op = slots[i].by_argument ? 1 : 0;
+        f->key = slots[i].key;
+        c = mz_make(f, MZ_CALL_SLOT);
+    }
+    return c;
+}
+
+static inline mz_code mz_asked_by(mz_frame *f, uint32_t what, uint64_t txn, mz_asked *asked) {
+    f->txn = txn;
+    mz_code c = mz_make(f, what);
+    if (c != MZ_OK) return c;
+    asked->next = (mz_next)f->kind;
+    if (asked->next == MZ_REQUEST || asked->next == MZ_DOWN) mz_get_wire(f, &asked->wire);
+    else asked->wire.number = f->number;
+    return c;
+}
+
+/* ---- the transaction component: its procedures */
+
+/* A transaction component for data components numbered 0 to dcs - 1. NULL, and why in *code: MZ_MEMORY. */
+static inline mz_tc *mz_tc_new(uint16_t dcs, mz_code *code) {
+    return (mz_tc *)mz_new(MZ_CALL_START_TC, dcs, 0, code);
+}
+
+/* Gives it back. Open transactions are left as they stand at their data components. NULL is nothing. */
+static inline void mz_tc_free(mz_tc *tc) { mz_free((mz_frame *)tc); }
+
+/* Verifies and loads a procedure under a name that no other has: BPF code (RFC 9669, little-endian, 8
+ * bytes a slot, at most 4096), its access slots (at most 16), and how many arguments it takes (at most
+ * 8). *number is how many were loaded before. It can't be taken out again.
+ *
+ * Refused, in this order: MZ_BAD_ARGUMENT (a name of more than 256 bytes, far too much code), 'S' the access
+ * slots are no declaration, 'E' the bytes are no code, 'V' the verifier refuses an instruction,
+ * MZ_NOT_TEXT, MZ_NAME_TAKEN, MZ_DC_UNKNOWN. *place is then the slot of the code ('E', 'V') or the access
+ * slot ('S', MZ_DC_UNKNOWN) that is refused, from 0, and else nothing; it may be NULL. */
+static inline mz_code mz_load(mz_tc *tc, const char *name, const void *code, size_t bytes, const mz_slot *slots,
+                              size_t slot_count, unsigned args, uint64_t *number, uint64_t *place) {
+    mz_frame *f = &tc->frame;
+    mz_code c = mz_hand_in(f, code, bytes, slots, slot_count);
+    if (c == MZ_OK) c = mz_put_text(f, name);
+    if (c != MZ_OK) return c;
+    f->word = args;
+    f->place = 0;
+    c = mz_make(f, MZ_CALL_LOAD);
+    if (c == MZ_OK) *number = f->word;
+    else if (place) *place = f->place;
+    return c;
+}
+
+/* The number of the procedure with this name, or MZ_NO_PROCEDURE. */
+static inline mz_code mz_find(mz_tc *tc, const char *name, uint64_t *number) {
+    mz_frame *f = &tc->frame;
+    mz_code c = mz_put_text(f, name);
+    if (c == MZ_OK) c = mz_make(f, MZ_CALL_FIND);
+    if (c == MZ_OK) *number = f->word;
+    return c;
+}
+
+/* ---- its transactions */
+
+/* Admits a call: *txn is its serial number, from 1, and all its locks are held from now on until mz_end.
+ * MZ_BUSY: *record is the least record in the way and *holder its least holder (either may be NULL); try
+ * again once a transaction has ended, unless mz_blocked says that all in the way are in doubt or stuck.
+ * Also MZ_NO_PROCEDURE, MZ_ARGUMENT_COUNT, MZ_NUMBERS_SPENT. */
+static inline mz_code mz_admit(mz_tc *tc, uint64_t procedure, const uint64_t *args, size_t count, uint64_t *txn,
+                               mz_record *record, uint64_t *holder) {
+    mz_frame *f = &tc->frame;
+    mz_code c = mz_put_call(f, procedure, args, count);
+    if (c == MZ_OK) c = mz_make(f, MZ_CALL_ADMIT);
+    if (c == MZ_OK) *txn = f->txn;
+    if (c == MZ_BUSY) {
+        if (record) mz_get_record(f, record);
+        if (holder) *holder = f->txn;
+    }
+    return c;
+}
+
+/* *blocked: whether others stand in the way of this call and each of them is in doubt or stuck, so that
+ * waiting for an end is in vain. 0 for a procedure that isn't there, or takes other arguments. */
+static inline mz_code mz_blocked(mz_tc *tc, uint64_t procedure, const uint64_t *args, size_t count, int *blocked) {
+    mz_frame *f = &tc->frame;
+    mz_code c = mz_put_call(f, procedure, args, count);
+    if (c == MZ_OK) c = mz_make(f, MZ_CALL_BLOCKED);
+    if (c == MZ_OK) *blocked = f->word != 0;
+    return c;
+}
+
+/* Runs the transaction to its next operation or its end. A request is logged and numbered here, and open
+ * until it is answered. MZ_NO_TXN. */
+static inline mz_code mz_ask(mz_tc *tc, uint64_t txn, mz_asked *asked) {
+    return mz_asked_by(&tc->frame, MZ_CALL_ASK, txn, asked);
+}
+
+/* What undoes the last write that stands, of a transaction that is to be undone; else MZ_RUNNING or
+ * MZ_OVER. It is asked again where the undo wasn't done, four times at most. MZ_NO_TXN. */
+static inline mz_code mz_undo(mz_tc *tc, uint64_t txn, mz_asked *asked) {
+    return mz_asked_by(&tc->frame, MZ_CALL_UNDO, txn, asked);
+}
+
+/* The open request's wire, to be carried again: the same number, the low-water mark and the incarnation
+ * of now. MZ_NOTHING_OPEN; MZ_DC_DOWN while its data component is down. */
+static inline mz_code mz_resend(mz_tc *tc, uint64_t txn, mz_wire *wire) {
+    mz_frame *f = &tc->frame;
+    f->txn = txn;
+    mz_code c = mz_make(f, MZ_CALL_WIRE);
+    if (c == MZ_OK) mz_get_wire(f, wire);
+    return c;
+}
+
+/* Takes a reply in. MZ_STRANGER: it has another number, is of another incarnation than the known one,
+ * its data component is down, or it can't be an answer to the operation; the transaction waits on.
+ * MZ_NOTHING_OPEN. */
+static inline mz_code mz_answer(mz_tc *tc, uint64_t txn, const mz_reply *reply) {
+    mz_frame *f = &tc->frame;
+    f->txn = txn;
+    mz_put_reply(f, reply);
+    return mz_make(f, MZ_CALL_ANSWER);
+}
+
+/* Gives the open request up, and says its number (which may be NULL): nobody answers it any more. Its
+ * transaction is in doubt, and keeps its locks for good. MZ_NOTHING_OPEN. */
+static inline mz_code mz_give_up(mz_tc *tc, uint64_t txn, uint64_t *number) {
+    mz_frame *f = &tc->frame;
+    f->txn = txn;
+    mz_code c = mz_make(f, MZ_CALL_GIVE_UP);
+    if (c == MZ_OK && number) *number = f->number;
+    return c;
+}
+
+/* Ends a transaction that is over, and frees its locks. MZ_NO_TXN, MZ_NOT_OVER. */
+static inline mz_code mz_end(mz_tc *tc, uint64_t txn, mz_receipt *receipt) {
+    mz_frame *f = &tc->frame;
+    f->txn = txn;
+    mz_code c = mz_make(f, MZ_CALL_END);
+    if (c == MZ_OK) {
+        receipt->outcome = (mz_outcome)f->kind;
+        receipt->value = f->word;
+        receipt->place = f->place;
+    }
+    return c;
+}
+
+/* How many transactions are open. */
+static inline uint64_t mz_open_count(mz_tc *tc) {
+    mz_make(&tc->frame, MZ_CALL_OPEN_COUNT);
+    return tc->frame.word;
+}
+
+/* ---- data components that restart */
+
+/* What is known of a data component: its incarnation, and whether it is down; either may be NULL. MZ_NO_DC. */
+static inline mz_code mz_site(mz_tc *tc, uint16_t dc, uint64_t *incarnation, int *down) {
+    mz_frame *f = &tc->frame;
+    f->dc = dc;
+    mz_code c = mz_make(f, MZ_CALL_SITE);
+    if (c == MZ_OK && incarnation) *incarnation = f->incarnation;
+    if (c == MZ_OK && down) *down = f->kind == 2;
+    return c;
+}
+
+/* A data component has restarted: it is down from now on, also where it was down already, and what was
+ * done there above the mark is to be redone. MZ_OLD_NEWS, MZ_NO_DC. */
+static inline mz_code mz_told(mz_tc *tc, uint16_t dc, const mz_news *news) {
+    mz_frame *f = &tc->frame;
+    f->dc = dc;
+    f->incarnation = news->incarnation;
+    f->low_water = news->mark;
+    return mz_make(f, MZ_CALL_TOLD);
+}
+
+/* The operation under redo at a data component that is down, the same until mz_redone takes its reply;
+ * numbers rise. Where none is left, *up is 1: the data component is up, and open requests are to be sent
+ * again. MZ_NOT_DOWN, MZ_NO_DC. */
+static inline mz_code mz_redo_next(mz_tc *tc, uint16_t dc, mz_wire *wire, int *up) {
+    mz_frame *f = &tc->frame;
+    f->dc = dc;
+    mz_code c = mz_make(f, MZ_CALL_REDO_NEXT);
+    if (c != MZ_OK) return c;
+    *up = f->kind == 2;
+    if (!*up) mz_get_wire(f, wire);
+    return c;
+}
+
+/* Takes the reply to the operation under redo, which has to say what was said to it before. MZ_STRANGER:
+ * it doesn't, or is another's. */
+static inline mz_code mz_redone(mz_tc *tc, uint16_t dc, const mz_reply *reply) {
+    mz_frame *f = &tc->frame;
+    f->dc = dc;
+    mz_put_reply(f, reply);
+    return mz_make(f, MZ_CALL_REDONE);
+}
+
+/* ---- its log */
+
+/* How many events there are. */
+static inline uint64_t mz_log_length(mz_tc *tc) {
+    mz_make(&tc->frame, MZ_CALL_LOG_LENGTH);
+    return tc->frame.word;
+}
+
+/* The 96 bytes of the event at this place, from 0, as docs/FORMATS.md says under "Log records". What
+ * happened stays. MZ_NO_PLACE past the end. To keep the log elsewhere before anything is sent, write the
+ * events from the old mz_log_length to the new one behind each mz_admit, mz_ask, mz_undo, mz_answer and
+ * mz_end, and carry a wire only then. */
+static inline mz_code mz_log_bytes(mz_tc *tc, uint64_t place, uint8_t bytes[MZ_EVENT_BYTES]) {
+    mz_frame *f = &tc->frame;
+    f->place = place;
+    mz_code c = mz_make(f, MZ_CALL_LOG_BYTES);
+    if (c == MZ_OK) memcpy(bytes, f->bytes, MZ_EVENT_BYTES);
+    return c;
+}
+
+typedef enum { MZ_EVENT_ADMIT = 1, MZ_EVENT_ASK, MZ_EVENT_ANSWER, MZ_EVENT_UNDO, MZ_EVENT_END } mz_event_kind;
+
+/* An event of the log; what its kind doesn't name is nothing. */
+typedef struct {
+    mz_event_kind kind;
+    uint64_t txn;
+    uint64_t procedure; /* admit, with count and args */
+    unsigned count;
+    uint64_t args[MZ_ARGS];
+    uint64_t number; /* ask, answer, undo */
+    mz_op op;        /* ask, undo, with record and value */
+    mz_record record;
+    uint8_t value[MZ_VALUE];
+    mz_said said;       /* answer, with value */
+    mz_outcome outcome; /* end, with aborted */
+    uint64_t aborted;
+} mz_event;
+
+static inline uint64_t mz_little(const uint8_t *at, int bytes) {
+    uint64_t n = 0;
+    for (int i = bytes; i-- > 0;) n = n << 8 | at[i];
+    return n;
+}
+
+/* What the 96 bytes of an event say. */
+static inline void mz_event_of(const uint8_t bytes[MZ_EVENT_BYTES], mz_event *event) {
+    uint64_t word = mz_little(bytes + 16, 8);
+    memset(event, 0, sizeof *event);
+    event->kind = (mz_event_kind)bytes[0];
+    event->txn = mz_little(bytes + 8, 8);
+    switch (event->kind) {
+    case MZ_EVENT_ADMIT:
+        event->procedure = word;
+        event->count = bytes[1];
+        for (unsigned i = 0; i < event->count && i < MZ_ARGS; i++) event->args[i] = mz_little(bytes + 32 + 8 * i, 8);
+        break;
+    case MZ_EVENT_ASK:
+    case MZ_EVENT_UNDO:
+        event->number = word;
+        event->op = (mz_op)bytes[1];
+        event->record.dc = (uint16_t)mz_little(bytes + 2, 2);
+        event->record.table = (uint16_t)mz_little(bytes + 4, 2);
+        event->record.key = mz_little(bytes + 24, 8);
+        memcpy(event->value, bytes + 32, MZ_VALUE);
+        break;
+    case MZ_EVENT_ANSWER:
+        event->number = word;
+        event->said = (mz_said)bytes[1];
+        memcpy(event->value, bytes + 32, MZ_VALUE);
+        break;
+    case MZ_EVENT_END:
+        event->outcome = (mz_outcome)bytes[1];
+        event->aborted = word;
+        break;
+    }
+}
+
+/* The event at this place, from 0. MZ_NO_PLACE past the end. */
+static inline mz_code mz_log_at(mz_tc *tc, uint64_t place, mz_event *event) {
+    uint8_t bytes[MZ_EVENT_BYTES];
+    mz_code c = mz_log_bytes(tc, place, bytes);
+    if (c == MZ_OK) mz_event_of(bytes, event);
+    return c;
+}
+
+/* ---- whole calls */
+
+/* What became of a wire that a function of yours carried. */
+typedef enum {
+    MZ_LOST,     /* no reply came */
+    MZ_REPLIED,  /* *reply is the reply */
+    MZ_RESTARTED /* *news are the news of the data component, which didn't perform the wire */
+} mz_carried;
+
+/* Carries a wire to its data component. */
+typedef mz_carried mz_carry(void *context, const mz_wire *wire, mz_reply *reply, mz_news *news);
+
+/* Redoes what a data component that is down has lost, by one thread, each wire carried `tries` times at
+ * most. *up is 1 where it is up behind this; where a wire wasn't answered it is 0, and the data component
+ * is still down. */
+static inline mz_code mz_redo(mz_tc *tc, uint16_t dc, mz_carry *carry, void *context, int tries, int *up) {
+    for (*up = 0;;) {
+        mz_wire wire;
+        mz_code c = mz_redo_next(tc, dc, &wire, up);
+        if (c != MZ_OK || *up) return c;
+        int done = 0;
+        for (int i = 0; i < tries && !done; i++) {
+            mz_reply reply;
+            mz_news news;
+            switch (carry(context, &wire, &reply, &news)) {
+            case MZ_LOST: break;
+            case MZ_REPLIED: done = mz_redone(tc, dc, &reply) == MZ_OK; break;
+            case MZ_RESTARTED: done = mz_told(tc, dc, &news) == MZ_OK; break;
+            }
+        }
+        if (!done) return MZ_OK;
+    }
+}
+
+/* Carries the open request of a transaction until it is answered, `tries` times at most. *wire is its wire,
+ * where `made` is 1. */
+static inline mz_code mz_carry_open(mz_tc *tc, uint64_t txn, mz_wire *wire, int made, mz_carry *carry, void *context,
+                                    int tries, int *answered) {
+    *answered = 0;
+    for (int i = 0; i < tries && !*answered; i++, made = 0) {
+        mz_reply reply;
+        mz_news news;
+        mz_code c = made ? MZ_OK : mz_resend(tc, txn, wire);
+        if (c != MZ_OK) return c;
+        mz_carried carried = carry(context, wire, &reply, &news);
+        if (carried == MZ_REPLIED) *answered = mz_answer(tc, txn, &reply) == MZ_OK;
+        if (carried == MZ_RESTARTED && mz_told(tc, wire->record.dc, &news) == MZ_OK) {
+            int up;
+            c = mz_redo(tc, wire->record.dc, carry, context, tries, &up);
+            if (c != MZ_OK) return c;
+        }
+    }
+    return MZ_OK;
+}
+
+/* Runs an admitted transaction to its end by one thread. Each wire is carried `tries` times at most; a data
+ * component that says that it restarted is redone. *stopped is
+ *   MZ_OVER: it has ended, as *receipt says;
+ *   MZ_WAITS: nobody answered, and the request is given up: the transaction is in doubt;
+ *   MZ_STUCK: a write couldn't be undone;
+ *   MZ_DOWN: its data component is down and wasn't redone; see to that by mz_redo, and call this again. */
+static inline mz_code mz_run(mz_tc *tc, uint64_t txn, mz_carry *carry, void *context, int tries, mz_receipt *receipt, mz_next *stopped) {
+    int undoing = 0;
+    for (;;) {
+        mz_asked asked;
+        int answered;
+        mz_code c = undoing ? mz_undo(tc, txn, &asked) : mz_ask(tc, txn, &asked);
+        if (c != MZ_OK) return c;
+        *stopped = asked.next;
+        switch (asked.next) {
+        case MZ_REQUEST:
+        case MZ_DOWN:
+        case MZ_WAITS:
+            c = mz_carry_open(tc, txn, &asked.wire, asked.next == MZ_REQUEST, carry, context, tries, &answered);
+            if (c == MZ_OK && answered) break;
+            *stopped = c == MZ_DC_DOWN ? MZ_DOWN : MZ_WAITS;
+            if (c == MZ_DC_DOWN || c == MZ_NOTHING_OPEN) return MZ_OK;
+            return c == MZ_OK ? mz_give_up(tc, txn, NULL) : c;
+        case MZ_UNDOING: undoing = 1; break;
+        case MZ_RUNNING: undoing = 0; break;
+        case MZ_OVER: return mz_end(tc, txn, receipt);
+        case MZ_STUCK: return MZ_OK;
+        }
+    }
+}
+
+/* ---- a data component in memory: performs each number once */
+
+/* With room for so many records (at most 65536) and operations (at most 1048576), all taken here. NULL,
+ * and why in *code: MZ_BAD_ARGUMENT, MZ_MEMORY. */
+static inline mz_dc *mz_dc_new(uint64_t rows, uint64_t operations, mz_code *code) {
+    return (mz_dc *)mz_new(MZ_CALL_START_DC, rows, operations, code);
+}
+
+static inline void mz_dc_free(mz_dc *dc) { mz_free((mz_frame *)dc); }
+
+/* Performs a wire. MZ_SILENT: it is for another incarnation, or there is no room for a further operation;
+ * there is no reply, and nothing but the low-water mark has changed. */
+static inline mz_code mz_dc_perform(mz_dc *dc, const mz_wire *wire, mz_reply *reply) {
+    mz_frame *f = &dc->frame;
+    mz_put_wire(f, wire);
+    mz_code c = mz_make(f, MZ_CALL_PERFORM);
+    if (c == MZ_OK) mz_get_reply(f, reply);
+    return c;
+}
+
+/* Keeps what it has: a restart loses what comes after this. */
+static inline mz_code mz_dc_checkpoint(mz_dc *dc) { return mz_make(&dc->frame, MZ_CALL_CHECKPOINT); }
+
+/* Loses what came after the last checkpoint, and begins the next incarnation, whose news are for mz_told.
+ * MZ_INCARNATIONS_SPENT. */
+static inline mz_code mz_dc_restart(mz_dc *dc, mz_news *news) {
+    mz_code c = mz_make(&dc->frame, MZ_CALL_RESTART);
+    if (c == MZ_OK) {
+        news->incarnation = dc->frame.incarnation;
+        news->mark = dc->frame.low_water;
+    }
+    return c;
+}
+
+/* The value of a record (*said is MZ_VALUE_IS), or MZ_ABSENT in *said. The record's dc isn't looked at. */
+static inline mz_code mz_dc_get(mz_dc *dc, const mz_record *record, mz_said *said, uint8_t value[MZ_VALUE]) {
+    mz_frame *f = &dc->frame;
+    mz_put_record(f, record);
+    mz_code c = mz_make(f, MZ_CALL_GET);
+    if (c == MZ_OK) {
+        *said = (mz_said)f->kind;
+        memcpy(value, f->value, MZ_VALUE);
+    }
+    return c;
+}
+
+/* How many records there are. */
+static inline uint64_t mz_dc_rows(mz_dc *dc) {
+    mz_make(&dc->frame, MZ_CALL_ROWS);
+    return dc->frame.word;
+}
+
+/* The record at this place, from 0, and its value; records rise. MZ_NO_PLACE past the end. */
+static inline mz_code mz_dc_row(mz_dc *dc, uint64_t place, mz_record *record, uint8_t value[MZ_VALUE]) {
+    mz_frame *f = &dc->frame;
+    f->place = place;
+    mz_code c = mz_make(f, MZ_CALL_ROW);
+    if (c == MZ_OK) {
+        mz_get_record(f, record);
+        memcpy(value, f->value, MZ_VALUE);
+    }
+    return c;
+}
+
+/* ---- verified code alone */
+
+/* A program: code that is run outside of transactions, whose questions you answer. NULL, and why in *code. */
+static inline mz_program *mz_program_new(mz_code *code) { return (mz_program *)mz_new(MZ_CALL_START_CODE, 0, 0, code); }
+
+static inline void mz_program_free(mz_program *program) { mz_free((mz_frame *)program); }
+
+/* As mz_load: the code is kept where it is accepted, in the place of the code before. */
+static inline mz_code mz_program_verify(mz_program *program, const void *code, size_t bytes, const mz_slot *slots,
+                                        size_t slot_count, unsigned args, uint64_t *place) {
+    mz_frame *f = &program->frame;
+    mz_code c = mz_hand_in(f, code, bytes, slots, slot_count);
+    if (c != MZ_OK) return c;
+    f->word = args;
+    f->place = 0;
+    c = mz_make(f, MZ_CALL_VERIFY);
+    if (c != MZ_OK && place) *place = f->place;
+    return c;
+}
+
+/* Where a run stands: at its end (op is 0) with the value of register 0, or at an operation; and how many
+ * instructions it has executed, at most as many as the code has slots. */
+typedef struct {
+    int op; /* 0, or an mz_op, with record and written */
+    uint64_t value;
+    mz_record record;
+    uint8_t written[MZ_VALUE]; /* of an insert or an update; zeros else */
+    uint64_t executed;
+} mz_stop;
+
+static inline void mz_get_stop(const mz_frame *f, mz_stop *stop) {
+    stop->op = (int)f->op;
+    stop->value = f->op ? 0 : f->word;
+    mz_get_record(f, &stop->record);
+    memcpy(stop->written, f->value, MZ_VALUE);
+    stop->executed = f->place;
+}
+
+/* Runs it from its beginning to its end or its first operation. MZ_NO_PROCEDURE: no code was accepted yet;
+ * MZ_ARGUMENT_COUNT. */
+static inline mz_code mz_program_run(mz_program *program, const uint64_t *args, size_t count, mz_stop *stop) {
+    mz_frame *f = &program->frame;
+    mz_code c = mz_put_args(f, args, count);
+    if (c == MZ_OK) c = mz_make(f, MZ_CALL_RUN);
+    if (c == MZ_OK) mz_get_stop(f, stop);
+    return c;
+}
+
+/* Goes on from the operation with what is said to it (of *reply its `said` and `value` alone). MZ_STRANGER:
+ * that can't be an answer to it, or is MZ_NO_ROOM, with which no run goes on. MZ_NOTHING_OPEN. */
+static inline mz_code mz_program_resume(mz_program *program, const mz_reply *reply, mz_stop *stop) {
+    mz_frame *f = &program->frame;
+    mz_put_reply(f, reply);
+    mz_code c = mz_make(f, MZ_CALL_RESUME);
+    if (c == MZ_OK) mz_get_stop(f, stop);
+    return c;
+}
+
+/* ---- codes in words */
+
+/* What a code says, as "Busy"; "?" of a number that is none. */
+static inline const char *mz_code_text(mz_code code) {
+    static const char *const v[] = {
+        "Backward", "OutOfCode", "IntoWide", "FallsOff", "EmptyRegister", "WritesR10", "NotAPointer",
+        "OutOfBounds", "ReadOnly", "MaybeNull", "UnknownHelper", "SlotUnknown", "ModeTooWeak", "PointerReturned"};
+    static const char *const e[] = {"NoCode", "Length", "TooLong", "WideCut", "UnusedField", "Undefined", "OutsideProfile"};
+    static const char *const s[] = {"TooManyArgs", "TooManySlots", "NoSuchArg"};
+    uint32_t n = code & 255;
+    switch (code) {
+    case MZ_OK: return "OK";
+    case MZ_NO_SUCH_CALL: return "NoSuchCall";
+    case MZ_BAD_ARGUMENT: return "BadArgument";
+    case MZ_NOT_TEXT: return "NotText";
+    case MZ_BAD_OBJECT: return "BadObject";
+    case MZ_MEMORY: return "Memory";
+    case MZ_NO_PLACE: return "NoPlace";
+    case MZ_SILENT: return "Silent";
+    case MZ_BUSY: return "Busy";
+    case MZ_NUMBERS_SPENT: return "NumbersSpent";
+    case MZ_NO_PROCEDURE: return "NoProcedure";
+    case MZ_ARGUMENT_COUNT: return "ArgumentCount";
+    case MZ_NO_TXN: return "NoTxn";
+    case MZ_NOT_OVER: return "NotOver";
+    case MZ_NOTHING_OPEN: return "NothingOpen";
+    case MZ_STRANGER: return "Stranger";
+    case MZ_NO_DC: return "NoDc";
+    case MZ_INCARNATIONS_SPENT: return "IncarnationsSpent";
+    case MZ_DC_DOWN: return "Down";
+    case MZ_OLD_NEWS: return "OldNews";
+    case MZ_NOT_DOWN: return "NotDown";
+    case MZ_NAME_TAKEN: return "NameTaken";
+    case MZ_DC_UNKNOWN: return "DcUnknown";
+    }
+    if (n && code >> 8 == 'V' && n <= 14) return v[n - 1];
+    if (n && code >> 8 == 'E' && n <= 7) return e[n - 1];
+    if (n && code >> 8 == 'S' && n <= 3) return s[n - 1];
+    return "?";
+}
+
+#ifdef __cplusplus
+}
+#endif
+#endif

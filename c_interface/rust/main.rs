@@ -1,0 +1,187 @@
+//! Threads that share one transaction component behind a mutex, over a map behind another: the lock of
+//! the component is never held while an operation is carried. Halfway the map is put back from a copy; what
+//! it lost is redone.
+#[allow(dead_code)]
+mod mazzulpe;
+
+use mazzulpe::{BUSY, DC_DOWN, Key, News, Next, Op, Outcome, Record, Reply, Said, Slot, Tc, Value, Wire};
+use std::collections::HashMap;
+use std::sync::{Condvar, Mutex, MutexGuard};
+
+const THREADS: u64 = 4;
+const EACH: u64 = 5000;
+const ACCOUNTS: u64 = 10;
+
+/// A data component: it performs each number once, unless it is put back from a copy.
+#[derive(Clone, Default)]
+struct Store {
+    records: HashMap<Record, Value>,
+    performed: HashMap<u64, Said>,
+    mark: u64,
+    incarnation: u64,
+}
+
+impl Store {
+    /// What it says to a wire, or its news where that is for an earlier incarnation.
+    fn perform(&mut self, wire: &Wire) -> Result<Reply, News> {
+        if wire.incarnation != self.incarnation {
+            return Err(News { incarnation: self.incarnation, mark: self.mark });
+        }
+        self.mark = self.mark.max(wire.low_water);
+        let mark = self.mark;
+        self.performed.retain(|number, _| *number > mark);
+        let said = match self.performed.get(&wire.number) {
+            Some(said) => *said,
+            None if wire.number <= mark => Said::Old,
+            None => {
+                let said = self.operate(&wire.op);
+                self.performed.insert(wire.number, said);
+                said
+            }
+        };
+        Ok(Reply { number: wire.number, incarnation: self.incarnation, said })
+    }
+
+    fn operate(&mut self, op: &Op) -> Said {
+        match *op {
+            Op::Read(r) => self.records.get(&r).map_or(Said::Absent, |v| Said::Value(*v)),
+            Op::Insert(r, v) => match self.records.contains_key(&r) {
+                true => Said::Duplicate,
+                false => {
+                    self.records.insert(r, v);
+                    Said::Done
+                }
+            },
+            Op::Update(r, v) => match self.records.get_mut(&r) {
+                Some(at) => Said::DoneWas(std::mem::replace(at, v)),
+                None => Said::Missing,
+            },
+            Op::Delete(r) => self.records.remove(&r).map_or(Said::Missing, Said::DoneWas),
+        }
+    }
+}
+
+/// What the threads share.
+struct Bank {
+    tc: Mutex<Tc>,
+    freed: Condvar,
+    store: Mutex<Store>,
+}
+
+impl Bank {
+    /// Admits a call as soon as no lock is in its way.
+    fn admit(&self, procedure: u64, args: &[u64]) -> u64 {
+        let mut tc = self.tc.lock().unwrap();
+        loop {
+            match tc.admit(procedure, args) {
+                Ok(txn) => return txn,
+                Err(BUSY) => tc = self.freed.wait(tc).unwrap(),
+                Err(refusal) => panic!("{refusal:?}"),
+            }
+        }
+    }
+
+    /// Redoes what the store has lost. Whoever comes later finds the news old, or the redo gone on.
+    fn redo(&self, news: News) {
+        let _known = self.tc.lock().unwrap().told(0, news);
+        loop {
+            let next = self.tc.lock().unwrap().redo_next(0);
+            let Ok(Some(wire)) = next else { return };
+            if let Ok(reply) = self.store.lock().unwrap().perform(&wire) {
+                let _another_was_first = self.tc.lock().unwrap().redone(0, &reply);
+            }
+        }
+    }
+
+    /// Carries the open request of a transaction until it is answered; each wire twice, as if the first
+    /// reply were lost.
+    fn carry(&self, txn: u64) {
+        loop {
+            let wire = self.tc.lock().unwrap().resend(txn);
+            let wire = match wire {
+                Ok(wire) => wire,
+                Err(DC_DOWN) => {
+                    std::thread::yield_now();
+                    continue;
+                }
+                Err(refusal) => panic!("{refusal:?}"),
+            };
+            let _lost = self.store.lock().unwrap().perform(&wire);
+            let said = self.store.lock().unwrap().perform(&wire);
+            match said {
+                Ok(reply) => {
+                    if self.tc.lock().unwrap().answer(txn, &reply).is_ok() {
+                        return;
+                    }
+                }
+                Err(news) => self.redo(news),
+            }
+        }
+    }
+
+    fn run(&self, procedure: u64, args: &[u64]) -> Outcome {
+        let txn = self.admit(procedure, args);
+        let mut undoing = false;
+        loop {
+            let mut tc: MutexGuard<Tc> = self.tc.lock().unwrap();
+            let next = if undoing { tc.undo(txn) } else { tc.ask(txn) }.unwrap();
+            match next {
+                Next::Request(_) | Next::Down(_) => {
+                    drop(tc);
+                    self.carry(txn);
+                }
+                Next::Undoing => undoing = true,
+                Next::Running => undoing = false,
+                Next::Over => {
+                    let outcome = tc.end(txn).unwrap();
+                    self.freed.notify_all();
+                    return outcome;
+                }
+                Next::Stuck(_) | Next::Waits(_) => panic!("{next:?}"),
+            }
+        }
+    }
+
+    /// The transfers of one thread, and how many committed.
+    fn transfers(&self, procedure: u64, seed: u64) -> usize {
+        let mut x = seed;
+        (0..EACH)
+            .filter(|_| {
+                x = x.wrapping_mul(6364136223846793005).wrapping_add(1442695040888963407);
+                let from = (x >> 33) % ACCOUNTS;
+                let args = [from, (from + 1 + (x >> 40) % (ACCOUNTS - 1)) % ACCOUNTS, (x >> 50) % 60];
+                self.run(procedure, &args) == Outcome::Committed
+            })
+            .count()
+    }
+
+    /// The store is put back from a copy of before.
+    fn put_back(&self, copy: Store) {
+        let mut store = self.store.lock().unwrap();
+        let incarnation = store.incarnation + 1;
+        *store = Store { incarnation, ..copy };
+    }
+}
+
+fn main() {
+    let slot = |write, argument| Slot { write, dc: 0, table: 0, key: Key::Argument(argument) };
+    let read = |name: &str| std::fs::read(format!("build/{name}.bin")).expect("the code");
+    let mut tc = Tc::new(1).unwrap();
+    let deposit = tc.load("deposit", &read("deposit_here"), &[slot(true, 0)], 2).unwrap();
+    let transfer = tc.load("move", &read("move"), &[slot(true, 0), slot(true, 1)], 3).unwrap();
+    println!("{:?}", tc.load("weak", &read("move"), &[slot(true, 0), slot(false, 1)], 3).unwrap_err().0);
+    let bank = Bank { tc: Mutex::new(tc), freed: Condvar::new(), store: Mutex::new(Store::default()) };
+    for account in 0..ACCOUNTS {
+        bank.run(deposit, &[account, 100]);
+    }
+    let copy = bank.store.lock().unwrap().clone();
+    let committed: usize = std::thread::scope(|scope| {
+        let workers: Vec<_> = (0..THREADS).map(|w| scope.spawn({ let bank = &bank; move || bank.transfers(transfer, w + 1) })).collect();
+        std::thread::sleep(std::time::Duration::from_millis(20));
+        bank.put_back(copy);
+        workers.into_iter().map(|w| w.join().unwrap()).sum()
+    });
+    assert!(committed > 0);
+    let sum: u64 = bank.store.lock().unwrap().records.values().map(|v| u64::from_le_bytes(v[..8].try_into().unwrap())).sum();
+    println!("{} transfers by {THREADS} threads, sum {sum}", THREADS * EACH);
+}

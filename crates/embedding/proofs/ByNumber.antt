@@ -1,0 +1,41 @@
+-- What a call is served as, by its number.
+use Rattle.std.proofs.Common.{◌≡◌, ◌≢◌, ℕ, sym, subst}
+use Rattle.data_component.specs.Store.{Store}
+use Rattle.embedding.specs.declared.frame.Frame.{Frame}
+use Rattle.embedding.specs.declared.tc_part.TcPart.{TcPart}
+use Rattle.embedding.specs.declared.code_part.CodePart.{CodePart}
+use Rattle.embedding.specs.declared.engine.Body.{Body}
+use Rattle.embedding.specs.Calling.{BegunBy}
+use Rattle.embedding.specs.Programs.{RunBy, IsRun}
+use Rattle.embedding.specs.Keeping.{KeptBy, SeenBy, WhySilent, IsKept}
+use Rattle.embedding.specs.declared.codes.TheConstants.{SILENT}
+use Rattle.embedding.specs.Serving.{DoneBy, ShownBy, RefusedBy, IsServed}
+
+-- a call of this number, whose facts are known by the number
+pub served_as : (p : TcPart) (f : Frame) (code : ℕ) (p' : TcPart) (f' : Frame) (what : ℕ) → f.what ≡ what → (code ≢ 0 → p'.state ≡ p.state)
+    → (code ≢ 0 → RefusedBy what p f code p' f') → (code ≡ 0 → DoneBy what p f p' f') → (code ≡ 0 → ShownBy what p f f') → IsServed p f code p' f'
+served_as p f code p' f' what is refused why done shown = record {
+  refused = refused;
+  why = λ e. subst (λ (n : ℕ). RefusedBy n p f code p' f') (sym is) (why e);
+  done = λ e. subst (λ (n : ℕ). DoneBy n p f p' f') (sym is) (done e);
+  shown = λ e. subst (λ (n : ℕ). ShownBy n p f f') (sym is) (shown e);
+}
+
+pub kept_as : (s : Store) (f : Frame) (code : ℕ) (s' : Store) (f' : Frame) (what : ℕ) → f.what ≡ what → (code ≢ 0 → code ≢ SILENT → s' ≡ s)
+    → (code ≡ SILENT → WhySilent s f s') → (code ≡ 0 → KeptBy what s f s' f') → (code ≡ 0 → SeenBy what s f f') → IsKept s f code s' f'
+kept_as s f code s' f' what is refused silent done seen = record {
+  refused = refused;
+  silent = silent;
+  done = λ e. subst (λ (n : ℕ). KeptBy n s f s' f') (sym is) (done e);
+  seen = λ e. subst (λ (n : ℕ). SeenBy n s f f') (sym is) (seen e);
+}
+
+pub run_as : (c : CodePart) (f : Frame) (code : ℕ) (c' : CodePart) (f' : Frame) (what : ℕ) → f.what ≡ what → (code ≢ 0 → c'.program ≡ c.program)
+    → (code ≡ 0 → RunBy what c f c' f') → IsRun c f code c' f'
+run_as c f code c' f' what is refused done = record {
+  refused = refused;
+  done = λ e. subst (λ (n : ℕ). RunBy n c f c' f') (sym is) (done e);
+}
+
+pub begun_as : (f : Frame) (body : Body) (what : ℕ) → f.what ≡ what → BegunBy what f body → BegunBy f.what f body
+begun_as f body what is begun = subst (λ (n : ℕ). BegunBy n f body) (sym is) begun

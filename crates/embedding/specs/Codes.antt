@@ -1,0 +1,66 @@
+-- The numbers of refusals, a letter and a number in one word, and the place that is told beside one.
+use Rattle.std.specs.Prelude.{ℕ}
+use Rattle.access_slots.specs.declared.decl.DeclFault.{DeclFault}
+use Rattle.access_slots.specs.declared.decl.DeclFault.TheVariants as decl
+use Rattle.bpf_encoding.specs.declared.decode.DecodeFault.{DecodeFault}
+use Rattle.bpf_encoding.specs.declared.decode.DecodeFault.TheVariants as decode
+use Rattle.register_kinds.specs.declared.kind.Violation.{Violation}
+use Rattle.register_kinds.specs.declared.kind.Violation.TheVariants as violation
+use Rattle.tc_core.specs.declared.state.NewsFault.{NewsFault}
+use Rattle.tc_core.specs.declared.state.NewsFault.TheVariants as news
+
+-- E1 to E7; W5 where memory ran out
+abbrev pub decode_number : DecodeFault → ℕ
+decode_number decode.NoCode = 0x4501
+decode_number decode.Length = 0x4502
+decode_number decode.TooLong = 0x4503
+decode_number (decode.WideCut slot) = 0x4504
+decode_number (decode.UnusedField slot) = 0x4505
+decode_number (decode.Undefined slot) = 0x4506
+decode_number (decode.OutsideProfile slot which) = 0x4507
+decode_number decode.Memory = 0x5705
+
+-- the slot of the code
+abbrev pub decode_place : DecodeFault → ℕ
+decode_place decode.NoCode = 0
+decode_place decode.Length = 0
+decode_place decode.TooLong = 0
+decode_place (decode.WideCut slot) = slot
+decode_place (decode.UnusedField slot) = slot
+decode_place (decode.Undefined slot) = slot
+decode_place (decode.OutsideProfile slot which) = slot
+decode_place decode.Memory = 0
+
+-- V1 to V14
+abbrev pub violation_number : Violation → ℕ
+violation_number violation.Backward = 0x5601
+violation_number violation.OutOfCode = 0x5602
+violation_number violation.IntoWide = 0x5603
+violation_number violation.FallsOff = 0x5604
+violation_number violation.EmptyRegister = 0x5605
+violation_number violation.WritesR10 = 0x5606
+violation_number violation.NotAPointer = 0x5607
+violation_number violation.OutOfBounds = 0x5608
+violation_number violation.ReadOnly = 0x5609
+violation_number violation.MaybeNull = 0x560a
+violation_number violation.UnknownHelper = 0x560b
+violation_number violation.SlotUnknown = 0x560c
+violation_number violation.ModeTooWeak = 0x560d
+violation_number violation.PointerReturned = 0x560e
+
+-- S1 to S3
+abbrev pub decl_number : DeclFault → ℕ
+decl_number decl.TooManyArgs = 0x5301
+decl_number decl.TooManySlots = 0x5302
+decl_number (decl.NoSuchArg slot) = 0x5303
+
+-- the slot of the declaration
+abbrev pub decl_place : DeclFault → ℕ
+decl_place decl.TooManyArgs = 0
+decl_place decl.TooManySlots = 0
+decl_place (decl.NoSuchArg slot) = slot
+
+-- I10, I15
+abbrev pub news_number : NewsFault → ℕ
+news_number news.NoDc = 0x490a
+news_number news.OldNews = 0x490f

@@ -1,0 +1,47 @@
+-- Code and slots that were handed in: what they are as a procedure, and why they are none.
+use Rattle.std.specs.Prelude.{◌≡◌, ℕ, ◌<◌, ⊤, List, Option, Some, None}
+use Rattle.access_slots.specs.Declaration.{Declaration, decl_fault}
+use Rattle.access_slots.specs.declared.slot.Slot.{Slot}
+use Rattle.bpf_encoding.specs.Named.{code_named}
+use Rattle.bpf_encoding.specs.Spells.{Spells, fault_in, IsFirstFault}
+use Rattle.verifier.specs.Checked.{Checked}
+use Rattle.verifier.specs.Verdict.{verdict}
+use Rattle.embedding.specs.Codes.{decl_number, decl_place, decode_number, decode_place, violation_number}
+use Rattle.embedding.specs.declared.gathered.Wrong.{Wrong}
+use Rattle.embedding.specs.declared.gathered.Wrong.TheVariants as wrong
+
+abbrev pub decl_of : List Slot → ℕ → Declaration
+decl_of slots args = record { args = args; slots = slots }
+
+-- the code that the bytes name, with these slots, for so many arguments
+abbrev pub checked_of : List ℕ → List Slot → ℕ → Checked
+checked_of bytes slots args = record { code = code_named bytes; decl = decl_of slots args }
+
+-- nothing is wrong with the bytes, the slots and what the code does
+pub record IsProcedure (bytes : List ℕ) (slots : List Slot) (args : ℕ) : Type 0 where
+  pub declared : decl_fault args slots ≡ None
+  pub spelled : Spells bytes (code_named bytes)
+  pub accepted : verdict (decl_of slots args) (code_named bytes) ≡ None
+
+-- this is the first thing that is wrong
+abbrev pub IsWrong : List ℕ → List Slot → ℕ → Wrong → Type 0
+IsWrong bytes slots args wrong.Arguments = 255 < args
+IsWrong bytes slots args (wrong.Slots fault) = decl_fault args slots ≡ Some fault
+IsWrong bytes slots args (wrong.Bytes fault) = IsFirstFault (fault_in bytes) fault
+IsWrong bytes slots args (wrong.Unsafe slot violation) = verdict (decl_of slots args) (code_named bytes) ≡ Some (slot, violation)
+IsWrong bytes slots args wrong.Memory = ⊤
+
+abbrev pub wrong_number : Wrong → ℕ
+wrong_number wrong.Arguments = 0x5702
+wrong_number (wrong.Slots fault) = decl_number fault
+wrong_number (wrong.Bytes fault) = decode_number fault
+wrong_number (wrong.Unsafe slot violation) = violation_number violation
+wrong_number wrong.Memory = 0x5705
+
+-- the slot of the code or of the declaration
+abbrev pub wrong_place : Wrong → ℕ
+wrong_place wrong.Arguments = 0
+wrong_place (wrong.Slots fault) = decl_place fault
+wrong_place (wrong.Bytes fault) = decode_place fault
+wrong_place (wrong.Unsafe slot violation) = slot
+wrong_place wrong.Memory = 0

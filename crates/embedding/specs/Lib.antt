@@ -1,0 +1,10 @@
+pub mod Codes
+pub mod Frames
+pub mod Gathering
+pub mod Telling
+pub mod Serving
+pub mod Keeping
+pub mod Running
+pub mod Programs
+pub mod Sound
+pub mod Calling

@@ -1,0 +1,77 @@
+//! The numbers of the calls, as a frame's `what` has them.
+
+/// Of an engine that isn't started: begin a transaction component, a data component, a program.
+pub const START_TC: u32 = 1;
+
+pub const START_DC: u32 = 2;
+
+pub const START_CODE: u32 = 3;
+
+/// Code and access slots come in piece by piece, or are forgotten.
+pub const BYTES: u32 = 10;
+
+pub const SLOT: u32 = 11;
+
+pub const CLEAR: u32 = 12;
+
+/// Of a transaction component: its procedures.
+pub const LOAD: u32 = 13;
+
+pub const FIND: u32 = 14;
+
+/// Its transactions.
+pub const ADMIT: u32 = 20;
+
+pub const BLOCKED: u32 = 21;
+
+pub const ASK: u32 = 22;
+
+pub const UNDO: u32 = 23;
+
+pub const WIRE: u32 = 24;
+
+pub const ANSWER: u32 = 25;
+
+pub const GIVE_UP: u32 = 26;
+
+pub const END: u32 = 27;
+
+pub const OPEN_COUNT: u32 = 28;
+
+/// Its log.
+pub const LOG_LENGTH: u32 = 29;
+
+pub const LOG_BYTES: u32 = 30;
+
+/// What it knows of data components that restart.
+pub const SITE: u32 = 31;
+
+pub const TOLD: u32 = 32;
+
+pub const REDO_NEXT: u32 = 33;
+
+pub const REDONE: u32 = 34;
+
+/// Of a data component.
+pub const PERFORM: u32 = 40;
+
+pub const RESTART: u32 = 41;
+
+pub const GET: u32 = 42;
+
+pub const ROWS: u32 = 43;
+
+pub const ROW: u32 = 44;
+
+pub const MARK: u32 = 45;
+
+pub const CHECKPOINT: u32 = 46;
+
+pub const INCARNATION: u32 = 47;
+
+/// Of a program.
+pub const VERIFY: u32 = 50;
+
+pub const RUN: u32 = 51;
+
+pub const RESUME: u32 = 52;

@@ -1,0 +1,119 @@
+//! What a call answers: 0, or why it did nothing, as a letter and a number in one word.
+
+ghost use Rattle.std.specs.Prelude.{◌≡◌, ◌≢◌};
+ghost use Rattle.embedding.specs.Codes.{decode_number, decode_place, violation_number, decl_number, decl_place, news_number};
+
+use access_slots::decl::DeclFault;
+use bpf_encoding::decode::DecodeFault;
+use register_kinds::kind::Violation;
+use tc_core::state::NewsFault;
+
+/// It was done.
+pub const DONE: u32 = 0;
+/// W1: this engine has no such call, as long as it is what it is.
+pub const NO_SUCH_CALL: u32 = 0x5701;
+/// W2: a number in the frame is outside of its range.
+pub const BAD_FRAME: u32 = 0x5702;
+/// W3: a name isn't UTF-8.
+pub const NOT_TEXT: u32 = 0x5703;
+/// W5: memory ran out.
+pub const MEMORY: u32 = 0x5705;
+/// W6: there is nothing at this place.
+pub const NO_PLACE: u32 = 0x5706;
+/// W7: the data component doesn't reply to this wire.
+pub const SILENT: u32 = 0x5707;
+/// B1: a lock of another transaction stands in the way.
+pub const BUSY: u32 = 0x4201;
+/// B2: too few request numbers are left.
+pub const NUMBERS_SPENT: u32 = 0x4202;
+/// B4: there is no such procedure.
+pub const NO_PROCEDURE: u32 = 0x4204;
+/// B5: it takes another number of arguments.
+pub const ARGUMENT_COUNT: u32 = 0x4205;
+/// I2: no such transaction is open.
+pub const NO_TXN: u32 = 0x4902;
+/// I5: it can't end now.
+pub const NOT_OVER: u32 = 0x4905;
+/// I6: it waits for nothing.
+pub const NOTHING_OPEN: u32 = 0x4906;
+/// I9: this is no reply to what is waited for.
+pub const STRANGER: u32 = 0x4909;
+/// I10: there is no such data component.
+pub const NO_DC: u32 = 0x490a;
+/// I12: the data component has restarted 2^62 times.
+pub const INCARNATIONS_SPENT: u32 = 0x490c;
+/// I13: the data component is down, so nothing is sent there.
+pub const DOWN: u32 = 0x490d;
+/// I15: this restart, or a later one, is known.
+pub const OLD_NEWS: u32 = 0x490f;
+/// I16: the data component isn't down.
+pub const NOT_DOWN: u32 = 0x4910;
+/// P1: the name is taken.
+pub const NAME_TAKEN: u32 = 0x5001;
+/// P2: a slot names a data component that isn't there.
+pub const DC_UNKNOWN: u32 = 0x5002;
+
+/// E1 to E7, or W5, and the slot of the code.
+pub fn decode_code(fault: &DecodeFault) -> (u32, u64)
+    ensures refused { result.0 ≢ 0 }
+    ensures number { result.0 ≡ decode_number fault.now }
+    ensures place { result.1 ≡ decode_place fault.now }
+{
+    match fault {
+        DecodeFault::NoCode => (0x4501, 0),
+        DecodeFault::Length => (0x4502, 0),
+        DecodeFault::TooLong => (0x4503, 0),
+        DecodeFault::WideCut(slot) => (0x4504, *slot as u64),
+        DecodeFault::UnusedField(slot) => (0x4505, *slot as u64),
+        DecodeFault::Undefined(slot) => (0x4506, *slot as u64),
+        DecodeFault::OutsideProfile(slot, _) => (0x4507, *slot as u64),
+        DecodeFault::Memory => (MEMORY, 0),
+    }
+}
+
+/// V1 to V14.
+pub fn violation_code(violation: Violation) -> u32
+    ensures refused { result ≢ 0 }
+    ensures number { result ≡ violation_number violation }
+{
+    match violation {
+        Violation::Backward => 0x5601,
+        Violation::OutOfCode => 0x5602,
+        Violation::IntoWide => 0x5603,
+        Violation::FallsOff => 0x5604,
+        Violation::EmptyRegister => 0x5605,
+        Violation::WritesR10 => 0x5606,
+        Violation::NotAPointer => 0x5607,
+        Violation::OutOfBounds => 0x5608,
+        Violation::ReadOnly => 0x5609,
+        Violation::MaybeNull => 0x560a,
+        Violation::UnknownHelper => 0x560b,
+        Violation::SlotUnknown => 0x560c,
+        Violation::ModeTooWeak => 0x560d,
+        Violation::PointerReturned => 0x560e,
+    }
+}
+
+/// S1 to S3, and the slot of the declaration.
+pub fn decl_code(fault: DeclFault) -> (u32, u64)
+    ensures refused { result.0 ≢ 0 }
+    ensures number { result.0 ≡ decl_number fault }
+    ensures place { result.1 ≡ decl_place fault }
+{
+    match fault {
+        DeclFault::TooManyArgs => (0x5301, 0),
+        DeclFault::TooManySlots => (0x5302, 0),
+        DeclFault::NoSuchArg(slot) => (0x5303, slot as u64),
+    }
+}
+
+/// I10 or I15.
+pub fn news_code(fault: NewsFault) -> u32
+    ensures refused { result ≢ 0 }
+    ensures number { result ≡ news_number fault }
+{
+    match fault {
+        NewsFault::NoDc => NO_DC,
+        NewsFault::OldNews => OLD_NEWS,
+    }
+}

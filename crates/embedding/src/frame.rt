@@ -1,0 +1,280 @@
+//! What a caller writes before a call, and reads behind it.
+
+ghost use Rattle.std.specs.Prelude.{◌≡◌, ◌≤◌, length, take, IfSome};
+ghost use Rattle.embedding.specs.Frames.{IsOf, Names, Says, Carries, Brings, bit, news_in};
+
+use access_slots::op::{News, Op, Reply, Said, Wire};
+use access_slots::slot::{Record, Value};
+
+/// Plain numbers and bytes: whatever lies in its memory is a frame.
+#[repr(C)]
+#[derive(Drop)]
+pub struct Frame {
+    /// In: the number of the call.
+    pub what: u32,
+    /// Which answer, state, outcome or mode.
+    pub kind: u32,
+    /// Which operation: 1 read, 2 insert, 3 update, 4 delete.
+    pub op: u32,
+    /// How many arguments or bytes.
+    pub count: u32,
+    pub dc: u16,
+    pub table: u16,
+    /// 1 where a wire redoes what was answered before, else 0.
+    pub redo: u32,
+    pub txn: u64,
+    pub number: u64,
+    /// A wire's low-water mark, or the mark that a data component kept.
+    pub low_water: u64,
+    pub incarnation: u64,
+    pub key: u64,
+    /// A number that the call says more of.
+    pub word: u64,
+    /// A place in the log, in a list or in code.
+    pub place: u64,
+    pub args: [u64; 8],
+    pub value: [u8; 64],
+    pub bytes: [u8; 256],
+}
+
+/// A bit as a number.
+pub fn bit_of(flag: bool) -> u32
+    ensures { result ≡ bit flag }
+{
+    if flag { 1 } else { 0 }
+}
+
+// A number as a bit, if it is one.
+fn flag_of(number: u32) -> Option<bool>
+    ensures { IfSome result (λ flag. number ≡ bit flag) }
+{
+    match number {
+        0 => Some(false),
+        1 => Some(true),
+        _ => None,
+    }
+}
+
+impl Frame {
+    /// With zeros everywhere.
+    pub fn zeros() -> Frame {
+        Frame {
+            what: 0,
+            kind: 0,
+            op: 0,
+            count: 0,
+            dc: 0,
+            table: 0,
+            redo: 0,
+            txn: 0,
+            number: 0,
+            low_water: 0,
+            incarnation: 0,
+            key: 0,
+            word: 0,
+            place: 0,
+            args: [0; 8],
+            value: [0; 64],
+            bytes: [0; 256],
+        }
+    }
+
+    /// The record that it names.
+    pub fn named(&self) -> Record
+        ensures { IsOf self.now result }
+    {
+        Record {
+            dc: self.dc,
+            table: self.table,
+            key: self.key,
+        }
+    }
+
+    /// The operation that it names.
+    pub fn operation(&self) -> Option<Op>
+        ensures { IfSome result (Names self.now) }
+    {
+        let named = self.named();
+        match self.op {
+            1 => Some(Op::Read(named)),
+            2 => Some(Op::Insert(named, self.value)),
+            3 => Some(Op::Update(named, self.value)),
+            4 => Some(Op::Delete(named)),
+            _ => None,
+        }
+    }
+
+    /// What it says to an operation.
+    pub fn said(&self) -> Option<Said>
+        ensures { IfSome result (Says self.now) }
+    {
+        match self.kind {
+            1 => Some(Said::Value(self.value)),
+            2 => Some(Said::Absent),
+            3 => Some(Said::Done(None)),
+            4 => Some(Said::Done(Some(self.value))),
+            5 => Some(Said::Duplicate),
+            6 => Some(Said::Missing),
+            7 => Some(Said::NoRoom),
+            8 => Some(Said::Old),
+            _ => None,
+        }
+    }
+
+    /// The wire that it carries.
+    pub fn wire(&self) -> Option<Wire>
+        ensures { IfSome result (Carries self.now) }
+    {
+        let Some(op) = self.operation() else {
+            return None;
+        };
+        let Some(redo) = flag_of(self.redo) else {
+            return None;
+        };
+        Some(Wire {
+            number: self.number,
+            low_water: self.low_water,
+            incarnation: self.incarnation,
+            redo,
+            op,
+        })
+    }
+
+    /// The reply that it brings.
+    pub fn reply(&self) -> Option<Reply>
+        ensures { IfSome result (Brings self.now) }
+    {
+        let Some(said) = self.said() else {
+            return None;
+        };
+        Some(Reply {
+            number: self.number,
+            incarnation: self.incarnation,
+            said,
+        })
+    }
+
+    /// The news of a restart that it brings.
+    pub fn news(&self) -> News
+        ensures { result ≡ news_in self.now }
+    {
+        News {
+            incarnation: self.incarnation,
+            mark: self.low_water,
+        }
+    }
+
+    /// The arguments that it has, unless there are more than 8.
+    pub fn arguments(&self) -> Option<&[u64]>
+        ensures { IfSome result (λ args. args.now ≡ take self.now.count self.now.args) }
+    {
+        let count = self.count as usize;
+        if count > 8 {
+            return None;
+        }
+        Some(&self.args[..count])
+    }
+
+    /// The bytes that it has, unless there are more than 256.
+    pub fn text(&self) -> Option<&[u8]>
+        ensures { IfSome result (λ text. text.now ≡ take self.now.count self.now.bytes) }
+    {
+        let count = self.count as usize;
+        if count > 256 {
+            return None;
+        }
+        Some(&self.bytes[..count])
+    }
+
+    /// Names a record.
+    pub fn put_record(&mut self, record: &Record)
+        ensures { self.new ≡ record self.old { dc = «record».now.dc; table = «record».now.table; key = «record».now.key } }
+    {
+        self.dc = record.dc;
+        self.table = record.table;
+        self.key = record.key;
+    }
+
+    fn put_write(&mut self, op: u32, record: &Record, value: &Value)
+        ensures { self.new ≡ record self.old { op = op; dc = «record».now.dc; table = «record».now.table; key = «record».now.key; value = value.now } }
+    {
+        self.op = op;
+        self.put_record(record);
+        self.value = *value;
+    }
+
+    fn put_plain(&mut self, op: u32, record: &Record)
+        ensures op { (self.new.op ≡ op) × IsOf self.new «record».now }
+        ensures rest { self.new ≡ record self.old { op = self.new.op; dc = self.new.dc; table = self.new.table; key = self.new.key; value = self.new.value } }
+    {
+        self.op = op;
+        self.put_record(record);
+        self.value = [0; 64];
+    }
+
+    /// Names an operation.
+    pub fn put_operation(&mut self, op: &Op)
+        ensures names { Names self.new op.now }
+        ensures rest { self.new ≡ record self.old { op = self.new.op; dc = self.new.dc; table = self.new.table; key = self.new.key; value = self.new.value } }
+    {
+        match op {
+            Op::Read(record) => self.put_plain(1, record),
+            Op::Insert(record, value) => self.put_write(2, record, value),
+            Op::Update(record, value) => self.put_write(3, record, value),
+            Op::Delete(record) => self.put_plain(4, record),
+        }
+    }
+
+    /// Carries a wire.
+    pub fn put_wire(&mut self, wire: &Wire)
+        ensures carries { Carries self.new wire.now }
+        ensures kind { self.new.kind ≡ self.old.kind }
+    {
+        self.put_operation(&wire.op);
+        self.number = wire.number;
+        self.low_water = wire.low_water;
+        self.incarnation = wire.incarnation;
+        self.redo = bit_of(wire.redo);
+    }
+
+    /// Says something to an operation.
+    pub fn put_said(&mut self, said: &Said)
+        ensures says { Says self.new said.now }
+        ensures rest { self.new ≡ record self.old { kind = self.new.kind; value = self.new.value } }
+    {
+        self.value = [0; 64];
+        match said {
+            Said::Value(value) => {
+                self.kind = 1;
+                self.value = *value;
+            }
+            Said::Absent => self.kind = 2,
+            Said::Done(None) => self.kind = 3,
+            Said::Done(Some(value)) => {
+                self.kind = 4;
+                self.value = *value;
+            }
+            Said::Duplicate => self.kind = 5,
+            Said::Missing => self.kind = 6,
+            Said::NoRoom => self.kind = 7,
+            Said::Old => self.kind = 8,
+        }
+    }
+
+    /// Brings a reply.
+    pub fn put_reply(&mut self, reply: &Reply)
+        ensures { Brings self.new reply.now }
+    {
+        self.put_said(&reply.said);
+        self.number = reply.number;
+        self.incarnation = reply.incarnation;
+    }
+
+    /// Brings news of a restart.
+    pub fn put_news(&mut self, news: &News)
+        ensures { news_in self.new ≡ news.now }
+    {
+        self.incarnation = news.incarnation;
+        self.low_water = news.mark;
+    }
+}

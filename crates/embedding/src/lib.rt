@@ -1,0 +1,20 @@
+//! A transaction component, a data component or a program behind one value, for callers in other
+//! languages.
+//!
+//! An [`engine::Engine`] begins with a [`frame::Frame`] of plain numbers and bytes. A caller writes
+//! there what it wants, calls [`engine::serve`], and reads there what came of it. The static library
+//! `mazzulpe` hands exactly this to C.
+#![tactic(auto)]
+
+pub mod call;
+mod code_part;
+pub mod codes;
+mod dc_part;
+pub mod engine;
+pub mod frame;
+mod gathered;
+mod program;
+mod tc_part;
+mod telling;
+#[cfg(test)]
+mod tests;
