@@ -7,4 +7,3 @@ pub mod Operating
 mod Stacked
 pub mod Exchanging
 pub mod Answering
-pub mod Ways

@@ -2,4 +2,3 @@
 pub mod Asking
 pub mod Filled
 pub mod Paused
-pub mod UnderWay
