@@ -1,6 +1,7 @@
-/* Frames at random, to every kind of handle: fuzz CALLS SEED. It ends with 0 where nothing went wrong: run it
- * under AddressSanitizer or valgrind. Half of a frame's fields stay from call to call, so that calls often
- * mean something; one frame of forty is noise. */
+/* Frames at random, to every kind of handle, and an object file that is broken at random places, a file for
+ * every fifty calls: fuzz CALLS SEED. It ends with 0 where nothing went wrong: run it under AddressSanitizer
+ * or valgrind. Half of a frame's fields stay from call to call, so that calls often mean something; one frame
+ * of forty is noise. */
 #include "mazzulpe_object.h"
 
 static uint64_t x;
@@ -66,8 +67,32 @@ static void changed(mz_frame *f) {
     }
 }
 
+/* Loads the object file, cut off or with some bytes changed; 1 where it was loaded whole. */
+static int broken_object(void) {
+    static uint8_t whole[1 << 16];
+    static size_t size;
+    if (!size) {
+        FILE *file = fopen("build/bank.o", "rb");
+        if (!file) exit(2);
+        size = fread(whole, 1, sizeof whole, file);
+        fclose(file);
+    }
+    mz_code c;
+    uint64_t place;
+    size_t length = drawn(4) ? size : drawn(size + 1);
+    uint8_t *object = malloc(length ? length : 1);
+    mz_tc *tc = mz_tc_new(2, &c);
+    if (!object || !tc) exit(2);
+    memcpy(object, whole, length);
+    for (uint64_t i = drawn(8); i-- && length;) object[drawn(4) ? drawn(length) : drawn(length < 64 ? length : 64)] = (uint8_t)drawn(256);
+    c = mz_load_object(tc, object, length, NULL, &place);
+    mz_tc_free(tc);
+    free(object);
+    return c == MZ_OK;
+}
+
 int main(int argc, char **argv) {
-    long calls = argc > 1 ? atol(argv[1]) : 100000, done = 0;
+    long calls = argc > 1 ? atol(argv[1]) : 100000, done = 0, loaded = 0;
     x = (argc > 2 ? strtoull(argv[2], NULL, 10) : 1) * 2654435761u | 1;
     mz_frame *f = NULL;
     for (long i = 0; i < calls; i++) {
@@ -76,10 +101,11 @@ int main(int argc, char **argv) {
             f = begun();
             if (!f) return 2;
         }
+        if (i % 50 == 0) loaded += broken_object();
         changed(f);
         done += mazzulpe_call(f) == MZ_OK;
     }
     mz_free(f);
-    printf("%ld calls by random frames, %ld done\n", calls, done);
+    printf("%ld calls by random frames, %ld done; %ld broken objects, %ld loaded\n", calls, done, calls / 50, loaded);
     return 0;
 }

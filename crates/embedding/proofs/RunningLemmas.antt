@@ -4,7 +4,7 @@ use Rattle.access_slots.specs.Access.{fits, is_no_room}
 use Rattle.access_slots.specs.declared.op.Op.{Op}
 use Rattle.access_slots.specs.declared.op.Said.{Said}
 use Rattle.semantics.specs.Step.{Bases}
-use Rattle.semantics.specs.Reach.{Stop, entry, reach}
+use Rattle.semantics.specs.Reach.{entry, reach}
 use Rattle.semantics.specs.Row.{plain_bases}
 use Rattle.verifier.specs.Checked.{Checked}
 use Rattle.interpreter.specs.Standing.{Standing, IsStarted}

@@ -1,6 +1,6 @@
 -- What a frame says: records, operations, wires, replies and news. The relations hold in both directions, of what a caller wrote and of
 -- what it reads.
-use Rattle.std.specs.Prelude.{◌≡◌, ℕ, Bool, true, false, List, take, Option, Some, None}
+use Rattle.std.specs.Prelude.{◌≡◌, ℕ, Bool, true, false, List, take, Some, None}
 use Rattle.access_slots.specs.declared.op.Op.{Op}
 use Rattle.access_slots.specs.declared.op.Op.TheVariants.{Read, Insert, Update, Delete}
 use Rattle.access_slots.specs.declared.op.Said.{Said}

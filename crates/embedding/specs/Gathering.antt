@@ -1,5 +1,5 @@
 -- Code and slots that were handed in: what they are as a procedure, and why they are none.
-use Rattle.std.specs.Prelude.{◌≡◌, ℕ, ◌<◌, ⊤, List, Option, Some, None}
+use Rattle.std.specs.Prelude.{◌≡◌, ℕ, ◌<◌, ⊤, List, Some, None}
 use Rattle.access_slots.specs.Declaration.{Declaration, decl_fault}
 use Rattle.access_slots.specs.declared.slot.Slot.{Slot}
 use Rattle.bpf_encoding.specs.Named.{code_named}

@@ -1,5 +1,5 @@
 -- What one call makes of a program, by the frame that it was made with, the code that it answered and the frame behind it.
-use Rattle.std.specs.Prelude.{◌≡◌, ◌≢◌, ℕ, ◌==◌, MatchBool, List, [], ◌∷◌, ◌++◌, Option, Some, None}
+use Rattle.std.specs.Prelude.{◌≡◌, ◌≢◌, ℕ, ◌==◌, MatchBool, List, [], ◌∷◌, ◌++◌, Some, None}
 use Rattle.access_slots.specs.declared.op.Op.{Op}
 use Rattle.access_slots.specs.declared.op.Said.{Said}
 use Rattle.interpreter.specs.declared.pause.Pause.{Pause}

@@ -1,6 +1,6 @@
 -- What one call makes of a transaction component, by the frame that it was made with, the code that it answered and the frame
 -- behind it.
-use Rattle.std.specs.Prelude.{◌≡◌, ◌≢◌, ◌+◌, ℕ, Bool, ◌==◌, ◌<◌, ⊤, MatchBool, IsTrue, ◌↔◌, List, [], ◌∷◌, ◌++◌, length, min, reverse, take, slice_get, swap_remove, Option, Some, None, Ok, Err}
+use Rattle.std.specs.Prelude.{◌≡◌, ◌≢◌, ◌+◌, ℕ, Bool, ◌==◌, ◌<◌, ⊤, MatchBool, IsTrue, ◌↔◌, List, [], ◌∷◌, ◌++◌, length, min, reverse, take, slice_get, swap_remove, Some, None, Ok}
 use Rattle.access_slots.specs.declared.op.Reply.{Reply}
 use Rattle.access_slots.specs.declared.op.Wire.{Wire}
 use Rattle.history.specs.Calls.{admitted}
@@ -10,7 +10,7 @@ use Rattle.tc_log.specs.Printed.{printed}
 use Rattle.transactions.specs.InFlight.{site_at}
 use Rattle.transactions.specs.Room.{each_one, total}
 use Rattle.transactions.specs.Standing.{standing}
-use Rattle.tc_core.specs.Core.{Core, Asking}
+use Rattle.tc_core.specs.Core.{Asking}
 use Rattle.tc_core.specs.Admission.{IsAdmissible, IsRefused}
 use Rattle.tc_core.specs.Blocked.{IsBlocked}
 use Rattle.tc_core.specs.GivingUp.{IsOpenHere, with_given_up}
@@ -20,7 +20,6 @@ use Rattle.tc_core.specs.Loading.{load_refusal, IsFirstRefusal}
 use Rattle.tc_core.specs.Redo.{news_fault, after_told, redo_reply, after_redo, IsRedone, after_redone}
 use Rattle.tc_core.specs.Replies.{ask_reply, after_ask, undo_reply, after_undo, IsAnswer, after_answer, end_of, after_end, with_event}
 use Rattle.tc_core.specs.declared.procs.LoadRefusal.{LoadRefusal}
-use Rattle.tc_core.specs.declared.state.Asked.{Asked}
 use Rattle.tc_core.specs.declared.state.NewsFault.{NewsFault}
 use Rattle.tc_core.specs.declared.state.Refusal.{Refusal}
 use Rattle.embedding.specs.Codes.{news_number}
@@ -28,7 +27,7 @@ use Rattle.embedding.specs.Frames.{bit, Carries, Brings, news_in, args_in, text_
 use Rattle.embedding.specs.Gathering.{checked_of, IsProcedure, IsWrong, wrong_number, wrong_place}
 use Rattle.embedding.specs.Telling.{Tells, requests_of, EndsAs, TellsRefusal, TellsLoading, TellsRedo, TellsSite}
 use Rattle.embedding.specs.declared.call.TheConstants.{LOAD, FIND, ADMIT, BLOCKED, ASK, UNDO, WIRE, ANSWER, GIVE_UP, END, OPEN_COUNT, LOG_LENGTH, LOG_BYTES, SITE, TOLD, REDO_NEXT, REDONE}
-use Rattle.embedding.specs.declared.codes.TheConstants.{BAD_FRAME, MEMORY, NOT_TEXT, NO_PROCEDURE, NO_TXN, NOT_OVER, NOTHING_OPEN, STRANGER, DOWN, NO_DC, NO_PLACE}
+use Rattle.embedding.specs.declared.codes.TheConstants.{BAD_FRAME, MEMORY, NOT_TEXT, NO_TXN, NOT_OVER, NOTHING_OPEN, STRANGER}
 use Rattle.embedding.specs.declared.frame.Frame.{Frame}
 use Rattle.embedding.specs.declared.gathered.Wrong.{Wrong}
 use Rattle.embedding.specs.declared.tc_part.TcPart.{TcPart}

@@ -25,12 +25,14 @@ fn hand_in(engine: &mut Engine) -> bool {
     made(engine, call::BYTES) == DONE && made(engine, call::SLOT) == DONE
 }
 
-// A transaction component with one data component and this procedure, whose call for record 7 has
+// A transaction component with one data component and this procedure as `r`, whose call for record 7 has
 // come to its question.
 fn asked(engine: &mut Engine) -> bool {
     engine.frame.word = 1;
     let begun = made(engine, call::START_TC) == DONE && hand_in(engine);
     engine.frame.word = 1;
+    engine.frame.bytes[0] = b'r';
+    engine.frame.count = 1;
     let loaded = made(engine, call::LOAD) == DONE;
     engine.frame.word = 0;
     engine.frame.count = 1;
