@@ -3,12 +3,12 @@
 use access_slots::op::{Op, Wire};
 use audit::auditing::audit;
 use data_component::dc::Dc;
+use script_loading::loading::{Loaded, Loading, load};
 use scripts::keyword::Command;
 use std::alloc::Global;
 use tc_core::procs::Procs;
 use tc_log::event::Event;
 use tc_log::log::Log;
-use script_loading::loading::{Loaded, Loading, load};
 
 /// The line of an audit.
 pub fn audit_line(alloc: Global, procs: &Procs, log: &Log, dcs: &[Dc]) -> Option<String> {
