@@ -2,7 +2,8 @@
 """believed.py [--write] [--of CRATE[.NAME]]: looks whether docs/PROVED.md names, each with its lines, exactly the
 definitions that a reader has to believe: those of specs/ that a public item's contract speaks of (a function's
 clauses, what contracts see of a type and what the type keeps), and all that these are made of. None of them may
-stand in specs/Joining, whose definitions only join bodies to others. With --write the counts of lines are written
+stand in specs/Joining, whose definitions only join bodies to others. It also looks whether the page says how many
+lines the files have that the headline needs, with all that they import. With --write the counts of lines are written
 anew. With --of it says instead which public items lead to that crate's definitions, or to the one of that name.
 The status is 1 where something differs."""
 import pathlib
@@ -13,6 +14,7 @@ TOP = pathlib.Path(__file__).resolve().parent.parent
 PAGE = TOP / "docs" / "PROVED.md"
 ROW = re.compile(r"^(\|[^|]*\| )(`\w+`: [^|]*?)( \|)$", re.M)
 TOTAL = re.compile(r"^That is (\d+) lines", re.M)
+HEADLINE = re.compile(r"^(The headline needs of these (.*), with all that they import: )\d+ lines in \d+ files", re.M)
 WORD = re.compile(r"[^\s(){}\[\],;.λ→×⊎≡≢≤<+*&|∷∙=\"'`@:]+(?:\.[^\s(){}\[\],;.]+)*")
 USE = re.compile(r"use Rattle\.(\w+)\.specs\.((?:Joining\.)?\w+)(?:\.\{([^}]*)\}|\.(\w+))?(?: as (\w+))?;?")
 
@@ -37,11 +39,13 @@ class Module:
     HEAD = re.compile(r"^\s*(?:abbrev|record|data)(?: pub)? ([^\s:({]+)|^\s*pub (?:abbrev|record|data) ([^\s:({]+)")
 
     def __init__(self, file):
-        self.names, self.lines, self.words = {}, {}, {}
+        self.names, self.lines, self.words, self.imports = {}, {}, {}, set()
         name, comment = None, 0
         for line in file.read_text().split("\n"):
             if re.match(r"(pub )?use ", line):
-                self.names.update(imported(line))
+                found = dict(imported(line))
+                self.names.update(found)
+                self.imports |= {(crate, module) for crate, module, _ in found.values()}
                 continue
             if not line.strip():
                 continue
@@ -230,6 +234,28 @@ def recounted(page, lines, faults):
     return TOTAL.sub(f"That is {total} lines", page)
 
 
+def with_imports(roots, all_modules):
+    """These files of definitions, and all that they import."""
+    found, wait = set(), list(roots)
+    while wait:
+        if (place := wait.pop()) in all_modules and place not in found:
+            found.add(place)
+            wait += all_modules[place].imports
+    return found
+
+
+def headline_counted(page, all_modules, faults):
+    """The page with the lines that the headline needs."""
+    match = HEADLINE.search(page)
+    roots = [(crate, name) for crate, names in re.findall(r"`(\w+)`: ([\w, ]+)", match[2]) for name in names.split(", ")]
+    faults += [f"{crate} has no definitions {name}" for crate, name in roots if (crate, name) not in all_modules]
+    found = with_imports(roots, all_modules)
+    said = f"{match[1]}{sum(sum(all_modules[place].lines.values()) for place in found)} lines in {len(found)} files"
+    if said != match[0]:
+        faults.append(f"the headline needs {said[len(match[1]):]}")
+    return page.replace(match[0], said)
+
+
 def told_of(wanted, found):
     crate, _, name = wanted.partition(".")
     for target, item in sorted(found.items()):
@@ -244,7 +270,7 @@ def main():
         told_of(sys.argv[sys.argv.index("--of") + 1], found)
         return 0
     faults = []
-    page = recounted(PAGE.read_text(), counted(found, all_modules), faults)
+    page = headline_counted(recounted(PAGE.read_text(), counted(found, all_modules), faults), all_modules, faults)
     faults += [f"{crate} {module} {name} stands in Joining, and {item} speaks of it" for (crate, module, name), item in sorted(found.items()) if module.startswith("Joining.")]
     if "--write" in sys.argv[1:]:
         PAGE.write_text(page)
