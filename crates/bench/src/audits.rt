@@ -8,7 +8,7 @@ use std::alloc::Global;
 use tc_core::procs::Procs;
 use tc_log::event::Event;
 use tc_log::log::Log;
-use world_command::loading::{Loaded, Loading, load};
+use script_loading::loading::{Loaded, Loading, load};
 
 /// The line of an audit.
 pub fn audit_line(alloc: Global, procs: &Procs, log: &Log, dcs: &[Dc]) -> Option<String> {

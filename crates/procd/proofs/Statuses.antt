@@ -3,12 +3,12 @@ use Rattle.std.proofs.Common.{arith, ℕ, Bool, List, Option, Some, None}
 use Rattle.std.proofs.Common.{length, true, false}
 use Rattle.std.specs.Prelude.{Result, Ok, Err, ◌≤◌, ◌&&◌, if◌then◌else◌}
 use Rattle.text_commands.specs.Execution.{status_of}
-use Rattle.text_commands.specs.Hex.{Hex, hex_of}
+use Rattle.report_texts.specs.Hex.{Hex, hex_of}
 use Rattle.command_line.specs.Task.{Wish, Exec, Asm, Dis, Verify, World, Run}
 use Rattle.std.specs.List.{list_any}
 use Rattle.scripts.specs.Reading.{Contents, Reading, script_said}
-use Rattle.world_command.specs.Loading.{refusal_of}
-use Rattle.procd.specs.Running.{IsRunBy, IsCallsRun, Ran, Stopped, begun}
+use Rattle.script_loading.specs.Loading.{refusal_of}
+use Rattle.run_command.specs.Running.{IsRunBy, IsCallsRun, Ran, Stopped, begun}
 use Rattle.world_command.specs.WorldReport.{IsWorldBy, status_of_steps}
 use Rattle.world_command.specs.declared.world.Behind.{Behind}
 use Rattle.scripts.specs.declared.keyword.Command.TheVariants as command

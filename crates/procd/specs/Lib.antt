@@ -1,5 +1,2 @@
-pub mod AnswerLines
-pub mod Figures
-pub mod Running
 pub mod Report
 pub mod Streams

@@ -8,7 +8,7 @@ use Rattle.text_commands.specs.CodeReport.{IsExecution, IsAssembly, IsDisassembl
 use Rattle.text_commands.specs.Execution.{text_execution}
 use Rattle.text_commands.specs.Verification.{verification_lines, verification_status}
 use Rattle.world_command.specs.WorldReport.{IsWorld}
-use Rattle.procd.specs.Running.{IsRun}
+use Rattle.run_command.specs.Running.{IsRun}
 
 -- what a command prints of a text, and its exit status
 abbrev pub IsReport : Wish → List ℕ → ℕ → List ℕ → Type 0

@@ -52,7 +52,8 @@ IsDone wish text out err status = (lines : List ℕ) × IsReport wish text statu
 -- the file can't be read, memory ran out, standard output can't be written, or what was read is done
 abbrev pub Ends : List ℕ → Wish → List ℕ → Stream → Stream → ℕ → Type 0
 Ends file wish text out err status =
-    IsReadFault file out err status ⊎ (IsMemoryFault out err status ⊎ (IsWriteFault wish text out err status ⊎ IsDone wish text out err status))
+    IsReadFault file out err status
+    ⊎ (IsMemoryFault out err status ⊎ (IsWriteFault wish text out err status ⊎ IsDone wish text out err status))
 
 -- the same of some text, which is what is there to be read, where that is known
 abbrev pub EndsOn : List ℕ → Wish → Option (List ℕ) → Stream → Stream → ℕ → Type 0

@@ -1,14 +1,9 @@
 //! `procd`: a transaction component that runs verified BPF procedures.
 #![tactic(auto)]
 
-mod answer_lines;
-mod answering;
-mod figures;
 mod program;
 mod reading;
 mod report;
-mod running;
-mod watching;
 
 use program::{no_memory, not_text, program};
 use std::env;
@@ -44,6 +39,8 @@ fn main(rt: HostRuntime) -> ExitCode {
 
 #[cfg(test)]
 mod restart_tests;
+#[cfg(test)]
+mod root_page_tests;
 #[cfg(test)]
 mod run_tests;
 #[cfg(test)]

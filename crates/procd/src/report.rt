@@ -5,8 +5,9 @@ ghost use Rattle.std.specs.Str.{IsUtf8};
 ghost use Rattle.procd.specs.Report.{IsReport};
 ghost use Rattle.command_line.specs.Task.{wish_of, reads_text};
 
-use crate::running::{Manner, running};
 use command_line::words::Task;
+use report_texts::report::Report;
+use run_command::running::{Manner, running};
 use std::alloc::{AllocError, Global};
 use std::io::Stderr;
 use std::sync::Wait;
@@ -14,7 +15,6 @@ use std::thread::Threads;
 use std::time::Clock;
 use text_commands::assembly::{assembly, disassembly};
 use text_commands::lines::execution;
-use text_commands::report::Report;
 use text_commands::verification::verification;
 use world_command::world::{Behind, world};
 

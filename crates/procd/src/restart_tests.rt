@@ -1,4 +1,4 @@
-use crate::test_scripts::script;
+use crate::test_scripts::{check_behind_a_put, script};
 use crate::tests::check;
 use std::test::Fail;
 
@@ -8,7 +8,7 @@ const AUDITED: [&str; 4] = ["procd", "world", "--audit", "-"];
 
 // Steps over a data component that loses what came after its checkpoint, what is printed for them,
 // and the status.
-const RESTARTS: [(&str, &str, u8); 5] = [
+const RESTARTS: [(&str, &str, u8); 4] = [
     (
         "admit put 5 100
 ask 1
@@ -40,48 +40,6 @@ up 0
 row 0/0/5 100
 ",
         0,
-    ),
-    (
-        "admit put 5 100
-ask 1
-perform 0
-take 0
-ask 1
-end 1
-admit get 5
-ask 2
-perform 1
-checkpoint 0
-restart 0
-tell 0
-resend 2
-redo 0
-take 1
-resend 2
-perform 2
-take 2
-",
-        "admitted 1
-sent 0 number 1 insert 0/0/5 100 low 0
-reply 0 number 1 done
-took number 1
-over 1
-ended 1 committed at 3
-admitted 2
-sent 1 number 2 read 0/0/5 low 1
-reply 1 number 2 value 100
-checkpoint 0 mark 1
-restarted 0
-told 0 incarnation 1 mark 1
-illegal I13 Down 0
-up 0
-illegal I9 Stranger
-sent 2 number 2 read 0/0/5 low 1
-reply 2 number 2 value 100
-took number 2
-row 0/0/5 100
-",
-        1,
     ),
     (
         "tell 0
@@ -143,73 +101,105 @@ fn restarts(rt: HostRuntime) -> Result<(), Fail> {
     Ok(())
 }
 
-// Steps and what is printed with an audit: of what is whole; of a component that lost what isn't redone
-// yet; of one that lost a read, which nobody redoes; and of an answer that nobody gave.
-const AUDITS: [(&str, &str, u8); 5] = [
-    (
-        "admit put 5 100
+// The same behind a put.
+const RESTARTS_BEHIND_A_PUT: [(&str, &str, u8); 1] = [(
+    "admit get 5
+ask 2
+perform 1
+checkpoint 0
+restart 0
+tell 0
+resend 2
+redo 0
+take 1
+resend 2
+perform 2
+take 2
+",
+    "admitted 2
+sent 1 number 2 read 0/0/5 low 1
+reply 1 number 2 value 100
+checkpoint 0 mark 1
+restarted 0
+told 0 incarnation 1 mark 1
+illegal I13 Down 0
+up 0
+illegal I9 Stranger
+sent 2 number 2 read 0/0/5 low 1
+reply 2 number 2 value 100
+took number 2
+row 0/0/5 100
+",
+    1,
+)];
+
+#[test]
+fn restarts_behind_a_put(rt: HostRuntime) -> Result<(), Fail> {
+    for (steps, want, status) in RESTARTS_BEHIND_A_PUT {
+        check_behind_a_put(&rt, &WORLD, "dc 4 100\n", steps, want, status)?;
+    }
+    Ok(())
+}
+
+// Steps and what is printed with an audit: of an answer that nobody gave.
+const AUDITS: [(&str, &str, u8); 1] = [(
+    "admit get 5
 ask 1
-perform 0
+forge 1 value 7
 take 0
 end 1
-admit get 5
 ",
-        "admitted 1
-sent 0 number 1 insert 0/0/5 100 low 0
-reply 0 number 1 done
+    "admitted 1
+sent 0 number 1 read 0/0/5 low 0
+forged 0
 took number 1
 ended 1 committed at 3
-admitted 2
+refused U3 Mismatch 1
+",
+    1,
+)];
+
+#[test]
+fn audits(rt: HostRuntime) -> Result<(), Fail> {
+    for (steps, want, status) in AUDITS {
+        let script = script(rt.alloc(), "dc 4 100\n", steps)?;
+        check(&rt, &AUDITED, script.as_str(), want, status);
+    }
+    Ok(())
+}
+
+// The same behind a put: of what is whole; of a component that lost what isn't redone yet; and of one
+// that lost a read, which nobody redoes.
+const AUDITS_BEHIND_A_PUT: [(&str, &str, u8); 4] = [
+    (
+        "admit get 5
+",
+        "admitted 2
 row 0/0/5 100
 audit ok ended 1 open 1
 ",
         0,
     ),
     (
-        "admit put 5 100
-ask 1
-perform 0
-take 0
-end 1
-restart 0
+        "restart 0
 ",
-        "admitted 1
-sent 0 number 1 insert 0/0/5 100 low 0
-reply 0 number 1 done
-took number 1
-ended 1 committed at 3
-restarted 0
+        "restarted 0
 audit skipped dc 0 restarted
 ",
         0,
     ),
     (
-        "admit put 5 100
-ask 1
-perform 0
-take 0
-end 1
-restart 0
+        "restart 0
 tell 0
 ",
-        "admitted 1
-sent 0 number 1 insert 0/0/5 100 low 0
-reply 0 number 1 done
-took number 1
-ended 1 committed at 3
-restarted 0
+        "restarted 0
 told 0 incarnation 1 mark 0
 audit skipped dc 0 down
 ",
         0,
     ),
     (
-        "admit put 5 100
-ask 1
-perform 0
-take 0
-end 1
-admit get 5
+        "admit get 5
 ask 2
 perform 1
 take 1
@@ -221,12 +211,7 @@ perform 2
 take 2
 redo 0
 ",
-        "admitted 1
-sent 0 number 1 insert 0/0/5 100 low 0
-reply 0 number 1 done
-took number 1
-ended 1 committed at 3
-admitted 2
+        "admitted 2
 sent 1 number 2 read 0/0/5 low 1
 reply 1 number 2 value 100
 took number 2
@@ -242,29 +227,12 @@ audit ok ended 2 open 0
 ",
         0,
     ),
-    (
-        "admit get 5
-ask 1
-forge 1 value 7
-take 0
-end 1
-",
-        "admitted 1
-sent 0 number 1 read 0/0/5 low 0
-forged 0
-took number 1
-ended 1 committed at 3
-refused U3 Mismatch 1
-",
-        1,
-    ),
 ];
 
 #[test]
-fn audits(rt: HostRuntime) -> Result<(), Fail> {
-    for (steps, want, status) in AUDITS {
-        let script = script(rt.alloc(), "dc 4 100\n", steps)?;
-        check(&rt, &AUDITED, script.as_str(), want, status);
+fn audits_behind_a_put(rt: HostRuntime) -> Result<(), Fail> {
+    for (steps, want, status) in AUDITS_BEHIND_A_PUT {
+        check_behind_a_put(&rt, &AUDITED, "dc 4 100\n", steps, want, status)?;
     }
     Ok(())
 }

@@ -1,4 +1,4 @@
-use crate::test_scripts::script;
+use crate::test_scripts::{check_behind_a_put, script};
 use crate::tests::check;
 use std::test::Fail;
 
@@ -7,7 +7,7 @@ const WORLD: [&str; 3] = ["procd", "world", "-"];
 const LOGGED: [&str; 4] = ["procd", "world", "--log", "-"];
 
 // The data component, the steps, what is printed for them, and the status.
-const WORLDS: [(&str, &str, &str, u8); 7] = [
+const WORLDS: [(&str, &str, &str, u8); 4] = [
     (
         "dc 4 100\n",
         "admit get\nadmit get 5 6\n",
@@ -78,95 +78,6 @@ illegal I2 NoTxn
 row 0/0/5 1
 ",
         1,
-    ),
-    (
-        "dc 1 100\n",
-        "admit put 5 100
-ask 1
-perform 0
-take 0
-ask 1
-end 1
-admit put 6 1
-ask 2
-perform 1
-take 1
-ask 2
-end 2
-",
-        "admitted 1
-sent 0 number 1 insert 0/0/5 100 low 0
-reply 0 number 1 done
-took number 1
-over 1
-ended 1 committed at 3
-admitted 2
-sent 1 number 2 insert 0/0/6 1 low 1
-reply 1 number 2 noroom
-took number 2
-over 2
-ended 2 noroom at 7
-row 0/0/5 100
-",
-        0,
-    ),
-    (
-        "dc 4 100\n",
-        "admit put 5 100
-ask 1
-perform 0
-take 0
-ask 1
-end 1
-perform 0
-admit get 5
-ask 2
-perform 1
-perform 0
-take 3
-",
-        "admitted 1
-sent 0 number 1 insert 0/0/5 100 low 0
-reply 0 number 1 done
-took number 1
-over 1
-ended 1 committed at 3
-reply 1 number 1 done
-admitted 2
-sent 1 number 2 read 0/0/5 low 1
-reply 2 number 2 value 100
-reply 3 number 1 old
-illegal I9 Stranger
-row 0/0/5 100
-",
-        1,
-    ),
-    (
-        "dc 4 1\n",
-        "admit put 5 100
-ask 1
-perform 0
-take 0
-ask 1
-end 1
-admit put 6 1
-ask 2
-perform 1
-perform 0
-",
-        "admitted 1
-sent 0 number 1 insert 0/0/5 100 low 0
-reply 0 number 1 done
-took number 1
-over 1
-ended 1 committed at 3
-admitted 2
-sent 1 number 2 insert 0/0/6 1 low 1
-silent
-reply 1 number 1 old
-row 0/0/5 100
-",
-        0,
     ),
     (
         "dc 1 100\n",
@@ -255,29 +166,81 @@ fn worlds(rt: HostRuntime) -> Result<(), Fail> {
     Ok(())
 }
 
-// The same with the log.
-const LOGS: [(&str, &str, &str, u8); 2] = [
+// The same behind a put.
+const BEHIND_A_PUT: [(&str, &str, &str, u8); 3] = [
+    (
+        "dc 1 100\n",
+        "admit put 6 1
+ask 2
+perform 1
+take 1
+ask 2
+end 2
+",
+        "admitted 2
+sent 1 number 2 insert 0/0/6 1 low 1
+reply 1 number 2 noroom
+took number 2
+over 2
+ended 2 noroom at 7
+row 0/0/5 100
+",
+        0,
+    ),
     (
         "dc 4 100\n",
-        "admit put 5 100
-ask 1
-perform 0
-take 0
-ask 1
-end 1
+        "perform 0
 admit get 5
+ask 2
+perform 1
+perform 0
+take 3
+",
+        "reply 1 number 1 done
+admitted 2
+sent 1 number 2 read 0/0/5 low 1
+reply 2 number 2 value 100
+reply 3 number 1 old
+illegal I9 Stranger
+row 0/0/5 100
+",
+        1,
+    ),
+    (
+        "dc 4 1\n",
+        "admit put 6 1
+ask 2
+perform 1
+perform 0
+",
+        "admitted 2
+sent 1 number 2 insert 0/0/6 1 low 1
+silent
+reply 1 number 1 old
+row 0/0/5 100
+",
+        0,
+    ),
+];
+
+#[test]
+fn worlds_behind_a_put(rt: HostRuntime) -> Result<(), Fail> {
+    for (dc, steps, want, status) in BEHIND_A_PUT {
+        check_behind_a_put(&rt, &WORLD, dc, steps, want, status)?;
+    }
+    Ok(())
+}
+
+// Steps behind a put, and what is printed for them with the log.
+const LOGS: [(&str, &str, u8); 2] = [
+    (
+        "admit get 5
 ask 2
 perform 1
 take 1
 end 2
 ",
-        "admitted 1
-sent 0 number 1 insert 0/0/5 100 low 0
-reply 0 number 1 done
-took number 1
-over 1
-ended 1 committed at 3
-admitted 2
+        "admitted 2
 sent 1 number 2 read 0/0/5 low 1
 reply 1 number 2 value 100
 took number 2
@@ -295,14 +258,7 @@ row 0/0/5 100
         0,
     ),
     (
-        "dc 4 100\n",
-        "admit put 5 100
-ask 1
-perform 0
-take 0
-ask 1
-end 1
-admit bad 5
+        "admit bad 5
 ask 2
 perform 1
 take 1
@@ -316,13 +272,7 @@ take 3
 ask 2
 end 2
 ",
-        "admitted 1
-sent 0 number 1 insert 0/0/5 100 low 0
-reply 0 number 1 done
-took number 1
-over 1
-ended 1 committed at 3
-admitted 2
+        "admitted 2
 sent 1 number 2 read 0/0/5 low 1
 reply 1 number 2 value 100
 took number 2
@@ -355,9 +305,8 @@ row 0/0/5 100
 
 #[test]
 fn logs(rt: HostRuntime) -> Result<(), Fail> {
-    for (dc, steps, want, status) in LOGS {
-        let script = script(rt.alloc(), dc, steps)?;
-        check(&rt, &LOGGED, script.as_str(), want, status);
+    for (steps, want, status) in LOGS {
+        check_behind_a_put(&rt, &LOGGED, "dc 4 100\n", steps, want, status)?;
     }
     Ok(())
 }

@@ -6,11 +6,11 @@ use Rattle.bpf_encoding.specs.declared.insn.Place.{Place}
 use Rattle.bpf_encoding.specs.declared.decode.DecodeFault.{DecodeFault}
 use Rattle.bpf_asm.specs.Parts.{text_of}
 use Rattle.bpf_asm.specs.declared.assemble.AsmFault.{AsmFault}
-use Rattle.text_commands.specs.Hex.{Hex, hex_of, hex_lines}
+use Rattle.report_texts.specs.Hex.{Hex, hex_of, hex_lines}
 use Rattle.text_commands.specs.Execution.{lines_of, status_of}
 use Rattle.text_commands.specs.declared.execute.Execution.{Execution}
 use Rattle.text_commands.specs.declared.execute.Execution.TheVariants.{NotHex, Code}
-use Rattle.text_commands.specs.FaultNames.{asm_fault_name}
+use Rattle.report_texts.specs.FaultNames.{asm_fault_name}
 
 -- ---- executing
 

@@ -7,8 +7,8 @@ use Rattle.bpf_encoding.specs.declared.decode.DecodeFault.{DecodeFault}
 use Rattle.semantics.specs.Row.{outcome_of}
 use Rattle.register_kinds.specs.declared.kind.Violation.{Violation}
 use Rattle.verifier.specs.Verdict.{verdict}
-use Rattle.text_commands.specs.FaultNames.{fault_name, violation_name}
-use Rattle.text_commands.specs.Hex.{Hex, hex_of}
+use Rattle.report_texts.specs.FaultNames.{fault_name, violation_name}
+use Rattle.report_texts.specs.Hex.{Hex, hex_of}
 use Rattle.text_commands.specs.declared.execute.Execution.{Execution}
 use Rattle.text_commands.specs.declared.execute.Execution.TheVariants.{Answer, NotHex, Code, TooManyArgs, Refused}
 

@@ -1,5 +1,3 @@
-pub mod Hex
-pub mod FaultNames
 pub mod Execution
 pub mod CodeReport
 pub mod Verification

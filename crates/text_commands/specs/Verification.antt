@@ -7,11 +7,13 @@ use Rattle.scripts.specs.declared.keyword.Command.TheVariants as command
 use Rattle.scripts.specs.declared.reading.Fault.{Fault}
 use Rattle.scripts.specs.declared.script.Procedure.{Procedure}
 use Rattle.verifier.specs.Verdict.{verdict}
-use Rattle.text_commands.specs.FaultNames.{violation_name, script_fault_name}
+use Rattle.report_texts.specs.FaultNames.{violation_name}
+use Rattle.report_texts.specs.ScriptRefusal.{script_refusal}
 
 abbrev pub line_by_verdict : Option (ℕ × Violation) → Procedure → List ℕ
 line_by_verdict None p = ((p.name ++ codes " accepted ") ++ decimal (length p.code)) ++ codes "\n"
-line_by_verdict (Some (slot, violation)) p = ((((p.name ++ codes " ") ++ violation_name violation) ++ codes " slot ") ++ decimal slot) ++ codes "\n"
+line_by_verdict (Some (slot, violation)) p =
+    ((((p.name ++ codes " ") ++ violation_name violation) ++ codes " slot ") ++ decimal slot) ++ codes "\n"
 
 -- a procedure's line: its length in slots, or what the verifier finds first
 abbrev pub procedure_line : Procedure → List ℕ
@@ -19,9 +21,6 @@ procedure_line p = line_by_verdict (verdict p.decl p.code) p
 
 abbrev pub is_refused : Procedure → Bool
 is_refused p = is_some (verdict p.decl p.code)
-
-abbrev pub script_refusal : Fault → List ℕ
-script_refusal f = codes "refused line " ++ (decimal f.line ++ (codes " " ++ (script_fault_name f.fault ++ codes "\n")))
 
 abbrev pub lines_by_fault : Option Fault → List Procedure → List ℕ
 lines_by_fault (Some fault) procedures = script_refusal fault

@@ -7,14 +7,14 @@ ghost use Rattle.text_commands.specs.Execution.{lines_of};
 ghost use Rattle.text_commands.specs.CodeReport.{IsAssembly, IsDisassembly, IsDisassemblyOf, asm_refusal};
 
 use crate::execute::Execution;
-use crate::fault_names::asm_fault_name;
-use crate::hex::{HexFault, bytes_of, hex_lines};
 use crate::lines::lines;
-use crate::report::Report;
 use bpf_asm::assemble::{AsmFault, assemble};
 use bpf_asm::disassemble::disassemble;
 use bpf_encoding::decode::{DecodeFault, decode};
 use bpf_encoding::encode::encode;
+use report_texts::fault_names::asm_fault_name;
+use report_texts::hex::{HexFault, bytes_of, hex_lines};
+use report_texts::report::Report;
 use std::alloc::{AllocError, Global};
 
 fn asm_refusal(alloc: Global, fault: AsmFault) -> Result<String, AllocError>

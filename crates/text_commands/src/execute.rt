@@ -9,7 +9,6 @@ ghost use Rattle.semantics.specs.Instruction.{program_of};
 ghost use Rattle.interpreter.specs.Runs.{setting_of};
 ghost use Rattle.text_commands.specs.Execution.{answered, without_slots, execution_of, text_execution};
 
-use crate::hex::{HexFault, bytes_of};
 use access_slots::decl::Decl;
 use bpf_encoding::code::Code;
 use bpf_encoding::decode::{DecodeFault, decode};
@@ -17,6 +16,7 @@ use interpreter::layout::Layout;
 use interpreter::machine::Machine;
 use interpreter::pause::Pause;
 use register_kinds::kind::Violation;
+use report_texts::hex::{HexFault, bytes_of};
 use std::alloc::{AllocError, Global};
 use verifier::verify::{Verified, VerifyFault, verify};
 
@@ -62,7 +62,8 @@ fn declared(args: &[u64]) -> Option<Decl>
 
 // Verifies the code, and runs it.
 fn run_code(alloc: Global, code: Code, args: &[u64]) -> Result<Execution, AllocError>
-    ensures { (bytes : List ℕ) → fault_in bytes ≡ None → code ≡ code_named bytes → Spells bytes code → IfOk result (λ e. execution_of bytes args.now ≡ Some e) }
+    ensures { (bytes : List ℕ) → fault_in bytes ≡ None → code ≡ code_named bytes → Spells bytes code
+        → IfOk result (λ e. execution_of bytes args.now ≡ Some e) }
 {
     let Some(decl) = declared(args) else {
         return Ok(Execution::TooManyArgs);

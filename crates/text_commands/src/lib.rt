@@ -2,17 +2,15 @@
 //! the text that was read the lines to print and the exit status.
 //!
 //! ```
-//! let report = assembly(alloc, "mov r0, 7\nexit\n")?;   // status 0, and eight bytes of hex a line
-//! let report = disassembly(alloc, false, b"b700000007000000 9500000000000000")?;
-//! let report = execution(alloc, false, text, &[5, 100])?; // `answer 12`, `executed 4`
-//! let report = verification(alloc, script)?;             // a line for each procedure
+//! let report = assembly(alloc, "mov r0, 7\nexit\n")?; // status 0, and eight bytes of hex a line
+//! let code = b"b700000007000000 9500000000000000";
+//! let report = disassembly(alloc, false, code)?; // `mov r0, 7` and `exit`
+//! let report = execution(alloc, false, code, &[])?; // `answer 7` and `executed 2`
+//! let report = verification(alloc, script)?; // a line for each procedure: `seven accepted 2`
 //! ```
 #![tactic(auto)]
 
 pub mod assembly;
 pub mod execute;
-pub mod fault_names;
-pub mod hex;
 pub mod lines;
-pub mod report;
 pub mod verification;

@@ -5,8 +5,8 @@ ghost use Rattle.text_commands.specs.CodeReport.{IsExecution};
 ghost use Rattle.text_commands.specs.Execution.{answer_lines, lines_of, status_of, text_execution};
 
 use crate::execute::{Execution, execute_text};
-use crate::fault_names::{fault_name, violation_name};
-use crate::report::Report;
+use report_texts::fault_names::{fault_name, violation_name};
+use report_texts::report::Report;
 use std::alloc::{AllocError, Global};
 
 fn answer_lines(alloc: Global, value: u64, executed: u32) -> Result<String, AllocError>

@@ -2,12 +2,13 @@
 
 ghost use Rattle.std.specs.Prelude.{◌≡◌, IfOk, if◌then◌else◌, string_bytes};
 ghost use Rattle.std.specs.List.{flat_map, list_any};
-ghost use Rattle.text_commands.specs.Verification.{procedure_line, is_refused, script_refusal, verification_lines, verification_status};
+ghost use Rattle.text_commands.specs.Verification.{procedure_line, is_refused, verification_lines, verification_status};
 
-use crate::fault_names::{script_fault_name, violation_name};
-use crate::report::Report;
+use report_texts::fault_names::violation_name;
+use report_texts::report::Report;
+use report_texts::script_refusal::refusal;
 use scripts::keyword::Command;
-use scripts::reading::{Fault, parse};
+use scripts::reading::parse;
 use scripts::script::Procedure;
 use std::alloc::{AllocError, Global};
 use verifier::verify::{VerifyFault, verify};
@@ -44,20 +45,6 @@ fn verified(alloc: Global, procedures: Vec<Procedure>) -> Result<Report, AllocEr
     Ok(Report {
         status: u8::from(has_refused),
         lines,
-        notes: None,
-    })
-}
-
-/// Why a script is refused, and at which line.
-pub fn refusal(alloc: Global, fault: Fault) -> Result<Report, AllocError>
-    ensures lines { IfOk result (λ r. string_bytes r.lines ≡ script_refusal fault) }
-    ensures status { IfOk result (λ r. r.status ≡ 1) }
-{
-    let line = fault.line;
-    let name = script_fault_name(alloc, fault.fault)?;
-    Ok(Report {
-        status: 1,
-        lines: format!(in alloc; "refused line {line} {name}\n")?,
         notes: None,
     })
 }

@@ -1,4 +1,2 @@
-pub mod RowLemmas
-pub mod LoadLemmas
 pub mod StepLemmas
 pub mod WorldLemmas

@@ -6,12 +6,12 @@ use Rattle.scripts.specs.Reading.{Contents}
 use Rattle.scripts.specs.declared.script.Step.{Step as ScriptStep}
 use Rattle.tc_core.specs.Core.{Core}
 use Rattle.tc_world.specs.Whole.{Whole}
-use Rattle.world_command.specs.Loading.{IsReady}
+use Rattle.script_loading.specs.Loading.{IsReady}
 use Rattle.world_command.specs.Stepping.{AreTaken}
 use Rattle.world_command.specs.WorldReport.{begun, IsLeft, IsStepped}
-use Rattle.world_command.specs.declared.loading.Loaded.{Loaded}
+use Rattle.script_loading.specs.declared.loading.Loaded.{Loaded}
 use Rattle.world_command.specs.declared.world.Behind.{Behind}
-use Rattle.text_commands.specs.declared.report.Report.{Report}
+use Rattle.report_texts.specs.declared.report.Report.{Report}
 
 abbrev unsent : Core → List Store → Whole
 unsent core dcs = record { core = core; dcs = dcs; copies = []; replies = []; news = [] }

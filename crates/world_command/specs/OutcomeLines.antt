@@ -1,37 +1,21 @@
--- Records, values, operations and answers as text; the lines of steps, of refusals and of rows.
-use Rattle.std.specs.Prelude.{◌≡◌, ℕ, ◌==◌, if◌then◌else◌, List, [], ◌∷◌, ◌++◌, take, drop, Some, None, Result, Ok, Err, codes, decimal}
-use Rattle.std.specs.Int.{w64, from_le_bytes}
-use Rattle.std.specs.List.{list_all, flat_map}
-use Rattle.access_slots.specs.declared.slot.Record.{Record}
+-- Operations and answers as text, and the lines of steps.
+use Rattle.std.specs.Prelude.{ℕ, List, ◌++◌, Some, None, Result, Ok, Err, codes, decimal}
 use Rattle.access_slots.specs.declared.op.Op.{Op}
 use Rattle.access_slots.specs.declared.op.Op.TheVariants.{Read, Insert, Update, Delete}
 use Rattle.access_slots.specs.declared.op.Said.{Said}
 use Rattle.access_slots.specs.declared.op.Said.TheVariants.{Value, Absent, Done, Duplicate, Missing, NoRoom, Old}
 use Rattle.access_slots.specs.declared.op.Wire.{Wire}
 use Rattle.access_slots.specs.declared.op.News.{News}
-use Rattle.data_component.specs.Store.{Store}
-use Rattle.data_component.specs.Sorted.{Rows}
-use Rattle.data_component.specs.Keeping.{AreRowsOf}
-use Rattle.lock_table.specs.declared.table.Busy.{Busy}
 use Rattle.tc_log.specs.declared.event.Outcome.{Outcome as Ending}
 use Rattle.tc_log.specs.declared.event.Outcome.TheVariants as ending
-use Rattle.tc_core.specs.declared.state.Refusal.{Refusal}
-use Rattle.tc_core.specs.declared.state.Refusal.TheVariants as refusal
 use Rattle.tc_world.specs.declared.step.Outcome.{Outcome}
 use Rattle.tc_world.specs.declared.step.Outcome.TheVariants as outcome
 use Rattle.tc_world.specs.declared.step.Illegal.{Illegal}
 use Rattle.tc_world.specs.declared.step.Illegal.TheVariants as illegal
-use Rattle.text_commands.specs.Hex.{hex_text}
+use Rattle.state_lines.specs.RecordTexts.{record_text, value_text}
+use Rattle.state_lines.specs.RefusalTexts.{refusal_text}
 
--- ---- records, values, operations and answers
-
--- DC/TABLE/KEY
-abbrev pub record_text : Record → List ℕ
-record_text r = decimal r.dc ++ (codes "/" ++ (decimal r.table ++ (codes "/" ++ decimal r.key)))
-
--- the number that the first eight bytes say, the lowest first, where the others are zero; else `x` and all bytes in hex
-abbrev pub value_text : List ℕ → List ℕ
-value_text v = if list_all (λ b. b == 0) (drop 8 v) then decimal (from_le_bytes w64 (take 8 v)) else codes "x" ++ hex_text v
+-- ---- operations and answers
 
 abbrev pub op_text : Op → List ℕ
 op_text (Read r) = codes "read " ++ record_text r
@@ -52,7 +36,9 @@ said_text Old = codes "old"
 -- ---- steps that were taken
 
 abbrev pub sent_line : ℕ → Wire → List ℕ
-sent_line place x = codes "sent " ++ (decimal place ++ (codes " number " ++ (decimal x.number ++ (codes " " ++ (op_text x.op ++ (codes " low " ++ (decimal x.low_water ++ codes "\n")))))))
+sent_line place x =
+    codes "sent " ++ (decimal place ++ (codes " number " ++ (decimal x.number ++ (codes " " ++ (op_text x.op
+    ++ (codes " low " ++ (decimal x.low_water ++ codes "\n")))))))
 
 -- a request whose data component is down isn't sent
 abbrev pub held_line : ℕ → Op → List ℕ
@@ -60,14 +46,17 @@ held_line number o = codes "held number " ++ (decimal number ++ (codes " " ++ (o
 
 abbrev pub told_line : ℕ → News → List ℕ
 told_line dc news =
-    codes "told " ++ (decimal dc ++ (codes " incarnation " ++ (decimal news.incarnation ++ (codes " mark " ++ (decimal news.mark ++ codes "\n")))))
+    codes "told " ++ (decimal dc ++ (codes " incarnation " ++ (decimal news.incarnation
+    ++ (codes " mark " ++ (decimal news.mark ++ codes "\n")))))
 
 abbrev pub redo_line : ℕ → Wire → List ℕ
-redo_line place x = codes "redo " ++ (decimal place ++ (codes " number " ++ (decimal x.number ++ (codes " " ++ (op_text x.op ++ codes "\n")))))
+redo_line place x =
+    codes "redo " ++ (decimal place ++ (codes " number " ++ (decimal x.number ++ (codes " " ++ (op_text x.op ++ codes "\n")))))
 
 abbrev pub ended_line : ℕ → ℕ → Ending → List ℕ
 ended_line place txn ending.Committed = codes "ended " ++ (decimal txn ++ (codes " committed at " ++ (decimal place ++ codes "\n")))
-ended_line place txn (ending.Aborted v) = codes "ended " ++ (decimal txn ++ (codes " aborted " ++ (decimal v ++ (codes " at " ++ (decimal place ++ codes "\n")))))
+ended_line place txn (ending.Aborted v) =
+    codes "ended " ++ (decimal txn ++ (codes " aborted " ++ (decimal v ++ (codes " at " ++ (decimal place ++ codes "\n")))))
 ended_line place txn ending.NoRoom = codes "ended " ++ (decimal txn ++ (codes " noroom at " ++ (decimal place ++ codes "\n")))
 
 abbrev pub outcome_line : Outcome → List ℕ
@@ -77,7 +66,8 @@ outcome_line (outcome.Held n o) = held_line n o
 outcome_line (outcome.Undoing t) = codes "undoing " ++ (decimal t ++ codes "\n")
 outcome_line (outcome.Over t) = codes "over " ++ (decimal t ++ codes "\n")
 outcome_line (outcome.Stuck t n) = codes "stuck " ++ (decimal t ++ (codes " number " ++ (decimal n ++ codes "\n")))
-outcome_line (outcome.Replied place x) = codes "reply " ++ (decimal place ++ (codes " number " ++ (decimal x.number ++ (codes " " ++ (said_text x.said ++ codes "\n")))))
+outcome_line (outcome.Replied place x) =
+    codes "reply " ++ (decimal place ++ (codes " number " ++ (decimal x.number ++ (codes " " ++ (said_text x.said ++ codes "\n")))))
 outcome_line outcome.Silent = codes "silent\n"
 outcome_line (outcome.Took n) = codes "took number " ++ (decimal n ++ codes "\n")
 outcome_line (outcome.Ended r) = ended_line r.place r.txn r.outcome
@@ -90,17 +80,6 @@ outcome_line (outcome.Redone n) = codes "redone number " ++ (decimal n ++ codes 
 outcome_line (outcome.Up d) = codes "up " ++ (decimal d ++ codes "\n")
 
 -- ---- steps that weren't possible
-
-abbrev pub busy_text : Busy → List ℕ
-busy_text b = codes "B1 Busy " ++ (record_text b.name ++ (codes " holder " ++ decimal b.holder))
-
--- code, name and detail
-abbrev pub refusal_text : Refusal → List ℕ
-refusal_text refusal.NoProcedure = codes "B4 NoProcedure"
-refusal_text refusal.ArgumentCount = codes "B5 ArgumentCount"
-refusal_text (refusal.Busy b) = busy_text b
-refusal_text refusal.NumbersSpent = codes "B2 NumbersSpent"
-refusal_text refusal.Memory = codes "B3 Memory"
 
 abbrev pub illegal_line : Illegal → List ℕ
 illegal_line (illegal.Refused r) = codes "illegal I1 Refused " ++ (refusal_text r ++ codes "\n")
@@ -123,21 +102,3 @@ illegal_line illegal.NotDown = codes "illegal I16 NotDown\n"
 abbrev pub step_line : Result Outcome Illegal → List ℕ
 step_line (Ok o) = outcome_line o
 step_line (Err why) = illegal_line why
-
--- ---- what is kept
-
-abbrev pub row_line : Record × List ℕ → List ℕ
-row_line row = codes "row " ++ (record_text row.0 ++ (codes " " ++ (value_text row.1 ++ codes "\n")))
-
-abbrev pub row_lines : Rows → List ℕ
-row_lines rows = flat_map row_line rows
-
--- the rows of one data component after another
-abbrev pub AreRowLines : List Store → List ℕ → Type 0
-AreRowLines [] lines = lines ≡ []
-AreRowLines (d ∷ ds) lines = (rows : Rows) × (rest : List ℕ) × AreRowsOf rows d.list × (lines ≡ row_lines rows ++ rest) × AreRowLines ds rest
-
-pub record AddsRowLines (ds : List Store) (old new : List ℕ) : Type 0 where
-  pub lines : List ℕ
-  pub rows : AreRowLines ds lines
-  pub added : new ≡ old ++ lines

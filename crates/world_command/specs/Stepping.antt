@@ -12,7 +12,7 @@ use Rattle.tc_world.specs.declared.step.Step.TheVariants as step
 use Rattle.tc_world.specs.declared.step.Outcome.{Outcome}
 use Rattle.tc_world.specs.declared.step.Illegal.{Illegal}
 use Rattle.tc_world.specs.declared.step.Illegal.TheVariants as illegal
-use Rattle.text_commands.specs.Hex.{pair_text}
+use Rattle.report_texts.specs.Hex.{pair_text}
 use Rattle.world_command.specs.OutcomeLines.{step_line}
 
 -- ---- steps

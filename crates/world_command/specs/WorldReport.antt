@@ -7,15 +7,21 @@ use Rattle.scripts.specs.Reading.{Contents, Reading}
 use Rattle.data_component.specs.Store.{Store}
 use Rattle.tc_core.specs.Core.{Core}
 use Rattle.tc_world.specs.Whole.{Whole}
-use Rattle.world_command.specs.AuditLines.{AddsIf, AddsStateAudit}
-use Rattle.world_command.specs.Loading.{refusal_of, with_procedures, empty_core, empty_store}
-use Rattle.world_command.specs.OutcomeLines.{AddsRowLines}
+use Rattle.state_lines.specs.AuditLines.{AddsIf, AddsStateAudit}
+use Rattle.script_loading.specs.Loading.{refusal_of, with_procedures, empty_core, empty_store}
+use Rattle.state_lines.specs.RowLines.{AddsRowLines}
 use Rattle.world_command.specs.Stepping.{AreTaken, log_lines}
 use Rattle.world_command.specs.declared.world.Behind.{Behind}
 
 -- its procedures are loaded, its data components are empty, and nothing was sent
 abbrev pub begun : Contents → Whole
-begun c = record { core = with_procedures (empty_core (length c.dcs)) c.procedures; dcs = map empty_store c.dcs; copies = []; replies = []; news = [] }
+begun c = record {
+  core = with_procedures (empty_core (length c.dcs)) c.procedures;
+  dcs = map empty_store c.dcs;
+  copies = [];
+  replies = [];
+  news = [];
+}
 
 abbrev pub status_of_steps : Bool → ℕ
 status_of_steps true = 0
@@ -28,7 +34,8 @@ logged false events = []
 
 -- behind the lines of steps, which were all possible or not, stand those of the rows that are left, of an audit and of the log; the
 -- status says whether all steps were possible and the audit finds nothing wrong
-pub record IsLeft (core : Core) (dcs : List Store) (behind : Behind) (all : Bool) (stepped : List ℕ) (status : ℕ) (lines : List ℕ) : Type 0 where
+pub record IsLeft (core : Core) (dcs : List Store) (behind : Behind) (all : Bool) (stepped : List ℕ) (status : ℕ) (lines : List ℕ)
+    : Type 0 where
   pub kept : List ℕ
   pub rows : AddsRowLines dcs stepped kept
   pub found : List ℕ

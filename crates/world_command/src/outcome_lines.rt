@@ -1,59 +1,16 @@
-//! The texts of records, values, operations and answers, and the lines of steps, refusals and rows.
+//! The texts of operations and answers, and the lines of steps.
 
-ghost use Rattle.std.specs.Prelude.{◌≡◌, ◌==◌, ◌++◌, length, IfOk, OnOk, string_bytes};
-ghost use Rattle.std.specs.List.{list_all};
-ghost use Rattle.std.specs.Int.{w64, from_le_bytes};
-ghost use Rattle.world_command.specs.OutcomeLines.{record_text, value_text, op_text, said_text};
-ghost use Rattle.world_command.specs.OutcomeLines.{sent_line, held_line, told_line, redo_line, ended_line, outcome_line, busy_text, refusal_text, illegal_line, step_line, row_line, row_lines, AddsRowLines};
+ghost use Rattle.std.specs.Prelude.{◌≡◌, IfOk, string_bytes};
+ghost use Rattle.world_command.specs.OutcomeLines.{op_text, said_text, sent_line, held_line, told_line, redo_line};
+ghost use Rattle.world_command.specs.OutcomeLines.{ended_line, outcome_line, illegal_line, step_line};
 
 use access_slots::op::{News, Op, Said, Wire};
-use access_slots::slot::{Record, Value};
-use data_component::dc::Dc;
-use lock_table::table::Busy;
+use state_lines::record_texts::{record_text, value_text};
+use state_lines::refusal_texts::refusal_text;
 use std::alloc::{AllocError, Global};
-use tc_core::state::{Receipt, Refusal};
+use tc_core::state::Receipt;
 use tc_log::event::Outcome as Ending;
 use tc_world::step::{Illegal, Outcome};
-use text_commands::hex::hex_text;
-
-/// A record: data component, table and key.
-pub fn record_text(alloc: Global, record: &Record) -> Result<String, AllocError>
-    ensures { IfOk result (λ s. string_bytes s ≡ record_text «record».now) }
-{
-    let dc = record.dc;
-    let table = record.table;
-    let key = record.key;
-    format!(in alloc; "{dc}/{table}/{key}")
-}
-
-// The number that eight bytes say, the lowest first.
-fn number_of(bytes: &[u8]) -> u64
-    requires { length bytes.now ≡ 8 }
-    ensures { result ≡ from_le_bytes w64 bytes.now }
-{
-    u64::from_le_bytes([
-        bytes[0], bytes[1], bytes[2], bytes[3], bytes[4], bytes[5], bytes[6], bytes[7],
-    ])
-}
-
-fn are_zeros(bytes: &[u8]) -> bool
-    ensures { result ≡ list_all (λ b. b == 0) bytes.now }
-{
-    bytes.iter().all(|&b| b == 0)
-}
-
-/// The number that a value says, in decimal, or `x` and all of its bytes in hex.
-pub fn value_text(alloc: Global, value: &Value) -> Result<String, AllocError>
-    ensures { IfOk result (λ s. string_bytes s ≡ value_text value.now) }
-{
-    let bytes = &value[..];
-    if are_zeros(&bytes[8..]) {
-        let number = number_of(&bytes[..8]);
-        return format!(in alloc; "{number}");
-    }
-    let digits = hex_text(alloc, bytes)?;
-    format!(in alloc; "x{digits}")
-}
 
 fn op_text(alloc: Global, op: &Op) -> Result<String, AllocError>
     ensures { IfOk result (λ s. string_bytes s ≡ op_text op.now) }
@@ -174,28 +131,6 @@ fn outcome_line(alloc: Global, outcome: &Outcome) -> Result<String, AllocError>
     }
 }
 
-/// The record whose lock is in the way, and who holds it.
-pub fn busy_text(alloc: Global, busy: &Busy) -> Result<String, AllocError>
-    ensures { IfOk result (λ s. string_bytes s ≡ busy_text busy.now) }
-{
-    let name = record_text(alloc, &busy.name)?;
-    let holder = busy.holder;
-    format!(in alloc; "B1 Busy {name} holder {holder}")
-}
-
-/// Why a call isn't admitted: code, name and detail.
-pub fn refusal_text(alloc: Global, refusal: &Refusal) -> Result<String, AllocError>
-    ensures { IfOk result (λ s. string_bytes s ≡ refusal_text refusal.now) }
-{
-    match refusal {
-        Refusal::NoProcedure => String::from_str(alloc, "B4 NoProcedure"),
-        Refusal::ArgumentCount => String::from_str(alloc, "B5 ArgumentCount"),
-        Refusal::Busy(busy) => busy_text(alloc, busy),
-        Refusal::NumbersSpent => String::from_str(alloc, "B2 NumbersSpent"),
-        Refusal::Memory => String::from_str(alloc, "B3 Memory"),
-    }
-}
-
 // Why a step isn't possible.
 fn illegal_line(alloc: Global, why: &Illegal) -> Result<String, AllocError>
     ensures { IfOk result (λ s. string_bytes s ≡ illegal_line why.now) }
@@ -231,34 +166,4 @@ pub fn step_line(alloc: Global, step: &Result<Outcome, Illegal>) -> Result<Strin
         Ok(outcome) => outcome_line(alloc, outcome),
         Err(why) => illegal_line(alloc, why),
     }
-}
-
-// The line of a record and its value.
-fn row_line(alloc: Global, row: &(Record, Value)) -> Result<String, AllocError>
-    ensures { IfOk result (λ s. string_bytes s ≡ row_line row.now) }
-{
-    let name = record_text(alloc, &row.0)?;
-    let value = value_text(alloc, &row.1)?;
-    format!(in alloc; "row {name} {value}\n")
-}
-
-// A line for each of one data component's rows.
-fn write_rows(alloc: Global, rows: &[(Record, Value)], lines: &mut String) -> Result<(), AllocError>
-    ensures { OnOk result (string_bytes lines.new ≡ string_bytes lines.old ++ row_lines rows.now) }
-{
-    for row in rows {
-        let line = row_line(alloc, row)?;
-        lines.push_str(line.as_str())?;
-    }
-    Ok(())
-}
-
-/// Adds a line for each record that the data components keep, in their order and rising.
-pub fn write_all_rows(alloc: Global, dcs: &[Dc], lines: &mut String) -> Result<(), AllocError>
-    ensures { OnOk result (AddsRowLines dcs.now (string_bytes lines.old) (string_bytes lines.new)) }
-{
-    for dc in dcs {
-        write_rows(alloc, dc.rows(), lines)?;
-    }
-    Ok(())
 }

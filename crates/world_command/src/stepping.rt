@@ -4,12 +4,12 @@ ghost use Rattle.std.specs.Prelude.{◌≡◌, ◌++◌, IfOk, OnOk, string_byte
 ghost use Rattle.world_command.specs.Stepping.{IsStepOf, is_want_of_memory, AreTaken, log_lines};
 
 use crate::outcome_lines::step_line;
+use report_texts::hex::write_pair;
 use scripts::script;
 use std::alloc::{AllocError, Global};
 use tc_core::state::{Call, Refusal};
 use tc_world::step::{Illegal, Outcome, Step};
 use tc_world::world::World;
-use text_commands::hex::write_pair;
 
 // The world's step that a line of the script says.
 fn step_of(alloc: Global, line: &script::Step) -> Result<Step, AllocError>

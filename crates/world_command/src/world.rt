@@ -3,21 +3,21 @@
 ghost use Rattle.std.specs.Prelude.{◌≡◌, ◌++◌, [], IfOk, OnOk, string_bytes};
 ghost use Rattle.scripts.specs.Reading.{Contents, script_said};
 ghost use Rattle.scripts.specs.declared.keyword.Command.TheVariants as command;
-ghost use Rattle.world_command.specs.Loading.{IsReady};
-ghost use Rattle.world_command.specs.AuditLines.{AddsIf, AddsStateAudit};
+ghost use Rattle.script_loading.specs.Loading.{IsReady};
+ghost use Rattle.state_lines.specs.AuditLines.{AddsIf, AddsStateAudit};
 ghost use Rattle.world_command.specs.WorldReport.{logged, IsLeft, IsStepped, IsWorld};
 
-use crate::audit_lines::write_state_audit;
-use crate::loading::{Loaded, Loading, load};
-use crate::outcome_lines::write_all_rows;
 use crate::stepping::{take_steps, write_log};
 use data_component::dc::Dc;
+use report_texts::report::Report;
+use script_loading::loading::{Loaded, Loading, load};
 use scripts::keyword::Command;
+use state_lines::audit_lines::write_state_audit;
+use state_lines::row_lines::write_all_rows;
 use std::alloc::{AllocError, Global};
 use tc_core::state::TcState;
 use tc_log::log::Log;
 use tc_world::world::World;
-use text_commands::report::Report;
 
 /// What is printed behind the rows: the line of an audit, and each event of the log.
 #[derive(Clone, Copy, Debug)]
@@ -83,7 +83,8 @@ fn report_of(
 // Takes the steps, and says what they did and what is left.
 fn stepped(alloc: Global, behind: Behind, loaded: Loaded) -> Result<Report, AllocError>
     requires { loaded.state.events ≡ [] }
-    ensures { IfOk result (λ r. (contents : Contents) → IsReady contents loaded → IsStepped contents behind r.status (string_bytes r.lines)) }
+    ensures { IfOk result (λ r. (contents : Contents) → IsReady contents loaded
+        → IsStepped contents behind r.status (string_bytes r.lines)) }
 {
     let Loaded {
         state,

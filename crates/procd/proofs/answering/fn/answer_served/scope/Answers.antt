@@ -1,4 +1,0 @@
-use Rattle.procd.proofs.answering.fn.answer_served.scope.Goals as goal
-
-pub returns-else-len-count : goal.returns-else-len-count
-returns-else-len-count g c = record { answered = tt; range = tt; fault = c.unserved.ensures c.captures.workers; dcs = tt }

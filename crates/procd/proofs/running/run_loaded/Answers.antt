@@ -1,9 +1,0 @@
-use Rattle.std.proofs.Common.{rules}
-use Rattle.procd.specs.Running.{AreCallsOf}
-use Rattle.procd.proofs.running.run_loaded.Goals as goal
-
-pub returns-in-Ok : goal.returns-in-Ok
-returns-in-Ok g c =
-    let first_are : AreCallsOf c.args.loaded.first.items c.in-Ok.ready.first.items = search rules in
-    let others_are : AreCallsOf c.args.loaded.calls.items c.in-Ok.ready.calls.items = search rules in
-    c.run_calls.ensures c.args.loaded.first.items c.args.loaded.calls.items first_are others_are

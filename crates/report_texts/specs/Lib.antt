@@ -1,0 +1,3 @@
+pub mod Hex
+pub mod FaultNames
+pub mod ScriptRefusal

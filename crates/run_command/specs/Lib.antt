@@ -1,0 +1,3 @@
+pub mod AnswerLines
+pub mod Figures
+pub mod Running

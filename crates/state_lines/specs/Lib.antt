@@ -1,0 +1,4 @@
+pub mod RecordTexts
+pub mod RefusalTexts
+pub mod RowLines
+pub mod AuditLines

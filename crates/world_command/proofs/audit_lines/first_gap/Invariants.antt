@@ -1,6 +1,0 @@
-use Rattle.std.proofs.Common.{◌≡◌, drop}
-use Rattle.world_command.specs.AuditLines.{first_gap}
-use Rattle.world_command.proofs.audit_lines.first_gap.Given as goal
-
-abbrev pub invariant-loop-place : goal.invariant-loop-place
-invariant-loop-place l = first_gap l.place l.state.sites (drop l.place l.dcs) ≡ first_gap 0 l.state.sites l.dcs

@@ -1,6 +1,0 @@
-use Rattle.std.proofs.Common.{◌≡◌, map, take}
-use Rattle.world_command.specs.Loading.{empty_store}
-use Rattle.world_command.proofs.loading.empty_dcs.Given as goal
-
-abbrev pub invariant-loop-dc : goal.invariant-loop-dc
-invariant-loop-dc l = l.made.items ≡ map empty_store (take l.dc-index l.dcs)

@@ -1,7 +1,0 @@
-use Rattle.std.proofs.Common.{take}
-use Rattle.std.specs.Prelude.{string_bytes}
-use Rattle.world_command.specs.OutcomeLines.{AddsRowLines}
-use Rattle.world_command.proofs.outcome_lines.write_all_rows.Given as goal
-
-abbrev pub invariant-loop-dc : goal.invariant-loop-dc
-invariant-loop-dc l = AddsRowLines (take l.dc-index l.dcs) (string_bytes l.fn.lines) (string_bytes l.lines)

@@ -1,7 +1,0 @@
-use Rattle.std.proofs.Common.{◌≡◌, ◌++◌, take}
-use Rattle.std.specs.Prelude.{string_bytes}
-use Rattle.world_command.specs.OutcomeLines.{row_lines}
-use Rattle.world_command.proofs.outcome_lines.write_rows.Given as goal
-
-abbrev pub invariant-loop-row : goal.invariant-loop-row
-invariant-loop-row l = string_bytes l.lines ≡ string_bytes l.fn.lines ++ row_lines (take l.row-index l.rows)
