@@ -40,8 +40,6 @@ fn main(rt: HostRuntime) -> ExitCode {
 #[cfg(test)]
 mod restart_tests;
 #[cfg(test)]
-mod root_page_tests;
-#[cfg(test)]
 mod run_tests;
 #[cfg(test)]
 mod script_tests;
