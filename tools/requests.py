@@ -3,7 +3,7 @@
 
 usage: tools/requests.py [--tests PATH] [--procd PATH] [--scripts N] [--steps N] [--seed N] [SECTION..]
 
-`pairs`: the worked runs are tests of `tc_world`, in pairs: one stops at the admission, the other goes on to the end.
+`pairs`: the worked runs are tests of `component_tests`, in pairs: one stops at the admission, the other goes on to the end.
 Both are run, their requests counted, and the second is to make no more than the first. `worlds`: random scripts
 (those of explore.py) go through `world`; of the requests of each it is counted which were made within each call of
 the transaction component. `refused`: of each test of calls that ask for memory the first request is refused, then
@@ -156,8 +156,8 @@ SECTIONS = {"pairs": pairs_agree, "worlds": worlds_agree, "refused": refusals_pa
 
 def main():
     parser = argparse.ArgumentParser(description=__doc__, formatter_class=argparse.RawDescriptionHelpFormatter)
-    tests, procd = [TOP / "crates" / name for name in ("tc_world/out/tc_world_tests", "procd/out/procd")]
-    parser.add_argument("--tests", default=tests, help="the built tests (those of crates/tc_world/out)")
+    tests, procd = [TOP / "crates" / name for name in ("component_tests/out/component_tests_tests", "procd/out/procd")]
+    parser.add_argument("--tests", default=tests, help="the built tests (those of crates/component_tests/out)")
     parser.add_argument("--procd", default=procd, help="the program (that of crates/procd/out)")
     parser.add_argument("--scripts", type=int, default=10000, help="how many scripts (10000)")
     parser.add_argument("--steps", type=int, default=40, help="steps a script (40)")
@@ -168,7 +168,7 @@ def main():
         parser.error(f"the sections are {', '.join(SECTIONS)}")
     sections = options.sections or ["pairs", "worlds"]
     for section in sections:
-        path, builds = options.tests, "rt test in crates/tc_world"
+        path, builds = options.tests, "rt test in the crate of that name"
         if section == "worlds":
             path, builds = options.procd, "./procd"
         if not pathlib.Path(path).exists():

@@ -1,4 +1,4 @@
-//! What tests of several crates and benchmarks can load, call and print: five procedures with a
+//! What the tests of several crates and the benchmarks load, call and print: five procedures with a
 //! state that has them, their calls, and the bytes of short logs.
 //!
 //! ```
@@ -6,7 +6,7 @@
 //! tc.admit(&call(alloc, MOVE, &[5, 6, 10])?)?;     // moves 10 from the number under 5 to the one under 6
 //! ```
 //!
-//! A procedure and a state are none where memory ran out. Nothing of this is part of a program, unless of
+//! A procedure and a state are none where memory ran out. Nothing of this is part of a program but of
 //! `bench`.
 #![tactic(auto)]
 

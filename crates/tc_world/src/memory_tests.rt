@@ -1,274 +1,144 @@
-// Calls that ask for memory. Each is made again where it is refused for want of it: so each test
-// passes wherever one request of its run is refused, and tools/requests.py refuses each in turn.
+// Steps of a world that are refused memory once, and are then taken again: what they were refused on is
+// as before. tools/requests.py refuses each request in turn.
 
-ghost use Rattle.std.specs.Prelude.{◌≤◌, OnOk};
-
-use crate::log_tests::{PUT_AND_ABORT, printed};
-use crate::test_procedures::{PUT_CODE, bytes_of, put_decl};
-use access_slots::decl::Decl;
-use access_slots::lock::LockSet;
-use bpf_encoding::code::Code;
-use bpf_encoding::decode::{DecodeFault, decode};
-use bpf_encoding::encode::encode;
-use bpf_encoding::insn::Insn;
+use crate::step::{Illegal, Outcome, Step};
+use crate::step_tests::closed;
+use crate::world::World;
+use access_slots::op::{Reply, Said};
 use data_component::dc::Dc;
-use lock_table::table::LockTable;
-use request_numbers::numbers::Numbers;
+use samples::{PUT, call, loaded, record, value};
 use std::alloc::{AllocError, Global};
 use std::process::Abort;
 use std::test::Fail;
-use tc_log::event::{Event, Outcome};
-use tc_log::log::Log;
-use tc_log::read::LogFault;
-use verifier::verify::{Verified, VerifyFault, verify};
+use tc_core::state::{Call, Receipt, Refusal, TcState};
+use tc_log::event::Outcome as Ending;
 
-fn made(alloc: Global, insns: &[Insn]) -> Result<Code, DecodeFault> {
-    match Code::from_insns(alloc, insns) {
-        Err(DecodeFault::Memory) => Code::from_insns(alloc, insns),
-        made => made,
+// A call of `put`.
+fn put_call(alloc: Global) -> Result<Call, AllocError> {
+    match call(alloc, PUT, &[5, 100]) {
+        Ok(put) => Ok(put),
+        Err(_) => call(alloc, PUT, &[5, 100]),
     }
 }
 
-fn decoded(alloc: Global, bytes: &[u8]) -> Result<Code, DecodeFault> {
-    match decode(alloc, bytes) {
-        Err(DecodeFault::Memory) => decode(alloc, bytes),
-        decoded => decoded,
+// A state in which `put` is loaded.
+fn state(alloc: Global) -> Option<TcState> {
+    match loaded(alloc, 1) {
+        Some(tc) => Some(tc),
+        None => loaded(alloc, 1),
     }
 }
 
-fn encoded(alloc: Global, code: &Code) -> Result<Vec<u8>, AllocError> {
-    match encode(alloc, code) {
-        Ok(bytes) => Ok(bytes),
-        Err(_) => encode(alloc, code),
-    }
-}
-
-// The bytes of `put`.
-fn put_bytes(alloc: Global) -> Result<Vec<u8>, AllocError> {
-    match bytes_of(alloc, &PUT_CODE) {
-        Ok(bytes) => Ok(bytes),
-        Err(_) => bytes_of(alloc, &PUT_CODE),
-    }
-}
-
-// The code has these bytes.
-fn encodes_to(rt: &impl Abort, alloc: Global, code: &Code, bytes: &[u8]) -> Result<(), AllocError> {
-    let encoded = encoded(alloc, code)?;
-    assert_eq!(rt; encoded.as_slice(), bytes);
-    Ok(())
-}
-
-// The code of `put` has the bytes that it was decoded from.
-fn put_and_its_bytes(rt: &impl Abort, alloc: Global) -> Result<(), Fail> {
-    let bytes = put_bytes(alloc)?;
-    let code = decoded(alloc, bytes.as_slice())?;
-    let passed = encodes_to(rt, alloc, &code, bytes.as_slice());
-    drop(code);
-    Ok(passed?)
-}
-
-// The bytes of code that was made from an instruction.
-fn exit_and_its_bytes(rt: &impl Abort, alloc: Global) -> Result<(), Fail> {
-    let code = made(alloc, &[Insn::Exit])?;
-    let passed = encodes_to(rt, alloc, &code, &[0x95, 0, 0, 0, 0, 0, 0, 0]);
-    drop(code);
-    Ok(passed?)
-}
-
-#[test]
-fn code_and_its_bytes(rt: HostRuntime) -> Result<(), Fail> {
-    put_and_its_bytes(&rt, rt.alloc())?;
-    exit_and_its_bytes(&rt, rt.alloc())
-}
-
-fn put_code(alloc: Global) -> Result<Code, Fail> {
-    let bytes = put_bytes(alloc)?;
-    Ok(decoded(alloc, bytes.as_slice())?)
-}
-
-fn verified_once(alloc: Global) -> Result<Result<Verified, VerifyFault>, Fail> {
-    let decl = put_decl(0)?;
-    let code = put_code(alloc)?;
-    Ok(verify(alloc, code, decl))
-}
-
-/// `put`. A verdict that isn't reached leaves neither code nor declaration.
-pub(crate) fn verified(alloc: Global) -> Result<Verified, Fail> {
-    match verified_once(alloc)? {
-        Err(VerifyFault::Memory) => Ok(verified_once(alloc)??),
-        verified => Ok(verified?),
-    }
-}
-
-#[test]
-fn code_that_is_verified(rt: HostRuntime) -> Result<(), Fail> {
-    let put = verified(rt.alloc())?;
-    let size = (put.code().len(), put.calls());
-    drop(put);
-    assert_eq!(rt; size, (7, 2));
-    Ok(())
-}
-
-fn read(alloc: Global, bytes: &[u8]) -> Result<Log, LogFault> {
-    match Log::read(alloc, bytes) {
-        Err(LogFault::Memory) => Log::read(alloc, bytes),
-        read => read,
-    }
-}
-
-fn printed_again(alloc: Global, log: &Log) -> Result<Vec<u8>, AllocError> {
-    match log.print(alloc) {
-        Ok(bytes) => Ok(bytes),
-        Err(_) => log.print(alloc),
-    }
-}
-
-// The bytes of the log of a put and an abort.
-fn log_bytes(alloc: Global) -> Result<Vec<u8>, AllocError> {
-    match printed(alloc, &PUT_AND_ABORT) {
-        Ok(bytes) => Ok(bytes),
-        Err(_) => printed(alloc, &PUT_AND_ABORT),
-    }
-}
-
-fn prints_to(rt: &impl Abort, alloc: Global, log: &Log, bytes: &[u8]) -> Result<(), AllocError> {
-    let again = printed_again(alloc, log)?;
-    assert_eq!(rt; again.as_slice(), bytes);
-    Ok(())
-}
-
-#[test]
-fn a_log_and_its_bytes(rt: HostRuntime) -> Result<(), Fail> {
-    let bytes = log_bytes(rt.alloc())?;
-    let log = read(rt.alloc(), bytes.as_slice())?;
-    let passed = prints_to(&rt, rt.alloc(), &log, bytes.as_slice());
-    drop(log);
-    Ok(passed?)
-}
-
-// The log has as many events as before, whose places stay.
-fn reserved_in_log(rt: &impl Abort, log: &mut Log) -> Result<(), AllocError>
-    ensures { OnOk result (1 ≤ log.new.room) }
-{
-    let before = log.len();
-    match log.reserve(1) {
-        Ok(()) => Ok(()),
-        Err(_) => {
-            assert_eq!(rt; log.len(), before);
-            log.reserve(1)
-        }
-    }
-}
-
-// Twenty events are logged.
-fn twenty_are_logged(rt: &impl Abort, log: &mut Log) -> Result<(), AllocError> {
-    for txn in 0..20u64 {
-        reserved_in_log(rt, log)?;
-        log.push(Event::End {
-            txn,
-            outcome: Outcome::Committed,
-        });
-    }
-    assert_eq!(rt; log.len(), 20);
-    assert!(rt; matches!(log.at(7), Some(Event::End { txn: 7, .. })));
-    Ok(())
-}
-
-#[test]
-fn events_of_a_log(rt: HostRuntime) -> Result<(), Fail> {
-    let mut log = Log::new(rt.alloc());
-    let passed = twenty_are_logged(&rt, &mut log);
-    drop(log);
-    Ok(passed?)
-}
-
-// The last number and those that are open stay.
-fn reserved_in_numbers(rt: &impl Abort, numbers: &mut Numbers) -> Result<(), AllocError>
-    ensures { OnOk result (1 ≤ numbers.new.room) }
-{
-    let last = numbers.last();
-    match numbers.reserve(1) {
-        Ok(()) => Ok(()),
-        Err(_) => {
-            assert_eq!(rt; (numbers.last(), numbers.low_water()), (last, 0));
-            numbers.reserve(1)
-        }
-    }
-}
-
-// The numbers up to 19 are given out.
-fn are_given_out(rt: &impl Abort, numbers: &mut Numbers) -> Result<(), AllocError> {
-    for number in 1..20u64 {
-        reserved_in_numbers(rt, numbers)?;
-        assert_eq!(rt; numbers.next().ok(), Some(number));
-    }
-    Ok(())
-}
-
-#[test]
-fn numbers_that_are_given_out(rt: HostRuntime) -> Result<(), Fail> {
-    let mut numbers = Numbers::new(rt.alloc());
-    let passed = are_given_out(&rt, &mut numbers);
-    drop(numbers);
-    Ok(passed?)
-}
-
-// What is held stays, here nothing.
-fn reserved_in_table(
-    rt: &impl Abort,
-    table: &mut LockTable,
-    set: &LockSet,
-) -> Result<(), AllocError> {
-    match table.reserve(set) {
-        Ok(()) => Ok(()),
-        Err(_) => {
-            assert!(rt; !table.ready(set));
-            assert_eq!(rt; table.busy(set), None);
-            table.reserve(set)
-        }
-    }
-}
-
-// The locks are ready, and nothing stands in their way.
-fn are_ready(rt: &impl Abort, table: &LockTable, set: &LockSet) {
-    assert!(rt; table.ready(set));
-    assert_eq!(rt; table.busy(set), None);
-}
-
-// The locks that a declaration of two arguments asks for under five keys.
-fn five_are_ready(rt: &impl Abort, table: &mut LockTable, decl: &Decl) -> Result<(), AllocError> {
-    assert_eq!(rt; decl.args(), 2);
-    for key in 0..5u64 {
-        let set = decl.resolve(&[key, 0]);
-        reserved_in_table(rt, table, &set)?;
-        are_ready(rt, table, &set);
-    }
-    Ok(())
-}
-
-#[test]
-fn locks_that_are_ready(rt: HostRuntime) -> Result<(), Fail> {
-    let decl = put_decl(0)?;
-    let mut table = LockTable::new(rt.alloc());
-    let passed = five_are_ready(&rt, &mut table, &decl);
-    drop(table);
-    Ok(passed?)
-}
-
-/// A data component of room for four records.
-pub(crate) fn dc(alloc: Global) -> Result<Dc, AllocError> {
+// A data component of room for four records.
+fn dc(alloc: Global) -> Result<Dc, AllocError> {
     match Dc::new(alloc, 4, 100) {
         Ok(dc) => Ok(dc),
         Err(_) => Dc::new(alloc, 4, 100),
     }
 }
 
-// A data component that isn't made takes nothing.
-#[test]
-fn a_data_component(rt: HostRuntime) -> Result<(), Fail> {
-    let dc = dc(rt.alloc())?;
-    let size = (dc.rows().len(), dc.mark());
-    drop(dc);
-    assert_eq!(rt; size, (0, 0));
+// One data component.
+fn dcs(alloc: Global) -> Result<Vec<Dc>, AllocError> {
+    let dc = dc(alloc)?;
+    let mut dcs = match Vec::with_capacity(alloc, 1) {
+        Ok(dcs) => dcs,
+        Err(_) => Vec::with_capacity(alloc, 1)?,
+    };
+    dcs.push(dc)?;
+    Ok(dcs)
+}
+
+fn world(rt: &impl Abort, alloc: Global) -> Result<World, Fail> {
+    let state = state(alloc).ok_or("not loaded")?;
+    assert_eq!(rt; state.open_count(), 0);
+    match dcs(alloc) {
+        Ok(dcs) => Ok(World::new(alloc, state, dcs)),
+        Err(fault) => {
+            drop(state);
+            Err(Fail::from(fault))
+        }
+    }
+}
+
+// No event of a step that is refused memory is logged.
+fn stepped(rt: &impl Abort, world: &mut World, step: &Step) -> Result<Outcome, Illegal> {
+    let events = world.state().log().len();
+    match world.step(step) {
+        Err(Illegal::Memory) | Err(Illegal::Refused(Refusal::Memory)) => {
+            assert_eq!(rt; world.state().log().len(), events);
+            world.step(step)
+        }
+        stepped => stepped,
+    }
+}
+
+// What a step did, as a word.
+fn word(stepped: Result<Outcome, Illegal>) -> &'static str {
+    match stepped {
+        Ok(Outcome::Admitted(1)) => "admitted",
+        Ok(Outcome::Sent(0, _)) => "sent",
+        Ok(Outcome::Sent(1, _)) => "sent again",
+        Ok(Outcome::Replied(0, _)) => "reply",
+        Ok(Outcome::Replied(1, _)) => "reply again",
+        Ok(Outcome::Forged(2)) => "forged",
+        Ok(Outcome::Took(1)) => "took",
+        Ok(Outcome::Over(1)) => "over",
+        _ => "another",
+    }
+}
+
+// The step goes so, and so many events are logged.
+fn goes(rt: &impl Abort, world: &mut World, step: &Step, outcome: &str, events: usize) {
+    let word = word(stepped(rt, world, step));
+    assert_eq!(rt; (word, world.state().log().len()), (outcome, events));
+}
+
+// A put up to its end.
+fn all_go(rt: &impl Abort, world: &mut World, admit: &Step) {
+    goes(rt, world, admit, "admitted", 1);
+    goes(rt, world, &Step::Ask(1), "sent", 2);
+    goes(rt, world, &Step::Resend(1), "sent again", 2);
+    goes(rt, world, &Step::Perform(1), "reply", 2);
+    goes(rt, world, &Step::Perform(0), "reply again", 2);
+    let reply = Reply {
+        number: 1,
+        incarnation: 0,
+        said: Said::Absent,
+    };
+    goes(rt, world, &Step::Forge(reply), "forged", 2);
+    goes(rt, world, &Step::Take(1), "took", 3);
+    goes(rt, world, &Step::Ask(1), "over", 3);
+}
+
+fn ends(rt: &impl Abort, world: &mut World) {
+    let receipt = Receipt {
+        place: 3,
+        txn: 1,
+        outcome: Ending::Committed,
+    };
+    let end = stepped(rt, world, &Step::End(1));
+    assert_eq!(rt; end, Ok(Outcome::Ended(receipt)));
+}
+
+// The record stands at each data component.
+fn is_put(rt: &impl Abort, world: &World) {
+    for dc in world.dcs() {
+        assert_eq!(rt; dc.get(&record(5)), Some(value(100)));
+    }
+}
+
+fn put_goes(rt: &impl Abort, alloc: Global, world: &mut World) -> Result<(), AllocError> {
+    let admit = Step::Admit(put_call(alloc)?);
+    all_go(rt, world, &admit);
+    ends(rt, world);
+    is_put(rt, world);
     Ok(())
+}
+
+#[test]
+fn steps_of_a_world(rt: HostRuntime) -> Result<(), Fail> {
+    let mut world = world(&rt, rt.alloc())?;
+    let passed = put_goes(&rt, rt.alloc(), &mut world);
+    closed(world);
+    Ok(passed?)
 }

@@ -1,10 +1,10 @@
 // Restarts that lose what came after the last checkpoint, and redo.
 
 use crate::step::{Illegal, Outcome, Step};
-use crate::step_tests::world;
-use crate::test_state::{PUT, call, closed, record, value};
+use crate::step_tests::{closed, world};
 use crate::world::World;
 use access_slots::op::{News, Op, Reply, Said, Wire};
+use samples::{PUT, call, record, value};
 use std::alloc::{AllocError, Global};
 use std::process::Abort;
 use std::test::Fail;

@@ -1,10 +1,10 @@
 // Each call once, where it succeeds.
 
 use crate::step::{Illegal, Outcome, Step};
-use crate::test_state::{PUT, call, closed, state};
 use crate::world::World;
 use access_slots::op::{Reply, Said};
 use data_component::dc::Dc;
+use samples::{PUT, call, loaded};
 use std::alloc::{AllocError, Global};
 use std::process::Abort;
 use std::test::Fail;
@@ -24,9 +24,9 @@ fn dcs(alloc: Global) -> Result<Vec<Dc>, AllocError> {
     }
 }
 
-// One data component, and a transaction component that has the procedures.
+/// One data component, and a transaction component that has the procedures.
 pub(crate) fn world(rt: &impl Abort, alloc: Global) -> Result<World, Fail> {
-    let state = state(rt, alloc)?;
+    let state = loaded(alloc, 1).ok_or("not loaded")?;
     assert_eq!(rt; state.open_count(), 0);
     match dcs(alloc) {
         Ok(dcs) => Ok(World::new(alloc, state, dcs)),
@@ -35,6 +35,13 @@ pub(crate) fn world(rt: &impl Abort, alloc: Global) -> Result<World, Fail> {
             Err(Fail::from(fault))
         }
     }
+}
+
+/// Closes a world, and lets its parts go.
+pub(crate) fn closed(world: World) {
+    let (state, dcs) = world.close();
+    drop(state);
+    drop(dcs);
 }
 
 // The first transaction asks.

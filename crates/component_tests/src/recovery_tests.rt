@@ -1,9 +1,8 @@
 // A state comes back from each beginning of a log, and goes on to the same log.
 
-use crate::log_tests::{PUT_AND_ABORT, printed};
-use crate::test_state::{record, state, value};
 use access_slots::op::{News, Op, Wire};
 use data_component::dc::Dc;
+use samples::{PUT_AND_ABORT, loaded, log_bytes, record, value};
 use std::alloc::Global;
 use std::process::Abort;
 use std::test::Fail;
@@ -116,12 +115,9 @@ fn gone_on(
 ) -> Result<Result<Vec<u8>, RecoverFault>, Fail> {
     let mut dc = Dc::new(alloc, 10, 10)?;
     perform_sent(log, &mut dc);
-    let mut tc = match state(rt, alloc) {
-        Ok(tc) => tc,
-        Err(fault) => {
-            drop(dc);
-            return Err(fault);
-        }
+    let Some(mut tc) = loaded(alloc, 1) else {
+        drop(dc);
+        return Err("not loaded".into());
     };
     let recovered = tc.recover(log, &[SiteNote::Untold]);
     all_end(&mut tc, &mut dc);
@@ -165,7 +161,7 @@ fn goes_on(rt: &impl Abort, alloc: Global, bytes: &[u8], events: usize) -> Resul
 
 #[test]
 fn each_beginning_goes_on(rt: HostRuntime) -> Result<(), Fail> {
-    let bytes = printed(rt.alloc(), &PUT_AND_ABORT)?;
+    let bytes = log_bytes(rt.alloc(), &PUT_AND_ABORT)?;
     for events in 0..=PUT_AND_ABORT.len() {
         goes_on(&rt, rt.alloc(), bytes.as_slice(), events)?;
     }
@@ -175,7 +171,7 @@ fn each_beginning_goes_on(rt: HostRuntime) -> Result<(), Fail> {
 // An Admit that is followed by an End at once.
 #[test]
 fn an_illegal_log_is_refused(rt: HostRuntime) -> Result<(), Fail> {
-    let bytes = printed(rt.alloc(), &[PUT_AND_ABORT[0], PUT_AND_ABORT[3]])?;
+    let bytes = log_bytes(rt.alloc(), &[PUT_AND_ABORT[0], PUT_AND_ABORT[3]])?;
     let Ok(log) = Log::read(rt.alloc(), bytes.as_slice()) else {
         assert!(rt; false, "no log");
         return Ok(());
@@ -191,13 +187,10 @@ fn an_illegal_log_is_refused(rt: HostRuntime) -> Result<(), Fail> {
 
 // What was noted of the data component is known of it again.
 fn known_by(rt: &impl Abort, alloc: Global, note: SiteNote) -> Result<(Site, Redo), Fail> {
-    let log = Log::read(alloc, printed(alloc, &PUT_AND_ABORT)?.as_slice());
-    let mut tc = match state(rt, alloc) {
-        Ok(tc) => tc,
-        Err(fault) => {
-            drop(log);
-            return Err(fault);
-        }
+    let log = Log::read(alloc, log_bytes(alloc, &PUT_AND_ABORT)?.as_slice());
+    let Some(mut tc) = loaded(alloc, 1) else {
+        drop(log);
+        return Err("not loaded".into());
     };
     if let Ok(log) = log {
         assert_eq!(rt; tc.recover(&log, &[]), Err(RecoverFault::DcCount));

@@ -1,5 +1,6 @@
 // Bytes that are no log: a log cut short, and one with a wrong byte.
 
+use samples::{PUT_AND_ABORT, log_bytes};
 use std::alloc::{AllocError, Global};
 use std::process::Abort;
 use std::test::Fail;
@@ -7,49 +8,6 @@ use tc_log::log::Log;
 use tc_log::read::LogFault;
 
 const RECORD: usize = 96;
-
-/// A transaction that puts 100 under 5, and one that writes 7 over it and is undone: kind, sub,
-/// transaction, word, key, and the first two words of the body.
-pub(crate) const PUT_AND_ABORT: [(u8, u8, u64, u64, u64, [u64; 2]); 12] = [
-    (1, 2, 1, 0, 0, [5, 100]),
-    (2, 2, 1, 1, 5, [100, 0]),
-    (3, 3, 1, 1, 0, [0, 0]),
-    (5, 1, 1, 0, 0, [0, 0]),
-    (1, 1, 2, 2, 0, [5, 0]),
-    (2, 1, 2, 2, 5, [0, 0]),
-    (3, 1, 2, 2, 0, [100, 0]),
-    (2, 3, 2, 3, 5, [7, 0]),
-    (3, 4, 2, 3, 0, [100, 0]),
-    (4, 3, 2, 4, 5, [100, 0]),
-    (3, 4, 2, 4, 0, [7, 0]),
-    (5, 2, 2, 5, 0, [0, 0]),
-];
-
-// Adds the bytes of a record.
-fn print_record(
-    bytes: &mut Vec<u8>,
-    record: &(u8, u8, u64, u64, u64, [u64; 2]),
-) -> Result<(), AllocError> {
-    let (kind, sub, txn, word, key, body) = record;
-    bytes.extend_from_slice(&[*kind, *sub, 0, 0, 0, 0, 0, 0])?;
-    for word in [txn, word, key, &body[0], &body[1]] {
-        bytes.extend_from_slice(&word.to_le_bytes())?;
-    }
-    bytes.extend_from_slice(&[0; 48])?;
-    Ok(())
-}
-
-/// The bytes of such records.
-pub(crate) fn printed(
-    alloc: Global,
-    records: &[(u8, u8, u64, u64, u64, [u64; 2])],
-) -> Result<Vec<u8>, AllocError> {
-    let mut bytes = Vec::new(alloc);
-    for record in records {
-        print_record(&mut bytes, record)?;
-    }
-    Ok(bytes)
-}
 
 /// The log prints to these bytes.
 pub(crate) fn prints_to(
@@ -87,7 +45,7 @@ fn is_prefix_read(rt: &impl Abort, alloc: Global, bytes: &[u8], length: usize) {
 
 #[test]
 fn each_prefix_of_a_log(rt: HostRuntime) -> Result<(), Fail> {
-    let bytes = printed(rt.alloc(), &PUT_AND_ABORT)?;
+    let bytes = log_bytes(rt.alloc(), &PUT_AND_ABORT)?;
     for length in 0..=bytes.len() {
         is_prefix_read(&rt, rt.alloc(), bytes.as_slice(), length);
     }
@@ -146,7 +104,7 @@ fn a_byte_set(
 
 #[test]
 fn each_byte_of_a_log_set_to_255(rt: HostRuntime) -> Result<(), Fail> {
-    let bytes = printed(rt.alloc(), &PUT_AND_ABORT)?;
+    let bytes = log_bytes(rt.alloc(), &PUT_AND_ABORT)?;
     for (index, (kind, sub, ..)) in PUT_AND_ABORT.iter().enumerate() {
         for place in 0..RECORD {
             let at = index * RECORD + place;

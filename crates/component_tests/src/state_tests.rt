@@ -1,17 +1,23 @@
 // Worked runs on the state without a world, and calls and replies that are refused.
 
-use crate::log_tests::{PUT_AND_ABORT, printed, prints_to};
-use crate::test_procedures::put_in;
-use crate::test_state::{BAD, DROP, PUT, call, load, record, state, value};
+use crate::log_tests::prints_to;
 use access_slots::op::{Op, Reply, Said, Wire};
 use lock_table::table::Busy;
+use samples::{
+    BAD, DROP, PUT, PUT_AND_ABORT, call, loaded, log_bytes, put_procedure, record, value,
+};
 use std::alloc::{AllocError, Global};
 use std::process::Abort;
 use std::test::Fail;
-use tc_core::procs::{LoadRefusal, Procs};
+use tc_core::procs::{LoadFault, LoadRefusal, Procs};
 use tc_core::state::{Asked, Call, NotOver, Receipt, Refusal, Request, Stranger, TcState, TxnId};
 use tc_log::event::Outcome;
 use verifier::verify::Verified;
+
+/// A state of one data component in which the procedures are loaded.
+pub(crate) fn state(alloc: Global) -> Result<TcState, Fail> {
+    Ok(loaded(alloc, 1).ok_or("not loaded")?)
+}
 
 pub(crate) fn wire(number: u64, low_water: u64, op: Op) -> Wire {
     Wire {
@@ -125,7 +131,7 @@ fn put_five(rt: &impl Abort, tc: &mut TcState, txn: TxnId) {
 // Asks for memory as often as the next test does, which asks for none behind the admission.
 #[test]
 fn put_admitted(rt: HostRuntime) -> Result<(), Fail> {
-    let mut tc = state(&rt, rt.alloc())?;
+    let mut tc = state(rt.alloc())?;
     let txn = before_put(&rt, rt.alloc(), &mut tc);
     drop(tc);
     txn?;
@@ -141,7 +147,7 @@ fn put_commits(rt: &impl Abort, alloc: Global, tc: &mut TcState) -> Result<(), A
 
 #[test]
 fn put_ended(rt: HostRuntime) -> Result<(), Fail> {
-    let mut tc = state(&rt, rt.alloc())?;
+    let mut tc = state(rt.alloc())?;
     let passed = put_commits(&rt, rt.alloc(), &mut tc);
     drop(tc);
     Ok(passed?)
@@ -189,7 +195,7 @@ fn aborts(rt: &impl Abort, tc: &mut TcState, bad: TxnId) {
 // Asks for memory as often as the next test does, which asks for none behind the admission.
 #[test]
 fn abort_admitted(rt: HostRuntime) -> Result<(), Fail> {
-    let mut tc = state(&rt, rt.alloc())?;
+    let mut tc = state(rt.alloc())?;
     let bad = behind_put(&rt, rt.alloc(), &mut tc, BAD);
     drop(tc);
     bad?;
@@ -208,7 +214,7 @@ fn put_and_abort(rt: &impl Abort, alloc: Global, tc: &mut TcState) -> Result<(),
 
 #[test]
 fn abort_ended(rt: HostRuntime) -> Result<(), Fail> {
-    let mut tc = state(&rt, rt.alloc())?;
+    let mut tc = state(rt.alloc())?;
     let passed = put_and_abort(&rt, rt.alloc(), &mut tc);
     drop(tc);
     Ok(passed?)
@@ -220,14 +226,14 @@ fn put_and_abort_are_logged(
     tc: &mut TcState,
 ) -> Result<(), AllocError> {
     put_and_abort(rt, alloc, tc)?;
-    let want = printed(alloc, &PUT_AND_ABORT)?;
+    let want = log_bytes(alloc, &PUT_AND_ABORT)?;
     prints_to(rt, alloc, tc.log(), want.as_slice())
 }
 
 // What the two log.
 #[test]
 fn put_and_abort_logged(rt: HostRuntime) -> Result<(), Fail> {
-    let mut tc = state(&rt, rt.alloc())?;
+    let mut tc = state(rt.alloc())?;
     let passed = put_and_abort_are_logged(&rt, rt.alloc(), &mut tc);
     drop(tc);
     Ok(passed?)
@@ -302,7 +308,7 @@ fn two_admitted(rt: &impl Abort, alloc: Global, tc: &mut TcState) -> Result<(), 
 // Asks for memory as often as the next test does, which asks for none behind the admissions.
 #[test]
 fn delete_admitted(rt: HostRuntime) -> Result<(), Fail> {
-    let mut tc = state(&rt, rt.alloc())?;
+    let mut tc = state(rt.alloc())?;
     let passed = two_admitted(&rt, rt.alloc(), &mut tc);
     drop(tc);
     Ok(passed?)
@@ -323,28 +329,39 @@ fn delete_is_stuck(rt: &impl Abort, alloc: Global, tc: &mut TcState) -> Result<(
 
 #[test]
 fn delete_stuck(rt: HostRuntime) -> Result<(), Fail> {
-    let mut tc = state(&rt, rt.alloc())?;
+    let mut tc = state(rt.alloc())?;
     let passed = delete_is_stuck(&rt, rt.alloc(), &mut tc);
     drop(tc);
     Ok(passed?)
 }
 
+// Why a procedure isn't loaded, or its number.
+fn refusal(tc: &mut TcState, name: &str, code: Verified) -> Result<usize, LoadRefusal> {
+    match tc.load(name, code) {
+        Ok(number) => Ok(number),
+        Err(LoadFault { why, code }) => {
+            drop(code);
+            Err(why)
+        }
+    }
+}
+
 fn is_not_loaded(rt: &impl Abort, tc: &mut TcState, name: &str, code: Verified, why: LoadRefusal) {
-    assert_eq!(rt; load(tc, name, code), Err(why));
+    assert_eq!(rt; refusal(tc, name, code), Err(why));
 }
 
 // A name that is taken, and a slot of a data component that isn't there.
 fn are_not_loaded(rt: &impl Abort, alloc: Global, tc: &mut TcState) -> Result<(), Fail> {
-    let taken = put_in(alloc, 1)?;
+    let taken = put_procedure(alloc, 1).ok_or("no put")?;
     is_not_loaded(rt, tc, "put", taken, LoadRefusal::NameTaken);
-    let far = put_in(alloc, 1)?;
+    let far = put_procedure(alloc, 1).ok_or("no put")?;
     is_not_loaded(rt, tc, "far", far, LoadRefusal::DcUnknown(0));
     Ok(())
 }
 
 #[test]
 fn procedures_not_loaded(rt: HostRuntime) -> Result<(), Fail> {
-    let mut tc = state(&rt, rt.alloc())?;
+    let mut tc = state(rt.alloc())?;
     let passed = are_not_loaded(&rt, rt.alloc(), &mut tc);
     drop(tc);
     passed
@@ -371,7 +388,7 @@ fn are_named(rt: &impl Abort, procs: &Procs) {
 
 #[test]
 fn procedures_that_are_loaded(rt: HostRuntime) -> Result<(), Fail> {
-    let tc = state(&rt, rt.alloc())?;
+    let tc = state(rt.alloc())?;
     are_loaded(&rt, &tc);
     are_lent(&rt, tc.procs());
     are_named(&rt, tc.procs());
@@ -412,7 +429,7 @@ fn two_are_refused(rt: &impl Abort, alloc: Global, tc: &mut TcState) -> Result<(
 
 #[test]
 fn calls_that_are_refused(rt: HostRuntime) -> Result<(), Fail> {
-    let mut tc = state(&rt, rt.alloc())?;
+    let mut tc = state(rt.alloc())?;
     let passed = two_are_refused(&rt, rt.alloc(), &mut tc);
     drop(tc);
     Ok(passed?)
@@ -462,7 +479,7 @@ fn is_given_up(rt: &impl Abort, alloc: Global, tc: &mut TcState) -> Result<(), A
 
 #[test]
 fn a_request_given_up(rt: HostRuntime) -> Result<(), Fail> {
-    let mut tc = state(&rt, rt.alloc())?;
+    let mut tc = state(rt.alloc())?;
     let passed = is_given_up(&rt, rt.alloc(), &mut tc);
     drop(tc);
     Ok(passed?)

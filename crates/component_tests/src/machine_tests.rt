@@ -5,13 +5,12 @@ ghost use Rattle.access_slots.specs.Access.{fits, is_no_room};
 ghost use Rattle.interpreter.specs.Joining.Paused.{IsPaused};
 ghost use Rattle.interpreter.specs.declared.pause.Pause.TheVariants.{Ask};
 
-use crate::test_procedures::{BAD_CODE, GET_CODE, MOVE_CODE, PUT_CODE, keyed, procedure};
-use crate::test_state::{record, value};
 use access_slots::op::{Op, Said, fits};
-use access_slots::slot::{Mode, Value};
+use access_slots::slot::Value;
 use interpreter::layout::Layout;
 use interpreter::machine::Machine;
 use interpreter::pause::Pause;
+use samples::{bad_procedure, get_procedure, move_procedure, put_procedure, record, value};
 use std::process::Abort;
 use std::test::Fail;
 use verifier::verify::Verified;
@@ -91,7 +90,7 @@ fn told(
 
 #[test]
 fn put_inserts(rt: HostRuntime) -> Result<(), Fail> {
-    let put = procedure(rt.alloc(), &PUT_CODE, 2, &[keyed(Mode::Write, 0, 0)])?;
+    let put = put_procedure(rt.alloc(), 0).ok_or("no put")?;
     assert_eq!(rt; put.decl().args(), 2);
     for (said, answer) in [(Said::Done(None), 0), (Said::Duplicate, 1)] {
         let mut it = call(&put, &[5, 100]);
@@ -104,7 +103,7 @@ fn put_inserts(rt: HostRuntime) -> Result<(), Fail> {
 
 #[test]
 fn get_reads(rt: HostRuntime) -> Result<(), Fail> {
-    let get = procedure(rt.alloc(), &GET_CODE, 1, &[keyed(Mode::Read, 0, 0)])?;
+    let get = get_procedure(rt.alloc()).ok_or("no get")?;
     assert_eq!(rt; get.decl().args(), 1);
     for (said, answer) in [(Said::Value(marked(100)), 0), (Said::Absent, 1)] {
         let mut it = call(&get, &[5]);
@@ -116,7 +115,7 @@ fn get_reads(rt: HostRuntime) -> Result<(), Fail> {
 
 #[test]
 fn bad_writes_and_aborts(rt: HostRuntime) -> Result<(), Fail> {
-    let bad = procedure(rt.alloc(), &BAD_CODE, 1, &[keyed(Mode::Write, 0, 0)])?;
+    let bad = bad_procedure(rt.alloc()).ok_or("no bad")?;
     assert_eq!(rt; bad.decl().args(), 1);
     let mut it = call(&bad, &[5]);
     stands(&rt, &it, Pause::Ask(Op::Read(record(5))), 2);
@@ -139,8 +138,7 @@ fn bad_writes_and_aborts(rt: HostRuntime) -> Result<(), Fail> {
 
 #[test]
 fn move_finds_no_record(rt: HostRuntime) -> Result<(), Fail> {
-    let slots = [keyed(Mode::Write, 0, 0), keyed(Mode::Write, 0, 1)];
-    let transfer = procedure(rt.alloc(), &MOVE_CODE, 3, &slots)?;
+    let transfer = move_procedure(rt.alloc()).ok_or("no move")?;
     assert_eq!(rt; transfer.decl().args(), 3);
     let second = Pause::Ask(Op::Read(record(6)));
     let mut it = call(&transfer, &[5, 6, 10]);
@@ -154,8 +152,7 @@ fn move_finds_no_record(rt: HostRuntime) -> Result<(), Fail> {
 
 #[test]
 fn move_writes_both_records(rt: HostRuntime) -> Result<(), Fail> {
-    let slots = [keyed(Mode::Write, 0, 0), keyed(Mode::Write, 0, 1)];
-    let transfer = procedure(rt.alloc(), &MOVE_CODE, 3, &slots)?;
+    let transfer = move_procedure(rt.alloc()).ok_or("no move")?;
     assert_eq!(rt; transfer.decl().args(), 3);
     let done = Said::Done(Some(marked(100)));
     // The answer to the last update is the call's.

@@ -1,6 +1,6 @@
 use Rattle.std.proofs.Common.{◌≡◌, ◌∷◌, [], ◌++◌}
 use Rattle.interpreter.proofs.Answering.{goes_on, paused}
-use Rattle.tc_world.proofs.machine_tests.hear.Goals as goal
+use Rattle.component_tests.proofs.machine_tests.hear.Goals as goal
 
 pub resume-call-requires-clause-started : goal.resume-call-requires-clause-started
 resume-call-requires-clause-started c = c.requires.asks.started

@@ -1,6 +1,6 @@
 use Rattle.std.proofs.Common.{◌≡◌, []}
 use Rattle.interpreter.proofs.Answering.{goes_on_from_the_entry, paused}
-use Rattle.tc_world.proofs.machine_tests.call.Goals as goal
+use Rattle.component_tests.proofs.machine_tests.call.Goals as goal
 
 pub returns : goal.returns
 returns c =

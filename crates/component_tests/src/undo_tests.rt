@@ -1,33 +1,31 @@
 // Undos that fail: four tries for each write, and no room for one.
 
-use crate::state_tests::{admitted, ask_word, asks, ends, undo_word, undoes, wire};
-use crate::test_procedures::{keyed, procedure};
-use crate::test_state::{DROP, call, load, record, state, value};
+use crate::state_tests::{admitted, ask_word, asks, ends, state, undo_word, undoes, wire};
 use access_slots::op::{Op, Said, Wire};
 use access_slots::slot::Mode;
+use samples::procedures::{keyed, procedure};
+use samples::{DROP, call, load, record, value};
 use std::alloc::{AllocError, Global};
 use std::process::Abort;
 use std::test::Fail;
 use tc_core::state::{TcState, TxnId};
 use tc_log::event::Outcome;
 
-// Deletes what stands under both its arguments, and ends with 5: mov r1, 0; call 4; mov r1, 1;
-// call 4; mov r0, 5; exit.
-const DROP_BOTH_CODE: [u64; 6] = [
-    0x1b7,
-    0x4_0000_0085,
-    0x1_0000_01b7,
-    0x4_0000_0085,
-    0x5_0000_00b7,
-    0x95,
-];
+// Deletes what stands under both its arguments, and ends with 5.
+const DROP_BOTH_TEXT: &str = "mov r1, 0
+call 4
+mov r1, 1
+call 4
+mov r0, 5
+exit
+";
 
 const DROP_BOTH: usize = 5;
 
 fn load_drop_both(rt: &impl Abort, alloc: Global, tc: &mut TcState) -> Result<(), Fail> {
     let slots = [keyed(Mode::Write, 0, 0), keyed(Mode::Write, 0, 1)];
-    let code = procedure(alloc, &DROP_BOTH_CODE, 2, &slots)?;
-    assert_eq!(rt; load(tc, "drop_both", code), Ok(DROP_BOTH));
+    let code = procedure(alloc, 2, &slots, DROP_BOTH_TEXT).ok_or("not verified")?;
+    assert_eq!(rt; load(tc, "drop_both", code), Some(DROP_BOTH));
     Ok(())
 }
 
@@ -74,7 +72,7 @@ fn both_are_put_back(rt: &impl Abort, alloc: Global, tc: &mut TcState) -> Result
 // Each of two writes has four tries of its own.
 #[test]
 fn two_writes_undone(rt: HostRuntime) -> Result<(), Fail> {
-    let mut tc = state(&rt, rt.alloc())?;
+    let mut tc = state(rt.alloc())?;
     let passed = both_are_put_back(&rt, rt.alloc(), &mut tc);
     drop(tc);
     passed
@@ -94,7 +92,7 @@ fn is_put_back(rt: &impl Abort, alloc: Global, tc: &mut TcState) -> Result<(), A
 // No room for an undo is a try that failed: the procedure's own answer stays the outcome.
 #[test]
 fn no_room_for_an_undo(rt: HostRuntime) -> Result<(), Fail> {
-    let mut tc = state(&rt, rt.alloc())?;
+    let mut tc = state(rt.alloc())?;
     let passed = is_put_back(&rt, rt.alloc(), &mut tc);
     drop(tc);
     Ok(passed?)
