@@ -73,7 +73,9 @@ impl Decl {
     /// [`DeclFault::TooManyArgs`], [`DeclFault::TooManySlots`], [`DeclFault::NoSuchArg`] with
     /// the first such slot.
     pub fn new(args: u8, slots: &[Slot]) -> Result<Decl, DeclFault>
-        ensures { MatchResult result (λ d. (d ≡ record { args = args; slots = slots.now }) × (decl_fault args slots.now ≡ None)) (λ e. decl_fault args slots.now ≡ Some e) }
+        ensures { MatchResult result
+            (λ d. (d ≡ record { args = args; slots = slots.now }) × (decl_fault args slots.now ≡ None))
+            (λ e. decl_fault args slots.now ≡ Some e) }
     {
         if args > 8 {
             return Err(DeclFault::TooManyArgs);

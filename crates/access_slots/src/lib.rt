@@ -1,4 +1,14 @@
 //! What procedures declare and ask for: records, access slots, operations and answers.
+//!
+//! ```
+//! let slots = [read_of_argument_0, write_of_argument_0];      // one record, named twice
+//! let decl = Decl::new(1, &slots)?;                           // of one argument
+//! let locks = decl.resolve(&[5]);                             // one lock: Write on the record under 5
+//! locks.covers(&Op::Delete(record(5)));                       // true
+//! locks.covers(&Op::Read(record(6)));                         // false
+//! ```
+//!
+//! (`one_record_in_two_modes` of its tests.)
 #![tactic(auto)]
 
 pub mod decl;

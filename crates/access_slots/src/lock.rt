@@ -99,7 +99,8 @@ fn copy_of(locks: &[Lock]) -> ArrayVec<Lock, 16>
 }
 
 impl LockSet {
-    ghost use Rattle.std.specs.Prelude.{◌≡◌, ◌↔◌, ◌<◌, ◌≤◌, true, [], length};
+    ghost use Rattle.std.specs.Prelude.{◌≡◌, ◌↔◌, ◌<◌, ◌≤◌, Some, true, [], length};
+    ghost use Rattle.access_slots.specs.Held.{excludes};
     ghost use Rattle.access_slots.specs.Joining.Adding.{added};
     ghost use Rattle.access_slots.specs.Locks.{covered, mode_in, Rising};
 
@@ -157,6 +158,17 @@ impl LockSet {
         ensures { result ≡ covered self.now op.now }
     {
         covers_op(self.locks.as_slice(), op)
+    }
+
+    /// Whether one of these locks, where they are held, keeps that one out: it is on the same record, and
+    /// one of the two is for writing.
+    pub fn excludes(&self, lock: &Lock) -> bool
+        ensures { result ≡ excludes (Some lock.now.mode) (mode_in self.now lock.now.«record») }
+    {
+        match self.mode_of(&lock.record) {
+            Some(held) => lock.mode.excludes(held),
+            None => false,
+        }
     }
 }
 

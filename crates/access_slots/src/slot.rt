@@ -24,6 +24,19 @@ pub enum Mode {
     Write,
 }
 
+impl Mode {
+    ghost use Rattle.std.specs.Prelude.{◌≡◌, Some};
+    ghost use Rattle.access_slots.specs.Held.{excludes};
+
+    /// Whether a lock in this mode can't be granted beside one on the same record that is held in the
+    /// other: unless both are for reading.
+    pub fn excludes(self, held: Mode) -> bool
+        ensures { result ≡ excludes (Some self) (Some held) }
+    {
+        self == Mode::Write || held == Mode::Write
+    }
+}
+
 /// A record's key: an argument of the call, or fixed.
 #[derive(Clone, Copy, Debug, PartialEq, Eq)]
 pub enum Key {

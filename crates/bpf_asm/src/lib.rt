@@ -1,6 +1,11 @@
 //! The text of BPF code: an instruction a line.
 //!
-//! [`assemble::assemble`] reads it, [`disassemble::disassemble`] writes it, and
+//! ```
+//! let code = assemble(alloc, "mov r0, 6\nmul r0, 7\nexit\n")?;
+//! let text = disassemble(alloc, &code)?;                      // a text that says the code again
+//! ```
+//!
+//! (`samples` assembles so; that the text says the code again is in `disassemble`'s contract.)
 //! [`line::insn_of`] reads one line.
 #![tactic(auto)]
 

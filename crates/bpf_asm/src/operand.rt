@@ -81,7 +81,8 @@ fn is_sign(byte: u8) -> bool
 
 // What stands before the first sign, and the rest with it; `None` where there is none.
 fn split_at_sign(text: &[u8]) -> Option<(&[u8], &[u8])>
-    ensures some { IfSome result (λ r. ((position_or_len is_sign text.now == length text.now) ≡ false) × (r.0.now ≡ take (position_or_len is_sign text.now) text.now) × (r.1.now ≡ drop (position_or_len is_sign text.now) text.now)) }
+    ensures some { IfSome result (λ r. ((position_or_len is_sign text.now == length text.now) ≡ false)
+        × (r.0.now ≡ take (position_or_len is_sign text.now) text.now) × (r.1.now ≡ drop (position_or_len is_sign text.now) text.now)) }
     ensures none { IfNone result (position_or_len is_sign text.now ≡ length text.now) }
 {
     let cut = text.iter().position(|&b| is_sign(b))?;

@@ -219,7 +219,8 @@ fn pair(opcode: u8, dst: Register, src: Register, offset: i16) -> Fields
 // The slot of an operation or a jump with two operands.
 fn two_operands(row: u8, dst: Register, source: Source, offset: i16) -> Fields
     requires { row < 240 }
-    ensures fields { viewed result ≡ fields (row + 8 * source_bit source) (number_of dst) (source_register source) offset (source_imm source) }
+    ensures fields { viewed result
+        ≡ fields (row + 8 * source_bit source) (number_of dst) (source_register source) offset (source_imm source) }
     ensures registers { (result.dst < 16) × (result.src < 16) }
 {
     match source {

@@ -75,7 +75,9 @@ fn binary(width: Width, operation: Operation, slot: &Fields) -> Result<Insn, Slo
     requires code { code_of slot.now.opcode ≡ operation_code operation }
     requires offset { selects_offset operation ≡ true → slot.now.offset ≡ operation_offset operation }
     ensures ok { IfOk result (λ i. fields_of i ≡ viewed slot.now) }
-    ensures err { IfErr result (λ e. fault_by (uses true (takes_register slot.now.opcode) (selects_offset operation) (not (takes_register slot.now.opcode))) (viewed slot.now) ≡ Some e) }
+    ensures err { IfErr result (λ e.
+        fault_by (uses true (takes_register slot.now.opcode) (selects_offset operation) (not (takes_register slot.now.opcode)))
+            (viewed slot.now) ≡ Some e) }
 {
     let dst = used(slot.dst)?;
     let is_signed = matches!(operation, Operation::SignedDiv | Operation::SignedMod);
@@ -95,7 +97,9 @@ fn negate(width: Width, slot: &Fields) -> Result<Insn, SlotFault>
     requires class { class_of slot.now.opcode ≡ alu_class width }
     requires code { code_of slot.now.opcode ≡ 8 }
     ensures ok { IfOk result (λ i. fields_of i ≡ viewed slot.now) }
-    ensures err { IfErr result (λ e. fault_by (alu_uses (is_64 width) (code_of slot.now.opcode) (takes_register slot.now.opcode) (viewed slot.now)) (viewed slot.now) ≡ Some e) }
+    ensures err { IfErr result (λ e.
+        fault_by (alu_uses (is_64 width) (code_of slot.now.opcode) (takes_register slot.now.opcode) (viewed slot.now))
+            (viewed slot.now) ≡ Some e) }
 {
     if slot.opcode / 8 % 2 == 1 {
         return Err(SlotFault::Undefined);
@@ -127,7 +131,9 @@ fn extended_move(width: Width, slot: &Fields) -> Result<Insn, SlotFault>
     requires register { takes_register slot.now.opcode ≡ true }
     requires offset { (slot.now.offset ≡ pos 0) → ⊥ }
     ensures ok { IfOk result (λ i. fields_of i ≡ viewed slot.now) }
-    ensures err { IfErr result (λ e. fault_by (alu_uses (is_64 width) (code_of slot.now.opcode) (takes_register slot.now.opcode) (viewed slot.now)) (viewed slot.now) ≡ Some e) }
+    ensures err { IfErr result (λ e.
+        fault_by (alu_uses (is_64 width) (code_of slot.now.opcode) (takes_register slot.now.opcode) (viewed slot.now))
+            (viewed slot.now) ≡ Some e) }
 {
     match (width, slot.offset) {
         (Width::Bits64, 8) => move_signed(Extension::Byte64, slot),
@@ -171,7 +177,9 @@ fn byte_order(width: Width, slot: &Fields) -> Result<Insn, SlotFault>
     requires class { class_of slot.now.opcode ≡ alu_class width }
     requires code { code_of slot.now.opcode ≡ 13 }
     ensures ok { IfOk result (λ i. fields_of i ≡ viewed slot.now) }
-    ensures err { IfErr result (λ e. fault_by (alu_uses (is_64 width) (code_of slot.now.opcode) (takes_register slot.now.opcode) (viewed slot.now)) (viewed slot.now) ≡ Some e) }
+    ensures err { IfErr result (λ e.
+        fault_by (alu_uses (is_64 width) (code_of slot.now.opcode) (takes_register slot.now.opcode) (viewed slot.now))
+            (viewed slot.now) ≡ Some e) }
 {
     match (width, slot.opcode / 8 % 2) {
         (Width::Bits32, 0) => ordered(ByteOrder::Little, slot),
@@ -185,7 +193,9 @@ fn byte_order(width: Width, slot: &Fields) -> Result<Insn, SlotFault>
 fn alu(width: Width, slot: &Fields) -> Result<Insn, SlotFault>
     requires class { class_of slot.now.opcode ≡ alu_class width }
     ensures ok { IfOk result (λ i. fields_of i ≡ viewed slot.now) }
-    ensures err { IfErr result (λ e. fault_by (alu_uses (is_64 width) (code_of slot.now.opcode) (takes_register slot.now.opcode) (viewed slot.now)) (viewed slot.now) ≡ Some e) }
+    ensures err { IfErr result (λ e.
+        fault_by (alu_uses (is_64 width) (code_of slot.now.opcode) (takes_register slot.now.opcode) (viewed slot.now))
+            (viewed slot.now) ≡ Some e) }
 {
     match (slot.opcode / 16, slot.offset) {
         (0, _) => binary(width, Operation::Add, slot),
@@ -214,7 +224,9 @@ fn jump_if(width: Width, condition: Condition, slot: &Fields) -> Result<Insn, Sl
     requires class { class_of slot.now.opcode ≡ jump_class width }
     requires code { code_of slot.now.opcode ≡ condition_code condition }
     ensures ok { IfOk result (λ i. fields_of i ≡ viewed slot.now) }
-    ensures err { IfErr result (λ e. fault_by (uses true (takes_register slot.now.opcode) true (not (takes_register slot.now.opcode))) (viewed slot.now) ≡ Some e) }
+    ensures err { IfErr result (λ e.
+        fault_by (uses true (takes_register slot.now.opcode) true (not (takes_register slot.now.opcode)))
+            (viewed slot.now) ≡ Some e) }
 {
     let dst = used(slot.dst)?;
     let source = if slot.opcode / 8 % 2 == 1 {
@@ -233,7 +245,9 @@ fn jump_always(width: Width, slot: &Fields) -> Result<Insn, SlotFault>
     requires class { class_of slot.now.opcode ≡ jump_class width }
     requires code { code_of slot.now.opcode ≡ 0 }
     ensures ok { IfOk result (λ i. fields_of i ≡ viewed slot.now) }
-    ensures err { IfErr result (λ e. fault_by (jump_uses_of width (code_of slot.now.opcode) (takes_register slot.now.opcode) (viewed slot.now)) (viewed slot.now) ≡ Some e) }
+    ensures err { IfErr result (λ e.
+        fault_by (jump_uses_of width (code_of slot.now.opcode) (takes_register slot.now.opcode) (viewed slot.now))
+            (viewed slot.now) ≡ Some e) }
 {
     if slot.opcode / 8 % 2 == 1 {
         return Err(SlotFault::Undefined);
@@ -281,7 +295,9 @@ fn exit(slot: &Fields) -> Result<Insn, SlotFault>
 fn jump(width: Width, slot: &Fields) -> Result<Insn, SlotFault>
     requires class { class_of slot.now.opcode ≡ jump_class width }
     ensures ok { IfOk result (λ i. fields_of i ≡ viewed slot.now) }
-    ensures err { IfErr result (λ e. fault_by (jump_uses_of width (code_of slot.now.opcode) (takes_register slot.now.opcode) (viewed slot.now)) (viewed slot.now) ≡ Some e) }
+    ensures err { IfErr result (λ e.
+        fault_by (jump_uses_of width (code_of slot.now.opcode) (takes_register slot.now.opcode) (viewed slot.now))
+            (viewed slot.now) ≡ Some e) }
 {
     match (width, slot.opcode / 16) {
         (_, 0) => jump_always(width, slot),

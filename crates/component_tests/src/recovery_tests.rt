@@ -1,8 +1,9 @@
 // A state comes back from each beginning of a log, and goes on to the same log.
 
+use crate::state_tests::state;
 use access_slots::op::{News, Op, Wire};
 use data_component::dc::Dc;
-use samples::{PUT_AND_ABORT, loaded, log_bytes, record, value};
+use samples::{PUT_AND_ABORT, log_bytes, record, value};
 use std::alloc::Global;
 use std::process::Abort;
 use std::test::Fail;
@@ -115,9 +116,12 @@ fn gone_on(
 ) -> Result<Result<Vec<u8>, RecoverFault>, Fail> {
     let mut dc = Dc::new(alloc, 10, 10)?;
     perform_sent(log, &mut dc);
-    let Some(mut tc) = loaded(alloc, 1) else {
-        drop(dc);
-        return Err("not loaded".into());
+    let mut tc = match state(alloc) {
+        Ok(tc) => tc,
+        Err(fault) => {
+            drop(dc);
+            return Err(fault);
+        }
     };
     let recovered = tc.recover(log, &[SiteNote::Untold]);
     all_end(&mut tc, &mut dc);
@@ -188,9 +192,12 @@ fn an_illegal_log_is_refused(rt: HostRuntime) -> Result<(), Fail> {
 // What was noted of the data component is known of it again.
 fn known_by(rt: &impl Abort, alloc: Global, note: SiteNote) -> Result<(Site, Redo), Fail> {
     let log = Log::read(alloc, log_bytes(alloc, &PUT_AND_ABORT)?.as_slice());
-    let Some(mut tc) = loaded(alloc, 1) else {
-        drop(log);
-        return Err("not loaded".into());
+    let mut tc = match state(alloc) {
+        Ok(tc) => tc,
+        Err(fault) => {
+            drop(log);
+            return Err(fault);
+        }
     };
     if let Ok(log) = log {
         assert_eq!(rt; tc.recover(&log, &[]), Err(RecoverFault::DcCount));

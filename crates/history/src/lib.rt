@@ -1,6 +1,13 @@
 //! What a history of events says: which locks are held, which operations are in flight, and the
 //! low-water mark; what was answered, and what of it is redone. Definitions are in `specs/`; there
 //! is no code here but the laws, as functions that do nothing.
+//!
+//! ```text
+//! -- in a proof file: the mark that is kept beside the open numbers is the log's
+//! use Rattle.history.proofs.Laws.{mark_is_low_water, low_water_is}
+//! ```
+//!
+//! (So `tc_core` proves the mark on a wire. The prover computes worked rows in `proofs/Rows.antt`.)
 #![tactic(auto)]
 
 ghost use Rattle.std.specs.Prelude.{◌≡◌, ◌↔◌, ℕ, List, ◌++◌, Some, reverse, slice_get};

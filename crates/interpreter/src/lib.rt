@@ -1,4 +1,4 @@
-//! Runs verified code: a machine that can't go wrong.
+//! Runs verified code: a machine that can't go wrong. Its tests are `machine_tests` of `component_tests`.
 #![tactic(auto)]
 
 pub mod arithmetic;

@@ -8,7 +8,7 @@ ghost use Rattle.access_slots.specs.Locks.{record_eq, mode_in, Rising};
 ghost use Rattle.access_slots.specs.Held.{excludes, Compatible, IsFirstInTheWay};
 ghost use Rattle.lock_table.specs.Facts.{held_by, nobody, granted, released, AreHeld, HoldsNothing};
 ghost use Rattle.lock_table.specs.Holds.{hold_mode, held_more, held_less, AreHolds, AreFew};
-ghost use Rattle.lock_table.specs.Joining.Barring.{bars, least, least_holder, first_busy};
+ghost use Rattle.lock_table.specs.Joining.Barring.{least, least_holder, first_busy};
 
 use access_slots::lock::{Lock, LockSet};
 use access_slots::slot::{Mode, Record};
@@ -165,7 +165,8 @@ fn put_set(sets: &mut IndexMap<u64, LockSet>, txn: u64, set: LockSet)
 fn add_holder(records: &mut IndexMap<Record, Hold>, lock: &Lock)
     requires room { 0 < spare records.old }
     requires few { IfSome (get record_eq records.old lock.now.«record») (λ h. h.holders < 2 ^ 63) }
-    ensures updates { Updates record_eq records.old records.new lock.now.«record» (held_more (Some lock.now.mode) (get record_eq records.old lock.now.«record»)) }
+    ensures updates { Updates record_eq records.old records.new lock.now.«record»
+        (held_more (Some lock.now.mode) (get record_eq records.old lock.now.«record»)) }
     ensures room { spare records.old ≤ spare records.new + 1 }
 {
     let hold = match records.get(&lock.record) {
@@ -198,7 +199,8 @@ fn add_holders(records: &mut IndexMap<Record, Hold>, locks: &[Lock])
 
 // The lock's record has one holder less; one without holders is taken out.
 fn take_holder(records: &mut IndexMap<Record, Hold>, lock: &Lock)
-    ensures { Updates record_eq records.old records.new lock.now.«record» (held_less (Some lock.now.mode) (get record_eq records.old lock.now.«record»)) }
+    ensures { Updates record_eq records.old records.new lock.now.«record»
+        (held_less (Some lock.now.mode) (get record_eq records.old lock.now.«record»)) }
 {
     match records.get(&lock.record).copied() {
         Some(hold) if hold.holders > 1 => {
@@ -227,13 +229,6 @@ fn take_holders(records: &mut IndexMap<Record, Hold>, locks: &[Lock])
     }
 }
 
-// Whether a lock that is held keeps out one that is wanted.
-fn excludes(wanted: Mode, held: Mode) -> bool
-    ensures { result ≡ excludes (Some wanted) (Some held) }
-{
-    wanted == Mode::Write || held == Mode::Write
-}
-
 // Whether the record is held.
 fn is_in(records: &IndexMap<Record, Hold>, name: &Record) -> bool
     ensures { result ≡ is_some (get record_eq records.now name.now) }
@@ -249,17 +244,7 @@ fn is_barred(records: &IndexMap<Record, Hold>, lock: &Lock) -> bool
     ensures { result ≡ excludes (Some lock.now.mode) (hold_mode (get record_eq records.now lock.now.«record»)) }
 {
     match records.get(&lock.record) {
-        Some(hold) => excludes(lock.mode, hold.mode),
-        None => false,
-    }
-}
-
-// Whether a transaction's set has a lock that excludes this one.
-fn bars(set: &LockSet, lock: &Lock) -> bool
-    ensures { result ≡ bars set.now lock.now }
-{
-    match set.mode_of(&lock.record) {
-        Some(mode) => excludes(lock.mode, mode),
+        Some(hold) => lock.mode.excludes(hold.mode),
         None => false,
     }
 }
@@ -279,7 +264,7 @@ fn least_holder(sets: &IndexMap<u64, LockSet>, lock: &Lock) -> Option<u64>
 {
     let mut holder = None;
     for (txn, set) in sets.iter() {
-        if bars(set, lock) {
+        if set.excludes(lock) {
             holder = Some(least(*txn, holder));
         }
     }

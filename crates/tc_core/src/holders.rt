@@ -2,8 +2,6 @@
 
 ghost use Rattle.std.specs.Prelude.{◌≡◌, ◌≢◌, ◌&&◌, not, ℕ, Some, true, false, IsTrue};
 ghost use Rattle.slab.specs.Slab.{get};
-ghost use Rattle.access_slots.specs.Held.{excludes};
-ghost use Rattle.access_slots.specs.Locks.{mode_in};
 ghost use Rattle.transactions.specs.Legal.{first_undo};
 ghost use Rattle.transactions.specs.Next.{next_by};
 ghost use Rattle.tc_core.specs.Running.{as_reached};
@@ -12,27 +10,15 @@ ghost use Rattle.tc_core.specs.Joining.Holders.{stuck_by, stands_still, HoldsUp}
 ghost use Rattle.tc_core.specs.declared.transaction.Tx.{Tx as TxValue};
 
 use crate::transaction::Tx;
-use access_slots::lock::{Lock, LockSet};
-use access_slots::op::Op;
-use access_slots::slot::Mode;
+use access_slots::lock::LockSet;
 use slab::Slab;
 use transactions::Next;
-
-// Whether the lock is excluded by one of those that are held.
-fn is_excluded(lock: &Lock, held: &LockSet) -> bool
-    ensures { result ≡ excludes (Some lock.now.mode) (mode_in held.now lock.now.«record») }
-{
-    match lock.mode {
-        Mode::Write => held.covers(&Op::Read(lock.record)),
-        Mode::Read => held.covers(&Op::Delete(lock.record)),
-    }
-}
 
 // Whether two sets of locks exclude each other.
 fn clash(wanted: &LockSet, held: &LockSet) -> bool
     ensures { result ≡ clashes wanted.now held.now }
 {
-    wanted.locks().iter().any(|lock| is_excluded(lock, held))
+    wanted.locks().iter().any(|lock| held.excludes(lock))
 }
 
 fn is_stuck(next: Next) -> bool

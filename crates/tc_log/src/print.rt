@@ -1,4 +1,11 @@
-//! The log as bytes: 96 an event.
+//! The log as bytes: 96 an event. Numbers are little-endian, and what an event doesn't have is zero.
+//!
+//! ```text
+//!  0      1     2           4       6   8             16     24    32                      96
+//!  +------+-----+-----------+-------+---+-------------+------+-----+-----------------------+
+//!  | kind | sub | component | table | 0 | transaction | word | key | value, or arguments   |
+//!  +------+-----+-----------+-------+---+-------------+------+-----+-----------------------+
+//! ```
 
 ghost use Rattle.std.specs.Prelude.{◌≡◌, true, ◌≤◌, ◌++◌, length, IfOk, IfSome, OnOk};
 ghost use Rattle.std.specs.List.{flat_map};

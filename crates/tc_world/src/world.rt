@@ -20,7 +20,7 @@ ghost use Rattle.tc_world.specs.declared.step.Illegal.TheVariants as illegal;
 ghost use Rattle.tc_world.specs.declared.step.Step.TheVariants as step;
 
 use crate::asking::{find_number, find_txn};
-use crate::parts::{at, checkpoint_at, is_spent_at, perform_at, restart_at, target};
+use crate::parts::{at, checkpoint_at, is_spent_at, perform_at, restart_at};
 use crate::step::{Illegal, Outcome, Step};
 use crate::taking::{hears, redone_somewhere};
 use crate::telling::{make_room, tell};
@@ -46,7 +46,9 @@ impl Model for World {
 
     ghost Value = { Whole };
 
-    ghost view = { λ w. record { core = w.state; dcs = w.dcs.items; copies = w.copies.items; replies = w.replies.items; news = w.news.items } };
+    ghost view = { λ w. record {
+        core = w.state; dcs = w.dcs.items; copies = w.copies.items; replies = w.replies.items; news = w.news.items
+    } };
 
     ghost invariant = { λ w. AreWaiting w.requests.items w.state.events };
 }
@@ -172,7 +174,7 @@ impl World {
         };
         let wire = match self.state.wire(&self.requests[at]) {
             Ok(wire) => wire,
-            Err(_) => return Err(Illegal::Down(target(&self.requests[at].op()).dc)),
+            Err(_) => return Err(Illegal::Down(self.requests[at].op().record().dc)),
         };
         self.copies.reserve(1)?;
         let place = self.copies.len();
@@ -188,7 +190,7 @@ impl World {
         let Some(wire) = at(self.copies.as_slice(), copy) else {
             return Err(Illegal::NoCopy);
         };
-        let dc = target(&wire.op).dc as usize;
+        let dc = wire.op.record().dc as usize;
         if dc >= self.dcs.len() {
             return Err(Illegal::NoDc);
         }
@@ -380,7 +382,8 @@ impl World {
             → allows (held_for (decls self.new.core.procs) (call_of self.new.core.events f.txn) (target f.op)) (is_read f.op) ≡ true }
         ensures held { (n : ℕ) (f : Flight) → open_op self.new.core.events n ≡ Some f
             → allows (held (decls self.new.core.procs) self.new.core.events f.txn (target f.op)) (is_read f.op) ≡ true }
-        ensures apart { (m n : ℕ) (f g : Flight) → InFlight self.new.core.events self.new.core.sites m f → InFlight self.new.core.events self.new.core.sites n g
+        ensures apart { (m n : ℕ) (f g : Flight) → InFlight self.new.core.events self.new.core.sites m f
+            → InFlight self.new.core.events self.new.core.sites n g
             → m ≢ n → conflict f.op g.op ≡ false }
         ensures marks { AreMarksLow self.old → AreMarksLow self.new }
         ensures open_above { IsFresh self.old → IsOpenAboveMarks self.new }

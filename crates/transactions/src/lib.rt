@@ -1,5 +1,12 @@
 //! Which histories of a transaction component are legal, and what follows for all of them.
 //!
+//! ```text
+//! -- in a proof file: who holds a legal log has that what is in flight is covered and without conflict
+//! use Rattle.transactions.proofs.Restarts.{in_flight_covered, in_flight_apart}
+//! ```
+//!
+//! (So `tc_world` proves `World::run`, in its `proofs/Running.antt`.)
+//!
 //! The definitions are in `specs/`. `Standing` says where a transaction stands, as one function of
 //! the log; `Reached` where its procedure's run stands on its answers; `Next` what it does next, as
 //! one function, and [`Next`] is that answer as code sees it; `Legal` which event may come, by a
@@ -80,19 +87,22 @@ pub enum Next {
 /// slot of its procedure: one to ask, and four to undo.
 #[tactic(auto, using(crate::proofs::Laws::numbers_suffice))]
 pub fn numbers_suffice()
-    ensures { (ps : List Checked) (h : List Event) → AllGood ps → Legal ps h → (t : ℕ) (s : Standing) → standing h t ≡ Some s → s.used ≤ 5 * calls ps s.call.proc }
+    ensures { (ps : List Checked) (h : List Event) → AllGood ps → Legal ps h → (t : ℕ) (s : Standing) → standing h t ≡ Some s
+        → s.used ≤ 5 * calls ps s.call.proc }
 {}
 
 /// Behind every legal history, each operation in flight is covered by its transaction's locks.
 #[tactic(auto, using(crate::proofs::Headline::flight_covered))]
 pub fn all_covered()
-    ensures { (ps : List Checked) (h : List Event) → AllGood ps → Legal ps h → (n : ℕ) (f : Flight) → open_op h n ≡ Some f → allows (held (decls ps) h f.txn (target f.op)) (is_read f.op) ≡ true }
+    ensures { (ps : List Checked) (h : List Event) → AllGood ps → Legal ps h → (n : ℕ) (f : Flight) → open_op h n ≡ Some f
+        → allows (held (decls ps) h f.txn (target f.op)) (is_read f.op) ≡ true }
 {}
 
 /// And no two of them conflict.
 #[tactic(auto, using(crate::proofs::Headline::flights_apart))]
 pub fn none_conflict()
-    ensures { (ps : List Checked) (h : List Event) → AllGood ps → Legal ps h → (m n : ℕ) (f g : Flight) → open_op h m ≡ Some f → open_op h n ≡ Some g → m ≢ n → conflict f.op g.op ≡ false }
+    ensures { (ps : List Checked) (h : List Event) → AllGood ps → Legal ps h → (m n : ℕ) (f g : Flight) → open_op h m ≡ Some f
+        → open_op h n ≡ Some g → m ≢ n → conflict f.op g.op ≡ false }
 {}
 
 /// A legal history stays legal when one more procedure is loaded.
@@ -104,25 +114,29 @@ pub fn loading_keeps_legal()
 /// What a transaction waits for was sent behind its admission: where it was admitted at a place of
 /// the log, an Ask or an Undo of it with this number and operation stands at a later one.
 pub fn waiting_is_sent_behind()
-    ensures { (h : List Event) (k t p : ℕ) (xs : List ℕ) (s : Standing) (r : SentValue) → StandsAt h k (Admit t p xs) → standing h t ≡ Some s → s.sent ≡ Some r → IsSentBehind h k t r.number r.op }
+    ensures { (h : List Event) (k t p : ℕ) (xs : List ℕ) (s : Standing) (r : SentValue) → StandsAt h k (Admit t p xs)
+        → standing h t ≡ Some s → s.sent ≡ Some r → IsSentBehind h k t r.number r.op }
 {}
 
 /// A transaction asks for an operation next exactly where the rule of the log allows the Ask.
 #[tactic(auto, using(crate::proofs::Allowing::asks_allowed))]
 pub fn asks_where_allowed()
-    ensures { (ps : List Checked) (h : List Event) (t : ℕ) (o : Operation) → (next_in ps (standing h t) ≡ Some (NextValue.Asks o)) ↔ CanAsk ps h t (given h + 1) o }
+    ensures { (ps : List Checked) (h : List Event) (t : ℕ) (o : Operation) → (next_in ps (standing h t) ≡ Some (NextValue.Asks o))
+        ↔ CanAsk ps h t (given h + 1) o }
 {}
 
 /// It undoes a write next exactly where the rule of the log allows the Undo.
 #[tactic(auto, using(crate::proofs::Allowing::undoes_allowed))]
 pub fn undoes_where_allowed()
-    ensures { (ps : List Checked) (h : List Event) (t : ℕ) (o : Operation) → (next_in ps (standing h t) ≡ Some (NextValue.Undoes o)) ↔ CanUndo ps h t (given h + 1) o }
+    ensures { (ps : List Checked) (h : List Event) (t : ℕ) (o : Operation) → (next_in ps (standing h t) ≡ Some (NextValue.Undoes o))
+        ↔ CanUndo ps h t (given h + 1) o }
 {}
 
 /// It is over, with this outcome, exactly where the rule of the log allows the End.
 #[tactic(auto, using(crate::proofs::Allowing::ends_allowed))]
 pub fn ends_where_allowed()
-    ensures { (ps : List Checked) (h : List Event) (t : ℕ) (o : HowEnded) → (next_in ps (standing h t) ≡ Some (NextValue.Over o)) ↔ CanEnd ps h t o }
+    ensures { (ps : List Checked) (h : List Event) (t : ℕ) (o : HowEnded) → (next_in ps (standing h t) ≡ Some (NextValue.Over o))
+        ↔ CanEnd ps h t o }
 {}
 
 /// Numbers that were all answered stay so, whatever event is allowed next.
@@ -153,14 +167,16 @@ pub fn redone_in_order()
 /// Behind every legal history, and whatever is known of data components, each operation in flight is
 /// covered by the locks of its transaction's call.
 pub fn all_in_flight_covered()
-    ensures { (ps : List Checked) (h : List Event) (sites : List SiteValue) → AllGood ps → Legal ps h → (n : ℕ) (f : Flight) → InFlight h sites n f
+    ensures { (ps : List Checked) (h : List Event) (sites : List SiteValue) → AllGood ps → Legal ps h → (n : ℕ) (f : Flight)
+        → InFlight h sites n f
         → allows (held_for (decls ps) (call_of h f.txn) (target f.op)) (is_read f.op) ≡ true }
 {}
 
 /// And no two of them conflict.
 #[tactic(auto, using(crate::proofs::Restarts::in_flight_apart))]
 pub fn none_in_flight_conflict()
-    ensures { (ps : List Checked) (h : List Event) (sites : List SiteValue) → AllGood ps → Legal ps h → (m n : ℕ) (f g : Flight) → InFlight h sites m f → InFlight h sites n g
+    ensures { (ps : List Checked) (h : List Event) (sites : List SiteValue) → AllGood ps → Legal ps h → (m n : ℕ) (f g : Flight)
+        → InFlight h sites m f → InFlight h sites n g
         → m ≢ n → conflict f.op g.op ≡ false }
 {}
 

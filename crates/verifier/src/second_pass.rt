@@ -41,7 +41,8 @@ fn go_on(
 ) -> Result<bool, AllocError>
     ensures long { length pending.new ≡ length pending.old }
     ensures next { IfOk result (λ falls. next_by kinds.old effect ≡ (if falls then Some kinds.new else None)) }
-    ensures jump { OnOk result ((at : ℕ) → at < length pending.old → kept pending.new at ≡ along target (jump_by kinds.old effect) at (kept pending.old at)) }
+    ensures jump { OnOk result ((at : ℕ) → at < length pending.old
+        → kept pending.new at ≡ along target (jump_by kinds.old effect) at (kept pending.old at)) }
 {
     match effect {
         Effect::Falls => Ok(true),
@@ -81,7 +82,9 @@ fn fall(
 ) -> Result<bool, AllocError>
     requires { at < 4096 }
     ensures long { length pending.new ≡ length pending.old }
-    ensures ok { IfOk result (λ stays. (k : ℕ) → at < k → k < length pending.old → known (at + 1) (if stays then Some kinds.now else None) pending.new k ≡ known next (if falls then Some kinds.now else None) pending.old k) }
+    ensures ok { IfOk result (λ stays. (k : ℕ) → at < k → k < length pending.old
+        → known (at + 1) (if stays then Some kinds.now else None) pending.new k
+        ≡ known next (if falls then Some kinds.now else None) pending.old k) }
 {
     if !falls || next == at + 1 {
         return Ok(falls);
@@ -102,7 +105,9 @@ fn step(
     requires { at < 4096 }
     ensures long { length pending.new ≡ length pending.old }
     ensures violation { IfOk result (λ v. v ≡ violation_by decl.now (Some (Place.Insn insn.now)) falling.old) }
-    ensures ways { IfOk result (λ v. v ≡ None → (k : ℕ) → at < k → k < length pending.old → known (at + 1) falling.new pending.new k ≡ along_from decl.now at (Some (Place.Insn insn.now)) falling.old k (kept pending.old k)) }
+    ensures ways { IfOk result (λ v. v ≡ None → (k : ℕ) → at < k → k < length pending.old
+        → known (at + 1) falling.new pending.new k
+        ≡ along_from decl.now at (Some (Place.Insn insn.now)) falling.old k (kept pending.old k)) }
 {
     let Some(kinds) = falling else {
         return Ok(None);
