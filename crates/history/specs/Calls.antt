@@ -26,28 +26,20 @@ txn_of (End t o) = t
 abbrev pub admitted : List Event → ℕ
 admitted [] = 0
 admitted (Admit t p args ∷ h) = admitted h + 1
-admitted (Ask t n o ∷ h) = admitted h
-admitted (Answer t n said ∷ h) = admitted h
-admitted (Undo t n o ∷ h) = admitted h
-admitted (End t o ∷ h) = admitted h
+admitted (_ ∷ h) = admitted h
 
 -- the call of a transaction that is open: admitted, and not ended
 abbrev pub open_call : List Event → ℕ → Option Call
 open_call [] t = None
 open_call (Admit u p args ∷ h) t = if u == t then Some (record { proc = p; args = args }) else open_call h t
-open_call (Ask u n o ∷ h) t = open_call h t
-open_call (Answer u n said ∷ h) t = open_call h t
-open_call (Undo u n o ∷ h) t = open_call h t
 open_call (End u o ∷ h) t = if u == t then None else open_call h t
+open_call (_ ∷ h) t = open_call h t
 
 -- the call with which a transaction was admitted, whether it ended or not
 abbrev pub call_of : List Event → ℕ → Option Call
 call_of [] t = None
 call_of (Admit u p args ∷ h) t = if u == t then Some (record { proc = p; args = args }) else call_of h t
-call_of (Ask u n o ∷ h) t = call_of h t
-call_of (Answer u n said ∷ h) t = call_of h t
-call_of (Undo u n o ∷ h) t = call_of h t
-call_of (End u o ∷ h) t = call_of h t
+call_of (_ ∷ h) t = call_of h t
 
 -- the locks of a procedure's call: each record that a slot names, in its greatest mode
 abbrev pub locks_by : Option Declaration → List ℕ → Wanted

@@ -5,16 +5,14 @@ use Rattle.std.specs.Prelude.{List, [], ◌∷◌, ◌++◌, Option, Some, None}
 use Rattle.access_slots.specs.declared.op.Op.{Op}
 use Rattle.request_numbers.specs.Given.{others}
 use Rattle.tc_log.specs.declared.event.Event.{Event}
-use Rattle.tc_log.specs.declared.event.Event.TheVariants.{Admit, Ask, Answer, Undo, End}
+use Rattle.tc_log.specs.declared.event.Event.TheVariants.{Ask, Answer, Undo}
 
 -- how many numbers were given out, which is the last one
 abbrev pub given : List Event → ℕ
 given [] = 0
-given (Admit t p args ∷ h) = given h
 given (Ask t n o ∷ h) = given h + 1
-given (Answer t n said ∷ h) = given h
 given (Undo t n o ∷ h) = given h + 1
-given (End t o ∷ h) = given h
+given (_ ∷ h) = given h
 
 -- an operation and its transaction
 pub record Flight : Type 0 where
@@ -24,11 +22,10 @@ pub record Flight : Type 0 where
 -- the operation under a number that was given out and isn't answered
 abbrev pub open_op : List Event → ℕ → Option Flight
 open_op [] m = None
-open_op (Admit t p args ∷ h) m = open_op h m
 open_op (Ask t n o ∷ h) m = if n == m then Some (record { txn = t; op = o }) else open_op h m
 open_op (Answer t n said ∷ h) m = if n == m then None else open_op h m
 open_op (Undo t n o ∷ h) m = if n == m then Some (record { txn = t; op = o }) else open_op h m
-open_op (End t o ∷ h) m = open_op h m
+open_op (_ ∷ h) m = open_op h m
 
 abbrev pub is_flight : Option Flight → Bool
 is_flight None = false
@@ -41,11 +38,10 @@ is_open h n = is_flight (open_op h n)
 -- the open numbers, in the order in which they were given out
 abbrev pub open_numbers : List Event → List ℕ
 open_numbers [] = []
-open_numbers (Admit t p args ∷ h) = open_numbers h
 open_numbers (Ask t n o ∷ h) = open_numbers h ++ n ∷ []
 open_numbers (Answer t n said ∷ h) = others n (open_numbers h)
 open_numbers (Undo t n o ∷ h) = open_numbers h ++ n ∷ []
-open_numbers (End t o ∷ h) = open_numbers h
+open_numbers (_ ∷ h) = open_numbers h
 
 -- each number up to n was given out and answered
 pub record AllAnswered (h : List Event) (n : ℕ) : Type 0 where

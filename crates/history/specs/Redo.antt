@@ -4,9 +4,9 @@ use Rattle.std.specs.Prelude.{◌≡◌, ℕ, zero, suc, ◌+◌, ◌-◌, ◌<�
 use Rattle.access_slots.specs.Locks.{target}
 use Rattle.access_slots.specs.declared.op.Op.{Op}
 use Rattle.access_slots.specs.declared.op.Said.{Said}
-use Rattle.access_slots.specs.declared.op.Said.TheVariants.{Value, Absent, Done, Duplicate, Missing, NoRoom, Old}
+use Rattle.access_slots.specs.declared.op.Said.TheVariants.{Done}
 use Rattle.tc_log.specs.declared.event.Event.{Event}
-use Rattle.tc_log.specs.declared.event.Event.TheVariants.{Admit, Ask, Answer, Undo, End}
+use Rattle.tc_log.specs.declared.event.Event.TheVariants.{Answer}
 use Rattle.history.specs.Flight.{Flight, given, open_op}
 use Rattle.history.specs.declared.Answered.{Answered}
 
@@ -17,11 +17,8 @@ with_answer n said (Some f) = Some (record { txn = f.txn; number = n; op = f.op;
 -- what was answered under a number
 abbrev pub answered : List Event → ℕ → Option Answered
 answered [] m = None
-answered (Admit t p args ∷ h) m = answered h m
-answered (Ask t n o ∷ h) m = answered h m
 answered (Answer t n said ∷ h) m = if n == m then with_answer m said (open_op h m) else answered h m
-answered (Undo t n o ∷ h) m = answered h m
-answered (End t o ∷ h) m = answered h m
+answered (_ ∷ h) m = answered h m
 
 abbrev pub is_done : Said → Bool
 is_done (Done former) = true
@@ -55,4 +52,5 @@ to_redo h d redone = first_done h d redone (given h - redone)
 -- the same, told without a search
 abbrev pub IsToRedo : List Event → ℕ → ℕ → Option Answered → Type 0
 IsToRedo h d redone None = (m : ℕ) → redone < m → done_at h d m ≡ None
-IsToRedo h d redone (Some a) = (redone < a.number) × (done_at h d a.number ≡ Some a) × ((m : ℕ) → redone < m → m < a.number → done_at h d m ≡ None)
+IsToRedo h d redone (Some a) =
+    (redone < a.number) × (done_at h d a.number ≡ Some a) × ((m : ℕ) → redone < m → m < a.number → done_at h d m ≡ None)

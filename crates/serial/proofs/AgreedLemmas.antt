@@ -18,7 +18,8 @@ use Rattle.transactions.specs.Reached.{AllGood}
 use Rattle.transactions.specs.Legal.{Legal}
 use Rattle.transactions.proofs.StandingLemmas.{some_same, none_some}
 use Rattle.transactions.proofs.Flights.{flight}
-use Rattle.serial.specs.Values.{told, said_freely, is_done}
+use Rattle.serial.specs.Values.{told, said_freely}
+use Rattle.history.specs.Redo.{is_done}
 use Rattle.serial.specs.Serial.{done, now, HonestTo, IsHonest, Honest}
 use Rattle.serial.specs.Lists.{logged, dc_of, writes_on}
 use Rattle.serial.specs.Audit.{value_to, list_of, incarnation_of, StandsSo, StandsThere, IsFree, IsKept, IsAgreed}

@@ -31,7 +31,7 @@ use Rattle.tc_core.specs.Redo.{with_site, news_fault_by, IsRedone, after_told, r
 use Rattle.tc_core.specs.declared.state.Down.{Down}
 use Rattle.tc_core.specs.declared.state.NewsFault.TheVariants as fault
 use Rattle.tc_core.specs.declared.state.Redo.TheVariants as redo
-use Rattle.history.specs.Redo.{done_at, to_redo, IsToRedo}
+use Rattle.history.specs.Redo.{done_at, to_redo, IsToRedo, is_done}
 use Rattle.history.specs.declared.Answered.{Answered}
 use Rattle.transactions.specs.declared.Site.{Site}
 use Rattle.transactions.specs.declared.Redoing.{Redoing}
@@ -53,7 +53,6 @@ use Rattle.tc_world.specs.declared.step.Outcome.{Outcome}
 use Rattle.tc_world.specs.declared.step.Illegal.{Illegal}
 use Rattle.tc_world.specs.OneAtATime.{is_forge, NoForge, IsKnown, EachIsKnown, IsOneAtATime}
 use Rattle.tc_world.specs.Joining.Listed.{IsListed}
-use Rattle.serial.specs.Values.{is_done}
 use Rattle.serial.specs.Serial.{done, HonestTo, Honest}
 use Rattle.serial.specs.Serial.{now as serial_now}
 use Rattle.serial.specs.Lists.{logged, dc_of}
@@ -75,7 +74,7 @@ use Rattle.serial.proofs.LogLemmas.{log_facts}
 use Rattle.serial.proofs.SiteLemmas.{behind_end, stands_less, site_checkpoint, site_restart, site_redone, site_up}
 use Rattle.serial.proofs.SitesLemmas.{set_same, ok_sent, ok_copy, ok_reply, ok_news, ok_stored, ok_resited, ok_told, ok_answered}
 use Rattle.serial.proofs.WireLemmas.{Becomes, equal, performs_ok, reply_facts}
-use Rattle.serial.proofs.RedoneLemmas.{same_done, found_done, none_left, before_next, next_above, one_less, over_low}
+use Rattle.serial.proofs.RedoneLemmas.{found_done, none_left, before_next, next_above, one_less, over_low}
 
 -- ---- what the state keeps
 
@@ -347,7 +346,7 @@ redone_listed w x d known is s y =
     dc = redo_dc w.core.procs h known.legal w.core.sites d is.a under
 
     did : is_done is.a.said ≡ true
-    did = sym (same_done is.a.said) ∙ both_left _ _ it.done
+    did = both_left _ _ it.done
 
     same_op : y.o ≡ is.a.op
     same_op = some_same y.o is.a.op (sym y.logs ∙ (ap (logged h) is.same_number ∙ so.0))
@@ -509,7 +508,7 @@ redoes_listed w v d (Some x) o known at s goes = by x.redo refl goes
                 dc = refl;
                 said = a.said;
                 was = so.1;
-                did = sym (same_done a.said) ∙ both_left _ _ it.done;
+                did = both_left _ _ it.done;
                 p = p.0;
                 next = p.1;
                 before = subst (λ (i : ℕ). StandsTo (logged h) (done h) i p.0 (s.ok.v i)) (sym dc) before;

@@ -7,7 +7,7 @@ use Rattle.access_slots.specs.declared.op.Said.{Said}
 use Rattle.data_component.specs.Performed.{Performed, value_of, said_under}
 use Rattle.data_component.specs.Store.{Store}
 use Rattle.transactions.specs.InFlight.{site_at}
-use Rattle.serial.specs.Values.{is_done}
+use Rattle.history.specs.Redo.{is_done}
 use Rattle.serial.specs.Serial.{serial, done, EndsAsSerial, IsUnwritten}
 use Rattle.serial.specs.Lists.{logged, dc_of, NoTwice, InStep}
 use Rattle.tc_world.specs.Whole.{Whole}
@@ -45,14 +45,19 @@ pub record IsOneAtATime (w : Whole) : Type 0 where
   -- each call that was committed or aborted ended as it does when calls are run one after another
   pub answers : EndsAsSerial w.core.procs w.core.events
   -- each record that no open transaction may write has the value at its data component that these calls leave
-  pub values : (d : ℕ) (s : Store) (r : Record) → slice_get w.dcs d ≡ Some s → IsKnown w d s → r.dc ≡ d → IsUnwritten w.core.procs w.core.events r → value_of s.list r ≡ serial w.core.procs w.core.events r
+  pub values : (d : ℕ) (s : Store) (r : Record) → slice_get w.dcs d ≡ Some s → IsKnown w d s → r.dc ≡ d
+      → IsUnwritten w.core.procs w.core.events r → value_of s.list r ≡ serial w.core.procs w.core.events r
   -- each operation that was answered is one of a data component that is there
-  pub there : (n : ℕ) (o : Op) (said : Said) → logged w.core.events n ≡ Some o → said_under (done w.core.events) n ≡ Some said → (s : Store) × (slice_get w.dcs (dc_of o) ≡ Some s)
+  pub there : (n : ℕ) (o : Op) (said : Said) → logged w.core.events n ≡ Some o → said_under (done w.core.events) n ≡ Some said
+      → (s : Store) × (slice_get w.dcs (dc_of o) ≡ Some s)
   -- each that was done stands in its list, with its answer
-  pub stands : (d : ℕ) (s : Store) (n : ℕ) (o : Op) (said : Said) → slice_get w.dcs d ≡ Some s → IsKnown w d s → dc_of o ≡ d → logged w.core.events n ≡ Some o → said_under (done w.core.events) n ≡ Some said → is_done said ≡ true → said_under s.list n ≡ Some said
+  pub stands : (d : ℕ) (s : Store) (n : ℕ) (o : Op) (said : Said) → slice_get w.dcs d ≡ Some s → IsKnown w d s → dc_of o ≡ d
+      → logged w.core.events n ≡ Some o → said_under (done w.core.events) n ≡ Some said → is_done said ≡ true
+      → said_under s.list n ≡ Some said
   -- whether it is up or not: no number stands twice
   pub once : (d : ℕ) (s : Store) → slice_get w.dcs d ≡ Some s → NoTwice s.list
   -- and each number in a list was asked or undone at that data component with that operation
-  pub asked : (d : ℕ) (s : Store) (k : ℕ) (e : Performed) → slice_get w.dcs d ≡ Some s → slice_get s.list k ≡ Some e → (logged w.core.events e.0 ≡ Some e.1) × (dc_of e.1 ≡ d)
+  pub asked : (d : ℕ) (s : Store) (k : ℕ) (e : Performed) → slice_get w.dcs d ≡ Some s → slice_get s.list k ≡ Some e
+      → (logged w.core.events e.0 ≡ Some e.1) × (dc_of e.1 ≡ d)
   -- of each record the operations done are the log's, in the order of numbers, and then at most one of an open number
   pub between : (d : ℕ) (s : Store) (r : Record) → slice_get w.dcs d ≡ Some s → IsKnown w d s → r.dc ≡ d → InStep w.core.events s.list r

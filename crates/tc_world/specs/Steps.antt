@@ -85,7 +85,8 @@ undoes w t = told w t (after_undo w.core (undo_reply w.core t)) (undo_reply w.co
 abbrev pub ends_by : Whole → ℕ → Option Standing → Option Ending → Fate
 ends_by w t None o = Stops illegal.NoTxn
 ends_by w t (Some s) None = Stops illegal.NotOver
-ends_by w t (Some s) (Some o) = Goes (outcome.Ended (record { place = length w.core.events; txn = t; outcome = o })) (with_core w (with_event w.core (event.End t o)))
+ends_by w t (Some s) (Some o) =
+    Goes (outcome.Ended (record { place = length w.core.events; txn = t; outcome = o })) (with_core w (with_event w.core (event.End t o)))
 
 abbrev pub ends : Whole → ℕ → Fate
 ends w t = ends_by w t (standing w.core.events t) (end_of w.core t)

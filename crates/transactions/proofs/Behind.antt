@@ -8,7 +8,7 @@ use Rattle.tc_log.specs.declared.event.Event.TheVariants.{Admit, Ask, Answer, Un
 use Rattle.history.specs.Calls.{txn_of}
 use Rattle.history.specs.Places.{StandsAt}
 use Rattle.transactions.specs.declared.Sent.{Sent}
-use Rattle.transactions.specs.Sending.{Sends, IsSentBehind}
+use Rattle.transactions.specs.Sending.{SendsOperation, IsSentBehind}
 use Rattle.transactions.specs.Standing.{Standing, standing, moved, sent_as}
 use Rattle.transactions.proofs.StandingLemmas.{some_same, none_some, standing-same, standing-other}
 
@@ -23,7 +23,7 @@ later_still e h place t n o b = record {
 }
 
 -- the newest event sends it
-sent_now : (e : Event) (h : List Event) (place t n : ℕ) (o : Op) → place < length h → Sends e t n o → IsSentBehind (e ∷ h) place t n o
+sent_now : (e : Event) (h : List Event) (place t n : ℕ) (o : Op) → place < length h → SendsOperation e t n o → IsSentBehind (e ∷ h) place t n o
 sent_now e h place t n o before sends = record { at = length h; behind = before; event = e; stands = record { later = []; earlier = h; is = refl; count = refl }; sends = sends }
 
 sent_is : (m : ℕ) (q : Op) (b : Bool) (r : Sent) → sent_as m q b ≡ Some r → (m ≡ r.number) × (q ≡ r.op)
@@ -31,7 +31,7 @@ sent_is m q b r e = (let it = some_same _ r e in (ap (λ (x : Sent). x.number) i
 
 -- what the event makes of a transaction that then waits, it sends
 sends_it : (e : Event) (was : Option Standing) (t : ℕ) (s : Standing) (r : Sent) → txn_of e ≡ t → moved e was ≡ Some s
-    → s.sent ≡ Some r → Sends e t r.number r.op
+    → s.sent ≡ Some r → SendsOperation e t r.number r.op
 sends_it (Admit u p args) was t s r own is waits = absurd (none_some _ r (ap (λ (x : Standing). x.sent) (sym (some_same _ s is))) waits)
 sends_it (Ask u m q) None t s r own is waits = absurd (let bad : None ≡ Some s = is in cc)
 sends_it (Ask u m q) (Some v) t s r own is waits = (let it = sent_is m q false r (ap (λ (x : Standing). x.sent) (some_same _ s is) ∙ waits) in (own, it.0, it.1))

@@ -6,12 +6,12 @@ use Rattle.tc_log.specs.declared.event.Event.TheVariants.{Admit, Ask, Answer, Un
 use Rattle.history.specs.Places.{StandsAt}
 
 -- the event sends this operation of the transaction under the number, as a question or as an undo
-abbrev pub Sends : Event → ℕ → ℕ → Op → Type 0
-Sends (Admit u p args) t n o = ⊥
-Sends (Ask u m q) t n o = (u ≡ t) × (m ≡ n) × (q ≡ o)
-Sends (Answer u m said) t n o = ⊥
-Sends (Undo u m q) t n o = (u ≡ t) × (m ≡ n) × (q ≡ o)
-Sends (End u outcome) t n o = ⊥
+abbrev pub SendsOperation : Event → ℕ → ℕ → Op → Type 0
+SendsOperation (Admit u p args) t n o = ⊥
+SendsOperation (Ask u m q) t n o = (u ≡ t) × (m ≡ n) × (q ≡ o)
+SendsOperation (Answer u m said) t n o = ⊥
+SendsOperation (Undo u m q) t n o = (u ≡ t) × (m ≡ n) × (q ≡ o)
+SendsOperation (End u outcome) t n o = ⊥
 
 -- behind this place of the log the transaction's operation is sent under the number
 pub record IsSentBehind (h : List Event) (place t n : ℕ) (o : Op) : Type 0 where
@@ -19,4 +19,4 @@ pub record IsSentBehind (h : List Event) (place t n : ℕ) (o : Op) : Type 0 whe
   pub behind : place < at
   pub event : Event
   pub stands : StandsAt h at event
-  pub sends : Sends event t n o
+  pub sends : SendsOperation event t n o

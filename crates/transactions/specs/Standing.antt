@@ -82,22 +82,19 @@ abbrev pub sent_as : ℕ → Op → Bool → Option Sent
 sent_as n o undoing = Some (record { number = n; op = o; undoing = undoing })
 
 abbrev pub asked : ℕ → Op → Standing → Standing
-asked n o s = record { call = s.call; answers = s.answers; sent = sent_as n o false; full = s.full; undo = s.undo; tries = s.tries; used = s.used + 1; last = n }
+asked n o s = record s { sent = sent_as n o false; used = s.used + 1; last = n }
 
 abbrev pub undone : ℕ → Op → Standing → Standing
-undone n o s = record { call = s.call; answers = s.answers; sent = sent_as n o true; full = s.full; undo = s.undo; tries = s.tries + 1; used = s.used + 1; last = n }
+undone n o s = record s { sent = sent_as n o true; tries = s.tries + 1; used = s.used + 1; last = n }
 
 abbrev pub answered : Said → Standing → Standing
 answered said s =
-    record {
-      call = s.call;
+    record s {
       answers = answers_after s.sent said s.answers;
       sent = None;
       full = full_after s.sent said s.full;
       undo = undo_after s.sent said s.undo;
       tries = tries_after s.sent said s.tries;
-      used = s.used;
-      last = s.last;
     }
 
 -- what an event makes of its transaction

@@ -46,7 +46,7 @@ use Rattle.register_kinds.proofs.Memory.{laid_of}
 use Rattle.register_kinds.proofs.Sound.{step_sound}
 use Rattle.verifier.specs.Flow.{jump_flaw, fall_flaw, call_flaw, or_else, flow_violation, flow_by, flow_at}
 use Rattle.verifier.specs.Verdict.{first_flaw, first_violation, or_first}
-use Rattle.verifier.specs.Checked.{IsAccepted}
+use Rattle.verifier.specs.Accepted.{IsAccepted}
 use Rattle.verifier.specs.Calls.{is_call, is_call_place}
 use Rattle.verifier.proofs.Firsts.{all_none}
 use Rattle.verifier.proofs.Behind.{KnownWeaker, known_on, known_later, arrives, HasInsn, head_insn, behind, or_none}

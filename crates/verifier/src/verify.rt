@@ -42,7 +42,8 @@ const _: () = prove!(size_of::<Place>() == 24);
 impl Model for Verified {
     ghost use Rattle.std.specs.Prelude.{◌≡◌, count_by};
     ghost use Rattle.verifier.specs.Calls.{is_call_place};
-    ghost use Rattle.verifier.specs.Checked.{Checked, IsAccepted};
+    ghost use Rattle.verifier.specs.Accepted.{IsAccepted};
+    ghost use Rattle.verifier.specs.Checked.{Checked};
 
     ghost Value = { Checked };
 

@@ -7,4 +7,5 @@ use Rattle.tc_world.specs.Whole.{Whole}
 
 pub record IsListed (w : Whole) : Type 0 where
   pub honest : Honest w.core.events
-  pub ok : AreOk (logged w.core.events) (open_op w.core.events) (done w.core.events) (given w.core.events) w.core.sites w.dcs w.copies w.replies w.news
+  pub ok : AreOk (logged w.core.events) (open_op w.core.events) (done w.core.events) (given w.core.events) w.core.sites
+      w.dcs w.copies w.replies w.news
