@@ -44,8 +44,8 @@ use Rattle.worker_pool.specs.declared.answer.Progress.{Progress}
 use Rattle.worker_pool.specs.declared.answer.Progress.TheVariants.{Waiting, Begun, Answered}
 use Rattle.tc_core.specs.Admission.{call_of}
 use Rattle.worker_pool.specs.Answers.{place_of, has_place, is_some, answer_of, StandsBehind, IsAdmitted, Sends}
-use Rattle.worker_pool.specs.Answers.{IsEnded, IsInDoubt, RefusalFits, StaysBut, BeginWith, IsMoment, IsBlocked, AnswerFits}
-use Rattle.worker_pool.specs.Kept.{ends, serial_of, txn_of, place_in, is_placed, IsOpen, IsBegun, Fits, IsOfCall, Keeps}
+use Rattle.worker_pool.specs.Answers.{IsEnded, IsInDoubt, RefusalFits, StaysBut, BeginWith, IsMoment, WasBlocked, AnswerFits}
+use Rattle.worker_pool.specs.Kept.{ends, serial_of, txn_of, place_in, is_placed, IsOpen, IsBegun, Fits, IsAdmittedFor, Keeps}
 use Rattle.worker_pool.specs.Joining.Seen.{IsAnswered, AnswersStay}
 use Rattle.worker_pool.specs.Joining.Moves.{MovesOn}
 use Rattle.worker_pool.specs.declared.desk.Next.{Next}
@@ -196,7 +196,7 @@ owner_back ps k p p' at same i q t at' own =
     ]
 
 of_call : (calls : List Call) (ps qs : List Progress) (t proc : ℕ) (args : List ℕ)
-    → (x : IsOfCall calls ps t proc args) → Owner qs x.k t → IsOfCall calls qs t proc args
+    → (x : IsAdmittedFor calls ps t proc args) → Owner qs x.k t → IsAdmittedFor calls qs t proc args
 of_call calls ps qs t proc args x y = record { k = x.k; progress = y.progress; at = y.at; own = y.own; c = x.c; of = x.of; same = x.same }
 
 same_named : (c : named.Call) (proc : ℕ) (args : List ℕ) → c.proc ≡ proc → c.args ≡ args → c ≡ record { proc = proc; args = args }

@@ -113,7 +113,7 @@ pub record IsMoment (start then now : Core) : Type 0 where
 module _ (start now : Core) (c : Call) where
   -- at one moment others stood in the way of the call, each of them in doubt or stuck, and this was the least record in the way and
   -- its least holder. The holder was admitted, and its call's lock on the record and this call's exclude each other
-  pub record IsBlocked (txn : Option ℕ) (b : Busy) : Type 0 where
+  pub record WasBlocked (txn : Option ℕ) (b : Busy) : Type 0 where
     pub waits : txn ≡ None
     pub takes : Takes start c
     pub then : Core
@@ -138,5 +138,5 @@ module _ (start now : Core) (c : Call) where
   AnswerFits (Aborted v p) txn = IsEnded start now.events c txn p (outcome.Aborted v)
   AnswerFits (NoRoom p) txn = IsEnded start now.events c txn p outcome.NoRoom
   AnswerFits (InDoubt n) txn = IsInDoubt start now.events c txn n
-  AnswerFits (Blocked b) txn = IsBlocked txn b
+  AnswerFits (Blocked b) txn = WasBlocked txn b
   AnswerFits (Refused r) txn = (txn ≡ None) × RefusalFits start now.events c r

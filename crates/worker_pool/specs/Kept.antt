@@ -60,7 +60,7 @@ Fits start now c (Begun t) = IsBegun start now.events c t.serial
 Fits start now c (Answered a t) = AnswerFits start now c a (serial_of t)
 
 -- the call in this place of the list was admitted as the transaction
-pub record IsOfCall (calls : List Call) (ps : List Progress) (t proc : ℕ) (args : List ℕ) : Type 0 where
+pub record IsAdmittedFor (calls : List Call) (ps : List Progress) (t proc : ℕ) (args : List ℕ) : Type 0 where
   pub k : ℕ
   pub progress : Progress
   pub at : slice_get ps k ≡ Some progress
@@ -77,7 +77,7 @@ pub record Keeps (start : Core) (calls : List Call) (state : Core) (ps : List Pr
   pub recent : (k : ℕ) (p : Progress) (t : ℕ) → slice_get ps k ≡ Some p → txn_of p ≡ Some t → t ≤ admitted state.events
   pub own : (i j : ℕ) (p q : Progress) (t : ℕ) → slice_get ps i ≡ Some p → slice_get ps j ≡ Some q → txn_of p ≡ Some t → txn_of q ≡ Some t → i ≡ j
   pub known : (place t proc : ℕ) (args : List ℕ) → length start.events ≤ place
-      → StandsAt state.events place (Admit t proc args) → IsOfCall calls ps t proc args
+      → StandsAt state.events place (Admit t proc args) → IsAdmittedFor calls ps t proc args
   pub below : (k : ℕ) (p : Progress) (place : ℕ) → slice_get ps k ≡ Some p → place_in p ≡ Some place → place < length state.events
   pub places : (i j : ℕ) (p q : Progress) (place : ℕ) → slice_get ps i ≡ Some p → slice_get ps j ≡ Some q
       → place_in p ≡ Some place → place_in q ≡ Some place → i ≡ j

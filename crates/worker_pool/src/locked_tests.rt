@@ -3,9 +3,10 @@
 use crate::locked_dcs::LockedDcs;
 use crate::pool::OpenGate;
 use crate::test_pool::{all_commit, first_answers};
-use crate::test_state::{PUT, PUT_BESIDE, all_pushed, dc, push_call, record, value};
+use crate::test_state::{PUT, PUT_BESIDE, all_pushed, dc, push_call};
 use access_slots::slot::Record;
 use data_component::dc::Dc;
+use samples::{record, value};
 use std::alloc::{AllocError, Global};
 use std::process::Abort;
 use std::sync::Wait;

@@ -3,9 +3,10 @@
 use crate::answer::Answer;
 use crate::pool::{Link, OpenGate, run};
 use crate::test_pool::{answers_of, begun, behind_put};
-use crate::test_state::{PUT, all_pushed, dc, moves, push_call, record, state};
+use crate::test_state::{PUT, all_pushed, dc, moves, push_call, state};
 use access_slots::op::{News, Reply, Wire};
 use data_component::dc::Dc;
+use samples::record;
 use std::alloc::{AllocError, Global};
 use std::process::Abort;
 use std::sync::{Mutex, Wait};

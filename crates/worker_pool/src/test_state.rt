@@ -1,71 +1,10 @@
 //! A state in which the tests' procedures are loaded, and calls of them.
 
-use access_slots::decl::Decl;
-use access_slots::slot::{Key, Mode, Record, Slot, Value};
-use bpf_asm::assemble::assemble;
 use data_component::dc::Dc;
+use samples::{bad_procedure, call, get_procedure, load, move_procedure, put_procedure};
 use std::alloc::{AllocError, Global};
 use std::test::Fail;
 use tc_core::state::{Call, TcState};
-use verifier::verify::{Verified, verify};
-
-// Inserts a record with a number.
-const PUT_TEXT: &str = "ldxdw r6, [r1+8]
-mov r1, 0
-call 5
-stxdw [r0+0], r6
-mov r1, 0
-call 2
-exit
-";
-
-// Reads a record; aborts where there is none.
-const GET_TEXT: &str = "mov r1, 0
-call 1
-jeq r0, 0, +2
-mov r0, 0
-exit
-mov r0, 1
-exit
-";
-
-// Updates a record, and aborts.
-const BAD_TEXT: &str = "mov r1, 0
-call 1
-jeq r0, 0, +5
-stdw [r0+0], 7
-mov r1, 0
-call 3
-mov r0, 5
-exit
-mov r0, 1
-exit
-";
-
-// Moves an amount from one record to another.
-const MOVE_TEXT: &str = "ldxdw r6, [r1+16]
-mov r1, 0
-call 1
-jeq r0, 0, +16
-mov r7, r0
-mov r1, 1
-call 1
-jeq r0, 0, +12
-mov r8, r0
-ldxdw r2, [r7+0]
-sub r2, r6
-stxdw [r7+0], r2
-ldxdw r2, [r8+0]
-add r2, r6
-stxdw [r8+0], r2
-mov r1, 0
-call 3
-mov r1, 1
-call 3
-exit
-mov r0, 1
-exit
-";
 
 /// The number of `put`.
 pub(crate) const PUT: usize = 0;
@@ -85,54 +24,13 @@ pub(crate) const PUT_BESIDE: usize = 4;
 /// A number that no procedure has.
 pub(crate) const NO_PROCEDURE: usize = 5;
 
-// A slot whose key is the argument of this number.
-fn slot(mode: Mode, dc: u16, argument: u8) -> Slot {
-    Slot {
-        mode,
-        dc,
-        table: 0,
-        key: Key::Arg(argument),
-    }
-}
-
-fn verified(alloc: Global, args: u8, slots: &[Slot], text: &str) -> Option<Verified> {
-    let code = assemble(alloc, text).ok()?;
-    let decl = Decl::new(args, slots).ok()?;
-    verify(alloc, code, decl).ok()
-}
-
-fn load(state: &mut TcState, name: &str, code: Verified) -> Option<usize> {
-    state.load(name, code).ok()
-}
-
-fn load_puts(alloc: Global, state: &mut TcState, name: &str, dc: u16) -> Option<usize> {
-    let code = verified(alloc, 2, &[slot(Mode::Write, dc, 0)], PUT_TEXT)?;
-    load(state, name, code)
-}
-
-fn load_get(alloc: Global, state: &mut TcState) -> Option<usize> {
-    let code = verified(alloc, 1, &[slot(Mode::Read, 0, 0)], GET_TEXT)?;
-    load(state, "get", code)
-}
-
-fn load_bad(alloc: Global, state: &mut TcState) -> Option<usize> {
-    let code = verified(alloc, 1, &[slot(Mode::Write, 0, 0)], BAD_TEXT)?;
-    load(state, "bad", code)
-}
-
-fn load_move(alloc: Global, state: &mut TcState) -> Option<usize> {
-    let slots = [slot(Mode::Write, 0, 0), slot(Mode::Write, 0, 1)];
-    let code = verified(alloc, 3, &slots, MOVE_TEXT)?;
-    load(state, "move", code)
-}
-
 // The number of the last. They have their numbers by the order in which they are loaded.
 fn load_all(alloc: Global, state: &mut TcState) -> Option<usize> {
-    load_puts(alloc, state, "put", 0)?;
-    load_get(alloc, state)?;
-    load_bad(alloc, state)?;
-    load_move(alloc, state)?;
-    load_puts(alloc, state, "put beside", 1)
+    load(state, "put", put_procedure(alloc, 0)?)?;
+    load(state, "get", get_procedure(alloc)?)?;
+    load(state, "bad", bad_procedure(alloc)?)?;
+    load(state, "move", move_procedure(alloc)?)?;
+    load(state, "put beside", put_procedure(alloc, 1)?)
 }
 
 /// A state for two components in which the procedures are loaded; none where memory is refused.
@@ -158,13 +56,6 @@ pub(crate) fn state(alloc: Global) -> Result<TcState, Fail> {
 /// A data component with room for so many rows.
 pub(crate) fn dc(alloc: Global, rows: usize) -> Result<Dc, AllocError> {
     Dc::new(alloc, rows, 10_000)
-}
-
-fn call(alloc: Global, proc: usize, args: &[u64]) -> Result<Call, AllocError> {
-    Ok(Call {
-        proc,
-        args: Vec::from_slice(alloc, args)?,
-    })
 }
 
 /// Appends a call of the procedure with this number.
@@ -228,20 +119,4 @@ pub(crate) fn moves(alloc: Global, amount: u64, count: usize) -> Result<Vec<Call
     let mut calls = Vec::new(alloc);
     let pushed = push_moves(alloc, &mut calls, amount, count);
     all_pushed(calls, pushed)
-}
-
-/// The record under this key.
-pub(crate) const fn record(key: u64) -> Record {
-    Record {
-        dc: 0,
-        table: 0,
-        key,
-    }
-}
-
-/// The eight bytes of a number, and zeros.
-pub(crate) fn value(number: u64) -> Value {
-    let mut value = [0; 64];
-    value[..8].copy_from_slice(&number.to_le_bytes());
-    value
 }
