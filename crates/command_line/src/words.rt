@@ -1,11 +1,13 @@
 //! The command line.
 
 ghost use Rattle.std.specs.Prelude.{◌≡◌, ℕ, Bool, List, [], true, false, Some, map, unwrap_or, IfOk, IfErr, IfSome, option_map, codes};
-ghost use Rattle.clap.specs.Words.{App, Row, app_of, with_subcommand, rule_of, kind_of, subcommand_of, subcommand_rows_of, takes, rows_of, found_of, first_of, all_of, fault_of, FailsBy};
+ghost use Rattle.clap.specs.Words.{App, Row, app_of, with_subcommand, rule_of, kind_of, subcommand_of};
+ghost use Rattle.clap.specs.Words.{subcommand_rows_of, takes, rows_of, found_of, first_of, all_of, fault_of, FailsBy};
 ghost use Rattle.clap.specs.declared.builder.command.Command.TheViews.{out-Command};
 ghost use Rattle.command_line.specs.Wanted.{WantsOrNoMemory, IsTaskOrNoMemory, IsNumbersOrNoMemory, IsWordFault, IsWrongOrNoMemory};
 ghost use Rattle.command_line.specs.Task.{Wish, Run, command_name};
-ghost use Rattle.command_line.specs.Said.{procd_app, exec_app, asm_app, dis_app, verify_app, world_app, run_app, file_rule, raw_rule, log_rule, audit_rule};
+ghost use Rattle.command_line.specs.Said.{procd_app, exec_app, asm_app, dis_app, verify_app, world_app, run_app};
+ghost use Rattle.command_line.specs.Said.{file_rule, raw_rule, log_rule, audit_rule};
 ghost use Rattle.command_line.specs.Said.{count_rule, stats_rule, Says, SaysWish, SaysRun, SaysCount, SaysNumbers, AllNumbers, value_of};
 ghost use Rattle.command_line.specs.Said.{IsWrong, IsNoCount, LacksNumber};
 
@@ -303,7 +305,8 @@ fn said<'a, S: AsStr>(alloc: Global, words: &'a [S]) -> Result<ArgMatches<'a>, E
 
 // The numbers that texts say, or `None` where one says none.
 fn numbers_of(alloc: Global, texts: &[&str]) -> Result<Option<Vec<u64>>, AllocError>
-    ensures some { IfOk result (λ r. AllNumbers (map (λ s. s.now) texts.now) → option_map (λ v. v.items) r ≡ Some (map value_of (map (λ s. s.now) texts.now))) }
+    ensures some { IfOk result (λ r. AllNumbers (map (λ s. s.now) texts.now)
+        → option_map (λ v. v.items) r ≡ Some (map value_of (map (λ s. s.now) texts.now))) }
     ensures all { IfOk result (λ r. IfSome r (λ v. AllNumbers (map (λ s. s.now) texts.now))) }
 {
     let mut numbers = Vec::new(alloc);
@@ -346,7 +349,8 @@ fn number_or(matches: &ArgMatches, name: &str, default: u64) -> Result<u64, Word
 
 // How calls are to be run.
 fn run_task(matches: &ArgMatches) -> Result<Task, WordFault>
-    ensures task { (workers tries : ℕ) (stats audit : Bool) → SaysRun (rows_of (found_of matches.now)) workers tries stats audit → IsTaskOrNoMemory (Run workers tries stats audit) result }
+    ensures task { (workers tries : ℕ) (stats audit : Bool) → SaysRun (rows_of (found_of matches.now)) workers tries stats audit
+        → IsTaskOrNoMemory (Run workers tries stats audit) result }
     ensures wrong { IfOk result (λ task. ¬ LacksNumber (codes "run") (rows_of (found_of matches.now))) }
     ensures err { IfErr result IsWordFault }
 {
@@ -362,7 +366,8 @@ fn run_task(matches: &ArgMatches) -> Result<Task, WordFault>
 
 // The task of the command of this name.
 fn task_of(alloc: Global, name: &str, matches: &ArgMatches) -> Result<Task, WordFault>
-    ensures task { (wish : Wish) → name.now ≡ command_name wish → SaysWish (rows_of (found_of matches.now)) wish → IsTaskOrNoMemory wish result }
+    ensures task { (wish : Wish) → name.now ≡ command_name wish → SaysWish (rows_of (found_of matches.now)) wish
+        → IsTaskOrNoMemory wish result }
     ensures wrong { IfOk result (λ task. ¬ LacksNumber name.now (rows_of (found_of matches.now))) }
     ensures err { IfErr result IsWordFault }
 {

@@ -103,7 +103,8 @@ pub rest_shorter : (text : List ℕ) (start : ℕ) → start < length text → i
 rest_shorter text start inside solid =
     let opened = drop-cons text start 0 inside in
     let xs = drop (suc start) text in
-    let some : position_or_len is_blank (drop start text) ≡ 1 + position_or_len is_blank xs = ap (position_or_len is_blank) opened ∙ ap (λ (b : Bool). cond (not b) (1 + position_or_len is_blank xs) 0) solid in
+    let some : position_or_len is_blank (drop start text) ≡ 1 + position_or_len is_blank xs =
+    ap (position_or_len is_blank) opened ∙ ap (λ (b : Bool). cond (not b) (1 + position_or_len is_blank xs) 0) solid in
     omega (arith, some, length-drop start text, length-drop (position_or_len is_blank (drop start text)) (drop start text))
 
 -- ---- all words of a text

@@ -40,7 +40,9 @@ with_words wanted count said = if count == wanted then said else Err BadLine
 
 -- dc ROWS OPS
 abbrev pub dc_said : ℕ → List ℕ → List ℕ → Result Line ScriptFault
-dc_said count rows ops = with_words 2 count (and_then (number_to 65536 rows) (λ r. and_then (number_to 1048576 ops) (λ o. Ok (line.Dc (record { rows = r; ops = o })))))
+dc_said count rows ops =
+    with_words 2 count (and_then (number_to 65536 rows) (λ r. and_then (number_to 1048576 ops) (λ o.
+    Ok (line.Dc (record { rows = r; ops = o })))))
 
 -- proc NAME ARGS
 abbrev pub proc_said : ℕ → List ℕ → List ℕ → Result Line ScriptFault
@@ -62,7 +64,8 @@ key_said word = if has 0 36 word then and_then (number_to 255 (drop 1 word)) arg
 -- slot read|write DC TABLE KEY
 abbrev pub slot_said : ℕ → List ℕ → List ℕ → List ℕ → List ℕ → Result Line ScriptFault
 slot_said count mode dc table key =
-    with_words 4 count (and_then (mode_said mode) (λ m. and_then (number_to 65535 dc) (λ d. and_then (number_to 65535 table) (λ t. and_then (key_said key) (λ k.
+    with_words 4 count (and_then (mode_said mode) (λ m. and_then (number_to 65535 dc) (λ d.
+    and_then (number_to 65535 table) (λ t. and_then (key_said key) (λ k.
     Ok (line.Slot (record { mode = m; dc = d; table = t; key = k })))))))
 
 -- end
@@ -94,13 +97,15 @@ abbrev pub answer_said : ℕ → List ℕ → List ℕ → List ℕ → Result S
 answer_said count word second third =
     if count == 2 then plain_answer word else
     if (count == 3) && bytes_eq word (codes "value") then and_then (decimal_said second) (λ n. Ok (said.Value (value_of n))) else
-    if (count == 4) && (bytes_eq word (codes "done") && bytes_eq second (codes "was")) then and_then (decimal_said third) (λ n. Ok (said.Done (Some (value_of n)))) else
+    if (count == 4) && (bytes_eq word (codes "done") && bytes_eq second (codes "was")) then
+    and_then (decimal_said third) (λ n. Ok (said.Done (Some (value_of n)))) else
     Err BadLine
 
 -- forge NUMBER SAID: a reply of incarnation 0
 abbrev pub forge_said : ℕ → List ℕ → List ℕ → List ℕ → List ℕ → Result Step ScriptFault
 forge_said count number word second third =
-    and_then (answer_said count word second third) (λ answer. and_then (decimal_said number) (λ n. Ok (step.Forge (record { number = n; incarnation = 0; said = answer }))))
+    and_then (answer_said count word second third) (λ answer. and_then (decimal_said number) (λ n.
+    Ok (step.Forge (record { number = n; incarnation = 0; said = answer }))))
 
 abbrev pub as_step : Result Step ScriptFault → Result Line ScriptFault
 as_step said = and_then said (λ s. Ok (line.Step s))
@@ -126,7 +131,8 @@ fixed_by First is_step count a b c d = Err BadLine
 fixed_by Call is_step count a b c d = Err BadLine
 
 abbrev pub fixed_said : Keyword → Bool → List (List ℕ) → Result Line ScriptFault
-fixed_said keyword is_step words = fixed_by keyword is_step (length words) (word_at 0 words) (word_at 1 words) (word_at 2 words) (word_at 3 words)
+fixed_said keyword is_step words =
+    fixed_by keyword is_step (length words) (word_at 0 words) (word_at 1 words) (word_at 2 words) (word_at 3 words)
 
 -- NAME ARG..
 abbrev pub named_said : List (List ℕ) → Result (List ℕ × List ℕ) ScriptFault

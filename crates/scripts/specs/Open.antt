@@ -25,7 +25,8 @@ slot_added o slot = if length o.insns == 0 then Ok (record o { slots = o.slots +
 -- code has at most 4096 slots
 abbrev pub insn_added : Open → Insn → Result Open ScriptFault
 insn_added o insn =
-    if nat_lt 4096 (length (places_of o.insns) + length (places_of (insn ∷ []))) then Err TooLong else Ok (record o { insns = o.insns ++ insn ∷ [] })
+    if nat_lt 4096 (length (places_of o.insns) + length (places_of (insn ∷ []))) then Err TooLong else
+    Ok (record o { insns = o.insns ++ insn ∷ [] })
 
 abbrev pub unless_declared : Option DeclFault → Result Procedure ScriptFault → Result Procedure ScriptFault
 unless_declared (Some fault) procedure = Err (Decl fault)

@@ -31,7 +31,13 @@ pub record Contents : Type 0 where
   pub calls : List Call
 
 abbrev pub contents_of : Script → Contents
-contents_of s = record { dcs = s.dcs.items; procedures = s.procedures.items; steps = s.steps.items; first = s.first.items; calls = s.calls.items }
+contents_of s = record {
+  dcs = s.dcs.items;
+  procedures = s.procedures.items;
+  steps = s.steps.items;
+  first = s.first.items;
+  calls = s.calls.items;
+}
 
 -- what was read so far: the names are those of the procedures and of the open one
 pub record State : Type 0 where
@@ -64,7 +70,8 @@ is_taken names name = list_any (bytes_eq name) names
 abbrev pub proc_added : State → List ℕ → ℕ → Result State ScriptFault
 proc_added s name args =
     if is_taken s.names name then Err NameTaken else
-    if may_go_on s && has_no_further s.contents then Ok (record s { names = s.names ++ name ∷ []; current = Some (begun name args) }) else Err Order
+    if may_go_on s && has_no_further s.contents then Ok (record s { names = s.names ++ name ∷ []; current = Some (begun name args) }) else
+    Err Order
 
 -- the open procedure changes
 abbrev pub reopened : State → Option Open → (Open → Result Open ScriptFault) → Result State ScriptFault
@@ -80,21 +87,25 @@ insn_written s insn = reopened s s.current (λ o. insn_added o insn)
 abbrev pub closed : State → Option Open → ℕ → Result State ScriptFault
 closed s None line = Err Order
 closed s (Some procedure) line =
-    and_then (finished procedure line) (λ p. Ok (record s { contents = record s.contents { procedures = s.contents.procedures ++ p ∷ [] }; current = None }))
+    and_then (finished procedure line) (λ p.
+    Ok (record s { contents = record s.contents { procedures = s.contents.procedures ++ p ∷ [] }; current = None }))
 
 abbrev pub procedure_ended : State → ℕ → Result State ScriptFault
 procedure_ended s line = closed s s.current line
 
 abbrev pub step_added : State → Step → Result State ScriptFault
-step_added s step = if may_go_on s then Ok (record s { contents = record s.contents { steps = s.contents.steps ++ step ∷ [] } }) else Err Order
+step_added s step =
+    if may_go_on s then Ok (record s { contents = record s.contents { steps = s.contents.steps ++ step ∷ [] } }) else Err Order
 
 -- the first calls come before the others
 abbrev pub first_added : State → Call → Result State ScriptFault
 first_added s call =
-    if may_go_on s && (length s.contents.calls == 0) then Ok (record s { contents = record s.contents { first = s.contents.first ++ call ∷ [] } }) else Err Order
+    if may_go_on s && (length s.contents.calls == 0) then
+    Ok (record s { contents = record s.contents { first = s.contents.first ++ call ∷ [] } }) else Err Order
 
 abbrev pub call_added : State → Call → Result State ScriptFault
-call_added s call = if may_go_on s then Ok (record s { contents = record s.contents { calls = s.contents.calls ++ call ∷ [] } }) else Err Order
+call_added s call =
+    if may_go_on s then Ok (record s { contents = record s.contents { calls = s.contents.calls ++ call ∷ [] } }) else Err Order
 
 abbrev pub numbered : Option ℕ → List ℕ → Result Call ScriptFault
 numbered None args = Err NameUnknown
@@ -148,7 +159,8 @@ go_on (Err fault) contents line later = stopped contents line (Some fault)
 -- the lines behind so many
 abbrev pub read_from : Command → ℕ → State → List (List ℕ) → Reading
 read_from command number s [] = stopped s.contents number (end_fault s)
-read_from command number s (text ∷ texts) = go_on (taken command s (number + 1) text) s.contents (number + 1) (λ t. read_from command (number + 1) t texts)
+read_from command number s (text ∷ texts) =
+    go_on (taken command s (number + 1) text) s.contents (number + 1) (λ t. read_from command (number + 1) t texts)
 
 abbrev pub script_said : Command → List ℕ → Reading
 script_said command text = read_from command 0 no_lines (lines text)

@@ -18,4 +18,5 @@ word_at k words = slice_index_or words k []
 -- the first four of these words, and their count
 abbrev pub AreWords : List (List ℕ) → Words → Type 0
 AreWords words w =
-    (w.first.now ≡ word_at 0 words) × (w.second.now ≡ word_at 1 words) × (w.third.now ≡ word_at 2 words) × (w.fourth.now ≡ word_at 3 words) × (w.count ≡ length words)
+    (w.first.now ≡ word_at 0 words) × (w.second.now ≡ word_at 1 words) × (w.third.now ≡ word_at 2 words)
+    × (w.fourth.now ≡ word_at 3 words) × (w.count ≡ length words)

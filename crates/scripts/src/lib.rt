@@ -1,4 +1,9 @@
 //! Scripts: the data components, procedures and further lines of a text, or its first fault.
+//!
+//! ```
+//! let parsed = parse(alloc, Command::Verify, "dc 1 1\nproc seven 0\n  mov r0, 7\n  exit\nend\n")?;
+//! // parsed.script.procedures has one, and parsed.fault is None: else the first fault, and its line
+//! ```
 #![tactic(auto)]
 
 pub mod fault;

@@ -3,7 +3,8 @@
 ghost use Rattle.std.specs.Prelude.{◌≡◌};
 ghost use Rattle.scripts.specs.Words.{words_of};
 ghost use Rattle.scripts.specs.Numbers.{Gives, number_to};
-ghost use Rattle.scripts.specs.Lines.{value_of, dc_said, proc_said, mode_said, key_said, slot_said, end_said, one_number, one_dc, plain_answer, answer_said, forge_said};
+ghost use Rattle.scripts.specs.Lines.{value_of, dc_said, proc_said, mode_said, key_said, slot_said, end_said};
+ghost use Rattle.scripts.specs.Lines.{one_number, one_dc, plain_answer, answer_said, forge_said};
 ghost use Rattle.scripts.specs.Lines.{fixed_by, named_said, known_said, foreign_fault, assembly_said, inside_said, outside_said, line_said};
 ghost use Rattle.scripts.specs.Keywords.{keyword_said};
 
@@ -201,7 +202,8 @@ fn end<'a>(words: &Words) -> Result<Line<'a>, ScriptFault>
 
 // A line of a fixed number of words, which begins with this keyword.
 fn fixed<'a>(keyword: Keyword, is_step: bool, words: &Words<'a>) -> Result<Line<'a>, ScriptFault>
-    ensures { result ≡ fixed_by keyword is_step words.now.count words.now.first.now words.now.second.now words.now.third.now words.now.fourth.now }
+    ensures { result ≡ fixed_by keyword is_step words.now.count words.now.first.now words.now.second.now
+        words.now.third.now words.now.fourth.now }
 {
     match keyword {
         Keyword::Dc => dc(words),

@@ -2,8 +2,10 @@
 
 ghost use Rattle.std.specs.Prelude.{◌≡◌, [], ◌∷◌, ◌++◌, false, map, IfOk, IfErr, OnOk, OnErr, Ok};
 ghost use Rattle.scripts.specs.Numbers.{IsStop};
-ghost use Rattle.scripts.specs.Reading.{no_lines, parsed_of, script_said, is_taken, may_go_on, has_no_further, call_of, next, stopped, taken};
-ghost use Rattle.scripts.specs.Reading.{dc_added, proc_added, slot_declared, insn_written, procedure_ended, step_added, first_added, call_added, end_fault};
+ghost use Rattle.scripts.specs.Reading.{no_lines, parsed_of, script_said, is_taken, may_go_on};
+ghost use Rattle.scripts.specs.Reading.{has_no_further, call_of, next, stopped, taken};
+ghost use Rattle.scripts.specs.Reading.{dc_added, proc_added, slot_declared, insn_written, procedure_ended};
+ghost use Rattle.scripts.specs.Reading.{step_added, first_added, call_added, end_fault};
 
 use crate::fault::{LineError, ScriptFault};
 use crate::keyword::Command;

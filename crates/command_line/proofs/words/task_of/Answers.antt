@@ -12,23 +12,27 @@ pub returns-in_ok-numbers_in-in-exec-clause-task : goal.returns-in_ok-numbers_in
 returns-in_ok-numbers_in-in-exec-clause-task c =
     let found = found_of c.args.matches.now in
     let text = one_text-rows found (codes "raw") in
-    let flag = flag_is (one_of (codes "raw") (rows_of found)) c.get_flag.result (λ e. c.get_flag.ensures.none (text ∙ e)) (λ e. c.get_flag.ensures.value (text ∙ e)) (λ e. c.get_flag.ensures.other (text ∙ e)) in
+    let flag = flag_is (one_of (codes "raw") (rows_of found)) c.get_flag.result
+    (λ e. c.get_flag.ensures.none (text ∙ e)) (λ e. c.get_flag.ensures.value (text ∙ e)) (λ e. c.get_flag.ensures.other (text ∙ e)) in
     wants_exec c.args.name.now (rows_of found) c.get_flag.result c.in_ok-numbers_in-in-exec.field-0.items c.in-exec.is flag c.in_ok-numbers_in-in-exec.ensures.numbers
 
 pub returns-in-dis-clause-task : goal.returns-in-dis-clause-task
 returns-in-dis-clause-task c =
     let found = found_of c.args.matches.now in
     let text = one_text-rows found (codes "raw") in
-    let flag = flag_is (one_of (codes "raw") (rows_of found)) c.get_flag-in-dis.result (λ e. c.get_flag-in-dis.ensures.none (text ∙ e)) (λ e. c.get_flag-in-dis.ensures.value (text ∙ e)) (λ e. c.get_flag-in-dis.ensures.other (text ∙ e)) in
+    let flag = flag_is (one_of (codes "raw") (rows_of found)) c.get_flag-in-dis.result
+    (λ e. c.get_flag-in-dis.ensures.none (text ∙ e)) (λ e. c.get_flag-in-dis.ensures.value (text ∙ e)) (λ e. c.get_flag-in-dis.ensures.other (text ∙ e)) in
     wants_dis c.args.name.now (rows_of found) c.get_flag-in-dis.result c.in-dis.is flag
 
 pub returns-in-world-clause-task : goal.returns-in-world-clause-task
 returns-in-world-clause-task c =
     let found = found_of c.args.matches.now in
     let text = one_text-rows found (codes "log") in
-    let flag = flag_is (one_of (codes "log") (rows_of found)) c.get_flag-in-world.result (λ e. c.get_flag-in-world.ensures.none (text ∙ e)) (λ e. c.get_flag-in-world.ensures.value (text ∙ e)) (λ e. c.get_flag-in-world.ensures.other (text ∙ e)) in
+    let flag = flag_is (one_of (codes "log") (rows_of found)) c.get_flag-in-world.result
+    (λ e. c.get_flag-in-world.ensures.none (text ∙ e)) (λ e. c.get_flag-in-world.ensures.value (text ∙ e)) (λ e. c.get_flag-in-world.ensures.other (text ∙ e)) in
     let audit_text = one_text-rows found (codes "audit") in
-    let audited = flag_is (one_of (codes "audit") (rows_of found)) c.get_flag-in-world-2.result (λ e. c.get_flag-in-world-2.ensures.none (audit_text ∙ e)) (λ e. c.get_flag-in-world-2.ensures.value (audit_text ∙ e)) (λ e. c.get_flag-in-world-2.ensures.other (audit_text ∙ e)) in
+    let audited = flag_is (one_of (codes "audit") (rows_of found)) c.get_flag-in-world-2.result
+    (λ e. c.get_flag-in-world-2.ensures.none (audit_text ∙ e)) (λ e. c.get_flag-in-world-2.ensures.value (audit_text ∙ e)) (λ e. c.get_flag-in-world-2.ensures.other (audit_text ∙ e)) in
     wants_world c.args.name.now (rows_of found) c.get_flag-in-world.result c.get_flag-in-world-2.result c.in-world.is flag audited
 
 pub returns-in-run-clause-task : goal.returns-in-run-clause-task

@@ -23,7 +23,8 @@ returns-in-Err-Fault c =
     let is = rw c.in-Err-Fault.field-0-is at c.in-Err-Fault.ensures.err in
     let told = rw c.in-Err-Fault.field-0-is at c.parsed.ensures in
     told
-    ∙ stopping c.args.command (lines c.args.text.now) c.lines.number _ c.in-Some.line.now c.lines.reading c.take.new.self.contents c.in-Err-Fault.fault _ i.2 t (same ∙ is) c.in-Err-Fault.ensures.kept i.3
+    ∙ stopping c.args.command (lines c.args.text.now) c.lines.number _ c.in-Some.line.now c.lines.reading c.take.new.self.contents c.in-Err-Fault.fault _ i.2 t
+    (same ∙ is) c.in-Err-Fault.ensures.kept i.3
 
 pub returns : goal.returns
 returns c =
