@@ -1,6 +1,6 @@
 -- A command's status is 0 or 1.
 use Rattle.std.proofs.Common.{arith, ℕ, Bool, List, Option, Some, None}
-use Rattle.std.proofs.Common.{length, true, false}
+use Rattle.std.proofs.Common.{true, false}
 use Rattle.std.specs.Prelude.{Result, Ok, Err, ◌≤◌, ◌&&◌, if◌then◌else◌}
 use Rattle.text_commands.specs.Execution.{status_of}
 use Rattle.report_texts.specs.Hex.{Hex, hex_of}
@@ -8,13 +8,14 @@ use Rattle.command_line.specs.Task.{Wish, Exec, Asm, Dis, Verify, World, Run}
 use Rattle.std.specs.List.{list_any}
 use Rattle.scripts.specs.Reading.{Contents, Reading, script_said}
 use Rattle.script_loading.specs.Loading.{refusal_of}
-use Rattle.run_command.specs.Running.{IsRunBy, IsCallsRun, Ran, Stopped, begun}
+use Rattle.run_command.specs.Running.{IsRunBy, IsCallsRun, Ran, Stopped, begun, empty_stores}
 use Rattle.world_command.specs.WorldReport.{IsWorldBy, status_of_steps}
 use Rattle.world_command.specs.declared.world.Behind.{Behind}
 use Rattle.scripts.specs.declared.keyword.Command.TheVariants as command
 use Rattle.scripts.specs.declared.reading.Fault.{Fault}
 use Rattle.scripts.specs.declared.script.Call.{Call}
 use Rattle.scripts.specs.declared.script.Procedure.{Procedure}
+use Rattle.data_component.specs.Store.{Store}
 use Rattle.tc_core.specs.Core.{Core}
 use Rattle.text_commands.specs.Verification.{is_refused, status_by_fault, status_of_reading}
 use Rattle.procd.specs.Report.{IsReport}
@@ -62,18 +63,18 @@ sound_low : (sound : Bool) → (if sound then 0 else 1) ≤ 1
 sound_low true = omega arith
 sound_low false = omega arith
 
-calls_low : (start : Core) (first calls : List Call) (dcs workers tries : ℕ) (audit : Bool) (status : ℕ) (lines : List ℕ)
-    → IsCallsRun start first calls dcs workers tries audit status lines → status ≤ 1
-calls_low start first calls dcs workers tries audit status lines (Ran fit run) =
+calls_low : (start : Core) (dcs : List Store) (first calls : List Call) (workers tries : ℕ) (audit : Bool) (status : ℕ) (lines : List ℕ)
+    → IsCallsRun start dcs first calls workers tries audit status lines → status ≤ 1
+calls_low start dcs first calls workers tries audit status lines (Ran fit run) =
     let is = run.printed.status_is in
     omega (arith, is, sound_low run.printed.sound)
-calls_low start first calls dcs workers tries audit status lines (Stopped fault when is line) = omega (arith, is)
+calls_low start dcs first calls workers tries audit status lines (Stopped fault when is line) = omega (arith, is)
 
 run_low : (refusal : Option (List ℕ)) (contents : Contents) (workers tries : ℕ) (audit : Bool) (status : ℕ) (lines : List ℕ)
     → IsRunBy refusal contents workers tries audit status lines → status ≤ 1
 run_low (Some refusal) contents workers tries audit status lines h = omega (arith, h.0)
 run_low None contents workers tries audit status lines h =
-    calls_low (begun contents) contents.first contents.calls (length contents.dcs) workers tries audit status lines h
+    calls_low (begun contents) (empty_stores contents) contents.first contents.calls workers tries audit status lines h
 
 steps_low : (all : Bool) → status_of_steps all ≤ 1
 steps_low true = omega arith

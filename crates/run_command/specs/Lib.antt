@@ -1,3 +1,4 @@
 pub mod AnswerLines
 pub mod Figures
 pub mod Running
+pub mod Joining

@@ -1,6 +1,6 @@
 //! `run`: the calls of a script by workers, a line for each, and then what the data components keep.
 
-ghost use Rattle.std.specs.Prelude.{◌≡◌, ◌++◌, List, IfOk, IfErr, Some, codes, length, vec_len, string_bytes};
+ghost use Rattle.std.specs.Prelude.{◌≡◌, ◌++◌, List, IfOk, IfErr, Some, codes, string_bytes};
 ghost use Rattle.std.specs.List.{list_any};
 ghost use Rattle.scripts.specs.Reading.{script_said};
 ghost use Rattle.scripts.specs.declared.keyword.Command.TheVariants as command;
@@ -12,7 +12,8 @@ ghost use Rattle.state_lines.specs.RowLines.{AddsRowLines};
 ghost use Rattle.run_command.specs.Running.{said_call, AreCallsOf, is_want_of_memory, AreLinesOf, IsCallsRun, IsRun};
 
 use crate::answer_lines::{fault_line, write_answers};
-use crate::answering::{Answered, Rings, Unbegun, answer_served};
+pub use crate::answering::Manner;
+use crate::answering::{Answered, Rings, Unbegun, Workload, answer_served};
 use crate::figures::{figures, longest_wait, rate};
 use crate::watching::Waits;
 use data_component::dc::Dc;
@@ -29,16 +30,6 @@ use std::thread::Threads;
 use std::time::Clock;
 use tc_core::state::{Call, Refusal, TcState};
 use worker_pool::Answer;
-
-/// How the calls of a script are run: the second list by so many workers, each request sent so often
-/// at most; with the figures of that list as notes, and with an audit behind the rows.
-#[derive(Clone, Copy, Debug)]
-pub struct Manner {
-    pub workers: u64,
-    pub tries: u64,
-    pub stats: bool,
-    pub audit: bool,
-}
 
 // The call that a line of the script says.
 fn call_of(alloc: Global, said: &script::Call) -> Result<Call, AllocError>
@@ -75,7 +66,8 @@ fn run_lines(
     calls: &[Answer],
     dcs: &[Dc],
 ) -> Result<String, AllocError>
-    ensures { IfOk result (λ s. AddsRowLines dcs.now (answer_lines (codes "first") first.now ++ answer_lines (codes "call") calls.now) (string_bytes s)) }
+    ensures { IfOk result (λ s. AddsRowLines dcs.now (answer_lines (codes "first") first.now ++ answer_lines (codes "call") calls.now)
+        (string_bytes s)) }
 {
     let mut lines = String::new(alloc);
     write_answers(alloc, "first", first, &mut lines)?;
@@ -117,8 +109,8 @@ fn write_found(
 
 // The report of calls that were run, over components that are now these.
 fn ran(alloc: Global, answered: &Answered, dcs: &[Dc], manner: Manner) -> Result<Report, AllocError>
-    ensures { IfOk result (λ r. AreLinesOf answered.now.state manner.audit answered.now.first.items answered.now.calls.items
-        (length dcs.now) r.status (string_bytes r.lines)) }
+    ensures { IfOk result (λ r. AreLinesOf answered.now.state dcs.now manner.audit answered.now.first.items answered.now.calls.items
+        r.status (string_bytes r.lines)) }
 {
     let first = answered.first.as_slice();
     let calls = answered.calls.as_slice();
@@ -151,14 +143,11 @@ fn stopped(alloc: Global, fault: Unbegun) -> Result<Report, AllocError>
     })
 }
 
-// What the lists of a script are run with: their calls, the rings to the data components, and what
-// is known of the calls meanwhile.
+// What calls are run with: they themselves, and the rings to the data components.
 #[derive(Drop)]
 struct Prepared {
-    first: Vec<Call>,
-    calls: Vec<Call>,
+    workload: Workload,
     rings: Rings,
-    waits: Waits,
 }
 
 // Makes the calls that both lists say, and rings to so many components.
@@ -170,8 +159,9 @@ fn prepare(
     manner: Manner,
     terminal: Option<Stderr>,
 ) -> Result<Prepared, AllocError>
-    ensures first { IfOk result (λ p. AreCallsOf first.now p.first.items) }
-    ensures calls { IfOk result (λ p. AreCallsOf calls.now p.calls.items) }
+    ensures first { IfOk result (λ p. AreCallsOf first.now p.workload.first.items) }
+    ensures calls { IfOk result (λ p. AreCallsOf calls.now p.workload.calls.items) }
+    ensures manner { IfOk result (λ p. p.workload.manner ≡ manner) }
 {
     let first = calls_of(alloc, first)?;
     let calls = calls_of(alloc, calls)?;
@@ -179,10 +169,13 @@ fn prepare(
     let watched = if manner.stats { calls.len() } else { 0 };
     let waits = Waits::new(alloc, watched, terminal)?;
     Ok(Prepared {
-        first,
-        calls,
+        workload: Workload {
+            first,
+            calls,
+            manner,
+            waits,
+        },
         rings,
-        waits,
     })
 }
 
@@ -193,32 +186,15 @@ fn run_calls<R: Clock + Threads + Wait + Sync>(
     state: TcState,
     dcs: Vec<Dc>,
     prepared: Prepared,
-    manner: Manner,
 ) -> Result<Report, AllocError>
-    ensures { (said_first said_calls : List ScriptCall) → AreCallsOf said_first prepared.first.items
-        → AreCallsOf said_calls prepared.calls.items → IfOk result (λ r. IsCallsRun state said_first said_calls (vec_len dcs)
-        manner.workers manner.tries manner.audit r.status (string_bytes r.lines)) }
+    ensures { (said_first said_calls : List ScriptCall) → AreCallsOf said_first prepared.workload.first.items
+        → AreCallsOf said_calls prepared.workload.calls.items → IfOk result (λ r. IsCallsRun state dcs.items said_first said_calls
+        prepared.workload.manner.workers prepared.workload.manner.tries prepared.workload.manner.audit r.status (string_bytes r.lines)) }
 {
-    let Prepared {
-        first,
-        calls,
-        rings,
-        waits,
-    } = prepared;
-    let (answered, dcs) = answer_served(
-        rt,
-        alloc,
-        state,
-        first.as_slice(),
-        calls.as_slice(),
-        manner.workers as usize,
-        manner.tries,
-        rings,
-        dcs,
-        &waits,
-    );
+    let Prepared { workload, rings } = prepared;
+    let (answered, dcs) = answer_served(rt, alloc, state, dcs, &workload, rings);
     match answered {
-        Ok(answered) => ran(alloc, &answered, dcs?.as_slice(), manner),
+        Ok(answered) => ran(alloc, &answered, dcs?.as_slice(), workload.manner),
         Err(cause) => stopped(alloc, cause),
     }
 }
@@ -231,7 +207,7 @@ fn run_loaded<R: Clock + Threads + Wait + Sync>(
     manner: Manner,
     terminal: Option<Stderr>,
 ) -> Result<Report, AllocError>
-    ensures { IfOk result (λ r. IsCallsRun loaded.state loaded.first.items loaded.calls.items (vec_len loaded.dcs)
+    ensures { IfOk result (λ r. IsCallsRun loaded.state loaded.dcs.items loaded.first.items loaded.calls.items
         manner.workers manner.tries manner.audit r.status (string_bytes r.lines)) }
 {
     let Loaded {
@@ -249,7 +225,7 @@ fn run_loaded<R: Clock + Threads + Wait + Sync>(
         manner,
         terminal,
     ) {
-        Ok(ready) => run_calls(rt, alloc, state, dcs, ready, manner),
+        Ok(ready) => run_calls(rt, alloc, state, dcs, ready),
         Err(AllocError) => Err(AllocError),
     }
 }
