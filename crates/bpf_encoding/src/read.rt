@@ -77,7 +77,7 @@ fn binary(width: Width, operation: Operation, slot: &Fields) -> Result<Insn, Slo
     ensures ok { IfOk result (λ i. fields_of i ≡ viewed slot.now) }
     ensures err { IfErr result (λ e.
         fault_by (uses true (takes_register slot.now.opcode) (selects_offset operation) (not (takes_register slot.now.opcode)))
-            (viewed slot.now) ≡ Some e) }
+        (viewed slot.now) ≡ Some e) }
 {
     let dst = used(slot.dst)?;
     let is_signed = matches!(operation, Operation::SignedDiv | Operation::SignedMod);
@@ -99,7 +99,7 @@ fn negate(width: Width, slot: &Fields) -> Result<Insn, SlotFault>
     ensures ok { IfOk result (λ i. fields_of i ≡ viewed slot.now) }
     ensures err { IfErr result (λ e.
         fault_by (alu_uses (is_64 width) (code_of slot.now.opcode) (takes_register slot.now.opcode) (viewed slot.now))
-            (viewed slot.now) ≡ Some e) }
+        (viewed slot.now) ≡ Some e) }
 {
     if slot.opcode / 8 % 2 == 1 {
         return Err(SlotFault::Undefined);
@@ -133,7 +133,7 @@ fn extended_move(width: Width, slot: &Fields) -> Result<Insn, SlotFault>
     ensures ok { IfOk result (λ i. fields_of i ≡ viewed slot.now) }
     ensures err { IfErr result (λ e.
         fault_by (alu_uses (is_64 width) (code_of slot.now.opcode) (takes_register slot.now.opcode) (viewed slot.now))
-            (viewed slot.now) ≡ Some e) }
+        (viewed slot.now) ≡ Some e) }
 {
     match (width, slot.offset) {
         (Width::Bits64, 8) => move_signed(Extension::Byte64, slot),
@@ -179,7 +179,7 @@ fn byte_order(width: Width, slot: &Fields) -> Result<Insn, SlotFault>
     ensures ok { IfOk result (λ i. fields_of i ≡ viewed slot.now) }
     ensures err { IfErr result (λ e.
         fault_by (alu_uses (is_64 width) (code_of slot.now.opcode) (takes_register slot.now.opcode) (viewed slot.now))
-            (viewed slot.now) ≡ Some e) }
+        (viewed slot.now) ≡ Some e) }
 {
     match (width, slot.opcode / 8 % 2) {
         (Width::Bits32, 0) => ordered(ByteOrder::Little, slot),
@@ -195,7 +195,7 @@ fn alu(width: Width, slot: &Fields) -> Result<Insn, SlotFault>
     ensures ok { IfOk result (λ i. fields_of i ≡ viewed slot.now) }
     ensures err { IfErr result (λ e.
         fault_by (alu_uses (is_64 width) (code_of slot.now.opcode) (takes_register slot.now.opcode) (viewed slot.now))
-            (viewed slot.now) ≡ Some e) }
+        (viewed slot.now) ≡ Some e) }
 {
     match (slot.opcode / 16, slot.offset) {
         (0, _) => binary(width, Operation::Add, slot),
@@ -226,7 +226,7 @@ fn jump_if(width: Width, condition: Condition, slot: &Fields) -> Result<Insn, Sl
     ensures ok { IfOk result (λ i. fields_of i ≡ viewed slot.now) }
     ensures err { IfErr result (λ e.
         fault_by (uses true (takes_register slot.now.opcode) true (not (takes_register slot.now.opcode)))
-            (viewed slot.now) ≡ Some e) }
+        (viewed slot.now) ≡ Some e) }
 {
     let dst = used(slot.dst)?;
     let source = if slot.opcode / 8 % 2 == 1 {
@@ -247,7 +247,7 @@ fn jump_always(width: Width, slot: &Fields) -> Result<Insn, SlotFault>
     ensures ok { IfOk result (λ i. fields_of i ≡ viewed slot.now) }
     ensures err { IfErr result (λ e.
         fault_by (jump_uses_of width (code_of slot.now.opcode) (takes_register slot.now.opcode) (viewed slot.now))
-            (viewed slot.now) ≡ Some e) }
+        (viewed slot.now) ≡ Some e) }
 {
     if slot.opcode / 8 % 2 == 1 {
         return Err(SlotFault::Undefined);
@@ -297,7 +297,7 @@ fn jump(width: Width, slot: &Fields) -> Result<Insn, SlotFault>
     ensures ok { IfOk result (λ i. fields_of i ≡ viewed slot.now) }
     ensures err { IfErr result (λ e.
         fault_by (jump_uses_of width (code_of slot.now.opcode) (takes_register slot.now.opcode) (viewed slot.now))
-            (viewed slot.now) ≡ Some e) }
+        (viewed slot.now) ≡ Some e) }
 {
     match (width, slot.opcode / 16) {
         (_, 0) => jump_always(width, slot),

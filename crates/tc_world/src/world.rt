@@ -47,7 +47,11 @@ impl Model for World {
     ghost Value = { Whole };
 
     ghost view = { λ w. record {
-        core = w.state; dcs = w.dcs.items; copies = w.copies.items; replies = w.replies.items; news = w.news.items
+      core = w.state;
+      dcs = w.dcs.items;
+      copies = w.copies.items;
+      replies = w.replies.items;
+      news = w.news.items;
     } };
 
     ghost invariant = { λ w. AreWaiting w.requests.items w.state.events };

@@ -9,7 +9,9 @@ use crate::test_pool::{
     Hold, all_commit, answers, answers_behind_put, are_those, begun, behind_put, first_answers,
     holds, locked_dc, state_of,
 };
-use crate::test_state::{BAD, GET, MOVE, NO_PROCEDURE, PUT, all_pushed, moves, one_call, push_call, state, two_puts};
+use crate::test_state::{
+    BAD, GET, MOVE, NO_PROCEDURE, PUT, all_pushed, moves, one_call, push_call, state, two_puts,
+};
 use access_slots::op::{News, Reply, Wire};
 use lock_table::table::Busy;
 use samples::record;

@@ -8,7 +8,9 @@ use crate::pool::{Gate, Link, OpenGate, RunFault, run};
 use crate::report::Report;
 use crate::ring_link::RingLink;
 use crate::test_pool::{Hold, all_commit, answers_of, begun, state_of};
-use crate::test_state::{PUT, PUT_BESIDE, all_pushed, dc, moves, one_call, push_call, state, two_puts};
+use crate::test_state::{
+    PUT, PUT_BESIDE, all_pushed, dc, moves, one_call, push_call, state, two_puts,
+};
 use access_slots::op::{News, Op, Reply, Wire};
 use access_slots::slot::{Record, Value};
 use data_component::dc::Dc;
