@@ -25,29 +25,13 @@
 mod answer;
 mod carried;
 mod desk;
-#[cfg(test)]
-mod link_tests;
 mod locked_dcs;
-#[cfg(test)]
-mod locked_tests;
-#[cfg(test)]
-mod memory_tests;
 mod pool;
-#[cfg(test)]
-mod pool_tests;
 mod redos;
 mod report;
-#[cfg(test)]
-mod restart_tests;
 mod ring;
 mod ring_link;
-#[cfg(test)]
-mod ring_tests;
 mod sending;
-#[cfg(test)]
-mod test_pool;
-#[cfg(test)]
-mod test_state;
 mod waiting;
 
 pub use answer::{Answer, Progress};

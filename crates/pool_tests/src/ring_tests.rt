@@ -3,10 +3,6 @@
 
 ghost use Rattle.std.specs.Prelude.{◌≤◌};
 
-use crate::answer::Answer;
-use crate::pool::{Gate, Link, OpenGate, RunFault, run};
-use crate::report::Report;
-use crate::ring_link::RingLink;
 use crate::test_pool::{Hold, all_commit, answers_of, begun, state_of};
 use crate::test_state::{
     PUT, PUT_BESIDE, all_pushed, dc, moves, one_call, push_call, state, two_puts,
@@ -22,6 +18,7 @@ use std::test::Fail;
 use std::thread;
 use std::thread::Threads;
 use tc_core::state::{Call, TcState};
+use worker_pool::{Answer, Gate, Link, OpenGate, Report, RingLink, RunFault, run};
 
 // How many rows each component has room for.
 const ROWS: usize = 100;

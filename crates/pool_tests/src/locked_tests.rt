@@ -1,7 +1,5 @@
 // Components behind locks, each at its place.
 
-use crate::locked_dcs::LockedDcs;
-use crate::pool::OpenGate;
 use crate::test_pool::{all_commit, first_answers};
 use crate::test_state::{PUT, PUT_BESIDE, all_pushed, dc, push_call};
 use access_slots::slot::Record;
@@ -13,6 +11,7 @@ use std::sync::Wait;
 use std::test::Fail;
 use std::thread::Threads;
 use tc_core::state::Call;
+use worker_pool::{LockedDcs, OpenGate};
 
 fn push_both(alloc: Global, dcs: &mut Vec<Dc>) -> Result<(), AllocError> {
     dcs.push(dc(alloc, 4)?)?;

@@ -1,13 +1,12 @@
 // Restarts that lose what came after the last checkpoint, and redo.
 
-use crate::step::{Illegal, Outcome, Step};
 use crate::step_tests::{closed, world};
-use crate::world::World;
 use access_slots::op::{News, Op, Reply, Said, Wire};
 use samples::{PUT, call, record, value};
 use std::alloc::{AllocError, Global};
 use std::process::Abort;
 use std::test::Fail;
+use tc_world::{Illegal, Outcome, Step, World};
 
 // The steps of a call that puts 100, with its transaction, and the place of its wire and of its reply.
 fn is_put(

@@ -1,9 +1,7 @@
 // Steps of a world that are refused memory once, and are then taken again: what they were refused on is
 // as before. tools/requests.py refuses each request in turn.
 
-use crate::step::{Illegal, Outcome, Step};
 use crate::step_tests::closed;
-use crate::world::World;
 use access_slots::op::{Reply, Said};
 use data_component::dc::Dc;
 use samples::{PUT, call, loaded, record, value};
@@ -12,6 +10,7 @@ use std::process::Abort;
 use std::test::Fail;
 use tc_core::state::{Call, Receipt, Refusal, TcState};
 use tc_log::event::Outcome as Ending;
+use tc_world::{Illegal, Outcome, Step, World};
 
 // A call of `put`.
 fn put_call(alloc: Global) -> Result<Call, AllocError> {

@@ -1,8 +1,5 @@
 // Links that are against the run. Each request is sent three times at most.
 
-use crate::answer::Answer;
-use crate::locked_dcs::LockedDcs;
-use crate::pool::{Link, OpenGate};
 use crate::test_pool::{all_commit, answers_behind_put, first_answers, holds, locked_dc};
 use crate::test_state::{GET, PUT, moves, one_call};
 use access_slots::op::{News, Op, Reply, Said, Wire};
@@ -15,6 +12,7 @@ use std::sync::{Mutex, Wait};
 use std::test::Fail;
 use std::thread::Threads;
 use tc_core::state::Call;
+use worker_pool::{Answer, Link, LockedDcs, OpenGate};
 
 // What a link does to the replies.
 #[derive(Clone, Copy, Debug)]

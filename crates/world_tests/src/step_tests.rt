@@ -1,7 +1,5 @@
 // Each call once, where it succeeds.
 
-use crate::step::{Illegal, Outcome, Step};
-use crate::world::World;
 use access_slots::op::{Reply, Said};
 use data_component::dc::Dc;
 use samples::{PUT, call, loaded};
@@ -10,6 +8,7 @@ use std::process::Abort;
 use std::test::Fail;
 use tc_core::state::{Call, Receipt, TcState};
 use tc_log::event::Outcome as Ending;
+use tc_world::{Illegal, Outcome, Step, World};
 
 // One data component.
 fn dcs(alloc: Global) -> Result<Vec<Dc>, AllocError> {

@@ -1,10 +1,6 @@
 // Runs by one, two and eight workers over components behind locks, with a gate that holds a call,
 // and links that wait, lose and change what they carry.
 
-use crate::answer::Answer;
-use crate::locked_dcs::LockedDcs;
-use crate::pool::{Gate, Link, OpenGate, RunFault, run};
-use crate::report::Report;
 use crate::test_pool::{
     Hold, all_commit, answers, answers_behind_put, are_those, begun, behind_put, first_answers,
     holds, locked_dc, state_of,
@@ -23,6 +19,7 @@ use std::test::Fail;
 use std::thread::Threads;
 use tc_core::state::{Call, Refusal, TcState};
 use tc_log::event::Event;
+use worker_pool::{Answer, Gate, Link, LockedDcs, OpenGate, Report, RunFault, run};
 
 fn one_move_over<R: Threads + Wait + Sync + Abort>(
     rt: &R,

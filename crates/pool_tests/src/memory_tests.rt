@@ -1,9 +1,6 @@
 // Calls by workers where a request for memory is refused: what is refused is asked for once more,
 // so each test passes wherever one request of its run is refused.
 
-use crate::answer::Answer;
-use crate::locked_dcs::LockedDcs;
-use crate::pool::{OpenGate, run};
 use crate::test_pool::{answers_of, locked_dc, value_at};
 use crate::test_state::{PUT, all_pushed, loaded, push_call, state};
 use access_slots::slot::Value;
@@ -14,6 +11,7 @@ use std::sync::Wait;
 use std::test::Fail;
 use std::thread::Threads;
 use tc_core::state::{Call, Refusal, TcState};
+use worker_pool::{Answer, LockedDcs, OpenGate, run};
 
 fn state_in_the_end(alloc: Global) -> Result<TcState, Fail> {
     match loaded(alloc) {

@@ -1,9 +1,5 @@
 //! Runs of calls by workers, of which the tests look at the answers.
 
-use crate::answer::Answer;
-use crate::locked_dcs::LockedDcs;
-use crate::pool::{Gate, Link, OpenGate, RunFault, run};
-use crate::report::Report;
 use crate::test_state::{PUT, dc, one_call, state};
 use access_slots::slot::Value;
 use samples::{record, value};
@@ -15,6 +11,7 @@ use std::test::Fail;
 use std::thread;
 use std::thread::Threads;
 use tc_core::state::{Call, TcState};
+use worker_pool::{Answer, Gate, Link, LockedDcs, OpenGate, Report, RunFault, run};
 
 /// A data component with room for so many rows, behind a lock.
 pub(crate) fn locked_dc(alloc: Global, rows: usize) -> Result<LockedDcs, AllocError> {

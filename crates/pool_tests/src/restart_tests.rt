@@ -1,7 +1,5 @@
 // Runs over a data component that restarts and loses what came after its last checkpoint.
 
-use crate::answer::Answer;
-use crate::pool::{Link, OpenGate, run};
 use crate::test_pool::{answers_of, begun, behind_put};
 use crate::test_state::{PUT, all_pushed, dc, moves, push_call, state};
 use access_slots::op::{News, Reply, Wire};
@@ -13,6 +11,7 @@ use std::sync::{Mutex, Wait};
 use std::test::Fail;
 use std::thread::Threads;
 use tc_core::state::{Call, TcState};
+use worker_pool::{Answer, Link, OpenGate, run};
 
 // How often a request, or what is to be redone before it, is sent at most.
 const TRIES: u64 = 10;

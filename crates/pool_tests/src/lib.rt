@@ -1,0 +1,30 @@
+//! Tests of `worker_pool`, which would take as long again to prove with them:
+//!
+//! | Module | Tests |
+//! |---|---|
+//! | `pool_tests` | calls by workers, from one to many, their answers and their gate |
+//! | `link_tests` | links that lose, repeat, delay and change what they carry |
+//! | `locked_tests` | data components of this process, behind locks |
+//! | `ring_tests` | data components in threads of their own, behind rings |
+//! | `restart_tests` | data components that restart while calls run |
+//! | `memory_tests` | runs that are refused memory |
+//!
+//! `rt test pool_tests` proves and runs these; `tools/requests.py` runs them with memory refused.
+#![tactic(auto)]
+
+#[cfg(test)]
+mod link_tests;
+#[cfg(test)]
+mod locked_tests;
+#[cfg(test)]
+mod memory_tests;
+#[cfg(test)]
+mod pool_tests;
+#[cfg(test)]
+mod restart_tests;
+#[cfg(test)]
+mod ring_tests;
+#[cfg(test)]
+mod test_pool;
+#[cfg(test)]
+mod test_state;

@@ -1,0 +1,158 @@
+// The audit of short logs.
+
+use access_slots::op::{Op, Said, Wire};
+use audit::auditing::{AuditFault, Audited, audit};
+use data_component::dc::Dc;
+use samples::{LogRecord, loaded, log_bytes, record, value};
+use std::alloc::{AllocError, Global};
+use std::process::Abort;
+use std::test::Fail;
+use tc_core::state::TcState;
+use tc_log::log::Log;
+
+// A transaction that puts 100 under 5.
+const PUT: [LogRecord; 4] = [
+    (1, 2, 1, 0, 0, [5, 100]),
+    (2, 2, 1, 1, 5, [100, 0]),
+    (3, 3, 1, 1, 0, [0, 0]),
+    (5, 1, 1, 0, 0, [0, 0]),
+];
+
+// The same without its insert.
+const NO_INSERT: [LogRecord; 2] = [(1, 2, 1, 0, 0, [5, 100]), (5, 1, 1, 0, 0, [0, 0])];
+
+// Behind it a second one that finds the record there, and aborts.
+const AGAIN: [LogRecord; 8] = [
+    (1, 2, 1, 0, 0, [5, 100]),
+    (2, 2, 1, 1, 5, [100, 0]),
+    (3, 3, 1, 1, 0, [0, 0]),
+    (5, 1, 1, 0, 0, [0, 0]),
+    (1, 2, 2, 0, 0, [5, 100]),
+    (2, 2, 2, 2, 5, [100, 0]),
+    (3, 5, 2, 2, 0, [0, 0]),
+    (5, 2, 2, 1, 0, [0, 0]),
+];
+
+// The log that these records are.
+fn log_of(alloc: Global, records: &[LogRecord]) -> Result<Option<Log>, AllocError> {
+    let bytes = log_bytes(alloc, records)?;
+    match Log::read(alloc, bytes.as_slice()) {
+        Ok(log) => Ok(Some(log)),
+        Err(_) => Ok(None),
+    }
+}
+
+// Performs an insert under 5 as number 1.
+fn insert(rt: &impl Abort, dc: &mut Dc, number: u64) {
+    let wire = Wire {
+        low_water: 0,
+        number: 1,
+        incarnation: 0,
+        redo: false,
+        op: Op::Insert(record(5), value(number)),
+    };
+    match dc.perform(&wire) {
+        Some(reply) => assert_eq!(rt; reply.said, Said::Done(None)),
+        None => assert!(rt; false, "no reply"),
+    }
+}
+
+// A data component, in which this number is inserted, where one is.
+fn dc_with(rt: &impl Abort, alloc: Global, number: Option<u64>) -> Result<Dc, AllocError> {
+    let mut dc = Dc::new(alloc, 4, 4)?;
+    if let Some(number) = number {
+        insert(rt, &mut dc, number);
+    }
+    Ok(dc)
+}
+
+// What an audit says of a log and one data component.
+fn audited(
+    rt: &impl Abort,
+    alloc: Global,
+    tc: &TcState,
+    records: &[LogRecord],
+    number: Option<u64>,
+) -> Result<Result<Audited, AuditFault>, AllocError> {
+    audited_with(alloc, tc, records, dc_with(rt, alloc, number)?)
+}
+
+// The same of this data component.
+fn audited_with(
+    alloc: Global,
+    tc: &TcState,
+    records: &[LogRecord],
+    dc: Dc,
+) -> Result<Result<Audited, AuditFault>, AllocError> {
+    let Some(log) = log_of(alloc, records)? else {
+        return Err(AllocError);
+    };
+    let says = audit(alloc, tc.procs(), &log, &[dc]);
+    drop(log);
+    Ok(says)
+}
+
+// What it says of `put 5 100` ended, cut short, without its insert, and beside other data components.
+fn tells(rt: &impl Abort, alloc: Global, tc: &TcState) -> Result<(), Fail> {
+    let ok = Audited { ended: 1, left: 0 };
+    assert_eq!(rt; audited(rt, alloc, tc, &PUT, Some(100))?, Ok(ok));
+    let open = Audited { ended: 0, left: 1 };
+    assert_eq!(rt; audited(rt, alloc, tc, &PUT[..3], Some(100))?, Ok(open));
+    // the list has it, the log doesn't
+    assert_eq!(rt;
+        audited(rt, alloc, tc, &PUT[..1], Some(100))?,
+        Err(AuditFault::NotAsked(0, 0))
+    );
+    // it may have been performed before it is answered
+    assert_eq!(rt; audited(rt, alloc, tc, &PUT[..2], Some(100))?, Ok(open));
+    assert_eq!(rt;
+        audited(rt, alloc, tc, &PUT, None)?,
+        Err(AuditFault::Mismatch(1))
+    );
+    assert_eq!(rt;
+        audited(rt, alloc, tc, &PUT, Some(99))?,
+        Err(AuditFault::NotAsked(0, 0))
+    );
+    assert_eq!(rt;
+        audited(rt, alloc, tc, &NO_INSERT, None)?,
+        Err(AuditFault::LogIllegal(1))
+    );
+    Ok(())
+}
+
+// Behind a restart an insert that found the record there may be missing, and one that was done may
+// not; without a restart neither may.
+fn tells_of_restarts(rt: &impl Abort, alloc: Global, tc: &TcState) -> Result<(), Fail> {
+    let mut kept = dc_with(rt, alloc, Some(100))?;
+    kept.checkpoint();
+    assert!(rt; kept.restart().is_ok());
+    let ok = Audited { ended: 2, left: 0 };
+    assert_eq!(rt; audited_with(alloc, tc, &AGAIN, kept)?, Ok(ok));
+    let mut lost = dc_with(rt, alloc, Some(100))?;
+    assert!(rt; lost.restart().is_ok());
+    assert_eq!(rt;
+        audited_with(alloc, tc, &AGAIN, lost)?,
+        Err(AuditFault::Mismatch(1))
+    );
+    assert_eq!(rt;
+        audited(rt, alloc, tc, &AGAIN, Some(100))?,
+        Err(AuditFault::Mismatch(2))
+    );
+    Ok(())
+}
+
+#[test]
+fn restarted(rt: HostRuntime) -> Result<(), Fail> {
+    let tc = loaded(rt.alloc(), 1).ok_or("not loaded")?;
+    let told = tells_of_restarts(&rt, rt.alloc(), &tc);
+    drop(tc);
+    told
+}
+
+#[test]
+fn short_logs(rt: HostRuntime) -> Result<(), Fail> {
+    let tc = loaded(rt.alloc(), 1).ok_or("not loaded")?;
+    let told = tells(&rt, rt.alloc(), &tc);
+    drop(tc);
+    told
+}

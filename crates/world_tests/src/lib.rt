@@ -1,0 +1,20 @@
+//! Tests of `tc_world` and `audit`, which would take as long again to prove with them:
+//!
+//! | Module | Tests |
+//! |---|---|
+//! | `step_tests` | `tc_world`: the steps of a world, one by one |
+//! | `restart_tests` | `tc_world`: restarts that lose what came after the last checkpoint, and redo |
+//! | `memory_tests` | `tc_world`: steps that are refused memory |
+//! | `audit_tests` | `audit`: short logs and what it says of them |
+//!
+//! `rt test world_tests` proves and runs these; `tools/requests.py` runs them with memory refused.
+#![tactic(auto)]
+
+#[cfg(test)]
+mod audit_tests;
+#[cfg(test)]
+mod memory_tests;
+#[cfg(test)]
+mod restart_tests;
+#[cfg(test)]
+mod step_tests;
