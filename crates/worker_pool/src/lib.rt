@@ -20,6 +20,7 @@
 //! change what it carries; the report stays true of the log. [`LockedDcs`] is the link to data
 //! components of this process that workers call themselves, and [`RingLink`] the one to components
 //! that have threads of their own. A [`Gate`] is told when a call is admitted and when it is answered.
+//! Its tests are those of `pool_tests`.
 #![tactic(auto)]
 
 mod answer;
