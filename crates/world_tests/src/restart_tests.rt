@@ -172,8 +172,8 @@ fn a_component_that_is_not_there(rt: HostRuntime) -> Result<(), Fail> {
 }
 
 // News of the second restart are taken where those of the first were lost. What was done above the mark that the
-// checkpoint kept is redone under that mark, though it was kept too and the transaction component's own mark is
-// higher.
+// checkpoint kept is redone under that mark, though one of it was kept too and the transaction component's own mark
+// is higher.
 fn second_restart_is_told(rt: &impl Abort, world: &mut World) {
     goes(rt, world, &Step::Restart(0), Outcome::Restarted(0));
     goes(rt, world, &Step::Restart(0), Outcome::Restarted(0));
@@ -183,14 +183,42 @@ fn second_restart_is_told(rt: &impl Abort, world: &mut World) {
     };
     goes(rt, world, &Step::Tell(1), Outcome::Told(0, news));
     stops(rt, world, &Step::Tell(0), Illegal::OldNews);
-    let redo = Wire {
-        number: 2,
+}
+
+// What redoes the put of that number in the second incarnation, under the mark of the checkpoint.
+fn second_redo(number: u64, key: u64) -> Wire {
+    Wire {
+        number,
         low_water: 1,
         incarnation: 2,
         redo: true,
-        op: Op::Insert(record(6), value(100)),
-    };
-    goes(rt, world, &Step::Redo(0), Outcome::Redoing(3, redo));
+        op: Op::Insert(record(key), value(100)),
+    }
+}
+
+// Both numbers above the mark are redone, one after the other.
+fn both_are_redone(rt: &impl Abort, world: &mut World) {
+    for (wire, number, key) in [(3, 2, 6), (4, 3, 7)] {
+        goes(
+            rt,
+            world,
+            &Step::Redo(0),
+            Outcome::Redoing(wire, second_redo(number, key)),
+        );
+        let reply = Reply {
+            number,
+            incarnation: 2,
+            said: Said::Done(None),
+        };
+        goes(
+            rt,
+            world,
+            &Step::Perform(wire),
+            Outcome::Replied(wire, reply),
+        );
+        goes(rt, world, &Step::Take(wire), Outcome::Redone(number));
+    }
+    goes(rt, world, &Step::Redo(0), Outcome::Up(0));
 }
 
 fn three_puts_and_two_restarts(
@@ -203,6 +231,7 @@ fn three_puts_and_two_restarts(
     goes(rt, world, &Step::Checkpoint(0), Outcome::Checkpointed(0, 1));
     is_put(rt, alloc, world, (3, 2), 7)?;
     second_restart_is_told(rt, world);
+    both_are_redone(rt, world);
     Ok(())
 }
 
