@@ -4,6 +4,7 @@
 //! |---|---|
 //! | `step_tests` | `tc_world`: the steps of a world, one by one |
 //! | `restart_tests` | `tc_world`: restarts that lose what came after the last checkpoint, and redo |
+//! | `redo_tests` | `tc_world`: what a redo leaves out |
 //! | `memory_tests` | `tc_world`: steps that are refused memory |
 //! | `audit_tests` | `audit`: short logs and what it says of them |
 //!
@@ -14,6 +15,8 @@
 mod audit_tests;
 #[cfg(test)]
 mod memory_tests;
+#[cfg(test)]
+mod redo_tests;
 #[cfg(test)]
 mod restart_tests;
 #[cfg(test)]
