@@ -8,21 +8,12 @@ one that is told of, with a checkpoint before it or none, and whose redo is gone
 import re
 from collections import namedtuple
 
+from plain_model import TEXTS
 from trying import some_of
 
-SCRIPT = """\
+SCRIPT = f"""\
 dc 4 100
-proc put 2
-slot write 0 0 $0
-  ldxdw r6, [r1+8]
-  mov r1, 0
-  call 5
-  stxdw [r0+0], r6
-  mov r1, 0
-  call 2
-  exit
-end
-proc bad 1
+{TEXTS["put"]}proc bad 1
 slot write 0 0 $0
   mov r1, 0
   call 1

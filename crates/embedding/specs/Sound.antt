@@ -16,9 +16,12 @@ use Rattle.embedding.specs.declared.tc_part.TcPart.{TcPart}
 -- open, and no two conflict.
 pub record IsSoundCore (core : Core) : Type 0 where
   pub legal : Legal core.procs core.events
-  pub covered : (n : ℕ) (f : Flight) → InFlight core.events core.sites n f → allows (held_for (decls core.procs) (call_of core.events f.txn) (target f.op)) (is_read f.op) ≡ true
-  pub locked : (n : ℕ) (f : Flight) → open_op core.events n ≡ Some f → allows (held (decls core.procs) core.events f.txn (target f.op)) (is_read f.op) ≡ true
-  pub apart : (m n : ℕ) (f g : Flight) → InFlight core.events core.sites m f → InFlight core.events core.sites n g → m ≢ n → conflict f.op g.op ≡ false
+  pub covered : (n : ℕ) (f : Flight) → InFlight core.events core.sites n f
+      → allows (held_for (decls core.procs) (call_of core.events f.txn) (target f.op)) (is_read f.op) ≡ true
+  pub locked : (n : ℕ) (f : Flight) → open_op core.events n ≡ Some f
+      → allows (held (decls core.procs) core.events f.txn (target f.op)) (is_read f.op) ≡ true
+  pub apart : (m n : ℕ) (f g : Flight) → InFlight core.events core.sites m f → InFlight core.events core.sites n g
+      → m ≢ n → conflict f.op g.op ≡ false
 
 abbrev pub IsSoundBody : Body → Type 0
 IsSoundBody body = (part : TcPart) → body ≡ Tc part → IsSoundCore part.state

@@ -196,7 +196,13 @@ impl Frame {
     }
 
     fn put_write(&mut self, op: u32, record: &Record, value: &Value)
-        ensures { self.new ≡ record self.old { op = op; dc = «record».now.dc; table = «record».now.table; key = «record».now.key; value = value.now } }
+        ensures { self.new ≡ record self.old {
+          op = op;
+          dc = «record».now.dc;
+          table = «record».now.table;
+          key = «record».now.key;
+          value = value.now;
+        } }
     {
         self.op = op;
         self.put_record(record);
@@ -205,7 +211,13 @@ impl Frame {
 
     fn put_plain(&mut self, op: u32, record: &Record)
         ensures op { (self.new.op ≡ op) × IsOf self.new «record».now }
-        ensures rest { self.new ≡ record self.old { op = self.new.op; dc = self.new.dc; table = self.new.table; key = self.new.key; value = self.new.value } }
+        ensures rest { self.new ≡ record self.old {
+          op = self.new.op;
+          dc = self.new.dc;
+          table = self.new.table;
+          key = self.new.key;
+          value = self.new.value;
+        } }
     {
         self.op = op;
         self.put_record(record);
@@ -215,7 +227,13 @@ impl Frame {
     /// Names an operation.
     pub fn put_operation(&mut self, op: &Op)
         ensures names { Names self.new op.now }
-        ensures rest { self.new ≡ record self.old { op = self.new.op; dc = self.new.dc; table = self.new.table; key = self.new.key; value = self.new.value } }
+        ensures rest { self.new ≡ record self.old {
+          op = self.new.op;
+          dc = self.new.dc;
+          table = self.new.table;
+          key = self.new.key;
+          value = self.new.value;
+        } }
     {
         match op {
             Op::Read(record) => self.put_plain(1, record),

@@ -96,7 +96,8 @@ impl Program {
     pub fn resume(&mut self, said: Said) -> Option<(Pause, u32)>
         ensures code { self.new.code ≡ self.old.code }
         ensures refused { IfNone result (self.new ≡ self.old) }
-        ensures goes_on { IfSome result (λ stop. (args : List ℕ) (answers : List Answer) (o : Operation) → WaitsBehind self.old.code args answers o self.old.run
+        ensures goes_on { IfSome result (λ stop. (args : List ℕ) (answers : List Answer) (o : Operation)
+            → WaitsBehind self.old.code args answers o self.old.run
             → StopsAt self.new.code args (answers ++ said ∷ []) stop.0 stop.1 self.new.run) }
     {
         let Some(run) = mem::replace(&mut self.run, None) else {

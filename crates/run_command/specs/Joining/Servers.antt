@@ -13,4 +13,5 @@ Promises number dc server = (server.promise.0 ≡ number) × (server.promise.1.v
 
 -- each promises to serve the data component at its place, and under the number of that place
 abbrev pub ArePromised : List Store → List Server → Type 0
-ArePromised dcs servers = (k : ℕ) (server : Server) (dc : Store) → k < length servers → Promises k (get_or dcs k dc) (get_or servers k server)
+ArePromised dcs servers = (k : ℕ) (server : Server) (dc : Store) → k < length servers
+    → Promises k (get_or dcs k dc) (get_or servers k server)
