@@ -1,6 +1,6 @@
 -- Threads that serve data components.
 use Rattle.std.specs.Prelude.{◌≡◌, ℕ, ◌<◌, List, length, get_or}
-use Rattle.core.specs.declared.thread.PromisedHandle.{PromisedHandle}
+use Rattle.std.specs.declared.thread.PromisedHandle.{PromisedHandle}
 use Rattle.data_component.specs.Store.{Store}
 use Rattle.worker_pool.specs.declared.ring_link.ServedFrom.{ServedFrom}
 

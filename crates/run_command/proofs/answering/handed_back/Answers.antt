@@ -1,8 +1,16 @@
-use Rattle.run_command.proofs.ServerLemmas.{all_served}
+use Rattle.std.proofs.Common.{◌≡◌, ◌<◌, ℕ, length, arith, rules}
+use Rattle.data_component.specs.Store.{Store}
+use Rattle.run_command.proofs.ServerLemmas.{IsKept, all_served}
 use Rattle.run_command.proofs.answering.handed_back.Goals as goal
 
 pub returns : goal.returns
 returns g c = λ dcs promised many.
     let joined = c.in_ok-join_promised in
-    all_served dcs joined.result.items c.args.servers.items promised many joined.ensures.len
-    (λ i dc below. let kept = (joined.ensures.each i dc below).1 in (kept.handle, kept.handle_is, kept.kept))
+    let back = joined.field-0.items in
+    let servers = c.args.servers.items in
+    let as_many : length back ≡ length servers = search rules in
+    all_served dcs back servers promised many as_many
+    (λ i dc below.
+    let within : i < c.args.servers.len = omega (arith, below, c.args.servers.ok.0) in
+    let kept = (joined.ensures.each i dc within).1 in
+    (kept.handle, kept.handle_is, kept.kept))

@@ -14,8 +14,8 @@ pub returns-in-Ok : goal.returns-in-Ok
 returns-in-Ok g c = λ said_first said_calls first_are calls_are.
     let w = c.args.prepared.workload in
     let a = c.in-Ok.answered in
-    let served : AreServed c.args.dcs.items c.as_slice-in-Ok.result.now = search rules in
+    let served : AreServed c.args.dcs.items c.as_slice.result.now = search rules in
     let answered : AreAnswered c.args.state w.first.items w.calls.items a.first.items a.calls.items a.state = search rules in
     let range : InRange w.manner.workers w.manner.tries = search rules in
-    ran_run c.ran.result c.args.state a.state c.args.dcs.items c.as_slice-in-Ok.result.now said_first said_calls w.first.items w.calls.items a.first.items a.calls.items
+    ran_run c.ran.result c.args.state a.state c.args.dcs.items c.as_slice.result.now said_first said_calls w.first.items w.calls.items a.first.items a.calls.items
     w.manner.workers w.manner.tries w.manner.audit range answered first_are calls_are served c.ran.ensures
