@@ -594,7 +594,7 @@ static inline mz_code mz_redo(mz_tc *tc, uint16_t dc, mz_carry *carry, void *con
         int done = 0;
         for (int i = 0; i < tries && !done; i++) {
             mz_reply reply;
-            mz_news news;
+            mz_news news = {0, 0};
             switch (carry(context, &wire, &reply, &news)) {
             case MZ_LOST: break;
             case MZ_REPLIED: done = mz_redone(tc, dc, &reply) == MZ_OK; break;
@@ -612,7 +612,7 @@ static inline mz_code mz_carry_open(mz_tc *tc, uint64_t txn, mz_wire *wire, int 
     *answered = 0;
     for (int i = 0; i < tries && !*answered; i++, made = 0) {
         mz_reply reply;
-        mz_news news;
+        mz_news news = {0, 0};
         mz_code c = made ? MZ_OK : mz_resend(tc, txn, wire);
         if (c != MZ_OK) return c;
         mz_carried carried = carry(context, wire, &reply, &news);

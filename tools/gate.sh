@@ -1,7 +1,7 @@
 #!/bin/sh
 # The gate: `rt ci` in this checkout (every proof from nothing, the must-fail edits, the tests and the stored runs), whose
 # status decides. Where it passes come, by the programs that it built, each example and a short run of what is tried from
-# outside (docs/TESTING.md), and the examples of the library for C where that is built. The last line is `N passed, M failed`.
+# outside (docs/TESTING.md), and the library for C with its examples. The last line is `N passed, M failed`.
 set -e
 cd "$(dirname "$0")/.."
 ended=$(mktemp -d)
@@ -32,11 +32,18 @@ tried tools/hostile.py --every 25
 tried tools/explore.py --audit --seconds 20
 tried tools/storms.py --runs 5 --calls 1000
 tried tools/tampered.py --every 25
-# `rt ci` proves the library for C and leaves no archive of it; to build that, `rt lib` proves all below it once more.
-if [ -e crates/mazzulpe/out/libmazzulpe.a ]; then
-    tried make -s -C c_interface check
+# The library for C, over the libraries that `rt ci` proved just now, and its examples.
+c_interface() {
+    tools/archive.py && make -s -C c_interface check
+}
+missing=
+for tool in make cc ar clang llvm-objcopy; do
+    command -v "$tool" > /dev/null || missing="$missing $tool"
+done
+if [ -z "$missing" ]; then
+    tried c_interface
 else
-    echo "gate: c_interface is left out, since crates/mazzulpe/out/libmazzulpe.a isn't built (make -C c_interface)"
+    echo "gate: c_interface is left out, since there is no$missing"
 fi
 took "all"
 echo "$passed passed, $failed failed"

@@ -1,5 +1,5 @@
 -- What a call is served as, by its number.
-use Rattle.std.proofs.Common.{◌≡◌, ◌≢◌, ℕ, sym, subst}
+use Rattle.std.proofs.Common.{◌≡◌, ◌≢◌, ℕ, refl, sym, subst}
 use Rattle.data_component.specs.Store.{Store}
 use Rattle.embedding.specs.declared.frame.Frame.{Frame}
 use Rattle.embedding.specs.declared.tc_part.TcPart.{TcPart}
@@ -8,17 +8,28 @@ use Rattle.embedding.specs.declared.engine.Body.{Body}
 use Rattle.embedding.specs.Calling.{BegunBy}
 use Rattle.embedding.specs.Programs.{RunBy, IsRun}
 use Rattle.embedding.specs.Keeping.{KeptBy, SeenBy, WhySilent, IsKept}
-use Rattle.embedding.specs.declared.codes.TheConstants.{SILENT}
-use Rattle.embedding.specs.Serving.{DoneBy, ShownBy, RefusedBy, IsServed}
+use Rattle.embedding.specs.declared.codes.TheConstants.{SILENT, STRANGER}
+use Rattle.embedding.specs.Serving.{DoneBy, ShownBy, RefusedBy, RequestsBy, KeepsRequests, IsServed}
+use Rattle.embedding.specs.Gathering.{GatheredBy, IsAsGathered}
+use Rattle.embedding.specs.declared.gathered.Gathered.{Gathered}
+
+pub same_gathered : (g : Gathered) → IsAsGathered g g
+same_gathered g = record { bytes = refl; slots = refl }
 
 -- a call of this number, whose facts are known by the number
 pub served_as : (p : TcPart) (f : Frame) (code : ℕ) (p' : TcPart) (f' : Frame) (what : ℕ) → f.what ≡ what → (code ≢ 0 → p'.state ≡ p.state)
-    → (code ≢ 0 → RefusedBy what p f code p' f') → (code ≡ 0 → DoneBy what p f p' f') → (code ≡ 0 → ShownBy what p f f') → IsServed p f code p' f'
-served_as p f code p' f' what is refused why done shown = record {
+    → (code ≢ 0 → RefusedBy what p f code p' f') → (code ≡ 0 → DoneBy what p f p' f') → (code ≡ 0 → ShownBy what p f f')
+    → (code ≡ 0 → GatheredBy what p.gathered f p'.gathered) → (code ≢ 0 → IsAsGathered p.gathered p'.gathered)
+    → (code ≡ 0 → RequestsBy what p p') → (code ≢ 0 → code ≢ STRANGER → KeepsRequests p p') → IsServed p f code p' f'
+served_as p f code p' f' what is refused why done shown gathers gathers_nothing keeps keeps_all = record {
   refused = refused;
   why = λ e. subst (λ (n : ℕ). RefusedBy n p f code p' f') (sym is) (why e);
   done = λ e. subst (λ (n : ℕ). DoneBy n p f p' f') (sym is) (done e);
   shown = λ e. subst (λ (n : ℕ). ShownBy n p f f') (sym is) (shown e);
+  gathers = λ e. subst (λ (n : ℕ). GatheredBy n p.gathered f p'.gathered) (sym is) (gathers e);
+  gathers_nothing = gathers_nothing;
+  keeps = λ e. subst (λ (n : ℕ). RequestsBy n p p') (sym is) (keeps e);
+  keeps_all = keeps_all;
 }
 
 pub kept_as : (s : Store) (f : Frame) (code : ℕ) (s' : Store) (f' : Frame) (what : ℕ) → f.what ≡ what → (code ≢ 0 → code ≢ SILENT → s' ≡ s)
@@ -31,10 +42,13 @@ kept_as s f code s' f' what is refused silent done seen = record {
 }
 
 pub run_as : (c : CodePart) (f : Frame) (code : ℕ) (c' : CodePart) (f' : Frame) (what : ℕ) → f.what ≡ what → (code ≢ 0 → c'.program ≡ c.program)
-    → (code ≡ 0 → RunBy what c f c' f') → IsRun c f code c' f'
-run_as c f code c' f' what is refused done = record {
+    → (code ≡ 0 → RunBy what c f c' f') → (code ≡ 0 → GatheredBy what c.gathered f c'.gathered) → (code ≢ 0 → IsAsGathered c.gathered c'.gathered)
+    → IsRun c f code c' f'
+run_as c f code c' f' what is refused done gathers gathers_nothing = record {
   refused = refused;
   done = λ e. subst (λ (n : ℕ). RunBy n c f c' f') (sym is) (done e);
+  gathers = λ e. subst (λ (n : ℕ). GatheredBy n c.gathered f c'.gathered) (sym is) (gathers e);
+  gathers_nothing = gathers_nothing;
 }
 
 pub begun_as : (f : Frame) (body : Body) (what : ℕ) → f.what ≡ what → BegunBy what f body → BegunBy f.what f body

@@ -1,6 +1,7 @@
 -- What one call makes of an engine.
 use Rattle.std.specs.Prelude.{◌≡◌, ◌≢◌, ℕ, ◌==◌, MatchBool, []}
 use Rattle.data_component.specs.Store.{Store, empty}
+use Rattle.embedding.specs.Gathering.{HasNothing}
 use Rattle.embedding.specs.Keeping.{IsKept}
 use Rattle.embedding.specs.Programs.{IsRun}
 use Rattle.embedding.specs.Serving.{IsServed}
@@ -22,6 +23,8 @@ pub record BeginsTc (f : Frame) (body : Body) : Type 0 where
   pub dcs : part.state.dcs ≡ f.word
   pub procs : part.state.procs ≡ []
   pub events : part.state.events ≡ []
+  pub requests : part.requests.items ≡ []
+  pub gathered : HasNothing part.gathered
 
 -- an empty data component
 pub record BeginsDc (f : Frame) (body : Body) : Type 0 where
@@ -32,6 +35,7 @@ pub record BeginsDc (f : Frame) (body : Body) : Type 0 where
 pub record BeginsCode (body : Body) : Type 0 where
   pub part : CodePart
   pub is : body ≡ Code part
+  pub gathered : HasNothing part.gathered
 
 abbrev pub BegunBy : ℕ → Frame → Body → Type 0
 BegunBy what f body = MatchBool (what == START_TC) (BeginsTc f body) (MatchBool (what == START_DC) (BeginsDc f body) (BeginsCode body))

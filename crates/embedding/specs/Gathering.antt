@@ -1,14 +1,70 @@
 -- Code and slots that were handed in: what they are as a procedure, and why they are none.
-use Rattle.std.specs.Prelude.{◌≡◌, ℕ, ◌<◌, ⊤, List, Some, None}
+use Rattle.std.specs.Prelude.{◌≡◌, ℕ, ◌==◌, ◌<◌, ⊤, MatchBool, List, [], ◌∷◌, ◌++◌, Some, None}
 use Rattle.access_slots.specs.Declaration.{Declaration, decl_fault}
+use Rattle.access_slots.specs.declared.slot.Key.{Key}
+use Rattle.access_slots.specs.declared.slot.Key.TheVariants.{Arg, Fixed}
+use Rattle.access_slots.specs.declared.slot.Mode.{Mode}
+use Rattle.access_slots.specs.declared.slot.Mode.TheVariants.{Read, Write}
 use Rattle.access_slots.specs.declared.slot.Slot.{Slot}
 use Rattle.bpf_encoding.specs.Named.{code_named}
 use Rattle.bpf_encoding.specs.Spells.{Spells, fault_in, IsFirstFault}
 use Rattle.verifier.specs.Checked.{Checked}
 use Rattle.verifier.specs.Verdict.{verdict}
 use Rattle.embedding.specs.Codes.{decl_number, decl_place, decode_number, decode_place, violation_number}
+use Rattle.embedding.specs.Frames.{text_in}
+use Rattle.embedding.specs.declared.call.TheConstants.{BYTES, SLOT, CLEAR}
+use Rattle.embedding.specs.declared.frame.Frame.{Frame}
+use Rattle.embedding.specs.declared.gathered.Gathered.{Gathered}
 use Rattle.embedding.specs.declared.gathered.Wrong.{Wrong}
 use Rattle.embedding.specs.declared.gathered.Wrong.TheVariants as wrong
+
+-- ---- handing in
+
+abbrev pub IsMode : ℕ → Mode → Type 0
+IsMode kind Read = kind ≡ 0
+IsMode kind Write = kind ≡ 1
+
+abbrev pub IsKey : Frame → Key → Type 0
+IsKey f (Fixed key) = (f.op ≡ 0) × (f.key ≡ key)
+IsKey f (Arg argument) = (f.op ≡ 1) × (f.key ≡ argument)
+
+-- the frame says this slot
+pub record SaysSlot (f : Frame) (slot : Slot) : Type 0 where
+  pub mode : IsMode f.kind slot.mode
+  pub dc : f.dc ≡ slot.dc
+  pub table : f.table ≡ slot.table
+  pub key : IsKey f slot.key
+
+pub record HasNothing (g : Gathered) : Type 0 where
+  pub bytes : g.bytes.items ≡ []
+  pub slots : g.slots.items ≡ []
+
+-- byte by byte and slot by slot what it was
+pub record IsAsGathered (g : Gathered) (g' : Gathered) : Type 0 where
+  pub bytes : g'.bytes.items ≡ g.bytes.items
+  pub slots : g'.slots.items ≡ g.slots.items
+
+-- the frame's bytes are behind those that there were
+pub record TakesBytes (g : Gathered) (f : Frame) (g' : Gathered) : Type 0 where
+  pub bytes : g'.bytes.items ≡ g.bytes.items ++ text_in f
+  pub slots : g'.slots.items ≡ g.slots.items
+
+-- the frame's slot is behind those that there were
+pub record TakesSlot (g : Gathered) (f : Frame) (g' : Gathered) : Type 0 where
+  pub slot : Slot
+  pub said : SaysSlot f slot
+  pub slots : g'.slots.items ≡ g.slots.items ++ slot ∷ []
+  pub bytes : g'.bytes.items ≡ g.bytes.items
+
+-- what a call that answered 0 makes of what was handed in, by its number; one that isn't named here leaves it as it was
+abbrev pub GatheredBy : ℕ → Gathered → Frame → Gathered → Type 0
+GatheredBy what g f g' =
+    MatchBool (what == BYTES) (TakesBytes g f g')
+    (MatchBool (what == SLOT) (TakesSlot g f g')
+    (MatchBool (what == CLEAR) (HasNothing g')
+    (IsAsGathered g g')))
+
+-- ---- what it is
 
 abbrev pub decl_of : List Slot → ℕ → Declaration
 decl_of slots args = record { args = args; slots = slots }

@@ -5,7 +5,7 @@ use Rattle.access_slots.specs.declared.op.Said.{Said}
 use Rattle.interpreter.specs.declared.pause.Pause.{Pause}
 use Rattle.interpreter.specs.declared.pause.Pause.TheVariants as pause
 use Rattle.embedding.specs.Frames.{Names, Says, args_in}
-use Rattle.embedding.specs.Gathering.{checked_of, IsProcedure}
+use Rattle.embedding.specs.Gathering.{GatheredBy, IsAsGathered, checked_of, IsProcedure}
 use Rattle.embedding.specs.Running.{Held, WaitsBehind, StopsAt}
 use Rattle.embedding.specs.declared.call.TheConstants.{VERIFY, RUN, RESUME}
 use Rattle.embedding.specs.declared.code_part.CodePart.{CodePart}
@@ -61,3 +61,5 @@ RunBy what c f c' f' =
 pub record IsRun (c : CodePart) (f : Frame) (code : ℕ) (c' : CodePart) (f' : Frame) : Type 0 where
   pub refused : code ≢ 0 → c'.program ≡ c.program
   pub done : code ≡ 0 → RunBy f.what c f c' f'
+  pub gathers : code ≡ 0 → GatheredBy f.what c.gathered f c'.gathered
+  pub gathers_nothing : code ≢ 0 → IsAsGathered c.gathered c'.gathered

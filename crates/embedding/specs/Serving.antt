@@ -24,7 +24,7 @@ use Rattle.tc_core.specs.declared.state.NewsFault.{NewsFault}
 use Rattle.tc_core.specs.declared.state.Refusal.{Refusal}
 use Rattle.embedding.specs.Codes.{news_number}
 use Rattle.embedding.specs.Frames.{bit, Carries, Brings, news_in, args_in, text_in, call_in}
-use Rattle.embedding.specs.Gathering.{checked_of, IsProcedure, IsWrong, wrong_number, wrong_place}
+use Rattle.embedding.specs.Gathering.{GatheredBy, IsAsGathered, checked_of, IsProcedure, IsWrong, wrong_number, wrong_place}
 use Rattle.embedding.specs.Telling.{Tells, requests_of, EndsAs, TellsRefusal, TellsLoading, TellsRedo, TellsSite}
 use Rattle.embedding.specs.declared.call.TheConstants.{LOAD, FIND, ADMIT, BLOCKED, ASK, UNDO, WIRE, ANSWER, GIVE_UP, END, OPEN_COUNT, LOG_LENGTH, LOG_BYTES, SITE, TOLD, REDO_NEXT, REDONE}
 use Rattle.embedding.specs.declared.codes.TheConstants.{BAD_FRAME, MEMORY, NOT_TEXT, NO_TXN, NOT_OVER, NOTHING_OPEN, STRANGER}
@@ -114,6 +114,7 @@ pub record Answers (p : TcPart) (f : Frame) (p' : TcPart) : Type 0 where
   pub brought : Brings f reply
   pub fit : IsAnswer p.state request reply
   pub is : p'.state ≡ after_answer p.state request reply.said
+  pub left : p'.requests.items ≡ swap_remove p.requests.items place request
 
 -- the reply isn't one to the request, which is kept
 pub record IsStranger (p : TcPart) (f : Frame) (p' : TcPart) : Type 0 where
@@ -138,6 +139,7 @@ pub record GivesUp (p : TcPart) (f : Frame) (p' : TcPart) (f' : Frame) : Type 0 
   pub number : f'.number ≡ request.number
   pub open_here : IsOpenHere p.state request → p'.state ≡ with_given_up p.state request.number
   pub elsewhere : (IsOpenHere p.state request → ⊥) → p'.state ≡ p.state
+  pub left : p'.requests.items ≡ swap_remove p.requests.items place request
 
 pub record Ends (p : TcPart) (f : Frame) (p' : TcPart) (f' : Frame) : Type 0 where
   pub is : p'.state ≡ after_end p.state f.txn (end_of p.state f.txn)
@@ -199,6 +201,19 @@ DoneBy what p f p' f' =
     (MatchBool (what == REDONE) (HasRedone p f p')
     (p'.state ≡ p.state))))))))))
 
+abbrev pub KeepsRequests : TcPart → TcPart → Type 0
+KeepsRequests p p' = p'.requests.items ≡ p.requests.items
+
+-- what a call that answered 0 leaves of the requests that are kept, by its number: all, but for those that keep one more (Asks, Undoes)
+-- or one less (Answers, GivesUp)
+abbrev pub RequestsBy : ℕ → TcPart → TcPart → Type 0
+RequestsBy what p p' =
+    MatchBool (what == ASK) ⊤
+    (MatchBool (what == UNDO) ⊤
+    (MatchBool (what == ANSWER) ⊤
+    (MatchBool (what == GIVE_UP) ⊤
+    (KeepsRequests p p'))))
+
 -- what such a call says, that has changed nothing
 abbrev pub ShownBy : ℕ → TcPart → Frame → Frame → Type 0
 ShownBy what p f f' =
@@ -227,9 +242,13 @@ RefusedBy what p f code p' f' =
     (MatchBool (what == REDONE) (code ≡ STRANGER → IsNotRedone p f)
     ⊤))))))))))
 
--- refused means unchanged
+-- refused means unchanged; the reply of a stranger aside, whose request is kept in another place (IsStranger)
 pub record IsServed (p : TcPart) (f : Frame) (code : ℕ) (p' : TcPart) (f' : Frame) : Type 0 where
   pub refused : code ≢ 0 → p'.state ≡ p.state
   pub why : code ≢ 0 → RefusedBy f.what p f code p' f'
   pub done : code ≡ 0 → DoneBy f.what p f p' f'
   pub shown : code ≡ 0 → ShownBy f.what p f f'
+  pub gathers : code ≡ 0 → GatheredBy f.what p.gathered f p'.gathered
+  pub gathers_nothing : code ≢ 0 → IsAsGathered p.gathered p'.gathered
+  pub keeps : code ≡ 0 → RequestsBy f.what p p'
+  pub keeps_all : code ≢ 0 → code ≢ STRANGER → KeepsRequests p p'

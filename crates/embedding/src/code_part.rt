@@ -1,6 +1,7 @@
 // A program behind a frame.
 
 ghost use Rattle.std.specs.Prelude.{◌≡◌, ◌≢◌};
+ghost use Rattle.embedding.specs.Gathering.{HasNothing, IsAsGathered};
 ghost use Rattle.embedding.specs.Programs.{IsStop, Accepts, Starts, GoesOn, IsRun};
 
 use crate::call;
@@ -36,7 +37,9 @@ fn put_stop(frame: &mut Frame, pause: &Pause, executed: u32)
 
 impl CodePart {
     /// Nothing is accepted yet. It takes no memory.
-    pub fn new(alloc: Global) -> CodePart {
+    pub fn new(alloc: Global) -> CodePart
+        ensures { HasNothing result.gathered }
+    {
         CodePart {
             gathered: Gathered::new(alloc),
             program: None,
@@ -46,6 +49,7 @@ impl CodePart {
     fn verify(&mut self, frame: &mut Frame) -> u32
         ensures refused { result ≢ 0 → self.new.program ≡ self.old.program }
         ensures done { result ≡ 0 → Accepts self.old frame.old self.new }
+        ensures gathered { IsAsGathered self.old.gathered self.new.gathered }
     {
         match self.gathered.verified(frame.word) {
             Ok(verified) => {
@@ -64,6 +68,7 @@ impl CodePart {
     fn run(&mut self, frame: &mut Frame) -> u32
         ensures refused { result ≢ 0 → self.new.program ≡ self.old.program }
         ensures done { result ≡ 0 → Starts self.old frame.old self.new frame.new }
+        ensures gathered { IsAsGathered self.old.gathered self.new.gathered }
     {
         let Some(program) = &mut self.program else {
             return NO_PROCEDURE;
@@ -82,6 +87,7 @@ impl CodePart {
     fn resume(&mut self, frame: &mut Frame) -> u32
         ensures refused { result ≢ 0 → self.new.program ≡ self.old.program }
         ensures done { result ≡ 0 → GoesOn self.old frame.old self.new frame.new }
+        ensures gathered { IsAsGathered self.old.gathered self.new.gathered }
     {
         let Some(program) = &mut self.program else {
             return NO_PROCEDURE;

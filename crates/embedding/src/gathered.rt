@@ -1,8 +1,8 @@
 // Code and access slots, as they are handed in piece by piece.
 
-ghost use Rattle.std.specs.Prelude.{◌≡◌, ◌≢◌, IfOk, IfErr};
+ghost use Rattle.std.specs.Prelude.{◌≡◌, ◌≢◌, IfOk, IfErr, IfSome};
 ghost use Rattle.embedding.specs.Codes.{decl_number, decl_place, decode_number, decode_place};
-ghost use Rattle.embedding.specs.Gathering.{checked_of, IsProcedure, IsWrong, wrong_number, wrong_place};
+ghost use Rattle.embedding.specs.Gathering.{IsMode, IsKey, HasNothing, IsAsGathered, TakesBytes, TakesSlot, checked_of, IsProcedure, IsWrong, wrong_number, wrong_place};
 
 use crate::codes::{self, BAD_FRAME, DONE, MEMORY};
 use crate::frame::Frame;
@@ -52,7 +52,9 @@ impl Wrong {
     }
 }
 
-fn mode_of(kind: u32) -> Option<Mode> {
+fn mode_of(kind: u32) -> Option<Mode>
+    ensures { IfSome result (IsMode kind) }
+{
     match kind {
         0 => Some(Mode::Read),
         1 => Some(Mode::Write),
@@ -61,7 +63,9 @@ fn mode_of(kind: u32) -> Option<Mode> {
 }
 
 // With 1 in `op` the key is the number of an argument.
-fn key_of(frame: &Frame) -> Option<Key> {
+fn key_of(frame: &Frame) -> Option<Key>
+    ensures { IfSome result (IsKey frame.now) }
+{
     match frame.op {
         0 => Some(Key::Fixed(frame.key)),
         1 => {
@@ -76,7 +80,9 @@ fn key_of(frame: &Frame) -> Option<Key> {
 
 impl Gathered {
     /// Nothing yet. It takes no memory.
-    pub fn new(alloc: Global) -> Gathered {
+    pub fn new(alloc: Global) -> Gathered
+        ensures { HasNothing result }
+    {
         Gathered {
             alloc,
             bytes: Vec::new(alloc),
@@ -85,14 +91,20 @@ impl Gathered {
     }
 
     /// Forgets all.
-    pub fn clear(&mut self) -> u32 {
+    pub fn clear(&mut self) -> u32
+        ensures code { result ≡ DONE }
+        ensures done { HasNothing self.new }
+    {
         self.bytes.clear();
         self.slots.clear();
         DONE
     }
 
     /// The frame's bytes behind those that there are.
-    pub fn more_bytes(&mut self, frame: &Frame) -> u32 {
+    pub fn more_bytes(&mut self, frame: &Frame) -> u32
+        ensures refused { result ≢ 0 → IsAsGathered self.old self.new }
+        ensures done { result ≡ 0 → TakesBytes self.old frame.now self.new }
+    {
         let Some(text) = frame.text() else {
             return BAD_FRAME;
         };
@@ -103,7 +115,10 @@ impl Gathered {
     }
 
     /// The frame's slot behind those that there are.
-    pub fn more_slots(&mut self, frame: &Frame) -> u32 {
+    pub fn more_slots(&mut self, frame: &Frame) -> u32
+        ensures refused { result ≢ 0 → IsAsGathered self.old self.new }
+        ensures done { result ≡ 0 → TakesSlot self.old frame.now self.new }
+    {
         let Some(mode) = mode_of(frame.kind) else {
             return BAD_FRAME;
         };

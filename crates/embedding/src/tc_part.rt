@@ -8,10 +8,11 @@ ghost use Rattle.tc_core.specs.Loaded.{number_of};
 ghost use Rattle.tc_core.specs.Redo.{redo_reply};
 ghost use Rattle.tc_core.specs.Replies.{end_of};
 ghost use Rattle.embedding.specs.Frames.{args_in, text_in};
+ghost use Rattle.embedding.specs.Gathering.{HasNothing, IsAsGathered};
 ghost use Rattle.embedding.specs.Sound.{IsSoundCore};
 ghost use Rattle.embedding.specs.Telling.{TellsRedo, TellsSite};
 ghost use Rattle.embedding.specs.Serving.{Loads, WhyNotLoaded, Admits, WhyNotAdmitted, Asks, Undoes, Resends, Answers, IsStranger, GivesUp, Ends};
-ghost use Rattle.embedding.specs.Serving.{Hears, WhyNotHeard, Redoes, HasRedone, IsNotRedone, SaysBlocked, ShowsEvent, IsServed, IsRequestOf, HasNoRequest};
+ghost use Rattle.embedding.specs.Serving.{KeepsRequests, Hears, WhyNotHeard, Redoes, HasRedone, IsNotRedone, SaysBlocked, ShowsEvent, IsServed, IsRequestOf, HasNoRequest};
 
 use crate::codes::{
     self, BAD_FRAME, DONE, DOWN, MEMORY, NO_DC, NO_PLACE, NO_SUCH_CALL, NO_TXN, NOT_OVER,
@@ -54,6 +55,8 @@ impl TcPart {
         ensures dcs { IfOk result (λ p. p.state.dcs ≡ dcs) }
         ensures procs { IfOk result (λ p. p.state.procs ≡ []) }
         ensures events { IfOk result (λ p. p.state.events ≡ []) }
+        ensures requests { IfOk result (λ p. p.requests.items ≡ []) }
+        ensures gathered { IfOk result (λ p. HasNothing p.gathered) }
     {
         Ok(TcPart {
             alloc,
@@ -92,6 +95,8 @@ impl TcPart {
         ensures refused { result ≢ 0 → self.new.state ≡ self.old.state }
         ensures why { result ≢ 0 → WhyNotLoaded self.old frame.old result frame.new }
         ensures done { result ≡ 0 → Loads self.old frame.old self.new frame.new }
+        ensures gathered { IsAsGathered self.old.gathered self.new.gathered }
+        ensures kept { KeepsRequests self.old self.new }
     {
         let verified = match self.gathered.verified(frame.word) {
             Ok(verified) => verified,
@@ -155,6 +160,8 @@ impl TcPart {
         ensures refused { result ≢ 0 → self.new.state ≡ self.old.state }
         ensures why { result ≢ 0 → WhyNotAdmitted self.old frame.old result frame.new }
         ensures done { result ≡ 0 → Admits self.old frame.old self.new frame.new }
+        ensures gathered { IsAsGathered self.old.gathered self.new.gathered }
+        ensures kept { KeepsRequests self.old self.new }
     {
         let call = match self.call_of(frame) {
             Ok(call) => call,
@@ -188,6 +195,8 @@ impl TcPart {
         ensures refused { result ≢ 0 → self.new.state ≡ self.old.state }
         ensures why { result ≡ NO_TXN → standing self.old.state.events frame.old.txn ≡ None }
         ensures done { result ≡ 0 → Asks self.old frame.old self.new frame.new }
+        ensures gathered { IsAsGathered self.old.gathered self.new.gathered }
+        ensures kept { result ≢ 0 → KeepsRequests self.old self.new }
     {
         let Some(txn) = self.state.find_txn(frame.txn) else {
             return NO_TXN;
@@ -204,6 +213,8 @@ impl TcPart {
         ensures refused { result ≢ 0 → self.new.state ≡ self.old.state }
         ensures why { result ≡ NO_TXN → standing self.old.state.events frame.old.txn ≡ None }
         ensures done { result ≡ 0 → Undoes self.old frame.old self.new frame.new }
+        ensures gathered { IsAsGathered self.old.gathered self.new.gathered }
+        ensures kept { result ≢ 0 → KeepsRequests self.old self.new }
     {
         let Some(txn) = self.state.find_txn(frame.txn) else {
             return NO_TXN;
@@ -237,6 +248,8 @@ impl TcPart {
         ensures none { result ≡ NOTHING_OPEN → HasNoRequest self.old.requests.items frame.old.txn }
         ensures why { result ≡ STRANGER → IsStranger self.old frame.old self.new }
         ensures done { result ≡ 0 → Answers self.old frame.old self.new }
+        ensures gathered { IsAsGathered self.old.gathered self.new.gathered }
+        ensures kept { result ≢ 0 → result ≢ STRANGER → KeepsRequests self.old self.new }
     {
         let Some(reply) = frame.reply() else {
             return BAD_FRAME;
@@ -261,6 +274,8 @@ impl TcPart {
         ensures refused { result ≢ 0 → self.new.state ≡ self.old.state }
         ensures none { result ≡ NOTHING_OPEN → HasNoRequest self.old.requests.items frame.old.txn }
         ensures done { result ≡ 0 → GivesUp self.old frame.old self.new frame.new }
+        ensures gathered { IsAsGathered self.old.gathered self.new.gathered }
+        ensures kept { result ≢ 0 → KeepsRequests self.old self.new }
     {
         let Some(place) = find(self.requests.as_slice(), frame.txn) else {
             return NOTHING_OPEN;
@@ -274,6 +289,8 @@ impl TcPart {
         ensures refused { result ≢ 0 → self.new.state ≡ self.old.state }
         ensures why { result ≡ NOT_OVER → end_of self.old.state frame.old.txn ≡ None }
         ensures done { result ≡ 0 → Ends self.old frame.old self.new frame.new }
+        ensures gathered { IsAsGathered self.old.gathered self.new.gathered }
+        ensures kept { KeepsRequests self.old self.new }
     {
         let Some(txn) = self.state.find_txn(frame.txn) else {
             return NO_TXN;
@@ -318,6 +335,8 @@ impl TcPart {
         ensures refused { result ≢ 0 → self.new.state ≡ self.old.state }
         ensures why { result ≢ 0 → WhyNotHeard self.old frame.now result }
         ensures done { result ≡ 0 → Hears self.old frame.now self.new }
+        ensures gathered { IsAsGathered self.old.gathered self.new.gathered }
+        ensures kept { KeepsRequests self.old self.new }
     {
         match self.state.told(frame.dc, frame.news()) {
             Ok(()) => DONE,
@@ -329,6 +348,8 @@ impl TcPart {
         ensures refused { result ≢ 0 → self.new.state ≡ self.old.state }
         ensures why { result ≢ 0 → TellsRedo (redo_reply self.old.state frame.old.dc) result frame.new }
         ensures done { result ≡ 0 → Redoes self.old frame.old result self.new frame.new }
+        ensures gathered { IsAsGathered self.old.gathered self.new.gathered }
+        ensures kept { KeepsRequests self.old self.new }
     {
         let redo = self.state.redo_next(frame.dc);
         telling::put_redo(redo, frame)
@@ -338,6 +359,8 @@ impl TcPart {
         ensures refused { result ≢ 0 → self.new.state ≡ self.old.state }
         ensures why { result ≡ STRANGER → IsNotRedone self.old frame.now }
         ensures done { result ≡ 0 → HasRedone self.old frame.now self.new }
+        ensures gathered { IsAsGathered self.old.gathered self.new.gathered }
+        ensures kept { KeepsRequests self.old self.new }
     {
         let Some(reply) = frame.reply() else {
             return BAD_FRAME;

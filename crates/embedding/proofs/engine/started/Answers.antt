@@ -5,7 +5,15 @@ use Rattle.embedding.proofs.engine.started.Goals as goal
 
 pub returns-in-Ok-clause-ok : goal.returns-in-Ok-clause-ok
 returns-in-Ok-clause-ok c = begun_as c.args.frame.now (Tc c.in-Ok.part) 1 c.in-1.is
-    (record { part = c.in-Ok.part; is = refl; dcs = c.in-Ok.ensures.dcs; procs = c.in-Ok.ensures.procs; events = c.in-Ok.ensures.events })
+    (record {
+      part = c.in-Ok.part;
+      is = refl;
+      dcs = c.in-Ok.ensures.dcs;
+      procs = c.in-Ok.ensures.procs;
+      events = c.in-Ok.ensures.events;
+      requests = c.in-Ok.ensures.requests;
+      gathered = c.in-Ok.ensures.gathered;
+    })
 
 pub returns-in-3-clause-ok : goal.returns-in-3-clause-ok
-returns-in-3-clause-ok c = begun_as c.args.frame.now (Code c.new-in-3.result) 3 c.in-3.is (record { part = c.new-in-3.result; is = refl })
+returns-in-3-clause-ok c = begun_as c.args.frame.now (Code c.new-in-3.result) 3 c.in-3.is (record { part = c.new-in-3.result; is = refl; gathered = c.new-in-3.ensures })

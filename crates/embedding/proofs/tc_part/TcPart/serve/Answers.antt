@@ -1,64 +1,84 @@
 use Rattle.std.proofs.Common.{ℕ, length, ap, refl, subst, ◌∙◌}
 use Rattle.embedding.specs.Serving.{Redoes}
-use Rattle.embedding.proofs.ByNumber.{served_as}
+use Rattle.embedding.proofs.ByNumber.{served_as, same_gathered}
 use Rattle.embedding.proofs.tc_part.TcPart.serve.Goals as goal
 
 pub returns-in-10 : goal.returns-in-10
 returns-in-10 c = served_as _ _ _ _ _ _ c.in-10.is (λ _. refl) (λ _. tt) (λ _. refl) (λ _. tt)
+    (c.more_bytes.ensures.done) (c.more_bytes.ensures.refused) (λ _. refl) (λ _ _. refl)
 
 pub returns-in-11 : goal.returns-in-11
 returns-in-11 c = served_as _ _ _ _ _ _ c.in-11.is (λ _. refl) (λ _. tt) (λ _. refl) (λ _. tt)
+    (c.more_slots.ensures.done) (c.more_slots.ensures.refused) (λ _. refl) (λ _ _. refl)
 
 pub returns-in-12 : goal.returns-in-12
 returns-in-12 c = served_as _ _ _ _ _ _ c.in-12.is (λ _. refl) (λ _. tt) (λ _. refl) (λ _. tt)
+    (λ _. c.clear.ensures.done) (λ wrong. absurd (wrong c.clear.ensures.code)) (λ _. refl) (λ _ _. refl)
 
 pub returns-in-13 : goal.returns-in-13
 returns-in-13 c = served_as _ _ _ _ _ _ c.in-13.is (c.load.ensures.refused) (c.load.ensures.why) (c.load.ensures.done) (λ _. tt)
+    (λ _. c.load.ensures.gathered) (λ _. c.load.ensures.gathered) (λ _. c.load.ensures.kept) (λ _ _. c.load.ensures.kept)
 
 pub returns-in-14 : goal.returns-in-14
 returns-in-14 c = served_as _ _ _ _ _ _ c.in-14.is (λ _. refl) (λ _. tt) (λ _. refl) (c.find.ensures)
+    (λ _. same_gathered _) (λ _. same_gathered _) (λ _. refl) (λ _ _. refl)
 
 pub returns-in-20 : goal.returns-in-20
 returns-in-20 c = served_as _ _ _ _ _ _ c.in-20.is (c.admit.ensures.refused) (c.admit.ensures.why) (c.admit.ensures.done) (λ _. tt)
+    (λ _. c.admit.ensures.gathered) (λ _. c.admit.ensures.gathered) (λ _. c.admit.ensures.kept) (λ _ _. c.admit.ensures.kept)
 
 pub returns-in-21 : goal.returns-in-21
 returns-in-21 c = served_as _ _ _ _ _ _ c.in-21.is (λ _. refl) (λ _. tt) (λ _. refl) (c.blocked.ensures)
+    (λ _. same_gathered _) (λ _. same_gathered _) (λ _. refl) (λ _ _. refl)
 
 pub returns-in-22 : goal.returns-in-22
 returns-in-22 c = served_as _ _ _ _ _ _ c.in-22.is (c.ask.ensures.refused) (λ _. c.ask.ensures.why) (c.ask.ensures.done) (λ _. tt)
+    (λ _. c.ask.ensures.gathered) (λ _. c.ask.ensures.gathered) (λ _. tt) (λ wrong _. c.ask.ensures.kept wrong)
 
 pub returns-in-23 : goal.returns-in-23
 returns-in-23 c = served_as _ _ _ _ _ _ c.in-23.is (c.undo.ensures.refused) (λ _. c.undo.ensures.why) (c.undo.ensures.done) (λ _. tt)
+    (λ _. c.undo.ensures.gathered) (λ _. c.undo.ensures.gathered) (λ _. tt) (λ wrong _. c.undo.ensures.kept wrong)
 
 pub returns-in-24 : goal.returns-in-24
 returns-in-24 c = served_as _ _ _ _ _ _ c.in-24.is (λ _. refl) (λ _. c.wire.ensures.why) (λ _. refl) (c.wire.ensures.done)
+    (λ _. same_gathered _) (λ _. same_gathered _) (λ _. refl) (λ _ _. refl)
 
 pub returns-in-25 : goal.returns-in-25
 returns-in-25 c = served_as _ _ _ _ _ _ c.in-25.is (c.answer.ensures.refused) (λ _. record { none = c.answer.ensures.none; stranger = c.answer.ensures.why }) (c.answer.ensures.done) (λ _. tt)
+    (λ _. c.answer.ensures.gathered) (λ _. c.answer.ensures.gathered) (λ _. tt) (c.answer.ensures.kept)
 
 pub returns-in-26 : goal.returns-in-26
 returns-in-26 c = served_as _ _ _ _ _ _ c.in-26.is (c.give_up.ensures.refused) (λ _. c.give_up.ensures.none) (c.give_up.ensures.done) (λ _. tt)
+    (λ _. c.give_up.ensures.gathered) (λ _. c.give_up.ensures.gathered) (λ _. tt) (λ wrong _. c.give_up.ensures.kept wrong)
 
 pub returns-in-27 : goal.returns-in-27
 returns-in-27 c = served_as _ _ _ _ _ _ c.in-27.is (c.end.ensures.refused) (λ _. c.end.ensures.why) (c.end.ensures.done) (λ _. tt)
+    (λ _. c.end.ensures.gathered) (λ _. c.end.ensures.gathered) (λ _. c.end.ensures.kept) (λ _ _. c.end.ensures.kept)
 
 pub returns-in-28 : goal.returns-in-28
 returns-in-28 c = served_as _ _ _ _ _ _ c.in-28.is (λ _. refl) (λ _. tt) (λ _. refl) (λ _. c.open_count.ensures)
+    (λ _. same_gathered _) (λ _. same_gathered _) (λ _. refl) (λ _ _. refl)
 
 pub returns-in-29 : goal.returns-in-29
 returns-in-29 c = served_as _ _ _ _ _ _ c.in-29.is (λ _. refl) (λ _. tt) (λ _. refl) (λ _. c.len.ensures ∙ ap length c.log.ensures)
+    (λ _. same_gathered _) (λ _. same_gathered _) (λ _. refl) (λ _ _. refl)
 
 pub returns-in-30 : goal.returns-in-30
 returns-in-30 c = served_as _ _ _ _ _ _ c.in-30.is (λ _. refl) (λ _. tt) (λ _. refl) (c.log_bytes.ensures)
+    (λ _. same_gathered _) (λ _. same_gathered _) (λ _. refl) (λ _ _. refl)
 
 pub returns-in-31 : goal.returns-in-31
 returns-in-31 c = served_as _ _ _ _ _ _ c.in-31.is (λ _. refl) (λ _. tt) (λ _. refl) (c.site.ensures)
+    (λ _. same_gathered _) (λ _. same_gathered _) (λ _. refl) (λ _ _. refl)
 
 pub returns-in-32 : goal.returns-in-32
 returns-in-32 c = served_as _ _ _ _ _ _ c.in-32.is (c.told.ensures.refused) (c.told.ensures.why) (c.told.ensures.done) (λ _. tt)
+    (λ _. c.told.ensures.gathered) (λ _. c.told.ensures.gathered) (λ _. c.told.ensures.kept) (λ _ _. c.told.ensures.kept)
 
 pub returns-in-33 : goal.returns-in-33
 returns-in-33 c = served_as _ _ _ _ _ _ c.in-33.is (c.redo_next.ensures.refused) (c.redo_next.ensures.why) (λ z. subst (λ (n : ℕ). Redoes c.args.self.now c.args.frame.now n c.redo_next.new.self c.redo_next.new.frame) z (c.redo_next.ensures.done z)) (λ _. tt)
+    (λ _. c.redo_next.ensures.gathered) (λ _. c.redo_next.ensures.gathered) (λ _. c.redo_next.ensures.kept) (λ _ _. c.redo_next.ensures.kept)
 
 pub returns-in-34 : goal.returns-in-34
 returns-in-34 c = served_as _ _ _ _ _ _ c.in-34.is (c.redone.ensures.refused) (λ _. c.redone.ensures.why) (c.redone.ensures.done) (λ _. tt)
+    (λ _. c.redone.ensures.gathered) (λ _. c.redone.ensures.gathered) (λ _. c.redone.ensures.kept) (λ _ _. c.redone.ensures.kept)
