@@ -37,8 +37,9 @@ fn state(alloc: Global) -> Option<TcState> {
     }
 }
 
-fn world(alloc: Global) -> Result<World, Fail> {
+fn world(rt: &impl Abort, alloc: Global) -> Result<World, Fail> {
     let state = state(alloc).ok_or("not loaded")?;
+    assert_eq!(rt; state.open_count(), 0);
     match two_dcs(alloc) {
         Ok(dcs) => Ok(World::new(alloc, state, dcs)),
         Err(fault) => {
@@ -108,7 +109,7 @@ fn one_of_three(rt: &impl Abort, alloc: Global, world: &mut World) -> Result<(),
 
 #[test]
 fn one_of_three_is_redone(rt: HostRuntime) -> Result<(), Fail> {
-    let mut world = world(rt.alloc())?;
+    let mut world = world(&rt, rt.alloc())?;
     let passed = one_of_three(&rt, rt.alloc(), &mut world);
     closed(world);
     Ok(passed?)
