@@ -122,7 +122,7 @@ asked ps w e t n o legal next lg fl dn top k =
     (subst (λ (g : List Performed). AreOk (λ m. if n == m then Some o else logged h m) (λ m. if n == m then Some (flight t o) else open_op h m) g (given (e ∷ h)) w.core.sites w.dcs w.copies w.replies w.news) (sym dn)
     (subst (λ (g : ℕ). AreOk (λ m. if n == m then Some o else logged h m) (λ m. if n == m then Some (flight t o) else open_op h m) (done h) g w.core.sites w.dcs w.copies w.replies w.news) (sym top) now)))
 
-abbrev IsCopy : Whole → (ℕ → List Performed) → Wire → Type 0
+abbrev pub IsCopy : Whole → (ℕ → List Performed) → Wire → Type 0
 IsCopy w v x = CopyOk (logged w.core.events) (open_op w.core.events) (done w.core.events) (given w.core.events) w.core.sites w.dcs v x
 
 copied : (w : Whole) (x : Wire) → (s : IsListed w) → IsCopy w s.ok.v x → IsListed (with_copy w x)

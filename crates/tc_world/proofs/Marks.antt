@@ -45,10 +45,10 @@ use Rattle.tc_world.specs.declared.step.Step.TheVariants as step
 use Rattle.tc_world.specs.declared.step.Outcome.{Outcome}
 use Rattle.tc_world.specs.declared.step.Illegal.{Illegal}
 
-went : (o p : Outcome) (w v : Whole) → Goes o w ≡ Goes p v → w ≡ v
+pub went : (o p : Outcome) (w v : Whole) → Goes o w ≡ Goes p v → w ≡ v
 went o p w v goes = cc
 
-stopped : (why : Illegal) (p : Outcome) (v : Whole) → Stops why ≡ Goes p v → ⊥
+pub stopped : (why : Illegal) (p : Outcome) (v : Whole) → Stops why ≡ Goes p v → ⊥
 stopped why p v goes = cc
 
 low_behind : (o p : Outcome) (w v : Whole) → AreMarksLow w → Goes o w ≡ Goes p v → AreMarksLow v
@@ -60,7 +60,7 @@ LegalCore c = Legal c.procs c.events
 legal_behind : (o p : Outcome) (w v : Whole) → LegalCore v.core → Goes o w ≡ Goes p v → LegalCore w.core
 legal_behind o p w v legal goes = subst (λ (x : Whole). LegalCore x.core) (sym (went o p w v goes)) legal
 
-all_at : {X : Type 0} (P : X → Type 0) (xs : List X) (k : ℕ) (x : X) → slice_get xs k ≡ Some x → All P xs → P x
+pub all_at : {X : Type 0} (P : X → Type 0) (xs : List X) (k : ℕ) (x : X) → slice_get xs k ≡ Some x → All P xs → P x
 all_at P xs k x at all = subst P (slice_get-index xs k x x at) (all k x (slice_get-short xs k x at))
 
 -- ---- what happens to a world
@@ -125,10 +125,10 @@ kept_saved d n o Silent = refl
 kept_saved d n o (New said) = refl
 
 -- both marks of a data component are low
-abbrev IsStoreLow : ℕ → Store → Type 0
+abbrev pub IsStoreLow : ℕ → Store → Type 0
 IsStoreLow m d = (d.mark ≤ m) × (d.saved_mark ≤ m)
 
-performed_low : (d : Store) (x : Wire) (m : ℕ) → x.low_water ≤ m → IsStoreLow m d → IsStoreLow m (performed d x)
+pub performed_low : (d : Store) (x : Wire) (m : ℕ) → x.low_water ≤ m → IsStoreLow m d → IsStoreLow m (performed d x)
 performed_low d x m low few = by (d.incarnation == x.incarnation)
   where
     new : Store
@@ -200,7 +200,7 @@ ask_rises c (reply.Waits n) legal = omega arith
 ask_rises c reply.Running legal = omega arith
 ask_rises c reply.Unknown legal = omega arith
 
-ask_sites : (c : Core) (a : Asked) → (after_ask c a).sites ≡ c.sites
+pub ask_sites : (c : Core) (a : Asked) → (after_ask c a).sites ≡ c.sites
 ask_sites c (reply.Request r) = refl
 ask_sites c reply.Undoing = refl
 ask_sites c reply.Over = refl
@@ -218,7 +218,7 @@ undo_rises c (reply.Waits n) legal = omega arith
 undo_rises c reply.Running legal = omega arith
 undo_rises c reply.Unknown legal = omega arith
 
-undo_sites : (c : Core) (a : Asked) → (after_undo c a).sites ≡ c.sites
+pub undo_sites : (c : Core) (a : Asked) → (after_undo c a).sites ≡ c.sites
 undo_sites c (reply.Request r) = refl
 undo_sites c reply.Undoing = refl
 undo_sites c reply.Over = refl
@@ -272,7 +272,7 @@ takes_answer_low w v f x true o legal low goes =
     let rose = mark_rises w.core.procs w.core.events e (legal_behind _ o (with_core w (with_event w.core e)) v legal goes).0 in
     low_behind _ o (with_core w (with_event w.core e)) v (risen w (with_event w.core e) rose refl low) goes
 
-redone_low : (m n : ℕ) (r : Option Redoing) → IsLow m r → IsLow m (redone_to n r)
+pub redone_low : (m n : ℕ) (r : Option Redoing) → IsLow m r → IsLow m (redone_to n r)
 redone_low m n None low = tt
 redone_low m n (Some r) low = low
 

@@ -1,0 +1,147 @@
+-- What a world keeps beside a log it keeps beside the same log without its last events, where nothing that was carried rests on these.
+use Rattle.std.proofs.Common.{◌≡◌, ◌⊎◌, ℕ, ◌+◌, ◌≤◌, ◌<◌, true, List, Option, Some, None, arith, refl, sym, ◌∙◌, ap, subst, inl, inr}
+use Rattle.std.specs.Prelude.{slice_get}
+use Rattle.std.specs.List.{All}
+use Rattle.access_slots.specs.declared.op.Op.{Op}
+use Rattle.access_slots.specs.declared.op.Said.{Said}
+use Rattle.access_slots.specs.declared.op.Wire.{Wire}
+use Rattle.access_slots.specs.declared.op.Reply.{Reply}
+use Rattle.access_slots.specs.declared.op.News.{News}
+use Rattle.history.specs.Flight.{Flight}
+use Rattle.history.specs.Redo.{is_done}
+use Rattle.data_component.specs.Performed.{Performed, said_under}
+use Rattle.data_component.specs.Store.{Store}
+use Rattle.transactions.specs.declared.Site.{Site}
+use Rattle.transactions.specs.declared.Redoing.{Redoing}
+use Rattle.transactions.specs.InFlight.{site_at}
+use Rattle.serial.specs.Lists.{dc_of}
+use Rattle.serial.specs.Joining.Behind.{StandsTo, IsEnd}
+use Rattle.serial.specs.Joining.Site.{Over, RedoneTo, SiteOk}
+use Rattle.serial.specs.Joining.Sites.{CopyOk, ReplyOk, NewsOk, AreOk}
+use Rattle.serial.proofs.SiteLemmas.{stands_less}
+use Rattle.serial.proofs.CutLemmas.{up_to, under_cut, cut_all, all_below, end_cut}
+use Rattle.serial.proofs.BackLemmas.{Earlier}
+
+-- t is known of a data component, and t' is what was noted: its redo begins anew, above its mark
+pub record IsAnew (low : ℕ) (t t' : Site) : Type 0 where
+  pub same : t'.incarnation ≡ t.incarnation
+  pub up : t'.redo ≡ None → t.redo ≡ None
+  pub stays_up : t.redo ≡ None → t'.redo ≡ None
+  pub down : (r' : Redoing) → t'.redo ≡ Some r' → (r : Redoing) × (t.redo ≡ Some r) × (r' ≡ record { mark = r.mark; redone = r.mark }) × (r.mark ≤ low)
+
+-- what a wire rests on: its number, its mark, and, where it redoes, the answer to its number
+abbrev pub RestsOn : (ℕ → Option Flight) → ℕ → ℕ → Wire → Type 0
+RestsOn fl top low x = (x.number ≤ top) × (x.low_water ≤ low) × (x.redo ≡ true → fl x.number ≡ None)
+
+-- a data component's list has no later numbers, and its marks are low
+pub record IsUpTo (top low : ℕ) (s : Store) : Type 0 where
+  pub list : (k : ℕ) (e : Performed) → slice_get s.list k ≡ Some e → e.0 ≤ top
+  pub mark : s.mark ≤ low
+  pub saved : s.saved_mark ≤ low
+
+pub over_less : (fl : ℕ → Option Flight) (top low p : ℕ) → Over fl top low → p ≤ low → Over fl top p
+over_less fl top low p x le =
+    let l = x.given_out in
+    record { given_out = omega (arith, l, le); answered = λ m less. x.answered m (omega (arith, less, le)) }
+
+module _ (lg : ℕ → Option Op) (fl : ℕ → Option Flight) (dn : List Performed) (top : ℕ) (lg' : ℕ → Option Op) (fl' : ℕ → Option Flight) (dn' : List Performed) (top' low : ℕ) where
+  stands_back : Earlier lg fl dn top lg' fl' dn' top' → (d p : ℕ) (list : List Performed) → StandsTo lg dn d p list → StandsTo lg' dn' d p list
+  stands_back e d p list to n o said logs dc was did le = to n o said (e.logs_on n o logs) dc (e.says_on n said was) did le
+
+  stands_cut : Earlier lg fl dn top lg' fl' dn' top' → (d p : ℕ) (v : List Performed) → StandsTo lg dn d p v → StandsTo lg' dn' d p (up_to top' v)
+  stands_cut e d p v to n o said logs dc was did le = under_cut top' n v (e.below n o logs) ∙ to n o said (e.logs_on n o logs) dc (e.says_on n said was) did le
+
+  site_back : Earlier lg fl dn top lg' fl' dn' top' → Over fl' top' low → (d : ℕ) (s : Store) (t t' : Site) (v : List Performed) → IsAnew low t t' → IsUpTo top' low s
+      → SiteOk lg fl dn top d s t v → SiteOk lg' fl' dn' top' d s t' (up_to top' v)
+  site_back e over d s t t' v anew few k =
+      record {
+        up = λ is. e.beside d v (k.up (anew.up is));
+        behind = e.behind d v k.behind;
+        down = λ r' is.
+            let w = anew.down r' is in
+            let was = k.down w.0 w.1 in
+            subst (RedoneTo lg' fl' dn' top' d (up_to top' v)) (sym w.2) (record {
+              stands = stands_cut e d w.0.mark v (stands_less lg dn d w.0.mark w.0.redone v was.told_le was.stands);
+              told_le = omega arith;
+              told_over = over_less fl' top' low w.0.mark over w.3;
+            });
+        ahead = λ less. (let u = k.ahead (subst (λ (n : ℕ). s.incarnation < n) anew.same less) in record { known = ap (up_to top') u.known; now = u.now; kept = u.kept });
+        same = λ is. sym whole ∙ ap (up_to top') (k.same (sym anew.same ∙ is));
+        idle = λ less. k.idle (subst (λ (n : ℕ). n < s.incarnation) anew.same less);
+        cut = subst (IsEnd (up_to top' v)) whole (end_cut top' v s.list k.cut);
+        saved_cut = k.saved_cut;
+        whole = λ never n o said logs dc was. k.whole never n o said (e.logs_on n o logs) dc (e.says_on n said was);
+        mark_to = stands_back e d s.mark s.list k.mark_to;
+        mark_over = over_less fl' top' low s.mark over few.mark;
+        saved_to = stands_back e d s.saved_mark s.saved k.saved_to;
+        saved_over = over_less fl' top' low s.saved_mark over few.saved;
+      }
+    where
+      whole : up_to top' s.list ≡ s.list
+      whole = cut_all top' s.list (all_below top' s.list few.list)
+
+  pub ok_back : (sites sites' : List Site) (dcs : List Store) (copies : List Wire) (replies : List Reply) (news : List (ℕ × News))
+      → Earlier lg fl dn top lg' fl' dn' top' → Over fl' top' low → ((d : ℕ) → IsAnew low (site_at sites d) (site_at sites' d)) → ((d : ℕ) (s : Store) → slice_get dcs d ≡ Some s → IsUpTo top' low s)
+      → All (RestsOn fl' top' low) copies → All (λ (x : Reply). x.number ≤ top') replies → All (λ (x : ℕ × News). x.1.mark ≤ low) news
+      → AreOk lg fl dn top sites dcs copies replies news → AreOk lg' fl' dn' top' sites' dcs copies replies news
+  ok_back sites sites' dcs copies replies news e over anew few rests given_out low_news k =
+      record {
+        v = λ d. up_to top' (k.v d);
+        copies = λ i x inside. copy _ (rests i x inside) (k.copies i x inside);
+        replies = λ i x inside. reply _ (given_out i x inside) (k.replies i x inside);
+        news = λ i x inside. told _ (low_news i x inside) (k.news i x inside);
+        stores = λ d s at. site_back e over d s (site_at sites d) (site_at sites' d) (k.v d) (anew d) (few d s at) (k.stores d s at);
+        said = λ n o said logs was. k.said n o said (e.logs_on n o logs) (e.says_on n said was);
+        there = λ d r' down. (let w = (anew d).down r' down in k.there d w.0 w.1);
+      }
+    where
+      copy : (x : Wire) → RestsOn fl' top' low x → CopyOk lg fl dn top sites dcs k.v x → CopyOk lg' fl' dn' top' sites' dcs (λ d. up_to top' (k.v d)) x
+      copy x rest y =
+          let t = anew (dc_of x.op) in
+          record {
+            logs = e.logs_back x.number x.op y.logs rest.0;
+            known = subst (λ (n : ℕ). x.incarnation ≤ n) (sym t.same) y.known;
+            ahead = λ z is less. y.ahead z is (subst (λ (n : ℕ). z.incarnation < n) t.same less) ∙ sym t.same;
+            over = over_less fl' top' low x.low_water over rest.1;
+            now = λ is. elim (y.now (is ∙ t.same)) [
+              | inl first ↦ inl (record {
+                up = t.stays_up first.up;
+                runs = elim first.runs [
+                  | inl f ↦ inl (f.0, e.flies_back x.number f.0 f.1 rest.0)
+                  | inr said ↦ inr (said.0, under_cut top' x.number (k.v (dc_of x.op)) rest.0 ∙ said.1)
+                ];
+              })
+              | inr again ↦ inr (record {
+                redo = again.redo;
+                dc = again.dc;
+                said = again.said;
+                was = e.says_back x.number again.said again.was rest.0 (rest.2 again.redo);
+                did = again.did;
+                p = again.p;
+                next = again.next;
+                before = stands_cut e (dc_of x.op) again.p (k.v (dc_of x.op)) again.before;
+                low = stands_cut e (dc_of x.op) x.low_water (k.v (dc_of x.op)) again.low;
+              })
+            ];
+          }
+
+      reply : (x : Reply) → x.number ≤ top' → ReplyOk lg sites dcs k.v x → ReplyOk lg' sites' dcs (λ d. up_to top' (k.v d)) x
+      reply x low y =
+          let t = anew (dc_of y.o) in
+          record {
+            o = y.o;
+            logs = e.logs_back x.number y.o y.logs low;
+            s = y.s;
+            at = y.at;
+            known = subst (λ (n : ℕ). x.incarnation ≤ n) (sym t.same) y.known;
+            now = λ is. elim (y.now (is ∙ t.same)) [ inl old ↦ inl old | inr under ↦ inr (under_cut top' x.number (k.v (dc_of y.o)) low ∙ under) ];
+          }
+
+      told : (x : ℕ × News) → x.1.mark ≤ low → NewsOk lg fl dn top sites dcs x → NewsOk lg' fl' dn' top' sites' dcs x
+      told x le y = record {
+        s = y.s;
+        at = y.at;
+        over = over_less fl' top' low x.1.mark over le;
+        made = y.made;
+        later = λ less. stands_back e x.0 x.1.mark y.s.list (y.later (subst (λ (n : ℕ). n < x.1.incarnation) (anew x.0).same less));
+      }

@@ -1,0 +1,143 @@
+-- A world whose transaction component comes back from what was written is a world again.
+use Rattle.std.proofs.Common.{◌≡◌, ℕ, zero, suc, ◌≤◌, ◌<◌, Bool, true, false, List, [], ◌∷◌, ◌++◌, length, map, Option, Some, None, arith, refl, sym, ◌∙◌, ap, subst}
+use Rattle.std.specs.Prelude.{slice_get, slice_index_or}
+use Rattle.std.specs.List.{All}
+use Rattle.std.proofs.lemmas.List.Elements.{All-map}
+use Rattle.access_slots.specs.declared.op.Wire.{Wire}
+use Rattle.access_slots.specs.declared.op.Reply.{Reply}
+use Rattle.access_slots.specs.declared.op.News.{News}
+use Rattle.tc_log.specs.declared.event.Event.{Event}
+use Rattle.history.specs.Flight.{Flight, open_op, is_flight, given, low_water}
+use Rattle.data_component.specs.Performed.{Performed}
+use Rattle.data_component.specs.Store.{Store}
+use Rattle.transactions.specs.declared.Redoing.{Redoing}
+use Rattle.transactions.specs.declared.Site.{Site}
+use Rattle.transactions.specs.InFlight.{site_at, site_by}
+use Rattle.transactions.specs.Reached.{AllGood}
+use Rattle.transactions.specs.Legal.{Legal}
+use Rattle.transactions.proofs.StandingLemmas.{some_same, none_some}
+use Rattle.serial.specs.Serial.{done, Honest}
+use Rattle.serial.specs.Lists.{logged}
+use Rattle.serial.specs.Joining.Site.{Over}
+use Rattle.serial.specs.Joining.Sites.{AreOk}
+use Rattle.serial.proofs.RedoneLemmas.{over_low}
+use Rattle.serial.proofs.BackLemmas.{Earlier, earlier, legal_first, honest_first}
+use Rattle.serial.proofs.BackSites.{IsAnew, RestsOn, IsUpTo, ok_back}
+use Rattle.tc_core.specs.declared.recovery.SiteNote.{SiteNote}
+use Rattle.tc_core.specs.Recovery.{site_noted}
+use Rattle.tc_world.specs.Whole.{Whole}
+use Rattle.tc_world.specs.Marks.{IsLow, AreMarksLow}
+use Rattle.tc_world.specs.Recovery.{IsWrittenFor, IsWrittenAt, IsWritten, begun_anew, anew, come_back, carrying}
+use Rattle.tc_world.specs.Lives.{AreCopies}
+use Rattle.tc_world.specs.Joining.Listed.{IsListed}
+use Rattle.tc_world.proofs.Marks.{all_at}
+use Rattle.tc_world.proofs.Listed.{IsCopy}
+
+-- ---- what was noted of data components
+
+pub site_anew : (sites : List Site) (d : ℕ) → site_at (map anew sites) d ≡ anew (site_at sites d)
+site_anew [] d = refl
+site_anew (t ∷ sites) zero = refl
+site_anew (t ∷ sites) (suc d) = site_anew sites d
+
+begun_none : (r : Option Redoing) → begun_anew r ≡ None → r ≡ None
+begun_none None is = refl
+begun_none (Some r) is = absurd (none_some _ (let x : Redoing = record { mark = r.mark; redone = r.mark } in x) is refl)
+
+begun_some : (low : ℕ) (o : Option Redoing) (r' : Redoing) → IsLow low o → begun_anew o ≡ Some r'
+    → (r : Redoing) × (o ≡ Some r) × (r' ≡ record { mark = r.mark; redone = r.mark }) × (r.mark ≤ low)
+begun_some low None r' is_low is = absurd (none_some _ r' refl is)
+begun_some low (Some r) r' is_low is = (r, refl, sym (some_same (let x : Redoing = record { mark = r.mark; redone = r.mark } in x) r' is), is_low)
+
+anew_is : (low : ℕ) (t : Site) → IsLow low t.redo → IsAnew low t (anew t)
+anew_is low t is_low = record {
+  same = refl;
+  up = λ is. begun_none t.redo is;
+  stays_up = λ is. ap begun_anew is;
+  down = λ r' is. begun_some low t.redo r' is_low is;
+}
+
+low_by : (low : ℕ) (sites : List Site) (d : ℕ) (o : Option Site) → slice_get sites d ≡ o → All (λ (t : Site). IsLow low t.redo) sites → IsLow low (site_by o).redo
+low_by low sites d None at all = tt
+low_by low sites d (Some t) at all = all_at (λ (x : Site). IsLow low x.redo) sites d t at all
+
+low_begun : (low : ℕ) (o : Option Redoing) → IsLow low o → IsLow low (begun_anew o)
+low_begun low None is = tt
+low_begun low (Some r) is = is
+
+pub low_anew : (low : ℕ) (t : Site) → IsLow low t.redo → IsLow low (anew t).redo
+low_anew low t is = low_begun low t.redo is
+
+-- ---- what was written
+
+not_flying : (o : Option Flight) → is_flight o ≡ false → o ≡ None
+not_flying None is = refl
+not_flying (Some f) is = absurd (let bad : true ≡ false = is in cc)
+
+rests : (first : List Event) (x : Wire) → IsWrittenFor first x → RestsOn (open_op first) (given first) (low_water first) x
+rests first x is = (is.number, is.mark, λ again. not_flying (open_op first x.number) (is.redone again))
+
+up_to_it : (first : List Event) (s : Store) → IsWrittenAt first s → IsUpTo (given first) (low_water first) s
+up_to_it first s is = record { list = λ k e at. all_at (λ (x : Performed). x.0 ≤ given first) s.list k e at is.list; mark = is.mark; saved = is.saved_mark }
+
+-- ---- it comes back
+
+pub come_back_legal : (w : Whole) (first : List Event) (notes : List SiteNote) → Legal w.core.procs w.core.events → IsWritten first notes w → Legal w.core.procs first
+come_back_legal w first notes legal written = legal_first w.core.procs written.begins.later first (subst (Legal w.core.procs) written.begins.is legal)
+
+pub come_back_low : (w : Whole) (first : List Event) (notes : List SiteNote) → IsWritten first notes w → AreMarksLow (come_back first notes w)
+come_back_low w first notes written = record {
+  copies = λ k x inside. (written.copies k x inside).mark;
+  dcs = λ k s inside. (written.stores k s inside).mark;
+  saved = λ k s inside. (written.stores k s inside).saved_mark;
+  news = written.news;
+  redo = subst (All (λ (t : Site). IsLow (low_water first) t.redo)) (sym written.sites)
+      (All-map (λ (t : Site). IsLow (low_water first) t.redo) anew w.core.sites (λ k t inside. low_anew (low_water first) _ (written.redo k t inside)));
+}
+
+pub come_back_listed : (w : Whole) (first : List Event) (notes : List SiteNote) → AllGood w.core.procs → Legal w.core.procs w.core.events
+    → IsWritten first notes w → IsListed w → IsListed (come_back first notes w)
+come_back_listed w first notes good legal written s =
+    record {
+      honest = honest_first written.begins.later first (subst Honest written.begins.is s.honest);
+      ok = subst (λ (sites : List Site). AreOk (logged first) (open_op first) (done first) (given first) sites w.dcs w.copies w.replies w.news) (sym written.sites)
+          (ok_back (logged w.core.events) (open_op w.core.events) (done w.core.events) (given w.core.events) (logged first) (open_op first) (done first) (given first) (low_water first)
+          w.core.sites (map anew w.core.sites) w.dcs w.copies w.replies w.news before over noted
+          (λ d y at. up_to_it first y (all_at (IsWrittenAt first) w.dcs d y at written.stores))
+          (λ k x inside. rests first _ (written.copies k x inside))
+          written.replies written.news s.ok);
+    }
+  where
+    before : Earlier (logged w.core.events) (open_op w.core.events) (done w.core.events) (given w.core.events) (logged first) (open_op first) (done first) (given first)
+    before =
+        subst (λ (h : List Event). Earlier (logged h) (open_op h) (done h) (given h) (logged first) (open_op first) (done first) (given first)) (sym written.begins.is)
+        (earlier w.core.procs written.begins.later first good (subst (Legal w.core.procs) written.begins.is legal) (subst Honest written.begins.is s.honest))
+
+    over : Over (open_op first) (given first) (low_water first)
+    over = over_low w.core.procs first (come_back_legal w first notes legal written)
+
+    noted : (d : ℕ) → IsAnew (low_water first) (site_at w.core.sites d) (site_at (map anew w.core.sites) d)
+    noted d =
+        subst (IsAnew (low_water first) (site_at w.core.sites d)) (sym (site_anew w.core.sites d))
+        (anew_is (low_water first) (site_at w.core.sites d) (low_by (low_water first) w.core.sites d (slice_get w.core.sites d) refl written.redo))
+
+-- ---- wires that were made and never carried
+
+pub read_in : {X : Type 0} (xs : List X) (k : ℕ) (x : X) → k < length xs → slice_get xs k ≡ Some (slice_index_or xs k x)
+read_in [] k x inside = absurd (omega (arith, inside))
+read_in (y ∷ xs) zero x inside = refl
+read_in (y ∷ xs) (suc k) x inside = read_in xs k x (omega (arith, inside))
+
+pub carried_listed : (w : Whole) (xs : List Wire) → AreCopies xs w → IsListed w → IsListed (carrying xs w)
+carried_listed w xs are s = record {
+  honest = s.honest;
+  ok = record {
+    v = s.ok.v;
+    copies = λ k x inside. (let j = are k _ (read_in xs k x inside) in all_at (IsCopy w s.ok.v) w.copies j.0 _ j.1 s.ok.copies);
+    replies = s.ok.replies;
+    news = s.ok.news;
+    stores = s.ok.stores;
+    said = s.ok.said;
+    there = s.ok.there;
+  };
+}

@@ -1,0 +1,409 @@
+-- The rule of writing ahead: where each wire that a step sends was written for, and what it makes known of a data component was noted, what
+-- was written tells of all that was carried, step after step.
+use Rattle.std.proofs.Common.{◌≡◌, ◌≢◌, ℕ, ◌+◌, ◌≤◌, ◌<◌, Bool, true, false, ◌&&◌, ◌==◌, List, [], ◌∷◌, ◌++◌, map, Option, Some, None, arith, refl, sym, ◌∙◌, subst, ap, if◌then◌else◌, inl, inr}
+use Rattle.std.specs.Prelude.{◌^◌, slice_get, slice_set, nat_le, Result, Ok, Err}
+use Rattle.std.specs.List.{All}
+use Rattle.std.proofs.lemmas.Bool.{cases_eq}
+use Rattle.std.proofs.lemmas.List.Elements.{All-push, All-set, All-cons}
+use Rattle.access_slots.specs.Access.{fits}
+use Rattle.access_slots.specs.declared.op.Op.{Op}
+use Rattle.access_slots.specs.declared.op.Wire.{Wire}
+use Rattle.access_slots.specs.declared.op.Reply.{Reply}
+use Rattle.access_slots.specs.declared.op.News.{News}
+use Rattle.verifier.specs.Checked.{Checked}
+use Rattle.tc_log.specs.declared.event.Outcome.{Outcome as Ending}
+use Rattle.tc_log.specs.declared.event.Event.{Event}
+use Rattle.tc_log.specs.declared.event.Event.TheVariants as event
+use Rattle.history.specs.Calls.{admitted}
+use Rattle.history.specs.Flight.{Flight, open_op, is_open, is_flight, given, low_water}
+use Rattle.history.specs.Places.{Begins}
+use Rattle.history.specs.Redo.{to_redo}
+use Rattle.history.specs.declared.Answered.{Answered}
+use Rattle.transactions.specs.declared.Sent.{Sent}
+use Rattle.transactions.specs.declared.Redoing.{Redoing}
+use Rattle.transactions.specs.declared.Site.{Site}
+use Rattle.transactions.specs.InFlight.{site_of}
+use Rattle.transactions.specs.Standing.{Standing, standing}
+use Rattle.transactions.specs.Legal.{Legal}
+use Rattle.transactions.proofs.LowWater.{mark_rises}
+use Rattle.data_component.specs.Performed.{Performed}
+use Rattle.data_component.specs.Store.{Store, Fate as Becomes, IsOld, Again, Silent, New, marked, fate_of, store_by, replied, performed, checkpointed, restarted, news_of}
+use Rattle.serial.proofs.ListLemmas.{if_none, if_some}
+use Rattle.serial.proofs.StoreLemmas.{PerformCase, old, silent, again, news, perform_case, says}
+use Rattle.serial.proofs.WireLemmas.{reply_facts}
+use Rattle.serial.proofs.BackLemmas.{given_more, legal_first}
+use Rattle.tc_core.specs.Core.{Core, Asking}
+use Rattle.tc_core.specs.Replies.{with_event, ask_reply, after_ask, undo_reply, after_undo, end_of, is_heard}
+use Rattle.tc_core.specs.Lent.{wire_of}
+use Rattle.tc_core.specs.Redo.{with_site, news_fault, down_by, after_told, redo_wire, sends_again, redo_by, redo_at, up_again, after_redo, redone_to, redone_at}
+use Rattle.tc_core.specs.Recovery.{site_noted}
+use Rattle.tc_core.specs.declared.recovery.SiteNote.{SiteNote}
+use Rattle.tc_core.specs.declared.state.Asked.{Asked}
+use Rattle.tc_core.specs.declared.state.Asked.TheVariants as reply
+use Rattle.tc_core.specs.declared.state.Down.{Down}
+use Rattle.tc_core.specs.declared.state.NewsFault.{NewsFault}
+use Rattle.tc_core.specs.declared.state.NewsFault.TheVariants as fault
+use Rattle.tc_core.specs.declared.state.Redo.TheVariants as redo
+use Rattle.tc_world.specs.Whole.{Whole}
+use Rattle.tc_world.specs.Marks.{IsLow, IsFresh}
+use Rattle.tc_world.specs.OneAtATime.{is_forge}
+use Rattle.tc_world.specs.Recovery.{IsWrittenFor, IsWrittenAt, IsWritten, begun_anew, anew, come_back}
+use Rattle.tc_world.specs.Steps.{Goes, Stops, Steps, with_core, with_dcs, with_copy, with_reply, with_news, told, sends_or_holds, ends_by}
+use Rattle.tc_world.specs.Steps.{resends_wire, resends_sent, resends_by, dc_of, gets_reply, performs_at, performs_copy}
+use Rattle.tc_world.specs.Steps.{takes_answer, TakesRedo, TakesBy, TakesReply, restarts_as, restarts_at, checkpoints_at}
+use Rattle.tc_world.specs.Steps.{tells_unless, tells_news, redoes_by}
+use Rattle.tc_world.specs.declared.step.Step.{Step}
+use Rattle.tc_world.specs.declared.step.Step.TheVariants as step
+use Rattle.tc_world.specs.declared.step.Outcome.{Outcome}
+use Rattle.tc_world.proofs.Recovering.{low_anew}
+use Rattle.tc_world.proofs.Marks.{all_at, went, stopped, IsStoreLow, performed_low, redone_low, ask_sites, undo_sites}
+
+-- ---- all but wires and notes
+
+record Rest (first : List Event) (w : Whole) : Type 0 where
+  begins : Begins first w.core.events
+  replies : All (λ (x : Reply). x.number ≤ given first) w.replies
+  stores : All (IsWrittenAt first) w.dcs
+  news : All (λ (x : ℕ × News). x.1.mark ≤ low_water first) w.news
+  redo : All (λ (t : Site). IsLow (low_water first) t.redo) w.core.sites
+
+one_more : (first h : List Event) (e : Event) → Begins first h → Begins first (e ∷ h)
+one_more first h e b = record { later = e ∷ b.later; is = ap (λ (x : List Event). e ∷ x) b.is }
+
+module _ (first : List Event) where
+  behind : (o p : Outcome) (w v : Whole) → Rest first w → Goes o w ≡ Goes p v → Rest first v
+  behind o p w v r goes = subst (Rest first) (went o p w v goes) r
+
+  -- the transaction component goes on
+  grown : (w : Whole) (c : Core) → Begins first c.events → c.sites ≡ w.core.sites → Rest first w → Rest first (with_core w c)
+  grown w c begins same r = record {
+    begins = begins;
+    replies = r.replies;
+    stores = r.stores;
+    news = r.news;
+    redo = subst (All (λ (t : Site). IsLow (low_water first) t.redo)) (sym same) r.redo;
+  }
+
+  logs : (w : Whole) (e : Event) → Rest first w → Rest first (with_core w (with_event w.core e))
+  logs w e r = grown w (with_event w.core e) (one_more first w.core.events e r.begins) refl r
+
+  -- another is known of one data component
+  resited : (w : Whole) (d : ℕ) (t : Site) → IsLow (low_water first) t.redo → Rest first w → Rest first (with_core w (with_site w.core d t))
+  resited w d t is r = record {
+    begins = r.begins;
+    replies = r.replies;
+    stores = r.stores;
+    news = r.news;
+    redo = All-set (λ (x : Site). IsLow (low_water first) x.redo) w.core.sites d t is r.redo;
+  }
+
+  copied : (w : Whole) (x : Wire) → Rest first w → Rest first (with_copy w x)
+  copied w x r = record { begins = r.begins; replies = r.replies; stores = r.stores; news = r.news; redo = r.redo }
+
+  stored : (w : Whole) (d : ℕ) (s : Store) → IsWrittenAt first s → Rest first w → Rest first (with_dcs w (slice_set w.dcs d s))
+  stored w d s is r = record { begins = r.begins; replies = r.replies; stores = All-set (IsWrittenAt first) w.dcs d s is r.stores; news = r.news; redo = r.redo }
+
+  replied_to : (w : Whole) (x : Reply) → x.number ≤ given first → Rest first w → Rest first (with_reply w x)
+  replied_to w x few r = record { begins = r.begins; replies = All-push (λ (y : Reply). y.number ≤ given first) w.replies x r.replies few; stores = r.stores; news = r.news; redo = r.redo }
+
+  newly : (w : Whole) (d : ℕ) (n : News) → n.mark ≤ low_water first → Rest first w → Rest first (with_news w d n)
+  newly w d n few r = record { begins = r.begins; replies = r.replies; stores = r.stores; news = All-push (λ (x : ℕ × News). x.1.mark ≤ low_water first) w.news (d, n) r.news few; redo = r.redo }
+
+  -- ---- what a data component is behind a wire
+
+  saved_by : (s : Store) (n : ℕ) (o : Op) (f : Becomes) → (store_by s n o f).saved ≡ s.saved
+  saved_by s n o IsOld = refl
+  saved_by s n o (Again said) = refl
+  saved_by s n o Silent = refl
+  saved_by s n o (New said) = refl
+
+  saved_same : (s : Store) (x : Wire) → (performed s x).saved ≡ s.saved
+  saved_same s x = by (s.incarnation == x.incarnation)
+    where
+      by : (b : Bool) → (if b then store_by (marked s x.low_water) x.number x.op (fate_of s x) else s).saved ≡ s.saved
+      by true = saved_by (marked s x.low_water) x.number x.op (fate_of s x)
+      by false = refl
+
+  list_by : (s : Store) (x : Wire) → x.number ≤ given first → All (λ (e : Performed). e.0 ≤ given first) s.list → PerformCase s x → All (λ (e : Performed). e.0 ≤ given first) (performed s x).list
+  list_by s x few all (old r l) = subst (All (λ (e : Performed). e.0 ≤ given first)) (sym l) all
+  list_by s x few all (silent r l) = subst (All (λ (e : Performed). e.0 ≤ given first)) (sym l) all
+  list_by s x few all (again said u r l) = subst (All (λ (e : Performed). e.0 ≤ given first)) (sym l) all
+  list_by s x few all (news u r l) = subst (All (λ (e : Performed). e.0 ≤ given first)) (sym l) (All-cons (λ (e : Performed). e.0 ≤ given first) (x.number, x.op, says s x) s.list few all)
+
+  performs_written : (s : Store) (x : Wire) → IsWrittenFor first x → IsWrittenAt first s → IsWrittenAt first (performed s x)
+  performs_written s x ready is =
+      let low : IsStoreLow (low_water first) (performed s x) = performed_low s x (low_water first) ready.mark (is.mark, is.saved_mark) in
+      record {
+        list = list_by s x ready.number is.list (perform_case s x);
+        saved = subst (All (λ (e : Performed). e.0 ≤ given first)) (sym (saved_same s x)) is.saved;
+        mark = low.0;
+        saved_mark = low.1;
+      }
+
+  -- ---- the steps
+
+  told_rest : (w v : Whole) (t : ℕ) (c : Core) (a : Asked) (o : Outcome) → Begins first c.events → c.sites ≡ w.core.sites → Rest first w → told w t c a ≡ Goes o v → Rest first v
+  told_rest w v t c (reply.Request r) o begins same rest goes = by (wire_of c r) goes
+    where
+      by : (x : Result Wire Down) → sends_or_holds (with_core w c) r x ≡ Goes o v → Rest first v
+      by (Ok x) goes' = behind _ o (with_copy (with_core w c) x) v (copied (with_core w c) x (grown w c begins same rest)) goes'
+      by (Err down) goes' = behind _ o (with_core w c) v (grown w c begins same rest) goes'
+  told_rest w v t c reply.Undoing o begins same rest goes = behind _ o w v rest goes
+  told_rest w v t c reply.Over o begins same rest goes = behind _ o w v rest goes
+  told_rest w v t c (reply.Stuck n) o begins same rest goes = behind _ o w v rest goes
+  told_rest w v t c (reply.Waits n) o begins same rest goes = absurd (stopped _ o v goes)
+  told_rest w v t c reply.Running o begins same rest goes = absurd (stopped _ o v goes)
+  told_rest w v t c reply.Unknown o begins same rest goes = absurd (stopped _ o v goes)
+
+  ask_begins : (c : Core) (a : Asked) → Begins first c.events → Begins first (after_ask c a).events
+  ask_begins c (reply.Request r) b = one_more first c.events (event.Ask r.txn r.number r.op) b
+  ask_begins c reply.Undoing b = b
+  ask_begins c reply.Over b = b
+  ask_begins c (reply.Stuck n) b = b
+  ask_begins c (reply.Waits n) b = b
+  ask_begins c reply.Running b = b
+  ask_begins c reply.Unknown b = b
+
+  undo_begins : (c : Core) (a : Asked) → Begins first c.events → Begins first (after_undo c a).events
+  undo_begins c (reply.Request r) b = one_more first c.events (event.Undo r.txn r.number r.op) b
+  undo_begins c reply.Undoing b = b
+  undo_begins c reply.Over b = b
+  undo_begins c (reply.Stuck n) b = b
+  undo_begins c (reply.Waits n) b = b
+  undo_begins c reply.Running b = b
+  undo_begins c reply.Unknown b = b
+
+  ends_rest : (w v : Whole) (t : ℕ) (s : Option Standing) (e : Option Ending) (o : Outcome) → Rest first w → ends_by w t s e ≡ Goes o v → Rest first v
+  ends_rest w v t None e o rest goes = absurd (stopped _ o v goes)
+  ends_rest w v t (Some s) None o rest goes = absurd (stopped _ o v goes)
+  ends_rest w v t (Some s) (Some e) o rest goes = behind _ o (with_core w (with_event w.core (event.End t e))) v (logs w (event.End t e) rest) goes
+
+  resends_rest : (w v : Whole) (t : ℕ) (s : Option Standing) (o : Outcome) → Rest first w → resends_by w t s ≡ Goes o v → Rest first v
+  resends_rest w v t None o rest goes = absurd (stopped _ o v goes)
+  resends_rest w v t (Some s) o rest goes = by s.sent goes
+    where
+      wires : (q : Op) (x : Result Wire Down) → resends_wire w q x ≡ Goes o v → Rest first v
+      wires q (Ok x) goes' = behind _ o (with_copy w x) v (copied w x rest) goes'
+      wires q (Err down) goes' = absurd (stopped _ o v goes')
+
+      by : (r : Option Sent) → resends_sent w t r ≡ Goes o v → Rest first v
+      by None goes' = absurd (stopped _ o v goes')
+      by (Some r) goes' = wires r.op (wire_of w.core (record { txn = t; number = r.number; op = r.op })) goes'
+
+  gets_rest : (w v : Whole) (x : Option Reply) (o : Outcome) → ((y : Reply) → x ≡ Some y → y.number ≤ given first) → Rest first w → gets_reply w x ≡ Goes o v → Rest first v
+  gets_rest w v None o few rest goes = behind _ o w v rest goes
+  gets_rest w v (Some x) o few rest goes = behind _ o (with_reply w x) v (replied_to w x (few x refl) rest) goes
+
+  performs_rest : (w v : Whole) (x : Wire) (s : Option Store) (o : Outcome) → slice_get w.dcs (dc_of x) ≡ s → IsWrittenFor first x → Rest first w → performs_at w x s ≡ Goes o v → Rest first v
+  performs_rest w v x None o at ready rest goes = absurd (stopped _ o v goes)
+  performs_rest w v x (Some s) o at ready rest goes =
+      gets_rest (with_dcs w (slice_set w.dcs (dc_of x) (performed s x))) v (replied s x) o
+      (λ y is. (let number = (reply_facts s x y is).number in let few = ready.number in omega (arith, number, few)))
+      (stored w (dc_of x) (performed s x) (performs_written s x ready (all_at (IsWrittenAt first) w.dcs (dc_of x) s at rest.stores)) rest) goes
+
+  performs_copy_rest : (w v : Whole) (i : ℕ) (x : Option Wire) (o : Outcome) → slice_get w.copies i ≡ x → All (IsWrittenFor first) w.copies → Rest first w → performs_copy w x ≡ Goes o v → Rest first v
+  performs_copy_rest w v i None o at ready rest goes = absurd (stopped _ o v goes)
+  performs_copy_rest w v i (Some x) o at ready rest goes = performs_rest w v x (slice_get w.dcs (dc_of x)) o refl (all_at (IsWrittenFor first) w.copies i x at ready) rest goes
+
+  takes_answer_rest : (w v : Whole) (f : Flight) (x : Reply) (b : Bool) (o : Outcome) → Rest first w → takes_answer w f x b ≡ Goes o v → Rest first v
+  takes_answer_rest w v f x false o rest goes = absurd (stopped _ o v goes)
+  takes_answer_rest w v f x true o rest goes = (let e = event.Answer f.txn x.number x.said in behind _ o (with_core w (with_event w.core e)) v (logs w e rest) goes)
+
+  takes_redo_rest : (w v : Whole) (x : Reply) (o : Outcome) → Rest first w → TakesRedo w x o v → Rest first v
+  takes_redo_rest w v x o rest takes = subst (Rest first) (sym takes.next) (by (slice_get w.core.sites takes.dc) refl)
+    where
+      by : (t : Option Site) → slice_get w.core.sites takes.dc ≡ t → Rest first (with_core w (redone_at w.core takes.dc x.number t))
+      by None at = rest
+      by (Some t) at =
+          let is = all_at (λ (y : Site). IsLow (low_water first) y.redo) w.core.sites takes.dc t at rest.redo in
+          resited w takes.dc (record t { redo = redone_to x.number t.redo }) (redone_low (low_water first) x.number t.redo is) rest
+
+  takes_rest : (w v : Whole) (x : Option Reply) (o : Outcome) → Rest first w → TakesReply w x o v → Rest first v
+  takes_rest w v None o rest takes = absurd takes
+  takes_rest w v (Some x) o rest takes = by (open_op w.core.events x.number) takes
+    where
+      by : (f : Option Flight) → TakesBy w x f o v → Rest first v
+      by None takes' = takes_redo_rest w v x o rest takes'
+      by (Some f) takes' = takes_answer_rest w v f x (is_heard (site_of w.core.sites f.op) x && fits f.op x.said) o rest takes'
+
+  restarts_rest : (w v : Whole) (d : ℕ) (s : Option Store) (o : Outcome) → slice_get w.dcs d ≡ s → Rest first w → restarts_at w d s ≡ Goes o v → Rest first v
+  restarts_rest w v d None o at rest goes = absurd (stopped _ o v goes)
+  restarts_rest w v d (Some s) o at rest goes = by (nat_le (2 ^ 62) s.incarnation) goes
+    where
+      by : (b : Bool) → restarts_as w d s b ≡ Goes o v → Rest first v
+      by true goes' = absurd (stopped _ o v goes')
+      by false goes' =
+          let is = all_at (IsWrittenAt first) w.dcs d s at rest.stores in
+          let mid = with_dcs w (slice_set w.dcs d (restarted s)) in
+          behind _ o (with_news mid d (news_of (restarted s))) v
+          (newly mid d (news_of (restarted s)) is.saved_mark (stored w d (restarted s) (record { list = is.saved; saved = is.saved; mark = is.saved_mark; saved_mark = is.saved_mark }) rest)) goes'
+
+  checkpoints_rest : (w v : Whole) (d : ℕ) (s : Option Store) (o : Outcome) → slice_get w.dcs d ≡ s → Rest first w → checkpoints_at w d s ≡ Goes o v → Rest first v
+  checkpoints_rest w v d None o at rest goes = absurd (stopped _ o v goes)
+  checkpoints_rest w v d (Some s) o at rest goes =
+      let is = all_at (IsWrittenAt first) w.dcs d s at rest.stores in
+      behind _ o (with_dcs w (slice_set w.dcs d (checkpointed s))) v (stored w d (checkpointed s) (record { list = is.list; saved = is.list; mark = is.mark; saved_mark = is.mark }) rest) goes
+
+  tells_rest : (w v : Whole) (i : ℕ) (x : Option (ℕ × News)) (o : Outcome) → slice_get w.news i ≡ x → Rest first w → tells_news w x ≡ Goes o v → Rest first v
+  tells_rest w v i None o at rest goes = absurd (stopped _ o v goes)
+  tells_rest w v i (Some x) o at rest goes = by (news_fault w.core x.0 x.1) goes
+    where
+      by : (f : Option NewsFault) → tells_unless w x.0 x.1 f ≡ Goes o v → Rest first v
+      by (Some fault.NoDc) goes' = absurd (stopped _ o v goes')
+      by (Some fault.OldNews) goes' = absurd (stopped _ o v goes')
+      by None goes' =
+          let few = all_at (λ (y : ℕ × News). y.1.mark ≤ low_water first) w.news i x at rest.news in
+          behind _ o (with_core w (after_told w.core x.0 x.1)) v (resited w x.0 (down_by x.1) few rest) goes'
+
+  redoes_rest : (w v : Whole) (d : ℕ) (t : Option Site) (o : Outcome) → slice_get w.core.sites d ≡ t → Rest first w → redoes_by w d (redo_at w.core d t) ≡ Goes o v → Rest first v
+  redoes_rest w v d None o at rest goes = absurd (stopped _ o v goes)
+  redoes_rest w v d (Some t) o at rest goes = by t.redo goes
+    where
+      sends : (mark : ℕ) (a : Option Answered) → redoes_by w d (sends_again t.incarnation mark a) ≡ Goes o v → Rest first v
+      sends mark (Some a) goes' = (let x = redo_wire t.incarnation mark a in behind _ o (with_copy w x) v (copied w x rest) goes')
+      sends mark None goes' =
+          behind _ o (with_core w (after_redo w.core d redo.Finished)) v
+          (subst (λ (y : Option Site). Rest first (with_core w (up_again w.core d y))) (sym at) (resited w d (record t { redo = None }) tt rest)) goes'
+
+      by : (r : Option Redoing) → redoes_by w d (redo_by w.core d t.incarnation r) ≡ Goes o v → Rest first v
+      by None goes' = absurd (stopped _ o v goes')
+      by (Some r) goes' = sends r.mark (to_redo w.core.events d r.redone) goes'
+
+  stay_rest : (w v : Whole) (x : Step) (o : Outcome) → is_forge x ≡ false → All (IsWrittenFor first) w.copies → Steps w x o v → Rest first w → Rest first v
+  stay_rest w v (step.Admit call) o honest ready goes rest = subst (Rest first) (sym goes.next) (logs w (event.Admit (admitted w.core.events + 1) call.proc call.args.items) rest)
+  stay_rest w v (step.Ask t) o honest ready goes rest =
+      let a = ask_reply w.core t in
+      told_rest w v t (after_ask w.core a) a o (ask_begins w.core a rest.begins) (ask_sites w.core a) rest goes
+  stay_rest w v (step.Undo t) o honest ready goes rest =
+      let a = undo_reply w.core t in
+      told_rest w v t (after_undo w.core a) a o (undo_begins w.core a rest.begins) (undo_sites w.core a) rest goes
+  stay_rest w v (step.End t) o honest ready goes rest = ends_rest w v t (standing w.core.events t) (end_of w.core t) o rest goes
+  stay_rest w v (step.Resend t) o honest ready goes rest = resends_rest w v t (standing w.core.events t) o rest goes
+  stay_rest w v (step.Perform i) o honest ready goes rest = performs_copy_rest w v i (slice_get w.copies i) o refl ready rest goes
+  stay_rest w v (step.Take i) o honest ready goes rest = takes_rest w v (slice_get w.replies i) o rest goes
+  stay_rest w v (step.Restart d) o honest ready goes rest = restarts_rest w v d (slice_get w.dcs d) o refl rest goes
+  stay_rest w v (step.Forge x) o honest ready goes rest = absurd (let bad : true ≡ false = honest in cc)
+  stay_rest w v (step.Checkpoint d) o honest ready goes rest = checkpoints_rest w v d (slice_get w.dcs d) o refl rest goes
+  stay_rest w v (step.Tell i) o honest ready goes rest = tells_rest w v i (slice_get w.news i) o refl rest goes
+  stay_rest w v (step.Redo d) o honest ready goes rest = redoes_rest w v d (slice_get w.core.sites d) o refl rest goes
+
+-- whatever the step is, but a forged reply
+pub stay_written : (w v : Whole) (x : Step) (o : Outcome) (first : List Event) (notes notes' : List SiteNote) → Steps w x o v → is_forge x ≡ false → IsWritten first notes w
+    → All (IsWrittenFor first) v.copies → map site_noted notes' ≡ map anew v.core.sites → IsWritten first notes' v
+stay_written w v x o first notes notes' goes honest s ready noted =
+    let rest = stay_rest first w v x o honest s.copies goes (record { begins = s.begins; replies = s.replies; stores = s.stores; news = s.news; redo = s.redo }) in
+    record { begins = rest.begins; sites = noted; copies = ready; replies = rest.replies; stores = rest.stores; news = rest.news; redo = rest.redo }
+
+-- ---- more is written
+
+-- the mark doesn't fall along a log
+mark_more : (ps : List Checked) (later first : List Event) → Legal ps (later ++ first) → low_water first ≤ low_water (later ++ first)
+mark_more ps [] first legal = omega arith
+mark_more ps (e ∷ later) first legal = (let ih = mark_more ps later first legal.1 in let one = mark_rises ps (later ++ first) e legal.0 in omega (arith, ih, one))
+
+-- nor does a number that was answered open again
+closed_sent : (top n m : ℕ) (f : Flight) (o : Option Flight) → n ≤ top → m ≡ top + 1 → is_flight o ≡ false → is_flight (if m == n then Some f else o) ≡ false
+closed_sent top n m f o low next closed = ap is_flight (if_none m n (Some f) o (omega (arith, low, next))) ∙ closed
+
+closed_answered : (n m : ℕ) (o : Option Flight) → is_flight o ≡ false → is_flight (if m == n then None else o) ≡ false
+closed_answered n m o closed = elim (cases_eq m n) [
+  | inl same ↦ ap is_flight (if_some m n None o same)
+  | inr other ↦ ap is_flight (if_none m n None o other) ∙ closed
+]
+
+closed_more : (ps : List Checked) (later first : List Event) (n : ℕ) → Legal ps (later ++ first) → n ≤ given first → is_open first n ≡ false → is_open (later ++ first) n ≡ false
+closed_more ps [] first n legal low closed = closed
+closed_more ps (event.Admit t p args ∷ later) first n legal low closed = closed_more ps later first n legal.1 low closed
+closed_more ps (event.Ask t m q ∷ later) first n legal low closed =
+    let more = given_more later first in
+    closed_sent (given (later ++ first)) n m (record { txn = t; op = q }) (open_op (later ++ first) n) (omega (arith, low, more)) legal.0.next (closed_more ps later first n legal.1 low closed)
+closed_more ps (event.Answer t m said ∷ later) first n legal low closed = closed_answered n m (open_op (later ++ first) n) (closed_more ps later first n legal.1 low closed)
+closed_more ps (event.Undo t m q ∷ later) first n legal low closed =
+    let more = given_more later first in
+    closed_sent (given (later ++ first)) n m (record { txn = t; op = q }) (open_op (later ++ first) n) (omega (arith, low, more)) legal.0.next (closed_more ps later first n legal.1 low closed)
+closed_more ps (event.End t o ∷ later) first n legal low closed = closed_more ps later first n legal.1 low closed
+
+pub wire_more : (ps : List Checked) (first more : List Event) (x : Wire) → Legal ps more → Begins first more → IsWrittenFor first x → IsWrittenFor more x
+wire_more ps first more x legal begins ready =
+    let legal' : Legal ps (begins.later ++ first) = subst (Legal ps) begins.is legal in
+    subst (λ (h : List Event). IsWrittenFor h x) (sym begins.is)
+    (record {
+      number = (let a = ready.number in let b = given_more begins.later first in omega (arith, a, b));
+      mark = (let a = ready.mark in let b = mark_more ps begins.later first legal' in omega (arith, a, b));
+      redone = λ is. closed_more ps begins.later first x.number legal' ready.number (ready.redone is);
+    })
+
+low_more : (a b : ℕ) (r : Option Redoing) → a ≤ b → IsLow a r → IsLow b r
+low_more a b None le is = tt
+low_more a b (Some r) le is = omega (arith, le, is)
+
+pub more_written : (w : Whole) (first more : List Event) (notes : List SiteNote) → Legal w.core.procs w.core.events → Begins first more → Begins more w.core.events
+    → IsWritten first notes w → IsWritten more notes w
+more_written w first more notes legal on in_log s =
+    let legal' : Legal w.core.procs more = legal_first w.core.procs in_log.later more (subst (Legal w.core.procs) in_log.is legal) in
+    let a : given first ≤ given more = subst (λ (h : List Event). given first ≤ given h) (sym on.is) (given_more on.later first) in
+    let b : low_water first ≤ low_water more = subst (λ (h : List Event). low_water first ≤ low_water h) (sym on.is) (mark_more w.core.procs on.later first (subst (Legal w.core.procs) on.is legal')) in
+    record {
+      begins = in_log;
+      sites = s.sites;
+      copies = λ k x inside. wire_more w.core.procs first more _ legal' on (s.copies k x inside);
+      replies = λ k x inside. (let few = s.replies k x inside in omega (arith, few, a));
+      stores = λ k x inside.
+          let y = s.stores k x inside in
+          let mark = y.mark in
+          let saved = y.saved_mark in
+          record {
+            list = λ j e at. (let few = y.list j e at in omega (arith, few, a));
+            saved = λ j e at. (let few = y.saved j e at in omega (arith, few, a));
+            mark = omega (arith, mark, b);
+            saved_mark = omega (arith, saved, b);
+          };
+      news = λ k x inside. (let few = s.news k x inside in omega (arith, few, b));
+      redo = λ k x inside. low_more _ _ _ b (s.redo k x inside);
+    }
+
+-- ---- nothing was carried, and a second crash
+
+pub fresh_written : (w : Whole) (notes : List SiteNote) → IsFresh w → map site_noted notes ≡ map anew w.core.sites → IsWritten w.core.events notes w
+fresh_written w notes fresh noted = record {
+  begins = record { later = []; is = refl };
+  sites = noted;
+  copies = subst (All (IsWrittenFor w.core.events)) (sym fresh.copies) (λ k x inside. absurd (omega (arith, inside)));
+  replies = subst (All (λ (x : Reply). x.number ≤ given w.core.events)) (sym fresh.replies) (λ k x inside. absurd (omega (arith, inside)));
+  stores = λ k s inside.
+      let lists = fresh.lists k s inside in
+      let marks = fresh.marks k s inside in
+      let mark = marks.0 in
+      let saved = marks.1 in
+      record {
+        list = subst (All (λ (e : Performed). e.0 ≤ given w.core.events)) (sym lists.0) (λ j e at. absurd (omega (arith, at)));
+        saved = subst (All (λ (e : Performed). e.0 ≤ given w.core.events)) (sym lists.1) (λ j e at. absurd (omega (arith, at)));
+        mark = omega (arith, mark);
+        saved_mark = omega (arith, saved);
+      };
+  news = subst (All (λ (x : ℕ × News). x.1.mark ≤ low_water w.core.events)) (sym fresh.news) (λ k x inside. absurd (omega (arith, inside)));
+  redo = λ k t inside. subst (IsLow (low_water w.core.events)) (sym (fresh.up k t inside)) tt;
+}
+
+anew_twice : (t : Site) → anew (anew t) ≡ anew t
+anew_twice t = by t.redo
+  where
+    by : (r : Option Redoing) → (let s : Site = record { incarnation = t.incarnation; redo = begun_anew (begun_anew r) } in s) ≡ record { incarnation = t.incarnation; redo = begun_anew r }
+    by None = refl
+    by (Some r) = refl
+
+all_anew : (sites : List Site) → map anew (map anew sites) ≡ map anew sites
+all_anew [] = refl
+all_anew (t ∷ sites) = (let one = anew_twice t in let ih = all_anew sites in cc)
+
+-- a transaction component that came back may crash again at once
+pub again_written : (w : Whole) (first : List Event) (notes : List SiteNote) → IsWritten first notes w → IsWritten first notes (come_back first notes w)
+again_written w first notes s = record {
+  begins = record { later = []; is = refl };
+  sites = s.sites ∙ (sym (all_anew w.core.sites) ∙ ap (map anew) (sym s.sites));
+  copies = s.copies;
+  replies = s.replies;
+  stores = s.stores;
+  news = s.news;
+  redo = subst (All (λ (t : Site). IsLow (low_water first) t.redo)) (sym s.sites) (All-map (λ (t : Site). IsLow (low_water first) t.redo) anew w.core.sites (λ k t inside. low_anew (low_water first) _ (s.redo k t inside)));
+}

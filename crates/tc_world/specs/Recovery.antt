@@ -1,0 +1,59 @@
+-- A world whose transaction component crashes, and comes back from what was written (Lomet, Fekete, Weikum, Zwilling, CIDR 2009: the
+-- transaction component's own failure; its log is forced ahead of what data components are sent).
+use Rattle.std.specs.Prelude.{◌≡◌, ℕ, ◌≤◌, true, false, List, map, Option, Some, None}
+use Rattle.std.specs.List.{All}
+use Rattle.access_slots.specs.declared.op.Wire.{Wire}
+use Rattle.access_slots.specs.declared.op.Reply.{Reply}
+use Rattle.access_slots.specs.declared.op.News.{News}
+use Rattle.tc_log.specs.declared.event.Event.{Event}
+use Rattle.history.specs.Flight.{given, low_water, is_open}
+use Rattle.history.specs.Places.{Begins}
+use Rattle.transactions.specs.declared.Redoing.{Redoing}
+use Rattle.transactions.specs.declared.Site.{Site}
+use Rattle.data_component.specs.Performed.{Performed}
+use Rattle.data_component.specs.Store.{Store}
+use Rattle.tc_core.specs.declared.recovery.SiteNote.{SiteNote}
+use Rattle.tc_core.specs.Recovery.{recovered, site_noted}
+use Rattle.tc_world.specs.Whole.{Whole}
+use Rattle.tc_world.specs.Marks.{IsLow}
+
+-- what was written of the log, first, gave out the wire's number, answered each number that its mark says was answered, and answered
+-- the wire's own where the wire redoes
+pub record IsWrittenFor (first : List Event) (x : Wire) : Type 0 where
+  pub number : x.number ≤ given first
+  pub mark : x.low_water ≤ low_water first
+  pub redone : x.redo ≡ true → is_open first x.number ≡ false
+
+-- it gave out each number that the data component has performed, and answered each that its marks say was answered
+pub record IsWrittenAt (first : List Event) (s : Store) : Type 0 where
+  pub list : All (λ (e : Performed). e.0 ≤ given first) s.list
+  pub saved : All (λ (e : Performed). e.0 ≤ given first) s.saved
+  pub mark : s.mark ≤ low_water first
+  pub saved_mark : s.saved_mark ≤ low_water first
+
+abbrev pub begun_anew : Option Redoing → Option Redoing
+begun_anew None = None
+begun_anew (Some r) = Some (record { mark = r.mark; redone = r.mark })
+
+-- what is known of a data component, but that its redo begins anew, above its mark
+abbrev pub anew : Site → Site
+anew t = record { incarnation = t.incarnation; redo = begun_anew t.redo }
+
+-- the log begins with what was written, and what is known of data components was noted; and that tells of all that was carried: of
+-- each wire and reply, and of each number and mark at data components, in news and in redo
+pub record IsWritten (first : List Event) (notes : List SiteNote) (w : Whole) : Type 0 where
+  pub begins : Begins first w.core.events
+  pub sites : map site_noted notes ≡ map anew w.core.sites
+  pub copies : All (IsWrittenFor first) w.copies
+  pub replies : All (λ (x : Reply). x.number ≤ given first) w.replies
+  pub stores : All (IsWrittenAt first) w.dcs
+  pub news : All (λ (x : ℕ × News). x.1.mark ≤ low_water first) w.news
+  pub redo : All (λ (t : Site). IsLow (low_water first) t.redo) w.core.sites
+
+-- the transaction component is one that came back from what was written; data components, and all that was carried, are as they were
+abbrev pub come_back : List Event → List SiteNote → Whole → Whole
+come_back first notes w = record w { core = recovered w.core first notes }
+
+-- the world with these wires alone
+abbrev pub carrying : List Wire → Whole → Whole
+carrying xs w = record w { copies = xs }

@@ -1,0 +1,71 @@
+//! A transaction component that crashes, and comes back from what was written of its log and of what
+//! it knew of data components. There is no code here but the laws, as functions that do nothing.
+//!
+//! The rule is to write ahead. A wire is carried once all of the log behind which it was made is
+//! written; that a data component has restarted, or that its redo is over, is written before anything
+//! that rests on it is carried. Then every crash finds written all that was carried, and a
+//! transaction component that comes back goes on as if it had never been away.
+//!
+//! ```text
+//! -- in a proof file: the marks of a world that came back
+//! use Rattle.tc_world.proofs.Recovering.{come_back_low}
+//! ```
+
+ghost use Rattle.std.specs.Prelude.{◌≡◌, ℕ, false, List, map};
+ghost use Rattle.std.specs.List.{All};
+ghost use Rattle.access_slots.specs.declared.op.Wire.{Wire as WireValue};
+ghost use Rattle.tc_log.specs.declared.event.Event.{Event as EventValue};
+ghost use Rattle.verifier.specs.Checked.{Checked};
+ghost use Rattle.history.specs.Places.{Begins};
+ghost use Rattle.transactions.specs.Legal.{Legal};
+ghost use Rattle.transactions.specs.Reached.{AllGood};
+ghost use Rattle.tc_core.specs.declared.recovery.SiteNote.{SiteNote};
+ghost use Rattle.tc_core.specs.Recovery.{site_noted};
+ghost use Rattle.tc_world.specs.Whole.{Whole};
+ghost use Rattle.tc_world.specs.Steps.{Steps};
+ghost use Rattle.tc_world.specs.Marks.{AreMarksLow, IsFresh};
+ghost use Rattle.serial.specs.Audit.{IsAgreed};
+ghost use Rattle.tc_world.specs.OneAtATime.{is_forge, EachIsKnown, IsOneAtATime};
+ghost use Rattle.tc_world.specs.Recovery.{IsWrittenFor, IsWritten, anew, come_back};
+ghost use Rattle.tc_world.specs.Lives.{Move, Lives};
+ghost use Rattle.tc_world.specs.declared.step.Step.{Step as StepValue};
+ghost use Rattle.tc_world.specs.declared.step.Outcome.{Outcome as OutcomeValue};
+
+/// From a fresh world on, whatever happens and however often its transaction component crashes and
+/// comes back, as long as each crash finds written all that was carried: its log is legal, its marks
+/// are low, calls run one at a time, and where each data component is up and of the incarnation that
+/// is known, the log and the data components agree in all that an audit compares.
+pub fn crashes_are_survived()
+    ensures legal { (moves : List Move) (w v : Whole) → IsFresh w → AllGood w.core.procs → Lives moves w v
+        → Legal v.core.procs v.core.events }
+    ensures marks { (moves : List Move) (w v : Whole) → IsFresh w → AllGood w.core.procs → Lives moves w v → AreMarksLow v }
+    ensures one_at_a_time { (moves : List Move) (w v : Whole) → IsFresh w → AllGood w.core.procs → Lives moves w v
+        → IsOneAtATime v }
+    ensures agreed { (moves : List Move) (w v : Whole) → IsFresh w → AllGood w.core.procs → Lives moves w v → EachIsKnown v
+        → IsAgreed v.core.procs v.core.events v.dcs }
+{}
+
+/// A beginning of a legal log is legal; a world whose transaction component comes back from what was
+/// written has low marks, and may crash again at once.
+pub fn comes_back()
+    ensures legal { (ps : List Checked) (first h : List EventValue) → Legal ps h → Begins first h → Legal ps first }
+    ensures marks { (w : Whole) (first : List EventValue) (notes : List SiteNote) → IsWritten first notes w
+        → AreMarksLow (come_back first notes w) }
+    ensures written { (w : Whole) (first : List EventValue) (notes : List SiteNote) → IsWritten first notes w
+        → IsWritten first notes (come_back first notes w) }
+{}
+
+/// What the rule of writing ahead keeps. Whatever step is taken, where each wire that it sends was
+/// written for, and what it makes known of data components was noted, all that was carried is
+/// written; and so it stays when more is written.
+pub fn written_ahead()
+    ensures fresh { (w : Whole) (notes : List SiteNote) → IsFresh w → map site_noted notes ≡ map anew w.core.sites
+        → IsWritten w.core.events notes w }
+    ensures step { (w v : Whole) (x : StepValue) (o : OutcomeValue) (first : List EventValue) (notes noted : List SiteNote)
+        → Steps w x o v → is_forge x ≡ false → IsWritten first notes w → All (IsWrittenFor first) v.copies
+        → map site_noted noted ≡ map anew v.core.sites → IsWritten first noted v }
+    ensures wire { (ps : List Checked) (first more : List EventValue) (x : WireValue) → Legal ps more → Begins first more
+        → IsWrittenFor first x → IsWrittenFor more x }
+    ensures more { (w : Whole) (first more : List EventValue) (notes : List SiteNote) → Legal w.core.procs w.core.events
+        → Begins first more → Begins more w.core.events → IsWritten first notes w → IsWritten more notes w }
+{}
