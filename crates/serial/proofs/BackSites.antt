@@ -1,5 +1,5 @@
 -- What a world keeps beside a log it keeps beside the same log without its last events, where nothing that was carried rests on these.
-use Rattle.std.proofs.Common.{◌≡◌, ◌⊎◌, ℕ, ◌+◌, ◌≤◌, ◌<◌, true, List, Option, Some, None, arith, refl, sym, ◌∙◌, ap, subst, inl, inr}
+use Rattle.std.proofs.Common.{◌≡◌, ◌⊎◌, ℕ, ◌+◌, ◌≤◌, ◌<◌, true, false, List, Option, Some, None, arith, refl, sym, ◌∙◌, ap, subst, inl, inr}
 use Rattle.std.specs.Prelude.{slice_get}
 use Rattle.std.specs.List.{All}
 use Rattle.access_slots.specs.declared.op.Op.{Op}
@@ -18,16 +18,23 @@ use Rattle.serial.specs.Lists.{dc_of}
 use Rattle.serial.specs.Joining.Behind.{StandsTo, IsEnd}
 use Rattle.serial.specs.Joining.Site.{Over, RedoneTo, SiteOk}
 use Rattle.serial.specs.Joining.Sites.{CopyOk, ReplyOk, NewsOk, AreOk}
-use Rattle.serial.proofs.SiteLemmas.{stands_less}
+use Rattle.serial.proofs.SiteLemmas.{redo_cases, stands_up, stands_less}
 use Rattle.serial.proofs.CutLemmas.{up_to, under_cut, cut_all, all_below, end_cut}
 use Rattle.serial.proofs.BackLemmas.{Earlier}
 
--- t is known of a data component, and t' is what was noted: its redo begins anew, above its mark
-pub record IsAnew (low : ℕ) (t t' : Site) : Type 0 where
+-- the redo that was noted of data component d, where t is known of it: it begins anew, above the same mark; or that it was over wasn't noted
+pub record IsBegun (low d : ℕ) (dcs : List Store) (t : Site) (r' : Redoing) : Type 0 where
+  pub anew : r'.redone ≡ r'.mark
+  pub low : r'.mark ≤ low
+  pub stands : (r : Redoing) → t.redo ≡ Some r → r'.mark ≡ r.mark
+  pub there : t.redo ≡ None → (s : Store) × (slice_get dcs d ≡ Some s)
+
+-- t' was noted of data component d where t is known of it; that its redo was over was noted before any ordinary wire was sent behind it
+pub record IsNotedOf (low d : ℕ) (dcs : List Store) (copies : List Wire) (t t' : Site) : Type 0 where
   pub same : t'.incarnation ≡ t.incarnation
   pub up : t'.redo ≡ None → t.redo ≡ None
-  pub stays_up : t.redo ≡ None → t'.redo ≡ None
-  pub down : (r' : Redoing) → t'.redo ≡ Some r' → (r : Redoing) × (t.redo ≡ Some r) × (r' ≡ record { mark = r.mark; redone = r.mark }) × (r.mark ≤ low)
+  pub down : (r' : Redoing) → t'.redo ≡ Some r' → IsBegun low d dcs t r'
+  pub ordinary : All (λ (x : Wire). dc_of x.op ≡ d → x.incarnation ≡ t.incarnation → x.redo ≡ false → t.redo ≡ None → t'.redo ≡ None) copies
 
 -- what a wire rests on: its number, its mark, and, where it redoes, the answer to its number
 abbrev pub RestsOn : (ℕ → Option Flight) → ℕ → ℕ → Wire → Type 0
@@ -51,23 +58,29 @@ module _ (lg : ℕ → Option Op) (fl : ℕ → Option Flight) (dn : List Perfor
   stands_cut : Earlier lg fl dn top lg' fl' dn' top' → (d p : ℕ) (v : List Performed) → StandsTo lg dn d p v → StandsTo lg' dn' d p (up_to top' v)
   stands_cut e d p v to n o said logs dc was did le = under_cut top' n v (e.below n o logs) ∙ to n o said (e.logs_on n o logs) dc (e.says_on n said was) did le
 
-  site_back : Earlier lg fl dn top lg' fl' dn' top' → Over fl' top' low → (d : ℕ) (s : Store) (t t' : Site) (v : List Performed) → IsAnew low t t' → IsUpTo top' low s
+  site_back : Earlier lg fl dn top lg' fl' dn' top' → Over fl' top' low → (d : ℕ) (dcs : List Store) (copies : List Wire) (s : Store) (t t' : Site) (v : List Performed) → IsNotedOf low d dcs copies t t' → IsUpTo top' low s
       → SiteOk lg fl dn top d s t v → SiteOk lg' fl' dn' top' d s t' (up_to top' v)
-  site_back e over d s t t' v anew few k =
+  site_back e over d dcs copies s t t' v noted few k =
       record {
-        up = λ is. e.beside d v (k.up (anew.up is));
+        up = λ is. e.beside d v (k.up (noted.up is));
         behind = e.behind d v k.behind;
         down = λ r' is.
-            let w = anew.down r' is in
-            let was = k.down w.0 w.1 in
-            subst (RedoneTo lg' fl' dn' top' d (up_to top' v)) (sym w.2) (record {
-              stands = stands_cut e d w.0.mark v (stands_less lg dn d w.0.mark w.0.redone v was.told_le was.stands);
-              told_le = omega arith;
-              told_over = over_less fl' top' low w.0.mark over w.3;
-            });
-        ahead = λ less. (let u = k.ahead (subst (λ (n : ℕ). s.incarnation < n) anew.same less) in record { known = ap (up_to top') u.known; now = u.now; kept = u.kept });
-        same = λ is. sym whole ∙ ap (up_to top') (k.same (sym anew.same ∙ is));
-        idle = λ less. k.idle (subst (λ (n : ℕ). n < s.incarnation) anew.same less);
+            let begun = noted.down r' is in
+            let anew = begun.anew in
+            record {
+              stands = stands_cut e d r'.redone v (redo_cases t.redo (StandsTo lg dn d r'.redone v)
+                  (λ isup. stands_up lg fl dn d r'.redone v (k.up isup))
+                  (λ r isdown.
+                  let was = k.down r isdown in
+                  let told = was.told_le in
+                  let mark = begun.stands r isdown in
+                  stands_less lg dn d r'.redone r.redone v (omega (arith, anew, told, mark)) was.stands));
+              told_le = omega (arith, anew);
+              told_over = over_less fl' top' low r'.mark over begun.low;
+            };
+        ahead = λ less. (let u = k.ahead (subst (λ (n : ℕ). s.incarnation < n) noted.same less) in record { known = ap (up_to top') u.known; now = u.now; kept = u.kept });
+        same = λ is. sym whole ∙ ap (up_to top') (k.same (sym noted.same ∙ is));
+        idle = λ less. k.idle (subst (λ (n : ℕ). n < s.incarnation) noted.same less);
         cut = subst (IsEnd (up_to top' v)) whole (end_cut top' v s.list k.cut);
         saved_cut = k.saved_cut;
         whole = λ never n o said logs dc was. k.whole never n o said (e.logs_on n o logs) dc (e.says_on n said was);
@@ -81,23 +94,25 @@ module _ (lg : ℕ → Option Op) (fl : ℕ → Option Flight) (dn : List Perfor
       whole = cut_all top' s.list (all_below top' s.list few.list)
 
   pub ok_back : (sites sites' : List Site) (dcs : List Store) (copies : List Wire) (replies : List Reply) (news : List (ℕ × News))
-      → Earlier lg fl dn top lg' fl' dn' top' → Over fl' top' low → ((d : ℕ) → IsAnew low (site_at sites d) (site_at sites' d)) → ((d : ℕ) (s : Store) → slice_get dcs d ≡ Some s → IsUpTo top' low s)
+      → Earlier lg fl dn top lg' fl' dn' top' → Over fl' top' low → ((d : ℕ) → IsNotedOf low d dcs copies (site_at sites d) (site_at sites' d)) → ((d : ℕ) (s : Store) → slice_get dcs d ≡ Some s → IsUpTo top' low s)
       → All (RestsOn fl' top' low) copies → All (λ (x : Reply). x.number ≤ top') replies → All (λ (x : ℕ × News). x.1.mark ≤ low) news
       → AreOk lg fl dn top sites dcs copies replies news → AreOk lg' fl' dn' top' sites' dcs copies replies news
-  ok_back sites sites' dcs copies replies news e over anew few rests given_out low_news k =
+  ok_back sites sites' dcs copies replies news e over noted few rests given_out low_news k =
       record {
         v = λ d. up_to top' (k.v d);
-        copies = λ i x inside. copy _ (rests i x inside) (k.copies i x inside);
+        copies = λ i x inside. copy _ (λ d. (noted d).ordinary i x inside) (rests i x inside) (k.copies i x inside);
         replies = λ i x inside. reply _ (given_out i x inside) (k.replies i x inside);
         news = λ i x inside. told _ (low_news i x inside) (k.news i x inside);
-        stores = λ d s at. site_back e over d s (site_at sites d) (site_at sites' d) (k.v d) (anew d) (few d s at) (k.stores d s at);
+        stores = λ d s at. site_back e over d dcs copies s (site_at sites d) (site_at sites' d) (k.v d) (noted d) (few d s at) (k.stores d s at);
         said = λ n o said logs was. k.said n o said (e.logs_on n o logs) (e.says_on n said was);
-        there = λ d r' down. (let w = (anew d).down r' down in k.there d w.0 w.1);
+        there = λ d r' down.
+            let begun = (noted d).down r' down in
+            redo_cases (site_at sites d).redo ((s : Store) × (slice_get dcs d ≡ Some s)) (λ isup. begun.there isup) (λ r isdown. k.there d r isdown);
       }
     where
-      copy : (x : Wire) → RestsOn fl' top' low x → CopyOk lg fl dn top sites dcs k.v x → CopyOk lg' fl' dn' top' sites' dcs (λ d. up_to top' (k.v d)) x
-      copy x rest y =
-          let t = anew (dc_of x.op) in
+      copy : (x : Wire) → ((d : ℕ) → dc_of x.op ≡ d → x.incarnation ≡ (site_at sites d).incarnation → x.redo ≡ false → (site_at sites d).redo ≡ None → (site_at sites' d).redo ≡ None) → RestsOn fl' top' low x → CopyOk lg fl dn top sites dcs k.v x → CopyOk lg' fl' dn' top' sites' dcs (λ d. up_to top' (k.v d)) x
+      copy x ordinary rest y =
+          let t = noted (dc_of x.op) in
           record {
             logs = e.logs_back x.number x.op y.logs rest.0;
             known = subst (λ (n : ℕ). x.incarnation ≤ n) (sym t.same) y.known;
@@ -105,7 +120,8 @@ module _ (lg : ℕ → Option Op) (fl : ℕ → Option Flight) (dn : List Perfor
             over = over_less fl' top' low x.low_water over rest.1;
             now = λ is. elim (y.now (is ∙ t.same)) [
               | inl first ↦ inl (record {
-                up = t.stays_up first.up;
+                ordinary = first.ordinary;
+                up = ordinary (dc_of x.op) refl (is ∙ t.same) first.ordinary first.up;
                 runs = elim first.runs [
                   | inl f ↦ inl (f.0, e.flies_back x.number f.0 f.1 rest.0)
                   | inr said ↦ inr (said.0, under_cut top' x.number (k.v (dc_of x.op)) rest.0 ∙ said.1)
@@ -127,7 +143,7 @@ module _ (lg : ℕ → Option Op) (fl : ℕ → Option Flight) (dn : List Perfor
 
       reply : (x : Reply) → x.number ≤ top' → ReplyOk lg sites dcs k.v x → ReplyOk lg' sites' dcs (λ d. up_to top' (k.v d)) x
       reply x low y =
-          let t = anew (dc_of y.o) in
+          let t = noted (dc_of y.o) in
           record {
             o = y.o;
             logs = e.logs_back x.number y.o y.logs low;
@@ -143,5 +159,5 @@ module _ (lg : ℕ → Option Op) (fl : ℕ → Option Flight) (dn : List Perfor
         at = y.at;
         over = over_less fl' top' low x.1.mark over le;
         made = y.made;
-        later = λ less. stands_back e x.0 x.1.mark y.s.list (y.later (subst (λ (n : ℕ). n < x.1.incarnation) (anew x.0).same less));
+        later = λ less. stands_back e x.0 x.1.mark y.s.list (y.later (subst (λ (n : ℕ). n < x.1.incarnation) (noted x.0).same less));
       }

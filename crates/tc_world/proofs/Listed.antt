@@ -136,7 +136,7 @@ wire_ok w v r f (Some redo) x legal logs flies up is = absurd cc
 wire_ok w v r f None x legal logs flies up is =
     let y : Wire = wire_for w.core r (site_of w.core.sites r.op).incarnation in
     let same : y ≡ x = cc in
-    subst (IsCopy w v) same (record { logs = logs; known = omega arith; ahead = λ z is less. refl; over = over_low w.core.procs w.core.events legal; now = λ now. inl (record { up = up; runs = inl (f, flies) }) })
+    subst (IsCopy w v) same (record { logs = logs; known = omega arith; ahead = λ z is less. refl; over = over_low w.core.procs w.core.events legal; now = λ now. inl (record { ordinary = refl; up = up; runs = inl (f, flies) }) })
 
 sent_listed : (w v : Whole) (r : Asking) (f : Flight) (x : Result Wire Down) (o : Outcome) → Known v.core → x ≡ wire_of w.core r → logged w.core.events r.number ≡ Some r.op → open_op w.core.events r.number ≡ Some f → IsListed w → sends_or_holds w r x ≡ Goes o v → IsListed v
 sent_listed w v r f (Ok x) o known is logs flies s goes =

@@ -36,7 +36,6 @@ use Rattle.tc_core.specs.Core.{Core, Asking}
 use Rattle.tc_core.specs.Replies.{with_event, ask_reply, after_ask, undo_reply, after_undo, end_of, is_heard}
 use Rattle.tc_core.specs.Lent.{wire_of}
 use Rattle.tc_core.specs.Redo.{with_site, news_fault, down_by, after_told, redo_wire, sends_again, redo_by, redo_at, up_again, after_redo, redone_to, redone_at}
-use Rattle.tc_core.specs.Recovery.{site_noted}
 use Rattle.tc_core.specs.declared.recovery.SiteNote.{SiteNote}
 use Rattle.tc_core.specs.declared.state.Asked.{Asked}
 use Rattle.tc_core.specs.declared.state.Asked.TheVariants as reply
@@ -47,7 +46,7 @@ use Rattle.tc_core.specs.declared.state.Redo.TheVariants as redo
 use Rattle.tc_world.specs.Whole.{Whole}
 use Rattle.tc_world.specs.Marks.{IsLow, IsFresh}
 use Rattle.tc_world.specs.OneAtATime.{is_forge}
-use Rattle.tc_world.specs.Recovery.{IsWrittenFor, IsWrittenAt, IsWritten, begun_anew, anew, come_back}
+use Rattle.tc_world.specs.Recovery.{IsWrittenFor, IsWrittenAt, IsNotYetUp, IsNoted, Noted, NotYetUp, AreNoted, IsWritten, begun_anew, anew, come_back}
 use Rattle.tc_world.specs.Steps.{Goes, Stops, Steps, with_core, with_dcs, with_copy, with_reply, with_news, told, sends_or_holds, ends_by}
 use Rattle.tc_world.specs.Steps.{resends_wire, resends_sent, resends_by, dc_of, gets_reply, performs_at, performs_copy}
 use Rattle.tc_world.specs.Steps.{takes_answer, TakesRedo, TakesBy, TakesReply, restarts_as, restarts_at, checkpoints_at}
@@ -55,7 +54,7 @@ use Rattle.tc_world.specs.Steps.{tells_unless, tells_news, redoes_by}
 use Rattle.tc_world.specs.declared.step.Step.{Step}
 use Rattle.tc_world.specs.declared.step.Step.TheVariants as step
 use Rattle.tc_world.specs.declared.step.Outcome.{Outcome}
-use Rattle.tc_world.proofs.Recovering.{low_anew}
+use Rattle.tc_world.proofs.Recovering.{sites_low}
 use Rattle.tc_world.proofs.Marks.{all_at, went, stopped, IsStoreLow, performed_low, redone_low, ask_sites, undo_sites}
 
 -- ---- all but wires and notes
@@ -289,7 +288,7 @@ module _ (first : List Event) where
 
 -- whatever the step is, but a forged reply
 pub stay_written : (w v : Whole) (x : Step) (o : Outcome) (first : List Event) (notes notes' : List SiteNote) → Steps w x o v → is_forge x ≡ false → IsWritten first notes w
-    → All (IsWrittenFor first) v.copies → map site_noted notes' ≡ map anew v.core.sites → IsWritten first notes' v
+    → All (IsWrittenFor first) v.copies → AreNoted (low_water first) v notes' → IsWritten first notes' v
 stay_written w v x o first notes notes' goes honest s ready noted =
     let rest = stay_rest first w v x o honest s.copies goes (record { begins = s.begins; replies = s.replies; stores = s.stores; news = s.news; redo = s.redo }) in
     record { begins = rest.begins; sites = noted; copies = ready; replies = rest.replies; stores = rest.stores; news = rest.news; redo = rest.redo }
@@ -337,6 +336,10 @@ low_more : (a b : ℕ) (r : Option Redoing) → a ≤ b → IsLow a r → IsLow 
 low_more a b None le is = tt
 low_more a b (Some r) le is = omega (arith, le, is)
 
+noted_more : (a b d : ℕ) (w : Whole) (t t' : Site) → a ≤ b → IsNoted a w d t t' → IsNoted b w d t t'
+noted_more a b d w t t' le (Noted is) = Noted is
+noted_more a b d w t t' le (NotYetUp x) = (let low = x.low in NotYetUp (record { up = x.up; mark = x.mark; noted = x.noted; low = omega (arith, low, le); there = x.there; again = x.again }))
+
 pub more_written : (w : Whole) (first more : List Event) (notes : List SiteNote) → Legal w.core.procs w.core.events → Begins first more → Begins more w.core.events
     → IsWritten first notes w → IsWritten more notes w
 more_written w first more notes legal on in_log s =
@@ -345,7 +348,7 @@ more_written w first more notes legal on in_log s =
     let b : low_water first ≤ low_water more = subst (λ (h : List Event). low_water first ≤ low_water h) (sym on.is) (mark_more w.core.procs on.later first (subst (Legal w.core.procs) on.is legal')) in
     record {
       begins = in_log;
-      sites = s.sites;
+      sites = λ d. noted_more (low_water first) (low_water more) d w _ _ b (s.sites d);
       copies = λ k x inside. wire_more w.core.procs first more _ legal' on (s.copies k x inside);
       replies = λ k x inside. (let few = s.replies k x inside in omega (arith, few, a));
       stores = λ k x inside.
@@ -364,10 +367,10 @@ more_written w first more notes legal on in_log s =
 
 -- ---- nothing was carried, and a second crash
 
-pub fresh_written : (w : Whole) (notes : List SiteNote) → IsFresh w → map site_noted notes ≡ map anew w.core.sites → IsWritten w.core.events notes w
+pub fresh_written : (w : Whole) (notes : List SiteNote) → IsFresh w → AreNoted 0 w notes → IsWritten w.core.events notes w
 fresh_written w notes fresh noted = record {
   begins = record { later = []; is = refl };
-  sites = noted;
+  sites = λ d. noted_more 0 (low_water w.core.events) d w _ _ (omega arith) (noted d);
   copies = subst (All (IsWrittenFor w.core.events)) (sym fresh.copies) (λ k x inside. absurd (omega (arith, inside)));
   replies = subst (All (λ (x : Reply). x.number ≤ given w.core.events)) (sym fresh.replies) (λ k x inside. absurd (omega (arith, inside)));
   stores = λ k s inside.
@@ -385,25 +388,23 @@ fresh_written w notes fresh noted = record {
   redo = λ k t inside. subst (IsLow (low_water w.core.events)) (sym (fresh.up k t inside)) tt;
 }
 
-anew_twice : (t : Site) → anew (anew t) ≡ anew t
-anew_twice t = by t.redo
-  where
-    by : (r : Option Redoing) → (let s : Site = record { incarnation = t.incarnation; redo = begun_anew (begun_anew r) } in s) ≡ record { incarnation = t.incarnation; redo = begun_anew r }
-    by None = refl
-    by (Some r) = refl
+anew_twice : (incarnation : ℕ) (r : Option Redoing) → (let t : Site = record { incarnation = incarnation; redo = begun_anew r } in t ≡ anew t)
+anew_twice incarnation None = refl
+anew_twice incarnation (Some r) = refl
 
-all_anew : (sites : List Site) → map anew (map anew sites) ≡ map anew sites
-all_anew [] = refl
-all_anew (t ∷ sites) = (let one = anew_twice t in let ih = all_anew sites in cc)
+-- what was noted is known behind the crash
+noted_again : (low d : ℕ) (w v : Whole) (t t' : Site) → IsNoted low w d t t' → IsNoted low v d t' t'
+noted_again low d w v t t' (Noted is) = Noted (subst (λ (z : Site). z ≡ anew z) (sym is) (anew_twice t.incarnation t.redo))
+noted_again low d w v t t' (NotYetUp x) = Noted (subst (λ (z : Site). z ≡ anew z) (sym x.noted) refl)
 
 -- a transaction component that came back may crash again at once
 pub again_written : (w : Whole) (first : List Event) (notes : List SiteNote) → IsWritten first notes w → IsWritten first notes (come_back first notes w)
 again_written w first notes s = record {
   begins = record { later = []; is = refl };
-  sites = s.sites ∙ (sym (all_anew w.core.sites) ∙ ap (map anew) (sym s.sites));
+  sites = λ d. noted_again (low_water first) d w (come_back first notes w) _ _ (s.sites d);
   copies = s.copies;
   replies = s.replies;
   stores = s.stores;
   news = s.news;
-  redo = subst (All (λ (t : Site). IsLow (low_water first) t.redo)) (sym s.sites) (All-map (λ (t : Site). IsLow (low_water first) t.redo) anew w.core.sites (λ k t inside. low_anew (low_water first) _ (s.redo k t inside)));
+  redo = sites_low w first notes s;
 }

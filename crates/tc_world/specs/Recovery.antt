@@ -1,7 +1,8 @@
 -- A world whose transaction component crashes, and comes back from what was written (Lomet, Fekete, Weikum, Zwilling, CIDR 2009: the
 -- transaction component's own failure; its log is forced ahead of what data components are sent).
-use Rattle.std.specs.Prelude.{◌≡◌, ℕ, ◌≤◌, true, false, List, map, Option, Some, None}
+use Rattle.std.specs.Prelude.{◌≡◌, ℕ, ◌≤◌, true, false, List, map, Option, Some, None, slice_get}
 use Rattle.std.specs.List.{All}
+use Rattle.access_slots.specs.Locks.{target}
 use Rattle.access_slots.specs.declared.op.Wire.{Wire}
 use Rattle.access_slots.specs.declared.op.Reply.{Reply}
 use Rattle.access_slots.specs.declared.op.News.{News}
@@ -10,6 +11,7 @@ use Rattle.history.specs.Flight.{given, low_water, is_open}
 use Rattle.history.specs.Places.{Begins}
 use Rattle.transactions.specs.declared.Redoing.{Redoing}
 use Rattle.transactions.specs.declared.Site.{Site}
+use Rattle.transactions.specs.InFlight.{site_at}
 use Rattle.data_component.specs.Performed.{Performed}
 use Rattle.data_component.specs.Store.{Store}
 use Rattle.tc_core.specs.declared.recovery.SiteNote.{SiteNote}
@@ -39,11 +41,30 @@ begun_anew (Some r) = Some (record { mark = r.mark; redone = r.mark })
 abbrev pub anew : Site → Site
 anew t = record { incarnation = t.incarnation; redo = begun_anew t.redo }
 
+-- data component d is up, and is noted as down: that its redo is over isn't written yet, and nothing was sent to it since but what its
+-- redo sent
+pub record IsNotYetUp (low : ℕ) (w : Whole) (d : ℕ) (t t' : Site) : Type 0 where
+  pub up : t.redo ≡ None
+  pub mark : ℕ
+  pub noted : t' ≡ record { incarnation = t.incarnation; redo = Some (record { mark = mark; redone = mark }) }
+  pub low : mark ≤ low
+  pub there : (s : Store) × (slice_get w.dcs d ≡ Some s)
+  pub again : All (λ (x : Wire). (target x.op).dc ≡ d → x.incarnation ≡ t.incarnation → x.redo ≡ true) w.copies
+
+-- where t is known of data component d, t' was noted of it
+pub data IsNoted (low : ℕ) (w : Whole) (d : ℕ) (t t' : Site) : Type 0 where
+  Noted : t' ≡ anew t → IsNoted low w d t t'
+  NotYetUp : IsNotYetUp low w d t t' → IsNoted low w d t t'
+
+-- what is known of each data component was noted
+abbrev pub AreNoted : ℕ → Whole → List SiteNote → Type 0
+AreNoted low w notes = (d : ℕ) → IsNoted low w d (site_at w.core.sites d) (site_at (map site_noted notes) d)
+
 -- the log begins with what was written, and what is known of data components was noted; and that tells of all that was carried: of
 -- each wire and reply, and of each number and mark at data components, in news and in redo
 pub record IsWritten (first : List Event) (notes : List SiteNote) (w : Whole) : Type 0 where
   pub begins : Begins first w.core.events
-  pub sites : map site_noted notes ≡ map anew w.core.sites
+  pub sites : AreNoted (low_water first) w notes
   pub copies : All (IsWrittenFor first) w.copies
   pub replies : All (λ (x : Reply). x.number ≤ given first) w.replies
   pub stores : All (IsWrittenAt first) w.dcs

@@ -11,22 +11,22 @@
 //! use Rattle.tc_world.proofs.Recovering.{come_back_low}
 //! ```
 
-ghost use Rattle.std.specs.Prelude.{◌≡◌, ℕ, false, List, map};
+ghost use Rattle.std.specs.Prelude.{◌≡◌, false, List};
 ghost use Rattle.std.specs.List.{All};
 ghost use Rattle.access_slots.specs.declared.op.Wire.{Wire as WireValue};
 ghost use Rattle.tc_log.specs.declared.event.Event.{Event as EventValue};
 ghost use Rattle.verifier.specs.Checked.{Checked};
+ghost use Rattle.history.specs.Flight.{low_water};
 ghost use Rattle.history.specs.Places.{Begins};
 ghost use Rattle.transactions.specs.Legal.{Legal};
 ghost use Rattle.transactions.specs.Reached.{AllGood};
 ghost use Rattle.tc_core.specs.declared.recovery.SiteNote.{SiteNote};
-ghost use Rattle.tc_core.specs.Recovery.{site_noted};
 ghost use Rattle.tc_world.specs.Whole.{Whole};
 ghost use Rattle.tc_world.specs.Steps.{Steps};
 ghost use Rattle.tc_world.specs.Marks.{AreMarksLow, IsFresh};
 ghost use Rattle.serial.specs.Audit.{IsAgreed};
 ghost use Rattle.tc_world.specs.OneAtATime.{is_forge, EachIsKnown, IsOneAtATime};
-ghost use Rattle.tc_world.specs.Recovery.{IsWrittenFor, IsWritten, anew, come_back};
+ghost use Rattle.tc_world.specs.Recovery.{IsWrittenFor, AreNoted, IsWritten, come_back};
 ghost use Rattle.tc_world.specs.Lives.{Move, Lives};
 ghost use Rattle.tc_world.specs.declared.step.Step.{Step as StepValue};
 ghost use Rattle.tc_world.specs.declared.step.Outcome.{Outcome as OutcomeValue};
@@ -59,11 +59,11 @@ pub fn comes_back()
 /// written for, and what it makes known of data components was noted, all that was carried is
 /// written; and so it stays when more is written.
 pub fn written_ahead()
-    ensures fresh { (w : Whole) (notes : List SiteNote) → IsFresh w → map site_noted notes ≡ map anew w.core.sites
+    ensures fresh { (w : Whole) (notes : List SiteNote) → IsFresh w → AreNoted 0 w notes
         → IsWritten w.core.events notes w }
     ensures step { (w v : Whole) (x : StepValue) (o : OutcomeValue) (first : List EventValue) (notes noted : List SiteNote)
         → Steps w x o v → is_forge x ≡ false → IsWritten first notes w → All (IsWrittenFor first) v.copies
-        → map site_noted noted ≡ map anew v.core.sites → IsWritten first noted v }
+        → AreNoted (low_water first) v noted → IsWritten first noted v }
     ensures wire { (ps : List Checked) (first more : List EventValue) (x : WireValue) → Legal ps more → Begins first more
         → IsWrittenFor first x → IsWrittenFor more x }
     ensures more { (w : Whole) (first more : List EventValue) (notes : List SiteNote) → Legal w.core.procs w.core.events
