@@ -99,6 +99,29 @@ fn all_end(tc: &mut TcState, dc: &mut Dc) {
     }
 }
 
+// What was done is redone at the data component, until that is up.
+fn is_redone(tc: &mut TcState, dc: &mut Dc) {
+    for _ in 0..20 {
+        let Redo::Send(wire) = tc.redo_next(0) else {
+            return;
+        };
+        if let Some(reply) = dc.perform(&wire) {
+            let _ = tc.redone(0, &reply);
+        }
+    }
+}
+
+// What was written last of the data component, where it has restarted and lost all that it did, or not.
+fn note_of(dc: &mut Dc, restarts: bool) -> SiteNote {
+    if !restarts {
+        return SiteNote::Untold;
+    }
+    match dc.restart() {
+        Ok(news) => SiteNote::Restarted(news),
+        Err(_) => SiteNote::Untold,
+    }
+}
+
 // How many events there are once a state that came back from so many has ended all that was open.
 const fn ended(events: usize) -> usize {
     match events {
@@ -113,9 +136,11 @@ fn gone_on(
     rt: &impl Abort,
     alloc: Global,
     log: &Log,
+    restarts: bool,
 ) -> Result<Result<Vec<u8>, RecoverFault>, Fail> {
     let mut dc = Dc::new(alloc, 10, 10)?;
     perform_sent(log, &mut dc);
+    let note = note_of(&mut dc, restarts);
     let mut tc = match state(alloc) {
         Ok(tc) => tc,
         Err(fault) => {
@@ -123,9 +148,10 @@ fn gone_on(
             return Err(fault);
         }
     };
-    let recovered = tc.recover(log, &[SiteNote::Untold]);
+    let recovered = tc.recover(log, &[note]);
+    is_redone(&mut tc, &mut dc);
     all_end(&mut tc, &mut dc);
-    let again = tc.recover(log, &[SiteNote::Untold]);
+    let again = tc.recover(log, &[note]);
     let printed = tc.log().print(alloc);
     drop(tc);
     drop(dc);
@@ -146,7 +172,13 @@ fn first(bytes: &[u8], events: usize) -> Option<&[u8]> {
     bytes.get(..events.checked_mul(RECORD)?)
 }
 
-fn goes_on(rt: &impl Abort, alloc: Global, bytes: &[u8], events: usize) -> Result<(), Fail> {
+fn goes_on(
+    rt: &impl Abort,
+    alloc: Global,
+    bytes: &[u8],
+    events: usize,
+    restarts: bool,
+) -> Result<(), Fail> {
     let (Some(beginning), Some(want)) = (first(bytes, events), first(bytes, ended(events))) else {
         return Ok(());
     };
@@ -154,7 +186,7 @@ fn goes_on(rt: &impl Abort, alloc: Global, bytes: &[u8], events: usize) -> Resul
         assert!(rt; false, "{events} events are no log");
         return Ok(());
     };
-    let gone = gone_on(rt, alloc, &log);
+    let gone = gone_on(rt, alloc, &log, restarts);
     drop(log);
     match gone? {
         Ok(printed) => assert_eq!(rt; printed.as_slice(), want, "from {events} events"),
@@ -167,7 +199,17 @@ fn goes_on(rt: &impl Abort, alloc: Global, bytes: &[u8], events: usize) -> Resul
 fn each_beginning_goes_on(rt: HostRuntime) -> Result<(), Fail> {
     let bytes = log_bytes(rt.alloc(), &PUT_AND_ABORT)?;
     for events in 0..=PUT_AND_ABORT.len() {
-        goes_on(&rt, rt.alloc(), bytes.as_slice(), events)?;
+        goes_on(&rt, rt.alloc(), bytes.as_slice(), events, false)?;
+    }
+    Ok(())
+}
+
+// The data component restarts while the transaction component is away, and loses all that it did.
+#[test]
+fn each_beginning_goes_on_behind_a_restart(rt: HostRuntime) -> Result<(), Fail> {
+    let bytes = log_bytes(rt.alloc(), &PUT_AND_ABORT)?;
+    for events in 0..=PUT_AND_ABORT.len() {
+        goes_on(&rt, rt.alloc(), bytes.as_slice(), events, true)?;
     }
     Ok(())
 }
@@ -180,7 +222,7 @@ fn an_illegal_log_is_refused(rt: HostRuntime) -> Result<(), Fail> {
         assert!(rt; false, "no log");
         return Ok(());
     };
-    let gone = gone_on(&rt, rt.alloc(), &log);
+    let gone = gone_on(&rt, rt.alloc(), &log, false);
     drop(log);
     match gone? {
         Ok(printed) => assert_eq!(rt; printed.len(), 0, "an illegal log is taken"),
