@@ -74,9 +74,10 @@ module _ (lg : ℕ → Option Op) (fl : ℕ → Option Flight) (dn : List Perfor
           | inl a ↦ elim (cases_eq n a.number) [
             | inl eq ↦
                 let above = new.0 in
+                let later : top < a.number = omega (arith, above, eq) in
                 writes_cut r top v
                 ∙ (ap (up_to top) (b.ahead r a.number a.f a.said dc a.flies a.under a.same a.write)
-                ∙ (off_if (is_done a.said) top (a.number, a.f.op, a.said) (writes_on r dn) (omega (arith, above, eq)) ∙ whole new r))
+                ∙ (off_if (is_done a.said) top (a.number, a.f.op, a.said) (writes_on r dn) later ∙ whole new r))
             | inr other ↦
                 let low = stays new b.entries a.number a.said a.under other in
                 absurd (none a.number a.f a.said (sym (if_none n a.number _ _ other) ∙ a.flies) (under_cut top a.number v low ∙ a.under) a.same a.write)
@@ -280,9 +281,14 @@ module _ (lg : ℕ → Option Op) (fl : ℕ → Option Flight) (dn : List Perfor
       -- where it was done and doesn't stand, the list ends before it
       shorter : (r : Record) → r.dc ≡ d → NoneDone fl v r → record_eq (target f.op) r ≡ true → is_done said ≡ true → (o : Option Said) → said_under v n ≡ o
           → (writes_on r v ≡ (n, f.op, said) ∷ writes_on r dn) ⊎ IsEnd (writes_on r dn) (writes_on r v) → IsEnd (writes_on r dn) (writes_on r v)
-      shorter r dc none same did o is (inr e) = e
-      shorter r dc none same did None absent (inl e) = absurd (none_some _ said (writes_absent r v n absent) (ap (λ (l : List Performed). said_under l n) e ∙ under_same n n f.op said (writes_on r dn) refl))
-      shorter r dc none same did (Some s) there (inl e) = absurd (none n f s a.flies there same (subst (λ (x : Said). is_done x ≡ true) (so s there) did))
+      shorter r dc none same did None absent e = elim e [
+        | inl first ↦ absurd (none_some _ said (writes_absent r v n absent) (ap (λ (l : List Performed). said_under l n) first ∙ under_same n n f.op said (writes_on r dn) refl))
+        | inr rest ↦ rest
+      ]
+      shorter r dc none same did (Some s) there e = elim e [
+        | inl first ↦ absurd (none n f s a.flies there same (subst (λ (x : Said). is_done x ≡ true) (so s there) did))
+        | inr rest ↦ rest
+      ]
 
       oldest : (r : Record) → r.dc ≡ d → NoneDone fl v r → IsEnd (writes_on r ((n, f.op, said) ∷ dn)) (writes_on r v) → IsEnd (writes_on r dn) (writes_on r v)
       oldest r dc none old =
@@ -372,7 +378,7 @@ before_answered lg fl dn top n f said below a =
       behind = λ d v b. subst (Behind lg fl dn d) (same v (λ k e is. (b.entries k e is).0)) (behind_unanswered lg fl dn d v n f said a b);
     }
 
-abbrev Before : List Event → List Event → Type 0
+abbrev pub Before : List Event → List Event → Type 0
 Before h first = Earlier (logged h) (open_op h) (done h) (given h) (logged first) (open_op first) (done first) (given first)
 
 answer_back : (ps : List Checked) (h first : List Event) (t n : ℕ) (said : Said) → AllGood ps → Legal ps h → CanAnswer ps h t n said → HonestTo (open_op h n) said (now h) → Before h first → Before (Answer t n said ∷ h) first
@@ -424,3 +430,22 @@ given_more (Ask t n o ∷ later) first = (let ih = given_more later first in ome
 given_more (Answer t n said ∷ later) first = given_more later first
 given_more (Undo t n o ∷ later) first = (let ih = given_more later first in omega (arith, ih))
 given_more (End t o ∷ later) first = given_more later first
+
+-- numbers are given out from 1 on
+pub logged_some : (ps : List Checked) (h : List Event) → Legal ps h → (n : ℕ) (o : Op) → logged h n ≡ Some o → 0 < n
+logged_some ps [] legal n o e = absurd (none_some _ o refl e)
+logged_some ps (Admit t p args ∷ h) legal n o e = logged_some ps h legal.1 n o e
+logged_some ps (Ask t m q ∷ h) legal n o e =
+    let next = legal.0.next in
+    elim (cases_eq m n) [
+      | inl same ↦ omega (arith, same, next)
+      | inr other ↦ logged_some ps h legal.1 n o (sym (if_none m n (Some q) (logged h n) other) ∙ e)
+    ]
+logged_some ps (Answer t m said ∷ h) legal n o e = logged_some ps h legal.1 n o e
+logged_some ps (Undo t m q ∷ h) legal n o e =
+    let next = legal.0.next in
+    elim (cases_eq m n) [
+      | inl same ↦ omega (arith, same, next)
+      | inr other ↦ logged_some ps h legal.1 n o (sym (if_none m n (Some q) (logged h n) other) ∙ e)
+    ]
+logged_some ps (End t ends ∷ h) legal n o e = logged_some ps h legal.1 n o e

@@ -1,5 +1,5 @@
 -- What a world keeps beside a log it keeps beside the same log without its last events, where nothing that was carried rests on these.
-use Rattle.std.proofs.Common.{◌≡◌, ◌⊎◌, ℕ, ◌+◌, ◌≤◌, ◌<◌, true, false, List, Option, Some, None, arith, refl, sym, ◌∙◌, ap, subst, inl, inr}
+use Rattle.std.proofs.Common.{◌≡◌, ◌⊎◌, ℕ, ◌+◌, ◌≤◌, ◌<◌, true, false, List, [], ◌∷◌, Option, Some, None, arith, refl, sym, ◌∙◌, ap, subst, inl, inr}
 use Rattle.std.specs.Prelude.{slice_get}
 use Rattle.std.specs.List.{All}
 use Rattle.access_slots.specs.declared.op.Op.{Op}
@@ -14,8 +14,9 @@ use Rattle.data_component.specs.Store.{Store}
 use Rattle.transactions.specs.declared.Site.{Site}
 use Rattle.transactions.specs.declared.Redoing.{Redoing}
 use Rattle.transactions.specs.InFlight.{site_at}
-use Rattle.serial.specs.Lists.{dc_of}
-use Rattle.serial.specs.Joining.Behind.{StandsTo, IsEnd}
+use Rattle.transactions.proofs.StandingLemmas.{some_same, none_some}
+use Rattle.serial.specs.Lists.{dc_of, writes_on}
+use Rattle.serial.specs.Joining.Behind.{Behind, StandsTo, IsEnd}
 use Rattle.serial.specs.Joining.Site.{Over, RedoneTo, SiteOk}
 use Rattle.serial.specs.Joining.Sites.{CopyOk, ReplyOk, NewsOk, AreOk}
 use Rattle.serial.proofs.SiteLemmas.{redo_cases, stands_up, stands_less}
@@ -161,3 +162,45 @@ module _ (lg : ℕ → Option Op) (fl : ℕ → Option Flight) (dn : List Perfor
         made = y.made;
         later = λ less. stands_back e x.0 x.1.mark y.s.list (y.later (subst (λ (n : ℕ). n < x.1.incarnation) (noted x.0).same less));
       }
+
+-- ---- a new data component, which is told to have restarted
+
+end_none : (big : List Performed) → IsEnd big []
+end_none [] = refl
+end_none (x ∷ big) = inr (end_none big)
+
+behind_none : (lg : ℕ → Option Op) (fl : ℕ → Option Flight) (dn : List Performed) (d : ℕ) → Behind lg fl dn d []
+behind_none lg fl dn d = record {
+  entries = λ k e is. absurd (none_some _ e refl is);
+  once = tt;
+  agrees = λ n o s said is dc under was. absurd (none_some _ s refl under);
+  honest = λ n f said is under. absurd (none_some _ said refl under);
+  oldest = λ r dc none. end_none (writes_on r dn);
+  ahead = λ r n f said dc is under same did. absurd (none_some _ said refl under);
+}
+
+-- all that was done has a number above 0
+stands_none : (lg : ℕ → Option Op) (dn : List Performed) (d : ℕ) (list : List Performed) → ((n : ℕ) (o : Op) → lg n ≡ Some o → 0 < n) → (p : ℕ) → p ≡ 0 → StandsTo lg dn d p list
+stands_none lg dn d list above p none n o said logs dc was did low = (let some = above n o logs in absurd (omega (arith, some, none, low)))
+
+pub site_new : (lg : ℕ → Option Op) (fl : ℕ → Option Flight) (dn : List Performed) (top d : ℕ) (s : Store) → ((n : ℕ) (o : Op) → lg n ≡ Some o → 0 < n) → Over fl top 0
+    → s.list ≡ [] → s.saved ≡ [] → s.mark ≡ 0 → s.saved_mark ≡ 0 → 0 < s.incarnation
+    → SiteOk lg fl dn top d s (record { incarnation = s.incarnation; redo = Some (record { mark = s.mark; redone = s.mark }) }) []
+site_new lg fl dn top d s above over list saved mark saved_mark restarted =
+    let at : Redoing = record { mark = s.mark; redone = s.mark } in
+    let over_at : (p : ℕ) → p ≡ 0 → Over fl top p = (λ p none. over_less fl top 0 p over (omega (arith, none))) in
+    record {
+      up = λ is. absurd (none_some _ at is refl);
+      behind = behind_none lg fl dn d;
+      down = λ r is. subst (RedoneTo lg fl dn top d []) (some_same at r is) (record { stands = stands_none lg dn d [] above s.mark mark; told_le = omega arith; told_over = over_at s.mark mark });
+      ahead = λ less. absurd (omega (arith, less));
+      same = λ is. list;
+      idle = λ less. absurd (omega (arith, less));
+      cut = list;
+      saved_cut = subst (λ (l : List Performed). IsEnd l s.saved) (sym list) saved;
+      whole = λ never. absurd (omega (arith, never, restarted));
+      mark_to = stands_none lg dn d s.list above s.mark mark;
+      mark_over = over_at s.mark mark;
+      saved_to = stands_none lg dn d s.saved above s.saved_mark saved_mark;
+      saved_over = over_at s.saved_mark saved_mark;
+    }

@@ -2,16 +2,17 @@
 use Rattle.std.proofs.Common.{◌≡◌, List, [], ◌∷◌, sym, subst}
 use Rattle.transactions.specs.Legal.{Legal}
 use Rattle.transactions.specs.Reached.{AllGood}
+use Rattle.serial.proofs.BackLemmas.{legal_first}
 use Rattle.tc_world.specs.Whole.{Whole}
 use Rattle.tc_world.specs.Marks.{AreMarksLow, IsFresh}
 use Rattle.serial.specs.Audit.{IsAgreed}
 use Rattle.tc_world.specs.OneAtATime.{EachIsKnown, IsOneAtATime}
-use Rattle.tc_world.specs.Recovery.{carrying, come_back}
-use Rattle.tc_world.specs.Lives.{Move, Takes, Crashes, Lives}
+use Rattle.tc_world.specs.Recovery.{carrying, come_back, start_over}
+use Rattle.tc_world.specs.Lives.{Move, Takes, Crashes, StartsOver, Lives}
 use Rattle.tc_world.specs.Joining.Listed.{IsListed}
 use Rattle.tc_world.proofs.Marks.{stay_low, fresh_low}
 use Rattle.tc_world.proofs.Listed.{Known, stay_listed, fresh_listed, one_at_a_time, agrees}
-use Rattle.tc_world.proofs.Recovering.{come_back_legal, come_back_low, come_back_listed, carried_listed}
+use Rattle.tc_world.proofs.Recovering.{come_back_legal, come_back_low, come_back_listed, carried_listed, start_over_low, start_over_listed}
 
 -- what each world on the way is
 record Sound (w : Whole) : Type 0 where
@@ -31,6 +32,14 @@ lives (Crashes first notes xs ∷ moves) w v s (are, written, rest) =
       known = record { legal = come_back_legal w' first notes s.known.legal written; good = s.known.good };
       low = come_back_low w' first notes written;
       listed = come_back_listed w' first notes s.known.good s.known.legal written (carried_listed w xs are s.listed);
+    })
+    rest
+lives (StartsOver first dcs ∷ moves) w v s (begins, new, many, rest) =
+    lives moves (start_over first dcs w) v
+    (record {
+      known = record { legal = legal_first w.core.procs begins.later first (subst (Legal w.core.procs) begins.is s.known.legal); good = s.known.good };
+      low = start_over_low w first dcs new;
+      listed = start_over_listed w first dcs s.known.good s.known.legal begins new many s.listed;
     })
     rest
 

@@ -8,7 +8,7 @@ use Rattle.access_slots.specs.declared.op.News.{News}
 use Rattle.tc_log.specs.declared.event.Event.{Event}
 use Rattle.history.specs.Flight.{Flight, open_op, is_flight, given, low_water}
 use Rattle.data_component.specs.Performed.{Performed}
-use Rattle.data_component.specs.Store.{Store}
+use Rattle.data_component.specs.Store.{Store, news_of}
 use Rattle.transactions.specs.declared.Redoing.{Redoing}
 use Rattle.transactions.specs.declared.Site.{Site}
 use Rattle.transactions.specs.InFlight.{site_at, site_by}
@@ -16,17 +16,18 @@ use Rattle.transactions.specs.Reached.{AllGood}
 use Rattle.transactions.specs.Legal.{Legal}
 use Rattle.transactions.proofs.StandingLemmas.{some_same, none_some}
 use Rattle.serial.specs.Serial.{done, Honest}
-use Rattle.serial.specs.Lists.{logged}
-use Rattle.serial.specs.Joining.Site.{Over}
-use Rattle.serial.specs.Joining.Sites.{AreOk}
+use Rattle.history.specs.Places.{Begins}
+use Rattle.serial.specs.Lists.{logged, dc_of}
+use Rattle.serial.specs.Joining.Site.{Over, SiteOk}
 use Rattle.serial.proofs.RedoneLemmas.{over_low}
-use Rattle.serial.proofs.BackLemmas.{Earlier, earlier, legal_first, honest_first}
-use Rattle.serial.proofs.BackSites.{IsBegun, IsNotedOf, RestsOn, IsUpTo, ok_back}
+use Rattle.serial.proofs.BackLemmas.{Earlier, earlier, legal_first, honest_first, logged_some}
+use Rattle.serial.proofs.BackSites.{IsBegun, IsNotedOf, RestsOn, IsUpTo, over_less, ok_back, site_new}
 use Rattle.tc_core.specs.declared.recovery.SiteNote.{SiteNote}
+use Rattle.tc_core.specs.declared.recovery.SiteNote.TheVariants.{Restarted}
 use Rattle.tc_core.specs.Recovery.{site_noted}
 use Rattle.tc_world.specs.Whole.{Whole}
 use Rattle.tc_world.specs.Marks.{IsLow, AreMarksLow}
-use Rattle.tc_world.specs.Recovery.{IsWrittenFor, IsWrittenAt, IsNotYetUp, IsNoted, Noted, NotYetUp, IsWritten, begun_anew, anew, come_back, carrying}
+use Rattle.tc_world.specs.Recovery.{IsWrittenFor, IsWrittenAt, IsNotYetUp, IsNoted, Noted, NotYetUp, IsWritten, begun_anew, anew, come_back, carrying, IsNew, start_over}
 use Rattle.tc_world.specs.Lives.{AreCopies}
 use Rattle.tc_world.specs.Joining.Listed.{IsListed}
 use Rattle.tc_world.proofs.Marks.{all_at}
@@ -172,3 +173,77 @@ carried_listed w xs are s = record {
     there = s.ok.there;
   };
 }
+
+-- ---- new data components in place of those that died
+
+abbrev new_site : Store → Site
+new_site s = record { incarnation = s.incarnation; redo = Some (record { mark = s.mark; redone = s.mark }) }
+
+-- what is known of each is that it has restarted
+new_at : (dcs : List Store) (d : ℕ) (s : Store) → slice_get dcs d ≡ Some s → site_at (map site_noted (map (λ (x : Store). Restarted (news_of x)) dcs)) d ≡ new_site s
+new_at [] d s at = absurd (none_some _ s refl at)
+new_at (x ∷ dcs) zero s at = ap new_site (some_same x s at)
+new_at (x ∷ dcs) (suc d) s at = new_at dcs d s at
+
+none_at : (dcs : List Store) (d : ℕ) → slice_get dcs d ≡ None → (site_at (map site_noted (map (λ (x : Store). Restarted (news_of x)) dcs)) d).redo ≡ None
+none_at [] d at = refl
+none_at (x ∷ dcs) zero at = absurd (none_some _ x at refl)
+none_at (x ∷ dcs) (suc d) at = none_at dcs d at
+
+-- there are as many
+as_many : {X : Type 0} (xs ys : List X) (k : ℕ) (x : X) → length xs ≡ length ys → slice_get ys k ≡ Some x → (y : X) × (slice_get xs k ≡ Some y)
+as_many xs [] k x same at = absurd (none_some _ x refl at)
+as_many [] (y ∷ ys) k x same at = absurd (omega (arith, same))
+as_many (z ∷ xs) (y ∷ ys) zero x same at = (z, refl)
+as_many (z ∷ xs) (y ∷ ys) (suc k) x same at = as_many xs ys k x (omega (arith, same)) at
+
+pub start_over_low : (w : Whole) (first : List Event) (dcs : List Store) → All IsNew dcs → AreMarksLow (start_over first dcs w)
+start_over_low w first dcs new = record {
+  copies = λ k x inside. absurd (omega (arith, inside));
+  dcs = λ k s inside. (let none = (new k s inside).mark in omega (arith, none));
+  saved = λ k s inside. (let none = (new k s inside).saved_mark in omega (arith, none));
+  news = λ k x inside. absurd (omega (arith, inside));
+  redo = all_sites (λ (t : Site). IsLow (low_water first) t.redo) (map site_noted (map (λ (x : Store). Restarted (news_of x)) dcs)) (λ d. by d (slice_get dcs d) refl);
+}
+  where
+    by : (d : ℕ) (o : Option Store) → slice_get dcs d ≡ o → IsLow (low_water first) (site_at (map site_noted (map (λ (x : Store). Restarted (news_of x)) dcs)) d).redo
+    by d None at = subst (IsLow (low_water first)) (sym (none_at dcs d at)) tt
+    by d (Some s) at =
+        let none = (all_at IsNew dcs d s at new).mark in
+        let low : s.mark ≤ low_water first = omega (arith, none) in
+        subst (λ (t : Site). IsLow (low_water first) t.redo) (sym (new_at dcs d s at)) low
+
+pub start_over_listed : (w : Whole) (first : List Event) (dcs : List Store) → AllGood w.core.procs → Legal w.core.procs w.core.events
+    → Begins first w.core.events → All IsNew dcs → length dcs ≡ length w.dcs → IsListed w → IsListed (start_over first dcs w)
+start_over_listed w first dcs good legal begins new many s =
+    record {
+      honest = honest_first begins.later first (subst Honest begins.is s.honest);
+      ok = record {
+        v = λ d. [];
+        copies = λ k x inside. absurd (omega (arith, inside));
+        replies = λ k x inside. absurd (omega (arith, inside));
+        news = λ k x inside. absurd (omega (arith, inside));
+        stores = λ d x at.
+            let is = all_at IsNew dcs d x at new in
+            subst (λ (t : Site). SiteOk (logged first) (open_op first) (done first) (given first) d x t []) (sym (new_at dcs d x at))
+            (site_new (logged first) (open_op first) (done first) (given first) d x (logged_some w.core.procs first legal_now) over is.list is.saved is.mark is.saved_mark is.restarted);
+        said = λ n o said logs was. (let there = s.ok.said n o said (before.logs_on n o logs) (before.says_on n said was) in as_many dcs w.dcs (dc_of o) there.0 many there.1);
+        there = λ d r down. there d r down (slice_get dcs d) refl;
+      };
+    }
+  where
+    legal_now : Legal w.core.procs first
+    legal_now = legal_first w.core.procs begins.later first (subst (Legal w.core.procs) begins.is legal)
+
+    over : Over (open_op first) (given first) 0
+    over = over_less (open_op first) (given first) (low_water first) 0 (over_low w.core.procs first legal_now) (omega arith)
+
+    before : Earlier (logged w.core.events) (open_op w.core.events) (done w.core.events) (given w.core.events) (logged first) (open_op first) (done first) (given first)
+    before =
+        subst (λ (h : List Event). Earlier (logged h) (open_op h) (done h) (given h) (logged first) (open_op first) (done first) (given first)) (sym begins.is)
+        (earlier w.core.procs begins.later first good (subst (Legal w.core.procs) begins.is legal) (subst Honest begins.is s.honest))
+
+    there : (d : ℕ) (r : Redoing) → (site_at (map site_noted (map (λ (x : Store). Restarted (news_of x)) dcs)) d).redo ≡ Some r → (o : Option Store) → slice_get dcs d ≡ o
+        → (x : Store) × (slice_get dcs d ≡ Some x)
+    there d r down None at = absurd (none_some _ r (none_at dcs d at) down)
+    there d r down (Some x) at = (x, at)

@@ -1,6 +1,6 @@
 -- A world whose transaction component crashes, and comes back from what was written (Lomet, Fekete, Weikum, Zwilling, CIDR 2009: the
 -- transaction component's own failure; its log is forced ahead of what data components are sent).
-use Rattle.std.specs.Prelude.{◌≡◌, ℕ, ◌≤◌, true, false, List, map, Option, Some, None, slice_get}
+use Rattle.std.specs.Prelude.{◌≡◌, ℕ, ◌≤◌, ◌<◌, true, false, List, [], map, Option, Some, None, slice_get}
 use Rattle.std.specs.List.{All}
 use Rattle.access_slots.specs.Locks.{target}
 use Rattle.access_slots.specs.declared.op.Wire.{Wire}
@@ -13,8 +13,9 @@ use Rattle.transactions.specs.declared.Redoing.{Redoing}
 use Rattle.transactions.specs.declared.Site.{Site}
 use Rattle.transactions.specs.InFlight.{site_at}
 use Rattle.data_component.specs.Performed.{Performed}
-use Rattle.data_component.specs.Store.{Store}
+use Rattle.data_component.specs.Store.{Store, news_of}
 use Rattle.tc_core.specs.declared.recovery.SiteNote.{SiteNote}
+use Rattle.tc_core.specs.declared.recovery.SiteNote.TheVariants.{Restarted}
 use Rattle.tc_core.specs.Recovery.{recovered, site_noted}
 use Rattle.tc_world.specs.Whole.{Whole}
 use Rattle.tc_world.specs.Marks.{IsLow}
@@ -78,3 +79,22 @@ come_back first notes w = record w { core = recovered w.core first notes }
 -- the world with these wires alone
 abbrev pub carrying : List Wire → Whole → Whole
 carrying xs w = record w { copies = xs }
+
+-- a data component that has restarted, before which nothing is left
+pub record IsNew (s : Store) : Type 0 where
+  pub list : s.list ≡ []
+  pub saved : s.saved ≡ []
+  pub mark : s.mark ≡ 0
+  pub saved_mark : s.saved_mark ≡ 0
+  pub restarted : 0 < s.incarnation
+
+-- the transaction component came back from what was written of its log, and is told of the restarts of these data components; nothing
+-- that was carried is left
+abbrev pub start_over : List Event → List Store → Whole → Whole
+start_over first dcs w = record {
+  core = recovered w.core first (map (λ (s : Store). Restarted (news_of s)) dcs);
+  dcs = dcs;
+  copies = [];
+  replies = [];
+  news = [];
+}

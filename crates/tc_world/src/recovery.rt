@@ -4,7 +4,8 @@
 //! The rule is to write ahead. A wire is carried once all of the log behind which it was made is
 //! written; that a data component has restarted, or that its redo is over, is written before anything
 //! that rests on it is carried. Then every crash finds written all that was carried, and a
-//! transaction component that comes back goes on as if it had never been away.
+//! transaction component that comes back goes on as if it had never been away. Data components that
+//! die with it ask for nothing of that: new ones that have restarted stand in their places.
 //!
 //! ```text
 //! -- in a proof file: the marks of a world that came back
@@ -32,9 +33,10 @@ ghost use Rattle.tc_world.specs.declared.step.Step.{Step as StepValue};
 ghost use Rattle.tc_world.specs.declared.step.Outcome.{Outcome as OutcomeValue};
 
 /// From a fresh world on, whatever happens and however often its transaction component crashes and
-/// comes back, as long as each crash finds written all that was carried: its log is legal, its marks
-/// are low, calls run one at a time, and where each data component is up and of the incarnation that
-/// is known, the log and the data components agree in all that an audit compares.
+/// comes back, as long as each crash finds written all that was carried, or the data components died
+/// too and new ones were restarted: its log is legal, its marks are low, calls run one at a time, and
+/// where each data component is up and of the incarnation that is known, the log and the data
+/// components agree in all that an audit compares.
 pub fn crashes_are_survived()
     ensures legal { (moves : List Move) (w v : Whole) → IsFresh w → AllGood w.core.procs → Lives moves w v
         → Legal v.core.procs v.core.events }
