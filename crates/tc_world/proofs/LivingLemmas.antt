@@ -1,18 +1,29 @@
 -- Whatever happens to a world, crashes among it, it stays one in which calls run one at a time.
-use Rattle.std.proofs.Common.{◌≡◌, List, [], ◌∷◌, sym, subst}
+use Rattle.std.proofs.Common.{◌≡◌, ℕ, false, List, [], ◌∷◌, ◌++◌, length, refl, sym, subst}
+use Rattle.std.specs.List.{All}
+use Rattle.access_slots.specs.declared.op.Wire.{Wire}
+use Rattle.access_slots.specs.declared.op.Reply.{Reply}
+use Rattle.access_slots.specs.declared.op.News.{News}
+use Rattle.tc_log.specs.declared.event.Event.{Event}
+use Rattle.history.specs.Places.{Begins}
+use Rattle.data_component.specs.Store.{Store}
 use Rattle.transactions.specs.Legal.{Legal}
 use Rattle.transactions.specs.Reached.{AllGood}
+use Rattle.serial.specs.Audit.{IsAgreed}
 use Rattle.serial.proofs.BackLemmas.{legal_first}
+use Rattle.tc_core.specs.declared.recovery.SiteNote.{SiteNote}
 use Rattle.tc_world.specs.Whole.{Whole}
 use Rattle.tc_world.specs.Marks.{AreMarksLow, IsFresh}
-use Rattle.serial.specs.Audit.{IsAgreed}
-use Rattle.tc_world.specs.OneAtATime.{EachIsKnown, IsOneAtATime}
-use Rattle.tc_world.specs.Recovery.{carrying, come_back, start_over}
-use Rattle.tc_world.specs.Lives.{Move, Takes, Crashes, StartsOver, Lives}
+use Rattle.tc_world.specs.Steps.{Steps}
+use Rattle.tc_world.specs.OneAtATime.{is_forge, EachIsKnown, IsOneAtATime}
+use Rattle.tc_world.specs.Recovery.{IsWritten, come_back, IsNew, start_over}
+use Rattle.tc_world.specs.Lives.{AreAmong, left_with, Move, Takes, Loses, Crashes, StartsOver, Lives, HasLived}
 use Rattle.tc_world.specs.Joining.Listed.{IsListed}
+use Rattle.tc_world.specs.declared.step.Step.{Step}
+use Rattle.tc_world.specs.declared.step.Outcome.{Outcome}
 use Rattle.tc_world.proofs.Marks.{stay_low, fresh_low}
 use Rattle.tc_world.proofs.Listed.{Known, stay_listed, fresh_listed, one_at_a_time, agrees}
-use Rattle.tc_world.proofs.Recovering.{come_back_legal, come_back_low, come_back_listed, carried_listed, start_over_low, start_over_listed}
+use Rattle.tc_world.proofs.Recovering.{come_back_legal, come_back_low, come_back_listed, lost_low, lost_listed, start_over_low, start_over_listed}
 
 -- what each world on the way is
 record Sound (w : Whole) : Type 0 where
@@ -25,13 +36,20 @@ lives [] w v s is = subst Sound (sym is) s
 lives (Takes x ∷ moves) w v s (o, mid, steps, honest, legal, good, rest) =
     let known : Known mid.core = record { legal = legal; good = good } in
     lives moves mid v (record { known = known; low = stay_low w mid x o legal steps s.low; listed = stay_listed w mid x o known honest steps s.listed }) rest
-lives (Crashes first notes xs ∷ moves) w v s (are, written, rest) =
-    let w' = carrying xs w in
-    lives moves (come_back first notes w') v
+lives (Loses xs rs ns ∷ moves) w v s (wires, replies, news, rest) =
+    lives moves (left_with xs rs ns w) v
     (record {
-      known = record { legal = come_back_legal w' first notes s.known.legal written; good = s.known.good };
-      low = come_back_low w' first notes written;
-      listed = come_back_listed w' first notes s.known.good s.known.legal written (carried_listed w xs are s.listed);
+      known = record { legal = s.known.legal; good = s.known.good };
+      low = lost_low w xs rs ns wires news s.low;
+      listed = lost_listed w xs rs ns wires replies news s.listed;
+    })
+    rest
+lives (Crashes first notes ∷ moves) w v s (written, rest) =
+    lives moves (come_back first notes w) v
+    (record {
+      known = record { legal = come_back_legal w first notes s.known.legal written; good = s.known.good };
+      low = come_back_low w first notes written;
+      listed = come_back_listed w first notes s.known.good s.known.legal written s.listed;
     })
     rest
 lives (StartsOver first dcs ∷ moves) w v s (begins, new, many, rest) =
@@ -46,14 +64,44 @@ lives (StartsOver first dcs ∷ moves) w v s (begins, new, many, rest) =
 fresh_sound : (w : Whole) → IsFresh w → AllGood w.core.procs → Sound w
 fresh_sound w fresh good = record { known = record { legal = subst (Legal w.core.procs) (sym fresh.events) tt; good = good }; low = fresh_low w fresh; listed = fresh_listed w fresh }
 
-pub living_legal : (moves : List Move) (w v : Whole) → IsFresh w → AllGood w.core.procs → Lives moves w v → Legal v.core.procs v.core.events
-living_legal moves w v fresh good is = (lives moves w v (fresh_sound w fresh good) is).known.legal
+sound : (w : Whole) → HasLived w → Sound w
+sound w l = lives l.moves l.first w (fresh_sound l.first l.fresh l.good) l.lives
 
-pub living_low : (moves : List Move) (w v : Whole) → IsFresh w → AllGood w.core.procs → Lives moves w v → AreMarksLow v
-living_low moves w v fresh good is = (lives moves w v (fresh_sound w fresh good) is).low
+pub living_legal : (w : Whole) → HasLived w → Legal w.core.procs w.core.events
+living_legal w l = (sound w l).known.legal
 
-pub living_serial : (moves : List Move) (w v : Whole) → IsFresh w → AllGood w.core.procs → Lives moves w v → IsOneAtATime v
-living_serial moves w v fresh good is = (let s = lives moves w v (fresh_sound w fresh good) is in one_at_a_time v s.known s.listed)
+pub living_low : (w : Whole) → HasLived w → AreMarksLow w
+living_low w l = (sound w l).low
 
-pub living_agreed : (moves : List Move) (w v : Whole) → IsFresh w → AllGood w.core.procs → Lives moves w v → EachIsKnown v → IsAgreed v.core.procs v.core.events v.dcs
-living_agreed moves w v fresh good is each = (let s = lives moves w v (fresh_sound w fresh good) is in agrees v s.known s.listed each)
+pub living_serial : (w : Whole) → HasLived w → IsOneAtATime w
+living_serial w l = (let s = sound w l in one_at_a_time w s.known s.listed)
+
+pub living_agreed : (w : Whole) → HasLived w → EachIsKnown w → IsAgreed w.core.procs w.core.events w.dcs
+living_agreed w l each = (let s = sound w l in agrees w s.known s.listed each)
+
+-- ---- one move more
+
+on : (moves more : List Move) (u w v : Whole) → Lives moves u w → Lives more w v → Lives (moves ++ more) u v
+on [] more u w v is next = subst (λ (z : Whole). Lives more z v) is next
+on (Takes x ∷ moves) more u w v (o, mid, steps, honest, legal, good, rest) next = (o, mid, steps, honest, legal, good, on moves more mid w v rest next)
+on (Loses xs rs ns ∷ moves) more u w v (wires, replies, news, rest) next = (wires, replies, news, on moves more (left_with xs rs ns u) w v rest next)
+on (Crashes first notes ∷ moves) more u w v (written, rest) next = (written, on moves more (come_back first notes u) w v rest next)
+on (StartsOver first dcs ∷ moves) more u w v (begins, new, many, rest) next = (begins, new, many, on moves more (start_over first dcs u) w v rest next)
+
+lived_on : (w v : Whole) (m : Move) → HasLived w → Lives (m ∷ []) w v → HasLived v
+lived_on w v m l next = record { first = l.first; fresh = l.fresh; good = l.good; moves = l.moves ++ m ∷ []; lives = on l.moves (m ∷ []) l.first w v l.lives next }
+
+pub fresh_lived : (w : Whole) → IsFresh w → AllGood w.core.procs → HasLived w
+fresh_lived w fresh good = record { first = w; fresh = fresh; good = good; moves = []; lives = refl }
+
+pub step_lived : (w v : Whole) (x : Step) (o : Outcome) → Known v.core → is_forge x ≡ false → Steps w x o v → HasLived w → HasLived v
+step_lived w v x o known honest steps l = lived_on w v (Takes x) l (o, v, steps, honest, known.legal, known.good, refl)
+
+pub loss_lived : (w : Whole) (xs : List Wire) (rs : List Reply) (ns : List (ℕ × News)) → AreAmong xs w.copies → AreAmong rs w.replies → AreAmong ns w.news → HasLived w → HasLived (left_with xs rs ns w)
+loss_lived w xs rs ns wires replies news l = lived_on w (left_with xs rs ns w) (Loses xs rs ns) l (wires, replies, news, refl)
+
+pub crash_lived : (w : Whole) (first : List Event) (notes : List SiteNote) → IsWritten first notes w → HasLived w → HasLived (come_back first notes w)
+crash_lived w first notes written l = lived_on w (come_back first notes w) (Crashes first notes) l (written, refl)
+
+pub over_lived : (w : Whole) (first : List Event) (dcs : List Store) → Begins first w.core.events → All IsNew dcs → length dcs ≡ length w.dcs → HasLived w → HasLived (start_over first dcs w)
+over_lived w first dcs begins new many l = lived_on w (start_over first dcs w) (StartsOver first dcs) l (begins, new, many, refl)

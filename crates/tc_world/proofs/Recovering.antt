@@ -19,6 +19,7 @@ use Rattle.serial.specs.Serial.{done, Honest}
 use Rattle.history.specs.Places.{Begins}
 use Rattle.serial.specs.Lists.{logged, dc_of}
 use Rattle.serial.specs.Joining.Site.{Over, SiteOk}
+use Rattle.serial.specs.Joining.Sites.{ReplyOk, NewsOk}
 use Rattle.serial.proofs.RedoneLemmas.{over_low}
 use Rattle.serial.proofs.BackLemmas.{Earlier, earlier, legal_first, honest_first, logged_some}
 use Rattle.serial.proofs.BackSites.{IsBegun, IsNotedOf, RestsOn, IsUpTo, over_less, ok_back, site_new}
@@ -27,8 +28,8 @@ use Rattle.tc_core.specs.declared.recovery.SiteNote.TheVariants.{Restarted}
 use Rattle.tc_core.specs.Recovery.{site_noted}
 use Rattle.tc_world.specs.Whole.{Whole}
 use Rattle.tc_world.specs.Marks.{IsLow, AreMarksLow}
-use Rattle.tc_world.specs.Recovery.{IsWrittenFor, IsWrittenAt, IsNotYetUp, IsNoted, Noted, NotYetUp, IsWritten, begun_anew, anew, come_back, carrying, IsNew, start_over}
-use Rattle.tc_world.specs.Lives.{AreCopies}
+use Rattle.tc_world.specs.Recovery.{IsWrittenFor, IsWrittenAt, IsNotYetUp, IsNoted, Noted, NotYetUp, IsWritten, begun_anew, anew, come_back, IsNew, start_over}
+use Rattle.tc_world.specs.Lives.{AreAmong, left_with}
 use Rattle.tc_world.specs.Joining.Listed.{IsListed}
 use Rattle.tc_world.proofs.Marks.{all_at}
 use Rattle.tc_world.proofs.Listed.{IsCopy}
@@ -158,16 +159,28 @@ come_back_listed w first notes good legal written s =
     noted : (d : ℕ) → IsNotedOf (low_water first) d w.dcs w.copies (site_at w.core.sites d) (site_at (map site_noted notes) d)
     noted d = noted_of (low_water first) d w _ _ (low_by (low_water first) w.core.sites d (slice_get w.core.sites d) refl written.redo) (written.sites d)
 
--- ---- wires that were made and never carried
+-- ---- messages that are lost
 
-pub carried_listed : (w : Whole) (xs : List Wire) → AreCopies xs w → IsListed w → IsListed (carrying xs w)
-carried_listed w xs are s = record {
+among_all : {X : Type 0} (P : X → Type 0) (xs ys : List X) → AreAmong xs ys → All P ys → All P xs
+among_all P xs ys are all k x inside = (let j = are k _ (read_in xs k x inside) in all_at P ys j.0 _ j.1 all)
+
+pub lost_low : (w : Whole) (xs : List Wire) (rs : List Reply) (ns : List (ℕ × News)) → AreAmong xs w.copies → AreAmong ns w.news → AreMarksLow w → AreMarksLow (left_with xs rs ns w)
+lost_low w xs rs ns wires news low = record {
+  copies = among_all (λ (x : Wire). x.low_water ≤ low_water w.core.events) xs w.copies wires low.copies;
+  dcs = low.dcs;
+  saved = low.saved;
+  news = among_all (λ (x : ℕ × News). x.1.mark ≤ low_water w.core.events) ns w.news news low.news;
+  redo = low.redo;
+}
+
+pub lost_listed : (w : Whole) (xs : List Wire) (rs : List Reply) (ns : List (ℕ × News)) → AreAmong xs w.copies → AreAmong rs w.replies → AreAmong ns w.news → IsListed w → IsListed (left_with xs rs ns w)
+lost_listed w xs rs ns wires replies news s = record {
   honest = s.honest;
   ok = record {
     v = s.ok.v;
-    copies = λ k x inside. (let j = are k _ (read_in xs k x inside) in all_at (IsCopy w s.ok.v) w.copies j.0 _ j.1 s.ok.copies);
-    replies = s.ok.replies;
-    news = s.ok.news;
+    copies = among_all (IsCopy w s.ok.v) xs w.copies wires s.ok.copies;
+    replies = among_all (ReplyOk (logged w.core.events) w.core.sites w.dcs s.ok.v) rs w.replies replies s.ok.replies;
+    news = among_all (NewsOk (logged w.core.events) (open_op w.core.events) (done w.core.events) (given w.core.events) w.core.sites w.dcs) ns w.news news s.ok.news;
     stores = s.ok.stores;
     said = s.ok.said;
     there = s.ok.there;

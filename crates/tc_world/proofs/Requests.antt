@@ -50,7 +50,7 @@ is_there (x ∷ xs) n r e = elim (cases_eq x.number n) [
   | inr other ↦ (let ih = is_there xs n r (sym (cond-false _ _ _ (eq-false x.number n other)) ∙ e) in record { k = suc ih.k; at = ih.at })
 ]
 
-push_other : (rs : List Asking) (r : Asking) (n : ℕ) → r.number ≢ n → request_of (rs ++ r ∷ []) n ≡ request_of rs n
+pub push_other : (rs : List Asking) (r : Asking) (n : ℕ) → r.number ≢ n → request_of (rs ++ r ∷ []) n ≡ request_of rs n
 push_other [] r n other = cond-false _ _ _ (eq-false r.number n other)
 push_other (x ∷ xs) r n other = elim (cases_eq x.number n) [
   | inl same ↦ (let t = eq-true x.number n same in cond-true _ _ _ t ∙ sym (cond-true _ (Some x) (request_of xs n) t))
@@ -63,11 +63,11 @@ not_first x xs n none same = none_some _ x none (cond-true _ (Some x) (request_o
 none_behind : (x : Asking) (xs : List Asking) (n : ℕ) → request_of (x ∷ xs) n ≡ None → request_of xs n ≡ None
 none_behind x xs n none = sym (cond-false _ (Some x) (request_of xs n) (eq-false x.number n (not_first x xs n none))) ∙ none
 
-push_new : (rs : List Asking) (r : Asking) → request_of rs r.number ≡ None → request_of (rs ++ r ∷ []) r.number ≡ Some r
+pub push_new : (rs : List Asking) (r : Asking) → request_of rs r.number ≡ None → request_of (rs ++ r ∷ []) r.number ≡ Some r
 push_new [] r none = cond-true _ _ _ (eq-true r.number r.number refl)
 push_new (x ∷ xs) r none = cond-false _ _ _ (eq-false x.number r.number (not_first x xs r.number none)) ∙ push_new xs r (none_behind x xs r.number none)
 
-distinct_push : (rs : List Asking) (r : Asking) → Distinct rs → request_of rs r.number ≡ None → Distinct (rs ++ r ∷ [])
+pub distinct_push : (rs : List Asking) (r : Asking) → Distinct rs → request_of rs r.number ≡ None → Distinct (rs ++ r ∷ [])
 distinct_push [] r once none = (refl, tt)
 distinct_push (x ∷ xs) r once none = (
   push_other xs r x.number (λ e. not_first x xs r.number none (sym e)) ∙ once.0,

@@ -76,10 +76,6 @@ pub record IsWritten (first : List Event) (notes : List SiteNote) (w : Whole) : 
 abbrev pub come_back : List Event → List SiteNote → Whole → Whole
 come_back first notes w = record w { core = recovered w.core first notes }
 
--- the world with these wires alone
-abbrev pub carrying : List Wire → Whole → Whole
-carrying xs w = record w { copies = xs }
-
 -- a data component that has restarted, before which nothing is left
 pub record IsNew (s : Store) : Type 0 where
   pub list : s.list ≡ []

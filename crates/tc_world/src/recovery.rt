@@ -12,39 +12,51 @@
 //! use Rattle.tc_world.proofs.Recovering.{come_back_low}
 //! ```
 
-ghost use Rattle.std.specs.Prelude.{◌≡◌, false, List};
+ghost use Rattle.std.specs.Prelude.{◌≡◌, ℕ, false, List, length};
 ghost use Rattle.std.specs.List.{All};
 ghost use Rattle.access_slots.specs.declared.op.Wire.{Wire as WireValue};
+ghost use Rattle.access_slots.specs.declared.op.Reply.{Reply as ReplyValue};
+ghost use Rattle.access_slots.specs.declared.op.News.{News as NewsValue};
 ghost use Rattle.tc_log.specs.declared.event.Event.{Event as EventValue};
 ghost use Rattle.verifier.specs.Checked.{Checked};
 ghost use Rattle.history.specs.Flight.{low_water};
 ghost use Rattle.history.specs.Places.{Begins};
+ghost use Rattle.data_component.specs.Store.{Store};
 ghost use Rattle.transactions.specs.Legal.{Legal};
 ghost use Rattle.transactions.specs.Reached.{AllGood};
+ghost use Rattle.serial.specs.Audit.{IsAgreed};
 ghost use Rattle.tc_core.specs.declared.recovery.SiteNote.{SiteNote};
 ghost use Rattle.tc_world.specs.Whole.{Whole};
 ghost use Rattle.tc_world.specs.Steps.{Steps};
 ghost use Rattle.tc_world.specs.Marks.{AreMarksLow, IsFresh};
-ghost use Rattle.serial.specs.Audit.{IsAgreed};
 ghost use Rattle.tc_world.specs.OneAtATime.{is_forge, EachIsKnown, IsOneAtATime};
-ghost use Rattle.tc_world.specs.Recovery.{IsWrittenFor, AreNoted, IsWritten, come_back};
-ghost use Rattle.tc_world.specs.Lives.{Move, Lives};
+ghost use Rattle.tc_world.specs.Recovery.{IsWrittenFor, AreNoted, IsWritten, come_back, IsNew, start_over};
+ghost use Rattle.tc_world.specs.Lives.{AreAmong, left_with, HasLived};
 ghost use Rattle.tc_world.specs.declared.step.Step.{Step as StepValue};
 ghost use Rattle.tc_world.specs.declared.step.Outcome.{Outcome as OutcomeValue};
 
-/// From a fresh world on, whatever happens and however often its transaction component crashes and
-/// comes back, as long as each crash finds written all that was carried, or the data components died
+/// Whatever happened to a world since it was fresh, and however often its transaction component crashed
+/// and came back, as long as each crash found written all that was carried, or the data components died
 /// too and new ones were restarted: its log is legal, its marks are low, calls run one at a time, and
 /// where each data component is up and of the incarnation that is known, the log and the data
 /// components agree in all that an audit compares.
 pub fn crashes_are_survived()
-    ensures legal { (moves : List Move) (w v : Whole) → IsFresh w → AllGood w.core.procs → Lives moves w v
-        → Legal v.core.procs v.core.events }
-    ensures marks { (moves : List Move) (w v : Whole) → IsFresh w → AllGood w.core.procs → Lives moves w v → AreMarksLow v }
-    ensures one_at_a_time { (moves : List Move) (w v : Whole) → IsFresh w → AllGood w.core.procs → Lives moves w v
-        → IsOneAtATime v }
-    ensures agreed { (moves : List Move) (w v : Whole) → IsFresh w → AllGood w.core.procs → Lives moves w v → EachIsKnown v
-        → IsAgreed v.core.procs v.core.events v.dcs }
+    ensures legal { (w : Whole) → HasLived w → Legal w.core.procs w.core.events }
+    ensures marks { (w : Whole) → HasLived w → AreMarksLow w }
+    ensures one_at_a_time { (w : Whole) → HasLived w → IsOneAtATime w }
+    ensures agreed { (w : Whole) → HasLived w → EachIsKnown w → IsAgreed w.core.procs w.core.events w.dcs }
+{}
+
+/// What a world lives through: it is fresh; it takes steps, no reply forged (`World::run`); messages are
+/// lost; its transaction component crashes and comes back; its data components die too.
+pub fn lives_on()
+    ensures fresh { (w : Whole) → IsFresh w → AllGood w.core.procs → HasLived w }
+    ensures lost { (w : Whole) (xs : List WireValue) (rs : List ReplyValue) (ns : List (ℕ × NewsValue)) → AreAmong xs w.copies
+        → AreAmong rs w.replies → AreAmong ns w.news → HasLived w → HasLived (left_with xs rs ns w) }
+    ensures back { (w : Whole) (first : List EventValue) (notes : List SiteNote) → IsWritten first notes w → HasLived w
+        → HasLived (come_back first notes w) }
+    ensures over { (w : Whole) (first : List EventValue) (dcs : List Store) → Begins first w.core.events → All IsNew dcs
+        → length dcs ≡ length w.dcs → HasLived w → HasLived (start_over first dcs w) }
 {}
 
 /// A beginning of a legal log is legal; a world whose transaction component comes back from what was

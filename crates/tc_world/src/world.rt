@@ -12,6 +12,7 @@ ghost use Rattle.transactions.specs.Room.{each_one, total};
 ghost use Rattle.tc_world.specs.Marks.{AreMarksLow, IsFresh, IsOpenAboveMarks};
 ghost use Rattle.serial.specs.Audit.{IsAgreed};
 ghost use Rattle.tc_world.specs.OneAtATime.{is_forge, NoForge, EachIsKnown, IsOneAtATime};
+ghost use Rattle.tc_world.specs.Lives.{HasLived};
 ghost use Rattle.tc_world.specs.Joining.Listed.{IsListed};
 ghost use Rattle.tc_world.specs.Steps.{Goes, Stops, Steps, IsIllegal, Runs, StopsAt};
 ghost use Rattle.tc_world.specs.Steps as Steps;
@@ -19,6 +20,7 @@ ghost use Rattle.tc_core.specs.Redo.{IsRedone};
 ghost use Rattle.tc_world.specs.declared.step.Illegal.TheVariants as illegal;
 ghost use Rattle.tc_world.specs.declared.step.Step.TheVariants as step;
 
+use crate::again::make_again;
 use crate::asking::{find_number, find_txn};
 use crate::parts::{at, checkpoint_at, is_spent_at, perform_at, restart_at};
 use crate::step::{Illegal, Outcome, Step};
@@ -26,7 +28,7 @@ use crate::taking::{hears, redone_somewhere};
 use crate::telling::{make_room, tell};
 use access_slots::op::{News, Reply, Wire};
 use data_component::dc::Dc;
-use std::alloc::Global;
+use std::alloc::{AllocError, Global};
 use std::marker::Model;
 use tc_core::state::{Call, NewsFault, Redo, Request, TcState};
 
@@ -72,6 +74,24 @@ impl World {
             news: Vec::new(alloc),
             requests: Vec::new(alloc),
         }
+    }
+
+    /// A world of a state that came back, whose transactions may be open: what they wait for is made
+    /// again. Nothing that was sent before is left.
+    pub fn resumed(alloc: Global, state: TcState, dcs: Vec<Dc>) -> Result<World, AllocError>
+        ensures { IfOk result (λ w. w ≡ record { core = state; dcs = dcs.items; copies = []; replies = []; news = [] }) }
+    {
+        state.known();
+        let mut requests = Vec::with_capacity(alloc, state.admitted() as usize)?;
+        make_again(&state, &mut requests);
+        Ok(World {
+            state,
+            dcs,
+            copies: Vec::new(alloc),
+            replies: Vec::new(alloc),
+            news: Vec::new(alloc),
+            requests,
+        })
     }
 
     /// The transaction component.
@@ -356,6 +376,7 @@ impl World {
         ensures why { IfErr result (λ i. IsIllegal self.old step.now i) }
         ensures marks { AreMarksLow self.old → AreMarksLow self.new }
         ensures listed { is_forge step.now ≡ false → IsListed self.old → IsListed self.new }
+        ensures lived { is_forge step.now ≡ false → HasLived self.old → HasLived self.new }
     {
         let outcome = self.try_step(step)?;
         self.state.known();
@@ -377,7 +398,8 @@ impl World {
     /// where its number is open, and no two conflict. From a fresh world, with no reply forged, the calls
     /// that ended are as if they were run one after another, in the order of their ends, however often
     /// data components restarted; and where each data component is up, and of the incarnation that is
-    /// known, the log and the data components agree in all that an audit compares.
+    /// known, the log and the data components agree in all that an audit compares. A world that has lived
+    /// through steps, losses and crashes has lived through these steps too.
     pub fn run(&mut self, steps: &[Step]) -> Result<(), (usize, Illegal)>
         ensures ok { OnOk result (Runs self.old steps.now self.new) }
         ensures err { IfErr result (λ e. StopsAt self.old steps.now e.0 e.1 self.new) }
@@ -394,6 +416,7 @@ impl World {
         ensures one_at_a_time { IsFresh self.old → NoForge steps.now → IsOneAtATime self.new }
         ensures agreed { IsFresh self.old → NoForge steps.now → EachIsKnown self.new
             → IsAgreed self.new.core.procs self.new.core.events self.new.dcs }
+        ensures lived { NoForge steps.now → HasLived self.old → HasLived self.new }
     {
         for (k, step) in steps.iter().enumerate() {
             match self.keep_step(step) {

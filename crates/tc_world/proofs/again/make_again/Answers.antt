@@ -1,0 +1,17 @@
+use Rattle.std.proofs.Common.{◌≡◌, List, ◌++◌, option_to_list, sym, ◌∙◌, subst}
+use Rattle.tc_core.specs.Core.{Asking}
+use Rattle.tc_world.proofs.Again.{AreMade, none_made, all_made, one_made}
+use Rattle.tc_world.proofs.again.make_again.Goals as goal
+
+pub loop-done-init : goal.loop-done-init
+loop-done-init c = (none_made c.args.state.now.procs c.args.state.now.events c.args.requests.old.items c.known.ensures.legal c.requires.none, refl)
+
+pub loop-done-preserved : goal.loop-done-preserved
+loop-done-preserved c = (
+  subst (λ (rs : List Asking). AreMade rs c.args.state.now.events (c.loop-done.done + 1)) (sym c.push.ensures.items)
+      (one_made c.args.state.now.procs c.args.state.now.events c.loop-done.requests.items c.loop-done.done c.request_of.result c.known.ensures.legal c.loop-done.invariant.0 c.request_of.ensures),
+  c.push.ensures.capacity ∙ c.loop-done.invariant.1,
+)
+
+pub returns : goal.returns
+returns c = all_made c.args.state.now.procs c.args.state.now.events c.loop-done.requests.items c.loop-done.done c.known.ensures.legal (c.loop-done.end ∙ c.admitted.ensures) c.loop-done.invariant.0

@@ -1,0 +1,1 @@
+use Rattle.tc_world.proofs.world.World.resumed.Goals as goal
