@@ -5,6 +5,7 @@
 //! | `step_tests` | `tc_world`: the steps of a world, one by one |
 //! | `restart_tests` | `tc_world`: restarts that lose what came after the last checkpoint, and redo |
 //! | `redo_tests` | `tc_world`: what a redo leaves out |
+//! | `crash_tests` | `tc_world`: a transaction component that comes back from its log |
 //! | `memory_tests` | `tc_world`: steps that are refused memory |
 //! | `audit_tests` | `audit`: short logs and what it says of them |
 //!
@@ -13,6 +14,8 @@
 
 #[cfg(test)]
 mod audit_tests;
+#[cfg(test)]
+mod crash_tests;
 #[cfg(test)]
 mod memory_tests;
 #[cfg(test)]
