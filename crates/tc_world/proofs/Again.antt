@@ -55,7 +55,7 @@ none_made ps h rs legal none = subst (λ (xs : List Asking). AreMade xs h 0) (sy
     by n None is = refl
     by n (Some f) is = sym (later 0 n f (of_admitted ps h legal n f is).0)
 
-pub all_made : (ps : List Checked) (h : List Event) (rs : List Asking) (k : ℕ) → Legal ps h → k ≡ admitted h → AreMade rs h k → AreWaiting rs h
+pub all_made : (ps : List Checked) (h : List Event) (rs : List Asking) (k : ℕ) → Legal ps h → admitted h ≤ k → AreMade rs h k → AreWaiting rs h
 all_made ps h rs k legal all m = record { each = λ n. m.each n ∙ by n (open_op h n) refl; once = m.once }
   where
     by : (n : ℕ) (o : Option Flight) → open_op h n ≡ o → asking_up_to k n o ≡ asking_by n o

@@ -1,10 +1,10 @@
-use Rattle.std.proofs.Common.{◌≡◌, List, ◌++◌, option_to_list, sym, ◌∙◌, subst}
+use Rattle.std.proofs.Common.{◌≡◌, ◌+◌, List, ◌++◌, option_to_list, arith, refl, sym, ◌∙◌, subst}
 use Rattle.tc_core.specs.Core.{Asking}
 use Rattle.tc_world.proofs.Again.{AreMade, none_made, all_made, one_made}
 use Rattle.tc_world.proofs.again.make_again.Goals as goal
 
 pub loop-done-init : goal.loop-done-init
-loop-done-init c = (none_made c.args.state.now.procs c.args.state.now.events c.args.requests.old.items c.known.ensures.legal c.requires.none, refl)
+loop-done-init c = (none_made c.args.state.now.procs c.args.state.now.events c.args.requests.now.items c.known.ensures.legal c.requires.none, refl)
 
 pub loop-done-preserved : goal.loop-done-preserved
 loop-done-preserved c = (
@@ -14,4 +14,7 @@ loop-done-preserved c = (
 )
 
 pub returns : goal.returns
-returns c = all_made c.args.state.now.procs c.args.state.now.events c.loop-done.requests.items c.loop-done.done c.known.ensures.legal (c.loop-done.end ∙ c.admitted.ensures) c.loop-done.invariant.0
+returns c =
+    let all = c.admitted-done-end.ensures in
+    let end = c.loop-done-test.false in
+    all_made c.args.state.now.procs c.args.state.now.events c.loop-done.requests.items c.loop-done.done c.known.ensures.legal (omega (arith, all, end)) c.loop-done.invariant.0

@@ -1,1 +1,0 @@
-use Rattle.tc_world.proofs.world.World.resumed.Goals as goal
