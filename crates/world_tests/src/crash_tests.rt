@@ -47,14 +47,26 @@ fn is_carried(world: &mut World, place: usize) -> bool {
     world.step(&Step::Take(reply)).is_ok()
 }
 
+// The place of the wire that a step sends.
+fn sent(world: &mut World, step: &Step) -> Option<usize> {
+    match world.step(step) {
+        Ok(Outcome::Sent(place, _)) => Some(place),
+        _ => None,
+    }
+}
+
 // One operation more: the one that is open, the next, or one that undoes.
 fn moves(world: &mut World, txn: u64) -> bool {
-    for step in [Step::Resend(txn), Step::Ask(txn), Step::Undo(txn)] {
-        if let Ok(Outcome::Sent(place, _)) = world.step(&step) {
-            return is_carried(world, place);
-        }
+    if let Some(place) = sent(world, &Step::Resend(txn)) {
+        return is_carried(world, place);
     }
-    false
+    if let Some(place) = sent(world, &Step::Ask(txn)) {
+        return is_carried(world, place);
+    }
+    match sent(world, &Step::Undo(txn)) {
+        Some(place) => is_carried(world, place),
+        None => false,
+    }
 }
 
 fn ends(world: &mut World, txn: u64) {
