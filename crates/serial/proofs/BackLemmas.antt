@@ -1,7 +1,7 @@
 -- What stands beside a log stands beside the same log without its last events, once it lacks the entries of numbers that these gave out.
-use Rattle.std.proofs.Common.{◌≡◌, ◌≢◌, ◌⊎◌, ℕ, zero, suc, ◌+◌, ◌<◌, ◌≤◌, Bool, true, false, ◌&&◌, List, [], ◌∷◌, ◌++◌, Option, Some, None, arith, refl, sym, ◌∙◌, ap, subst, inl, inr, ◌==◌, if◌then◌else◌}
+use Rattle.std.proofs.Common.{◌≡◌, ◌≢◌, ◌⊎◌, ℕ, ◌+◌, ◌<◌, ◌≤◌, Bool, true, false, ◌&&◌, List, [], ◌∷◌, ◌++◌, Option, Some, None, arith, refl, sym, ◌∙◌, ap, subst, inl, inr, ◌==◌, if◌then◌else◌}
 use Rattle.std.specs.Prelude.{slice_get}
-use Rattle.std.proofs.lemmas.Bool.{cases_eq, cond-true, cond-false}
+use Rattle.std.proofs.lemmas.Bool.{cases_eq, cond-false}
 use Rattle.access_slots.specs.declared.slot.Record.{Record}
 use Rattle.access_slots.specs.declared.op.Op.{Op}
 use Rattle.access_slots.specs.declared.op.Said.{Said}
@@ -27,7 +27,7 @@ use Rattle.serial.specs.Joining.Behind.{Behind, IsEnd, NoneDone}
 use Rattle.serial.proofs.LockLemmas.{by_test, both_left, both_right}
 use Rattle.serial.proofs.KeepLemmas.{answered_flight}
 use Rattle.serial.proofs.ListLemmas.{entry_of, under_other, under_same, if_none, if_some, writes_none, writes_added, clash_first, clash_last, applied_apart, same_added}
-use Rattle.serial.proofs.NumberLemmas.{logged_below, flight_logged, flight_absent, done_answer, done_logged, flights}
+use Rattle.serial.proofs.NumberLemmas.{logged_below, flight_logged, flight_absent, done_answer, flights}
 use Rattle.serial.proofs.OrderLemmas.{look, below_writes, done_below, not_read}
 use Rattle.serial.proofs.RedoLemmas.{end_self, writes_absent, writes_stand, honest_write}
 use Rattle.serial.proofs.RedoneLemmas.{none_by}
@@ -268,8 +268,9 @@ module _ (lg : ℕ → Option Op) (fl : ℕ → Option Flight) (dn : List Perfor
 
       -- it was done, and stands: it is the last of the record
       mine_first : (r : Record) → r.dc ≡ d → record_eq (target f.op) r ≡ true → is_done said ≡ true → said_under v n ≡ Some said → writes_on r v ≡ (n, f.op, said) ∷ writes_on r dn
-      mine_first r dc mine did there = by (subst (λ (l : List Performed). IsEnd l (writes_on r v)) (done_here r mine did) (b.oldest r dc (λ m g s is under same did'.
-      clash_last g.op f.op r (a.apart m g (still m g is).1 (still m g is).0) same mine (not_read f.op said a.fit did))))
+      mine_first r dc mine did there =
+          let none : NoneDone (λ m. if n == m then None else fl m) v r = (λ m g s is under same did'. clash_last g.op f.op r (a.apart m g (still m g is).1 (still m g is).0) same mine (not_read f.op said a.fit did)) in
+          by (subst (λ (l : List Performed). IsEnd l (writes_on r v)) (done_here r mine did) (b.oldest r dc none))
         where
           stands : said_under (writes_on r v) n ≡ Some said
           stands = writes_stand r v n f.op said (λ k e at eq. some_same e.1 f.op (sym (b.entries k e at).0 ∙ (ap lg eq ∙ a.logs))) there mine did

@@ -1,15 +1,13 @@
 -- What a world keeps beside a log it keeps beside the same log without its last events, where nothing that was carried rests on these.
-use Rattle.std.proofs.Common.{◌≡◌, ◌⊎◌, ℕ, ◌+◌, ◌≤◌, ◌<◌, true, false, List, [], ◌∷◌, Option, Some, None, arith, refl, sym, ◌∙◌, ap, subst, inl, inr}
+use Rattle.std.proofs.Common.{◌≡◌, ℕ, ◌≤◌, ◌<◌, true, false, List, [], ◌∷◌, Option, Some, None, arith, refl, sym, ◌∙◌, ap, subst, inl, inr}
 use Rattle.std.specs.Prelude.{slice_get}
 use Rattle.std.specs.List.{All}
 use Rattle.access_slots.specs.declared.op.Op.{Op}
-use Rattle.access_slots.specs.declared.op.Said.{Said}
 use Rattle.access_slots.specs.declared.op.Wire.{Wire}
 use Rattle.access_slots.specs.declared.op.Reply.{Reply}
 use Rattle.access_slots.specs.declared.op.News.{News}
 use Rattle.history.specs.Flight.{Flight}
-use Rattle.history.specs.Redo.{is_done}
-use Rattle.data_component.specs.Performed.{Performed, said_under}
+use Rattle.data_component.specs.Performed.{Performed}
 use Rattle.data_component.specs.Store.{Store}
 use Rattle.transactions.specs.declared.Site.{Site}
 use Rattle.transactions.specs.declared.Redoing.{Redoing}
@@ -24,9 +22,9 @@ use Rattle.serial.proofs.CutLemmas.{up_to, under_cut, cut_all, all_below, end_cu
 use Rattle.serial.proofs.BackLemmas.{Earlier}
 
 -- the redo that was noted of data component d, where t is known of it: it begins anew, above the same mark; or that it was over wasn't noted
-pub record IsBegun (low d : ℕ) (dcs : List Store) (t : Site) (r' : Redoing) : Type 0 where
+pub record IsBegun (most d : ℕ) (dcs : List Store) (t : Site) (r' : Redoing) : Type 0 where
   pub anew : r'.redone ≡ r'.mark
-  pub low : r'.mark ≤ low
+  pub low : r'.mark ≤ most
   pub stands : (r : Redoing) → t.redo ≡ Some r → r'.mark ≡ r.mark
   pub there : t.redo ≡ None → (s : Store) × (slice_get dcs d ≡ Some s)
 

@@ -1,5 +1,5 @@
 -- A list without the entries of later numbers.
-use Rattle.std.proofs.Common.{◌≡◌, ◌⊎◌, ℕ, zero, suc, ◌+◌, ◌<◌, ◌≤◌, Bool, true, false, ◌&&◌, List, [], ◌∷◌, Option, Some, None, arith, refl, sym, ◌∙◌, ap, subst, inl, inr, if◌then◌else◌}
+use Rattle.std.proofs.Common.{◌≡◌, ℕ, zero, suc, ◌+◌, ◌<◌, ◌≤◌, Bool, true, false, ◌&&◌, List, [], ◌∷◌, Some, None, arith, refl, sym, ◌∙◌, ap, subst, inl, inr, if◌then◌else◌}
 use Rattle.std.specs.Prelude.{slice_get, nat_lt}
 use Rattle.std.proofs.lemmas.Bool.{cases_eq, cases_lt, cond-true, cond-false}
 use Rattle.std.proofs.lemmas.Bool.Decides.{nat_tests}
@@ -7,7 +7,7 @@ use Rattle.access_slots.specs.declared.slot.Record.{Record}
 use Rattle.access_slots.specs.declared.op.Said.{Said}
 use Rattle.access_slots.specs.Locks.{record_eq, target}
 use Rattle.data_component.specs.Performed.{Performed, said_under}
-use Rattle.transactions.proofs.StandingLemmas.{some_same, none_some}
+use Rattle.transactions.proofs.StandingLemmas.{none_some}
 use Rattle.history.specs.Redo.{is_done}
 use Rattle.serial.specs.Lists.{writes_on, NoTwice, AllBelow}
 use Rattle.serial.specs.Joining.Behind.{IsEnd}

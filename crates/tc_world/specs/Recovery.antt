@@ -44,11 +44,11 @@ anew t = record { incarnation = t.incarnation; redo = begun_anew t.redo }
 
 -- data component d is up, and is noted as down: that its redo is over isn't written yet, and nothing was sent to it since but what its
 -- redo sent
-pub record IsNotYetUp (low : ℕ) (w : Whole) (d : ℕ) (t t' : Site) : Type 0 where
+pub record IsNotYetUp (most : ℕ) (w : Whole) (d : ℕ) (t t' : Site) : Type 0 where
   pub up : t.redo ≡ None
   pub mark : ℕ
   pub noted : t' ≡ record { incarnation = t.incarnation; redo = Some (record { mark = mark; redone = mark }) }
-  pub low : mark ≤ low
+  pub low : mark ≤ most
   pub there : (s : Store) × (slice_get w.dcs d ≡ Some s)
   pub again : All (λ (x : Wire). (target x.op).dc ≡ d → x.incarnation ≡ t.incarnation → x.redo ≡ true) w.copies
 
