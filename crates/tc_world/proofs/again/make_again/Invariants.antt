@@ -1,5 +1,5 @@
 use Rattle.std.proofs.Common.{◌≡◌, vec_capacity}
-use Rattle.tc_world.proofs.Again.{AreMade}
+use Rattle.tc_world.proofs.MadeAgain.{AreMade}
 use Rattle.tc_world.proofs.again.make_again.Given as goal
 
 abbrev pub invariant-loop-done : goal.invariant-loop-done
