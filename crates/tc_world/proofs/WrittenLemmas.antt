@@ -1,6 +1,6 @@
 -- The rule of writing ahead: where each wire that a step sends was written for, and what it makes known of a data component was noted, what
 -- was written tells of all that was carried, step after step.
-use Rattle.std.proofs.Common.{◌≡◌, ◌≢◌, ℕ, ◌+◌, ◌≤◌, ◌<◌, Bool, true, false, ◌&&◌, ◌==◌, List, [], ◌∷◌, ◌++◌, map, Option, Some, None, arith, refl, sym, ◌∙◌, subst, ap, if◌then◌else◌, inl, inr}
+use Rattle.std.proofs.Common.{◌≡◌, ℕ, ◌+◌, ◌≤◌, Bool, true, false, ◌&&◌, ◌==◌, List, [], ◌∷◌, ◌++◌, Option, Some, None, arith, refl, sym, ◌∙◌, subst, ap, if◌then◌else◌, inl, inr}
 use Rattle.std.specs.Prelude.{◌^◌, slice_get, slice_set, nat_le, Result, Ok, Err}
 use Rattle.std.specs.List.{All}
 use Rattle.std.proofs.lemmas.Bool.{cases_eq}
@@ -32,7 +32,7 @@ use Rattle.serial.proofs.ListLemmas.{if_none, if_some}
 use Rattle.serial.proofs.StoreLemmas.{PerformCase, old, silent, again, news, perform_case, says}
 use Rattle.serial.proofs.WireLemmas.{reply_facts}
 use Rattle.serial.proofs.BackLemmas.{given_more, legal_first}
-use Rattle.tc_core.specs.Core.{Core, Asking}
+use Rattle.tc_core.specs.Core.{Core}
 use Rattle.tc_core.specs.Replies.{with_event, ask_reply, after_ask, undo_reply, after_undo, end_of, is_heard}
 use Rattle.tc_core.specs.Lent.{wire_of}
 use Rattle.tc_core.specs.Redo.{with_site, news_fault, down_by, after_told, redo_wire, sends_again, redo_by, redo_at, up_again, after_redo, redone_to, redone_at}
@@ -46,8 +46,8 @@ use Rattle.tc_core.specs.declared.state.Redo.TheVariants as redo
 use Rattle.tc_world.specs.Whole.{Whole}
 use Rattle.tc_world.specs.Marks.{IsLow, IsFresh}
 use Rattle.tc_world.specs.OneAtATime.{is_forge}
-use Rattle.tc_world.specs.Recovery.{IsWrittenFor, IsWrittenAt, IsNotYetUp, IsNoted, Noted, NotYetUp, AreNoted, IsWritten, begun_anew, anew, come_back}
-use Rattle.tc_world.specs.Steps.{Goes, Stops, Steps, with_core, with_dcs, with_copy, with_reply, with_news, told, sends_or_holds, ends_by}
+use Rattle.tc_world.specs.Recovery.{IsWrittenFor, IsWrittenAt, IsNoted, Noted, NotYetUp, AreNoted, IsWritten, begun_anew, anew, come_back}
+use Rattle.tc_world.specs.Steps.{Goes, Steps, with_core, with_dcs, with_copy, with_reply, with_news, told, sends_or_holds, ends_by}
 use Rattle.tc_world.specs.Steps.{resends_wire, resends_sent, resends_by, dc_of, gets_reply, performs_at, performs_copy}
 use Rattle.tc_world.specs.Steps.{takes_answer, TakesRedo, TakesBy, TakesReply, restarts_as, restarts_at, checkpoints_at}
 use Rattle.tc_world.specs.Steps.{tells_unless, tells_news, redoes_by}

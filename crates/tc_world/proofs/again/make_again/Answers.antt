@@ -1,4 +1,4 @@
-use Rattle.std.proofs.Common.{◌≡◌, ◌+◌, List, ◌++◌, option_to_list, arith, refl, sym, ◌∙◌, subst}
+use Rattle.std.proofs.Common.{◌+◌, List, arith, refl, sym, ◌∙◌, subst}
 use Rattle.tc_core.specs.Core.{Asking}
 use Rattle.tc_world.proofs.MadeAgain.{AreMade, none_made, all_made, one_made}
 use Rattle.tc_world.proofs.again.make_again.Goals as goal
