@@ -1,2 +1,4 @@
-pub mod Batch
+pub mod Bytes
+pub mod Procedures
 pub mod Reading
+pub mod Joining

@@ -1,117 +1,107 @@
 // The log that payloads say.
 
-ghost use Rattle.std.specs.Prelude.{◌≡◌, reverse, IfOk};
+ghost use Rattle.std.specs.Prelude.{◌≡◌, ◌%◌, length, reverse, IfOk, IfErr};
 ghost use Rattle.frame_file.specs.Reading.{payloads_in};
-ghost use Rattle.log_file.specs.Reading.{AreBatches, Says};
+ghost use Rattle.frame_file.specs.declared.device.DeviceError.TheVariants.{Memory};
+ghost use Rattle.frame_file.specs.declared.reading.FrameFault.TheVariants.{Device as DeviceFault};
+ghost use Rattle.tc_log.specs.Reading.{ArePrinted, AreOnlyOnes};
+ghost use Rattle.log_file.specs.declared.reading.OpenFault.TheVariants.{Frames as FramesFault};
+ghost use Rattle.log_file.specs.Reading.{Says, IsSayFault};
+ghost use Rattle.log_file.specs.Joining.Fields.{IsRowsFault};
 
-use crate::batch::read_batch;
+use crate::gathering::gather;
 use crate::header::{Header, header_bytes};
-use crate::note::Note;
 use frame_file::{DeviceError, FrameFault};
 use std::alloc::{AllocError, AllocFailed, Global};
+use tc_core::SiteNote;
 use tc_log::log::Log;
 use tc_log::read::LogFault;
 
-/// Why a file isn't read as the log.
+/// Why a file isn't read as a log.
 #[derive(Clone, Copy, Debug, PartialEq, Eq)]
 pub enum OpenFault {
-    /// The frames aren't read.
+    /// Its frames aren't read, or memory ran out.
     Frames(FrameFault),
-    /// There is no frame: a log is begun by `create`.
+    /// There is no frame: a log is begun by [`crate::LogFile::create`].
     Empty,
-    /// The first frame isn't this header: another format, number of data components or procedures.
+    /// The first frame isn't this header's: another format, number of data components, or other
+    /// procedures.
     Other,
-    /// The payload of the frame of this number, the header's being 0, isn't notes and whole rows, or has a
-    /// note of a data component that there isn't.
-    Batch(usize),
-    /// The row of this place in the log is no event's.
+    /// The frame of this number, the header's being 0, is the first that isn't a batch: its notes are cut
+    /// short or of no kind, one is of a data component that there isn't, or its rows are no whole number.
+    NoBatch(usize),
+    /// The row of this place in the log, counted from 0, is the first that is no event's.
     Row(usize),
-    /// The rows are no whole number.
-    Length,
 }
 
 impl From<FrameFault> for OpenFault {
+    ghost from_gives = { λ fault e. e ≡ FramesFault fault };
+
     fn from(fault: FrameFault) -> Self {
         OpenFault::Frames(fault)
     }
 }
 
 impl From<AllocError> for OpenFault {
+    ghost from_gives = { λ _ e. e ≡ FramesFault (DeviceFault Memory) };
+
     fn from(_: AllocError) -> Self {
         OpenFault::Frames(FrameFault::Device(DeviceError::Memory))
     }
 }
 
 impl<T: Drop> From<AllocFailed<T>> for OpenFault {
+    ghost from_gives = { λ _ e. e ≡ FramesFault (DeviceFault Memory) };
+
     fn from(_: AllocFailed<T>) -> Self {
         OpenFault::Frames(FrameFault::Device(DeviceError::Memory))
     }
 }
 
-impl From<LogFault> for OpenFault {
-    fn from(fault: LogFault) -> Self {
-        match fault {
-            LogFault::Length => OpenFault::Length,
-            LogFault::Kind(place) => OpenFault::Row(place),
-            LogFault::Memory => OpenFault::Frames(FrameFault::Device(DeviceError::Memory)),
-        }
-    }
-}
-
-/// What a log's file says.
+/// What a log's file says, for a state to come back with.
 #[derive(Drop)]
 pub struct Recovered {
-    /// The events of all batches, in order.
     pub log: Log,
-    /// The notes of all batches, in order: of each data component the last one counts.
-    pub notes: Vec<Note>,
+    /// Of each data component what its last note says.
+    pub notes: Vec<SiteNote>,
 }
 
-// Notes and rows of all batches.
-#[derive(Drop)]
-struct Gathered {
-    notes: Vec<Note>,
-    rows: Vec<u8>,
-}
-
-fn gather(alloc: Global, payloads: &[Vec<u8>]) -> Result<Gathered, OpenFault>
-    ensures { IfOk result (λ g. AreBatches (payloads_in payloads.now) g.notes.items g.rows.items) }
+// The log of a whole number of rows.
+fn log_of(alloc: Global, rows: &[u8]) -> Result<Log, OpenFault>
+    requires { length rows.now % 96 ≡ 0 }
+    ensures printed { IfOk result (λ log. ArePrinted (reverse log.events) rows.now) }
+    ensures only { IfOk result (λ log. AreOnlyOnes (reverse log.events) rows.now) }
+    ensures fault { IfErr result (IsRowsFault rows.now) }
 {
-    let mut all = Vec::new(alloc);
-    let mut every = Vec::new(alloc);
-    'batches: for place in 0..payloads.len() {
-        let Some((notes, rows)) = read_batch(alloc, &payloads[place])? else {
-            return Err(OpenFault::Batch(place + 1));
-        };
-        all.extend_from_slice(&notes)?;
-        every.extend_from_slice(rows)?;
+    match Log::read(alloc, rows) {
+        Ok(log) => Ok(log),
+        Err(LogFault::Kind(place)) => Err(OpenFault::Row(place)),
+        Err(LogFault::Memory) => Err(OpenFault::Frames(FrameFault::Device(DeviceError::Memory))),
+        Err(LogFault::Length) => unreachable!(),
     }
-    Ok(Gathered {
-        notes: all,
-        rows: every,
-    })
 }
 
-/// The log that these payloads say, the header's first.
-pub fn read_log(
+/// The log and the notes that payloads say which begin with this header's.
+pub(crate) fn read_log(
     alloc: Global,
     header: &Header,
     payloads: &[Vec<u8>],
 ) -> Result<Recovered, OpenFault>
-    ensures { IfOk result (λ r. Says (payloads_in payloads.now) header.now r.notes.items (reverse r.log.events)) }
+    ensures says { IfOk result (λ r. Says header.now (payloads_in payloads.now) r.notes.items (reverse r.log.events)) }
+    ensures fault { IfErr result (IsSayFault header.now (payloads_in payloads.now)) }
 {
     let Some((first, rest)) = payloads.split_first() else {
         return Err(OpenFault::Empty);
     };
     let wanted = header_bytes(alloc, header)?;
-    let is_same = wanted.as_slice() == first.as_slice();
+    let is_same = first.as_slice() == wanted.as_slice();
     if !is_same {
         return Err(OpenFault::Other);
     }
-    let gathered = gather(alloc, rest)?;
-    let log = Log::read(alloc, &gathered.rows)?;
+    let gathered = gather(alloc, header.dcs, rest)?;
+    let log = log_of(alloc, &gathered.rows)?;
     Ok(Recovered {
         log,
-        notes: gathered.notes,
+        notes: gathered.known,
     })
 }
