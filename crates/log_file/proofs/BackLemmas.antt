@@ -97,7 +97,7 @@ tail_back : (b : Batch) → drop 8 (batch_bytes b) ≡ flat_map note_bytes b.not
 unfolding batch_bytes
 tail_back b = refl
 
-abbrev batch_at : List Note → List ℕ → Batch
+abbrev pub batch_at : List Note → List ℕ → Batch
 batch_at notes rows = record { notes = notes; rows = rows }
 
 pub batch_back : (b : Batch) → AreNotes b.notes → length b.notes < 2 ^ 64 → batch_in (batch_bytes b) ≡ b

@@ -52,11 +52,11 @@ headers_tell a b x y same =
 batch_same : (dcs : ℕ) (a b : Batch) → IsBatch dcs a → IsBatch dcs b → batch_bytes a ≡ batch_bytes b → a ≡ b
 batch_same dcs a b x y same = sym (batch_back a x.notes x.count) ∙ (ap batch_in same ∙ batch_back b y.notes y.count)
 
-first_same : (a b : List ℕ) (as bs : List (List ℕ)) → a ∷ as ≡ b ∷ bs → a ≡ b
-first_same a b as bs same = cc
+first_same : (x y : List ℕ) (xs ys : List (List ℕ)) → x ∷ xs ≡ y ∷ ys → x ≡ y
+first_same x y xs ys same = cc
 
-rest_same : (a b : List ℕ) (as bs : List (List ℕ)) → a ∷ as ≡ b ∷ bs → as ≡ bs
-rest_same a b as bs same = cc
+rest_same : (x y : List ℕ) (xs ys : List (List ℕ)) → x ∷ xs ≡ y ∷ ys → xs ≡ ys
+rest_same x y xs ys same = cc
 
 -- batches whose payloads begin with those of others begin with them
 continue : (dcs : ℕ) (a b : List Batch) (more : List (List ℕ)) → AreBatches dcs a → AreBatches dcs b → map batch_bytes b ≡ map batch_bytes a ++ more → Continue a b

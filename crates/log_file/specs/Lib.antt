@@ -1,4 +1,3 @@
 pub mod Bytes
-pub mod Procedures
 pub mod Reading
 pub mod Joining

@@ -92,11 +92,17 @@ pub(crate) fn read_batch(
         return Ok(None);
     }
     let again = batch_bytes(alloc, &notes, rows)?;
-    if again.as_slice() == payload {
+    if is_same(&again, payload) {
         Ok(Some((notes, rows)))
     } else {
         Ok(None)
     }
+}
+
+fn is_same(bytes: &[u8], others: &[u8]) -> bool
+    ensures { IsTrue result ↔ (bytes.now ≡ others.now) }
+{
+    bytes == others
 }
 
 // Whether they are notes of so many data components.

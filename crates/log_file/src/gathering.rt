@@ -1,6 +1,6 @@
 // The notes and the rows of all batches.
 
-ghost use Rattle.std.specs.Prelude.{◌≡◌, ◌<◌, length, IfOk, IfErr};
+ghost use Rattle.std.specs.Prelude.{◌≡◌, ◌<◌, ◌%◌, length, IfOk, IfErr};
 ghost use Rattle.std.specs.List.{All, fold};
 ghost use Rattle.frame_file.specs.Reading.{payloads_in};
 ghost use Rattle.log_file.specs.declared.note.Note.{Note as NoteValue};
@@ -40,6 +40,7 @@ pub(crate) fn gather(
     payloads: &[Vec<u8>],
 ) -> Result<Gathered, OpenFault>
     ensures gathered { IfOk result (λ g. AreGathered dcs (payloads_in payloads.now) g.known.items g.rows.items) }
+    ensures whole { IfOk result (λ g. length g.rows.items % 96 ≡ 0) }
     ensures fault { IfErr result (IsGatherFault dcs (payloads_in payloads.now)) }
 {
     let mut known = vec![in alloc; SiteNote::Untold; usize::from(dcs)]?;

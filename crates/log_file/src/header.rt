@@ -1,15 +1,10 @@
 // The first payload.
 
-ghost use Rattle.std.specs.Prelude.{◌≡◌, ℕ, List, length, IfOk};
-ghost use Rattle.sha2.specs.Sha256.{sha256};
+ghost use Rattle.std.specs.Prelude.{◌≡◌, IfOk};
 ghost use Rattle.log_file.specs.Bytes.{header_bytes};
-ghost use Rattle.log_file.specs.Procedures.{AreSpelled};
 
-use crate::procedures::procedures_bytes;
 use frame_file::write_long;
-use sha2::{Digest, Sha256};
 use std::alloc::{AllocError, Global};
-use tc_core::Procs;
 
 // "mazzulpe", the lowest byte first.
 const MAGIC: u64 = 0x6570_6c75_7a7a_616d;
@@ -23,32 +18,8 @@ pub struct Header {
     pub dcs: u16,
     /// How many procedures are loaded.
     pub procedures: u64,
-    /// The SHA-256 digest of the procedures' declarations and code, in order.
+    /// A digest of the procedures' declarations and code, in order, as the caller takes it.
     pub digest: [u8; 32],
-}
-
-fn digest_of(bytes: &[u8]) -> [u8; 32]
-    ensures { result ≡ sha256 bytes.now }
-{
-    let mut hasher = Sha256::new();
-    hasher.update(bytes);
-    hasher.finalize()
-}
-
-impl Header {
-    /// That of a state with these procedures.
-    pub fn of(alloc: Global, procs: &Procs) -> Result<Header, AllocError>
-        ensures dcs { IfOk result (λ h. h.dcs ≡ procs.now.dcs) }
-        ensures procedures { IfOk result (λ h. h.procedures ≡ length procs.now.codes) }
-        ensures digest { IfOk result (λ h. (bytes : List ℕ) × AreSpelled procs.now.codes bytes × (h.digest ≡ sha256 bytes)) }
-    {
-        let bytes = procedures_bytes(alloc, procs)?;
-        Ok(Header {
-            dcs: procs.dcs(),
-            procedures: procs.len() as u64,
-            digest: digest_of(&bytes),
-        })
-    }
 }
 
 /// The header's 64 bytes.

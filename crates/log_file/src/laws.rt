@@ -15,34 +15,29 @@ ghost use Rattle.log_file.specs.Bytes.{Batch, header_bytes, batch_bytes, payload
 ghost use Rattle.log_file.specs.Reading.{IsHeader, IsBatch, AreBatches, Says, Continue, last_known};
 
 /// A header's bytes tell how many data components and procedures there are, and the procedures' digest.
-#[tactic(auto, using(crate::proofs::LawLemmas::headers_tell))]
 pub fn headers_tell()
     ensures { (a b : HeaderValue) → IsHeader a → IsHeader b → header_bytes a ≡ header_bytes b → a ≡ b }
 {}
 
 /// What a file of batches says are the events whose rows they have, and the last notes.
-#[tactic(auto, using(crate::proofs::LawLemmas::read_as_written))]
 pub fn read_as_written()
     ensures { (h : HeaderValue) (batches : List Batch) (known : List SiteNote) (events written : List Event) → AreBatches h.dcs batches → AreEvents written
         → ArePrinted written (rows_of batches) → Says h (payloads_of h batches) known events → (events ≡ written) × (known ≡ last_known h.dcs (notes_of batches)) }
 {}
 
 /// So a legal log whose rows were written is read again.
-#[tactic(auto, using(crate::proofs::LawLemmas::legal_logs_are_read))]
 pub fn legal_logs_are_read()
     ensures { (h : HeaderValue) (ps : List Checked) (log : List Event) (batches : List Batch) (known : List SiteNote) (events : List Event) → AllTakeFew ps → Legal ps log
         → AreEvents (reverse log) → AreBatches h.dcs batches → rows_of batches ≡ flat_map printed (reverse log) → Says h (payloads_of h batches) known events → events ≡ reverse log }
 {}
 
 /// Whatever a crash left while something was being appended, the batches from before it are read.
-#[tactic(auto, using(crate::proofs::LawLemmas::acknowledged_are_read))]
 pub fn acknowledged_are_read()
     ensures { (h : HeaderValue) (batches found : List Batch) (payload file : List ℕ) → AreBatches h.dcs batches → AreBatches h.dcs found
         → IsBeforeOrAfter (payloads_of h batches) payload file → Reads file (payloads_of h found) → Continue batches found }
 {}
 
 /// And no other than the one that was being appended, but for a checksum that is right by chance.
-#[tactic(auto, using(crate::proofs::LawLemmas::crashes_are_read))]
 pub fn crashes_are_read()
     ensures { (h : HeaderValue) (batches found : List Batch) (batch : Batch) (file : List ℕ) → AreBatches h.dcs batches → IsBatch h.dcs batch → AreBatches h.dcs found
         → IsBeforeOrAfter (payloads_of h batches) (batch_bytes batch) file → IsTold (payloads_of h batches) (batch_bytes batch) file → Reads file (payloads_of h found)

@@ -2,7 +2,6 @@
 //! and the events, 96 bytes each.
 //!
 //! ```text
-//! let header = Header::of(alloc, state.procs())?;
 //! let mut file = LogFile::new(device);
 //! let found = file.open(alloc, &header)?;          // its log and its notes, for `TcState::recover`
 //! file.create(alloc, &header)?;                    // instead, where `open` answered that it is empty
@@ -19,7 +18,6 @@ mod gathering;
 mod header;
 mod laws;
 mod note;
-mod procedures;
 mod reading;
 #[cfg(test)]
 mod tests;
