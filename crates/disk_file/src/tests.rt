@@ -5,11 +5,8 @@ use std::test::Fail;
 
 const PATH: &str = "disk_file_test";
 
-fn opened(rt: &HostRuntime) -> Result<FrameFile<DiskFile>, Fail> {
-    match DiskFile::open(rt, PATH) {
-        Ok(file) => Ok(FrameFile::new(file)),
-        Err(error) => panic!(rt; "{error:?}"),
-    }
+fn opened(rt: &HostRuntime) -> Result<FrameFile<DiskFile>, OpenError> {
+    Ok(FrameFile::new(DiskFile::open(rt, PATH)?))
 }
 
 // A frame is in the file, and what was torn behind it is cut off when it is opened again; meanwhile nobody
@@ -18,7 +15,9 @@ fn opened(rt: &HostRuntime) -> Result<FrameFile<DiskFile>, Fail> {
 fn frames_in_a_file(rt: HostRuntime) -> Result<(), Fail> {
     let alloc = rt.alloc();
     let _ = fs::remove_file(&rt, PATH);
-    let mut file = opened(&rt)?;
+    let Ok(mut file) = opened(&rt) else {
+        panic!(rt; "not opened");
+    };
     assert_eq!(rt; file.recover(alloc)?.len(), 0);
     file.append(alloc, b"first".as_slice())?;
     assert!(rt; matches!(DiskFile::open(&rt, PATH), Err(OpenError::Busy)));
@@ -27,7 +26,9 @@ fn frames_in_a_file(rt: HostRuntime) -> Result<(), Fail> {
     assert_eq!(rt; bytes.len(), 29);
     bytes.extend_from_slice(&[1, 0, 0])?;
     fs::write(&rt, PATH, bytes.as_slice())?;
-    let mut again = opened(&rt)?;
+    let Ok(mut again) = opened(&rt) else {
+        panic!(rt; "not opened again");
+    };
     assert_eq!(rt; again.device().bytes().len(), 32);
     assert_eq!(rt; again.recover(alloc)?.len(), 1);
     again.append(alloc, b"second".as_slice())?;
