@@ -11,8 +11,9 @@ use crate::frame::{HEAD, write_frame};
 use crate::reading::{FrameFault, read_frames};
 use std::alloc::Global;
 
-/// A file of frames: read by [`FrameFile::recover`] before anything is appended, and again after each
-/// `Err` of a call.
+/// A file of frames: read by [`FrameFile::recover`] before anything is appended. After each `Err` of a
+/// call, `recover`'s too, the file has to be opened again first: a new device over it as it is then, and
+/// a new `FrameFile`.
 #[derive(Drop)]
 pub struct FrameFile<D: Device> {
     device: D,

@@ -51,7 +51,7 @@ fn checksum(number: u64, payload: &[u8]) -> u64
     hashed(measured, payload)
 }
 
-/// A number from its 8 bytes.
+/// A number from its 8 bytes, the lowest first.
 #[tactic(auto, using(crate::proofs::Frames::long_is))]
 pub fn long(bytes: &[u8]) -> u64
     requires { length bytes.now ≡ 8 }
@@ -60,7 +60,8 @@ pub fn long(bytes: &[u8]) -> u64
     LittleEndian::read_u64(bytes)
 }
 
-fn write_long(out: &mut Vec<u8>, number: u64) -> Result<(), AllocError>
+/// Writes a number as 8 bytes, the lowest first.
+pub fn write_long(out: &mut Vec<u8>, number: u64) -> Result<(), AllocError>
     ensures { OnOk result (out.new.items ≡ out.old.items ++ to_le_bytes w64 number) }
 {
     out.extend_from_slice(&long_bytes(number))

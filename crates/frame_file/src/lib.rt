@@ -23,5 +23,6 @@ mod tests;
 
 pub use device::{Device, DeviceError};
 pub use file::FrameFile;
+pub use frame::{long, write_long};
 pub use memory::Memory;
 pub use reading::{Found, FrameFault, read_frames};

@@ -7,7 +7,7 @@
 //!  +------+-----+-----------+-------+---+-------------+------+-----+-----------------------+
 //! ```
 
-ghost use Rattle.std.specs.Prelude.{◌≡◌, true, ◌≤◌, ◌++◌, length, IfOk, IfSome, OnOk};
+ghost use Rattle.std.specs.Prelude.{◌≡◌, true, ◌≤◌, ◌++◌, drop, length, IfOk, IfSome, OnOk};
 ghost use Rattle.std.specs.List.{flat_map};
 ghost use Rattle.std.specs.Int.{w16, w64, to_le_bytes};
 ghost use Rattle.tc_log.specs.Printed.{op_cells, said_cells, outcome_cells, args_bytes, zeros, cells_of, cells_bytes, head_bytes, number_bytes, printed};
@@ -227,7 +227,7 @@ pub(crate) fn write_event(out: &mut Vec<u8>, event: &Event) -> Result<(), AllocE
 }
 
 impl Log {
-    ghost use Rattle.std.specs.Prelude.{◌≡◌, reverse, IfOk};
+    ghost use Rattle.std.specs.Prelude.{◌≡◌, drop, reverse, IfOk};
     ghost use Rattle.std.specs.List.{flat_map};
     ghost use Rattle.tc_log.specs.Printed.{printed};
 
@@ -236,7 +236,26 @@ impl Log {
     pub fn print(&self, alloc: Global) -> Result<Vec<u8>, AllocError>
         ensures { IfOk result (λ bytes. bytes.items ≡ flat_map printed (reverse self.now.events)) }
     {
-        print_events(alloc, self.events())
+        self.print_from(alloc, 0)
+    }
+
+    /// The same of the events from this place on, the oldest at 0: nothing where there are no more.
+    pub fn print_from(&self, alloc: Global, place: usize) -> Result<Vec<u8>, AllocError>
+        ensures { IfOk result (λ bytes. bytes.items ≡ flat_map printed (drop place (reverse self.now.events))) }
+    {
+        print_events(alloc, events_from(self.events(), place))
+    }
+}
+
+// The events from this place on.
+#[tactic(auto, using(std::proofs::lemmas::List::drop_all, std::proofs::lemmas::List::take_rest))]
+fn events_from(events: &[Event], place: usize) -> &[Event]
+    ensures { result.now ≡ drop place events.now }
+{
+    if place < events.len() {
+        &events[place..]
+    } else {
+        &[]
     }
 }
 

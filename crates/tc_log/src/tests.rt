@@ -71,6 +71,10 @@ fn events_in_order(rt: HostRuntime) -> Result<(), Fail> {
     want[200] = 7;
     want[208] = 2;
     assert_eq!(rt; log.print(rt.alloc())?.as_slice(), want.as_slice());
+    for (place, start) in [(0, 0), (2, 192), (3, 288), (4, 288)] {
+        let rows = want.get(start..).unwrap_or_default();
+        assert_eq!(rt; log.print_from(rt.alloc(), place)?.as_slice(), rows);
+    }
     Ok(())
 }
 

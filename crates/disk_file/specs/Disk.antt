@@ -1,0 +1,12 @@
+-- A file of the system, as its device shows it.
+use Rattle.std.specs.Prelude.{ℕ, List}
+use Rattle.disk_file.specs.declared.disk.DiskFile.{DiskFile}
+use Rattle.disk_file.specs.Events.{MayLeave}
+
+-- what a read returns
+abbrev pub disk_bytes : DiskFile → List ℕ
+disk_bytes d = d.bytes.items
+
+-- what a crash may leave
+abbrev pub left_of : DiskFile → List ℕ → Type 0
+left_of d c = MayLeave d.calls.events c

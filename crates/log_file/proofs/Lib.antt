@@ -1,0 +1,5 @@
+pub mod BackLemmas
+pub mod GatheringLemmas
+pub mod LawLemmas
+pub mod OpeningLemmas
+mod MomentLemmas

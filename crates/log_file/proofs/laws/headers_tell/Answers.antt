@@ -1,0 +1,5 @@
+use Rattle.log_file.proofs.LawLemmas.{headers_tell}
+use Rattle.log_file.proofs.laws.headers_tell.Goals as goal
+
+pub returns : goal.returns
+returns c = headers_tell

@@ -1,0 +1,132 @@
+-- What the payloads of a log's file say.
+use Rattle.std.specs.Prelude.{◌≡◌, ℕ, ◌+◌, ◌%◌, ◌<◌, ◌^◌, List, [], ◌∷◌, ◌++◌, length, replicate, slice_set, slice_index_or}
+use Rattle.std.specs.List.{All, fold}
+use Rattle.tc_log.specs.declared.event.Event.{Event}
+use Rattle.tc_log.specs.Reading.{ArePrinted, AreOnlyOnes, IsFirstUnread}
+use Rattle.tc_core.specs.declared.recovery.SiteNote.{SiteNote}
+use Rattle.tc_core.specs.declared.recovery.SiteNote.TheVariants.{Untold, Restarted, Up}
+use Rattle.frame_file.specs.declared.device.DeviceError.TheVariants.{Memory}
+use Rattle.frame_file.specs.declared.reading.FrameFault.{FrameFault}
+use Rattle.frame_file.specs.declared.reading.FrameFault.TheVariants.{Device, Full, Damaged}
+use Rattle.frame_file.specs.Reading.{Reads, IsDamaged}
+use Rattle.log_file.specs.declared.header.Header.{Header}
+use Rattle.log_file.specs.declared.note.Note.{Note}
+use Rattle.log_file.specs.declared.reading.OpenFault.{OpenFault}
+use Rattle.log_file.specs.declared.reading.OpenFault.TheVariants.{Frames, Empty, Other, NoBatch, Row}
+use Rattle.log_file.specs.Bytes.{Batch, batch_bytes, header_bytes, payloads_of, notes_of, rows_of}
+
+-- ---- headers and batches as they are written
+
+pub record IsHeader (h : Header) : Type 0 where
+  pub dcs : h.dcs < 2 ^ 64
+  pub procedures : h.procedures < 2 ^ 64
+
+-- numbers of machines
+abbrev pub IsKnown : SiteNote → Type 0
+IsKnown Untold = Unit {0}
+IsKnown (Restarted news) = (news.incarnation < 2 ^ 64) × (news.mark < 2 ^ 64)
+IsKnown (Up n) = n < 2 ^ 64
+
+abbrev pub IsNote : Note → Type 0
+IsNote n = (n.dc < 2 ^ 64) × IsKnown n.known
+
+abbrev pub AreNotes : List Note → Type 0
+AreNotes [] = Unit {0}
+AreNotes (n ∷ notes) = IsNote n × AreNotes notes
+
+-- for so many data components
+pub record IsBatch (dcs : ℕ) (b : Batch) : Type 0 where
+  pub notes : AreNotes b.notes
+  pub count : length b.notes < 2 ^ 64
+  pub there : All (λ (n : Note). n.dc < dcs) b.notes
+  pub whole : length b.rows % 96 ≡ 0
+
+abbrev pub AreBatches : ℕ → List Batch → Type 0
+AreBatches dcs [] = Unit {0}
+AreBatches dcs (b ∷ batches) = IsBatch dcs b × AreBatches dcs batches
+
+-- these, and perhaps others behind them
+pub record Continue (batches all : List Batch) : Type 0 where
+  pub more : List Batch
+  pub is : all ≡ batches ++ more
+
+-- the payload is such a batch
+pub record IsSync (dcs : ℕ) (payload : List ℕ) : Type 0 where
+  pub batch : Batch
+  pub fits : IsBatch dcs batch
+  pub is : payload ≡ batch_bytes batch
+
+-- ---- what they say
+
+abbrev pub with_note : List SiteNote → Note → List SiteNote
+with_note known n = slice_set known n.dc n.known
+
+-- of each data component what its last note says, and at first nothing
+abbrev pub last_known : ℕ → List Note → List SiteNote
+last_known dcs notes = fold with_note (replicate dcs Untold) notes
+
+-- the header's payload, and then batches, whose rows are those of these events, oldest first, and of no others; and their last notes
+pub record Says (h : Header) (payloads : List (List ℕ)) (known : List SiteNote) (events : List Event) : Type 0 where
+  pub batches : List Batch
+  pub is : payloads ≡ payloads_of h batches
+  pub are : AreBatches h.dcs batches
+  pub known_is : known ≡ last_known h.dcs (notes_of batches)
+  pub printed : ArePrinted events (rows_of batches)
+  pub only : AreOnlyOnes events (rows_of batches)
+
+-- ---- what they don't
+
+-- the first payload that is no batch's, as the number of its frame, the header's being 0
+pub record IsFirstNoBatch (dcs : ℕ) (payloads : List (List ℕ)) (number : ℕ) : Type 0 where
+  pub place : ℕ
+  pub number_is : number ≡ place + 1
+  pub inside : place < length payloads
+  pub before : (k : ℕ) (d : List ℕ) → k < place → IsSync dcs (slice_index_or payloads k d)
+  pub none : (d : List ℕ) → IsSync dcs (slice_index_or payloads place d) → ⊥
+
+-- behind this header's payload stands one that is no batch's
+pub record IsNoBatch (h : Header) (payloads : List (List ℕ)) (number : ℕ) : Type 0 where
+  pub rest : List (List ℕ)
+  pub is : payloads ≡ header_bytes h ∷ rest
+  pub first : IsFirstNoBatch h.dcs rest number
+
+-- all are batches', and the row of this place is the first that is no event's
+pub record IsRowFault (h : Header) (payloads : List (List ℕ)) (place : ℕ) : Type 0 where
+  pub batches : List Batch
+  pub is : payloads ≡ payloads_of h batches
+  pub are : AreBatches h.dcs batches
+  pub first : IsFirstUnread place (rows_of batches)
+
+-- there is a first payload, which isn't this header's
+pub record IsOther (h : Header) (payloads : List (List ℕ)) : Type 0 where
+  pub first : List ℕ
+  pub rest : List (List ℕ)
+  pub is : payloads ≡ first ∷ rest
+  pub differs : first ≡ header_bytes h → ⊥
+
+-- so these payloads aren't read; want of memory says nothing
+abbrev pub IsSayFault : Header → List (List ℕ) → OpenFault → Type 0
+IsSayFault h payloads (Frames fault) = fault ≡ Device Memory
+IsSayFault h payloads Empty = payloads ≡ []
+IsSayFault h payloads Other = IsOther h payloads
+IsSayFault h payloads (NoBatch number) = IsNoBatch h payloads number
+IsSayFault h payloads (Row place) = IsRowFault h payloads place
+
+-- so the file isn't read; what a device says of itself is in its own clauses
+abbrev pub IsFramesFault : List ℕ → FrameFault → Type 0
+IsFramesFault file (Damaged number) = IsDamaged file number
+IsFramesFault file (Device e) = Unit {0}
+IsFramesFault file Full = Unit {0}
+
+-- the file's frames are these payloads, which aren't read
+pub record IsUnsaid (h : Header) (file : List ℕ) (fault : OpenFault) : Type 0 where
+  pub payloads : List (List ℕ)
+  pub reads : Reads file payloads
+  pub why : IsSayFault h payloads fault
+
+abbrev pub IsOpenFault : Header → List ℕ → OpenFault → Type 0
+IsOpenFault h file (Frames fault) = IsFramesFault file fault
+IsOpenFault h file Empty = IsUnsaid h file Empty
+IsOpenFault h file Other = IsUnsaid h file Other
+IsOpenFault h file (NoBatch number) = IsUnsaid h file (NoBatch number)
+IsOpenFault h file (Row place) = IsUnsaid h file (Row place)

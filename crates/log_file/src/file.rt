@@ -1,0 +1,86 @@
+// A log's file.
+
+ghost use Rattle.std.specs.Prelude.{◌≡◌, ◌<◌, ◌++◌, [], ◌∷◌, ℕ, List, reverse, IfOk, IfErr, OnOk, IsErrOf};
+ghost use Rattle.frame_file.specs.Device.{Only, LeavesOnly};
+ghost use Rattle.frame_file.specs.Reading.{Reads, IsSettled, IsBeforeOrAfter, ReadsAs};
+ghost use Rattle.frame_file.specs.declared.device.DeviceError.TheVariants.{Failed};
+ghost use Rattle.frame_file.specs.declared.reading.FrameFault.TheVariants.{Device as DeviceFault};
+ghost use Rattle.log_file.specs.declared.reading.OpenFault.TheVariants.{Empty as EmptyFault};
+ghost use Rattle.log_file.specs.Bytes.{batch_bytes, header_bytes};
+ghost use Rattle.log_file.specs.Reading.{Says, IsOpenFault};
+
+use crate::batch::batch_bytes;
+use crate::header::{Header, header_bytes};
+use crate::note::Note;
+use crate::reading::{OpenFault, Recovered, read_log};
+use frame_file::{Device, FrameFault, FrameFile};
+use std::alloc::Global;
+
+/// The log of a transaction component in a file: opened, and where it is empty created, before anything is
+/// appended. After each other `Err` of a call it has to be opened again, in a new `LogFile` over a new
+/// device.
+#[derive(Drop)]
+pub struct LogFile<D: Device> {
+    frames: FrameFile<D>,
+}
+
+impl<D: Device> LogFile<D> {
+    /// Over a device whose file isn't read yet.
+    pub fn new(device: D) -> LogFile<D>
+        ensures { result.frames.device ≡ device }
+    {
+        LogFile {
+            frames: FrameFile::new(device),
+        }
+    }
+
+    /// The device.
+    pub fn device(&self) -> &D
+        ensures { result.now ≡ self.now.frames.device }
+    {
+        self.frames.device()
+    }
+
+    /// Reads a file that a crash may have left: the log and the notes of all that was acknowledged, and
+    /// perhaps of what was being appended. An end that a crash left is cut off. This may be cut short by
+    /// a crash too, which leaves a file that is read the same.
+    pub fn open(&mut self, alloc: Global, header: &Header) -> Result<Recovered, OpenFault>
+        // After a restart, what is read is what is on the disk.
+        requires { Only (D.seen self.old.frames.device) (D.may_leave self.old.frames.device) }
+        ensures says { IfOk result (λ r. (payloads : List (List ℕ)) × Reads (D.seen self.old.frames.device) payloads
+            × IsSettled D.seen D.may_leave self.new.frames payloads × Says header.now payloads r.notes.items (reverse r.log.events)) }
+        ensures empty { IsErrOf result EmptyFault → IsSettled D.seen D.may_leave self.new.frames [] }
+        ensures fault { IfErr result (IsOpenFault header.now (D.seen self.old.frames.device)) }
+        ensures any_moment { LeavesOnly D.moment D.left_since self.old.frames.device self.new.frames.device (ReadsAs (D.seen self.old.frames.device)) }
+    {
+        let payloads = self.frames.recover(alloc)?;
+        read_log(alloc, header, &payloads)
+    }
+
+    /// Begins the log of a file without frames, which `open` has found [`OpenFault::Empty`].
+    pub fn create(&mut self, alloc: Global, header: &Header) -> Result<(), FrameFault>
+        ensures acknowledged { IsSettled D.seen D.may_leave self.old.frames [] → OnOk result (IsSettled D.seen D.may_leave self.new.frames (header_bytes header.now ∷ [])) }
+        ensures any_moment { IsSettled D.seen D.may_leave self.old.frames []
+            → LeavesOnly D.moment D.left_since self.old.frames.device self.new.frames.device (IsBeforeOrAfter [] (header_bytes header.now)) }
+        ensures failed { IsErrOf result (DeviceFault Failed) → D.faults self.old.frames.device < D.faults self.new.frames.device }
+    {
+        let payload = header_bytes(alloc, header)?;
+        self.frames.append(alloc, &payload)
+    }
+
+    /// One sync more: these notes, and the rows of these events behind those that the file has. At `Ok` it
+    /// is acknowledged: from then on each crash leaves a file that has it.
+    pub fn append(&mut self, alloc: Global, notes: &[Note], rows: &[u8]) -> Result<(), FrameFault>
+        ensures acknowledged { (payloads : List (List ℕ)) → IsSettled D.seen D.may_leave self.old.frames payloads
+            → OnOk result (IsSettled D.seen D.may_leave self.new.frames (payloads ++ batch_bytes (record { notes = notes.now; rows = rows.now }) ∷ [])) }
+        // A crash at any moment of the call leaves all that was there before it, with this or without.
+        ensures any_moment { (payloads : List (List ℕ)) → IsSettled D.seen D.may_leave self.old.frames payloads
+            → LeavesOnly D.moment D.left_since self.old.frames.device self.new.frames.device
+            (IsBeforeOrAfter payloads (batch_bytes (record { notes = notes.now; rows = rows.now }))) }
+        // It doesn't give up by itself.
+        ensures failed { IsErrOf result (DeviceFault Failed) → D.faults self.old.frames.device < D.faults self.new.frames.device }
+    {
+        let payload = batch_bytes(alloc, notes, rows)?;
+        self.frames.append(alloc, &payload)
+    }
+}

@@ -1,0 +1,31 @@
+//! A transaction component's log in a file: a header, and for each sync what was noted of data components
+//! and the events, 96 bytes each.
+//!
+//! ```text
+//! let mut file = LogFile::new(device);
+//! let found = file.open(alloc, &header)?;          // its log and its notes, for `TcState::recover`
+//! file.create(alloc, &header)?;                    // instead, where `open` answered that it is empty
+//! let rows = log.print_from(alloc, written)?;      // the events that aren't in the file yet
+//! file.append(alloc, &notes, &rows)?;              // acknowledged: each crash from now on leaves them
+//! ```
+//!
+//! The functions without a body are laws: that what is read is what was written.
+#![tactic(auto)]
+
+mod batch;
+mod file;
+mod gathering;
+mod header;
+mod laws;
+mod note;
+mod reading;
+#[cfg(test)]
+mod tests;
+
+pub use file::LogFile;
+pub use header::Header;
+pub use laws::{
+    acknowledged_are_read, crashes_are_read, headers_tell, legal_logs_are_read, read_as_written,
+};
+pub use note::Note;
+pub use reading::{OpenFault, Recovered};

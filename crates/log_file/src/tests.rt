@@ -1,0 +1,210 @@
+use crate::{Header, LogFile, Note, OpenFault, Recovered};
+use access_slots::op::{News, Op, Said};
+use access_slots::slot::Record;
+use frame_file::{FrameFault, Memory};
+use std::alloc::{AllocError, Global};
+use std::process::Abort;
+use std::test::Fail;
+use tc_core::SiteNote;
+use tc_log::event::{Args, Event, Outcome};
+use tc_log::log::Log;
+
+const HEADER: Header = Header {
+    dcs: 2,
+    procedures: 1,
+    digest: [7; 32],
+};
+
+const DELETE: Op = Op::Delete(Record {
+    dc: 1,
+    table: 2,
+    key: 3,
+});
+
+// Where the file's frames end: the header's, one with two events and a note, one with a note alone, and one
+// with two events.
+const ENDS: [usize; 4] = [88, 344, 408, 632];
+
+fn over(alloc: Global, bytes: &[u8]) -> Result<LogFile<Memory>, AllocError> {
+    Ok(LogFile::new(Memory::new(
+        alloc,
+        Vec::from_slice(alloc, bytes)?,
+    )))
+}
+
+// A call that deletes a record.
+fn log(alloc: Global) -> Result<Log, AllocError> {
+    let mut log = Log::new(alloc);
+    log.reserve(4)?;
+    log.push(Event::Admit {
+        txn: 1,
+        proc: 0,
+        args: Args::copy_of(alloc, &[5])?,
+    });
+    log.push(Event::Ask {
+        txn: 1,
+        number: 1,
+        op: DELETE,
+    });
+    log.push(Event::Answer {
+        txn: 1,
+        number: 1,
+        said: Said::Done(None),
+    });
+    log.push(Event::End {
+        txn: 1,
+        outcome: Outcome::Committed,
+    });
+    Ok(log)
+}
+
+const RESTARTED: SiteNote = SiteNote::Restarted(News {
+    incarnation: 3,
+    mark: 4,
+});
+
+// A file of three syncs.
+fn written(rt: &impl Abort, alloc: Global) -> Result<Vec<u8>, Fail> {
+    let log = log(alloc)?;
+    let rows = log.print(alloc)?;
+    let mut file = over(alloc, &[])?;
+    assert!(rt; matches!(file.open(alloc, &HEADER), Err(OpenFault::Empty)));
+    assert_eq!(rt; file.create(alloc, &HEADER), Ok(()));
+    let restarted = Note {
+        dc: 1,
+        known: RESTARTED,
+    };
+    let first = rows.get(..192).unwrap_or_default();
+    assert_eq!(rt; file.append(alloc, &[restarted], first), Ok(()));
+    let up = Note {
+        dc: 1,
+        known: SiteNote::Up(3),
+    };
+    assert_eq!(rt; file.append(alloc, &[up], &[]), Ok(()));
+    let rest = log.print_from(alloc, 2)?;
+    assert_eq!(rt; file.append(alloc, &[], &rest), Ok(()));
+    let bytes = Vec::from_slice(alloc, file.device().bytes())?;
+    assert_eq!(rt; bytes.len(), ENDS[3]);
+    Ok(bytes)
+}
+
+// What these bytes are read as.
+fn opened(alloc: Global, bytes: &[u8], header: &Header) -> Result<Recovered, OpenFault> {
+    over(alloc, bytes)?.open(alloc, header)
+}
+
+// They are read as the log with so many bytes of rows, and with this note of the second data component.
+fn says(
+    rt: &impl Abort,
+    alloc: Global,
+    bytes: &[u8],
+    len: usize,
+    note: SiteNote,
+) -> Result<(), Fail> {
+    let Ok(found) = opened(alloc, bytes, &HEADER) else {
+        panic!(rt; "refused");
+    };
+    assert_eq!(rt; found.notes.as_slice(), [SiteNote::Untold, note].as_slice());
+    let rows = log(alloc)?.print(alloc)?;
+    let again = found.log.print(alloc)?;
+    assert_eq!(rt; again.as_slice(), rows.get(..len).unwrap_or_default());
+    Ok(())
+}
+
+#[test]
+fn each_truncation_is_a_beginning(rt: HostRuntime) -> Result<(), Fail> {
+    let alloc = rt.alloc();
+    let bytes = written(&rt, alloc)?;
+    for len in 0..=bytes.len() {
+        let front = bytes.get(..len).unwrap_or_default();
+        match len {
+            0..=87 => assert!(rt; matches!(opened(alloc, front, &HEADER), Err(OpenFault::Empty))),
+            88..=343 => says(&rt, alloc, front, 0, SiteNote::Untold)?,
+            344..=407 => says(&rt, alloc, front, 192, RESTARTED)?,
+            408..=631 => says(&rt, alloc, front, 192, SiteNote::Up(3))?,
+            _ => says(&rt, alloc, front, 384, SiteNote::Up(3))?,
+        }
+    }
+    Ok(())
+}
+
+// A changed byte of the last frame leaves an end that isn't whole; before it, its frame is damaged.
+#[test]
+fn each_changed_byte_is_found(rt: HostRuntime) -> Result<(), Fail> {
+    let alloc = rt.alloc();
+    let bytes = written(&rt, alloc)?;
+    for place in 0..bytes.len() {
+        let mut changed = Vec::from_slice(alloc, &bytes)?;
+        if let Some(byte) = changed.get_mut(place) {
+            *byte ^= 0x10;
+        }
+        let frame = match place {
+            0..=87 => 0,
+            88..=343 => 1,
+            344..=407 => 2,
+            _ => {
+                says(&rt, alloc, &changed, 192, SiteNote::Up(3))?;
+                continue;
+            }
+        };
+        let found = opened(alloc, &changed, &HEADER).err();
+        let damaged = OpenFault::Frames(FrameFault::Damaged(frame));
+        assert_eq!(rt; found, Some(damaged), "at {place}");
+    }
+    Ok(())
+}
+
+// What is appended to a file that was cut short stands behind what was read.
+#[test]
+fn it_goes_on(rt: HostRuntime) -> Result<(), Fail> {
+    let alloc = rt.alloc();
+    let bytes = written(&rt, alloc)?;
+    let mut file = over(alloc, bytes.get(..631).unwrap_or_default())?;
+    let Ok(found) = file.open(alloc, &HEADER) else {
+        panic!(rt; "refused");
+    };
+    let rest = log(alloc)?.print_from(alloc, found.log.len())?;
+    assert_eq!(rt; file.append(alloc, &[], &rest), Ok(()));
+    assert_eq!(rt; file.device().bytes(), bytes.as_slice());
+    Ok(())
+}
+
+// The fault of a file with this batch behind the header.
+fn fault(alloc: Global, notes: &[Note], rows: &[u8]) -> Result<Option<OpenFault>, Fail> {
+    let mut file = over(alloc, &[])?;
+    let _empty = file.open(alloc, &HEADER);
+    let _created = file.create(alloc, &HEADER);
+    let _appended = file.append(alloc, notes, rows);
+    Ok(opened(alloc, file.device().bytes(), &HEADER).err())
+}
+
+#[test]
+fn what_is_no_log(rt: HostRuntime) -> Result<(), Fail> {
+    let alloc = rt.alloc();
+    let bytes = written(&rt, alloc)?;
+    for other in [
+        Header { dcs: 3, ..HEADER },
+        Header {
+            procedures: 2,
+            ..HEADER
+        },
+        Header {
+            digest: [8; 32],
+            ..HEADER
+        },
+    ] {
+        assert!(rt; matches!(opened(alloc, &bytes, &other), Err(OpenFault::Other)));
+    }
+    let there = Note {
+        dc: 1,
+        known: SiteNote::Untold,
+    };
+    let beyond = Note { dc: 2, ..there };
+    assert_eq!(rt; fault(alloc, &[there], &[])?, None);
+    assert_eq!(rt; fault(alloc, &[there, beyond], &[])?, Some(OpenFault::NoBatch(1)));
+    assert_eq!(rt; fault(alloc, &[], &[5; 95])?, Some(OpenFault::NoBatch(1)));
+    let mut rows = log(alloc)?.print(alloc)?;
+    rows.extend_from_slice(&[0; 96])?;
+    assert_eq!(rt; fault(alloc, &[], &rows)?, Some(OpenFault::Row(4)));
+    Ok(())
+}
