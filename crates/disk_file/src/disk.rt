@@ -40,11 +40,7 @@ impl DiskFile {
     {
         let mut calls = Record::new();
         calls.note(&[OPENED, 0, 0], &bytes);
-        DiskFile {
-            file,
-            bytes,
-            calls,
-        }
+        DiskFile { file, bytes, calls }
     }
 
     /// What a read returns.

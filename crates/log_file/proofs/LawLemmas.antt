@@ -109,5 +109,5 @@ crashes_are_read h batches found batch file x one y left told reads =
     ⊎_elim
     (λ same. inl (payloads_same h found batches y x same))
     (λ same. inr (payloads_same h found (batches ++ batch ∷ []) y (batches_push h.dcs batches batch x one)
-        (same ∙ ap (λ (ps : List (List ℕ)). header_bytes h ∷ ps) (sym (map_push batch_bytes batches batch)))))
+    (same ∙ ap (λ (ps : List (List ℕ)). header_bytes h ∷ ps) (sym (map_push batch_bytes batches batch)))))
     (left.told (payloads_of h found) reads told)

@@ -34,11 +34,7 @@ fn take_notes(known: &mut Vec<SiteNote>, notes: &[Note])
 }
 
 /// The notes and the rows of batches for so many data components.
-pub(crate) fn gather(
-    alloc: Global,
-    dcs: u16,
-    payloads: &[Vec<u8>],
-) -> Result<Gathered, OpenFault>
+pub(crate) fn gather(alloc: Global, dcs: u16, payloads: &[Vec<u8>]) -> Result<Gathered, OpenFault>
     ensures gathered { IfOk result (λ g. AreGathered dcs (payloads_in payloads.now) g.known.items g.rows.items) }
     ensures whole { IfOk result (λ g. length g.rows.items % 96 ≡ 0) }
     ensures fault { IfErr result (IsGatherFault dcs (payloads_in payloads.now)) }

@@ -26,10 +26,7 @@ const DELETE: Op = Op::Delete(Record {
 const ENDS: [usize; 4] = [88, 344, 408, 632];
 
 fn over(alloc: Global, bytes: &[u8]) -> Result<LogFile<Memory>, AllocError> {
-    Ok(LogFile::new(Memory::new(
-        alloc,
-        Vec::from_slice(alloc, bytes)?,
-    )))
+    Ok(LogFile::new(Memory::new(alloc, Vec::from_slice(alloc, bytes)?)))
 }
 
 // A call that deletes a record.
@@ -201,7 +198,10 @@ fn what_is_no_log(rt: HostRuntime) -> Result<(), Fail> {
     };
     let beyond = Note { dc: 2, ..there };
     assert_eq!(rt; fault(alloc, &[there], &[])?, None);
-    assert_eq!(rt; fault(alloc, &[there, beyond], &[])?, Some(OpenFault::NoBatch(1)));
+    assert_eq!(rt;
+        fault(alloc, &[there, beyond], &[])?,
+        Some(OpenFault::NoBatch(1))
+    );
     assert_eq!(rt; fault(alloc, &[], &[5; 95])?, Some(OpenFault::NoBatch(1)));
     let mut rows = log(alloc)?.print(alloc)?;
     rows.extend_from_slice(&[0; 96])?;
