@@ -84,11 +84,7 @@ fn is_redone(rt: &impl Abort, world: &mut World) {
         &Step::Redo(0),
         Outcome::Redoing(1, redo_of_put()),
     );
-    let reply = Reply {
-        number: 1,
-        incarnation: 1,
-        said: Said::Done(None),
-    };
+    let reply = done(1, 1);
     goes(rt, world, &Step::Perform(1), Outcome::Replied(1, reply));
     five_stands(rt, world, true);
     stops(rt, world, &Step::Take(0), Illegal::Stranger);
@@ -112,6 +108,54 @@ fn put_lost_and_redone(
 fn a_row_lost_and_redone(rt: HostRuntime) -> Result<(), Fail> {
     let mut world = world(&rt, rt.alloc())?;
     let passed = put_lost_and_redone(&rt, rt.alloc(), &mut world);
+    closed(world);
+    Ok(passed?)
+}
+
+// A reply that nobody gave is a stranger to the redo.
+fn is_stranger(rt: &impl Abort, world: &mut World, place: usize, reply: Reply) {
+    goes(rt, world, &Step::Forge(reply), Outcome::Forged(place));
+    stops(rt, world, &Step::Take(place), Illegal::Stranger);
+}
+
+// An insert that was done.
+fn done(number: u64, incarnation: u64) -> Reply {
+    Reply {
+        number,
+        incarnation,
+        said: Said::Done(None),
+    }
+}
+
+// A put is redone by its logged answer, under its number, of the incarnation that was told, and by no other.
+fn others_redo_nothing(rt: &impl Abort, world: &mut World) {
+    let redo = Outcome::Redoing(1, redo_of_put());
+    goes(rt, world, &Step::Redo(0), redo);
+    let duplicate = Reply {
+        number: 1,
+        incarnation: 1,
+        said: Said::Duplicate,
+    };
+    is_stranger(rt, world, 1, duplicate);
+    is_stranger(rt, world, 2, done(2, 1));
+    is_stranger(rt, world, 3, done(1, 0));
+    let reply = done(1, 1);
+    goes(rt, world, &Step::Perform(1), Outcome::Replied(4, reply));
+    goes(rt, world, &Step::Take(4), Outcome::Redone(1));
+}
+
+fn put_and_others(rt: &impl Abort, alloc: Global, world: &mut World) -> Result<(), AllocError> {
+    is_put(rt, alloc, world, (1, 0), 5)?;
+    row_is_lost(rt, world);
+    is_told(rt, world);
+    others_redo_nothing(rt, world);
+    Ok(())
+}
+
+#[test]
+fn redone_by_its_own_answer_alone(rt: HostRuntime) -> Result<(), Fail> {
+    let mut world = world(&rt, rt.alloc())?;
+    let passed = put_and_others(&rt, rt.alloc(), &mut world);
     closed(world);
     Ok(passed?)
 }
