@@ -76,8 +76,8 @@ fn is_told(rt: &impl Abort, world: &mut World) {
     stops(rt, world, &Step::Tell(0), Illegal::OldNews);
 }
 
-// The put is redone, and the component is up.
-fn is_redone(rt: &impl Abort, world: &mut World) {
+// The put is redone, and the component is up. The reply has this place.
+fn is_redone(rt: &impl Abort, world: &mut World, place: usize) {
     goes(
         rt,
         world,
@@ -85,10 +85,10 @@ fn is_redone(rt: &impl Abort, world: &mut World) {
         Outcome::Redoing(1, redo_of_put()),
     );
     let reply = done(1, 1);
-    goes(rt, world, &Step::Perform(1), Outcome::Replied(1, reply));
+    goes(rt, world, &Step::Perform(1), Outcome::Replied(place, reply));
     five_stands(rt, world, true);
     stops(rt, world, &Step::Take(0), Illegal::Stranger);
-    goes(rt, world, &Step::Take(1), Outcome::Redone(1));
+    goes(rt, world, &Step::Take(place), Outcome::Redone(1));
     goes(rt, world, &Step::Redo(0), Outcome::Up(0));
 }
 
@@ -100,7 +100,7 @@ fn put_lost_and_redone(
     is_put(rt, alloc, world, (1, 0), 5)?;
     row_is_lost(rt, world);
     is_told(rt, world);
-    is_redone(rt, world);
+    is_redone(rt, world, 1);
     Ok(())
 }
 
@@ -168,13 +168,16 @@ fn row_is_kept(rt: &impl Abort, world: &mut World) {
     goes(rt, world, &Step::Tell(0), Outcome::Told(0, first_news()));
 }
 
-// A request while its component is down is held back, and sent once that is up.
+// A request while its component is down is held back, and sent once that is up. Nothing answers it while that is
+// down, and nothing of the incarnation before.
 fn is_held(rt: &impl Abort, world: &mut World, admit: &Step) {
     goes(rt, world, admit, Outcome::Admitted(2));
     let insert = Op::Insert(record(6), value(1));
     goes(rt, world, &Step::Ask(2), Outcome::Held(2, insert));
     stops(rt, world, &Step::Resend(2), Illegal::Down(0));
-    is_redone(rt, world);
+    is_stranger(rt, world, 1, done(2, 1));
+    is_redone(rt, world, 2);
+    is_stranger(rt, world, 3, done(2, 0));
     let wire = Wire {
         number: 2,
         low_water: 1,
