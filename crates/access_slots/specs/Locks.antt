@@ -50,7 +50,8 @@ greatest m (Some n) = greater m n
 -- the greatest mode with which these slots name the record, where one does
 abbrev pub mode_named : List ℕ → List Slot → Record → Option Mode
 mode_named args [] r = None
-mode_named args (s ∷ slots) r = if record_eq (record_of args s) r then Some (greatest s.mode (mode_named args slots r)) else mode_named args slots r
+mode_named args (s ∷ slots) r = if record_eq (record_of args s) r then
+    Some (greatest s.mode (mode_named args slots r)) else mode_named args slots r
 
 -- the mode in which the record is locked, where it is
 abbrev pub mode_in : List Lock → Record → Option Mode

@@ -20,27 +20,33 @@ use Rattle.bpf_asm.specs.Operand.{register_said, source_said, memory_said}
 
 -- the instruction of a word with these operands
 abbrev pub insn_with : Mnemonic → List ℕ → List ℕ → List ℕ → Result Insn LineFault
-insn_with (Alu width operation) a b c = and_then (register_said a) (λ dst. and_then (source_said b) (λ source. Ok (insn.Alu width operation dst source)))
+insn_with (Alu width operation) a b c =
+    and_then (register_said a) (λ dst. and_then (source_said b) (λ source. Ok (insn.Alu width operation dst source)))
 insn_with (Negate width) a b c = and_then (register_said a) (λ dst. Ok (insn.Negate width dst))
-insn_with (MoveSigned extension) a b c = and_then (register_said a) (λ dst. and_then (register_said b) (λ src. Ok (insn.MoveSigned extension dst src)))
+insn_with (MoveSigned extension) a b c =
+    and_then (register_said a) (λ dst. and_then (register_said b) (λ src. Ok (insn.MoveSigned extension dst src)))
 insn_with (Order order width) a b c = and_then (register_said a) (λ dst. Ok (insn.Order order width dst))
 insn_with LoadWide a b c = and_then (register_said a) (λ dst. and_then (wide_said b) (λ value. Ok (insn.LoadWide dst value)))
 insn_with Jump a b c = and_then (jump_said (2 ^ 15) a) (λ offset. Ok (insn.Jump offset))
 insn_with JumpLong a b c = and_then (jump_said (2 ^ 31) a) (λ offset. Ok (insn.JumpLong offset))
 insn_with (JumpIf width condition) a b c =
-    and_then (register_said a) (λ dst. and_then (source_said b) (λ source. and_then (jump_said (2 ^ 15) c) (λ offset. Ok (insn.JumpIf width condition dst source offset))))
+    and_then (register_said a) (λ dst. and_then (source_said b) (λ source.
+    and_then (jump_said (2 ^ 15) c) (λ offset. Ok (insn.JumpIf width condition dst source offset))))
 insn_with (Load size) a b c = and_then (register_said a) (λ dst. and_then (memory_said b) (λ m. Ok (insn.Load size dst m.0 m.1)))
-insn_with (LoadSigned size) a b c = and_then (register_said a) (λ dst. and_then (memory_said b) (λ m. Ok (insn.LoadSigned size dst m.0 m.1)))
+insn_with (LoadSigned size) a b c = and_then (register_said a) (λ dst.
+    and_then (memory_said b) (λ m. Ok (insn.LoadSigned size dst m.0 m.1)))
 insn_with (StoreImm size) a b c = and_then (memory_said a) (λ m. and_then (number_said b) (λ imm. Ok (insn.StoreImm size m.0 m.1 imm)))
 insn_with (Store size) a b c = and_then (memory_said a) (λ m. and_then (register_said b) (λ src. Ok (insn.Store size m.0 src m.1)))
-insn_with (Atomic width operation) a b c = and_then (memory_said a) (λ m. and_then (register_said b) (λ src. Ok (insn.Atomic width operation m.0 src m.1)))
+insn_with (Atomic width operation) a b c =
+    and_then (memory_said a) (λ m. and_then (register_said b) (λ src. Ok (insn.Atomic width operation m.0 src m.1)))
 insn_with Call a b c = and_then (number_said a) (λ helper. Ok (insn.Call helper))
 insn_with Exit a b c = Ok insn.Exit
 
 -- with these operands, where they are as many as the word takes
 abbrev pub insn_of_texts : Mnemonic → List (List ℕ) → Result Insn LineFault
 insn_of_texts mnemonic texts =
-    if length texts == operand_count mnemonic then insn_with mnemonic (text_at 0 texts) (text_at 1 texts) (text_at 2 texts) else Err fault.Operands
+    if length texts == operand_count mnemonic then
+    insn_with mnemonic (text_at 0 texts) (text_at 1 texts) (text_at 2 texts) else Err fault.Operands
 
 -- of a word with what follows it
 abbrev pub insn_of_word : List ℕ → List ℕ → Result Insn LineFault
@@ -69,7 +75,8 @@ abbrev pub by_line : ℕ → ℕ → Result (Option Insn) LineFault → (ℕ →
 by_line number slots (Err e) later = Err (Line number e)
 by_line number slots (Ok None) later = later slots
 by_line number slots (Ok (Some i)) later =
-    if nat_lt 4096 (slots + length (places_of (i ∷ []))) then Err (TooLong number) else first_then i (later (slots + length (places_of (i ∷ []))))
+    if nat_lt 4096 (slots + length (places_of (i ∷ []))) then Err (TooLong number) else
+    first_then i (later (slots + length (places_of (i ∷ []))))
 
 abbrev pub insns_from : ℕ → ℕ → List (List ℕ) → Result (List Insn) AsmFault
 insns_from number slots [] = Ok []

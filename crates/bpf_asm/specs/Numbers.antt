@@ -18,7 +18,8 @@ is_numeral radix text = nat_lt 0 (length text) && list_all (λ c. nat_lt (digit_
 -- the number that digits write; what isn't below 2^64 is out of every range
 abbrev pub numeral : ℕ → List ℕ → Result ℕ LineFault
 numeral radix text =
-    if is_numeral radix text then (if nat_lt (digits_value radix text) (2 ^ 64) then Ok (digits_value radix text) else Err OutOfRange) else Err BadNumber
+    if is_numeral radix text then
+    (if nat_lt (digits_value radix text) (2 ^ 64) then Ok (digits_value radix text) else Err OutOfRange) else Err BadNumber
 
 -- the byte at this place
 abbrev pub has : ℕ → ℕ → List ℕ → Bool

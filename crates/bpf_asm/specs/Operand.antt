@@ -47,7 +47,8 @@ is_sign b = (b == 43) || (b == 45)
 abbrev pub address_said : List ℕ → Result (Register × ℤ) LineFault
 address_said inner =
     if position_or_len is_sign inner == length inner then Err Operands else
-    and_then (register_said (take (position_or_len is_sign inner) inner)) (λ base. and_then (jump_said (2 ^ 15) (drop (position_or_len is_sign inner) inner)) (λ offset. Ok (base, offset)))
+    and_then (register_said (take (position_or_len is_sign inner) inner)) (λ base.
+    and_then (jump_said (2 ^ 15) (drop (position_or_len is_sign inner) inner)) (λ offset. Ok (base, offset)))
 
 -- without the first and the last byte
 abbrev pub inside : List ℕ → List ℕ
@@ -55,4 +56,5 @@ inside text = take (length text - 1 - 1) (drop 1 text)
 
 -- in brackets
 abbrev pub memory_said : List ℕ → Result (Register × ℤ) LineFault
-memory_said text = if nat_le 2 (length text) && (has 0 91 text && has (length text - 1) 93 text) then address_said (inside text) else Err Operands
+memory_said text = if nat_le 2 (length text) && (has 0 91 text && has (length text - 1) 93 text) then
+    address_said (inside text) else Err Operands

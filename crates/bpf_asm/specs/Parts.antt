@@ -41,7 +41,8 @@ parts_of (insn.Order order width dst) = with_one (mnemonic.Order order width) (R
 parts_of (insn.LoadWide dst value) = with_two mnemonic.LoadWide (Reg dst) (Wide value)
 parts_of (insn.Jump offset) = with_one mnemonic.Jump (Jump offset)
 parts_of (insn.JumpLong offset) = with_one mnemonic.JumpLong (JumpLong offset)
-parts_of (insn.JumpIf width condition dst second offset) = with_three (mnemonic.JumpIf width condition) (Reg dst) (source_operand second) (Jump offset)
+parts_of (insn.JumpIf width condition dst second offset) =
+    with_three (mnemonic.JumpIf width condition) (Reg dst) (source_operand second) (Jump offset)
 parts_of (insn.Load size dst base offset) = with_two (mnemonic.Load size) (Reg dst) (Memory base offset)
 parts_of (insn.LoadSigned size dst base offset) = with_two (mnemonic.LoadSigned size) (Reg dst) (Memory base offset)
 parts_of (insn.StoreImm size base offset imm) = with_two (mnemonic.StoreImm size) (Memory base offset) (Number imm)

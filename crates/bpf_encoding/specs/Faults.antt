@@ -32,7 +32,9 @@ alu_uses is64 code x f =
     if (code == 3) || (code == 9) then uses_if (int_eq f.offset (pos 0) || int_eq f.offset (pos 1)) (uses true x true (not x)) else
     if code == 8 then uses_if (not x) (uses true false false false) else
     if code == 11 then (
-    if x then uses_if (int_eq f.offset (pos 0) || (int_eq f.offset (pos 8) || (int_eq f.offset (pos 16) || (is64 && int_eq f.offset (pos 32))))) (uses true true true false)
+    if x then uses_if
+    (int_eq f.offset (pos 0) || (int_eq f.offset (pos 8) || (int_eq f.offset (pos 16) || (is64 && int_eq f.offset (pos 32)))))
+    (uses true true true false)
     else uses_if (int_eq f.offset (pos 0)) (uses true false true true)
     ) else
     if code == 13 then (if is64 && x then None else order_uses f) else
@@ -52,11 +54,14 @@ jump32_uses code x f =
 
 abbrev pub load_uses : ℕ → Option Uses
 load_uses opcode =
-    uses_if ((opcode == 0x61) || ((opcode == 0x69) || ((opcode == 0x71) || ((opcode == 0x79) || ((opcode == 0x81) || ((opcode == 0x89) || (opcode == 0x91)))))))
+    uses_if
+    ((opcode == 0x61) || ((opcode == 0x69) || ((opcode == 0x71) || ((opcode == 0x79)
+    || ((opcode == 0x81) || ((opcode == 0x89) || (opcode == 0x91)))))))
     (uses true true true false)
 
 abbrev pub store_imm_uses : ℕ → Option Uses
-store_imm_uses opcode = uses_if ((opcode == 0x62) || ((opcode == 0x6a) || ((opcode == 0x72) || (opcode == 0x7a)))) (uses true false true true)
+store_imm_uses opcode =
+    uses_if ((opcode == 0x62) || ((opcode == 0x6a) || ((opcode == 0x72) || (opcode == 0x7a)))) (uses true false true true)
 
 abbrev pub store_uses : ℕ → Option Uses
 store_uses opcode = uses_if ((opcode == 0x63) || ((opcode == 0x6b) || ((opcode == 0x73) || (opcode == 0x7b)))) (uses true true true false)
@@ -64,8 +69,11 @@ store_uses opcode = uses_if ((opcode == 0x63) || ((opcode == 0x6b) || ((opcode =
 -- ADD, OR, AND and XOR, each without and with FETCH; XCHG; CMPXCHG
 abbrev pub atomic_uses : Fields → Option Uses
 atomic_uses f =
-    uses_if (int_eq f.imm (pos 0x00) || (int_eq f.imm (pos 0x40) || (int_eq f.imm (pos 0x50) || (int_eq f.imm (pos 0xa0) || (int_eq f.imm (pos 0x01) || (int_eq f.imm (pos 0x41)
-    || (int_eq f.imm (pos 0x51) || (int_eq f.imm (pos 0xa1) || (int_eq f.imm (pos 0xe1) || int_eq f.imm (pos 0xf1)))))))))) (uses true true true true)
+    uses_if
+    (int_eq f.imm (pos 0x00) || (int_eq f.imm (pos 0x40) || (int_eq f.imm (pos 0x50)
+    || (int_eq f.imm (pos 0xa0) || (int_eq f.imm (pos 0x01) || (int_eq f.imm (pos 0x41)
+    || (int_eq f.imm (pos 0x51) || (int_eq f.imm (pos 0xa1) || (int_eq f.imm (pos 0xe1) || int_eq f.imm (pos 0xf1))))))))))
+    (uses true true true true)
 
 -- stores of a register; atomic operations have the mode ATOMIC and the sizes W and DW
 abbrev pub stx_uses : Fields → Option Uses
@@ -114,7 +122,8 @@ are_registers u f = names_register u.dst f.dst && names_register u.src f.src
 
 abbrev pub are_blank : Uses → Fields → Bool
 are_blank u f =
-    is_blank u.dst (f.dst == 0) && (is_blank u.src (f.src == 0) && (is_blank u.offset (int_eq f.offset (pos 0)) && is_blank u.imm (int_eq f.imm (pos 0))))
+    is_blank u.dst (f.dst == 0) && (is_blank u.src (f.src == 0)
+    && (is_blank u.offset (int_eq f.offset (pos 0)) && is_blank u.imm (int_eq f.imm (pos 0))))
 
 abbrev pub fault_by : Option Uses → Fields → Option SlotFault
 fault_by None f = Some Undefined

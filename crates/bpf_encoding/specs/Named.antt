@@ -138,7 +138,8 @@ jump_named w code x f =
 
 abbrev pub load_named : Fields → Insn
 load_named f =
-    if mode_of f.opcode == 4 then LoadSigned (signed_size_named (size_of f.opcode)) (register_named f.dst) (register_named f.src) f.offset else
+    if mode_of f.opcode == 4 then
+    LoadSigned (signed_size_named (size_of f.opcode)) (register_named f.dst) (register_named f.src) f.offset else
     Load (size_named (size_of f.opcode)) (register_named f.dst) (register_named f.src) f.offset
 
 abbrev pub atomic_operation_named : ℤ → AtomicOperation
@@ -160,7 +161,9 @@ atomic_width_named size = if size == 0 then Bits32 else Bits64
 
 abbrev pub store_named : Fields → Insn
 store_named f =
-    if mode_of f.opcode == 6 then Atomic (atomic_width_named (size_of f.opcode)) (atomic_operation_named f.imm) (register_named f.dst) (register_named f.src) f.offset else
+    if mode_of f.opcode == 6 then
+    Atomic (atomic_width_named (size_of f.opcode)) (atomic_operation_named f.imm) (register_named f.dst)
+    (register_named f.src) f.offset else
     Store (size_named (size_of f.opcode)) (register_named f.dst) (register_named f.src) f.offset
 
 -- of a wide instruction its first slot, with the low half of the value alone
@@ -184,8 +187,10 @@ abbrev pub named_from : Option (Register × ℕ) → List Fields → List Place
 named_from None [] = []
 named_from (Some half) [] = []
 named_from None (f ∷ fs) =
-    if is_wide_opcode f then named_from (Some (register_named f.dst, cast_unsigned w32 f.imm)) fs else place.Insn (insn_named f) ∷ named_from None fs
-named_from (Some half) (f ∷ fs) = place.Insn (LoadWide half.0 (wide_named half.1 (cast_unsigned w32 f.imm))) ∷ place.Second ∷ named_from None fs
+    if is_wide_opcode f then named_from (Some (register_named f.dst, cast_unsigned w32 f.imm)) fs else
+    place.Insn (insn_named f) ∷ named_from None fs
+named_from (Some half) (f ∷ fs) = place.Insn (LoadWide half.0 (wide_named half.1 (cast_unsigned w32 f.imm)))
+    ∷ place.Second ∷ named_from None fs
 
 -- the row of places that bytes name
 abbrev pub code_named : List ℕ → List Place

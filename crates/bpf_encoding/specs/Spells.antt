@@ -48,7 +48,8 @@ first_fault true place (f ∷ fs) = if is_second f then first_fault false (suc p
 abbrev pub fault_in : List ℕ → Option DecodeFault
 fault_in bytes =
     if length bytes == 0 then Some NoCode else
-    if length bytes % 8 == 0 then (if nat_lt (8 * MOST_SLOTS) (length bytes) then Some TooLong else first_fault false 0 (slots_of bytes)) else Some Length
+    if length bytes % 8 == 0 then
+    (if nat_lt (8 * MOST_SLOTS) (length bytes) then Some TooLong else first_fault false 0 (slots_of bytes)) else Some Length
 
 -- the first fault, want of memory aside
 abbrev pub IsFirstFault : Option DecodeFault → DecodeFault → Type 0

@@ -38,7 +38,10 @@ use Rattle.embedding.specs.declared.tc_part.TcPart.{TcPart}
 pub record Loads (p : TcPart) (f : Frame) (p' : TcPart) (f' : Frame) : Type 0 where
   pub fine : IsProcedure p.gathered.bytes.items p.gathered.slots.items f.word
   pub allowed : load_refusal p.state.dcs p.state.names (text_in f) p.gathered.slots.items ≡ None
-  pub is : p'.state ≡ record p.state { procs = p.state.procs ++ checked_of p.gathered.bytes.items p.gathered.slots.items f.word ∷ []; names = p.state.names ++ text_in f ∷ [] }
+  pub is : p'.state ≡ record p.state {
+    procs = p.state.procs ++ checked_of p.gathered.bytes.items p.gathered.slots.items f.word ∷ [];
+    names = p.state.names ++ text_in f ∷ [];
+  }
   pub number : f'.word ≡ length p.state.procs
 
 -- what was handed in is no procedure

@@ -31,7 +31,8 @@ abbrev pub payloads_in : List (Vec ℕ Global) → List (List ℕ)
 payloads_in vecs = map (λ (v : Vec ℕ Global). v.items) vecs
 
 -- the file is these frames, all of them on the disk
-pub record IsSettled {D : Type 0} (seen : D → List ℕ) (may_leave : D → List ℕ → Type 0) (file : FrameFile D) (payloads : List (List ℕ)) : Type 0 where
+pub record IsSettled {D : Type 0} (seen : D → List ℕ) (may_leave : D → List ℕ → Type 0)
+    (file : FrameFile D) (payloads : List (List ℕ)) : Type 0 where
   pub bytes : seen file.device ≡ frames_from 0 payloads
   pub count : file.count ≡ length payloads
   pub fit : ArePayloads payloads

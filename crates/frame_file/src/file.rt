@@ -57,7 +57,8 @@ impl<D: Device> FrameFile<D> {
     /// One frame more, behind those that the file has. At `Ok` it is acknowledged: from then on each crash
     /// leaves a file that has it. Refused as [`FrameFault::Full`] behind 2^64 - 1 frames.
     pub fn append(&mut self, alloc: Global, payload: &[u8]) -> Result<(), FrameFault>
-        ensures acknowledged { (payloads : List (List ℕ)) → IsSettled D.seen D.may_leave self.old payloads → OnOk result (IsSettled D.seen D.may_leave self.new (payloads ++ payload.now ∷ [])) }
+        ensures acknowledged { (payloads : List (List ℕ)) → IsSettled D.seen D.may_leave self.old payloads →
+            OnOk result (IsSettled D.seen D.may_leave self.new (payloads ++ payload.now ∷ [])) }
         // A crash at any moment of the call leaves the frames from before it, with the new one or without.
         ensures any_moment { (payloads : List (List ℕ)) → IsSettled D.seen D.may_leave self.old payloads
             → LeavesOnly D.moment D.left_since self.old.device self.new.device (IsBeforeOrAfter payloads payload.now) }

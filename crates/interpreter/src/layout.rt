@@ -100,7 +100,8 @@ impl Layout {
     /// The layout with its regions at these addresses; `None` where one is 0, two overlap or
     /// one ends past 2^47.
     pub fn new(stack: u64, args: u64, buffers: [u64; 16]) -> Option<Layout>
-        ensures { result ≡ (if is_layout (record { stack = stack; arguments = args; buffers = buffers }) then Some (record { stack = stack; arguments = args; buffers = buffers }) else None) }
+        ensures { result ≡ (if is_layout (record { stack = stack; arguments = args; buffers = buffers }) then
+            Some (record { stack = stack; arguments = args; buffers = buffers }) else None) }
     {
         let stands = is_in_reach(stack, STACK)
             && is_in_reach(args, ARGUMENTS)

@@ -191,43 +191,35 @@ fn moved<R: Threads + Wait + Sync + Abort>(
     left
 }
 
-fn moved_once<R: Threads + Wait + Sync + Abort>(
+// Behind `put 5 100` so many moves of an amount from record 5 onto itself leave this, since the last
+// write of the record stands.
+fn moves_leave<R: Threads + Wait + Sync + Abort>(
     rt: &R,
     alloc: Global,
+    amount: u64,
+    times: usize,
     workers: usize,
+    stands: u64,
 ) -> Result<(), Fail>
     requires { (1 ≤ workers) × (workers ≤ 64) }
 {
-    let left = moved(rt, alloc, 10, 1, workers)?;
-    assert_eq!(rt; left, Some(value(110)));
+    let left = moved(rt, alloc, amount, times, workers)?;
+    assert_eq!(rt; left, Some(value(stands)));
     Ok(())
 }
 
-// The last write of the record stands.
 #[test]
 fn one_record_moved_onto_itself(rt: HostRuntime) -> Result<(), Fail> {
-    moved_once(&rt, rt.alloc(), 1)?;
-    moved_once(&rt, rt.alloc(), 2)?;
-    moved_once(&rt, rt.alloc(), 8)
-}
-
-fn moved_eight_times<R: Threads + Wait + Sync + Abort>(
-    rt: &R,
-    alloc: Global,
-    workers: usize,
-) -> Result<(), Fail>
-    requires { (1 ≤ workers) × (workers ≤ 64) }
-{
-    let left = moved(rt, alloc, 1, 8, workers)?;
-    assert_eq!(rt; left, Some(value(108)));
-    Ok(())
+    moves_leave(&rt, rt.alloc(), 10, 1, 1, 110)?;
+    moves_leave(&rt, rt.alloc(), 10, 1, 2, 110)?;
+    moves_leave(&rt, rt.alloc(), 10, 1, 8, 110)
 }
 
 #[test]
 fn eight_moves_by_any_number_of_workers(rt: HostRuntime) -> Result<(), Fail> {
-    moved_eight_times(&rt, rt.alloc(), 1)?;
-    moved_eight_times(&rt, rt.alloc(), 2)?;
-    moved_eight_times(&rt, rt.alloc(), 8)
+    moves_leave(&rt, rt.alloc(), 1, 8, 1, 108)?;
+    moves_leave(&rt, rt.alloc(), 1, 8, 2, 108)?;
+    moves_leave(&rt, rt.alloc(), 1, 8, 8, 108)
 }
 
 // Holds call 0 until call 1 is answered: as a gate where it is begun, as a link at the first carry

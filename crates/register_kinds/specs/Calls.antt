@@ -32,7 +32,8 @@ answer_kind helper slot =
     if int_eq helper (pos 5) then Buffer slot (pos 0) else Number
 
 abbrev pub called_at : Kinds → ℤ → ℕ → Mode → Result Ways Violation
-called_at ks helper k mode = check (suffices mode helper) ModeTooWeak (Ok (record { next = Some (after_call ks (answer_kind helper k)); jump = None }))
+called_at ks helper k mode = check (suffices mode helper) ModeTooWeak
+    (Ok (record { next = Some (after_call ks (answer_kind helper k)); jump = None }))
 
 abbrev pub called_slot : Kinds → ℤ → ℕ → Option Slot → Result Ways Violation
 called_slot ks helper k None = Err SlotUnknown

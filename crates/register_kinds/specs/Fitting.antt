@@ -59,7 +59,8 @@ buffer_shapes bases = map (λ base. record { base = base; writable = true; size 
 -- the stack, the arguments given, and the buffers of the declared slots
 abbrev pub shapes_of : Setting → List Shape
 shapes_of s =
-    record { base = s.bases.stack; writable = true; size = 512 } ∷ record { base = s.bases.arguments; writable = false; size = 8 * length s.args }
+    record { base = s.bases.stack; writable = true; size = 512 }
+    ∷ record { base = s.bases.arguments; writable = false; size = 8 * length s.args }
     ∷ buffer_shapes (take (length s.program.decl.slots) s.bases.buffers)
 
 -- a layout, and as many arguments and slots as a declaration has
@@ -102,4 +103,5 @@ Lands at (Some offset) = (to : ℕ) × (place_of (pos (at + 1) +ℤ offset) ≡ 
 -- with each layout and arguments of this declaration, a step of the instruction from what fits these kinds is sound
 abbrev pub KeepsKinds : Declaration → Insn → Kinds → Ways → Type 0
 KeepsKinds decl i ks ways =
-    (s : Setting) (c : Config) → s.program.decl ≡ decl → IsSetting s → AllFit s ks c.registers → IsStanding s c → Lands c.place (jump_offset i) → IsSound s c.place c.taken i ways (instruction_step s c i)
+    (s : Setting) (c : Config) → s.program.decl ≡ decl → IsSetting s → AllFit s ks c.registers → IsStanding s c →
+    Lands c.place (jump_offset i) → IsSound s c.place c.taken i ways (instruction_step s c i)

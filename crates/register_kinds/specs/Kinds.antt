@@ -9,7 +9,10 @@ use Rattle.register_kinds.specs.declared.kinds.Kinds.{Kinds}
 
 -- register 1 has the arguments' address, register 10 that of the end of the stack of 512 bytes
 abbrev pub entry_kinds : Kinds
-entry_kinds = record { registers = Empty ∷ Args (pos 0) ∷ Empty ∷ Empty ∷ Empty ∷ Empty ∷ Empty ∷ Empty ∷ Empty ∷ Empty ∷ Stack (pos 512) ∷ [] }
+entry_kinds = record {
+  registers = Empty ∷ Args (pos 0) ∷ Empty ∷ Empty ∷ Empty ∷ Empty ∷ Empty ∷ Empty ∷ Empty
+      ∷ Empty ∷ Stack (pos 512) ∷ [];
+}
 
 abbrev pub kind_at : Kinds → ℕ → Kind
 kind_at ks r = slice_index_or ks.registers r Empty

@@ -52,7 +52,8 @@ written_kinds ks dst k = check (is_writable dst) WritesR10 (falls (with_kind ks 
 abbrev pub alu_ways : Kinds → Width → Operation → Register → Source → Result Ways Violation
 alu_ways ks width operation dst source =
     check (is_left_present ks operation dst) EmptyRegister (
-    check (is_present (source_kind ks source)) EmptyRegister (written_kinds ks dst (alu_kind width operation (kind_at ks (number_of dst)) (source_kind ks source)))
+    check (is_present (source_kind ks source)) EmptyRegister
+    (written_kinds ks dst (alu_kind width operation (kind_at ks (number_of dst)) (source_kind ks source)))
     )
 
 -- a number is computed from one register into another
@@ -65,14 +66,17 @@ filled_kinds ks dst violation = check (is_writable dst) WritesR10 (refuse violat
 
 abbrev pub loaded_kinds : Declaration → Kinds → Register → Register → ℤ → ℕ → Result Ways Violation
 loaded_kinds decl ks dst base offset bytes =
-    check (is_present (kind_at ks (number_of base))) EmptyRegister (filled_kinds ks dst (access decl false (kind_at ks (number_of base)) offset bytes))
+    check (is_present (kind_at ks (number_of base))) EmptyRegister
+    (filled_kinds ks dst (access decl false (kind_at ks (number_of base)) offset bytes))
 
 abbrev pub stored_kinds : Declaration → Kinds → Register → ℤ → ℕ → Result Ways Violation
 stored_kinds decl ks base offset bytes =
-    check (is_present (kind_at ks (number_of base))) EmptyRegister (refuse (access decl true (kind_at ks (number_of base)) offset bytes) (falls ks))
+    check (is_present (kind_at ks (number_of base))) EmptyRegister
+    (refuse (access decl true (kind_at ks (number_of base)) offset bytes) (falls ks))
 
 abbrev pub stored_register_kinds : Declaration → Kinds → Register → Register → ℤ → ℕ → Result Ways Violation
-stored_register_kinds decl ks base src offset bytes = check (is_present (kind_at ks (number_of src))) EmptyRegister (stored_kinds decl ks base offset bytes)
+stored_register_kinds decl ks base src offset bytes =
+    check (is_present (kind_at ks (number_of src))) EmptyRegister (stored_kinds decl ks base offset bytes)
 
 -- only one atomic operation compares, with register 0
 abbrev pub is_expected_present : Kinds → AtomicOperation → Bool
@@ -86,7 +90,8 @@ received_ways ks (Some r) violation = filled_kinds ks r violation
 
 abbrev pub exchanged_ways : Declaration → Kinds → Option Register → Register → ℤ → ℕ → Result Ways Violation
 exchanged_ways decl ks into base offset bytes =
-    check (is_present (kind_at ks (number_of base))) EmptyRegister (received_ways ks into (access decl true (kind_at ks (number_of base)) offset bytes))
+    check (is_present (kind_at ks (number_of base))) EmptyRegister
+    (received_ways ks into (access decl true (kind_at ks (number_of base)) offset bytes))
 
 abbrev pub atomic_ways : Declaration → Kinds → AtomicOperation → Register → Register → ℤ → ℕ → Result Ways Violation
 atomic_ways decl ks operation base src offset bytes =
@@ -105,21 +110,26 @@ null_test width condition source = None
 
 -- both ways of a condition; a buffer's address that may be 0 is told apart by the test
 abbrev pub branch_ways : Option Bool → Kind → ℕ → Kinds → Ways
-branch_ways (Some true) (MaybeBuffer slot) r ks = record { next = Some (with_kind ks r (Buffer slot (pos 0))); jump = Some (with_kind ks r (Const 0)) }
-branch_ways (Some false) (MaybeBuffer slot) r ks = record { next = Some (with_kind ks r (Const 0)); jump = Some (with_kind ks r (Buffer slot (pos 0))) }
+branch_ways (Some true) (MaybeBuffer slot) r ks =
+    record { next = Some (with_kind ks r (Buffer slot (pos 0))); jump = Some (with_kind ks r (Const 0)) }
+branch_ways (Some false) (MaybeBuffer slot) r ks =
+    record { next = Some (with_kind ks r (Const 0)); jump = Some (with_kind ks r (Buffer slot (pos 0))) }
 branch_ways test kind r ks = record { next = Some ks; jump = Some ks }
 
 abbrev pub compared_ways : Kinds → Width → Condition → Register → Source → Result Ways Violation
 compared_ways ks width condition dst source =
     check (is_present (kind_at ks (number_of dst))) EmptyRegister (
-    check (is_present (source_kind ks source)) EmptyRegister (Ok (branch_ways (null_test width condition source) (kind_at ks (number_of dst)) (number_of dst) ks))
+    check (is_present (source_kind ks source)) EmptyRegister
+    (Ok (branch_ways (null_test width condition source) (kind_at ks (number_of dst)) (number_of dst) ks))
     )
 
 abbrev pub called_ways : Declaration → Kinds → ℤ → Result Ways Violation
-called_ways decl ks helper = check (is_present (kind_at ks 1)) EmptyRegister (check (is_helper helper) UnknownHelper (called_by decl ks helper (kind_at ks 1)))
+called_ways decl ks helper = check (is_present (kind_at ks 1)) EmptyRegister
+    (check (is_helper helper) UnknownHelper (called_by decl ks helper (kind_at ks 1)))
 
 abbrev pub exit_ways : Kinds → Result Ways Violation
-exit_ways ks = check (is_present (kind_at ks 0)) EmptyRegister (check (is_plain (kind_at ks 0)) PointerReturned (Ok (record { next = None; jump = None })))
+exit_ways ks = check (is_present (kind_at ks 0)) EmptyRegister
+    (check (is_plain (kind_at ks 0)) PointerReturned (Ok (record { next = None; jump = None })))
 
 -- the kinds at the next slot and at the jump's target, or the first thing that the instruction may not do
 abbrev pub transfer_of : Declaration → Insn → Kinds → Result Ways Violation
@@ -135,6 +145,7 @@ transfer_of decl (Load size dst base offset) ks = loaded_kinds decl ks dst base 
 transfer_of decl (LoadSigned size dst base offset) ks = loaded_kinds decl ks dst base offset (byte_len (signed_size_width size))
 transfer_of decl (StoreImm size base offset imm) ks = stored_kinds decl ks base offset (byte_len (size_width size))
 transfer_of decl (Store size base src offset) ks = stored_register_kinds decl ks base src offset (byte_len (size_width size))
-transfer_of decl (Atomic width operation base src offset) ks = atomic_ways decl ks operation base src offset (byte_len (width_of (is_64 width)))
+transfer_of decl (Atomic width operation base src offset) ks =
+    atomic_ways decl ks operation base src offset (byte_len (width_of (is_64 width)))
 transfer_of decl (Call helper) ks = called_ways decl ks helper
 transfer_of decl Exit ks = exit_ways ks

@@ -75,7 +75,8 @@ pub record Keeps (start : Core) (calls : List Call) (state : Core) (ps : List Pr
   pub one_each : length ps ≡ length calls
   pub fits : (k : ℕ) (p : Progress) (c : Call) → slice_get ps k ≡ Some p → slice_get calls k ≡ Some c → Fits start state (call_of c) p
   pub recent : (k : ℕ) (p : Progress) (t : ℕ) → slice_get ps k ≡ Some p → txn_of p ≡ Some t → t ≤ admitted state.events
-  pub own : (i j : ℕ) (p q : Progress) (t : ℕ) → slice_get ps i ≡ Some p → slice_get ps j ≡ Some q → txn_of p ≡ Some t → txn_of q ≡ Some t → i ≡ j
+  pub own : (i j : ℕ) (p q : Progress) (t : ℕ) → slice_get ps i ≡ Some p → slice_get ps j ≡ Some q → txn_of p ≡ Some t →
+      txn_of q ≡ Some t → i ≡ j
   pub known : (place t proc : ℕ) (args : List ℕ) → length start.events ≤ place
       → StandsAt state.events place (Admit t proc args) → IsAdmittedFor calls ps t proc args
   pub below : (k : ℕ) (p : Progress) (place : ℕ) → slice_get ps k ≡ Some p → place_in p ≡ Some place → place < length state.events

@@ -76,23 +76,19 @@ fn is_told(rt: &impl Abort, world: &mut World) {
     stops(rt, world, &Step::Tell(0), Illegal::OldNews);
 }
 
-// The put is redone, and the component is up.
-fn is_redone(rt: &impl Abort, world: &mut World) {
+// The put is redone, and the component is up. The reply has this place.
+fn is_redone(rt: &impl Abort, world: &mut World, place: usize) {
     goes(
         rt,
         world,
         &Step::Redo(0),
         Outcome::Redoing(1, redo_of_put()),
     );
-    let reply = Reply {
-        number: 1,
-        incarnation: 1,
-        said: Said::Done(None),
-    };
-    goes(rt, world, &Step::Perform(1), Outcome::Replied(1, reply));
+    let reply = done(1, 1);
+    goes(rt, world, &Step::Perform(1), Outcome::Replied(place, reply));
     five_stands(rt, world, true);
     stops(rt, world, &Step::Take(0), Illegal::Stranger);
-    goes(rt, world, &Step::Take(1), Outcome::Redone(1));
+    goes(rt, world, &Step::Take(place), Outcome::Redone(1));
     goes(rt, world, &Step::Redo(0), Outcome::Up(0));
 }
 
@@ -104,7 +100,7 @@ fn put_lost_and_redone(
     is_put(rt, alloc, world, (1, 0), 5)?;
     row_is_lost(rt, world);
     is_told(rt, world);
-    is_redone(rt, world);
+    is_redone(rt, world, 1);
     Ok(())
 }
 
@@ -112,6 +108,54 @@ fn put_lost_and_redone(
 fn a_row_lost_and_redone(rt: HostRuntime) -> Result<(), Fail> {
     let mut world = world(&rt, rt.alloc())?;
     let passed = put_lost_and_redone(&rt, rt.alloc(), &mut world);
+    closed(world);
+    Ok(passed?)
+}
+
+// A reply that nobody gave is a stranger to the redo.
+fn is_stranger(rt: &impl Abort, world: &mut World, place: usize, reply: Reply) {
+    goes(rt, world, &Step::Forge(reply), Outcome::Forged(place));
+    stops(rt, world, &Step::Take(place), Illegal::Stranger);
+}
+
+// An insert that was done.
+fn done(number: u64, incarnation: u64) -> Reply {
+    Reply {
+        number,
+        incarnation,
+        said: Said::Done(None),
+    }
+}
+
+// A put is redone by its logged answer, under its number, of the incarnation that was told, and by no other.
+fn others_redo_nothing(rt: &impl Abort, world: &mut World) {
+    let redo = Outcome::Redoing(1, redo_of_put());
+    goes(rt, world, &Step::Redo(0), redo);
+    let duplicate = Reply {
+        number: 1,
+        incarnation: 1,
+        said: Said::Duplicate,
+    };
+    is_stranger(rt, world, 1, duplicate);
+    is_stranger(rt, world, 2, done(2, 1));
+    is_stranger(rt, world, 3, done(1, 0));
+    let reply = done(1, 1);
+    goes(rt, world, &Step::Perform(1), Outcome::Replied(4, reply));
+    goes(rt, world, &Step::Take(4), Outcome::Redone(1));
+}
+
+fn put_and_others(rt: &impl Abort, alloc: Global, world: &mut World) -> Result<(), AllocError> {
+    is_put(rt, alloc, world, (1, 0), 5)?;
+    row_is_lost(rt, world);
+    is_told(rt, world);
+    others_redo_nothing(rt, world);
+    Ok(())
+}
+
+#[test]
+fn redone_by_its_own_answer_alone(rt: HostRuntime) -> Result<(), Fail> {
+    let mut world = world(&rt, rt.alloc())?;
+    let passed = put_and_others(&rt, rt.alloc(), &mut world);
     closed(world);
     Ok(passed?)
 }
@@ -124,13 +168,16 @@ fn row_is_kept(rt: &impl Abort, world: &mut World) {
     goes(rt, world, &Step::Tell(0), Outcome::Told(0, first_news()));
 }
 
-// A request while its component is down is held back, and sent once that is up.
+// A request while its component is down is held back, and sent once that is up. Nothing answers it while that is
+// down, and nothing of the incarnation before.
 fn is_held(rt: &impl Abort, world: &mut World, admit: &Step) {
     goes(rt, world, admit, Outcome::Admitted(2));
     let insert = Op::Insert(record(6), value(1));
     goes(rt, world, &Step::Ask(2), Outcome::Held(2, insert));
     stops(rt, world, &Step::Resend(2), Illegal::Down(0));
-    is_redone(rt, world);
+    is_stranger(rt, world, 1, done(2, 1));
+    is_redone(rt, world, 2);
+    is_stranger(rt, world, 3, done(2, 0));
     let wire = Wire {
         number: 2,
         low_water: 1,

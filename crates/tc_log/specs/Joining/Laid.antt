@@ -14,7 +14,16 @@ body_bytes (Value v) = v.now
 body_bytes (Args args) = args_bytes args.now
 
 abbrev pub laid : Cells → printed.Cells
-laid c = record { kind = c.kind; sub = c.sub; dc = c.dc; table = c.table; txn = c.txn; word = c.word; key = c.key; body = body_bytes c.body }
+laid c = record {
+  kind = c.kind;
+  sub = c.sub;
+  dc = c.dc;
+  table = c.table;
+  txn = c.txn;
+  word = c.word;
+  key = c.key;
+  body = body_bytes c.body;
+}
 
 abbrev pub laid_if : Option Cells → Option printed.Cells
 laid_if o = option_map laid o
