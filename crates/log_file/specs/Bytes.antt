@@ -32,7 +32,8 @@ mark_of (Up n) = 0
 -- 32 bytes: the data component, the kind, the incarnation and the mark
 unfoldable pub note_bytes : Note → List ℕ
 note_bytes n =
-    ((to_le_bytes w64 n.dc ++ to_le_bytes w64 (kind_of n.known)) ++ to_le_bytes w64 (incarnation_of n.known)) ++ to_le_bytes w64 (mark_of n.known)
+    ((to_le_bytes w64 n.dc ++ to_le_bytes w64 (kind_of n.known)) ++ to_le_bytes w64 (incarnation_of n.known))
+    ++ to_le_bytes w64 (mark_of n.known)
 
 -- ---- what one sync writes
 

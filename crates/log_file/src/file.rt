@@ -51,7 +51,8 @@ impl<D: Device> LogFile<D> {
             × IsSettled D.seen D.may_leave self.new.frames payloads × Says header.now payloads r.notes.items (reverse r.log.events)) }
         ensures empty { IsErrOf result EmptyFault → IsSettled D.seen D.may_leave self.new.frames [] }
         ensures fault { IfErr result (IsOpenFault header.now (D.seen self.old.frames.device)) }
-        ensures any_moment { LeavesOnly D.moment D.left_since self.old.frames.device self.new.frames.device (ReadsAs (D.seen self.old.frames.device)) }
+        ensures any_moment { LeavesOnly D.moment D.left_since self.old.frames.device self.new.frames.device
+            (ReadsAs (D.seen self.old.frames.device)) }
     {
         let payloads = self.frames.recover(alloc)?;
         read_log(alloc, header, &payloads)
@@ -59,9 +60,11 @@ impl<D: Device> LogFile<D> {
 
     /// Begins the log of a file without frames, which `open` has found [`OpenFault::Empty`].
     pub fn create(&mut self, alloc: Global, header: &Header) -> Result<(), FrameFault>
-        ensures acknowledged { IsSettled D.seen D.may_leave self.old.frames [] → OnOk result (IsSettled D.seen D.may_leave self.new.frames (header_bytes header.now ∷ [])) }
+        ensures acknowledged { IsSettled D.seen D.may_leave self.old.frames [] →
+            OnOk result (IsSettled D.seen D.may_leave self.new.frames (header_bytes header.now ∷ [])) }
         ensures any_moment { IsSettled D.seen D.may_leave self.old.frames []
-            → LeavesOnly D.moment D.left_since self.old.frames.device self.new.frames.device (IsBeforeOrAfter [] (header_bytes header.now)) }
+            → LeavesOnly D.moment D.left_since self.old.frames.device self.new.frames.device
+            (IsBeforeOrAfter [] (header_bytes header.now)) }
         ensures failed { IsErrOf result (DeviceFault Failed) → D.faults self.old.frames.device < D.faults self.new.frames.device }
     {
         let payload = header_bytes(alloc, header)?;
@@ -72,7 +75,8 @@ impl<D: Device> LogFile<D> {
     /// is acknowledged: from then on each crash leaves a file that has it.
     pub fn append(&mut self, alloc: Global, notes: &[Note], rows: &[u8]) -> Result<(), FrameFault>
         ensures acknowledged { (payloads : List (List ℕ)) → IsSettled D.seen D.may_leave self.old.frames payloads
-            → OnOk result (IsSettled D.seen D.may_leave self.new.frames (payloads ++ batch_bytes (record { notes = notes.now; rows = rows.now }) ∷ [])) }
+            → OnOk result (IsSettled D.seen D.may_leave self.new.frames (payloads
+            ++ batch_bytes (record { notes = notes.now; rows = rows.now }) ∷ [])) }
         // A crash at any moment of the call leaves all that was there before it, with this or without.
         ensures any_moment { (payloads : List (List ℕ)) → IsSettled D.seen D.may_leave self.old.frames payloads
             → LeavesOnly D.moment D.left_since self.old.frames.device self.new.frames.device

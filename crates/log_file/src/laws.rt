@@ -21,14 +21,18 @@ pub fn headers_tell()
 
 /// What a file of batches says are the events whose rows they have, and the last notes.
 pub fn read_as_written()
-    ensures { (h : HeaderValue) (batches : List Batch) (known : List SiteNote) (events written : List Event) → AreBatches h.dcs batches → AreEvents written
-        → ArePrinted written (rows_of batches) → Says h (payloads_of h batches) known events → (events ≡ written) × (known ≡ last_known h.dcs (notes_of batches)) }
+    ensures { (h : HeaderValue) (batches : List Batch) (known : List SiteNote) (events written : List Event) →
+        AreBatches h.dcs batches → AreEvents written
+        → ArePrinted written (rows_of batches) → Says h (payloads_of h batches) known events → (events ≡ written) ×
+        (known ≡ last_known h.dcs (notes_of batches)) }
 {}
 
 /// So a legal log whose rows were written is read again.
 pub fn legal_logs_are_read()
-    ensures { (h : HeaderValue) (ps : List Checked) (log : List Event) (batches : List Batch) (known : List SiteNote) (events : List Event) → AllTakeFew ps → Legal ps log
-        → AreEvents (reverse log) → AreBatches h.dcs batches → rows_of batches ≡ flat_map printed (reverse log) → Says h (payloads_of h batches) known events → events ≡ reverse log }
+    ensures { (h : HeaderValue) (ps : List Checked) (log : List Event) (batches : List Batch) (known : List SiteNote)
+        (events : List Event) → AllTakeFew ps → Legal ps log
+        → AreEvents (reverse log) → AreBatches h.dcs batches → rows_of batches ≡ flat_map printed (reverse log) →
+        Says h (payloads_of h batches) known events → events ≡ reverse log }
 {}
 
 /// Whatever a crash left while something was being appended, the batches from before it are read.
@@ -39,7 +43,9 @@ pub fn acknowledged_are_read()
 
 /// And no other than the one that was being appended, but for a checksum that is right by chance.
 pub fn crashes_are_read()
-    ensures { (h : HeaderValue) (batches found : List Batch) (batch : Batch) (file : List ℕ) → AreBatches h.dcs batches → IsBatch h.dcs batch → AreBatches h.dcs found
-        → IsBeforeOrAfter (payloads_of h batches) (batch_bytes batch) file → IsTold (payloads_of h batches) (batch_bytes batch) file → Reads file (payloads_of h found)
+    ensures { (h : HeaderValue) (batches found : List Batch) (batch : Batch) (file : List ℕ) → AreBatches h.dcs batches →
+        IsBatch h.dcs batch → AreBatches h.dcs found
+        → IsBeforeOrAfter (payloads_of h batches) (batch_bytes batch) file → IsTold (payloads_of h batches) (batch_bytes batch) file →
+        Reads file (payloads_of h found)
         → (found ≡ batches) ⊎ (found ≡ batches ++ batch ∷ []) }
 {}

@@ -18,7 +18,8 @@ known_in kind n mark = if kind == 0 then Untold else if kind == 1 then Restarted
 abbrev pub note_in : List ℕ → Note
 note_in bytes = record {
   dc = from_le_bytes w64 (take 8 bytes);
-  known = known_in (from_le_bytes w64 (take 8 (drop 8 bytes))) (from_le_bytes w64 (take 8 (drop 16 bytes))) (from_le_bytes w64 (take 8 (drop 24 bytes)));
+  known = known_in (from_le_bytes w64 (take 8 (drop 8 bytes))) (from_le_bytes w64 (take 8 (drop 16 bytes)))
+      (from_le_bytes w64 (take 8 (drop 24 bytes)));
 }
 
 abbrev pub notes_in : ℕ → List ℕ → List Note
