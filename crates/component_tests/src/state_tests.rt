@@ -1,7 +1,7 @@
 // Worked runs on the state without a world, and calls and replies that are refused.
 
 use crate::log_tests::prints_to;
-use access_slots::op::{Op, Reply, Said, Wire};
+use access_slots::op::{News, Op, Reply, Said, Wire};
 use lock_table::table::Busy;
 use samples::{
     BAD, DROP, PUT, PUT_AND_ABORT, call, loaded, log_bytes, put_procedure, record, value,
@@ -10,7 +10,9 @@ use std::alloc::{AllocError, Global};
 use std::process::Abort;
 use std::test::Fail;
 use tc_core::procs::{LoadFault, LoadRefusal, Procs};
-use tc_core::state::{Asked, Call, NotOver, Receipt, Refusal, Request, Stranger, TcState, TxnId};
+use tc_core::state::{
+    Asked, Call, NotOver, Receipt, Redo, Refusal, Request, Stranger, TcState, TxnId,
+};
 use tc_log::event::Outcome;
 use verifier::verify::Verified;
 
@@ -481,6 +483,54 @@ fn is_given_up(rt: &impl Abort, alloc: Global, tc: &mut TcState) -> Result<(), A
 fn a_request_given_up(rt: HostRuntime) -> Result<(), Fail> {
     let mut tc = state(rt.alloc())?;
     let passed = is_given_up(&rt, rt.alloc(), &mut tc);
+    drop(tc);
+    Ok(passed?)
+}
+
+// That the insert was done, as this incarnation says it.
+fn inserted(incarnation: u64) -> Reply {
+    Reply {
+        number: 1,
+        incarnation,
+        said: Said::Done(None),
+    }
+}
+
+// The request, to which the reply is a stranger.
+fn still_open(rt: &impl Abort, tc: &mut TcState, request: Request, reply: Reply) -> Request {
+    match tc.answer(request, reply) {
+        Ok(()) => panic!(rt; "answered"),
+        Err(Stranger { request }) => request,
+    }
+}
+
+// Behind a restart nothing is an answer until the redo is over, and then what the incarnation says that was told.
+fn restarted_meanwhile(rt: &impl Abort, tc: &mut TcState, txn: TxnId) {
+    let news = News {
+        incarnation: 1,
+        mark: 0,
+    };
+    let request = request_in(rt, tc.ask(txn));
+    let told = tc.told(0, news);
+    let request = still_open(rt, tc, request, inserted(1));
+    let redo = tc.redo_next(0);
+    let request = still_open(rt, tc, request, inserted(0));
+    answered(rt, tc, request, inserted(1));
+    assert_eq!(rt; told, Ok(()));
+    assert_eq!(rt; redo, Redo::Finished);
+}
+
+fn put_over_a_restart(rt: &impl Abort, alloc: Global, tc: &mut TcState) -> Result<(), AllocError> {
+    let txn = before_put(rt, alloc, tc)?;
+    restarted_meanwhile(rt, tc, txn);
+    assert_eq!(rt; ask_word(tc, txn), ("over", 0));
+    Ok(())
+}
+
+#[test]
+fn answers_of_the_incarnation_that_was_told(rt: HostRuntime) -> Result<(), Fail> {
+    let mut tc = state(rt.alloc())?;
+    let passed = put_over_a_restart(&rt, rt.alloc(), &mut tc);
     drop(tc);
     Ok(passed?)
 }

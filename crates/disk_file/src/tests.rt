@@ -1,3 +1,7 @@
+ghost use Rattle.std.specs.Prelude.{IfOk};
+ghost use Rattle.frame_file.specs.Device.{Only};
+ghost use Rattle.disk_file.specs.Disk.{disk_bytes, left_of};
+
 use crate::{DiskFile, OpenError};
 use frame_file::FrameFile;
 use std::fs;
@@ -5,7 +9,9 @@ use std::test::Fail;
 
 const PATH: &str = "disk_file_test";
 
-fn opened(rt: &HostRuntime) -> Result<FrameFile<DiskFile>, OpenError> {
+fn opened(rt: &HostRuntime) -> Result<FrameFile<DiskFile>, OpenError>
+    ensures { IfOk result (λ f. Only (disk_bytes f.device) (left_of f.device)) }
+{
     Ok(FrameFile::new(DiskFile::open(rt, PATH)?))
 }
 
