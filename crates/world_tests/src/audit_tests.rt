@@ -92,53 +92,69 @@ fn audited_with(
     Ok(says)
 }
 
+// It says this of a log and one data component.
+fn says(
+    rt: &impl Abort,
+    alloc: Global,
+    tc: &TcState,
+    records: &[LogRecord],
+    number: Option<u64>,
+    wanted: Result<Audited, AuditFault>,
+) -> Result<(), AllocError> {
+    let said = audited(rt, alloc, tc, records, number)?;
+    assert_eq!(rt; said, wanted);
+    Ok(())
+}
+
 // What it says of `put 5 100` ended, cut short, without its insert, and beside other data components.
-fn tells(rt: &impl Abort, alloc: Global, tc: &TcState) -> Result<(), Fail> {
-    let ok = Audited { ended: 1, left: 0 };
-    assert_eq!(rt; audited(rt, alloc, tc, &PUT, Some(100))?, Ok(ok));
+fn tells(rt: &impl Abort, alloc: Global, tc: &TcState) -> Result<(), AllocError> {
+    let ended = Audited { ended: 1, left: 0 };
     let open = Audited { ended: 0, left: 1 };
-    assert_eq!(rt; audited(rt, alloc, tc, &PUT[..3], Some(100))?, Ok(open));
+    says(rt, alloc, tc, &PUT, Some(100), Ok(ended))?;
+    says(rt, alloc, tc, &PUT[..3], Some(100), Ok(open))?;
     // the list has it, the log doesn't
-    assert_eq!(rt;
-        audited(rt, alloc, tc, &PUT[..1], Some(100))?,
-        Err(AuditFault::NotAsked(0, 0))
-    );
+    let not_asked = AuditFault::NotAsked(0, 0);
+    says(rt, alloc, tc, &PUT[..1], Some(100), Err(not_asked))?;
     // it may have been performed before it is answered
-    assert_eq!(rt; audited(rt, alloc, tc, &PUT[..2], Some(100))?, Ok(open));
-    assert_eq!(rt;
-        audited(rt, alloc, tc, &PUT, None)?,
-        Err(AuditFault::Mismatch(1))
-    );
-    assert_eq!(rt;
-        audited(rt, alloc, tc, &PUT, Some(99))?,
-        Err(AuditFault::NotAsked(0, 0))
-    );
-    assert_eq!(rt;
-        audited(rt, alloc, tc, &NO_INSERT, None)?,
-        Err(AuditFault::LogIllegal(1))
-    );
+    says(rt, alloc, tc, &PUT[..2], Some(100), Ok(open))?;
+    says(rt, alloc, tc, &PUT, None, Err(AuditFault::Mismatch(1)))?;
+    says(rt, alloc, tc, &PUT, Some(99), Err(not_asked))?;
+    let illegal = AuditFault::LogIllegal(1);
+    says(rt, alloc, tc, &NO_INSERT, None, Err(illegal))
+}
+
+// A data component with the record that has restarted, and kept it if it had a checkpoint.
+fn restarted_dc(rt: &impl Abort, alloc: Global, keeps: bool) -> Result<Dc, AllocError> {
+    let mut dc = dc_with(rt, alloc, Some(100))?;
+    if keeps {
+        dc.checkpoint();
+    }
+    assert!(rt; dc.restart().is_ok());
+    Ok(dc)
+}
+
+// It says this of two puts of one record and such a data component.
+fn says_behind(
+    rt: &impl Abort,
+    alloc: Global,
+    tc: &TcState,
+    keeps: bool,
+    wanted: Result<Audited, AuditFault>,
+) -> Result<(), AllocError> {
+    let dc = restarted_dc(rt, alloc, keeps)?;
+    let said = audited_with(alloc, tc, &AGAIN, dc)?;
+    assert_eq!(rt; said, wanted);
     Ok(())
 }
 
 // Behind a restart an insert that found the record there may be missing, and one that was done may
 // not; without a restart neither may.
-fn tells_of_restarts(rt: &impl Abort, alloc: Global, tc: &TcState) -> Result<(), Fail> {
-    let mut kept = dc_with(rt, alloc, Some(100))?;
-    kept.checkpoint();
-    assert!(rt; kept.restart().is_ok());
-    let ok = Audited { ended: 2, left: 0 };
-    assert_eq!(rt; audited_with(alloc, tc, &AGAIN, kept)?, Ok(ok));
-    let mut lost = dc_with(rt, alloc, Some(100))?;
-    assert!(rt; lost.restart().is_ok());
-    assert_eq!(rt;
-        audited_with(alloc, tc, &AGAIN, lost)?,
-        Err(AuditFault::Mismatch(1))
-    );
-    assert_eq!(rt;
-        audited(rt, alloc, tc, &AGAIN, Some(100))?,
-        Err(AuditFault::Mismatch(2))
-    );
-    Ok(())
+fn tells_of_restarts(rt: &impl Abort, alloc: Global, tc: &TcState) -> Result<(), AllocError> {
+    let ended = Audited { ended: 2, left: 0 };
+    says_behind(rt, alloc, tc, true, Ok(ended))?;
+    says_behind(rt, alloc, tc, false, Err(AuditFault::Mismatch(1)))?;
+    let missing = AuditFault::Mismatch(2);
+    says(rt, alloc, tc, &AGAIN, Some(100), Err(missing))
 }
 
 #[test]
@@ -146,7 +162,7 @@ fn restarted(rt: HostRuntime) -> Result<(), Fail> {
     let tc = loaded(rt.alloc(), 1).ok_or("not loaded")?;
     let told = tells_of_restarts(&rt, rt.alloc(), &tc);
     drop(tc);
-    told
+    Ok(told?)
 }
 
 #[test]
@@ -154,5 +170,5 @@ fn short_logs(rt: HostRuntime) -> Result<(), Fail> {
     let tc = loaded(rt.alloc(), 1).ok_or("not loaded")?;
     let told = tells(&rt, rt.alloc(), &tc);
     drop(tc);
-    told
+    Ok(told?)
 }
