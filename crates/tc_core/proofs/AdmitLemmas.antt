@@ -38,8 +38,8 @@ use Rattle.tc_core.specs.Loaded.{Loaded}
 use Rattle.tc_core.specs.Admission.{IsCalled, Takes, needed, IsFree, IsAdmissible}
 use Rattle.tc_core.specs.declared.transaction.Own.{Own}
 use Rattle.tc_core.proofs.MarkedLemmas.{marked-room}
-use Rattle.tc_core.proofs.KeyLemmas.{keys-room}
-use Rattle.tc_core.specs.Kept.{IsBook, core_of, Keeps, Matches, IsOpen, StandsAt, HasKey, Places, Rooms, Kept}
+use Rattle.tc_core.specs.Joining.Boxes.{StandsAt}
+use Rattle.tc_core.specs.Kept.{IsBook, core_of, Keeps, Matches, IsOpen, HasKey, Places, Rooms, Kept}
 use Rattle.tc_core.proofs.KeptLemmas.{calls_kept, held-admitted}
 
 pub book-room : (ps : List Checked) (b b' : Book) → IsBook ps b → OnlyRoom b b' → IsBook ps b'
@@ -82,7 +82,6 @@ book-room ps b b' is o =
       };
       most = omega (arith, most, given_same, promised, more_given_up);
       marked = marked-room _ _ _ _ _ _ is.marked o.given_up o.events o.slots;
-      keyed = keys-room _ _ _ _ is.keyed o.keys o.slots;
       starts = rw (o.events, o.sites, o.starts) is.starts;
     }
 

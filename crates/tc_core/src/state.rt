@@ -255,6 +255,7 @@ impl TcState {
     }
 
     /// Admits a call: it holds its locks, and has room for all that it may log, from now on.
+    #[inline(always)]
     pub fn admit(&mut self, call: &Call) -> Result<TxnId, Refusal>
         ensures ok { IfOk result (λ id. id.serial ≡ admitted self.old.events + 1) }
         ensures state { IfOk result (λ id. self.new ≡ with_event self.old (Admit id.serial call.now.proc call.now.args.items)) }
@@ -340,6 +341,7 @@ impl TcState {
     }
 
     /// Runs the transaction to its next operation or its end.
+    #[inline(always)]
     pub fn ask(&mut self, txn: TxnId) -> Asked
         ensures reply { result ≡ ask_reply self.old txn.serial }
         ensures state { self.new ≡ after_ask self.old result }
@@ -366,6 +368,7 @@ impl TcState {
     /// What is sent for a request now: its number and operation, the low-water mark of now and the
     /// known incarnation of its data component. A resend makes it again. Nothing is sent while the
     /// data component is down.
+    #[inline(always)]
     pub fn wire(&self, request: &Request) -> Result<Wire, Down>
         ensures { result ≡ wire_of self.now request.now }
     {
@@ -374,6 +377,7 @@ impl TcState {
 
     /// Takes a reply in. One that isn't to the request, or isn't of the known incarnation, or comes
     /// while the data component is down, changes nothing.
+    #[inline(always)]
     pub fn answer(&mut self, request: Request, reply: Reply) -> Result<(), Stranger>
         ensures accepted { IsOk result ↔ IsAnswer self.old request reply }
         ensures ok { OnOk result (self.new ≡ after_answer self.old request reply.said) }
@@ -427,6 +431,7 @@ impl TcState {
     }
 
     /// Ends a transaction that is over, and releases its locks.
+    #[inline(always)]
     pub fn end(&mut self, txn: TxnId) -> Result<Receipt, NotOver>
         ensures reply { result ≡ end_reply self.old txn.serial (end_of self.old txn.serial) }
         ensures state { self.new ≡ after_end self.old txn.serial (end_of self.old txn.serial) }

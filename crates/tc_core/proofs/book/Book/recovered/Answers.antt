@@ -16,6 +16,5 @@ returns-clause-kept c =
       kept = is.kept;
       most = is.most;
       marked = is.marked;
-      keyed = is.keyed;
       starts = subst (λ (xs : List ℕ). AreStarts sites xs h) (sym c.in-Ok-starts.ensures) (starts_first c.dcs.result sites h many);
     }

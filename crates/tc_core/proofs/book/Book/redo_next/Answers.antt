@@ -33,7 +33,6 @@ returns-in-None-clause-kept c = record {
   kept = c.requires.kept;
   most = c.requires.most;
   marked = c.requires.marked;
-  keyed = c.requires.keyed;
   starts = starts_up _ _ _ _ _ c.requires.starts refl;
 }
 

@@ -63,7 +63,6 @@ returns-clause-kept c =
       kept = c.requires.kept;
       most = c.requires.most;
       marked = c.requires.marked;
-      keyed = c.requires.keyed;
       starts = starts_set _ _ _ _ _ _ c.requires.starts (omega (arith, inside, many, length-reverse h))
           (begin_behind c.args.procs.now.codes h c.requires.kept.legal c.args.dc c.in-Some-redo.redo.redone c.in-Some-find_done.place c.in-Some-find_done.answered first);
     }
