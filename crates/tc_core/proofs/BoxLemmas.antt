@@ -70,7 +70,7 @@ module _ {A : Type 0} where
         by None is = absurd (none_some (in_box (get txns key)) tx (ap in_box is) (sym (unboxed-at key) ∙ found))
         by (Some b) is = (b, is, boxed-same key b tx is found)
 
-  unboxed-updates : (n n' : ℕ) (txns txns' : Slab (Box Tx A)) (key : ℕ) (slot : Option (Box Tx A))
+  pub unboxed-updates : (n n' : ℕ) (txns txns' : Slab (Box Tx A)) (key : ℕ) (slot : Option (Box Tx A))
       → Updates txns txns' key slot → Updates (unboxed n txns) (unboxed n' txns') key (in_box slot)
   unboxed-updates n n' txns txns' key slot up = record {
     changed = unboxed-at n' txns' key ∙ ap in_box up.changed;
@@ -106,7 +106,7 @@ module _ {A : Type 0} where
   written_len : (txns : Slab (Box Tx A)) (key : ℕ) (b : Box Tx A) → ContainsKey txns key → slab_len (with_value txns key b) ≡ slab_len txns
   written_len txns key b there =
       let set = sum_by-set (λ (o : Option (Box Tx A)). cond (is_some o) 1 0) txns.slots key (Some b) None (ContainsKey-within txns key there) in
-      let one : cond (is_some (get txns key)) 1 0 ≡ 1 = ap (λ (x : Bool). cond x 1 0) there in
+      let one = ap (λ (x : Bool). let n : ℕ = cond x 1 0 in n) there in
       omega (arith, set, one)
 
   pub written-len : (n : ℕ) (txns : Slab (Box Tx A)) (seen : Slab Tx) (key : ℕ) (b : Box Tx A) → unboxed n txns ≡ seen → ContainsKey seen key
@@ -123,17 +123,16 @@ module _ {A : Type 0} where
       keys-moved keys (unboxed n txns) (unboxed n (with_value txns key b')) key b.value b'.value are (unboxed-some n txns key b at)
       (unboxed-updates n n txns (with_value txns key b') key (Some b') (Updates-with_value txns key b' (ap is_some at))) same
 
-  module _ {Z : Type 0} where
-    pub written-boxed : (txns : Slab (Box Tx A)) (boxes : Vec (Box Tx A) Z) (key : ℕ) (b b' : Box Tx A) → get txns key ≡ Some b → AreBoxed txns boxes → AreBoxed (with_value txns key b') boxes
-    written-boxed txns boxes key b b' at are =
-        let len = written_len txns key b' (ap is_some at) in
-        let begin = are.begin in
-        let end = are.end in
-        record { begin = omega (arith, len, begin); end = omega (arith, len, end) }
+  pub written-boxed : {Z : Type 0} (txns : Slab (Box Tx A)) (boxes : Vec (Box Tx A) Z) (key : ℕ) (b b' : Box Tx A) → get txns key ≡ Some b → AreBoxed txns boxes → AreBoxed (with_value txns key b') boxes
+  written-boxed txns boxes key b b' at are =
+      let len = written_len txns key b' (ap is_some at) in
+      let begin = are.begin in
+      let end = are.end in
+      record { begin = omega (arith, len, begin); end = omega (arith, len, end) }
 
-    -- there is a box, and room for a key
-    pub room-some : (txns : Slab (Box Tx A)) (seen : Slab Tx) (boxes room : ℕ) → unboxed (ready boxes room) txns ≡ seen → HasRoomFor seen 1 → (1 ≤ boxes) × (1 ≤ room)
-    room-some txns seen boxes room view has =
-        let has' : slab_len (unboxed (ready boxes room) txns) + 1 ≤ slab_len txns + ready boxes room = subst (λ (s : Slab Tx). HasRoomFor s 1) (sym view) has in
-        let len = unboxed-len (ready boxes room) txns in
-        ready-some boxes room (omega (arith, has', len))
+  -- there is a box, and room for a key
+  pub room-some : (txns : Slab (Box Tx A)) (seen : Slab Tx) (boxes room : ℕ) → unboxed (ready boxes room) txns ≡ seen → HasRoomFor seen 1 → (1 ≤ boxes) × (1 ≤ room)
+  room-some txns seen boxes room view has =
+      let has' : slab_len (unboxed (ready boxes room) txns) + 1 ≤ slab_len txns + ready boxes room = subst (λ (s : Slab Tx). HasRoomFor s 1) (sym view) has in
+      let len = unboxed-len (ready boxes room) txns in
+      ready-some boxes room (omega (arith, has', len))

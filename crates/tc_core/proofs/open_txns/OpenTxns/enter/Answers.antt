@@ -5,11 +5,13 @@ use Rattle.slab.specs.Slab.{Slab, get, slab_len}
 use Rattle.tc_core.specs.declared.transaction.Tx.{Tx}
 use Rattle.tc_core.proofs.KeyLemmas.{keys-entered}
 use Rattle.tc_core.proofs.BoxLemmas.{room-some, seen-len, seen-vacant, seen-updates, unboxed-at, unboxed-len, unboxed-updates}
-use Rattle.tc_core.specs.Joining.Boxes.{in_box}
+use Rattle.tc_core.specs.Joining.Boxes.{in_box, ready}
 use Rattle.tc_core.proofs.open_txns.OpenTxns.enter.Goals as goal
 
 pub take_box-tx-requires : goal.take_box-tx-requires
-take_box-tx-requires c = (room-some c.self.inside.txns c.args.self.now (vec_len c.self.inside.boxes) (spare c.self.inside.keys) c.self.view_is c.requires.room).0
+take_box-tx-requires c =
+    let some = (room-some c.self.inside.txns c.args.self.now (vec_len c.self.inside.boxes) (spare c.self.inside.keys) c.self.view_is c.requires.room).0 in
+    omega (arith, some)
 
 pub insert_reserved-key-requires : goal.insert_reserved-key-requires
 insert_reserved-key-requires c =
@@ -18,7 +20,9 @@ insert_reserved-key-requires c =
     omega (arith, some, begin)
 
 pub list_key-requires : goal.list_key-requires
-list_key-requires c = (room-some c.self.inside.txns c.args.self.now (vec_len c.self.inside.boxes) (spare c.self.inside.keys) c.self.view_is c.requires.room).1
+list_key-requires c =
+    let some = (room-some c.self.inside.txns c.args.self.now (vec_len c.self.inside.boxes) (spare c.self.inside.keys) c.self.view_is c.requires.room).1 in
+    omega (arith, some)
 
 pub invariant_of-self : goal.invariant_of-self
 invariant_of-self c =
@@ -30,8 +34,8 @@ invariant_of-self c =
     let capacity = c.insert_reserved-key.ensures.capacity in
     let key = c.insert_reserved-key.result in (
       keys-entered c.self.inside.keys c.list_key.new.keys _ _ key c.begin.new.self c.self.invariant.0
-          (unboxed-at _ c.self.inside.txns key ∙ ap in_box c.insert_reserved-key.ensures.was_vacant)
-          (unboxed-updates _ _ c.self.inside.txns c.insert_reserved-key.new.self key (Some _) c.insert_reserved-key.ensures.updates)
+          (unboxed-at (ready (vec_len c.self.inside.boxes) (spare c.self.inside.keys)) c.self.inside.txns key ∙ ap in_box c.insert_reserved-key.ensures.was_vacant)
+          (unboxed-updates (ready (vec_len c.self.inside.boxes) (spare c.self.inside.keys)) (ready (vec_len c.take_box-tx.new.boxes) (spare c.list_key.new.keys)) c.self.inside.txns c.insert_reserved-key.new.self key (Some _) c.insert_reserved-key.ensures.updates)
           (rw (← c.begin.ensures.names.0) at c.list_key.ensures)
           (λ k ty at same'. c.requires.other k ty (ap (λ (s : Slab Tx). get s k) (sym c.self.view_is) ∙ at) (same' ∙ c.begin.ensures.names.0)),
       record { begin = omega (arith, begin, fewer, len, capacity); end = omega (arith, end, fewer, len, same) },
@@ -50,6 +54,6 @@ returns-clause-entered c =
 pub returns-clause-len : goal.returns-clause-len
 returns-clause-len c =
     let len = c.insert_reserved-key.ensures.len in
-    let old = seen-len _ c.self.inside.txns c.args.self.now c.self.view_is in
-    let new = unboxed-len _ c.insert_reserved-key.new.self in
+    let old = seen-len (ready (vec_len c.self.inside.boxes) (spare c.self.inside.keys)) c.self.inside.txns c.args.self.now c.self.view_is in
+    let new = unboxed-len (ready (vec_len c.take_box-tx.new.boxes) (spare c.list_key.new.keys)) c.insert_reserved-key.new.self in
     omega (arith, len, old, new)

@@ -1,4 +1,4 @@
-use Rattle.std.proofs.Common.{◌≡◌, Some, refl, sym, ◌∙◌, ap, subst}
+use Rattle.std.proofs.Common.{◌≡◌, Some, sym, ◌∙◌, ap, subst}
 use Rattle.slab.proofs.SlabLemmas.{Updates-with_value}
 use Rattle.std.specs.Prelude.{is_some}
 use Rattle.transactions.proofs.StandingLemmas.{some_same}
@@ -11,18 +11,19 @@ pub index_mut-requires : goal.index_mut-requires
 index_mut-requires c = has-box _ c.self.inside.txns c.args.self.now c.self.view_is c.args.key c.requires.key
 
 pub hear-requires : goal.hear-requires
-hear-requires c = c.requires.hears _ (seen-some _ c.self.inside.txns c.args.self.now c.self.view_is c.args.key c.index_mut.result.now c.index_mut.ensures.value)
+hear-requires c =
+    c.requires.hears _ (seen-some _ c.self.inside.txns c.args.self.now c.self.view_is c.args.key c.index_mut.result.now c.index_mut.ensures.value ∙ ap (λ (x : Tx). Some x) (sym c.deref_mut.ensures.value))
 
 pub invariant_of-self : goal.invariant_of-self
 invariant_of-self c = (
-  written-keys c.self.inside.keys _ c.self.inside.txns c.args.key c.index_mut.result.now _ c.self.invariant.0 c.index_mut.ensures.value c.hear.ensures.serial,
+  written-keys c.self.inside.keys _ c.self.inside.txns c.args.key c.index_mut.result.now _ c.self.invariant.0 c.index_mut.ensures.value (c.hear.ensures.serial ∙ ap (λ (x : Tx). x.serial) c.deref_mut.ensures.value),
   written-boxed c.self.inside.txns c.self.inside.boxes c.args.key c.index_mut.result.now _ c.index_mut.ensures.value c.self.invariant.1,
 )
 
 pub returns-clause-updates : goal.returns-clause-updates
 returns-clause-updates c = λ tx found.
     let b = c.index_mut.result.now in
-    let same : b.value ≡ tx = some_same _ tx (sym (seen-some _ c.self.inside.txns c.args.self.now c.self.view_is c.args.key b c.index_mut.ensures.value) ∙ found) in
+    let same : c.deref_mut.result.now ≡ tx = c.deref_mut.ensures.value ∙ some_same b.value tx (sym (seen-some _ c.self.inside.txns c.args.self.now c.self.view_is c.args.key b c.index_mut.ensures.value) ∙ found) in
     record {
       after = c.hear.new.self;
       updates = seen-updates _ c.self.inside.txns c.args.self.now c.self.view_is _ _ c.args.key (Some _) (Updates-with_value c.self.inside.txns c.args.key _ (ap is_some c.index_mut.ensures.value));

@@ -8,14 +8,14 @@ use Rattle.tc_core.proofs.KeyLemmas.{keys-room}
 use Rattle.tc_core.proofs.BoxLemmas.{ready-one, unboxed-len}
 use Rattle.tc_core.proofs.open_txns.OpenTxns.reserve.Goals as goal
 
-pub invariant_of-self-in_err-reserve : goal.invariant_of-self-in_err-reserve
-invariant_of-self-in_err-reserve c = (
+pub invariant_of-self : goal.invariant_of-self
+invariant_of-self c = (
   keys-room c.self.inside.keys c.reserve.new.self _ _ c.self.invariant.0 c.reserve.ensures.entries refl,
   c.self.invariant.1,
 )
 
-pub invariant_of-self : goal.invariant_of-self
-invariant_of-self c = (
+pub invariant_of-self-2 : goal.invariant_of-self-2
+invariant_of-self-2 c = (
   keys-room c.self.inside.keys c.reserve.new.self _ _ c.self.invariant.0 c.reserve.ensures.entries (ap (map in_box) c.add_box.ensures.slots),
   c.add_box.ensures.boxed,
 )
