@@ -17,7 +17,7 @@ loop-key-preserved c = (
 )
 
 pub returns-clause-all : goal.returns-clause-all
-returns-clause-all c = λ yes n. left-none n c.args.txns.now c.args.wanted.now ?
+returns-clause-all c = λ yes n. left-none n c.args.txns.now c.args.wanted.now (rw (← c.in-None.ensures.steps.0) c.loop-key.invariant.2)
 
 pub returns-then-holds_up-clause-some : goal.returns-then-holds_up-clause-some
 returns-then-holds_up-clause-some c = λ e n.
