@@ -38,7 +38,7 @@ use Rattle.tc_core.specs.Loaded.{Loaded}
 use Rattle.tc_core.specs.Admission.{IsCalled, Takes, needed, IsFree, IsAdmissible}
 use Rattle.tc_core.specs.declared.transaction.Own.{Own}
 use Rattle.tc_core.proofs.MarkedLemmas.{marked-room}
-use Rattle.tc_core.specs.Joining.Boxes.{StandsAt}
+use Rattle.tc_core.specs.AtKey.{StandsAt}
 use Rattle.tc_core.specs.Kept.{IsBook, core_of, Keeps, Matches, IsOpen, HasKey, Places, Rooms, Kept}
 use Rattle.tc_core.proofs.KeptLemmas.{calls_kept, held-admitted}
 

@@ -34,7 +34,7 @@ use Rattle.tc_core.specs.Admission.{IsCalled, IsUncallable, Takes}
 use Rattle.tc_core.specs.Blocked.{IsBlocked, stranded_by, is_stranded, stands_in_the_way}
 use Rattle.tc_core.specs.Joining.Clashes.{clashes}
 use Rattle.tc_core.specs.Joining.Holders.{stuck_by, stands_still, HoldsUp}
-use Rattle.tc_core.specs.Joining.Boxes.{StandsAt}
+use Rattle.tc_core.specs.AtKey.{StandsAt}
 use Rattle.tc_core.specs.Kept.{Kept, IsBook, core_of, is_doubted}
 use Rattle.tc_core.specs.Loaded.{Loaded}
 use Rattle.tc_core.specs.declared.book.Book.{Book}

@@ -39,7 +39,7 @@ use Rattle.tc_core.specs.Replies.{is_heard, IsAnswer, over_in}
 use Rattle.access_slots.specs.declared.op.Reply.{Reply}
 use Rattle.transactions.specs.InFlight.{site_of}
 use Rattle.tc_core.specs.Joining.Hearing.{MayHear, Accepts, Heard}
-use Rattle.tc_core.specs.Joining.Boxes.{StandsAt}
+use Rattle.tc_core.specs.AtKey.{StandsAt}
 use Rattle.tc_core.specs.Kept.{Keeps, Matches, IsOpen, HasKey, Places, Rooms, Kept}
 use Rattle.tc_core.proofs.Resuming.{paused_reached}
 

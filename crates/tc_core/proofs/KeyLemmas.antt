@@ -5,7 +5,8 @@ use Rattle.std.proofs.lemmas.Bool.{cases_eq, cond-true, cond-false}
 use Rattle.indexmap.specs.IndexMap.{IndexMap, get as key_of, Updates as Keys}
 use Rattle.std.specs.Map.{lookup}
 use Rattle.slab.specs.Slab.{Slab, get, Updates}
-use Rattle.tc_core.specs.Joining.Boxes.{StandsAt, AreKeys}
+use Rattle.tc_core.specs.AtKey.{StandsAt}
+use Rattle.tc_core.specs.Joining.Boxes.{AreKeys}
 use Rattle.tc_core.specs.declared.transaction.Tx.{Tx}
 use Rattle.transactions.proofs.StandingLemmas.{some_same, none_some, eq-true, eq-false}
 

@@ -15,7 +15,7 @@ use Rattle.transactions.specs.Standing.{Standing, standing}
 use Rattle.transactions.proofs.StandingLemmas.{some_same, none_some}
 use Rattle.transactions.proofs.Flights.{standing_flight, flight}
 use Rattle.slab.specs.Slab.{Slab, get, slab_len, Updates}
-use Rattle.tc_core.specs.Joining.Boxes.{StandsAt}
+use Rattle.tc_core.specs.AtKey.{StandsAt}
 use Rattle.tc_core.specs.Kept.{Keeps, Matches, IsOpen, Places, Kept, Marked, is_doubted}
 use Rattle.tc_core.specs.Running.{Runs}
 use Rattle.tc_core.specs.Doubts.{with_number, with_number_by}

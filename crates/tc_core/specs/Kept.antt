@@ -22,7 +22,7 @@ use Rattle.transactions.specs.declared.Redoing.{Redoing}
 use Rattle.transactions.specs.declared.Site.{Site}
 use Rattle.tc_core.specs.Core.{Core}
 use Rattle.tc_core.specs.Loaded.{Loaded}
-use Rattle.tc_core.specs.Joining.Boxes.{StandsAt}
+use Rattle.tc_core.specs.AtKey.{StandsAt}
 use Rattle.tc_core.specs.declared.transaction.Tx.{Tx}
 use Rattle.tc_core.specs.declared.book.Book.{Book}
 

@@ -351,10 +351,7 @@ impl Book {
         let Some(key) = self.txns.find(request.txn) else {
             return Err(Stranger { request });
         };
-        if !self
-            .txns
-            .accepts(key, request.number, &request.op, &reply)
-        {
+        if !self.txns.accepts(key, request.number, &request.op, &reply) {
             return Err(Stranger { request });
         }
         let code = procs.at(self.txns.procedure(key));

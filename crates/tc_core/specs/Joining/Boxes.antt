@@ -2,13 +2,8 @@
 use Rattle.std.specs.Prelude.{◌≡◌, ℕ, zero, suc, ◌+◌, ◌≤◌, nat_eq, map, Option, Some, None, Box, Vec, vec_len, vec_capacity}
 use Rattle.indexmap.specs.IndexMap.{IndexMap, get as key_of}
 use Rattle.slab.specs.Slab.{Slab, get, slab_len}
+use Rattle.tc_core.specs.AtKey.{StandsAt}
 use Rattle.tc_core.specs.declared.transaction.Tx.{Tx}
-
--- a transaction with this number is kept at the key
-pub record StandsAt (txns : Slab Tx) (key t : ℕ) : Type 0 where
-  pub tx : Tx
-  pub found : get txns key ≡ Some tx
-  pub serial : tx.serial ≡ t
 
 -- the keys by serial number are those of the transactions
 pub record AreKeys {S : Type 0} (keys : IndexMap ℕ ℕ S) (txns : Slab Tx) : Type 0 where
