@@ -140,7 +140,7 @@ fn goes_on(rt: &impl Abort, alloc: Global, steps: &[Step], then: &[Step]) -> Res
     assert_eq!(rt; ran, Ok(()));
     assert_eq!(rt; told, Ok(()));
     let whole = log_bytes(alloc, &PUT_AND_ABORT)?;
-    let want = whole.as_slice().get(..ended(events) * RECORD);
+    let want = whole.as_slice().get(..ended(events).saturating_mul(RECORD));
     assert_eq!(rt; Some(printed?.as_slice()), want, "behind {events} events");
     Ok(())
 }
