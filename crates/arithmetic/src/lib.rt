@@ -1,4 +1,12 @@
 //! Operations and comparisons (RFC 9669, section 4), on 64 bits or on the low 32.
+//!
+//! ```
+//! compute(Width::Bits64, Operation::Div, a, b);               // a / b, and 0 where b is 0
+//! holds(Width::Bits32, Condition::SignedLess, a, b);          // of the low halves, as signed numbers
+//! ```
+//!
+//! (`interpreter` computes with them. `tools/printed.py` has rows of both, by code that is run.)
+#![tactic(auto)]
 
 ghost use Rattle.std.specs.Prelude.{◌≡◌, false};
 ghost use Rattle.std.specs.Int.{w32, w64};
