@@ -1,6 +1,6 @@
 -- What an admission keeps.
-use Rattle.std.proofs.Common.{◌≡◌, ◌≢◌, ℕ, ◌+◌, ◌-◌, ◌*◌, ◌<◌, ◌≤◌, ◌^◌, Bool, true, false, List, [], ◌∷◌, ◌++◌}
-use Rattle.std.proofs.Common.{length, Option, Some, None, arith, refl, sym, ◌∙◌, ap, subst, zero, suc, inl, inr}
+use Rattle.std.proofs.Common.{◌≡◌, ◌≢◌, ℕ, ◌+◌, ◌*◌, ◌<◌, ◌≤◌, ◌^◌, Bool, true, false, List, [], ◌∷◌}
+use Rattle.std.proofs.Common.{length, Option, Some, None, arith, sym, ◌∙◌, ap, subst, zero, suc, inl, inr}
 use Rattle.std.specs.Prelude.{slice_get, slice_index_or, count_by, is_some}
 use Rattle.std.proofs.lemmas.Bool.{cases_eq}
 use Rattle.std.specs.Prelude.{nat_lt}
@@ -19,10 +19,10 @@ use Rattle.request_numbers.specs.Given.{Given}
 use Rattle.tc_log.specs.declared.event.Event.{Event}
 use Rattle.tc_log.specs.declared.event.Event.TheVariants.{Admit, Ask, Answer, Undo, End}
 use Rattle.tc_log.specs.History.{History}
-use Rattle.history.specs.Calls.{Call, admitted, held, held_for, locks_by, locks_of, open_call}
+use Rattle.history.specs.Calls.{Call, admitted, held, held_for, locks_by, locks_of}
 use Rattle.transactions.proofs.Running.{get_decl}
 use Rattle.transactions.proofs.Headline.{no_call}
-use Rattle.history.specs.Flight.{given, open_numbers}
+use Rattle.history.specs.Flight.{given}
 use Rattle.transactions.specs.Standing.{Standing, standing, fresh}
 use Rattle.transactions.specs.Reached.{decls, calls, calls_in}
 use Rattle.transactions.specs.Room.{numbers_left, events_left, places_left, each_one, weighed, total_to, total}
@@ -33,13 +33,11 @@ use Rattle.tc_core.specs.Running.{Runs}
 use Rattle.tc_core.specs.declared.transaction.Tx.{Tx}
 use Rattle.tc_core.specs.declared.book.Book.{Book}
 use Rattle.tc_core.specs.Joining.Rooms.{OnlyRoom, HasRoom, MayEnter}
-use Rattle.tc_core.specs.Core.{Core}
 use Rattle.tc_core.specs.Loaded.{Loaded}
-use Rattle.tc_core.specs.Admission.{IsCalled, Takes, needed, IsFree, IsAdmissible}
+use Rattle.tc_core.specs.Admission.{IsCalled, needed, IsFree}
 use Rattle.tc_core.specs.declared.transaction.Own.{Own}
 use Rattle.tc_core.proofs.MarkedLemmas.{marked-room}
-use Rattle.tc_core.proofs.KeyLemmas.{keys-room}
-use Rattle.tc_core.specs.Kept.{IsBook, core_of, Keeps, Matches, IsOpen, StandsAt, HasKey, Places, Rooms, Kept}
+use Rattle.tc_core.specs.Kept.{IsBook, core_of, Keeps, Matches, IsOpen, Places, Kept}
 use Rattle.tc_core.proofs.KeptLemmas.{calls_kept, held-admitted}
 
 pub book-room : (ps : List Checked) (b b' : Book) → IsBook ps b → OnlyRoom b b' → IsBook ps b'
@@ -82,7 +80,6 @@ book-room ps b b' is o =
       };
       most = omega (arith, most, given_same, promised, more_given_up);
       marked = marked-room _ _ _ _ _ _ is.marked o.given_up o.events o.slots;
-      keyed = keys-room _ _ _ _ is.keyed o.keys o.slots;
       starts = rw (o.events, o.sites, o.starts) is.starts;
     }
 

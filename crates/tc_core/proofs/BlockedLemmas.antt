@@ -1,10 +1,9 @@
 -- Sets of locks that exclude each other, and who stands in the way.
-use Rattle.std.proofs.Common.{◌≡◌, ◌≢◌, ℕ, Bool, true, false, ◌||◌, List, [], ◌∷◌, Option, Some, None, refl, sym, ◌∙◌, ap, subst}
-use Rattle.std.specs.Prelude.{◌==◌, nat_lt, if◌then◌else◌, slice_get}
+use Rattle.std.proofs.Common.{◌≡◌, ◌≢◌, ℕ, Bool, true, false, ◌||◌, List, [], ◌∷◌, Option, Some, None, refl, sym, ◌∙◌, ap}
+use Rattle.std.specs.Prelude.{◌==◌, nat_lt, if◌then◌else◌}
 use Rattle.std.proofs.lemmas.Bool.{cond-true, cond-false}
 use Rattle.access_slots.specs.declared.slot.Record.{Record}
 use Rattle.access_slots.specs.declared.slot.Mode.{Mode}
-use Rattle.access_slots.specs.declared.slot.Mode.TheVariants as mode
 use Rattle.access_slots.specs.declared.lock.Lock.{Lock}
 use Rattle.access_slots.specs.declared.op.Op.{Op}
 use Rattle.access_slots.specs.Declaration.{Declaration}
@@ -18,7 +17,6 @@ use Rattle.tc_log.specs.declared.event.Event.{Event}
 use Rattle.tc_log.specs.declared.event.Outcome.{Outcome}
 use Rattle.history.specs.Calls.{Call, held, held_for, locks_by, locks_of}
 use Rattle.transactions.specs.declared.Sent.{Sent}
-use Rattle.transactions.specs.declared.Next.{Next}
 use Rattle.transactions.specs.declared.Next.TheVariants as next
 use Rattle.transactions.specs.Legal.{first_undo}
 use Rattle.transactions.specs.Next.{next_by, next_in, ends_or_undoes, runs_on, idles}
@@ -34,7 +32,7 @@ use Rattle.tc_core.specs.Admission.{IsCalled, IsUncallable, Takes}
 use Rattle.tc_core.specs.Blocked.{IsBlocked, stranded_by, is_stranded, stands_in_the_way}
 use Rattle.tc_core.specs.Joining.Clashes.{clashes}
 use Rattle.tc_core.specs.Joining.Holders.{stuck_by, stands_still, HoldsUp}
-use Rattle.tc_core.specs.Kept.{Kept, IsBook, StandsAt, core_of, is_doubted}
+use Rattle.tc_core.specs.Kept.{IsBook, core_of, is_doubted}
 use Rattle.tc_core.specs.Loaded.{Loaded}
 use Rattle.tc_core.specs.declared.book.Book.{Book}
 use Rattle.tc_core.specs.declared.state.Refusal.{Refusal}

@@ -1,12 +1,12 @@
 -- Distinct numbers, counted.
 use Rattle.std.proofs.Common.{◌≡◌, ◌≢◌, ℕ, ◌+◌, ◌<◌, ◌≤◌, Bool, true, false, ◌||◌, List, [], ◌∷◌, ◌++◌, length, Some}
-use Rattle.std.proofs.Common.{None, arith, refl, sym, ◌∙◌, ap, subst, zero, suc, inl, inr, ◌==◌}
+use Rattle.std.proofs.Common.{None, arith, refl, sym, ◌∙◌, ap, zero, suc, inl, inr, ◌==◌}
 use Rattle.std.proofs.lemmas.Bool.{cases_eq, cond-true, cond-false}
 use Rattle.request_numbers.specs.Given.{holds}
 use Rattle.verifier.specs.Checked.{Checked}
 use Rattle.tc_log.specs.declared.event.Event.{Event}
 use Rattle.tc_log.specs.declared.event.Event.TheVariants.{Admit, Ask, Answer, Undo, End}
-use Rattle.history.specs.Flight.{Flight, open_op, given}
+use Rattle.history.specs.Flight.{Flight, open_op}
 use Rattle.transactions.specs.Legal.{Legal}
 use Rattle.transactions.specs.Room.{one_if}
 use Rattle.transactions.proofs.StandingLemmas.{eq-true, eq-false, none_some}

@@ -1,17 +1,17 @@
 -- What a book takes in is what may come next.
-use Rattle.std.proofs.Common.{◌≡◌, ◌≢◌, ◌↔◌, ℕ, ◌+◌, ◌<◌, Bool, true, false, List, [], ◌∷◌, ◌++◌, length, Option, Some, None, Result, Ok, Err, arith, refl, sym, ◌∙◌, ap, subst}
-use Rattle.std.proofs.Common.{zero, suc, ◌==◌, if◌then◌else◌, append_assoc, length-append}
+use Rattle.std.proofs.Common.{◌≡◌, ◌≢◌, ℕ, ◌+◌, true, false, List, [], ◌∷◌, ◌++◌, length, Option, Some, None, Ok, Err, arith, refl, sym, ◌∙◌, ap, subst}
+use Rattle.std.proofs.Common.{append_assoc, length-append}
 use Rattle.std.proofs.lemmas.List.{append-nil}
 use Rattle.std.specs.Prelude.{slice_get}
-use Rattle.std.proofs.lemmas.Bool.{cases_eq, cond-true, cond-false}
+use Rattle.std.proofs.lemmas.Bool.{cond-true}
 use Rattle.access_slots.specs.declared.op.Op.{Op}
 use Rattle.access_slots.specs.declared.op.Said.{Said}
 use Rattle.access_slots.specs.declared.slot.Record.{Record}
 use Rattle.access_slots.specs.Access.{fits}
-use Rattle.access_slots.specs.Held.{Compatible, excludes, in_the_way, IsFirstInTheWay}
+use Rattle.access_slots.specs.Held.{in_the_way}
 use Rattle.verifier.specs.Checked.{Checked}
 use Rattle.tc_log.specs.declared.event.Event.{Event}
-use Rattle.tc_log.specs.declared.event.Event.TheVariants.{Admit, Ask, Answer, Undo, End}
+use Rattle.tc_log.specs.declared.event.Event.TheVariants.{Ask, Undo, End}
 use Rattle.tc_log.specs.declared.event.Outcome.{Outcome}
 use Rattle.tc_log.specs.declared.event.Outcome.TheVariants as outcome
 use Rattle.history.specs.Calls.{Call, admitted, held, locks_of}
@@ -23,19 +23,16 @@ use Rattle.transactions.specs.declared.Next.TheVariants as next
 use Rattle.transactions.specs.Standing.{Standing, standing}
 use Rattle.transactions.specs.Reached.{decls}
 use Rattle.transactions.specs.Legal.{Legal, Allowed, CanAdmit, CanAsk, CanAnswer, CanUndo, CanEnd}
-use Rattle.transactions.proofs.StandingLemmas.{eq-true, eq-false, some_same, none_some}
+use Rattle.transactions.proofs.StandingLemmas.{eq-true, some_same, none_some}
 use Rattle.transactions.proofs.Allowing.{asks_allowed, undoes_allowed, ends_allowed}
 use Rattle.transactions.specs.declared.Site.{Site}
 use Rattle.transactions.specs.InFlight.{site_of}
 use Rattle.tc_core.specs.Core.{Core, Asking}
-use Rattle.tc_core.specs.Replies.{next_at, asked_by, undo_by, undone, ask_reply, undo_reply, after_ask, after_undo, after_answer, over_in, end_of, end_reply, after_end, is_heard, IsAnswer, with_event}
-use Rattle.tc_core.specs.Admission.{IsRefused}
+use Rattle.tc_core.specs.Replies.{next_at, asked_by, undo_by, undone, ask_reply, undo_reply, after_ask, after_undo, over_in, end_of, end_reply, after_end, is_heard, IsAnswer}
 use Rattle.tc_core.specs.Checking.{IsFirstIllegal}
-use Rattle.tc_core.specs.Joining.Follows.{IsRequest, IsAsked, awaited_by, awaited_in}
+use Rattle.tc_core.specs.Joining.Follows.{IsAsked, awaited_by, awaited_in}
 use Rattle.tc_core.specs.declared.state.Receipt.{Receipt}
 use Rattle.tc_core.specs.declared.state.NotOver.{NotOver}
-use Rattle.tc_core.specs.declared.state.Refusal.{Refusal}
-use Rattle.tc_core.specs.declared.state.Refusal.TheVariants as refusal
 use Rattle.tc_core.specs.declared.state.Asked.{Asked}
 use Rattle.tc_core.specs.declared.state.Asked.TheVariants as reply
 

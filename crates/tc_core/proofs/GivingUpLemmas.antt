@@ -1,11 +1,8 @@
 -- A request that is open here, and its transaction as it is kept.
-use Rattle.std.proofs.Common.{◌≡◌, ℕ, ◌+◌, ◌<◌, ◌≤◌, List, Some, arith, sym, ◌∙◌, ap}
-use Rattle.verifier.specs.Checked.{Checked}
-use Rattle.tc_log.specs.declared.event.Event.{Event}
+use Rattle.std.proofs.Common.{◌≡◌, ◌<◌, ◌≤◌, arith, sym, ◌∙◌, ap}
 use Rattle.history.specs.Flight.{given}
 use Rattle.transactions.specs.Legal.{Legal}
-use Rattle.transactions.specs.Standing.{Standing, standing}
-use Rattle.transactions.specs.declared.Sent.{Sent}
+use Rattle.transactions.specs.Standing.{Standing}
 use Rattle.transactions.proofs.StandingLemmas.{some_same}
 use Rattle.transactions.proofs.Flights.{standing_flight, flight}
 use Rattle.tc_core.specs.Core.{Core, Asking}

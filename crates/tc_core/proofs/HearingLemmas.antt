@@ -1,16 +1,15 @@
 -- What an answer makes of a transaction as it is kept.
-use Rattle.std.proofs.Common.{◌≡◌, ℕ, ◌+◌, ◌≤◌, Bool, true, false, ◌||◌, cond, List, [], ◌∷◌, ◌++◌, length, Option}
+use Rattle.std.proofs.Common.{◌≡◌, ℕ, ◌+◌, Bool, true, false, ◌||◌, List, length, Option}
 use Rattle.std.proofs.Common.{Some, None, arith, refl, sym, subst, ap, ◌∙◌}
-use Rattle.access_slots.specs.Access.{fits, is_no_room}
+use Rattle.access_slots.specs.Access.{fits}
 use Rattle.access_slots.specs.Locks.{mode_in}
 use Rattle.access_slots.specs.declared.op.Op.{Op}
 use Rattle.access_slots.specs.declared.op.Said.{Said}
-use Rattle.access_slots.specs.declared.op.Said.TheVariants.{Value, Absent, Done, Duplicate, Missing, NoRoom, Old}
 use Rattle.verifier.specs.Checked.{Checked}
 use Rattle.transactions.specs.declared.Sent.{Sent}
 use Rattle.transactions.specs.Standing.{Standing, answered, answers_after, full_after, undo_after, tries_after}
 use Rattle.transactions.specs.Standing.{told_to, found_full, undo_done, tries_done}
-use Rattle.transactions.specs.Reached.{Asks, reached_of, stop_at, Fitting, calls_in}
+use Rattle.transactions.specs.Reached.{Asks, reached_of, stop_at}
 use Rattle.transactions.proofs.StandingLemmas.{some_same}
 use Rattle.tc_core.specs.Running.{Runs, MayResume}
 use Rattle.tc_core.specs.Kept.{Keeps}

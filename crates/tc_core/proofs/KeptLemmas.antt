@@ -1,45 +1,43 @@
 -- What each event keeps.
-use Rattle.std.proofs.Common.{◌≡◌, ◌≢◌, ◌⊎◌, ℕ, ◌+◌, ◌-◌, ◌*◌, ◌<◌, ◌≤◌, ◌^◌, Bool, true, false, List, [], ◌∷◌, ◌++◌}
-use Rattle.std.proofs.Common.{length, Option, Some, None, arith, refl, sym, ◌∙◌, ap, subst, zero, suc, inl, inr, ◌==◌}
+use Rattle.std.proofs.Common.{◌≡◌, ◌≢◌, ℕ, ◌+◌, ◌-◌, ◌*◌, ◌<◌, ◌≤◌, ◌^◌, Bool, true, false, List, [], ◌∷◌, ◌++◌}
+use Rattle.std.proofs.Common.{length, Option, Some, None, arith, refl, sym, ◌∙◌, ap, subst, zero, suc, inl, inr}
 use Rattle.std.specs.Prelude.{slice_get, slice_index_or}
-use Rattle.std.proofs.lemmas.Bool.{cases_eq, cases_lt, cond-true, cond-false}
-use Rattle.access_slots.specs.Access.{fits, is_no_room}
+use Rattle.std.proofs.lemmas.Bool.{cases_eq, cond-true, cond-false}
+use Rattle.access_slots.specs.Access.{fits}
 use Rattle.access_slots.specs.Held.{Wanted}
 use Rattle.access_slots.specs.declared.slot.Record.{Record}
 use Rattle.access_slots.specs.declared.op.Op.{Op}
 use Rattle.access_slots.specs.declared.op.Said.{Said}
 use Rattle.verifier.specs.Checked.{Checked}
-use Rattle.interpreter.specs.declared.pause.Pause.{Pause}
 use Rattle.lock_table.specs.Facts.{Table, AreHeld, held_by, released, granted, nobody}
 use Rattle.tc_log.specs.declared.event.Outcome.{Outcome}
 use Rattle.request_numbers.specs.Given.{Given, others, holds}
 use Rattle.tc_log.specs.declared.event.Event.{Event}
 use Rattle.tc_log.specs.declared.event.Event.TheVariants.{Admit, Ask, Answer, Undo, End}
 use Rattle.tc_log.specs.History.{History}
-use Rattle.history.specs.Calls.{Call, admitted, txn_of, held, held_for, open_call, locks_of}
-use Rattle.history.specs.Flight.{given, open_numbers}
-use Rattle.transactions.specs.declared.Sent.{Sent}
+use Rattle.history.specs.Calls.{Call, txn_of, held, held_for, open_call, locks_of}
+use Rattle.history.specs.Flight.{given}
 use Rattle.transactions.specs.declared.Next.{Next}
 use Rattle.transactions.specs.declared.Next.TheVariants as next
-use Rattle.transactions.specs.Standing.{Standing, standing, moved, fresh, asked, undone, answered, sent_as}
-use Rattle.transactions.specs.Reached.{Reached, Fitting, Asks, reached_of, reached_by, reached, stop_at, calls, calls_by, calls_in, decls, AllGood}
+use Rattle.transactions.specs.Standing.{Standing, standing, moved, asked, undone, answered, sent_as}
+use Rattle.transactions.specs.Reached.{Fitting, Asks, reached_by, reached, stop_at, calls, calls_by, calls_in, decls, AllGood}
 use Rattle.transactions.specs.Room.{numbers_left, events_left, places_left, each_one, one_sent, one_own, one_unless, total}
-use Rattle.transactions.specs.Legal.{Legal, Allowed, CanAsk, CanUndo, first_undo, is_stopped}
-use Rattle.transactions.specs.Next.{next_by, next_of, next_in}
+use Rattle.transactions.specs.Legal.{Legal, first_undo, is_stopped}
+use Rattle.transactions.specs.Next.{next_by, next_of}
 use Rattle.transactions.proofs.StandingLemmas.{eq-true, eq-false, some_same, none_some, standing-same, standing-other}
-use Rattle.transactions.proofs.StandingLemmas.{total-part, total-moved, total-admit, total-none, open-serial}
+use Rattle.transactions.proofs.StandingLemmas.{total-part, total-moved, total-none}
 use Rattle.transactions.proofs.Sound.{Sound, standing_sound, ask_leaves, undo_leaves, reached_at}
 use Rattle.transactions.proofs.Flights.{open_flight, flight_holds}
 use Rattle.transactions.proofs.Nexts.{may_ask, may_undo, may_end}
 use Rattle.slab.specs.Slab.{Slab, get, slab_len, Updates}
-use Rattle.tc_core.specs.Running.{Runs, as_reached}
+use Rattle.tc_core.specs.Running.{as_reached}
 use Rattle.tc_core.specs.declared.transaction.Tx.{Tx}
 use Rattle.tc_core.specs.Core.{Core, Asking}
 use Rattle.tc_core.specs.Replies.{is_heard, IsAnswer, over_in}
 use Rattle.access_slots.specs.declared.op.Reply.{Reply}
 use Rattle.transactions.specs.InFlight.{site_of}
 use Rattle.tc_core.specs.Joining.Hearing.{MayHear, Accepts, Heard}
-use Rattle.tc_core.specs.Kept.{Keeps, Matches, IsOpen, StandsAt, HasKey, Places, Rooms, Kept}
+use Rattle.tc_core.specs.Kept.{Keeps, Matches, IsOpen, Places, Kept}
 use Rattle.tc_core.proofs.Resuming.{paused_reached}
 
 none_if : {X : Type 0} (o : Option X) → ((x : X) → o ≡ Some x → ⊥) → o ≡ None

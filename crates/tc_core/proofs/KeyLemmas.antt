@@ -1,13 +1,13 @@
 -- The keys of open transactions, as events go on.
-use Rattle.std.proofs.Common.{◌≡◌, ◌≢◌, ℕ, Bool, true, false, cond, List, Option, Some, None, refl, sym, ◌∙◌, ap, subst, inl, inr}
+use Rattle.std.proofs.Common.{◌≡◌, ◌≢◌, ℕ, List, Option, Some, None, sym, ◌∙◌, ap, inl, inr}
 use Rattle.std.specs.Prelude.{nat_eq, slice_index_or}
-use Rattle.std.proofs.lemmas.Bool.{cases_eq, cond-true, cond-false}
+use Rattle.std.proofs.lemmas.Bool.{cases_eq, cond-false}
 use Rattle.indexmap.specs.IndexMap.{IndexMap, get as key_of, Updates as Keys}
 use Rattle.std.specs.Map.{lookup}
 use Rattle.slab.specs.Slab.{Slab, get, Updates}
-use Rattle.tc_core.specs.Kept.{StandsAt, AreKeys}
+use Rattle.tc_core.specs.Joining.Boxes.{AreKeys}
 use Rattle.tc_core.specs.declared.transaction.Tx.{Tx}
-use Rattle.transactions.proofs.StandingLemmas.{some_same, none_some, eq-true, eq-false}
+use Rattle.transactions.proofs.StandingLemmas.{some_same, none_some, eq-false}
 
 module _ {S : Type 0} where
   -- the transaction at a key goes on

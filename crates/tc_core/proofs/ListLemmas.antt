@@ -1,5 +1,5 @@
 -- Lists that are mapped.
-use Rattle.std.proofs.Common.{◌≡◌, ℕ, ◌+◌, Bool, List, [], ◌∷◌, ◌++◌, map, Option, Some, None, refl, sym, ◌∙◌, ap, zero, suc, length, cond, not}
+use Rattle.std.proofs.Common.{◌≡◌, ℕ, ◌+◌, Bool, List, [], ◌∷◌, ◌++◌, map, Some, None, refl, ◌∙◌, ap, zero, suc, length, cond, not}
 use Rattle.std.specs.Prelude.{slice_get, position, nat_lt}
 use Rattle.std.specs.List.{prefix_len, position_or_len}
 use Rattle.std.specs.Option.{option_map}

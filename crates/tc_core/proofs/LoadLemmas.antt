@@ -1,6 +1,5 @@
 -- Loading a procedure keeps what is kept.
-use Rattle.std.proofs.Common.{◌≡◌, ℕ, ◌+◌, ◌-◌, ◌*◌, List, [], ◌∷◌, ◌++◌, Option, Some, None, refl, sym, ◌∙◌, ap, subst}
-use Rattle.std.specs.Prelude.{slice_get}
+use Rattle.std.proofs.Common.{◌≡◌, ℕ, ◌+◌, ◌-◌, ◌*◌, List, [], ◌∷◌, ◌++◌, Some, sym, ◌∙◌, ap, subst}
 use Rattle.verifier.specs.Checked.{Checked}
 use Rattle.lock_table.specs.Facts.{Table}
 use Rattle.request_numbers.specs.Given.{Given}
@@ -10,9 +9,9 @@ use Rattle.transactions.specs.Reached.{IsGood}
 use Rattle.transactions.specs.Room.{numbers_left, events_left, one_sent}
 use Rattle.transactions.proofs.StandingLemmas.{total-same}
 use Rattle.transactions.proofs.Grows.{get_grows, held_grows, calls_grow, legal_grows, good_grows}
-use Rattle.slab.specs.Slab.{Slab, get}
+use Rattle.slab.specs.Slab.{Slab}
 use Rattle.tc_core.specs.declared.transaction.Tx.{Tx}
-use Rattle.tc_core.specs.Kept.{Matches, IsOpen, Places, Rooms, Kept, IsBook}
+use Rattle.tc_core.specs.Kept.{Kept, IsBook}
 use Rattle.tc_core.specs.declared.book.Book.{Book}
 
 pub kept-load : (ps : List Checked) (q : Checked) (log : History) (table : Table) (numbers : Given) (txns : Slab Tx) (serials owed promised : ℕ)
@@ -47,4 +46,4 @@ kept-load ps q log table numbers txns serials owed promised k one =
     }
 
 pub book-load : (ps ps' : List Checked) (q : Checked) (b : Book) → IsBook ps b → IsGood q → ps' ≡ ps ++ q ∷ [] → IsBook ps' b
-book-load ps ps' q b is good more = subst (λ (xs : List Checked). IsBook xs b) (sym more) (record { kept = kept-load ps q _ _ _ _ _ _ _ is.kept good; most = is.most; marked = is.marked; keyed = is.keyed; starts = is.starts })
+book-load ps ps' q b is good more = subst (λ (xs : List Checked). IsBook xs b) (sym more) (record { kept = kept-load ps q _ _ _ _ _ _ _ is.kept good; most = is.most; marked = is.marked; starts = is.starts })

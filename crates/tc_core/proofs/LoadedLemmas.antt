@@ -1,6 +1,5 @@
 -- One procedure more.
-use Rattle.std.proofs.Common.{◌≡◌, ◌⊎◌, ℕ, List, [], ◌∷◌, ◌++◌, map, Option, Some, None, sym, subst, inl, inr}
-use Rattle.std.specs.Prelude.{slice_get}
+use Rattle.std.proofs.Common.{◌≡◌, ℕ, List, [], ◌∷◌, ◌++◌, None, sym, subst, inl, inr}
 use Rattle.verifier.specs.Checked.{Checked}
 use Rattle.transactions.specs.Reached.{IsGood, AllGood}
 use Rattle.transactions.proofs.Grows.{get_cases, good_grows}

@@ -1,7 +1,7 @@
 -- Which transactions are in doubt, as events go on.
-use Rattle.std.proofs.Common.{◌≡◌, ◌≢◌, ℕ, ◌+◌, ◌<◌, ◌≤◌, Bool, true, false, List, [], ◌∷◌, ◌++◌, length, Option}
+use Rattle.std.proofs.Common.{◌≡◌, ◌≢◌, ℕ, ◌≤◌, Bool, true, false, List, Option}
 use Rattle.std.proofs.Common.{Some, None, arith, refl, sym, ◌∙◌, ap, subst, inl, inr}
-use Rattle.std.specs.Prelude.{slice_index_or, count_by, is_some}
+use Rattle.std.specs.Prelude.{slice_index_or}
 use Rattle.std.proofs.lemmas.Bool.{cases_eq}
 use Rattle.request_numbers.specs.Given.{Given, holds}
 use Rattle.lock_table.specs.Facts.{Table}
@@ -15,8 +15,7 @@ use Rattle.transactions.specs.Standing.{Standing, standing}
 use Rattle.transactions.proofs.StandingLemmas.{some_same, none_some}
 use Rattle.transactions.proofs.Flights.{standing_flight, flight}
 use Rattle.slab.specs.Slab.{Slab, get, slab_len, Updates}
-use Rattle.tc_core.specs.Kept.{Keeps, Matches, IsOpen, StandsAt, Places, Kept, Marked, is_doubted}
-use Rattle.tc_core.specs.Running.{Runs}
+use Rattle.tc_core.specs.Kept.{Keeps, IsOpen, Places, Kept, Marked, is_doubted}
 use Rattle.tc_core.specs.Doubts.{with_number, with_number_by}
 use Rattle.tc_core.specs.declared.transaction.Tx.{Tx}
 use Rattle.tc_core.proofs.DoubtLemmas.{holds_other, holds_same}

@@ -1,13 +1,13 @@
 -- What no answer changes, and a request that is made again.
-use Rattle.std.proofs.Common.{◌≡◌, ℕ, true, false, List, [], ◌∷◌, length, ◌==◌, arith, Option, Some, None, Result, Ok, Err, refl, sym, ap, ◌∙◌}
-use Rattle.std.specs.Prelude.{IfSome, OnOk, OnErr}
+use Rattle.std.proofs.Common.{◌≡◌, ℕ, true, false, List, [], ◌∷◌, length, ◌==◌, arith, Option, Some, None, refl, sym, ◌∙◌}
+use Rattle.std.specs.Prelude.{IfSome}
 use Rattle.tc_log.specs.declared.event.Event.{Event}
 use Rattle.tc_log.specs.declared.event.Outcome.{Outcome}
 use Rattle.transactions.specs.declared.Sent.{Sent}
 use Rattle.transactions.specs.Standing.{Standing, standing}
 use Rattle.transactions.proofs.StandingLemmas.{eq-false}
-use Rattle.tc_core.specs.Core.{Core, Asking}
-use Rattle.tc_core.specs.Replies.{after_ask, after_undo, after_end, end_of}
+use Rattle.tc_core.specs.Core.{Core}
+use Rattle.tc_core.specs.Replies.{after_ask, after_undo, after_end}
 use Rattle.tc_core.specs.GivingUp.{IsOpenHere}
 use Rattle.tc_core.specs.Recovery.{asking_by, asking_in, open_request}
 use Rattle.tc_core.specs.declared.state.Asked.{Asked}

@@ -2,8 +2,8 @@
 use Rattle.std.proofs.Common.{◌≡◌, ℕ, Option, Some, None, refl, sym, ap, ◌∙◌}
 use Rattle.transactions.specs.declared.Next.{Next}
 use Rattle.transactions.specs.Legal.{first_undo}
-use Rattle.transactions.specs.Standing.{Standing, standing}
-use Rattle.transactions.specs.Next.{next_by, next_of, next_in}
+use Rattle.transactions.specs.Standing.{standing}
+use Rattle.transactions.specs.Next.{next_by, next_in}
 use Rattle.tc_core.specs.Core.{Core}
 use Rattle.tc_core.specs.Running.{as_reached}
 use Rattle.tc_log.specs.declared.event.Outcome.{Outcome}

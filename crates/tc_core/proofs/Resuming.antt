@@ -1,20 +1,20 @@
 -- A machine goes on with an answer.
-use Rattle.std.proofs.Common.{◌≡◌, ℕ, true, false, List, [], ◌∷◌, ◌++◌, Option, Some, None, refl, sym, subst, ap, ◌∙◌}
+use Rattle.std.proofs.Common.{◌≡◌, ℕ, true, false, List, [], ◌∷◌, ◌++◌, Some, None, refl, sym, subst, ap, ◌∙◌}
 use Rattle.access_slots.specs.Access.{fits, is_no_room}
 use Rattle.access_slots.specs.declared.op.Op.{Op}
 use Rattle.access_slots.specs.declared.op.Said.{Said}
 use Rattle.semantics.specs.Step.{Config, Bases}
-use Rattle.semantics.specs.Reach.{Stop, Asked, Exited, Trapped, Unfinished, entry, reach}
+use Rattle.semantics.specs.Reach.{Stop, Asked, entry, reach}
 use Rattle.semantics.specs.Row.{plain_bases}
 use Rattle.verifier.specs.Checked.{Checked}
-use Rattle.interpreter.specs.Standing.{Standing, IsStarted}
+use Rattle.interpreter.specs.Standing.{Standing}
 use Rattle.interpreter.specs.Gives.{Pauses}
 use Rattle.interpreter.specs.Runs.{Continues, setting_of}
 use Rattle.interpreter.specs.declared.pause.Pause.{Pause}
 use Rattle.interpreter.specs.declared.pause.Pause.TheVariants as pause
-use Rattle.transactions.specs.Reached.{Reached, Asks, Ends, Nowhere, reached_of, plain, stop_at, Fitting}
+use Rattle.transactions.specs.Reached.{Asks, Ends, reached_of, stop_at, Fitting}
 use Rattle.transactions.proofs.Running.{fitting_snoc}
-use Rattle.tc_core.specs.Running.{Runs, MayResume, as_reached}
+use Rattle.tc_core.specs.Running.{MayResume, as_reached}
 use Rattle.tc_core.specs.declared.transaction.Tx.{Tx}
 
 -- what the machine stopped at is what the run has reached

@@ -1,8 +1,8 @@
 -- A look through the log, oldest event first, finds what is to be redone.
 use Rattle.std.proofs.Common.{◌≡◌, ◌≢◌, ℕ, zero, suc, ◌+◌, ◌≤◌, ◌<◌, nat_lt, Bool, true, false, ◌&&◌, cond, List, [], ◌∷◌, ◌++◌, length, take, drop, Option}
-use Rattle.std.proofs.Common.{Some, None, arith, refl, sym, ◌∙◌, ap, subst, inl, inr, ◌==◌, one-add}
+use Rattle.std.proofs.Common.{Some, None, arith, refl, sym, ◌∙◌, ap, subst, inl, inr, ◌==◌}
 use Rattle.std.specs.Prelude.{reverse, if◌then◌else◌}
-use Rattle.std.proofs.lemmas.Bool.{cases_eq, cases_lt, cond-true, cond-false, eqb-true}
+use Rattle.std.proofs.lemmas.Bool.{cases_eq, cases_lt, cond-true, cond-false}
 use Rattle.std.proofs.lemmas.Bool.Decides.{nat_tests}
 use Rattle.std.proofs.lemmas.List.{reverse-append}
 use Rattle.access_slots.specs.Locks.{target}
@@ -17,7 +17,7 @@ use Rattle.history.specs.Redo.{answered, with_answer, is_done, is_done_at, if_do
 use Rattle.transactions.specs.Legal.{Legal, Allowed}
 use Rattle.transactions.proofs.StandingLemmas.{eq-true, eq-false, some_same, none_some}
 use Rattle.transactions.proofs.Flights.{standing_flight}
-use Rattle.transactions.proofs.Restarts.{flight_given, done_number, to_redo_is, to_redo_only}
+use Rattle.transactions.proofs.Restarts.{done_number, to_redo_is, to_redo_only}
 use Rattle.tc_core.specs.Kept.{AreSentUpTo}
 use Rattle.tc_core.specs.Joining.Scanning.{said_in, is_sought, if_done, done_behind, first_in, scan}
 use Rattle.tc_core.specs.Joining.Numbered.{AreNumbered, sent_by, sent_in, with_said, done_in}

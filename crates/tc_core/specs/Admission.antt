@@ -1,11 +1,9 @@
 -- Which calls are admitted, and why one isn't.
-use Rattle.std.specs.Prelude.{◌≡◌, ◌≢◌, ℕ, ◌+◌, ◌*◌, ◌<◌, ◌≤◌, ◌^◌, List, length, Option, Some, None, slice_get}
+use Rattle.std.specs.Prelude.{◌≡◌, ◌≢◌, ℕ, ◌+◌, ◌*◌, ◌<◌, ◌≤◌, ◌^◌, List, length, Some, None, slice_get}
 use Rattle.access_slots.specs.Held.{Compatible, IsFirstInTheWay}
 use Rattle.verifier.specs.Checked.{Checked}
-use Rattle.tc_log.specs.declared.event.Event.TheVariants.{Admit}
 use Rattle.history.specs.Calls.{Call, held, locks_of}
 use Rattle.history.specs.Flight.{given}
-use Rattle.lock_table.specs.declared.table.Busy.{Busy}
 use Rattle.transactions.specs.Reached.{decls, calls_in}
 use Rattle.transactions.specs.Room.{numbers_left, total}
 use Rattle.tc_core.specs.Core.{Core}
@@ -48,6 +46,7 @@ pub record IsAdmissible (c : Core) (call : Call) : Type 0 where
 abbrev pub IsRefused : Core → Call → Refusal → Type 0
 IsRefused c call refusal.NoProcedure = slice_get c.procs call.proc ≡ None
 IsRefused c call refusal.ArgumentCount = (q : Checked) × (slice_get c.procs call.proc ≡ Some q) × (length call.args ≢ q.decl.args)
-IsRefused c call (refusal.Busy b) = Takes c call × IsFirstInTheWay (held (decls c.procs) c.events) (locks_of (decls c.procs) call) b.name b.holder
+IsRefused c call (refusal.Busy b) =
+    Takes c call × IsFirstInTheWay (held (decls c.procs) c.events) (locks_of (decls c.procs) call) b.name b.holder
 IsRefused c call refusal.NumbersSpent = (t : Takes c call) × IsFree c call × (2 ^ 62 < needed c t.q)
 IsRefused c call refusal.Memory = IsAdmissible c call

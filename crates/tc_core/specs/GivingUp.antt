@@ -1,5 +1,5 @@
 -- A request that is given up.
-use Rattle.std.specs.Prelude.{◌≡◌, ℕ, List, Some}
+use Rattle.std.specs.Prelude.{◌≡◌, ℕ, Some}
 use Rattle.access_slots.specs.declared.op.Op.{Op}
 use Rattle.transactions.specs.Standing.{Standing, standing}
 use Rattle.transactions.specs.declared.Sent.{Sent}

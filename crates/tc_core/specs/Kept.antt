@@ -1,6 +1,6 @@
 -- What the state keeps: the log is legal, and everything else is what the log says.
-use Rattle.std.specs.Prelude.{◌≡◌, ℕ, ◌<◌, Bool, true, false, ◌+◌, ◌-◌, ◌*◌, ◌≤◌, ◌^◌, List, [], ◌∷◌, length, reverse, take, Option, Some, None, slice_get, nat_eq}
-use Rattle.indexmap.specs.IndexMap.{IndexMap, get as key_of}
+use Rattle.std.specs.Prelude.{◌≡◌, ℕ, ◌<◌, ◌+◌, ◌-◌, ◌*◌, ◌≤◌, ◌^◌, Bool, false, Option, Some, None}
+use Rattle.std.specs.Prelude.{List, [], ◌∷◌, length, reverse, take, slice_get}
 use Rattle.verifier.specs.Checked.{Checked}
 use Rattle.lock_table.specs.Facts.{Table, AreHeld}
 use Rattle.request_numbers.specs.Given.{Given}
@@ -23,6 +23,7 @@ use Rattle.transactions.specs.declared.Redoing.{Redoing}
 use Rattle.transactions.specs.declared.Site.{Site}
 use Rattle.tc_core.specs.Core.{Core}
 use Rattle.tc_core.specs.Loaded.{Loaded}
+use Rattle.tc_core.specs.AtKey.{StandsAt}
 use Rattle.tc_core.specs.declared.transaction.Tx.{Tx}
 use Rattle.tc_core.specs.declared.book.Book.{Book}
 
@@ -50,12 +51,6 @@ pub record IsOpen (ps : List Checked) (h : List Event) (tx : Tx) : Type 0 where
   pub is : standing h tx.serial ≡ Some s
   pub matches : Matches ps tx s
 
--- a transaction with this number is kept at the key
-pub record StandsAt (txns : Slab Tx) (key t : ℕ) : Type 0 where
-  pub tx : Tx
-  pub found : get txns key ≡ Some tx
-  pub serial : tx.serial ≡ t
-
 -- an open transaction has a key
 pub record HasKey (txns : Slab Tx) (t : ℕ) : Type 0 where
   pub key : ℕ
@@ -76,7 +71,8 @@ pub record Rooms (ps : List Checked) (log : History) (numbers : Given) (txns : S
   pub events : owed ≤ log.room
   pub numbers_fit : given log.events + promised ≤ 2 ^ 62
 
-pub record Kept (ps : List Checked) (log : History) (table : Table) (numbers : Given) (txns : Slab Tx) (serials owed promised : ℕ) : Type 0 where
+pub record Kept (ps : List Checked) (log : History) (table : Table) (numbers : Given) (txns : Slab Tx)
+    (serials owed promised : ℕ) : Type 0 where
   pub legal : Legal ps log.events
   pub good : AllGood ps
   pub places : Places ps log.events txns
@@ -95,11 +91,6 @@ is_doubted numbers (Some r) = holds r.number numbers
 pub record Marked (numbers : List ℕ) (h : List Event) (txns : Slab Tx) : Type 0 where
   pub marks : (key : ℕ) (tx : Tx) → get txns key ≡ Some tx → tx.in_doubt ≡ is_doubted numbers tx.sent
   pub early : (n : ℕ) → given h < n → holds n numbers ≡ false
-
--- the keys by serial number are those of the slab
-pub record AreKeys {S : Type 0} (keys : IndexMap ℕ ℕ S) (txns : Slab Tx) : Type 0 where
-  pub keyed : (key : ℕ) (tx : Tx) → get txns key ≡ Some tx → key_of nat_eq keys tx.serial ≡ Some key
-  pub listed : (t key : ℕ) → key_of nat_eq keys t ≡ Some key → StandsAt txns key t
 
 -- each number sent in these events is at most this one
 abbrev pub AreSentUpTo : ℕ → List Event → Type 0
@@ -126,8 +117,14 @@ pub record IsBook (ps : List Checked) (b : Book) : Type 0 where
   pub kept : Kept ps b.log b.locks b.numbers b.txns b.serials b.owed b.promised
   pub most : given b.log.events + b.promised ≤ b.given_up.most
   pub marked : Marked b.given_up.numbers b.log.events b.txns
-  pub keyed : AreKeys b.keys b.txns
   pub starts : AreStarts b.sites.items b.starts.items b.log.events
 
 abbrev pub core_of : Loaded → Book → Core
-core_of p b = record { procs = p.codes; names = p.names; dcs = p.dcs; events = b.log.events; given_up = b.given_up.numbers; sites = b.sites.items }
+core_of p b = record {
+  procs = p.codes;
+  names = p.names;
+  dcs = p.dcs;
+  events = b.log.events;
+  given_up = b.given_up.numbers;
+  sites = b.sites.items;
+}

@@ -3,7 +3,6 @@ use Rattle.std.specs.Prelude.{ℕ, false, Option, Some, None, Result, Ok, Err}
 use Rattle.access_slots.specs.declared.op.Wire.{Wire}
 use Rattle.history.specs.Flight.{low_water}
 use Rattle.transactions.specs.declared.Redoing.{Redoing}
-use Rattle.transactions.specs.declared.Site.{Site}
 use Rattle.transactions.specs.InFlight.{site_of}
 use Rattle.tc_core.specs.Core.{Core, Asking}
 use Rattle.tc_core.specs.declared.state.Down.{Down}

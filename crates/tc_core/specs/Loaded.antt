@@ -1,5 +1,5 @@
 -- The loaded procedures, by their numbers from 0 on, and why one more isn't loaded.
-use Rattle.std.specs.Prelude.{◌≡◌, ℕ, Bool, true, not, nat_lt, position, List, map, Option, Some, None, slice_get}
+use Rattle.std.specs.Prelude.{◌≡◌, ℕ, not, nat_lt, position, List, Option, Some, None, slice_get}
 use Rattle.std.specs.Str.{bytes_eq}
 use Rattle.access_slots.specs.declared.slot.Slot.{Slot}
 use Rattle.verifier.specs.Checked.{Checked}

@@ -1,9 +1,8 @@
 -- Where the machine of an open transaction stands.
-use Rattle.std.specs.Prelude.{◌≡◌, ℕ, List, [], Option, Some, None, true, false}
-use Rattle.access_slots.specs.Access.{fits, is_no_room}
+use Rattle.std.specs.Prelude.{◌≡◌, ℕ, List, Option, true}
+use Rattle.access_slots.specs.Access.{fits}
 use Rattle.access_slots.specs.declared.op.Op.{Op}
 use Rattle.access_slots.specs.declared.op.Said.{Said}
-use Rattle.semantics.specs.Reach.{AreArguments}
 use Rattle.semantics.specs.Row.{plain_bases}
 use Rattle.verifier.specs.Checked.{Checked}
 use Rattle.interpreter.specs.Standing.{IsStarted}
@@ -11,6 +10,9 @@ use Rattle.interpreter.specs.Gives.{Pauses}
 use Rattle.interpreter.specs.declared.pause.Pause.{Pause}
 use Rattle.interpreter.specs.declared.pause.Pause.TheVariants as pause
 use Rattle.transactions.specs.Reached.{Reached, Asks, Ends, reached_of, stop_at, Fitting}
+use Rattle.transactions.specs.declared.Next.{Next}
+use Rattle.transactions.specs.Legal.{first_undo}
+use Rattle.transactions.specs.Next.{next_by}
 use Rattle.tc_core.specs.declared.transaction.Tx.{Tx}
 
 -- the machine, and what it stopped at, are where the procedure's run stands on these answers
@@ -31,3 +33,7 @@ pub record MayResume (q : Checked) (tx : Tx) (args : List ℕ) (answers : List S
 abbrev pub as_reached : Pause → Reached
 as_reached (pause.Ask o) = Asks o
 as_reached (pause.Exit v) = Ends v
+
+-- what the transaction does next, as it is kept
+abbrev pub does : Tx → Option Next
+does tx = next_by tx.sent tx.full (first_undo tx.undo.ops) tx.tries tx.last (as_reached tx.pause)

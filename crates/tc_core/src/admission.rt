@@ -7,7 +7,6 @@ ghost use Rattle.access_slots.specs.Locks.{mode_in, mode_named, Rising};
 ghost use Rattle.lock_table.specs.Facts.{held_by, granted, AreHeld, HoldsNothing};
 ghost use Rattle.tc_log.specs.declared.event.Event.TheVariants.{Admit};
 ghost use Rattle.history.specs.Calls.{admitted};
-ghost use Rattle.transactions.specs.Reached.{calls_in};
 ghost use Rattle.tc_core.specs.Kept.{core_of, IsBook};
 ghost use Rattle.tc_core.specs.Replies.{with_event};
 ghost use Rattle.tc_core.specs.Admission.{call_of, IsCalled, IsUncallable, IsAdmissible, IsRefused};
@@ -15,11 +14,9 @@ ghost use Rattle.tc_core.specs.Joining.Rooms.{OnlyRoom, HasRoom, MayEnter};
 ghost use Rattle.tc_core.specs.Blocked.{IsBlocked};
 
 use crate::book::Book;
-use crate::holders::all_stranded;
-use crate::places::list_key;
 use crate::procs::Procs;
 use crate::state::{Call, Refusal, TxnId};
-use crate::transaction::{Own, begin};
+use crate::transaction::{Own, calls_of};
 use access_slots::lock::LockSet;
 use lock_table::table::LockTable;
 use std::alloc::{AllocError, Global};
@@ -62,15 +59,6 @@ fn claim(locks: &mut LockTable, serial: u64, set: &LockSet)
     }
 }
 
-// How many call slots the code has, at most as many as slots.
-fn calls_of(code: &Verified) -> usize
-    ensures calls { result ≡ calls_in code.now }
-    ensures few { result ≤ 4096 }
-{
-    let _code = code.code();
-    code.calls()
-}
-
 // Whether too few numbers are left for a call.
 fn is_spent(last: u64, promised: u64, calls: usize) -> bool
     requires sum { last + promised ≤ 2 ^ 62 }
@@ -82,6 +70,7 @@ fn is_spent(last: u64, promised: u64, calls: usize) -> bool
 
 impl Book {
     /// Makes room for a call. What is there stays.
+    #[inline(always)]
     fn make_room(&mut self, calls: usize, set: &LockSet) -> Result<(), AllocError>
         requires sum { self.old.numbers.last + self.old.promised ≤ 2 ^ 62 }
         requires few { calls ≤ 4096 }
@@ -92,8 +81,7 @@ impl Book {
             return Err(AllocError);
         };
         let most = self.numbers.last() + self.promised + 5 * calls as u64;
-        self.txns.reserve(1)?;
-        self.keys.reserve(1)?;
+        self.txns.reserve(set)?;
         self.numbers.reserve(self.txns.capacity())?;
         self.log.reserve(events)?;
         self.given_up.reserve(most)?;
@@ -101,6 +89,7 @@ impl Book {
     }
 
     // A call that may be admitted, and has its room, is admitted.
+    #[inline(always)]
     fn enter(&mut self, procs: &Procs, code: &Verified, proc: usize, own: Own) -> TxnId
         requires { MayEnter procs.now.codes self.old code.now proc own }
         ensures kept { IsBook procs.now.codes self.new }
@@ -114,17 +103,8 @@ impl Book {
         let calls = calls_of(code);
         claim(&mut self.locks, serial, &own.locks);
         let Own { undo, args, locks } = own;
-        let tx = begin(
-            code,
-            serial,
-            proc,
-            args.as_slice(),
-            undo,
-            5 * calls as u64,
-            locks,
-        );
-        let key = self.txns.insert_reserved(tx);
-        list_key(&mut self.keys, serial, key);
+        self.txns
+            .enter(code, serial, proc, args.as_slice(), undo, locks);
         self.log.push(Event::Admit {
             txn: serial,
             proc,
@@ -137,12 +117,14 @@ impl Book {
     }
 
     /// Admits a call: it holds its locks, and has room for all that it may log, from now on.
+    #[inline(always)]
     pub fn admit(&mut self, alloc: Global, procs: &Procs, call: &Call) -> Result<TxnId, Refusal>
         requires { IsBook procs.now.codes self.old }
         ensures kept { IsBook procs.now.codes self.new }
         ensures sites { length self.new.sites.items ≡ length self.old.sites.items }
         ensures ok { IfOk result (λ id. id.serial ≡ admitted self.old.log.events + 1) }
-        ensures state { IfOk result (λ id. core_of procs.now self.new ≡ with_event (core_of procs.now self.old) (Admit id.serial call.now.proc call.now.args.items)) }
+        ensures state { IfOk result (λ id. core_of procs.now self.new
+            ≡ with_event (core_of procs.now self.old) (Admit id.serial call.now.proc call.now.args.items)) }
         ensures admitted { OnOk result (IsAdmissible (core_of procs.now self.old) (call_of call.now)) }
         ensures err { OnErr result (core_of procs.now self.new ≡ core_of procs.now self.old) }
         ensures refused { IfErr result (IsRefused (core_of procs.now self.old) (call_of call.now)) }
@@ -177,6 +159,6 @@ impl Book {
         let Some(_busy) = self.locks.busy(&set) else {
             return false;
         };
-        all_stranded(&self.txns, &set)
+        self.txns.all_stranded(&set)
     }
 }

@@ -1,6 +1,7 @@
 // What has happened, and what is kept beside it.
 
-ghost use Rattle.std.specs.Prelude.{◌≡◌, ◌↔◌, ◌+◌, ◌<◌, ◌^◌, ℕ, List, [], ◌∷◌, ◌++◌, length, replicate, Some, None, IsOk, IfOk, OnOk, IsTrue, IfErr, OnErr, IfSome, IfNone, IsSome};
+ghost use Rattle.std.specs.Prelude.{◌≡◌, ◌↔◌, ◌+◌, ◌<◌, ◌^◌, ℕ, List, [], ◌∷◌, ◌++◌, length, replicate, Some, None};
+ghost use Rattle.std.specs.Prelude.{IsOk, IfOk, OnOk, IsTrue, IfErr, OnErr, IfSome, IfNone, IsSome};
 ghost use Rattle.verifier.specs.Checked.{Checked};
 ghost use Rattle.transactions.specs.Standing.{standing};
 ghost use Rattle.transactions.specs.Room.{each_one, total};
@@ -14,23 +15,17 @@ ghost use Rattle.tc_core.specs.Redo.{news_fault, after_told, redo_reply, after_r
 ghost use Rattle.transactions.specs.InFlight.{untold, site_at};
 
 use crate::given_up::GivenUp;
-use crate::places::{
-    accepts_at, awaits_at, doubt_at, find, hear_at, left_at, next_at, over_at, procedure_at,
-    send_at, send_undo_at, take_out,
-};
+use crate::open_txns::OpenTxns;
 use crate::procs::Procs;
 use crate::redo::find_done;
 use crate::sites::{is_heard, known, site_at, site_of, starts, untold};
 use crate::state::{
     Asked, Down, NewsFault, NotOver, Receipt, Redo, Request, Stranger, Stranger2, TxnId,
 };
-use crate::transaction::Tx;
 use access_slots::op::{News, Reply, Wire};
 use history::Answered;
-use indexmap::IndexMap;
 use lock_table::table::LockTable;
 use request_numbers::numbers::Numbers;
-use slab::Slab;
 use std::alloc::{AllocError, Global};
 use tc_log::event::{Event, Outcome};
 use tc_log::log::Log;
@@ -41,8 +36,7 @@ use transactions::{Next, Redoing, Site};
 /// call the procedures of the log.
 #[derive(Drop)]
 pub struct Book {
-    pub txns: Slab<Tx>,
-    pub keys: IndexMap<u64, usize>,
+    pub txns: OpenTxns,
     pub locks: LockTable,
     pub numbers: Numbers,
     pub log: Log,
@@ -56,6 +50,7 @@ pub struct Book {
 }
 
 // The next number, of which there are some.
+#[inline(always)]
 fn next_number(numbers: &mut Numbers) -> u64
     requires room { 0 < numbers.old.room }
     requires few { numbers.old.last < 2 ^ 62 }
@@ -72,7 +67,8 @@ fn next_number(numbers: &mut Numbers) -> u64
 
 // Whether the reply is what was said to the operation, of this incarnation.
 fn is_said(answered: &Answered, incarnation: u64, reply: &Reply) -> bool
-    ensures { IsTrue result ↔ ((reply.now.number ≡ answered.now.number) × (reply.now.incarnation ≡ incarnation) × (reply.now.said ≡ answered.now.said)) }
+    ensures { IsTrue result ↔
+        ((reply.now.number ≡ answered.now.number) × (reply.now.incarnation ≡ incarnation) × (reply.now.said ≡ answered.now.said)) }
 {
     reply.number == answered.number
         && reply.incarnation == incarnation
@@ -100,8 +96,7 @@ impl Book {
         let sites = untold(alloc, dcs)?;
         let starts = starts(alloc, dcs)?;
         Ok(Book {
-            txns: Slab::new(alloc),
-            keys: IndexMap::new(alloc),
+            txns: OpenTxns::new(alloc),
             locks: LockTable::new(alloc),
             numbers: Numbers::new(alloc),
             log: Log::new(alloc),
@@ -122,6 +117,7 @@ impl Book {
     }
 
     /// What is sent for a request now.
+    #[inline(always)]
     pub fn wire(&self, procs: &Procs, request: &Request) -> Result<Wire, Down>
         requires { IsBook procs.now.codes self.now }
         ensures { result ≡ wire_of (core_of procs.now self.now) request.now }
@@ -245,7 +241,7 @@ impl Book {
         ensures absent { IfNone result (standing self.now.log.events serial ≡ None) }
     {
         let _ = procs;
-        match find(&self.txns, &self.keys, serial) {
+        match self.txns.find(serial) {
             Some(_) => Some(TxnId { serial }),
             None => None,
         }
@@ -268,6 +264,7 @@ impl Book {
     }
 
     /// Runs the transaction to its next operation or its end.
+    #[inline(always)]
     pub fn ask(&mut self, procs: &Procs, txn: TxnId) -> Asked
         requires { IsBook procs.now.codes self.old }
         ensures kept { IsBook procs.now.codes self.new }
@@ -276,10 +273,10 @@ impl Book {
         ensures state { core_of procs.now self.new ≡ after_ask (core_of procs.now self.old) result }
     {
         let _ = procs;
-        let Some(key) = find(&self.txns, &self.keys, txn.serial) else {
+        let Some(key) = self.txns.find(txn.serial) else {
             return Asked::Unknown;
         };
-        match next_at(&self.txns, key) {
+        match self.txns.next(key) {
             Next::Waits(number) => Asked::Waits(number),
             Next::Undoes(_) => Asked::Undoing,
             Next::Stuck(number) => Asked::Stuck(number),
@@ -291,7 +288,7 @@ impl Book {
                     number,
                     op,
                 });
-                send_at(&mut self.txns, key, number, op);
+                self.txns.send(key, number, op);
                 self.owed -= 1;
                 self.promised -= 1;
                 Asked::Request(Request {
@@ -312,10 +309,10 @@ impl Book {
         ensures state { core_of procs.now self.new ≡ after_undo (core_of procs.now self.old) result }
     {
         let _ = procs;
-        let Some(key) = find(&self.txns, &self.keys, txn.serial) else {
+        let Some(key) = self.txns.find(txn.serial) else {
             return Asked::Unknown;
         };
-        match next_at(&self.txns, key) {
+        match self.txns.next(key) {
             Next::Waits(number) => Asked::Waits(number),
             Next::Asks(_) => Asked::Running,
             Next::Stuck(number) => Asked::Stuck(number),
@@ -327,7 +324,7 @@ impl Book {
                     number,
                     op,
                 });
-                send_undo_at(&mut self.txns, key, number, op);
+                self.txns.send_undo(key, number, op);
                 self.owed -= 1;
                 self.promised -= 1;
                 Asked::Request(Request {
@@ -340,6 +337,7 @@ impl Book {
     }
 
     /// Takes a reply in. One that isn't to the request changes nothing.
+    #[inline(always)]
     pub fn answer(&mut self, procs: &Procs, request: Request, reply: Reply) -> Result<(), Stranger>
         requires { IsBook procs.now.codes self.old }
         ensures kept { IsBook procs.now.codes self.new }
@@ -352,16 +350,16 @@ impl Book {
         if !is_heard(&site_of(self.sites.as_slice(), &request.op), &reply) {
             return Err(Stranger { request });
         }
-        let Some(key) = find(&self.txns, &self.keys, request.txn) else {
+        let Some(key) = self.txns.find(request.txn) else {
             return Err(Stranger { request });
         };
-        if !accepts_at(&self.txns, key, request.number, &request.op, &reply) {
+        if !self.txns.accepts(key, request.number, &request.op, &reply) {
             return Err(Stranger { request });
         }
-        let code = procs.at(procedure_at(&self.txns, key));
+        let code = procs.at(self.txns.procedure(key));
         let Request { txn, number, op: _ } = request;
         let said = reply.said;
-        hear_at(&mut self.txns, key, code, said);
+        self.txns.hear(key, code, said);
         self.numbers.answered(number);
         self.log.push(Event::Answer { txn, number, said });
         self.owed -= 1;
@@ -375,47 +373,50 @@ impl Book {
         ensures sites { self.new.sites ≡ self.old.sites }
         ensures number { result ≡ request.number }
         ensures events { self.new.log ≡ self.old.log }
-        ensures open_here { IsOpenHere (core_of procs.now self.old) request → core_of procs.now self.new ≡ with_given_up (core_of procs.now self.old) request.number }
-        ensures elsewhere { (IsOpenHere (core_of procs.now self.old) request → ⊥) → core_of procs.now self.new ≡ core_of procs.now self.old }
+        ensures open_here { IsOpenHere (core_of procs.now self.old) request →
+            core_of procs.now self.new ≡ with_given_up (core_of procs.now self.old) request.number }
+        ensures elsewhere { (IsOpenHere (core_of procs.now self.old) request → ⊥) →
+            core_of procs.now self.new ≡ core_of procs.now self.old }
     {
         let _ = procs;
         let Request { txn, number, op } = request;
-        let Some(key) = find(&self.txns, &self.keys, txn) else {
+        let Some(key) = self.txns.find(txn) else {
             return number;
         };
-        if !awaits_at(&self.txns, key, number, &op) {
+        if !self.txns.awaits(key, number, &op) {
             return number;
         }
         self.given_up.add(number);
-        doubt_at(&mut self.txns, key);
+        self.txns.doubt(key);
         number
     }
 
     /// Ends a transaction that is over.
+    #[inline(always)]
     pub fn end(&mut self, procs: &Procs, txn: TxnId) -> Result<Receipt, NotOver>
         requires { IsBook procs.now.codes self.old }
         ensures kept { IsBook procs.now.codes self.new }
         ensures sites { length self.new.sites.items ≡ length self.old.sites.items }
         ensures reply { result ≡ end_reply (core_of procs.now self.old) txn.serial (end_of (core_of procs.now self.old) txn.serial) }
-        ensures state { core_of procs.now self.new ≡ after_end (core_of procs.now self.old) txn.serial (end_of (core_of procs.now self.old) txn.serial) }
+        ensures state { core_of procs.now self.new
+            ≡ after_end (core_of procs.now self.old) txn.serial (end_of (core_of procs.now self.old) txn.serial) }
     {
         let _ = procs;
-        let Some(key) = find(&self.txns, &self.keys, txn.serial) else {
+        let Some(key) = self.txns.find(txn.serial) else {
             return Err(NotOver);
         };
-        let Some(outcome) = over_at(&self.txns, key) else {
+        let Some(outcome) = self.txns.ending(key) else {
             return Err(NotOver);
         };
         let place = self.log.len();
         let owed = self.owed;
-        let left = left_at(&self.txns, key);
+        let left = self.txns.numbers_left(key);
         self.log.push(Event::End {
             txn: txn.serial,
             outcome,
         });
         self.locks.release(txn.serial);
-        take_out(&mut self.txns, key);
-        self.keys.swap_remove(&txn.serial);
+        self.txns.remove(key);
         self.owed = owed - (2 * left as usize + 1);
         self.promised -= left;
         Ok(Receipt {

@@ -14,7 +14,6 @@ ghost use Rattle.tc_core.specs.Kept.{IsBook};
 ghost use Rattle.tc_core.specs.Joining.Follows.{IsRequest, IsAsked, IsUnlike, awaited_by, awaited_in};
 
 use crate::book::Book;
-use crate::places::{find, sent_at};
 use crate::procs::Procs;
 use crate::state::{Asked, Call, Refusal, Request, Stranger, TxnId};
 use access_slots::op::{Op, Reply, Said};
@@ -116,10 +115,10 @@ impl Book {
         ensures { result ≡ awaited_in (standing self.now.log.events txn) number }
     {
         let _ = procs;
-        let Some(key) = find(&self.txns, &self.keys, txn) else {
+        let Some(key) = self.txns.find(txn) else {
             return None;
         };
-        awaited_by(sent_at(&self.txns, key), number)
+        awaited_by(self.txns.sent(key), number)
     }
 
     // Takes an Ask in, where it may come next.
@@ -288,7 +287,6 @@ pub fn stands_behind(alloc: Global, procs: &Procs, log: &Log) -> Result<Checked,
     let open = book.open_count(procs);
     let Book {
         txns: _,
-        keys: _,
         locks,
         numbers: _,
         log: _,

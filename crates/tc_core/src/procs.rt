@@ -1,6 +1,7 @@
 //! The loaded procedures, by number and by name.
 
-ghost use Rattle.std.specs.Prelude.{◌≡◌, ◌==◌, ◌++◌, [], ◌∷◌, ◌<◌, length, map, slice_get, option_copied, IfOk, OnOk, IfErr, OnErr, IfNone, None, Some};
+ghost use Rattle.std.specs.Prelude.{◌≡◌, ◌==◌, ◌++◌, [], ◌∷◌, ◌<◌, length, map, slice_get, option_copied, None, Some};
+ghost use Rattle.std.specs.Prelude.{IfOk, OnOk, IfErr, OnErr, IfNone};
 ghost use Rattle.std.specs.String.{string_bytes};
 ghost use Rattle.indexmap.specs.IndexMap.{keys, values, get_by_text};
 ghost use Rattle.transactions.specs.Reached.{AllGood, IsGood};
@@ -185,8 +186,10 @@ impl Procs {
     pub(crate) fn load(&mut self, name: &str, code: Verified) -> Result<usize, LoadFault>
         ensures allowed { OnOk result (load_refusal self.old.dcs self.old.names name.now code.decl.slots ≡ None) }
         ensures number { IfOk result (λ n. n ≡ length self.old.codes) }
-        ensures ok { OnOk result (self.new ≡ record self.old { codes = self.old.codes ++ code ∷ []; names = self.old.names ++ name.now ∷ [] }) }
-        ensures refused { IfErr result (λ fault. IsFirstRefusal (load_refusal self.old.dcs self.old.names name.now code.decl.slots) fault.why) }
+        ensures ok { OnOk result
+            (self.new ≡ record self.old { codes = self.old.codes ++ code ∷ []; names = self.old.names ++ name.now ∷ [] }) }
+        ensures refused { IfErr result
+            (λ fault. IsFirstRefusal (load_refusal self.old.dcs self.old.names name.now code.decl.slots) fault.why) }
         ensures err { OnErr result (self.new ≡ self.old) }
         ensures back { IfErr result (λ fault. fault.code ≡ code) }
         ensures good { OnOk result (IsGood code) }

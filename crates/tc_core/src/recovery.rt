@@ -9,7 +9,6 @@ ghost use Rattle.tc_core.specs.Recovery.{asking_by, asking_in, site_noted};
 
 use crate::book::Book;
 use crate::checking::{CheckFault, book_of};
-use crate::places::{find, sent_at};
 use crate::procs::Procs;
 use crate::sites::{UNTOLD, starts};
 use crate::state::Request;
@@ -120,10 +119,10 @@ impl Book {
         ensures { result ≡ asking_in txn (standing self.now.log.events txn) }
     {
         let _ = procs;
-        let Some(key) = find(&self.txns, &self.keys, txn) else {
+        let Some(key) = self.txns.find(txn) else {
             return None;
         };
-        asking_by(txn, sent_at(&self.txns, key))
+        asking_by(txn, self.txns.sent(key))
     }
 
     /// The serial number of the last admission, or 0.

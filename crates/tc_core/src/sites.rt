@@ -44,6 +44,7 @@ pub fn known(sites: &[Site], starts: &[usize], dc: u16) -> Option<(Site, usize)>
 }
 
 /// What is known of a data component; of one that isn't there, as if nothing was told of it.
+#[inline(always)]
 pub fn site_at(sites: &[Site], dc: usize) -> Site
     ensures { result ≡ site_at sites.now dc }
 {
@@ -54,6 +55,7 @@ pub fn site_at(sites: &[Site], dc: usize) -> Site
 }
 
 /// What is known of the data component that keeps an operation's record.
+#[inline(always)]
 pub fn site_of(sites: &[Site], op: &Op) -> Site
     ensures { result ≡ site_of sites.now op.now }
 {
@@ -61,6 +63,7 @@ pub fn site_of(sites: &[Site], op: &Op) -> Site
 }
 
 /// Whether the reply is of the known incarnation of a data component that is up.
+#[inline(always)]
 pub fn is_heard(site: &Site, reply: &Reply) -> bool
     ensures { result ≡ is_heard site.now reply.now }
 {

@@ -1,6 +1,7 @@
 //! The state, and the calls on it.
 
-ghost use Rattle.std.specs.Prelude.{◌≡◌, ◌↔◌, ◌+◌, [], ◌∷◌, ◌++◌, length, replicate, Some, None, IsTrue, IsOk, IfOk, OnOk, IfErr, OnErr, IfSome, IfNone, IsSome};
+ghost use Rattle.std.specs.Prelude.{◌≡◌, ◌↔◌, ◌+◌, [], ◌∷◌, ◌++◌, length, replicate, Some, None};
+ghost use Rattle.std.specs.Prelude.{IsTrue, IsOk, IfOk, OnOk, IfErr, OnErr, IfSome, IfNone, IsSome};
 ghost use Rattle.tc_log.specs.declared.event.Event.TheVariants.{Admit};
 ghost use Rattle.history.specs.Calls.{admitted};
 ghost use Rattle.transactions.specs.Standing.{standing};
@@ -10,7 +11,8 @@ ghost use Rattle.transactions.specs.Reached.{AllGood};
 ghost use Rattle.tc_core.specs.Loaded.{number_of, AllReach};
 ghost use Rattle.tc_core.specs.Loading.{load_refusal, IsFirstRefusal};
 ghost use Rattle.tc_core.specs.Core.{loaded_in};
-ghost use Rattle.tc_core.specs.Replies.{ask_reply, after_ask, IsAnswer, after_answer, end_of, end_reply, after_end, undo_reply, after_undo, with_event};
+ghost use Rattle.tc_core.specs.Replies.{ask_reply, after_ask, IsAnswer, after_answer, end_of, end_reply, after_end};
+ghost use Rattle.tc_core.specs.Replies.{undo_reply, after_undo, with_event};
 ghost use Rattle.tc_core.specs.Admission.{call_of, IsAdmissible, IsRefused};
 ghost use Rattle.tc_core.specs.Lent.{wire_of};
 ghost use Rattle.tc_core.specs.GivingUp.{IsOpenHere, with_given_up};
@@ -225,8 +227,10 @@ impl TcState {
     pub fn load(&mut self, name: &str, code: Verified) -> Result<usize, LoadFault>
         ensures allowed { OnOk result (load_refusal self.old.dcs self.old.names name.now code.decl.slots ≡ None) }
         ensures number { IfOk result (λ n. n ≡ length self.old.procs) }
-        ensures ok { OnOk result (self.new ≡ record self.old { procs = self.old.procs ++ code ∷ []; names = self.old.names ++ name.now ∷ [] }) }
-        ensures refused { IfErr result (λ fault. IsFirstRefusal (load_refusal self.old.dcs self.old.names name.now code.decl.slots) fault.why) }
+        ensures ok { OnOk result
+            (self.new ≡ record self.old { procs = self.old.procs ++ code ∷ []; names = self.old.names ++ name.now ∷ [] }) }
+        ensures refused { IfErr result
+            (λ fault. IsFirstRefusal (load_refusal self.old.dcs self.old.names name.now code.decl.slots) fault.why) }
         ensures err { OnErr result (self.new ≡ self.old) }
         ensures back { IfErr result (λ fault. fault.code ≡ code) }
     {
@@ -366,6 +370,7 @@ impl TcState {
     /// What is sent for a request now: its number and operation, the low-water mark of now and the
     /// known incarnation of its data component. A resend makes it again. Nothing is sent while the
     /// data component is down.
+    #[inline(always)]
     pub fn wire(&self, request: &Request) -> Result<Wire, Down>
         ensures { result ≡ wire_of self.now request.now }
     {

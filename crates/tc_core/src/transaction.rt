@@ -1,13 +1,16 @@
 // An open transaction, as it is kept.
 
-ghost use Rattle.std.specs.Prelude.{◌≡◌, ◌+◌, ◌-◌, ◌<◌, ◌≤◌, ℕ, List, [], ◌∷◌, ◌++◌, length, Option, Some, None, true, false, ◌||◌, IfOk};
+ghost use Rattle.std.specs.Prelude.{◌≡◌, ◌↔◌, ◌+◌, ◌-◌, ◌*◌, ◌<◌, ◌≤◌, ◌||◌, ℕ, true, false, IfOk, IsTrue};
+ghost use Rattle.std.specs.Prelude.{List, [], ◌∷◌, ◌++◌, length, Option, Some, None};
 ghost use Rattle.access_slots.specs.declared.op.Op.{Op};
 ghost use Rattle.access_slots.specs.declared.op.Said.{Said};
 ghost use Rattle.access_slots.specs.Access as Access;
 ghost use Rattle.access_slots.specs.Access.{is_no_room};
 ghost use Rattle.transactions.specs.Standing as Standings;
 ghost use Rattle.transactions.specs.Standing.{Standing, rest_of, told_to, found_full, undo_done, tries_done, answered};
-ghost use Rattle.tc_core.specs.Joining.Hearing.{MayHear};
+ghost use Rattle.transactions.specs.Reached.{calls_in};
+ghost use Rattle.tc_core.specs.GivingUp.{Awaits};
+ghost use Rattle.tc_core.specs.Joining.Hearing.{MayHear, Accepts};
 ghost use Rattle.tc_core.specs.Joining.Sends.{asking_under, undoing_under};
 ghost use Rattle.tc_core.specs.Kept.{Keeps};
 ghost use Rattle.semantics.specs.Reach.{AreArguments};
@@ -18,7 +21,7 @@ ghost use Rattle.tc_core.specs.Running.{Runs, MayResume, as_reached};
 
 use crate::undos::Undos;
 use access_slots::lock::LockSet;
-use access_slots::op::{Op, Said};
+use access_slots::op::{Op, Reply, Said, fits};
 use access_slots::slot::Value;
 use interpreter::layout::Layout;
 use interpreter::machine::Machine;
@@ -28,7 +31,8 @@ use tc_log::event::{Args, Outcome};
 use transactions::{Next, Sent};
 use verifier::verify::Verified;
 
-/// An open transaction: its procedure's machine, and where that stands.
+/// An open transaction: its procedure's machine, and where that stands. It is large, so it stays in one
+/// place from its begin on, and the next one begins there.
 #[derive(Drop)]
 pub struct Tx {
     pub serial: u64,
@@ -45,12 +49,75 @@ pub struct Tx {
     pub locks: LockSet,
 }
 
+// How many call slots the code has, at most as many as slots.
+pub fn calls_of(code: &Verified) -> usize
+    ensures calls { result ≡ calls_in code.now }
+    ensures few { result ≤ 4096 }
+{
+    let _code = code.code();
+    code.calls()
+}
+
 impl Tx {
+    /// A place for a transaction to begin in: none yet. It takes no memory.
+    pub fn blank(alloc: Global, locks: LockSet) -> Tx
+        ensures { result.locks ≡ locks }
+    {
+        Tx {
+            serial: 0,
+            proc: 0,
+            machine: Machine::blank(),
+            pause: Pause::Exit(0),
+            sent: None,
+            full: false,
+            undo: Undos::new(alloc),
+            tries: 0,
+            last: 0,
+            left: 0,
+            in_doubt: false,
+            locks,
+        }
+    }
+
+    /// It begins, whatever it was before, and has run to its first question or its end.
+    #[inline(always)]
+    pub fn begin(
+        &mut self,
+        code: &Verified,
+        serial: u64,
+        proc: usize,
+        args: &[u64],
+        undo: Undos,
+        locks: LockSet,
+    )
+        requires { length args.now ≡ code.now.decl.args }
+        ensures runs { Runs code.now self.new args.now [] }
+        ensures takes { AreArguments code.now.decl args.now }
+        ensures names { (self.new.serial ≡ serial) × (self.new.proc ≡ proc) }
+        ensures fresh { (self.new.sent ≡ None) × (self.new.full ≡ false) × (self.new.tries ≡ 0) × (self.new.last ≡ 0) }
+        ensures room { (self.new.undo ≡ undo) × (self.new.left ≡ 5 * calls_in code.now) }
+        ensures locks { (self.new.locks ≡ locks) × (self.new.in_doubt ≡ false) }
+    {
+        self.machine.restart(code, args, Layout::plain());
+        self.pause = self.machine.resume(code, None);
+        self.serial = serial;
+        self.proc = proc;
+        self.sent = None;
+        self.full = false;
+        self.undo = undo;
+        self.tries = 0;
+        self.last = 0;
+        self.left = 5 * calls_of(code) as u64;
+        self.in_doubt = false;
+        self.locks = locks;
+    }
+
     /// Its run goes on with what was said to its question.
     pub fn resume(&mut self, code: &Verified, said: Said)
         requires room { is_no_room said ≡ false }
         requires asked { (args : List ℕ) × (answers : List Said) × (o : Op) × MayResume code.now self.old args answers o said }
-        ensures runs { (args : List ℕ) (answers : List Said) (o : Op) → MayResume code.now self.old args answers o said → Runs code.now self.new args (answers ++ said ∷ []) }
+        ensures runs { (args : List ℕ) (answers : List Said) (o : Op) → MayResume code.now self.old args answers o said →
+            Runs code.now self.new args (answers ++ said ∷ []) }
         ensures rest { self.new ≡ record self.old { machine = self.new.machine; pause = self.new.pause } }
     {
         self.pause = self.machine.resume(code, Some(said));
@@ -58,6 +125,7 @@ impl Tx {
 }
 
 // The end, or the next write to be undone, four times at most.
+#[inline(always)]
 fn ends_or_undoes(left: Option<Op>, tries: u64, last: u64, outcome: Outcome) -> Next
     ensures { result ≡ Nexts.ends_or_undoes left tries last outcome }
 {
@@ -75,8 +143,10 @@ fn ends_or_undoes(left: Option<Op>, tries: u64, last: u64, outcome: Outcome) -> 
 
 impl Tx {
     /// What it does next.
+    #[inline(always)]
     pub fn next(&self) -> Next
-        ensures { next_by self.now.sent self.now.full (first_undo self.now.undo.ops) self.now.tries self.now.last (as_reached self.now.pause) ≡ Some result }
+        ensures { next_by self.now.sent self.now.full (first_undo self.now.undo.ops) self.now.tries self.now.last
+            (as_reached self.now.pause) ≡ Some result }
     {
         if let Some(sent) = self.sent {
             return Next::Waits(sent.number);
@@ -98,6 +168,7 @@ impl Tx {
     }
 
     /// It waits for the answer to its question.
+    #[inline(always)]
     pub fn send(&mut self, number: u64, op: Op)
         requires { 1 ≤ self.old.left }
         ensures { self.new ≡ asking_under number op self.old }
@@ -169,11 +240,13 @@ impl Tx {
     fn told(&mut self, code: &Verified, op: Op, said: Said)
         requires room { 0 < self.old.undo.room }
         requires asked { (args : List ℕ) × (answers : List Said) × MayResume code.now self.old args answers op said }
-        ensures runs { (args : List ℕ) (answers : List Said) → MayResume code.now self.old args answers op said → Runs code.now self.new args (told_to false said answers) }
+        ensures runs { (args : List ℕ) (answers : List Said) → MayResume code.now self.old args answers op said →
+            Runs code.now self.new args (told_to false said answers) }
         ensures full { self.new.full ≡ (self.old.full || found_full false said) }
         ensures ops { self.new.undo.ops ≡ undo_done false op said self.old.undo.ops }
         ensures room { length self.new.undo.ops + self.new.undo.room ≡ length self.old.undo.ops + self.old.undo.room }
-        ensures rest { self.new ≡ record self.old { machine = self.new.machine; pause = self.new.pause; full = self.new.full; undo = self.new.undo } }
+        ensures rest { self.new
+            ≡ record self.old { machine = self.new.machine; pause = self.new.pause; full = self.new.full; undo = self.new.undo } }
     {
         if is_no_room(&said) {
             self.full = true;
@@ -204,6 +277,27 @@ impl Tx {
 }
 
 impl Tx {
+    /// Whether it waits for this number and operation.
+    pub fn awaits(&self, number: u64, op: &Op) -> bool
+        ensures { IsTrue result ↔ Awaits self.now number op.now }
+    {
+        let Some(sent) = self.sent else {
+            return false;
+        };
+        sent.number == number && sent.op == *op
+    }
+
+    /// Whether it waits for this request, and the reply is one to it.
+    #[inline(always)]
+    pub fn accepts(&self, number: u64, op: &Op, reply: &Reply) -> bool
+        ensures { IsTrue result ↔ Accepts self.now number op.now reply.now.number reply.now.said }
+    {
+        let Some(sent) = self.sent else {
+            return false;
+        };
+        sent.number == number && sent.op == *op && reply.number == number && fits(op, &reply.said)
+    }
+
     /// It waits for the answer to an undo.
     pub fn send_undo(&mut self, number: u64, op: Op)
         requires left { 1 ≤ self.old.left }
@@ -242,41 +336,5 @@ impl Own {
         let undo = Undos::with_room(alloc, calls)?;
         let args = Args::copy_of(alloc, args)?;
         Ok(Own { undo, args, locks })
-    }
-}
-
-/// A transaction that begins, and has run to its first question or its end.
-pub fn begin(
-    code: &Verified,
-    serial: u64,
-    proc: usize,
-    args: &[u64],
-    undo: Undos,
-    left: u64,
-    locks: LockSet,
-) -> Tx
-    requires { length args.now ≡ code.now.decl.args }
-    ensures runs { Runs code.now result args.now [] }
-    ensures takes { AreArguments code.now.decl args.now }
-    ensures names { (result.serial ≡ serial) × (result.proc ≡ proc) }
-    ensures fresh { (result.sent ≡ None) × (result.full ≡ false) × (result.tries ≡ 0) × (result.last ≡ 0) }
-    ensures room { (result.undo ≡ undo) × (result.left ≡ left) }
-    ensures locks { (result.locks ≡ locks) × (result.in_doubt ≡ false) }
-{
-    let mut machine = Machine::start(code, args, Layout::plain());
-    let pause = machine.resume(code, None);
-    Tx {
-        serial,
-        proc,
-        machine,
-        pause,
-        sent: None,
-        full: false,
-        undo,
-        tries: 0,
-        last: 0,
-        left,
-        in_doubt: false,
-        locks,
     }
 }

@@ -25,6 +25,15 @@ impl Model for Undos {
 }
 
 impl Undos {
+    /// None, and no room. It takes no memory.
+    pub fn new(alloc: Global) -> Undos
+        ensures { result.ops ≡ [] }
+    {
+        Undos {
+            ops: Vec::new(alloc),
+        }
+    }
+
     /// None yet, with room for so many.
     pub fn with_room(alloc: Global, most: usize) -> Result<Undos, AllocError>
         ensures ops { IfOk result (λ u. u.ops ≡ []) }
@@ -36,6 +45,7 @@ impl Undos {
     }
 
     /// One more, which is undone first. There has to be room.
+    #[inline(always)]
     pub fn push(&mut self, op: Op)
         requires { 0 < self.old.room }
         ensures ops { self.new.ops ≡ op ∷ self.old.ops }
@@ -45,6 +55,7 @@ impl Undos {
     }
 
     /// The first one was undone.
+    #[inline(always)]
     pub fn pop(&mut self)
         ensures ops { self.new.ops ≡ rest_of self.old.ops }
         ensures room { length self.new.ops + self.new.room ≡ length self.old.ops + self.old.room }
@@ -53,6 +64,7 @@ impl Undos {
     }
 
     /// The first one to be undone.
+    #[inline(always)]
     pub fn first(&self) -> Option<Op>
         ensures { result ≡ first_undo self.now.ops }
     {

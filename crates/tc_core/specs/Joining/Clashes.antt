@@ -1,5 +1,5 @@
 -- Two sets of locks that exclude each other.
-use Rattle.std.specs.Prelude.{Bool, Option, Some, List}
+use Rattle.std.specs.Prelude.{Bool, Some, List}
 use Rattle.std.specs.List.{list_any}
 use Rattle.access_slots.specs.declared.lock.Lock.{Lock}
 use Rattle.access_slots.specs.Held.{excludes}

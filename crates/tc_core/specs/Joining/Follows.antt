@@ -5,7 +5,7 @@ use Rattle.tc_log.specs.declared.event.Event.{Event}
 use Rattle.verifier.specs.Checked.{Checked}
 use Rattle.transactions.specs.declared.Sent.{Sent}
 use Rattle.transactions.specs.Legal.{Allowed}
-use Rattle.transactions.specs.Standing.{Standing, standing}
+use Rattle.transactions.specs.Standing.{Standing}
 use Rattle.tc_core.specs.Core.{Asking}
 use Rattle.tc_core.specs.declared.state.Asked.{Asked}
 use Rattle.tc_core.specs.declared.state.Asked.TheVariants as reply

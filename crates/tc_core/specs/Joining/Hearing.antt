@@ -1,5 +1,5 @@
 -- When a transaction takes in an answer.
-use Rattle.std.specs.Prelude.{◌≡◌, ℕ, ◌<◌, length, Some, true, false}
+use Rattle.std.specs.Prelude.{◌≡◌, ℕ, ◌<◌, Some, true, false}
 use Rattle.access_slots.specs.Access.{fits}
 use Rattle.access_slots.specs.declared.op.Said.{Said}
 use Rattle.verifier.specs.Checked.{Checked}

@@ -1,12 +1,10 @@
 -- Transactions as they are kept that stand in the way of a set of locks.
-use Rattle.std.specs.Prelude.{◌≡◌, ℕ, Bool, true, false, ◌||◌, List, Option, Some, None}
+use Rattle.std.specs.Prelude.{◌≡◌, ◌≢◌, ℕ, Bool, true, false, ◌||◌, List, Option, Some, None}
 use Rattle.slab.specs.Slab.{Slab, get}
 use Rattle.access_slots.specs.declared.lock.Lock.{Lock}
 use Rattle.transactions.specs.declared.Next.{Next}
 use Rattle.transactions.specs.declared.Next.TheVariants as next
-use Rattle.transactions.specs.Legal.{first_undo}
-use Rattle.transactions.specs.Next.{next_by}
-use Rattle.tc_core.specs.Running.{as_reached}
+use Rattle.tc_core.specs.Running.{does}
 use Rattle.tc_core.specs.Joining.Clashes.{clashes}
 use Rattle.tc_core.specs.declared.transaction.Tx.{Tx}
 
@@ -20,7 +18,11 @@ stuck_by (Some (next.Over o)) = false
 
 -- it is marked as in doubt, or stuck
 abbrev pub stands_still : Tx → Bool
-stands_still tx = tx.in_doubt || stuck_by (next_by tx.sent tx.full (first_undo tx.undo.ops) tx.tries tx.last (as_reached tx.pause))
+stands_still tx = tx.in_doubt || stuck_by (does tx)
+
+-- each transaction in the way is in doubt or stuck
+abbrev pub AllStandStill : Slab Tx → List Lock → Type 0
+AllStandStill txns wanted = (key : ℕ) (tx : Tx) → get txns key ≡ Some tx → clashes wanted tx.locks ≡ true → stands_still tx ≢ false
 
 -- a transaction in the way that is neither
 pub record HoldsUp (txns : Slab Tx) (wanted : List Lock) : Type 0 where

@@ -11,3 +11,7 @@ asking_under n o tx = record tx { sent = sent_as n o false; last = n; left = tx.
 -- it undoes a write, under this number
 abbrev pub undoing_under : ℕ → Op → Tx → Tx
 undoing_under n o tx = record tx { sent = sent_as n o true; tries = tx.tries + 1; last = n; left = tx.left - 1; in_doubt = false }
+
+-- what it waits for is given up
+abbrev pub doubted : Tx → Tx
+doubted tx = record tx { in_doubt = true }

@@ -1,4 +1,4 @@
-use Rattle.std.proofs.Common.{◌≡◌, ◌+◌, ℕ, List, [], ◌∷◌, length, arith, sym, ◌∙◌, ap, subst}
+use Rattle.std.proofs.Common.{◌≡◌, List, ◌∷◌, length, arith, sym, ◌∙◌, ap, subst}
 use Rattle.tc_log.specs.declared.event.Event.{Event}
 use Rattle.transactions.specs.declared.Site.{Site}
 use Rattle.history.specs.Places.{Begins}

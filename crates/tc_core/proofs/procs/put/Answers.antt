@@ -1,4 +1,4 @@
-use Rattle.std.proofs.Common.{◌≡◌, ◌∙◌, ap, map}
+use Rattle.std.proofs.Common.{◌∙◌, ap, map}
 use Rattle.std.specs.String.{string_bytes}
 use Rattle.indexmap.specs.IndexMap.{keys}
 use Rattle.indexmap.proofs.CallerLemmas.{insert_entry-new}

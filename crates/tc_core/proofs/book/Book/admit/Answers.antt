@@ -1,8 +1,6 @@
-use Rattle.std.proofs.Common.{◌≡◌, ◌∙◌, ap, sym, subst, List}
+use Rattle.std.proofs.Common.{◌∙◌, ap, List}
 use Rattle.access_slots.specs.declared.lock.Lock.{Lock}
-use Rattle.access_slots.specs.declared.slot.Record.{Record}
-use Rattle.access_slots.specs.Locks.{mode_in, mode_named}
-use Rattle.tc_core.specs.Kept.{core_of}
+use Rattle.access_slots.specs.Locks.{mode_in}
 use Rattle.tc_core.specs.Admission.{call_of}
 use Rattle.tc_core.proofs.AdmitLemmas.{book-room, free-call, busy-call, few-needed, many-needed, may-enter}
 use Rattle.tc_core.proofs.book.Book.admit.Goals as goal

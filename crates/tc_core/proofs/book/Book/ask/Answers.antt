@@ -1,14 +1,11 @@
-use Rattle.std.proofs.Common.{rules, ◌≡◌, ◌+◌, ◌<◌, ◌≤◌, ℕ, Some, None, arith, refl, sym, ◌∙◌, ap, subst, Option, true, false}
-use Rattle.tc_log.specs.declared.event.Event.TheVariants.{Ask}
-use Rattle.tc_core.specs.Core.{Core, Asking}
-use Rattle.tc_core.specs.Kept.{core_of, IsBook}
-use Rattle.tc_core.specs.Replies.{ask_reply, asked_by, next_at}
+use Rattle.std.proofs.Common.{◌≡◌, ◌+◌, ◌<◌, ◌≤◌, arith, refl, sym, ◌∙◌, ap, subst}
+use Rattle.tc_core.specs.Core.{Core}
+use Rattle.tc_core.specs.Kept.{core_of}
 use Rattle.tc_core.specs.declared.transaction.Tx.{Tx}
 use Rattle.tc_core.proofs.ReplyLemmas.{next-unknown, next-known}
 use Rattle.transactions.proofs.StandingLemmas.{some_same}
 use Rattle.history.specs.Flight.{given}
 use Rattle.tc_core.proofs.StartLemmas.{starts_event}
-use Rattle.tc_core.proofs.KeyLemmas.{keys-moved}
 use Rattle.tc_core.proofs.MarkedLemmas.{marked-moved}
 use Rattle.tc_core.proofs.KeptLemmas.{places-absent, seen, may-send, kept-ask}
 use Rattle.tc_core.proofs.book.Book.ask.Goals as goal
@@ -34,8 +31,8 @@ push-requires c =
     let at = c.in-Some.ensures.found in
     (may-send _ _ _ _ _ _ _ _ _ at.tx _ c.requires.kept (seen _ _ _ _ _ _ _ _ _ _ at.tx c.requires.kept at.found at.serial) (c.in-Asks.ensures at.tx at.found)).room
 
-pub send_at-requires-clause-left : goal.send_at-requires-clause-left
-send_at-requires-clause-left c = λ tx found.
+pub send-requires-clause-left : goal.send-requires-clause-left
+send-requires-clause-left c = λ tx found.
     let at = c.in-Some.ensures.found in
     let same : at.tx ≡ tx = some_same at.tx tx (sym at.found ∙ found) in
     subst (λ (x : Tx). 1 ≤ x.left) same
@@ -63,10 +60,9 @@ returns-in-Asks-clause-kept c =
       kept =
           kept-ask _ _ _ _ _ _ _ _ _ _ _ _ c.next_number-number.result at.tx _ c.in-Asks.op c.requires.kept at.found (seen _ _ _ _ _ _ _ _ _ _ at.tx c.requires.kept at.found refl) (c.in-Asks.ensures at.tx at.found)
           c.next_number-number.ensures.number (rw (← at.serial) at c.push.ensures.events) c.push.ensures.room c.next_number-number.ensures.last c.next_number-number.ensures.pending c.next_number-number.ensures.room
-          (c.send_at.ensures.updates at.tx at.found) c.send_at.ensures.len refl;
+          (c.send.ensures.updates at.tx at.found) c.send.ensures.len refl;
       most = omega (arith, c.requires.most, more, promised);
-      marked = marked-moved _ h _ _ _ _ _ c.requires.marked (omega (arith, more)) (c.send_at.ensures.updates at.tx at.found) (sym (c.requires.marked.early _ late));
-      keyed = keys-moved _ _ _ _ at.tx _ c.requires.keyed at.found (c.send_at.ensures.updates at.tx at.found) refl;
+      marked = marked-moved _ h _ _ _ _ _ c.requires.marked (omega (arith, more)) (c.send.ensures.updates at.tx at.found) (sym (c.requires.marked.early _ late));
       starts = starts_event _ _ _ _ _ c.push.ensures.events c.requires.starts;
     }
 

@@ -1,4 +1,3 @@
-use Rattle.std.proofs.Common.{◌≡◌}
 use Rattle.tc_core.specs.Admission.{call_of}
 use Rattle.tc_core.proofs.AdmitLemmas.{busy-call, wanted_locks}
 use Rattle.tc_core.proofs.BlockedLemmas.{blocked_if}

@@ -1,5 +1,4 @@
-use Rattle.std.proofs.Common.{◌≡◌, ℕ, ◌+◌, ◌*◌, ◌≤◌, ◌<◌, List, [], ◌∷◌, length, Option, arith, refl, sym, ◌∙◌, ap, subst}
-use Rattle.access_slots.specs.Declaration.{Declaration}
+use Rattle.std.proofs.Common.{◌≡◌, ℕ, ◌+◌, ◌*◌, ◌≤◌, List, [], arith, refl, sym, ◌∙◌, ap, subst}
 use Rattle.access_slots.specs.declared.lock.Lock.{Lock}
 use Rattle.access_slots.specs.declared.slot.Record.{Record}
 use Rattle.access_slots.specs.Locks.{mode_in, mode_named}
@@ -13,7 +12,6 @@ use Rattle.tc_core.specs.Running.{Runs}
 use Rattle.tc_core.specs.Joining.Writes.{Writes}
 use Rattle.transactions.proofs.StandingLemmas.{open-serial}
 use Rattle.tc_core.proofs.StartLemmas.{starts_event}
-use Rattle.tc_core.proofs.KeyLemmas.{keys-entered}
 use Rattle.tc_core.proofs.MarkedLemmas.{marked-moved}
 use Rattle.tc_core.proofs.AdmitLemmas.{kept-admit, keeps_fresh, free_same, nothing_new, admitted-length, wanted_locks}
 use Rattle.tc_core.proofs.book.Book.enter.Goals as goal
@@ -37,6 +35,14 @@ claim-requires-clause-free c =
     free_same (held (decls ps) c.args.self.now.log.events) (held_by c.args.self.now.locks) (locks_of (decls ps) call) (mode_in c.args.own.locks)
     (λ t r. sym (m.book.kept.locks_are t r)) (λ r. sym (wanted_locks ps call c.args.code.now c.args.own.args c.args.own.locks m.called refl m.locks r)) m.free
 
+pub enter-requires-clause-other : goal.enter-requires-clause-other
+enter-requires-clause-other c = λ k ty at same.
+    let k' = c.requires.book.kept in
+    let o = k'.places.stands k ty at in
+    let late = open-serial c.args.procs.now.codes c.args.self.now.log.events k'.legal ty.serial o.s o.is in
+    let serials = k'.serials_are in
+    absurd (omega (arith, late.1, same, serials))
+
 pub returns-clause-kept : goal.returns-clause-kept
 returns-clause-kept c =
     let m = c.requires in
@@ -47,17 +53,18 @@ returns-clause-kept c =
     let args = c.args.own.args in
     let call : Call = record { proc = p; args = args } in
     let n : c.calls_of-calls.result ≡ calls_in q = c.calls_of-calls.ensures.calls in
-    let g = c.begin-tx.ensures in
-    let runs = subst (λ (xs : List ℕ). Runs q c.begin-tx.result xs []) c.as_slice.ensures g.runs in
-    let takes = subst (λ (xs : List ℕ). AreArguments q.decl xs) c.as_slice.ensures g.takes in
-    let ops : c.begin-tx.result.undo.ops ≡ [] = ap (λ (u : Writes). u.ops) g.room.0 ∙ m.ops in
-    let undo_room : calls_in q ≤ c.begin-tx.result.undo.room = (let u = ap (λ (u : Writes). u.room) g.room.0 in let r = m.undo_room in omega (arith, u, r)) in
-    let locks : (r : Record) → mode_in c.begin-tx.result.locks r ≡ mode_named args q.decl.slots r = (λ r. ap (λ (ls : List Lock). mode_in ls r) g.locks.0 ∙ m.locks r) in
-    let keeps = keeps_fresh q c.begin-tx.result p args g.names.1 g.fresh.0 g.fresh.1 ops g.fresh.2 g.fresh.3 (omega (arith, g.room.1, n)) undo_room locks runs in
+    let g = c.enter.ensures.entered in
+    let begun = g.begins in
+    let runs = subst (λ (xs : List ℕ). Runs q g.tx xs []) c.as_slice.ensures begun.runs in
+    let takes = subst (λ (xs : List ℕ). AreArguments q.decl xs) c.as_slice.ensures begun.takes in
+    let ops : g.tx.undo.ops ≡ [] = ap (λ (u : Writes). u.ops) begun.room.0 ∙ m.ops in
+    let undo_room : calls_in q ≤ g.tx.undo.room = (let u = ap (λ (u : Writes). u.room) begun.room.0 in let r = m.undo_room in omega (arith, u, r)) in
+    let locks : (r : Record) → mode_in g.tx.locks r ≡ mode_named args q.decl.slots r = (λ r. ap (λ (ls : List Lock). mode_in ls r) begun.locked.0 ∙ m.locks r) in
+    let keeps = keeps_fresh q g.tx p args begun.names.1 begun.fresh.0 begun.fresh.1 ops begun.fresh.2 begun.fresh.3 begun.room.1 undo_room locks runs in
     let room : b.owed + (2 * (5 * calls_in q) + 2) ≤ b.log.room = (let r = m.room.events in omega (arith, r)) in
-    let it = kept-admit ps b.log c.push.new.self b.locks c.claim.new.locks b.numbers b.txns c.insert_reserved-key.new.self b.serials b.owed b.promised _ p args (mode_in c.args.own.locks) q c.begin-tx.result
-    m.book.kept m.called.loaded takes m.free m.few room m.room.numbers_fit keeps g.names.0 (wanted_locks ps call q args c.args.own.locks m.called refl m.locks) c.claim.ensures
-    c.insert_reserved-key.ensures.was_vacant c.insert_reserved-key.ensures.updates c.insert_reserved-key.ensures.len c.push.ensures.events c.push.ensures.room in
+    let it = kept-admit ps b.log c.push.new.self b.locks c.claim.new.locks b.numbers b.txns c.enter.new.self b.serials b.owed b.promised _ p args (mode_in c.args.own.locks) q g.tx
+    m.book.kept m.called.loaded takes m.free m.few room m.room.numbers_fit keeps begun.names.0 (wanted_locks ps call q args c.args.own.locks m.called refl m.locks) c.claim.ensures
+    g.vacant g.updates c.enter.ensures.len c.push.ensures.events c.push.ensures.room in
     let one : b.owed + (10 * c.calls_of-calls.result + 1) ≡ b.owed + (2 * (5 * calls_in q) + 1) = omega (arith, n) in
     let two : b.promised + 5 * c.calls_of-calls.result ≡ b.promised + 5 * calls_in q = omega (arith, n) in
     let same : given c.push.new.self.events ≡ given b.log.events = ap given c.push.ensures.events in
@@ -66,8 +73,6 @@ returns-clause-kept c =
     record {
       kept = rw (one, two) it;
       most = omega (arith, most, last, same, n);
-      marked = marked-moved _ b.log.events _ _ _ _ _ m.book.marked (omega (arith, same)) c.insert_reserved-key.ensures.updates (g.locks.1 ∙ sym (ap (is_doubted _) g.fresh.0));
-      keyed = keys-entered _ _ _ _ _ c.begin-tx.result m.book.keyed c.insert_reserved-key.ensures.was_vacant c.insert_reserved-key.ensures.updates (rw (← g.names.0) at c.list_key.ensures)
-          (λ k ty at same. (let o = m.book.kept.places.stands k ty at in let late = open-serial ps b.log.events m.book.kept.legal ty.serial o.s o.is in let serials = m.book.kept.serials_are in absurd (omega (arith, late.1, same, g.names.0, serials))));
+      marked = marked-moved _ b.log.events _ _ _ _ _ m.book.marked (omega (arith, same)) g.updates (begun.locked.1 ∙ sym (ap (is_doubted _) begun.fresh.0));
       starts = starts_event _ _ _ _ _ c.push.ensures.events m.book.starts;
     }

@@ -1,4 +1,4 @@
-use Rattle.std.proofs.Common.{◌≡◌, Some, None, refl, sym, ◌∙◌, ap}
+use Rattle.std.proofs.Common.{refl, ap}
 use Rattle.std.specs.Prelude.{is_some}
 use Rattle.tc_core.proofs.KeptLemmas.{places-absent, seen}
 use Rattle.tc_core.proofs.book.Book.find_txn.Goals as goal

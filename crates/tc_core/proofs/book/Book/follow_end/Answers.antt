@@ -1,4 +1,4 @@
-use Rattle.std.proofs.Common.{◌≡◌, Err, sym, ◌∙◌}
+use Rattle.std.proofs.Common.{sym, ◌∙◌}
 use Rattle.tc_core.specs.Core.{Core}
 use Rattle.tc_core.specs.Kept.{core_of}
 use Rattle.tc_core.proofs.FollowLemmas.{end_never}

@@ -1,11 +1,8 @@
-use Rattle.std.proofs.Common.{◌≡◌, ◌<◌, ◌≤◌, ◌+◌, ℕ, Some, None, true, false, arith, refl, sym, ◌∙◌, ap, subst, Option}
-use Rattle.transactions.specs.Standing.{Standing, standing}
-use Rattle.history.specs.Flight.{given}
+use Rattle.std.proofs.Common.{◌≡◌, true, false, arith, sym, ◌∙◌, subst}
 use Rattle.transactions.proofs.StandingLemmas.{none_some}
 use Rattle.tc_core.specs.Core.{Core, Asking}
-use Rattle.tc_core.specs.Kept.{core_of, IsBook}
-use Rattle.tc_core.specs.GivingUp.{IsOpenHere, Awaits}
-use Rattle.tc_core.proofs.KeyLemmas.{keys-moved}
+use Rattle.tc_core.specs.Kept.{core_of}
+use Rattle.tc_core.specs.GivingUp.{IsOpenHere}
 use Rattle.tc_core.proofs.MarkedLemmas.{kept-doubt, marked-doubt}
 use Rattle.tc_core.proofs.KeptLemmas.{places-absent, seen, Seen}
 use Rattle.tc_core.proofs.GivingUpLemmas.{open-awaits, awaits-open, open-number}
@@ -18,14 +15,14 @@ returns-in_default-clause-open_here c = λ o.
     let here : IsOpenHere core r = subst (λ (x : Asking). IsOpenHere core x) (sym c.request.view_is) o in
     absurd (none_some _ here.s (places-absent _ _ _ c.requires.kept.places _ c.in_default.ensures.absent) here.is)
 
-pub returns-then-not-awaits_at-clause-open_here : goal.returns-then-not-awaits_at-clause-open_here
-returns-then-not-awaits_at-clause-open_here c = λ o.
+pub returns-then-not-awaits-clause-open_here : goal.returns-then-not-awaits-clause-open_here
+returns-then-not-awaits-clause-open_here c = λ o.
     let core : Core = core_of c.args.procs.now c.args.self.now in
     let r : Asking = record { txn = c.request.inside.txn; number = c.request.inside.number; op = c.request.inside.op } in
     let at = c.in-Some.ensures.found in
     let w : Seen core.procs core.events r.txn at.tx = seen _ _ _ _ _ _ _ _ _ _ at.tx c.requires.kept at.found at.serial in
     let here : IsOpenHere core r = subst (λ (x : Asking). IsOpenHere core x) (sym c.request.view_is) o in
-    let bad : false ≡ true = sym c.if-not-awaits_at.true ∙ (c.awaits_at.ensures at.tx at.found).1 (open-awaits core r at.tx w here) in
+    let bad : false ≡ true = sym c.if-not-awaits.true ∙ (c.awaits.ensures at.tx at.found).1 (open-awaits core r at.tx w here) in
     absurd (cc)
 
 pub add-requires-clause-some : goal.add-requires-clause-some
@@ -34,7 +31,7 @@ add-requires-clause-some c =
     let r : Asking = record { txn = c.request.inside.txn; number = c.request.inside.number; op = c.request.inside.op } in
     let at = c.in-Some.ensures.found in
     let w : Seen core.procs core.events r.txn at.tx = seen _ _ _ _ _ _ _ _ _ _ at.tx c.requires.kept at.found at.serial in
-    let here = awaits-open core r at.tx w ((c.awaits_at.ensures at.tx at.found).0 c.if-not-awaits_at.false) in
+    let here = awaits-open core r at.tx w ((c.awaits.ensures at.tx at.found).0 c.if-not-awaits.false) in
     (open-number core r c.requires.kept.legal here).0
 
 pub add-requires-clause-inside : goal.add-requires-clause-inside
@@ -43,7 +40,7 @@ add-requires-clause-inside c =
     let r : Asking = record { txn = c.request.inside.txn; number = c.request.inside.number; op = c.request.inside.op } in
     let at = c.in-Some.ensures.found in
     let w : Seen core.procs core.events r.txn at.tx = seen _ _ _ _ _ _ _ _ _ _ at.tx c.requires.kept at.found at.serial in
-    let here = awaits-open core r at.tx w ((c.awaits_at.ensures at.tx at.found).0 c.if-not-awaits_at.false) in
+    let here = awaits-open core r at.tx w ((c.awaits.ensures at.tx at.found).0 c.if-not-awaits.false) in
     let few = (open-number core r c.requires.kept.legal here).1 in
     omega (arith, few, c.requires.most)
 
@@ -53,7 +50,7 @@ returns-clause-elsewhere c = λ no.
     let r : Asking = record { txn = c.request.inside.txn; number = c.request.inside.number; op = c.request.inside.op } in
     let at = c.in-Some.ensures.found in
     let w : Seen core.procs core.events r.txn at.tx = seen _ _ _ _ _ _ _ _ _ _ at.tx c.requires.kept at.found at.serial in
-    let here = awaits-open core r at.tx w ((c.awaits_at.ensures at.tx at.found).0 c.if-not-awaits_at.false) in
+    let here = awaits-open core r at.tx w ((c.awaits.ensures at.tx at.found).0 c.if-not-awaits.false) in
     absurd (no (subst (λ (x : Asking). IsOpenHere core x) c.request.view_is here))
 
 pub returns-clause-kept : goal.returns-clause-kept
@@ -62,13 +59,12 @@ returns-clause-kept c =
     let r : Asking = record { txn = c.request.inside.txn; number = c.request.inside.number; op = c.request.inside.op } in
     let at = c.in-Some.ensures.found in
     let w : Seen core.procs core.events r.txn at.tx = seen _ _ _ _ _ _ _ _ _ _ at.tx c.requires.kept at.found at.serial in
-    let a = (c.awaits_at.ensures at.tx at.found).0 c.if-not-awaits_at.false in
+    let a = (c.awaits.ensures at.tx at.found).0 c.if-not-awaits.false in
     let few = (open-number core r c.requires.kept.legal (awaits-open core r at.tx w a)).1 in
-    let up = c.doubt_at.ensures.updates at.tx at.found in
+    let up = c.doubt.ensures.updates at.tx at.found in
     record {
-      kept = kept-doubt _ _ _ _ _ _ _ _ _ _ at.tx c.requires.kept at.found up c.doubt_at.ensures.len;
+      kept = kept-doubt _ _ _ _ _ _ _ _ _ _ at.tx c.requires.kept at.found up c.doubt.ensures.len;
       most = rw c.add.ensures.most c.requires.most;
       marked = rw c.add.ensures.numbers (marked-doubt core.procs _ _ _ _ _ _ at.tx a.r c.requires.kept.legal c.requires.kept.places c.requires.marked at.found a.waits a.same_number few up);
-      keyed = keys-moved _ _ _ _ at.tx _ c.requires.keyed at.found up refl;
       starts = c.requires.starts;
     }

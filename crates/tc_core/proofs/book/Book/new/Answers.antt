@@ -1,21 +1,16 @@
-use Rattle.std.proofs.Common.{◌≡◌, ℕ, Some, None, arith, refl, ap}
+use Rattle.std.proofs.Common.{◌≡◌, Some, None, arith, refl, ap}
 use Rattle.history.specs.Flight.{given}
-use Rattle.request_numbers.specs.Given.{holds}
 use Rattle.tc_core.proofs.StartLemmas.{starts_none}
 use Rattle.tc_core.proofs.KeptLemmas.{kept-none}
 use Rattle.tc_core.proofs.book.Book.new.Goals as goal
 
 pub returns-clause-kept : goal.returns-clause-kept
 returns-clause-kept c = λ codes good. record {
-  kept = kept-none codes _ _ _ _ c.new-5.ensures c.new-3.ensures.held c.new-4.ensures.last c.new-4.ensures.pending c.new.ensures.empty good;
-  most = (let none : given c.new-5.result.events ≡ 0 = ap given c.new-5.ensures in omega (arith, none));
+  kept = kept-none codes _ _ _ _ c.new-4.ensures c.new-2.ensures.held c.new-3.ensures.last c.new-3.ensures.pending c.new.ensures good;
+  most = (let none : given c.new-4.result.events ≡ 0 = ap given c.new-4.ensures in omega (arith, none));
   marked = record {
-    marks = λ key tx at. absurd (let none : None ≡ Some tx = rw c.new.ensures.empty at at in cc);
-    early = λ n late. rw c.new-6.ensures.numbers refl;
+    marks = λ key tx at. absurd (let none : None ≡ Some tx = rw c.new.ensures at at in cc);
+    early = λ n late. rw c.new-5.ensures.numbers refl;
   };
-  keyed = record {
-    keyed = λ key tx at. absurd (let none : None ≡ Some tx = rw c.new.ensures.empty at at in cc);
-    listed = λ t key at. absurd (let none : None ≡ Some key = rw c.new-2.ensures.empty at at in cc);
-  };
-  starts = rw (c.in_ok-sites.ensures, c.in_ok-starts.ensures, c.new-5.ensures) (starts_none c.args.dcs);
+  starts = rw (c.in_ok-sites.ensures, c.in_ok-starts.ensures, c.new-4.ensures) (starts_none c.args.dcs);
 }

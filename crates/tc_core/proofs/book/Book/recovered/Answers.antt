@@ -1,4 +1,4 @@
-use Rattle.std.proofs.Common.{◌≡◌, ℕ, List, length, map, sym, ◌∙◌, ap, subst}
+use Rattle.std.proofs.Common.{◌≡◌, ℕ, List, length, sym, ◌∙◌, ap, subst}
 use Rattle.std.proofs.lemmas.List.{length-map}
 use Rattle.transactions.specs.declared.Site.{Site}
 use Rattle.tc_core.specs.Kept.{AreStarts}
@@ -16,6 +16,5 @@ returns-clause-kept c =
       kept = is.kept;
       most = is.most;
       marked = is.marked;
-      keyed = is.keyed;
       starts = subst (λ (xs : List ℕ). AreStarts sites xs h) (sym c.in-Ok-starts.ensures) (starts_first c.dcs.result sites h many);
     }

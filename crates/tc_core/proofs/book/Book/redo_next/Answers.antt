@@ -1,18 +1,13 @@
-use Rattle.std.proofs.Common.{rules, ◌≡◌, ◌<◌, ◌≤◌, ◌+◌, ℕ, List, drop, length, Some, None, true, false, arith, refl, sym, ◌∙◌, ap, subst}
-use Rattle.std.specs.Prelude.{reverse, slice_get}
-use Rattle.std.proofs.lemmas.List.{length-reverse}
+use Rattle.std.proofs.Common.{◌≡◌, ℕ, List, drop, Some, None, refl, sym, ◌∙◌, ap}
+use Rattle.std.specs.Prelude.{slice_get}
 use Rattle.tc_log.specs.declared.event.Event.{Event}
 use Rattle.history.specs.Redo.{to_redo}
-use Rattle.history.specs.declared.Answered.{Answered}
 use Rattle.transactions.specs.declared.Site.{Site}
-use Rattle.transactions.specs.declared.Redoing.{Redoing}
-use Rattle.transactions.proofs.StandingLemmas.{some_same, none_some}
 use Rattle.tc_core.specs.Core.{Core}
-use Rattle.tc_core.specs.Kept.{core_of, IsBook}
-use Rattle.tc_core.specs.Joining.Scanning.{scan, first_in}
-use Rattle.tc_core.specs.Redo.{redo_reply, up_again, IsRedone}
-use Rattle.tc_core.proofs.ScanLemmas.{begin_behind}
-use Rattle.tc_core.proofs.StartLemmas.{looks, redo_is, redone_said, starts_up, starts_set}
+use Rattle.tc_core.specs.Kept.{core_of}
+use Rattle.tc_core.specs.Joining.Scanning.{scan}
+use Rattle.tc_core.specs.Redo.{up_again}
+use Rattle.tc_core.proofs.StartLemmas.{looks, redo_is, starts_up}
 use Rattle.tc_core.proofs.book.Book.redo_next.Goals as goal
 
 pub returns-in-Some-find_done-clause-reply : goal.returns-in-Some-find_done-clause-reply
@@ -33,7 +28,6 @@ returns-in-None-clause-kept c = record {
   kept = c.requires.kept;
   most = c.requires.most;
   marked = c.requires.marked;
-  keyed = c.requires.keyed;
   starts = starts_up _ _ _ _ _ c.requires.starts refl;
 }
 

@@ -1,18 +1,16 @@
-use Rattle.std.proofs.Common.{rules, ◌≡◌, ◌<◌, ◌≤◌, ◌+◌, ℕ, List, drop, length, Some, None, true, false, arith, refl, sym, ◌∙◌, ap, subst}
+use Rattle.std.proofs.Common.{◌≡◌, ℕ, List, drop, length, Some, None, true, arith, refl, sym, ◌∙◌, ap}
 use Rattle.std.specs.Prelude.{reverse, slice_get}
 use Rattle.std.proofs.lemmas.List.{length-reverse}
 use Rattle.tc_log.specs.declared.event.Event.{Event}
 use Rattle.history.specs.Redo.{to_redo}
 use Rattle.history.specs.declared.Answered.{Answered}
 use Rattle.transactions.specs.declared.Site.{Site}
-use Rattle.transactions.specs.declared.Redoing.{Redoing}
 use Rattle.transactions.proofs.StandingLemmas.{some_same, none_some}
 use Rattle.tc_core.specs.Core.{Core}
-use Rattle.tc_core.specs.Kept.{core_of, IsBook}
+use Rattle.tc_core.specs.Kept.{core_of}
 use Rattle.tc_core.specs.Joining.Scanning.{scan, first_in}
-use Rattle.tc_core.specs.Redo.{redo_reply, up_again, IsRedone}
 use Rattle.tc_core.proofs.ScanLemmas.{begin_behind}
-use Rattle.tc_core.proofs.StartLemmas.{looks, redo_is, redone_said, starts_up, starts_set}
+use Rattle.tc_core.proofs.StartLemmas.{looks, redone_said, starts_set}
 use Rattle.tc_core.proofs.book.Book.redone.Goals as goal
 
 pub returns-in_default-find_done-clause-accepted : goal.returns-in_default-find_done-clause-accepted
@@ -63,7 +61,6 @@ returns-clause-kept c =
       kept = c.requires.kept;
       most = c.requires.most;
       marked = c.requires.marked;
-      keyed = c.requires.keyed;
       starts = starts_set _ _ _ _ _ _ c.requires.starts (omega (arith, inside, many, length-reverse h))
           (begin_behind c.args.procs.now.codes h c.requires.kept.legal c.args.dc c.in-Some-redo.redo.redone c.in-Some-find_done.place c.in-Some-find_done.answered first);
     }

@@ -1,14 +1,11 @@
-use Rattle.std.proofs.Common.{rules, ◌≡◌, ◌+◌, ◌<◌, ◌≤◌, ℕ, Some, None, arith, refl, sym, ◌∙◌, ap, subst, Option, true, false}
-use Rattle.tc_log.specs.declared.event.Event.TheVariants.{Undo}
-use Rattle.tc_core.specs.Core.{Core, Asking}
-use Rattle.tc_core.specs.Kept.{core_of, IsBook}
-use Rattle.tc_core.specs.Replies.{undo_reply, undo_by, next_at}
+use Rattle.std.proofs.Common.{◌≡◌, ◌+◌, ◌<◌, ◌≤◌, arith, refl, sym, ◌∙◌, ap, subst}
+use Rattle.tc_core.specs.Core.{Core}
+use Rattle.tc_core.specs.Kept.{core_of}
 use Rattle.tc_core.specs.declared.transaction.Tx.{Tx}
 use Rattle.tc_core.proofs.ReplyLemmas.{next-unknown, next-known}
 use Rattle.transactions.proofs.StandingLemmas.{some_same}
 use Rattle.history.specs.Flight.{given}
 use Rattle.tc_core.proofs.StartLemmas.{starts_event}
-use Rattle.tc_core.proofs.KeyLemmas.{keys-moved}
 use Rattle.tc_core.proofs.MarkedLemmas.{marked-moved}
 use Rattle.tc_core.proofs.KeptLemmas.{places-absent, seen, may-send-undo, kept-undo}
 use Rattle.tc_core.proofs.book.Book.undo_next.Goals as goal
@@ -34,15 +31,15 @@ push-requires c =
     let at = c.in-Some.ensures.found in
     (may-send-undo _ _ _ _ _ _ _ _ _ at.tx _ c.requires.kept (seen _ _ _ _ _ _ _ _ _ _ at.tx c.requires.kept at.found at.serial) (c.in-Undoes.ensures at.tx at.found)).room
 
-pub send_undo_at-requires-clause-left : goal.send_undo_at-requires-clause-left
-send_undo_at-requires-clause-left c = λ tx found.
+pub send_undo-requires-clause-left : goal.send_undo-requires-clause-left
+send_undo-requires-clause-left c = λ tx found.
     let at = c.in-Some.ensures.found in
     let same : at.tx ≡ tx = some_same at.tx tx (sym at.found ∙ found) in
     subst (λ (x : Tx). 1 ≤ x.left) same
     (may-send-undo _ _ _ _ _ _ _ _ _ at.tx _ c.requires.kept (seen _ _ _ _ _ _ _ _ _ _ at.tx c.requires.kept at.found at.serial) (c.in-Undoes.ensures at.tx at.found)).left
 
-pub send_undo_at-requires-clause-tries : goal.send_undo_at-requires-clause-tries
-send_undo_at-requires-clause-tries c = λ tx found.
+pub send_undo-requires-clause-tries : goal.send_undo-requires-clause-tries
+send_undo-requires-clause-tries c = λ tx found.
     let at = c.in-Some.ensures.found in
     let same : at.tx ≡ tx = some_same at.tx tx (sym at.found ∙ found) in
     subst (λ (x : Tx). x.tries < 4) same
@@ -70,10 +67,9 @@ returns-in-Undoes-clause-kept c =
       kept =
           kept-undo _ _ _ _ _ _ _ _ _ _ _ _ c.next_number-number.result at.tx _ c.in-Undoes.op c.requires.kept at.found (seen _ _ _ _ _ _ _ _ _ _ at.tx c.requires.kept at.found refl) (c.in-Undoes.ensures at.tx at.found)
           c.next_number-number.ensures.number (rw (← at.serial) at c.push.ensures.events) c.push.ensures.room c.next_number-number.ensures.last c.next_number-number.ensures.pending c.next_number-number.ensures.room
-          (c.send_undo_at.ensures.updates at.tx at.found) c.send_undo_at.ensures.len refl;
+          (c.send_undo.ensures.updates at.tx at.found) c.send_undo.ensures.len refl;
       most = omega (arith, c.requires.most, more, promised);
-      marked = marked-moved _ h _ _ _ _ _ c.requires.marked (omega (arith, more)) (c.send_undo_at.ensures.updates at.tx at.found) (sym (c.requires.marked.early _ late));
-      keyed = keys-moved _ _ _ _ at.tx _ c.requires.keyed at.found (c.send_undo_at.ensures.updates at.tx at.found) refl;
+      marked = marked-moved _ h _ _ _ _ _ c.requires.marked (omega (arith, more)) (c.send_undo.ensures.updates at.tx at.found) (sym (c.requires.marked.early _ late));
       starts = starts_event _ _ _ _ _ c.push.ensures.events c.requires.starts;
     }
 

@@ -1,4 +1,4 @@
-use Rattle.std.proofs.Common.{◌≡◌, subst}
+use Rattle.std.proofs.Common.{subst}
 use Rattle.transactions.specs.Reached.{AllGood}
 use Rattle.tc_core.specs.Loaded.{Loaded}
 use Rattle.tc_core.proofs.procs.Procs.known.Goals as goal

@@ -1,4 +1,4 @@
-use Rattle.std.proofs.Common.{◌≡◌, subst}
+use Rattle.std.proofs.Common.{subst}
 use Rattle.std.specs.Prelude.{IfErr}
 use Rattle.tc_core.specs.Core.{Core}
 use Rattle.tc_core.specs.Admission.{call_of, IsRefused}

@@ -1,4 +1,4 @@
-use Rattle.std.proofs.Common.{◌≡◌, subst}
+use Rattle.std.proofs.Common.{subst}
 use Rattle.transactions.specs.Reached.{AllGood}
 use Rattle.tc_core.specs.Core.{Core}
 use Rattle.tc_core.proofs.state.TcState.known.Goals as goal

@@ -1,4 +1,4 @@
-use Rattle.std.proofs.Common.{◌≡◌, [], sym, ◌∙◌, ap}
+use Rattle.std.proofs.Common.{sym, ◌∙◌, ap}
 use Rattle.tc_core.specs.Core.{Core}
 use Rattle.tc_core.proofs.RecoveryLemmas.{none_there}
 use Rattle.tc_core.proofs.state.TcState.recover.Goals as goal

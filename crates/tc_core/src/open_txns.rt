@@ -1,0 +1,330 @@
+// The open transactions.
+
+ghost use Rattle.std.specs.Prelude.{◌≡◌, ◌≢◌, ◌↔◌, ◌+◌, ◌<◌, ◌≤◌, ℕ, [], length, Some, None, true, false, nat_eq};
+ghost use Rattle.std.specs.Prelude.{IsTrue, IfSome, IfNone, OnOk, vec_len, vec_capacity};
+ghost use Rattle.slab.specs.Slab.{get, slab_len, Updates, ContainsKey, HasRoomFor};
+ghost use Rattle.indexmap.specs.IndexMap.{spare, Updates as KeyUpdates};
+ghost use Rattle.transactions.specs.Standing.{Standing};
+ghost use Rattle.tc_core.specs.Running.{does};
+ghost use Rattle.tc_core.specs.Replies.{over_in};
+ghost use Rattle.tc_core.specs.GivingUp.{Awaits};
+ghost use Rattle.tc_core.specs.AtKey.{StandsAt};
+ghost use Rattle.tc_core.specs.Joining.Boxes.{AreBoxed, unboxed};
+ghost use Rattle.tc_core.specs.Joining.Beginning.{Entered};
+ghost use Rattle.tc_core.specs.Joining.Sends.{asking_under, undoing_under, doubted};
+ghost use Rattle.tc_core.specs.Joining.Hearing.{MayHear, Accepts, Heard};
+ghost use Rattle.tc_core.specs.Joining.Holders.{AllStandStill, HoldsUp};
+ghost use Rattle.tc_core.specs.declared.transaction.Tx.{Tx as TxValue};
+
+use crate::transaction::Tx;
+use crate::undos::Undos;
+use access_slots::lock::LockSet;
+use access_slots::op::{Op, Reply, Said};
+use indexmap::IndexMap;
+use slab::Slab;
+use std::alloc::{AllocError, Global};
+use std::marker::Model;
+use tc_log::event::Outcome;
+use transactions::{Next, Sent};
+use verifier::verify::Verified;
+
+/// The open transactions, each in a box at a key of its own, and found by its serial number. A box is
+/// never moved out of: that of a transaction that ended is kept, and another one begins in it.
+/// Contracts see the transactions by their keys, and whether there is room for one more.
+#[derive(Drop)]
+pub struct OpenTxns {
+    alloc: Global,
+    txns: Slab<Box<Tx>>,
+    keys: IndexMap<u64, usize>,
+    boxes: Vec<Box<Tx>>,
+}
+
+impl Model for OpenTxns {
+    ghost use Rattle.std.specs.Prelude.{vec_len};
+    ghost use Rattle.indexmap.specs.IndexMap.{spare};
+    ghost use Rattle.slab.specs.Slab.{Slab};
+    ghost use Rattle.tc_core.specs.declared.transaction.Tx.{Tx};
+    ghost use Rattle.tc_core.specs.Joining.Boxes.{unboxed, ready, AreKeys, AreBoxed};
+
+    ghost Value = { Slab Tx };
+
+    ghost view = { λ o. unboxed (ready (vec_len o.boxes) (spare o.keys)) o.txns };
+
+    ghost invariant = { λ o. AreKeys o.keys (unboxed (ready (vec_len o.boxes) (spare o.keys)) o.txns) × AreBoxed o.txns o.boxes };
+}
+
+// One of the boxes, of which there are some.
+#[inline(always)]
+fn take_box(boxes: &mut Vec<Box<Tx>>) -> Box<Tx>
+    requires { 0 < vec_len boxes.old }
+    ensures len { vec_len boxes.new + 1 ≡ vec_len boxes.old }
+    ensures capacity { vec_capacity boxes.new ≡ vec_capacity boxes.old }
+{
+    match boxes.pop() {
+        Some(tx) => tx,
+        None => unreachable!(),
+    }
+}
+
+// A box, where there is none, with room for it among the transactions and, once it has ended, among
+// the boxes.
+fn add_box(
+    alloc: Global,
+    txns: &mut Slab<Box<Tx>>,
+    boxes: &mut Vec<Box<Tx>>,
+    locks: &LockSet,
+) -> Result<(), AllocError>
+    requires { AreBoxed txns.old boxes.old }
+    ensures slots { txns.new.slots ≡ txns.old.slots }
+    ensures boxed { AreBoxed txns.new boxes.new }
+    ensures some { OnOk result (0 < vec_len boxes.new) }
+{
+    if !boxes.is_empty() {
+        return Ok(());
+    }
+    txns.reserve(1)?;
+    boxes.reserve(txns.capacity())?;
+    boxes.push_reserved(Box::new(alloc, Tx::blank(alloc, locks.copied()))?);
+    Ok(())
+}
+
+// A new transaction is found at this key. There has to be room.
+#[inline(always)]
+fn list_key(keys: &mut IndexMap<u64, usize>, serial: u64, key: usize)
+    requires { 0 < spare keys.old }
+    ensures { KeyUpdates nat_eq keys.old keys.new serial (Some key) }
+{
+    match keys.insert(serial, key) {
+        Ok(_before) => {}
+        Err(_) => unreachable!(),
+    }
+}
+
+// Whether each transaction whose locks exclude these is in doubt or stuck.
+fn none_holds_up(txns: &Slab<Box<Tx>>, wanted: &LockSet) -> bool
+    ensures all { IsTrue result → (n : ℕ) → AllStandStill (unboxed n txns.now) wanted.now }
+    ensures some { result ≡ false → (n : ℕ) → HoldsUp (unboxed n txns.now) wanted.now }
+{
+    for (_key, tx) in txns.iter() {
+        if tx.holds_up(wanted) {
+            return false;
+        }
+    }
+    true
+}
+
+impl OpenTxns {
+    /// None. It takes no memory.
+    pub fn new(alloc: Global) -> OpenTxns
+        ensures { result.slots ≡ [] }
+    {
+        OpenTxns {
+            alloc,
+            txns: Slab::new(alloc),
+            keys: IndexMap::new(alloc),
+            boxes: Vec::new(alloc),
+        }
+    }
+
+    /// How many there are.
+    pub fn len(&self) -> usize
+        ensures { result ≡ slab_len self.now }
+    {
+        self.txns.len()
+    }
+
+    /// At least as many as there is room for.
+    pub fn capacity(&self) -> usize
+        ensures { self.now.capacity ≤ result }
+    {
+        self.txns.capacity()
+    }
+
+    /// Makes room for one more, with locks such as these. The open ones stay as they are.
+    #[inline(always)]
+    pub fn reserve(&mut self, locks: &LockSet) -> Result<(), AllocError>
+        ensures slots { self.new.slots ≡ self.old.slots }
+        ensures room { OnOk result (HasRoomFor self.new 1) }
+    {
+        self.keys.reserve(1)?;
+        add_box(self.alloc, &mut self.txns, &mut self.boxes, locks)
+    }
+
+    /// A transaction begins, under a serial number that no other has, and has run to its first
+    /// question or its end. There has to be room. Its key.
+    #[inline(always)]
+    pub fn enter(
+        &mut self,
+        code: &Verified,
+        serial: u64,
+        proc: usize,
+        args: &[u64],
+        undo: Undos,
+        locks: LockSet,
+    ) -> usize
+        requires count { length args.now ≡ code.now.decl.args }
+        requires room { HasRoomFor self.old 1 }
+        requires other { (key : ℕ) (tx : TxValue) → get self.old key ≡ Some tx → tx.serial ≢ serial }
+        ensures entered { Entered code.now serial proc args.now undo locks self.old self.new result }
+        ensures len { slab_len self.new ≡ slab_len self.old + 1 }
+    {
+        let mut tx = take_box(&mut self.boxes);
+        tx.begin(code, serial, proc, args, undo, locks);
+        let key = self.txns.insert_reserved(tx);
+        list_key(&mut self.keys, serial, key);
+        key
+    }
+
+    /// Takes the transaction at a key out, which has ended.
+    #[inline(always)]
+    pub fn remove(&mut self, key: usize)
+        requires { ContainsKey self.old key }
+        ensures updates { Updates self.old self.new key None }
+        ensures len { slab_len self.new + 1 ≡ slab_len self.old }
+    {
+        let tx = self.txns.remove(key);
+        self.keys.swap_remove(&tx.serial);
+        self.boxes.push_reserved(tx);
+    }
+
+    /// The key of the transaction with this serial number, by one look.
+    #[inline(always)]
+    pub fn find(&self, serial: u64) -> Option<usize>
+        ensures found { IfSome result (λ key. StandsAt self.now key serial) }
+        ensures absent { IfNone result ((key : ℕ) (tx : TxValue) → get self.now key ≡ Some tx → tx.serial ≢ serial) }
+    {
+        self.keys.get(&serial).copied()
+    }
+
+    /// The transaction at a key.
+    #[inline(always)]
+    pub fn at(&self, key: usize) -> &Tx
+        requires { ContainsKey self.now key }
+        ensures { get self.now key ≡ Some result.now }
+    {
+        self.txns[key].as_ref()
+    }
+
+    /// What the transaction at a key does next.
+    #[inline(always)]
+    pub fn next(&self, key: usize) -> Next
+        requires { ContainsKey self.now key }
+        ensures { (tx : TxValue) → get self.now key ≡ Some tx → does tx ≡ Some result }
+    {
+        self.at(key).next()
+    }
+
+    /// How the transaction at a key ends, if it may end.
+    #[inline(always)]
+    pub fn ending(&self, key: usize) -> Option<Outcome>
+        requires { ContainsKey self.now key }
+        ensures { (tx : TxValue) → get self.now key ≡ Some tx → result ≡ over_in (does tx) }
+    {
+        over(self.next(key))
+    }
+
+    /// The procedure of the transaction at a key.
+    #[inline(always)]
+    pub fn procedure(&self, key: usize) -> usize
+        requires { ContainsKey self.now key }
+        ensures { (tx : TxValue) → get self.now key ≡ Some tx → result ≡ tx.proc }
+    {
+        self.at(key).proc
+    }
+
+    /// What the transaction at a key waits for.
+    pub fn sent(&self, key: usize) -> Option<Sent>
+        requires { ContainsKey self.now key }
+        ensures { (tx : TxValue) → get self.now key ≡ Some tx → result ≡ tx.sent }
+    {
+        self.at(key).sent
+    }
+
+    /// How many numbers are left to the transaction at a key.
+    #[inline(always)]
+    pub fn numbers_left(&self, key: usize) -> u64
+        requires { ContainsKey self.now key }
+        ensures { (tx : TxValue) → get self.now key ≡ Some tx → result ≡ tx.left }
+    {
+        self.at(key).left
+    }
+
+    /// Whether the transaction at a key waits for this number and operation.
+    pub fn awaits(&self, key: usize, number: u64, op: &Op) -> bool
+        requires { ContainsKey self.now key }
+        ensures { (tx : TxValue) → get self.now key ≡ Some tx → IsTrue result ↔ Awaits tx number op.now }
+    {
+        self.at(key).awaits(number, op)
+    }
+
+    /// Whether the transaction at a key waits for this request, and the reply is one to it.
+    #[inline(always)]
+    pub fn accepts(&self, key: usize, number: u64, op: &Op, reply: &Reply) -> bool
+        requires { ContainsKey self.now key }
+        ensures { (tx : TxValue) → get self.now key ≡ Some tx → IsTrue result ↔ Accepts tx number op.now reply.now.number reply.now.said }
+    {
+        self.at(key).accepts(number, op, reply)
+    }
+
+    /// Whether each transaction whose locks exclude these is in doubt or stuck.
+    pub fn all_stranded(&self, wanted: &LockSet) -> bool
+        ensures all { IsTrue result → AllStandStill self.now wanted.now }
+        ensures some { result ≡ false → HoldsUp self.now wanted.now }
+    {
+        none_holds_up(&self.txns, wanted)
+    }
+
+    /// The transaction at a key waits for the answer to its question.
+    #[inline(always)]
+    pub fn send(&mut self, key: usize, number: u64, op: Op)
+        requires key { ContainsKey self.old key }
+        requires left { (tx : TxValue) → get self.old key ≡ Some tx → 1 ≤ tx.left }
+        ensures updates { (tx : TxValue) → get self.old key ≡ Some tx → Updates self.old self.new key (Some (asking_under number op tx)) }
+        ensures len { slab_len self.new ≡ slab_len self.old }
+    {
+        self.txns[key].send(number, op);
+    }
+
+    /// The transaction at a key waits for the answer to an undo.
+    pub fn send_undo(&mut self, key: usize, number: u64, op: Op)
+        requires key { ContainsKey self.old key }
+        requires left { (tx : TxValue) → get self.old key ≡ Some tx → 1 ≤ tx.left }
+        requires tries { (tx : TxValue) → get self.old key ≡ Some tx → tx.tries < 4 }
+        ensures updates { (tx : TxValue) → get self.old key ≡ Some tx → Updates self.old self.new key (Some (undoing_under number op tx)) }
+        ensures len { slab_len self.new ≡ slab_len self.old }
+    {
+        self.txns[key].send_undo(number, op);
+    }
+
+    /// The transaction at a key takes in what was said to it.
+    #[inline(always)]
+    pub fn hear(&mut self, key: usize, code: &Verified, said: Said)
+        requires key { ContainsKey self.old key }
+        requires hears { (tx : TxValue) → get self.old key ≡ Some tx → (s : Standing) × MayHear code.now tx s said }
+        ensures updates { (tx : TxValue) → get self.old key ≡ Some tx → Heard code.now self.old self.new key tx said }
+        ensures len { slab_len self.new ≡ slab_len self.old }
+    {
+        self.txns[key].hear(code, said);
+    }
+
+    /// The transaction at a key is in doubt.
+    pub fn doubt(&mut self, key: usize)
+        requires { ContainsKey self.old key }
+        ensures updates { (tx : TxValue) → get self.old key ≡ Some tx → Updates self.old self.new key (Some (doubted tx)) }
+        ensures len { slab_len self.new ≡ slab_len self.old }
+    {
+        self.txns[key].in_doubt = true;
+    }
+}
+
+fn over(next: Next) -> Option<Outcome>
+    ensures { result ≡ over_in (Some next) }
+{
+    match next {
+        Next::Waits(_) => None,
+        Next::Asks(_) => None,
+        Next::Undoes(_) => None,
+        Next::Stuck(_) => None,
+        Next::Over(outcome) => Some(outcome),
+    }
+}
