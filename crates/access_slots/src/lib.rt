@@ -8,15 +8,13 @@
 //! locks.covers(&Op::Read(record(6)));                         // false
 //! ```
 //!
-//! (`one_record_in_two_modes` of its tests.)
+//! (`one_record_in_two_modes` in `slot_tests` of `lower_tests`, which has its tests.)
 #![tactic(auto)]
 
 pub mod decl;
 pub mod lock;
 pub mod op;
 pub mod slot;
-#[cfg(test)]
-mod tests;
 
 pub use decl::{Decl, DeclFault};
 pub use lock::{Lock, LockSet};

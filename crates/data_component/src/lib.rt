@@ -1,10 +1,17 @@
 //! A store that performs each numbered operation once, whatever is repeated, late or restarted.
+//!
+//! ```
+//! let mut dc = Dc::new(alloc, rows, ops)?;                    // room for so many records and operations
+//! dc.perform(&wire);                                          // a reply; to the same wire again the same one
+//! dc.checkpoint();                                            // keeps what there is; the mark that it keeps
+//! dc.restart()?;                                              // loses what came behind that, and says so
+//! ```
+//!
+//! (`store_tests` of `lower_tests` has its tests.)
 #![tactic(auto)]
 
 pub mod dc;
 mod kept;
 mod rows;
-#[cfg(test)]
-mod tests;
 
 pub use dc::{Dc, IncarnationsSpent};

@@ -3,13 +3,13 @@
 //! ```text
 //! let mut file = FrameFile::new(DiskFile::open(&rt, "calls.log")?);
 //! ```
+//!
+//! (`frames_in_a_file` in `disk_tests` of `lower_tests`, which has its tests.)
 #![tactic(auto)]
 
 mod disk;
 mod opening;
 mod record;
-#[cfg(test)]
-mod tests;
 
 pub use disk::DiskFile;
 pub use opening::OpenError;

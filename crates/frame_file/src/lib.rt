@@ -10,7 +10,8 @@
 //! A frame is its number, its length and a checksum, 8 bytes each, the lowest first, and its payload.
 //! Frames are numbered from 0 on. A crash in the middle of [`FrameFile::append`] leaves any bytes behind
 //! the frames before, no more than were to be written: these frames are read again whatever the bytes
-//! are, and no other, unless the checksum of one that nobody wrote is right by chance.
+//! are, and no other, unless the checksum of one that nobody wrote is right by chance. (`frame_tests` of
+//! `lower_tests` has the tests.)
 #![tactic(auto)]
 
 mod device;
@@ -18,8 +19,6 @@ mod file;
 mod frame;
 mod memory;
 mod reading;
-#[cfg(test)]
-mod tests;
 
 pub use device::{Device, DeviceError};
 pub use file::FrameFile;

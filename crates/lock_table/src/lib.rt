@@ -9,13 +9,9 @@
 //! table.grant(3, &both);          // Err: record 5 is held by transaction 1, the least that does
 //! ```
 //!
-//! (`waits_for_all` of its tests, with releases behind it.)
+//! (`waits_for_all` in `lock_tests` of `lower_tests`, which has its tests, with releases behind it.)
 #![tactic(auto)]
 
-#[cfg(test)]
-mod plain_table;
 pub mod table;
-#[cfg(test)]
-mod tests;
 
 pub use table::{Busy, LockTable};

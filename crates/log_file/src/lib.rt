@@ -9,7 +9,8 @@
 //! file.append(alloc, &notes, &rows)?;              // acknowledged: each crash from now on leaves them
 //! ```
 //!
-//! The functions without a body are laws: that what is read is what was written.
+//! The functions without a body are laws: that what is read is what was written. (`log_file_tests` of
+//! `upper_tests` has the tests.)
 #![tactic(auto)]
 
 mod batch;
@@ -19,8 +20,6 @@ mod header;
 mod laws;
 mod note;
 mod reading;
-#[cfg(test)]
-mod tests;
 
 pub use file::LogFile;
 pub use header::Header;

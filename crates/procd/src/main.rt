@@ -36,16 +36,3 @@ fn main(rt: HostRuntime) -> ExitCode {
         terminal,
     ))
 }
-
-#[cfg(test)]
-mod restart_tests;
-#[cfg(test)]
-mod run_tests;
-#[cfg(test)]
-mod script_tests;
-#[cfg(test)]
-mod test_scripts;
-#[cfg(test)]
-mod tests;
-#[cfg(test)]
-mod world_tests;

@@ -10,11 +10,9 @@
 //! numbers.answered(1);            // low_water() is 2
 //! ```
 //!
-//! (`answers_in_another_order` of its tests.)
+//! (`answers_in_another_order` in `number_tests` of `lower_tests`, which has its tests.)
 #![tactic(auto)]
 
 pub mod numbers;
-#[cfg(test)]
-mod tests;
 
 pub use numbers::Numbers;

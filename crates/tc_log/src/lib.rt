@@ -8,15 +8,13 @@
 //! let again = Log::read(alloc, bytes.as_slice())?;            // the same events
 //! ```
 //!
-//! (`an_insert` of its tests; more are `log_tests` of `component_tests`.)
+//! (`an_insert` in `event_tests` of `lower_tests`, which has its tests; more are `log_tests` of `component_tests`.)
 #![tactic(auto)]
 
 pub mod event;
 pub mod log;
 mod print;
 pub mod read;
-#[cfg(test)]
-mod tests;
 
 pub use event::{Args, Event, Outcome};
 pub use log::Log;

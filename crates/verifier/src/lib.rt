@@ -7,20 +7,14 @@
 //! verified.calls();                                           // how often it asks at most
 //! ```
 //!
-//! (`procedure` of `samples` does so with five procedures; its tests hold `verify` beside a pass that has a
-//! row of kinds for every slot.)
+//! (`procedure` of `samples` does so with five procedures. Its tests are `verdict_tests` and `refusal_tests`
+//! of `lower_tests`, which hold `verify` beside passes that know no more than they need to.)
 #![tactic(auto)]
 
 mod first_pass;
 pub mod flat;
 mod pending;
-#[cfg(test)]
-mod plain_verify;
-#[cfg(test)]
-mod refusal_tests;
 mod second_pass;
-#[cfg(test)]
-mod tests;
 pub mod verify;
 
 pub use flat::FlatCode;

@@ -3,10 +3,10 @@ ghost use Rattle.access_slots.specs.declared.slot.Record.{Record};
 ghost use Rattle.lock_table.specs.Facts.{held_by, HoldsNothing};
 
 use crate::plain_table::PlainTable;
-use crate::table::{Busy, LockTable};
 use access_slots::decl::{Decl, DeclFault};
 use access_slots::lock::LockSet;
 use access_slots::slot::{Key, Mode, Record, Slot};
+use lock_table::table::{Busy, LockTable};
 use std::alloc::Global;
 use std::process::Abort;
 use std::test::Fail;

@@ -1,7 +1,7 @@
-use crate::{Header, LogFile, Note, OpenFault, Recovered};
 use access_slots::op::{News, Op, Said};
 use access_slots::slot::Record;
 use frame_file::{FrameFault, Memory};
+use log_file::{Header, LogFile, Note, OpenFault, Recovered};
 use std::alloc::{AllocError, Global};
 use std::process::Abort;
 use std::test::Fail;
@@ -60,27 +60,48 @@ const RESTARTED: SiteNote = SiteNote::Restarted(News {
     mark: 4,
 });
 
-// A file of three syncs.
-fn written(rt: &impl Abort, alloc: Global) -> Result<Vec<u8>, Fail> {
-    let log = log(alloc)?;
-    let rows = log.print(alloc)?;
-    let mut file = over(alloc, &[])?;
-    assert!(rt; matches!(file.open(alloc, &HEADER), Err(OpenFault::Empty)));
-    assert_eq!(rt; file.create(alloc, &HEADER), Ok(()));
+// A file that is empty is begun.
+fn is_begun(rt: &impl Abort, alloc: Global, file: &mut LogFile<Memory>) {
+    let empty = matches!(file.open(alloc, &HEADER), Err(OpenFault::Empty));
+    assert_eq!(rt; (empty, file.create(alloc, &HEADER)), (true, Ok(())));
+}
+
+// How each of three syncs went.
+fn three_syncs(
+    alloc: Global,
+    file: &mut LogFile<Memory>,
+    log: &Log,
+) -> Result<[Result<(), FrameFault>; 3], AllocError> {
     let restarted = Note {
         dc: 1,
         known: RESTARTED,
     };
-    let first = rows.get(..192).unwrap_or_default();
-    assert_eq!(rt; file.append(alloc, &[restarted], first), Ok(()));
     let up = Note {
         dc: 1,
         known: SiteNote::Up(3),
     };
-    assert_eq!(rt; file.append(alloc, &[up], &[]), Ok(()));
+    let rows = log.print(alloc)?;
     let rest = log.print_from(alloc, 2)?;
-    assert_eq!(rt; file.append(alloc, &[], &rest), Ok(()));
-    let bytes = Vec::from_slice(alloc, file.device().bytes())?;
+    let first = rows.get(..192).unwrap_or_default();
+    Ok([
+        file.append(alloc, &[restarted], first),
+        file.append(alloc, &[up], &[]),
+        file.append(alloc, &[], &rest),
+    ])
+}
+
+// A file of three syncs.
+fn written(rt: &impl Abort, alloc: Global) -> Result<Vec<u8>, Fail> {
+    let mut file = over(alloc, &[])?;
+    is_begun(rt, alloc, &mut file);
+    let synced = match log(alloc) {
+        Ok(log) => three_syncs(alloc, &mut file, &log),
+        Err(fault) => Err(fault),
+    };
+    let bytes = Vec::from_slice(alloc, file.device().bytes());
+    drop(file);
+    assert_eq!(rt; synced?, [Ok(()), Ok(()), Ok(())]);
+    let bytes = bytes?;
     assert_eq!(rt; bytes.len(), ENDS[3]);
     Ok(bytes)
 }
@@ -102,9 +123,10 @@ fn says(
         panic!(rt; "refused");
     };
     assert_eq!(rt; found.notes.as_slice(), [SiteNote::Untold, note].as_slice());
+    let again = found.log.print(alloc);
+    drop(found);
     let rows = log(alloc)?.print(alloc)?;
-    let again = found.log.print(alloc)?;
-    assert_eq!(rt; again.as_slice(), rows.get(..len).unwrap_or_default());
+    assert_eq!(rt; again?.as_slice(), rows.get(..len).unwrap_or_default());
     Ok(())
 }
 
@@ -175,10 +197,14 @@ fn fault(alloc: Global, notes: &[Note], rows: &[u8]) -> Result<Option<OpenFault>
     Ok(opened(alloc, file.device().bytes(), &HEADER).err())
 }
 
+// The file is another transaction component's than this header's.
+fn is_another(rt: &impl Abort, alloc: Global, bytes: &[u8], header: &Header) {
+    assert!(rt; matches!(opened(alloc, bytes, header), Err(OpenFault::Other)));
+}
+
 #[test]
-fn what_is_no_log(rt: HostRuntime) -> Result<(), Fail> {
-    let alloc = rt.alloc();
-    let bytes = written(&rt, alloc)?;
+fn what_is_another_log(rt: HostRuntime) -> Result<(), Fail> {
+    let bytes = written(&rt, rt.alloc())?;
     for other in [
         Header { dcs: 3, ..HEADER },
         Header {
@@ -190,21 +216,36 @@ fn what_is_no_log(rt: HostRuntime) -> Result<(), Fail> {
             ..HEADER
         },
     ] {
-        assert!(rt; matches!(opened(alloc, &bytes, &other), Err(OpenFault::Other)));
+        is_another(&rt, rt.alloc(), &bytes, &other);
     }
+    Ok(())
+}
+
+// A file with this batch behind the header has this fault.
+fn has_fault(
+    rt: &impl Abort,
+    alloc: Global,
+    notes: &[Note],
+    rows: &[u8],
+    want: Option<OpenFault>,
+) -> Result<(), Fail> {
+    assert_eq!(rt; fault(alloc, notes, rows)?, want);
+    Ok(())
+}
+
+#[test]
+fn what_is_no_log(rt: HostRuntime) -> Result<(), Fail> {
+    let alloc = rt.alloc();
     let there = Note {
         dc: 1,
         known: SiteNote::Untold,
     };
     let beyond = Note { dc: 2, ..there };
-    assert_eq!(rt; fault(alloc, &[there], &[])?, None);
-    assert_eq!(rt;
-        fault(alloc, &[there, beyond], &[])?,
-        Some(OpenFault::NoBatch(1))
-    );
-    assert_eq!(rt; fault(alloc, &[], &[5; 95])?, Some(OpenFault::NoBatch(1)));
+    let no_batch = Some(OpenFault::NoBatch(1));
+    has_fault(&rt, alloc, &[there], &[], None)?;
+    has_fault(&rt, alloc, &[there, beyond], &[], no_batch)?;
+    has_fault(&rt, alloc, &[], &[5; 95], no_batch)?;
     let mut rows = log(alloc)?.print(alloc)?;
     rows.extend_from_slice(&[0; 96])?;
-    assert_eq!(rt; fault(alloc, &[], &rows)?, Some(OpenFault::Row(4)));
-    Ok(())
+    has_fault(&rt, alloc, &[], &rows, Some(OpenFault::Row(4)))
 }

@@ -2,7 +2,7 @@ ghost use Rattle.std.specs.Prelude.{IfOk};
 ghost use Rattle.frame_file.specs.Device.{Only};
 ghost use Rattle.disk_file.specs.Disk.{disk_bytes, left_of};
 
-use crate::{DiskFile, OpenError};
+use disk_file::{DiskFile, OpenError};
 use frame_file::FrameFile;
 use std::fs;
 use std::test::Fail;

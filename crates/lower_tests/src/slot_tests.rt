@@ -1,7 +1,7 @@
-use crate::decl::{Decl, DeclFault};
-use crate::lock::Lock;
-use crate::op::{Op, conflicts};
-use crate::slot::{Key, Mode, Record, Slot};
+use access_slots::decl::{Decl, DeclFault};
+use access_slots::lock::Lock;
+use access_slots::op::{Op, conflicts};
+use access_slots::slot::{Key, Mode, Record, Slot};
 use std::test::Fail;
 
 const fn record(table: u16, key: u64) -> Record {

@@ -1,14 +1,69 @@
-//! The second pass as it was before: a row of kinds for every slot, made at once.
+//! Both passes as plainly as they can be written: the second has a row of kinds for every slot, made at once.
 
 ghost use Rattle.std.specs.Prelude.{◌≡◌, ◌<◌, ◌≤◌, length};
 
-use crate::first_pass::{first_flaw, jump_place};
 use access_slots::decl::Decl;
-use bpf_encoding::insn::Place;
-use register_kinds::effect::{Effect, effect_of};
+use bpf_encoding::insn::{Insn, Place};
+use register_kinds::effect::{Effect, effect_of, is_helper};
 use register_kinds::kind::Violation;
 use register_kinds::kinds::Kinds;
 use std::alloc::{AllocError, Global};
+
+fn jump_offset(insn: &Insn) -> Option<i32> {
+    match *insn {
+        Insn::Jump(offset) => Some(i32::from(offset)),
+        Insn::JumpIf(_, _, _, _, offset) => Some(i32::from(offset)),
+        Insn::JumpLong(offset) => Some(offset),
+        _ => None,
+    }
+}
+
+// The slot to which a jump leads, if it leads on.
+fn target(at: usize, offset: i32) -> Option<usize> {
+    if offset < 0 {
+        return None;
+    }
+    Some(at.saturating_add(1).saturating_add(offset as usize))
+}
+
+fn jump_place(insn: &Insn, at: usize) -> Option<usize> {
+    target(at, jump_offset(insn)?)
+}
+
+// What is wrong with where the instruction jumps.
+fn jump_flaw(code: &[Place], at: usize, insn: &Insn) -> Option<Violation> {
+    let offset = jump_offset(insn)?;
+    let Some(to) = target(at, offset) else {
+        return Some(Violation::Backward);
+    };
+    match code.get(to) {
+        None => Some(Violation::OutOfCode),
+        Some(Place::Second) => Some(Violation::IntoWide),
+        Some(Place::Insn(_)) => None,
+    }
+}
+
+// What is wrong with where it goes on, or with whom it calls.
+fn fall_flaw(code: &[Place], at: usize, insn: &Insn) -> Option<Violation> {
+    match *insn {
+        Insn::Jump(_) | Insn::JumpLong(_) | Insn::Exit => None,
+        _ if at.saturating_add(insn.slots()) >= code.len() => Some(Violation::FallsOff),
+        Insn::Call(helper) if !is_helper(helper) => Some(Violation::UnknownHelper),
+        _ => None,
+    }
+}
+
+fn first_flaw(code: &[Place]) -> Option<(usize, Violation)> {
+    for (at, place) in code.iter().enumerate() {
+        if let Place::Insn(insn) = place {
+            let flaw = jump_flaw(code, at, insn).or(fall_flaw(code, at, insn));
+            if let Some(violation) = flaw {
+                return Some((at, violation));
+            }
+        }
+    }
+    None
+}
 
 fn flow(table: &mut [Option<Kinds>], to: Option<usize>, after: &Kinds) {
     let Some(to) = to else {

@@ -1,7 +1,6 @@
 //! `verify` beside the pass with a row of kinds for every slot.
 
 use crate::plain_verify::plain_verify;
-use crate::verify::{VerifyFault, verify};
 use access_slots::decl::Decl;
 use access_slots::slot::{Key, Mode, Slot};
 use bpf_encoding::code::Code;
@@ -12,7 +11,9 @@ use bpf_encoding::insn::{
 };
 use register_kinds::kind::Violation;
 use std::alloc::{AllocError, Global};
+use std::process::Abort;
 use std::test::Fail;
+use verifier::verify::{VerifyFault, verify};
 
 // A declaration of so many arguments and of two slots, the second for reading alone.
 pub(crate) fn decl(args: u8) -> Result<Decl, Fail> {
@@ -68,12 +69,12 @@ fn both_find(
 }
 
 // Whether both passes accept the code.
-pub(crate) fn both_accept(alloc: Global, insns: &[Insn], decl: Decl) -> Result<bool, Fail> {
+fn both_accept(alloc: Global, insns: &[Insn], decl: Decl) -> Result<bool, Fail> {
     both_find(alloc, insns, decl, None)
 }
 
 // Whether both passes refuse the code at this slot, with this violation.
-pub(crate) fn both_refuse(
+fn both_refuse(
     alloc: Global,
     insns: &[Insn],
     decl: Decl,
@@ -478,16 +479,40 @@ fn move_amount() -> [Insn; 22] {
     ]
 }
 
+/// Both passes accept the code.
+pub(crate) fn accepted(
+    rt: &impl Abort,
+    alloc: Global,
+    insns: &[Insn],
+    decl: Decl,
+) -> Result<(), Fail> {
+    let accept = both_accept(alloc, insns, decl)?;
+    assert!(rt; accept, "{insns:?}");
+    Ok(())
+}
+
 #[test]
 fn procedures(rt: HostRuntime) -> Result<(), Fail> {
     let written = Decl::new(2, &[keyed(Mode::Write, 0)])?;
-    assert!(rt; both_accept(rt.alloc(), &put(), written)?);
+    accepted(&rt, rt.alloc(), &put(), written)?;
     let read = Decl::new(1, &[keyed(Mode::Read, 0)])?;
-    assert!(rt; both_accept(rt.alloc(), &get(), read)?);
+    accepted(&rt, rt.alloc(), &get(), read)?;
     let updated = Decl::new(1, &[keyed(Mode::Write, 0)])?;
-    assert!(rt; both_accept(rt.alloc(), &bad(), updated)?);
+    accepted(&rt, rt.alloc(), &bad(), updated)?;
     let two = [keyed(Mode::Write, 0), keyed(Mode::Write, 1)];
-    assert!(rt; both_accept(rt.alloc(), &move_amount(), Decl::new(3, &two)?)?);
+    accepted(&rt, rt.alloc(), &move_amount(), Decl::new(3, &two)?)
+}
+
+/// Both passes refuse the code at this slot, with this violation.
+pub(crate) fn refused_of(
+    rt: &impl Abort,
+    alloc: Global,
+    insns: &[Insn],
+    decl: Decl,
+    (slot, violation): (usize, Violation),
+) -> Result<(), Fail> {
+    let refuse = both_refuse(alloc, insns, decl, slot, violation)?;
+    assert!(rt; refuse, "{violation:?} at {slot} of {insns:?}");
     Ok(())
 }
 
@@ -495,13 +520,18 @@ fn procedures(rt: HostRuntime) -> Result<(), Fail> {
 #[test]
 fn procedures_of_other_declarations(rt: HostRuntime) -> Result<(), Fail> {
     let fewer = Decl::new(1, &[keyed(Mode::Write, 0)])?;
-    assert!(rt; both_refuse(rt.alloc(), &put(), fewer, 0, Violation::OutOfBounds)?);
+    refused_of(&rt, rt.alloc(), &put(), fewer, (0, Violation::OutOfBounds))?;
     let none = Decl::new(1, &[])?;
-    assert!(rt; both_refuse(rt.alloc(), &get(), none, 1, Violation::SlotUnknown)?);
+    refused_of(&rt, rt.alloc(), &get(), none, (1, Violation::SlotUnknown))?;
     let read = Decl::new(1, &[keyed(Mode::Read, 0)])?;
-    assert!(rt; both_refuse(rt.alloc(), &bad(), read, 5, Violation::ModeTooWeak)?);
+    refused_of(&rt, rt.alloc(), &bad(), read, (5, Violation::ModeTooWeak))?;
     let one_read = [keyed(Mode::Write, 0), keyed(Mode::Read, 1)];
     let weak = Decl::new(3, &one_read)?;
-    assert!(rt; both_refuse(rt.alloc(), &move_amount(), weak, 18, Violation::ModeTooWeak)?);
-    Ok(())
+    refused_of(
+        &rt,
+        rt.alloc(),
+        &move_amount(),
+        weak,
+        (18, Violation::ModeTooWeak),
+    )
 }

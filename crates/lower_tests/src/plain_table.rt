@@ -1,8 +1,8 @@
 //! The table as a row of claims, each of which every call looks at: what the map has to answer too.
 
-use crate::table::Busy;
 use access_slots::lock::{Lock, LockSet};
 use access_slots::slot::Mode;
+use lock_table::table::Busy;
 use std::alloc::{AllocError, Global};
 
 // A lock that a transaction holds.

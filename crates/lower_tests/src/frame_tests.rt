@@ -1,4 +1,4 @@
-use crate::{FrameFault, FrameFile, Memory, read_frames};
+use frame_file::{FrameFault, FrameFile, Memory, read_frames};
 use std::alloc::Global;
 use std::test::Fail;
 

@@ -1,9 +1,11 @@
-use crate::event::{Args, Event, Outcome};
-use crate::log::Log;
-use crate::read::LogFault;
 use access_slots::op::{Op, Said};
 use access_slots::slot::{Record, Value};
+use std::alloc::{AllocError, Global};
+use std::process::Abort;
 use std::test::Fail;
+use tc_log::event::{Args, Event, Outcome};
+use tc_log::log::Log;
+use tc_log::read::LogFault;
 
 // 100 in the first eight bytes.
 fn hundred() -> Value {
@@ -37,15 +39,14 @@ fn an_insert(rt: HostRuntime) -> Result<(), Fail> {
     Ok(())
 }
 
-#[test]
-fn events_in_order(rt: HostRuntime) -> Result<(), Fail> {
-    let mut log = Log::new(rt.alloc());
+// An admission, an answer and an end.
+fn three_events(alloc: Global, log: &mut Log) -> Result<(), AllocError> {
+    let args = Args::copy_of(alloc, &[5, 0x100])?;
     log.reserve(3)?;
-    assert!(rt; log.is_empty());
     log.push(Event::Admit {
         txn: 7,
         proc: 3,
-        args: Args::copy_of(rt.alloc(), &[5, 0x100])?,
+        args,
     });
     log.push(Event::Answer {
         txn: 7,
@@ -56,9 +57,10 @@ fn events_in_order(rt: HostRuntime) -> Result<(), Fail> {
         txn: 7,
         outcome: Outcome::Aborted(2),
     });
-    assert_eq!(rt; log.len(), 3);
-    assert!(rt; matches!(log.at(2), Some(Event::End { txn: 7, .. })));
-    assert!(rt; log.at(3).is_none());
+    Ok(())
+}
+
+fn their_bytes() -> [u8; 288] {
     let mut want = [0u8; 288];
     want[0] = 1;
     want[1] = 2;
@@ -70,12 +72,44 @@ fn events_in_order(rt: HostRuntime) -> Result<(), Fail> {
     want[193] = 2;
     want[200] = 7;
     want[208] = 2;
-    assert_eq!(rt; log.print(rt.alloc())?.as_slice(), want.as_slice());
+    want
+}
+
+// From the event at this place on the log prints these bytes.
+fn prints_from(
+    rt: &impl Abort,
+    alloc: Global,
+    log: &Log,
+    place: usize,
+    want: &[u8],
+) -> Result<(), AllocError> {
+    let bytes = log.print_from(alloc, place)?;
+    assert_eq!(rt; bytes.as_slice(), want, "from {place}");
+    Ok(())
+}
+
+fn are_in_order(rt: &impl Abort, alloc: Global, log: &mut Log) -> Result<(), AllocError> {
+    let was_empty = log.is_empty();
+    three_events(alloc, log)?;
+    let last_ends = matches!(log.at(2), Some(Event::End { txn: 7, .. }));
+    let found = (was_empty, log.len(), last_ends, log.at(3).is_none());
+    assert_eq!(rt; found, (true, 3, true, true));
+    let want = their_bytes();
+    let printed = log.print(alloc)?;
+    assert_eq!(rt; printed.as_slice(), want.as_slice());
     for (place, start) in [(0, 0), (2, 192), (3, 288), (4, 288)] {
         let rows = want.get(start..).unwrap_or_default();
-        assert_eq!(rt; log.print_from(rt.alloc(), place)?.as_slice(), rows);
+        prints_from(rt, alloc, log, place, rows)?;
     }
     Ok(())
+}
+
+#[test]
+fn events_in_order(rt: HostRuntime) -> Result<(), Fail> {
+    let mut log = Log::new(rt.alloc());
+    let passed = are_in_order(&rt, rt.alloc(), &mut log);
+    drop(log);
+    Ok(passed?)
 }
 
 // A call of procedure 0 by transaction 1 with the arguments 5 and 100.
@@ -89,18 +123,24 @@ fn call() -> [u8; 96] {
     record
 }
 
-#[test]
-fn a_call_is_read(rt: HostRuntime) -> Result<(), Fail> {
-    let log = Log::read(rt.alloc(), &call())?;
-    assert_eq!(rt; log.len(), 1);
+// The log has this call, and no other event.
+fn is_call(rt: &impl Abort, log: &Log) {
     match log.at(0) {
         Some(Event::Admit { txn, proc, args }) => {
-            assert_eq!(rt; (*txn, *proc), (1, 0));
-            assert_eq!(rt; args.as_slice(), [5, 100].as_slice());
+            let found = (log.len(), *txn, *proc, args.as_slice());
+            assert_eq!(rt; found, (1, 1, 0, [5, 100].as_slice()));
         }
         _ => panic!(rt; "another event"),
     }
-    assert_eq!(rt; log.print(rt.alloc())?.as_slice(), call().as_slice());
+}
+
+#[test]
+fn a_call_is_read(rt: HostRuntime) -> Result<(), Fail> {
+    let log = Log::read(rt.alloc(), &call())?;
+    is_call(&rt, &log);
+    let printed = log.print(rt.alloc());
+    drop(log);
+    assert_eq!(rt; printed?.as_slice(), call().as_slice());
     Ok(())
 }
 

@@ -1,7 +1,7 @@
 //! What both passes refuse, at which slot and why; and what lies right beside it and is accepted.
 
-use crate::tests::{
-    add, atomic, both_accept, both_refuse, constant, copy, decl, jump_at_null, load, store,
+use crate::verdict_tests::{
+    accepted, add, atomic, constant, copy, decl, jump_at_null, load, refused_of, store,
 };
 use access_slots::decl::Decl;
 use bpf_encoding::insn::Register::{R0, R1, R2, R3, R5, R6, R10};
@@ -22,9 +22,7 @@ fn refused(
     slot: usize,
     violation: Violation,
 ) -> Result<(), Fail> {
-    let refuse = both_refuse(alloc, insns, decl(1)?, slot, violation)?;
-    assert!(rt; refuse, "{violation:?} at {slot} of {insns:?}");
-    Ok(())
+    refused_of(rt, alloc, insns, decl(1)?, (slot, violation))
 }
 
 // The same of each code at its slot.
@@ -421,22 +419,37 @@ fn refused_by_kinds(rt: HostRuntime) -> Result<(), Fail> {
 #[test]
 fn refused_by_other_declarations(rt: HostRuntime) -> Result<(), Fail> {
     let argument = [load(R0, R1, 0), Insn::Exit];
-    let none = decl(0)?;
-    assert!(rt; both_refuse(rt.alloc(), &argument, none, 0, Violation::OutOfBounds)?);
+    refused_of(
+        &rt,
+        rt.alloc(),
+        &argument,
+        decl(0)?,
+        (0, Violation::OutOfBounds),
+    )?;
     let second = [load(R0, R1, 8), Insn::Exit];
-    assert!(rt; both_refuse(rt.alloc(), &second, decl(1)?, 0, Violation::OutOfBounds)?);
-    assert!(rt; both_accept(rt.alloc(), &second, decl(2)?)?);
+    refused_of(
+        &rt,
+        rt.alloc(),
+        &second,
+        decl(1)?,
+        (0, Violation::OutOfBounds),
+    )?;
+    accepted(&rt, rt.alloc(), &second, decl(2)?)?;
     let asks = [constant(R1, 0), Insn::Call(5), Insn::Exit];
     let no_slots = Decl::new(1, &[])?;
-    assert!(rt; both_refuse(rt.alloc(), &asks, no_slots, 1, Violation::SlotUnknown)?);
-    Ok(())
+    refused_of(
+        &rt,
+        rt.alloc(),
+        &asks,
+        no_slots,
+        (1, Violation::SlotUnknown),
+    )
 }
 
 // Both passes accept each code, where one argument and two slots are declared.
 fn each_accepted(rt: &impl Abort, alloc: Global, codes: &[&[Insn]]) -> Result<(), Fail> {
     for &insns in codes {
-        let accept = both_accept(alloc, insns, decl(1)?)?;
-        assert!(rt; accept, "{insns:?}");
+        accepted(rt, alloc, insns, decl(1)?)?;
     }
     Ok(())
 }

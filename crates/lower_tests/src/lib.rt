@@ -1,0 +1,40 @@
+//! Tests of the crates below the transaction component. They call public functions alone, and cost less
+//! here than where each crate is proved a second time for its tests:
+//!
+//! | Module | Tests |
+//! |---|---|
+//! | `slot_tests` | `access_slots`: lock sets, conflicts, declarations |
+//! | `number_tests` | `request_numbers`: numbers that are answered in another order |
+//! | `lock_tests` | `lock_table`: waits and releases, and all answers beside those of a plain table |
+//! | `event_tests` | `tc_log`: the bytes of events |
+//! | `store_tests` | `data_component`: each answer, repeated and late wires, restarts |
+//! | `verdict_tests` | `verifier`: small and random code beside the plain passes, and procedures |
+//! | `refusal_tests` | `verifier`: what is refused, at which slot and why, and what lies beside it |
+//! | `frame_tests` | `frame_file`: each truncation and each changed byte of a file |
+//! | `disk_tests` | `disk_file`: a file of the system |
+//!
+//! `component_tests` has tests that need `samples` or the transaction component.
+#![tactic(auto)]
+
+#[cfg(test)]
+mod disk_tests;
+#[cfg(test)]
+mod event_tests;
+#[cfg(test)]
+mod frame_tests;
+#[cfg(test)]
+mod lock_tests;
+#[cfg(test)]
+mod number_tests;
+#[cfg(test)]
+mod plain_table;
+#[cfg(test)]
+mod plain_verify;
+#[cfg(test)]
+mod refusal_tests;
+#[cfg(test)]
+mod slot_tests;
+#[cfg(test)]
+mod store_tests;
+#[cfg(test)]
+mod verdict_tests;

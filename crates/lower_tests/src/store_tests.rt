@@ -1,0 +1,224 @@
+use access_slots::op::{News, Op, Reply, Said, Wire};
+use access_slots::slot::{Record, Value};
+use data_component::dc::Dc;
+use std::process::Abort;
+use std::test::Fail;
+
+const fn record(key: u64) -> Record {
+    Record {
+        dc: 0,
+        table: 0,
+        key,
+    }
+}
+
+// A value that begins with this byte.
+fn value(first: u8) -> Value {
+    let mut value = [0; 64];
+    value[0] = first;
+    value
+}
+
+// What is said to the operation under this number, with this low-water mark.
+fn said(dc: &mut Dc, number: u64, low_water: u64, op: Op) -> Option<Said> {
+    said_to(
+        dc,
+        &Wire {
+            number,
+            low_water,
+            incarnation: dc.incarnation(),
+            redo: false,
+            op,
+        },
+    )
+}
+
+// What this incarnation says to a wire.
+fn said_to(dc: &mut Dc, wire: &Wire) -> Option<Said> {
+    match dc.perform(wire) {
+        Some(
+            Reply {
+                number,
+                incarnation,
+                said,
+            },
+        ) if number == wire.number && incarnation == dc.incarnation() => Some(said),
+        _ => None,
+    }
+}
+
+// Operations under these numbers, with these low-water marks, and what is said to each.
+fn each_is_said(rt: &impl Abort, dc: &mut Dc, asked: &[(u64, u64, Op, Option<Said>)]) {
+    for &(number, low_water, op, want) in asked {
+        assert_eq!(rt; said(dc, number, low_water, op), want, "under {number}");
+    }
+}
+
+// One record and four operations: want of room is kept under its number, and so is a read; a number
+// at or under the mark is old, and a new one above it finds no room.
+fn is_full(rt: &impl Abort, dc: &mut Dc) {
+    let five = Op::Insert(record(5), value(100));
+    let six = Op::Insert(record(6), value(1));
+    let deleted = Some(Said::Done(Some(value(100))));
+    let asked = [
+        (1, 0, five, Some(Said::Done(None))),
+        (2, 0, six, Some(Said::NoRoom)),
+        (3, 0, Op::Delete(record(5)), deleted),
+        (2, 0, six, Some(Said::NoRoom)),
+        (4, 3, Op::Read(record(6)), Some(Said::Absent)),
+        (2, 0, six, Some(Said::Old)),
+        (5, 3, Op::Read(record(6)), None),
+    ];
+    each_is_said(rt, dc, &asked);
+}
+
+// All of it is kept over a restart behind a checkpoint.
+fn is_kept(rt: &impl Abort, dc: &mut Dc) {
+    let news = News {
+        incarnation: 1,
+        mark: 3,
+    };
+    let marks = (dc.mark(), dc.checkpoint(), dc.restart());
+    assert_eq!(rt; marks, (3, 3, Ok(news)));
+    each_is_said(rt, dc, &[(4, 3, Op::Read(record(6)), Some(Said::Absent))]);
+    assert_eq!(rt; (dc.performed().len(), dc.rows().len()), (4, 0));
+}
+
+#[test]
+fn one_record_and_four_operations(rt: HostRuntime) -> Result<(), Fail> {
+    let mut dc = Dc::new(rt.alloc(), 1, 4)?;
+    is_full(&rt, &mut dc);
+    is_kept(&rt, &mut dc);
+    drop(dc);
+    Ok(())
+}
+
+// Behind a checkpoint, and in the first incarnation.
+fn is_performed(rt: &impl Abort, dc: &mut Dc, old: &Wire) {
+    let five = Op::Insert(record(5), value(100));
+    let deleted = Some(Said::Done(Some(value(100))));
+    each_is_said(rt, dc, &[(1, 0, five, Some(Said::Done(None)))]);
+    let mark = dc.checkpoint();
+    each_is_said(rt, dc, &[(2, 0, Op::Delete(record(5)), deleted)]);
+    assert_eq!(rt; (mark, said_to(dc, old)), (0, Some(Said::Done(None))));
+}
+
+fn went_back(rt: &impl Abort, dc: &mut Dc) {
+    let news = News {
+        incarnation: 1,
+        mark: 0,
+    };
+    let restarted = (dc.restart(), dc.incarnation(), dc.performed().len());
+    assert_eq!(rt; restarted, (Ok(news), 1, 1));
+    assert_eq!(rt; dc.get(&record(5)), Some(value(100)));
+}
+
+// Wires, and what is said to each; the mark stays.
+fn each_wire_is_said(rt: &impl Abort, dc: &mut Dc, wires: &[(Wire, Option<Said>)]) {
+    for (wire, want) in wires {
+        assert_eq!(rt; (said_to(dc, wire), dc.mark()), (*want, 0));
+    }
+}
+
+// A restart loses what was performed behind the last checkpoint, and wires that were sent before it
+// aren't answered; what is redone finds room beyond the limit.
+#[test]
+fn a_restart_goes_back_to_the_checkpoint(rt: HostRuntime) -> Result<(), Fail> {
+    let old = Wire {
+        number: 3,
+        low_water: 2,
+        incarnation: 0,
+        redo: false,
+        op: Op::Insert(record(6), value(1)),
+    };
+    let redone = Wire {
+        low_water: 0,
+        incarnation: 1,
+        redo: true,
+        ..old
+    };
+    let of_a_later_one = Wire {
+        low_water: 3,
+        incarnation: 2,
+        ..redone
+    };
+    let new = Wire {
+        number: 4,
+        redo: false,
+        ..redone
+    };
+    let wires = [
+        (old, None),
+        (of_a_later_one, None),
+        (new, Some(Said::NoRoom)),
+        (redone, Some(Said::Done(None))),
+    ];
+    let mut dc = Dc::new(rt.alloc(), 1, 4)?;
+    is_performed(&rt, &mut dc, &old);
+    went_back(&rt, &mut dc);
+    each_wire_is_said(&rt, &mut dc, &wires);
+    let rows = dc.rows().len();
+    drop(dc);
+    assert_eq!(rt; rows, 2);
+    Ok(())
+}
+
+// Inserted in another order.
+fn are_inserted(rt: &impl Abort, dc: &mut Dc) {
+    let asked = [
+        (
+            1,
+            0,
+            Op::Insert(record(7), value(9)),
+            Some(Said::Done(None)),
+        ),
+        (
+            2,
+            0,
+            Op::Insert(record(3), value(9)),
+            Some(Said::Done(None)),
+        ),
+        (
+            3,
+            0,
+            Op::Insert(record(5), value(9)),
+            Some(Said::Done(None)),
+        ),
+        (4, 0, Op::Insert(record(5), value(1)), Some(Said::Duplicate)),
+        (
+            5,
+            0,
+            Op::Update(record(3), value(2)),
+            Some(Said::Done(Some(value(9)))),
+        ),
+        (6, 0, Op::Delete(record(4)), Some(Said::Missing)),
+    ];
+    each_is_said(rt, dc, &asked);
+}
+
+fn have_risen(rt: &impl Abort, dc: &Dc) {
+    let want = [
+        (record(3), value(2)),
+        (record(5), value(9)),
+        (record(7), value(9)),
+    ];
+    assert_eq!(rt; dc.rows(), want.as_slice());
+}
+
+fn are_back(rt: &impl Abort, dc: &mut Dc) {
+    assert_eq!(rt; (dc.checkpoint(), dc.restart().is_ok()), (0, true));
+    have_risen(rt, dc);
+    let found = (dc.get(&record(3)), dc.get(&record(4)));
+    assert_eq!(rt; found, (Some(value(2)), None));
+}
+
+// Inserted in another order, the rows rise; a restart brings them back.
+#[test]
+fn rows_rise(rt: HostRuntime) -> Result<(), Fail> {
+    let mut dc = Dc::new(rt.alloc(), 4, 8)?;
+    are_inserted(&rt, &mut dc);
+    have_risen(&rt, &dc);
+    are_back(&rt, &mut dc);
+    drop(dc);
+    Ok(())
+}

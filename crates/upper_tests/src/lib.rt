@@ -1,0 +1,13 @@
+//! Tests of crates that stand on the transaction component and that no other crate of tests loads. They
+//! call public functions alone, and cost less here than where each crate is proved a second time for its tests:
+//!
+//! | Module | Tests |
+//! |---|---|
+//! | `log_file_tests` | `log_file`: each truncation and each changed byte of a file, and what is no log |
+//! | `embedding_tests` | `embedding`: a call, a restart and a program by the frame |
+#![tactic(auto)]
+
+#[cfg(test)]
+mod embedding_tests;
+#[cfg(test)]
+mod log_file_tests;
