@@ -28,7 +28,9 @@ for example in examples/*/; do
     tried tools/example.sh "$example"
 done
 tried tools/believed.py
-tried tools/hostile.py --every 25
+tried tools/printed.py
+tried tools/hostile.py files
+tried tools/hostile.py --every 25 code texts worlds memory
 tried tools/explore.py --audit --seconds 20
 tried tools/storms.py --runs 5 --calls 1000
 tried tools/tampered.py --every 25

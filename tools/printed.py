@@ -1,0 +1,62 @@
+#!/usr/bin/env python3
+"""What the program prints: rows of words, what is on standard input, both outputs and the status.
+
+usage: tools/printed.py [--procd PATH]..
+
+Each row (printed_rows/) is run by each program: that which LLVM built of what was proved, and that which Rattle's own
+compiler built of it, where `rt ci` left one. The expected texts are written by hand, from the formats' page and the
+standard. A line for each row that ends otherwise, and one with the count. The status is 1 where one did.
+"""
+import argparse
+import pathlib
+import sys
+
+from printed_rows import code, commands, restarts, runs, scripts, worlds
+from trying import Program
+
+TOP = pathlib.Path(__file__).resolve().parent.parent
+BUILT = [TOP / "crates" / "procd" / "out" / name for name in ("procd", "procd.by-rattle")]
+TABLES = [code, scripts, worlds, restarts, runs, commands]
+
+
+def differs(ran, row):
+    """What of this end isn't as the row has it, or None."""
+    if ran.status != row.status:
+        return f"status {ran.status}, not {row.status}"
+    if ran.out != row.out:
+        return f"it prints {ran.out!r}, not {row.out!r}"
+    if not (ran.err.startswith(row.told) if row.told.startswith(b"error: ") else ran.err == row.told):
+        return f"it tells {ran.err!r}, not {row.told!r}"
+    return None
+
+
+def help_is_there(program):
+    """Whether the program and each command say how they are used."""
+    asked = [program.run([*words, "--help"]) for words in ([], ["exec"], ["asm"], ["dis"], ["verify"], ["world"], ["run"])]
+    return all(ran.status == 0 and ran.out and not ran.err for ran in asked)
+
+
+def main():
+    parser = argparse.ArgumentParser(description=__doc__, formatter_class=argparse.RawDescriptionHelpFormatter)
+    parser.add_argument("--procd", action="append", help="a program (those of crates/procd/out that there are)")
+    paths = parser.parse_args().procd or [it for it in BUILT if it.exists()]
+    if not paths:
+        parser.error("no program is built: ./procd builds it")
+    good = True
+    for path in paths:
+        program, count = Program(path, None), 0
+        for row in (row for table in TABLES for row in table.rows(program)):
+            count += 1
+            wrong = differs(program.run(row.words, row.given), row)
+            if wrong:
+                good = False
+                print(f"printed: {' '.join(row.words)} of {row.given[-200:]!r}: {wrong}")
+        if not help_is_there(program):
+            good = False
+            print("printed: a command has no help")
+        print(f"printed: {count} rows by {pathlib.Path(path).name}, {'nothing wrong' if good else 'wrong'}")
+    sys.exit(0 if good else 1)
+
+
+if __name__ == "__main__":
+    main()

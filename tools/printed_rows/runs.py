@@ -1,0 +1,140 @@
+"""`run`: calls by workers, their answers and the rows."""
+from .procedures import BAD, FOUR, GET, PUT
+from .row import refused, row
+
+# Each data component has room for another number of records.
+UNEQUAL = """\
+dc 1 100
+dc 2 100
+dc 3 100
+proc one 1
+slot write 0 0 $0
+  mov r1, 0
+  call 2
+  exit
+end
+proc two 1
+slot write 1 0 $0
+  mov r1, 0
+  call 2
+  exit
+end
+proc three 1
+slot write 2 0 $0
+  mov r1, 0
+  call 2
+  exit
+end
+call one 1
+call one 2
+call two 1
+call two 2
+call two 3
+call three 1
+call three 2
+call three 3
+call three 4
+"""
+
+UNEQUAL_ROWS = """\
+call 0 committed
+call 1 noroom
+call 2 committed
+call 3 committed
+call 4 noroom
+call 5 committed
+call 6 committed
+call 7 committed
+call 8 noroom
+row 0/0/1 0
+row 1/0/1 0
+row 1/0/2 0
+row 2/0/1 0
+row 2/0/2 0
+row 2/0/3 0
+"""
+
+EIGHT_MOVES = """\
+first put 5 100
+call move 5 5 1
+call move 5 5 1
+call move 5 5 1
+call move 5 5 1
+call move 5 5 1
+call move 5 5 1
+call move 5 5 1
+call move 5 5 1
+"""
+
+EIGHT_COMMITTED = """\
+first 0 committed
+call 0 committed
+call 1 committed
+call 2 committed
+call 3 committed
+call 4 committed
+call 5 committed
+call 6 committed
+call 7 committed
+row 0/0/5 108
+"""
+
+EVERY_CALL = """\
+first put 5 100
+call put 6 1
+call get 6
+call put 5 1
+call bad 5
+call get
+call get 5
+call get 5
+call put 5 2
+call get 5
+call get 6
+"""
+
+EVERY_ANSWERED = """\
+first 0 committed
+call 0 noroom
+call 1 aborted 1
+call 2 aborted 1
+call 3 aborted 5
+call 4 refused B5 ArgumentCount
+call 5 committed
+call 6 committed
+call 7 in doubt 10
+call 8 blocked 0/0/5
+call 9 in doubt 11
+row 0/0/5 100
+"""
+
+# Words, what stands behind the four procedures, and why that is refused.
+REFUSED = [
+    ("run --workers 65 -", "call get 1\n", "G1 Workers"),
+    ("run --workers 0 -", "call get 1\n", "G1 Workers"),
+    # the tries are looked at before the workers
+    ("run --workers 0 --tries 0 -", "call get 1\n", "G2 Tries"),
+    ("run --tries 1001 -", "call get 1\n", "G2 Tries"),
+    # what only worlds know
+    ("run -", "checkpoint 0\n", "line 61 F1 BadLine"),
+    ("run -", "call get 1\nfirst get 1\n", "line 62 F9 Order"),
+]
+
+
+def rows(_program):
+    """All rows."""
+    # each component has its own rows, in its place
+    yield row("run --workers 1 -", UNEQUAL, UNEQUAL_ROWS)
+    # both buffers are of one record: the last write stands
+    both = "first put 5 100\ncall move 5 5 10\n"
+    yield row("run -", FOUR + both, "first 0 committed\ncall 0 committed\nrow 0/0/5 110\n")
+    for words in ["--workers 1", "--workers 2 --tries 1", "--workers 64 --tries 1000"]:
+        yield row(f"run {words} -", FOUR + EIGHT_MOVES, EIGHT_COMMITTED)
+    # nine calls have ended, and their answers, lists and rows agree
+    yield row("run --audit -", FOUR + EIGHT_MOVES, EIGHT_COMMITTED + "audit ok ended 9 open 0\n")
+    # one record has room, and nine operations
+    yield row("run --workers 1 -", "dc 1 9\n" + PUT + GET + BAD + EVERY_CALL, EVERY_ANSWERED)
+    yield from (refused(words, FOUR + rest, why) for words, rest, why in REFUSED)
+    # a script is refused before a call is made
+    yield refused("run -", "dc 1 1\nproc a 0\nexit\nend\ncall a\n", "line 4 F7 Verify V5 EmptyRegister slot 0")
+    yield refused("run -", "dc 1 1\nproc a 0\nmov r0, 0\nexit\nend\ncall b\n", "line 6 F4 NameUnknown")
