@@ -1,7 +1,0 @@
-use Rattle.std.proofs.Common.{◌≤◌, ℕ}
-use Rattle.lock_table.specs.Facts.{held_by, HoldsNothing}
-use Rattle.lock_table.proofs.tests.scattered.Given as goal
-
--- who is still to come holds nothing
-abbrev pub invariant-txns : goal.invariant-txns
-invariant-txns l = (t : ℕ) → l.txn ≤ t → HoldsNothing (held_by l.map) t
