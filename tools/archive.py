@@ -29,7 +29,9 @@ def words(kit_at, made):
     said = ["--crate-name", CRATE, "src/lib.rt", "--crate-type", "staticlib", "--links", f"{CRATE}="]
     for name in dict.fromkeys(["core", "std", *known[CRATE]]):
         said += ["--extern", f"{name}={library(name) if name in ours else f'{kit_at}/rlibs/{name}.rlib'}"]
-    said += ["-L", f"dependency={kit_at}/rlibs", "--toolchain", f"{kit_at}/toolchain"]
+    for kept in [os.path.dirname(library(name)) for name in ours] + [f"{kit_at}/rlibs"]:
+        said += ["-L", f"dependency={kept}"]
+    said += ["--toolchain", f"{kit_at}/toolchain"]
     said += ["--antt-project", f"{kit_at}/rattle/logic/antt-project.json", "--logic-built", f"{kit_at}/logic_built"]
     return [*said, "-o", made]
 
