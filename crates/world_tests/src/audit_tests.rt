@@ -1,8 +1,12 @@
-// The audit of short logs.
+// The audit of short logs, and the least record that is off.
 
 use access_slots::op::{Op, Said, Wire};
+use access_slots::slot::{Record, Value};
 use audit::auditing::{AuditFault, Audited, audit};
+use audit::off::least_off;
 use data_component::dc::Dc;
+use indexmap::IndexMap;
+use lock_table::table::LockTable;
 use samples::{LogRecord, loaded, log_bytes, record, value};
 use std::alloc::{AllocError, Global};
 use std::process::Abort;
@@ -171,4 +175,25 @@ fn short_logs(rt: HostRuntime) -> Result<(), Fail> {
     let told = tells(&rt, rt.alloc(), &tc);
     drop(tc);
     Ok(told?)
+}
+
+// What least_off says of values under 7 and 6, with nothing locked, and a data component with a row
+// under 5, or none.
+fn least(rt: &impl Abort, alloc: Global, is_there: bool) -> Result<Option<Record>, AllocError> {
+    let mut values: IndexMap<Record, Value> = IndexMap::new(alloc);
+    if values.insert(record(7), value(1)).is_err() || values.insert(record(6), value(1)).is_err() {
+        return Err(AllocError);
+    }
+    let dcs = [dc_with(rt, alloc, Some(100))?];
+    let seen = if is_there { &dcs[..] } else { &dcs[..0] };
+    Ok(least_off(&values, &LockTable::new(alloc), seen))
+}
+
+// Of records that aren't as they should be, the least: one that is present and shouldn't be, or one
+// that isn't and should.
+#[test]
+fn least_record(rt: HostRuntime) -> Result<(), Fail> {
+    assert!(rt; least(&rt, rt.alloc(), true)? == Some(record(5)));
+    assert!(rt; least(&rt, rt.alloc(), false)? == Some(record(6)));
+    Ok(())
 }
