@@ -8,25 +8,12 @@ one that is told of, with a checkpoint before it or none, and whose redo is gone
 import re
 from collections import namedtuple
 
-from plain_model import TEXTS
+from procedures import BAD, PUT
 from trying import some_of
 
 SCRIPT = f"""\
 dc 4 100
-{TEXTS["put"]}proc bad 1
-slot write 0 0 $0
-  mov r1, 0
-  call 1
-  jeq r0, 0, +5
-  stdw [r0+0], 7
-  mov r1, 0
-  call 3
-  mov r0, 5
-  exit
-  mov r0, 1
-  exit
-end
-"""
+{PUT}{BAD}"""
 
 # Each step, and the line that it is to print.
 STEPS = [

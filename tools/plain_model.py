@@ -7,6 +7,8 @@ itself is in plain_log.py.
 """
 import collections
 
+from procedures import GET, MOVE, PUT
+
 ZEROS = bytes(64)
 FOUR = 4  # numbers that an undo is given at most
 
@@ -22,58 +24,9 @@ def put_at(value, place, n):
 # ---- procedures: the text, and what it does, as a generator of operations that is sent the answers
 
 TEXTS = {
-    "put": """\
-proc put 2
-slot write 0 0 $0
-  ldxdw r6, [r1+8]
-  mov r1, 0
-  call 5
-  stxdw [r0+0], r6
-  mov r1, 0
-  call 2
-  exit
-end
-""",
-    "get": """\
-proc get 1
-slot read 0 0 $0
-  mov r1, 0
-  call 1
-  jeq r0, 0, +2
-  mov r0, 0
-  exit
-  mov r0, 1
-  exit
-end
-""",
-    "move": """\
-proc move 3
-slot write 0 0 $0
-slot write 0 0 $1
-  ldxdw r6, [r1+16]
-  mov r1, 0
-  call 1
-  jeq r0, 0, +16
-  mov r7, r0
-  mov r1, 1
-  call 1
-  jeq r0, 0, +12
-  mov r8, r0
-  ldxdw r2, [r7+0]
-  sub r2, r6
-  stxdw [r7+0], r2
-  ldxdw r2, [r8+0]
-  add r2, r6
-  stxdw [r8+0], r2
-  mov r1, 0
-  call 3
-  mov r1, 1
-  call 3
-  exit
-  mov r0, 1
-  exit
-end
-""",
+    "put": PUT,
+    "get": GET,
+    "move": MOVE,
     "pair": """\
 proc pair 2
 slot write 0 0 $0

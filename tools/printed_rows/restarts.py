@@ -1,5 +1,5 @@
 """`world`: restarts, redo and audits."""
-from .procedures import four
+from procedures import four
 from .row import events, row
 from .worlds import behind_a_put
 

@@ -1,5 +1,5 @@
 """`run`: calls by workers, their answers and the rows."""
-from .procedures import BAD, FOUR, GET, PUT
+from procedures import BAD, FOUR, GET, PUT
 from .row import refused, row
 
 # Each data component has room for another number of records.

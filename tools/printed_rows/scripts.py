@@ -1,5 +1,5 @@
 """`verify`: scripts, their procedures' verdicts, and why a script is refused."""
-from .procedures import BAD, FOUR, GET, MOVE
+from procedures import BAD, FOUR, GET, MOVE, PUT
 from .row import refused, row
 
 # Scripts, what is printed for their procedures, and the status.
@@ -55,18 +55,7 @@ move accepted 22
 """
 
 # It has two arguments, and reads a third.
-BEYOND_ITS_ARGUMENTS = """\
-proc put 2
-slot write 0 0 $0
-  ldxdw r6, [r1+16]
-  mov r1, 0
-  call 5
-  stxdw [r0+0], r6
-  mov r1, 0
-  call 2
-  exit
-end
-"""
+BEYOND_ITS_ARGUMENTS = PUT.replace("[r1+8]", "[r1+16]")
 
 REFUSED_AND_ACCEPTED = """\
 put V8 OutOfBounds slot 0

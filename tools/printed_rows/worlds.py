@@ -1,5 +1,5 @@
 """`world`: steps and what is printed for them."""
-from .procedures import four
+from procedures import four
 from .row import events, row
 
 # Steps by which a put of 100 into record 5 is committed, and what is printed for them.

@@ -1,4 +1,4 @@
-"""Procedures that the rows' scripts share."""
+"""Procedures that rows and models share, and scripts that begin with them."""
 
 # Inserts a record with a number.
 PUT = """\
