@@ -6,12 +6,15 @@
 //! | `link_tests` | links that lose, repeat, delay and change what they carry |
 //! | `locked_tests` | data components of this process, behind locks |
 //! | `ring_tests` | data components in threads of their own, behind rings |
+//! | `journal_tests` | runs whose log is kept in a journal |
 //! | `restart_tests` | data components that restart while calls run |
 //! | `memory_tests` | runs that are refused memory |
 //!
 //! `rt test pool_tests` proves and runs these; `tools/requests.py` runs them with memory refused.
 #![tactic(auto)]
 
+#[cfg(test)]
+mod journal_tests;
 #[cfg(test)]
 mod link_tests;
 #[cfg(test)]

@@ -1,0 +1,57 @@
+// A journal in memory.
+
+ghost use Rattle.std.specs.Prelude.{◌≡◌, []};
+
+use crate::batch::copy_events;
+use crate::journal::{Journal, NotKept};
+use std::alloc::Global;
+use std::marker::Model;
+use tc_log::event::Event;
+
+/// A journal in memory, which outlasts a run and no crash. Contracts see it as what it has kept, the oldest
+/// event first.
+#[derive(Drop)]
+pub struct MemoryJournal {
+    alloc: Global,
+    events: Vec<Event>,
+}
+
+impl Model for MemoryJournal {
+    ghost use Rattle.std.specs.Prelude.{List};
+    ghost use Rattle.tc_log.specs.declared.event.Event.{Event};
+
+    ghost Value = { List Event };
+
+    ghost view = { λ journal. journal.events.items };
+}
+
+impl MemoryJournal {
+    /// It has kept nothing yet. It takes no memory.
+    pub fn new(alloc: Global) -> MemoryJournal
+        ensures { result ≡ [] }
+    {
+        MemoryJournal {
+            alloc,
+            events: Vec::new(alloc),
+        }
+    }
+
+    /// What it has kept, the oldest event first.
+    pub fn events(&self) -> &[Event]
+        ensures { result.now ≡ self.now }
+    {
+        self.events.as_slice()
+    }
+}
+
+impl Journal for MemoryJournal {
+    ghost kept = { λ journal. journal };
+
+    /// Only want of memory keeps it from keeping them.
+    fn keep(&mut self, events: &[Event]) -> Result<(), NotKept> {
+        match copy_events(self.alloc, events, &mut self.events) {
+            Ok(()) => Ok(()),
+            Err(_) => Err(NotKept),
+        }
+    }
+}
