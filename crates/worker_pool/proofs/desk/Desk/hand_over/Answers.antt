@@ -13,10 +13,10 @@ invariant_of-self g c =
     let batch = c.fill_behind.new.batch in
     let evs_is : evs ≡ reverse h = c.events-events.ensures ∙ ap reverse c.log.ensures in
     let after_is : c.add.new.self ≡ c.args.known.now ++ batch ∷ [] =
-    c.if-not-add.ensures tt ∙ ap (λ (l : List (List Event)). l ++ batch ∷ []) c.again-handed.ensures in
+    c.if-not-add.ensures refl ∙ ap (λ (l : List (List Event)). l ++ batch ∷ []) c.again-handed.ensures in
     let all : h ≡ reverse (events_of c.add.new.self) ++ first =
     handed_over first h evs batch c.self.inside.handed c.args.known.now c.add.new.self c.self.inside.copied c.self.invariant.2
-        (c.if-not-is_same.ensures tt) evs_is (c.in_ok-fill_behind.ensures tt) after_is in
+        (c.if-not-is_same.ensures refl) evs_is c.in_ok-fill_behind.ensures after_is in
     (c.self.invariant.0, c.self.invariant.1, rw c.again.ensures (handed_stands first h evs c.add.new.self (length evs) all evs_is refl))
 
 pub returns-clause-all : goal.returns-clause-all
@@ -27,10 +27,10 @@ returns-clause-all g c =
     let batch = c.fill_behind.new.batch in
     let evs_is : evs ≡ reverse h = c.events-events.ensures ∙ ap reverse c.log.ensures in
     let after_is : c.add.new.self ≡ c.args.known.now ++ batch ∷ [] =
-    c.if-not-add.ensures tt ∙ ap (λ (l : List (List Event)). l ++ batch ∷ []) c.again-handed.ensures in
+    c.if-not-add.ensures refl ∙ ap (λ (l : List (List Event)). l ++ batch ∷ []) c.again-handed.ensures in
     let all : h ≡ reverse (events_of c.add.new.self) ++ first =
     handed_over first h evs batch c.self.inside.handed c.args.known.now c.add.new.self c.self.inside.copied c.self.invariant.2
-        (c.if-not-is_same.ensures tt) evs_is (c.in_ok-fill_behind.ensures tt) after_is in
+        (c.if-not-is_same.ensures refl) evs_is c.in_ok-fill_behind.ensures after_is in
     sym (ap (λ (v : Seen). v.state.events) c.self.view_is) ∙ all
 
 pub returns-clause-events : goal.returns-clause-events
@@ -41,8 +41,8 @@ returns-clause-events g c =
     let batch = c.fill_behind.new.batch in
     let evs_is : evs ≡ reverse h = c.events-events.ensures ∙ ap reverse c.log.ensures in
     let after_is : c.add.new.self ≡ c.args.known.now ++ batch ∷ [] =
-    c.if-not-add.ensures tt ∙ ap (λ (l : List (List Event)). l ++ batch ∷ []) c.again-handed.ensures in
+    c.if-not-add.ensures refl ∙ ap (λ (l : List (List Event)). l ++ batch ∷ []) c.again-handed.ensures in
     let all : h ≡ reverse (events_of c.add.new.self) ++ first =
     handed_over first h evs batch c.self.inside.handed c.args.known.now c.add.new.self c.self.inside.copied c.self.invariant.2
-        (c.if-not-is_same.ensures tt) evs_is (c.in_ok-fill_behind.ensures tt) after_is in
+        (c.if-not-is_same.ensures refl) evs_is c.in_ok-fill_behind.ensures after_is in
     (handed_stands first h evs c.add.new.self (length evs) all evs_is refl).count_is
