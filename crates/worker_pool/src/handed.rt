@@ -153,21 +153,20 @@ impl<J: Naming> Handed<J> {
         if batches == u64::MAX {
             return false;
         }
-        let mut offer: Offer<Batch, u64, Counted, Nothing> =
-            self.seen.plain::<Nothing, Batch, Add>(batch);
+        let mut offer: Offer<Batch, u64, Counted, Nothing> = self
+            .seen
+            .plain::<Nothing, Batch, Add>(batch);
         let mut pen = self.seen.no_pen();
-        let found = count.head.compare_exchange::<Add, Nothing>(
-            batches,
-            batches + 1,
-            &mut self.seen,
-            &mut offer,
-            &mut pen,
-        );
-        self.batches = if found == batches {
-            batches + 1
-        } else {
-            found
-        };
+        let found = count
+            .head
+            .compare_exchange::<Add, Nothing>(
+                batches,
+                batches + 1,
+                &mut self.seen,
+                &mut offer,
+                &mut pen,
+            );
+        self.batches = if found == batches { batches + 1 } else { found };
         found == batches
     }
 }

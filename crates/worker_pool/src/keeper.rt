@@ -173,8 +173,11 @@ impl<J: Naming, K: Journal> Keeper<J, K> {
         if !self.is_sound {
             return Err(NotKept);
         }
-        let (handed, events) =
-            acquire(rt, desk).hand_over(&self.count, &self.handed, &mut self.batch)?;
+        let (handed, events) = acquire(rt, desk).hand_over(
+            &self.count,
+            &self.handed,
+            &mut self.batch,
+        )?;
         self.write(handed, events)
     }
 

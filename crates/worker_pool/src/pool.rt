@@ -410,14 +410,7 @@ fn work_all<
     R: Threads + Wait + Sync,
     L: Link + Sync,
     G: Gate + Sync,
->(
-    rt: &R,
-    pool: &Pool<J, K>,
-    calls: &[Call],
-    workers: usize,
-    link: &L,
-    gate: &G,
-) -> usize
+>(rt: &R, pool: &Pool<J, K>, calls: &[Call], workers: usize, link: &L, gate: &G) -> usize
     requires { calls.now ≡ J.calls }
 {
     thread::scope(

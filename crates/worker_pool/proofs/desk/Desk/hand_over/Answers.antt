@@ -16,7 +16,7 @@ invariant_of-self g c =
     c.if-not-add.ensures refl ∙ ap (λ (l : List (List Event)). l ++ batch ∷ []) c.again-handed.ensures in
     let all : h ≡ reverse (events_of c.add.new.self) ++ first =
     handed_over first h evs batch c.self.inside.handed c.args.known.now c.add.new.self c.self.inside.copied c.self.invariant.2
-        (c.if-not-is_same.ensures refl) evs_is c.in_ok-fill_behind.ensures after_is in
+    (c.if-not-is_same.ensures refl) evs_is c.in_ok-fill_behind.ensures after_is in
     (c.self.invariant.0, c.self.invariant.1, rw c.again.ensures (handed_stands first h evs c.add.new.self (length evs) all evs_is refl))
 
 pub returns-clause-all : goal.returns-clause-all
@@ -30,7 +30,7 @@ returns-clause-all g c =
     c.if-not-add.ensures refl ∙ ap (λ (l : List (List Event)). l ++ batch ∷ []) c.again-handed.ensures in
     let all : h ≡ reverse (events_of c.add.new.self) ++ first =
     handed_over first h evs batch c.self.inside.handed c.args.known.now c.add.new.self c.self.inside.copied c.self.invariant.2
-        (c.if-not-is_same.ensures refl) evs_is c.in_ok-fill_behind.ensures after_is in
+    (c.if-not-is_same.ensures refl) evs_is c.in_ok-fill_behind.ensures after_is in
     sym (ap (λ (v : Seen). v.state.events) c.self.view_is) ∙ all
 
 pub returns-clause-events : goal.returns-clause-events
@@ -44,5 +44,5 @@ returns-clause-events g c =
     c.if-not-add.ensures refl ∙ ap (λ (l : List (List Event)). l ++ batch ∷ []) c.again-handed.ensures in
     let all : h ≡ reverse (events_of c.add.new.self) ++ first =
     handed_over first h evs batch c.self.inside.handed c.args.known.now c.add.new.self c.self.inside.copied c.self.invariant.2
-        (c.if-not-is_same.ensures refl) evs_is c.in_ok-fill_behind.ensures after_is in
+    (c.if-not-is_same.ensures refl) evs_is c.in_ok-fill_behind.ensures after_is in
     (handed_stands first h evs c.add.new.self (length evs) all evs_is refl).count_is
