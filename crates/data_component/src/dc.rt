@@ -244,6 +244,20 @@ impl Dc {
     {
         self.mark
     }
+
+    /// What the last checkpoint kept of what was performed, the oldest first; none before the first.
+    pub fn saved(&self) -> &[Performed]
+        ensures { result.now ≡ reverse self.now.saved }
+    {
+        &self.performed[..self.saved]
+    }
+
+    /// The mark that the last checkpoint kept; 0 before the first.
+    pub fn saved_mark(&self) -> u64
+        ensures { result ≡ self.now.saved_mark }
+    {
+        self.saved_mark
+    }
 }
 
 // Whether the answer isn't want of room.
