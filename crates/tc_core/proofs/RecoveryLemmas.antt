@@ -1,15 +1,20 @@
--- What no answer changes, and a request that is made again.
-use Rattle.std.proofs.Common.{◌≡◌, ℕ, true, false, List, [], ◌∷◌, length, ◌==◌, arith, Option, Some, None, refl, sym, ◌∙◌}
+-- What no answer changes, a request that is made again, and a log's first events.
+use Rattle.std.proofs.Common.{◌≡◌, ℕ, ◌-◌, true, false, List, [], ◌∷◌, ◌++◌, length, drop, length-append, ◌==◌, arith, Option, Some, None, refl, sym, ◌∙◌, ap, subst}
+use Rattle.std.proofs.Math.Seq.{drop-append_seam}
 use Rattle.std.specs.Prelude.{IfSome}
 use Rattle.tc_log.specs.declared.event.Event.{Event}
 use Rattle.tc_log.specs.declared.event.Outcome.{Outcome}
+use Rattle.history.specs.Places.{Begins}
+use Rattle.verifier.specs.Checked.{Checked}
 use Rattle.transactions.specs.declared.Sent.{Sent}
 use Rattle.transactions.specs.Standing.{Standing, standing}
+use Rattle.transactions.specs.Legal.{Legal, Allowed}
 use Rattle.transactions.proofs.StandingLemmas.{eq-false}
 use Rattle.tc_core.specs.Core.{Core}
 use Rattle.tc_core.specs.Replies.{after_ask, after_undo, after_end}
+use Rattle.tc_core.specs.Checking.{IsFirstIllegal}
 use Rattle.tc_core.specs.GivingUp.{IsOpenHere}
-use Rattle.tc_core.specs.Recovery.{asking_by, asking_in, open_request}
+use Rattle.tc_core.specs.Recovery.{first_events, asking_by, asking_in, open_request}
 use Rattle.tc_core.specs.declared.state.Asked.{Asked}
 use Rattle.tc_core.specs.declared.state.Asked.TheVariants as reply
 
@@ -50,3 +55,20 @@ request_is_open c t = open_in c t (standing c.events t) refl
 pub none_there : (h : List Event) → (length h == 0) ≡ true → h ≡ []
 none_there [] e = refl
 none_there (x ∷ h) e = absurd (let bad : true ≡ false = sym e ∙ eq-false (length (x ∷ h)) 0 (λ same. omega (arith, same)) in cc)
+
+-- ---- a log's first events
+
+pub first_is : (whole first : List Event) (n : ℕ) → Begins first whole → length first ≡ n → first ≡ first_events n whole
+first_is whole first n begins count =
+    let many : length (begins.later ++ first) - n ≡ length begins.later = omega (arith, length-append begins.later first, count) in
+    subst (λ (h : List Event). first ≡ drop (length h - n) h) (sym begins.is)
+    (sym (ap (λ (k : ℕ). drop k (begins.later ++ first)) many ∙ drop-append_seam begins.later first))
+
+allowed_at : (ps : List Checked) (later earlier : List Event) (e : Event) → Legal ps (later ++ e ∷ earlier) → Allowed ps earlier e
+allowed_at ps [] earlier e legal = legal.0
+allowed_at ps (x ∷ later) earlier e legal = allowed_at ps later earlier e legal.1
+
+-- a legal log has no first event that isn't allowed
+pub none_illegal : (ps : List Checked) (h : List Event) (place : ℕ) → Legal ps h → IsFirstIllegal ps h place → ⊥
+none_illegal ps h place legal bad =
+    bad.illegal (allowed_at ps bad.stands.later bad.stands.earlier bad.e (subst (Legal ps) bad.stands.is legal))

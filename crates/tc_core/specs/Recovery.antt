@@ -1,5 +1,5 @@
 -- A state that comes back from what was written, and its open requests made again.
-use Rattle.std.specs.Prelude.{◌≢◌, ℕ, List, [], map, Option, Some, None}
+use Rattle.std.specs.Prelude.{◌≢◌, ℕ, ◌-◌, List, [], map, length, drop, Option, Some, None}
 use Rattle.tc_log.specs.declared.event.Event.{Event}
 use Rattle.transactions.specs.declared.Sent.{Sent}
 use Rattle.transactions.specs.declared.Site.{Site}
@@ -18,6 +18,10 @@ abbrev pub site_noted : SiteNote → Site
 site_noted Untold = untold
 site_noted (Restarted news) = down_by news
 site_noted (Up n) = record { incarnation = n; redo = None }
+
+-- the first so many events of a log, of which the newest stands first
+abbrev pub first_events : ℕ → List Event → List Event
+first_events n h = drop (length h - n) h
 
 -- the same procedures behind this log, and data components as they were noted; nothing is given up
 abbrev pub recovered : Core → List Event → List SiteNote → Core

@@ -1,6 +1,6 @@
 //! Whether a log, whoever made it, is one of a transaction component.
 
-ghost use Rattle.std.specs.Prelude.{◌≡◌, ◌↔◌, ◌<◌, [], ◌∷◌, length, IsTrue, IsFalse, IsOk, IfOk, OnOk, IfErr};
+ghost use Rattle.std.specs.Prelude.{◌≡◌, ◌↔◌, ◌<◌, ◌≤◌, [], ◌∷◌, length, IsTrue, IsFalse, IsOk, IfOk, OnOk, IfErr};
 ghost use Rattle.lock_table.specs.Facts.{AreHeld};
 ghost use Rattle.tc_log.specs.declared.event.Event.TheVariants.{Admit, Ask, Answer, Undo, End};
 ghost use Rattle.history.specs.Calls.{held};
@@ -11,6 +11,7 @@ ghost use Rattle.transactions.specs.Reached.{decls};
 ghost use Rattle.transactions.specs.Room.{each_one, total};
 ghost use Rattle.tc_core.specs.Checking.{IsFault};
 ghost use Rattle.tc_core.specs.Kept.{IsBook};
+ghost use Rattle.tc_core.specs.Recovery.{first_events};
 ghost use Rattle.tc_core.specs.Joining.Follows.{IsRequest, IsAsked, IsUnlike, awaited_by, awaited_in};
 
 use crate::book::Book;
@@ -255,18 +256,24 @@ fn event_at(log: &Log, place: usize) -> &Event
     }
 }
 
-// A book of a log's events, where each is allowed.
-pub(crate) fn book_of(alloc: Global, procs: &Procs, log: &Log) -> Result<Book, CheckFault>
+// A book of a log's first so many events, where each is allowed.
+pub(crate) fn first_book(
+    alloc: Global,
+    procs: &Procs,
+    log: &Log,
+    events: usize,
+) -> Result<Book, CheckFault>
+    requires { events ≤ length log.now.events }
     ensures kept { IfOk result (IsBook procs.now.codes) }
     ensures given_up { IfOk result (λ book. book.given_up.numbers ≡ []) }
-    ensures log { IfOk result (λ book. book.log.events ≡ log.now.events) }
+    ensures log { IfOk result (λ book. book.log.events ≡ first_events events log.now.events) }
     ensures fault { IfErr result (IsFault procs.now.codes log.now.events) }
 {
     procs.known();
     let Ok(mut book) = Book::new(alloc, 0) else {
         return Err(CheckFault::Memory);
     };
-    for place in 0..log.len() {
+    for place in 0..events {
         match book.follow(alloc, procs, event_at(log, place)) {
             Ok(()) => {}
             Err(Unlike::Illegal) => return Err(CheckFault::LogIllegal(place)),
@@ -274,6 +281,15 @@ pub(crate) fn book_of(alloc: Global, procs: &Procs, log: &Log) -> Result<Book, C
         }
     }
     Ok(book)
+}
+
+// A book of all of a log's events, where each is allowed.
+fn book_of(alloc: Global, procs: &Procs, log: &Log) -> Result<Book, CheckFault>
+    ensures kept { IfOk result (IsBook procs.now.codes) }
+    ensures log { IfOk result (λ book. book.log.events ≡ log.now.events) }
+    ensures fault { IfErr result (IsFault procs.now.codes log.now.events) }
+{
+    first_book(alloc, procs, log, log.len())
 }
 
 /// What stands behind a log, where it is legal.

@@ -1,14 +1,14 @@
 //! A state that comes back from what was written: its log, and what was known of data components.
 
-ghost use Rattle.std.specs.Prelude.{◌≡◌, [], length, map, IfOk, IfErr};
+ghost use Rattle.std.specs.Prelude.{◌≡◌, ◌≤◌, [], length, map, vec_capacity, IfOk, IfErr};
 ghost use Rattle.history.specs.Calls.{admitted};
 ghost use Rattle.transactions.specs.Standing.{standing};
 ghost use Rattle.tc_core.specs.Checking.{IsFault};
 ghost use Rattle.tc_core.specs.Kept.{IsBook};
-ghost use Rattle.tc_core.specs.Recovery.{asking_by, asking_in, site_noted};
+ghost use Rattle.tc_core.specs.Recovery.{asking_by, asking_in, first_events, site_noted};
 
 use crate::book::Book;
-use crate::checking::{CheckFault, book_of};
+use crate::checking::{CheckFault, first_book};
 use crate::procs::Procs;
 use crate::sites::{UNTOLD, starts};
 use crate::state::Request;
@@ -86,17 +86,33 @@ fn asking_by(txn: u64, sent: Option<Sent>) -> Option<Request>
     }
 }
 
+// Requests that are void: they are spent.
+pub(crate) fn spend(requests: &mut Vec<Request>)
+    ensures items { requests.new.items ≡ [] }
+    ensures capacity { vec_capacity requests.new ≡ vec_capacity requests.old }
+{
+    while let Some(request) = requests.pop() {
+        let Request {
+            txn: _,
+            number: _,
+            op: _,
+        } = request;
+    }
+}
+
 impl Book {
-    /// A book of a log's events, with what was noted of each data component.
+    /// A book of a log's first so many events, with what was noted of each data component.
     pub fn recovered(
         alloc: Global,
         procs: &Procs,
         log: &Log,
+        events: usize,
         notes: &[SiteNote],
     ) -> Result<Book, CheckFault>
-        requires { length notes.now ≡ procs.now.dcs }
+        requires events { events ≤ length log.now.events }
+        requires notes { length notes.now ≡ procs.now.dcs }
         ensures kept { IfOk result (IsBook procs.now.codes) }
-        ensures events { IfOk result (λ book. book.log.events ≡ log.now.events) }
+        ensures events { IfOk result (λ book. book.log.events ≡ first_events events log.now.events) }
         ensures given_up { IfOk result (λ book. book.given_up.numbers ≡ []) }
         ensures sites { IfOk result (λ book. book.sites.items ≡ map site_noted notes.now) }
         ensures fault { IfErr result (IsFault procs.now.codes log.now.events) }
@@ -107,7 +123,7 @@ impl Book {
         let Ok(starts) = starts(alloc, procs.dcs()) else {
             return Err(CheckFault::Memory);
         };
-        let mut book = book_of(alloc, procs, log)?;
+        let mut book = first_book(alloc, procs, log, events)?;
         book.sites = sites;
         book.starts = starts;
         Ok(book)

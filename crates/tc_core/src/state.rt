@@ -1,6 +1,6 @@
 //! The state, and the calls on it.
 
-ghost use Rattle.std.specs.Prelude.{◌≡◌, ◌↔◌, ◌+◌, [], ◌∷◌, ◌++◌, length, replicate, Some, None};
+ghost use Rattle.std.specs.Prelude.{◌≡◌, ◌↔◌, ◌+◌, ◌≤◌, [], ◌∷◌, ◌++◌, length, replicate, vec_capacity, Some, None};
 ghost use Rattle.std.specs.Prelude.{IsTrue, IsOk, IfOk, OnOk, IfErr, OnErr, IfSome, IfNone, IsSome};
 ghost use Rattle.tc_log.specs.declared.event.Event.TheVariants.{Admit};
 ghost use Rattle.history.specs.Calls.{admitted};
@@ -18,12 +18,13 @@ ghost use Rattle.tc_core.specs.Lent.{wire_of};
 ghost use Rattle.tc_core.specs.GivingUp.{IsOpenHere, with_given_up};
 ghost use Rattle.tc_core.specs.Blocked.{IsBlocked};
 ghost use Rattle.tc_core.specs.Redo.{news_fault, after_told, redo_reply, after_redo, IsRedone, after_redone};
-ghost use Rattle.tc_core.specs.Recovery.{recovered, IsRecoverFault, open_request};
+ghost use Rattle.tc_core.specs.Recovery.{recovered, first_events, IsRecoverFault, open_request};
 ghost use Rattle.transactions.specs.InFlight.{untold, site_at};
 
 use crate::book::Book;
+use crate::checking::CheckFault;
 use crate::procs::{LoadFault, Procs};
-use crate::recovery::{RecoverFault, SiteNote};
+use crate::recovery::{RecoverFault, SiteNote, spend};
 use access_slots::op::{News, Op, Reply, Wire};
 use lock_table::table::Busy;
 use std::alloc::{AllocError, Global};
@@ -310,13 +311,40 @@ impl TcState {
         if notes.len() != usize::from(self.procs.dcs()) {
             return Err(RecoverFault::DcCount);
         }
-        match Book::recovered(self.alloc, &self.procs, log, notes) {
+        match Book::recovered(self.alloc, &self.procs, log, log.len(), notes) {
             Ok(book) => {
                 self.book = book;
                 Ok(())
             }
             Err(fault) => Err(RecoverFault::Unfit(fault)),
         }
+    }
+
+    /// Crashes, and comes back from so many of the first events of its own log and from a note for each
+    /// data component, as [`TcState::recover`] does on a new state: what came later is forgotten, and
+    /// nothing is given up. The requests that were held are void, and are spent:
+    /// [`TcState::request`] makes those that are open again. Want of memory changes nothing.
+    pub fn crash(
+        &mut self,
+        events: usize,
+        notes: &[SiteNote],
+        requests: &mut Vec<Request>,
+    ) -> Result<(), AllocError>
+        requires events { events ≤ length self.old.events }
+        requires notes { length notes.now ≡ self.old.dcs }
+        ensures ok { OnOk result (self.new ≡ recovered self.old (first_events events self.old.events) notes.now) }
+        ensures spent { OnOk result (requests.new.items ≡ []) }
+        ensures err { OnErr result (self.new ≡ self.old) }
+        ensures held { OnErr result (requests.new.items ≡ requests.old.items) }
+        ensures room { vec_capacity requests.new ≡ vec_capacity requests.old }
+    {
+        match Book::recovered(self.alloc, &self.procs, &self.book.log, events, notes) {
+            Ok(book) => self.book = book,
+            Err(CheckFault::Memory) => return Err(AllocError),
+            Err(CheckFault::LogIllegal(_)) => unreachable!(),
+        }
+        spend(requests);
+        Ok(())
     }
 
     /// The request of the operation that an open transaction waits for, made again: for a state that

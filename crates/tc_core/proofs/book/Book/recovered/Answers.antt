@@ -11,7 +11,7 @@ returns-clause-kept c =
     let is = c.in_ok-book.ensures.kept in
     let sites = c.in-Ok.sites.items in
     let h = c.in_ok-book.book.log.events in
-    let many : length sites ≡ c.dcs.result = ap (length {A = Site}) c.in-Ok.ensures ∙ (length-map c.args.notes.now site_noted ∙ (c.requires ∙ sym c.dcs.ensures)) in
+    let many : length sites ≡ c.dcs.result = ap (length {A = Site}) c.in-Ok.ensures ∙ (length-map c.args.notes.now site_noted ∙ (c.requires.notes ∙ sym c.dcs.ensures)) in
     record {
       kept = is.kept;
       most = is.most;

@@ -6,7 +6,8 @@ use Rattle.transactions.specs.Legal.{Allowed}
 use Rattle.tc_core.specs.Joining.Follows.{IsUnlike}
 use Rattle.tc_core.specs.declared.checking.Unlike.{Unlike}
 use Rattle.tc_core.proofs.FollowLemmas.{begins_none, begins_more, first_illegal}
-use Rattle.tc_core.proofs.checking.book_of.Goals as goal
+use Rattle.tc_core.proofs.RecoveryLemmas.{first_is}
+use Rattle.tc_core.proofs.checking.first_book.Goals as goal
 
 pub loop-place-init : goal.loop-place-init
 loop-place-init c = (
@@ -34,3 +35,9 @@ returns-in-Err-Illegal-clause-fault c =
     let e = c.event_at.result.now in
     let illegal : Allowed ps h e → ⊥ = subst (λ (u : Unlike). IsUnlike ps h e u) c.in-Err-Illegal.field-0-is c.in-Err-Illegal.ensures.why in
     first_illegal ps c.args.log.now.events h c.loop-place.place e c.loop-place.invariant.1 c.loop-place.invariant.2 c.event_at.ensures c.loop-place.invariant.0.kept.legal illegal
+
+pub returns-clause-log : goal.returns-clause-log
+returns-clause-log c =
+    let count = c.loop-place.invariant.2 in
+    let end = c.loop-place-test.false in
+    first_is c.args.log.now.events c.loop-place.book.log.events c.args.events c.loop-place.invariant.1 (omega (arith, count, end))
