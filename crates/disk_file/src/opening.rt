@@ -5,9 +5,10 @@ ghost use Rattle.frame_file.specs.Device.{Only};
 ghost use Rattle.disk_file.specs.Disk.{disk_bytes, left_of};
 
 use crate::disk::DiskFile;
-use std::alloc::AllocError;
+use std::alloc::{AllocError, Global};
 use std::fs::{self, File, OpenOptions, TryLockError};
 use std::io::{self, Read};
+use std::rt::Files;
 
 /// Why a file isn't opened.
 #[derive(Clone, Copy, Debug)]
@@ -43,7 +44,11 @@ impl DiskFile {
     /// Opens the file with this name, and makes it where there is none. It is locked as long as it is open
     /// (an advisory lock, which not every network file system keeps), read whole, and synced with its
     /// folder.
-    pub fn open(rt: &HostRuntime, path: &str) -> Result<DiskFile, OpenError>
+    pub fn open<F: Files<File = File>>(
+        rt: &F,
+        alloc: Global,
+        path: &str,
+    ) -> Result<DiskFile, OpenError>
         // What is read is what is on the disk.
         ensures { IfOk result (λ d. Only (disk_bytes d) (left_of d)) }
     {
@@ -53,17 +58,17 @@ impl DiskFile {
             .create(true)
             .open(rt, path)?;
         file.try_lock()?;
-        let mut bytes = Vec::new(rt.alloc());
+        let mut bytes = Vec::new(alloc);
         file.read_to_end(&mut bytes)?;
         file.sync_all()?;
-        folder_of(rt, path)?.sync_all()?;
+        folder_of(rt, alloc, path)?.sync_all()?;
         Ok(DiskFile::settled(file, bytes))
     }
 }
 
 // The folder in which a file lies that there is.
-fn folder_of(rt: &HostRuntime, path: &str) -> io::Result<File> {
-    let mut folder = fs::canonicalize(rt, path)?;
+fn folder_of<F: Files<File = File>>(rt: &F, alloc: Global, path: &str) -> io::Result<File> {
+    let mut folder = fs::canonicalize(&(rt, alloc), path)?;
     folder.pop();
     File::open(rt, folder.as_str())
 }

@@ -12,7 +12,7 @@ const PATH: &str = "disk_file_test";
 fn opened(rt: &HostRuntime) -> Result<FrameFile<DiskFile>, OpenError>
     ensures { IfOk result (λ f. Only (disk_bytes f.device) (left_of f.device)) }
 {
-    Ok(FrameFile::new(DiskFile::open(rt, PATH)?))
+    Ok(FrameFile::new(DiskFile::open(rt, rt.alloc(), PATH)?))
 }
 
 // A frame is in the file, and what was torn behind it is cut off when it is opened again; meanwhile nobody
@@ -26,7 +26,7 @@ fn frames_in_a_file(rt: HostRuntime) -> Result<(), Fail> {
     };
     assert_eq!(rt; file.recover(alloc)?.len(), 0);
     file.append(alloc, b"first".as_slice())?;
-    assert!(rt; matches!(DiskFile::open(&rt, PATH), Err(OpenError::Busy)));
+    assert!(rt; matches!(DiskFile::open(&rt, rt.alloc(), PATH), Err(OpenError::Busy)));
     drop(file);
     let mut bytes = fs::read(&rt, PATH)?;
     assert_eq!(rt; bytes.len(), 29);
@@ -47,5 +47,10 @@ fn frames_in_a_file(rt: HostRuntime) -> Result<(), Fail> {
 
 #[test]
 fn no_file_there(rt: HostRuntime) {
-    assert!(rt; matches!(DiskFile::open(&rt, "no/such/folder"), Err(OpenError::Io(_))));
+    assert!(rt;
+        matches!(
+            DiskFile::open(&rt, rt.alloc(), "no/such/folder"),
+            Err(OpenError::Io(_))
+        )
+    );
 }
