@@ -22,22 +22,22 @@ use Rattle.log_file.proofs.GatheringLemmas.{batches_push}
 
 -- ---- headers
 
-dcs_back : (h : Header) → IsHeader h → from_le_bytes w64 (take 8 (drop 16 (header_bytes h))) ≡ h.dcs
+pub dcs_back : (h : Header) → IsHeader h → from_le_bytes w64 (take 8 (drop 16 (header_bytes h))) ≡ h.dcs
 unfolding header_bytes
 dcs_back h is = from_le_bytes-to_le_bytes_8 h.dcs is.dcs
 
-procedures_back : (h : Header) → IsHeader h → from_le_bytes w64 (take 8 (drop 24 (header_bytes h))) ≡ h.procedures
+pub procedures_back : (h : Header) → IsHeader h → from_le_bytes w64 (take 8 (drop 24 (header_bytes h))) ≡ h.procedures
 unfolding header_bytes
 procedures_back h is = from_le_bytes-to_le_bytes_8 h.procedures is.procedures
 
-digest_back : (h : Header) → drop 32 (header_bytes h) ≡ h.digest
+pub digest_back : (h : Header) → drop 32 (header_bytes h) ≡ h.digest
 unfolding header_bytes
 digest_back h = refl
 
-abbrev header_at : ℕ → ℕ → List ℕ → Header
+abbrev pub header_at : ℕ → ℕ → List ℕ → Header
 header_at dcs procedures digest = record { dcs = dcs; procedures = procedures; digest = digest }
 
-same_header : (d e p q : ℕ) (x y : List ℕ) → d ≡ e → p ≡ q → x ≡ y → header_at d p x ≡ header_at e q y
+pub same_header : (d e p q : ℕ) (x y : List ℕ) → d ≡ e → p ≡ q → x ≡ y → header_at d p x ≡ header_at e q y
 same_header d e p q x y a b c = cc
 
 pub headers_tell : (a b : Header) → IsHeader a → IsHeader b → header_bytes a ≡ header_bytes b → a ≡ b

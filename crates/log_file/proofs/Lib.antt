@@ -3,3 +3,4 @@ pub mod GatheringLemmas
 pub mod LawLemmas
 pub mod OpeningLemmas
 mod MomentLemmas
+pub mod StoredLemmas

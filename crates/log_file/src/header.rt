@@ -1,9 +1,11 @@
 // The first payload.
 
-ghost use Rattle.std.specs.Prelude.{◌≡◌, IfOk};
+ghost use Rattle.std.specs.Prelude.{◌≡◌, IfOk, IfSome, IfNone};
 ghost use Rattle.log_file.specs.Bytes.{header_bytes};
+ghost use Rattle.log_file.specs.Stored.{IsNoHeader};
+ghost use Rattle.log_file.specs.Joining.Fields.{header_in};
 
-use frame_file::write_long;
+use frame_file::{long, write_long};
 use std::alloc::{AllocError, Global};
 
 // "mazzulpe", the lowest byte first.
@@ -34,4 +36,25 @@ pub(crate) fn header_bytes(alloc: Global, header: &Header) -> Result<Vec<u8>, Al
     write_long(&mut out, header.procedures)?;
     out.extend_from_slice(&header.digest)?;
     Ok(out)
+}
+
+/// The header that these bytes may be, by their fields: none where they aren't 64, or say more data
+/// components than there can be.
+pub(crate) fn header_in(bytes: &[u8]) -> Option<Header>
+    ensures fields { IfSome result (λ h. h ≡ header_in bytes.now) }
+    ensures none { IfNone result (IsNoHeader bytes.now) }
+{
+    if bytes.len() != 64 {
+        return None;
+    }
+    let Ok(dcs) = u16::try_from(long(&bytes[16..24])) else {
+        return None;
+    };
+    let mut digest = [0; 32];
+    digest.copy_from_slice(&bytes[32..]);
+    Some(Header {
+        dcs,
+        procedures: long(&bytes[24..32]),
+        digest,
+    })
 }

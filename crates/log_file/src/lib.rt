@@ -7,6 +7,8 @@
 //! file.create(alloc, &header)?;                    // instead, where `open` answered that it is empty
 //! let rows = log.print_from(alloc, written)?;      // the events that aren't in the file yet
 //! file.append(alloc, &notes, &rows)?;              // acknowledged: each crash from now on leaves them
+//!
+//! let found = read_file(alloc, bytes)?;            // whoever's file it is, without a device
 //! ```
 //!
 //! The functions without a body are laws: that what is read is what was written. (`log_file_tests` of
@@ -20,6 +22,7 @@ mod header;
 mod laws;
 mod note;
 mod reading;
+mod stored;
 
 pub use file::LogFile;
 pub use header::Header;
@@ -28,3 +31,4 @@ pub use laws::{
 };
 pub use note::Note;
 pub use reading::{OpenFault, Recovered};
+pub use stored::{Stored, read_file};

@@ -1,0 +1,42 @@
+-- What the bytes of a log's file say, whoever wrote it.
+use Rattle.std.specs.Prelude.{◌≡◌, ℕ, ◌+◌, ◌<◌, ◌^◌, List, [], ◌∷◌, length, reverse}
+use Rattle.frame_file.specs.Frame.{frames_from}
+use Rattle.frame_file.specs.Reading.{Reads, IsReadFault}
+use Rattle.log_file.specs.declared.header.Header.{Header}
+use Rattle.log_file.specs.declared.reading.OpenFault.{OpenFault}
+use Rattle.log_file.specs.declared.reading.OpenFault.TheVariants.{Frames, Empty, Other, NoBatch, Row}
+use Rattle.log_file.specs.declared.stored.Stored.{Stored}
+use Rattle.log_file.specs.Bytes.{header_bytes}
+use Rattle.log_file.specs.Reading.{IsHeader, IsUnsaid, Says}
+
+-- its payloads are this header's log, and so many bytes stand behind the last frame
+pub record IsStored (file : List ℕ) (s : Stored) : Type 0 where
+  pub payloads : List (List ℕ)
+  pub reads : Reads file payloads
+  pub says : Says s.header payloads s.notes.items (reverse s.log.events)
+  pub unfinished : length file ≡ length (frames_from 0 payloads) + s.unfinished
+
+-- ---- why it isn't read
+
+-- no header of this layout is written so
+abbrev pub IsNoHeader : List ℕ → Type 0
+IsNoHeader bytes = (h : Header) → IsHeader h → h.dcs < 2 ^ 16 → length h.digest ≡ 32 → bytes ≡ header_bytes h → ⊥
+
+-- there is a first payload, which is no header's
+pub record IsNobodys (file : List ℕ) : Type 0 where
+  pub first : List ℕ
+  pub rest : List (List ℕ)
+  pub reads : Reads file (first ∷ rest)
+  pub none : IsNoHeader first
+
+-- the file begins with a header, for which it isn't read
+pub record IsAnybodys (file : List ℕ) (fault : OpenFault) : Type 0 where
+  pub header : Header
+  pub unsaid : IsUnsaid header file fault
+
+abbrev pub IsFileFault : List ℕ → OpenFault → Type 0
+IsFileFault file (Frames fault) = IsReadFault file fault
+IsFileFault file Empty = Reads file []
+IsFileFault file Other = IsNobodys file
+IsFileFault file (NoBatch number) = IsAnybodys file (NoBatch number)
+IsFileFault file (Row place) = IsAnybodys file (Row place)

@@ -1,0 +1,55 @@
+// A file that is read by itself, whoever wrote it.
+
+ghost use Rattle.std.specs.Prelude.{IfOk, IfErr};
+ghost use Rattle.frame_file.specs.Reading.{payloads_in};
+ghost use Rattle.log_file.specs.Stored.{IsStored, IsFileFault};
+ghost use Rattle.log_file.specs.Joining.Fields.{BeginsWith, IsHeaderFault};
+
+use crate::header::{Header, header_in};
+use crate::reading::{OpenFault, Recovered, read_log};
+use frame_file::read_frames;
+use std::alloc::Global;
+use tc_core::SiteNote;
+use tc_log::log::Log;
+
+/// What a log's file says, and whose log it is.
+#[derive(Drop)]
+pub struct Stored {
+    pub header: Header,
+    pub log: Log,
+    /// Of each data component what its last note says.
+    pub notes: Vec<SiteNote>,
+    /// How many bytes at the end are no whole frame: what a crash left of one.
+    pub unfinished: usize,
+}
+
+// The header that the first payload may be, by its fields.
+fn first_header(payloads: &[Vec<u8>]) -> Result<Header, OpenFault>
+    ensures begins { IfOk result (BeginsWith (payloads_in payloads.now)) }
+    ensures fault { IfErr result (IsHeaderFault (payloads_in payloads.now)) }
+{
+    let Some((first, _rest)) = payloads.split_first() else {
+        return Err(OpenFault::Empty);
+    };
+    match header_in(first) {
+        Some(header) => Ok(header),
+        None => Err(OpenFault::Other),
+    }
+}
+
+/// Reads the bytes of a log's file, whoever wrote it: nothing is compared with a header, and an end that
+/// isn't a whole frame is left as it is.
+pub fn read_file(alloc: Global, bytes: &[u8]) -> Result<Stored, OpenFault>
+    ensures says { IfOk result (IsStored bytes.now) }
+    ensures fault { IfErr result (IsFileFault bytes.now) }
+{
+    let found = read_frames(alloc, bytes)?;
+    let header = first_header(&found.payloads)?;
+    let Recovered { log, notes } = read_log(alloc, &header, &found.payloads)?;
+    Ok(Stored {
+        header,
+        log,
+        notes,
+        unfinished: bytes.len() - found.end,
+    })
+}
