@@ -6,6 +6,8 @@
 //! | `link_tests` | links that lose, repeat, delay and change what they carry |
 //! | `locked_tests` | data components of this process, behind locks |
 //! | `ring_tests` | data components in threads of their own, behind rings |
+//! | `journal_tests` | runs whose log is kept in a journal |
+//! | `log_journal_tests` | runs whose log is kept in a file |
 //! | `restart_tests` | data components that restart while calls run |
 //! | `memory_tests` | runs that are refused memory |
 //!
@@ -13,9 +15,13 @@
 #![tactic(auto)]
 
 #[cfg(test)]
+mod journal_tests;
+#[cfg(test)]
 mod link_tests;
 #[cfg(test)]
 mod locked_tests;
+#[cfg(test)]
+mod log_journal_tests;
 #[cfg(test)]
 mod memory_tests;
 #[cfg(test)]

@@ -7,3 +7,5 @@ pub mod Steps
 pub mod Reported
 pub mod Serving
 pub mod Carrying
+pub mod Handing
+pub mod Grown

@@ -46,7 +46,8 @@ use Rattle.tc_core.specs.Admission.{call_of}
 use Rattle.worker_pool.specs.Answers.{place_of, has_place, is_some, answer_of, StandsBehind, IsAdmitted, Sends}
 use Rattle.worker_pool.specs.Answers.{IsEnded, IsInDoubt, RefusalFits, StaysBut, BeginWith, IsMoment, WasBlocked, AnswerFits}
 use Rattle.worker_pool.specs.Kept.{ends, serial_of, txn_of, place_in, is_placed, IsOpen, IsBegun, Fits, IsAdmittedFor, Keeps}
-use Rattle.worker_pool.specs.Joining.Seen.{IsAnswered, AnswersStay}
+use Rattle.worker_pool.specs.declared.desk.Due.{Due}
+use Rattle.worker_pool.specs.Joining.Seen.{IsAnswered, AnswersStay, IsDue}
 use Rattle.worker_pool.specs.Joining.Moves.{MovesOn}
 use Rattle.worker_pool.specs.declared.desk.Next.{Next}
 use Rattle.worker_pool.specs.declared.desk.Next.TheVariants as next
@@ -607,6 +608,11 @@ pub now_answered : (ps : List Progress) (k : ℕ) (p : Progress) (a : Answer) (o
     → slice_get ps k ≡ Some p → IsAnswered (set ps k (Answered a o)) k
 now_answered ps k p a o at = record { answer = a; txn = o; at = set_here ps k p (Answered a o) at }
 
+-- what is due then
+pub now_due : (ps : List Progress) (k : ℕ) (p : Progress) (a : Answer) (o : Option TxnId) (due : Due)
+    → slice_get ps k ≡ Some p → due.call ≡ k → due.place ≡ place_of a → IsDue (set ps k (Answered a o)) k due
+now_due ps k p a o due at call place = record { answer = a; txn = o; at = set_here ps k p (Answered a o) at; call = call; place = place }
+
 -- ---- a step, and what came before it
 
 stays_then : (old mid new : List Progress) → AnswersStay old mid → AnswersStay mid new → AnswersStay old new
@@ -617,14 +623,14 @@ moved_stays old new k next.Begun it = it
 moved_stays old new k (next.Carry sending) it = it
 moved_stays old new k (next.Unanswered sending) it = it
 moved_stays old new k next.Busy it = it
-moved_stays old new k next.Over it = it.1
+moved_stays old new k (next.Over due) it = it.1
 
 moves_then : (old mid new : List Progress) (k : ℕ) (n : Next) → AnswersStay old mid → MovesOn mid new k n → MovesOn old new k n
 moves_then old mid new k next.Begun first it = stays_then old mid new first it
 moves_then old mid new k (next.Carry sending) first it = stays_then old mid new first it
 moves_then old mid new k (next.Unanswered sending) first it = stays_then old mid new first it
 moves_then old mid new k next.Busy first it = stays_then old mid new first it
-moves_then old mid new k next.Over first it = (it.0, stays_then old mid new first it.1)
+moves_then old mid new k (next.Over due) first it = (it.0, stays_then old mid new first it.1, it.2)
 
 pub moves_on : (old mid new : List Progress) (k : ℕ) (m n : Next) → MovesOn old mid k m → MovesOn mid new k n → MovesOn old new k n
 moves_on old mid new k m n first then = moves_then old mid new k n (moved_stays old mid k m first) then

@@ -3,6 +3,7 @@ pub mod Kept
 pub mod Doubts
 pub mod Reports
 pub mod Faults
+pub mod Journals
 pub mod Serving
 pub mod Wires
 pub mod Joining

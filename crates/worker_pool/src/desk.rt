@@ -1,18 +1,22 @@
-// What lies under the lock: the state, and how far each call has come.
+// What lies under the lock: the state, how far each call has come, and what of the log was handed over
+// to be kept.
 
-ghost use Rattle.std.specs.Prelude.{◌≡◌, ◌<◌, ◌≤◌, true, List, ℕ, [], length, replicate, reverse, Some, None, slice_get, OnOk, OnErr, IfErr, IfSome, IfNone, vec_capacity, map, false};
+ghost use Rattle.std.specs.Prelude.{◌≡◌, ◌+◌, ◌<◌, ◌≤◌, ◌++◌, ◌∷◌, true, List, ℕ, [], length, drop, replicate, reverse, Some, None, slice_get, OnOk, OnErr, IfOk, IfErr, IfSome, IfNone, vec_capacity, map, false};
 ghost use Rattle.tc_core.specs.Core.{Core, Asking};
 ghost use Rattle.tc_core.specs.Replies.{ask_reply, after_ask, end_of};
 ghost use Rattle.tc_log.specs.declared.event.Outcome.{Outcome};
 ghost use Rattle.tc_core.specs.Admission.{call_of, IsRefused};
-ghost use Rattle.worker_pool.specs.Answers.{answer_of, AnswerFits, AdmitRefusalFits};
+ghost use Rattle.worker_pool.specs.Answers.{answer_of, place_of, AnswerFits, AdmitRefusalFits};
 ghost use Rattle.worker_pool.specs.Doubts.{IsDoubtful, IsGoing};
 ghost use Rattle.worker_pool.specs.Joining.Ups.{IsUpFor};
 ghost use Rattle.worker_pool.specs.Wires.{IsItsOwn, IsToRedo};
 ghost use Rattle.worker_pool.specs.Joining.Seen.{IsAnswered, AreToldBy};
 
 use crate::answer::{Answer, Progress};
+use crate::batch::Batch;
 use crate::carried::Carried;
+use crate::handed::{Count, Handed};
+use crate::journal::NotKept;
 use crate::redos::Redos;
 use crate::report::Report;
 use crate::sending::Sending;
@@ -23,25 +27,63 @@ use tc_core::state::{
     Asked, Call, Down, NotOver, Receipt, Redo, Refusal, Request, Stranger, Stranger2, TcState,
     TxnId,
 };
-use tc_log::event::Outcome;
+use tc_log::event::{Event, Outcome};
 
-/// The state that is handed to a run, and its calls. Each run picks them.
+/// The state that is handed to a run, its calls, whether it has a journal, what that may have kept before, and
+/// the book of what is handed over to it. Each run picks them.
 pub trait Naming {
-    ghost use Rattle.std.specs.Prelude.{List};
+    ghost use Rattle.std.specs.Prelude.{Bool, List};
+    ghost use Rattle.logbook.specs.Pages.{Book};
+    ghost use Rattle.tc_log.specs.declared.event.Event.{Event};
     ghost use Rattle.tc_core.specs.Core.{Core};
     ghost use Rattle.tc_core.specs.declared.state.Call.{Call};
 
     ghost start: { Core };
 
     ghost calls: { List Call };
+
+    ghost keeps: { Bool };
+
+    ghost before: { List Event → Type 0 };
+
+    ghost book: { Book };
 }
 
 impl Naming for Brand {
-    ghost use Rattle.std.specs.Prelude.{[]};
+    ghost use Rattle.std.specs.Prelude.{[], false};
 
     ghost start = { record { procs = []; names = []; dcs = 0; events = []; given_up = []; sites = [] } };
 
     ghost calls = { [] };
+
+    ghost keeps = { false };
+
+    ghost before = { λ events. ⊥ };
+
+    ghost book = { record { number = 0; log_name = 0; cells_name = 0 } };
+}
+
+/// An answer that stands and isn't told yet. Desks alone make it.
+pub struct Due {
+    call: usize,
+    place: Option<usize>,
+}
+
+impl Due {
+    /// The place of the event that the answer names, if it names one.
+    pub fn place(&self) -> Option<usize>
+        ensures { result ≡ self.now.place }
+    {
+        self.place
+    }
+
+    /// Its call.
+    pub fn into_call(self) -> usize
+        ensures { result ≡ self.call }
+    {
+        let Due { call, place: _ } = self;
+        call
+    }
 }
 
 /// What is to be done for a call without the lock.
@@ -54,11 +96,11 @@ pub enum Next {
     Unanswered(Sending),
     /// A transaction stands in its way: one that leaves is waited for.
     Busy,
-    /// Its answer stands.
-    Over,
+    /// Its answer stands, and is due.
+    Over(Due),
 }
 
-/// The state, and how far each call has come.
+/// The state, how far each call has come, and what of the log was handed over to be kept.
 #[derive(Drop)]
 pub struct Desk<J: Naming> {
     state: TcState,
@@ -66,6 +108,9 @@ pub struct Desk<J: Naming> {
     tries: u64,
     taken: usize,
     touched: bool,
+    handed: Handed<J>,
+    // How many events of the log there were when something was handed over last.
+    copied: usize,
     of: PhantomData<J>,
 }
 
@@ -76,31 +121,66 @@ impl<J: Naming> Model for Desk<J> {
 
     ghost use Rattle.std.specs.Prelude.{◌≡◌, false};
     ghost use Rattle.worker_pool.specs.Kept.{Keeps};
+    ghost use Rattle.worker_pool.specs.Joining.Handing.{IsHanded};
 
     ghost view = { λ d. record { state = d.state; progress = d.progress.items; is_touched = d.touched } };
 
-    ghost invariant = { λ d. Keeps J.start J.calls d.state d.progress.items × (d.touched ≡ false → d.state ≡ J.start) };
+    ghost invariant = { λ d. Keeps J.start J.calls d.state d.progress.items × (d.touched ≡ false → d.state ≡ J.start) × IsHanded J.start.events d.handed d.copied d.state.events };
 }
 
 impl<J: Naming> Desk<J> {
     ghost use Rattle.worker_pool.specs.Joining.Moves.{MovesOn};
-    ghost use Rattle.worker_pool.specs.Joining.Seen.{IsAnswered, AnswersStay};
-    ghost use Rattle.worker_pool.specs.Answers.{place_of};
+    ghost use Rattle.worker_pool.specs.Joining.Seen.{IsAnswered, AnswersStay, IsDue};
+    ghost use Rattle.worker_pool.specs.Joining.Handing.{events_of};
+    ghost use Rattle.worker_pool.specs.Journals.{HasGoneOn};
     ghost use Rattle.worker_pool.specs.Reports.{Reports};
 
-    /// Each call waits, and nothing was done. A request will be sent so often at most.
-    pub fn new(state: TcState, progress: Vec<Progress>, tries: u64) -> Desk<J>
+    /// Each call waits, nothing was done, and nothing was handed over. A request will be sent so often at
+    /// most.
+    pub fn new(state: TcState, progress: Vec<Progress>, tries: u64, handed: Handed<J>) -> Desk<J>
         requires start { state ≡ J.start }
         requires waiting { progress.items ≡ replicate (length J.calls) Progress.Waiting }
+        requires handed { handed ≡ [] }
     {
+        let copied = state.log().len();
         Desk {
             state,
             progress,
             tries,
             taken: 0,
             touched: false,
+            handed,
+            copied,
             of: PhantomData,
         }
+    }
+
+    /// Copies what the log has behind what was handed over before into the batch, and answers all that is
+    /// handed over then, and how many events the log has. `known` is what was handed over before, as who
+    /// keeps it knows it; where that isn't what the desk knows, nothing is handed over.
+    pub fn hand_over(
+        &mut self,
+        count: &Count<J>,
+        known: &Handed<J>,
+        batch: &mut Batch,
+    ) -> Result<(Handed<J>, usize), NotKept>
+        ensures more { IfOk result (λ r. r.0 ≡ known.now ++ batch.new ∷ []) }
+        ensures all { IfOk result (λ r. self.old.state.events ≡ reverse (events_of r.0) ++ J.start.events) }
+        ensures events { IfOk result (λ r. r.1 ≡ length J.start.events + length (events_of r.0)) }
+        ensures same { self.new ≡ self.old }
+    {
+        if !self.handed.is_same(known) {
+            return Err(NotKept);
+        }
+        let events = self.state.log().events();
+        fill_behind(batch, events, self.copied)?;
+        let mut handed = known.again();
+        if !handed.add(count, batch) {
+            return Err(NotKept);
+        }
+        self.copied = events.len();
+        self.handed = handed.again();
+        Ok((handed, self.copied))
     }
 
     /// The next call that no worker has taken.
@@ -143,15 +223,16 @@ impl<J: Naming> Desk<J> {
     }
 
     // Answers a call that waits: no event is its.
-    fn tell(&mut self, k: usize, call: &Call, answer: Answer)
+    fn tell(&mut self, k: usize, call: &Call, answer: Answer) -> Due
         requires call { slice_get J.calls k ≡ Some call.now }
         requires waits { slice_get self.old.progress k ≡ Some Progress.Waiting }
         requires fits { AnswerFits J.start self.old.state (call_of call.now) answer None }
         requires placeless { place_of answer ≡ None }
-        ensures { IsAnswered self.new.progress k × AnswersStay self.old.progress self.new.progress }
+        ensures { IsAnswered self.new.progress k × AnswersStay self.old.progress self.new.progress × IsDue self.new.progress k result }
     {
         self.touched = true;
         self.progress[k] = Progress::Answered(answer, None);
+        due_for(k, answer)
     }
 
     // A call that waits is admitted or refused, or goes on waiting.
@@ -166,13 +247,9 @@ impl<J: Naming> Desk<J> {
                 if !self.is_blocked(call, busy) {
                     return Next::Busy;
                 }
-                self.tell(k, call, Answer::Blocked(busy));
-                Next::Over
+                Next::Over(self.tell(k, call, Answer::Blocked(busy)))
             }
-            Err(refusal) => {
-                self.tell(k, call, Answer::Refused(refusal));
-                Next::Over
-            }
+            Err(refusal) => Next::Over(self.tell(k, call, Answer::Refused(refusal))),
         }
     }
 
@@ -249,26 +326,32 @@ impl<J: Naming> Desk<J> {
     }
 
     // An operation that nothing more is known of becomes the call's answer.
-    fn doubt(&mut self, k: usize, call: &Call, txn: TxnId, number: u64)
+    fn doubt(&mut self, k: usize, call: &Call, txn: TxnId, number: u64) -> Due
         requires call { slice_get J.calls k ≡ Some call.now }
         requires begun { slice_get self.old.progress k ≡ Some (Progress.Begun txn) }
         requires doubtful { IsDoubtful self.old.state txn.serial number }
-        ensures { IsAnswered self.new.progress k × AnswersStay self.old.progress self.new.progress }
+        ensures { IsAnswered self.new.progress k × AnswersStay self.old.progress self.new.progress × IsDue self.new.progress k result }
     {
         self.touched = true;
-        self.progress[k] = Progress::Answered(Answer::InDoubt(number), Some(txn));
+        let answer = Answer::InDoubt(number);
+        self.progress[k] = Progress::Answered(answer, Some(txn));
+        due_for(k, answer)
     }
 
     // Ends a transaction that is over, and answers its call by the end's place.
-    fn end(&mut self, k: usize, call: &Call, txn: TxnId)
+    fn end(&mut self, k: usize, call: &Call, txn: TxnId) -> Due
         requires call { slice_get J.calls k ≡ Some call.now }
         requires begun { slice_get self.old.progress k ≡ Some (Progress.Begun txn) }
         requires over { ask_reply self.old.state txn.serial ≡ Asked.Over }
-        ensures { IsAnswered self.new.progress k × AnswersStay self.old.progress self.new.progress }
+        ensures { IsAnswered self.new.progress k × AnswersStay self.old.progress self.new.progress × IsDue self.new.progress k result }
     {
         self.touched = true;
         match self.state.end(txn) {
-            Ok(receipt) => self.progress[k] = Progress::Answered(answer_for(receipt), Some(txn)),
+            Ok(receipt) => {
+                let answer = answer_for(receipt);
+                self.progress[k] = Progress::Answered(answer, Some(txn));
+                due_for(k, answer)
+            }
             Err(NotOver) => unreachable!(),
         }
     }
@@ -282,18 +365,9 @@ impl<J: Naming> Desk<J> {
         match self.ask(k, call, txn) {
             Asked::Request(request) => Next::Carry(self.send(request)),
             Asked::Undoing => Next::Carry(self.undo(txn)),
-            Asked::Over => {
-                self.end(k, call, txn);
-                Next::Over
-            }
-            Asked::Stuck(number) => {
-                self.doubt(k, call, txn, number);
-                Next::Over
-            }
-            Asked::Waits(number) => {
-                self.doubt(k, call, txn, number);
-                Next::Over
-            }
+            Asked::Over => Next::Over(self.end(k, call, txn)),
+            Asked::Stuck(number) => Next::Over(self.doubt(k, call, txn, number)),
+            Asked::Waits(number) => Next::Over(self.doubt(k, call, txn, number)),
             Asked::Running | Asked::Unknown => unreachable!(),
         }
     }
@@ -314,7 +388,7 @@ impl<J: Naming> Desk<J> {
         match self.progress_of(k, call) {
             Progress::Waiting => self.begin(k, call),
             Progress::Begun(txn) => self.go_on(k, call, txn),
-            Progress::Answered(_, _) => Next::Over,
+            Progress::Answered(answer, _) => Next::Over(due_for(k, answer)),
         }
     }
 
@@ -333,6 +407,11 @@ impl<J: Naming> Desk<J> {
     {
         self.touched = true;
         let _number = self.state.give_up(request);
+    }
+
+    /// Gives up the request for which something is on its way, without going on with its call.
+    pub fn abandon(&mut self, sending: Sending) {
+        self.give_up(sending.into_request());
     }
 
     // Gives a request up, and goes on with its call.
@@ -475,8 +554,19 @@ impl<J: Naming> Desk<J> {
             tries: _,
             taken: _,
             touched: _,
+            handed: _,
+            copied: _,
             of: _,
         } = self;
+        state
+    }
+
+    /// The state of a run that stops, with what is known of it.
+    pub fn halted(self) -> TcState
+        ensures { HasGoneOn J.start result }
+    {
+        let state = self.into_state();
+        state.known();
         state
     }
 
@@ -485,7 +575,8 @@ impl<J: Naming> Desk<J> {
         requires all { (k : ℕ) → k < length J.calls → IsAnswered self.progress k }
         requires empty { answers.items ≡ [] }
         requires room { length J.calls ≤ vec_capacity answers }
-        ensures { Reports J.start J.calls result.state result.answers.items }
+        ensures reports { Reports J.start J.calls result.state result.answers.items }
+        ensures state { result.state ≡ self.state }
     {
         let Desk {
             state,
@@ -493,6 +584,8 @@ impl<J: Naming> Desk<J> {
             tries: _,
             taken: _,
             touched: _,
+            handed: _,
+            copied: _,
             of: _,
         } = self;
         state.known();
@@ -524,5 +617,37 @@ fn answer_for(receipt: Receipt) -> Answer
         Outcome::Committed => Answer::Committed(receipt.place),
         Outcome::Aborted(value) => Answer::Aborted(value, receipt.place),
         Outcome::NoRoom => Answer::NoRoom(receipt.place),
+    }
+}
+
+// What is due for a call that is answered so.
+fn due_for(call: usize, answer: Answer) -> Due
+    ensures call { result.call ≡ call }
+    ensures place { result.place ≡ place_of answer }
+{
+    Due {
+        call,
+        place: place_named(answer),
+    }
+}
+
+// The place that an answer names, if it names one.
+fn place_named(answer: Answer) -> Option<usize>
+    ensures { result ≡ place_of answer }
+{
+    match answer {
+        Answer::Committed(place) | Answer::Aborted(_, place) | Answer::NoRoom(place) => Some(place),
+        Answer::InDoubt(_) | Answer::Blocked(_) | Answer::Refused(_) => None,
+    }
+}
+
+// Copies of the events from this place on.
+fn fill_behind(batch: &mut Batch, events: &[Event], from: usize) -> Result<(), NotKept>
+    requires { from ≤ length events.now }
+    ensures { OnOk result (batch.new ≡ drop from events.now) }
+{
+    match batch.fill(&events[from..]) {
+        Ok(()) => Ok(()),
+        Err(_) => Err(NotKept),
     }
 }

@@ -20,13 +20,20 @@
 //! change what it carries; the report stays true of the log. [`LockedDcs`] is the link to data
 //! components of this process that workers call themselves, and [`RingLink`] the one to components
 //! that have threads of their own. A [`Gate`] is told when a call is admitted and when it is answered.
+//! [`run_kept`] keeps the log in a [`Journal`], and tells no answer before what it names is kept.
 //! Its tests are those of `pool_tests`.
 #![tactic(auto)]
 
 mod answer;
+mod batch;
 mod carried;
 mod desk;
+mod handed;
+mod journal;
+mod keeper;
+mod kept_run;
 mod locked_dcs;
+mod memory_journal;
 mod pool;
 mod redos;
 mod report;
@@ -36,7 +43,10 @@ mod sending;
 mod waiting;
 
 pub use answer::{Answer, Progress};
+pub use journal::{Journal, NotKept};
+pub use kept_run::{KeptFault, run_kept};
 pub use locked_dcs::LockedDcs;
+pub use memory_journal::MemoryJournal;
 pub use pool::{Gate, Link, OpenGate, RunFault, run};
 pub use report::Report;
 pub use ring_link::{RingLink, ServedFrom};

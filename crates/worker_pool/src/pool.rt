@@ -1,13 +1,20 @@
 // Workers over one lock.
 
-ghost use Rattle.std.specs.Prelude.{◌≡◌, ◌⊎◌, ◌<◌, ◌≤◌, ℕ, [], true, false, length, Some, slice_get, IfOk, IfErr, replicate, vec_capacity, MatchResult};
+ghost use Rattle.tc_log.specs.declared.event.Event.{Event as EventValue};
+ghost use Rattle.std.specs.Prelude.{◌≡◌, ◌⊎◌, ◌<◌, ◌≤◌, ℕ, List, [], true, false, length, Some, slice_get, IfOk, IfErr, OnOk, replicate, vec_capacity, MatchResult};
 ghost use Rattle.tc_core.specs.Core.{Core};
 ghost use Rattle.worker_pool.specs.Joining.Seen.{IsAnswered, AnswersStay};
 ghost use Rattle.worker_pool.specs.Reports.{Reports};
+ghost use Rattle.worker_pool.specs.Journals.{HasGoneOn};
 ghost use Rattle.worker_pool.specs.Faults.{state_of, InRange, WorkersFit, TriesFit, FaultFits};
+ghost use Rattle.worker_pool.specs.Joining.Ran.{RanFits, RanKeeps, KeepsAll};
 
 use crate::answer::{Answer, Progress};
-use crate::desk::{Desk, Naming, Next};
+use crate::batch::Batch;
+use crate::desk::{Desk, Due, Naming, Next};
+use crate::handed::Opened;
+use crate::journal::{Journal, NoJournal};
+use crate::keeper::{Keeper, Keeping, Stopped};
 use crate::report::Report;
 use crate::sending::Sending;
 use crate::waiting::acquire;
@@ -86,24 +93,35 @@ struct Worker<'a, L, G> {
     gate: &'a G,
 }
 
+// Tells an answer as soon as what it names is kept, where no other worker is left.
+fn conclude_alone<J: Naming, K: Journal, G: Gate>(
+    desk: &mut Desk<J>,
+    due: Due,
+    gate: &G,
+    keeper: &mut Keeper<J, K>,
+) -> Result<(), Stopped<J>>
+    ensures { desk.new ≡ desk.old }
+{
+    keeper.conclude_alone(desk, due)?.tell(gate);
+    Ok(())
+}
+
 // Runs a call to its answer, where no other worker is left.
-fn finish<J: Naming, R: Wait, L: Link, G: Gate>(
+fn finish<J: Naming, K: Journal, R: Wait, L: Link, G: Gate>(
     rt: &R,
     desk: &mut Desk<J>,
     k: usize,
     call: &Call,
     worker: &Worker<L, G>,
-)
+    keeper: &mut Keeper<J, K>,
+) -> Result<(), Stopped<J>>
     requires { slice_get J.calls k ≡ Some call.now }
     ensures { IsAnswered desk.new.progress k × AnswersStay desk.old.progress desk.new.progress }
 {
     let mut next = desk.advance(k, call);
     for _ in rt.forever() {
         next = match next {
-            Next::Over => {
-                worker.gate.answered(k);
-                return;
-            }
+            Next::Over(due) => return conclude_alone(desk, due, worker.gate, keeper),
             Next::Begun => {
                 worker.gate.begun(k);
                 desk.advance(k, call)
@@ -128,25 +146,44 @@ fn finish<J: Naming, R: Wait, L: Link, G: Gate>(
 }
 
 // Runs every call that has no answer to its answer: first those that were begun.
-fn finish_all<J: Naming, R: Wait, L: Link, G: Gate>(
+fn finish_all<J: Naming, K: Journal, R: Wait, L: Link, G: Gate>(
     rt: &R,
     desk: &mut Desk<J>,
     calls: &[Call],
     worker: &Worker<L, G>,
-)
+    keeper: &mut Keeper<J, K>,
+) -> Result<(), Stopped<J>>
     requires { calls.now ≡ J.calls }
-    ensures { (k : ℕ) → k < length calls.now → IsAnswered desk.new.progress k }
+    ensures { OnOk result ((k : ℕ) → k < length calls.now → IsAnswered desk.new.progress k) }
 {
     for (k, call) in calls.iter().enumerate() {
         if desk.is_begun(k) {
-            finish(rt, desk, k, call, worker);
+            finish(rt, desk, k, call, worker, keeper)?;
         }
     }
     for (k, call) in calls.iter().enumerate() {
         if !desk.is_answered(k) {
-            finish(rt, desk, k, call, worker);
+            finish(rt, desk, k, call, worker, keeper)?;
         }
     }
+    Ok(())
+}
+
+// The same, in a run that didn't stop before, and then keeps what is left of the log.
+fn finish_and_keep<J: Naming, K: Journal, R: Wait, L: Link, G: Gate>(
+    rt: &R,
+    desk: &mut Desk<J>,
+    calls: &[Call],
+    worker: &Worker<L, G>,
+    keeper: &mut Keeper<J, K>,
+) -> Result<(), Stopped<J>>
+    requires { calls.now ≡ J.calls }
+    ensures answered { OnOk result ((k : ℕ) → k < length calls.now → IsAnswered desk.new.progress k) }
+    ensures kept { OnOk result (J.keeps ≡ true → KeepsAll K.has_kept J.before J.start.events desk.new.state.events keeper.new) }
+{
+    keeper.check()?;
+    finish_all(rt, desk, calls, worker, keeper)?;
+    keeper.keep_rest(desk)
 }
 
 fn all_waiting(alloc: Global, count: usize) -> Result<Vec<Progress>, AllocError>
@@ -161,10 +198,12 @@ fn room_for(alloc: Global, count: usize) -> Result<Vec<Answer>, AllocError>
     Vec::with_capacity(alloc, count)
 }
 
-// The lock, and what tells of transactions that leave the way.
-struct Pool<J: Naming> {
+// The lock, what tells of transactions that leave the way, and the run's journal, which is under a lock of
+// its own. Nobody waits for the journal who holds the desk.
+struct Pool<J: Naming, K: Journal> {
     desk: Mutex<Desk<J>>,
     freed: Condvar,
+    keeping: Keeping<J, K>,
 }
 
 // What is to be done for a call without the lock.
@@ -173,8 +212,10 @@ enum Errand {
     Carry(Sending),
     // Nothing came back that answers what was carried: the link is asked for news.
     Unanswered(Sending),
-    // The call's answer stands.
-    Over,
+    // The call's answer stands, and is due.
+    Over(Due),
+    // The run stops.
+    Stopped,
 }
 
 // What the steps under one taking of the lock lead to.
@@ -186,10 +227,10 @@ struct Turn {
 
 // What follows a step, under the taking of the lock in which the step was made: a call that is admitted
 // goes on at once, one with another in its way waits for a change and tries again, and one that is answered
-// tells of a change, as soon as the lock is given back.
-fn settle<J: Naming, R: Wait>(
+// tells of a change, as soon as the lock is given back. Where the run stops, nobody waits.
+fn settle<J: Naming, K: Journal, R: Wait>(
     rt: &R,
-    pool: &Pool<J>,
+    pool: &Pool<J, K>,
     mut desk: MutexGuard<'_, Desk<J>>,
     k: usize,
     call: &Call,
@@ -205,6 +246,10 @@ fn settle<J: Naming, R: Wait>(
                 desk.advance(k, call)
             }
             Next::Busy => {
+                if pool.keeping.is_stopped() {
+                    let errand = Errand::Stopped;
+                    return Turn { is_begun, errand };
+                }
                 desk = pool.freed.wait(rt, desk);
                 desk.advance(k, call)
             }
@@ -216,10 +261,10 @@ fn settle<J: Naming, R: Wait>(
                 let errand = Errand::Unanswered(sending);
                 return Turn { is_begun, errand };
             }
-            Next::Over => {
+            Next::Over(due) => {
                 drop(desk);
                 pool.freed.notify_all();
-                let errand = Errand::Over;
+                let errand = Errand::Over(due);
                 return Turn { is_begun, errand };
             }
         };
@@ -228,9 +273,9 @@ fn settle<J: Naming, R: Wait>(
 }
 
 // The steps of a call that what came back leads to.
-fn hear<J: Naming, R: Wait>(
+fn hear<J: Naming, K: Journal, R: Wait>(
     rt: &R,
-    pool: &Pool<J>,
+    pool: &Pool<J, K>,
     k: usize,
     call: &Call,
     sending: Sending,
@@ -245,9 +290,9 @@ fn hear<J: Naming, R: Wait>(
 
 // The steps of a call where nothing came back that answers what was carried. The link is asked for news
 // without the lock.
-fn go_on_unanswered<J: Naming, R: Wait, L: Link, G: Gate>(
+fn go_on_unanswered<J: Naming, K: Journal, R: Wait, L: Link, G: Gate>(
     rt: &R,
-    pool: &Pool<J>,
+    pool: &Pool<J, K>,
     k: usize,
     call: &Call,
     sending: Sending,
@@ -261,10 +306,46 @@ fn go_on_unanswered<J: Naming, R: Wait, L: Link, G: Gate>(
     settle(rt, pool, desk, k, call, next)
 }
 
-// Runs a call from its first steps to its answer. Gate and link are called without the lock.
-fn serve<J: Naming, R: Wait, L: Link, G: Gate>(
+// Tells an answer as soon as what it names is kept. Where it can't be the run stops, and who waits for a
+// change is woken to see that.
+fn conclude<J: Naming, K: Journal, R: Wait, G: Gate>(
     rt: &R,
-    pool: &Pool<J>,
+    pool: &Pool<J, K>,
+    due: Due,
+    gate: &G,
+) {
+    match pool.keeping.conclude(rt, &pool.desk, due) {
+        Some(leave) => leave.tell(gate),
+        None => {
+            drop(acquire(rt, &pool.desk));
+            pool.freed.notify_all();
+        }
+    }
+}
+
+// What is to be done for a call, unless the run stops: then its request is given up.
+fn unless_stopped<J: Naming, K: Journal, R: Wait>(
+    rt: &R,
+    pool: &Pool<J, K>,
+    errand: Errand,
+) -> Errand {
+    if !pool.keeping.is_stopped() {
+        return errand;
+    }
+    match errand {
+        Errand::Carry(sending) | Errand::Unanswered(sending) => {
+            acquire(rt, &pool.desk).abandon(sending);
+            Errand::Stopped
+        }
+        Errand::Over(due) => Errand::Over(due),
+        Errand::Stopped => Errand::Stopped,
+    }
+}
+
+// Runs a call from its first steps to its answer. Gate, link and journal are called without the lock.
+fn serve<J: Naming, K: Journal, R: Wait, L: Link, G: Gate>(
+    rt: &R,
+    pool: &Pool<J, K>,
     k: usize,
     call: &Call,
     first: Turn,
@@ -278,9 +359,10 @@ fn serve<J: Naming, R: Wait, L: Link, G: Gate>(
         if is_begun {
             worker.gate.begun(k);
         }
-        turn = match errand {
-            Errand::Over => {
-                worker.gate.answered(k);
+        turn = match unless_stopped(rt, pool, errand) {
+            Errand::Stopped => return,
+            Errand::Over(due) => {
+                conclude(rt, pool, due, worker.gate);
                 return;
             }
             Errand::Carry(sending) => {
@@ -295,17 +377,20 @@ fn serve<J: Naming, R: Wait, L: Link, G: Gate>(
     unreachable!()
 }
 
-// What a worker does: it takes calls until none is left. A call is taken, admitted and asked for its first
-// operation under one taking of the lock.
-fn work<J: Naming, R: Wait, L: Link, G: Gate>(
+// What a worker does: it takes calls until none is left, or the run stops. A call is taken, admitted and
+// asked for its first operation under one taking of the lock.
+fn work<J: Naming, K: Journal, R: Wait, L: Link, G: Gate>(
     rt: &R,
-    pool: &Pool<J>,
+    pool: &Pool<J, K>,
     calls: &[Call],
     worker: &Worker<L, G>,
 )
     requires { calls.now ≡ J.calls }
 {
     for _ in calls {
+        if pool.keeping.is_stopped() {
+            return;
+        }
         let mut desk = acquire(rt, &pool.desk);
         let Some(k) = desk.take() else {
             return;
@@ -320,14 +405,13 @@ fn work<J: Naming, R: Wait, L: Link, G: Gate>(
 }
 
 // Starts the workers and joins them. Answers how many were started.
-fn work_all<J: Naming + Send + Sync, R: Threads + Wait + Sync, L: Link + Sync, G: Gate + Sync>(
-    rt: &R,
-    pool: &Pool<J>,
-    calls: &[Call],
-    workers: usize,
-    link: &L,
-    gate: &G,
-) -> usize
+fn work_all<
+    J: Naming + Send + Sync,
+    K: Journal + Send,
+    R: Threads + Wait + Sync,
+    L: Link + Sync,
+    G: Gate + Sync,
+>(rt: &R, pool: &Pool<J, K>, calls: &[Call], workers: usize, link: &L, gate: &G) -> usize
     requires { calls.now ≡ J.calls }
 {
     thread::scope(
@@ -366,21 +450,25 @@ fn are_tries(tries: u64) -> bool
     (1..=MOST_TRIES).contains(&tries)
 }
 
-// The run, under a name for its first state and its calls.
-fn run_named<J: Naming + Send + Sync, R: Threads + Wait + Sync, L: Link + Sync, G: Gate + Sync>(
-    rt: &R,
+// What a run takes with it.
+pub(crate) struct Prepared {
+    pub(crate) state: TcState,
+    pub(crate) answers: Vec<Answer>,
+    pub(crate) progress: Vec<Progress>,
+}
+
+// The state, and room for what becomes of each call.
+pub(crate) fn prepare(
     alloc: Global,
     state: TcState,
     calls: &[Call],
     workers: usize,
     tries: u64,
-    link: &L,
-    gate: &G,
-) -> Result<Report, RunFault>
-    requires state { state ≡ J.start }
-    requires calls { calls.now ≡ J.calls }
-    ensures report { IfOk result (λ r. Reports J.start J.calls r.state r.answers.items) }
-    ensures fault { IfErr result (λ f. state_of f ≡ J.start) }
+) -> Result<Prepared, RunFault>
+    ensures state { IfOk result (λ p. p.state ≡ state) }
+    ensures answers { IfOk result (λ p. (p.answers.items ≡ []) × (length calls.now ≤ vec_capacity p.answers)) }
+    ensures progress { IfOk result (λ p. p.progress.items ≡ replicate (length calls.now) Progress.Waiting) }
+    ensures fault { IfErr result (λ f. state_of f ≡ state) }
     ensures which { MatchResult result (λ _. InRange workers tries) (λ f. FaultFits workers tries f) }
 {
     if !are_workers(workers) {
@@ -395,39 +483,138 @@ fn run_named<J: Naming + Send + Sync, R: Threads + Wait + Sync, L: Link + Sync, 
     let Ok(progress) = all_waiting(alloc, calls.len()) else {
         return Err(RunFault::Memory(state));
     };
-    let pool: Pool<J> = Pool {
-        desk: Mutex::new(Desk::new(state, progress, tries)),
+    Ok(Prepared {
+        state,
+        answers,
+        progress,
+    })
+}
+
+// What came of a run.
+pub(crate) enum Ran {
+    Done(Report),
+    // No worker could be started.
+    NoThread(TcState),
+    // Something wasn't kept.
+    Stopped(TcState),
+}
+
+// The run from the desk on, and the journal behind it.
+pub(crate) fn run_over<
+    J: Naming + Send + Sync,
+    K: Journal + Send,
+    R: Threads + Wait + Sync,
+    L: Link + Sync,
+    G: Gate + Sync,
+>(
+    rt: &R,
+    desk: Desk<J>,
+    keeping: Keeping<J, K>,
+    calls: &[Call],
+    answers: Vec<Answer>,
+    workers: usize,
+    link: &L,
+    gate: &G,
+) -> (Keeper<J, K>, Ran)
+    requires calls { calls.now ≡ J.calls }
+    requires empty { answers.items ≡ [] }
+    requires room { length J.calls ≤ vec_capacity answers }
+    ensures ran { RanFits J.start J.calls J.keeps result.1 }
+    ensures kept { RanKeeps K.has_kept J.before J.start.events J.keeps result.1 result.0 }
+{
+    let pool = Pool {
+        desk: Mutex::new(desk),
         freed: Condvar::new(),
+        keeping,
     };
     let started = work_all(rt, &pool, calls, workers, link, gate);
-    let Pool { desk, freed: _ } = pool;
+    let Pool {
+        desk,
+        freed: _,
+        keeping,
+    } = pool;
     let desk = desk.into_inner();
+    let mut keeper = keeping.into_keeper();
     if started == 0 && !desk.is_touched() {
-        return Err(RunFault::NoThread(desk.into_state()));
+        let ran = Ran::NoThread(desk.into_state());
+        return (keeper, ran);
     }
     let worker = Worker {
         number: 0,
         link,
         gate,
     };
-    Ok(finished(rt, desk, calls, answers, &worker))
+    let ran = finished(rt, desk, calls, answers, &worker, &mut keeper);
+    (keeper, ran)
 }
 
-// The report, once each call that has no answer yet has one.
-fn finished<J: Naming, R: Wait, L: Link, G: Gate>(
+// The report, once each call that has no answer yet has one, and all is kept.
+fn finished<J: Naming, K: Journal, R: Wait, L: Link, G: Gate>(
     rt: &R,
     mut desk: Desk<J>,
     calls: &[Call],
     answers: Vec<Answer>,
     worker: &Worker<L, G>,
-) -> Report
+    keeper: &mut Keeper<J, K>,
+) -> Ran
     requires calls { calls.now ≡ J.calls }
     requires empty { answers.items ≡ [] }
     requires room { length J.calls ≤ vec_capacity answers }
-    ensures { Reports J.start J.calls result.state result.answers.items }
+    ensures ran { RanFits J.start J.calls J.keeps result }
+    ensures kept { RanKeeps K.has_kept J.before J.start.events J.keeps result keeper.new }
 {
-    finish_all(rt, &mut desk, calls, worker);
-    desk.close(answers)
+    match finish_and_keep(rt, &mut desk, calls, worker, keeper) {
+        Ok(()) => Ran::Done(desk.close(answers)),
+        Err(stopped) => Ran::Stopped(halted_by(desk, stopped)),
+    }
+}
+
+// The state of a run that stops.
+fn halted_by<J: Naming>(desk: Desk<J>, _stopped: Stopped<J>) -> TcState
+    ensures { (J.keeps ≡ true) × HasGoneOn J.start result }
+{
+    desk.halted()
+}
+
+// The run without a journal, under a name for its first state and its calls.
+fn run_named<J: Naming + Send + Sync, R: Threads + Wait + Sync, L: Link + Sync, G: Gate + Sync>(
+    rt: &R,
+    alloc: Global,
+    state: TcState,
+    calls: &[Call],
+    workers: usize,
+    tries: u64,
+    link: &L,
+    gate: &G,
+    opened: Opened,
+) -> Result<Report, RunFault>
+    requires state { state ≡ J.start }
+    requires calls { calls.now ≡ J.calls }
+    requires keeps { J.keeps ≡ false }
+    requires before { (events : List EventValue) → J.before events → ⊥ }
+    requires book { opened.seen.book ≡ J.book }
+    ensures report { IfOk result (λ r. Reports J.start J.calls r.state r.answers.items) }
+    ensures fault { IfErr result (λ f. state_of f ≡ J.start) }
+    ensures which { MatchResult result (λ _. InRange workers tries) (λ f. FaultFits workers tries f) }
+{
+    let (count, handed) = opened.named::<J>();
+    let Prepared {
+        state,
+        answers,
+        progress,
+    } = prepare(alloc, state, calls, workers, tries)?;
+    let events = state.log().len();
+    let batch = Batch::new(alloc);
+    let keeper = Keeper::new(NoJournal, false, count, handed.again(), events, batch);
+    let desk = Desk::new(state, progress, tries, handed);
+    let keeping = Keeping::new(keeper, false);
+    let (keeper, ran) = run_over(rt, desk, keeping, calls, answers, workers, link, gate);
+    let _journal = keeper.into_journal();
+    match ran {
+        Ran::Done(report) => Ok(report),
+        Ran::NoThread(state) => Err(RunFault::NoThread(state)),
+        Ran::Stopped(_) => unreachable!(),
+    }
 }
 
 /// Runs the calls by so many workers, each call to its answer, and a request that isn't answered is
@@ -456,5 +643,15 @@ pub fn run<R: Threads + Wait + Sync, L: Link + Sync, G: Gate + Sync>(
     ensures fault { IfErr result (λ f. state_of f ≡ state) }
     ensures which { MatchResult result (λ _. InRange workers tries) (λ f. FaultFits workers tries f) }
 {
-    run_named::<Brand, R, L, G>(rt, alloc, state, calls, workers, tries, link, gate)
+    run_named::<Brand, R, L, G>(
+        rt,
+        alloc,
+        state,
+        calls,
+        workers,
+        tries,
+        link,
+        gate,
+        Opened::new(),
+    )
 }

@@ -3,12 +3,12 @@ use Rattle.std.specs.Prelude.{ℕ, List}
 use Rattle.worker_pool.specs.declared.answer.Progress.{Progress}
 use Rattle.worker_pool.specs.declared.desk.Next.{Next}
 use Rattle.worker_pool.specs.declared.desk.Next.TheVariants.{Begun, Carry, Unanswered, Busy, Over}
-use Rattle.worker_pool.specs.Joining.Seen.{IsAnswered, AnswersStay}
+use Rattle.worker_pool.specs.Joining.Seen.{IsAnswered, AnswersStay, IsDue}
 
--- answers stay, and where nothing is left to do the call is answered
+-- answers stay, and where nothing is left to do the call is answered, and that is due
 abbrev pub MovesOn : List Progress → List Progress → ℕ → Next → Type 0
 MovesOn old new k Begun = AnswersStay old new
 MovesOn old new k (Carry sending) = AnswersStay old new
 MovesOn old new k (Unanswered sending) = AnswersStay old new
 MovesOn old new k Busy = AnswersStay old new
-MovesOn old new k Over = IsAnswered new k × AnswersStay old new
+MovesOn old new k (Over due) = IsAnswered new k × AnswersStay old new × IsDue new k due

@@ -1,4 +1,4 @@
-use Rattle.std.proofs.Common.{◌≡◌, ◌∙◌, Some, None, true, false, Bool, sym, ap, inl, inr, get_or}
+use Rattle.std.proofs.Common.{◌≡◌, ◌∙◌, true, false, sym, ap, inl, inr, get_or}
 use Rattle.std.proofs.lemmas.Option.{get_or_from_slice_get}
 use Rattle.worker_pool.specs.declared.answer.Progress.TheVariants.{Waiting, Answered}
 use Rattle.worker_pool.proofs.Steps.{is_answered}

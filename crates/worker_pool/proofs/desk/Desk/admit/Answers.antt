@@ -1,10 +1,12 @@
-use Rattle.std.proofs.Common.{◌≡◌, ◌∙◌, ◌<◌, Some, None, slice_get, refl, ap, sym, subst, false, true, inl, inr}
+use Rattle.std.proofs.Common.{◌≡◌, ◌∙◌, Some, slice_get, refl, ap, subst}
 use Rattle.worker_pool.specs.Joining.Seen.{Seen}
 use Rattle.tc_core.specs.Admission.{call_of}
 use Rattle.worker_pool.specs.Answers.{AdmitRefusalFits}
 use Rattle.worker_pool.specs.declared.answer.Progress.TheVariants.{Waiting, Begun}
 use Rattle.worker_pool.proofs.Steps.{admitted_one, answers_stay}
 use Rattle.worker_pool.proofs.Refusing.{refused}
+use Rattle.tc_log.specs.declared.event.Event.TheVariants.{Admit}
+use Rattle.worker_pool.proofs.Grown.{handed_more}
 use Rattle.worker_pool.proofs.desk.Desk.admit.Goals as goal
 
 pub invariant_of-self : goal.invariant_of-self
@@ -13,7 +15,8 @@ invariant_of-self g c =
     let at : slice_get ss c.args.k ≡ Some Waiting = ap (λ (v : Seen). slice_get v.progress c.args.k) c.self.view_is ∙ c.requires.waits in (
       rw c.in-Ok.ensures.state (admitted_one g.J.Naming.start g.J.Naming.calls c.self.inside.state ss c.args.k c.in-Ok.txn c.args.call.now
           c.self.invariant.0 at c.requires.call c.in-Ok.ensures.admitted.takes c.in-Ok.ensures.ok),
-      λ bad. (cc),
+      (λ bad. (cc)),
+      rw c.in-Ok.ensures.state (handed_more g.J.Naming.start c.self.inside.handed c.self.inside.copied c.self.inside.state (Admit c.in-Ok.txn.serial c.args.call.now.proc c.args.call.now.args.items) c.self.invariant.2),
     )
 
 pub returns-in-Ok-clause-ok : goal.returns-in-Ok-clause-ok

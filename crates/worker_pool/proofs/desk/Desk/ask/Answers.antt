@@ -1,13 +1,13 @@
-use Rattle.std.proofs.Common.{◌≡◌, ◌∙◌, ◌<◌, Some, None, slice_get, refl, ap, sym, subst, false, true, inl, inr}
+use Rattle.std.proofs.Common.{◌≡◌, ◌∙◌, Some, slice_get, ap}
 use Rattle.worker_pool.specs.Joining.Seen.{Seen}
-use Rattle.worker_pool.specs.Doubts.{IsGoing}
 use Rattle.worker_pool.specs.declared.answer.Progress.TheVariants.{Begun}
 use Rattle.worker_pool.proofs.Steps.{asked}
 use Rattle.worker_pool.proofs.Doubtful.{going}
+use Rattle.worker_pool.proofs.Grown.{handed_asked}
 use Rattle.worker_pool.proofs.desk.Desk.ask.Goals as goal
 
 pub invariant_of-self : goal.invariant_of-self
-invariant_of-self g c = (rw c.ask.ensures.state (asked g.J.Naming.start g.J.Naming.calls c.self.inside.state c.self.inside.progress.items c.ask.result c.self.invariant.0), λ bad. (cc))
+invariant_of-self g c = (rw c.ask.ensures.state (asked g.J.Naming.start g.J.Naming.calls c.self.inside.state c.self.inside.progress.items c.ask.result c.self.invariant.0), (λ bad. (cc)), rw c.ask.ensures.state (handed_asked g.J.Naming.start c.self.inside.handed c.self.inside.copied c.self.inside.state c.ask.result c.self.invariant.2))
 
 pub returns-clause-going : goal.returns-clause-going
 returns-clause-going g c =

@@ -1,10 +1,9 @@
-use Rattle.std.proofs.Common.{◌≡◌, ◌∙◌, ◌<◌, Some, None, slice_get, refl, ap, sym, subst, false, true, inl, inr}
+use Rattle.std.proofs.Common.{◌≡◌, ◌∙◌, Some, slice_get, refl, ap, sym, subst}
 use Rattle.worker_pool.specs.Joining.Seen.{Seen}
 use Rattle.worker_pool.specs.Doubts.{IsDoubtful}
 use Rattle.worker_pool.specs.declared.answer.Answer.TheVariants.{InDoubt}
 use Rattle.worker_pool.specs.declared.answer.Progress.TheVariants.{Begun, Answered}
-use Rattle.worker_pool.proofs.Doubtful.{doubtful_sent}
-use Rattle.worker_pool.proofs.Steps.{told, in_doubt_fits, answers_stay, now_answered}
+use Rattle.worker_pool.proofs.Steps.{told, in_doubt_fits, answers_stay, now_answered, now_due}
 use Rattle.worker_pool.proofs.desk.Desk.doubt.Goals as goal
 
 pub invariant_of-self : goal.invariant_of-self
@@ -16,7 +15,8 @@ invariant_of-self g c =
     let begun = c.self.invariant.0.fits c.args.k (Begun c.args.txn) c.args.call.now at c.requires.call in (
       told g.J.Naming.start g.J.Naming.calls state ss c.args.k (Begun c.args.txn) (Answered (InDoubt c.args.number) (Some c.args.txn)) c.args.call.now
           c.self.invariant.0 at c.requires.call (in_doubt_fits g.J.Naming.start state c.args.call.now c.args.txn c.args.number begun doubt) refl refl refl,
-      λ bad. (cc),
+      (λ bad. (cc)),
+      c.self.invariant.2,
     )
 
 pub returns : goal.returns
@@ -25,4 +25,5 @@ returns g c =
     let at : slice_get ss c.args.k ≡ Some (Begun c.args.txn) = ap (λ (v : Seen). slice_get v.progress c.args.k) c.self.view_is ∙ c.requires.begun in (
       now_answered ss c.args.k (Begun c.args.txn) (InDoubt c.args.number) (Some c.args.txn) at,
       rw (← c.self.view_is) (answers_stay ss c.args.k (Begun c.args.txn) (Answered (InDoubt c.args.number) (Some c.args.txn)) at refl),
+      now_due ss c.args.k (Begun c.args.txn) (InDoubt c.args.number) (Some c.args.txn) c.due_for.result at c.due_for.ensures.call c.due_for.ensures.place,
     )

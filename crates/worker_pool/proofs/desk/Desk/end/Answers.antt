@@ -1,12 +1,9 @@
-use Rattle.std.proofs.Common.{◌≡◌, ◌∙◌, ◌<◌, Some, None, slice_get, refl, ap, sym, subst, false, true, inl, inr}
+use Rattle.std.proofs.Common.{◌≡◌, ◌∙◌, Some, slice_get, refl, ap, sym}
 use Rattle.tc_core.specs.Replies.{end_of}
 use Rattle.worker_pool.specs.Joining.Seen.{Seen}
-use Rattle.worker_pool.specs.declared.answer.Progress.{Progress}
 use Rattle.worker_pool.specs.declared.answer.Progress.TheVariants.{Begun, Answered}
-use Rattle.worker_pool.specs.declared.answer.Answer.{Answer}
-use Rattle.worker_pool.specs.Kept.{Keeps}
-use Rattle.worker_pool.proofs.Steps.{ended_by, answers_stay, now_answered}
-use Rattle.std.proofs.Math.ListN.{set}
+use Rattle.worker_pool.proofs.Steps.{ended_by, answers_stay, now_answered, now_due}
+use Rattle.worker_pool.proofs.Grown.{handed_ended}
 use Rattle.worker_pool.proofs.desk.Desk.end.Goals as goal
 
 pub invariant_of-self : goal.invariant_of-self
@@ -14,15 +11,17 @@ invariant_of-self g c =
     let ss = c.self.inside.progress.items in
     let state = c.self.inside.state in
     let at : slice_get ss c.args.k ≡ Some (Begun c.args.txn) = ap (λ (v : Seen). slice_get v.progress c.args.k) c.self.view_is ∙ c.requires.begun in (
-      rw c.answer_for.ensures (ended_by g.J.Naming.start g.J.Naming.calls state c.end.new.self ss c.args.k c.args.txn c.args.call.now c.in-Ok.receipt (end_of state c.args.txn.serial)
+      rw c.answer_for-answer.ensures (ended_by g.J.Naming.start g.J.Naming.calls state c.end.new.self ss c.args.k c.args.txn c.args.call.now c.in-Ok.receipt (end_of state c.args.txn.serial)
           c.self.invariant.0 at c.requires.call (sym c.in-Ok.is ∙ c.end.ensures.reply) c.end.ensures.state),
-      λ bad. (cc),
+      (λ bad. (cc)),
+      rw c.end.ensures.state (handed_ended g.J.Naming.start c.self.inside.handed c.self.inside.copied c.self.inside.state c.args.txn.serial (end_of state c.args.txn.serial) c.self.invariant.2),
     )
 
 pub returns : goal.returns
 returns g c =
     let ss = c.self.inside.progress.items in
     let at : slice_get ss c.args.k ≡ Some (Begun c.args.txn) = ap (λ (v : Seen). slice_get v.progress c.args.k) c.self.view_is ∙ c.requires.begun in (
-      now_answered ss c.args.k (Begun c.args.txn) c.answer_for.result (Some c.args.txn) at,
-      rw (← c.self.view_is) (answers_stay ss c.args.k (Begun c.args.txn) (Answered c.answer_for.result (Some c.args.txn)) at refl),
+      now_answered ss c.args.k (Begun c.args.txn) c.answer_for-answer.result (Some c.args.txn) at,
+      rw (← c.self.view_is) (answers_stay ss c.args.k (Begun c.args.txn) (Answered c.answer_for-answer.result (Some c.args.txn)) at refl),
+      now_due ss c.args.k (Begun c.args.txn) c.answer_for-answer.result (Some c.args.txn) c.due_for.result at c.due_for.ensures.call c.due_for.ensures.place,
     )

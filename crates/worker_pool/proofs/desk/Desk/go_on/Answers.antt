@@ -1,6 +1,5 @@
-use Rattle.std.proofs.Common.{◌≡◌, ◌∙◌, ◌<◌, Some, None, slice_get, refl, ap, sym, subst, false, true, inl, inr}
+use Rattle.std.proofs.Common.{subst, inl, inr}
 use Rattle.worker_pool.specs.Doubts.{IsGoing}
-use Rattle.tc_core.specs.declared.state.Asked.{Asked}
 use Rattle.worker_pool.proofs.desk.Desk.go_on.Goals as goal
 
 pub unreachable-requires : goal.unreachable-requires

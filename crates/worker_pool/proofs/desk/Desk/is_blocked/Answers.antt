@@ -1,4 +1,4 @@
-use Rattle.std.proofs.Common.{None, sym, subst, ap}
+use Rattle.std.proofs.Common.{None, sym, subst}
 use Rattle.history.specs.Calls.{Call}
 use Rattle.tc_core.specs.Admission.{call_of, IsRefused}
 use Rattle.tc_core.specs.declared.state.Refusal.TheVariants.{Busy}

@@ -1,13 +1,14 @@
-use Rattle.std.proofs.Common.{◌≡◌, ◌∙◌, refl, ap, sym, subst, false, true, inl, inr}
+use Rattle.std.proofs.Common.{◌≡◌, ◌∙◌, ap, subst, inl, inr}
 use Rattle.tc_core.specs.Replies.{ask_reply}
 use Rattle.tc_core.specs.declared.state.Asked.TheVariants.{Undoing}
 use Rattle.worker_pool.specs.Joining.Seen.{Seen}
 use Rattle.worker_pool.proofs.Steps.{undone}
 use Rattle.worker_pool.proofs.Doubtful.{undo_sends, IsRequest}
+use Rattle.worker_pool.proofs.Grown.{handed_undone}
 use Rattle.worker_pool.proofs.desk.Desk.undo.Goals as goal
 
 pub invariant_of-self : goal.invariant_of-self
-invariant_of-self g c = (rw c.undo_next.ensures.state (undone g.J.Naming.start g.J.Naming.calls c.self.inside.state c.self.inside.progress.items c.undo_next.result c.self.invariant.0), λ bad. (cc))
+invariant_of-self g c = (rw c.undo_next.ensures.state (undone g.J.Naming.start g.J.Naming.calls c.self.inside.state c.self.inside.progress.items c.undo_next.result c.self.invariant.0), (λ bad. (cc)), rw c.undo_next.ensures.state (handed_undone g.J.Naming.start c.self.inside.handed c.self.inside.copied c.self.inside.state c.undo_next.result c.self.invariant.2))
 
 pub unreachable-requires : goal.unreachable-requires
 unreachable-requires g c =

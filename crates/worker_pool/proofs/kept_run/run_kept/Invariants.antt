@@ -1,0 +1,5 @@
+use Rattle.std.proofs.Common.{true}
+use Rattle.worker_pool.proofs.kept_run.run_kept.Given as goal
+
+abbrev pub ghosts-run_kept_named : goal.ghosts-run_kept_named
+ghosts-run_kept_named g a = record { start = a.state; calls = a.calls.now; keeps = true; before = g.K.Journal.has_kept a.journal; book = a.opened.seen.book }

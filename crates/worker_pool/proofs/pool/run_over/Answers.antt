@@ -1,0 +1,6 @@
+use Rattle.std.proofs.Common.{◌∙◌, sym}
+use Rattle.worker_pool.proofs.pool.run_over.Goals as goal
+
+pub returns-then-not-is_touched-clause-ran : goal.returns-then-not-is_touched-clause-ran
+returns-then-not-is_touched-clause-ran g c =
+    c.into_state.ensures ∙ c.is_touched.ensures.start (sym c.if-not-is_touched.ensures.touched)

@@ -1,0 +1,52 @@
+-- What a desk hands over to be kept: how batches of it are counted, and where they stand in the log.
+use Rattle.std.specs.Prelude.{◌≡◌, ◌==◌, ◌+◌, ◌<◌, ℕ, Bool, true, List, [], ◌∷◌, ◌++◌, length, reverse, Option, Some, None, MatchBool}
+use Rattle.logbook.specs.Pages.{Cell, Step, View, Book, Named}
+use Rattle.tc_log.specs.declared.event.Event.{Event}
+use Rattle.history.specs.Places.{Begins}
+
+-- the events of these batches, in order
+abbrev pub events_of : List (List Event) → List Event
+events_of [] = []
+events_of (b ∷ bs) = b ++ events_of bs
+
+-- the first word is the number of batches. A book has two words, of which this one leaves the second at 0
+pub record IsCounted (cells : List Cell) (log : List (List Event)) : Type 0 where
+  pub words : cells ≡ (length log, true) ∷ (0, true) ∷ []
+
+abbrev pub head_of : Book → Named
+head_of b = record { tracked = true; key = 0; book = b }
+
+-- the batch was added to all that had been seen; or there are more, and so many were found
+abbrev pub Adds : Step (List Event) → View (List Event) ℕ → ℕ → View (List Event) ℕ → Type 0
+Adds s v found w = MatchBool (found == s.old) (w.0 ≡ v.0 ++ s.ask ∷ []) (length w.0 ≡ found)
+
+-- the log begins with the first one, and then has all that was handed over; these are so many events together
+pub record IsHanded (first : List Event) (batches : List (List Event)) (count : ℕ) (h : List Event) : Type 0 where
+  pub begins : Begins (reverse (events_of batches) ++ first) h
+  pub count_is : count ≡ length first + length (events_of batches)
+
+-- what contracts see of who keeps events: the journal, what was handed over when it kept something last, what was copied last, and whether
+-- nothing went wrong
+pub record Shelf (K : Type 0) : Type 0 where
+  pub journal : K
+  pub handed : List (List Event)
+  pub batch : List Event
+  pub is_sound : Bool
+
+-- it is below the number, where there is one
+abbrev pub IsBelow : Option ℕ → ℕ → Type 0
+IsBelow None count = Unit {0}
+IsBelow (Some place) count = place < count
+
+-- the place is that of an event of the first log, or of one that was handed over
+abbrev pub IsWithin : List Event → Option ℕ → List (List Event) → Type 0
+IsWithin first place batches = IsBelow place (length first + length (events_of batches))
+
+-- the same of a holder that may have seen nothing
+abbrev pub IsWithinSeen : List Event → Option ℕ → Option (List (List Event)) → Type 0
+IsWithinSeen first place None = ⊥
+IsWithinSeen first place (Some batches) = IsWithin first place batches
+
+-- behind whatever it had kept before, the journal has kept the events of these batches
+abbrev pub HasAll : {K : Type 0} → (K → List Event → Type 0) → (List Event → Type 0) → K → List (List Event) → Type 0
+HasAll has before journal batches = (events : List Event) → before events → has journal (events ++ events_of batches)

@@ -1,0 +1,34 @@
+-- What a journal has kept behind a run, and why a run with one ends without a report.
+use Rattle.std.specs.Prelude.{◌≡◌, ℕ, List, ◌++◌, reverse}
+use Rattle.tc_log.specs.declared.event.Event.{Event}
+use Rattle.history.specs.Places.{Begins}
+use Rattle.transactions.specs.Legal.{Legal}
+use Rattle.tc_core.specs.Core.{Core}
+use Rattle.worker_pool.specs.declared.kept_run.KeptFault.{KeptFault}
+use Rattle.worker_pool.specs.declared.kept_run.KeptFault.TheVariants.{Unbegun, NotKept}
+use Rattle.worker_pool.specs.Answers.{StaysBut}
+use Rattle.worker_pool.specs.Faults.{state_of, InRange, FaultFits}
+
+-- behind whatever the journal had kept before it has kept what the log has behind the first one, the oldest event first. A log is read
+-- with its newest event first
+pub record HasKept {K : Type 0} (has : K → List Event → Type 0) (before : List Event → Type 0) (journal : K)
+    (first now : List Event) : Type 0 where
+  pub behind : List Event
+  pub log : now ≡ reverse behind ++ first
+  pub kept : (events : List Event) → before events → has journal (events ++ behind)
+
+-- what happened before is still there, the log is legal, and procedures and all else are those handed in
+pub record HasGoneOn (start now : Core) : Type 0 where
+  pub stays : StaysBut start now
+  pub begins : Begins start.events now.events
+  pub legal : Legal now.procs now.events
+
+-- the state that is handed back
+abbrev pub kept_state_of : KeptFault → Core
+kept_state_of (Unbegun fault) = state_of fault
+kept_state_of (NotKept now) = now
+
+-- when each fault comes, and what is known of the state that is handed back
+abbrev pub KeptFaultFits : Core → ℕ → ℕ → KeptFault → Type 0
+KeptFaultFits start workers tries (Unbegun fault) = (state_of fault ≡ start) × FaultFits workers tries fault
+KeptFaultFits start workers tries (NotKept now) = InRange workers tries × HasGoneOn start now

@@ -1,0 +1,101 @@
+// Copies of events, which are written without the lock under which the events lie.
+
+ghost use Rattle.std.specs.Prelude.{◌≡◌, ◌++◌, ◌∷◌, reverse, IfOk, OnOk};
+
+use std::alloc::{AllocError, Global};
+use std::marker::Model;
+use tc_log::event::{Args, Event};
+use tc_log::log::Log;
+
+/// Copies of events, as a log of their own. Contracts see them as a list, the oldest event first.
+#[derive(Drop)]
+pub struct Batch {
+    alloc: Global,
+    log: Log,
+}
+
+impl Model for Batch {
+    ghost use Rattle.std.specs.Prelude.{List, reverse};
+    ghost use Rattle.tc_log.specs.declared.event.Event.{Event};
+
+    ghost Value = { List Event };
+
+    ghost view = { λ b. reverse b.log.events };
+}
+
+impl Batch {
+    /// No event yet. It takes no memory.
+    pub fn new(alloc: Global) -> Batch {
+        Batch {
+            alloc,
+            log: Log::new(alloc),
+        }
+    }
+
+    /// The events.
+    pub fn log(&self) -> &Log
+        ensures { reverse result.now.events ≡ self.now }
+    {
+        &self.log
+    }
+
+    /// Copies of these events in place of those that there are.
+    pub fn fill(&mut self, events: &[Event]) -> Result<(), AllocError>
+        ensures { OnOk result (self.new ≡ events.now) }
+    {
+        self.log = Log::new(self.alloc);
+        self.log.reserve(events.len())?;
+        copy_events(self.alloc, events, &mut self.log)
+    }
+}
+
+/// Adds copies of these events.
+pub(crate) fn copy_events(alloc: Global, events: &[Event], out: &mut Log) -> Result<(), AllocError>
+    ensures { OnOk result (reverse out.new.events ≡ reverse out.old.events ++ events.now) }
+{
+    'events: for event in events {
+        add(out, copy_of(alloc, event)?)?;
+    }
+    Ok(())
+}
+
+// One event more.
+fn add(out: &mut Log, event: Event) -> Result<(), AllocError>
+    ensures { OnOk result (out.new.events ≡ event ∷ out.old.events) }
+{
+    out.reserve(1)?;
+    out.push(event);
+    Ok(())
+}
+
+// The same event.
+fn copy_of(alloc: Global, event: &Event) -> Result<Event, AllocError>
+    ensures { IfOk result (λ copy. copy ≡ event.now) }
+{
+    Ok(match event {
+        Event::Admit { txn, proc, args } => Event::Admit {
+            txn: *txn,
+            proc: *proc,
+            args: Args::copy_of(alloc, args.as_slice())?,
+        },
+        Event::Ask { txn, number, op } => Event::Ask {
+            txn: *txn,
+            number: *number,
+            op: *op,
+        },
+        Event::Answer { txn, number, said } => Event::Answer {
+            txn: *txn,
+            number: *number,
+            said: *said,
+        },
+        Event::Undo { txn, number, op } => Event::Undo {
+            txn: *txn,
+            number: *number,
+            op: *op,
+        },
+        Event::End { txn, outcome } => Event::End {
+            txn: *txn,
+            outcome: *outcome,
+        },
+    })
+}

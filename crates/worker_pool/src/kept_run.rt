@@ -1,0 +1,132 @@
+// A run whose log is kept.
+
+ghost use Rattle.std.specs.Prelude.{◌≡◌, List, true, IfOk, IfErr, OnOk, MatchResult};
+ghost use Rattle.tc_log.specs.declared.event.Event.{Event as EventValue};
+ghost use Rattle.worker_pool.specs.Faults.{InRange};
+ghost use Rattle.worker_pool.specs.Reports.{Reports};
+ghost use Rattle.worker_pool.specs.Journals.{HasKept, KeptFaultFits, kept_state_of};
+
+use crate::batch::Batch;
+use crate::desk::{Desk, Naming};
+use crate::handed::Opened;
+use crate::journal::Journal;
+use crate::keeper::{Keeper, Keeping};
+use crate::pool::{Gate, Link, Prepared, Ran, RunFault, prepare, run_over};
+use crate::report::Report;
+use std::alloc::Global;
+use std::marker::Brand;
+use std::sync::Wait;
+use std::thread::Threads;
+use tc_core::state::{Call, TcState};
+
+/// Why a run whose log is kept has no report. Each hands the state back.
+#[derive(Drop)]
+pub enum KeptFault {
+    /// G1 to G4: no call was begun.
+    Unbegun(RunFault),
+    /// G5: the journal didn't keep what it was given. The state is as it was then: some calls may have ended,
+    /// and some transactions may be open.
+    NotKept(TcState),
+}
+
+impl KeptFault {
+    /// The state.
+    pub fn into_state(self) -> TcState
+        ensures { result ≡ kept_state_of self }
+    {
+        match self {
+            KeptFault::Unbegun(fault) => fault.into_state(),
+            KeptFault::NotKept(state) => state,
+        }
+    }
+}
+
+// The run under a name for its first state, its calls and what its journal had kept.
+fn run_kept_named<
+    J: Naming + Send + Sync,
+    K: Journal + Send,
+    R: Threads + Wait + Sync,
+    L: Link + Sync,
+    G: Gate + Sync,
+>(
+    rt: &R,
+    alloc: Global,
+    state: TcState,
+    calls: &[Call],
+    workers: usize,
+    tries: u64,
+    link: &L,
+    gate: &G,
+    journal: K,
+    opened: Opened,
+) -> (K, Result<Report, KeptFault>)
+    requires state { state ≡ J.start }
+    requires calls { calls.now ≡ J.calls }
+    requires keeps { J.keeps ≡ true }
+    requires before { (events : List EventValue) → J.before events → K.has_kept journal events }
+    requires book { opened.seen.book ≡ J.book }
+    ensures report { IfOk result.1 (λ r. Reports J.start J.calls r.state r.answers.items) }
+    ensures kept { IfOk result.1 (λ r. HasKept K.has_kept J.before result.0 J.start.events r.state.events) }
+    ensures which { MatchResult result.1 (λ _. InRange workers tries) (λ f. KeptFaultFits J.start workers tries f) }
+{
+    let (count, handed) = opened.named::<J>();
+    let prepared = match prepare(alloc, state, calls, workers, tries) {
+        Ok(prepared) => prepared,
+        Err(fault) => return (journal, Err(KeptFault::Unbegun(fault))),
+    };
+    let Prepared {
+        state,
+        answers,
+        progress,
+    } = prepared;
+    let events = state.log().len();
+    let batch = Batch::new(alloc);
+    let keeper = Keeper::new(journal, true, count, handed.again(), events, batch);
+    let desk = Desk::new(state, progress, tries, handed);
+    let keeping = Keeping::new(keeper, true);
+    let (keeper, ran) = run_over(rt, desk, keeping, calls, answers, workers, link, gate);
+    let journal = keeper.into_journal();
+    let ran = match ran {
+        Ran::Done(report) => Ok(report),
+        Ran::NoThread(state) => Err(KeptFault::Unbegun(RunFault::NoThread(state))),
+        Ran::Stopped(state) => Err(KeptFault::NotKept(state)),
+    };
+    (journal, ran)
+}
+
+/// Runs the calls as [`run`](crate::run) does, and keeps the log in a journal, which is handed back.
+///
+/// No answer that names an event is told to the gate before the journal has kept that event, and all before
+/// it; and a report comes once all of the log is kept. Nothing is kept before a wire is carried: that is
+/// enough where the data components end with the process, and not where they outlive it. Events are
+/// written under the journal's own lock, while the state is free: whoever writes does it for all who wait.
+/// Where the journal fails the run stops: no answer is told from then on, workers give up what they wait
+/// for and begin nothing, and the state and the journal are handed back.
+pub fn run_kept<R: Threads + Wait + Sync, L: Link + Sync, G: Gate + Sync, K: Journal + Send>(
+    rt: &R,
+    alloc: Global,
+    state: TcState,
+    calls: &[Call],
+    workers: usize,
+    tries: u64,
+    link: &L,
+    gate: &G,
+    journal: K,
+) -> (K, Result<Report, KeptFault>)
+    ensures report { IfOk result.1 (λ r. Reports state calls.now r.state r.answers.items) }
+    ensures kept { IfOk result.1 (λ r. HasKept K.has_kept (K.has_kept journal) result.0 state.events r.state.events) }
+    ensures which { MatchResult result.1 (λ _. InRange workers tries) (λ f. KeptFaultFits state workers tries f) }
+{
+    run_kept_named::<Brand, K, R, L, G>(
+        rt,
+        alloc,
+        state,
+        calls,
+        workers,
+        tries,
+        link,
+        gate,
+        journal,
+        Opened::new(),
+    )
+}

@@ -1,0 +1,58 @@
+// A journal in memory.
+
+ghost use Rattle.std.specs.Prelude.{◌≡◌, []};
+
+use crate::batch::copy_events;
+use crate::journal::{Journal, NotKept};
+use std::alloc::Global;
+use std::marker::Model;
+use tc_log::event::Event;
+use tc_log::log::Log;
+
+/// A journal in memory, which outlasts a run and no crash. Contracts see it as what it has kept, the oldest
+/// event first.
+#[derive(Drop)]
+pub struct MemoryJournal {
+    alloc: Global,
+    log: Log,
+}
+
+impl Model for MemoryJournal {
+    ghost use Rattle.std.specs.Prelude.{List, reverse};
+    ghost use Rattle.tc_log.specs.declared.event.Event.{Event};
+
+    ghost Value = { List Event };
+
+    ghost view = { λ journal. reverse journal.log.events };
+}
+
+impl MemoryJournal {
+    /// It has kept nothing yet. It takes no memory.
+    pub fn new(alloc: Global) -> MemoryJournal
+        ensures { result ≡ [] }
+    {
+        MemoryJournal {
+            alloc,
+            log: Log::new(alloc),
+        }
+    }
+
+    /// What it has kept, the oldest event first.
+    pub fn events(&self) -> &[Event]
+        ensures { result.now ≡ self.now }
+    {
+        self.log.events()
+    }
+}
+
+impl Journal for MemoryJournal {
+    ghost has_kept = { λ journal events. journal ≡ events };
+
+    /// Only want of memory keeps it from keeping them.
+    fn keep(&mut self, events: &Log) -> Result<(), NotKept> {
+        match copy_events(self.alloc, events.events(), &mut self.log) {
+            Ok(()) => Ok(()),
+            Err(_) => Err(NotKept),
+        }
+    }
+}
