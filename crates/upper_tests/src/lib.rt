@@ -4,6 +4,7 @@
 //! | Module | Tests |
 //! |---|---|
 //! | `log_file_tests` | `log_file`: each truncation and each changed byte of a file, and what is no log |
+//! | `procedure_digest_tests` | `procedure_digest`: digests that another program took |
 //! | `embedding_tests` | `embedding`: a call, a restart and a program by the frame |
 #![tactic(auto)]
 
@@ -11,3 +12,5 @@
 mod embedding_tests;
 #[cfg(test)]
 mod log_file_tests;
+#[cfg(test)]
+mod procedure_digest_tests;

@@ -1,7 +1,7 @@
 use access_slots::op::{News, Op, Said};
 use access_slots::slot::Record;
-use frame_file::{FrameFault, Memory};
-use log_file::{Header, LogFile, Note, OpenFault, Recovered};
+use frame_file::{FrameFault, FrameFile, Memory};
+use log_file::{Header, LogFile, Note, OpenFault, Recovered, Stored, read_file};
 use std::alloc::{AllocError, Global};
 use std::process::Abort;
 use std::test::Fail;
@@ -248,4 +248,52 @@ fn what_is_no_log(rt: HostRuntime) -> Result<(), Fail> {
     let mut rows = log(alloc)?.print(alloc)?;
     rows.extend_from_slice(&[0; 96])?;
     has_fault(&rt, alloc, &[], &rows, Some(OpenFault::Row(4)))
+}
+
+// Whoever wrote it, and with an end that a crash left.
+#[test]
+fn it_is_read_by_itself(rt: HostRuntime) -> Result<(), Fail> {
+    let alloc = rt.alloc();
+    let bytes = written(&rt, alloc)?;
+    let Ok(found) = read_file(alloc, bytes.get(..631).unwrap_or_default()) else {
+        panic!(rt; "refused");
+    };
+    let Stored {
+        header,
+        log,
+        notes,
+        unfinished,
+    } = found;
+    assert_eq!(rt; (header, log.len(), unfinished), (HEADER, 2, 223));
+    assert_eq!(rt;
+        notes.as_slice(),
+        [SiteNote::Untold, SiteNote::Up(3)].as_slice()
+    );
+    Ok(())
+}
+
+// The fault of a file with this payload alone.
+fn fault_of(alloc: Global, payload: &[u8]) -> Option<OpenFault> {
+    let mut file = FrameFile::new(Memory::new(alloc, Vec::new(alloc)));
+    let _read = file.recover(alloc);
+    let _appended = file.append(alloc, payload);
+    read_file(alloc, file.device().bytes()).err()
+}
+
+#[test]
+fn what_is_nobodys_log(rt: HostRuntime) -> Result<(), Fail> {
+    let alloc = rt.alloc();
+    let bytes = written(&rt, alloc)?;
+    let mut header = Vec::from_slice(alloc, bytes.get(24..88).unwrap_or_default())?;
+    assert_eq!(rt; fault_of(alloc, &header), None);
+    assert_eq!(rt;
+        fault_of(alloc, header.get(..63).unwrap_or_default()),
+        Some(OpenFault::Other)
+    );
+    if let Some(byte) = header.get_mut(8) {
+        *byte = 2;
+    }
+    assert_eq!(rt; fault_of(alloc, &header), Some(OpenFault::Other));
+    assert_eq!(rt; read_file(alloc, &[]).err(), Some(OpenFault::Empty));
+    Ok(())
 }
