@@ -1,0 +1,45 @@
+-- One batch of rows more in a journal's file.
+use Rattle.std.proofs.Common.{◌≡◌, ◌∙◌, ◌++◌, ◌∷◌, [], ℕ, List, length, map, refl, ap, ap₂, sym, subst, arith}
+use Rattle.std.specs.Prelude.{◌%◌, ◌<◌}
+use Rattle.std.specs.List.{flat_map}
+use Rattle.std.proofs.lemmas.List.{map-append, append-nil}
+use Rattle.std.proofs.lemmas.List.Elements.{All-nil}
+use Rattle.std.proofs.lemmas.Grind.{flat_map-append}
+use Rattle.tc_log.specs.declared.event.Event.{Event}
+use Rattle.tc_log.specs.Printed.{printed}
+use Rattle.frame_file.specs.Reading.{IsSettled}
+use Rattle.log_file.specs.declared.note.Note.{Note}
+use Rattle.log_file.specs.declared.file.LogFile.{LogFile}
+use Rattle.log_file.specs.declared.header.Header.{Header}
+use Rattle.log_file.specs.Bytes.{Batch, header_bytes, batch_bytes, payloads_of, rows_of}
+use Rattle.log_file.specs.Reading.{IsBatch}
+use Rattle.log_file.proofs.GatheringLemmas.{batches_push}
+use Rattle.log_journal.specs.Keeping.{HasWritten}
+
+-- rows, and nothing that is noted
+abbrev pub of_rows : List ℕ → Batch
+of_rows rows = record { notes = []; rows = rows }
+
+payloads_push : (h : Header) (batches : List Batch) (b : Batch) → payloads_of h (batches ++ b ∷ []) ≡ payloads_of h batches ++ batch_bytes b ∷ []
+payloads_push h batches b = ap (λ (ps : List (List ℕ)). header_bytes h ∷ ps) (map-append batch_bytes batches (b ∷ []))
+
+is_batch : (dcs : ℕ) (rows : List ℕ) → length rows % 96 ≡ 0 → IsBatch dcs (of_rows rows)
+is_batch dcs rows whole = record { notes = tt; count = omega arith; there = All-nil (λ (n : Note). n.dc < dcs); whole = whole }
+
+pub written_push : {D : Type 0} (seen : D → List ℕ) (may_leave : D → List ℕ → Type 0) (h : Header) (file new : LogFile D)
+    (before more : List Event) (rows : List ℕ) → HasWritten seen may_leave h file before → rows ≡ flat_map printed more
+    → length rows % 96 ≡ 0
+    → ((payloads : List (List ℕ)) → IsSettled seen may_leave file.frames payloads
+    → IsSettled seen may_leave new.frames (payloads ++ batch_bytes (of_rows rows) ∷ []))
+    → HasWritten seen may_leave h new (before ++ more)
+written_push seen may_leave h file new before more rows was rows_are whole appended =
+    let b = of_rows rows in
+    record {
+      batches = was.batches ++ b ∷ [];
+      are = batches_push h.dcs was.batches b was.are (is_batch h.dcs rows whole);
+      settled = subst (IsSettled seen may_leave new.frames) (sym (payloads_push h was.batches b)) (appended (payloads_of h was.batches) was.settled);
+      rows = flat_map-append (λ (x : Batch). x.rows) was.batches (b ∷ []) ∙ (ap₂ (λ (l m : List ℕ). l ++ m) was.rows (append-one rows ∙ rows_are) ∙ sym (flat_map-append printed before more));
+    }
+  where
+    append-one : (l : List ℕ) → flat_map (λ (x : Batch). x.rows) (of_rows l ∷ []) ≡ l
+    append-one l = append-nil l

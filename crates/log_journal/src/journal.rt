@@ -1,0 +1,100 @@
+// The journal.
+
+ghost use Rattle.std.specs.Prelude.{◌≡◌, ◌++◌, ℕ, List, drop, reverse, IfOk, IfErr, OnOk};
+ghost use Rattle.tc_log.specs.declared.event.Event.{Event as EventValue};
+ghost use Rattle.frame_file.specs.Device.{Only};
+ghost use Rattle.log_file.specs.declared.header.Header.{Header as HeaderValue};
+ghost use Rattle.log_file.specs.Reading.{IsOpenFault};
+ghost use Rattle.log_journal.specs.Keeping.{HasWritten, IsLogOf};
+
+use frame_file::{Device, FrameFault};
+use log_file::{Header, LogFile, OpenFault, Recovered};
+use std::alloc::Global;
+use tc_log::log::Log;
+use worker_pool::{Journal, NotKept};
+
+// Why a file isn't begun.
+fn not_begun(fault: FrameFault) -> OpenFault
+    ensures { (header : HeaderValue) (file : List ℕ) → IsOpenFault header file result }
+{
+    match fault {
+        FrameFault::Device(error) => OpenFault::Frames(FrameFault::Device(error)),
+        FrameFault::Full | FrameFault::Damaged(_) => OpenFault::Frames(FrameFault::Full),
+    }
+}
+
+/// A journal whose file has the log. Its data components end with the process: nothing is noted of them.
+#[derive(Drop)]
+pub struct LogJournal<D: Device> {
+    alloc: Global,
+    header: Header,
+    file: LogFile<D>,
+}
+
+impl<D: Device + Drop> LogJournal<D> {
+    /// The journal of a file, which is begun where it has no frame, and the log that the file has.
+    pub fn open(alloc: Global, device: D, header: Header) -> Result<(LogJournal<D>, Log), OpenFault>
+        // After a restart, what is read is what is on the disk.
+        requires { Only (D.seen device) (D.may_leave device) }
+        ensures kept { IfOk result (λ r. HasWritten D.seen D.may_leave header r.0.file (reverse r.1.events)) }
+        ensures header { IfOk result (λ r. r.0.header ≡ header) }
+        ensures log { IfOk result (λ r. IsLogOf header (D.seen device) (reverse r.1.events)) }
+        ensures fault { IfErr result (IsOpenFault header (D.seen device)) }
+    {
+        let mut file = LogFile::new(device);
+        let log = match file.open(alloc, &header) {
+            Ok(Recovered { log, notes }) => {
+                drop(notes);
+                log
+            }
+            Err(OpenFault::Empty) => match file.create(alloc, &header) {
+                Ok(()) => Log::new(alloc),
+                Err(fault) => return Err(not_begun(fault)),
+            },
+            Err(fault) => return Err(fault),
+        };
+        Ok((
+            LogJournal {
+                alloc,
+                header,
+                file,
+            },
+            log,
+        ))
+    }
+
+    /// Keeps the events of a log from this place on, the oldest at 0, behind those that it has kept.
+    /// Whatever keeps them from being on the disk, it is told as not kept: the file is to be opened again.
+    pub fn keep_from(&mut self, log: &Log, place: usize) -> Result<(), NotKept>
+        ensures kept { (before : List EventValue) → HasWritten D.seen D.may_leave self.old.header self.old.file before
+            → OnOk result (HasWritten D.seen D.may_leave self.new.header self.new.file (before ++ drop place (reverse log.now.events))) }
+        ensures header { self.new.header ≡ self.old.header }
+    {
+        let Ok(rows) = log.print_from(self.alloc, place) else {
+            return Err(NotKept);
+        };
+        // Each event's row has 96 bytes: a file of others wouldn't be read again.
+        if rows.len() % 96 != 0 {
+            return Err(NotKept);
+        }
+        match self.file.append(self.alloc, &[], &rows) {
+            Ok(()) => Ok(()),
+            Err(_) => Err(NotKept),
+        }
+    }
+
+    /// The device of its file.
+    pub fn device(&self) -> &D
+        ensures { result.now ≡ self.now.file.frames.device }
+    {
+        self.file.device()
+    }
+}
+
+impl<D: Device + Drop> Journal for LogJournal<D> {
+    ghost has_kept = { λ journal events. HasWritten D.seen D.may_leave journal.header journal.file events };
+
+    fn keep(&mut self, events: &Log) -> Result<(), NotKept> {
+        self.keep_from(events, 0)
+    }
+}

@@ -1,0 +1,13 @@
+//! A journal of workers that keeps a transaction component's log in a file: what is kept is on the disk.
+//!
+//! ```text
+//! let (journal, log) = LogJournal::open(alloc, device, header)?;   // begun, if the file is empty
+//! let (journal, ran) = run_kept(&rt, alloc, state, calls, 4, 3, &link, &gate, journal);
+//! ```
+//!
+//! (`log_journal_tests` of `pool_tests` has the tests.)
+#![tactic(auto)]
+
+mod journal;
+
+pub use journal::LogJournal;
