@@ -31,12 +31,13 @@ pub enum Keyword {
     Checkpoint,
     Tell,
     Redo,
+    Crash,
     Forge,
     First,
     Call,
 }
 
-const KEYWORDS: [Keyword; 17] = [
+const KEYWORDS: [Keyword; 18] = [
     Keyword::Dc,
     Keyword::Proc,
     Keyword::Slot,
@@ -51,6 +52,7 @@ const KEYWORDS: [Keyword; 17] = [
     Keyword::Checkpoint,
     Keyword::Tell,
     Keyword::Redo,
+    Keyword::Crash,
     Keyword::Forge,
     Keyword::First,
     Keyword::Call,
@@ -88,6 +90,7 @@ impl Keyword {
             Keyword::Checkpoint => "checkpoint",
             Keyword::Tell => "tell",
             Keyword::Redo => "redo",
+            Keyword::Crash => "crash",
             Keyword::Forge => "forge",
             Keyword::First => "first",
             Keyword::Call => "call",

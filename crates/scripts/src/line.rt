@@ -220,6 +220,7 @@ fn fixed<'a>(keyword: Keyword, is_step: bool, words: &Words<'a>) -> Result<Line<
         Keyword::Checkpoint => Ok(Line::Step(Step::Checkpoint(one_dc(words)?))),
         Keyword::Tell => Ok(Line::Step(Step::Tell(one_number(words)?))),
         Keyword::Redo => Ok(Line::Step(Step::Redo(one_dc(words)?))),
+        Keyword::Crash => Ok(Line::Step(Step::Crash(one_number(words)?))),
         Keyword::Forge => Ok(Line::Step(forge(words)?)),
         Keyword::Admit | Keyword::First | Keyword::Call => Err(ScriptFault::BadLine),
     }

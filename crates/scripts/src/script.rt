@@ -63,6 +63,8 @@ pub enum Step {
     Tell(u64),
     /// The data component of this number.
     Redo(u16),
+    /// When so many events of the log were written.
+    Crash(u64),
     Forge(Reply),
 }
 

@@ -41,7 +41,9 @@ use Rattle.access_slots.specs.declared.op.News.{News}
 use Rattle.tc_core.specs.Lent.{wire_of, wire_by, wire_for}
 use Rattle.tc_core.specs.declared.state.Asked.{Asked}
 use Rattle.tc_core.specs.declared.state.Asked.TheVariants as reply
-use Rattle.tc_core.proofs.KeptLemmas.{slice_get-index, slice_get-short}
+use Rattle.tc_core.specs.Recovery.{first_events}
+use Rattle.tc_world.specs.Recovery.{notes_of}
+use Rattle.tc_world.proofs.ComingBack.{all_at, come_back_listed}
 use Rattle.tc_world.specs.Whole.{Whole}
 use Rattle.tc_world.specs.Marks.{IsFresh}
 use Rattle.tc_world.specs.Steps.{Goes, Stops, Steps, with_core, with_dcs, with_copy, with_reply, told, sends_or_holds, ends_by, resends_wire, resends_sent}
@@ -98,9 +100,6 @@ known_behind : (o p : Outcome) (w v : Whole) → Known v.core → Goes o w ≡ G
 known_behind o p w v known goes = subst (λ (x : Whole). Known x.core) (sym (went o p w v goes)) known
 
 -- ---- lists
-
-all_at : {X : Type 0} (P : X → Type 0) (xs : List X) (k : ℕ) (x : X) → slice_get xs k ≡ Some x → All P xs → P x
-all_at P xs k x at all = subst P (slice_get-index xs k x x at) (all k x (slice_get-short xs k x at))
 
 -- ---- what happens to a world
 
@@ -530,19 +529,21 @@ redoes_listed w v d (Some x) o known at s goes = by x.redo refl goes
             known_up w d (Some z) k = record { legal = k.legal; good = k.good }
 
 -- whatever the step is, but a forged reply
-pub stay_listed : (w v : Whole) (x : Step) (o : Outcome) → Known v.core → is_forge x ≡ false → Steps w x o v → IsListed w → IsListed v
-stay_listed w v (step.Admit call) o known honest goes s = subst IsListed (sym goes.next) (record { honest = (tt, s.honest); ok = s.ok })
-stay_listed w v (step.Ask t) o known honest goes s = asks_listed w v t (ask_reply w.core t) o known s goes
-stay_listed w v (step.Undo t) o known honest goes s = undoes_listed w v t (undo_reply w.core t) o known s goes
-stay_listed w v (step.End t) o known honest goes s = ends_listed w v t (standing w.core.events t) (end_of w.core t) o s goes
-stay_listed w v (step.Resend t) o known honest goes s = resends_listed w v t (standing w.core.events t) o known refl s goes
-stay_listed w v (step.Perform i) o known honest goes s = performs_copy_listed w v i (slice_get w.copies i) o known refl s goes
-stay_listed w v (step.Take i) o known honest goes s = takes_listed w v i (slice_get w.replies i) o known refl s goes
-stay_listed w v (step.Restart d) o known honest goes s = restarts_listed w v d (slice_get w.dcs d) o refl s goes
-stay_listed w v (step.Forge x) o known honest goes s = absurd (let bad : true ≡ false = honest in cc)
-stay_listed w v (step.Checkpoint d) o known honest goes s = checkpoints_listed w v d (slice_get w.dcs d) o refl s goes
-stay_listed w v (step.Tell i) o known honest goes s = tells_listed w v i (slice_get w.news i) o refl s goes
-stay_listed w v (step.Redo d) o known honest goes s = redoes_listed w v d (slice_get w.core.sites d) o known refl s goes
+pub stay_listed : (w v : Whole) (x : Step) (o : Outcome) → Known w.core → Known v.core → is_forge x ≡ false → Steps w x o v → IsListed w → IsListed v
+stay_listed w v (step.Admit call) o was known honest goes s = subst IsListed (sym goes.next) (record { honest = (tt, s.honest); ok = s.ok })
+stay_listed w v (step.Ask t) o was known honest goes s = asks_listed w v t (ask_reply w.core t) o known s goes
+stay_listed w v (step.Undo t) o was known honest goes s = undoes_listed w v t (undo_reply w.core t) o known s goes
+stay_listed w v (step.End t) o was known honest goes s = ends_listed w v t (standing w.core.events t) (end_of w.core t) o s goes
+stay_listed w v (step.Resend t) o was known honest goes s = resends_listed w v t (standing w.core.events t) o known refl s goes
+stay_listed w v (step.Perform i) o was known honest goes s = performs_copy_listed w v i (slice_get w.copies i) o known refl s goes
+stay_listed w v (step.Take i) o was known honest goes s = takes_listed w v i (slice_get w.replies i) o known refl s goes
+stay_listed w v (step.Restart d) o was known honest goes s = restarts_listed w v d (slice_get w.dcs d) o refl s goes
+stay_listed w v (step.Forge x) o was known honest goes s = absurd (let bad : true ≡ false = honest in cc)
+stay_listed w v (step.Checkpoint d) o was known honest goes s = checkpoints_listed w v d (slice_get w.dcs d) o refl s goes
+stay_listed w v (step.Tell i) o was known honest goes s = tells_listed w v i (slice_get w.news i) o refl s goes
+stay_listed w v (step.Redo d) o was known honest goes s = redoes_listed w v d (slice_get w.core.sites d) o known refl s goes
+stay_listed w v (step.Crash n) o was known honest goes s =
+    subst IsListed (sym goes.next) (come_back_listed w (first_events n w.core.events) (notes_of w) was.good was.legal goes.may.written s)
 
 -- ---- a fresh world
 

@@ -23,7 +23,8 @@ use Rattle.tc_world.specs.declared.step.Step.{Step}
 use Rattle.tc_world.specs.declared.step.Outcome.{Outcome}
 use Rattle.tc_world.proofs.Marks.{stay_low, fresh_low}
 use Rattle.tc_world.proofs.Listed.{Known, stay_listed, fresh_listed, one_at_a_time, agrees}
-use Rattle.tc_world.proofs.Recovering.{come_back_legal, come_back_low, come_back_listed, lost_low, lost_listed, start_over_low, start_over_listed}
+use Rattle.tc_world.proofs.ComingBack.{come_back_legal, come_back_low, come_back_listed}
+use Rattle.tc_world.proofs.Recovering.{lost_low, lost_listed, start_over_low, start_over_listed}
 
 -- what each world on the way is
 record Sound (w : Whole) : Type 0 where
@@ -35,7 +36,7 @@ lives : (moves : List Move) (w v : Whole) → Sound w → Lives moves w v → So
 lives [] w v s is = subst Sound (sym is) s
 lives (Takes x ∷ moves) w v s (o, mid, steps, honest, legal, good, rest) =
     let known : Known mid.core = record { legal = legal; good = good } in
-    lives moves mid v (record { known = known; low = stay_low w mid x o legal steps s.low; listed = stay_listed w mid x o known honest steps s.listed }) rest
+    lives moves mid v (record { known = known; low = stay_low w mid x o legal steps s.low; listed = stay_listed w mid x o s.known known honest steps s.listed }) rest
 lives (Loses xs rs ns ∷ moves) w v s (wires, replies, news, rest) =
     lives moves (left_with xs rs ns w) v
     (record {

@@ -33,7 +33,6 @@ use Rattle.tc_core.specs.declared.state.Down.{Down}
 use Rattle.tc_core.specs.declared.state.NewsFault.{NewsFault}
 use Rattle.tc_core.specs.declared.state.NewsFault.TheVariants as fault
 use Rattle.tc_core.specs.declared.state.Redo.TheVariants as redo
-use Rattle.tc_core.proofs.KeptLemmas.{slice_get-index, slice_get-short}
 use Rattle.tc_world.specs.Whole.{Whole}
 use Rattle.tc_world.specs.Marks.{IsLow, AreMarksLow, IsFresh, IsOpenAboveMarks}
 use Rattle.tc_world.specs.Steps.{Goes, Stops, Steps, with_core, with_dcs, with_copy, with_reply, with_news, told, sends_or_holds, ends_by}
@@ -44,6 +43,9 @@ use Rattle.tc_world.specs.declared.step.Step.{Step}
 use Rattle.tc_world.specs.declared.step.Step.TheVariants as step
 use Rattle.tc_world.specs.declared.step.Outcome.{Outcome}
 use Rattle.tc_world.specs.declared.step.Illegal.{Illegal}
+use Rattle.tc_core.specs.Recovery.{first_events}
+use Rattle.tc_world.specs.Recovery.{notes_of}
+use Rattle.tc_world.proofs.ComingBack.{all_at, come_back_low}
 
 pub went : (o p : Outcome) (w v : Whole) → Goes o w ≡ Goes p v → w ≡ v
 went o p w v goes = cc
@@ -59,9 +61,6 @@ LegalCore c = Legal c.procs c.events
 
 legal_behind : (o p : Outcome) (w v : Whole) → LegalCore v.core → Goes o w ≡ Goes p v → LegalCore w.core
 legal_behind o p w v legal goes = subst (λ (x : Whole). LegalCore x.core) (sym (went o p w v goes)) legal
-
-pub all_at : {X : Type 0} (P : X → Type 0) (xs : List X) (k : ℕ) (x : X) → slice_get xs k ≡ Some x → All P xs → P x
-all_at P xs k x at all = subst P (slice_get-index xs k x x at) (all k x (slice_get-short xs k x at))
 
 -- ---- what happens to a world
 
@@ -368,6 +367,7 @@ stay_low w v (step.Forge x) o legal goes low = low_behind _ o (with_reply w x) v
 stay_low w v (step.Checkpoint d) o legal goes low = checkpoints_low w v d (slice_get w.dcs d) o refl low goes
 stay_low w v (step.Tell i) o legal goes low = tells_low w v i (slice_get w.news i) o refl low goes
 stay_low w v (step.Redo d) o legal goes low = redoes_low w v d (slice_get w.core.sites d) o refl low goes
+stay_low w v (step.Crash n) o legal goes low = subst AreMarksLow (sym goes.next) (come_back_low w (first_events n w.core.events) (notes_of w) goes.may.written)
 
 -- ---- a fresh world
 

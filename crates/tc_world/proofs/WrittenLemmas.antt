@@ -1,9 +1,10 @@
 -- The rule of writing ahead: where each wire that a step sends was written for, and what it makes known of a data component was noted, what
 -- was written tells of all that was carried, step after step.
-use Rattle.std.proofs.Common.{◌≡◌, ℕ, ◌+◌, ◌≤◌, Bool, true, false, ◌&&◌, ◌==◌, List, [], ◌∷◌, ◌++◌, Option, Some, None, arith, refl, sym, ◌∙◌, subst, ap, if◌then◌else◌, inl, inr}
+use Rattle.std.proofs.Common.{◌≡◌, ℕ, ◌+◌, ◌≤◌, Bool, true, false, ◌&&◌, ◌==◌, ◌-◌, List, [], ◌∷◌, ◌++◌, length, drop, length-append, Option, Some, None, arith, refl, sym, ◌∙◌, subst, ap, if◌then◌else◌, inl, inr}
 use Rattle.std.specs.Prelude.{◌^◌, slice_get, slice_set, nat_le, Result, Ok, Err}
 use Rattle.std.specs.List.{All}
 use Rattle.std.proofs.lemmas.Bool.{cases_eq}
+use Rattle.std.proofs.lemmas.List.{drop-append-le}
 use Rattle.std.proofs.lemmas.List.Elements.{All-push, All-set, All-cons}
 use Rattle.access_slots.specs.Access.{fits}
 use Rattle.access_slots.specs.declared.op.Op.{Op}
@@ -36,6 +37,7 @@ use Rattle.tc_core.specs.Core.{Core}
 use Rattle.tc_core.specs.Replies.{with_event, ask_reply, after_ask, undo_reply, after_undo, end_of, is_heard}
 use Rattle.tc_core.specs.Lent.{wire_of}
 use Rattle.tc_core.specs.Redo.{with_site, news_fault, down_by, after_told, redo_wire, sends_again, redo_by, redo_at, up_again, after_redo, redone_to, redone_at}
+use Rattle.tc_core.specs.Recovery.{first_events}
 use Rattle.tc_core.specs.declared.recovery.SiteNote.{SiteNote}
 use Rattle.tc_core.specs.declared.state.Asked.{Asked}
 use Rattle.tc_core.specs.declared.state.Asked.TheVariants as reply
@@ -46,7 +48,7 @@ use Rattle.tc_core.specs.declared.state.Redo.TheVariants as redo
 use Rattle.tc_world.specs.Whole.{Whole}
 use Rattle.tc_world.specs.Marks.{IsLow, IsFresh}
 use Rattle.tc_world.specs.OneAtATime.{is_forge}
-use Rattle.tc_world.specs.Recovery.{IsWrittenFor, IsWrittenAt, IsNoted, Noted, NotYetUp, AreNoted, IsWritten, begun_anew, anew, come_back}
+use Rattle.tc_world.specs.Recovery.{IsWrittenFor, IsWrittenAt, IsNoted, Noted, NotYetUp, AreNoted, IsWritten, begun_anew, anew, come_back, notes_of, LosesNone}
 use Rattle.tc_world.specs.Steps.{Goes, Steps, with_core, with_dcs, with_copy, with_reply, with_news, told, sends_or_holds, ends_by}
 use Rattle.tc_world.specs.Steps.{resends_wire, resends_sent, resends_by, dc_of, gets_reply, performs_at, performs_copy}
 use Rattle.tc_world.specs.Steps.{takes_answer, TakesRedo, TakesBy, TakesReply, restarts_as, restarts_at, checkpoints_at}
@@ -54,8 +56,8 @@ use Rattle.tc_world.specs.Steps.{tells_unless, tells_news, redoes_by}
 use Rattle.tc_world.specs.declared.step.Step.{Step}
 use Rattle.tc_world.specs.declared.step.Step.TheVariants as step
 use Rattle.tc_world.specs.declared.step.Outcome.{Outcome}
-use Rattle.tc_world.proofs.Recovering.{sites_low}
-use Rattle.tc_world.proofs.Marks.{all_at, went, stopped, IsStoreLow, performed_low, redone_low, ask_sites, undo_sites}
+use Rattle.tc_world.proofs.ComingBack.{all_at, sites_low, notes_low}
+use Rattle.tc_world.proofs.Marks.{went, stopped, IsStoreLow, performed_low, redone_low, ask_sites, undo_sites}
 
 -- ---- all but wires and notes
 
@@ -268,29 +270,46 @@ module _ (first : List Event) where
       by None goes' = absurd (stopped _ o v goes')
       by (Some r) goes' = sends r.mark (to_redo w.core.events d r.redone) goes'
 
-  stay_rest : (w v : Whole) (x : Step) (o : Outcome) → is_forge x ≡ false → All (IsWrittenFor first) w.copies → Steps w x o v → Rest first w → Rest first v
-  stay_rest w v (step.Admit call) o honest ready goes rest = subst (Rest first) (sym goes.next) (logs w (event.Admit (admitted w.core.events + 1) call.proc call.args.items) rest)
-  stay_rest w v (step.Ask t) o honest ready goes rest =
+  -- so many of a log's events begin with fewer of them
+  between : (h : List Event) (n : ℕ) → n ≤ length h → length first ≤ n → Begins first h → Begins first (first_events n h)
+  between h n inside few b =
+      subst (λ (whole : List Event). n ≤ length whole → Begins first (first_events n whole)) (sym b.is) (λ inside'.
+      let more : length (b.later ++ first) - n ≤ length b.later = omega (arith, length-append b.later first, few) in
+      record { later = drop (length (b.later ++ first) - n) b.later; is = drop-append-le (length (b.later ++ first) - n) b.later first more }) inside
+
+  crash_rest : (w : Whole) (n : ℕ) → n ≤ length w.core.events → length first ≤ n → Rest first w → Rest first (come_back (first_events n w.core.events) (notes_of w) w)
+  crash_rest w n inside few r = record {
+    begins = between w.core.events n inside few r.begins;
+    replies = r.replies;
+    stores = r.stores;
+    news = r.news;
+    redo = notes_low (low_water first) w r.redo;
+  }
+
+  stay_rest : (w v : Whole) (x : Step) (o : Outcome) → is_forge x ≡ false → LosesNone (length first) x → All (IsWrittenFor first) w.copies → Steps w x o v → Rest first w → Rest first v
+  stay_rest w v (step.Admit call) o honest none_lost ready goes rest = subst (Rest first) (sym goes.next) (logs w (event.Admit (admitted w.core.events + 1) call.proc call.args.items) rest)
+  stay_rest w v (step.Ask t) o honest none_lost ready goes rest =
       let a = ask_reply w.core t in
       told_rest w v t (after_ask w.core a) a o (ask_begins w.core a rest.begins) (ask_sites w.core a) rest goes
-  stay_rest w v (step.Undo t) o honest ready goes rest =
+  stay_rest w v (step.Undo t) o honest none_lost ready goes rest =
       let a = undo_reply w.core t in
       told_rest w v t (after_undo w.core a) a o (undo_begins w.core a rest.begins) (undo_sites w.core a) rest goes
-  stay_rest w v (step.End t) o honest ready goes rest = ends_rest w v t (standing w.core.events t) (end_of w.core t) o rest goes
-  stay_rest w v (step.Resend t) o honest ready goes rest = resends_rest w v t (standing w.core.events t) o rest goes
-  stay_rest w v (step.Perform i) o honest ready goes rest = performs_copy_rest w v i (slice_get w.copies i) o refl ready rest goes
-  stay_rest w v (step.Take i) o honest ready goes rest = takes_rest w v (slice_get w.replies i) o rest goes
-  stay_rest w v (step.Restart d) o honest ready goes rest = restarts_rest w v d (slice_get w.dcs d) o refl rest goes
-  stay_rest w v (step.Forge x) o honest ready goes rest = absurd (let bad : true ≡ false = honest in cc)
-  stay_rest w v (step.Checkpoint d) o honest ready goes rest = checkpoints_rest w v d (slice_get w.dcs d) o refl rest goes
-  stay_rest w v (step.Tell i) o honest ready goes rest = tells_rest w v i (slice_get w.news i) o refl rest goes
-  stay_rest w v (step.Redo d) o honest ready goes rest = redoes_rest w v d (slice_get w.core.sites d) o refl rest goes
+  stay_rest w v (step.End t) o honest none_lost ready goes rest = ends_rest w v t (standing w.core.events t) (end_of w.core t) o rest goes
+  stay_rest w v (step.Resend t) o honest none_lost ready goes rest = resends_rest w v t (standing w.core.events t) o rest goes
+  stay_rest w v (step.Perform i) o honest none_lost ready goes rest = performs_copy_rest w v i (slice_get w.copies i) o refl ready rest goes
+  stay_rest w v (step.Take i) o honest none_lost ready goes rest = takes_rest w v (slice_get w.replies i) o rest goes
+  stay_rest w v (step.Restart d) o honest none_lost ready goes rest = restarts_rest w v d (slice_get w.dcs d) o refl rest goes
+  stay_rest w v (step.Forge x) o honest none_lost ready goes rest = absurd (let bad : true ≡ false = honest in cc)
+  stay_rest w v (step.Checkpoint d) o honest none_lost ready goes rest = checkpoints_rest w v d (slice_get w.dcs d) o refl rest goes
+  stay_rest w v (step.Tell i) o honest none_lost ready goes rest = tells_rest w v i (slice_get w.news i) o refl rest goes
+  stay_rest w v (step.Redo d) o honest none_lost ready goes rest = redoes_rest w v d (slice_get w.core.sites d) o refl rest goes
+  stay_rest w v (step.Crash n) o honest none_lost ready goes rest = subst (Rest first) (sym goes.next) (crash_rest w n goes.may.inside none_lost rest)
 
 -- whatever the step is, but a forged reply
-pub stay_written : (w v : Whole) (x : Step) (o : Outcome) (first : List Event) (notes notes' : List SiteNote) → Steps w x o v → is_forge x ≡ false → IsWritten first notes w
+pub stay_written : (w v : Whole) (x : Step) (o : Outcome) (first : List Event) (notes notes' : List SiteNote) → Steps w x o v → is_forge x ≡ false → LosesNone (length first) x → IsWritten first notes w
     → All (IsWrittenFor first) v.copies → AreNoted (low_water first) v notes' → IsWritten first notes' v
-stay_written w v x o first notes notes' goes honest s ready noted =
-    let rest = stay_rest first w v x o honest s.copies goes (record { begins = s.begins; replies = s.replies; stores = s.stores; news = s.news; redo = s.redo }) in
+stay_written w v x o first notes notes' goes honest none_lost s ready noted =
+    let rest = stay_rest first w v x o honest none_lost s.copies goes (record { begins = s.begins; replies = s.replies; stores = s.stores; news = s.news; redo = s.redo }) in
     record { begins = rest.begins; sites = noted; copies = ready; replies = rest.replies; stores = rest.stores; news = rest.news; redo = rest.redo }
 
 -- ---- more is written

@@ -27,6 +27,7 @@ is_forge (step.Forge x) = true
 is_forge (step.Checkpoint d) = false
 is_forge (step.Tell i) = false
 is_forge (step.Redo d) = false
+is_forge (step.Crash events) = false
 
 -- no reply is forged
 abbrev pub NoForge : List Step → Type 0

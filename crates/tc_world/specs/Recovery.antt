@@ -1,6 +1,6 @@
 -- A world whose transaction component crashes, and comes back from what was written (Lomet, Fekete, Weikum, Zwilling, CIDR 2009: the
 -- transaction component's own failure; its log is forced ahead of what data components are sent).
-use Rattle.std.specs.Prelude.{◌≡◌, ℕ, ◌≤◌, ◌<◌, true, false, List, [], map, Option, Some, None, slice_get}
+use Rattle.std.specs.Prelude.{◌≡◌, ℕ, ◌≤◌, ◌<◌, ◌==◌, if◌then◌else◌, true, false, List, [], length, map, Option, Some, None, slice_get}
 use Rattle.std.specs.List.{All}
 use Rattle.access_slots.specs.Locks.{target}
 use Rattle.access_slots.specs.declared.op.Wire.{Wire}
@@ -15,10 +15,12 @@ use Rattle.transactions.specs.InFlight.{site_at}
 use Rattle.data_component.specs.Performed.{Performed}
 use Rattle.data_component.specs.Store.{Store, news_of}
 use Rattle.tc_core.specs.declared.recovery.SiteNote.{SiteNote}
-use Rattle.tc_core.specs.declared.recovery.SiteNote.TheVariants.{Restarted}
-use Rattle.tc_core.specs.Recovery.{recovered, site_noted}
+use Rattle.tc_core.specs.declared.recovery.SiteNote.TheVariants.{Untold, Restarted, Up}
+use Rattle.tc_core.specs.Recovery.{first_events, recovered, site_noted}
 use Rattle.tc_world.specs.Whole.{Whole}
 use Rattle.tc_world.specs.Marks.{IsLow}
+use Rattle.tc_world.specs.declared.step.Step.{Step}
+use Rattle.tc_world.specs.declared.step.Step.TheVariants as step
 
 -- what was written of the log, first, gave out the wire's number, answered each number that its mark says was answered, and answered
 -- the wire's own where the wire redoes
@@ -75,6 +77,28 @@ pub record IsWritten (first : List Event) (notes : List SiteNote) (w : Whole) : 
 -- the transaction component is one that came back from what was written; data components, and all that was carried, are as they were
 abbrev pub come_back : List Event → List SiteNote → Whole → Whole
 come_back first notes w = record w { core = recovered w.core first notes }
+
+abbrev pub note_by : ℕ → Option Redoing → SiteNote
+note_by incarnation (Some r) = Restarted (record { incarnation = incarnation; mark = r.mark })
+note_by incarnation None = if incarnation == 0 then Untold else Up incarnation
+
+-- what is noted of a data component of which this is known
+abbrev pub note_of : Site → SiteNote
+note_of t = note_by t.incarnation t.redo
+
+-- all that is known of each data component, noted
+abbrev pub notes_of : Whole → List SiteNote
+notes_of w = map note_of w.core.sites
+
+-- it may crash when so many of its log's first events were written, and all that is known was noted
+pub record MayCrash (events : ℕ) (w : Whole) : Type 0 where
+  pub inside : events ≤ length w.core.events
+  pub written : IsWritten (first_events events w.core.events) (notes_of w) w
+
+-- a crash comes back from no fewer events than so many
+abbrev pub LosesNone : ℕ → Step → Type 0
+LosesNone n (step.Crash events) = n ≤ events
+LosesNone n other = Unit {0}
 
 -- a data component that has restarted, before which nothing is left
 pub record IsNew (s : Store) : Type 0 where

@@ -13,6 +13,7 @@ use Rattle.history.specs.Flight.{Flight, open_op}
 use Rattle.transactions.specs.declared.Sent.{Sent}
 use Rattle.transactions.specs.Standing.{Standing, standing}
 use Rattle.transactions.specs.InFlight.{site_of}
+use Rattle.transactions.specs.Room.{each_one, total}
 use Rattle.data_component.specs.Store.{Store, replied, performed, checkpointed, restarted, news_of}
 use Rattle.tc_core.specs.Core.{Core, Asking}
 use Rattle.tc_core.specs.Replies.{with_event, ask_reply, after_ask, undo_reply, after_undo, end_of, is_heard}
@@ -27,7 +28,9 @@ use Rattle.tc_core.specs.declared.state.NewsFault.{NewsFault}
 use Rattle.tc_core.specs.declared.state.NewsFault.TheVariants as fault
 use Rattle.tc_core.specs.declared.state.Redo.{Redo}
 use Rattle.tc_core.specs.declared.state.Redo.TheVariants as redo
+use Rattle.tc_core.specs.Recovery.{first_events}
 use Rattle.tc_world.specs.Whole.{Whole}
+use Rattle.tc_world.specs.Recovery.{come_back, notes_of, MayCrash}
 use Rattle.tc_world.specs.declared.step.Step.{Step}
 use Rattle.tc_world.specs.declared.step.Step.TheVariants as step
 use Rattle.tc_world.specs.declared.step.Outcome.{Outcome}
@@ -206,6 +209,18 @@ redoes w d = redoes_by w d (redo_reply w.core d)
 abbrev pub forges : Whole → Reply → Fate
 forges w x = Goes (outcome.Forged (length w.replies)) (with_reply w x)
 
+-- the transaction component crashes when so many events were written, and comes back from them, and from a note of all that is known
+-- of each data component
+pub record Crashes (w : Whole) (events : ℕ) (o : Outcome) (w' : Whole) : Type 0 where
+  pub may : MayCrash events w
+  pub outcome : o ≡ outcome.Crashed events (total each_one (first_events events w.core.events))
+  pub next : w' ≡ come_back (first_events events w.core.events) (notes_of w) w
+
+abbrev pub IsNotCrashed : Whole → ℕ → Illegal → Type 0
+IsNotCrashed w events illegal.NotWritten = MayCrash events w → ⊥
+IsNotCrashed w events illegal.Memory = MayCrash events w
+IsNotCrashed w events why = ⊥
+
 -- it stops so; want of memory comes only where it may
 abbrev pub StopsOr : Type 0 → Fate → Illegal → Type 0
 StopsOr lacks fate illegal.Memory = lacks
@@ -238,9 +253,10 @@ Steps w (step.Forge x) o w' = forges w x ≡ Goes o w'
 Steps w (step.Checkpoint d) o w' = checkpoints w d ≡ Goes o w'
 Steps w (step.Tell i) o w' = tells w i ≡ Goes o w'
 Steps w (step.Redo d) o w' = redoes w d ≡ Goes o w'
+Steps w (step.Crash events) o w' = Crashes w events o w'
 
--- the step isn't possible, and this is why; want of memory comes at a step that is possible and makes a list longer, and at an
--- ask or undo of any open transaction, since its lists grow first
+-- the step isn't possible, and this is why; want of memory comes at a step that is possible and makes a list longer, at a crash that
+-- is possible, and at an ask or undo of any open transaction, since its lists grow first
 abbrev pub IsIllegal : Whole → Step → Illegal → Type 0
 IsIllegal w (step.Admit call) why = IsNotAdmitted w call why
 IsIllegal w (step.Ask t) why = StopsOr (standing w.core.events t ≢ None) (asks w t) why
@@ -254,6 +270,7 @@ IsIllegal w (step.Forge x) why = StopsOr (MayGo (forges w x)) (forges w x) why
 IsIllegal w (step.Checkpoint d) why = checkpoints w d ≡ Stops why
 IsIllegal w (step.Tell i) why = tells w i ≡ Stops why
 IsIllegal w (step.Redo d) why = StopsOr (MayGo (redoes w d)) (redoes w d) why
+IsIllegal w (step.Crash events) why = IsNotCrashed w events why
 
 -- one step after another
 abbrev pub Runs : Whole → List Step → Whole → Type 0

@@ -9,7 +9,7 @@
 //!
 //! ```text
 //! -- in a proof file: the marks of a world that came back
-//! use Rattle.tc_world.proofs.Recovering.{come_back_low}
+//! use Rattle.tc_world.proofs.ComingBack.{come_back_low}
 //! ```
 
 ghost use Rattle.std.specs.Prelude.{◌≡◌, ℕ, false, List, length};
@@ -30,7 +30,7 @@ ghost use Rattle.tc_world.specs.Whole.{Whole};
 ghost use Rattle.tc_world.specs.Steps.{Steps};
 ghost use Rattle.tc_world.specs.Marks.{AreMarksLow, IsFresh};
 ghost use Rattle.tc_world.specs.OneAtATime.{is_forge, EachIsKnown, IsOneAtATime};
-ghost use Rattle.tc_world.specs.Recovery.{IsWrittenFor, AreNoted, IsWritten, come_back, IsNew, start_over};
+ghost use Rattle.tc_world.specs.Recovery.{IsWrittenFor, AreNoted, IsWritten, come_back, LosesNone, IsNew, start_over};
 ghost use Rattle.tc_world.specs.Lives.{AreAmong, left_with, HasLived};
 ghost use Rattle.tc_world.specs.declared.step.Step.{Step as StepValue};
 ghost use Rattle.tc_world.specs.declared.step.Outcome.{Outcome as OutcomeValue};
@@ -70,13 +70,13 @@ pub fn comes_back()
 {}
 
 /// What the rule of writing ahead keeps. Whatever step is taken, where each wire that it sends was
-/// written for, and what it makes known of data components was noted, all that was carried is
-/// written; and so it stays when more is written.
+/// written for, what it makes known of data components was noted, and a crash comes back from no less
+/// than was written, all that was carried is written; and so it stays when more is written.
 pub fn written_ahead()
     ensures fresh { (w : Whole) (notes : List SiteNote) → IsFresh w → AreNoted 0 w notes
         → IsWritten w.core.events notes w }
     ensures step { (w v : Whole) (x : StepValue) (o : OutcomeValue) (first : List EventValue) (notes noted : List SiteNote)
-        → Steps w x o v → is_forge x ≡ false → IsWritten first notes w → All (IsWrittenFor first) v.copies
+        → Steps w x o v → is_forge x ≡ false → LosesNone (length first) x → IsWritten first notes w → All (IsWrittenFor first) v.copies
         → AreNoted (low_water first) v noted → IsWritten first noted v }
     ensures wire { (ps : List Checked) (first more : List EventValue) (x : WireValue) → Legal ps more → Begins first more
         → IsWrittenFor first x → IsWrittenFor more x }

@@ -1,6 +1,7 @@
 //! The world, and its steps.
 
-ghost use Rattle.std.specs.Prelude.{◌≡◌, ◌≢◌, ℕ, ◌||◌, [], Some, true, false, slice_get, IfOk, OnOk, IfErr, OnErr};
+ghost use Rattle.std.specs.Prelude.{◌≡◌, ◌≢◌, ◌↔◌, ℕ, ◌||◌, [], Some, true, false, slice_get};
+ghost use Rattle.std.specs.Prelude.{IsTrue, IfOk, OnOk, IfErr, OnErr};
 ghost use Rattle.access_slots.specs.Locks.{allows, target, is_read, conflict};
 ghost use Rattle.history.specs.Calls.{held, held_for, call_of};
 ghost use Rattle.transactions.specs.InFlight.{InFlight};
@@ -13,6 +14,7 @@ ghost use Rattle.tc_world.specs.Marks.{AreMarksLow, IsFresh, IsOpenAboveMarks};
 ghost use Rattle.serial.specs.Audit.{IsAgreed};
 ghost use Rattle.tc_world.specs.OneAtATime.{is_forge, NoForge, EachIsKnown, IsOneAtATime};
 ghost use Rattle.tc_world.specs.Lives.{HasLived};
+ghost use Rattle.tc_world.specs.Recovery.{MayCrash};
 ghost use Rattle.tc_world.specs.Joining.Listed.{IsListed};
 ghost use Rattle.tc_world.specs.Steps.{Goes, Stops, Steps, IsIllegal, Runs, StopsAt};
 ghost use Rattle.tc_world.specs.Steps as Steps;
@@ -22,10 +24,12 @@ ghost use Rattle.tc_world.specs.declared.step.Step.TheVariants as step;
 
 use crate::again::make_again;
 use crate::asking::{find_number, find_txn};
+use crate::noting::notes_of;
 use crate::parts::{at, checkpoint_at, is_spent_at, perform_at, restart_at};
 use crate::step::{Illegal, Outcome, Step};
 use crate::taking::{hears, redone_somewhere};
 use crate::telling::{make_room, tell};
+use crate::written::are_written;
 use access_slots::op::{News, Reply, Wire};
 use data_component::dc::Dc;
 use std::alloc::{AllocError, Global};
@@ -34,6 +38,7 @@ use tc_core::state::{Call, NewsFault, Redo, Request, TcState};
 
 /// A transaction component, its data components, and every wire and reply that was ever sent.
 pub struct World {
+    alloc: Global,
     state: TcState,
     dcs: Vec<Dc>,
     copies: Vec<Wire>,
@@ -67,6 +72,7 @@ impl World {
     {
         state.known();
         World {
+            alloc,
             state,
             dcs,
             copies: Vec::new(alloc),
@@ -85,6 +91,7 @@ impl World {
         let mut requests = Vec::with_capacity(alloc, state.admitted() as usize)?;
         make_again(&state, &mut requests);
         Ok(World {
+            alloc,
             state,
             dcs,
             copies: Vec::new(alloc),
@@ -116,6 +123,7 @@ impl World {
     {
         self.state.known();
         let World {
+            alloc: _,
             mut state,
             dcs,
             copies: _,
@@ -348,6 +356,38 @@ impl World {
         Ok(Outcome::Admitted(txn.serial()))
     }
 
+    // Whether so many events were written, and tell of all that was carried.
+    fn is_written(&self, events: usize) -> bool
+        ensures { IsTrue result ↔ MayCrash events self.now }
+    {
+        are_written(
+            &self.state,
+            self.requests.as_slice(),
+            self.dcs.as_slice(),
+            self.copies.as_slice(),
+            self.replies.as_slice(),
+            self.news.as_slice(),
+            events,
+        )
+    }
+
+    fn crash(&mut self, events: usize) -> Result<Outcome, Illegal>
+        ensures ok { IfOk result (λ o. Steps.Crashes self.old events o self.new) }
+        ensures err { OnErr result (self.new ≡ self.old) }
+        ensures why { IfErr result (Steps.IsNotCrashed self.old events) }
+    {
+        if !self.is_written(events) {
+            return Err(Illegal::NotWritten);
+        }
+        self.state.known();
+        let notes = notes_of(self.alloc, &self.state)?;
+        self.requests.reserve(self.state.admitted() as usize)?;
+        self.state
+            .crash(events, notes.as_slice(), &mut self.requests)?;
+        make_again(&self.state, &mut self.requests);
+        Ok(Outcome::Crashed(events, self.state.open_count()))
+    }
+
     fn try_step(&mut self, step: &Step) -> Result<Outcome, Illegal>
         ensures ok { IfOk result (λ o. Steps self.old step.now o self.new) }
         ensures err { OnErr result (self.new ≡ self.old) }
@@ -366,6 +406,7 @@ impl World {
             Step::Checkpoint(dc) => self.checkpoint(*dc),
             Step::Tell(news) => self.tell(*news),
             Step::Redo(dc) => self.redo(*dc),
+            Step::Crash(events) => self.crash(*events),
         }
     }
 
@@ -378,6 +419,7 @@ impl World {
         ensures listed { is_forge step.now ≡ false → IsListed self.old → IsListed self.new }
         ensures lived { is_forge step.now ≡ false → HasLived self.old → HasLived self.new }
     {
+        self.state.known();
         let outcome = self.try_step(step)?;
         self.state.known();
         Ok(outcome)

@@ -1,9 +1,6 @@
--- Operations and answers as text, and the lines of steps.
-use Rattle.std.specs.Prelude.{ℕ, List, ◌++◌, Some, None, Result, Ok, Err, codes, decimal}
+-- The lines of steps.
+use Rattle.std.specs.Prelude.{ℕ, List, ◌++◌, Result, Ok, Err, codes, decimal}
 use Rattle.access_slots.specs.declared.op.Op.{Op}
-use Rattle.access_slots.specs.declared.op.Op.TheVariants.{Read, Insert, Update, Delete}
-use Rattle.access_slots.specs.declared.op.Said.{Said}
-use Rattle.access_slots.specs.declared.op.Said.TheVariants.{Value, Absent, Done, Duplicate, Missing, NoRoom, Old}
 use Rattle.access_slots.specs.declared.op.Wire.{Wire}
 use Rattle.access_slots.specs.declared.op.News.{News}
 use Rattle.tc_log.specs.declared.event.Outcome.{Outcome as Ending}
@@ -12,26 +9,8 @@ use Rattle.tc_world.specs.declared.step.Outcome.{Outcome}
 use Rattle.tc_world.specs.declared.step.Outcome.TheVariants as outcome
 use Rattle.tc_world.specs.declared.step.Illegal.{Illegal}
 use Rattle.tc_world.specs.declared.step.Illegal.TheVariants as illegal
-use Rattle.state_lines.specs.RecordTexts.{record_text, value_text}
+use Rattle.state_lines.specs.OperationTexts.{op_text, said_text}
 use Rattle.state_lines.specs.RefusalTexts.{refusal_text}
-
--- ---- operations and answers
-
-abbrev pub op_text : Op → List ℕ
-op_text (Read r) = codes "read " ++ record_text r
-op_text (Insert r v) = codes "insert " ++ (record_text r ++ (codes " " ++ value_text v))
-op_text (Update r v) = codes "update " ++ (record_text r ++ (codes " " ++ value_text v))
-op_text (Delete r) = codes "delete " ++ record_text r
-
-abbrev pub said_text : Said → List ℕ
-said_text (Value v) = codes "value " ++ value_text v
-said_text Absent = codes "absent"
-said_text (Done None) = codes "done"
-said_text (Done (Some former)) = codes "done was " ++ value_text former
-said_text Duplicate = codes "duplicate"
-said_text Missing = codes "missing"
-said_text NoRoom = codes "noroom"
-said_text Old = codes "old"
 
 -- ---- steps that were taken
 
@@ -78,6 +57,7 @@ outcome_line (outcome.Told d news) = told_line d news
 outcome_line (outcome.Redoing place x) = redo_line place x
 outcome_line (outcome.Redone n) = codes "redone number " ++ (decimal n ++ codes "\n")
 outcome_line (outcome.Up d) = codes "up " ++ (decimal d ++ codes "\n")
+outcome_line (outcome.Crashed events left) = codes "crashed " ++ (decimal events ++ (codes " open " ++ (decimal left ++ codes "\n")))
 
 -- ---- steps that weren't possible
 
@@ -98,6 +78,7 @@ illegal_line (illegal.Down d) = codes "illegal I13 Down " ++ (decimal d ++ codes
 illegal_line illegal.NoNews = codes "illegal I14 NoNews\n"
 illegal_line illegal.OldNews = codes "illegal I15 OldNews\n"
 illegal_line illegal.NotDown = codes "illegal I16 NotDown\n"
+illegal_line illegal.NotWritten = codes "illegal I17 NotWritten\n"
 
 abbrev pub step_line : Result Outcome Illegal → List ℕ
 step_line (Ok o) = outcome_line o

@@ -1,62 +1,16 @@
-//! The texts of operations and answers, and the lines of steps.
+//! The lines of steps.
 
 ghost use Rattle.std.specs.Prelude.{◌≡◌, IfOk, string_bytes};
-ghost use Rattle.world_command.specs.OutcomeLines.{op_text, said_text, sent_line, held_line, told_line, redo_line};
+ghost use Rattle.world_command.specs.OutcomeLines.{sent_line, held_line, told_line, redo_line};
 ghost use Rattle.world_command.specs.OutcomeLines.{ended_line, outcome_line, illegal_line, step_line};
 
-use access_slots::op::{News, Op, Said, Wire};
-use state_lines::record_texts::{record_text, value_text};
+use access_slots::op::{News, Op, Wire};
+use state_lines::operation_texts::{op_text, said_text};
 use state_lines::refusal_texts::refusal_text;
 use std::alloc::{AllocError, Global};
 use tc_core::state::Receipt;
 use tc_log::event::Outcome as Ending;
 use tc_world::step::{Illegal, Outcome};
-
-fn op_text(alloc: Global, op: &Op) -> Result<String, AllocError>
-    ensures { IfOk result (λ s. string_bytes s ≡ op_text op.now) }
-{
-    match op {
-        Op::Read(record) => {
-            let name = record_text(alloc, record)?;
-            format!(in alloc; "read {name}")
-        }
-        Op::Insert(record, value) => {
-            let name = record_text(alloc, record)?;
-            let value = value_text(alloc, value)?;
-            format!(in alloc; "insert {name} {value}")
-        }
-        Op::Update(record, value) => {
-            let name = record_text(alloc, record)?;
-            let value = value_text(alloc, value)?;
-            format!(in alloc; "update {name} {value}")
-        }
-        Op::Delete(record) => {
-            let name = record_text(alloc, record)?;
-            format!(in alloc; "delete {name}")
-        }
-    }
-}
-
-fn said_text(alloc: Global, said: &Said) -> Result<String, AllocError>
-    ensures { IfOk result (λ s. string_bytes s ≡ said_text said.now) }
-{
-    match said {
-        Said::Value(value) => {
-            let value = value_text(alloc, value)?;
-            format!(in alloc; "value {value}")
-        }
-        Said::Absent => String::from_str(alloc, "absent"),
-        Said::Done(None) => String::from_str(alloc, "done"),
-        Said::Done(Some(former)) => {
-            let former = value_text(alloc, former)?;
-            format!(in alloc; "done was {former}")
-        }
-        Said::Duplicate => String::from_str(alloc, "duplicate"),
-        Said::Missing => String::from_str(alloc, "missing"),
-        Said::NoRoom => String::from_str(alloc, "noroom"),
-        Said::Old => String::from_str(alloc, "old"),
-    }
-}
 
 fn sent_line(alloc: Global, place: usize, wire: &Wire) -> Result<String, AllocError>
     ensures { IfOk result (λ s. string_bytes s ≡ sent_line place wire.now) }
@@ -128,6 +82,7 @@ fn outcome_line(alloc: Global, outcome: &Outcome) -> Result<String, AllocError>
         Outcome::Redoing(place, wire) => redo_line(alloc, *place, wire),
         Outcome::Redone(number) => format!(in alloc; "redone number {number}\n"),
         Outcome::Up(dc) => format!(in alloc; "up {dc}\n"),
+        Outcome::Crashed(events, open) => format!(in alloc; "crashed {events} open {open}\n"),
     }
 }
 
@@ -155,6 +110,7 @@ fn illegal_line(alloc: Global, why: &Illegal) -> Result<String, AllocError>
         Illegal::NoNews => String::from_str(alloc, "illegal I14 NoNews\n"),
         Illegal::OldNews => String::from_str(alloc, "illegal I15 OldNews\n"),
         Illegal::NotDown => String::from_str(alloc, "illegal I16 NotDown\n"),
+        Illegal::NotWritten => String::from_str(alloc, "illegal I17 NotWritten\n"),
     }
 }
 

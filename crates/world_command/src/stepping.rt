@@ -30,6 +30,7 @@ fn step_of(alloc: Global, line: &script::Step) -> Result<Step, AllocError>
         script::Step::Checkpoint(dc) => Step::Checkpoint(*dc),
         script::Step::Tell(news) => Step::Tell(*news as usize),
         script::Step::Redo(dc) => Step::Redo(*dc),
+        script::Step::Crash(events) => Step::Crash(*events as usize),
         script::Step::Forge(reply) => Step::Forge(*reply),
     })
 }

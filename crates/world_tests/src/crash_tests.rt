@@ -1,5 +1,6 @@
 // The transaction component crashes behind each of some steps, comes back from its log and from what was
-// noted of its data component, and goes on to the same log.
+// noted of its data component, and goes on to the same log: in a world resumed, where no message is left,
+// and by a step of the world itself, where all are.
 
 use crate::step_tests::{closed, world};
 use access_slots::op::News;
@@ -8,7 +9,7 @@ use std::alloc::{AllocError, Global};
 use std::process::Abort;
 use std::test::Fail;
 use tc_core::recovery::SiteNote;
-use tc_world::{Outcome, Step, World};
+use tc_world::{Illegal, Outcome, Step, World};
 use transactions::Site;
 
 const RECORD: usize = 96;
@@ -165,4 +166,59 @@ fn a_crash_behind_each_step(rt: HostRuntime) -> Result<(), Fail> {
 #[test]
 fn a_crash_behind_a_restart(rt: HostRuntime) -> Result<(), Fail> {
     each_goes_on(&rt, rt.alloc(), &[Step::Restart(0), Step::Tell(0)])
+}
+
+// It crashes by a step between these, which finds the whole log written: they go on as if it hadn't.
+fn nothing_changes(
+    rt: &impl Abort,
+    alloc: Global,
+    first: &[Step],
+    rest: &[Step],
+) -> Result<(), Fail> {
+    let mut world = world(rt, alloc)?;
+    let ran = world.run(first);
+    let events = world.state().log().len();
+    let open = world.state().open_count();
+    let crashed = world.step(&Step::Crash(events));
+    let beyond = world.step(&Step::Crash(events.saturating_add(1)));
+    let went_on = world.run(rest);
+    let printed = world.state().log().print(alloc);
+    closed(world);
+    assert_eq!(rt; (ran, went_on), (Ok(()), Ok(())));
+    assert_eq!(rt; crashed, Ok(Outcome::Crashed(events, open)));
+    assert_eq!(rt; beyond, Err(Illegal::NotWritten));
+    let whole = log_bytes(alloc, &PUT_AND_ABORT)?;
+    assert_eq!(rt;
+        printed?.as_slice(),
+        whole.as_slice(),
+        "behind {events} events"
+    );
+    Ok(())
+}
+
+#[test]
+fn a_crash_between_the_steps(rt: HostRuntime) -> Result<(), Fail> {
+    let steps = steps(rt.alloc())?;
+    for count in 0..=steps.len() {
+        if let Some((first, rest)) = steps.split_at_checked(count) {
+            nothing_changes(&rt, rt.alloc(), first, rest)?;
+        }
+    }
+    Ok(())
+}
+
+// What was carried tells of a number that wasn't written, or of a mark.
+#[test]
+fn a_crash_that_finds_too_little(rt: HostRuntime) -> Result<(), Fail> {
+    let steps = steps(rt.alloc())?;
+    let mut world = world(&rt, rt.alloc())?;
+    let ran = world.run(steps.as_slice());
+    let events = world.state().log().len();
+    let lost = world.step(&Step::Crash(events.saturating_sub(2)));
+    let less = world.step(&Step::Crash(events.saturating_sub(4)));
+    closed(world);
+    assert_eq!(rt; ran, Ok(()));
+    assert_eq!(rt; lost, Ok(Outcome::Crashed(events.saturating_sub(2), 1)));
+    assert_eq!(rt; less, Err(Illegal::NotWritten));
+    Ok(())
 }

@@ -1,4 +1,4 @@
-//! Tests of `tc_world` and `audit`, which would take as long again to prove with them:
+//! Tests of `tc_world`, `coming_back` and `audit`, which would take as long again to prove with them:
 //!
 //! | Module | Tests |
 //! |---|---|
@@ -6,6 +6,7 @@
 //! | `restart_tests` | `tc_world`: restarts that lose what came after the last checkpoint, and redo |
 //! | `redo_tests` | `tc_world`: what a redo leaves out |
 //! | `crash_tests` | `tc_world`: a transaction component that comes back from its log |
+//! | `coming_back_tests` | `coming_back`: a state and new data components from each beginning of a log |
 //! | `memory_tests` | `tc_world`: steps that are refused memory |
 //! | `audit_tests` | `audit`: short logs and what it says of them |
 //!
@@ -14,6 +15,8 @@
 
 #[cfg(test)]
 mod audit_tests;
+#[cfg(test)]
+mod coming_back_tests;
 #[cfg(test)]
 mod crash_tests;
 #[cfg(test)]

@@ -82,6 +82,7 @@ fn word(stepped: Result<Outcome, Illegal>) -> &'static str {
         Ok(Outcome::Forged(2)) => "forged",
         Ok(Outcome::Took(1)) => "took",
         Ok(Outcome::Over(1)) => "over",
+        Ok(Outcome::Crashed(3, 1)) => "crashed",
         _ => "another",
     }
 }
@@ -106,6 +107,7 @@ fn all_go(rt: &impl Abort, world: &mut World, admit: &Step) {
     };
     goes(rt, world, &Step::Forge(reply), "forged", 2);
     goes(rt, world, &Step::Take(1), "took", 3);
+    goes(rt, world, &Step::Crash(3), "crashed", 3);
     goes(rt, world, &Step::Ask(1), "over", 3);
 }
 

@@ -1,7 +1,7 @@
 use Rattle.std.proofs.Common.{subst}
 use Rattle.transactions.specs.Legal.{Legal}
 use Rattle.serial.proofs.BackLemmas.{legal_first}
-use Rattle.tc_world.proofs.Recovering.{come_back_low}
+use Rattle.tc_world.proofs.ComingBack.{come_back_low}
 use Rattle.tc_world.proofs.WrittenLemmas.{again_written}
 use Rattle.tc_world.proofs.recovery.comes_back.Goals as goal
 

@@ -5,7 +5,7 @@ pub returns-clause-fresh : goal.returns-clause-fresh
 returns-clause-fresh c w notes fresh noted = fresh_written w notes fresh noted
 
 pub returns-clause-step : goal.returns-clause-step
-returns-clause-step c w v x o first notes noted goes honest written ready known = stay_written w v x o first notes noted goes honest written ready known
+returns-clause-step c w v x o first notes noted goes honest none_lost written ready known = stay_written w v x o first notes noted goes honest none_lost written ready known
 
 pub returns-clause-wire : goal.returns-clause-wire
 returns-clause-wire c ps first more x legal begins ready = wire_more ps first more x legal begins ready

@@ -1,0 +1,14 @@
+use Rattle.std.proofs.Common.{◌≤◌, arith, ap, ◌∙◌}
+use Rattle.history.specs.Calls.{admitted}
+use Rattle.tc_core.specs.Core.{Core}
+use Rattle.tc_world.proofs.CrashLemmas.{fewer_admitted}
+use Rattle.tc_world.proofs.world.World.crash.Goals as goal
+
+pub make_again-requires-clause-room : goal.make_again-requires-clause-room
+make_again-requires-clause-room c =
+    let few = fewer_admitted c.args.events c.self.inside.state.events in
+    let now = ap (λ (x : Core). admitted x.events) c.in_ok-crash.ensures.ok in
+    let all = c.admitted.ensures in
+    let room = c.in_ok-reserve.ensures.ok in
+    let same = c.crash.ensures.room in
+    omega (arith, few, now, all, room, same)
