@@ -1,0 +1,111 @@
+-- A state that has come back, and its data components.
+use Rattle.std.proofs.Common.{◌≡◌, ℕ, zero, suc, ◌<◌, List, [], ◌∷◌, length, map, Option, Some, None, sym, ◌∙◌, ap, subst, arith}
+use Rattle.std.specs.Prelude.{slice_get}
+use Rattle.std.specs.List.{All}
+use Rattle.std.proofs.lemmas.List.{length-map}
+use Rattle.std.proofs.lemmas.List.Elements.{All-cons, All-nil}
+use Rattle.tc_log.specs.declared.event.Event.{Event}
+use Rattle.data_component.specs.Store.{Store, restarted, news_of}
+use Rattle.transactions.specs.declared.Site.{Site}
+use Rattle.transactions.specs.InFlight.{site_at, site_by}
+use Rattle.transactions.proofs.StandingLemmas.{some_same}
+use Rattle.tc_core.specs.Core.{Core, loaded_in}
+use Rattle.tc_core.specs.Loaded.{Loaded}
+use Rattle.tc_core.specs.Recovery.{recovered, site_noted}
+use Rattle.tc_core.specs.declared.recovery.SiteNote.{SiteNote}
+use Rattle.tc_core.specs.declared.recovery.SiteNote.TheVariants.{Restarted}
+use Rattle.tc_core.proofs.KeptLemmas.{slice_get-short}
+use Rattle.tc_world.specs.Whole.{Whole}
+use Rattle.tc_world.specs.OneAtATime.{IsKnown, EachIsKnown}
+use Rattle.tc_world.specs.Recovery.{IsNew}
+use Rattle.tc_world.specs.Lives.{HasLived}
+use Rattle.tc_world.proofs.LivingLemmas.{over_lived}
+use Rattle.coming_back.specs.Coming.{IsEmpty, at_rest, ComesFrom}
+use Rattle.coming_back.specs.Faults.{HasLog}
+use Rattle.coming_back.specs.Joining.Moving.{Goes}
+use Rattle.coming_back.specs.Joining.Redoing.{Redoes}
+use Rattle.coming_back.proofs.ServingLemmas.{all_then, served_incarnation}
+use Rattle.coming_back.proofs.RedoLemmas.{there}
+
+abbrev pub notes_for : List Store → List SiteNote
+notes_for ds = map (λ (s : Store). Restarted (news_of s)) ds
+
+-- ---- it begins as a world that starts over
+
+new_one : (s : Store) → IsEmpty s → IsNew (restarted s)
+new_one s is = record {
+  list = ap (λ (x : Store). x.saved) is;
+  saved = ap (λ (x : Store). x.saved) is;
+  mark = ap (λ (x : Store). x.saved_mark) is;
+  saved_mark = ap (λ (x : Store). x.saved_mark) is;
+  restarted = omega arith;
+}
+
+all_new : (ds : List Store) → All IsEmpty ds → All IsNew (map restarted ds)
+all_new [] all = All-nil IsNew
+all_new (d ∷ ds) all = All-cons IsNew (restarted d) (map restarted ds) (new_one d (all 0 d (omega arith))) (all_new ds (λ k x low. all (suc k) x (omega (arith, low))))
+
+abbrev begun : Loaded → List Event → List Store → Whole
+begun l h ds = record {
+  core = record { procs = l.codes; names = l.names; dcs = l.dcs; events = h; given_up = []; sites = map site_noted (notes_for ds) };
+  dcs = ds;
+  copies = [];
+  replies = [];
+  news = [];
+}
+
+pub begun_lived : (old : Core) (h : List Event) (w : Whole) (ds es : List Store) → ComesFrom w h old (length ds)
+    → All IsEmpty ds → es ≡ map restarted ds → HasLived (at_rest (recovered old h (notes_for es)) es)
+begun_lived old h w ds es from new is =
+    let fresh : All IsNew es = subst (All IsNew) (sym is) (all_new ds new) in
+    let count : length es ≡ length w.dcs = ap length is ∙ (length-map ds restarted ∙ sym from.count) in
+    subst (λ (x : Loaded). HasLived (begun x h es)) from.same (over_lived w h es from.begins fresh count from.lived)
+
+-- ---- each data component is known
+
+map_get : {X Y : Type 0} (f : X → Y) (xs : List X) (k : ℕ) (x : X) → slice_get xs k ≡ Some x → slice_get (map f xs) k ≡ Some (f x)
+map_get f [] k x at = absurd cc
+map_get f (y ∷ xs) zero x at = (let same : y ≡ x = cc in ap (λ z. Some (f z)) same)
+map_get f (y ∷ xs) (suc k) x at = map_get f xs k x at
+
+-- as the news tell it
+pub site_incarnation : (c : Core) (ds : List Store) (n : ℕ) (s : Store) → c.sites ≡ map site_noted (notes_for ds) → slice_get ds n ≡ Some s → (site_at c.sites n).incarnation ≡ s.incarnation
+site_incarnation c ds n s noted at =
+    ap (λ (xs : List Site). (site_at xs n).incarnation) noted
+    ∙ ap (λ (o : Option Site). (site_by o).incarnation) (map_get site_noted (notes_for ds) n (Restarted (news_of s)) (map_get (λ (x : Store). Restarted (news_of x)) ds n s at))
+
+known_at : (c1 c2 c3 : Core) (ds es fs : List Store) → c1.sites ≡ map site_noted (notes_for ds) → Redoes c1 ds c2 es → ((d : ℕ) → d < length c2.sites → (site_at c2.sites d).redo ≡ None)
+    → Goes c2 es c3 fs → (d : ℕ) (s : Store) → slice_get fs d ≡ Some s → IsKnown (at_rest c3 fs) d s
+known_at c1 c2 c3 ds es fs noted redoes up goes d s at =
+    let sites : c3.sites ≡ c2.sites = ap (λ (x : Core). x.sites) goes.core in
+    let served = all_then ds es fs redoes.served goes.served in
+    let short = slice_get-short fs d s at in
+    let many = served.count in
+    let was = there ds d (omega (arith, short, many)) in
+    let now = served.each d was.0 was.1 in
+    let same : now.now ≡ s = some_same now.now s (sym now.at ∙ at) in
+    let incarnation : s.incarnation ≡ was.0.incarnation = ap (λ (x : Store). x.incarnation) (sym same) ∙ served_incarnation d was.0 now.now now.served in
+    let count : length c1.sites ≡ length ds = ap length noted ∙ (length-map (notes_for ds) site_noted ∙ length-map ds (λ (x : Store). Restarted (news_of x))) in
+    let more = redoes.count in
+    record {
+      up = ap (λ (xs : List Site). (site_at xs d).redo) sites ∙ up d (omega (arith, short, many, count, more));
+      now = ap (λ (xs : List Site). (site_at xs d).incarnation) sites ∙ (redoes.incarnations d ∙ (site_incarnation c1 ds d was.0 noted was.1 ∙ sym incarnation));
+    }
+
+pub known_back : (c1 c2 c3 : Core) (ds es fs : List Store) → c1.sites ≡ map site_noted (notes_for ds) → Redoes c1 ds c2 es → ((d : ℕ) → d < length c2.sites → (site_at c2.sites d).redo ≡ None)
+    → Goes c2 es c3 fs → EachIsKnown (at_rest c3 fs)
+known_back c1 c2 c3 ds es fs noted redoes up goes = λ d s at. known_at c1 c2 c3 ds es fs noted redoes up goes d s at
+
+-- ---- the state has the log
+
+pub has_log : (old c : Core) (h : List Event) (notes : List SiteNote) → c ≡ recovered old h notes → HasLog old h c
+has_log old c h notes is = is ∙ ap (λ (xs : List Site). let it : Core = record old { events = h; given_up = []; sites = xs } in it) (sym (ap (λ (x : Core). x.sites) is))
+
+pub redone_log : (old c d : Core) (h : List Event) (ds es : List Store) → HasLog old h c → Redoes c ds d es → HasLog old h d
+redone_log old c d h ds es log redoes = redoes.core ∙ ap (λ (x : Core). let it : Core = record x { sites = d.sites } in it) log
+
+pub same_loaded : (old c d e : Core) (h : List Event) (ds es fs : List Store) → HasLog old h c → Redoes c ds d es → Goes d es e fs → loaded_in e ≡ loaded_in old
+same_loaded old c d e h ds es fs log redoes goes = ap loaded_in goes.core ∙ (ap loaded_in redoes.core ∙ ap loaded_in log)
+
+pub same_events : (old c d : Core) (h : List Event) (ds es : List Store) → HasLog old h c → Redoes c ds d es → d.events ≡ h
+same_events old c d h ds es log redoes = ap (λ (x : Core). x.events) redoes.core ∙ ap (λ (x : Core). x.events) log

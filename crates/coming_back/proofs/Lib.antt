@@ -1,0 +1,9 @@
+pub mod RenewLemmas
+pub mod ServingLemmas
+pub mod OpenLemmas
+pub mod NextLemmas
+pub mod MovingLemmas
+pub mod ComingLemmas
+pub mod FullLemmas
+pub mod RedoLemmas
+pub mod LivedLemmas

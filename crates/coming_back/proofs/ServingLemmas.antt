@@ -1,0 +1,79 @@
+-- Data components that perform one wire more.
+use Rattle.std.proofs.Common.{◌≡◌, ℕ, List, [], ◌∷◌, ◌++◌, Some, refl, sym, ◌∙◌, ap, subst, inl, inr, fold, Bool, true, false, cond, ◌==◌}
+use Rattle.std.specs.Prelude.{slice_get, slice_set}
+use Rattle.std.proofs.lemmas.Bool.{cases_eq}
+use Rattle.std.proofs.lemmas.List.{length-set}
+use Rattle.std.proofs.lemmas.List.Sums.{fold-append}
+use Rattle.std.proofs.lemmas.List.Elements.{All-append, All-cons, All-nil}
+use Rattle.access_slots.specs.Locks.{target}
+use Rattle.access_slots.specs.declared.op.Op.{Op}
+use Rattle.access_slots.specs.declared.op.Wire.{Wire}
+use Rattle.data_component.specs.Store.{Store, performed, marked, store_by, fate_of, Fate, IsOld, Again, Silent, New}
+use Rattle.transactions.proofs.StandingLemmas.{some_same}
+use Rattle.serial.proofs.SitesLemmas.{set_same, set_other}
+use Rattle.coming_back.specs.Serving.{IsFor, IsServed, IsServedAt, AreServed}
+
+-- nothing is performed
+served_same : (d : ℕ) (s : Store) → IsServed d s s
+served_same d s = record { wires = []; own = All-nil (IsFor d); performs = refl }
+
+served_then : (d : ℕ) (s mid t : Store) → IsServed d s mid → IsServed d mid t → IsServed d s t
+served_then d s mid t a b = record {
+  wires = a.wires ++ b.wires;
+  own = All-append (IsFor d) a.wires b.wires a.own b.own;
+  performs = b.performs ∙ (ap (λ (x : Store). fold performed x b.wires) a.performs ∙ sym (fold-append performed s a.wires b.wires));
+}
+
+served_once : (d : ℕ) (s : Store) (x : Wire) → IsFor d x → IsServed d s (performed s x)
+served_once d s x own = record { wires = x ∷ []; own = All-cons (IsFor d) x [] own (All-nil (IsFor d)); performs = refl }
+
+pub all_same : (ds : List Store) → AreServed ds ds
+all_same ds = record { count = refl; each = λ d s at. record { now = s; at = at; served = served_same d s } }
+
+pub all_then : (ds mid es : List Store) → AreServed ds mid → AreServed mid es → AreServed ds es
+all_then ds mid es a b = record {
+  count = b.count ∙ a.count;
+  each = λ d s at.
+      let one = a.each d s at in
+      let two = b.each d one.now one.at in
+      record { now = two.now; at = two.at; served = served_then d s one.now two.now one.served two.served };
+}
+
+-- a wire is performed at its place
+pub all_once : (ds : List Store) (x : Wire) (s : Store) → slice_get ds (target x.op).dc ≡ Some s
+    → AreServed ds (slice_set ds (target x.op).dc (performed s x))
+all_once ds x s at = record { count = length-set ds (target x.op).dc (performed s x); each = λ d t there. one d t there }
+  where
+    one : (d : ℕ) (t : Store) → slice_get ds d ≡ Some t → IsServedAt (slice_set ds (target x.op).dc (performed s x)) d t
+    one d t there = elim (cases_eq (target x.op).dc d) [
+      | inl here ↦
+          let same : s ≡ t = some_same s t (sym at ∙ (ap (slice_get ds) here ∙ there)) in
+          record {
+            now = performed s x;
+            at = subst (λ (k : ℕ). slice_get (slice_set ds (target x.op).dc (performed s x)) k ≡ Some (performed s x)) here (set_same ds (target x.op).dc s (performed s x) at);
+            served = subst (λ (z : Store). IsServed d z (performed s x)) same (served_once d s x here);
+          }
+      | inr other ↦ record { now = t; at = set_other ds (target x.op).dc d (performed s x) other ∙ there; served = served_same d t }
+    ]
+
+-- ---- an incarnation stays
+
+by_fate : (s : Store) (n : ℕ) (o : Op) (f : Fate) → (store_by s n o f).incarnation ≡ s.incarnation
+by_fate s n o IsOld = refl
+by_fate s n o (Again said) = refl
+by_fate s n o Silent = refl
+by_fate s n o (New said) = refl
+
+if_heard : (b : Bool) (s t : Store) → t.incarnation ≡ s.incarnation → (cond b t s).incarnation ≡ s.incarnation
+if_heard true s t same = same
+if_heard false s t same = refl
+
+performed_by : (s : Store) (x : Wire) → (performed s x).incarnation ≡ s.incarnation
+performed_by s x = if_heard (s.incarnation == x.incarnation) s (store_by (marked s x.low_water) x.number x.op (fate_of s x)) (by_fate (marked s x.low_water) x.number x.op (fate_of s x))
+
+fold_by : (s : Store) (xs : List Wire) → (fold performed s xs).incarnation ≡ s.incarnation
+fold_by s [] = refl
+fold_by s (x ∷ xs) = fold_by (performed s x) xs ∙ performed_by s x
+
+pub served_incarnation : (d : ℕ) (s t : Store) → IsServed d s t → t.incarnation ≡ s.incarnation
+served_incarnation d s t served = ap (λ (z : Store). z.incarnation) served.performs ∙ fold_by s served.wires

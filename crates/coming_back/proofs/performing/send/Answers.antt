@@ -1,0 +1,6 @@
+use Rattle.std.proofs.Common.{sym, ◌∙◌}
+use Rattle.coming_back.specs.Joining.Performing.{Sent}
+use Rattle.coming_back.proofs.performing.send.Goals as goal
+
+pub returns-in-Ok : goal.returns-in-Ok
+returns-in-Ok c = Sent c.in-Ok.wire (sym c.wire.ensures ∙ c.in-Ok.is) c.perform.ensures

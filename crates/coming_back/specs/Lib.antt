@@ -1,0 +1,4 @@
+pub mod Serving
+pub mod Coming
+pub mod Faults
+pub mod Joining

@@ -1,0 +1,124 @@
+//! The way back.
+
+ghost use Rattle.std.specs.Prelude.{◌≡◌, length, map, OnOk, IfOk, IfErr};
+ghost use Rattle.std.specs.List.{All};
+ghost use Rattle.history.specs.Places.{Begins};
+ghost use Rattle.transactions.specs.Legal.{Legal};
+ghost use Rattle.data_component.specs.Store.{Store, restarted, news_of};
+ghost use Rattle.tc_core.specs.Core.{loaded_in};
+ghost use Rattle.tc_core.specs.Recovery.{recovered};
+ghost use Rattle.tc_core.specs.declared.recovery.SiteNote.TheVariants.{Restarted};
+ghost use Rattle.tc_world.specs.Whole.{Whole};
+ghost use Rattle.tc_world.specs.OneAtATime.{EachIsKnown, IsOneAtATime};
+ghost use Rattle.serial.specs.Audit.{IsAgreed};
+ghost use Rattle.tc_world.specs.Lives.{HasLived};
+ghost use Rattle.coming_back.specs.Serving.{AreServed};
+ghost use Rattle.coming_back.specs.Coming.{IsEmpty, serial_of, open_txns, in_doubt, IsResumed, at_rest, ComesFrom};
+ghost use Rattle.coming_back.specs.Faults.{IsFaultOf};
+
+use crate::redoing::{RedoFault, redo_all};
+use crate::renewing::{notes_of, restart_all};
+use crate::resumed::Resumed;
+use crate::resuming::resume_all;
+use data_component::dc::Dc;
+use std::alloc::Global;
+use tc_core::recovery::RecoverFault;
+use tc_core::state::TcState;
+use tc_log::log::Log;
+
+/// Why a transaction component doesn't come back.
+#[derive(Clone, Copy, Debug, PartialEq, Eq)]
+pub enum ComeBackFault {
+    /// The log isn't one of these procedures, there is another number of data components, something has
+    /// happened here already, or memory ran out. The state is as it was.
+    Recover(RecoverFault),
+    /// This data component is full before all that was done is redone: it is for fewer operations than
+    /// before.
+    NoRoom(u16),
+    /// This data component answered an operation otherwise than the log says that it did: the log isn't
+    /// one of data components.
+    Otherwise(u16),
+    /// Memory ran out.
+    Memory,
+}
+
+// Each data component restarts, and the state comes back from the log, with their news as what is known of
+// them.
+fn begin_again(
+    alloc: Global,
+    state: &mut TcState,
+    dcs: &mut [Dc],
+    log: &Log,
+) -> Result<(), ComeBackFault>
+    requires { All IsEmpty dcs.old }
+    ensures dcs { dcs.new ≡ map restarted dcs.old }
+    ensures legal { OnOk result (Legal state.old.procs log.now.events) }
+    ensures ok { OnOk result
+        (state.new ≡ recovered state.old log.now.events (map (λ (s : Store). Restarted (news_of s)) dcs.new)) }
+    ensures fault { IfErr result (IsFaultOf state.old log.now.events (length dcs.old) state.new dcs.new) }
+{
+    restart_all(dcs);
+    let notes = match notes_of(alloc, dcs) {
+        Ok(notes) => notes,
+        Err(_) => return Err(ComeBackFault::Memory),
+    };
+    match state.recover(log, notes.as_slice()) {
+        Ok(()) => Ok(()),
+        Err(fault) => Err(ComeBackFault::Recover(fault)),
+    }
+}
+
+/// Comes back from a log, to a state in which procedures are loaded and nothing has happened, and to
+/// data components to which nothing has happened either: each restarts, and what the log says that it
+/// did is redone, until it is up; then each transaction that was open is run to its end, in the order
+/// of their serial numbers, and is told of. What a data component doesn't answer is given up, and its
+/// transaction is in doubt.
+///
+/// Memory is taken for the state, and for the list once. Where the log isn't refused, but a data
+/// component isn't redone or memory ran out for the list, the state has come back from the log with
+/// data components that are down, and is of no use but to be looked at.
+pub fn come_back(
+    alloc: Global,
+    state: &mut TcState,
+    dcs: &mut [Dc],
+    log: &Log,
+) -> Result<Vec<Resumed>, ComeBackFault>
+    requires { All IsEmpty dcs.old }
+    // The log goes on, and was legal; procedures, names and the number of data components are as before.
+    ensures legal { OnOk result (Legal state.old.procs log.now.events) }
+    ensures begins { OnOk result (Begins log.now.events state.new.events) }
+    ensures same { OnOk result (loaded_in state.new ≡ loaded_in state.old) }
+
+    // Each data component is up, and performed wires for itself alone since it restarted.
+    ensures known { OnOk result (EachIsKnown (at_rest state.new dcs.new)) }
+    ensures served { OnOk result (AreServed (map restarted dcs.old) dcs.new) }
+
+    // Each transaction that was open is told of, once, and those that are open are those in doubt.
+    ensures resumed { IfOk result (λ them. map serial_of them.items ≡ open_txns log.now.events) }
+    ensures doubts { IfOk result (λ them. in_doubt them.items ≡ open_txns state.new.events) }
+    ensures each { IfOk result (λ them. All (IsResumed log.now.events state.new) them.items) }
+
+    ensures fault { IfErr result (IsFaultOf state.old log.now.events (length dcs.old) state.new dcs.new) }
+
+    // Where the log is a beginning of that of a world that has lived, what came back has lived too; so each call that ended did so as
+    // when calls are run one after another, and the log and the data components agree in all that an audit compares.
+    ensures lived { (w : Whole) → ComesFrom w log.now.events state.old (length dcs.old)
+        → OnOk result (HasLived (at_rest state.new dcs.new)) }
+    ensures one_at_a_time { (w : Whole) → ComesFrom w log.now.events state.old (length dcs.old)
+        → OnOk result (IsOneAtATime (at_rest state.new dcs.new)) }
+    ensures agreed { (w : Whole) → ComesFrom w log.now.events state.old (length dcs.old)
+        → OnOk result (IsAgreed state.new.procs state.new.events dcs.new) }
+{
+    begin_again(alloc, state, dcs, log)?;
+    let mut resumed = match Vec::with_capacity(alloc, state.open_count()) {
+        Ok(resumed) => resumed,
+        Err(_) => return Err(ComeBackFault::Memory),
+    };
+    match redo_all(state, dcs) {
+        Ok(()) => {}
+        Err((dc, RedoFault::Silent)) => return Err(ComeBackFault::NoRoom(dc)),
+        Err((dc, RedoFault::Otherwise)) => return Err(ComeBackFault::Otherwise(dc)),
+    }
+    resume_all(state, dcs, &mut resumed);
+    Ok(resumed)
+}
