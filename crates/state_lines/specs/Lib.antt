@@ -1,4 +1,5 @@
 pub mod RecordTexts
+pub mod OperationTexts
 pub mod RefusalTexts
 pub mod RowLines
 pub mod AuditLines

@@ -1,0 +1,16 @@
+use Rattle.std.proofs.Common.{◌≡◌, rules}
+use Rattle.tc_core.specs.Core.{loaded_in}
+use Rattle.procedure_digest.specs.Header.{header_of}
+use Rattle.log_command.proofs.ReportLemmas.{anothers_is, own_is}
+use Rattle.log_command.proofs.auditing.beside.Goals as goal
+
+pub returns-then-eq : goal.returns-then-eq
+returns-then-eq c =
+    let same : c.in-Ok.stored.header ≡ header_of (loaded_in c.args.state.now) = search rules in
+    own_is c.args.file.now (loaded_in c.args.state.now) c.in-Ok.stored c.checked.result c.in-Ok.ensures.says same c.checked.ensures
+
+pub returns : goal.returns
+returns c =
+    let differs : ¬ (c.in-Ok.stored.header ≡ header_of (loaded_in c.args.state.now)) = search rules in
+    anothers_is c.args.file.now (loaded_in c.args.state.now) c.in-Ok.stored c.refused-else-eq.result c.in-Ok.ensures.says differs c.refused-else-eq.ensures.line
+    c.refused-else-eq.ensures.status

@@ -1,0 +1,12 @@
+use Rattle.std.proofs.Common.{◌≡◌, rules}
+use Rattle.std.specs.Prelude.{IfOk, string_bytes}
+use Rattle.std.proofs.lemmas.Result.{IfOk-weaker}
+use Rattle.log_command.proofs.EventLemmas.{admit_text, admit_is}
+use Rattle.log_command.proofs.event_lines.event_line.Goals as goal
+
+pub returns-in_ok-args-in-Admit : goal.returns-in_ok-args-in-Admit
+returns-in_ok-args-in-Admit c =
+    let text = string_bytes c.in_ok-args-in-Admit.args in
+    let written : IfOk c.format.result (λ s. string_bytes s ≡ admit_text c.args.place c.in-Admit.txn c.in-Admit.proc (string_bytes c.in_ok-args-in-Admit.args)) = search rules in
+    IfOk-weaker c.format.result _ _
+    (λ s is. admit_is c.args.place c.in-Admit.txn c.in-Admit.proc c.in-Admit.args c.args.event.now text (string_bytes s) c.in-Admit.is c.in_ok-args-in-Admit.ensures is) written

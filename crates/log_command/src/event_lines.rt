@@ -1,0 +1,73 @@
+//! The lines of events.
+
+ghost use Rattle.std.specs.Prelude.{◌≡◌, ◌++◌, IfOk, OnOk, string_bytes};
+ghost use Rattle.log_command.specs.EventLines.{arguments_text, ending_text, event_line, event_lines};
+
+use state_lines::operation_texts::{op_text, said_text};
+use std::alloc::{AllocError, Global};
+use tc_log::event::{Args, Event, Outcome};
+
+// Each argument behind a space.
+fn arguments_text(alloc: Global, args: &Args) -> Result<String, AllocError>
+    ensures { IfOk result (λ s. string_bytes s ≡ arguments_text args.now) }
+{
+    let mut text = String::new(alloc);
+    'pieces: for arg in args.as_slice() {
+        let piece = format!(in alloc; " {arg}")?;
+        text.push_str(piece.as_str())?;
+    }
+    Ok(text)
+}
+
+fn ending_text(alloc: Global, outcome: Outcome) -> Result<String, AllocError>
+    ensures { IfOk result (λ s. string_bytes s ≡ ending_text outcome) }
+{
+    match outcome {
+        Outcome::Committed => String::from_str(alloc, "committed"),
+        Outcome::Aborted(value) => format!(in alloc; "aborted {value}"),
+        Outcome::NoRoom => String::from_str(alloc, "noroom"),
+    }
+}
+
+// The line of the event at this place of the log, from 0.
+fn event_line(alloc: Global, place: usize, event: &Event) -> Result<String, AllocError>
+    ensures { IfOk result (λ s. string_bytes s ≡ event_line place event.now) }
+{
+    match event {
+        Event::Admit { txn, proc, args } => {
+            let args = arguments_text(alloc, args)?;
+            format!(in alloc; "{place} admit {txn} procedure {proc}{args}\n")
+        }
+        Event::Ask { txn, number, op } => {
+            let op = op_text(alloc, op)?;
+            format!(in alloc; "{place} ask {txn} number {number} {op}\n")
+        }
+        Event::Answer { txn, number, said } => {
+            let said = said_text(alloc, said)?;
+            format!(in alloc; "{place} answer {txn} number {number} {said}\n")
+        }
+        Event::Undo { txn, number, op } => {
+            let op = op_text(alloc, op)?;
+            format!(in alloc; "{place} undo {txn} number {number} {op}\n")
+        }
+        Event::End { txn, outcome } => {
+            let ending = ending_text(alloc, *outcome)?;
+            format!(in alloc; "{place} end {txn} {ending}\n")
+        }
+    }
+}
+
+/// Adds a line for each event, the oldest first.
+pub(crate) fn write_events(
+    alloc: Global,
+    events: &[Event],
+    lines: &mut String,
+) -> Result<(), AllocError>
+    ensures { OnOk result (string_bytes lines.new ≡ string_bytes lines.old ++ event_lines 0 events.now) }
+{
+    'events: for (place, event) in events.iter().enumerate() {
+        let line = event_line(alloc, place, event)?;
+        lines.push_str(line.as_str())?;
+    }
+    Ok(())
+}

@@ -1,0 +1,53 @@
+//! Why a file isn't read as a log.
+
+ghost use Rattle.std.specs.Prelude.{◌≡◌, Some, IfOk, OnOk, string_bytes};
+ghost use Rattle.std.specs.Prelude.{◌++◌};
+ghost use Rattle.log_command.specs.LogReport.{refusal_line, unfinished_line};
+
+use frame_file::FrameFault;
+use log_file::OpenFault;
+use report_texts::report::Report;
+use std::alloc::{AllocError, Global};
+
+// The line of a fault; want of memory has none.
+fn refusal_line(alloc: Global, fault: OpenFault) -> Result<String, AllocError>
+    ensures { IfOk result (λ line. refusal_line fault ≡ Some (string_bytes line)) }
+{
+    match fault {
+        OpenFault::Frames(FrameFault::Damaged(number)) => {
+            format!(in alloc; "refused log Damaged frame {number}\n")
+        }
+        OpenFault::Frames(_) => Err(AllocError),
+        OpenFault::Empty => String::from_str(alloc, "refused log Empty\n"),
+        OpenFault::Other => String::from_str(alloc, "refused log Other\n"),
+        OpenFault::NoBatch(number) => format!(in alloc; "refused log NoBatch frame {number}\n"),
+        OpenFault::Row(place) => format!(in alloc; "refused log L2 Kind {place}\n"),
+    }
+}
+
+/// The report of a file that isn't read.
+pub(crate) fn refused(alloc: Global, fault: OpenFault) -> Result<Report, AllocError>
+    ensures line { IfOk result (λ r. refusal_line fault ≡ Some (string_bytes r.lines)) }
+    ensures status { IfOk result (λ r. r.status ≡ 1) }
+{
+    Ok(Report {
+        status: 1,
+        lines: refusal_line(alloc, fault)?,
+        notes: None,
+    })
+}
+
+/// Adds how many bytes at the end are no whole frame, where there are such.
+pub(crate) fn write_unfinished(
+    alloc: Global,
+    unfinished: usize,
+    lines: &mut String,
+) -> Result<(), AllocError>
+    ensures { OnOk result (string_bytes lines.new ≡ string_bytes lines.old ++ unfinished_line unfinished) }
+{
+    if unfinished == 0 {
+        return Ok(());
+    }
+    let line = format!(in alloc; "unfinished {unfinished} bytes\n")?;
+    lines.push_str(line.as_str())
+}
