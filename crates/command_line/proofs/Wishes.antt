@@ -11,9 +11,9 @@ use Rattle.std.specs.List.{list_any}
 use Rattle.clap.specs.Matches.{subcommand_name_of}
 use Rattle.clap.specs.declared.parser.matches.ArgMatches.{ArgMatches}
 use Rattle.clap.specs.declared.parser.matches.ArgMatches.TheViews.{out-ArgMatches}
-use Rattle.command_line.specs.Said.{AllNumbers, IsNoCount, LacksNumber, Argument, Workers, Tries, IsWrong, Refused, NoCommand, NoNumber, procd_app, shows}
-use Rattle.command_line.specs.Said.{IsFlag, SaysCount, SaysNumber, SaysNumbers, SaysRun, SaysWish, value_of}
-use Rattle.command_line.specs.Task.{Wish, Exec, Asm, Dis, Verify, World, Run, command_name}
+use Rattle.command_line.specs.Said.{AllNumbers, IsNoCount, IsUnfit, Argument, Workers, Tries, Alone, IsWrong, Refused, NoCommand, Unfit, procd_app, shows}
+use Rattle.command_line.specs.Said.{IsFlag, SaysCount, SaysLog, SaysNumber, SaysNumbers, SaysRun, SaysWish, value_of}
+use Rattle.command_line.specs.Task.{Wish, Exec, Asm, Dis, Verify, World, Run, Log, command_name}
 use Rattle.command_line.specs.Wanted.{IsTaskOrNoMemory}
 use Rattle.command_line.specs.declared.words.Task.{Task}
 use Rattle.command_line.specs.declared.words.WordFault.{WordFault}
@@ -60,6 +60,24 @@ verify_not_run e = cc
 world_not_run : codes "world" ≡ codes "run" → ⊥
 world_not_run e = cc
 
+exec_not_log : codes "exec" ≡ codes "log" → ⊥
+exec_not_log e = cc
+
+asm_not_log : codes "asm" ≡ codes "log" → ⊥
+asm_not_log e = apart_first (codes "asm") (codes "log") 97 108 (omega arith) refl refl e
+
+dis_not_log : codes "dis" ≡ codes "log" → ⊥
+dis_not_log e = apart_first (codes "dis") (codes "log") 100 108 (omega arith) refl refl e
+
+verify_not_log : codes "verify" ≡ codes "log" → ⊥
+verify_not_log e = cc
+
+world_not_log : codes "world" ≡ codes "log" → ⊥
+world_not_log e = cc
+
+log_not_run : codes "log" ≡ codes "run" → ⊥
+log_not_run e = apart_first (codes "log") (codes "run") 108 114 (omega arith) refl refl e
+
 apart : (a d : ℕ) → a ≡ 97 → d ≡ 100 → a ≡ d → ⊥
 apart a d is_a is_d same = omega (arith, is_a, is_d, same)
 
@@ -74,7 +92,8 @@ wants_exec name rows raw numbers is flag all Asm named says = absurd (exec_not_a
 wants_exec name rows raw numbers is flag all (Dis r) named says = absurd (exec_not_dis (sym is ∙ named))
 wants_exec name rows raw numbers is flag all Verify named says = absurd (exec_not_verify (sym is ∙ named))
 wants_exec name rows raw numbers is flag all (World log audit) named says = absurd (exec_not_world (sym is ∙ named))
-wants_exec name rows raw numbers is flag all (Run workers tries stats audit) named says = absurd (exec_not_run (sym is ∙ named))
+wants_exec name rows raw numbers is flag all (Run workers tries stats audit tell log) named says = absurd (exec_not_run (sym is ∙ named))
+wants_exec name rows raw numbers is flag all (Log script) named says = absurd (exec_not_log (sym is ∙ named))
 
 pub wants_dis : (name : List ℕ) (rows : List Row) (raw : Bool) → name ≡ codes "dis" → ((r : Bool) → IsFlag r (one_of (codes "raw") rows) → raw ≡ r)
     → (wish : Wish) → name ≡ command_name wish → SaysWish rows wish → Dis raw ≡ wish
@@ -83,7 +102,8 @@ wants_dis name rows raw is flag Asm named says = absurd (asm_not_dis (sym named 
 wants_dis name rows raw is flag (Dis r) named says = ap Dis (flag r says)
 wants_dis name rows raw is flag Verify named says = absurd (dis_not_verify (sym is ∙ named))
 wants_dis name rows raw is flag (World log audit) named says = absurd (dis_not_world (sym is ∙ named))
-wants_dis name rows raw is flag (Run workers tries stats audit) named says = absurd (dis_not_run (sym is ∙ named))
+wants_dis name rows raw is flag (Run workers tries stats audit tell log) named says = absurd (dis_not_run (sym is ∙ named))
+wants_dis name rows raw is flag (Log script) named says = absurd (dis_not_log (sym is ∙ named))
 
 pub wants_world : (name : List ℕ) (rows : List Row) (log audit : Bool) → name ≡ codes "world"
     → ((l : Bool) → IsFlag l (one_of (codes "log") rows) → log ≡ l)
@@ -94,17 +114,31 @@ wants_world name rows log audit is flag other Asm named says = absurd (asm_not_w
 wants_world name rows log audit is flag other (Dis r) named says = absurd (dis_not_world (sym named ∙ is))
 wants_world name rows log audit is flag other Verify named says = absurd (verify_not_world (sym named ∙ is))
 wants_world name rows log audit is flag other (World l a) named says = ap₂ World (flag l says.0) (other a says.1)
-wants_world name rows log audit is flag other (Run workers tries stats a) named says = absurd (world_not_run (sym is ∙ named))
+wants_world name rows log audit is flag other (Run workers tries stats a tell path) named says = absurd (world_not_run (sym is ∙ named))
+wants_world name rows log audit is flag other (Log script) named says = absurd (world_not_log (sym is ∙ named))
 
 pub wants_run : (name : List ℕ) (rows : List Row) (result : Result Task WordFault) → name ≡ codes "run"
-    → ((workers tries : ℕ) (stats audit : Bool) → SaysRun rows workers tries stats audit → IsTaskOrNoMemory (Run workers tries stats audit) result)
+    → ((workers tries : ℕ) (stats audit tell : Bool) (log : Option (List ℕ)) → SaysRun rows workers tries stats audit tell log
+    → IsTaskOrNoMemory (Run workers tries stats audit tell log) result)
     → (wish : Wish) → name ≡ command_name wish → SaysWish rows wish → IsTaskOrNoMemory wish result
 wants_run name rows result is all (Exec r ns) named says = absurd (exec_not_run (sym named ∙ is))
 wants_run name rows result is all Asm named says = absurd (asm_not_run (sym named ∙ is))
 wants_run name rows result is all (Dis r) named says = absurd (dis_not_run (sym named ∙ is))
 wants_run name rows result is all Verify named says = absurd (verify_not_run (sym named ∙ is))
 wants_run name rows result is all (World log audit) named says = absurd (world_not_run (sym named ∙ is))
-wants_run name rows result is all (Run workers tries stats audit) named says = all workers tries stats audit says
+wants_run name rows result is all (Run workers tries stats audit tell log) named says = all workers tries stats audit tell log says
+wants_run name rows result is all (Log script) named says = absurd (log_not_run (sym named ∙ is))
+
+pub wants_log : (name : List ℕ) (rows : List Row) (result : Result Task WordFault) → name ≡ codes "log"
+    → ((script : Option (List ℕ)) → SaysLog rows script → IsTaskOrNoMemory (Log script) result)
+    → (wish : Wish) → name ≡ command_name wish → SaysWish rows wish → IsTaskOrNoMemory wish result
+wants_log name rows result is all (Exec r ns) named says = absurd (exec_not_log (sym named ∙ is))
+wants_log name rows result is all Asm named says = absurd (asm_not_log (sym named ∙ is))
+wants_log name rows result is all (Dis r) named says = absurd (dis_not_log (sym named ∙ is))
+wants_log name rows result is all Verify named says = absurd (verify_not_log (sym named ∙ is))
+wants_log name rows result is all (World log audit) named says = absurd (world_not_log (sym named ∙ is))
+wants_log name rows result is all (Run workers tries stats audit tell log) named says = absurd (log_not_run (sym is ∙ named))
+wants_log name rows result is all (Log script) named says = all script says
 
 composed : {A B C : Type 0} (g : A → B) (f : B → C) (o : Option A) → option_map (λ a. f (g a)) o ≡ option_map f (option_map g o)
 composed g f None = refl
@@ -134,35 +168,41 @@ pub silent_is : (o : Option Text) → None ≡ o → ¬ IsNoCount o
 silent_is None e = λ none. none
 silent_is (Some said) e = absurd (cc)
 
--- only these two commands take numbers
-pub lacks_nothing : (name : Text) (rows : List Row) → (name ≡ codes "exec" → ⊥) → (name ≡ codes "run" → ⊥) → ¬ LacksNumber name rows
-lacks_nothing name rows not_exec not_run (Argument exec none) = not_exec exec
-lacks_nothing name rows not_exec not_run (Workers run none) = not_run run
-lacks_nothing name rows not_exec not_run (Tries run none) = not_run run
+-- only these three commands have more to say than a file and flags
+pub lacks_nothing : (name : Text) (rows : List Row) → (name ≡ codes "exec" → ⊥) → (name ≡ codes "run" → ⊥) → (name ≡ codes "log" → ⊥)
+    → ¬ IsUnfit name rows
+lacks_nothing name rows not_exec not_run not_log (Argument exec none) = not_exec exec
+lacks_nothing name rows not_exec not_run not_log (Workers run none) = not_run run
+lacks_nothing name rows not_exec not_run not_log (Tries run none) = not_run run
+lacks_nothing name rows not_exec not_run not_log (Alone log audit flag unequal) = not_log log
 
 pub lacks_no_argument : (name : Text) (rows : List Row) → name ≡ codes "exec" → AllNumbers (unwrap_or (all_of (codes "arg") rows) [])
-    → ¬ LacksNumber name rows
+    → ¬ IsUnfit name rows
 lacks_no_argument name rows is all (Argument exec none) = none all
 lacks_no_argument name rows is all (Workers run none) = exec_not_run (sym is ∙ run)
 lacks_no_argument name rows is all (Tries run none) = exec_not_run (sym is ∙ run)
+lacks_no_argument name rows is all (Alone log audit flag unequal) = exec_not_log (sym is ∙ log)
 
 pub lacks_no_count : (rows : List Row) → ¬ IsNoCount (first_of (codes "workers") rows) → ¬ IsNoCount (first_of (codes "tries") rows)
-    → ¬ LacksNumber (codes "run") rows
+    → ¬ IsUnfit (codes "run") rows
 lacks_no_count rows workers tries (Argument exec none) = exec_not_run (sym exec)
 lacks_no_count rows workers tries (Workers run none) = workers none
 lacks_no_count rows workers tries (Tries run none) = tries none
+lacks_no_count rows workers tries (Alone log audit flag unequal) = log_not_run (sym log)
 
-pub asm_lacks_nothing : (name : Text) (rows : List Row) → name ≡ codes "asm" → ¬ LacksNumber name rows
-asm_lacks_nothing name rows is = lacks_nothing name rows (λ e. exec_not_asm (sym e ∙ is)) (λ e. asm_not_run (sym is ∙ e))
+pub asm_lacks_nothing : (name : Text) (rows : List Row) → name ≡ codes "asm" → ¬ IsUnfit name rows
+asm_lacks_nothing name rows is = lacks_nothing name rows (λ e. exec_not_asm (sym e ∙ is)) (λ e. asm_not_run (sym is ∙ e)) (λ e. asm_not_log (sym is ∙ e))
 
-pub dis_lacks_nothing : (name : Text) (rows : List Row) → name ≡ codes "dis" → ¬ LacksNumber name rows
-dis_lacks_nothing name rows is = lacks_nothing name rows (λ e. exec_not_dis (sym e ∙ is)) (λ e. dis_not_run (sym is ∙ e))
+pub dis_lacks_nothing : (name : Text) (rows : List Row) → name ≡ codes "dis" → ¬ IsUnfit name rows
+dis_lacks_nothing name rows is = lacks_nothing name rows (λ e. exec_not_dis (sym e ∙ is)) (λ e. dis_not_run (sym is ∙ e)) (λ e. dis_not_log (sym is ∙ e))
 
-pub verify_lacks_nothing : (name : Text) (rows : List Row) → name ≡ codes "verify" → ¬ LacksNumber name rows
-verify_lacks_nothing name rows is = lacks_nothing name rows (λ e. exec_not_verify (sym e ∙ is)) (λ e. verify_not_run (sym is ∙ e))
+pub verify_lacks_nothing : (name : Text) (rows : List Row) → name ≡ codes "verify" → ¬ IsUnfit name rows
+verify_lacks_nothing name rows is =
+    lacks_nothing name rows (λ e. exec_not_verify (sym e ∙ is)) (λ e. verify_not_run (sym is ∙ e)) (λ e. verify_not_log (sym is ∙ e))
 
-pub world_lacks_nothing : (name : Text) (rows : List Row) → name ≡ codes "world" → ¬ LacksNumber name rows
-world_lacks_nothing name rows is = lacks_nothing name rows (λ e. exec_not_world (sym e ∙ is)) (λ e. world_not_run (sym is ∙ e))
+pub world_lacks_nothing : (name : Text) (rows : List Row) → name ≡ codes "world" → ¬ IsUnfit name rows
+world_lacks_nothing name rows is =
+    lacks_nothing name rows (λ e. exec_not_world (sym e ∙ is)) (λ e. world_not_run (sym is ∙ e)) (λ e. world_not_log (sym is ∙ e))
 
 pub more_numbers : (texts : List Text) (i : ℕ) (said : Text) → slice_get texts i ≡ Some said → SaysNumber said
     → ((k : ℕ) (t : Text) → k < i → slice_get texts k ≡ Some t → SaysNumber t)
@@ -188,7 +228,7 @@ empty_has_none kinds k empty among = subst (IsAmong k) empty among
 wrong_kind : (words : List Text) (k : ErrorKind) → IsWrong words → IsAmong k (fault_of procd_app words) → shows k ≡ false
 wrong_kind words k (Refused refused) among = shows_none (fault_of procd_app words) k refused.1 among
 wrong_kind words k (NoCommand accepted none) among = absurd (empty_has_none (fault_of procd_app words) k accepted among)
-wrong_kind words k (NoNumber accepted name rows entered lacks) among = absurd (empty_has_none (fault_of procd_app words) k accepted among)
+wrong_kind words k (Unfit accepted name rows entered unfit) among = absurd (empty_has_none (fault_of procd_app words) k accepted among)
 
 pub wrong_shows_nothing : (words : List Text) (e : Error) → HasKind (fault_of procd_app words) e → IsWrong words → shows (kind_of e) ≡ false
 wrong_shows_nothing words e has wrong =

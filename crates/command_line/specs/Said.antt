@@ -1,5 +1,5 @@
 -- What the command line says, and when it is wrong.
-use Rattle.std.specs.Prelude.{◌≡◌, ◌≢◌, ℕ, Bool, List, [], ◌<◌, ◌^◌, map, slice_get, unwrap_or, Option, Some, None, codes, true, false, ◌⊎◌}
+use Rattle.std.specs.Prelude.{◌≡◌, ◌≢◌, ℕ, Bool, List, [], ◌<◌, ◌^◌, map, slice_get, unwrap_or, Option, Some, None, codes, is_some, true, false, ◌⊎◌}
 use Rattle.std.specs.List.{list_any}
 use Rattle.clap.specs.Words.{App, Kinds, Row, Rule, Text, all_of, fault_of, first_of, one_of, new_app, new_rule}
 use Rattle.clap.specs.Words.{subcommand_of, takes, with_rule, with_subcommand}
@@ -7,7 +7,7 @@ use Rattle.clap.specs.declared.error.kind.ErrorKind.{ErrorKind}
 use Rattle.clap.specs.declared.error.kind.ErrorKind.TheVariants as kind
 use Rattle.clap.specs.declared.builder.ArgAction.TheVariants.{Set, SetTrue, Append}
 use Rattle.std.specs.Str.Parse.{IsNumeral, digits_value, without_leading_plus}
-use Rattle.command_line.specs.Task.{Wish, Exec, Asm, Dis, Verify, World, Run, command_name}
+use Rattle.command_line.specs.Task.{Wish, Exec, Asm, Dis, Verify, World, Run, Log, command_name}
 
 abbrev pub raw_rule : Rule
 raw_rule = record (new_rule (codes "raw")) { long = Some (codes "raw"); action = Some SetTrue }
@@ -24,12 +24,18 @@ file_rule = record (new_rule (codes "file")) { required = true; action = Some Se
 abbrev pub arg_rule : Rule
 arg_rule = record (new_rule (codes "arg")) { action = Some Append; value_names = 1 }
 
--- an option with a number
-abbrev pub count_rule : Text → Rule
-count_rule name = record (new_rule name) { long = Some name; action = Some Set; value_names = 1 }
+abbrev pub script_rule : Rule
+script_rule = record (new_rule (codes "script")) { action = Some Set; value_names = 1 }
+
+-- an option with a value
+abbrev pub option_rule : Text → Rule
+option_rule name = record (new_rule name) { long = Some name; action = Some Set; value_names = 1 }
 
 abbrev pub stats_rule : Rule
 stats_rule = record (new_rule (codes "stats")) { long = Some (codes "stats"); action = Some SetTrue }
+
+abbrev pub tell_rule : Rule
+tell_rule = record (new_rule (codes "tell")) { long = Some (codes "tell"); action = Some SetTrue }
 
 -- exec [--raw] FILE [ARG]...
 abbrev pub exec_app : App
@@ -53,11 +59,19 @@ world_app = with_rule (with_rule (with_rule (new_app (codes "world")) log_rule) 
 
 -- run [--workers N] [--tries N]
 abbrev pub counted_app : App
-counted_app = with_rule (with_rule (new_app (codes "run")) (count_rule (codes "workers"))) (count_rule (codes "tries"))
+counted_app = with_rule (with_rule (new_app (codes "run")) (option_rule (codes "workers"))) (option_rule (codes "tries"))
 
--- run [--workers N] [--tries N] [--stats] [--audit] FILE
+-- run [--workers N] [--tries N] [--stats] [--audit] [--tell]
+abbrev pub told_app : App
+told_app = with_rule (with_rule (with_rule counted_app stats_rule) audit_rule) tell_rule
+
+-- run [--workers N] [--tries N] [--stats] [--audit] [--tell] [--log LOG] FILE
 abbrev pub run_app : App
-run_app = with_rule (with_rule (with_rule counted_app stats_rule) audit_rule) file_rule
+run_app = with_rule (with_rule told_app (option_rule (codes "log"))) file_rule
+
+-- log [--audit] FILE [SCRIPT]
+abbrev pub log_app : App
+log_app = with_rule (with_rule (with_rule (new_app (codes "log")) audit_rule) file_rule) script_rule
 
 -- the commands that take code
 abbrev pub code_app : App
@@ -65,7 +79,7 @@ code_app = with_subcommand (with_subcommand (with_subcommand (new_app (codes "pr
 
 -- the command line of the program
 unfoldable pub procd_app : App
-procd_app = with_subcommand (with_subcommand (with_subcommand code_app verify_app.top) world_app.top) run_app.top
+procd_app = with_subcommand (with_subcommand (with_subcommand (with_subcommand code_app verify_app.top) world_app.top) run_app.top) log_app.top
 
 -- the number that a text says in decimal, and whether it says one of 64 bits
 abbrev pub value_of : Text → ℕ
@@ -93,10 +107,15 @@ SaysCount None default n = n ≡ default
 SaysCount (Some text) default n = SaysNumber text × (n ≡ value_of text)
 
 -- 4 workers and 3 tries, where nothing is said of them
-abbrev pub SaysRun : List Row → ℕ → ℕ → Bool → Bool → Type 0
-SaysRun rows workers tries stats audit =
+abbrev pub SaysRun : List Row → ℕ → ℕ → Bool → Bool → Bool → Option Text → Type 0
+SaysRun rows workers tries stats audit tell log =
     SaysCount (first_of (codes "workers") rows) 4 workers × SaysCount (first_of (codes "tries") rows) 3 tries
-    × IsFlag stats (one_of (codes "stats") rows) × IsFlag audit (one_of (codes "audit") rows)
+    × IsFlag stats (one_of (codes "stats") rows) × IsFlag audit (one_of (codes "audit") rows) × IsFlag tell (one_of (codes "tell") rows)
+    × (first_of (codes "log") rows ≡ log)
+
+-- a script where an audit is asked for, and else none
+abbrev pub SaysLog : List Row → Option Text → Type 0
+SaysLog rows script = IsFlag (is_some script) (one_of (codes "audit") rows) × (first_of (codes "script") rows ≡ script)
 
 -- what a command's rows say
 abbrev pub SaysWish : List Row → Wish → Type 0
@@ -105,7 +124,8 @@ SaysWish rows Asm = Unit {0}
 SaysWish rows (Dis raw) = IsFlag raw (one_of (codes "raw") rows)
 SaysWish rows Verify = Unit {0}
 SaysWish rows (World log audit) = IsFlag log (one_of (codes "log") rows) × IsFlag audit (one_of (codes "audit") rows)
-SaysWish rows (Run workers tries stats audit) = SaysRun rows workers tries stats audit
+SaysWish rows (Run workers tries stats audit tell log) = SaysRun rows workers tries stats audit tell log
+SaysWish rows (Log script) = SaysLog rows script
 
 -- the words are a command line of the program, and say this command with this file
 pub record Says (words : List Text) (file : Text) (wish : Wish) : Type 0 where
@@ -132,15 +152,17 @@ abbrev pub IsNoCount : Option Text → Type 0
 IsNoCount None = ⊥
 IsNoCount (Some text) = ¬ SaysNumber text
 
--- what is to be a number isn't one
-pub data LacksNumber (name : Text) (rows : List Row) : Type 0 where
-  Argument : name ≡ codes "exec" → ¬ AllNumbers (unwrap_or (all_of (codes "arg") rows) []) → LacksNumber name rows
-  Workers : name ≡ codes "run" → IsNoCount (first_of (codes "workers") rows) → LacksNumber name rows
-  Tries : name ≡ codes "run" → IsNoCount (first_of (codes "tries") rows) → LacksNumber name rows
+-- what is to be a number isn't one, an audit has no script, or a script no audit
+pub data IsUnfit (name : Text) (rows : List Row) : Type 0 where
+  Argument : name ≡ codes "exec" → ¬ AllNumbers (unwrap_or (all_of (codes "arg") rows) []) → IsUnfit name rows
+  Workers : name ≡ codes "run" → IsNoCount (first_of (codes "workers") rows) → IsUnfit name rows
+  Tries : name ≡ codes "run" → IsNoCount (first_of (codes "tries") rows) → IsUnfit name rows
+  Alone : name ≡ codes "log" → (audit : Bool) → IsFlag audit (one_of (codes "audit") rows)
+      → is_some (first_of (codes "script") rows) ≢ audit → IsUnfit name rows
 
--- the words are refused by the command line's rules, name no command, or lack a number
+-- the words are refused by the command line's rules, name no command, or don't fit together
 pub data IsWrong (words : List Text) : Type 0 where
   Refused : AreRefusals (fault_of procd_app words) → IsWrong words
   NoCommand : fault_of procd_app words ≡ [] → subcommand_of procd_app words ≡ None → IsWrong words
-  NoNumber : fault_of procd_app words ≡ [] → (name : Text) (rows : List Row) → subcommand_of procd_app words ≡ Some (name, rows)
-      → LacksNumber name rows → IsWrong words
+  Unfit : fault_of procd_app words ≡ [] → (name : Text) (rows : List Row) → subcommand_of procd_app words ≡ Some (name, rows)
+      → IsUnfit name rows → IsWrong words

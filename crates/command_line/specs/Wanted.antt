@@ -8,31 +8,26 @@ use Rattle.command_line.specs.Task.{Wish, wish_of}
 use Rattle.command_line.specs.declared.words.Task.{Task}
 use Rattle.command_line.specs.declared.words.Wanted.{Wanted}
 use Rattle.command_line.specs.declared.words.WordFault.{WordFault}
-use Rattle.command_line.specs.declared.words.WordFault.TheVariants.{Clap, NotNumber, NoCommand, Memory}
+use Rattle.command_line.specs.declared.words.WordFault.TheVariants.{Clap, Memory}
 
 -- these numbers, or want of memory
 abbrev pub IsNumbersOrNoMemory : List ℕ → Result (Vec ℕ) WordFault → Type 0
 IsNumbersOrNoMemory numbers (Ok v) = v.items ≡ numbers
-IsNumbersOrNoMemory numbers (Err (Clap e)) = ⊥
-IsNumbersOrNoMemory numbers (Err NotNumber) = ⊥
-IsNumbersOrNoMemory numbers (Err NoCommand) = ⊥
 IsNumbersOrNoMemory numbers (Err Memory) = Unit {0}
+IsNumbersOrNoMemory numbers (Err other) = ⊥
 
 -- this wish, or want of memory
 abbrev pub IsTaskOrNoMemory : Wish → Result Task WordFault → Type 0
 IsTaskOrNoMemory wish (Ok task) = wish_of task ≡ wish
-IsTaskOrNoMemory wish (Err (Clap e)) = ⊥
-IsTaskOrNoMemory wish (Err NotNumber) = ⊥
-IsTaskOrNoMemory wish (Err NoCommand) = ⊥
 IsTaskOrNoMemory wish (Err Memory) = Unit {0}
+IsTaskOrNoMemory wish (Err other) = ⊥
 
 -- this file and wish, or want of memory
 abbrev pub WantsOrNoMemory : Text → Wish → Result Wanted WordFault → Type 0
 WantsOrNoMemory file wish (Ok w) = (w.file.now ≡ file) × (wish_of w.task ≡ wish)
 WantsOrNoMemory file wish (Err (Clap e)) = kind_of e ≡ OutOfMemory
-WantsOrNoMemory file wish (Err NotNumber) = ⊥
-WantsOrNoMemory file wish (Err NoCommand) = ⊥
 WantsOrNoMemory file wish (Err Memory) = Unit {0}
+WantsOrNoMemory file wish (Err other) = ⊥
 
 -- ---- wrong command lines
 

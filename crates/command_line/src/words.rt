@@ -1,15 +1,15 @@
 //! The command line.
 
-ghost use Rattle.std.specs.Prelude.{◌≡◌, ℕ, Bool, List, [], true, false, Some, map, unwrap_or, IfOk, IfErr, IfSome, option_map, codes};
+ghost use Rattle.std.specs.Prelude.{◌≡◌, ℕ, Bool, List, Option, [], true, false, Some, map, unwrap_or, IfOk, IfErr, IfSome, option_map, codes};
 ghost use Rattle.clap.specs.Words.{App, Row, app_of, with_subcommand, rule_of, kind_of, subcommand_of};
-ghost use Rattle.clap.specs.Words.{subcommand_rows_of, takes, rows_of, found_of, first_of, all_of, fault_of, FailsBy};
+ghost use Rattle.clap.specs.Words.{subcommand_rows_of, takes, rows_of, found_of, first_of, one_of, all_of, fault_of, FailsBy};
 ghost use Rattle.clap.specs.declared.builder.command.Command.TheViews.{out-Command};
 ghost use Rattle.command_line.specs.Wanted.{WantsOrNoMemory, IsTaskOrNoMemory, IsNumbersOrNoMemory, IsWordFault, IsWrongOrNoMemory};
-ghost use Rattle.command_line.specs.Task.{Wish, Run, command_name};
-ghost use Rattle.command_line.specs.Said.{procd_app, exec_app, asm_app, dis_app, verify_app, world_app, run_app};
-ghost use Rattle.command_line.specs.Said.{file_rule, raw_rule, log_rule, audit_rule};
-ghost use Rattle.command_line.specs.Said.{count_rule, stats_rule, Says, SaysWish, SaysRun, SaysCount, SaysNumbers, AllNumbers, value_of};
-ghost use Rattle.command_line.specs.Said.{IsWrong, IsNoCount, LacksNumber};
+ghost use Rattle.command_line.specs.Task.{Wish, Run, Log, command_name};
+ghost use Rattle.command_line.specs.Said.{procd_app, exec_app, asm_app, dis_app, verify_app, world_app, run_app, log_app};
+ghost use Rattle.command_line.specs.Said.{file_rule, raw_rule, log_rule, audit_rule, script_rule, option_rule, stats_rule, tell_rule};
+ghost use Rattle.command_line.specs.Said.{Says, SaysWish, SaysRun, SaysLog, SaysCount, SaysNumbers, AllNumbers, IsFlag, value_of};
+ghost use Rattle.command_line.specs.Said.{IsWrong, IsNoCount, IsUnfit};
 
 use clap::error::ErrorKind;
 use clap::{Arg, ArgAction, ArgMatches, Command, Error};
@@ -18,7 +18,7 @@ use std::convert::AsStr;
 
 /// A command, but for its file.
 #[derive(Drop)]
-pub enum Task {
+pub enum Task<'a> {
     /// Run code with these arguments; raw code is bytes, other is hex text.
     Exec {
         raw: bool,
@@ -40,16 +40,24 @@ pub enum Task {
     },
     /// Run the calls of a script by so many workers, and send each request so often at most. With
     /// `stats` the figures of the run are told on standard error; with `audit` what an audit finds is
-    /// printed behind the rows.
+    /// printed behind the rows; with `tell` standard error is told of each answer as soon as it stands;
+    /// `log` is the path of the file that keeps the log, if one does.
     Run {
         workers: u64,
         tries: u64,
         stats: bool,
         audit: bool,
+        tell: bool,
+        log: Option<&'a str>,
+    },
+    /// Print the events of a log's file; or audit it, with the script of this path, whose procedures it
+    /// was written for.
+    Log {
+        script: Option<&'a str>,
     },
 }
 
-impl Task {
+impl Task<'_> {
     ghost use Rattle.std.specs.Prelude.{◌≡◌};
     ghost use Rattle.command_line.specs.Task.{may_tell, wish_of};
 
@@ -75,7 +83,7 @@ const TRIES: u64 = 3;
 pub struct Wanted<'a> {
     /// A path, or `-` for standard input.
     pub file: &'a str,
-    pub task: Task,
+    pub task: Task<'a>,
 }
 
 /// Why nothing is wanted.
@@ -84,6 +92,10 @@ pub enum WordFault {
     Clap(Error),
     /// An ARG or N is no number of 64 bits in decimal.
     NotNumber,
+    /// `log --audit` without a script.
+    AuditAlone,
+    /// `log` with a script, but without `--audit`.
+    ScriptAlone,
     NoCommand,
     Memory,
 }
@@ -191,15 +203,15 @@ fn world_command<'a>(alloc: Global) -> Result<Command<'a>, AllocError>
         .arg(file_arg(alloc, SCRIPT_HELP))
 }
 
-// An option with a number.
-fn count_arg<'a>(alloc: Global, name: &'a str, help: &'a str) -> Arg<'a>
-    ensures rule { rule_of result ≡ count_rule name.entry.now }
+// An option with a value.
+fn option_arg<'a>(alloc: Global, name: &'a str, value_name: &'a str, help: &'a str) -> Arg<'a>
+    ensures rule { rule_of result ≡ option_rule name.entry.now }
     ensures local { result.global ≡ false }
 {
     Arg::new(alloc, name)
         .long(name)
         .action(ArgAction::Set)
-        .value_name("N")
+        .value_name(value_name)
         .help(help)
 }
 
@@ -214,27 +226,65 @@ fn stats_arg<'a>(alloc: Global) -> Arg<'a>
         .help("Tell on standard error how many calls were answered how, and how many a second")
 }
 
-// `run [--workers N] [--tries N] [--stats] [--audit] FILE`
+// --tell
+fn tell_arg<'a>(alloc: Global) -> Arg<'a>
+    ensures rule { rule_of result ≡ tell_rule }
+    ensures local { result.global ≡ false }
+{
+    Arg::new(alloc, "tell")
+        .long("tell")
+        .action(ArgAction::SetTrue)
+        .help(
+            "Tell on standard error of each `call` line, as `told 5`, as soon as its answer stands and is kept",
+        )
+}
+
+// `run [--workers N] [--tries N] [--stats] [--audit] [--tell] [--log LOG] FILE`
 fn run_command<'a>(alloc: Global) -> Result<Command<'a>, AllocError>
     ensures app { IfOk result (λ c. app_of c ≡ run_app) }
     ensures local { IfOk result (λ c. (out-Command c).has_globals ≡ false) }
 {
-    let workers = count_arg(
+    let workers = option_arg(
         alloc,
         "workers",
+        "N",
         "How many workers make the `call` lines' calls at once: 1 to 64, or 4 where it isn't said",
     );
-    let tries = count_arg(
+    let tries = option_arg(
         alloc,
         "tries",
+        "N",
         "How often a request is sent at most: 1 to 1000, or 3 where it isn't said",
+    );
+    let log = option_arg(
+        alloc,
+        "log",
+        "LOG",
+        "A file that keeps the log: what it has is gone on from, and each answer waits for it",
     );
     Command::new(alloc, "run")
         .arg(workers)?
         .arg(tries)?
         .arg(stats_arg(alloc))?
         .arg(audit_arg(alloc))?
+        .arg(tell_arg(alloc))?
+        .arg(log)?
         .arg(file_arg(alloc, SCRIPT_HELP))
+}
+
+// `log [--audit] FILE [SCRIPT]`
+fn log_command<'a>(alloc: Global) -> Result<Command<'a>, AllocError>
+    ensures app { IfOk result (λ c. app_of c ≡ log_app) }
+    ensures local { IfOk result (λ c. (out-Command c).has_globals ≡ false) }
+{
+    let script = Arg::new(alloc, "script")
+        .action(ArgAction::Set)
+        .value_name("SCRIPT")
+        .help("With --audit, the script whose procedures the log was written for: a path");
+    Command::new(alloc, "log")
+        .arg(audit_arg(alloc))?
+        .arg(file_arg(alloc, "The log's file: a path, or - for standard input"))?
+        .arg(script)
 }
 
 // Adds a subcommand, once it is made, with what its help begins with.
@@ -290,7 +340,12 @@ fn procd_command<'a>(alloc: Global) -> Result<Command<'a>, AllocError>
         run_command(alloc),
         "Run the calls of a script by workers: prints what each was answered, as `call I committed`, and then the rows",
     )?;
-    Ok(with_run.about("A transaction component that runs verified BPF procedures"))
+    let with_log = with_command(
+        with_run,
+        log_command(alloc),
+        "Print the events of a log's file, one a line, as `7 end 3 committed`; or audit it beside a script",
+    )?;
+    Ok(with_log.about("A transaction component that runs verified BPF procedures"))
 }
 
 // What the words say.
@@ -347,11 +402,26 @@ fn number_or(matches: &ArgMatches, name: &str, default: u64) -> Result<u64, Word
     }
 }
 
+// Whether a flag is there.
+fn flag_of(matches: &ArgMatches, name: &str) -> bool
+    ensures { (flag : Bool) → IsFlag flag (one_of name.now (rows_of (found_of matches.now))) → result ≡ flag }
+{
+    matches.get_flag(name)
+}
+
+// The text of an option or of an argument, where it is there.
+fn text_of<'a>(matches: &ArgMatches<'a>, name: &str) -> Option<&'a str>
+    ensures { option_map (λ s. s.now) result ≡ first_of name.now (rows_of (found_of matches.now)) }
+{
+    matches.get_str(name)
+}
+
 // How calls are to be run.
-fn run_task(matches: &ArgMatches) -> Result<Task, WordFault>
-    ensures task { (workers tries : ℕ) (stats audit : Bool) → SaysRun (rows_of (found_of matches.now)) workers tries stats audit
-        → IsTaskOrNoMemory (Run workers tries stats audit) result }
-    ensures wrong { IfOk result (λ task. ¬ LacksNumber (codes "run") (rows_of (found_of matches.now))) }
+fn run_task<'a>(matches: &ArgMatches<'a>) -> Result<Task<'a>, WordFault>
+    ensures task { (workers tries : ℕ) (stats audit tell : Bool) (log : Option (List ℕ))
+        → SaysRun (rows_of (found_of matches.now)) workers tries stats audit tell log
+        → IsTaskOrNoMemory (Run workers tries stats audit tell log) result }
+    ensures wrong { IfOk result (λ task. ¬ IsUnfit (codes "run") (rows_of (found_of matches.now))) }
     ensures err { IfErr result IsWordFault }
 {
     let workers = number_or(matches, "workers", WORKERS)?;
@@ -359,33 +429,53 @@ fn run_task(matches: &ArgMatches) -> Result<Task, WordFault>
     Ok(Task::Run {
         workers,
         tries,
-        stats: matches.get_flag("stats"),
-        audit: matches.get_flag("audit"),
+        stats: flag_of(matches, "stats"),
+        audit: flag_of(matches, "audit"),
+        tell: flag_of(matches, "tell"),
+        log: text_of(matches, "log"),
     })
 }
 
+// What is to be done with a log's file.
+fn log_task<'a>(matches: &ArgMatches<'a>) -> Result<Task<'a>, WordFault>
+    ensures task { (script : Option (List ℕ)) → SaysLog (rows_of (found_of matches.now)) script → IsTaskOrNoMemory (Log script) result }
+    ensures wrong { IfOk result (λ task. ¬ IsUnfit (codes "log") (rows_of (found_of matches.now))) }
+    ensures err { IfErr result IsWordFault }
+{
+    let audit = flag_of(matches, "audit");
+    let script = text_of(matches, "script");
+    if audit && script.is_none() {
+        return Err(WordFault::AuditAlone);
+    }
+    if !audit && script.is_some() {
+        return Err(WordFault::ScriptAlone);
+    }
+    Ok(Task::Log { script })
+}
+
 // The task of the command of this name.
-fn task_of(alloc: Global, name: &str, matches: &ArgMatches) -> Result<Task, WordFault>
+fn task_of<'a>(alloc: Global, name: &str, matches: &ArgMatches<'a>) -> Result<Task<'a>, WordFault>
     ensures task { (wish : Wish) → name.now ≡ command_name wish → SaysWish (rows_of (found_of matches.now)) wish
         → IsTaskOrNoMemory wish result }
-    ensures wrong { IfOk result (λ task. ¬ LacksNumber name.now (rows_of (found_of matches.now))) }
+    ensures wrong { IfOk result (λ task. ¬ IsUnfit name.now (rows_of (found_of matches.now))) }
     ensures err { IfErr result IsWordFault }
 {
     match name {
         "exec" => Ok(Task::Exec {
-            raw: matches.get_flag("raw"),
+            raw: flag_of(matches, "raw"),
             numbers: numbers_in(alloc, matches)?,
         }),
         "asm" => Ok(Task::Asm),
         "dis" => Ok(Task::Dis {
-            raw: matches.get_flag("raw"),
+            raw: flag_of(matches, "raw"),
         }),
         "verify" => Ok(Task::Verify),
         "world" => Ok(Task::World {
-            log: matches.get_flag("log"),
-            audit: matches.get_flag("audit"),
+            log: flag_of(matches, "log"),
+            audit: flag_of(matches, "audit"),
         }),
         "run" => run_task(matches),
+        "log" => log_task(matches),
         _ => Err(WordFault::NoCommand),
     }
 }

@@ -1,42 +1,30 @@
-use Rattle.std.proofs.Common.{codes, ℕ, List, ◌∙◌, sym, subst}
+use Rattle.std.proofs.Common.{ℕ, List, sym, subst}
 use Rattle.std.proofs.lemmas.Result.{IfOk-weaker}
-use Rattle.command_line.specs.Said.{LacksNumber}
-use Rattle.clap.specs.Words.{found_of, rows_of, one_of}
-use Rattle.clap.proofs.WalkLemmas.{one_text-rows}
-use Rattle.command_line.proofs.Options.{flag_is}
-use Rattle.command_line.proofs.Wishes.{wants_exec, wants_dis, wants_world, wants_run, lacks_no_argument}
+use Rattle.command_line.specs.Said.{IsUnfit}
+use Rattle.clap.specs.Words.{found_of, rows_of}
+use Rattle.command_line.proofs.Wishes.{wants_exec, wants_dis, wants_world, wants_run, wants_log, lacks_no_argument}
 use Rattle.command_line.proofs.Wishes.{asm_lacks_nothing, dis_lacks_nothing, verify_lacks_nothing, world_lacks_nothing}
 use Rattle.command_line.proofs.words.task_of.Goals as goal
 
 pub returns-in_ok-numbers_in-in-exec-clause-task : goal.returns-in_ok-numbers_in-in-exec-clause-task
 returns-in_ok-numbers_in-in-exec-clause-task c =
-    let found = found_of c.args.matches.now in
-    let text = one_text-rows found (codes "raw") in
-    let flag = flag_is (one_of (codes "raw") (rows_of found)) c.get_flag.result
-    (λ e. c.get_flag.ensures.none (text ∙ e)) (λ e. c.get_flag.ensures.value (text ∙ e)) (λ e. c.get_flag.ensures.other (text ∙ e)) in
-    wants_exec c.args.name.now (rows_of found) c.get_flag.result c.in_ok-numbers_in-in-exec.field-0.items c.in-exec.is flag c.in_ok-numbers_in-in-exec.ensures.numbers
+    wants_exec c.args.name.now (rows_of (found_of c.args.matches.now)) c.flag_of.result c.in_ok-numbers_in-in-exec.field-0.items c.in-exec.is c.flag_of.ensures
+    c.in_ok-numbers_in-in-exec.ensures.numbers
 
 pub returns-in-dis-clause-task : goal.returns-in-dis-clause-task
 returns-in-dis-clause-task c =
-    let found = found_of c.args.matches.now in
-    let text = one_text-rows found (codes "raw") in
-    let flag = flag_is (one_of (codes "raw") (rows_of found)) c.get_flag-in-dis.result
-    (λ e. c.get_flag-in-dis.ensures.none (text ∙ e)) (λ e. c.get_flag-in-dis.ensures.value (text ∙ e)) (λ e. c.get_flag-in-dis.ensures.other (text ∙ e)) in
-    wants_dis c.args.name.now (rows_of found) c.get_flag-in-dis.result c.in-dis.is flag
+    wants_dis c.args.name.now (rows_of (found_of c.args.matches.now)) c.flag_of-in-dis.result c.in-dis.is c.flag_of-in-dis.ensures
 
 pub returns-in-world-clause-task : goal.returns-in-world-clause-task
 returns-in-world-clause-task c =
-    let found = found_of c.args.matches.now in
-    let text = one_text-rows found (codes "log") in
-    let flag = flag_is (one_of (codes "log") (rows_of found)) c.get_flag-in-world.result
-    (λ e. c.get_flag-in-world.ensures.none (text ∙ e)) (λ e. c.get_flag-in-world.ensures.value (text ∙ e)) (λ e. c.get_flag-in-world.ensures.other (text ∙ e)) in
-    let audit_text = one_text-rows found (codes "audit") in
-    let audited = flag_is (one_of (codes "audit") (rows_of found)) c.get_flag-in-world-2.result
-    (λ e. c.get_flag-in-world-2.ensures.none (audit_text ∙ e)) (λ e. c.get_flag-in-world-2.ensures.value (audit_text ∙ e)) (λ e. c.get_flag-in-world-2.ensures.other (audit_text ∙ e)) in
-    wants_world c.args.name.now (rows_of found) c.get_flag-in-world.result c.get_flag-in-world-2.result c.in-world.is flag audited
+    wants_world c.args.name.now (rows_of (found_of c.args.matches.now)) c.flag_of-in-world.result c.flag_of-in-world-2.result c.in-world.is
+    c.flag_of-in-world.ensures c.flag_of-in-world-2.ensures
 
 pub returns-in-run-clause-task : goal.returns-in-run-clause-task
 returns-in-run-clause-task c = wants_run c.args.name.now (rows_of (found_of c.args.matches.now)) c.run_task.result c.in-run.is c.run_task.ensures.task
+
+pub returns-in-log-clause-task : goal.returns-in-log-clause-task
+returns-in-log-clause-task c = wants_log c.args.name.now (rows_of (found_of c.args.matches.now)) c.log_task.result c.in-log.is c.log_task.ensures.task
 
 pub returns-in_ok-numbers_in-in-exec-clause-wrong : goal.returns-in_ok-numbers_in-in-exec-clause-wrong
 returns-in_ok-numbers_in-in-exec-clause-wrong c =
@@ -56,5 +44,10 @@ returns-in-world-clause-wrong c = world_lacks_nothing c.args.name.now (rows_of (
 
 pub returns-in-run-clause-wrong : goal.returns-in-run-clause-wrong
 returns-in-run-clause-wrong c =
-    IfOk-weaker c.run_task.result _ _ (λ task h. subst (λ (n : List ℕ). ¬ LacksNumber n (rows_of (found_of c.args.matches.now))) (sym c.in-run.is) h)
+    IfOk-weaker c.run_task.result _ _ (λ task h. subst (λ (n : List ℕ). ¬ IsUnfit n (rows_of (found_of c.args.matches.now))) (sym c.in-run.is) h)
     c.run_task.ensures.wrong
+
+pub returns-in-log-clause-wrong : goal.returns-in-log-clause-wrong
+returns-in-log-clause-wrong c =
+    IfOk-weaker c.log_task.result _ _ (λ task h. subst (λ (n : List ℕ). ¬ IsUnfit n (rows_of (found_of c.args.matches.now))) (sym c.in-log.is) h)
+    c.log_task.ensures.wrong

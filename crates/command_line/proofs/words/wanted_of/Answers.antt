@@ -1,7 +1,7 @@
 use Rattle.std.proofs.Common.{◌≡◌, ◌∙◌, ap, sym, subst, map, Some, None, List, option_map, codes}
 use Rattle.clap.specs.Words.{Row, Text, first_of, found_of, rows_of}
 use Rattle.clap.proofs.WalkLemmas.{first_value-rows}
-use Rattle.command_line.specs.Said.{SaysWish, LacksNumber, Refused, NoCommand, NoNumber}
+use Rattle.command_line.specs.Said.{SaysWish, IsUnfit, Refused, NoCommand, Unfit}
 use Rattle.command_line.specs.Task.{command_name}
 use Rattle.command_line.proofs.Options.{some_some}
 use Rattle.command_line.proofs.Wishes.{name_of_rows, wrong_shows_nothing}
@@ -42,11 +42,11 @@ returns-clause-wrong g c = λ wrong.
       | Refused refused ↦ refused.0 c.in-Ok.ensures.kinds
       | NoCommand accepted none ↦ none_some _ (sym (ap (option_map (λ p. rows_of (found_of p.1.now))) (sym c.in-Some.is) ∙ c.subcommand.ensures.rows
           ∙ ap (option_map (λ (p : Text × List Row). p.1)) (c.in-Ok.ensures.ok ∙ none)))
-      | NoNumber accepted name rows entered lacks ↦
+      | Unfit accepted name rows entered unfit ↦
           let entered = c.in-Ok.ensures.ok ∙ entered in
           let rows_is : rows_of found ≡ rows = some_some _ _
           (ap (option_map (λ p. rows_of (found_of p.1.now))) (sym c.in-Some.is) ∙ c.subcommand.ensures.rows ∙ ap (option_map (λ (p : Text × List Row). p.1)) entered) in
           let name_is : c.in-Some.name.now ≡ name = some_some _ _
           (ap (option_map (λ p. p.0.now)) (sym c.in-Some.is) ∙ c.subcommand.ensures.name ∙ name_of_rows m ∙ ap (option_map (λ (p : Text × List Row). p.0)) entered) in
-          c.in_ok-task.ensures.wrong (subst (λ (n : Text). LacksNumber n (rows_of found)) (sym name_is) (subst (LacksNumber name) (sym rows_is) lacks))
+          c.in_ok-task.ensures.wrong (subst (λ (n : Text). IsUnfit n (rows_of found)) (sym name_is) (subst (IsUnfit name) (sym rows_is) unfit))
     ]
