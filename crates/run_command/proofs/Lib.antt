@@ -1,3 +1,5 @@
 pub mod AnswerLemmas
+pub mod HaltLemmas
 pub mod RunLemmas
 pub mod ServerLemmas
+pub mod LoggedLemmas

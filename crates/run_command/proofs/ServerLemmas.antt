@@ -1,6 +1,5 @@
 -- Threads that promise to serve data components, and what they hand back.
-use Rattle.std.proofs.Common.{◌≡◌, ℕ, ◌<◌, ◌+◌, List, [], ◌∷◌, ◌++◌, length, drop, get_or, get_or-drop, Some, refl, sym, ◌∙◌, ap, subst, arith, add-zero, below_more}
-use Rattle.std.specs.Prelude.{slice_get}
+use Rattle.std.proofs.Common.{◌≡◌, ℕ, ◌<◌, ◌+◌, List, [], ◌∷◌, ◌++◌, length, drop, get_or, get_or-drop, refl, sym, ◌∙◌, ap, subst, arith, add-zero, below_more}
 use Rattle.std.proofs.lemmas.List.{drop-drop, length_push, get_or_append_left, get_or_push}
 use Rattle.std.proofs.lemmas.Option.{slice_get_within, get_or_from_slice_get}
 use Rattle.data_component.specs.Store.{Store}

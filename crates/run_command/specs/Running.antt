@@ -82,8 +82,9 @@ pub record AreLinesOf (last : Core) (dcs : List Store) (audit : Bool) (first_ans
   pub found : AddsIf audit kept lines sound (AddsAudit last.procs last.events dcs kept lines sound)
   pub status_is : status ≡ (if sound then 0 else 1)
 
--- the calls that the lines say are run over these data components, and their answers and the rows behind them are printed
-pub record ArePrinted (start : Core) (dcs : List Store) (first calls : List said.Call) (audit : Bool) (status : ℕ) (lines : List ℕ)
+-- the calls that the lines say are run over these data components, and their answers and the rows behind them are printed; the last
+-- state is kept
+pub record ArePrinted (Kept : Core → Type 0) (start : Core) (dcs : List Store) (first calls : List said.Call) (audit : Bool) (status : ℕ) (lines : List ℕ)
     : Type 0 where
   pub first_calls : List Call
   pub first_are : AreCallsOf first first_calls
@@ -96,14 +97,15 @@ pub record ArePrinted (start : Core) (dcs : List Store) (first calls : List said
   pub last_dcs : List Store
   pub served : AreServed dcs last_dcs
   pub printed : AreLinesOf last last_dcs audit first_answers other_answers status lines
+  pub kept : Kept last
 
 -- they are run, whatever they are answered, or it is printed why not
-pub data IsCallsRun (start : Core) (dcs : List Store) (first calls : List said.Call) (workers tries : ℕ) (audit : Bool)
+pub data IsCallsRun (Kept : Core → Type 0) (start : Core) (dcs : List Store) (first calls : List said.Call) (workers tries : ℕ) (audit : Bool)
     (status : ℕ) (lines : List ℕ) : Type 0 where
-  Ran : InRange workers tries → ArePrinted start dcs first calls audit status lines
-      → IsCallsRun start dcs first calls workers tries audit status lines
+  Ran : InRange workers tries → ArePrinted Kept start dcs first calls audit status lines
+      → IsCallsRun Kept start dcs first calls workers tries audit status lines
   Stopped : (cause : Unbegun) → Stops workers tries cause → status ≡ 1 → fault_line cause ≡ Some lines
-      → IsCallsRun start dcs first calls workers tries audit status lines
+      → IsCallsRun Kept start dcs first calls workers tries audit status lines
 
 -- its procedures are loaded, and nothing has happened
 abbrev pub begun : Contents → Core
@@ -116,7 +118,7 @@ empty_stores c = map empty_store c.dcs
 abbrev pub IsRunBy : Option (List ℕ) → Contents → ℕ → ℕ → Bool → ℕ → List ℕ → Type 0
 IsRunBy (Some refusal) contents workers tries audit status lines = (status ≡ 1) × (lines ≡ refusal)
 IsRunBy None contents workers tries audit status lines =
-    IsCallsRun (begun contents) (empty_stores contents) contents.first contents.calls workers tries audit status lines
+    IsCallsRun (λ _. Unit {0}) (begun contents) (empty_stores contents) contents.first contents.calls workers tries audit status lines
 
 -- of a script that is refused no call is made
 abbrev pub IsRun : ℕ → ℕ → Bool → Reading → ℕ → List ℕ → Type 0

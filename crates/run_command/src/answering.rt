@@ -1,13 +1,21 @@
-//! Both lists of a script's calls, answered while each data component runs in a thread of its own.
+//! Both lists of a script's calls, answered while each data component runs in a thread of its own, and kept
+//! in a journal where there is one.
 
-ghost use Rattle.std.specs.Prelude.{◌≡◌, ℕ, List, [], length, IfOk, IfErr, OnOk};
+ghost use Rattle.std.specs.Prelude.{◌≡◌, ℕ, List, [], length, true, None, Some, is_some, IfOk, IfErr, OnOk};
 ghost use Rattle.data_component.specs.Store.{Store};
+ghost use Rattle.tc_core.specs.Core.{Core};
 ghost use Rattle.worker_pool.specs.Faults.{InRange};
+ghost use Rattle.worker_pool.specs.Journals.{KeptFaultFits};
+ghost use Rattle.worker_pool.specs.Reports.{Reports};
 ghost use Rattle.run_command.specs.Running.{AreAnswered, AreServed, Stops, cause_of};
+ghost use Rattle.run_command.specs.Logged.{FileJournal as FileJournalValue, KeepsLog, HaltFits};
+ghost use Rattle.run_command.specs.Joining.Halts.{ListHalts};
 ghost use Rattle.run_command.specs.Joining.Servers.{ArePromised};
 
 use crate::watching::{Waits, Watch};
 use data_component::dc::Dc;
+use disk_file::DiskFile;
+use log_journal::LogJournal;
 use std::alloc::{AllocError, Global};
 use std::snapshot::Snapshot;
 use std::sync::Wait;
@@ -15,7 +23,9 @@ use std::thread;
 use std::thread::{PromisedHandle, Scope, Threads};
 use std::time::{Clock, Duration, Instant};
 use tc_core::state::{Call, TcState};
-use worker_pool::{Answer, OpenGate, Report, RingLink, RunFault, ServedFrom, run};
+use worker_pool::{
+    Answer, Gate, KeptFault, OpenGate, Report, RingLink, RunFault, ServedFrom, run, run_kept,
+};
 
 /// How the calls of a script are run: the second list by so many workers, each request sent so often
 /// at most; with the figures of that list as notes, and with an audit behind the rows.
@@ -45,6 +55,17 @@ pub enum Unbegun {
     NoThread,
 }
 
+/// Why calls have no answers.
+#[derive(Clone, Copy, Debug)]
+pub enum Halt {
+    Unbegun(Unbegun),
+    /// The journal didn't keep what was logged. Nothing was told since.
+    NotKept,
+}
+
+/// A journal in a file.
+pub type FileJournal = LogJournal<DiskFile>;
+
 // Why a run wasn't begun; the state that it hands back goes.
 fn cause(fault: RunFault) -> Unbegun
     ensures { result ≡ cause_of fault }
@@ -59,11 +80,144 @@ fn cause(fault: RunFault) -> Unbegun
     cause
 }
 
-/// What the calls of both lists were answered, the state behind them, how long those of the second
-/// took in all, if the clock can be read, and how long the longest of them.
+// Why a run whose log is kept has no report; the state that it hands back goes.
+fn halted(fault: KeptFault) -> Halt
+    ensures { (journal : FileJournalValue) (start : Core) (workers tries : ℕ) → KeptFaultFits start workers tries fault
+        → ListHalts (Some journal) workers tries result }
+{
+    match fault {
+        KeptFault::Unbegun(fault) => Halt::Unbegun(cause(fault)),
+        KeptFault::NotKept(state) => {
+            drop(state);
+            Halt::NotKept
+        }
+    }
+}
+
+// One list of calls that was answered.
+#[derive(Drop)]
+struct Listed {
+    state: TcState,
+    answers: Vec<Answer>,
+    journal: Option<FileJournal>,
+}
+
+// The list of a report, and the journal that has kept its log, if there is one.
+fn listed_in(report: Report, journal: Option<FileJournal>) -> Listed
+    ensures { (result.state ≡ report.state) × (result.answers ≡ report.answers) × (result.journal ≡ journal) }
+{
+    let Report { state, answers } = report;
+    Listed {
+        state,
+        answers,
+        journal,
+    }
+}
+
+// Who makes the calls of a list, and how often each request is sent at most.
+#[derive(Clone, Copy)]
+struct Crew {
+    workers: usize,
+    tries: u64,
+}
+
+// Answers one list of calls.
+fn answer_unkept<R: Threads + Wait + Sync, G: Gate + Sync>(
+    rt: &R,
+    alloc: Global,
+    state: TcState,
+    calls: &[Call],
+    crew: Crew,
+    link: &RingLink,
+    gate: &G,
+) -> Result<Listed, Halt>
+    ensures report { IfOk result (λ l. Reports state calls.now l.state l.answers.items) }
+    ensures journal { IfOk result (λ l. l.journal ≡ None) }
+    ensures range { IfOk result (λ _. InRange crew.workers crew.tries) }
+    ensures fault { IfErr result (ListHalts None crew.workers crew.tries) }
+{
+    match run(
+        rt,
+        alloc,
+        state,
+        calls,
+        crew.workers,
+        crew.tries,
+        link,
+        gate,
+    ) {
+        Ok(report) => Ok(listed_in(report, None)),
+        Err(fault) => Err(Halt::Unbegun(cause(fault))),
+    }
+}
+
+// The same, and keeps the log in a journal.
+fn answer_kept<R: Threads + Wait + Sync, G: Gate + Sync>(
+    rt: &R,
+    alloc: Global,
+    state: TcState,
+    calls: &[Call],
+    crew: Crew,
+    link: &RingLink,
+    gate: &G,
+    journal: FileJournal,
+) -> Result<Listed, Halt>
+    ensures report { IfOk result (λ l. Reports state calls.now l.state l.answers.items) }
+    ensures kept { KeepsLog (Some journal) state.events → IfOk result (λ l. KeepsLog l.journal l.state.events) }
+    ensures journal { IfOk result (λ l. is_some l.journal ≡ true) }
+    ensures range { IfOk result (λ _. InRange crew.workers crew.tries) }
+    ensures fault { IfErr result (ListHalts (Some journal) crew.workers crew.tries) }
+{
+    let (journal, ran) = run_kept(
+        rt,
+        alloc,
+        state,
+        calls,
+        crew.workers,
+        crew.tries,
+        link,
+        gate,
+        journal,
+    );
+    match ran {
+        Ok(report) => Ok(listed_in(report, Some(journal))),
+        Err(fault) => {
+            drop(journal);
+            Err(halted(fault))
+        }
+    }
+}
+
+// Answers one list of calls, and keeps the log where there is a journal.
+fn answer_list<R: Threads + Wait + Sync, G: Gate + Sync>(
+    rt: &R,
+    alloc: Global,
+    state: TcState,
+    calls: &[Call],
+    crew: Crew,
+    link: &RingLink,
+    gate: &G,
+    journal: Option<FileJournal>,
+) -> Result<Listed, Halt>
+    ensures report { IfOk result (λ l. Reports state calls.now l.state l.answers.items) }
+    ensures kept { KeepsLog journal state.events → IfOk result (λ l. KeepsLog l.journal l.state.events) }
+    ensures same { IfOk result (λ l. is_some l.journal ≡ is_some journal) }
+    ensures range { IfOk result (λ _. InRange crew.workers crew.tries) }
+    ensures fault { IfErr result (ListHalts journal crew.workers crew.tries) }
+{
+    match journal {
+        None => answer_unkept(rt, alloc, state, calls, crew, link, gate),
+        Some(journal) => answer_kept(rt, alloc, state, calls, crew, link, gate, journal),
+    }
+}
+
+/// What the calls of both lists were answered, the state behind them, the journal that has kept its log, if
+/// there is one, how long the calls of the second list took in all, if the clock can be read, and how long
+/// the longest of them.
 #[derive(Drop)]
 pub struct Answered {
     pub state: TcState,
+    pub journal: Option<FileJournal>,
     pub first: Vec<Answer>,
     pub calls: Vec<Answer>,
     pub elapsed: Option<Duration>,
@@ -82,43 +236,45 @@ fn answer_all<R: Clock + Threads + Wait + Sync>(
     state: TcState,
     workload: &Workload,
     link: &RingLink,
-) -> Result<Answered, Unbegun>
+    journal: Option<FileJournal>,
+) -> Result<Answered, Halt>
     ensures answered { IfOk result (λ a. AreAnswered state workload.now.first.items workload.now.calls.items
         a.first.items a.calls.items a.state) }
+    ensures kept { KeepsLog journal state.events → IfOk result (λ a. KeepsLog a.journal a.state.events) }
+    ensures same { IfOk result (λ a. is_some a.journal ≡ is_some journal) }
     ensures range { IfOk result (λ _. InRange workload.now.manner.workers workload.now.manner.tries) }
-    ensures fault { IfErr result (Stops workload.now.manner.workers workload.now.manner.tries) }
+    ensures fault { IfErr result (HaltFits journal workload.now.manner.workers workload.now.manner.tries) }
 {
     let tries = workload.manner.tries;
     let first = workload.first.as_slice();
-    let begun = match run(rt, alloc, state, first, 1, tries, link, &OpenGate) {
-        Ok(report) => report,
-        Err(fault) => return Err(cause(fault)),
-    };
-    let Report {
+    let alone = Crew { workers: 1, tries };
+    let Listed {
         state,
         answers: first,
-    } = begun;
+        journal,
+    } = answer_list(rt, alloc, state, first, alone, link, &OpenGate, journal)?;
     let start = Instant::now(rt).ok();
     let watch = Watch::new(rt, &workload.waits);
-    let workers = workload.manner.workers as usize;
+    let all = Crew {
+        workers: workload.manner.workers as usize,
+        tries,
+    };
     let calls = workload.calls.as_slice();
-    let ended = run(rt, alloc, state, calls, workers, tries, link, &watch);
+    let ended = answer_list(rt, alloc, state, calls, all, link, &watch, journal);
     workload.waits.end();
-    match ended {
-        Ok(
-            Report {
-                state,
-                answers: calls,
-            },
-        ) => Ok(Answered {
-            state,
-            first,
-            calls,
-            elapsed: since(rt, start),
-            longest: workload.waits.longest(),
-        }),
-        Err(fault) => Err(cause(fault)),
-    }
+    let Listed {
+        state,
+        answers: calls,
+        journal,
+    } = ended?;
+    Ok(Answered {
+        state,
+        journal,
+        first,
+        calls,
+        elapsed: since(rt, start),
+        longest: workload.waits.longest(),
+    })
 }
 
 // Why no call is begun where a component has no thread: the tries are looked at first.
@@ -193,7 +349,8 @@ fn handed_back<R: Threads>(rt: &R, servers: Vec<Server>) -> Result<Vec<Dc>, Allo
 }
 
 /// Answers both lists while a thread for each component serves it, and hands the components back as
-/// they are then. Where a thread can't be started, no call is begun.
+/// they are then. Where a thread can't be started, no call is begun. Where there is a journal, no answer is
+/// told before it is kept.
 pub fn answer_served<R: Clock + Threads + Wait + Sync>(
     rt: &R,
     alloc: Global,
@@ -201,11 +358,14 @@ pub fn answer_served<R: Clock + Threads + Wait + Sync>(
     dcs: Vec<Dc>,
     workload: &Workload,
     rings: Rings,
-) -> (Result<Answered, Unbegun>, Result<Vec<Dc>, AllocError>)
+    journal: Option<FileJournal>,
+) -> (Result<Answered, Halt>, Result<Vec<Dc>, AllocError>)
     ensures answered { IfOk result.0 (λ a. AreAnswered state workload.now.first.items workload.now.calls.items
         a.first.items a.calls.items a.state) }
+    ensures kept { KeepsLog journal state.events → IfOk result.0 (λ a. KeepsLog a.journal a.state.events) }
+    ensures same { IfOk result.0 (λ a. is_some a.journal ≡ is_some journal) }
     ensures range { IfOk result.0 (λ _. InRange workload.now.manner.workers workload.now.manner.tries) }
-    ensures fault { IfErr result.0 (Stops workload.now.manner.workers workload.now.manner.tries) }
+    ensures fault { IfErr result.0 (HaltFits journal workload.now.manner.workers workload.now.manner.tries) }
     ensures dcs { OnOk result.0 (IfOk result.1 (λ back. AreServed dcs.items back.items)) }
 {
     let Rings { link, servers } = rings;
@@ -213,25 +373,28 @@ pub fn answer_served<R: Clock + Threads + Wait + Sync>(
     thread::scope(
         thread::scope_env(),
         rt,
-        |scope| -> (Result<Answered, Unbegun>, Result<Vec<Dc>, AllocError>)
+        |scope| -> (Result<Answered, Halt>, Result<Vec<Dc>, AllocError>)
             requires { servers.items ≡ [] }
             ensures answered { IfOk result.0 (λ a. AreAnswered state workload.entry.now.first.items workload.entry.now.calls.items
                 a.first.items a.calls.items a.state) }
+            ensures kept { KeepsLog journal state.events → IfOk result.0 (λ a. KeepsLog a.journal a.state.events) }
+            ensures same { IfOk result.0 (λ a. is_some a.journal ≡ is_some journal) }
             ensures range { IfOk result.0 (λ _. InRange workload.entry.now.manner.workers workload.entry.now.manner.tries) }
-            ensures fault { IfErr result.0 (Stops workload.entry.now.manner.workers workload.entry.now.manner.tries) }
+            ensures fault { IfErr result.0 (HaltFits journal workload.entry.now.manner.workers workload.entry.now.manner.tries) }
             ensures dcs { OnOk result.0 (IfOk result.1 (λ back. AreServed dcs.items back.items)) }
         {
             let count = dcs.len();
             let servers = serve_all(scope, rt, link, dcs, servers);
             if servers.len() == count {
-                let answered = answer_all(rt, alloc, state, workload, link);
+                let answered = answer_all(rt, alloc, state, workload, link, journal);
                 link.close();
                 (answered, handed_back(rt, servers))
             } else {
                 link.close();
                 drop(state);
+                drop(journal);
                 (
-                    Err(unserved(workload.manner.tries)),
+                    Err(Halt::Unbegun(unserved(workload.manner.tries))),
                     handed_back(rt, servers),
                 )
             }

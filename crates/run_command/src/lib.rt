@@ -12,5 +12,7 @@
 mod answer_lines;
 mod answering;
 mod figures;
+mod log_lines;
+pub mod logged;
 pub mod running;
 mod watching;

@@ -1,6 +1,6 @@
 //! `run`: the calls of a script by workers, a line for each, and then what the data components keep.
 
-ghost use Rattle.std.specs.Prelude.{◌≡◌, ◌++◌, List, IfOk, IfErr, Some, codes, string_bytes};
+ghost use Rattle.std.specs.Prelude.{◌≡◌, ◌++◌, List, Ok, IfOk, IfErr, IsOkAnd, Some, codes, string_bytes};
 ghost use Rattle.std.specs.List.{list_any};
 ghost use Rattle.scripts.specs.Reading.{script_said};
 ghost use Rattle.scripts.specs.declared.keyword.Command.TheVariants as command;
@@ -9,12 +9,15 @@ ghost use Rattle.tc_core.specs.Admission.{call_of};
 ghost use Rattle.run_command.specs.AnswerLines.{answer_lines, fault_line};
 ghost use Rattle.state_lines.specs.AuditLines.{AddsIf, AddsAudit};
 ghost use Rattle.state_lines.specs.RowLines.{AddsRowLines};
+ghost use Rattle.run_command.specs.Logged.{KeepsLog, UnreportedFits};
+ghost use Rattle.run_command.specs.Joining.Stopping.{StopsAt};
 ghost use Rattle.run_command.specs.Running.{said_call, AreCallsOf, is_want_of_memory, AreLinesOf, IsCallsRun, IsRun};
 
 use crate::answer_lines::{fault_line, write_answers};
 pub use crate::answering::Manner;
-use crate::answering::{Answered, Rings, Unbegun, Workload, answer_served};
+use crate::answering::{Answered, FileJournal, Halt, Rings, Unbegun, Workload, answer_served};
 use crate::figures::{figures, longest_wait, rate};
+pub use crate::watching::Listeners;
 use crate::watching::Waits;
 use data_component::dc::Dc;
 use report_texts::report::Report;
@@ -24,7 +27,6 @@ use scripts::script;
 use state_lines::audit_lines::write_audit;
 use state_lines::row_lines::write_all_rows;
 use std::alloc::{AllocError, Global};
-use std::io::Stderr;
 use std::sync::Wait;
 use std::thread::Threads;
 use std::time::Clock;
@@ -108,7 +110,12 @@ fn write_found(
 }
 
 // The report of calls that were run, over components that are now these.
-fn ran(alloc: Global, answered: &Answered, dcs: &[Dc], manner: Manner) -> Result<Report, AllocError>
+fn reported(
+    alloc: Global,
+    answered: &Answered,
+    dcs: &[Dc],
+    manner: Manner,
+) -> Result<Report, AllocError>
     ensures { IfOk result (λ r. AreLinesOf answered.now.state dcs.now manner.audit answered.now.first.items answered.now.calls.items
         r.status (string_bytes r.lines)) }
 {
@@ -157,7 +164,7 @@ fn prepare(
     calls: &[script::Call],
     dcs: usize,
     manner: Manner,
-    terminal: Option<Stderr>,
+    listeners: Listeners,
 ) -> Result<Prepared, AllocError>
     ensures first { IfOk result (λ p. AreCallsOf first.now p.workload.first.items) }
     ensures calls { IfOk result (λ p. AreCallsOf calls.now p.workload.calls.items) }
@@ -167,7 +174,7 @@ fn prepare(
     let calls = calls_of(alloc, calls)?;
     let rings = Rings::new(alloc, dcs, manner.workers)?;
     let watched = if manner.stats { calls.len() } else { 0 };
-    let waits = Waits::new(alloc, watched, terminal)?;
+    let waits = Waits::new(alloc, watched, listeners)?;
     Ok(Prepared {
         workload: Workload {
             first,
@@ -179,6 +186,92 @@ fn prepare(
     })
 }
 
+/// The report of calls, and the journal that has kept the log behind them, if there is one.
+#[derive(Drop)]
+pub struct Ran {
+    pub report: Report,
+    pub journal: Option<FileJournal>,
+}
+
+/// Why there is no report of calls.
+#[derive(Clone, Copy, Debug)]
+pub enum Unreported {
+    Memory,
+    /// The journal didn't keep what was logged.
+    NotKept,
+}
+
+impl From<AllocError> for Unreported {
+    ghost use Rattle.std.specs.Prelude.{◌≡◌};
+    ghost use Rattle.run_command.specs.declared.running.Unreported.TheVariants.{Memory};
+
+    ghost from_gives = { λ _ e. e ≡ Memory };
+
+    fn from(_: AllocError) -> Unreported {
+        Unreported::Memory
+    }
+}
+
+// The same over the components that were handed back, if memory sufficed for that.
+fn reported_over(
+    alloc: Global,
+    answered: &Answered,
+    dcs: Result<Vec<Dc>, AllocError>,
+    manner: Manner,
+) -> Result<Report, AllocError>
+    ensures { IfOk result (λ r. IsOkAnd dcs (λ back. AreLinesOf answered.now.state back.items manner.audit answered.now.first.items
+        answered.now.calls.items r.status (string_bytes r.lines))) }
+{
+    let dcs = dcs?;
+    reported(alloc, answered, dcs.as_slice(), manner)
+}
+
+// The journal that has kept the log, if there is one; all else goes.
+fn journal_of(answered: Answered) -> Option<FileJournal>
+    ensures { result ≡ answered.journal }
+{
+    let Answered {
+        state,
+        journal,
+        first,
+        calls,
+        elapsed: _,
+        longest: _,
+    } = answered;
+    drop(state);
+    drop(first);
+    drop(calls);
+    journal
+}
+
+// The report with the journal, which goes where memory ran out.
+fn with_journal(
+    report: Result<Report, AllocError>,
+    journal: Option<FileJournal>,
+) -> Result<Ran, Unreported>
+    ensures ok { IfOk result (λ r. (report ≡ Ok r.report) × (r.journal ≡ journal)) }
+    ensures err { IfErr result (λ e. e ≡ Unreported.Memory) }
+{
+    match report {
+        Ok(report) => Ok(Ran { report, journal }),
+        Err(AllocError) => {
+            drop(journal);
+            Err(Unreported::Memory)
+        }
+    }
+}
+
+// What is told of calls that have no answers.
+fn unanswered(alloc: Global, halt: Halt) -> Result<Ran, Unreported>
+    ensures ok { IfOk result (λ r. StopsAt halt r.report.status (string_bytes r.report.lines)) }
+    ensures err { IfErr result (λ e. e ≡ Unreported.NotKept → halt ≡ Halt.NotKept) }
+{
+    match halt {
+        Halt::Unbegun(cause) => with_journal(stopped(alloc, cause), None),
+        Halt::NotKept => Err(Unreported::NotKept),
+    }
+}
+
 // Runs both lists of calls from this state over these components.
 fn run_calls<R: Clock + Threads + Wait + Sync>(
     rt: &R,
@@ -186,28 +279,76 @@ fn run_calls<R: Clock + Threads + Wait + Sync>(
     state: TcState,
     dcs: Vec<Dc>,
     prepared: Prepared,
-) -> Result<Report, AllocError>
-    ensures { (said_first said_calls : List ScriptCall) → AreCallsOf said_first prepared.workload.first.items
-        → AreCallsOf said_calls prepared.workload.calls.items → IfOk result (λ r. IsCallsRun state dcs.items said_first said_calls
-        prepared.workload.manner.workers prepared.workload.manner.tries prepared.workload.manner.audit r.status (string_bytes r.lines)) }
+    journal: Option<FileJournal>,
+) -> Result<Ran, Unreported>
+    ensures run { (said_first said_calls : List ScriptCall) → KeepsLog journal state.events → AreCallsOf said_first prepared.workload.first.items
+        → AreCallsOf said_calls prepared.workload.calls.items → IfOk result (λ r. IsCallsRun (λ last. KeepsLog r.journal last.events)
+        state dcs.items said_first said_calls prepared.workload.manner.workers prepared.workload.manner.tries
+        prepared.workload.manner.audit r.report.status (string_bytes r.report.lines)) }
+    ensures fault { IfErr result (UnreportedFits journal) }
 {
     let Prepared { workload, rings } = prepared;
-    let (answered, dcs) = answer_served(rt, alloc, state, dcs, &workload, rings);
+    let (answered, dcs) = answer_served(rt, alloc, state, dcs, &workload, rings, journal);
     match answered {
-        Ok(answered) => ran(alloc, &answered, dcs?.as_slice(), workload.manner),
-        Err(cause) => stopped(alloc, cause),
+        Ok(answered) => {
+            let report = reported_over(alloc, &answered, dcs, workload.manner);
+            with_journal(report, journal_of(answered))
+        }
+        Err(halt) => unanswered(alloc, halt),
     }
 }
 
-// Runs the calls of a script that is loaded.
+/// What the calls of a loaded script are run with.
+#[derive(Drop)]
+pub struct Calls {
+    pub first: Vec<script::Call>,
+    pub calls: Vec<script::Call>,
+    pub manner: Manner,
+    pub listeners: Listeners,
+}
+
+/// Runs the calls from this state over these components, and keeps the log where there is a journal.
+pub fn run_from<R: Clock + Threads + Wait + Sync>(
+    rt: &R,
+    alloc: Global,
+    state: TcState,
+    dcs: Vec<Dc>,
+    calls: Calls,
+    journal: Option<FileJournal>,
+) -> Result<Ran, Unreported>
+    ensures run { KeepsLog journal state.events → IfOk result (λ r. IsCallsRun (λ last. KeepsLog r.journal last.events)
+        state dcs.items calls.first.items calls.calls.items calls.manner.workers calls.manner.tries calls.manner.audit
+        r.report.status (string_bytes r.report.lines)) }
+    ensures fault { IfErr result (UnreportedFits journal) }
+{
+    let Calls {
+        first,
+        calls,
+        manner,
+        listeners,
+    } = calls;
+    match prepare(
+        alloc,
+        first.as_slice(),
+        calls.as_slice(),
+        dcs.len(),
+        manner,
+        listeners,
+    ) {
+        Ok(ready) => run_calls(rt, alloc, state, dcs, ready, journal),
+        Err(AllocError) => Err(Unreported::Memory),
+    }
+}
+
+// Runs the calls of a script that is loaded, without a journal.
 fn run_loaded<R: Clock + Threads + Wait + Sync>(
     rt: &R,
     alloc: Global,
     loaded: Loaded,
     manner: Manner,
-    terminal: Option<Stderr>,
+    listeners: Listeners,
 ) -> Result<Report, AllocError>
-    ensures { IfOk result (λ r. IsCallsRun loaded.state loaded.dcs.items loaded.first.items loaded.calls.items
+    ensures { IfOk result (λ r. IsCallsRun (λ _. Unit {0}) loaded.state loaded.dcs.items loaded.first.items loaded.calls.items
         manner.workers manner.tries manner.audit r.status (string_bytes r.lines)) }
 {
     let Loaded {
@@ -217,35 +358,34 @@ fn run_loaded<R: Clock + Threads + Wait + Sync>(
         first,
         calls,
     } = loaded;
-    match prepare(
-        alloc,
-        first.as_slice(),
-        calls.as_slice(),
-        dcs.len(),
+    let calls = Calls {
+        first,
+        calls,
         manner,
-        terminal,
-    ) {
-        Ok(ready) => run_calls(rt, alloc, state, dcs, ready),
-        Err(AllocError) => Err(AllocError),
+        listeners,
+    };
+    match run_from(rt, alloc, state, dcs, calls, None) {
+        Ok(Ran { report, journal: _ }) => Ok(report),
+        Err(Unreported::Memory) => Err(AllocError),
+        Err(Unreported::NotKept) => unreachable!(),
     }
 }
 
 /// Runs the calls of a script: the first list by one worker, and then the other in this manner.
 /// Prints what each call was answered, then what is kept, and then, where it is wanted, what an audit
-/// finds. Where there is a terminal, it is told once a second how many of the second list's calls are
-/// answered.
+/// finds. The listeners are told of the second list's calls meanwhile.
 pub fn running<R: Clock + Threads + Wait + Sync>(
     rt: &R,
     alloc: Global,
     text: &str,
     manner: Manner,
-    terminal: Option<Stderr>,
+    listeners: Listeners,
 ) -> Result<Report, AllocError>
     ensures { IfOk result (λ r. IsRun manner.workers manner.tries manner.audit (script_said command.Run text.now)
         r.status (string_bytes r.lines)) }
 {
     match load(alloc, Command::Run, text)? {
-        Loading::Ready(loaded) => run_loaded(rt, alloc, loaded, manner, terminal),
+        Loading::Ready(loaded) => run_loaded(rt, alloc, loaded, manner, listeners),
         Loading::Refused(report) => Ok(report),
     }
 }

@@ -1,4 +1,4 @@
-//! How long the calls of a run wait for their answers, and how many are answered so far.
+//! How long the calls of a run wait for their answers, and what is told of them meanwhile.
 
 use std::alloc::{AllocError, Global};
 use std::io::{Stderr, Write};
@@ -9,28 +9,38 @@ use worker_pool::Gate;
 // A line of progress a second, in nanoseconds.
 const TOLD_EACH: u64 = 1_000_000_000;
 
+/// Who is told of calls while a run lasts.
+#[derive(Clone, Copy)]
+pub struct Listeners {
+    /// A terminal is told once a second how many are answered.
+    pub terminal: Option<Stderr>,
+    /// It is told of each answer as soon as it stands, by a line with the call's place.
+    pub each: Option<Stderr>,
+}
+
 /// What is known of a run's calls while it lasts: how long each takes from its beginning to its
-/// answer, where that is asked for, and how many are answered, which a terminal is told once a
-/// second.
+/// answer, where that is asked for, and how many are answered.
 #[derive(Drop)]
 pub struct Waits {
+    alloc: Global,
     // Of each call, in nanoseconds: 0, then when it began, and at last how long it took.
     calls: Vec<AtomicU64>,
-    terminal: Option<Stderr>,
+    listeners: Listeners,
     answered: AtomicU64,
     told: AtomicU64,
 }
 
 impl Waits {
     /// Room for the times of so many calls, of which none has begun.
-    pub fn new(alloc: Global, calls: usize, terminal: Option<Stderr>) -> Result<Waits, AllocError> {
+    pub fn new(alloc: Global, calls: usize, listeners: Listeners) -> Result<Waits, AllocError> {
         let mut times = Vec::with_capacity(alloc, calls)?;
         for _ in 0..calls {
             times.push(AtomicU64::new(0))?;
         }
         Ok(Waits {
+            alloc,
             calls: times,
-            terminal,
+            listeners,
             answered: AtomicU64::new(0),
             told: AtomicU64::new(0),
         })
@@ -38,7 +48,17 @@ impl Waits {
 
     // Whether nobody asks for what is known.
     fn is_idle(&self) -> bool {
-        self.calls.is_empty() && self.terminal.is_none()
+        self.calls.is_empty() && self.listeners.terminal.is_none()
+    }
+
+    // Writes a line with the call's place, at once.
+    fn tell_each(&self, call: usize) {
+        let Some(mut each) = self.listeners.each else {
+            return;
+        };
+        if let Ok(line) = format!(in self.alloc; "told {call}\n") {
+            let _ = each.write_all(line.as_bytes());
+        }
     }
 
     // Writes how many calls are answered over the line of before, where that is a second old.
@@ -57,7 +77,8 @@ impl Waits {
 
     /// Ends the line of progress, if there is one.
     pub fn end(&self) {
-        if let (Some(mut terminal), true) = (self.terminal, self.told.load(Ordering::SeqCst) > 0) {
+        let is_told = self.told.load(Ordering::SeqCst) > 0;
+        if let (Some(mut terminal), true) = (self.listeners.terminal, is_told) {
             let _ = terminal.write_all(b"\n");
         }
     }
@@ -109,6 +130,7 @@ impl<R: Clock> Gate for Watch<'_, R> {
     }
 
     fn answered(&self, call: usize) {
+        self.waits.tell_each(call);
         let Some(now) = self.now() else {
             return;
         };
@@ -121,7 +143,7 @@ impl<R: Clock> Gate for Watch<'_, R> {
             };
             call.store(took, Ordering::SeqCst);
         }
-        if let Some(terminal) = self.waits.terminal {
+        if let Some(terminal) = self.waits.listeners.terminal {
             self.waits.tell(terminal, now);
         }
     }

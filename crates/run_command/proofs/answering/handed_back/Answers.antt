@@ -1,6 +1,5 @@
-use Rattle.std.proofs.Common.{◌≡◌, ◌<◌, ℕ, length, arith, rules}
-use Rattle.data_component.specs.Store.{Store}
-use Rattle.run_command.proofs.ServerLemmas.{IsKept, all_served}
+use Rattle.std.proofs.Common.{◌≡◌, ◌<◌, length, arith, rules}
+use Rattle.run_command.proofs.ServerLemmas.{all_served}
 use Rattle.run_command.proofs.answering.handed_back.Goals as goal
 
 pub returns : goal.returns

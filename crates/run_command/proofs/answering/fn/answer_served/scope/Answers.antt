@@ -1,4 +1,5 @@
 use Rattle.run_command.proofs.answering.fn.answer_served.scope.Goals as goal
 
 pub returns-else-len-count : goal.returns-else-len-count
-returns-else-len-count g c = record { answered = tt; range = tt; fault = c.unserved.ensures c.captures.workload.now.manner.workers; dcs = tt }
+returns-else-len-count g c =
+    record { answered = tt; kept = λ _. tt; same = tt; range = tt; fault = c.unserved.ensures c.captures.workload.now.manner.workers; dcs = tt }

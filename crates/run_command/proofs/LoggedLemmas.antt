@@ -1,0 +1,42 @@
+-- What opening a log's file and coming back from its log come to.
+use Rattle.std.proofs.Common.{◌≡◌, ◌∙◌, ◌++◌, List, ℕ, [], ◌∷◌, length, map, take, drop, refl, ap, arith}
+use Rattle.std.specs.List.{All}
+use Rattle.std.proofs.lemmas.List.{drop_all, take_all, append-nil}
+use Rattle.std.proofs.lemmas.List.Elements.{All-cons, All-nil}
+use Rattle.tc_log.specs.declared.event.Event.{Event}
+use Rattle.data_component.specs.Store.{Store}
+use Rattle.scripts.specs.declared.script.Dc.{Dc}
+use Rattle.script_loading.specs.Loading.{empty_store}
+use Rattle.tc_core.specs.Core.{Core}
+use Rattle.coming_back.specs.declared.coming.ComeBackFault.{ComeBackFault}
+use Rattle.coming_back.specs.Coming.{IsEmpty}
+use Rattle.coming_back.specs.Faults.{IsFaultOf}
+use Rattle.run_command.specs.declared.logged.Opened.{Opened}
+use Rattle.run_command.specs.declared.logged.Coming.{Coming}
+use Rattle.run_command.specs.declared.logged.Coming.TheVariants as coming
+use Rattle.run_command.specs.declared.logged.GoingBack.{GoingBack}
+use Rattle.run_command.specs.declared.logged.GoingBack.TheVariants as going
+use Rattle.run_command.specs.Logged.{FileJournal, IsLogFor, Unfit}
+use Rattle.run_command.specs.Joining.Opening.{IsOpened, IsUnfit, IsComing, IsGoingBack, IsBegun}
+
+pub unfit_comes : (start : Core) (empties : List Store) (file : List ℕ) (log : List Event) (after : Core) (dcs : List Store) (journal : FileJournal)
+    (fault : ComeBackFault) (x : Coming) → IsLogFor start file log → IsFaultOf start log (length empties) after dcs fault → IsUnfit fault x
+    → IsComing start empties log after dcs journal x
+unfit_comes start empties file log after dcs journal fault (coming.Lines lines) is_log why h = absurd h
+unfit_comes start empties file log after dcs journal fault (coming.Refused report) is_log why h = (Unfit file log after dcs fault is_log why h.0, h.1)
+
+pub begun_by : (start : Core) (empties : List Store) (back : Core) (dcs : List Store) (opened : Opened) (x : GoingBack) → IsOpened start opened
+    → IsGoingBack start empties opened.log.events back dcs x → IsBegun start empties back dcs x
+begun_by start empties back dcs opened (going.Back b) o h = record { file = o.file; log = opened.log.events; is_log = o.is_log; is_back = h }
+begun_by start empties back dcs opened (going.Refused report) o h = h
+
+-- a slice that is as long as the vector that lent it is all of it
+pub lent_whole : (new old : List Store) (len : ℕ) → len ≡ length old → length new ≡ length old → take len (new ++ drop (length new) old) ≡ new
+lent_whole new old len all same =
+    let none : drop (length new) old ≡ [] = drop_all (length new) old (omega (arith, same)) in
+    ap (λ (l : List Store). take len (new ++ l)) none ∙ (ap (λ (l : List Store). take len l) (append-nil new) ∙ take_all len new (omega (arith, all, same)))
+
+-- the data components that a script begins with are empty
+pub all_empty : (dcs : List Dc) → All IsEmpty (map empty_store dcs)
+all_empty [] = All-nil IsEmpty
+all_empty (dc ∷ dcs) = All-cons IsEmpty (empty_store dc) (map empty_store dcs) refl (all_empty dcs)

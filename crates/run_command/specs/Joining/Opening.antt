@@ -1,0 +1,63 @@
+-- The steps towards a run behind what a log's file has.
+use Rattle.std.specs.Prelude.{◌≡◌, ℕ, List, length, Some, string_bytes}
+use Rattle.tc_log.specs.declared.event.Event.{Event}
+use Rattle.data_component.specs.Store.{Store}
+use Rattle.tc_core.specs.Core.{Core}
+use Rattle.coming_back.specs.declared.resumed.Resumed.{Resumed}
+use Rattle.run_command.specs.declared.logged.Opened.{Opened}
+use Rattle.run_command.specs.declared.logged.Opening.{Opening}
+use Rattle.run_command.specs.declared.logged.Opening.TheVariants as opening
+use Rattle.run_command.specs.declared.logged.Back.{Back}
+use Rattle.run_command.specs.declared.logged.Coming.{Coming}
+use Rattle.run_command.specs.declared.logged.Coming.TheVariants as coming
+use Rattle.coming_back.specs.declared.coming.ComeBackFault.{ComeBackFault}
+use Rattle.run_command.specs.declared.logged.GoingBack.{GoingBack}
+use Rattle.run_command.specs.declared.logged.GoingBack.TheVariants as going
+use Rattle.run_command.specs.LogLines.{back_lines, back_refusal}
+use Rattle.run_command.specs.Logged.{FileJournal, KeepsLog, IsLogFor, HasComeBack, GoesOn, IsLogRefusal}
+
+-- the file has this log, which the journal keeps
+pub record IsOpened (start : Core) (o : Opened) : Type 0 where
+  pub file : List ℕ
+  pub is_log : IsLogFor start file o.log.events
+  pub kept : KeepsLog (Some o.journal) o.log.events
+
+abbrev pub IsOpening : Core → List Store → Opening → Type 0
+IsOpening start empties (opening.Open o) = IsOpened start o
+IsOpening start empties (opening.Refused report) = IsLogRefusal start empties (string_bytes report.lines) × (report.status ≡ 1)
+
+-- what came back from the log, with its lines, and the journal that keeps its log
+pub record IsBack (start : Core) (empties : List Store) (log : List Event) (back : Core) (dcs : List Store) (b : Back) : Type 0 where
+  pub resumed : List Resumed
+  pub came_back : HasComeBack start empties log back dcs resumed
+  pub goes_on : GoesOn start empties log back dcs
+  pub kept : KeepsLog (Some b.journal) back.events
+  pub dropped : ℕ
+  pub lines : string_bytes b.lines ≡ back_lines (length log) dropped resumed
+
+-- why the log isn't gone on from
+abbrev pub IsUnfit : ComeBackFault → Coming → Type 0
+IsUnfit fault (coming.Lines lines) = ⊥
+IsUnfit fault (coming.Refused report) = (back_refusal fault ≡ Some (string_bytes report.lines)) × (report.status ≡ 1)
+
+-- the same as lines, and a journal
+abbrev pub IsComing : Core → List Store → List Event → Core → List Store → FileJournal → Coming → Type 0
+IsComing start empties log back dcs journal (coming.Lines lines) =
+    IsBack start empties log back dcs (record { journal = journal; lines = lines })
+IsComing start empties log back dcs journal (coming.Refused report) =
+    IsLogRefusal start empties (string_bytes report.lines) × (report.status ≡ 1)
+
+abbrev pub IsGoingBack : Core → List Store → List Event → Core → List Store → GoingBack → Type 0
+IsGoingBack start empties log back dcs (going.Back b) = IsBack start empties log back dcs b
+IsGoingBack start empties log back dcs (going.Refused report) = IsLogRefusal start empties (string_bytes report.lines) × (report.status ≡ 1)
+
+-- a log was opened and gone on from
+pub record IsBackTo (start : Core) (empties : List Store) (back : Core) (dcs : List Store) (b : Back) : Type 0 where
+  pub file : List ℕ
+  pub log : List Event
+  pub is_log : IsLogFor start file log
+  pub is_back : IsBack start empties log back dcs b
+
+abbrev pub IsBegun : Core → List Store → Core → List Store → GoingBack → Type 0
+IsBegun start empties back dcs (going.Back b) = IsBackTo start empties back dcs b
+IsBegun start empties back dcs (going.Refused report) = IsLogRefusal start empties (string_bytes report.lines) × (report.status ≡ 1)

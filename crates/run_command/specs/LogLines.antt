@@ -1,0 +1,60 @@
+-- The lines that say how a run goes on from a log's file, and why it doesn't.
+use Rattle.std.specs.Prelude.{ℕ, ◌==◌, if◌then◌else◌, List, [], ◌++◌, length, Option, Some, None, codes, decimal}
+use Rattle.std.specs.List.{flat_map}
+use Rattle.tc_log.specs.declared.event.Outcome.{Outcome}
+use Rattle.tc_log.specs.declared.event.Outcome.TheVariants as outcome
+use Rattle.frame_file.specs.declared.reading.FrameFault.TheVariants.{Device, Full, Damaged}
+use Rattle.log_file.specs.declared.reading.OpenFault.{OpenFault}
+use Rattle.log_file.specs.declared.reading.OpenFault.TheVariants.{Frames, Empty, Other, NoBatch, Row}
+use Rattle.tc_core.specs.declared.checking.CheckFault.TheVariants as check
+use Rattle.tc_core.specs.declared.recovery.RecoverFault.TheVariants.{Begun, DcCount, Unfit}
+use Rattle.coming_back.specs.declared.coming.ComeBackFault.{ComeBackFault}
+use Rattle.coming_back.specs.declared.coming.ComeBackFault.TheVariants.{Recover, NoRoom, Otherwise, Memory}
+use Rattle.coming_back.specs.declared.resumed.Resumed.{Resumed}
+use Rattle.coming_back.specs.declared.resumed.Resumed.TheVariants.{Ended, InDoubt}
+
+-- why a log's file isn't read; the disk's faults and want of memory have no line
+abbrev pub open_refusal : OpenFault → Option (List ℕ)
+open_refusal (Frames (Device e)) = None
+open_refusal (Frames Full) = Some (codes "refused log Full\n")
+open_refusal (Frames (Damaged number)) = Some (codes "refused log Damaged frame " ++ (decimal number ++ codes "\n"))
+open_refusal Empty = Some (codes "refused log Empty\n")
+open_refusal Other = Some (codes "refused log Other\n")
+open_refusal (NoBatch number) = Some (codes "refused log NoBatch frame " ++ (decimal number ++ codes "\n"))
+open_refusal (Row place) = Some (codes "refused log L2 Kind " ++ (decimal place ++ codes "\n"))
+
+-- why nothing goes on from a log; want of memory has no line
+abbrev pub back_refusal : ComeBackFault → Option (List ℕ)
+back_refusal (Recover (Unfit (check.LogIllegal place))) = Some (codes "refused log U1 LogIllegal place " ++ (decimal place ++ codes "\n"))
+back_refusal (Recover (Unfit check.Memory)) = None
+back_refusal (Recover Begun) = Some (codes "refused log Begun\n")
+back_refusal (Recover DcCount) = Some (codes "refused log DcCount\n")
+back_refusal (NoRoom dc) = Some (codes "refused log NoRoom dc " ++ (decimal dc ++ codes "\n"))
+back_refusal (Otherwise dc) = Some (codes "refused log Otherwise dc " ++ (decimal dc ++ codes "\n"))
+back_refusal Memory = None
+
+abbrev pub outcome_text : Outcome → List ℕ
+outcome_text outcome.Committed = codes "committed"
+outcome_text (outcome.Aborted value) = codes "aborted " ++ decimal value
+outcome_text outcome.NoRoom = codes "noroom"
+
+-- what came of a transaction that was open
+abbrev pub resumed_line : Resumed → List ℕ
+resumed_line (Ended r) =
+    codes "resumed " ++ (decimal r.txn ++ (codes " " ++ (outcome_text r.outcome ++ (codes " at " ++ (decimal r.place ++ codes "\n")))))
+resumed_line (InDoubt txn number) = codes "resumed " ++ (decimal txn ++ (codes " in doubt " ++ (decimal number ++ codes "\n")))
+
+abbrev pub resumed_lines : List Resumed → List ℕ
+resumed_lines resumed = flat_map resumed_line resumed
+
+-- of a log without events there is nothing to tell
+abbrev pub recovered_line : ℕ → ℕ → List ℕ
+recovered_line events left =
+    if events == 0 then [] else codes "recovered " ++ (decimal events ++ (codes " events, " ++ (decimal left ++ codes " open\n")))
+
+abbrev pub dropped_line : ℕ → List ℕ
+dropped_line bytes = if bytes == 0 then [] else codes "dropped " ++ (decimal bytes ++ codes " bytes\n")
+
+-- how many events the log has, what was cut off, and what came of each transaction that was open
+abbrev pub back_lines : ℕ → ℕ → List Resumed → List ℕ
+back_lines events dropped resumed = (recovered_line events (length resumed) ++ dropped_line dropped) ++ resumed_lines resumed

@@ -1,0 +1,121 @@
+-- The calls of a script whose log is kept in a file.
+use Rattle.std.specs.Prelude.{◌≡◌, ◌++◌, ℕ, Bool, List, length, map, reverse, Option, Some, None, codes}
+use Rattle.std.specs.List.{All}
+use Rattle.tc_log.specs.declared.event.Event.{Event}
+use Rattle.history.specs.Places.{Begins}
+use Rattle.transactions.specs.Legal.{Legal}
+use Rattle.data_component.specs.Store.{Store, restarted}
+use Rattle.disk_file.specs.declared.disk.DiskFile.{DiskFile}
+use Rattle.disk_file.specs.Disk.{disk_bytes, left_of}
+use Rattle.log_file.specs.declared.reading.OpenFault.{OpenFault}
+use Rattle.log_file.specs.Reading.{IsOpenFault}
+use Rattle.log_journal.specs.declared.journal.LogJournal.{LogJournal}
+use Rattle.log_journal.specs.Keeping.{HasWritten, IsLogOf}
+use Rattle.procedure_digest.specs.Header.{header_of}
+use Rattle.scripts.specs.Reading.{Contents, Reading}
+use Rattle.scripts.specs.declared.script.Call as said
+use Rattle.script_loading.specs.Loading.{refusal_of}
+use Rattle.tc_core.specs.Core.{Core, loaded_in}
+use Rattle.tc_world.specs.Whole.{Whole}
+use Rattle.tc_world.specs.OneAtATime.{EachIsKnown}
+use Rattle.tc_world.specs.Lives.{HasLived}
+use Rattle.coming_back.specs.declared.coming.ComeBackFault.{ComeBackFault}
+use Rattle.coming_back.specs.declared.resumed.Resumed.{Resumed}
+use Rattle.coming_back.specs.Coming.{serial_of, open_txns, in_doubt, IsResumed, at_rest, ComesFrom}
+use Rattle.coming_back.specs.Faults.{IsFaultOf}
+use Rattle.coming_back.specs.Serving.{AreServed as ArePerformed}
+use Rattle.worker_pool.specs.Faults.{TriesFit}
+use Rattle.run_command.specs.declared.answering.Halt.{Halt}
+use Rattle.run_command.specs.declared.answering.Halt.TheVariants.{Unbegun, NotKept}
+use Rattle.run_command.specs.declared.running.Unreported.{Unreported}
+use Rattle.run_command.specs.declared.running.Unreported.TheVariants as unreported
+use Rattle.run_command.specs.LogLines.{open_refusal, back_refusal, back_lines}
+use Rattle.run_command.specs.Running.{Stops, IsCallsRun, begun, empty_stores}
+
+-- ---- what is kept
+
+abbrev pub FileJournal : Type 0
+FileJournal = LogJournal DiskFile
+
+-- where there is a journal, its file has this log on the disk, whole. A log is read with its newest event first
+abbrev pub KeepsLog : Option FileJournal → List Event → Type 0
+KeepsLog None events = Unit {0}
+KeepsLog (Some j) events = HasWritten disk_bytes left_of j.header j.file (reverse events)
+
+-- when calls have no answers: as without a journal; or something wasn't kept, where there is one
+abbrev pub HaltFits : Option FileJournal → ℕ → ℕ → Halt → Type 0
+HaltFits journal workers tries (Unbegun cause) = Stops workers tries cause
+HaltFits None workers tries NotKept = ⊥
+HaltFits (Some j) workers tries NotKept = TriesFit tries
+
+-- want of memory is told of any run, and that something wasn't kept where there is a journal
+abbrev pub UnreportedFits : Option FileJournal → Unreported → Type 0
+UnreportedFits journal unreported.Memory = Unit {0}
+UnreportedFits None unreported.NotKept = ⊥
+UnreportedFits (Some j) unreported.NotKept = Unit {0}
+
+-- ---- what is gone on from
+
+-- the bytes of the log's file of a state in which nothing has happened say these events
+abbrev pub IsLogFor : Core → List ℕ → List Event → Type 0
+IsLogFor start file log = IsLogOf (header_of (loaded_in start)) file (reverse log)
+
+-- from this log, and these data components, to which nothing had happened, came these: each data component is up and performed wires
+-- since it restarted, each transaction that was open is told of, and those left open are in doubt. It goes on from any world that has
+-- lived, with a log that begins with this one
+pub record HasComeBack (start : Core) (empties : List Store) (log : List Event) (back : Core) (dcs : List Store) (resumed : List Resumed)
+    : Type 0 where
+  pub legal : Legal start.procs log
+  pub begins : Begins log back.events
+  pub same : loaded_in back ≡ loaded_in start
+  pub known : EachIsKnown (at_rest back dcs)
+  pub served : ArePerformed (map restarted empties) dcs
+  pub told : map serial_of resumed ≡ open_txns log
+  pub doubts : in_doubt resumed ≡ open_txns back.events
+  pub each : All (IsResumed log back) resumed
+
+-- a world of what came back has lived, where a world has whose log began with this one
+pub record GoesOn (start : Core) (empties : List Store) (log : List Event) (back : Core) (dcs : List Store) : Type 0 where
+  pub lived : (w : Whole) → ComesFrom w log start (length empties) → HasLived (at_rest back dcs)
+
+-- ---- what is printed
+
+-- another process has the file open; or it isn't read; or its log isn't gone on from
+pub data IsLogRefusal (start : Core) (empties : List Store) (lines : List ℕ) : Type 0 where
+  Busy : lines ≡ codes "refused log Busy\n" → IsLogRefusal start empties lines
+  Unread : (file : List ℕ) (fault : OpenFault) → IsOpenFault (header_of (loaded_in start)) file fault
+      → open_refusal fault ≡ Some lines → IsLogRefusal start empties lines
+  Unfit : (file : List ℕ) (log : List Event) (after : Core) (dcs : List Store) (fault : ComeBackFault) → IsLogFor start file log
+      → IsFaultOf start log (length empties) after dcs fault → back_refusal fault ≡ Some lines → IsLogRefusal start empties lines
+
+-- the lines of what came back, and behind them those of the calls, which are run from there, with the log of the last state on the disk
+pub record IsRunBehind (journal : Option FileJournal) (start : Core) (empties : List Store) (first calls : List said.Call)
+    (workers tries : ℕ) (audit : Bool) (status : ℕ) (lines : List ℕ) : Type 0 where
+  pub file : List ℕ
+  pub log : List Event
+  pub is_log : IsLogFor start file log
+  pub back : Core
+  pub dcs : List Store
+  pub resumed : List Resumed
+  pub came_back : HasComeBack start empties log back dcs resumed
+  pub goes_on : GoesOn start empties log back dcs
+  pub dropped : ℕ
+  pub answers : List ℕ
+  pub ran : IsCallsRun (λ last. KeepsLog journal last.events) back dcs first calls workers tries audit status answers
+  pub lines_are : lines ≡ back_lines (length log) dropped resumed ++ answers
+
+-- the log is refused, or the calls are run behind it
+pub data IsLoggedRun (journal : Option FileJournal) (start : Core) (empties : List Store) (first calls : List said.Call)
+    (workers tries : ℕ) (audit : Bool) (status : ℕ) (lines : List ℕ) : Type 0 where
+  Refused : IsLogRefusal start empties lines → status ≡ 1 → IsLoggedRun journal start empties first calls workers tries audit status lines
+  Behind : IsRunBehind journal start empties first calls workers tries audit status lines
+      → IsLoggedRun journal start empties first calls workers tries audit status lines
+
+abbrev pub IsLoggedBy : Option FileJournal → Option (List ℕ) → Contents → ℕ → ℕ → Bool → ℕ → List ℕ → Type 0
+IsLoggedBy journal (Some refusal) contents workers tries audit status lines = (status ≡ 1) × (lines ≡ refusal)
+IsLoggedBy journal None contents workers tries audit status lines =
+    IsLoggedRun journal (begun contents) (empty_stores contents) contents.first contents.calls workers tries audit status lines
+
+-- of a script that is refused no file is opened
+abbrev pub IsLogged : Option FileJournal → ℕ → ℕ → Bool → Reading → ℕ → List ℕ → Type 0
+IsLogged journal workers tries audit r status lines = IsLoggedBy journal (refusal_of r) r.contents workers tries audit status lines

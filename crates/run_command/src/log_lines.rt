@@ -1,0 +1,130 @@
+//! The lines that say how a run goes on from a log's file, and why it doesn't.
+
+ghost use Rattle.std.specs.Prelude.{◌≡◌, ◌++◌, IfOk, OnOk, option_map, string_bytes};
+ghost use Rattle.run_command.specs.LogLines.{open_refusal, back_refusal, recovered_line, dropped_line, outcome_text, resumed_line, resumed_lines, back_lines};
+
+use coming_back::{ComeBackFault, Resumed};
+use frame_file::FrameFault;
+use log_file::OpenFault;
+use std::alloc::{AllocError, Global};
+use tc_core::checking::CheckFault;
+use tc_core::recovery::RecoverFault;
+use tc_log::event::Outcome;
+
+/// The line that says why a log's file isn't read. There is none where the disk failed or memory ran out.
+pub fn open_refusal(alloc: Global, fault: &OpenFault) -> Result<Option<String>, AllocError>
+    ensures { IfOk result (λ line. option_map string_bytes line ≡ open_refusal fault.now) }
+{
+    Ok(match fault {
+        OpenFault::Frames(FrameFault::Device(_)) => None,
+        OpenFault::Frames(FrameFault::Full) => {
+            Some(String::from_str(alloc, "refused log Full\n")?)
+        }
+        OpenFault::Frames(FrameFault::Damaged(number)) => {
+            Some(format!(in alloc; "refused log Damaged frame {number}\n")?)
+        }
+        OpenFault::Empty => Some(String::from_str(alloc, "refused log Empty\n")?),
+        OpenFault::Other => Some(String::from_str(alloc, "refused log Other\n")?),
+        OpenFault::NoBatch(number) => {
+            Some(format!(in alloc; "refused log NoBatch frame {number}\n")?)
+        }
+        OpenFault::Row(place) => Some(format!(in alloc; "refused log L2 Kind {place}\n")?),
+    })
+}
+
+/// The line that says why nothing goes on from a log. There is none where memory ran out.
+pub fn back_refusal(alloc: Global, fault: &ComeBackFault) -> Result<Option<String>, AllocError>
+    ensures { IfOk result (λ line. option_map string_bytes line ≡ back_refusal fault.now) }
+{
+    Ok(match fault {
+        ComeBackFault::Recover(RecoverFault::Unfit(CheckFault::LogIllegal(place))) => {
+            Some(format!(in alloc; "refused log U1 LogIllegal place {place}\n")?)
+        }
+        ComeBackFault::Recover(RecoverFault::Unfit(CheckFault::Memory)) => None,
+        ComeBackFault::Recover(RecoverFault::Begun) => {
+            Some(String::from_str(alloc, "refused log Begun\n")?)
+        }
+        ComeBackFault::Recover(RecoverFault::DcCount) => {
+            Some(String::from_str(alloc, "refused log DcCount\n")?)
+        }
+        ComeBackFault::NoRoom(dc) => Some(format!(in alloc; "refused log NoRoom dc {dc}\n")?),
+        ComeBackFault::Otherwise(dc) => {
+            Some(format!(in alloc; "refused log Otherwise dc {dc}\n")?)
+        }
+        ComeBackFault::Memory => None,
+    })
+}
+
+// How a transaction ended.
+fn outcome_text(alloc: Global, outcome: Outcome) -> Result<String, AllocError>
+    ensures { IfOk result (λ s. string_bytes s ≡ outcome_text outcome) }
+{
+    match outcome {
+        Outcome::Committed => String::from_str(alloc, "committed"),
+        Outcome::Aborted(value) => format!(in alloc; "aborted {value}"),
+        Outcome::NoRoom => String::from_str(alloc, "noroom"),
+    }
+}
+
+// What came of a transaction that was open.
+fn resumed_line(alloc: Global, resumed: &Resumed) -> Result<String, AllocError>
+    ensures { IfOk result (λ s. string_bytes s ≡ resumed_line resumed.now) }
+{
+    match resumed {
+        Resumed::Ended(receipt) => {
+            let txn = receipt.txn;
+            let place = receipt.place;
+            let outcome = outcome_text(alloc, receipt.outcome)?;
+            format!(in alloc; "resumed {txn} {outcome} at {place}\n")
+        }
+        Resumed::InDoubt { txn, number } => {
+            format!(in alloc; "resumed {txn} in doubt {number}\n")
+        }
+    }
+}
+
+// Adds a line for each of them.
+fn write_resumed(alloc: Global, resumed: &[Resumed], lines: &mut String) -> Result<(), AllocError>
+    ensures { OnOk result (string_bytes lines.new ≡ string_bytes lines.old ++ resumed_lines resumed.now) }
+{
+    for one in resumed {
+        let line = resumed_line(alloc, one)?;
+        lines.push_str(line.as_str())?;
+    }
+    Ok(())
+}
+
+fn recovered_line(alloc: Global, events: usize, left: usize) -> Result<String, AllocError>
+    ensures { IfOk result (λ s. string_bytes s ≡ recovered_line events left) }
+{
+    if events == 0 {
+        return Ok(String::new(alloc));
+    }
+    format!(in alloc; "recovered {events} events, {left} open\n")
+}
+
+fn dropped_line(alloc: Global, bytes: usize) -> Result<String, AllocError>
+    ensures { IfOk result (λ s. string_bytes s ≡ dropped_line bytes) }
+{
+    if bytes == 0 {
+        return Ok(String::new(alloc));
+    }
+    format!(in alloc; "dropped {bytes} bytes\n")
+}
+
+/// The lines of a log that is gone on from: how many events it has, if any, how many bytes at its file's end
+/// were cut off, if any, and what came of each transaction that was open.
+pub fn back_lines(
+    alloc: Global,
+    events: usize,
+    dropped: usize,
+    resumed: &[Resumed],
+) -> Result<String, AllocError>
+    ensures { IfOk result (λ s. string_bytes s ≡ back_lines events dropped resumed.now) }
+{
+    let mut lines = recovered_line(alloc, events, resumed.len())?;
+    let dropped = dropped_line(alloc, dropped)?;
+    lines.push_str(dropped.as_str())?;
+    write_resumed(alloc, resumed, &mut lines)?;
+    Ok(lines)
+}

@@ -1,0 +1,364 @@
+//! `run --log`: the calls of a script, behind what a log's file has.
+
+ghost use Rattle.std.specs.Prelude.{◌≡◌, ◌++◌, ℕ, List, length, Some, IfOk, OnOk, string_bytes};
+ghost use Rattle.tc_log.specs.declared.event.Event.{Event as EventValue};
+ghost use Rattle.history.specs.Places.{Begins};
+ghost use Rattle.std.specs.List.{All};
+ghost use Rattle.data_component.specs.Store.{Store};
+ghost use Rattle.scripts.specs.Reading.{script_said};
+ghost use Rattle.scripts.specs.declared.keyword.Command.TheVariants as command;
+ghost use Rattle.coming_back.specs.Coming.{IsEmpty};
+ghost use Rattle.run_command.specs.LogLines.{open_refusal};
+ghost use Rattle.run_command.specs.Running.{IsCallsRun};
+ghost use Rattle.run_command.specs.Logged.{KeepsLog, IsLogFor, IsLoggedRun, IsLogged};
+ghost use Rattle.run_command.specs.Joining.Opening.{IsOpened, IsOpening, IsUnfit, IsComing, IsGoingBack, IsBegun};
+
+use crate::answering::FileJournal;
+use crate::log_lines::{back_lines, back_refusal, open_refusal};
+use crate::running::{Calls, Listeners, Manner, Ran, Unreported, run_from};
+use coming_back::{ComeBackFault, come_back};
+use data_component::dc::Dc;
+use disk_file::{DiskFile, OpenError};
+use frame_file::{DeviceError, FrameFault};
+use log_file::OpenFault;
+use log_journal::LogJournal;
+use procedure_digest::header_of;
+use report_texts::report::Report;
+use script_loading::loading::{Loaded, Loading, load};
+use scripts::keyword::Command;
+use std::alloc::{AllocError, Global};
+use std::fs::File;
+use std::rt::Files;
+use std::sync::Wait;
+use std::thread::Threads;
+use std::time::Clock;
+use tc_core::state::TcState;
+use tc_log::log::Log;
+
+/// Why a run whose log is kept has no report.
+#[derive(Clone, Copy, Debug)]
+pub enum Unlogged {
+    Memory,
+    /// The log's file can't be opened or read.
+    Unread,
+    /// The log's file can't be written or synced. What it had stands in it.
+    Unwritten,
+}
+
+impl From<AllocError> for Unlogged {
+    fn from(_: AllocError) -> Unlogged {
+        Unlogged::Memory
+    }
+}
+
+// A log's file that was opened.
+#[derive(Drop)]
+struct Opened {
+    journal: FileJournal,
+    log: Log,
+    // How many bytes at its end were cut off.
+    dropped: usize,
+}
+
+// What opening it comes to.
+#[derive(Drop)]
+enum Opening {
+    Open(Opened),
+    // The run is refused.
+    Refused(Report),
+}
+
+// The report of a run that is refused.
+fn refusal(lines: String) -> Report
+    ensures { (result.status ≡ 1) × (result.lines ≡ lines) }
+{
+    Report {
+        status: 1,
+        lines,
+        notes: None,
+    }
+}
+
+// Why a log's file that was opened isn't read.
+fn unread(alloc: Global, fault: &OpenFault) -> Result<Report, Unlogged>
+    ensures { IfOk result (λ report. (open_refusal fault.now ≡ Some (string_bytes report.lines)) × (report.status ≡ 1)) }
+{
+    match open_refusal(alloc, fault)? {
+        Some(line) => Ok(refusal(line)),
+        None => match fault {
+            OpenFault::Frames(FrameFault::Device(DeviceError::Memory)) => Err(Unlogged::Memory),
+            _ => Err(Unlogged::Unwritten),
+        },
+    }
+}
+
+// Opens the log's file of a state in which nothing has happened, and begins it where it is empty.
+fn open_log<F: Files<File = File>>(
+    rt: &F,
+    alloc: Global,
+    path: &str,
+    state: &TcState,
+) -> Result<Opening, Unlogged>
+    ensures { (empties : List Store) → IfOk result (IsOpening state.now empties) }
+{
+    let header = header_of(alloc, state.procs())?;
+    let file = match DiskFile::open(rt, alloc, path) {
+        Ok(file) => file,
+        Err(OpenError::Io(_)) => return Err(Unlogged::Unread),
+        Err(OpenError::Memory) => return Err(Unlogged::Memory),
+        Err(OpenError::Busy) => {
+            let line = String::from_str(alloc, "refused log Busy\n")?;
+            return Ok(Opening::Refused(refusal(line)));
+        }
+    };
+    let found = file.bytes().len();
+    match LogJournal::open(alloc, file, header) {
+        Ok((journal, log)) => {
+            let dropped = found.saturating_sub(journal.device().bytes().len());
+            Ok(Opening::Open(Opened {
+                journal,
+                log,
+                dropped,
+            }))
+        }
+        Err(fault) => Ok(Opening::Refused(unread(alloc, &fault)?)),
+    }
+}
+
+// What a run goes on from.
+#[derive(Drop)]
+struct Back {
+    journal: FileJournal,
+    lines: String,
+}
+
+// What going back to a log comes to.
+#[derive(Drop)]
+enum GoingBack {
+    Back(Back),
+    // The run is refused.
+    Refused(Report),
+}
+
+// What coming back from a log comes to, beside the state and the data components.
+#[derive(Drop)]
+enum Coming {
+    // The lines of what came back.
+    Lines(String),
+    // The run is refused.
+    Refused(Report),
+}
+
+// Keeps what a log has behind this place, if anything.
+fn keep_behind(journal: &mut FileJournal, log: &Log, place: usize) -> Result<(), Unlogged>
+    ensures { (start : List EventValue) → KeepsLog (Some journal.old) start → Begins start log.now.events → place ≡ length start
+        → OnOk result (KeepsLog (Some journal.new) log.now.events) }
+{
+    if log.len() <= place {
+        return Ok(());
+    }
+    match journal.keep_from(log, place) {
+        Ok(()) => Ok(()),
+        Err(_) => Err(Unlogged::Unwritten),
+    }
+}
+
+// Comes back from a log, and keeps what that adds to it.
+fn come(
+    alloc: Global,
+    state: &mut TcState,
+    dcs: &mut [Dc],
+    log: &Log,
+    dropped: usize,
+    journal: &mut FileJournal,
+) -> Result<Coming, Unlogged>
+    requires { All IsEmpty dcs.old }
+    ensures { (file : List ℕ) → IsLogFor state.old file log.now.events → KeepsLog (Some journal.old) log.now.events
+        → IfOk result (IsComing state.old dcs.old log.now.events state.new dcs.new journal.new) }
+{
+    let resumed = match come_back(alloc, state, dcs, log) {
+        Ok(resumed) => resumed,
+        Err(fault) => return unfit(alloc, &fault),
+    };
+    keep_behind(journal, state.log(), log.len())?;
+    Ok(Coming::Lines(back_lines(alloc, log.len(), dropped, resumed.as_slice())?))
+}
+
+// Why a log isn't gone on from.
+fn unfit(alloc: Global, fault: &ComeBackFault) -> Result<Coming, Unlogged>
+    ensures { IfOk result (IsUnfit fault.now) }
+{
+    match back_refusal(alloc, fault)? {
+        Some(line) => Ok(Coming::Refused(refusal(line))),
+        None => Err(Unlogged::Memory),
+    }
+}
+
+// Goes on from the log in a state in which nothing has happened, with new data components, and keeps what
+// that adds to the log.
+fn go_back(
+    alloc: Global,
+    state: &mut TcState,
+    dcs: &mut [Dc],
+    opened: Opened,
+) -> Result<GoingBack, Unlogged>
+    requires { All IsEmpty dcs.old }
+    ensures { IsOpened state.old opened → IfOk result (IsGoingBack state.old dcs.old opened.log.events state.new dcs.new) }
+{
+    let Opened {
+        mut journal,
+        log,
+        dropped,
+    } = opened;
+    let coming = come(alloc, state, dcs, &log, dropped, &mut journal);
+    drop(log);
+    match coming {
+        Ok(Coming::Lines(lines)) => Ok(GoingBack::Back(Back { journal, lines })),
+        Ok(Coming::Refused(report)) => {
+            drop(journal);
+            Ok(GoingBack::Refused(report))
+        }
+        Err(fault) => {
+            drop(journal);
+            Err(fault)
+        }
+    }
+}
+
+// Opens the log's file, and goes on from its log.
+fn begin<F: Files<File = File>>(
+    rt: &F,
+    alloc: Global,
+    path: &str,
+    state: &mut TcState,
+    dcs: &mut [Dc],
+) -> Result<GoingBack, Unlogged>
+    requires { All IsEmpty dcs.old }
+    ensures { IfOk result (IsBegun state.old dcs.old state.new dcs.new) }
+{
+    match open_log(rt, alloc, path, state)? {
+        Opening::Open(opened) => go_back(alloc, state, dcs, opened),
+        Opening::Refused(report) => Ok(GoingBack::Refused(report)),
+    }
+}
+
+// The lines of a report behind these.
+fn behind(lines: String, ran: Ran) -> Result<Ran, Unlogged>
+    ensures { IfOk result (λ r. (r.journal ≡ ran.journal) × (r.report.status ≡ ran.report.status)
+        × (string_bytes r.report.lines ≡ string_bytes lines ++ string_bytes ran.report.lines)) }
+{
+    let mut lines = lines;
+    let pushed = lines.push_str(ran.report.lines.as_str());
+    let Ran { report, journal } = ran;
+    let Report {
+        status,
+        lines: _,
+        notes,
+    } = report;
+    match pushed {
+        Ok(()) => Ok(Ran {
+            report: Report {
+                status,
+                lines,
+                notes,
+            },
+            journal,
+        }),
+        Err(AllocError) => Err(Unlogged::Memory),
+    }
+}
+
+// Runs the calls from what came back.
+fn run_back<R: Clock + Threads + Wait + Sync>(
+    rt: &R,
+    alloc: Global,
+    loaded: Loaded,
+    back: Back,
+    manner: Manner,
+    listeners: Listeners,
+) -> Result<Ran, Unlogged>
+    ensures { KeepsLog (Some back.journal) loaded.state.events → IfOk result (λ r. (answers : List ℕ)
+        × IsCallsRun (λ last. KeepsLog r.journal last.events) loaded.state loaded.dcs.items loaded.first.items loaded.calls.items
+        manner.workers manner.tries manner.audit r.report.status answers
+        × (string_bytes r.report.lines ≡ string_bytes back.lines ++ answers)) }
+{
+    let Loaded {
+        state,
+        dcs,
+        steps: _,
+        first,
+        calls,
+    } = loaded;
+    let Back { journal, lines } = back;
+    let calls = Calls {
+        first,
+        calls,
+        manner,
+        listeners,
+    };
+    match run_from(rt, alloc, state, dcs, calls, Some(journal)) {
+        Ok(ran) => behind(lines, ran),
+        Err(Unreported::Memory) => Err(Unlogged::Memory),
+        Err(Unreported::NotKept) => Err(Unlogged::Unwritten),
+    }
+}
+
+// Runs the calls of a script that is loaded behind what the log's file has.
+fn run_behind<R: Files<File = File> + Clock + Threads + Wait + Sync>(
+    rt: &R,
+    alloc: Global,
+    path: &str,
+    loaded: Loaded,
+    manner: Manner,
+    listeners: Listeners,
+) -> Result<Ran, Unlogged>
+    requires { All IsEmpty loaded.dcs.items }
+    ensures { IfOk result (λ r. IsLoggedRun r.journal loaded.state loaded.dcs.items loaded.first.items loaded.calls.items
+        manner.workers manner.tries manner.audit r.report.status (string_bytes r.report.lines)) }
+{
+    let mut loaded = loaded;
+    match begin(
+        rt,
+        alloc,
+        path,
+        &mut loaded.state,
+        loaded.dcs.as_mut_slice(),
+    ) {
+        Ok(GoingBack::Back(back)) => run_back(rt, alloc, loaded, back, manner, listeners),
+        Ok(GoingBack::Refused(report)) => {
+            drop(loaded);
+            Ok(Ran {
+                report,
+                journal: None,
+            })
+        }
+        Err(fault) => {
+            drop(loaded);
+            Err(fault)
+        }
+    }
+}
+
+/// Runs the calls of a script as [`running`](crate::running::running) does, and keeps the log in the file
+/// with this path, which is begun where it is missing or empty. Where it has a log, that is gone on from: the
+/// data components are redone, transactions that were open are run to their ends, and each is told by a line
+/// before those of the calls, which are new ones. No answer is told before what it names is on the disk.
+pub fn running_logged<R: Files<File = File> + Clock + Threads + Wait + Sync>(
+    rt: &R,
+    alloc: Global,
+    path: &str,
+    text: &str,
+    manner: Manner,
+    listeners: Listeners,
+) -> Result<Ran, Unlogged>
+    ensures { IfOk result (λ r. IsLogged r.journal manner.workers manner.tries manner.audit (script_said command.Run text.now)
+        r.report.status (string_bytes r.report.lines)) }
+{
+    match load(alloc, Command::Run, text)? {
+        Loading::Ready(loaded) => run_behind(rt, alloc, path, loaded, manner, listeners),
+        Loading::Refused(report) => Ok(Ran {
+            report,
+            journal: None,
+        }),
+    }
+}
