@@ -1,8 +1,11 @@
 -- A fault is always among what a run may give.
-use Rattle.std.proofs.Common.{arith, ◌≡◌, ℕ, List, Option, Some, None, [], refl, inl, inr, codes}
+use Rattle.std.proofs.Common.{arith, ◌≡◌, ℕ, List, Option, Some, None, Bool, [], refl, sym, subst, inl, inr, codes}
 use Rattle.std.specs.Prelude.{IfSome, ◌≤◌}
-use Rattle.procd.specs.Streams.{Stream, IsKept, Begins, Ends, EndsOn, Runs, cannot_read_line}
-use Rattle.command_line.specs.Task.{Wish}
+use Rattle.procd.specs.Streams.{Stream, IsKept, Begins, Ends, EndsOn, Runs, FurtherFails, cannot_read_line, cannot_write_line}
+use Rattle.procd.specs.Joining.Further.{Reads, Writes, IsTaskFault, IsScriptFault, IsLogFault}
+use Rattle.procd.specs.declared.report.ReportFault.{ReportFault}
+use Rattle.procd.specs.declared.report.ReportFault.TheVariants.{NotText, Unread, Unwritten, Memory}
+use Rattle.command_line.specs.Task.{Wish, Exec, Asm, Dis, Verify, World, Run, Log}
 use Rattle.procd.proofs.Statuses.{report_low}
 
 -- some text that is there to be read
@@ -24,6 +27,50 @@ module _ (file : List ℕ) (wish : Wish) (input : Option (List ℕ)) (out err : 
   pub no_memory_runs : status ≡ 4 → IsKept out → Begins err (codes "memory\n") → Runs file wish input out err status
   no_memory_runs is kept told = (known input, (λ e. known_is input), inr (inl (is, kept, told)))
 
+-- a further file that isn't read is told, and so is one that isn't written
+read_fails : (wish : Wish) (path : List ℕ) (err : Stream) → Reads wish path → Begins err (cannot_read_line path) → FurtherFails wish err
+read_fails (Exec raw numbers) path err is told = absurd is
+read_fails Asm path err is told = absurd is
+read_fails (Dis raw) path err is told = absurd is
+read_fails Verify path err is told = absurd is
+read_fails (World log audit) path err is told = absurd is
+read_fails (Run workers tries stats audit tell log) path err is told =
+    subst (λ (l : Option (List ℕ)). FurtherFails (Run workers tries stats audit tell l) err) (sym is) (inl told)
+read_fails (Log script) path err is told = subst (λ (s : Option (List ℕ)). FurtherFails (Log s) err) (sym is) told
+
+write_fails : (wish : Wish) (path : List ℕ) (err : Stream) → Writes wish path → Begins err (cannot_write_line path) → FurtherFails wish err
+write_fails (Exec raw numbers) path err is told = absurd is
+write_fails Asm path err is told = absurd is
+write_fails (Dis raw) path err is told = absurd is
+write_fails Verify path err is told = absurd is
+write_fails (World log audit) path err is told = absurd is
+write_fails (Run workers tries stats audit tell log) path err is told =
+    subst (λ (l : Option (List ℕ)). FurtherFails (Run workers tries stats audit tell l) err) (sym is) (inr told)
+write_fails (Log script) path err is told = absurd is
+
+module _ (file : List ℕ) (wish : Wish) (text : List ℕ) (out err : Stream) (status : ℕ) where
+  pub unread_ends : (path : List ℕ) → Reads wish path → status ≡ 3 → IsKept out → Begins err (cannot_read_line path)
+      → Ends file wish text out err status
+  unread_ends path of is kept told = inr (inr (inl (is, kept, read_fails wish path err of told)))
+
+  pub unwritten_ends : (path : List ℕ) → Writes wish path → status ≡ 3 → IsKept out → Begins err (cannot_write_line path)
+      → Ends file wish text out err status
+  unwritten_ends path of is kept told = inr (inr (inl (is, kept, write_fails wish path err of told)))
+
+-- the script of an audit, and the log of a run, are further files
+pub script_fault : (path : List ℕ) (fault : ReportFault) → IsScriptFault path fault → IsTaskFault (Log (Some path)) fault
+script_fault path NotText is = absurd is
+script_fault path (Unread other) is = is
+script_fault path (Unwritten other) is = absurd is
+script_fault path Memory is = tt
+
+pub log_fault : (workers tries : ℕ) (stats audit tell : Bool) (log : Option (List ℕ)) (fault : ReportFault) → IsLogFault log fault
+    → IsTaskFault (Run workers tries stats audit tell log) fault
+log_fault workers tries stats audit tell log NotText is = tt
+log_fault workers tries stats audit tell log (Unread other) is = is
+log_fault workers tries stats audit tell log (Unwritten other) is = is
+log_fault workers tries stats audit tell log Memory is = tt
+
 not_three : (result : ℕ) → result ≡ 3 → result ≡ 2 → ⊥
 not_three result three two = omega (arith, three, two)
 
@@ -41,8 +88,11 @@ ends_otherwise file wish text out err status h is =
       | inr rest ↦ elim rest [
         | inl memory ↦ not_four status memory.0 is
         | inr others ↦ elim others [
-          | inl write ↦ not_three status write.3 is
-          | inr done ↦ not_low status (report_low wish text status done.0 done.1) is
+          | inl further ↦ not_three status further.0 is
+          | inr last ↦ elim last [
+            | inl write ↦ not_three status write.3 is
+            | inr done ↦ not_low status (report_low wish text status done.0 done.1) is
+          ]
         ]
       ]
     ]

@@ -1,14 +1,18 @@
 -- A command's status is 0 or 1.
-use Rattle.std.proofs.Common.{arith, ℕ, Bool, List, Option, Some, None}
+use Rattle.std.proofs.Common.{arith, ℕ, Bool, List, length, Option, Some, None}
 use Rattle.std.proofs.Common.{true, false}
 use Rattle.std.specs.Prelude.{Result, Ok, Err, ◌≤◌, ◌&&◌, if◌then◌else◌}
 use Rattle.text_commands.specs.Execution.{status_of}
 use Rattle.report_texts.specs.Hex.{Hex, hex_of}
-use Rattle.command_line.specs.Task.{Wish, Exec, Asm, Dis, Verify, World, Run}
+use Rattle.command_line.specs.Task.{Wish, Exec, Asm, Dis, Verify, World, Run, Log}
 use Rattle.std.specs.List.{list_any}
 use Rattle.scripts.specs.Reading.{Contents, Reading, script_said}
-use Rattle.script_loading.specs.Loading.{refusal_of}
+use Rattle.script_loading.specs.Loading.{refusal_of, with_procedures, empty_core}
+use Rattle.log_file.specs.declared.stored.Stored.{Stored}
+use Rattle.log_command.specs.LogReport.{IsUnread, IsListing, Listed, Unread, IsChecked, Illegal, Sound}
+use Rattle.log_command.specs.LogReport.{IsBeside, NotRead, Anothers, Own, IsAuditBy}
 use Rattle.run_command.specs.Running.{IsRunBy, IsCallsRun, Ran, Stopped, begun, empty_stores}
+use Rattle.run_command.specs.Logged.{FileJournal, KeepsLog, IsLoggedRun, Refused, Behind as GoneOn, IsLoggedBy}
 use Rattle.world_command.specs.WorldReport.{IsWorldBy, status_of_steps}
 use Rattle.world_command.specs.declared.world.Behind.{Behind}
 use Rattle.scripts.specs.declared.keyword.Command.TheVariants as command
@@ -16,7 +20,8 @@ use Rattle.scripts.specs.declared.reading.Fault.{Fault}
 use Rattle.scripts.specs.declared.script.Call.{Call}
 use Rattle.scripts.specs.declared.script.Procedure.{Procedure}
 use Rattle.data_component.specs.Store.{Store}
-use Rattle.tc_core.specs.Core.{Core}
+use Rattle.tc_core.specs.Core.{Core, loaded_in}
+use Rattle.tc_core.specs.Loaded.{Loaded}
 use Rattle.text_commands.specs.Verification.{is_refused, status_by_fault, status_of_reading}
 use Rattle.procd.specs.Report.{IsReport}
 use Rattle.text_commands.specs.CodeReport.{IsAssembly, IsDisassembly, IsDisassemblyOf, IsHexDisassembly}
@@ -63,18 +68,30 @@ sound_low : (sound : Bool) → (if sound then 0 else 1) ≤ 1
 sound_low true = omega arith
 sound_low false = omega arith
 
-calls_low : (start : Core) (dcs : List Store) (first calls : List Call) (workers tries : ℕ) (audit : Bool) (status : ℕ) (lines : List ℕ)
-    → IsCallsRun start dcs first calls workers tries audit status lines → status ≤ 1
-calls_low start dcs first calls workers tries audit status lines (Ran fit run) =
+calls_low : (Kept : Core → Type 0) (start : Core) (dcs : List Store) (first calls : List Call) (workers tries : ℕ) (audit : Bool) (status : ℕ) (lines : List ℕ)
+    → IsCallsRun Kept start dcs first calls workers tries audit status lines → status ≤ 1
+calls_low Kept start dcs first calls workers tries audit status lines (Ran fit run) =
     let is = run.printed.status_is in
     omega (arith, is, sound_low run.printed.sound)
-calls_low start dcs first calls workers tries audit status lines (Stopped fault when is line) = omega (arith, is)
+calls_low Kept start dcs first calls workers tries audit status lines (Stopped fault when is line) = omega (arith, is)
 
 run_low : (refusal : Option (List ℕ)) (contents : Contents) (workers tries : ℕ) (audit : Bool) (status : ℕ) (lines : List ℕ)
     → IsRunBy refusal contents workers tries audit status lines → status ≤ 1
 run_low (Some refusal) contents workers tries audit status lines h = omega (arith, h.0)
 run_low None contents workers tries audit status lines h =
-    calls_low (begun contents) (empty_stores contents) contents.first contents.calls workers tries audit status lines h
+    calls_low (λ _. Unit {0}) (begun contents) (empty_stores contents) contents.first contents.calls workers tries audit status lines h
+
+behind_low : (journal : Option FileJournal) (start : Core) (empties : List Store) (first calls : List Call) (workers tries : ℕ) (audit : Bool)
+    (status : ℕ) (lines : List ℕ) → IsLoggedRun journal start empties first calls workers tries audit status lines → status ≤ 1
+behind_low journal start empties first calls workers tries audit status lines (Refused why is) = omega (arith, is)
+behind_low journal start empties first calls workers tries audit status lines (GoneOn b) =
+    calls_low (λ (last : Core). KeepsLog journal last.events) b.back b.dcs first calls workers tries audit status b.answers b.ran
+
+logged_low : (journal : Option FileJournal) (refusal : Option (List ℕ)) (contents : Contents) (workers tries : ℕ) (audit : Bool)
+    (status : ℕ) (lines : List ℕ) → IsLoggedBy journal refusal contents workers tries audit status lines → status ≤ 1
+logged_low journal (Some refusal) contents workers tries audit status lines h = omega (arith, h.0)
+logged_low journal None contents workers tries audit status lines h =
+    behind_low journal (begun contents) (empty_stores contents) contents.first contents.calls workers tries audit status lines h
 
 steps_low : (all : Bool) → status_of_steps all ≤ 1
 steps_low true = omega arith
@@ -85,6 +102,28 @@ world_low : (refusal : Option (List ℕ)) (contents : Contents) (behind : Behind
 world_low (Some refusal) contents behind status lines h = omega (arith, h.0)
 world_low None contents behind status lines h = omega (arith, h.left.status_is, steps_low (h.all && h.left.sound))
 
+unread_low : (file : List ℕ) (status : ℕ) (lines : List ℕ) → IsUnread file status lines → status ≤ 1
+unread_low file status lines h = omega (arith, h.status_is)
+
+listing_low : (file : List ℕ) (status : ℕ) (lines : List ℕ) → IsListing file status lines → status ≤ 1
+listing_low file status lines (Listed s is printed zero) = omega (arith, zero)
+listing_low file status lines (Unread h) = unread_low file status lines h
+
+checked_low : (l : Loaded) (s : Stored) (status : ℕ) (lines : List ℕ) → IsChecked l s status lines → status ≤ 1
+checked_low l s status lines (Illegal place first printed one) = omega (arith, one)
+checked_low l s status lines (Sound legal printed zero) = omega (arith, zero)
+
+beside_low : (file : List ℕ) (l : Loaded) (status : ℕ) (lines : List ℕ) → IsBeside file l status lines → status ≤ 1
+beside_low file l status lines (NotRead h) = unread_low file status lines h
+beside_low file l status lines (Anothers s is differs printed one) = omega (arith, one)
+beside_low file l status lines (Own s is same checked) = checked_low l s status lines checked
+
+audit_low : (refusal : Option (List ℕ)) (contents : Contents) (file : List ℕ) (status : ℕ) (lines : List ℕ)
+    → IsAuditBy refusal contents file status lines → status ≤ 1
+audit_low (Some refusal) contents file status lines h = omega (arith, h.0)
+audit_low None contents file status lines h =
+    beside_low file (loaded_in (with_procedures (empty_core (length contents.dcs)) contents.procedures)) status lines h
+
 pub report_low : (wish : Wish) (text : List ℕ) (status : ℕ) (lines : List ℕ) → IsReport wish text status lines → status ≤ 1
 report_low (Exec raw numbers) text status lines h = omega (arith, h.2, execution_low h.0)
 report_low Asm text status lines h = assembly_low (assembled text) status lines h
@@ -92,5 +131,10 @@ report_low (Dis raw) text status lines h = disassembly_low raw text status lines
 report_low Verify text status lines h = omega (arith, h.0, reading_low (script_said command.Verify text))
 report_low (World log audit) text status lines h =
     let r = script_said command.World text in world_low (refusal_of r) r.contents (record { audit = audit; log = log }) status lines h
-report_low (Run workers tries stats audit) text status lines h =
+report_low (Run workers tries stats audit tell None) text status lines h =
     let r = script_said command.Run text in run_low (refusal_of r) r.contents workers tries audit status lines h
+report_low (Run workers tries stats audit tell (Some path)) text status lines h =
+    let r = script_said command.Run text in logged_low h.0 (refusal_of r) r.contents workers tries audit status lines h.1
+report_low (Log None) text status lines h = listing_low text status lines h
+report_low (Log (Some path)) text status lines h =
+    let r = script_said command.Run h.0 in audit_low (refusal_of r) r.contents text status lines h.1

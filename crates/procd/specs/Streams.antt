@@ -1,8 +1,8 @@
 -- What a run gives for a command line: the exit status, and what stands on standard output and standard error.
-use Rattle.std.specs.Prelude.{◌≡◌, ◌⊎◌, ℕ, Bool, true, false, List, ◌++◌, take, Option, IfSome, codes}
+use Rattle.std.specs.Prelude.{◌≡◌, ◌⊎◌, ℕ, Bool, true, false, List, ◌++◌, take, Option, Some, IfSome, codes}
 use Rattle.std.specs.Io.KnownBytes.{Appends}
 use Rattle.procd.specs.Report.{IsReport}
-use Rattle.command_line.specs.Task.{Wish, may_tell}
+use Rattle.command_line.specs.Task.{Wish, Run, Log, may_tell}
 
 -- what a stream held before and holds afterwards, where that is known
 pub record Stream : Type 0 where
@@ -27,6 +27,9 @@ Begins s text = (n : ℕ) × Gets s (take n text)
 abbrev pub cannot_read_line : List ℕ → List ℕ
 cannot_read_line file = (codes "cannot read " ++ file) ++ codes "\n"
 
+abbrev pub cannot_write_line : List ℕ → List ℕ
+cannot_write_line file = (codes "cannot write " ++ file) ++ codes "\n"
+
 -- the file can't be read
 abbrev pub IsReadFault : List ℕ → Stream → Stream → ℕ → Type 0
 IsReadFault file out err status = (status ≡ 3) × IsKept out × Begins err (cannot_read_line file)
@@ -34,6 +37,15 @@ IsReadFault file out err status = (status ≡ 3) × IsKept out × Begins err (ca
 -- memory ran out
 abbrev pub IsMemoryFault : Stream → Stream → ℕ → Type 0
 IsMemoryFault out err status = (status ≡ 4) × IsKept out × Begins err (codes "memory\n")
+
+-- a further file can't be read or written: the one that keeps a run's log, or the script beside a log
+abbrev pub FurtherFails : Wish → Stream → Type 0
+FurtherFails (Run workers tries stats audit tell (Some path)) err = Begins err (cannot_read_line path) ⊎ Begins err (cannot_write_line path)
+FurtherFails (Log (Some path)) err = Begins err (cannot_read_line path)
+FurtherFails other err = ⊥
+
+abbrev pub IsFurtherFault : Wish → Stream → Stream → ℕ → Type 0
+IsFurtherFault wish out err status = (status ≡ 3) × IsKept out × FurtherFails wish err
 
 -- there is a report, and standard output takes no more than the first bytes of its lines
 abbrev pub IsWriteFault : Wish → List ℕ → Stream → Stream → ℕ → Type 0
@@ -49,11 +61,12 @@ TellsIf false err = IsKept err
 abbrev pub IsDone : Wish → List ℕ → Stream → Stream → ℕ → Type 0
 IsDone wish text out err status = (lines : List ℕ) × IsReport wish text status lines × Gets out lines × TellsIf (may_tell wish) err
 
--- the file can't be read, memory ran out, standard output can't be written, or what was read is done
+-- the file can't be read, memory ran out, a further file can't be read or written, standard output can't be written, or what was read is done
 abbrev pub Ends : List ℕ → Wish → List ℕ → Stream → Stream → ℕ → Type 0
 Ends file wish text out err status =
     IsReadFault file out err status
-    ⊎ (IsMemoryFault out err status ⊎ (IsWriteFault wish text out err status ⊎ IsDone wish text out err status))
+    ⊎ (IsMemoryFault out err status
+    ⊎ (IsFurtherFault wish out err status ⊎ (IsWriteFault wish text out err status ⊎ IsDone wish text out err status)))
 
 -- the same of some text, which is what is there to be read, where that is known
 abbrev pub EndsOn : List ℕ → Wish → Option (List ℕ) → Stream → Stream → ℕ → Type 0

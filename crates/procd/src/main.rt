@@ -6,6 +6,7 @@ mod reading;
 mod report;
 
 use program::{no_memory, not_text, program};
+use report::Meanwhile;
 use std::env;
 use std::io::{ErrorKind, IsTerminal};
 use std::process::ExitCode;
@@ -25,7 +26,10 @@ fn main(rt: HostRuntime) -> ExitCode {
     let Ok(words) = args.collect::<Vec<String>>(alloc) else {
         return ExitCode::from(no_memory(&mut err));
     };
-    let terminal = err.is_terminal().then_some(err);
+    let meanwhile = Meanwhile {
+        terminal: err.is_terminal().then_some(err),
+        error: err,
+    };
     ExitCode::from(program(
         &rt,
         alloc,
@@ -33,6 +37,6 @@ fn main(rt: HostRuntime) -> ExitCode {
         &mut input,
         &mut out,
         &mut err,
-        terminal,
+        meanwhile,
     ))
 }

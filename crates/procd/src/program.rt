@@ -4,19 +4,20 @@ ghost use Rattle.std.specs.Prelude.{◌≡◌, ◌≤◌, ◌++◌, ℕ, List, I
 ghost use Rattle.std.specs.Prelude.{codes, length, map, take, unwrap_or};
 ghost use Rattle.std.specs.Io.KnownBytes.{Appends};
 ghost use Rattle.command_line.specs.Said.{Says, IsWrong, shows};
-ghost use Rattle.procd.specs.Streams.{stream, IsKept, Gets, Begins, Ends, EndsOn, Runs, IsMisuse, cannot_read_line};
+ghost use Rattle.procd.specs.Streams.{stream, TellsIf, IsKept, Gets, Begins, Ends, EndsOn, Runs, IsMisuse, cannot_read_line, cannot_write_line};
 ghost use Rattle.command_line.specs.Task.{Wish, wish_of};
 ghost use Rattle.clap.specs.Words.{kind_of};
 
 use crate::reading::{ReadFault, read_all};
-use crate::report::{ReportFault, report_on};
+use crate::report::{Meanwhile, ReportFault, report_on};
 use clap::Error;
 use clap::error::ErrorKind;
 use command_line::words::{Wanted, WordFault, wanted_of};
+use report_texts::report::Report;
 use std::alloc::Global;
 use std::convert::AsStr;
 use std::fs::File;
-use std::io::{self, Read, Stderr, Write};
+use std::io::{self, Read, Write};
 use std::rt::Files;
 use std::sync::Wait;
 use std::thread::Threads;
@@ -91,92 +92,109 @@ fn cannot_read<E: Write>(err: &mut E, name: &str) -> u8
     FILE_FAULT
 }
 
+fn cannot_write_file<E: Write>(err: &mut E, name: &str) -> u8
+    ensures status { result ≡ 3 }
+    ensures told { Begins (stream (E.contents err.old) (E.contents err.new)) (cannot_write_line name.now) }
+{
+    let _ = tell(err, "cannot write ") && tell(err, name) && tell(err, "\n");
+    FILE_FAULT
+}
+
+// Tells the figures, where they are asked for and there are some.
+fn tell_notes<E: Write>(err: &mut E, may_tell: bool, report: &Report)
+    ensures { TellsIf may_tell (stream (E.contents err.old) (E.contents err.new)) }
+{
+    if let (true, Some(notes)) = (may_tell, &report.notes) {
+        let _ = tell(err, notes.as_str());
+    }
+}
+
 // Does the task with what was read, and writes its lines.
-fn run_text<F: Clock + Threads + Wait + Sync, W: Write, E: Write>(
+fn run_text<F: Files<File = File> + Clock + Threads + Wait + Sync, W: Write, E: Write>(
     rt: &F,
     alloc: Global,
     wanted: &Wanted,
     text: &[u8],
     out: &mut W,
     err: &mut E,
-    terminal: Option<Stderr>,
+    meanwhile: Meanwhile,
 ) -> u8
     ensures { Ends wanted.now.file.now (wish_of wanted.now.task) text.now
         (stream (W.contents out.old) (W.contents out.new))
         (stream (E.contents err.old) (E.contents err.new)) result }
 {
-    let report = match report_on(rt, alloc, &wanted.task, text, terminal) {
+    let report = match report_on(rt, alloc, &wanted.task, text, meanwhile) {
         Ok(report) => report,
         Err(ReportFault::Memory) => return no_memory(err),
         Err(ReportFault::NotText) => return cannot_read(err, wanted.file),
+        Err(ReportFault::Unread(path)) => return cannot_read(err, path),
+        Err(ReportFault::Unwritten(path)) => return cannot_write_file(err, path),
     };
     if !tell(out, report.lines.as_str()) {
         return cannot_write(err);
     }
-    if let (true, Some(notes)) = (wanted.task.may_tell(), &report.notes) {
-        let _ = tell(err, notes.as_str());
-    }
+    tell_notes(err, wanted.task.may_tell(), &report);
     report.status
 }
 
 // Reads all that is there, and does the task with it.
-fn run_input<F: Clock + Threads + Wait + Sync, R: Read, W: Write, E: Write>(
+fn run_input<F: Files<File = File> + Clock + Threads + Wait + Sync, R: Read, W: Write, E: Write>(
     rt: &F,
     alloc: Global,
     wanted: &Wanted,
     input: &mut R,
     out: &mut W,
     err: &mut E,
-    terminal: Option<Stderr>,
+    meanwhile: Meanwhile,
 ) -> u8
     ensures { EndsOn wanted.now.file.now (wish_of wanted.now.task) (R.remaining input.old)
         (stream (W.contents out.old) (W.contents out.new))
         (stream (E.contents err.old) (E.contents err.new)) result }
 {
     match read_all(alloc, input) {
-        Ok(text) => run_text(rt, alloc, wanted, text.as_slice(), out, err, terminal),
+        Ok(text) => run_text(rt, alloc, wanted, text.as_slice(), out, err, meanwhile),
         Err(ReadFault::Memory) => no_memory(err),
         Err(ReadFault::Read) => cannot_read(err, wanted.file),
     }
 }
 
 // Opens the file, and does the task with what is in it.
-fn run_file<F: Files + Clock + Threads + Wait + Sync, W: Write, E: Write>(
+fn run_file<F: Files<File = File> + Clock + Threads + Wait + Sync, W: Write, E: Write>(
     rt: &F,
     alloc: Global,
     wanted: &Wanted,
     out: &mut W,
     err: &mut E,
-    terminal: Option<Stderr>,
+    meanwhile: Meanwhile,
 ) -> u8
     ensures { EndsOn wanted.now.file.now (wish_of wanted.now.task) None
         (stream (W.contents out.old) (W.contents out.new))
         (stream (E.contents err.old) (E.contents err.new)) result }
 {
     match File::open(rt, wanted.file) {
-        Ok(mut file) => run_input(rt, alloc, wanted, &mut file, out, err, terminal),
+        Ok(mut file) => run_input(rt, alloc, wanted, &mut file, out, err, meanwhile),
         Err(_) => cannot_read(err, wanted.file),
     }
 }
 
 // Does what the words want.
-fn run_wanted<F: Files + Clock + Threads + Wait + Sync, R: Read, W: Write, E: Write>(
+fn run_wanted<F: Files<File = File> + Clock + Threads + Wait + Sync, R: Read, W: Write, E: Write>(
     rt: &F,
     alloc: Global,
     wanted: &Wanted,
     input: &mut R,
     out: &mut W,
     err: &mut E,
-    terminal: Option<Stderr>,
+    meanwhile: Meanwhile,
 ) -> u8
     ensures { Runs wanted.now.file.now (wish_of wanted.now.task) (R.remaining input.old)
         (stream (W.contents out.old) (W.contents out.new))
         (stream (E.contents err.old) (E.contents err.new)) result }
 {
     if wanted.file == "-" {
-        return run_input(rt, alloc, wanted, input, out, err, terminal);
+        return run_input(rt, alloc, wanted, input, out, err, meanwhile);
     }
-    run_file(rt, alloc, wanted, out, err, terminal)
+    run_file(rt, alloc, wanted, out, err, meanwhile)
 }
 
 // A command line that asks for help, or is wrong.
@@ -216,16 +234,22 @@ pub fn not_text<E: Write>(err: &mut E) -> u8
 }
 
 /// Runs the program with these words, its name first, and answers its exit status: 0 done, 1
-/// refused, 2 wrong command line, 3 file fault, 4 want of memory. A long run tells how far it is to
-/// the terminal, if there is one, beside what stands on `err`.
-pub fn program<F: Files + Clock + Threads + Wait + Sync, S: AsStr, R: Read, W: Write, E: Write>(
+/// refused, 2 wrong command line, 3 file fault, 4 want of memory. What a long run tells of itself
+/// meanwhile stands beside what is written to `err`.
+pub fn program<
+    F: Files<File = File> + Clock + Threads + Wait + Sync,
+    S: AsStr,
+    R: Read,
+    W: Write,
+    E: Write,
+>(
     rt: &F,
     alloc: Global,
     words: &[S],
     input: &mut R,
     out: &mut W,
     err: &mut E,
-    terminal: Option<Stderr>,
+    meanwhile: Meanwhile,
 ) -> u8
     // What is written is what the command makes of the text of its file or of standard input.
     ensures runs { (file : List ℕ) (wish : Wish) → Says (map S.text words.now) file wish
@@ -238,15 +262,22 @@ pub fn program<F: Files + Clock + Threads + Wait + Sync, S: AsStr, R: Read, W: W
     ensures wrong { result ≡ 2 → W.contents out.new ≡ W.contents out.old }
 {
     match wanted_of(alloc, words) {
-        Ok(wanted) => run_wanted(rt, alloc, &wanted, input, out, err, terminal),
+        Ok(wanted) => run_wanted(rt, alloc, &wanted, input, out, err, meanwhile),
         Err(WordFault::Clap(error)) => misuse(error, out, err),
         Err(WordFault::Memory) => no_memory(err),
         Err(WordFault::NotNumber) => {
             wrong_words(err, "error: an ARG or N is no number of 64 bits in decimal")
         }
+        Err(WordFault::AuditAlone) => wrong_words(
+            err,
+            "error: log --audit takes a SCRIPT as well: the one whose procedures the log was written for",
+        ),
+        Err(WordFault::ScriptAlone) => {
+            wrong_words(err, "error: log takes a SCRIPT with --audit alone")
+        }
         Err(WordFault::NoCommand) => wrong_words(
             err,
-            "error: a command is missing: exec, asm, dis, verify, world or run",
+            "error: a command is missing: exec, asm, dis, verify, world, run or log",
         ),
     }
 }

@@ -1,15 +1,22 @@
 //! What a command says of the text that was read.
 
-ghost use Rattle.std.specs.Prelude.{◌≡◌, true, IfOk, IfErr, string_bytes};
+ghost use Rattle.std.specs.Prelude.{◌≡◌, ◌≢◌, true, Some, option_map, IfOk, IfErr, string_bytes};
 ghost use Rattle.std.specs.Str.{IsUtf8};
-ghost use Rattle.procd.specs.Report.{IsReport};
-ghost use Rattle.command_line.specs.Task.{wish_of, reads_text};
+ghost use Rattle.procd.specs.Report.{IsReport, IsKeptRun, IsRunReport, IsLogReport};
+ghost use Rattle.procd.specs.Joining.Further.{IsScriptFault, IsLogFault, IsTaskFault};
+ghost use Rattle.command_line.specs.Task.{Log, wish_of, reads_text};
 
+use crate::reading::{ReadFault, read_all};
 use command_line::words::Task;
+use log_command::auditing::auditing;
+use log_command::listing::listing;
 use report_texts::report::Report;
-use run_command::running::{Manner, running};
+use run_command::logged::{Unlogged, running_logged};
+use run_command::running::{Listeners, Manner, running};
 use std::alloc::{AllocError, Global};
+use std::fs::File;
 use std::io::Stderr;
+use std::rt::Files;
 use std::sync::Wait;
 use std::thread::Threads;
 use std::time::Clock;
@@ -18,36 +25,136 @@ use text_commands::lines::execution;
 use text_commands::verification::verification;
 use world_command::world::{Behind, world};
 
+/// Where a long run tells of itself meanwhile, beside its report.
+#[derive(Clone, Copy)]
+pub struct Meanwhile {
+    /// The terminal, if standard error is one.
+    pub terminal: Option<Stderr>,
+    pub error: Stderr,
+}
+
 /// Why there is no report.
 #[derive(Clone, Copy, Debug, PartialEq, Eq)]
-pub enum ReportFault {
+pub enum ReportFault<'a> {
     /// What was read is no text in UTF-8.
     NotText,
+    /// The further file with this path can't be read: a run's log, or the script beside a log.
+    Unread(&'a str),
+    /// The file with this path, which is to keep a run's log, can't be written.
+    Unwritten(&'a str),
     Memory,
 }
 
-impl From<AllocError> for ReportFault {
+impl From<AllocError> for ReportFault<'_> {
     ghost use Rattle.std.specs.Prelude.{◌≡◌};
     ghost use Rattle.procd.specs.declared.report.ReportFault.TheVariants.{Memory};
 
     ghost from_gives = { λ _ e. e ≡ Memory };
 
-    fn from(_e: AllocError) -> ReportFault {
+    fn from(_e: AllocError) -> Self {
         ReportFault::Memory
     }
 }
 
-/// What the task makes of the text.
-pub fn report_on<R: Clock + Threads + Wait + Sync>(
+// All that the script's file has.
+fn read_script<'a, R: Files>(
     rt: &R,
     alloc: Global,
-    task: &Task,
+    path: &'a str,
+) -> Result<Vec<u8>, ReportFault<'a>>
+    ensures { IfErr result (IsScriptFault path.entry.now) }
+{
+    let Ok(mut file) = File::open(rt, path) else {
+        return Err(ReportFault::Unread(path));
+    };
+    match read_all(alloc, &mut file) {
+        Ok(text) => Ok(text),
+        Err(ReadFault::Memory) => Err(ReportFault::Memory),
+        Err(ReadFault::Read) => Err(ReportFault::Unread(path)),
+    }
+}
+
+// The report of a run whose log is kept.
+fn logged<'a, R: Files<File = File> + Clock + Threads + Wait + Sync>(
+    rt: &R,
+    alloc: Global,
+    path: &'a str,
+    text: &str,
+    manner: Manner,
+    listeners: Listeners,
+) -> Result<Report, ReportFault<'a>>
+    ensures ok { IfOk result (λ r. IsKeptRun manner.workers manner.tries manner.audit text.now r.status (string_bytes r.lines)) }
+    ensures fault { IfErr result (IsLogFault (Some path.entry.now)) }
+    ensures text { IfErr result (λ e. e ≢ ReportFault.NotText) }
+{
+    match running_logged(rt, alloc, path, text, manner, listeners) {
+        Ok(ran) => Ok(ran.report),
+        Err(Unlogged::Memory) => Err(ReportFault::Memory),
+        Err(Unlogged::Unread) => Err(ReportFault::Unread(path)),
+        Err(Unlogged::Unwritten) => Err(ReportFault::Unwritten(path)),
+    }
+}
+
+// The report of a run, whose log is kept where there is a path for it.
+fn run_report<'a, R: Files<File = File> + Clock + Threads + Wait + Sync>(
+    rt: &R,
+    alloc: Global,
     text: &[u8],
-    terminal: Option<Stderr>,
-) -> Result<Report, ReportFault>
+    manner: Manner,
+    listeners: Listeners,
+    log: Option<&'a str>,
+) -> Result<Report, ReportFault<'a>>
+    ensures ok { IfOk result (λ r. IsRunReport manner.workers manner.tries manner.audit (option_map (λ path. path.now) log.entry) text.now
+        r.status (string_bytes r.lines)) }
+    ensures not_text { IfErr result (λ e. e ≡ ReportFault.NotText → ¬ (IsUtf8 text.now)) }
+    ensures log { IfErr result (IsLogFault (option_map (λ path. path.now) log.entry)) }
+{
+    let Ok(text) = str::from_utf8(text) else {
+        return Err(ReportFault::NotText);
+    };
+    match log {
+        Some(path) => logged(rt, alloc, path, text, manner, listeners),
+        None => match running(rt, alloc, text, manner, listeners) {
+            Ok(report) => Ok(report),
+            Err(AllocError) => Err(ReportFault::Memory),
+        },
+    }
+}
+
+// What is printed of a log's file, or of an audit beside a script.
+fn log_report<'a, R: Files>(
+    rt: &R,
+    alloc: Global,
+    file: &[u8],
+    script: Option<&'a str>,
+) -> Result<Report, ReportFault<'a>>
+    ensures ok { IfOk result (λ r. IsLogReport (option_map (λ path. path.now) script.entry) file.now r.status (string_bytes r.lines)) }
+    ensures text { IfErr result (λ e. e ≢ ReportFault.NotText) }
+    ensures script { IfErr result (IsTaskFault (Log (option_map (λ path. path.now) script.entry))) }
+{
+    let Some(path) = script else {
+        return Ok(listing(alloc, file)?);
+    };
+    let script = read_script(rt, alloc, path)?;
+    match str::from_utf8(script.as_slice()) {
+        Ok(script) => Ok(auditing(alloc, file, script)?),
+        Err(_) => Err(ReportFault::Unread(path)),
+    }
+}
+
+/// What the task makes of the text.
+pub fn report_on<'a, R: Files<File = File> + Clock + Threads + Wait + Sync>(
+    rt: &R,
+    alloc: Global,
+    task: &Task<'a>,
+    text: &[u8],
+    meanwhile: Meanwhile,
+) -> Result<Report, ReportFault<'a>>
     ensures ok { IfOk result (λ r. IsReport (wish_of task.now) text.now r.status (string_bytes r.lines)) }
     // Only assembly text and scripts have to be UTF-8.
     ensures not_text { IfErr result (λ e. e ≡ ReportFault.NotText → (reads_text (wish_of task.now) ≡ true) × ¬ (IsUtf8 text.now)) }
+    // A further file that can't be read or written is the one that is wanted.
+    ensures further { IfErr result (IsTaskFault (wish_of task.now)) }
 {
     match task {
         Task::Exec { raw, numbers } => Ok(execution(alloc, *raw, text, numbers.as_slice())?),
@@ -75,18 +182,22 @@ pub fn report_on<R: Clock + Threads + Wait + Sync>(
             tries,
             stats,
             audit,
-        } => match str::from_utf8(text) {
-            Ok(text) => {
-                let manner = Manner {
-                    workers: *workers,
-                    tries: *tries,
-                    stats: *stats,
-                    audit: *audit,
-                };
-                Ok(running(rt, alloc, text, manner, terminal)?)
-            }
-            Err(_) => Err(ReportFault::NotText),
-        },
+            tell,
+            log,
+        } => {
+            let manner = Manner {
+                workers: *workers,
+                tries: *tries,
+                stats: *stats,
+                audit: *audit,
+            };
+            let listeners = Listeners {
+                terminal: meanwhile.terminal,
+                each: tell.then_some(meanwhile.error),
+            };
+            run_report(rt, alloc, text, manner, listeners, *log)
+        }
         Task::Dis { raw } => Ok(disassembly(alloc, *raw, text)?),
+        Task::Log { script } => log_report(rt, alloc, text, *script),
     }
 }

@@ -31,3 +31,9 @@ returns-in-Ok-clause-misuse g c = λ wrong. absurd (c.in-Ok.ensures.wrong wrong)
 pub returns-in-Err-Clap-clause-misuse : goal.returns-in-Err-Clap-clause-misuse
 returns-in-Err-Clap-clause-misuse g c = λ wrong.
     c.misuse.ensures.refused (rw c.in-Err-Clap.field-0-is (rw c.in-Err-Clap.field-0-is at (c.in-Err-Clap.ensures.wrong wrong)))
+
+pub returns-in-Err-AuditAlone-clause-runs : goal.returns-in-Err-AuditAlone-clause-runs
+returns-in-Err-AuditAlone-clause-runs g c = λ file wish says. absurd (rw c.in-Err-AuditAlone.field-0-is at (c.in-Err-AuditAlone.ensures.wanted file wish says))
+
+pub returns-in-Err-ScriptAlone-clause-runs : goal.returns-in-Err-ScriptAlone-clause-runs
+returns-in-Err-ScriptAlone-clause-runs g c = λ file wish says. absurd (rw c.in-Err-ScriptAlone.field-0-is at (c.in-Err-ScriptAlone.ensures.wanted file wish says))
