@@ -1,9 +1,12 @@
 //! sqlite MOVES: how often SQLite, its rows in memory, moves an amount between two of a thousand records, by
-//! one thread with prepared statements: two reads and two updates in a transaction. It keeps no log. Build
-//! with `rustc -O -l sqlite3`.
+//! one thread with prepared statements: two reads and two updates in a transaction. It keeps no log.
+//! sqlite MOVES FILE THREADS: the same, once, in a new file, by threads with a connection each; what it commits is
+//! synced (`journal_mode=WAL`, `synchronous=FULL`). Build with `rustc --edition 2024 -O -l sqlite3`.
 
-use std::ffi::{c_char, c_int, c_void, CStr};
+use std::ffi::{CStr, CString, c_char, c_int, c_void};
 use std::ptr;
+use std::sync::Barrier;
+use std::thread;
 use std::time::Instant;
 
 const RECORDS: i64 = 1000;
@@ -12,7 +15,11 @@ const FIRST: i64 = 1_000_000;
 
 const TRIES: u32 = 3;
 
+/// How long a connection waits for the others, in milliseconds, before it is told that they are at it.
+const PATIENCE: c_int = 60_000;
+
 const OK: c_int = 0;
+const BUSY: c_int = 5;
 const ROW: c_int = 100;
 const DONE: c_int = 101;
 
@@ -29,6 +36,7 @@ struct Prepared {
 unsafe extern "C" {
     fn sqlite3_open(name: *const c_char, out: *mut *mut Connection) -> c_int;
     fn sqlite3_close(database: *mut Connection) -> c_int;
+    fn sqlite3_busy_timeout(database: *mut Connection, milliseconds: c_int) -> c_int;
     fn sqlite3_prepare_v2(
         database: *mut Connection,
         text: *const c_char,
@@ -56,9 +64,21 @@ struct Database(*mut Connection);
 
 impl Database {
     fn in_memory() -> Database {
+        Database::open(c":memory:")
+    }
+
+    /// Commits are on the disk before they are told.
+    fn in_file(name: &CStr) -> Database {
+        let database = Database::open(name);
+        assert_eq!(unsafe { sqlite3_busy_timeout(database.0, PATIENCE) }, OK);
+        database.prepare(c"PRAGMA journal_mode=WAL").answer();
+        database.prepare(c"PRAGMA synchronous=FULL").run();
+        database
+    }
+
+    fn open(name: &CStr) -> Database {
         let mut database = ptr::null_mut();
-        let opened = unsafe { sqlite3_open(c":memory:".as_ptr(), &mut database) };
-        assert_eq!(opened, OK);
+        assert_eq!(unsafe { sqlite3_open(name.as_ptr(), &mut database) }, OK);
         Database(database)
     }
 
@@ -91,9 +111,19 @@ impl Statement {
         assert_eq!(bound, OK);
     }
 
-    /// Runs to its end, and is ready to be run again.
+    /// Runs to its end, again where others were at it for too long, and is ready to be run again.
     fn run(&self) {
-        assert_eq!(unsafe { sqlite3_step(self.0) }, DONE);
+        let mut ended = BUSY;
+        while ended == BUSY {
+            ended = unsafe { sqlite3_step(self.0) };
+            unsafe { sqlite3_reset(self.0) };
+        }
+        assert_eq!(ended, DONE);
+    }
+
+    /// Runs, with an answer that nobody reads.
+    fn answer(&self) {
+        assert_eq!(unsafe { sqlite3_step(self.0) }, ROW);
         unsafe { sqlite3_reset(self.0) };
     }
 
@@ -169,21 +199,17 @@ impl Moves {
 fn fill(database: &Database) {
     database.prepare(c"CREATE TABLE records (key INTEGER PRIMARY KEY, value BLOB NOT NULL)").run();
     let insert = database.prepare(c"INSERT INTO records VALUES (?1, ?2)");
+    database.prepare(c"BEGIN").run();
     for key in 0..RECORDS {
         let row = with_amount([0; 64], FIRST);
         insert.bind_key(1, key);
         insert.bind_row(2, &row);
         insert.run();
     }
+    database.prepare(c"COMMIT").run();
 }
 
-/// Moves a second.
-fn rate(count: u64) -> f64 {
-    let database = Database::in_memory();
-    fill(&database);
-    let moves = Moves::new(&database);
-    let mut seed = 0x9e37_79b9_7f4a_7c15;
-    let begin = Instant::now();
+fn move_all(moves: &Moves, count: u64, mut seed: u64) {
     for _ in 0..count {
         let from = draw(&mut seed);
         let mut to = draw(&mut seed);
@@ -192,17 +218,67 @@ fn rate(count: u64) -> f64 {
         }
         moves.move_one(from, to);
     }
-    let rate = count as f64 / begin.elapsed().as_secs_f64();
+}
+
+fn assert_sum(moves: &Moves) {
     let sum: i64 = (0..RECORDS).map(|key| amount(&moves.read(key))).sum();
     assert_eq!(sum, RECORDS * FIRST);
+}
+
+const SEED: u64 = 0x9e37_79b9_7f4a_7c15;
+
+/// Moves a second, in memory.
+fn rate(count: u64) -> f64 {
+    let database = Database::in_memory();
+    fill(&database);
+    let moves = Moves::new(&database);
+    let begin = Instant::now();
+    move_all(&moves, count, SEED);
+    let rate = count as f64 / begin.elapsed().as_secs_f64();
+    assert_sum(&moves);
+    rate
+}
+
+/// Moves a second, in a file, by so many threads at once.
+fn rate_in_file(count: u64, name: &CStr, threads: u64) -> f64 {
+    let database = Database::in_file(name);
+    fill(&database);
+    let each = count / threads;
+    let line = Barrier::new(threads as usize + 1);
+    let begin = thread::scope(|scope| {
+        for thread in 1..=threads {
+            let line = &line;
+            scope.spawn(move || {
+                let own = Database::in_file(name);
+                let moves = Moves::new(&own);
+                line.wait();
+                move_all(&moves, each, SEED.wrapping_mul(2 * thread + 1));
+            });
+        }
+        line.wait();
+        Instant::now()
+    });
+    let rate = (each * threads) as f64 / begin.elapsed().as_secs_f64();
+    assert_sum(&Moves::new(&database));
     rate
 }
 
 fn main() {
-    let Some(count) = std::env::args().nth(1).and_then(|word| word.parse().ok()) else {
-        eprintln!("usage: sqlite MOVES");
-        std::process::exit(2);
-    };
-    let best = (0..TRIES).map(|_| rate(count)).fold(0.0, f64::max);
-    println!("{:<8} {:>8} {:>14.0}  (best of {TRIES})", "sqlite", 1, best);
+    let words: Vec<String> = std::env::args().collect();
+    let number = |place: usize| words.get(place).and_then(|word| word.parse::<u64>().ok());
+    match (words.len(), number(1), number(3)) {
+        (2, Some(count), None) => {
+            let best = (0..TRIES).map(|_| rate(count)).fold(0.0, f64::max);
+            println!("{:<8} {:>8} {:>14.0}  (best of {TRIES})", "sqlite", 1, best);
+        }
+        (4, Some(count), Some(threads @ 1..)) => {
+            let name = CString::new(words[2].as_str()).expect("a word has no zero");
+            let rate = rate_in_file(count, &name, threads);
+            println!("{:<8} {:>8} {:>14.0}", "sqlite", threads, rate);
+        }
+        _ => {
+            eprintln!("usage: sqlite MOVES [FILE THREADS]");
+            std::process::exit(2);
+        }
+    }
 }

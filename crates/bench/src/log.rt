@@ -6,8 +6,8 @@ use std::alloc::Global;
 use tc_log::event::Event;
 use tc_log::log::Log;
 
-/// So many events, printed and read again so many times. How many events were read.
-pub fn repeat(alloc: Global, events: u64, times: u64) -> Option<u64> {
+/// A log of so many events: inserts that are asked for.
+pub fn asks(alloc: Global, events: u64) -> Option<Log> {
     let mut log = Log::new(alloc);
     for number in 0..events {
         let Ok(()) = log.reserve(1) else {
@@ -24,6 +24,12 @@ pub fn repeat(alloc: Global, events: u64, times: u64) -> Option<u64> {
             op: Op::Insert(record, [7; 64]),
         });
     }
+    Some(log)
+}
+
+/// So many events, printed and read again so many times. How many events were read.
+pub fn repeat(alloc: Global, events: u64, times: u64) -> Option<u64> {
+    let log = asks(alloc, events)?;
     let mut read: u64 = 0;
     for _ in 0..times {
         let bytes = log.print(alloc).ok()?;

@@ -6,6 +6,7 @@ mod audits;
 mod calls;
 mod checks;
 mod code;
+mod damaged;
 mod locks;
 mod log;
 mod numbers;
@@ -47,6 +48,8 @@ const USAGE: &str = "usage:
   bench trace SEED WORKERS CALLS       the same, and the events of its log, 192 hex digits each
   bench restarts SEED WORKERS CALLS    the same as trace over a link that loses nothing, to a data component that keeps
                                        a checkpoint at every fifth wire and restarts at every seventh
+  bench damaged EVENTS                 writes a log of EVENTS events in frames of 40, and reads the file cut at each
+                                       length, and with each byte changed: as a beginning of it, or refused
   bench audit 0 0 < TEXT               audits a log and data components: a script of `world`, a line `log`, the log in
                                        hex, and lines `restart DC` and `list DC EVENTS`
 ";
@@ -90,8 +93,12 @@ fn line_of<R: Threads + Wait + Sync>(
     words: &[String],
     text: &str,
 ) -> Option<String> {
-    let (first, second) = (number(words, 2)?, number(words, 3)?);
-    let count = match words.get(1)?.as_str() {
+    let (command, first) = (words.get(1)?.as_str(), number(words, 2)?);
+    if command == "damaged" {
+        return damaged::repeat(alloc, first);
+    }
+    let second = number(words, 3)?;
+    let count = match command {
         "code" => return report(alloc, &run_all(alloc, text, first, second)?),
         "audit" => return audits::repeat(alloc, text),
         "starts" => code::repeat_starts(alloc, first, second)?,
