@@ -5,8 +5,8 @@ usage: tools/explore.py [--procd PATH] [--audit] [--seconds N] [--seed N] [--see
 
 From each seed come a world and some runs. The script of a world has random steps: calls that overlap,
 operations asked for in any order, messages that are lost, repeated, late and forged, data components that
-keep checkpoints and restart, news of that which come late and again, redo, undos that fail. The model says
-what each step prints, which rows are left and what is logged; and the log that procd prints is replayed by
+keep checkpoints and restart, news of that which come late and again, redo, undos that fail, crashes of the
+transaction component. The model says what each step prints, which rows are left and what is logged; and the log that procd prints is replayed by
 itself: no two operations in flight conflict, each is covered by its transaction's locks, numbers rise one by
 one. Where no message was forged, the calls one after another have to give the same answers and rows. With
 `--audit` procd's audit has to say what the model's does. The script of a run has random calls, made by up to
@@ -34,8 +34,8 @@ AMPLE = [(20, 5000)] * 2  # rows and operations of the data components, where th
 HUNTED = 300  # how many further scripts are looked through for a shorter one
 AGAIN = 10  # how often a script of calls is run before it is said to show nothing
 WORDS = {"admit": 3, "ask": 2, "undo": 2, "end": 2, "resend": 3, "perform": 5, "take": 5}
-WORDS |= {"checkpoint": 1, "restart": 1, "tell": 2, "redo": 2, "forge": 1}
-FORGED, RESTARTED = [0, 0, 1, 5], [0, 1, 3]  # weights of these words, of which a script has one
+WORDS |= {"checkpoint": 1, "restart": 1, "tell": 2, "redo": 2, "forge": 1, "crash": 1}
+FORGED, RESTARTED, CRASHED = [0, 0, 1, 5], [0, 1, 3], [0, 1, 4]  # weights of these words, of which a script has one
 FAILURES = [0, 3, 3, 1, 3, 4]  # of the undos of a write in a script with forged replies, how many are to fail
 
 
@@ -169,7 +169,14 @@ def any_step(draw, world, weights):
     places |= dict.fromkeys(("restart", "checkpoint", "redo"), world.dcs)
     if word in places:
         return word, draw.randrange(len(places[word]) + 1)
+    if word == "crash":
+        return word, some_beginning(draw, len(world.log))
     return word, draw.choice(list(world.txns) + [0, world.serials + 1])
+
+
+def some_beginning(draw, events):
+    """How many events a crash is to find written: mostly nearly all, and now and then more than there are."""
+    return max(events - draw.randrange(-1, 8), 0) if draw.random() < 0.9 else draw.randrange(events + 2)
 
 
 def some_step(draw, world, weights):
@@ -193,6 +200,7 @@ class Steps:
     def drawn(draw, count):
         dcs = [(draw.choice([1, 2, 3, 20]), draw.choice([50] + 7 * [5000])) for _ in range(2)]
         weights = {**WORDS, "forge": draw.choice(FORGED), "restart": draw.choice(RESTARTED)}
+        weights["crash"] = draw.choice(CRASHED)
         world, steps = World(dcs, list(PROCEDURES)), []
         for _ in range(count):
             steps.append(some_step(draw, world, weights))

@@ -34,6 +34,14 @@ tried tools/hostile.py --every 25 code texts worlds memory
 tried tools/explore.py --audit --seconds 20
 tried tools/storms.py --runs 5 --calls 1000
 tried tools/tampered.py --every 25
+for how in "" --forget --control; do
+    tried tools/crashes.py --kills 5 --moves 1000 $how
+done
+# A log's file with one fault is read as a beginning of it, or refused.
+damaged() {
+    said=$(crates/bench/out/bench damaged 50 < /dev/null) && echo "damaged: $said" && [ "${said##* }" = 0 ]
+}
+tried damaged
 # The library for C, over the libraries that `rt ci` proved just now, and its examples.
 c_interface() {
     tools/archive.py && make -s -C c_interface check

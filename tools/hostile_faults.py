@@ -5,20 +5,24 @@ Faults come from a small library in C before the C library (faults.c); others fr
 import collections
 import itertools
 import os
-import pathlib
 import resource
-import shutil
 import signal
 import subprocess
 
 from hostile_worlds import SCRIPT, recovered
-from trying import Ran, undocumented
+from log_files import batch, event, frames, header, numbers
+from trying import Ran, preloaded, undocumented
 
 HEX = b"b7 00 00 00 07 00 00 00\nb7 01 00 00 05 00 00 00\n0f 10 00 00 00 00 00 00\n95 00 00 00 00 00 00 00\n"
 RAW = bytes.fromhex("7910080000000000 9500000000000000")
 ASSEMBLY = b"lddw r0, 0x0000000100000007\nmod32 r0, 0 ; stays\nexit\n"
 WORLD = (SCRIPT + "".join(f"{step}\n" for step, _ in recovered(15, True).steps)).encode()
 RUN = (SCRIPT + "first put 5 100\n" + "call bad 5\n" * 3 + "call put 6 1\n").encode()
+LOG = frames(
+    header(1),
+    batch(event(1, 1, 1, body=numbers(5)), event(2, 2, 1, 1, (0, 0, 5), numbers(9)), notes=[(0, 2, 1, 0)]),
+    batch(event(3, 3, 1, 1), event(5, 1, 1)),
+)
 NO_MEMORY = Ran(4, b"", b"memory\n")
 NO_THREAD = Ran(1, b"refused G4 NoThread\n", b"")
 
@@ -39,25 +43,17 @@ COMMANDS = [
     Command(["run", "--workers", 1], [], RUN),
     Command(["run", "--audit", "--workers", 8], [], RUN),
     Command(["run", "--workers", 65], [], RUN),
+    Command(["log"], [], LOG),
+    Command(["log"], [], LOG[:-1]),
 ]
 NO_FILE = [["--help"], ["exec", "--help"], ["exec"], ["fly"], [], ["exec", "-", "x"], ["run", "--tries", "-1", "-"]]
-
-
-def faults_library(folder):
-    """The library of faults, where there is a C compiler."""
-    compiler = shutil.which("cc") or shutil.which("clang")
-    path = folder / "faults.so"
-    if compiler and not path.exists():
-        source = pathlib.Path(__file__).with_name("faults.c")
-        subprocess.run([compiler, "-O1", "-shared", "-fPIC", "-o", path, source, "-ldl"], check=True)
-    return path if compiler else None
 
 
 class Faulty:
     """The program with faults, and the tally of what it did."""
 
     def __init__(self, program, tally):
-        self.program, self.tally, self.library = program, tally, faults_library(program.folder)
+        self.program, self.tally, self.library = program, tally, preloaded("faults", program.folder)
 
     def run(self, words, given, **faults):
         settings = {name.upper(): str(value) for name, value in faults.items()}

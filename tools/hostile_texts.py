@@ -20,13 +20,15 @@ SCRIPT += rf"|7 Verify {VIOLATION}|8 DcUnknown|9 Order)"
 CODE = rf"(H1 NotHex at \d+|S1 TooManyArgs|{VIOLATION})"
 ENDED = rf"(committed|aborted {NUMBER}|noroom)"
 ILLEGAL = rf"(I1 Refused {REFUSAL}|I2 NoTxn|I3 Waits {NUMBER}|I4 Running|I5 NotOver|I6 NothingOpen|I7 NoCopy"
-ILLEGAL += r"|I8 NoReply|I9 Stranger|I10 NoDc|I12 IncarnationsSpent|I13 Down \d+|I14 NoNews|I15 OldNews|I16 NotDown)"
+ILLEGAL += r"|I8 NoReply|I9 Stranger|I10 NoDc|I12 IncarnationsSpent|I13 Down \d+|I14 NoNews|I15 OldNews|I16 NotDown"
+ILLEGAL += "|I17 NotWritten)"
 STEP = rf"(admitted \d+|sent \d+ number \d+ {OPERATION} low \d+|held number \d+ {OPERATION}|undoing \d+|over \d+"
 STEP += rf"|stuck \d+ number \d+|reply \d+ number \d+ {SAID}|silent|forged \d+|took number \d+"
 STEP += rf"|ended \d+ {ENDED} at \d+|checkpoint \d+ mark \d+|restarted \d+|told \d+ incarnation \d+ mark \d+"
-STEP += rf"|redo \d+ number \d+ {OPERATION}|redone number \d+|up \d+|illegal {ILLEGAL})"
+STEP += rf"|redo \d+ number \d+ {OPERATION}|redone number \d+|up \d+|crashed \d+ open \d+|illegal {ILLEGAL})"
 AUDIT = r"audit (ok ended \d+ open \d+|skipped dc \d+ (down|restarted))\n"
 ROW, EVENT = rf"row {RECORD} {VALUE}", "[0-9a-f]{192}"
+LOGGED = rf"\d+ (admit \d+ procedure \d+( \d+)*|(ask|undo) \d+ number \d+ {OPERATION}|answer \d+ number \d+ {SAID}|end \d+ {ENDED})"
 CALL = rf"(first|call) \d+ ({ENDED}|in doubt \d+|blocked {RECORD}|refused {REFUSAL})"
 
 # What each command prints of what it doesn't refuse, and its refusals.
@@ -37,12 +39,14 @@ DONE = {
     "verify": rf"([a-z0-9_]{{1,32}} (accepted \d+|{VIOLATION})\n)*",
     "world": rf"({STEP}\n)*({ROW}\n)*({AUDIT})?({EVENT}\n)*",
     "run": rf"({CALL}\n)*({ROW}\n)*({AUDIT})?",
+    "log": rf"({LOGGED}\n)*(unfinished \d+ bytes\n)?",
 }
 REFUSALS = {
     "exec": rf"refused {CODE}\n|{REFUSED.decode()}",
     "asm": rf"refused {ASSEMBLY} line \d+\n",
     "dis": rf"refused {CODE}\n|{REFUSED.decode()}",
     "run": rf"refused (line \d+ {SCRIPT}|G1 Workers)\n",
+    "log": r"refused log (Empty|Other|Damaged frame \d+|NoBatch frame \d+|L2 Kind \d+)\n",
 }
 SCRIPT_REFUSED = rf"refused line \d+ {SCRIPT}\n"
 REFUSALS |= dict.fromkeys(("verify", "world"), SCRIPT_REFUSED)
@@ -67,7 +71,7 @@ def is_text(data):
 def wrong(command, data, ran):
     """What is wrong with this end, or None."""
     word = command.before[0]
-    if word not in ("exec", "dis") and not is_text(data):
+    if word not in ("exec", "dis", "log") and not is_text(data):
         return None if ran == Ran(3, b"", b"cannot read -\n") else "no text"
     printed = ran.out.decode()
     if ran.status == 1 and re.fullmatch(REFUSALS[word], printed):

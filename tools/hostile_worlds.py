@@ -1,9 +1,11 @@
 """Hostile worlds: a transaction that commits and one that is undone, whose lines are known, and behind
-each step in turn a reply that nobody sent, a repeated operation, a repeated request or a restart.
+each step in turn a reply that nobody sent, a repeated operation, a repeated request, a restart or a crash of the
+transaction component.
 
 What is printed stays but for the lines that are added, and places of later wires and replies, greater by as
 many as were added. A restart that nobody is told of leaves no row, and the first wire behind it is not heard;
-one that is told of, with a checkpoint before it or none, and whose redo is gone through, leaves all as it was.
+one that is told of, with a checkpoint before it or none, and whose redo is gone through, leaves all as it was. So
+does a crash that finds the whole log written; and one that is to find more of it isn't possible.
 """
 import re
 from collections import namedtuple
@@ -165,6 +167,20 @@ def restarted():
         yield recovered(at, True)
 
 
+# ---- crashes of the transaction component
+
+
+def crashed():
+    """Each script with a crash more, behind which the whole log was written, and with one that isn't possible."""
+    for at in range(len(STEPS) + 1):
+        words = [line.split()[0] for _, line in STEPS[:at]]
+        events = sum(word in ("admitted", "sent", "took", "ended") for word in words)
+        left = words.count("admitted") - words.count("ended")
+        yield as_ever([*STEPS[:at], (f"crash {events}", f"crashed {events} open {left}"), *STEPS[at:]])
+        more = (f"crash {events + 1}", "illegal I17 NotWritten")
+        yield Tried([*STEPS[:at], more, *STEPS[at:]], ROWS, 1)
+
+
 # ---- messages
 
 
@@ -189,7 +205,7 @@ def repeated(at):
 def hostile_worlds(program, tally, every):
     """Runs each of them; of those with a forged reply one of so many."""
     again = [script for at in range(len(STEPS)) for script in repeated(at)]
-    for steps, rows, status in [as_ever(STEPS), *restarted(), *again, *some_of(forged(), every)]:
+    for steps, rows, status in [as_ever(STEPS), *restarted(), *crashed(), *again, *some_of(forged(), every)]:
         text = SCRIPT + "".join(step + "\n" for step, _ in steps)
         ran = program.run(["world", "-"], text.encode())
         lines = ran.out.decode().splitlines()

@@ -327,14 +327,24 @@ class Transaction:
 class World:
     """Data components (rows and operations at most), procedures by name, and what was sent.
 
-    Beside the log `notes` has what was told and redone, each with the length that the log had then.
+    Beside the log `notes` has what was told and redone, each with the length that the log had then, and `events` the
+    methods that logged each event, with what they were handed.
     """
 
     def __init__(self, dcs, names):
         self.dcs, self.names = [DataComponent(*it) for it in dcs], names
         self.sites = [Site() for _ in dcs]
-        self.txns, self.copies, self.replies, self.news, self.log, self.notes = {}, [], [], [], [], []
-        self.serials, self.last, self.unanswered, self.done = 0, 0, {}, {}
+        self.copies, self.replies, self.news, self.notes = [], [], [], []
+        self.begin()
+
+    def begin(self):
+        """Nothing is logged."""
+        self.log, self.events, self.txns, self.unanswered, self.done = [], [], {}, {}, {}
+        self.serials, self.last = 0, 0
+
+    def event(self, data, *method):
+        self.log.append(data)
+        self.events.append(method)
 
     def low(self):
         return min(self.unanswered, default=self.last + 1) - 1
@@ -363,17 +373,35 @@ class World:
             holders = self.holders(record, txn.locks[record])
             if holders:
                 return f"illegal I1 Refused B1 Busy {record_text(record)} holder {min(holders)}"
-        self.serials += 1
-        self.txns[self.serials] = txn
-        self.log.append(admit_bytes(self.serials, self.names.index(name), args))
+        self.admitted(name, args)
         return f"admitted {self.serials}"
+
+    def admitted(self, name, args):
+        self.serials += 1
+        self.txns[self.serials] = Transaction(PROCEDURES[name], args)
+        self.event(admit_bytes(self.serials, self.names.index(name), args), self.admitted, name, args)
+
+    def given(self, kind, t, op):
+        self.last += 1
+        self.txns[t].open, self.txns[t].last = self.last, self.last
+        self.txns[t].tries += kind == 4
+        self.unanswered[self.last] = (t, op, kind == 4)
+        self.event(sent_bytes(kind, t, self.last, op), self.given, kind, t, op)
+
+    def answered(self, n, said):
+        t, op, is_undo = self.unanswered.pop(n)
+        if said[0] == "done":
+            self.done[n] = op, said
+        self.event(answer_bytes(t, n, said), self.answered, n, said)
+        self.txns[t].answered(op, is_undo, said)
+
+    def ended(self, t):
+        outcome = self.txns.pop(t).outcome
+        self.event(end_bytes(t, outcome), self.ended, t)
 
     def give(self, kind, t, op):
         """Gives the operation a number, and sends it where its data component isn't down."""
-        self.last += 1
-        self.txns[t].open, self.txns[t].last = self.last, self.last
-        self.unanswered[self.last] = (t, op, kind == 4)
-        self.log.append(sent_bytes(kind, t, self.last, op))
+        self.given(kind, t, op)
         if self.sites[op[1][0]].is_down():
             return f"held number {self.last} {op_text(op)}"
         return self.send(self.last, op)
@@ -402,7 +430,6 @@ class World:
             return f"stuck {t} number {txn.last}"
         if not txn.writes:
             return f"over {t}"
-        txn.tries += 1
         return self.give(4, t, txn.writes[-1])
 
     def end(self, t):
@@ -411,8 +438,7 @@ class World:
         txn = self.txns[t]
         if txn.open or not txn.outcome or txn.to_undo():
             return "illegal I5 NotOver"
-        del self.txns[t]
-        self.log.append(end_bytes(t, txn.outcome))
+        self.ended(t)
         return f"ended {t} {' '.join(map(str, txn.outcome))} at {len(self.log) - 1}"
 
     def resend(self, t):
@@ -443,15 +469,11 @@ class World:
         n, incarnation, said = self.replies[i]
         if n not in self.unanswered:
             return self.take_redone(self.replies[i])
-        t, op, is_undo = self.unanswered[n]
+        op = self.unanswered[n][1]
         site = self.sites[op[1][0]]
         if site.is_down() or incarnation != site.incarnation or not fits(op, said):
             return "illegal I9 Stranger"
-        del self.unanswered[n]
-        if said[0] == "done":
-            self.done[n] = op, said
-        self.log.append(answer_bytes(t, n, said))
-        self.txns[t].answered(op, is_undo, said)
+        self.answered(n, said)
         return f"took number {n}"
 
     def under_redo(self, d):
@@ -512,6 +534,34 @@ class World:
     def forge(self, n, said):
         self.replies.append(Reply(n, 0, said))
         return f"forged {len(self.replies) - 1}"
+
+    def is_written(self, p):
+        """Whether the first p events of the log tell of all that was carried."""
+        methods = [(method.__name__, *of) for method, *of in self.events[:p]]
+        given = sum(name == "given" for name, *_ in methods)
+        answered = {of[0] for name, *of in methods if name == "answered"}
+        low = min(set(range(1, given + 1)) - answered, default=given + 1) - 1
+        numbers = [it.number for it in self.copies + self.replies]
+        numbers += [n for dc in self.dcs for n in (*dc.list, *dc.saved[1])]
+        marks = [wire.low for wire in self.copies] + [mark for dc in self.dcs for mark in (dc.mark, dc.saved[2])]
+        marks += [it.mark for it in self.news] + [site.mark for site in self.sites if site.is_down()]
+        is_redone = answered.issuperset(wire.number for wire in self.copies if wire.redo)
+        return is_redone and max(numbers, default=0) <= given and max(marks, default=0) <= low
+
+    def crash(self, p):
+        """Comes back from the first p events of the log; a redo begins anew."""
+        if p > len(self.log) or not self.is_written(p):
+            return "illegal I17 NotWritten"
+        events = self.events[:p]
+        self.begin()
+        for method, *of in events:
+            method(*of)
+        self.notes = [(min(at, p), *note) for at, *note in self.notes]
+        for d, site in enumerate(self.sites):
+            if site.is_down():
+                site.redone = site.mark
+                self.note("told", d, site.mark)
+        return f"crashed {p} open {len(self.txns)}"
 
     def unheard(self):
         """The data components that are down or of another incarnation than the one known, and which of it."""

@@ -11,12 +11,12 @@ import argparse
 import pathlib
 import sys
 
-from printed_rows import code, commands, restarts, runs, scripts, worlds
+from printed_rows import code, commands, logs, restarts, runs, scripts, worlds
 from trying import Program
 
 TOP = pathlib.Path(__file__).resolve().parent.parent
 BUILT = [TOP / "crates" / "procd" / "out" / name for name in ("procd", "procd.by-rattle")]
-TABLES = [code, scripts, worlds, restarts, runs, commands]
+TABLES = [code, scripts, worlds, restarts, runs, logs, commands]
 
 
 def differs(ran, row):
@@ -32,7 +32,7 @@ def differs(ran, row):
 
 def help_is_there(program):
     """Whether the program and each command say how they are used."""
-    asked = [program.run([*words, "--help"]) for words in ([], ["exec"], ["asm"], ["dis"], ["verify"], ["world"], ["run"])]
+    asked = [program.run([*words, "--help"]) for words in ([], ["exec"], ["asm"], ["dis"], ["verify"], ["world"], ["run"], ["log"])]
     return all(ran.status == 0 and ran.out and not ran.err for ran in asked)
 
 

@@ -17,14 +17,13 @@ import os
 import pathlib
 import random
 import re
-import shutil
 import struct
 import subprocess
 import sys
 import tempfile
 
 from explore import Procd, Steps
-from hostile_faults import faults_library
+from trying import preloaded
 
 TOP = pathlib.Path(__file__).resolve().parent.parent
 PAIRS = [("put_admitted", "put_ended"), ("abort_admitted", "abort_ended"), ("delete_admitted", "delete_stuck")]
@@ -40,11 +39,8 @@ class Counting:
     """Runs a program before which requests.c counts."""
 
     def __init__(self, folder, functions=()):
-        compiler = shutil.which("cc") or shutil.which("clang") or sys.exit("there is no C compiler")
-        self.library, self.counts = folder / "requests.so", folder / "counts"
-        source = pathlib.Path(__file__).with_name("requests.c")
-        subprocess.run([compiler, "-O1", "-shared", "-fPIC", "-o", self.library, source, "-ldl"], check=True)
-        self.functions = list(functions)
+        self.library = preloaded("requests", folder) or sys.exit("there is no C compiler")
+        self.counts, self.functions = folder / "counts", list(functions)
 
     def run(self, words):
         """How it ran; how many requests it made; how often each function was entered, and the requests within."""
@@ -137,7 +133,7 @@ def refused_once(tests, name, library, told):
 
 def refusals_pass(options, folder):
     """Whether each test of calls that ask for memory passes whichever request is refused."""
-    library, good = faults_library(folder) or sys.exit("there is no C compiler"), True
+    library, good = preloaded("faults", folder) or sys.exit("there is no C compiler"), True
     listed = subprocess.run([options.tests, "--list"], capture_output=True, text=True, check=True).stdout
     names = re.findall(r"^(memory_\w*tests::\w+): test$", listed, re.MULTILINE)
     if not names:

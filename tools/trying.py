@@ -1,8 +1,10 @@
 """Running the program, and what each of its ends has to look like."""
 import collections
 import os
+import pathlib
 import random
 import re
+import shutil
 import subprocess
 
 Ran = collections.namedtuple("Ran", "status out err")
@@ -15,6 +17,16 @@ def some_of(items, every):
     items = list(items)
     places = random.Random(every).sample(range(len(items)), -(-len(items) // every))
     return [items[place] for place in sorted(places)]
+
+
+def preloaded(name, folder):
+    """The library that stands before the C library, of the source tools/NAME.c, where there is a C compiler."""
+    compiler = shutil.which("cc") or shutil.which("clang")
+    path = folder / f"{name}.so"
+    if compiler and not path.exists():
+        source = pathlib.Path(__file__).with_name(f"{name}.c")
+        subprocess.run([compiler, "-O1", "-shared", "-fPIC", "-o", path, source, "-ldl"], check=True)
+    return path if compiler else None
 
 
 class Program:

@@ -1,7 +1,113 @@
-"""`world`: restarts, redo and audits."""
+"""`world`: restarts, redo, crashes of the transaction component, and audits."""
 from procedures import four
 from .row import events, row
 from .worlds import behind_a_put
+
+# Crashes of the transaction component, what is printed for them, and the status.
+CRASHES = [
+    # a wire tells of its number, a reply of no answer: an answer and an end may be lost
+    (
+        """\
+crash 0
+crash 1
+admit put 5 100
+ask 1
+crash 1
+crash 2
+resend 1
+perform 0
+perform 1
+take 0
+crash 2
+take 1
+ask 1
+end 1
+crash 3
+end 1
+crash 5
+crash 0
+""",
+        """\
+crashed 0 open 0
+illegal I17 NotWritten
+admitted 1
+sent 0 number 1 insert 0/0/5 100 low 0
+illegal I17 NotWritten
+crashed 2 open 1
+sent 1 number 1 insert 0/0/5 100 low 0
+reply 0 number 1 done
+reply 1 number 1 done
+took number 1
+crashed 2 open 1
+took number 1
+over 1
+ended 1 committed at 3
+crashed 3 open 1
+ended 1 committed at 3
+illegal I17 NotWritten
+illegal I17 NotWritten
+row 0/0/5 100
+""",
+        1,
+    ),
+    # a mark tells of the answers up to it, and a redo's wire of its own; a redo begins anew
+    (
+        """\
+admit put 5 100
+ask 1
+perform 0
+take 0
+end 1
+admit put 6 7
+ask 2
+crash 2
+crash 5
+crash 6
+restart 0
+tell 0
+redo 0
+crash 6
+redo 0
+perform 3
+take 1
+crash 6
+redo 0
+perform 2
+take 2
+redo 0
+resend 2
+end 2
+""",
+        """\
+admitted 1
+sent 0 number 1 insert 0/0/5 100 low 0
+reply 0 number 1 done
+took number 1
+ended 1 committed at 3
+admitted 2
+sent 1 number 2 insert 0/0/6 7 low 1
+illegal I17 NotWritten
+illegal I17 NotWritten
+crashed 6 open 1
+restarted 0
+told 0 incarnation 1 mark 0
+redo 2 number 1 insert 0/0/5 100
+crashed 6 open 1
+redo 3 number 1 insert 0/0/5 100
+reply 1 number 1 done
+redone number 1
+crashed 6 open 1
+redo 4 number 1 insert 0/0/5 100
+reply 2 number 1 done
+redone number 1
+up 0
+sent 5 number 2 insert 0/0/6 7 low 1
+illegal I5 NotOver
+row 0/0/5 100
+""",
+        1,
+    ),
+]
 
 # Steps over a data component that loses what came after its checkpoint, what is printed for them,
 # and the status.
@@ -226,6 +332,7 @@ def rows(_program):
     dc = "dc 4 100\n"
     yield from (row("world -", four(dc) + steps, out, status) for steps, out, status in RESTARTS)
     yield from (behind_a_put("world -", dc, *it) for it in RESTARTS_BEHIND_A_PUT)
+    yield from (row("world -", four(dc) + steps, out, status) for steps, out, status in CRASHES)
     yield from (row("world --audit -", four(dc) + steps, out, status) for steps, out, status in AUDITS)
     yield from (behind_a_put("world --audit -", dc, *it) for it in AUDITS_BEHIND_A_PUT)
     # the audit stands before the log

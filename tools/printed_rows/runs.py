@@ -117,6 +117,7 @@ REFUSED = [
     ("run --tries 1001 -", "call get 1\n", "G2 Tries"),
     # what only worlds know
     ("run -", "checkpoint 0\n", "line 61 F1 BadLine"),
+    ("run -", "crash 0\n", "line 61 F1 BadLine"),
     ("run -", "call get 1\nfirst get 1\n", "line 62 F9 Order"),
 ]
 

@@ -325,6 +325,8 @@ row 0/0/5 100
 # What may not stand behind the four procedures, and why.
 MISPLACED = [
     ("first put 5 1\n", "refused line 61 F1 BadLine\n"),
+    ("crash\n", "refused line 61 F1 BadLine\n"),
+    ("crash all\n", "refused line 61 F2 BadNumber\n"),
     (
         """\
 proc get 0
