@@ -7,3 +7,4 @@ pub mod Operating
 mod Stacked
 pub mod Exchanging
 pub mod Answering
+pub mod Ways

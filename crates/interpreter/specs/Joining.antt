@@ -2,3 +2,4 @@
 pub mod Asking
 pub mod Filled
 pub mod Paused
+pub mod UnderWay
