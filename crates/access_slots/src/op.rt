@@ -65,6 +65,7 @@ pub struct News {
 }
 
 /// Whether the answer can be one to the operation. Old is none to any.
+#[inline(always)]
 pub fn fits(op: &Op, said: &Said) -> bool
     ensures { result ≡ fits op.now said.now }
 {
@@ -80,6 +81,7 @@ impl Op {
     ghost use Rattle.access_slots.specs.Locks.{target, is_read};
 
     /// The record that it is for.
+    #[inline(always)]
     pub fn record(&self) -> &Record
         ensures { result.now ≡ target self.now }
     {
@@ -90,6 +92,7 @@ impl Op {
     }
 
     /// Whether it changes nothing.
+    #[inline(always)]
     pub fn is_read(&self) -> bool
         ensures { result ≡ is_read self.now }
     {

@@ -94,6 +94,7 @@ impl Dc {
     ///    is redone finds room for its record.
     ///
     /// It takes no memory.
+    #[inline(always)]
     pub fn perform(&mut self, wire: &Wire) -> Option<Reply>
         ensures reply { result ≡ replied self.old wire.now }
         ensures store { self.new ≡ performed self.old wire.now }

@@ -60,6 +60,7 @@ impl Numbers {
     }
 
     /// Makes room for so many more open numbers.
+    #[inline(always)]
     pub fn reserve(&mut self, more: usize) -> Result<(), AllocError>
         ensures last { self.new.last ≡ self.old.last }
         ensures pending { self.new.pending ≡ self.old.pending }
@@ -71,6 +72,7 @@ impl Numbers {
 
     /// Gives out the next number, which is open from now on; refused where 2^62 were given out.
     /// It takes no memory: there has to be room.
+    #[inline(always)]
     pub fn next(&mut self) -> Result<u64, Spent>
         requires { 0 < self.old.room }
         ensures spent { IsErr result ↔ (self.old.last ≡ 2 ^ 62) }
@@ -96,6 +98,7 @@ impl Numbers {
     }
 
     /// The open number is answered, and its place is free again.
+    #[inline(always)]
     pub fn answered(&mut self, number: u64)
         requires { holds number self.old.pending ≡ true }
         ensures last { self.new.last ≡ self.old.last }
@@ -107,6 +110,7 @@ impl Numbers {
 
     /// The low-water mark: the greatest number up to which all were given out and answered, 0 at
     /// first.
+    #[inline(always)]
     pub fn low_water(&self) -> u64
         ensures value { result ≡ low_water_of self.now.last self.now.pending }
         ensures greatest { IsLowWater self.now.last self.now.pending result }

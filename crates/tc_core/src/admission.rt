@@ -24,6 +24,7 @@ use tc_log::event::Event;
 use verifier::verify::Verified;
 
 // The procedure of a call that has as many arguments as it takes.
+#[inline(always)]
 fn procedure_of<'a>(procs: &'a Procs, call: &Call) -> Result<&'a Verified, Refusal>
     ensures ok { IfOk result (λ code. IsCalled procs.now.codes (call_of call.now) code.now) }
     ensures err { IfErr result (IsUncallable procs.now.codes (call_of call.now)) }
@@ -38,6 +39,7 @@ fn procedure_of<'a>(procs: &'a Procs, call: &Call) -> Result<&'a Verified, Refus
 }
 
 // The locks that a call takes.
+#[inline(always)]
 fn locks_of(code: &Verified, args: &[u64]) -> LockSet
     requires { length args.now ≡ code.now.decl.args }
     ensures locks { (r : Record) → mode_in result r ≡ mode_named args.now code.now.decl.slots r }
@@ -47,6 +49,7 @@ fn locks_of(code: &Verified, args: &[u64]) -> LockSet
 }
 
 // Gives the transaction locks that nothing stands in the way of.
+#[inline(always)]
 fn claim(locks: &mut LockTable, serial: u64, set: &LockSet)
     requires ready { locks.old.reserved ≡ Some set.now }
     requires nothing { HoldsNothing (held_by locks.old) serial }
@@ -60,6 +63,7 @@ fn claim(locks: &mut LockTable, serial: u64, set: &LockSet)
 }
 
 // Whether too few numbers are left for a call.
+#[inline(always)]
 fn is_spent(last: u64, promised: u64, calls: usize) -> bool
     requires sum { last + promised ≤ 2 ^ 62 }
     requires few { calls ≤ 4096 }

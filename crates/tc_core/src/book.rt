@@ -66,6 +66,7 @@ fn next_number(numbers: &mut Numbers) -> u64
 }
 
 // Whether the reply is what was said to the operation, of this incarnation.
+#[inline(always)]
 fn is_said(answered: &Answered, incarnation: u64, reply: &Reply) -> bool
     ensures { IsTrue result ↔
         ((reply.now.number ≡ answered.now.number) × (reply.now.incarnation ≡ incarnation) × (reply.now.said ≡ answered.now.said)) }
@@ -167,6 +168,7 @@ impl Book {
 
     /// What is sent to redo the next operation of a data component that is down; where none is left it
     /// is up.
+    #[inline(always)]
     pub fn redo_next(&mut self, procs: &Procs, dc: u16) -> Redo
         requires { IsBook procs.now.codes self.old }
         ensures kept { IsBook procs.now.codes self.new }

@@ -214,6 +214,7 @@ impl TcState {
     }
 
     /// What the type keeps, told to a caller.
+    #[inline(always)]
     pub fn known(&self)
         ensures legal { Legal self.now.procs self.now.events }
         ensures good { AllGood self.now.procs }
@@ -260,6 +261,7 @@ impl TcState {
     }
 
     /// Admits a call: it holds its locks, and has room for all that it may log, from now on.
+    #[inline(always)]
     pub fn admit(&mut self, call: &Call) -> Result<TxnId, Refusal>
         ensures ok { IfOk result (λ id. id.serial ≡ admitted self.old.events + 1) }
         ensures state { IfOk result (λ id. self.new ≡ with_event self.old (Admit id.serial call.now.proc call.now.args.items)) }
@@ -372,6 +374,7 @@ impl TcState {
     }
 
     /// Runs the transaction to its next operation or its end.
+    #[inline(always)]
     pub fn ask(&mut self, txn: TxnId) -> Asked
         ensures reply { result ≡ ask_reply self.old txn.serial }
         ensures state { self.new ≡ after_ask self.old result }
@@ -380,6 +383,7 @@ impl TcState {
     }
 
     /// Gives what undoes the last write that stands, of a transaction that is to be undone.
+    #[inline(always)]
     pub fn undo_next(&mut self, txn: TxnId) -> Asked
         ensures reply { result ≡ undo_reply self.old txn.serial }
         ensures state { self.new ≡ after_undo self.old result }
@@ -407,6 +411,7 @@ impl TcState {
 
     /// Takes a reply in. One that isn't to the request, or isn't of the known incarnation, or comes
     /// while the data component is down, changes nothing.
+    #[inline(always)]
     pub fn answer(&mut self, request: Request, reply: Reply) -> Result<(), Stranger>
         ensures accepted { IsOk result ↔ IsAnswer self.old request reply }
         ensures ok { OnOk result (self.new ≡ after_answer self.old request reply.said) }
@@ -429,6 +434,7 @@ impl TcState {
 
     /// What is sent to redo the next operation of a data component that is down, the same until it is
     /// redone; where none is left the data component is up, and open requests are sent again.
+    #[inline(always)]
     pub fn redo_next(&mut self, dc: u16) -> Redo
         ensures reply { result ≡ redo_reply self.old dc }
         ensures state { self.new ≡ after_redo self.old dc result }
@@ -460,6 +466,7 @@ impl TcState {
     }
 
     /// Ends a transaction that is over, and releases its locks.
+    #[inline(always)]
     pub fn end(&mut self, txn: TxnId) -> Result<Receipt, NotOver>
         ensures reply { result ≡ end_reply self.old txn.serial (end_of self.old txn.serial) }
         ensures state { self.new ≡ after_end self.old txn.serial (end_of self.old txn.serial) }

@@ -50,6 +50,7 @@ pub struct Tx {
 }
 
 // How many call slots the code has, at most as many as slots.
+#[inline(always)]
 pub fn calls_of(code: &Verified) -> usize
     ensures calls { result ≡ calls_in code.now }
     ensures few { result ≤ 4096 }
@@ -113,6 +114,7 @@ impl Tx {
     }
 
     /// Its run goes on with what was said to its question.
+    #[inline(always)]
     pub fn resume(&mut self, code: &Verified, said: Said)
         requires room { is_no_room said ≡ false }
         requires asked { (args : List ℕ) × (answers : List Said) × (o : Op) × MayResume code.now self.old args answers o said }
@@ -210,6 +212,7 @@ fn inverse(op: &Op, former: Option<Value>) -> Option<Op>
 
 impl Tx {
     // What undoes a write that was done is the first to be undone.
+    #[inline(always)]
     fn wrote(&mut self, op: Op, said: Said)
         requires { 0 < self.old.undo.room }
         ensures ops { self.new.undo.ops ≡ undo_done false op said self.old.undo.ops }
@@ -237,6 +240,7 @@ impl Tx {
     }
 
     // The run goes on with what was said to its question, unless an insert found no room.
+    #[inline(always)]
     fn told(&mut self, code: &Verified, op: Op, said: Said)
         requires room { 0 < self.old.undo.room }
         requires asked { (args : List ℕ) × (answers : List Said) × MayResume code.now self.old args answers op said }
@@ -257,6 +261,7 @@ impl Tx {
     }
 
     /// Takes in what was said to the operation that it waits for.
+    #[inline(always)]
     pub fn hear(&mut self, code: &Verified, said: Said)
         requires { (s : Standing) × MayHear code.now self.old s said }
         ensures keeps { (s : Standing) → MayHear code.now self.old s said → Keeps code.now self.new (answered said s) }

@@ -40,6 +40,7 @@ impl Log {
     }
 
     /// How many events there are.
+    #[inline(always)]
     pub fn len(&self) -> usize
         ensures { result ≡ length self.now.events }
     {
@@ -68,6 +69,7 @@ impl Log {
     }
 
     /// Makes room for so many more events.
+    #[inline(always)]
     pub fn reserve(&mut self, more: usize) -> Result<(), AllocError>
         ensures events { self.new.events ≡ self.old.events }
         ensures ok { OnOk result (more ≤ self.new.room) }
@@ -78,6 +80,7 @@ impl Log {
     }
 
     /// One event more. It takes no memory: there has to be room.
+    #[inline(always)]
     pub fn push(&mut self, event: Event)
         requires { 0 < self.old.room }
         ensures events { self.new.events ≡ event ∷ self.old.events }
