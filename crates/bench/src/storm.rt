@@ -28,6 +28,8 @@ struct Told {
 #[derive(Drop)]
 pub struct Storm {
     dc: Mutex<Dc>,
+    // By an odd seed: then workers have several calls on their way at a time.
+    is_prompt: bool,
     seed: AtomicU64,
     late: Mutex<Option<Reply>>,
     told: Mutex<Told>,
@@ -87,6 +89,7 @@ impl Storm {
     pub fn new(dc: Dc, seed: u64) -> Storm {
         Storm {
             dc: Mutex::new(dc),
+            is_prompt: !seed.is_multiple_of(2),
             seed: AtomicU64::new(seed),
             late: Mutex::new(None),
             told: Mutex::new(Told::default()),
@@ -192,5 +195,9 @@ impl Link for Storm {
             2 | 3 => told.before,
             _ => told.last,
         }
+    }
+
+    fn is_prompt(&self) -> bool {
+        self.is_prompt
     }
 }

@@ -4,6 +4,7 @@
 //! |---|---|
 //! | `pool_tests` | calls by workers, from one to many, their answers and their gate |
 //! | `link_tests` | links that lose, repeat, delay and change what they carry |
+//! | `errand_tests` | how many calls a worker has on their way at a time |
 //! | `locked_tests` | data components of this process, behind locks |
 //! | `ring_tests` | data components in threads of their own, behind rings |
 //! | `journal_tests` | runs whose log is kept in a journal |
@@ -14,6 +15,8 @@
 //! `rt test pool_tests` proves and runs these; `tools/requests.py` runs them with memory refused.
 #![tactic(auto)]
 
+#[cfg(test)]
+mod errand_tests;
 #[cfg(test)]
 mod journal_tests;
 #[cfg(test)]

@@ -147,4 +147,9 @@ impl<R: Clock> Gate for Watch<'_, R> {
             self.waits.tell(terminal, now);
         }
     }
+
+    // Nobody waits for it but where something is written.
+    fn is_prompt(&self) -> bool {
+        self.waits.listeners.each.is_none() && self.waits.listeners.terminal.is_none()
+    }
 }

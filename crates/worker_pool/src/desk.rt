@@ -196,6 +196,7 @@ impl<J: Naming> Desk<J> {
     }
 
     // Admits a call that waits.
+    #[inline(always)]
     fn admit(&mut self, k: usize, call: &Call) -> Result<(), Refusal>
         requires call { slice_get J.calls k ≡ Some call.now }
         requires waits { slice_get self.old.progress k ≡ Some Progress.Waiting }
@@ -223,6 +224,7 @@ impl<J: Naming> Desk<J> {
     }
 
     // Answers a call that waits: no event is its.
+    #[inline(always)]
     fn tell(&mut self, k: usize, call: &Call, answer: Answer) -> Due
         requires call { slice_get J.calls k ≡ Some call.now }
         requires waits { slice_get self.old.progress k ≡ Some Progress.Waiting }
@@ -236,6 +238,7 @@ impl<J: Naming> Desk<J> {
     }
 
     // A call that waits is admitted or refused, or goes on waiting.
+    #[inline(always)]
     fn begin(&mut self, k: usize, call: &Call) -> Next
         requires call { slice_get J.calls k ≡ Some call.now }
         requires waits { slice_get self.old.progress k ≡ Some Progress.Waiting }
@@ -254,6 +257,7 @@ impl<J: Naming> Desk<J> {
     }
 
     // What a call's transaction does next.
+    #[inline(always)]
     fn ask(&mut self, k: usize, call: &Call, txn: TxnId) -> Asked
         requires call { slice_get J.calls k ≡ Some call.now }
         requires begun { slice_get self.old.progress k ≡ Some (Progress.Begun txn) }
@@ -268,6 +272,7 @@ impl<J: Naming> Desk<J> {
     }
 
     // What is to be redone at a request's data component before the request can be sent, if anything is.
+    #[inline(always)]
     fn to_redo(&mut self, request: &Request) -> Option<Wire>
         ensures redo { IfSome result (IsToRedo request.now) }
         ensures up { IfNone result (IsUpFor self.new.state request.now) }
@@ -280,7 +285,16 @@ impl<J: Naming> Desk<J> {
         }
     }
 
-    // A request's own wire, where its data component is up.
+    // A request's own wire, unless its data component is down.
+    #[inline(always)]
+    fn own_wire(&self, request: &Request) -> Option<Wire>
+        ensures { IfSome result (IsItsOwn request.now) }
+    {
+        self.state.wire(request).ok()
+    }
+
+    // The same, where its data component is up.
+    #[inline(always)]
     fn wire(&self, request: &Request) -> Wire
         requires { IsUpFor self.now.state request.now }
         ensures { IsItsOwn request.now result }
@@ -293,19 +307,22 @@ impl<J: Naming> Desk<J> {
 
     // What is carried for a request that may be sent so many more times: what is to be redone first, or
     // its own operation.
+    #[inline(always)]
     fn carry(&mut self, request: Request, left: u64, redos: Redos) -> Sending
         ensures { self.new.progress ≡ self.old.progress }
     {
-        match self.to_redo(&request) {
-            Some(wire) => Sending::redo(request, wire, left, redos.sent(&wire)),
-            None => {
-                let wire = self.wire(&request);
-                Sending::own(request, wire, left.saturating_sub(1), redos)
-            }
-        }
+        let wire = match self.own_wire(&request) {
+            Some(wire) => wire,
+            None => match self.to_redo(&request) {
+                Some(wire) => return Sending::redo(request, wire, left, redos.sent(&wire)),
+                None => self.wire(&request),
+            },
+        };
+        Sending::own(request, wire, left.saturating_sub(1), redos)
     }
 
     // A request is sent for the first time.
+    #[inline(always)]
     fn send(&mut self, request: Request) -> Sending
         ensures { self.new.progress ≡ self.old.progress }
     {
@@ -339,6 +356,7 @@ impl<J: Naming> Desk<J> {
     }
 
     // Ends a transaction that is over, and answers its call by the end's place.
+    #[inline(always)]
     fn end(&mut self, k: usize, call: &Call, txn: TxnId) -> Due
         requires call { slice_get J.calls k ≡ Some call.now }
         requires begun { slice_get self.old.progress k ≡ Some (Progress.Begun txn) }
@@ -357,6 +375,7 @@ impl<J: Naming> Desk<J> {
     }
 
     // A transaction that was begun goes on.
+    #[inline(always)]
     fn go_on(&mut self, k: usize, call: &Call, txn: TxnId) -> Next
         requires call { slice_get J.calls k ≡ Some call.now }
         requires begun { slice_get self.old.progress k ≡ Some (Progress.Begun txn) }
@@ -373,6 +392,7 @@ impl<J: Naming> Desk<J> {
     }
 
     // How far a call has come.
+    #[inline(always)]
     fn progress_of(&self, k: usize, call: &Call) -> Progress
         requires { slice_get J.calls k ≡ Some call.now }
         ensures { slice_get self.now.progress k ≡ Some result }
@@ -393,6 +413,7 @@ impl<J: Naming> Desk<J> {
     }
 
     // Takes a reply in.
+    #[inline(always)]
     fn answer(&mut self, request: Request, reply: Reply) -> Result<(), Stranger>
         ensures same { self.new.progress ≡ self.old.progress }
         ensures back { IfErr result (λ stranger. stranger.request ≡ request) }
@@ -441,6 +462,7 @@ impl<J: Naming> Desk<J> {
 
     /// Takes in what came back for what was carried. The call goes on where that answers it; a stranger
     /// counts as no answer.
+    #[inline(always)]
     pub fn hear(&mut self, k: usize, call: &Call, sending: Sending, reply: Reply) -> Next
         requires { slice_get J.calls k ≡ Some call.now }
         ensures { MovesOn self.old.progress self.new.progress k result }
@@ -452,6 +474,7 @@ impl<J: Naming> Desk<J> {
     }
 
     // The same for a request's own operation.
+    #[inline(always)]
     fn hear_own(&mut self, k: usize, call: &Call, sending: Sending, reply: Reply) -> Next
         requires { slice_get J.calls k ≡ Some call.now }
         ensures { MovesOn self.old.progress self.new.progress k result }
@@ -610,6 +633,7 @@ fn answers_of(progress: &[Progress], mut answers: Vec<Answer>) -> Vec<Answer>
     answers
 }
 
+#[inline(always)]
 fn answer_for(receipt: Receipt) -> Answer
     ensures { result ≡ answer_of receipt.outcome receipt.place }
 {
@@ -621,6 +645,7 @@ fn answer_for(receipt: Receipt) -> Answer
 }
 
 // What is due for a call that is answered so.
+#[inline(always)]
 fn due_for(call: usize, answer: Answer) -> Due
     ensures call { result.call ≡ call }
     ensures place { result.place ≡ place_of answer }
@@ -632,6 +657,7 @@ fn due_for(call: usize, answer: Answer) -> Due
 }
 
 // The place that an answer names, if it names one.
+#[inline(always)]
 fn place_named(answer: Answer) -> Option<usize>
     ensures { result ≡ place_of answer }
 {

@@ -330,6 +330,11 @@ impl<J: Naming, K: Journal> Keeping<J, K> {
         }
     }
 
+    /// Whether the run has a journal.
+    pub fn is_kept(&self) -> bool {
+        self.is_kept
+    }
+
     /// Whether the run stops.
     pub fn is_stopped(&self) -> bool {
         self.stopped.load(Ordering::SeqCst) == 1

@@ -84,7 +84,9 @@ fn run_kept_named<
     let keeper = Keeper::new(journal, true, count, handed.again(), events, batch);
     let desk = Desk::new(state, progress, tries, handed);
     let keeping = Keeping::new(keeper, true);
-    let (keeper, ran) = run_over(rt, desk, keeping, calls, answers, workers, link, gate);
+    let (keeper, ran) = run_over(
+        rt, alloc, desk, keeping, calls, answers, workers, link, gate,
+    );
     let journal = keeper.into_journal();
     let ran = match ran {
         Ran::Done(report) => Ok(report),

@@ -28,6 +28,8 @@ mod answer;
 mod batch;
 mod carried;
 mod desk;
+mod errand;
+mod errands;
 mod handed;
 mod journal;
 mod keeper;
@@ -43,6 +45,7 @@ mod sending;
 mod waiting;
 
 pub use answer::{Answer, Progress};
+pub use errand::Errand;
 pub use journal::{Journal, NotKept};
 pub use kept_run::{KeptFault, run_kept};
 pub use locked_dcs::LockedDcs;

@@ -12,16 +12,17 @@ ghost use Rattle.worker_pool.specs.Joining.Ran.{RanFits, RanKeeps, KeepsAll};
 use crate::answer::{Answer, Progress};
 use crate::batch::Batch;
 use crate::desk::{Desk, Due, Naming, Next};
+use crate::errand::Errand;
+use crate::errands::Errands;
 use crate::handed::Opened;
 use crate::journal::{Journal, NoJournal};
 use crate::keeper::{Keeper, Keeping, Stopped};
 use crate::report::Report;
-use crate::sending::Sending;
 use crate::waiting::acquire;
 use access_slots::op::{News, Reply, Wire};
 use std::alloc::{AllocError, Global};
 use std::marker::Brand;
-use std::sync::{Condvar, Mutex, MutexGuard, Wait};
+use std::sync::{Condvar, Mutex, Wait};
 use std::thread;
 use std::thread::Threads;
 use tc_core::state::{Call, TcState};
@@ -29,6 +30,9 @@ use tc_core::state::{Call, TcState};
 const MOST_WORKERS: usize = 64;
 
 const MOST_TRIES: u64 = 1000;
+
+// How many calls a worker has on their way at a time, where none of them waits for another.
+pub(crate) const AT_A_TIME: usize = 8;
 
 /// What carries a wire to its data component, and the reply back.
 pub trait Link {
@@ -39,6 +43,25 @@ pub trait Link {
     /// each carry that brought no answer, without the lock, by several workers at once. It may give the
     /// same news again.
     fn news<R: Wait>(&self, rt: &R, worker: usize, dc: u16) -> Option<News>;
+
+    /// Whether the link never keeps a call waiting for long: then each of several workers has more than one
+    /// call on their way at a time, whose wires are carried together. Over another link it has one, so that
+    /// no call waits for another's wire.
+    fn is_prompt(&self) -> bool {
+        false
+    }
+
+    /// Carries the wires of several calls, and brings what came back for each: one after the other, where
+    /// the link knows no better.
+    fn carry_all<R: Wait>(&self, rt: &R, worker: usize, errands: &mut [Errand]) {
+        for errand in errands {
+            if let Some(wire) = errand.wire() {
+                if let Some(reply) = self.carry(rt, worker, wire) {
+                    errand.bring(reply);
+                }
+            }
+        }
+    }
 }
 
 /// What is told of the calls, by their places in the list.
@@ -48,6 +71,12 @@ pub trait Gate {
 
     /// The call's answer stands. It is called once, without the lock.
     fn answered(&self, call: usize);
+
+    /// Whether the gate never keeps a worker for long: then, over a prompt link, each of several workers has
+    /// more than one call on their way at a time.
+    fn is_prompt(&self) -> bool {
+        false
+    }
 }
 
 /// A gate that does nothing.
@@ -57,6 +86,10 @@ impl Gate for OpenGate {
     fn begun(&self, _call: usize) {}
 
     fn answered(&self, _call: usize) {}
+
+    fn is_prompt(&self) -> bool {
+        true
+    }
 }
 
 /// Why no call was begun, in the order in which it is looked for. Each hands the state back, as it
@@ -85,12 +118,13 @@ impl RunFault {
     }
 }
 
-// A worker's number, and what it calls without the lock.
+// A worker's number, what it calls without the lock, and how many calls it has on their way at most.
 #[derive(Drop)]
 struct Worker<'a, L, G> {
     number: usize,
     link: &'a L,
     gate: &'a G,
+    most: usize,
 }
 
 // Tells an answer as soon as what it names is kept, where no other worker is left.
@@ -206,106 +240,6 @@ struct Pool<J: Naming, K: Journal> {
     keeping: Keeping<J, K>,
 }
 
-// What is to be done for a call without the lock.
-enum Errand {
-    // A wire is to be carried.
-    Carry(Sending),
-    // Nothing came back that answers what was carried: the link is asked for news.
-    Unanswered(Sending),
-    // The call's answer stands, and is due.
-    Over(Due),
-    // The run stops.
-    Stopped,
-}
-
-// What the steps under one taking of the lock lead to.
-struct Turn {
-    // Whether the call was admitted in them: then the gate is told first.
-    is_begun: bool,
-    errand: Errand,
-}
-
-// What follows a step, under the taking of the lock in which the step was made: a call that is admitted
-// goes on at once, one with another in its way waits for a change and tries again, and one that is answered
-// tells of a change, as soon as the lock is given back. Where the run stops, nobody waits.
-fn settle<J: Naming, K: Journal, R: Wait>(
-    rt: &R,
-    pool: &Pool<J, K>,
-    mut desk: MutexGuard<'_, Desk<J>>,
-    k: usize,
-    call: &Call,
-    mut next: Next,
-) -> Turn
-    requires { slice_get J.calls k ≡ Some call.now }
-{
-    let mut is_begun = false;
-    for _ in rt.forever() {
-        next = match next {
-            Next::Begun => {
-                is_begun = true;
-                desk.advance(k, call)
-            }
-            Next::Busy => {
-                if pool.keeping.is_stopped() {
-                    let errand = Errand::Stopped;
-                    return Turn { is_begun, errand };
-                }
-                desk = pool.freed.wait(rt, desk);
-                desk.advance(k, call)
-            }
-            Next::Carry(sending) => {
-                let errand = Errand::Carry(sending);
-                return Turn { is_begun, errand };
-            }
-            Next::Unanswered(sending) => {
-                let errand = Errand::Unanswered(sending);
-                return Turn { is_begun, errand };
-            }
-            Next::Over(due) => {
-                drop(desk);
-                pool.freed.notify_all();
-                let errand = Errand::Over(due);
-                return Turn { is_begun, errand };
-            }
-        };
-    }
-    unreachable!()
-}
-
-// The steps of a call that what came back leads to.
-fn hear<J: Naming, K: Journal, R: Wait>(
-    rt: &R,
-    pool: &Pool<J, K>,
-    k: usize,
-    call: &Call,
-    sending: Sending,
-    reply: Reply,
-) -> Turn
-    requires { slice_get J.calls k ≡ Some call.now }
-{
-    let mut desk = acquire(rt, &pool.desk);
-    let next = desk.hear(k, call, sending, reply);
-    settle(rt, pool, desk, k, call, next)
-}
-
-// The steps of a call where nothing came back that answers what was carried. The link is asked for news
-// without the lock.
-fn go_on_unanswered<J: Naming, K: Journal, R: Wait, L: Link, G: Gate>(
-    rt: &R,
-    pool: &Pool<J, K>,
-    k: usize,
-    call: &Call,
-    sending: Sending,
-    worker: &Worker<L, G>,
-) -> Turn
-    requires { slice_get J.calls k ≡ Some call.now }
-{
-    let news = worker.link.news(rt, worker.number, sending.dc());
-    let mut desk = acquire(rt, &pool.desk);
-    let next = desk.go_on_unanswered(k, call, sending, news);
-    settle(rt, pool, desk, k, call, next)
-}
-
 // Tells an answer as soon as what it names is kept. Where it can't be the run stops, and who waits for a
 // change is woken to see that.
 fn conclude<J: Naming, K: Journal, R: Wait, G: Gate>(
@@ -323,84 +257,89 @@ fn conclude<J: Naming, K: Journal, R: Wait, G: Gate>(
     }
 }
 
-// What is to be done for a call, unless the run stops: then its request is given up.
-fn unless_stopped<J: Naming, K: Journal, R: Wait>(
+// Under one taking of the lock, the desk hears what came back, and calls are taken up. Where all that is left
+// has another transaction in its way, waits for a change. Whether anything is on its way then, or due.
+#[inline(always)]
+fn settle<J: Naming, K: Journal, R: Wait>(
     rt: &R,
     pool: &Pool<J, K>,
-    errand: Errand,
-) -> Errand {
-    if !pool.keeping.is_stopped() {
-        return errand;
-    }
-    match errand {
-        Errand::Carry(sending) | Errand::Unanswered(sending) => {
-            acquire(rt, &pool.desk).abandon(sending);
-            Errand::Stopped
-        }
-        Errand::Over(due) => Errand::Over(due),
-        Errand::Stopped => Errand::Stopped,
-    }
-}
-
-// Runs a call from its first steps to its answer. Gate, link and journal are called without the lock.
-fn serve<J: Naming, K: Journal, R: Wait, L: Link, G: Gate>(
-    rt: &R,
-    pool: &Pool<J, K>,
-    k: usize,
-    call: &Call,
-    first: Turn,
-    worker: &Worker<L, G>,
-)
-    requires { slice_get J.calls k ≡ Some call.now }
+    calls: &[Call],
+    errands: &mut Errands,
+) -> bool
+    requires { calls.now ≡ J.calls }
 {
-    let mut turn = first;
+    let mut desk = acquire(rt, &pool.desk);
+    errands.hear(&mut *desk, calls);
     for _ in rt.forever() {
-        let Turn { is_begun, errand } = turn;
-        if is_begun {
-            worker.gate.begun(k);
+        errands.take_up(&mut *desk, calls);
+        if !errands.is_idle() {
+            drop(desk);
+            if errands.is_due() {
+                pool.freed.notify_all();
+            }
+            return true;
         }
-        turn = match unless_stopped(rt, pool, errand) {
-            Errand::Stopped => return,
-            Errand::Over(due) => {
-                conclude(rt, pool, due, worker.gate);
-                return;
-            }
-            Errand::Carry(sending) => {
-                match worker.link.carry(rt, worker.number, sending.wire()) {
-                    Some(reply) => hear(rt, pool, k, call, sending, reply),
-                    None => go_on_unanswered(rt, pool, k, call, sending, worker),
-                }
-            }
-            Errand::Unanswered(sending) => go_on_unanswered(rt, pool, k, call, sending, worker),
-        };
+        if !errands.is_waiting() || pool.keeping.is_stopped() {
+            return false;
+        }
+        desk = pool.freed.wait(rt, desk);
     }
     unreachable!()
 }
 
-// What a worker does: it takes calls until none is left, or the run stops. A call is taken, admitted and
-// asked for its first operation under one taking of the lock.
+// Runs calls, each to its answer, until none is left or the run stops. Gate, link and journal are called
+// without the lock.
+fn serve<J: Naming, K: Journal, R: Wait, L: Link, G: Gate>(
+    rt: &R,
+    pool: &Pool<J, K>,
+    calls: &[Call],
+    worker: &Worker<L, G>,
+    errands: &mut Errands,
+)
+    requires { calls.now ≡ J.calls }
+{
+    for _ in rt.forever() {
+        if pool.keeping.is_stopped() || !settle(rt, pool, calls, errands) {
+            return;
+        }
+        errands.tell_begun(worker.gate);
+        while let Some(due) = errands.next_due() {
+            conclude(rt, pool, due, worker.gate);
+        }
+        if pool.keeping.is_stopped() {
+            return;
+        }
+        errands.carry(rt, worker.number, worker.link);
+    }
+    unreachable!()
+}
+
+// What a worker does: it takes calls until none is left, or the run stops. Where there is no memory for its
+// errands, it takes none, and others do.
 fn work<J: Naming, K: Journal, R: Wait, L: Link, G: Gate>(
     rt: &R,
+    alloc: Global,
     pool: &Pool<J, K>,
     calls: &[Call],
     worker: &Worker<L, G>,
 )
     requires { calls.now ≡ J.calls }
 {
-    for _ in calls {
-        if pool.keeping.is_stopped() {
-            return;
-        }
-        let mut desk = acquire(rt, &pool.desk);
-        let Some(k) = desk.take() else {
-            return;
-        };
-        let Some(call) = calls.get(k) else {
-            return;
-        };
-        let next = desk.advance(k, call);
-        let first = settle(rt, pool, desk, k, call, next);
-        serve(rt, pool, k, call, first, worker);
+    let mut errands = Errands::new(alloc);
+    if errands.reserve(worker.most).is_ok() {
+        serve(rt, pool, calls, worker, &mut errands);
+    }
+    let mut desk = acquire(rt, &pool.desk);
+    errands.close(&mut *desk);
+}
+
+// How many calls each of so many workers has on their way at a time: one where a call could wait for another's
+// wire, gate or journal, and where one worker is to run the calls one after the other.
+fn at_a_time<L: Link, G: Gate>(link: &L, gate: &G, is_kept: bool, workers: usize) -> usize {
+    if workers > 1 && !is_kept && link.is_prompt() && gate.is_prompt() {
+        AT_A_TIME
+    } else {
+        1
     }
 }
 
@@ -411,9 +350,18 @@ fn work_all<
     R: Threads + Wait + Sync,
     L: Link + Sync,
     G: Gate + Sync,
->(rt: &R, pool: &Pool<J, K>, calls: &[Call], workers: usize, link: &L, gate: &G) -> usize
+>(
+    rt: &R,
+    alloc: Global,
+    pool: &Pool<J, K>,
+    calls: &[Call],
+    workers: usize,
+    link: &L,
+    gate: &G,
+) -> usize
     requires { calls.now ≡ J.calls }
 {
+    let most = at_a_time(link, gate, pool.keeping.is_kept(), workers);
     thread::scope(
         thread::scope_env(),
         rt,
@@ -424,7 +372,20 @@ fn work_all<
             for number in 0..workers {
                 let body = move ||
                     requires { calls.now ≡ J.calls }
-                { work(rt, pool, calls, &Worker { number, link, gate }) };
+                {
+                    work(
+                        rt,
+                        alloc,
+                        pool,
+                        calls,
+                        &Worker {
+                            number,
+                            link,
+                            gate,
+                            most,
+                        },
+                    )
+                };
                 if scope.spawn(body).is_ok() {
                     started = started.saturating_add(1);
                 }
@@ -508,6 +469,7 @@ pub(crate) fn run_over<
     G: Gate + Sync,
 >(
     rt: &R,
+    alloc: Global,
     desk: Desk<J>,
     keeping: Keeping<J, K>,
     calls: &[Call],
@@ -527,7 +489,7 @@ pub(crate) fn run_over<
         freed: Condvar::new(),
         keeping,
     };
-    let started = work_all(rt, &pool, calls, workers, link, gate);
+    let started = work_all(rt, alloc, &pool, calls, workers, link, gate);
     let Pool {
         desk,
         freed: _,
@@ -543,6 +505,7 @@ pub(crate) fn run_over<
         number: 0,
         link,
         gate,
+        most: 1,
     };
     let ran = finished(rt, desk, calls, answers, &worker, &mut keeper);
     (keeper, ran)
@@ -608,7 +571,9 @@ fn run_named<J: Naming + Send + Sync, R: Threads + Wait + Sync, L: Link + Sync, 
     let keeper = Keeper::new(NoJournal, false, count, handed.again(), events, batch);
     let desk = Desk::new(state, progress, tries, handed);
     let keeping = Keeping::new(keeper, false);
-    let (keeper, ran) = run_over(rt, desk, keeping, calls, answers, workers, link, gate);
+    let (keeper, ran) = run_over(
+        rt, alloc, desk, keeping, calls, answers, workers, link, gate,
+    );
     let _journal = keeper.into_journal();
     match ran {
         Ran::Done(report) => Ok(report),
@@ -627,7 +592,8 @@ fn run_named<J: Naming + Send + Sync, R: Threads + Wait + Sync, L: Link + Sync, 
 ///
 /// A worker takes the next call and admits it; where another transaction stands in its way, it waits
 /// until one ends, falls in doubt or is stuck, and tries again, unless all that stand in its way are
-/// in doubt or stuck. A state that is handed in with open transactions, which no call runs, may so
+/// in doubt or stuck. One worker runs the calls one after the other. Of several, each has up to eight calls
+/// on their way at a time, if link and gate are prompt, and else one. A state that is handed in with open transactions, which no call runs, may so
 /// make `run` wait for ever. Nothing is sent and no gate is told while the lock is held.
 pub fn run<R: Threads + Wait + Sync, L: Link + Sync, G: Gate + Sync>(
     rt: &R,

@@ -21,6 +21,7 @@ pub struct Redos {
 
 impl Redos {
     /// Nothing was redone, and each number may be sent so often.
+    #[inline(always)]
     pub(crate) fn new(tries: u64) -> Redos {
         Redos {
             each: tries,
@@ -49,6 +50,7 @@ impl Redos {
     }
 
     /// Whether the number that was sent last was sent once too often.
+    #[inline(always)]
     pub(crate) fn is_spent(&self) -> bool {
         self.spent
     }

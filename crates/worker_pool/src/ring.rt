@@ -6,14 +6,17 @@ ghost use Rattle.crossbeam_queue.specs.Fifo.{Admits, Held, Learns, Pops};
 use crossbeam_queue::RuledArrayQueue;
 use crossbeam_queue::protocol::{Free, Lesson, Outcome, Protocol};
 use std::alloc::{AllocError, Global};
-use std::hint;
 use std::sync::Wait;
 use std::sync::atomic::{AtomicU64, Ordering};
+use std::{hint, thread};
 
-// How often who waits looks at the bell before it sleeps.
+// How often who waits looks at the queue before it lets others run between its looks.
 const LOOKS: u32 = 2_000;
 
-// What those who wait at a queue listen to.
+// How often it lets others run before it sleeps.
+const YIELDS: u32 = 200;
+
+// What those who sleep at a queue listen to.
 #[derive(Drop)]
 struct Bell {
     rings: AtomicU64,
@@ -33,26 +36,54 @@ impl Bell {
         (self.rings.load(Ordering::SeqCst) & 0xffff_ffff) as u32
     }
 
-    // Whoever waits is to look again. To wake sleepers is a call of the system, which is left out
-    // where there are none: who counts itself as one later finds that the bell was rung.
+    // Whoever sleeps is to look again.
     fn ring(&self) {
         self.rings.fetch_add(1, Ordering::SeqCst);
+        self.rings.wake_all();
+    }
+
+    // The same behind a message, and left out where nobody sleeps: who counts itself as a sleeper looks at the
+    // queue once more before it sleeps.
+    fn ring_for_sleepers(&self) {
         if self.sleepers.load(Ordering::SeqCst) != 0 {
-            self.rings.wake_all();
+            self.ring();
+        }
+    }
+}
+
+// How somebody waits at a bell: it looks, then lets others run between its looks, and sleeps last, since to sleep
+// and to be woken takes longer than most waits do.
+#[derive(Drop)]
+struct Waiter<'a> {
+    bell: &'a Bell,
+    looks: u32,
+    // Whether it counts as a sleeper.
+    is_counted: bool,
+}
+
+impl Waiter<'_> {
+    // Waits for a moment behind a look that found nothing, where the bell had been rung so often before that
+    // look.
+    fn wait<R: Wait>(&mut self, rt: &R, rung: u32) {
+        if self.looks < LOOKS {
+            self.looks += 1;
+            hint::spin_loop();
+        } else if self.looks < LOOKS + YIELDS {
+            self.looks += 1;
+            thread::yield_now();
+        } else if !self.is_counted {
+            self.is_counted = true;
+            self.bell.sleepers.fetch_add(1, Ordering::SeqCst);
+        } else {
+            self.bell.rings.park(rt, rung);
         }
     }
 
-    // Waits until it is rung again. It may return for no reason.
-    fn wait<R: Wait>(&self, rt: &R, rung: u32) {
-        for _ in 0..LOOKS {
-            if self.rung() != rung {
-                return;
-            }
-            hint::spin_loop();
+    // It waits no longer.
+    fn leave(self) {
+        if self.is_counted {
+            self.bell.sleepers.fetch_sub(1, Ordering::SeqCst);
         }
-        self.sleepers.fetch_add(1, Ordering::SeqCst);
-        self.rings.park(rt, rung);
-        self.sleepers.fetch_sub(1, Ordering::SeqCst);
     }
 }
 
@@ -89,14 +120,20 @@ impl<T: Drop, V, P: Protocol<T, V>> Ring<T, V, P> {
         requires learns { (pass : ℕ) → Learns P.holds pass P.first (M.fact P.first) }
         ensures empty { result ≡ None → Held 0 (M.fact P.first) }
     {
+        let mut waiter = Waiter {
+            bell: &self.bell,
+            looks: 0,
+            is_counted: false,
+        };
         for _ in rt.forever() {
             let rung = self.bell.rung();
             let is_closed = closed.load(Ordering::SeqCst) != 0;
-            match self.queue.pop_as::<M, R>(rt, &mut self.queue.pass()) {
-                Some(message) => return Some(message),
-                None if is_closed => return None,
-                None => self.bell.wait(rt, rung),
+            let found = self.queue.pop_as::<M, R>(rt, &mut self.queue.pass());
+            if found.is_some() || is_closed {
+                waiter.leave();
+                return found;
             }
+            waiter.wait(rt, rung);
         }
         unreachable!()
     }
@@ -114,7 +151,7 @@ impl<T: Drop> Ring<T, (), Free> {
     {
         self.queue
             .push_as::<Free, R>(rt, &mut self.queue.pass(), message)?;
-        self.bell.ring();
+        self.bell.ring_for_sleepers();
         Ok(())
     }
 }

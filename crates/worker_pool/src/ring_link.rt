@@ -1,13 +1,14 @@
 // The link to data components in threads of their own.
 
-ghost use Rattle.std.specs.Prelude.{◌≡◌, ◌<◌, ◌≤◌, ℕ, None, vec_len, IfOk, IfSome};
+ghost use Rattle.std.specs.Prelude.{true, false, ◌≡◌, ◌<◌, ◌≤◌, ℕ, None, vec_len, IfOk, IfSome};
 ghost use Rattle.std.specs.Option.{ForSome};
 ghost use Rattle.access_slots.specs.Locks.{target};
 ghost use Rattle.crossbeam_queue.specs.Fifo.{Admits, Held, Learns, Pops};
 ghost use Rattle.data_component.specs.Store.{performed, replied};
 ghost use Rattle.worker_pool.specs.Serving.{IsFor, IsServed};
 
-use crate::pool::Link;
+use crate::errand::Errand;
+use crate::pool::{AT_A_TIME, Link};
 use crate::ring::Ring;
 use access_slots::op::{News, Reply, Wire};
 use crossbeam_queue::protocol::{Free, Lesson, Outcome, Protocol};
@@ -18,9 +19,9 @@ use std::sync::Wait;
 use std::sync::atomic::{AtomicU64, Ordering};
 use std::thread::Promise;
 
-// A worker has one wire on its way, so one note comes; the other place is for one of a wire that was
-// left behind.
-const NOTES: usize = 2;
+// A worker has so many wires on their way at most, and a note comes for each; the other places are for those
+// of wires that were left behind.
+const NOTES: usize = 2 * AT_A_TIME;
 
 // A wire, with the worker that sent it.
 #[derive(Clone, Copy, Drop)]
@@ -90,14 +91,14 @@ pub struct RingLink {
     closed: AtomicU64,
 }
 
-// So many inboxes, each with a place for a wire of every worker.
+// So many inboxes, each with places for all wires that workers have on their way.
 fn inboxes(alloc: Global, dcs: usize, workers: usize) -> Result<Vec<Inbox>, AllocError>
-    requires { 0 < workers }
+    requires { (0 < workers) × (workers ≤ 64) }
     ensures { IfOk result (λ rings. vec_len rings ≡ dcs) }
 {
     let mut rings = Vec::with_capacity(alloc, dcs)?;
     for dc in 0..dcs {
-        rings.push(Ring::new(alloc, workers)?)?;
+        rings.push(Ring::new(alloc, AT_A_TIME * workers)?)?;
     }
     Ok(rings)
 }
@@ -188,6 +189,37 @@ impl RingLink {
         self.closed.load(Ordering::SeqCst) != 0
     }
 
+    // Puts a wire into its component's inbox. Whether that was done: not where there is no such component,
+    // where the inbox is full, and where the link is closed.
+    fn send<R: Wait>(&self, rt: &R, worker: usize, wire: &Wire) -> bool
+        ensures { vec_len self.now.inboxes ≤ (target wire.now.op).dc → result ≡ false }
+    {
+        let Some(inbox) = self.inboxes.get(usize::from(wire.op.record().dc)) else {
+            return false;
+        };
+        if self.is_closed() {
+            return false;
+        }
+        let parcel = Parcel {
+            worker,
+            wire: *wire,
+        };
+        inbox.put(rt, parcel).is_ok()
+    }
+
+    // Puts the errands' wires into inboxes. How many notes will come for them.
+    fn send_all<R: Wait>(&self, rt: &R, worker: usize, errands: &[Errand]) -> usize {
+        let mut sent = 0usize;
+        for errand in errands {
+            if let Some(wire) = errand.wire() {
+                if self.send(rt, worker, wire) {
+                    sent = sent.saturating_add(1);
+                }
+            }
+        }
+        sent
+    }
+
     // Waits for the note of this number, and drops those of others.
     fn reply_to<R: Wait>(&self, rt: &R, notes: &Notes, number: u64) -> Option<Reply>
         ensures { IfSome result (λ reply. reply.number ≡ number) }
@@ -210,16 +242,10 @@ impl Link for RingLink {
         ensures stranger { vec_len self.now.notes ≤ worker → result ≡ None }
         ensures number { IfSome result (λ reply. reply.number ≡ wire.now.number) }
     {
-        let inbox = self.inboxes.get(usize::from(wire.op.record().dc))?;
         let notes = self.notes.get(worker)?;
-        if self.is_closed() {
+        if !self.send(rt, worker, wire) {
             return None;
         }
-        let parcel = Parcel {
-            worker,
-            wire: *wire,
-        };
-        inbox.put(rt, parcel).ok()?;
         self.reply_to(rt, notes, wire.number)
     }
 
@@ -228,5 +254,45 @@ impl Link for RingLink {
         ensures { result ≡ None }
     {
         None
+    }
+
+    /// Yes: the components are in this process, and are asked nothing but to perform.
+    fn is_prompt(&self) -> bool
+        ensures { result ≡ true }
+    {
+        true
+    }
+
+    /// All wires are put into the inboxes before the first note is waited for.
+    fn carry_all<R: Wait>(&self, rt: &R, worker: usize, errands: &mut [Errand]) {
+        let Some(notes) = self.notes.get(worker) else {
+            return;
+        };
+        for _ in 0..self.send_all(rt, worker, errands) {
+            let Some(note) = notes.take::<Free, R>(rt, &self.closed) else {
+                return;
+            };
+            if let Some(reply) = note.reply {
+                bring(errands, reply);
+            }
+        }
+    }
+}
+
+// Brings a reply to the errand that carries its number, if one does.
+fn bring(errands: &mut [Errand], reply: Reply) {
+    for errand in errands {
+        if is_under(errand, reply.number) {
+            errand.bring(reply);
+            return;
+        }
+    }
+}
+
+// Whether a wire of this number is carried.
+fn is_under(errand: &Errand, number: u64) -> bool {
+    match errand.wire() {
+        Some(wire) => wire.number == number,
+        None => false,
     }
 }

@@ -21,6 +21,7 @@ pub struct Sending {
 
 impl Sending {
     // A request's own operation is carried, and may be sent so many more times.
+    #[inline(always)]
     pub(crate) fn own(request: Request, wire: Wire, left: u64, redos: Redos) -> Sending
         requires { IsItsOwn request wire }
     {
@@ -45,6 +46,7 @@ impl Sending {
     }
 
     /// What is sent.
+    #[inline(always)]
     pub fn wire(&self) -> &Wire
         ensures { result.now ≡ wire_in self.now.carried }
     {
@@ -54,6 +56,7 @@ impl Sending {
     }
 
     /// The request's data component.
+    #[inline(always)]
     pub fn dc(&self) -> u16
         ensures { result ≡ (target self.now.request.op).dc }
     {
@@ -61,11 +64,13 @@ impl Sending {
     }
 
     // Whether what is redone was sent as often as it may be.
+    #[inline(always)]
     pub(crate) fn is_spent(&self) -> bool {
         self.redos.is_spent()
     }
 
     // The request alone.
+    #[inline(always)]
     pub(crate) fn into_request(self) -> Request {
         let Sending {
             request,

@@ -1,0 +1,120 @@
+// How many calls a worker has on their way at a time: several by several workers over what is prompt, and one
+// over all else.
+
+use crate::test_pool::{all_commit, first_answers, locked_dc};
+use crate::test_state::{PUT, all_pushed, push_call};
+use access_slots::op::{News, Reply, Wire};
+use std::alloc::{AllocError, Global};
+use std::process::Abort;
+use std::sync::Wait;
+use std::sync::atomic::{AtomicU64, Ordering};
+use std::test::Fail;
+use std::thread::Threads;
+use tc_core::state::Call;
+use worker_pool::{Errand, Gate, Link, LockedDcs, OpenGate};
+
+// A link that knows the most wires that were carried together.
+#[derive(Drop)]
+struct Together {
+    dcs: LockedDcs,
+    is_prompt: bool,
+    most: AtomicU64,
+}
+
+impl Together {
+    fn new(alloc: Global, is_prompt: bool) -> Result<Together, AllocError> {
+        Ok(Together {
+            dcs: locked_dc(alloc, 64)?,
+            is_prompt,
+            most: AtomicU64::new(0),
+        })
+    }
+
+    fn most(&self) -> u64 {
+        self.most.load(Ordering::SeqCst)
+    }
+}
+
+impl Link for Together {
+    fn carry<R: Wait>(&self, rt: &R, worker: usize, wire: &Wire) -> Option<Reply> {
+        self.dcs.carry(rt, worker, wire)
+    }
+
+    fn news<R: Wait>(&self, _rt: &R, _worker: usize, _dc: u16) -> Option<News> {
+        None
+    }
+
+    fn is_prompt(&self) -> bool {
+        self.is_prompt
+    }
+
+    fn carry_all<R: Wait>(&self, rt: &R, worker: usize, errands: &mut [Errand]) {
+        let count = errands.iter().filter(|e| e.wire().is_some()).count();
+        self.most.fetch_max(count as u64, Ordering::SeqCst);
+        self.dcs.carry_all(rt, worker, errands);
+    }
+}
+
+// A gate that may take long.
+#[derive(Drop)]
+struct Slow;
+
+impl Gate for Slow {
+    fn begun(&self, _call: usize) {}
+
+    fn answered(&self, _call: usize) {}
+}
+
+fn push_puts(alloc: Global, calls: &mut Vec<Call>) -> Result<(), AllocError> {
+    for key in 1..=64u64 {
+        push_call(alloc, calls, PUT, &[key, 1])?;
+    }
+    Ok(())
+}
+
+// 64 inserts, none in the way of another.
+fn puts(alloc: Global) -> Result<Vec<Call>, AllocError> {
+    let mut calls = Vec::new(alloc);
+    let pushed = push_puts(alloc, &mut calls);
+    all_pushed(calls, pushed)
+}
+
+// The most wires that were carried together, while 64 calls were run that all commit.
+fn carried_together<R: Threads + Wait + Sync + Abort, G: Gate + Sync>(
+    rt: &R,
+    alloc: Global,
+    workers: usize,
+    is_prompt: bool,
+    gate: &G,
+) -> Result<u64, Fail> {
+    let link = Together::new(alloc, is_prompt)?;
+    let answers = first_answers(rt, alloc, puts(alloc)?, workers, &link, gate);
+    let most = link.most();
+    drop(link);
+    assert!(rt; all_commit(answers?.as_slice(), 64));
+    Ok(most)
+}
+
+#[test]
+fn eight_calls_of_a_worker_over_a_prompt_link(rt: HostRuntime) -> Result<(), Fail> {
+    assert_eq!(rt; carried_together(&rt, rt.alloc(), 2, true, &OpenGate)?, 8);
+    Ok(())
+}
+
+#[test]
+fn one_call_of_a_worker_over_another_link(rt: HostRuntime) -> Result<(), Fail> {
+    assert_eq!(rt; carried_together(&rt, rt.alloc(), 2, false, &OpenGate)?, 1);
+    Ok(())
+}
+
+#[test]
+fn one_call_of_a_worker_with_a_gate_that_is_not_prompt(rt: HostRuntime) -> Result<(), Fail> {
+    assert_eq!(rt; carried_together(&rt, rt.alloc(), 2, true, &Slow)?, 1);
+    Ok(())
+}
+
+#[test]
+fn one_call_of_one_worker(rt: HostRuntime) -> Result<(), Fail> {
+    assert_eq!(rt; carried_together(&rt, rt.alloc(), 1, true, &OpenGate)?, 1);
+    Ok(())
+}

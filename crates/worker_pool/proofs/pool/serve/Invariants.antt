@@ -1,0 +1,7 @@
+use Rattle.worker_pool.proofs.pool.serve.Given as goal
+
+abbrev pub invariant-loop-due : goal.invariant-loop-due
+invariant-loop-due g l = Unit {0}
+
+abbrev pub decreases-loop-due : goal.decreases-loop-due
+decreases-loop-due g l = l.errands

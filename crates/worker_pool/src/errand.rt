@@ -1,0 +1,57 @@
+//! A wire on its way, as links see it.
+
+ghost use Rattle.std.specs.Prelude.{◌≡◌, true, Some, None, IfSome, IsSome};
+ghost use Rattle.worker_pool.specs.Wires.{wire_in};
+
+use crate::sending::Sending;
+use access_slots::op::{News, Reply, Wire};
+
+/// A call's wire on its way to a data component, and what came back for it.
+pub struct Errand {
+    pub(crate) call: usize,
+    // Whether the call was admitted, and the gate isn't told of it yet.
+    pub(crate) is_begun: bool,
+    pub(crate) sending: Sending,
+    // Whether something came back for the wire that doesn't answer it.
+    pub(crate) is_carried: bool,
+    pub(crate) reply: Option<Reply>,
+    // What the link told where no answer came.
+    pub(crate) news: Option<News>,
+}
+
+impl Errand {
+    // The call's wire is to be carried, unless it was carried before.
+    #[inline(always)]
+    pub(crate) fn new(call: usize, is_begun: bool, sending: Sending, is_carried: bool) -> Errand
+        ensures { result.call ≡ call }
+    {
+        Errand {
+            call,
+            is_begun,
+            sending,
+            is_carried,
+            reply: None,
+            news: None,
+        }
+    }
+
+    /// The wire, where it is to be carried: nothing came back for it.
+    #[inline(always)]
+    pub fn wire(&self) -> Option<&Wire>
+        ensures wire { IfSome result (λ wire. wire.now ≡ wire_in self.now.sending.carried) }
+        ensures brought { IsSome self.now.reply → result ≡ None }
+    {
+        if self.is_carried || self.reply.is_some() {
+            return None;
+        }
+        Some(self.sending.wire())
+    }
+
+    /// Takes what came back for the wire.
+    #[inline(always)]
+    pub fn bring(&mut self, reply: Reply)
+        ensures { self.new ≡ record self.old { reply = Some reply } }
+    {
+        self.reply = Some(reply);
+    }
+}
