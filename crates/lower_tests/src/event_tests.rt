@@ -14,9 +14,31 @@ fn hundred() -> Value {
     value
 }
 
-#[test]
-fn an_insert(rt: HostRuntime) -> Result<(), Fail> {
-    let mut log = Log::new(rt.alloc());
+fn are_same(rt: &impl Abort, bytes: &[u8], want: &[u8], place: usize) {
+    assert_eq!(rt; bytes, want, "from {place}");
+}
+
+// From the event at this place on the log prints these bytes.
+fn prints_from(
+    rt: &impl Abort,
+    alloc: Global,
+    log: &Log,
+    place: usize,
+    want: &[u8],
+) -> Result<(), AllocError> {
+    let bytes = log.print_from(alloc, place)?;
+    are_same(rt, bytes.as_slice(), want, place);
+    Ok(())
+}
+
+fn prints(rt: &impl Abort, alloc: Global, log: &Log, want: &[u8]) -> Result<(), AllocError> {
+    let bytes = log.print(alloc)?;
+    are_same(rt, bytes.as_slice(), want, 0);
+    Ok(())
+}
+
+// An insert of 100 under 5.
+fn insert(log: &mut Log) -> Result<(), AllocError> {
     log.reserve(1)?;
     let record = Record {
         dc: 0,
@@ -28,6 +50,10 @@ fn an_insert(rt: HostRuntime) -> Result<(), Fail> {
         number: 1,
         op: Op::Insert(record, hundred()),
     });
+    Ok(())
+}
+
+fn its_bytes() -> [u8; 96] {
     let mut want = [0u8; 96];
     want[0] = 2;
     want[1] = 2;
@@ -35,8 +61,20 @@ fn an_insert(rt: HostRuntime) -> Result<(), Fail> {
     want[16] = 1;
     want[24] = 5;
     want[32] = 0x64;
-    assert_eq!(rt; log.print(rt.alloc())?.as_slice(), want.as_slice());
-    Ok(())
+    want
+}
+
+fn insert_prints(rt: &impl Abort, alloc: Global, log: &mut Log) -> Result<(), AllocError> {
+    insert(log)?;
+    prints(rt, alloc, log, &its_bytes())
+}
+
+#[test]
+fn an_insert(rt: HostRuntime) -> Result<(), Fail> {
+    let mut log = Log::new(rt.alloc());
+    let passed = insert_prints(&rt, rt.alloc(), &mut log);
+    drop(log);
+    Ok(passed?)
 }
 
 // An admission, an answer and an end.
@@ -75,33 +113,27 @@ fn their_bytes() -> [u8; 288] {
     want
 }
 
-// From the event at this place on the log prints these bytes.
-fn prints_from(
-    rt: &impl Abort,
-    alloc: Global,
-    log: &Log,
-    place: usize,
-    want: &[u8],
-) -> Result<(), AllocError> {
-    let bytes = log.print_from(alloc, place)?;
-    assert_eq!(rt; bytes.as_slice(), want, "from {place}");
-    Ok(())
+fn three_are_there(rt: &impl Abort, log: &Log) {
+    let last_ends = matches!(log.at(2), Some(Event::End { txn: 7, .. }));
+    let found = (log.len(), last_ends, log.at(3).is_none());
+    assert_eq!(rt; found, (3, true, true));
 }
 
-fn are_in_order(rt: &impl Abort, alloc: Global, log: &mut Log) -> Result<(), AllocError> {
-    let was_empty = log.is_empty();
-    three_events(alloc, log)?;
-    let last_ends = matches!(log.at(2), Some(Event::End { txn: 7, .. }));
-    let found = (was_empty, log.len(), last_ends, log.at(3).is_none());
-    assert_eq!(rt; found, (true, 3, true, true));
+fn print_from_each(rt: &impl Abort, alloc: Global, log: &Log) -> Result<(), AllocError> {
     let want = their_bytes();
-    let printed = log.print(alloc)?;
-    assert_eq!(rt; printed.as_slice(), want.as_slice());
+    prints(rt, alloc, log, &want)?;
     for (place, start) in [(0, 0), (2, 192), (3, 288), (4, 288)] {
         let rows = want.get(start..).unwrap_or_default();
         prints_from(rt, alloc, log, place, rows)?;
     }
     Ok(())
+}
+
+fn are_in_order(rt: &impl Abort, alloc: Global, log: &mut Log) -> Result<(), AllocError> {
+    assert!(rt; log.is_empty());
+    three_events(alloc, log)?;
+    three_are_there(rt, log);
+    print_from_each(rt, alloc, log)
 }
 
 #[test]
@@ -138,35 +170,47 @@ fn is_call(rt: &impl Abort, log: &Log) {
 fn a_call_is_read(rt: HostRuntime) -> Result<(), Fail> {
     let log = Log::read(rt.alloc(), &call())?;
     is_call(&rt, &log);
-    let printed = log.print(rt.alloc());
+    let passed = prints(&rt, rt.alloc(), &log, &call());
     drop(log);
-    assert_eq!(rt; printed?.as_slice(), call().as_slice());
-    Ok(())
+    Ok(passed?)
 }
 
 // What `read` says of these bytes: how many events, or the fault.
-fn read_len(rt: HostRuntime, bytes: &[u8]) -> Result<usize, LogFault> {
-    Ok(Log::read(rt.alloc(), bytes)?.len())
+fn read_len(alloc: Global, bytes: &[u8]) -> Result<usize, LogFault> {
+    Ok(Log::read(alloc, bytes)?.len())
 }
 
+fn reads(rt: &impl Abort, alloc: Global, bytes: &[u8], want: Result<usize, LogFault>) {
+    assert_eq!(rt; read_len(alloc, bytes), want);
+}
+
+// The call with this byte at this place.
+fn call_with(place: usize, byte: u8) -> [u8; 96] {
+    let mut record = call();
+    if let Some(at) = record.get_mut(place) {
+        *at = byte;
+    }
+    record
+}
+
+// The call, and behind it one with a third argument.
+fn both(alloc: Global) -> Result<Vec<u8>, AllocError> {
+    let mut both = Vec::from_slice(alloc, &call())?;
+    both.extend_from_slice(&call_with(48, 1))?;
+    Ok(both)
+}
+
+// Another kind, a third argument, and nine arguments.
 #[test]
 fn what_no_event_prints(rt: HostRuntime) -> Result<(), Fail> {
-    let record = call();
-    assert_eq!(rt; read_len(rt, &[]), Ok(0));
-    assert_eq!(rt; read_len(rt, &[0; 95]), Err(LogFault::Length));
-    assert_eq!(rt; read_len(rt, &[0; 96]), Err(LogFault::Kind(0)));
-    let mut other_kind = record;
-    other_kind[0] = 6;
-    assert_eq!(rt; read_len(rt, &other_kind), Err(LogFault::Kind(0)));
-    let mut third_argument = record;
-    third_argument[48] = 1;
-    assert_eq!(rt; read_len(rt, &third_argument), Err(LogFault::Kind(0)));
-    let mut nine_arguments = record;
-    nine_arguments[1] = 9;
-    assert_eq!(rt; read_len(rt, &nine_arguments), Err(LogFault::Kind(0)));
-    let mut both = Vec::from_slice(rt.alloc(), &record)?;
-    both.extend_from_slice(&third_argument)?;
-    assert_eq!(rt; read_len(rt, both.as_slice()), Err(LogFault::Kind(1)));
+    let alloc = rt.alloc();
+    reads(&rt, alloc, &[], Ok(0));
+    reads(&rt, alloc, &[0; 95], Err(LogFault::Length));
+    reads(&rt, alloc, &[0; 96], Err(LogFault::Kind(0)));
+    for (place, byte) in [(0, 6), (48, 1), (1, 9)] {
+        reads(&rt, alloc, &call_with(place, byte), Err(LogFault::Kind(0)));
+    }
+    reads(&rt, alloc, both(alloc)?.as_slice(), Err(LogFault::Kind(1)));
     Ok(())
 }
 
@@ -187,6 +231,6 @@ fn ends(rt: HostRuntime) {
         record[1] = sub;
         record[8] = 3;
         record[16] = word;
-        assert_eq!(rt; read_len(rt, &record).is_ok(), ok);
+        assert_eq!(rt; read_len(rt.alloc(), &record).is_ok(), ok);
     }
 }

@@ -7,7 +7,7 @@ use access_slots::decl::{Decl, DeclFault};
 use access_slots::lock::LockSet;
 use access_slots::slot::{Key, Mode, Record, Slot};
 use lock_table::table::{Busy, LockTable};
-use std::alloc::Global;
+use std::alloc::{AllocError, Global};
 use std::process::Abort;
 use std::test::Fail;
 
@@ -39,41 +39,59 @@ fn busy(key: u64, holder: u64) -> Busy {
     }
 }
 
+fn is_ready(rt: &impl Abort, table: &LockTable, set: &LockSet, ready: bool) {
+    assert_eq!(rt; table.ready(set), ready);
+}
+
+fn is_granted(rt: &impl Abort, granted: Result<(), Busy>, wanted: Result<(), Busy>) {
+    assert_eq!(rt; granted, wanted);
+}
+
+fn is_busy(rt: &impl Abort, table: &LockTable, set: &LockSet, busy: Option<Busy>) {
+    assert_eq!(rt; table.busy(set), busy);
+}
+
 // Two readers, a writer of another record, and a set that waits for all of them.
-fn waits_for_all(rt: &impl Abort, table: &mut LockTable) -> Result<(), Fail>
+fn waits_for_all(
+    rt: &impl Abort,
+    table: &mut LockTable,
+    reader: &LockSet,
+    writer: &LockSet,
+    both: &LockSet,
+) -> Result<(), AllocError>
     requires { (t : ℕ) → HoldsNothing (held_by table.old) t }
 {
-    let reader = set(&[slot(Mode::Read, 5)])?;
-    let writer = set(&[slot(Mode::Write, 4)])?;
-    let both = set(&[slot(Mode::Write, 4), slot(Mode::Write, 5)])?;
-    table.reserve(&reader)?;
-    assert!(rt; table.ready(&reader));
-    assert!(rt; !table.ready(&writer));
-    assert_eq!(rt; table.grant(1, &reader), Ok(()));
-    assert!(rt; !table.ready(&reader));
-    table.reserve(&reader)?;
-    assert_eq!(rt; table.grant(2, &reader), Ok(()));
-    table.reserve(&both)?;
-    assert_eq!(rt; table.grant(3, &both), Err(busy(5, 1)));
-    assert!(rt; table.ready(&both));
-    table.reserve(&writer)?;
-    assert_eq!(rt; table.grant(4, &writer), Ok(()));
+    table.reserve(reader)?;
+    is_ready(rt, table, reader, true);
+    is_ready(rt, table, writer, false);
+    is_granted(rt, table.grant(1, reader), Ok(()));
+    is_ready(rt, table, reader, false);
+    table.reserve(reader)?;
+    is_granted(rt, table.grant(2, reader), Ok(()));
+    table.reserve(both)?;
+    is_granted(rt, table.grant(3, both), Err(busy(5, 1)));
+    is_ready(rt, table, both, true);
+    table.reserve(writer)?;
+    is_granted(rt, table.grant(4, writer), Ok(()));
     table.release(1);
-    assert_eq!(rt; table.busy(&both), Some(busy(4, 4)));
+    is_busy(rt, table, both, Some(busy(4, 4)));
     table.release(4);
-    assert_eq!(rt; table.busy(&both), Some(busy(5, 2)));
+    is_busy(rt, table, both, Some(busy(5, 2)));
     table.release(7);
     table.release(2);
-    assert_eq!(rt; table.busy(&both), None);
+    is_busy(rt, table, both, None);
     Ok(())
 }
 
 #[test]
 fn the_least_record_and_its_least_holder(rt: HostRuntime) -> Result<(), Fail> {
+    let reader = set(&[slot(Mode::Read, 5)])?;
+    let writer = set(&[slot(Mode::Write, 4)])?;
+    let both = set(&[slot(Mode::Write, 4), slot(Mode::Write, 5)])?;
     let mut table = LockTable::new(rt.alloc());
-    let passed = waits_for_all(&rt, &mut table);
+    let passed = waits_for_all(&rt, &mut table, &reader, &writer, &both);
     drop(table);
-    passed
+    Ok(passed?)
 }
 
 // ---- the map beside a row of claims

@@ -10,7 +10,7 @@ use bpf_encoding::insn::{
     Size, Source, Width,
 };
 use register_kinds::kind::Violation;
-use std::alloc::Global;
+use std::alloc::{AllocError, Global};
 use std::process::Abort;
 use std::test::Fail;
 
@@ -97,6 +97,13 @@ fn unknown_helpers(rt: &impl Abort, alloc: Global) -> Result<(), Fail> {
     each_refused(rt, alloc, &codes, Violation::UnknownHelper)
 }
 
+// The instruction behind the others, and an end behind it.
+fn behind(alloc: Global, before: &[Insn], insn: Insn) -> Result<Vec<Insn>, AllocError> {
+    let mut code = before.to_vec(alloc)?;
+    code.extend_from_slice(&[insn, constant(R0, 0), Insn::Exit])?;
+    Ok(code)
+}
+
 // Both passes refuse each of these right behind the others, which take one slot each.
 fn none_behind(
     rt: &impl Abort,
@@ -106,10 +113,7 @@ fn none_behind(
     violation: Violation,
 ) -> Result<(), Fail> {
     for &insn in insns {
-        let mut code = before.to_vec(alloc)?;
-        code.push(insn)?;
-        code.push(constant(R0, 0))?;
-        code.push(Insn::Exit)?;
+        let code = behind(alloc, before, insn)?;
         refused(rt, alloc, &code, before.len(), violation)?;
     }
     Ok(())
@@ -416,34 +420,26 @@ fn refused_by_kinds(rt: HostRuntime) -> Result<(), Fail> {
     addresses_returned(&rt, rt.alloc())
 }
 
-#[test]
-fn refused_by_other_declarations(rt: HostRuntime) -> Result<(), Fail> {
-    let argument = [load(R0, R1, 0), Insn::Exit];
-    refused_of(
-        &rt,
-        rt.alloc(),
-        &argument,
-        decl(0)?,
-        (0, Violation::OutOfBounds),
-    )?;
-    let second = [load(R0, R1, 8), Insn::Exit];
-    refused_of(
-        &rt,
-        rt.alloc(),
-        &second,
-        decl(1)?,
-        (0, Violation::OutOfBounds),
-    )?;
-    accepted(&rt, rt.alloc(), &second, decl(2)?)?;
+// An argument's eight bytes, where so many are declared.
+fn argument_refused(rt: &impl Abort, alloc: Global, args: u8, offset: i16) -> Result<(), Fail> {
+    let argument = [load(R0, R1, offset), Insn::Exit];
+    let found = (0, Violation::OutOfBounds);
+    refused_of(rt, alloc, &argument, decl(args)?, found)
+}
+
+fn refused_without_slots(rt: &impl Abort, alloc: Global) -> Result<(), Fail> {
     let asks = [constant(R1, 0), Insn::Call(5), Insn::Exit];
     let no_slots = Decl::new(1, &[])?;
-    refused_of(
-        &rt,
-        rt.alloc(),
-        &asks,
-        no_slots,
-        (1, Violation::SlotUnknown),
-    )
+    refused_of(rt, alloc, &asks, no_slots, (1, Violation::SlotUnknown))
+}
+
+#[test]
+fn refused_by_other_declarations(rt: HostRuntime) -> Result<(), Fail> {
+    argument_refused(&rt, rt.alloc(), 0, 0)?;
+    argument_refused(&rt, rt.alloc(), 1, 8)?;
+    let second = [load(R0, R1, 8), Insn::Exit];
+    accepted(&rt, rt.alloc(), &second, decl(2)?)?;
+    refused_without_slots(&rt, rt.alloc())
 }
 
 // Both passes accept each code, where one argument and two slots are declared.

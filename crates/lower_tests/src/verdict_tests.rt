@@ -32,23 +32,11 @@ pub(crate) fn decl(args: u8) -> Result<Decl, Fail> {
     )?)
 }
 
-// Whether both passes find the same first violation, at the same slot, or both none.
-fn agree(alloc: Global, insns: &[Insn], args: u8) -> Result<bool, Fail> {
-    let code = Code::from_insns(alloc, insns)?;
-    let plain = plain_verify(alloc, code.places(), &decl(args)?)?;
-    Ok(match (verify(alloc, code, decl(args)?), plain) {
-        (Ok(_), None) => true,
-        (Err(VerifyFault::At(slot, violation)), Some(found)) => (slot, violation) == found,
-        _ => false,
-    })
-}
+// The first violation, and at which slot; or none.
+type Found = Option<(usize, Violation)>;
 
-// What `verify` finds first, and where.
-fn found_by_verify(
-    alloc: Global,
-    code: Code,
-    decl: Decl,
-) -> Result<Option<(usize, Violation)>, Fail> {
+// What `verify` finds first.
+fn found_by_verify(alloc: Global, code: Code, decl: Decl) -> Result<Found, Fail> {
     match verify(alloc, code, decl) {
         Ok(_) => Ok(None),
         Err(VerifyFault::At(slot, violation)) => Ok(Some((slot, violation))),
@@ -56,16 +44,23 @@ fn found_by_verify(
     }
 }
 
-// Whether this is what both passes find first.
-fn both_find(
-    alloc: Global,
-    insns: &[Insn],
-    decl: Decl,
-    found: Option<(usize, Violation)>,
-) -> Result<bool, Fail> {
+// What each of both passes finds first.
+fn found_by_both(alloc: Global, insns: &[Insn], decl: Decl) -> Result<(Found, Found), Fail> {
     let code = Code::from_insns(alloc, insns)?;
     let plain = plain_verify(alloc, code.places(), &decl)?;
-    Ok(plain == found && found_by_verify(alloc, code, decl)? == found)
+    Ok((plain, found_by_verify(alloc, code, decl)?))
+}
+
+// Whether both passes find the same, where so many arguments and two slots are declared.
+fn agree(alloc: Global, insns: &[Insn], args: u8) -> Result<bool, Fail> {
+    let (plain, found) = found_by_both(alloc, insns, decl(args)?)?;
+    Ok(plain == found)
+}
+
+// Whether this is what both passes find.
+fn both_find(alloc: Global, insns: &[Insn], decl: Decl, wanted: Found) -> Result<bool, Fail> {
+    let (plain, found) = found_by_both(alloc, insns, decl)?;
+    Ok(plain == wanted && found == wanted)
 }
 
 // Whether both passes accept the code.
