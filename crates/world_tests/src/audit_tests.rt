@@ -70,7 +70,35 @@ fn dc_with(rt: &impl Abort, alloc: Global, number: Option<u64>) -> Result<Dc, Al
     Ok(dc)
 }
 
-// What an audit says of a log and one data component.
+// What an audit says of a log and a data component, which goes.
+fn audited_beside(alloc: Global, tc: &TcState, log: &Log, dc: Dc) -> Result<Audited, AuditFault> {
+    let dcs = [dc];
+    let says = audit(alloc, tc.procs(), log, &dcs);
+    drop(dcs);
+    says
+}
+
+// The same of the log that these records are.
+fn audited_with(
+    alloc: Global,
+    tc: &TcState,
+    records: &[LogRecord],
+    dc: Dc,
+) -> Result<Result<Audited, AuditFault>, AllocError> {
+    match log_of(alloc, records) {
+        Ok(Some(log)) => {
+            let says = audited_beside(alloc, tc, &log, dc);
+            drop(log);
+            Ok(says)
+        }
+        _ => {
+            drop(dc);
+            Err(AllocError)
+        }
+    }
+}
+
+// The same of a data component in which this number is inserted, where one is.
 fn audited(
     rt: &impl Abort,
     alloc: Global,
@@ -79,21 +107,6 @@ fn audited(
     number: Option<u64>,
 ) -> Result<Result<Audited, AuditFault>, AllocError> {
     audited_with(alloc, tc, records, dc_with(rt, alloc, number)?)
-}
-
-// The same of this data component.
-fn audited_with(
-    alloc: Global,
-    tc: &TcState,
-    records: &[LogRecord],
-    dc: Dc,
-) -> Result<Result<Audited, AuditFault>, AllocError> {
-    let Some(log) = log_of(alloc, records)? else {
-        return Err(AllocError);
-    };
-    let says = audit(alloc, tc.procs(), &log, &[dc]);
-    drop(log);
-    Ok(says)
 }
 
 // It says this of a log and one data component.
@@ -177,16 +190,48 @@ fn short_logs(rt: HostRuntime) -> Result<(), Fail> {
     Ok(told?)
 }
 
-// What least_off says of values under 7 and 6, with nothing locked, and a data component with a row
-// under 5, or none.
-fn least(rt: &impl Abort, alloc: Global, is_there: bool) -> Result<Option<Record>, AllocError> {
-    let mut values: IndexMap<Record, Value> = IndexMap::new(alloc);
-    if values.insert(record(7), value(1)).is_err() || values.insert(record(6), value(1)).is_err() {
-        return Err(AllocError);
+type Values = IndexMap<Record, Value>;
+
+fn insert_two(values: &mut Values) -> Result<(), AllocError> {
+    for key in [7, 6] {
+        if values.insert(record(key), value(1)).is_err() {
+            return Err(AllocError);
+        }
     }
+    Ok(())
+}
+
+// Values under 7 and 6.
+fn two_values(alloc: Global) -> Result<Values, AllocError> {
+    let mut values: Values = IndexMap::new(alloc);
+    match insert_two(&mut values) {
+        Ok(()) => Ok(values),
+        Err(fault) => {
+            drop(values);
+            Err(fault)
+        }
+    }
+}
+
+// What least_off says of these values, with nothing locked.
+fn least_of(alloc: Global, values: Values, dcs: &[Dc]) -> Option<Record> {
+    let table = LockTable::new(alloc);
+    let least = least_off(&values, &table, dcs);
+    drop(table);
+    drop(values);
+    least
+}
+
+// The same of the two, and a data component with a row under 5, or none.
+fn least(rt: &impl Abort, alloc: Global, is_there: bool) -> Result<Option<Record>, AllocError> {
     let dcs = [dc_with(rt, alloc, Some(100))?];
     let seen = if is_there { &dcs[..] } else { &dcs[..0] };
-    Ok(least_off(&values, &LockTable::new(alloc), seen))
+    let least = match two_values(alloc) {
+        Ok(values) => Ok(least_of(alloc, values, seen)),
+        Err(fault) => Err(fault),
+    };
+    drop(dcs);
+    least
 }
 
 // Of records that aren't as they should be, the least: one that is present and shouldn't be, or one

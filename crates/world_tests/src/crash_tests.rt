@@ -2,7 +2,7 @@
 // noted of its data component, and goes on to the same log: in a world resumed, where no message is left,
 // and by a step of the world itself, where all are.
 
-use crate::step_tests::{closed, world};
+use crate::step_tests::{all_went, closed, is_same, world};
 use access_slots::op::News;
 use samples::{BAD, PUT, PUT_AND_ABORT, call, loaded, log_bytes};
 use std::alloc::{AllocError, Global};
@@ -128,6 +128,20 @@ fn steps(alloc: Global) -> Result<[Step; 16], AllocError> {
     ])
 }
 
+// What was printed is the log of so many events, behind so many of which the crash came.
+fn is_log(
+    rt: &impl Abort,
+    alloc: Global,
+    printed: &[u8],
+    count: usize,
+    events: usize,
+) -> Result<(), Fail> {
+    let whole = log_bytes(alloc, &PUT_AND_ABORT)?;
+    let want = whole.get(..count.saturating_mul(RECORD));
+    assert_eq!(rt; Some(printed), want, "behind {events} events");
+    Ok(())
+}
+
 // The steps are taken, and these; then the transaction component crashes, comes back, and goes on.
 fn goes_on(rt: &impl Abort, alloc: Global, steps: &[Step], then: &[Step]) -> Result<(), Fail> {
     let mut former = world(rt, alloc)?;
@@ -138,23 +152,27 @@ fn goes_on(rt: &impl Abort, alloc: Global, steps: &[Step], then: &[Step]) -> Res
     all_end(&mut standing);
     let printed = standing.state().log().print(alloc);
     closed(standing);
-    assert_eq!(rt; ran, Ok(()));
-    assert_eq!(rt; told, Ok(()));
-    let whole = log_bytes(alloc, &PUT_AND_ABORT)?;
-    let want = whole.as_slice().get(..ended(events).saturating_mul(RECORD));
-    assert_eq!(rt; Some(printed?.as_slice()), want, "behind {events} events");
-    Ok(())
+    all_went(rt, ran);
+    all_went(rt, told);
+    is_log(rt, alloc, printed?.as_slice(), ended(events), events)
 }
 
-// Behind each step.
-fn each_goes_on(rt: &impl Abort, alloc: Global, then: &[Step]) -> Result<(), Fail> {
-    let steps = steps(alloc)?;
+// Behind each of these steps.
+fn each_of_them(rt: &impl Abort, alloc: Global, steps: &[Step], then: &[Step]) -> Result<(), Fail> {
     for count in 0..=steps.len() {
         if let Some(first) = steps.get(..count) {
             goes_on(rt, alloc, first, then)?;
         }
     }
     Ok(())
+}
+
+// Behind each step.
+fn each_goes_on(rt: &impl Abort, alloc: Global, then: &[Step]) -> Result<(), Fail> {
+    let steps = steps(alloc)?;
+    let passed = each_of_them(rt, alloc, &steps, then);
+    drop(steps);
+    passed
 }
 
 #[test]
@@ -184,26 +202,41 @@ fn nothing_changes(
     let went_on = world.run(rest);
     let printed = world.state().log().print(alloc);
     closed(world);
-    assert_eq!(rt; (ran, went_on), (Ok(()), Ok(())));
-    assert_eq!(rt; crashed, Ok(Outcome::Crashed(events, open)));
-    assert_eq!(rt; beyond, Err(Illegal::NotWritten));
-    let whole = log_bytes(alloc, &PUT_AND_ABORT)?;
-    assert_eq!(rt;
-        printed?.as_slice(),
-        whole.as_slice(),
-        "behind {events} events"
-    );
+    all_went(rt, ran);
+    all_went(rt, went_on);
+    is_same(rt, crashed, Ok(Outcome::Crashed(events, open)));
+    is_same(rt, beyond, Err(Illegal::NotWritten));
+    is_log(rt, alloc, printed?.as_slice(), PUT_AND_ABORT.len(), events)
+}
+
+// Behind each of these steps, before the others.
+fn nothing_changes_between(rt: &impl Abort, alloc: Global, steps: &[Step]) -> Result<(), Fail> {
+    for count in 0..=steps.len() {
+        if let Some((first, rest)) = steps.split_at_checked(count) {
+            nothing_changes(rt, alloc, first, rest)?;
+        }
+    }
     Ok(())
 }
 
 #[test]
 fn a_crash_between_the_steps(rt: HostRuntime) -> Result<(), Fail> {
     let steps = steps(rt.alloc())?;
-    for count in 0..=steps.len() {
-        if let Some((first, rest)) = steps.split_at_checked(count) {
-            nothing_changes(&rt, rt.alloc(), first, rest)?;
-        }
-    }
+    let passed = nothing_changes_between(&rt, rt.alloc(), &steps);
+    drop(steps);
+    passed
+}
+
+fn too_little_is_found(rt: &impl Abort, alloc: Global, steps: &[Step]) -> Result<(), Fail> {
+    let mut world = world(rt, alloc)?;
+    let ran = world.run(steps);
+    let events = world.state().log().len();
+    let lost = world.step(&Step::Crash(events.saturating_sub(2)));
+    let less = world.step(&Step::Crash(events.saturating_sub(4)));
+    closed(world);
+    all_went(rt, ran);
+    is_same(rt, lost, Ok(Outcome::Crashed(events.saturating_sub(2), 1)));
+    is_same(rt, less, Err(Illegal::NotWritten));
     Ok(())
 }
 
@@ -211,14 +244,7 @@ fn a_crash_between_the_steps(rt: HostRuntime) -> Result<(), Fail> {
 #[test]
 fn a_crash_that_finds_too_little(rt: HostRuntime) -> Result<(), Fail> {
     let steps = steps(rt.alloc())?;
-    let mut world = world(&rt, rt.alloc())?;
-    let ran = world.run(steps.as_slice());
-    let events = world.state().log().len();
-    let lost = world.step(&Step::Crash(events.saturating_sub(2)));
-    let less = world.step(&Step::Crash(events.saturating_sub(4)));
-    closed(world);
-    assert_eq!(rt; ran, Ok(()));
-    assert_eq!(rt; lost, Ok(Outcome::Crashed(events.saturating_sub(2), 1)));
-    assert_eq!(rt; less, Err(Illegal::NotWritten));
-    Ok(())
+    let passed = too_little_is_found(&rt, rt.alloc(), &steps);
+    drop(steps);
+    passed
 }

@@ -1,7 +1,7 @@
 // Steps of a world that are refused memory once, and are then taken again: what they were refused on is
 // as before. tools/requests.py refuses each request in turn.
 
-use crate::step_tests::closed;
+use crate::step_tests::{closed, is_same, opened};
 use access_slots::op::{Reply, Said};
 use data_component::dc::Dc;
 use samples::{PUT, call, loaded, record, value};
@@ -36,27 +36,36 @@ fn dc(alloc: Global) -> Result<Dc, AllocError> {
     }
 }
 
+// Room for one.
+fn room(alloc: Global) -> Result<Vec<Dc>, AllocError> {
+    match Vec::with_capacity(alloc, 1) {
+        Ok(dcs) => Ok(dcs),
+        Err(_) => Vec::with_capacity(alloc, 1),
+    }
+}
+
 // One data component.
 fn dcs(alloc: Global) -> Result<Vec<Dc>, AllocError> {
     let dc = dc(alloc)?;
-    let mut dcs = match Vec::with_capacity(alloc, 1) {
+    let mut dcs = match room(alloc) {
         Ok(dcs) => dcs,
-        Err(_) => Vec::with_capacity(alloc, 1)?,
+        Err(fault) => {
+            drop(dc);
+            return Err(fault);
+        }
     };
-    dcs.push(dc)?;
-    Ok(dcs)
+    match dcs.push(dc) {
+        Ok(()) => Ok(dcs),
+        Err(fault) => {
+            drop(dcs);
+            Err(AllocError::from(fault))
+        }
+    }
 }
 
 fn world(rt: &impl Abort, alloc: Global) -> Result<World, Fail> {
     let state = state(alloc).ok_or("not loaded")?;
-    assert_eq!(rt; state.open_count(), 0);
-    match dcs(alloc) {
-        Ok(dcs) => Ok(World::new(alloc, state, dcs)),
-        Err(fault) => {
-            drop(state);
-            Err(Fail::from(fault))
-        }
-    }
+    opened(rt, alloc, state, dcs(alloc))
 }
 
 // No event of a step that is refused memory is logged.
@@ -118,7 +127,7 @@ fn ends(rt: &impl Abort, world: &mut World) {
         outcome: Ending::Committed,
     };
     let end = stepped(rt, world, &Step::End(1));
-    assert_eq!(rt; end, Ok(Outcome::Ended(receipt)));
+    is_same(rt, end, Ok(Outcome::Ended(receipt)));
 }
 
 // The record stands at each data component.

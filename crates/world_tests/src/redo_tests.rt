@@ -1,9 +1,10 @@
 // What a redo leaves out: what was asked of another component, and what wasn't done.
 
-use crate::step_tests::closed;
+use crate::restart_tests::{goes, is_called};
+use crate::step_tests::{closed, opened};
 use access_slots::op::{News, Op, Reply, Said, Wire};
 use data_component::dc::Dc;
-use samples::{DROP, PUT, call, load, loaded, put_procedure, record, value};
+use samples::{DROP, PUT, load, loaded, put_procedure, record, value};
 use std::alloc::{AllocError, Global};
 use std::process::Abort;
 use std::test::Fail;
@@ -39,37 +40,7 @@ fn state(alloc: Global) -> Option<TcState> {
 
 fn world(rt: &impl Abort, alloc: Global) -> Result<World, Fail> {
     let state = state(alloc).ok_or("not loaded")?;
-    assert_eq!(rt; state.open_count(), 0);
-    match two_dcs(alloc) {
-        Ok(dcs) => Ok(World::new(alloc, state, dcs)),
-        Err(fault) => {
-            drop(state);
-            Err(Fail::from(fault))
-        }
-    }
-}
-
-// The steps of a call of one operation, from its admission to its end.
-fn is_called(
-    rt: &impl Abort,
-    alloc: Global,
-    world: &mut World,
-    (txn, place): (u64, usize),
-    proc: usize,
-) -> Result<(), AllocError> {
-    let steps = [
-        Step::Admit(call(alloc, proc, &[5, 100])?),
-        Step::Ask(txn),
-        Step::Perform(place),
-        Step::Take(place),
-        Step::End(txn),
-    ];
-    assert_eq!(rt; world.run(&steps), Ok(()));
-    Ok(())
-}
-
-fn goes(rt: &impl Abort, world: &mut World, step: &Step, outcome: Outcome) {
-    assert_eq!(rt; world.step(step), Ok(outcome));
+    opened(rt, alloc, state, two_dcs(alloc))
 }
 
 // The first number is redone, and neither the second, whose insert found the record there, nor the
@@ -100,9 +71,9 @@ fn the_first_is_redone(rt: &impl Abort, world: &mut World) {
 }
 
 fn one_of_three(rt: &impl Abort, alloc: Global, world: &mut World) -> Result<(), AllocError> {
-    is_called(rt, alloc, world, (1, 0), PUT)?;
-    is_called(rt, alloc, world, (2, 1), PUT)?;
-    is_called(rt, alloc, world, (3, 2), PUT_BESIDE)?;
+    is_called(rt, alloc, world, (1, 0), PUT, &[5, 100])?;
+    is_called(rt, alloc, world, (2, 1), PUT, &[5, 100])?;
+    is_called(rt, alloc, world, (3, 2), PUT_BESIDE, &[5, 100])?;
     the_first_is_redone(rt, world);
     Ok(())
 }

@@ -1,6 +1,6 @@
 // Restarts that lose what came after the last checkpoint, and redo.
 
-use crate::step_tests::{closed, world};
+use crate::step_tests::{all_went, closed, is_same, world};
 use access_slots::op::{News, Op, Reply, Said, Wire};
 use samples::{PUT, call, record, value};
 use std::alloc::{AllocError, Global};
@@ -8,23 +8,35 @@ use std::process::Abort;
 use std::test::Fail;
 use tc_world::{Illegal, Outcome, Step, World};
 
-// The steps of a call that puts 100, with its transaction, and the place of its wire and of its reply.
-fn is_put(
+/// The steps of a call of one operation, with its transaction, and the place of its wire and of its reply.
+pub(crate) fn is_called(
     rt: &impl Abort,
     alloc: Global,
     world: &mut World,
     (txn, place): (u64, usize),
-    key: u64,
+    proc: usize,
+    args: &[u64],
 ) -> Result<(), AllocError> {
     let steps = [
-        Step::Admit(call(alloc, PUT, &[key, 100])?),
+        Step::Admit(call(alloc, proc, args)?),
         Step::Ask(txn),
         Step::Perform(place),
         Step::Take(place),
         Step::End(txn),
     ];
-    assert_eq!(rt; world.run(&steps), Ok(()));
+    all_went(rt, world.run(&steps));
     Ok(())
+}
+
+// Those of a call that puts 100.
+fn is_put(
+    rt: &impl Abort,
+    alloc: Global,
+    world: &mut World,
+    at: (u64, usize),
+    key: u64,
+) -> Result<(), AllocError> {
+    is_called(rt, alloc, world, at, PUT, &[key, 100])
 }
 
 // The row that was put stands, or doesn't.
@@ -34,12 +46,13 @@ fn five_stands(rt: &impl Abort, world: &World, stands: bool) {
     }
 }
 
-fn goes(rt: &impl Abort, world: &mut World, step: &Step, outcome: Outcome) {
-    assert_eq!(rt; world.step(step), Ok(outcome));
+/// The step does this.
+pub(crate) fn goes(rt: &impl Abort, world: &mut World, step: &Step, outcome: Outcome) {
+    is_same(rt, world.step(step), Ok(outcome));
 }
 
 fn stops(rt: &impl Abort, world: &mut World, step: &Step, why: Illegal) {
-    assert_eq!(rt; world.step(step), Err(why));
+    is_same(rt, world.step(step), Err(why));
 }
 
 // What redoes the put in the first incarnation behind a restart.

@@ -1,5 +1,9 @@
 // Each call once, where it succeeds.
 
+ghost use Rattle.std.specs.Prelude.{IfOk};
+ghost use Rattle.std.specs.List.{All};
+ghost use Rattle.coming_back.specs.Coming.{IsEmpty};
+
 use access_slots::op::{Reply, Said};
 use data_component::dc::Dc;
 use samples::{PUT, call, loaded};
@@ -10,9 +14,11 @@ use tc_core::state::{Call, Receipt, TcState};
 use tc_log::event::Outcome as Ending;
 use tc_world::{Illegal, Outcome, Step, World};
 
-// One data component.
-fn dcs(alloc: Global) -> Result<Vec<Dc>, AllocError> {
-    let dc = Dc::new(alloc, 4, 100)?;
+/// One data component for so many operations, to which nothing has happened.
+pub(crate) fn new_dcs(alloc: Global, ops: usize) -> Result<Vec<Dc>, AllocError>
+    ensures { IfOk result (λ dcs. All IsEmpty dcs.items) }
+{
+    let dc = Dc::new(alloc, 4, ops)?;
     let mut dcs = Vec::new(alloc);
     match dcs.push(dc) {
         Ok(()) => Ok(dcs),
@@ -23,17 +29,41 @@ fn dcs(alloc: Global) -> Result<Vec<Dc>, AllocError> {
     }
 }
 
-/// One data component, and a transaction component that has the procedures.
-pub(crate) fn world(rt: &impl Abort, alloc: Global) -> Result<World, Fail> {
-    let state = loaded(alloc, 1).ok_or("not loaded")?;
+/// A world of a state in which nothing is open, and of these data components.
+pub(crate) fn opened(
+    rt: &impl Abort,
+    alloc: Global,
+    state: TcState,
+    dcs: Result<Vec<Dc>, AllocError>,
+) -> Result<World, Fail> {
     assert_eq!(rt; state.open_count(), 0);
-    match dcs(alloc) {
+    match dcs {
         Ok(dcs) => Ok(World::new(alloc, state, dcs)),
         Err(fault) => {
             drop(state);
             Err(Fail::from(fault))
         }
     }
+}
+
+/// One data component, and a transaction component that has the procedures.
+pub(crate) fn world(rt: &impl Abort, alloc: Global) -> Result<World, Fail> {
+    let state = loaded(alloc, 1).ok_or("not loaded")?;
+    opened(rt, alloc, state, new_dcs(alloc, 100))
+}
+
+/// A step did what it was to do.
+pub(crate) fn is_same(
+    rt: &impl Abort,
+    stepped: Result<Outcome, Illegal>,
+    wanted: Result<Outcome, Illegal>,
+) {
+    assert_eq!(rt; stepped, wanted);
+}
+
+/// Each of some steps was taken.
+pub(crate) fn all_went(rt: &impl Abort, ran: Result<(), (usize, Illegal)>) {
+    assert_eq!(rt; ran, Ok(()));
 }
 
 /// Closes a world, and lets its parts go.
@@ -83,7 +113,7 @@ fn ends(rt: &impl Abort, world: &mut World) {
         txn: 1,
         outcome: Ending::Committed,
     };
-    assert_eq!(rt; world.step(&Step::End(1)), Ok(Outcome::Ended(receipt)));
+    is_same(rt, world.step(&Step::End(1)), Ok(Outcome::Ended(receipt)));
 }
 
 fn put_goes(rt: &impl Abort, alloc: Global, world: &mut World) -> Result<(), AllocError> {
@@ -107,7 +137,7 @@ fn steps_of_a_transaction(rt: HostRuntime) -> Result<(), Fail> {
 
 // The steps leave no open transaction.
 fn all_go(rt: &impl Abort, world: &mut World, steps: &[Step]) {
-    assert_eq!(rt; world.run(steps), Ok(()));
+    all_went(rt, world.run(steps));
     assert_eq!(rt; world.state().open_count(), 0);
 }
 
