@@ -1,5 +1,6 @@
 use frame_file::{FrameFault, FrameFile, Memory, read_frames};
-use std::alloc::Global;
+use std::alloc::{AllocError, Global};
+use std::process::Abort;
 use std::test::Fail;
 
 // Where the frames end that hold "first", nothing and "third".
@@ -11,18 +12,27 @@ const FIRST: [u8; 29] = [
     105, 114, 115, 116,
 ];
 
-fn memory(alloc: Global, bytes: Vec<u8>) -> FrameFile<Memory> {
+type File = FrameFile<Memory>;
+
+fn memory(alloc: Global, bytes: Vec<u8>) -> File {
     FrameFile::new(Memory::new(alloc, bytes))
 }
 
-// A file of these three frames.
-fn three(alloc: Global) -> Result<Vec<u8>, FrameFault> {
-    let mut file = memory(alloc, Vec::new(alloc));
+fn append_three(alloc: Global, file: &mut File) -> Result<(), FrameFault> {
     file.recover(alloc)?;
     file.append(alloc, b"first".as_slice())?;
     file.append(alloc, &[])?;
-    file.append(alloc, b"third".as_slice())?;
-    Ok(Vec::from_slice(alloc, file.device().bytes())?)
+    file.append(alloc, b"third".as_slice())
+}
+
+// The bytes of a file of these three frames.
+fn three(alloc: Global) -> Result<Vec<u8>, FrameFault> {
+    let mut file = memory(alloc, Vec::new(alloc));
+    let appended = append_three(alloc, &mut file);
+    let bytes = Vec::from_slice(alloc, file.device().bytes());
+    drop(file);
+    appended?;
+    Ok(bytes?)
 }
 
 // How many frames these bytes have, or the fault.
@@ -30,11 +40,7 @@ fn count(alloc: Global, bytes: &[u8]) -> Result<usize, FrameFault> {
     Ok(read_frames(alloc, bytes)?.payloads.len())
 }
 
-#[test]
-fn what_was_appended_is_read_again(rt: HostRuntime) -> Result<(), Fail> {
-    let alloc = rt.alloc();
-    let mut file = memory(alloc, three(alloc)?);
-    let payloads = file.recover(alloc)?;
+fn three_are_read(rt: &impl Abort, payloads: &[Vec<u8>]) {
     assert_eq!(rt; payloads.len(), 3);
     for (payload, want) in payloads
         .iter()
@@ -42,10 +48,29 @@ fn what_was_appended_is_read_again(rt: HostRuntime) -> Result<(), Fail> {
     {
         assert_eq!(rt; payload.as_slice(), want);
     }
-    file.append(alloc, b"fourth".as_slice())?;
-    let found = read_frames(alloc, file.device().bytes())?;
+}
+
+fn four_are_there(rt: &impl Abort, alloc: Global, bytes: &[u8]) -> Result<(), FrameFault> {
+    let found = read_frames(alloc, bytes)?;
     assert_eq!(rt; (found.payloads.len(), found.end), (4, 112));
     Ok(())
+}
+
+fn read_and_gone_on(rt: &impl Abort, alloc: Global, file: &mut File) -> Result<(), FrameFault> {
+    let payloads = file.recover(alloc)?;
+    three_are_read(rt, &payloads);
+    drop(payloads);
+    file.append(alloc, b"fourth".as_slice())?;
+    four_are_there(rt, alloc, file.device().bytes())
+}
+
+#[test]
+fn what_was_appended_is_read_again(rt: HostRuntime) -> Result<(), Fail> {
+    let alloc = rt.alloc();
+    let mut file = memory(alloc, three(alloc)?);
+    let passed = read_and_gone_on(&rt, alloc, &mut file);
+    drop(file);
+    Ok(passed?)
 }
 
 #[test]
@@ -80,23 +105,51 @@ fn each_truncation_is_a_beginning(rt: HostRuntime) -> Result<(), Fail> {
     Ok(())
 }
 
+// What these bytes are with this one of them changed.
+fn count_with(alloc: Global, bytes: &[u8], place: usize) -> Result<usize, FrameFault> {
+    let mut changed = Vec::from_slice(alloc, bytes)?;
+    if let Some(byte) = changed.get_mut(place) {
+        *byte ^= 0x10;
+    }
+    count(alloc, &changed)
+}
+
+fn is_found(rt: &impl Abort, alloc: Global, bytes: &[u8], place: usize) {
+    let want = match ended(place) {
+        0 => Err(FrameFault::Damaged(0)),
+        1 => Err(FrameFault::Damaged(1)),
+        frames => Ok(frames),
+    };
+    assert_eq!(rt; count_with(alloc, bytes, place), want, "at {place}");
+}
+
 // A changed byte of the last frame leaves an end that isn't whole, and one before it is damage.
 #[test]
 fn each_changed_byte_is_found(rt: HostRuntime) -> Result<(), Fail> {
-    let alloc = rt.alloc();
-    let bytes = three(alloc)?;
+    let bytes = three(rt.alloc())?;
     for place in 0..bytes.len() {
-        let mut changed = Vec::from_slice(alloc, &bytes)?;
-        if let Some(byte) = changed.get_mut(place) {
-            *byte ^= 0x10;
-        }
-        let want = match ended(place) {
-            0 => Err(FrameFault::Damaged(0)),
-            1 => Err(FrameFault::Damaged(1)),
-            frames => Ok(frames),
-        };
-        assert_eq!(rt; count(alloc, &changed), want, "at {place}");
+        is_found(&rt, rt.alloc(), &bytes, place);
     }
+    Ok(())
+}
+
+// A file of these bytes but the last.
+fn torn(alloc: Global, bytes: &[u8]) -> Result<File, AllocError> {
+    let mut torn = Vec::from_slice(alloc, bytes)?;
+    torn.truncate(ENDS[2] - 1);
+    Ok(memory(alloc, torn))
+}
+
+fn cut_off_and_gone_on(
+    rt: &impl Abort,
+    alloc: Global,
+    file: &mut File,
+    whole: &[u8],
+) -> Result<(), FrameFault> {
+    assert_eq!(rt; file.recover(alloc)?.len(), 2);
+    assert_eq!(rt; file.device().bytes().len(), ENDS[1]);
+    file.append(alloc, b"third".as_slice())?;
+    assert_eq!(rt; file.device().bytes(), whole);
     Ok(())
 }
 
@@ -105,12 +158,8 @@ fn each_changed_byte_is_found(rt: HostRuntime) -> Result<(), Fail> {
 fn an_end_is_cut_off(rt: HostRuntime) -> Result<(), Fail> {
     let alloc = rt.alloc();
     let bytes = three(alloc)?;
-    let mut torn = Vec::from_slice(alloc, &bytes)?;
-    torn.truncate(ENDS[2] - 1);
-    let mut file = memory(alloc, torn);
-    assert_eq!(rt; file.recover(alloc)?.len(), 2);
-    assert_eq!(rt; file.device().bytes().len(), ENDS[1]);
-    file.append(alloc, b"third".as_slice())?;
-    assert_eq!(rt; file.device().bytes(), bytes.as_slice());
-    Ok(())
+    let mut file = torn(alloc, &bytes)?;
+    let passed = cut_off_and_gone_on(&rt, alloc, &mut file, &bytes);
+    drop(file);
+    Ok(passed?)
 }

@@ -402,22 +402,34 @@ fn addresses_returned(rt: &impl Abort, alloc: Global) -> Result<(), Fail> {
     each_refused(rt, alloc, &codes, Violation::PointerReturned)
 }
 
+fn no_values(rt: &impl Abort, alloc: Global) -> Result<(), Fail> {
+    empty_at_first(rt, alloc)?;
+    empty_later(rt, alloc)?;
+    no_address(rt, alloc)?;
+    constants_as_addresses(rt, alloc)?;
+    addresses_on_one_way(rt, alloc)
+}
+
+fn outside_of_memory(rt: &impl Abort, alloc: Global) -> Result<(), Fail> {
+    outside_stack_and_arguments(rt, alloc)?;
+    outside_buffers(rt, alloc)?;
+    outside_far_away(rt, alloc)?;
+    stores_into_arguments(rt, alloc)
+}
+
+fn answers_and_slots(rt: &impl Abort, alloc: Global) -> Result<(), Fail> {
+    before_the_null_test(rt, alloc)?;
+    behind_other_tests(rt, alloc)?;
+    unknown_slots(rt, alloc)?;
+    writes_by_read_slots(rt, alloc)?;
+    addresses_returned(rt, alloc)
+}
+
 #[test]
 fn refused_by_kinds(rt: HostRuntime) -> Result<(), Fail> {
-    empty_at_first(&rt, rt.alloc())?;
-    empty_later(&rt, rt.alloc())?;
-    no_address(&rt, rt.alloc())?;
-    constants_as_addresses(&rt, rt.alloc())?;
-    addresses_on_one_way(&rt, rt.alloc())?;
-    outside_stack_and_arguments(&rt, rt.alloc())?;
-    outside_buffers(&rt, rt.alloc())?;
-    outside_far_away(&rt, rt.alloc())?;
-    stores_into_arguments(&rt, rt.alloc())?;
-    before_the_null_test(&rt, rt.alloc())?;
-    behind_other_tests(&rt, rt.alloc())?;
-    unknown_slots(&rt, rt.alloc())?;
-    writes_by_read_slots(&rt, rt.alloc())?;
-    addresses_returned(&rt, rt.alloc())
+    no_values(&rt, rt.alloc())?;
+    outside_of_memory(&rt, rt.alloc())?;
+    answers_and_slots(&rt, rt.alloc())
 }
 
 // An argument's eight bytes, where so many are declared.

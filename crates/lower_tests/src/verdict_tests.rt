@@ -511,22 +511,27 @@ pub(crate) fn refused_of(
     Ok(())
 }
 
+// The same where so many arguments and these slots are declared.
+fn refused_with(
+    rt: &impl Abort,
+    alloc: Global,
+    insns: &[Insn],
+    (args, slots): (u8, &[Slot]),
+    found: (usize, Violation),
+) -> Result<(), Fail> {
+    refused_of(rt, alloc, insns, Decl::new(args, slots)?, found)
+}
+
 // Each of the four goes wrong where its declaration is turned in one place.
 #[test]
 fn procedures_of_other_declarations(rt: HostRuntime) -> Result<(), Fail> {
-    let fewer = Decl::new(1, &[keyed(Mode::Write, 0)])?;
-    refused_of(&rt, rt.alloc(), &put(), fewer, (0, Violation::OutOfBounds))?;
-    let none = Decl::new(1, &[])?;
-    refused_of(&rt, rt.alloc(), &get(), none, (1, Violation::SlotUnknown))?;
-    let read = Decl::new(1, &[keyed(Mode::Read, 0)])?;
-    refused_of(&rt, rt.alloc(), &bad(), read, (5, Violation::ModeTooWeak))?;
+    let alloc = rt.alloc();
+    let write = [keyed(Mode::Write, 0)];
+    refused_with(&rt, alloc, &put(), (1, &write), (0, Violation::OutOfBounds))?;
+    refused_with(&rt, alloc, &get(), (1, &[]), (1, Violation::SlotUnknown))?;
+    let read = [keyed(Mode::Read, 0)];
+    refused_with(&rt, alloc, &bad(), (1, &read), (5, Violation::ModeTooWeak))?;
     let one_read = [keyed(Mode::Write, 0), keyed(Mode::Read, 1)];
-    let weak = Decl::new(3, &one_read)?;
-    refused_of(
-        &rt,
-        rt.alloc(),
-        &move_amount(),
-        weak,
-        (18, Violation::ModeTooWeak),
-    )
+    let found = (18, Violation::ModeTooWeak);
+    refused_with(&rt, alloc, &move_amount(), (3, &one_read), found)
 }
