@@ -4,15 +4,17 @@
 usage: tools/crashes.py [--kills N] [--moves N] [--workers N] [--seed N] [--forget | --control] [--procd PATH]
 
 A log's file is filled by one run that puts a hundred records. Then `procd run --log FILE --tell` is started on calls
-that move amounts between them, each with its own number as a further argument, so that it is known in the log. It is
-killed at a random moment, from right at its start, while it comes back, to its end, and is started again on the same
-file, by other workers, until that is too long and the filled one takes its place. Behind each kill a copy of the file
-is looked at:
+that move amounts between them, one of four of which aborts behind both writes, so that these are undone; each has its
+own number as a further argument, so that it is known in the log. It is killed at a random moment, from right at its
+start, while it comes back, to its end, and is started again on the same file, by other workers, until that is too long
+and the filled one takes its place. Behind each kill a copy of the file is looked at:
 
-- each call that was told, by this run or an earlier one, has a committed End in `procd log`; none is there twice;
+- each call that was told, by this run or an earlier one, has the End in `procd log` that it has to have; none is there
+  twice;
 - `procd log --audit` says ok, with as many ended and open transactions as that log has;
-- a run of no calls comes back with as many events and open transactions, drops the end that isn't whole, commits all
-  that was open, and is left with the rows that the committed calls come to, so that their sum is what it was.
+- a run of no calls comes back with as many events and open transactions, drops the end that isn't whole, ends all that
+  was open as it has to end, and is left with the rows that the committed calls come to, so that their sum is what it
+  was.
 
 Of the log that a file ends with the plain model, which shares no code with the program, says that each event is one
 that may come there, and that the calls one after another, in the order of their Ends, end the same.
@@ -41,7 +43,7 @@ import time
 
 from hostile_faults import limited_to
 from plain_log import ADMIT, Legal, read_log, replayed, serial
-from procedures import MOVE, PUT
+from procedures import BACK, MOVE, PUT
 from trying import Program, Ran, preloaded
 
 TOP = pathlib.Path(__file__).resolve().parent.parent
@@ -50,18 +52,21 @@ RECORDS, AMOUNT, MOST_AMOUNT = 100, 1_000_000, 100
 WORKERS = (1, 4, 16, 64)
 LOGGED = 700  # bytes of a log are less than a move takes
 RUNS = 3  # so many whole runs a file may have, about, before the filled one takes its place
-SCRIPT = f"dc {RECORDS} 1000000\n" + PUT + MOVE.replace("proc move 3", "proc move 4")
+SCRIPT = f"dc {RECORDS} 1000000\n" + PUT + (MOVE + BACK).replace("move 3", "move 4").replace("back 3", "back 4")
 CALL = re.compile(r"^\d+ admit (\d+) procedure (\d+) ([\d ]+)$", re.MULTILINE)
 END = re.compile(r"^\d+ end (\d+) (.*)$", re.MULTILINE)
-NAMES = ["put", "move"]
-MOVES = NAMES.index("move")
+UNDO = re.compile(r"^\d+ undo (\d+) ", re.MULTILINE)
+NAMES = ["put", "move", "back"]
+ENDS = ["committed", "committed", "aborted 5"]  # how a call of each ends
+BACKS = 4  # one of so many calls is of the last
 HEAD, NOTE, EVENT = 24, 32, 96  # bytes
 HEADER = b"mazzulpe" + struct.pack("<3Q", 1, 1, len(NAMES))  # what the first payload begins with
 MOMENTS = ["while they began a file", "before a call was told", "while calls ran", "which ended before"]
 
-# What `procd log` says of a file: the calls of its transactions that move, by transaction, and which have ended how.
-Kept = collections.namedtuple("Kept", "events moves committed open unfinished")
-Move = collections.namedtuple("Move", "source target amount number")
+# What `procd log` says of a file: the calls of its transactions that move, by transaction; which of these have ended;
+# of those that are open how each has to end, and how many have begun to undo.
+Kept = collections.namedtuple("Kept", "events moves ended open undoing unfinished")
+Move = collections.namedtuple("Move", "source target amount number name")
 
 
 class Wrong(Exception):
@@ -82,15 +87,18 @@ def listed(program, path):
     if cut := re.search(r"^unfinished (\d+) bytes\n\Z", text, re.MULTILINE):
         text, unfinished = text[: cut.start()], int(cut[1])
     calls, ends = CALL.findall(text), dict(END.findall(text))
-    moves = {txn: Move(*map(int, words.split())) for txn, procedure, words in calls if int(procedure) == MOVES}
+    names = {txn: NAMES[int(procedure)] for txn, procedure, _ in calls}
+    moves = {txn: Move(*map(int, words.split()), names[txn]) for txn, _, words in calls if names[txn] != "put"}
     wanted("numbers of calls", len({move.number for move in moves.values()}), len(moves))
-    wanted("Ends", set(ends.values()), {"committed"})
-    opened = sorted(int(txn) for txn, _, _ in calls if txn not in ends)
-    return Kept(text.count("\n"), moves, {txn for txn in moves if txn in ends}, opened, unfinished)
+    due = {txn: ENDS[NAMES.index(name)] for txn, name in names.items()}
+    wanted("Ends", ends, {txn: due[txn] for txn in ends})
+    opened = {int(txn): how for txn, how in due.items() if txn not in ends}
+    undoing = {int(txn) for txn in UNDO.findall(text)} & opened.keys()
+    return Kept(text.count("\n"), moves, {txn for txn in moves if txn in ends}, opened, len(undoing), unfinished)
 
 
 def events_of(data):
-    """The events of whole frames, by what the formats' page says; of a move without its number."""
+    """The events of whole frames, by what the formats' page says; of moves without their numbers."""
     at, payloads = 0, []
     while at < len(data):
         number, length, _ = struct.unpack_from("<3Q", data, at)
@@ -101,14 +109,14 @@ def events_of(data):
     begins = [8 + NOTE * int.from_bytes(payload[:8], "little") for payload in payloads]
     rows = b"".join(payload[begin:] for begin, payload in list(zip(begins, payloads))[1:])
     log = read_log(rows[i : i + EVENT] for i in range(0, len(rows), EVENT))
-    are_moves = [event.kind == ADMIT and event.word == MOVES for event in log]
+    are_moves = [event.kind == ADMIT and NAMES[event.word] != "put" for event in log]
     return [e._replace(sub=e.sub - 1, args=e.args[:-1]) if is_move else e for e, is_move in zip(log, are_moves)]
 
 
 def rows_behind(moves):
-    """The lines of all rows behind these moves."""
+    """The lines of all rows behind these moves, of which those that abort leave nothing."""
     rows = [AMOUNT] * RECORDS
-    for move in moves:
+    for move in (move for move in moves if move.name == "move"):
         rows[move.source] -= move.amount
         rows[move.target] += move.amount
     return [f"row 0/0/{key} {value % 2**64}" for key, value in enumerate(rows)]
@@ -125,7 +133,7 @@ class Runs:
         self.none = program.file(SCRIPT.encode())
         puts = "".join(f"first put {key} {AMOUNT}\n" for key in range(RECORDS))
         self.fills = ["run", "--log", str(self.path), program.file((SCRIPT + puts).encode())]
-        self.told, self.first = set(), 0
+        self.told, self.first, self.answers = set(), 0, []
         self.back, self.takes = 0.0, 0.0  # seconds that a run takes to come back, and then for its calls
 
     def fill(self):
@@ -169,12 +177,14 @@ class Runs:
         return {"LD_PRELOAD": str(library), "FORGETFUL_FILE": str(self.path), **how}
 
     def words(self):
-        """The words of a run of further calls, whose numbers are new."""
+        """The words of a run of further calls, whose numbers are new, and what they are to be answered."""
         self.first += self.options.moves
-        lines = [SCRIPT]
+        lines, self.answers = [SCRIPT], []
         for number in range(self.first, self.first + self.options.moves):
             source, target = self.draw.sample(range(RECORDS), 2)
-            lines.append(f"call move {source} {target} {self.draw.randint(1, MOST_AMOUNT)} {number}\n")
+            name = NAMES[1 if self.draw.randrange(BACKS) else 2]
+            lines.append(f"call {name} {source} {target} {self.draw.randint(1, MOST_AMOUNT)} {number}\n")
+            self.answers.append(f"call {number - self.first} {ENDS[NAMES.index(name)]}")
         self.script.write_text("".join(lines))
         workers = self.options.workers or self.draw.choice(WORKERS)
         words = ["run", "--log", self.path, "--tell", "--workers", workers, self.script]
@@ -197,10 +207,9 @@ class Runs:
         return len(numbers), said
 
     def ended(self, status, out, told):
-        """Sees that a run that wasn't killed has told and printed that each call is committed."""
+        """Sees that a run that wasn't killed has told each call, and printed that it ended as it has to."""
         wanted("status, told and else said", (status, *self.take(told)), (0, self.options.moves, []))
-        answers = [line for line in out.decode().splitlines() if line.startswith("call ")]
-        wanted("answers", answers, [f"call {i} committed" for i in range(self.options.moves)])
+        wanted("answers", [line for line in out.decode().splitlines() if line.startswith("call ")], self.answers)
 
     def whole(self):
         """A run to its end."""
@@ -237,15 +246,15 @@ class Runs:
         return told
 
     def lost(self, kept):
-        """The calls that were told and aren't committed in the log."""
-        return self.told - {kept.moves[txn].number for txn in kept.committed}
+        """The calls that were told and haven't ended in the log."""
+        return self.told - {kept.moves[txn].number for txn in kept.ended}
 
     def look(self):
         """Looks at a copy of the file: at its log, at the audit, and at what a run of no calls comes back with."""
         shutil.copy(self.path, self.copy)
         kept = listed(self.program, self.copy)
         wanted("calls that were told and are lost", sorted(self.lost(kept)), [])
-        self.audit(len(kept.committed) + RECORDS, len(kept.open))
+        self.audit(len(kept.ended) + RECORDS, len(kept.open))
         self.come_back(kept)
         self.audit(len(kept.moves) + RECORDS, 0)
 
@@ -264,17 +273,18 @@ class Runs:
         wanted("audit", (ran.status, set(found), ran.err), (0, {(str(ended), str(left))}, b""))
 
     def come_back(self, kept):
-        """Sees that a run of no calls on the copy comes back with what is kept, and with all of it committed."""
+        """Sees that a run of no calls on the copy comes back with what is kept, and ends all of it."""
         began = time.monotonic()
         ran = self.program.run(["run", "--log", self.copy, self.none])
         self.back = time.monotonic() - began
         wanted("coming back", (ran.status, ran.err), (0, b""))
-        found = re.sub(r"(?m)^(resumed \d+ committed at) \d+$", r"\1", ran.out.decode()).splitlines()
+        found = re.sub(r"(?m)^(resumed \d+ .* at) \d+$", r"\1", ran.out.decode()).splitlines()
         lines = [f"recovered {kept.events} events, {len(kept.open)} open"]
         lines += [f"dropped {kept.unfinished} bytes"] if kept.unfinished else []
-        lines += [f"resumed {txn} committed at" for txn in kept.open]
+        lines += [f"resumed {txn} {how} at" for txn, how in sorted(kept.open.items())]
         wanted("coming back", found, [*lines, *rows_behind(kept.moves.values())])
         self.tally["came back"] += len(kept.open)
+        self.tally["undoing"] += kept.undoing
         self.tally["ends"] += kept.unfinished > 0
 
 
@@ -343,7 +353,8 @@ def crashes(runs, options):
     print(f"crashes: {options.kills:,} runs to be killed ({moments}), {full} with a full disk, one beside another;")
     return (
         f"{tally['told']:,} calls told, none lost; {tally['came back']:,} open transactions came back, "
-        f"{tally['ends']:,} ends were cut off; {tally['events']:,} events by the plain model, no difference"
+        f"{tally['undoing']:,} of them from within an undo, {tally['ends']:,} ends were cut off; "
+        f"{tally['events']:,} events by the plain model, no difference"
     )
 
 

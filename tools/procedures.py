@@ -75,6 +75,10 @@ slot write 0 0 $1
 end
 """
 
+# The same, and aborts behind both writes.
+BACK = MOVE.replace("proc move", "proc back").replace(", +16", ", +17").replace(", +12", ", +13")
+BACK = BACK.replace("call 3\n  exit", "call 3\n  mov r0, 5\n  exit")
+
 # One data component with room, and the four procedures behind it.
 FOUR = "dc 4 100\n" + PUT + GET + BAD + MOVE
 
