@@ -43,6 +43,7 @@ import time
 
 from hostile_faults import limited_to
 from plain_log import ADMIT, Legal, read_log, replayed, serial
+from plain_model import PROCEDURES, move
 from procedures import BACK, MOVE, PUT
 from trying import Program, Ran, preloaded
 
@@ -67,6 +68,14 @@ MOMENTS = ["while they began a file", "before a call was told", "while calls ran
 # of those that are open how each has to end, and how many have begun to undo.
 Kept = collections.namedtuple("Kept", "events moves ended open undoing unfinished")
 Move = collections.namedtuple("Move", "source target amount number name")
+
+
+def back(args):
+    """What the model does for a move that aborts behind both writes."""
+    return (yield from move(args)) or 5
+
+
+PROCEDURES["back"] = PROCEDURES["move"]._replace(run=back)
 
 
 class Wrong(Exception):

@@ -110,10 +110,6 @@ def move(args):
     return failed((yield "update", second, give))
 
 
-def back(args):
-    return (yield from move(args)) or 5
-
-
 def pair(args):
     yield "insert", (0, 0, args[0]), put_at(ZEROS, 0, args[1])
     yield "insert", (1, 7, args[0]), put_at(ZEROS, 8, args[1])
@@ -139,7 +135,6 @@ PROCEDURES = {
     "put": Procedure(put, 2, lambda a: {(0, 0, a[0]): "write"}),
     "get": Procedure(get, 1, lambda a: {(0, 0, a[0]): "read"}),
     "move": Procedure(move, 3, lambda a: {(0, 0, a[0]): "write", (0, 0, a[1]): "write"}),
-    "back": Procedure(back, 3, lambda a: {(0, 0, a[0]): "write", (0, 0, a[1]): "write"}),
     "pair": Procedure(pair, 2, lambda a: {(0, 0, a[0]): "write", (1, 7, a[0]): "write"}),
     "renew": Procedure(renew, 2, lambda a: {(1, 7, a[0]): "write"}),
     "churn": Procedure(churn, 1, lambda a: {(0, 0, a[0]): "write", (1, 7, 3): "write"}),
