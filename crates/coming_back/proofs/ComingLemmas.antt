@@ -5,6 +5,7 @@ use Rattle.std.specs.List.{All}
 use Rattle.std.proofs.lemmas.List.{length-map}
 use Rattle.std.proofs.lemmas.List.Elements.{All-cons, All-nil}
 use Rattle.tc_log.specs.declared.event.Event.{Event}
+use Rattle.history.specs.Places.{Begins}
 use Rattle.data_component.specs.Store.{Store, restarted, news_of}
 use Rattle.transactions.specs.declared.Site.{Site}
 use Rattle.transactions.specs.InFlight.{site_at, site_by}
@@ -20,11 +21,12 @@ use Rattle.tc_world.specs.OneAtATime.{IsKnown, EachIsKnown}
 use Rattle.tc_world.specs.Recovery.{IsNew}
 use Rattle.tc_world.specs.Lives.{HasLived}
 use Rattle.tc_world.proofs.LivingLemmas.{over_lived}
+use Rattle.coming_back.specs.Serving.{IsFor, IsRedoFor}
 use Rattle.coming_back.specs.Coming.{IsEmpty, at_rest, ComesFrom}
 use Rattle.coming_back.specs.Faults.{HasLog}
 use Rattle.coming_back.specs.Joining.Moving.{Goes}
 use Rattle.coming_back.specs.Joining.Redoing.{Redoes}
-use Rattle.coming_back.proofs.ServingLemmas.{all_then, served_incarnation}
+use Rattle.coming_back.proofs.ServingLemmas.{served_incarnation}
 use Rattle.coming_back.proofs.RedoLemmas.{there}
 
 abbrev pub notes_for : List Store → List SiteNote
@@ -74,27 +76,46 @@ site_incarnation c ds n s noted at =
     ap (λ (xs : List Site). (site_at xs n).incarnation) noted
     ∙ ap (λ (o : Option Site). (site_by o).incarnation) (map_get site_noted (notes_for ds) n (Restarted (news_of s)) (map_get (λ (x : Store). Restarted (news_of x)) ds n s at))
 
-known_at : (c1 c2 c3 : Core) (ds es fs : List Store) → c1.sites ≡ map site_noted (notes_for ds) → Redoes c1 ds c2 es → ((d : ℕ) → d < length c2.sites → (site_at c2.sites d).redo ≡ None)
-    → Goes c2 es c3 fs → (d : ℕ) (s : Store) → slice_get fs d ≡ Some s → IsKnown (at_rest c3 fs) d s
-known_at c1 c2 c3 ds es fs noted redoes up goes d s at =
-    let sites : c3.sites ≡ c2.sites = ap (λ (x : Core). x.sites) goes.core in
-    let served = all_then ds es fs redoes.served goes.served in
-    let short = slice_get-short fs d s at in
-    let many = served.count in
-    let was = there ds d (omega (arith, short, many)) in
-    let now = served.each d was.0 was.1 in
+known_at : (c d : Core) (ds es : List Store) → c.sites ≡ map site_noted (notes_for ds) → Redoes c ds d es
+    → ((n : ℕ) → n < length d.sites → (site_at d.sites n).redo ≡ None) → (n : ℕ) (s : Store) → slice_get es n ≡ Some s → IsKnown (at_rest d es) n s
+known_at c d ds es noted redoes up n s at =
+    let short = slice_get-short es n s at in
+    let many = redoes.redone.count in
+    let was = there ds n (omega (arith, short, many)) in
+    let now = redoes.redone.each n was.0 was.1 in
     let same : now.now ≡ s = some_same now.now s (sym now.at ∙ at) in
-    let incarnation : s.incarnation ≡ was.0.incarnation = ap (λ (x : Store). x.incarnation) (sym same) ∙ served_incarnation d was.0 now.now now.served in
-    let count : length c1.sites ≡ length ds = ap length noted ∙ (length-map (notes_for ds) site_noted ∙ length-map ds (λ (x : Store). Restarted (news_of x))) in
+    let incarnation : s.incarnation ≡ was.0.incarnation = ap (λ (x : Store). x.incarnation) (sym same) ∙ served_incarnation (IsRedoFor n) was.0 now.now now.served in
+    let count : length c.sites ≡ length ds = ap length noted ∙ (length-map (notes_for ds) site_noted ∙ length-map ds (λ (x : Store). Restarted (news_of x))) in
     let more = redoes.count in
     record {
-      up = ap (λ (xs : List Site). (site_at xs d).redo) sites ∙ up d (omega (arith, short, many, count, more));
-      now = ap (λ (xs : List Site). (site_at xs d).incarnation) sites ∙ (redoes.incarnations d ∙ (site_incarnation c1 ds d was.0 noted was.1 ∙ sym incarnation));
+      up = up n (omega (arith, short, many, count, more));
+      now = redoes.incarnations n ∙ (site_incarnation c ds n was.0 noted was.1 ∙ sym incarnation);
     }
 
-pub known_back : (c1 c2 c3 : Core) (ds es fs : List Store) → c1.sites ≡ map site_noted (notes_for ds) → Redoes c1 ds c2 es → ((d : ℕ) → d < length c2.sites → (site_at c2.sites d).redo ≡ None)
-    → Goes c2 es c3 fs → EachIsKnown (at_rest c3 fs)
-known_back c1 c2 c3 ds es fs noted redoes up goes = λ d s at. known_at c1 c2 c3 ds es fs noted redoes up goes d s at
+-- behind a redo
+pub known_redone : (c d : Core) (ds es : List Store) → c.sites ≡ map site_noted (notes_for ds) → Redoes c ds d es
+    → ((n : ℕ) → n < length d.sites → (site_at d.sites n).redo ≡ None) → EachIsKnown (at_rest d es)
+known_redone c d ds es noted redoes up = λ n s at. known_at c d ds es noted redoes up n s at
+
+still_at : (c d : Core) (ds es : List Store) → Goes c ds d es → EachIsKnown (at_rest c ds) → (n : ℕ) (s : Store) → slice_get es n ≡ Some s
+    → IsKnown (at_rest d es) n s
+still_at c d ds es goes known n s at =
+    let sites : d.sites ≡ c.sites = ap (λ (x : Core). x.sites) goes.core in
+    let short = slice_get-short es n s at in
+    let many = goes.served.count in
+    let was = there ds n (omega (arith, short, many)) in
+    let now = goes.served.each n was.0 was.1 in
+    let same : now.now ≡ s = some_same now.now s (sym now.at ∙ at) in
+    let incarnation : s.incarnation ≡ was.0.incarnation = ap (λ (x : Store). x.incarnation) (sym same) ∙ served_incarnation (IsFor n) was.0 now.now now.served in
+    let it = known n was.0 was.1 in
+    record {
+      up = ap (λ (xs : List Site). (site_at xs n).redo) sites ∙ it.up;
+      now = ap (λ (xs : List Site). (site_at xs n).incarnation) sites ∙ (it.now ∙ sym incarnation);
+    }
+
+-- and behind the transactions that go on
+pub known_still : (c d : Core) (ds es : List Store) → Goes c ds d es → EachIsKnown (at_rest c ds) → EachIsKnown (at_rest d es)
+known_still c d ds es goes known = λ n s at. still_at c d ds es goes known n s at
 
 -- ---- the state has the log
 
@@ -104,8 +125,8 @@ has_log old c h notes is = is ∙ ap (λ (xs : List Site). let it : Core = recor
 pub redone_log : (old c d : Core) (h : List Event) (ds es : List Store) → HasLog old h c → Redoes c ds d es → HasLog old h d
 redone_log old c d h ds es log redoes = redoes.core ∙ ap (λ (x : Core). let it : Core = record x { sites = d.sites } in it) log
 
-pub same_loaded : (old c d e : Core) (h : List Event) (ds es fs : List Store) → HasLog old h c → Redoes c ds d es → Goes d es e fs → loaded_in e ≡ loaded_in old
-same_loaded old c d e h ds es fs log redoes goes = ap loaded_in goes.core ∙ (ap loaded_in redoes.core ∙ ap loaded_in log)
+pub goes_loaded : (old c d : Core) (h : List Event) (ds es : List Store) → HasLog old h c → Goes c ds d es → loaded_in d ≡ loaded_in old
+goes_loaded old c d h ds es log goes = ap loaded_in goes.core ∙ ap loaded_in log
 
-pub same_events : (old c d : Core) (h : List Event) (ds es : List Store) → HasLog old h c → Redoes c ds d es → d.events ≡ h
-same_events old c d h ds es log redoes = ap (λ (x : Core). x.events) redoes.core ∙ ap (λ (x : Core). x.events) log
+pub goes_begins : (old c d : Core) (h : List Event) (ds es : List Store) → HasLog old h c → Goes c ds d es → Begins h d.events
+goes_begins old c d h ds es log goes = subst (λ (l : List Event). Begins l d.events) (ap (λ (x : Core). x.events) log) goes.begins

@@ -21,6 +21,7 @@ use Rattle.tc_core.specs.Core.{Core}
 use Rattle.tc_core.specs.Redo.{redo_wire, sends_again, redo_by, redo_at, redo_reply}
 use Rattle.tc_core.specs.declared.state.Redo.TheVariants as redo
 use Rattle.coming_back.specs.Faults.{IsFull}
+use Rattle.coming_back.specs.Serving.{IsRedoFor}
 use Rattle.coming_back.specs.Joining.Performing.{Performs, There, Nowhere}
 use Rattle.coming_back.specs.Joining.Redoing.{Redoes, IsMatched}
 use Rattle.std.proofs.lemmas.List.{length-map}
@@ -104,8 +105,8 @@ silent_full c n x ds es legal is (Nowhere past none same) matched =
 
 pub matched_then : (c d : Core) (ds es : List Store) (n : ℕ) → Redoes c ds d es → IsMatched c ds n → IsMatched d es n
 matched_then c d ds es n redoes matched =
-    let now = redoes.served.each n matched.s matched.at in
-    record { s = now.now; at = now.at; known = redoes.incarnations n ∙ (matched.known ∙ sym (served_incarnation n matched.s now.now now.served)) }
+    let now = redoes.redone.each n matched.s matched.at in
+    record { s = now.now; at = now.at; known = redoes.incarnations n ∙ (matched.known ∙ sym (served_incarnation (IsRedoFor n) matched.s now.now now.served)) }
 
 down_there : (sites : List Site) (n : ℕ) → ((site_at sites n).redo ≡ None → ⊥) → n < length sites
 down_there [] n down = absurd (down refl)

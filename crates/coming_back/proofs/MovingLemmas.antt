@@ -36,7 +36,7 @@ use Rattle.tc_core.proofs.DoubtLemmas.{holds_same}
 use Rattle.coming_back.specs.declared.resumed.Resumed.{Resumed}
 use Rattle.coming_back.specs.declared.resumed.Resumed.TheVariants as came
 use Rattle.coming_back.specs.declared.resuming.Next.TheVariants as then
-use Rattle.coming_back.specs.Serving.{AreServed}
+use Rattle.coming_back.specs.Serving.{IsFor, AreServed}
 use Rattle.tc_world.specs.Lives.{HasLived}
 use Rattle.coming_back.specs.Coming.{at_rest, serial_if, open_to, open_txns, serial_of, doubt_in, in_doubt, IsLeft, GivenUp, Stuck as IsStuck, IsResumed}
 use Rattle.coming_back.specs.Joining.Moving.{Goes, Moves, IsOpen, IsNextOf, CameOf, CameOfAll, left_of}
@@ -49,7 +49,7 @@ use Rattle.coming_back.proofs.NextLemmas.{is_asked, is_undone, asked_open, undon
 -- ---- one after another
 
 pub goes_same : (c : Core) (ds : List Store) → Goes c ds c ds
-goes_same c ds = record { core = refl; begins = record { later = []; is = refl }; count = refl; given_up = λ n is. is; served = all_same ds; lived = λ l. l }
+goes_same c ds = record { core = refl; begins = record { later = []; is = refl }; count = refl; given_up = λ n is. is; served = all_same IsFor ds; lived = λ l. l }
 
 begins_then : (h g f : List Event) → Begins h g → Begins g f → Begins h f
 begins_then h g f a b = record { later = b.later ++ a.later; is = b.is ∙ (ap (λ (l : List Event). b.later ++ l) a.is ∙ sym (append_assoc b.later a.later h)) }
@@ -63,7 +63,7 @@ goes_then c d e ds es fs a b = record {
   begins = begins_then c.events d.events e.events a.begins b.begins;
   count = b.count ∙ a.count;
   given_up = λ n is. b.given_up n (a.given_up n is);
-  served = all_then ds es fs a.served b.served;
+  served = all_then IsFor ds es fs a.served b.served;
   lived = λ l. b.lived (a.lived l);
 }
 
@@ -84,7 +84,7 @@ one_event t c e ds es own count served lived = record {
 
 pub ask_moves : (t : ℕ) (c : Core) (a : Asked) (ds : List Store) → a ≡ ask_reply c t → Legal (after_ask c a).procs (after_ask c a).events → AllGood c.procs → Moves t c ds (after_ask c a) ds
 ask_moves t c (Request r) ds is legal good =
-    one_event t c (Ask r.txn r.number r.op) ds ds (is_asked c t r (sym is)).own refl (all_same ds) (ask_lived t c (Request r) ds is legal good)
+    one_event t c (Ask r.txn r.number r.op) ds ds (is_asked c t r (sym is)).own refl (all_same IsFor ds) (ask_lived t c (Request r) ds is legal good)
 ask_moves t c Undoing ds is legal good = moves_same t c ds
 ask_moves t c Over ds is legal good = moves_same t c ds
 ask_moves t c (Stuck n) ds is legal good = moves_same t c ds
@@ -94,7 +94,7 @@ ask_moves t c Unknown ds is legal good = moves_same t c ds
 
 pub undo_moves : (t : ℕ) (c : Core) (a : Asked) (ds : List Store) → a ≡ undo_reply c t → Legal (after_undo c a).procs (after_undo c a).events → AllGood c.procs → Moves t c ds (after_undo c a) ds
 undo_moves t c (Request r) ds is legal good =
-    one_event t c (Undo r.txn r.number r.op) ds ds (is_undone c t r (sym is)).own refl (all_same ds) (undo_lived t c (Request r) ds is legal good)
+    one_event t c (Undo r.txn r.number r.op) ds ds (is_undone c t r (sym is)).own refl (all_same IsFor ds) (undo_lived t c (Request r) ds is legal good)
 undo_moves t c Undoing ds is legal good = moves_same t c ds
 undo_moves t c Over ds is legal good = moves_same t c ds
 undo_moves t c (Stuck n) ds is legal good = moves_same t c ds
@@ -105,7 +105,7 @@ undo_moves t c Unknown ds is legal good = moves_same t c ds
 pub end_moves : (t : ℕ) (c : Core) (o : Option Outcome) (ds : List Store) → o ≡ end_of c t
     → Legal (after_end c t o).procs (after_end c t o).events → AllGood c.procs → Moves t c ds (after_end c t o) ds
 end_moves t c None ds is legal good = moves_same t c ds
-end_moves t c (Some o) ds is legal good = one_event t c (End t o) ds ds refl refl (all_same ds) (end_lived t c (Some o) ds is legal good)
+end_moves t c (Some o) ds is legal good = one_event t c (End t o) ds ds refl refl (all_same IsFor ds) (end_lived t c (Some o) ds is legal good)
 
 -- ---- what is next
 
@@ -152,9 +152,9 @@ end_tells t c (Some o) receipt is =
 
 -- it is performed, or nothing happens
 send_served : (c : Core) (r : Asking) (y : Option Reply) (ds es : List Store) → Sends c r ds y es → AreServed ds es
-send_served c r y ds es (Sent x is (There it)) = subst (AreServed ds) (sym it.then_is) (all_once ds x it.s it.at)
-send_served c r y ds es (Sent x is (Nowhere past none same)) = subst (AreServed ds) (sym same) (all_same ds)
-send_served c r y ds es (Unsent none same) = subst (AreServed ds) (sym same) (all_same ds)
+send_served c r y ds es (Sent x is (There it)) = subst (AreServed ds) (sym it.then_is) (all_once IsFor ds x it.s refl it.at)
+send_served c r y ds es (Sent x is (Nowhere past none same)) = subst (AreServed ds) (sym same) (all_same IsFor ds)
+send_served c r y ds es (Unsent none same) = subst (AreServed ds) (sym same) (all_same IsFor ds)
 
 stays_lived : (c : Core) (ds es : List Store) → es ≡ ds → HasLived (at_rest c ds) → HasLived (at_rest c es)
 stays_lived c ds es same l = subst (λ (fs : List Store). HasLived (at_rest c fs)) (sym same) l

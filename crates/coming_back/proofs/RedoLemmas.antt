@@ -1,5 +1,5 @@
 -- What is done for data components that are redone.
-use Rattle.std.proofs.Common.{◌≡◌, ◌≢◌, ℕ, zero, suc, ◌-◌, ◌<◌, List, [], ◌∷◌, length, Option, Some, None, refl, sym, ◌∙◌, ap, subst, inl, inr, arith}
+use Rattle.std.proofs.Common.{◌≡◌, ◌≢◌, ℕ, true, zero, suc, ◌-◌, ◌<◌, List, [], ◌∷◌, length, Option, Some, None, refl, sym, ◌∙◌, ap, subst, inl, inr, arith}
 use Rattle.std.specs.Prelude.{slice_get, slice_set}
 use Rattle.std.proofs.lemmas.Bool.{cases_eq}
 use Rattle.std.proofs.lemmas.List.{length-set}
@@ -18,11 +18,11 @@ use Rattle.transactions.specs.Reached.{AllGood}
 use Rattle.transactions.proofs.Restarts.{to_redo_is, answered_given}
 use Rattle.serial.proofs.SitesLemmas.{set_same, set_other}
 use Rattle.tc_core.specs.Core.{Core}
-use Rattle.tc_core.specs.Redo.{with_site, redo_reply, redo_at, redo_by, sends_again, after_redo, up_again, IsRedone, redone_to, redone_at, after_redone}
+use Rattle.tc_core.specs.Redo.{with_site, redo_wire, redo_reply, redo_at, redo_by, sends_again, after_redo, up_again, IsRedone, redone_to, redone_at, after_redone}
 use Rattle.tc_core.specs.declared.state.Redo.{Redo}
 use Rattle.tc_core.specs.declared.state.Redo.TheVariants as redo
 use Rattle.tc_world.specs.Lives.{HasLived}
-use Rattle.coming_back.specs.Serving.{AreServed}
+use Rattle.coming_back.specs.Serving.{IsRedoFor, AreRedone}
 use Rattle.coming_back.specs.Coming.{at_rest}
 use Rattle.coming_back.specs.Joining.Performing.{Performs, There, Nowhere}
 use Rattle.coming_back.specs.Joining.Redoing.{Redoes, RedoesAt, numbers_above, left_to_redo}
@@ -32,14 +32,14 @@ use Rattle.coming_back.proofs.LivedLemmas.{answered_done, next_lived, resent_liv
 -- ---- one after another
 
 pub redoes_same : (c : Core) (ds : List Store) → Redoes c ds c ds
-redoes_same c ds = record { core = refl; count = refl; incarnations = λ d. refl; served = all_same ds; lived = λ l. l }
+redoes_same c ds = record { core = refl; count = refl; incarnations = λ d. refl; redone = all_same IsRedoFor ds; lived = λ l. l }
 
 pub redoes_then : (c d e : Core) (ds es fs : List Store) → Redoes c ds d es → Redoes d es e fs → Redoes c ds e fs
 redoes_then c d e ds es fs a b = record {
   core = b.core ∙ ap (λ (x : Core). let it : Core = record x { sites = e.sites } in it) a.core;
   count = b.count ∙ a.count;
   incarnations = λ n. b.incarnations n ∙ a.incarnations n;
-  served = all_then ds es fs a.served b.served;
+  redone = all_then IsRedoFor ds es fs a.redone b.redone;
   lived = λ l. b.lived (a.lived l);
 }
 
@@ -57,9 +57,9 @@ site_here sites n s t at = ap site_by (set_same sites n s t at)
 site_there : (sites : List Site) (n m : ℕ) (t : Site) → m ≢ n → site_at (slice_set sites n t) m ≡ site_at sites m
 site_there sites n m t other = ap site_by (set_other sites n m t (λ same. other (sym same)))
 
-resited : (n : ℕ) (c : Core) (ds es : List Store) (s t : Site) → slice_get c.sites n ≡ Some s → t.incarnation ≡ s.incarnation → AreServed ds es
+resited : (n : ℕ) (c : Core) (ds es : List Store) (s t : Site) → slice_get c.sites n ≡ Some s → t.incarnation ≡ s.incarnation → AreRedone ds es
     → (HasLived (at_rest c ds) → HasLived (at_rest (with_site c n t) es)) → RedoesAt n c ds (with_site c n t) es
-resited n c ds es s t at same served lived = record {
+resited n c ds es s t at same redone lived = record {
   redoes = record {
     core = refl;
     count = length-set c.sites n t;
@@ -69,14 +69,14 @@ resited n c ds es s t at same served lived = record {
           (ap (λ (x : Site). x.incarnation) (site_here c.sites n s t at) ∙ (same ∙ ap (λ (x : Option Site). (site_by x).incarnation) (sym at)))
       | inr other ↦ ap (λ (x : Site). x.incarnation) (site_there c.sites n m t other)
     ];
-    served = served;
+    redone = redone;
     lived = lived;
   };
   others = λ m other. site_there c.sites n m t other;
 }
 
-served_at : (n : ℕ) (c : Core) (ds es : List Store) → AreServed ds es → (HasLived (at_rest c ds) → HasLived (at_rest c es)) → RedoesAt n c ds c es
-served_at n c ds es served lived = record { redoes = record { core = refl; count = refl; incarnations = λ m. refl; served = served; lived = lived }; others = λ m other. refl }
+redone_here : (n : ℕ) (c : Core) (ds es : List Store) → AreRedone ds es → (HasLived (at_rest c ds) → HasLived (at_rest c es)) → RedoesAt n c ds c es
+redone_here n c ds es redone lived = record { redoes = record { core = refl; count = refl; incarnations = λ m. refl; redone = redone; lived = lived }; others = λ m other. refl }
 
 -- ---- `redo_next`
 
@@ -89,7 +89,7 @@ NoSend redo.NoDc = Unit {0}
 up_again_redoes : (n : ℕ) (c : Core) (ds : List Store) (o : Option Site) → slice_get c.sites n ≡ o → (HasLived (at_rest c ds) → HasLived (at_rest (up_again c n o) ds))
     → RedoesAt n c ds (up_again c n o) ds
 up_again_redoes n c ds None at lived = redoes_at_same n c ds
-up_again_redoes n c ds (Some s) at lived = resited n c ds ds s (record s { redo = None }) at refl (all_same ds) lived
+up_again_redoes n c ds (Some s) at lived = resited n c ds ds s (record s { redo = None }) at refl (all_same IsRedoFor ds) lived
 
 pub next_redoes : (n : ℕ) (c : Core) (ds : List Store) (a : Redo) → a ≡ redo_reply c n → Legal c.procs c.events → AllGood c.procs → RedoesAt n c ds (after_redo c n a) ds
 next_redoes n c ds (redo.Send x) is legal good = redoes_at_same n c ds
@@ -139,9 +139,22 @@ never_unknown c n a low is bad =
 
 -- ---- `redone`
 
-performs_served : (ds es : List Store) (x : Wire) (y : Option Reply) → Performs ds x y es → AreServed ds es
-performs_served ds es x y (There it) = subst (AreServed ds) (sym it.then_is) (all_once ds x it.s it.at)
-performs_served ds es x y (Nowhere past none same) = subst (AreServed ds) (sym same) (all_same ds)
+sent_behind : (incarnation mark : ℕ) (x : Wire) (a : Option Answered) → redo.Send x ≡ sends_again incarnation mark a → x.redo ≡ true
+sent_behind incarnation mark x None is = absurd cc
+sent_behind incarnation mark x (Some a) is = (let same : x ≡ redo_wire incarnation mark a = cc in ap (λ (y : Wire). y.redo) same)
+
+sent_by : (c : Core) (n incarnation : ℕ) (x : Wire) (o : Option Redoing) → redo.Send x ≡ redo_by c n incarnation o → x.redo ≡ true
+sent_by c n incarnation x None is = absurd cc
+sent_by c n incarnation x (Some r) is = sent_behind incarnation r.mark x (to_redo c.events n r.redone) is
+
+-- what is sent is a wire of a redo
+sent_is_redo : (c : Core) (n : ℕ) (x : Wire) (o : Option Site) → redo.Send x ≡ redo_at c n o → x.redo ≡ true
+sent_is_redo c n x None is = absurd cc
+sent_is_redo c n x (Some s) is = sent_by c n s.incarnation x s.redo is
+
+performs_redone : (ds es : List Store) (x : Wire) (y : Option Reply) → x.redo ≡ true → Performs ds x y es → AreRedone ds es
+performs_redone ds es x y is (There it) = subst (AreRedone ds) (sym it.then_is) (all_once IsRedoFor ds x it.s (refl, is) it.at)
+performs_redone ds es x y is (Nowhere past none same) = subst (AreRedone ds) (sym same) (all_same IsRedoFor ds)
 
 performs_lived : (n : ℕ) (c : Core) (x : Wire) (y : Option Reply) (ds es : List Store) → Legal c.procs c.events → AllGood c.procs → redo.Send x ≡ redo_reply c n → Performs ds x y es
     → HasLived (at_rest c ds) → HasLived (at_rest c es)
@@ -151,7 +164,8 @@ performs_lived n c x y ds es legal good is (Nowhere past none same) l = subst (�
 -- what is redone is performed, and nothing is taken in
 pub performed_redoes : (n : ℕ) (c : Core) (x : Wire) (y : Option Reply) (ds es : List Store) → Legal c.procs c.events → AllGood c.procs → redo.Send x ≡ redo_reply c n → Performs ds x y es
     → RedoesAt n c ds c es
-performed_redoes n c x y ds es legal good is performs = served_at n c ds es (performs_served ds es x y performs) (performs_lived n c x y ds es legal good is performs)
+performed_redoes n c x y ds es legal good is performs =
+    redone_here n c ds es (performs_redone ds es x y (sent_is_redo c n x (slice_get c.sites n) is) performs) (performs_lived n c x y ds es legal good is performs)
 
 taken_lived : (n : ℕ) (c : Core) (x : Wire) (z : Reply) (ds es : List Store) → Legal c.procs c.events → AllGood c.procs → redo.Send x ≡ redo_reply c n → Performs ds x (Some z) es
     → IsRedone c n z → HasLived (at_rest c ds) → HasLived (at_rest (after_redone c n z.number) es)
@@ -164,7 +178,7 @@ pub redone_redoes : (n : ℕ) (c : Core) (x : Wire) (z : Reply) (ds es : List St
 redone_redoes n c x z ds es legal good is performs it =
     let lived = taken_lived n c x z ds es legal good is performs it in
     subst (λ (o : Option Site). RedoesAt n c ds (redone_at c n z.number o) es) (sym it.there)
-    (resited n c ds es it.site (record it.site { redo = redone_to z.number it.site.redo }) it.there refl (performs_served ds es x (Some z) performs)
+    (resited n c ds es it.site (record it.site { redo = redone_to z.number it.site.redo }) it.there refl (performs_redone ds es x (Some z) (sent_is_redo c n x (slice_get c.sites n) is) performs)
     (subst (λ (o : Option Site). HasLived (at_rest c ds) → HasLived (at_rest (redone_at c n z.number o) es)) it.there lived))
 
 -- one number less is left

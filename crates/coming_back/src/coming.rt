@@ -12,9 +12,9 @@ ghost use Rattle.tc_world.specs.Whole.{Whole};
 ghost use Rattle.tc_world.specs.OneAtATime.{EachIsKnown, IsOneAtATime};
 ghost use Rattle.serial.specs.Audit.{IsAgreed};
 ghost use Rattle.tc_world.specs.Lives.{HasLived};
-ghost use Rattle.coming_back.specs.Serving.{AreServed};
+ghost use Rattle.coming_back.specs.Serving.{AreServed, AreRedone};
 ghost use Rattle.coming_back.specs.Coming.{IsEmpty, serial_of, open_txns, in_doubt, IsResumed, at_rest, ComesFrom};
-ghost use Rattle.coming_back.specs.Faults.{IsFaultOf};
+ghost use Rattle.coming_back.specs.Faults.{HasLog, IsFaultOf};
 
 use crate::redoing::{RedoFault, redo_all};
 use crate::renewing::{notes_of, restart_all};
@@ -68,15 +68,53 @@ fn begin_again(
     }
 }
 
+/// Brings data components to which nothing has happened, and a state in which procedures are loaded and
+/// nothing has happened, to where a log left them: each restarts, and what the log says that it did is
+/// redone, until it is up. Nothing else is sent, and transactions that were open stay so.
+///
+/// Memory is taken for the state. Where the log isn't refused, but a data component isn't redone, the
+/// state has come back from the log with data components that are down, and is of no use but to be
+/// looked at.
+pub fn bring_back(
+    alloc: Global,
+    state: &mut TcState,
+    dcs: &mut [Dc],
+    log: &Log,
+) -> Result<(), ComeBackFault>
+    requires { All IsEmpty dcs.old }
+    // The log was legal; the state has it, with procedures, names and the number of data components as before.
+    ensures legal { OnOk result (Legal state.old.procs log.now.events) }
+    ensures log { OnOk result (HasLog state.old log.now.events state.new) }
+
+    // Each data component is up, and performed wires of its redo alone since it restarted.
+    ensures known { OnOk result (EachIsKnown (at_rest state.new dcs.new)) }
+    ensures redone { OnOk result (AreRedone (map restarted dcs.old) dcs.new) }
+
+    ensures fault { IfErr result (IsFaultOf state.old log.now.events (length dcs.old) state.new dcs.new) }
+
+    // Where the log is a beginning of that of a world that has lived, what came back has lived too; so the log and the data components
+    // agree in all that an audit compares.
+    ensures lived { (w : Whole) → ComesFrom w log.now.events state.old (length dcs.old)
+        → OnOk result (HasLived (at_rest state.new dcs.new)) }
+    ensures agreed { (w : Whole) → ComesFrom w log.now.events state.old (length dcs.old)
+        → OnOk result (IsAgreed state.new.procs state.new.events dcs.new) }
+{
+    begin_again(alloc, state, dcs, log)?;
+    match redo_all(state, dcs) {
+        Ok(()) => Ok(()),
+        Err((dc, RedoFault::Silent)) => Err(ComeBackFault::NoRoom(dc)),
+        Err((dc, RedoFault::Otherwise)) => Err(ComeBackFault::Otherwise(dc)),
+    }
+}
+
 /// Comes back from a log, to a state in which procedures are loaded and nothing has happened, and to
-/// data components to which nothing has happened either: each restarts, and what the log says that it
-/// did is redone, until it is up; then each transaction that was open is run to its end, in the order
-/// of their serial numbers, and is told of. What a data component doesn't answer is given up, and its
+/// data components to which nothing has happened either: they are brought to where the log left them
+/// ([`bring_back`]); then each transaction that was open is run to its end, in the order of their
+/// serial numbers, and is told of. What a data component doesn't answer is given up, and its
 /// transaction is in doubt.
 ///
-/// Memory is taken for the state, and for the list once. Where the log isn't refused, but a data
-/// component isn't redone or memory ran out for the list, the state has come back from the log with
-/// data components that are down, and is of no use but to be looked at.
+/// Memory is taken for the state, and for the list once. Where it ran out for the list, the state has
+/// come back from the log, and no transaction has gone on.
 pub fn come_back(
     alloc: Global,
     state: &mut TcState,
@@ -109,16 +147,11 @@ pub fn come_back(
     ensures agreed { (w : Whole) → ComesFrom w log.now.events state.old (length dcs.old)
         → OnOk result (IsAgreed state.new.procs state.new.events dcs.new) }
 {
-    begin_again(alloc, state, dcs, log)?;
+    bring_back(alloc, state, dcs, log)?;
     let mut resumed = match Vec::with_capacity(alloc, state.open_count()) {
         Ok(resumed) => resumed,
         Err(_) => return Err(ComeBackFault::Memory),
     };
-    match redo_all(state, dcs) {
-        Ok(()) => {}
-        Err((dc, RedoFault::Silent)) => return Err(ComeBackFault::NoRoom(dc)),
-        Err((dc, RedoFault::Otherwise)) => return Err(ComeBackFault::Otherwise(dc)),
-    }
     resume_all(state, dcs, &mut resumed);
     Ok(resumed)
 }

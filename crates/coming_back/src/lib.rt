@@ -11,6 +11,8 @@
 //! for one in &resumed { .. }                              // Resumed::Ended(receipt), or in doubt
 //! ```
 //!
+//! Who only looks at a log stops before the open transactions (`bring_back`).
+//!
 //! Its tests are `coming_back_tests` of `world_tests`.
 #![tactic(auto)]
 
@@ -21,5 +23,5 @@ mod renewing;
 pub mod resumed;
 mod resuming;
 
-pub use coming::{ComeBackFault, come_back};
+pub use coming::{ComeBackFault, bring_back, come_back};
 pub use resumed::Resumed;

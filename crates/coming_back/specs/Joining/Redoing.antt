@@ -6,7 +6,7 @@ use Rattle.transactions.specs.declared.Redoing.{Redoing}
 use Rattle.transactions.specs.InFlight.{site_at}
 use Rattle.tc_core.specs.Core.{Core}
 use Rattle.tc_world.specs.Lives.{HasLived}
-use Rattle.coming_back.specs.Serving.{AreServed}
+use Rattle.coming_back.specs.Serving.{AreRedone}
 use Rattle.coming_back.specs.Coming.{at_rest}
 
 -- of the state nothing changes but whether data components are up, or how far their redo has come
@@ -14,7 +14,7 @@ pub record Redoes (c : Core) (dcs : List Store) (c' : Core) (dcs' : List Store) 
   pub core : c' ≡ record c { sites = c'.sites }
   pub count : length c'.sites ≡ length c.sites
   pub incarnations : (d : ℕ) → (site_at c'.sites d).incarnation ≡ (site_at c.sites d).incarnation
-  pub served : AreServed dcs dcs'
+  pub redone : AreRedone dcs dcs'
   pub lived : HasLived (at_rest c dcs) → HasLived (at_rest c' dcs')
 
 -- the same for one data component
