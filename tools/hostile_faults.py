@@ -79,6 +79,13 @@ def every_command(program):
         yield words, b""
 
 
+def audited(program):
+    """The words of an audit of a log that the program has kept."""
+    path, script = program.file(b""), program.file(RUN)
+    program.run(["run", "--log", path, script])
+    return ["log", "--audit", path, script]
+
+
 def refused_memory(faulty, words, given, setting, every):
     """Refuses the first request, the second and so on, until a run meets none."""
     usual, told = faulty.run(words, given), faulty.program.folder / "allocations"
@@ -98,7 +105,7 @@ def hostile_memory(program, tally, every):
     faulty = Faulty(program, tally)
     if not faulty.library:
         return tally.skip("no C compiler")
-    for words, given in every_command(program):
+    for words, given in [*every_command(program), (audited(program), b"")]:
         tally.add("command lines")
         refused_memory(faulty, words, given, "allocation_fails", every)
         refused_memory(faulty, words, given, "allocations_fail_from", every)

@@ -8,7 +8,7 @@ from .row import Row
 
 SCRIPT = """\
 dc 1 100
-dc 1 100
+dc 2 2
 proc note 1
 slot write 1 2 $0
   mov r0, 0
@@ -18,15 +18,33 @@ proc nothing 0
   mov r0, 5
   exit
 end
+proc keep 1
+slot write 1 2 $0
+  mov r1, 0
+  call 2
+  mov r0, 0
+  exit
+end
 """
 NOTE = procedure(1, [(1, 1, 2, 0, 0)], bytes.fromhex("b700000000000000 9500000000000000"))
 NOTHING = procedure(0, [], bytes.fromhex("b700000005000000 9500000000000000"))
-OWN = header(2, NOTE, NOTHING)
+INSERTS = bytes.fromhex("b701000000000000 8500000002000000 b700000000000000 9500000000000000")
+KEEP = procedure(1, [(1, 1, 2, 0, 0)], INSERTS)
+OWN = header(2, NOTE, NOTHING, KEEP)
 
 ADMITTED = event(1, 1, 1, body=numbers(77))
 ENDED = event(5, 1, 1)
 SECOND = event(1, 0, 2, 1)
 ABORTED = event(5, 2, 2, 5)
+
+
+def kept(txn, key, *said):
+    """The events of a transaction that inserts a record of zeros, and is answered so."""
+    asked = [event(1, 1, txn, 2, body=numbers(key)), event(2, 2, txn, txn, (1, 2, key))]
+    return asked + [event(3, said[0], txn, txn, body=numbers(*said[1:])), event(5, 1, txn)] if said else asked
+
+
+DONE, DUPLICATE = 3, 5
 
 # One event of each kind and of each sub, whatever procedures would do, and its line.
 REC = (1, 2, 3)
@@ -80,17 +98,25 @@ UNREAD = [
     (frames(OWN, batch(ENDED), batch(ENDED, bytes(96))), "log L2 Kind 2"),
 ]
 AUDITED = [
-    (frames(OWN), "log ok events 0 ended 0 open 0\n", 0),
-    (frames(OWN, batch(ADMITTED)), "log ok events 1 ended 0 open 1\n", 0),
-    (frames(OWN, batch(ADMITTED, ENDED), batch(SECOND, ABORTED)), "log ok events 4 ended 2 open 0\n", 0),
-    (frames(OWN, batch(ADMITTED, ENDED)) + b"?", "log ok events 2 ended 1 open 0\nunfinished 1 bytes\n", 0),
+    (frames(OWN), "audit ok ended 0 open 0\n", 0),
+    (frames(OWN, batch(ADMITTED)), "audit ok ended 0 open 1\n", 0),
+    (frames(OWN, batch(ADMITTED, ENDED), batch(SECOND, ABORTED)), "audit ok ended 2 open 0\n", 0),
+    (frames(OWN, batch(ADMITTED, ENDED)) + b"?", "audit ok ended 1 open 0\nunfinished 1 bytes\n", 0),
+    (frames(OWN, batch(*kept(1, 77))), "audit ok ended 0 open 1\n", 0),
+    (frames(OWN, batch(*kept(1, 77, DONE)[:3])), "audit ok ended 0 open 1\n", 0),
+    (frames(OWN, batch(*kept(1, 77, DONE), *kept(2, 78, DONE))), "audit ok ended 2 open 0\n", 0),
+    (frames(OWN, batch(*kept(1, 77, DONE), *kept(2, 77, DUPLICATE))), "audit ok ended 2 open 0\n", 0),
+    (frames(OWN, batch(*kept(1, 77, DONE), *kept(2, 78, DUPLICATE))), "refused U3 Mismatch 2\n", 1),
+    (frames(OWN, batch(*kept(1, 77, DUPLICATE))) + b"?", "refused U3 Mismatch 1\nunfinished 1 bytes\n", 1),
+    (frames(OWN, batch(*kept(1, 77, DONE), *kept(2, 77, DONE))), "refused log Otherwise dc 1\n", 1),
+    (frames(OWN, batch(*kept(1, 1, DONE), *kept(2, 2, DONE), *kept(3, 3, DONE))), "refused log NoRoom dc 1\n", 1),
     (frames(OWN, batch(ENDED)), "refused U1 LogIllegal place 0\n", 1),
     (frames(OWN, batch(ADMITTED, SECOND, ENDED, ENDED)), "refused U1 LogIllegal place 3\n", 1),
-    (frames(OWN, batch(ADMITTED, event(5, 2, 1, 5))), "refused U1 LogIllegal place 1\n", 1),
-    (frames(header(3, NOTE, NOTHING)), "refused log Other\n", 1),
+    (frames(OWN, batch(ADMITTED, event(5, 2, 1, 5))) + b"?", "refused U1 LogIllegal place 1\n", 1),
+    (frames(header(3, NOTE, NOTHING, KEEP)), "refused log Other\n", 1),
     (frames(header(2, NOTE)), "refused log Other\n", 1),
-    (frames(header(2, NOTHING, NOTE)), "refused log Other\n", 1),
-    (frames(header(2, NOTE, NOTE)), "refused log Other\n", 1),
+    (frames(header(2, NOTE, KEEP, NOTHING)), "refused log Other\n", 1),
+    (frames(header(2, NOTE, NOTHING, NOTHING)), "refused log Other\n", 1),
     (b"", "refused log Empty\n", 1),
 ]
 

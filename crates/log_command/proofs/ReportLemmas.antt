@@ -1,45 +1,111 @@
 -- What a report says, from what its parts say.
-use Rattle.std.proofs.Common.{◌≡◌, ℕ, List, Some, None, Option, sym, subst}
+use Rattle.std.proofs.Common.{◌≡◌, ◌∙◌, ℕ, List, [], ◌∷◌, length, map, Some, None, Option, refl, sym, ap, subst}
 use Rattle.std.specs.Prelude.{IfOk, Result, Ok, Err, string_bytes}
+use Rattle.std.specs.List.{All}
 use Rattle.std.proofs.lemmas.Result.{IfOk-weaker}
+use Rattle.std.proofs.lemmas.List.{length-map}
+use Rattle.std.proofs.lemmas.List.Elements.{All-cons, All-nil}
+use Rattle.tc_log.specs.declared.event.Event.{Event}
 use Rattle.report_texts.specs.declared.report.Report.{Report}
 use Rattle.log_file.specs.declared.reading.OpenFault.TheVariants.{Other}
 use Rattle.log_file.specs.declared.stored.Stored.{Stored}
 use Rattle.log_file.specs.Stored.{IsStored}
-use Rattle.tc_core.specs.Checking.{IsFirstIllegal}
+use Rattle.verifier.specs.Checked.{Checked}
+use Rattle.transactions.specs.Legal.{Legal}
+use Rattle.data_component.specs.Store.{Store, restarted}
+use Rattle.serial.specs.Audit.{IsAgreed}
 use Rattle.tc_core.specs.Core.{Core, loaded_in}
-use Rattle.tc_core.specs.Loaded.{Loaded}
+use Rattle.tc_core.specs.declared.recovery.RecoverFault.TheVariants.{Begun, DcCount, Unfit}
+use Rattle.tc_world.specs.Whole.{Whole}
+use Rattle.tc_world.specs.OneAtATime.{EachIsKnown}
+use Rattle.coming_back.specs.declared.coming.ComeBackFault.{ComeBackFault}
+use Rattle.coming_back.specs.declared.coming.ComeBackFault.TheVariants.{Recover, NoRoom, Otherwise, Memory}
+use Rattle.coming_back.specs.Serving.{AreRedone}
+use Rattle.coming_back.specs.Coming.{IsEmpty, at_rest, ComesFrom}
+use Rattle.coming_back.specs.Faults.{HasLog, IsFaultOf}
 use Rattle.procedure_digest.specs.Header.{header_of}
-use Rattle.scripts.specs.Reading.{Reading}
-use Rattle.script_loading.specs.Loading.{refusal_of, IsReady}
+use Rattle.scripts.specs.Reading.{Contents, Reading}
+use Rattle.scripts.specs.declared.script.Dc.{Dc}
+use Rattle.script_loading.specs.Loading.{refusal_of, with_procedures, empty_core, empty_store, IsReady}
 use Rattle.script_loading.specs.declared.loading.Loaded.{Loaded as Script}
-use Rattle.log_command.specs.LogReport.{stored_lines, refusal_line, illegal_line, IsListing, Listed, IsChecked, Illegal, IsBeside, Anothers, Own, IsAudit, IsAuditBy}
+use Rattle.log_command.specs.Joining.Beginning.{IsOfLog}
+use Rattle.log_command.specs.LogReport.{stored_lines, refusal_line, IsListing, Listed, AreBrought, AreAuditLines, IsUnfit, IsChecked, NotBrought, Audited}
+use Rattle.log_command.specs.LogReport.{IsBeside, Anothers, Own, IsAudit, IsAuditBy}
 
 pub listed_is : {E : Type 0} (file : List ℕ) (s : Stored) (result : Result Report E) → IsStored file s → IfOk result (λ r. string_bytes r.lines ≡ stored_lines s)
     → IfOk result (λ r. r.status ≡ 0) → IfOk result (λ r. IsListing file r.status (string_bytes r.lines))
 listed_is file s (Ok r) is lines status = Listed s is lines status
 listed_is file s (Err e) is lines status = tt
 
-pub anothers_is : {E : Type 0} (file : List ℕ) (l : Loaded) (s : Stored) (result : Result Report E) → IsStored file s → ¬ (s.header ≡ header_of l)
-    → IfOk result (λ r. refusal_line Other ≡ Some (string_bytes r.lines)) → IfOk result (λ r. r.status ≡ 1)
-    → IfOk result (λ r. IsBeside file l r.status (string_bytes r.lines))
-anothers_is file l s (Ok r) is differs line status = Anothers s is differs line status
-anothers_is file l s (Err e) is differs line status = tt
+pub anothers_is : {E : Type 0} (file : List ℕ) (start : Core) (empties : List Store) (s : Stored) (result : Result Report E) → IsStored file s
+    → ¬ (s.header ≡ header_of (loaded_in start)) → IfOk result (λ r. refusal_line Other ≡ Some (string_bytes r.lines)) → IfOk result (λ r. r.status ≡ 1)
+    → IfOk result (λ r. IsBeside file start empties r.status (string_bytes r.lines))
+anothers_is file start empties s (Ok r) is differs line status = Anothers s is differs line status
+anothers_is file start empties s (Err e) is differs line status = tt
 
-pub own_is : {E : Type 0} (file : List ℕ) (l : Loaded) (s : Stored) (result : Result Report E) → IsStored file s → s.header ≡ header_of l
-    → IfOk result (λ r. IsChecked l s r.status (string_bytes r.lines)) → IfOk result (λ r. IsBeside file l r.status (string_bytes r.lines))
-own_is file l s result is same checked = IfOk-weaker result _ _ (λ r c. Own s is same c) checked
+pub own_is : {E : Type 0} (file : List ℕ) (start : Core) (empties : List Store) (s : Stored) (result : Result Report E) → IsStored file s
+    → s.header ≡ header_of (loaded_in start) → IfOk result (λ r. IsChecked start empties s r.status (string_bytes r.lines))
+    → IfOk result (λ r. IsBeside file start empties r.status (string_bytes r.lines))
+own_is file start empties s result is same checked = IfOk-weaker result _ _ (λ r c. Own s is same c) checked
+
+-- ---- what a script begins with
+
+all_empty : (dcs : List Dc) → All IsEmpty (map empty_store dcs)
+all_empty [] = All-nil IsEmpty
+all_empty (dc ∷ dcs) = All-cons IsEmpty (empty_store dc) (map empty_store dcs) refl (all_empty dcs)
+
+pub ready_empty : (contents : Contents) (script : Script) → IsReady contents script → All IsEmpty script.dcs.items
+ready_empty contents script ready = subst (All IsEmpty) (sym ready.dcs) (all_empty contents.dcs)
+
+pub ready_count : (contents : Contents) (script : Script) → IsReady contents script → length script.dcs.items ≡ script.state.dcs
+ready_count contents script ready =
+    ap length ready.dcs ∙ (length-map contents.dcs empty_store ∙ sym (ap (λ (c : Core). c.dcs) ready.state))
+
+pub ready_begun : (contents : Contents) (script : Script) → IsReady contents script → script.state.events ≡ []
+ready_begun contents script ready = ap (λ (c : Core). c.events) ready.state
 
 pub audit_is : {E : Type 0} (file : List ℕ) (r : Reading) (script : Script) (result : Result Report E) → (refusal_of r ≡ None) × IsReady r.contents script
-    → IfOk result (λ x. IsBeside file (loaded_in script.state) x.status (string_bytes x.lines)) → IfOk result (λ x. IsAudit file r x.status (string_bytes x.lines))
+    → IfOk result (λ x. IsBeside file script.state script.dcs.items x.status (string_bytes x.lines)) → IfOk result (λ x. IsAudit file r x.status (string_bytes x.lines))
 audit_is file r script result ready beside =
     IfOk-weaker result _ _
     (λ x b. subst (λ (o : Option (List ℕ)). IsAuditBy o r.contents file x.status (string_bytes x.lines)) (sym ready.0)
-    (subst (λ (c : Core). IsBeside file (loaded_in c) x.status (string_bytes x.lines)) ready.1.state b))
+    (subst (λ (dcs : List Store). IsBeside file (with_procedures (empty_core (length r.contents.dcs)) r.contents.procedures) dcs x.status (string_bytes x.lines)) ready.1.dcs
+    (subst (λ (c : Core). IsBeside file c script.dcs.items x.status (string_bytes x.lines)) ready.1.state b)))
     beside
 
-pub illegal_is : {E : Type 0} (l : Loaded) (s : Stored) (place : ℕ) (result : Result Report E) → IsFirstIllegal l.codes s.log.events place
-    → IfOk result (λ r. string_bytes r.lines ≡ illegal_line place) → IfOk result (λ r. r.status ≡ 1)
-    → IfOk result (λ r. IsChecked l s r.status (string_bytes r.lines))
-illegal_is l s place (Ok r) first line status = Illegal place first line status
-illegal_is l s place (Err e) first line status = tt
+-- ---- data components that are brought to where the log left them
+
+pub brought : (start back : Core) (empties : List Store) (log : List Event) (dcs : List Store) → Legal start.procs log → HasLog start log back
+    → EachIsKnown (at_rest back dcs) → AreRedone (map restarted empties) dcs
+    → ((w : Whole) → ComesFrom w log start (length empties) → IsAgreed back.procs back.events dcs) → AreBrought start empties log dcs
+brought start back empties log dcs legal has known redone agreed = record {
+  back = back;
+  legal = legal;
+  has_log = has;
+  known = known;
+  redone = redone;
+  agreed = λ w from.
+      subst (λ (ps : List Checked). IsAgreed ps log dcs) (ap (λ (x : Core). x.procs) has)
+      (subst (λ (es : List Event). IsAgreed back.procs es dcs) (ap (λ (x : Core). x.events) has) (agreed w from));
+}
+
+pub audited_is : {E : Type 0} (start back : Core) (empties : List Store) (s : Stored) (dcs : List Store) (result : Result Report E)
+    → AreBrought start empties s.log.events dcs → HasLog start s.log.events back → IfOk result (λ r. AreAuditLines back.procs s dcs r.status (string_bytes r.lines))
+    → IfOk result (λ r. IsChecked start empties s r.status (string_bytes r.lines))
+audited_is start back empties s dcs result are has found =
+    IfOk-weaker result _ _
+    (λ r f. Audited dcs are (subst (λ (ps : List Checked). AreAuditLines ps s dcs r.status (string_bytes r.lines)) (ap (λ (x : Core). x.procs) has) f)) found
+
+pub of_log : (start : Core) (log : List Event) (count : ℕ) (back : Core) (dcs : List Store) (fault : ComeBackFault) → IsFaultOf start log count back dcs fault
+    → start.events ≡ [] → count ≡ start.dcs → IsOfLog fault
+of_log start log count back dcs (Recover Begun) why none same = why.0 none
+of_log start log count back dcs (Recover DcCount) why none same = why.0 same
+of_log start log count back dcs (Recover (Unfit fault)) why none same = tt
+of_log start log count back dcs (NoRoom d) why none same = tt
+of_log start log count back dcs (Otherwise d) why none same = tt
+of_log start log count back dcs Memory why none same = tt
+
+pub unfit_is : {E : Type 0} (start back : Core) (empties : List Store) (s : Stored) (dcs : List Store) (fault : ComeBackFault) (result : Result Report E)
+    → IsFaultOf start s.log.events (length empties) back dcs fault → IfOk result (λ r. IsUnfit fault r.status (string_bytes r.lines))
+    → IfOk result (λ r. IsChecked start empties s r.status (string_bytes r.lines))
+unfit_is start back empties s dcs fault result why told = IfOk-weaker result _ _ (λ r u. NotBrought back dcs fault why u) told

@@ -1,2 +1,3 @@
 pub mod EventLines
 pub mod LogReport
+pub mod Joining

@@ -1,20 +1,29 @@
 -- What `log` prints of a log's file, and the exit status.
-use Rattle.std.specs.Prelude.{◌≡◌, ℕ, ◌==◌, if◌then◌else◌, List, [], ◌++◌, length, reverse, Option, Some, None, codes, decimal}
-use Rattle.std.specs.List.{count_by}
+use Rattle.std.specs.Prelude.{◌≡◌, ℕ, ◌==◌, Bool, if◌then◌else◌, List, [], ◌++◌, length, map, reverse, Option, Some, None, codes, decimal}
+use Rattle.tc_log.specs.declared.event.Event.{Event}
 use Rattle.frame_file.specs.declared.reading.FrameFault.TheVariants.{Damaged}
 use Rattle.log_file.specs.declared.reading.OpenFault.{OpenFault}
 use Rattle.log_file.specs.declared.reading.OpenFault.TheVariants.{Frames, Empty, Other, NoBatch, Row}
 use Rattle.log_file.specs.declared.stored.Stored.{Stored}
 use Rattle.log_file.specs.Stored.{IsStored, IsFileFault}
+use Rattle.verifier.specs.Checked.{Checked}
 use Rattle.transactions.specs.Legal.{Legal}
-use Rattle.transactions.specs.Room.{each_one, total}
-use Rattle.tc_core.specs.Checking.{IsFirstIllegal}
-use Rattle.tc_core.specs.Core.{loaded_in}
-use Rattle.tc_core.specs.Loaded.{Loaded}
-use Rattle.audit.specs.Auditing.{is_end}
+use Rattle.data_component.specs.Store.{Store, restarted}
+use Rattle.tc_core.specs.declared.checking.CheckFault.TheVariants.{LogIllegal}
+use Rattle.tc_core.specs.declared.recovery.RecoverFault.TheVariants.{Unfit}
+use Rattle.tc_core.specs.Core.{Core, loaded_in}
+use Rattle.serial.specs.Audit.{IsAgreed}
+use Rattle.tc_world.specs.Whole.{Whole}
+use Rattle.tc_world.specs.OneAtATime.{EachIsKnown}
+use Rattle.coming_back.specs.declared.coming.ComeBackFault.{ComeBackFault}
+use Rattle.coming_back.specs.declared.coming.ComeBackFault.TheVariants.{Recover, NoRoom, Otherwise, Memory}
+use Rattle.coming_back.specs.Serving.{AreRedone}
+use Rattle.coming_back.specs.Coming.{at_rest, ComesFrom}
+use Rattle.coming_back.specs.Faults.{HasLog, IsFaultOf}
 use Rattle.procedure_digest.specs.Header.{header_of}
 use Rattle.scripts.specs.Reading.{Contents, Reading}
-use Rattle.script_loading.specs.Loading.{refusal_of, with_procedures, empty_core}
+use Rattle.script_loading.specs.Loading.{refusal_of, with_procedures, empty_core, empty_store}
+use Rattle.state_lines.specs.AuditLines.{AddsAudit}
 use Rattle.log_command.specs.EventLines.{event_lines}
 
 -- ---- lines
@@ -36,14 +45,14 @@ unfinished_line bytes = if bytes == 0 then [] else codes "unfinished " ++ (decim
 abbrev pub stored_lines : Stored → List ℕ
 stored_lines s = event_lines 0 (reverse s.log.events) ++ unfinished_line s.unfinished
 
-abbrev pub illegal_line : ℕ → List ℕ
-illegal_line place = codes "refused U1 LogIllegal place " ++ (decimal place ++ codes "\n")
-
--- how many events there are, how many transactions ended, and how many are open
-abbrev pub sound_lines : Stored → ℕ → List ℕ
-sound_lines s left =
-    (codes "log ok events " ++ (decimal (length s.log.events) ++ (codes " ended " ++ (decimal (count_by is_end (reverse s.log.events))
-    ++ (codes " open " ++ (decimal left ++ codes "\n")))))) ++ unfinished_line s.unfinished
+-- why data components aren't brought to where the log left them: its first event that isn't allowed, or one that has no room for what the
+-- log says that it did, or does otherwise
+abbrev pub unfit_line : ComeBackFault → Option (List ℕ)
+unfit_line (Recover (Unfit (LogIllegal place))) = Some (codes "refused U1 LogIllegal place " ++ (decimal place ++ codes "\n"))
+unfit_line (Recover other) = None
+unfit_line (NoRoom dc) = Some (codes "refused log NoRoom dc " ++ (decimal dc ++ codes "\n"))
+unfit_line (Otherwise dc) = Some (codes "refused log Otherwise dc " ++ (decimal dc ++ codes "\n"))
+unfit_line Memory = None
 
 -- ---- the events alone
 
@@ -58,24 +67,48 @@ pub data IsListing (file : List ℕ) (status : ℕ) (lines : List ℕ) : Type 0 
   Listed : (s : Stored) → IsStored file s → lines ≡ stored_lines s → status ≡ 0 → IsListing file status lines
   Unread : IsUnread file status lines → IsListing file status lines
 
--- ---- beside procedures
+-- ---- beside procedures and data components
 
--- the first event that isn't allowed, or how many there are
-pub data IsChecked (l : Loaded) (s : Stored) (status : ℕ) (lines : List ℕ) : Type 0 where
-  Illegal : (place : ℕ) → IsFirstIllegal l.codes s.log.events place → lines ≡ illegal_line place → status ≡ 1 → IsChecked l s status lines
-  Sound : Legal l.codes s.log.events → lines ≡ sound_lines s (total each_one s.log.events) → status ≡ 0 → IsChecked l s status lines
+-- from data components to which nothing had happened came these: each is up, and performed wires of its redo alone since it restarted. The
+-- state has the log, and nothing else has changed of it; where a world that has lived began with this log, they agree
+pub record AreBrought (start : Core) (empties : List Store) (log : List Event) (dcs : List Store) : Type 0 where
+  pub back : Core
+  pub legal : Legal start.procs log
+  pub has_log : HasLog start log back
+  pub known : EachIsKnown (at_rest back dcs)
+  pub redone : AreRedone (map restarted empties) dcs
+  pub agreed : (w : Whole) → ComesFrom w log start (length empties) → IsAgreed start.procs log dcs
+
+-- what an audit of the log and of these data components finds, and how many bytes at the end are no whole frame
+pub record AreAuditLines (ps : List Checked) (s : Stored) (dcs : List Store) (status : ℕ) (lines : List ℕ) : Type 0 where
+  pub found : List ℕ
+  pub sound : Bool
+  pub audit : AddsAudit ps s.log.events dcs [] found sound
+  pub lines_are : lines ≡ found ++ unfinished_line s.unfinished
+  pub status_is : status ≡ (if sound then 0 else 1)
+
+abbrev pub IsUnfit : ComeBackFault → ℕ → List ℕ → Type 0
+IsUnfit fault status lines = (unfit_line fault ≡ Some lines) × (status ≡ 1)
+
+-- why the data components aren't brought to where the log left them, or what an audit finds of those that were
+pub data IsChecked (start : Core) (empties : List Store) (s : Stored) (status : ℕ) (lines : List ℕ) : Type 0 where
+  NotBrought : (back : Core) (dcs : List Store) (fault : ComeBackFault) → IsFaultOf start s.log.events (length empties) back dcs fault
+      → IsUnfit fault status lines → IsChecked start empties s status lines
+  Audited : (dcs : List Store) → AreBrought start empties s.log.events dcs → AreAuditLines start.procs s dcs status lines
+      → IsChecked start empties s status lines
 
 -- the file isn't read, it is another's log, or a log of these procedures
-pub data IsBeside (file : List ℕ) (l : Loaded) (status : ℕ) (lines : List ℕ) : Type 0 where
-  NotRead : IsUnread file status lines → IsBeside file l status lines
-  Anothers : (s : Stored) → IsStored file s → ¬ (s.header ≡ header_of l) → refusal_line Other ≡ Some lines → status ≡ 1
-      → IsBeside file l status lines
-  Own : (s : Stored) → IsStored file s → s.header ≡ header_of l → IsChecked l s status lines → IsBeside file l status lines
+pub data IsBeside (file : List ℕ) (start : Core) (empties : List Store) (status : ℕ) (lines : List ℕ) : Type 0 where
+  NotRead : IsUnread file status lines → IsBeside file start empties status lines
+  Anothers : (s : Stored) → IsStored file s → ¬ (s.header ≡ header_of (loaded_in start)) → refusal_line Other ≡ Some lines → status ≡ 1
+      → IsBeside file start empties status lines
+  Own : (s : Stored) → IsStored file s → s.header ≡ header_of (loaded_in start) → IsChecked start empties s status lines
+      → IsBeside file start empties status lines
 
 abbrev pub IsAuditBy : Option (List ℕ) → Contents → List ℕ → ℕ → List ℕ → Type 0
 IsAuditBy (Some refusal) contents file status lines = (status ≡ 1) × (lines ≡ refusal)
 IsAuditBy None contents file status lines =
-    IsBeside file (loaded_in (with_procedures (empty_core (length contents.dcs)) contents.procedures)) status lines
+    IsBeside file (with_procedures (empty_core (length contents.dcs)) contents.procedures) (map empty_store contents.dcs) status lines
 
 -- where the script is refused, the file isn't looked at
 abbrev pub IsAudit : List ℕ → Reading → ℕ → List ℕ → Type 0

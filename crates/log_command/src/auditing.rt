@@ -1,76 +1,82 @@
-//! `log --audit`: whether a file is a log of a script's procedures.
+//! `log --audit`: whether a file is a log of a script's procedures, and data components that are redone
+//! from it agree with it.
 
-ghost use Rattle.std.specs.Prelude.{◌≡◌, IfOk, string_bytes};
-ghost use Rattle.std.specs.List.{count_by};
+ghost use Rattle.std.specs.Prelude.{◌≡◌, [], length, IfOk, string_bytes};
+ghost use Rattle.std.specs.List.{All};
 ghost use Rattle.scripts.specs.Reading.{script_said};
 ghost use Rattle.scripts.specs.declared.keyword.Command.TheVariants as command;
-ghost use Rattle.tc_core.specs.Core.{loaded_in};
-ghost use Rattle.audit.specs.Auditing.{is_end};
-ghost use Rattle.log_command.specs.LogReport.{illegal_line, sound_lines, IsChecked, IsBeside, IsAudit};
+ghost use Rattle.coming_back.specs.Coming.{IsEmpty};
+ghost use Rattle.log_command.specs.LogReport.{AreAuditLines, IsUnfit, IsChecked, IsBeside, IsAudit};
+ghost use Rattle.log_command.specs.Joining.Beginning.{IsOfLog};
 
-use crate::refusing::{refused, write_unfinished};
+use crate::refusing::{refused, unfit_line, write_unfinished};
+use coming_back::{ComeBackFault, bring_back};
+use data_component::dc::Dc;
 use log_file::{OpenFault, Stored, read_file};
 use procedure_digest::header_of;
 use report_texts::report::Report;
 use script_loading::loading::{Loading, load};
 use scripts::keyword::Command;
+use state_lines::audit_lines::write_audit;
 use std::alloc::{AllocError, Global};
-use tc_core::checking::{CheckFault, stands_behind};
+use tc_core::procs::Procs;
 use tc_core::state::TcState;
-use tc_log::event::Event;
 
-// How many transactions ended.
-fn ended_in(events: &[Event]) -> usize
-    ensures { result ≡ count_by is_end events.now }
-{
-    events
-        .iter()
-        .filter(|event| matches!(event, Event::End { .. }))
-        .count()
-}
-
-// The log has an event that wasn't allowed where it stands.
-fn illegal(alloc: Global, place: usize) -> Result<Report, AllocError>
-    ensures lines { IfOk result (λ r. string_bytes r.lines ≡ illegal_line place) }
-    ensures status { IfOk result (λ r. r.status ≡ 1) }
+// Why data components aren't brought to where the log left them.
+fn unfit(alloc: Global, fault: &ComeBackFault) -> Result<Report, AllocError>
+    requires { IsOfLog fault.now }
+    ensures { IfOk result (λ r. IsUnfit fault.now r.status (string_bytes r.lines)) }
 {
     Ok(Report {
         status: 1,
-        lines: format!(in alloc; "refused U1 LogIllegal place {place}\n")?,
+        lines: unfit_line(alloc, fault)?,
         notes: None,
     })
 }
 
-// Nothing is wrong with the log.
-fn sound(alloc: Global, stored: &Stored, left: usize) -> Result<Report, AllocError>
-    ensures lines { IfOk result (λ r. string_bytes r.lines ≡ sound_lines stored.now left) }
-    ensures status { IfOk result (λ r. r.status ≡ 0) }
+// What an audit of the log and of these data components finds, and the end that isn't whole.
+fn audited(alloc: Global, procs: &Procs, stored: &Stored, dcs: &[Dc]) -> Result<Report, AllocError>
+    ensures { IfOk result (λ r. AreAuditLines procs.now.codes stored.now dcs.now r.status (string_bytes r.lines)) }
 {
-    let events = stored.log.len();
-    let ended = ended_in(stored.log.events());
-    let mut lines = format!(in alloc; "log ok events {events} ended {ended} open {left}\n")?;
+    let mut lines = String::new(alloc);
+    let sound = write_audit(alloc, procs, &stored.log, dcs, &mut lines)?;
     write_unfinished(alloc, stored.unfinished, &mut lines)?;
     Ok(Report {
-        status: 0,
+        status: u8::from(!sound),
         lines,
         notes: None,
     })
 }
 
-// A log whose header is that of the state's procedures.
-fn checked(alloc: Global, state: &TcState, stored: &Stored) -> Result<Report, AllocError>
-    ensures { IfOk result (λ r. IsChecked (loaded_in state.now) stored.now r.status (string_bytes r.lines)) }
+// A log whose header is that of the state's procedures, and the data components that it left.
+fn checked(
+    alloc: Global,
+    state: &mut TcState,
+    dcs: &mut [Dc],
+    stored: &Stored,
+) -> Result<Report, AllocError>
+    requires begun { state.old.events ≡ [] }
+    requires count { length dcs.old ≡ state.old.dcs }
+    requires empty { All IsEmpty dcs.old }
+    ensures { IfOk result (λ r. IsChecked state.old dcs.old stored.now r.status (string_bytes r.lines)) }
 {
-    match stands_behind(alloc, state.procs(), &stored.log) {
-        Ok(behind) => sound(alloc, stored, behind.open),
-        Err(CheckFault::LogIllegal(place)) => illegal(alloc, place),
-        Err(CheckFault::Memory) => Err(AllocError),
+    match bring_back(alloc, state, dcs, &stored.log) {
+        Ok(()) => audited(alloc, state.procs(), stored, dcs),
+        Err(fault) => unfit(alloc, &fault),
     }
 }
 
-// A file beside a state in which the script's procedures are loaded.
-fn beside(alloc: Global, state: &TcState, file: &[u8]) -> Result<Report, AllocError>
-    ensures { IfOk result (λ r. IsBeside file.now (loaded_in state.now) r.status (string_bytes r.lines)) }
+// A file beside a state in which the script's procedures are loaded, and its data components.
+fn beside(
+    alloc: Global,
+    state: &mut TcState,
+    dcs: &mut [Dc],
+    file: &[u8],
+) -> Result<Report, AllocError>
+    requires begun { state.old.events ≡ [] }
+    requires count { length dcs.old ≡ state.old.dcs }
+    requires empty { All IsEmpty dcs.old }
+    ensures { IfOk result (λ r. IsBeside file.now state.old dcs.old r.status (string_bytes r.lines)) }
 {
     let stored = match read_file(alloc, file) {
         Ok(stored) => stored,
@@ -78,19 +84,25 @@ fn beside(alloc: Global, state: &TcState, file: &[u8]) -> Result<Report, AllocEr
     };
     let header = header_of(alloc, state.procs())?;
     if stored.header == header {
-        checked(alloc, state, &stored)
+        checked(alloc, state, dcs, &stored)
     } else {
         refused(alloc, OpenFault::Other)
     }
 }
 
-/// Whether a file is a log of this script's procedures, each event allowed behind the ones before it; how
-/// many events there are, how many transactions ended, and how many are open.
+/// Whether a file is a log of this script's procedures, each event allowed behind the ones before it,
+/// and what an audit finds of it and of the script's data components, which are redone from it: nothing
+/// is sent for transactions that are open.
 pub fn auditing(alloc: Global, file: &[u8], script: &str) -> Result<Report, AllocError>
     ensures { IfOk result (λ r. IsAudit file.now (script_said command.Run script.now) r.status (string_bytes r.lines)) }
 {
     match load(alloc, Command::Run, script)? {
-        Loading::Ready(loaded) => beside(alloc, &loaded.state, file),
+        Loading::Ready(loaded) => {
+            let mut loaded = loaded;
+            let report = beside(alloc, &mut loaded.state, loaded.dcs.as_mut_slice(), file);
+            drop(loaded);
+            report
+        }
         Loading::Refused(report) => Ok(report),
     }
 }

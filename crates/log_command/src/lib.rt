@@ -1,8 +1,8 @@
-//! What `procd log` prints of a log's file: its events, or whether it is a log of a script's procedures.
+//! What `procd log` prints of a log's file: its events, or what an audit finds of it beside a script.
 //!
 //! ```
 //! let report = listing(alloc, bytes)?;           // `7 end 3 committed`, a line each event
-//! let report = auditing(alloc, bytes, script)?;  // `log ok events 12 ended 3 open 0`
+//! let report = auditing(alloc, bytes, script)?;  // `audit ok ended 3 open 0`
 //! ```
 #![tactic(auto)]
 

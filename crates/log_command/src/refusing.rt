@@ -1,13 +1,17 @@
-//! Why a file isn't read as a log.
+//! Why a file isn't read as a log, and why data components aren't brought to where it left them.
 
 ghost use Rattle.std.specs.Prelude.{◌≡◌, Some, IfOk, OnOk, string_bytes};
 ghost use Rattle.std.specs.Prelude.{◌++◌};
-ghost use Rattle.log_command.specs.LogReport.{refusal_line, unfinished_line};
+ghost use Rattle.log_command.specs.LogReport.{refusal_line, unfit_line, unfinished_line};
+ghost use Rattle.log_command.specs.Joining.Beginning.{IsOfLog};
 
+use coming_back::ComeBackFault;
 use frame_file::FrameFault;
 use log_file::OpenFault;
 use report_texts::report::Report;
 use std::alloc::{AllocError, Global};
+use tc_core::checking::CheckFault;
+use tc_core::recovery::RecoverFault;
 
 // The line of a fault; want of memory has none.
 fn refusal_line(alloc: Global, fault: OpenFault) -> Result<String, AllocError>
@@ -35,6 +39,25 @@ pub(crate) fn refused(alloc: Global, fault: OpenFault) -> Result<Report, AllocEr
         lines: refusal_line(alloc, fault)?,
         notes: None,
     })
+}
+
+/// The line that says why data components aren't brought to where the log left them; want of memory has
+/// none.
+pub(crate) fn unfit_line(alloc: Global, fault: &ComeBackFault) -> Result<String, AllocError>
+    requires { IsOfLog fault.now }
+    ensures { IfOk result (λ line. unfit_line fault.now ≡ Some (string_bytes line)) }
+{
+    match fault {
+        ComeBackFault::Recover(RecoverFault::Unfit(CheckFault::LogIllegal(place))) => {
+            format!(in alloc; "refused U1 LogIllegal place {place}\n")
+        }
+        ComeBackFault::Recover(RecoverFault::Unfit(CheckFault::Memory)) => Err(AllocError),
+        ComeBackFault::Recover(RecoverFault::Begun) => unreachable!(),
+        ComeBackFault::Recover(RecoverFault::DcCount) => unreachable!(),
+        ComeBackFault::NoRoom(dc) => format!(in alloc; "refused log NoRoom dc {dc}\n"),
+        ComeBackFault::Otherwise(dc) => format!(in alloc; "refused log Otherwise dc {dc}\n"),
+        ComeBackFault::Memory => Err(AllocError),
+    }
 }
 
 /// Adds how many bytes at the end are no whole frame, where there are such.

@@ -7,10 +7,10 @@ use Rattle.log_command.proofs.auditing.beside.Goals as goal
 pub returns-then-eq : goal.returns-then-eq
 returns-then-eq c =
     let same : c.in-Ok.stored.header ≡ header_of (loaded_in c.args.state.now) = search rules in
-    own_is c.args.file.now (loaded_in c.args.state.now) c.in-Ok.stored c.checked.result c.in-Ok.ensures.says same c.checked.ensures
+    own_is c.args.file.now c.args.state.now c.args.dcs.now c.in-Ok.stored c.checked.result c.in-Ok.ensures.says same c.checked.ensures
 
 pub returns : goal.returns
 returns c =
     let differs : ¬ (c.in-Ok.stored.header ≡ header_of (loaded_in c.args.state.now)) = search rules in
-    anothers_is c.args.file.now (loaded_in c.args.state.now) c.in-Ok.stored c.refused-else-eq.result c.in-Ok.ensures.says differs c.refused-else-eq.ensures.line
+    anothers_is c.args.file.now c.args.state.now c.args.dcs.now c.in-Ok.stored c.refused-else-eq.result c.in-Ok.ensures.says differs c.refused-else-eq.ensures.line
     c.refused-else-eq.ensures.status
