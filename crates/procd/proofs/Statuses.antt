@@ -1,5 +1,5 @@
 -- A command's status is 0 or 1.
-use Rattle.std.proofs.Common.{arith, ℕ, Bool, List, length, Option, Some, None}
+use Rattle.std.proofs.Common.{arith, ℕ, Bool, List, length, map, Option, Some, None}
 use Rattle.std.proofs.Common.{true, false}
 use Rattle.std.specs.Prelude.{Result, Ok, Err, ◌≤◌, ◌&&◌, if◌then◌else◌}
 use Rattle.text_commands.specs.Execution.{status_of}
@@ -7,9 +7,9 @@ use Rattle.report_texts.specs.Hex.{Hex, hex_of}
 use Rattle.command_line.specs.Task.{Wish, Exec, Asm, Dis, Verify, World, Run, Log}
 use Rattle.std.specs.List.{list_any}
 use Rattle.scripts.specs.Reading.{Contents, Reading, script_said}
-use Rattle.script_loading.specs.Loading.{refusal_of, with_procedures, empty_core}
+use Rattle.script_loading.specs.Loading.{refusal_of, with_procedures, empty_core, empty_store}
 use Rattle.log_file.specs.declared.stored.Stored.{Stored}
-use Rattle.log_command.specs.LogReport.{IsUnread, IsListing, Listed, Unread, IsChecked, Illegal, Sound}
+use Rattle.log_command.specs.LogReport.{IsUnread, IsListing, Listed, Unread, IsChecked, NotBrought, Audited}
 use Rattle.log_command.specs.LogReport.{IsBeside, NotRead, Anothers, Own, IsAuditBy}
 use Rattle.run_command.specs.Running.{IsRunBy, IsCallsRun, Ran, Stopped, begun, empty_stores}
 use Rattle.run_command.specs.Logged.{FileJournal, KeepsLog, IsLoggedRun, Refused, Behind as GoneOn, IsLoggedBy}
@@ -20,8 +20,7 @@ use Rattle.scripts.specs.declared.reading.Fault.{Fault}
 use Rattle.scripts.specs.declared.script.Call.{Call}
 use Rattle.scripts.specs.declared.script.Procedure.{Procedure}
 use Rattle.data_component.specs.Store.{Store}
-use Rattle.tc_core.specs.Core.{Core, loaded_in}
-use Rattle.tc_core.specs.Loaded.{Loaded}
+use Rattle.tc_core.specs.Core.{Core}
 use Rattle.text_commands.specs.Verification.{is_refused, status_by_fault, status_of_reading}
 use Rattle.procd.specs.Report.{IsReport}
 use Rattle.text_commands.specs.CodeReport.{IsAssembly, IsDisassembly, IsDisassemblyOf, IsHexDisassembly}
@@ -109,20 +108,20 @@ listing_low : (file : List ℕ) (status : ℕ) (lines : List ℕ) → IsListing 
 listing_low file status lines (Listed s is printed zero) = omega (arith, zero)
 listing_low file status lines (Unread h) = unread_low file status lines h
 
-checked_low : (l : Loaded) (s : Stored) (status : ℕ) (lines : List ℕ) → IsChecked l s status lines → status ≤ 1
-checked_low l s status lines (Illegal place first printed one) = omega (arith, one)
-checked_low l s status lines (Sound legal printed zero) = omega (arith, zero)
+checked_low : (start : Core) (empties : List Store) (s : Stored) (status : ℕ) (lines : List ℕ) → IsChecked start empties s status lines → status ≤ 1
+checked_low start empties s status lines (NotBrought back dcs fault why told) = omega (arith, told.1)
+checked_low start empties s status lines (Audited dcs are found) = (let is = found.status_is in omega (arith, is, sound_low found.sound))
 
-beside_low : (file : List ℕ) (l : Loaded) (status : ℕ) (lines : List ℕ) → IsBeside file l status lines → status ≤ 1
-beside_low file l status lines (NotRead h) = unread_low file status lines h
-beside_low file l status lines (Anothers s is differs printed one) = omega (arith, one)
-beside_low file l status lines (Own s is same checked) = checked_low l s status lines checked
+beside_low : (file : List ℕ) (start : Core) (empties : List Store) (status : ℕ) (lines : List ℕ) → IsBeside file start empties status lines → status ≤ 1
+beside_low file start empties status lines (NotRead h) = unread_low file status lines h
+beside_low file start empties status lines (Anothers s is differs printed one) = omega (arith, one)
+beside_low file start empties status lines (Own s is same checked) = checked_low start empties s status lines checked
 
 audit_low : (refusal : Option (List ℕ)) (contents : Contents) (file : List ℕ) (status : ℕ) (lines : List ℕ)
     → IsAuditBy refusal contents file status lines → status ≤ 1
 audit_low (Some refusal) contents file status lines h = omega (arith, h.0)
 audit_low None contents file status lines h =
-    beside_low file (loaded_in (with_procedures (empty_core (length contents.dcs)) contents.procedures)) status lines h
+    beside_low file (with_procedures (empty_core (length contents.dcs)) contents.procedures) (map empty_store contents.dcs) status lines h
 
 pub report_low : (wish : Wish) (text : List ℕ) (status : ℕ) (lines : List ℕ) → IsReport wish text status lines → status ≤ 1
 report_low (Exec raw numbers) text status lines h = omega (arith, h.2, execution_low h.0)
