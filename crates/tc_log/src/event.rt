@@ -3,21 +3,30 @@
 ghost use Rattle.std.specs.Prelude.{◌≡◌, IfOk};
 
 use access_slots::op::{Op, Said};
+use arrayvec::ArrayVec;
 use std::alloc::{AllocError, Global};
 use std::marker::Model;
+
+// The numbers of a call. Up to 8, the most that a procedure takes, lie in place and need no memory of their own.
+#[derive(Debug, Drop)]
+enum Numbers {
+    Few(ArrayVec<u64, 8>),
+    Many(Vec<u64>),
+}
 
 /// The arguments of a call, which contracts see as a list.
 #[derive(Debug, Drop)]
 pub struct Args {
-    numbers: Vec<u64>,
+    numbers: Numbers,
 }
 
 impl Model for Args {
     ghost use Rattle.std.specs.Prelude.{ℕ, List};
+    ghost use Rattle.tc_log.specs.Joining.Listed.{listed};
 
     ghost Value = { List ℕ };
 
-    ghost view = { λ a. a.numbers.items };
+    ghost view = { λ a. listed a.numbers };
 }
 
 impl Args {
@@ -25,23 +34,34 @@ impl Args {
     pub fn from_vec(numbers: Vec<u64>) -> Args
         ensures { result ≡ numbers.items }
     {
+        let numbers = match ArrayVec::try_from(numbers.as_slice()) {
+            Ok(few) => Numbers::Few(few),
+            Err(_) => Numbers::Many(numbers),
+        };
         Args { numbers }
     }
 
-    /// A copy of these numbers.
+    /// A copy of these numbers. It takes memory only for more than 8.
+    #[inline(always)]
     pub fn copy_of(alloc: Global, numbers: &[u64]) -> Result<Args, AllocError>
         ensures { IfOk result (λ a. a ≡ numbers.now) }
     {
-        Ok(Args {
-            numbers: Vec::from_slice(alloc, numbers)?,
-        })
+        let numbers = match ArrayVec::try_from(numbers) {
+            Ok(few) => Numbers::Few(few),
+            Err(_) => Numbers::Many(Vec::from_slice(alloc, numbers)?),
+        };
+        Ok(Args { numbers })
     }
 
     /// The numbers.
+    #[inline(always)]
     pub fn as_slice(&self) -> &[u64]
         ensures { result.now ≡ self.now }
     {
-        self.numbers.as_slice()
+        match &self.numbers {
+            Numbers::Few(few) => few.as_slice(),
+            Numbers::Many(many) => many.as_slice(),
+        }
     }
 }
 
