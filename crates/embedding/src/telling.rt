@@ -10,7 +10,7 @@ use crate::frame::Frame;
 use std::alloc::{AllocError, Global};
 use tc_core::procs::LoadRefusal;
 use tc_core::state::{Asked, Redo, Refusal, Request, TcState};
-use tc_log::event::{Args, Event, Outcome};
+use tc_log::event::{Event, Outcome};
 use tc_log::log::Log;
 use transactions::Site;
 
@@ -152,43 +152,11 @@ pub fn put_site(site: &Site, frame: &mut Frame)
     }
 }
 
-// The same event.
-fn copy_of(alloc: Global, event: &Event) -> Result<Event, AllocError>
-    ensures { IfOk result (λ copy. copy ≡ event.now) }
-{
-    Ok(match event {
-        Event::Admit { txn, proc, args } => Event::Admit {
-            txn: *txn,
-            proc: *proc,
-            args: Args::copy_of(alloc, args.as_slice())?,
-        },
-        Event::Ask { txn, number, op } => Event::Ask {
-            txn: *txn,
-            number: *number,
-            op: *op,
-        },
-        Event::Answer { txn, number, said } => Event::Answer {
-            txn: *txn,
-            number: *number,
-            said: *said,
-        },
-        Event::Undo { txn, number, op } => Event::Undo {
-            txn: *txn,
-            number: *number,
-            op: *op,
-        },
-        Event::End { txn, outcome } => Event::End {
-            txn: *txn,
-            outcome: *outcome,
-        },
-    })
-}
-
 /// The bytes of an event, as a log with it alone has them.
 pub fn bytes_of(alloc: Global, event: &Event) -> Result<Vec<u8>, AllocError>
     ensures { IfOk result (λ bytes. bytes.items ≡ printed event.now) }
 {
-    let event = copy_of(alloc, event)?;
+    let event = event.copied(alloc)?;
     let mut log = Log::new(alloc);
     log.reserve(1)?;
     log.push(event);

@@ -89,3 +89,27 @@ pub enum Event {
     /// It ends, and its locks are free.
     End { txn: u64, outcome: Outcome },
 }
+
+impl Event {
+    ghost use Rattle.std.specs.Prelude.{◌≡◌, IfOk};
+
+    /// The same event once more. It takes memory only for a call with more than 8 arguments.
+    pub fn copied(&self, alloc: Global) -> Result<Event, AllocError>
+        ensures { IfOk result (λ copy. copy ≡ self.now) }
+    {
+        Ok(match *self {
+            Event::Admit {
+                txn,
+                proc,
+                ref args,
+            } => {
+                let args = Args::copy_of(alloc, args.as_slice())?;
+                Event::Admit { txn, proc, args }
+            }
+            Event::Ask { txn, number, op } => Event::Ask { txn, number, op },
+            Event::Answer { txn, number, said } => Event::Answer { txn, number, said },
+            Event::Undo { txn, number, op } => Event::Undo { txn, number, op },
+            Event::End { txn, outcome } => Event::End { txn, outcome },
+        })
+    }
+}

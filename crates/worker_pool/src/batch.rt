@@ -1,10 +1,10 @@
 // Copies of events, which are written without the lock under which the events lie.
 
-ghost use Rattle.std.specs.Prelude.{◌≡◌, ◌++◌, ◌∷◌, reverse, IfOk, OnOk};
+ghost use Rattle.std.specs.Prelude.{◌≡◌, ◌++◌, ◌∷◌, reverse, OnOk};
 
 use std::alloc::{AllocError, Global};
 use std::marker::Model;
-use tc_log::event::{Args, Event};
+use tc_log::event::Event;
 use tc_log::log::Log;
 
 /// Copies of events, as a log of their own. Contracts see them as a list, the oldest event first.
@@ -54,7 +54,7 @@ pub(crate) fn copy_events(alloc: Global, events: &[Event], out: &mut Log) -> Res
     ensures { OnOk result (reverse out.new.events ≡ reverse out.old.events ++ events.now) }
 {
     'events: for event in events {
-        add(out, copy_of(alloc, event)?)?;
+        add(out, event.copied(alloc)?)?;
     }
     Ok(())
 }
@@ -66,36 +66,4 @@ fn add(out: &mut Log, event: Event) -> Result<(), AllocError>
     out.reserve(1)?;
     out.push(event);
     Ok(())
-}
-
-// The same event.
-fn copy_of(alloc: Global, event: &Event) -> Result<Event, AllocError>
-    ensures { IfOk result (λ copy. copy ≡ event.now) }
-{
-    Ok(match event {
-        Event::Admit { txn, proc, args } => Event::Admit {
-            txn: *txn,
-            proc: *proc,
-            args: Args::copy_of(alloc, args.as_slice())?,
-        },
-        Event::Ask { txn, number, op } => Event::Ask {
-            txn: *txn,
-            number: *number,
-            op: *op,
-        },
-        Event::Answer { txn, number, said } => Event::Answer {
-            txn: *txn,
-            number: *number,
-            said: *said,
-        },
-        Event::Undo { txn, number, op } => Event::Undo {
-            txn: *txn,
-            number: *number,
-            op: *op,
-        },
-        Event::End { txn, outcome } => Event::End {
-            txn: *txn,
-            outcome: *outcome,
-        },
-    })
 }
