@@ -73,10 +73,6 @@ impl<D: Device + Drop> LogJournal<D> {
         let Ok(rows) = log.print_from(self.alloc, place) else {
             return Err(NotKept);
         };
-        // Each event's row has 96 bytes: a file of others wouldn't be read again.
-        if rows.len() % 96 != 0 {
-            return Err(NotKept);
-        }
         match self.file.append(self.alloc, &[], &rows) {
             Ok(()) => Ok(()),
             Err(_) => Err(NotKept),

@@ -1,3 +1,4 @@
 pub mod Numbers
 pub mod Again
+pub mod Lengths
 pub mod Only

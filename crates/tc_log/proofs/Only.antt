@@ -1,10 +1,9 @@
 -- Only these events are printed so.
 use Rattle.std.proofs.Common.{arith, ◌≡◌, ℕ, ◌≤◌, nat_le, Bool, true, false, List, [], ◌∷◌, ◌++◌, length, take, drop, sym, refl, ap, ap₂, subst, ◌∙◌}
-use Rattle.std.specs.Prelude.{Option, Some, None, ◌==◌, ◌+◌, ◌-◌, ◌*◌}
+use Rattle.std.specs.Prelude.{Option, Some, None, ◌==◌, ◌+◌, ◌*◌}
 use Rattle.std.specs.List.{flat_map}
-use Rattle.std.specs.Int.{w64, to_le_bytes}
 use Rattle.std.proofs.lemmas.Bool.{cond-true, cond-false, leb-true}
-use Rattle.std.proofs.lemmas.List.{length-append, length-replicate, length-drop, length-take-le, take_all}
+use Rattle.std.proofs.lemmas.List.{length-drop, length-take-le, take_all}
 use Rattle.std.proofs.lemmas.List.{nil_from_length, take_at, drop_at, take-append-le, drop-append-le}
 use Rattle.std.proofs.Math.Seq.{take-add}
 use Rattle.access_slots.specs.declared.op.Op.{Op}
@@ -15,9 +14,10 @@ use Rattle.tc_log.specs.declared.event.Event.{Event}
 use Rattle.tc_log.specs.declared.event.Event.TheVariants.{Admit, Ask, Answer, Undo, End}
 use Rattle.tc_log.specs.declared.event.Outcome.{Outcome}
 use Rattle.tc_log.specs.declared.event.Outcome.TheVariants as outcome
-use Rattle.tc_log.specs.Printed.{Cells, cells_bytes, head_bytes, number_bytes, printed, printed_cells, zeros, args_bytes, op_cells}
+use Rattle.tc_log.specs.Printed.{Cells, printed, printed_cells, zeros, op_cells}
 use Rattle.tc_log.specs.Reading.{cells_in, event_in, IsEvent, IsOp, IsSaid, AreEvents, HaveRows, has_row, AreOnlyOnes}
 use Rattle.tc_log.proofs.Again.{read_back, some_is}
+use Rattle.tc_log.proofs.Lengths.{whole, args_long}
 
 -- each record is read as its event
 abbrev pub AreSeen : List Event → List ℕ → Type 0
@@ -25,17 +25,6 @@ AreSeen [] bytes = length bytes ≡ 0
 AreSeen (e ∷ events) bytes = (event_in (cells_in (take 96 bytes)) ≡ Some e) × AreSeen events (drop 96 bytes)
 
 -- ---- 96 bytes
-
-whole : (c : Cells) → length c.body ≡ 64 → length (cells_bytes c) ≡ 96
-unfolding head_bytes number_bytes
-whole c long = omega (arith, long)
-
-numbers_long : (args : List ℕ) → length (flat_map (to_le_bytes w64) args) ≡ 8 * length args
-numbers_long [] = refl
-numbers_long (n ∷ args) = omega (arith, numbers_long args)
-
-args_long : (args : List ℕ) → length args ≤ 8 → length (args_bytes args) ≡ 64
-args_long args few = omega (arith, few, numbers_long args, length-append (flat_map (to_le_bytes w64) args) (zeros (64 - 8 * length args)), length-replicate {A = ℕ} (64 - 8 * length args) 0)
 
 op_long : (kind txn number : ℕ) (o : Op) → IsOp o → length (op_cells kind txn number o).body ≡ 64
 op_long kind txn number (Read r) is = refl

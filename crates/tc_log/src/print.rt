@@ -7,7 +7,7 @@
 //!  +------+-----+-----------+-------+---+-------------+------+-----+-----------------------+
 //! ```
 
-ghost use Rattle.std.specs.Prelude.{◌≡◌, true, ◌≤◌, ◌++◌, drop, length, IfOk, IfSome, OnOk};
+ghost use Rattle.std.specs.Prelude.{◌≡◌, true, ◌+◌, ◌*◌, ◌≤◌, ◌++◌, drop, length, IfOk, IfSome, OnOk};
 ghost use Rattle.std.specs.List.{flat_map};
 ghost use Rattle.std.specs.Int.{w16, w64, to_le_bytes};
 ghost use Rattle.tc_log.specs.Printed.{op_cells, said_cells, outcome_cells, args_bytes, zeros, cells_of, cells_bytes, head_bytes, number_bytes, printed};
@@ -166,7 +166,8 @@ fn write_long(out: &mut Vec<u8>, number: u64) -> Result<(), AllocError>
 // Eight bytes for each argument, and zeros behind them.
 fn write_args(out: &mut Vec<u8>, args: &[u64]) -> Result<(), AllocError>
     requires { length args.now ≤ 8 }
-    ensures { OnOk result (out.new.items ≡ out.old.items ++ args_bytes args.now) }
+    ensures bytes { OnOk result (out.new.items ≡ out.old.items ++ args_bytes args.now) }
+    ensures long { OnOk result (length out.new.items ≡ length out.old.items + 64) }
 {
     'numbers: for arg in args {
         write_long(out, *arg)?;
@@ -176,7 +177,8 @@ fn write_args(out: &mut Vec<u8>, args: &[u64]) -> Result<(), AllocError>
 
 fn write_body(out: &mut Vec<u8>, body: &Body) -> Result<(), AllocError>
     requires { is_printable body.now ≡ true }
-    ensures { OnOk result (out.new.items ≡ out.old.items ++ body_bytes body.now) }
+    ensures bytes { OnOk result (out.new.items ≡ out.old.items ++ body_bytes body.now) }
+    ensures long { OnOk result (length out.new.items ≡ length out.old.items + 64) }
 {
     match *body {
         Body::Zeros => out.extend_from_slice(&[0; 64]),
@@ -188,7 +190,8 @@ fn write_body(out: &mut Vec<u8>, body: &Body) -> Result<(), AllocError>
 // The first eight bytes.
 #[tactic(auto, unfolding(crate::specs::Printed::head_bytes))]
 fn write_head(out: &mut Vec<u8>, cells: &Cells) -> Result<(), AllocError>
-    ensures { OnOk result (out.new.items ≡ out.old.items ++ head_bytes cells.now.kind cells.now.sub cells.now.dc cells.now.table) }
+    ensures bytes { OnOk result (out.new.items ≡ out.old.items ++ head_bytes cells.now.kind cells.now.sub cells.now.dc cells.now.table) }
+    ensures long { OnOk result (length out.new.items ≡ length out.old.items + 8) }
 {
     out.extend_from_slice(&[cells.kind, cells.sub])?;
     write_short(out, cells.dc)?;
@@ -199,7 +202,8 @@ fn write_head(out: &mut Vec<u8>, cells: &Cells) -> Result<(), AllocError>
 // The three numbers behind them.
 #[tactic(auto, unfolding(crate::specs::Printed::number_bytes))]
 fn write_numbers(out: &mut Vec<u8>, cells: &Cells) -> Result<(), AllocError>
-    ensures { OnOk result (out.new.items ≡ out.old.items ++ number_bytes cells.now.txn cells.now.word cells.now.key) }
+    ensures bytes { OnOk result (out.new.items ≡ out.old.items ++ number_bytes cells.now.txn cells.now.word cells.now.key) }
+    ensures long { OnOk result (length out.new.items ≡ length out.old.items + 24) }
 {
     write_long(out, cells.txn)?;
     write_long(out, cells.word)?;
@@ -209,7 +213,8 @@ fn write_numbers(out: &mut Vec<u8>, cells: &Cells) -> Result<(), AllocError>
 // The cells as bytes.
 fn write_cells(out: &mut Vec<u8>, cells: &Cells) -> Result<(), AllocError>
     requires { is_printable cells.now.body ≡ true }
-    ensures { OnOk result (out.new.items ≡ out.old.items ++ cells_bytes (laid cells.now)) }
+    ensures bytes { OnOk result (out.new.items ≡ out.old.items ++ cells_bytes (laid cells.now)) }
+    ensures long { OnOk result (length out.new.items ≡ length out.old.items + 96) }
 {
     write_head(out, cells)?;
     write_numbers(out, cells)?;
@@ -218,7 +223,8 @@ fn write_cells(out: &mut Vec<u8>, cells: &Cells) -> Result<(), AllocError>
 
 // One event's 96 bytes.
 pub(crate) fn write_event(out: &mut Vec<u8>, event: &Event) -> Result<(), AllocError>
-    ensures { OnOk result (out.new.items ≡ out.old.items ++ printed event.now) }
+    ensures bytes { OnOk result (out.new.items ≡ out.old.items ++ printed event.now) }
+    ensures long { OnOk result (length out.new.items ≡ length out.old.items + 96) }
 {
     match cells_of(event) {
         Some(cells) => write_cells(out, &cells),
@@ -227,21 +233,23 @@ pub(crate) fn write_event(out: &mut Vec<u8>, event: &Event) -> Result<(), AllocE
 }
 
 impl Log {
-    ghost use Rattle.std.specs.Prelude.{◌≡◌, drop, reverse, IfOk};
+    ghost use Rattle.std.specs.Prelude.{◌≡◌, ◌-◌, ◌*◌, drop, length, reverse, IfOk};
     ghost use Rattle.std.specs.List.{flat_map};
     ghost use Rattle.tc_log.specs.Printed.{printed};
 
     /// The events in order, 96 bytes each. An answer Old, an abort with 0 and a call with more
     /// than 8 arguments are 96 zeros, which no event is.
     pub fn print(&self, alloc: Global) -> Result<Vec<u8>, AllocError>
-        ensures { IfOk result (λ bytes. bytes.items ≡ flat_map printed (reverse self.now.events)) }
+        ensures bytes { IfOk result (λ bytes. bytes.items ≡ flat_map printed (reverse self.now.events)) }
+        ensures rows { IfOk result (λ bytes. length bytes.items ≡ 96 * length self.now.events) }
     {
         self.print_from(alloc, 0)
     }
 
     /// The same of the events from this place on, the oldest at 0: nothing where there are no more.
     pub fn print_from(&self, alloc: Global, place: usize) -> Result<Vec<u8>, AllocError>
-        ensures { IfOk result (λ bytes. bytes.items ≡ flat_map printed (drop place (reverse self.now.events))) }
+        ensures bytes { IfOk result (λ bytes. bytes.items ≡ flat_map printed (drop place (reverse self.now.events))) }
+        ensures rows { IfOk result (λ bytes. length bytes.items ≡ 96 * (length self.now.events - place)) }
     {
         print_events(alloc, events_from(self.events(), place))
     }
@@ -260,7 +268,8 @@ fn events_from(events: &[Event], place: usize) -> &[Event]
 }
 
 fn print_events(alloc: Global, events: &[Event]) -> Result<Vec<u8>, AllocError>
-    ensures { IfOk result (λ bytes. bytes.items ≡ flat_map printed events.now) }
+    ensures bytes { IfOk result (λ bytes. bytes.items ≡ flat_map printed events.now) }
+    ensures rows { IfOk result (λ bytes. length bytes.items ≡ 96 * length events.now) }
 {
     let mut out = Vec::with_capacity(alloc, events.len().saturating_mul(96))?;
     'events: for event in events {
