@@ -144,6 +144,72 @@ fn events_in_order(rt: HostRuntime) -> Result<(), Fail> {
     Ok(passed?)
 }
 
+// The same numbers, copied and taken from a vector.
+fn keeps(rt: &impl Abort, alloc: Global, numbers: &[u64]) -> Result<(), AllocError> {
+    let copied = Args::copy_of(alloc, numbers)?;
+    let taken = Args::from_vec(Vec::from_slice(alloc, numbers)?);
+    assert_eq!(rt; copied.as_slice(), numbers);
+    assert_eq!(rt; taken.as_slice(), numbers);
+    Ok(())
+}
+
+#[test]
+fn eight_and_nine_arguments(rt: HostRuntime) -> Result<(), Fail> {
+    let numbers = [1, 2, 3, 4, 5, 6, 7, 8, 9];
+    for count in [0, 8, 9] {
+        keeps(&rt, rt.alloc(), numbers.get(..count).unwrap_or_default())?;
+    }
+    Ok(())
+}
+
+// An event of each kind.
+fn each_kind(alloc: Global, log: &mut Log) -> Result<(), AllocError> {
+    three_events(alloc, log)?;
+    insert(log)?;
+    log.reserve(1)?;
+    let record = Record::default();
+    log.push(Event::Undo {
+        txn: 7,
+        number: 2,
+        op: Op::Update(record, hundred()),
+    });
+    Ok(())
+}
+
+fn copy_all(alloc: Global, log: &Log, copies: &mut Log) -> Result<(), AllocError> {
+    for event in log.events() {
+        copies.reserve(1)?;
+        copies.push(event.copied(alloc)?);
+    }
+    Ok(())
+}
+
+// As text too: an answer Old is printed as zeros.
+fn copies_are_same(
+    rt: &impl Abort,
+    alloc: Global,
+    log: &mut Log,
+    copies: &mut Log,
+) -> Result<(), AllocError> {
+    each_kind(alloc, log)?;
+    copy_all(alloc, log, copies)?;
+    prints(rt, alloc, copies, log.print(alloc)?.as_slice())?;
+    let found = format!(in alloc; "{:?}", copies.events())?;
+    let want = format!(in alloc; "{:?}", log.events())?;
+    assert_eq!(rt; found.as_str(), want.as_str());
+    Ok(())
+}
+
+#[test]
+fn copied_events(rt: HostRuntime) -> Result<(), Fail> {
+    let mut log = Log::new(rt.alloc());
+    let mut copies = Log::new(rt.alloc());
+    let passed = copies_are_same(&rt, rt.alloc(), &mut log, &mut copies);
+    drop(log);
+    drop(copies);
+    Ok(passed?)
+}
+
 // A call of procedure 0 by transaction 1 with the arguments 5 and 100.
 fn call() -> [u8; 96] {
     let mut record = [0u8; 96];
