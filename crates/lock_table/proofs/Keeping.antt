@@ -1,6 +1,6 @@
 -- What the table keeps, as sets come and go.
 use Rattle.std.proofs.Common.{◌≡◌, ℕ, nat_eq, List, sym, ap, ap₂, subst, ◌∙◌}
-use Rattle.std.specs.Prelude.{Option, Some, None, IfNone}
+use Rattle.std.specs.Prelude.{Option, Some, None, IfNone, IfSome}
 use Rattle.std.specs.Map.{lookup}
 use Rattle.indexmap.specs.IndexMap.{IndexMap, get, insert_entry, swap_remove_entry, IsUnique}
 use Rattle.access_slots.specs.declared.slot.Record.{Record}
@@ -18,6 +18,14 @@ use Rattle.lock_table.proofs.Steps.{AreSingle, single}
 -- nothing in the way is what a table that names nothing says
 pub not_busy : (o : Option Busy) (free : Type 0) → o ≡ None → IfNone o free → free
 not_busy o free none says = subst (λ (x : Option Busy). IfNone x free) none says
+
+-- no set is ready
+pub not_ready : (o : Option (List Lock)) (P : List Lock → Type 0) → o ≡ None → IfSome o P
+not_ready o P none = subst (λ (x : Option (List Lock)). IfSome x P) (sym none) tt
+
+-- the set that is ready is the one that was to be
+pub ready_is : (o : Option (List Lock)) (set kept : List Lock) → o ≡ Some set → o ≡ Some kept → kept ≡ set
+ready_is o set kept wanted is = let both : Some kept ≡ Some set = sym is ∙ wanted in cc
 
 module _ (sets : Sets) (t : ℕ) (set : List Lock) (once : AreSingle sets) (nothing : HoldsNothing (held_in sets) t) (compatible : Compatible (held_in sets) (mode_in set)) where
   free : (r : Record) → IsFree (mode_in set r) (readers sets r) (writers sets r)

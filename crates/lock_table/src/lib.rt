@@ -12,6 +12,7 @@
 //! (`waits_for_all` in `lock_tests` of `lower_tests`, which has its tests, with releases behind it.)
 #![tactic(auto)]
 
+mod held;
 pub mod table;
 
 pub use table::{Busy, LockTable};

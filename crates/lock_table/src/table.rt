@@ -1,6 +1,6 @@
 //! The table of locks.
 
-ghost use Rattle.std.specs.Prelude.{ℕ, ◌≡◌, ◌==◌, nat_eq, false, ◌↔◌, ◌+◌, ◌≤◌, ◌<◌, ◌^◌, Some, None, true, length, IfErr, IfSome, IfNone, OnErr, OnOk, IsTrue, IsFalse, is_some};
+ghost use Rattle.std.specs.Prelude.{ℕ, if◌then◌else◌, ◌≡◌, ◌==◌, nat_eq, false, ◌↔◌, ◌+◌, ◌≤◌, ◌<◌, ◌^◌, Some, None, true, length, vec_len, vec_capacity, ◌++◌, option_to_list, IfOk, IfErr, IfSome, IfNone, OnErr, OnOk, IsTrue, IsFalse, is_some};
 ghost use Rattle.indexmap.specs.IndexMap.{get, spare, index_map_len, insert_entry, Updates, IsUnique};
 ghost use Rattle.access_slots.specs.declared.slot.Record.{Record};
 ghost use Rattle.access_slots.specs.declared.slot.Mode.{Mode as ModeValue};
@@ -10,6 +10,7 @@ ghost use Rattle.lock_table.specs.Facts.{held_by, nobody, granted, released, Are
 ghost use Rattle.lock_table.specs.Holds.{hold_mode, held_more, held_less, AreHolds, AreFew};
 ghost use Rattle.lock_table.specs.Joining.Barring.{least, least_holder, first_busy};
 
+use crate::held::HeldLocks;
 use access_slots::lock::{Lock, LockSet};
 use access_slots::slot::{Mode, Record};
 use indexmap::IndexMap;
@@ -34,11 +35,14 @@ struct Hold {
 /// The locks that transactions hold, by their serial numbers (Lomet, Fekete, Weikum, Zwilling,
 /// CIDR 2009: the transaction component locks records). Contracts see who holds which record in
 /// which mode, and the set that is ready to be granted.
+// `idle` has what earlier transactions had their locks in: the next ones need no memory of their own.
 #[derive(Drop)]
 pub struct LockTable {
+    alloc: Global,
     records: IndexMap<Record, Hold>,
-    sets: IndexMap<u64, LockSet>,
-    reserved: Option<LockSet>,
+    sets: IndexMap<u64, HeldLocks>,
+    reserved: Option<HeldLocks>,
+    idle: Vec<HeldLocks>,
 }
 
 impl Model for LockTable {
@@ -60,14 +64,17 @@ impl LockTable {
         ensures reserved { result.reserved ≡ None }
     {
         LockTable {
+            alloc,
             records: IndexMap::new(alloc),
             sets: IndexMap::new(alloc),
             reserved: None,
+            idle: Vec::new(alloc),
         }
     }
 
     /// What stands in the way of these locks, ready or not: nothing exactly where each record is
     /// free or held for reading alone and wanted for reading.
+    #[inline(always)]
     pub fn busy(&self, set: &LockSet) -> Option<Busy>
         ensures none { IfNone result (Compatible (held_by self.now) (mode_in set.now)) }
         ensures some { IfSome result (λ b. IsFirstInTheWay (held_by self.now) (mode_in set.now) b.name b.holder) }
@@ -85,6 +92,7 @@ impl LockTable {
 
     /// Makes the set ready until the next grant or release. No lock is changed; a refusal leaves
     /// the table as it was.
+    #[inline(always)]
     pub fn reserve(&mut self, set: &LockSet) -> Result<(), AllocError>
         ensures held { AreHeld self.new (held_by self.old) }
         ensures ok { OnOk result (self.new.reserved ≡ Some set.now) }
@@ -92,7 +100,9 @@ impl LockTable {
     {
         self.records.reserve(set.locks().len())?;
         self.sets.reserve(1)?;
-        self.reserved = Some(set.copied());
+        let most = self.sets.len() + 2;
+        let copy = copied(self.alloc, &mut self.idle, most, set)?;
+        put_back(&mut self.idle, self.reserved.replace(copy));
         Ok(())
     }
 
@@ -109,6 +119,7 @@ impl LockTable {
     /// Gives the transaction, which holds nothing, these locks, all or none; refused exactly where
     /// something stands in their way, and then nothing is changed. It takes no memory: the set has
     /// to be ready.
+    #[inline(always)]
     pub fn grant(&mut self, txn: u64, set: &LockSet) -> Result<(), Busy>
         requires ready { self.old.reserved ≡ Some set.now }
         requires nothing { HoldsNothing (held_by self.old) txn }
@@ -122,34 +133,73 @@ impl LockTable {
         if let Some(busy) = self.busy(set) {
             return Err(busy);
         }
-        self.reserved = None;
         few(&self.sets);
         add_holders(&mut self.records, set.locks());
-        put_set(&mut self.sets, txn, set.copied());
+        match self.reserved.take() {
+            Some(reserved) => put_set(&mut self.sets, txn, reserved),
+            None => unreachable!(),
+        }
         Ok(())
     }
 
     /// Takes away the transaction's locks alone. It takes no memory.
+    #[inline(always)]
     pub fn release(&mut self, txn: u64)
         ensures held { AreHeld self.new (released (held_by self.old) txn) }
         ensures spent { self.new.reserved ≡ None }
     {
-        self.reserved = None;
+        put_back(&mut self.idle, self.reserved.take());
         if let Some(set) = self.sets.swap_remove(&txn) {
             take_holders(&mut self.records, set.locks());
+            put_back(&mut self.idle, Some(set));
+        }
+    }
+}
+
+// These locks once more, where those of an earlier transaction were. Where nothing is idle, room is made
+// for so many to come back to: those of the open transactions, of the set that was ready, and these.
+#[inline(always)]
+fn copied(
+    alloc: Global,
+    idle: &mut Vec<HeldLocks>,
+    most: usize,
+    set: &LockSet,
+) -> Result<HeldLocks, AllocError>
+    ensures { IfOk result (λ held. held ≡ set.now) }
+{
+    let held = match idle.pop() {
+        Some(held) => held,
+        None => {
+            idle.reserve(most)?;
+            HeldLocks::new(alloc)?
+        }
+    };
+    held.refilled(set)
+}
+
+// What is no longer held is kept for the next locks, where there is room for it.
+#[inline(always)]
+fn put_back(idle: &mut Vec<HeldLocks>, held: Option<HeldLocks>)
+    ensures { vec_len idle.old < vec_capacity idle.old → idle.new.items ≡ idle.old.items ++ option_to_list held }
+{
+    if let Some(held) = held {
+        if idle.len() < idle.capacity() {
+            idle.push_reserved(held);
         }
     }
 }
 
 // What a map says of how many entries it has.
-fn few(sets: &IndexMap<u64, LockSet>)
+#[inline(always)]
+fn few(sets: &IndexMap<u64, HeldLocks>)
     ensures { index_map_len sets.now < 2 ^ 63 }
 {
     let _transactions = sets.len();
 }
 
 // The transaction has this set. There has to be room.
-fn put_set(sets: &mut IndexMap<u64, LockSet>, txn: u64, set: LockSet)
+#[inline(always)]
+fn put_set(sets: &mut IndexMap<u64, HeldLocks>, txn: u64, set: HeldLocks)
     requires { 0 < spare sets.old }
     ensures updates { Updates nat_eq sets.old sets.new txn (Some set) }
     ensures entries { sets.new.entries ≡ insert_entry nat_eq sets.old.entries txn set }
@@ -162,30 +212,26 @@ fn put_set(sets: &mut IndexMap<u64, LockSet>, txn: u64, set: LockSet)
 }
 
 // The lock's record has one holder more; one that nobody holds takes the lock's mode.
+#[inline(always)]
 fn add_holder(records: &mut IndexMap<Record, Hold>, lock: &Lock)
     requires room { 0 < spare records.old }
     requires few { IfSome (get record_eq records.old lock.now.«record») (λ h. h.holders < 2 ^ 63) }
-    ensures updates { Updates record_eq records.old records.new lock.now.«record»
-        (held_more (Some lock.now.mode) (get record_eq records.old lock.now.«record»)) }
+    ensures held { (r : Record) → get record_eq records.new r ≡ (if record_eq lock.now.«record» r then
+        held_more (Some lock.now.mode) (get record_eq records.old lock.now.«record») else get record_eq records.old r) }
     ensures room { spare records.old ≤ spare records.new + 1 }
 {
-    let hold = match records.get(&lock.record) {
-        Some(hold) => Hold {
-            mode: hold.mode,
-            holders: hold.holders + 1,
-        },
-        None => Hold {
-            mode: lock.mode,
-            holders: 1,
-        },
+    let free = Hold {
+        mode: lock.mode,
+        holders: 0,
     };
-    match records.insert(lock.record, hold) {
-        Ok(_before) => {}
+    match records.entry(lock.record) {
+        Ok(entry) => entry.or_insert(free).holders += 1,
         Err(_) => unreachable!(),
     }
 }
 
 // Each of these records has one holder more. There has to be room for all of them.
+#[inline(always)]
 fn add_holders(records: &mut IndexMap<Record, Hold>, locks: &[Lock])
     requires room { length locks.now ≤ spare records.old }
     requires rising { Rising locks.now }
@@ -198,6 +244,7 @@ fn add_holders(records: &mut IndexMap<Record, Hold>, locks: &[Lock])
 }
 
 // The lock's record has one holder less; one without holders is taken out.
+#[inline(always)]
 fn take_holder(records: &mut IndexMap<Record, Hold>, lock: &Lock)
     ensures { Updates record_eq records.old records.new lock.now.«record»
         (held_less (Some lock.now.mode) (get record_eq records.old lock.now.«record»)) }
@@ -220,6 +267,7 @@ fn take_holder(records: &mut IndexMap<Record, Hold>, lock: &Lock)
 }
 
 // Each of these records has one holder less.
+#[inline(always)]
 fn take_holders(records: &mut IndexMap<Record, Hold>, locks: &[Lock])
     requires { Rising locks.now }
     ensures { (r : Record) → get record_eq records.new r ≡ held_less (mode_in locks.now r) (get record_eq records.old r) }
@@ -240,6 +288,7 @@ fn is_in(records: &IndexMap<Record, Hold>, name: &Record) -> bool
 }
 
 // Whether the lock's record is held in a mode that excludes the lock.
+#[inline(always)]
 fn is_barred(records: &IndexMap<Record, Hold>, lock: &Lock) -> bool
     ensures { result ≡ excludes (Some lock.now.mode) (hold_mode (get record_eq records.now lock.now.«record»)) }
 {
@@ -259,7 +308,7 @@ fn least(txn: u64, other: Option<u64>) -> u64
 }
 
 // The least transaction with a lock that excludes this one, by a look at all of them.
-fn least_holder(sets: &IndexMap<u64, LockSet>, lock: &Lock) -> Option<u64>
+fn least_holder(sets: &IndexMap<u64, HeldLocks>, lock: &Lock) -> Option<u64>
     ensures { result ≡ least_holder sets.now.entries lock.now }
 {
     let mut holder = None;
@@ -272,9 +321,10 @@ fn least_holder(sets: &IndexMap<u64, LockSet>, lock: &Lock) -> Option<u64>
 }
 
 // The first of these locks that is barred, and its least holder.
+#[inline(always)]
 fn first_busy(
     records: &IndexMap<Record, Hold>,
-    sets: &IndexMap<u64, LockSet>,
+    sets: &IndexMap<u64, HeldLocks>,
     locks: &[Lock],
 ) -> Option<Busy>
     requires { AreHolds sets.now.entries records.now }

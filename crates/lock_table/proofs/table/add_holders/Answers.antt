@@ -13,7 +13,7 @@ loop-lock-preserved c =
     let new = get record_eq c.add_holder.new.records in
     let inside = c.loop-lock-test.true in
     let rises = c.loop-lock.invariant.rising in
-    let step = c.add_holder.ensures.updates.0 in
+    let step = c.add_holder.ensures.held in
     record {
       rising = rising_after locks i inside rises;
       few = few_after locks i inside rises held_more _ now new step c.loop-lock.invariant.few;
