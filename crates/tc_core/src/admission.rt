@@ -17,10 +17,11 @@ use crate::book::Book;
 use crate::procs::Procs;
 use crate::state::{Call, Refusal, TxnId};
 use crate::transaction::{Own, calls_of};
+use crate::undos::Undos;
 use access_slots::lock::LockSet;
 use lock_table::table::LockTable;
 use std::alloc::{AllocError, Global};
-use tc_log::event::Event;
+use tc_log::event::{Args, Event};
 use verifier::verify::Verified;
 
 // The procedure of a call that has as many arguments as it takes.
@@ -73,13 +74,15 @@ fn is_spent(last: u64, promised: u64, calls: usize) -> bool
 }
 
 impl Book {
-    /// Makes room for a call. What is there stays.
+    /// Makes room for a call, and answers that for what undoes its writes. What is there stays.
     #[inline(always)]
-    fn make_room(&mut self, calls: usize, set: &LockSet) -> Result<(), AllocError>
+    fn make_room(&mut self, calls: usize, set: &LockSet) -> Result<Undos, AllocError>
         requires sum { self.old.numbers.last + self.old.promised ≤ 2 ^ 62 }
         requires few { calls ≤ 4096 }
         ensures kept { OnlyRoom self.old self.new }
         ensures room { OnOk result (HasRoom self.new calls set.now) }
+        ensures undone { IfOk result (λ u. u.ops ≡ []) }
+        ensures undo { IfOk result (λ u. calls ≤ u.room) }
     {
         let Some(events) = self.owed.checked_add(10 * calls + 2) else {
             return Err(AllocError);
@@ -89,7 +92,8 @@ impl Book {
         self.numbers.reserve(self.txns.capacity())?;
         self.log.reserve(events)?;
         self.given_up.reserve(most)?;
-        self.locks.reserve(set)
+        self.locks.reserve(set)?;
+        self.txns.undo_room(calls)
     }
 
     // A call that may be admitted, and has its room, is admitted.
@@ -142,11 +146,16 @@ impl Book {
         if is_spent(self.numbers.last(), self.promised, calls) {
             return Err(Refusal::NumbersSpent);
         }
-        let Ok(own) = Own::new(alloc, calls, call.args.as_slice(), set) else {
+        let Ok(args) = Args::copy_of(alloc, call.args.as_slice()) else {
             return Err(Refusal::Memory);
         };
-        let Ok(()) = self.make_room(calls, &own.locks) else {
+        let Ok(undo) = self.make_room(calls, &set) else {
             return Err(Refusal::Memory);
+        };
+        let own = Own {
+            undo,
+            args,
+            locks: set,
         };
         Ok(self.enter(procs, code, call.proc, own))
     }

@@ -1,7 +1,7 @@
 // The open transactions.
 
 ghost use Rattle.std.specs.Prelude.{◌≡◌, ◌≢◌, ◌↔◌, ◌+◌, ◌<◌, ◌≤◌, ℕ, [], length, Some, None, true, false, nat_eq};
-ghost use Rattle.std.specs.Prelude.{IsTrue, IfSome, IfNone, OnOk, vec_len, vec_capacity};
+ghost use Rattle.std.specs.Prelude.{IsTrue, IfSome, IfNone, IfOk, OnOk, vec_len, vec_capacity};
 ghost use Rattle.slab.specs.Slab.{get, slab_len, Updates, ContainsKey, HasRoomFor};
 ghost use Rattle.indexmap.specs.IndexMap.{spare, Updates as KeyUpdates};
 ghost use Rattle.transactions.specs.Standing.{Standing};
@@ -24,6 +24,7 @@ use indexmap::IndexMap;
 use slab::Slab;
 use std::alloc::{AllocError, Global};
 use std::marker::Model;
+use std::mem;
 use tc_log::event::Outcome;
 use transactions::{Next, Sent};
 use verifier::verify::Verified;
@@ -148,6 +149,22 @@ impl OpenTxns {
     {
         self.keys.reserve(1)?;
         add_box(self.alloc, &mut self.txns, &mut self.boxes, locks)
+    }
+
+    /// Room for what undoes so many writes: that of the box in which the next transaction begins, and more
+    /// where it isn't enough.
+    #[inline(always)]
+    pub fn undo_room(&mut self, writes: usize) -> Result<Undos, AllocError>
+        ensures same { self.new ≡ self.old }
+        ensures ops { IfOk result (λ u. u.ops ≡ []) }
+        ensures room { IfOk result (λ u. writes ≤ u.room) }
+    {
+        let none = Undos::new(self.alloc);
+        let kept = match self.boxes.last_mut() {
+            Some(tx) => mem::replace(&mut tx.undo, none),
+            None => none,
+        };
+        kept.emptied(writes)
     }
 
     /// A transaction begins, under a serial number that no other has, and has run to its first

@@ -150,7 +150,7 @@ impl Tx {
         ensures { next_by self.now.sent self.now.full (first_undo self.now.undo.ops) self.now.tries self.now.last
             (as_reached self.now.pause) ≡ Some result }
     {
-        if let Some(sent) = self.sent {
+        if let Some(sent) = &self.sent {
             return Next::Waits(sent.number);
         }
         let left = self.undo.first();
@@ -286,7 +286,7 @@ impl Tx {
     pub fn awaits(&self, number: u64, op: &Op) -> bool
         ensures { IsTrue result ↔ Awaits self.now number op.now }
     {
-        let Some(sent) = self.sent else {
+        let Some(sent) = &self.sent else {
             return false;
         };
         sent.number == number && sent.op == *op
@@ -297,7 +297,7 @@ impl Tx {
     pub fn accepts(&self, number: u64, op: &Op, reply: &Reply) -> bool
         ensures { IsTrue result ↔ Accepts self.now number op.now reply.now.number reply.now.said }
     {
-        let Some(sent) = self.sent else {
+        let Some(sent) = &self.sent else {
             return false;
         };
         sent.number == number && sent.op == *op && reply.number == number && fits(op, &reply.said)
@@ -328,18 +328,4 @@ pub struct Own {
     pub undo: Undos,
     pub args: Args,
     pub locks: LockSet,
-}
-
-impl Own {
-    /// For so many calls.
-    pub fn new(alloc: Global, calls: usize, args: &[u64], locks: LockSet) -> Result<Own, AllocError>
-        ensures ops { IfOk result (λ own. own.undo.ops ≡ []) }
-        ensures room { IfOk result (λ own. calls ≤ own.undo.room) }
-        ensures args { IfOk result (λ own. own.args ≡ args.now) }
-        ensures locks { IfOk result (λ own. own.locks ≡ locks) }
-    {
-        let undo = Undos::with_room(alloc, calls)?;
-        let args = Args::copy_of(alloc, args)?;
-        Ok(Own { undo, args, locks })
-    }
 }

@@ -34,12 +34,14 @@ impl Undos {
         }
     }
 
-    /// None yet, with room for so many.
-    pub fn with_room(alloc: Global, most: usize) -> Result<Undos, AllocError>
+    /// None any more, with room for so many in the memory that it has, or in more.
+    #[inline(always)]
+    pub fn emptied(self, most: usize) -> Result<Undos, AllocError>
         ensures ops { IfOk result (λ u. u.ops ≡ []) }
         ensures room { IfOk result (λ u. most ≤ u.room) }
     {
-        let mut ops = Vec::new(alloc);
+        let Undos { mut ops } = self;
+        ops.clear();
         ops.reserve(most)?;
         Ok(Undos { ops })
     }

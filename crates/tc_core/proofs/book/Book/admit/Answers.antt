@@ -1,6 +1,5 @@
-use Rattle.std.proofs.Common.{◌∙◌, ap, List}
-use Rattle.access_slots.specs.declared.lock.Lock.{Lock}
-use Rattle.access_slots.specs.Locks.{mode_in}
+use Rattle.std.proofs.Common.{◌∙◌}
+use Rattle.tc_core.specs.declared.transaction.Own.{Own}
 use Rattle.tc_core.specs.Admission.{call_of}
 use Rattle.tc_core.proofs.AdmitLemmas.{book-room, free-call, busy-call, few-needed, many-needed, may-enter}
 use Rattle.tc_core.proofs.book.Book.admit.Goals as goal
@@ -22,8 +21,8 @@ returns-then-is_spent-clause-refused c =
       many-needed c.args.procs.now c.args.self.now q c.last.result c.calls_of-calls.result c.is_spent.result c.requires c.last.ensures.value c.calls_of-calls.ensures.calls c.is_spent.ensures c.if-is_spent.true,
     )
 
-pub returns-in_default-new-clause-refused : goal.returns-in_default-new-clause-refused
-returns-in_default-new-clause-refused c =
+pub returns-in_default-copy_of-clause-refused : goal.returns-in_default-copy_of-clause-refused
+returns-in_default-copy_of-clause-refused c =
     let call = call_of c.args.call.now in
     let q = c.in_ok-code.code.now in
     let called = c.in_ok-code.ensures.ok in
@@ -60,13 +59,12 @@ enter-requires c =
     let call = call_of c.args.call.now in
     let q = c.in_ok-code.code.now in
     let called = c.in_ok-code.ensures.ok in
-    let own = c.in-Ok.own in
+    let own : Own = record { undo = c.in-Ok-make_room.undo; args = c.in-Ok.args; locks = c.locks_of-set.result } in
     let free = free-call c.args.procs.now.codes c.args.self.now call q c.as_slice.result.now c.locks_of-set.result c.requires called c.as_slice.ensures.value c.locks_of-set.ensures.locks c.in_default.ensures.none in
     let few = few-needed c.args.procs.now c.args.self.now q c.last.result c.calls_of-calls.result c.is_spent.result c.requires c.last.ensures.value c.calls_of-calls.ensures.calls c.is_spent.ensures c.if-is_spent.false in
     may-enter c.args.procs.now c.args.self.now c.make_room.new.self call q c.as_slice.result.now own c.calls_of-calls.result
-    c.requires called free few c.as_slice.ensures.value
-    (λ r. ap (λ (ls : List Lock). mode_in ls r) c.in-Ok.ensures.locks ∙ c.locks_of-set.ensures.locks r)
-    (c.in-Ok.ensures.args ∙ c.as_slice-2.ensures.value) c.in-Ok.ensures.ops c.in-Ok.ensures.room c.calls_of-calls.ensures.calls
+    c.requires called free few c.as_slice.ensures.value c.locks_of-set.ensures.locks
+    (c.in-Ok.ensures ∙ c.as_slice-2.ensures.value) c.in-Ok-make_room.ensures.undone c.in-Ok-make_room.ensures.undo c.calls_of-calls.ensures.calls
     c.make_room.ensures.kept c.in-Ok-make_room.ensures.room
 
 pub returns-in_default-make_room-clause-kept : goal.returns-in_default-make_room-clause-kept
