@@ -37,8 +37,14 @@ pub struct OpenTxns {
     alloc: Global,
     txns: Slab<Box<Tx>>,
     keys: IndexMap<u64, usize>,
+    // For serial numbers in a row a key each: that of the one that began last. It is looked at before
+    // `keys`, and holds where that one stands there.
+    hints: [usize; HINTS],
     boxes: Vec<Box<Tx>>,
 }
+
+// How many transactions may be open at a time, of serial numbers in a row, so that each has a hint.
+const HINTS: usize = 64;
 
 impl Model for OpenTxns {
     ghost use Rattle.std.specs.Prelude.{vec_len};
@@ -101,6 +107,24 @@ fn list_key(keys: &mut IndexMap<u64, usize>, serial: u64, key: usize)
     }
 }
 
+// The transaction with this serial number stands at the key.
+#[inline(always)]
+fn give_hint(hints: &mut [usize], serial: u64, key: usize) {
+    if let Some(hint) = hints.get_mut(serial as usize % HINTS) {
+        *hint = key;
+    }
+}
+
+// The key of the transaction with this serial number, where its hint holds.
+#[inline(always)]
+fn hinted(hints: &[usize], txns: &Slab<Box<Tx>>, serial: u64) -> Option<usize>
+    ensures { (n : ℕ) → IfSome result (λ key. StandsAt (unboxed n txns.now) key serial) }
+{
+    let key = *hints.get(serial as usize % HINTS)?;
+    let tx = txns.get(key)?;
+    if tx.serial == serial { Some(key) } else { None }
+}
+
 // Whether each transaction whose locks exclude these is in doubt or stuck.
 fn none_holds_up(txns: &Slab<Box<Tx>>, wanted: &LockSet) -> bool
     ensures all { IsTrue result → (n : ℕ) → AllStandStill (unboxed n txns.now) wanted.now }
@@ -123,6 +147,7 @@ impl OpenTxns {
             alloc,
             txns: Slab::new(alloc),
             keys: IndexMap::new(alloc),
+            hints: [0; HINTS],
             boxes: Vec::new(alloc),
         }
     }
@@ -189,6 +214,7 @@ impl OpenTxns {
         tx.begin(code, serial, proc, args, undo, locks);
         let key = self.txns.insert_reserved(tx);
         list_key(&mut self.keys, serial, key);
+        give_hint(&mut self.hints, serial, key);
         key
     }
 
@@ -204,13 +230,25 @@ impl OpenTxns {
         self.boxes.push_reserved(tx);
     }
 
-    /// The key of the transaction with this serial number, by one look.
+    // The key of the transaction with this serial number, as it is listed.
+    #[inline(always)]
+    fn listed(&self, serial: u64) -> Option<usize>
+        ensures found { IfSome result (λ key. StandsAt self.now key serial) }
+        ensures absent { IfNone result ((key : ℕ) (tx : TxValue) → get self.now key ≡ Some tx → tx.serial ≢ serial) }
+    {
+        self.keys.get(&serial).copied()
+    }
+
+    /// The key of the transaction with this serial number: by one look where its hint holds, else by two.
     #[inline(always)]
     pub fn find(&self, serial: u64) -> Option<usize>
         ensures found { IfSome result (λ key. StandsAt self.now key serial) }
         ensures absent { IfNone result ((key : ℕ) (tx : TxValue) → get self.now key ≡ Some tx → tx.serial ≢ serial) }
     {
-        self.keys.get(&serial).copied()
+        match hinted(&self.hints, &self.txns, serial) {
+            Some(key) => Some(key),
+            None => self.listed(serial),
+        }
     }
 
     /// The transaction at a key.
