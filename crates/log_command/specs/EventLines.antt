@@ -3,18 +3,11 @@ use Rattle.std.specs.Prelude.{ℕ, ◌+◌, List, [], ◌∷◌, ◌++◌, codes
 use Rattle.std.specs.List.{flat_map}
 use Rattle.tc_log.specs.declared.event.Event.{Event}
 use Rattle.tc_log.specs.declared.event.Event.TheVariants.{Admit, Ask, Answer, Undo, End}
-use Rattle.tc_log.specs.declared.event.Outcome.{Outcome}
-use Rattle.tc_log.specs.declared.event.Outcome.TheVariants.{Committed, Aborted, NoRoom}
-use Rattle.state_lines.specs.OperationTexts.{op_text, said_text}
+use Rattle.state_lines.specs.OperationTexts.{op_text, said_text, outcome_text}
 
 -- each behind a space
 abbrev pub arguments_text : List ℕ → List ℕ
 arguments_text args = flat_map (λ arg. codes " " ++ decimal arg) args
-
-abbrev pub ending_text : Outcome → List ℕ
-ending_text Committed = codes "committed"
-ending_text (Aborted v) = codes "aborted " ++ decimal v
-ending_text NoRoom = codes "noroom"
 
 -- its place in the log, what it is, and its transaction's serial number
 abbrev pub event_line : ℕ → Event → List ℕ
@@ -26,7 +19,7 @@ event_line place (Answer t n said) =
     decimal place ++ (codes " answer " ++ (decimal t ++ (codes " number " ++ (decimal n ++ (codes " " ++ (said_text said ++ codes "\n"))))))
 event_line place (Undo t n o) =
     decimal place ++ (codes " undo " ++ (decimal t ++ (codes " number " ++ (decimal n ++ (codes " " ++ (op_text o ++ codes "\n"))))))
-event_line place (End t o) = decimal place ++ (codes " end " ++ (decimal t ++ (codes " " ++ (ending_text o ++ codes "\n"))))
+event_line place (End t o) = decimal place ++ (codes " end " ++ (decimal t ++ (codes " " ++ (outcome_text o ++ codes "\n"))))
 
 -- of events in order, the first of them at this place
 abbrev pub event_lines : ℕ → List Event → List ℕ

@@ -1,11 +1,11 @@
 //! The lines of events.
 
 ghost use Rattle.std.specs.Prelude.{◌≡◌, ◌++◌, IfOk, OnOk, string_bytes};
-ghost use Rattle.log_command.specs.EventLines.{arguments_text, ending_text, event_line, event_lines};
+ghost use Rattle.log_command.specs.EventLines.{arguments_text, event_line, event_lines};
 
-use state_lines::operation_texts::{op_text, said_text};
+use state_lines::operation_texts::{op_text, outcome_text, said_text};
 use std::alloc::{AllocError, Global};
-use tc_log::event::{Args, Event, Outcome};
+use tc_log::event::{Args, Event};
 
 // Each argument behind a space.
 fn arguments_text(alloc: Global, args: &Args) -> Result<String, AllocError>
@@ -17,16 +17,6 @@ fn arguments_text(alloc: Global, args: &Args) -> Result<String, AllocError>
         text.push_str(piece.as_str())?;
     }
     Ok(text)
-}
-
-fn ending_text(alloc: Global, outcome: Outcome) -> Result<String, AllocError>
-    ensures { IfOk result (λ s. string_bytes s ≡ ending_text outcome) }
-{
-    match outcome {
-        Outcome::Committed => String::from_str(alloc, "committed"),
-        Outcome::Aborted(value) => format!(in alloc; "aborted {value}"),
-        Outcome::NoRoom => String::from_str(alloc, "noroom"),
-    }
 }
 
 // The line of the event at this place of the log, from 0.
@@ -51,8 +41,8 @@ fn event_line(alloc: Global, place: usize, event: &Event) -> Result<String, Allo
             format!(in alloc; "{place} undo {txn} number {number} {op}\n")
         }
         Event::End { txn, outcome } => {
-            let ending = ending_text(alloc, *outcome)?;
-            format!(in alloc; "{place} end {txn} {ending}\n")
+            let outcome = outcome_text(alloc, *outcome)?;
+            format!(in alloc; "{place} end {txn} {outcome}\n")
         }
     }
 }

@@ -1,8 +1,6 @@
 -- The lines that say how a run goes on from a log's file, and why it doesn't.
 use Rattle.std.specs.Prelude.{ℕ, ◌==◌, if◌then◌else◌, List, [], ◌++◌, length, Option, Some, None, codes, decimal}
 use Rattle.std.specs.List.{flat_map}
-use Rattle.tc_log.specs.declared.event.Outcome.{Outcome}
-use Rattle.tc_log.specs.declared.event.Outcome.TheVariants as outcome
 use Rattle.frame_file.specs.declared.reading.FrameFault.TheVariants.{Device, Full, Damaged}
 use Rattle.log_file.specs.declared.reading.OpenFault.{OpenFault}
 use Rattle.log_file.specs.declared.reading.OpenFault.TheVariants.{Frames, Empty, Other, NoBatch, Row}
@@ -12,6 +10,7 @@ use Rattle.coming_back.specs.declared.coming.ComeBackFault.{ComeBackFault}
 use Rattle.coming_back.specs.declared.coming.ComeBackFault.TheVariants.{Recover, NoRoom, Otherwise, Memory}
 use Rattle.coming_back.specs.declared.resumed.Resumed.{Resumed}
 use Rattle.coming_back.specs.declared.resumed.Resumed.TheVariants.{Ended, InDoubt}
+use Rattle.state_lines.specs.OperationTexts.{outcome_text}
 
 -- why a log's file isn't read; the disk's faults and want of memory have no line
 abbrev pub open_refusal : OpenFault → Option (List ℕ)
@@ -32,11 +31,6 @@ back_refusal (Recover DcCount) = Some (codes "refused log DcCount\n")
 back_refusal (NoRoom dc) = Some (codes "refused log NoRoom dc " ++ (decimal dc ++ codes "\n"))
 back_refusal (Otherwise dc) = Some (codes "refused log Otherwise dc " ++ (decimal dc ++ codes "\n"))
 back_refusal Memory = None
-
-abbrev pub outcome_text : Outcome → List ℕ
-outcome_text outcome.Committed = codes "committed"
-outcome_text (outcome.Aborted value) = codes "aborted " ++ decimal value
-outcome_text outcome.NoRoom = codes "noroom"
 
 -- what came of a transaction that was open
 abbrev pub resumed_line : Resumed → List ℕ

@@ -1,15 +1,15 @@
 //! The lines that say how a run goes on from a log's file, and why it doesn't.
 
 ghost use Rattle.std.specs.Prelude.{◌≡◌, ◌++◌, IfOk, OnOk, option_map, string_bytes};
-ghost use Rattle.run_command.specs.LogLines.{open_refusal, back_refusal, recovered_line, dropped_line, outcome_text, resumed_line, resumed_lines, back_lines};
+ghost use Rattle.run_command.specs.LogLines.{open_refusal, back_refusal, recovered_line, dropped_line, resumed_line, resumed_lines, back_lines};
 
 use coming_back::{ComeBackFault, Resumed};
 use frame_file::FrameFault;
 use log_file::OpenFault;
+use state_lines::operation_texts::outcome_text;
 use std::alloc::{AllocError, Global};
 use tc_core::checking::CheckFault;
 use tc_core::recovery::RecoverFault;
-use tc_log::event::Outcome;
 
 /// The line that says why a log's file isn't read. There is none where the disk failed or memory ran out.
 pub fn open_refusal(alloc: Global, fault: &OpenFault) -> Result<Option<String>, AllocError>
@@ -53,17 +53,6 @@ pub fn back_refusal(alloc: Global, fault: &ComeBackFault) -> Result<Option<Strin
         }
         ComeBackFault::Memory => None,
     })
-}
-
-// How a transaction ended.
-fn outcome_text(alloc: Global, outcome: Outcome) -> Result<String, AllocError>
-    ensures { IfOk result (λ s. string_bytes s ≡ outcome_text outcome) }
-{
-    match outcome {
-        Outcome::Committed => String::from_str(alloc, "committed"),
-        Outcome::Aborted(value) => format!(in alloc; "aborted {value}"),
-        Outcome::NoRoom => String::from_str(alloc, "noroom"),
-    }
 }
 
 // What came of a transaction that was open.

@@ -1,11 +1,12 @@
-//! The texts of operations and of their answers.
+//! The texts of operations, of their answers, and of how transactions end.
 
 ghost use Rattle.std.specs.Prelude.{◌≡◌, IfOk, string_bytes};
-ghost use Rattle.state_lines.specs.OperationTexts.{op_text, said_text};
+ghost use Rattle.state_lines.specs.OperationTexts.{op_text, said_text, outcome_text};
 
 use crate::record_texts::{record_text, value_text};
 use access_slots::op::{Op, Said};
 use std::alloc::{AllocError, Global};
+use tc_log::event::Outcome;
 
 /// An operation, as `insert 0/0/5 100`.
 pub fn op_text(alloc: Global, op: &Op) -> Result<String, AllocError>
@@ -52,5 +53,16 @@ pub fn said_text(alloc: Global, said: &Said) -> Result<String, AllocError>
         Said::Missing => String::from_str(alloc, "missing"),
         Said::NoRoom => String::from_str(alloc, "noroom"),
         Said::Old => String::from_str(alloc, "old"),
+    }
+}
+
+/// How a transaction ended, as `aborted 5`.
+pub fn outcome_text(alloc: Global, outcome: Outcome) -> Result<String, AllocError>
+    ensures { IfOk result (λ s. string_bytes s ≡ outcome_text outcome) }
+{
+    match outcome {
+        Outcome::Committed => String::from_str(alloc, "committed"),
+        Outcome::Aborted(value) => format!(in alloc; "aborted {value}"),
+        Outcome::NoRoom => String::from_str(alloc, "noroom"),
     }
 }

@@ -4,12 +4,11 @@ use Rattle.access_slots.specs.declared.op.Op.{Op}
 use Rattle.access_slots.specs.declared.op.Wire.{Wire}
 use Rattle.access_slots.specs.declared.op.News.{News}
 use Rattle.tc_log.specs.declared.event.Outcome.{Outcome as Ending}
-use Rattle.tc_log.specs.declared.event.Outcome.TheVariants as ending
 use Rattle.tc_world.specs.declared.step.Outcome.{Outcome}
 use Rattle.tc_world.specs.declared.step.Outcome.TheVariants as outcome
 use Rattle.tc_world.specs.declared.step.Illegal.{Illegal}
 use Rattle.tc_world.specs.declared.step.Illegal.TheVariants as illegal
-use Rattle.state_lines.specs.OperationTexts.{op_text, said_text}
+use Rattle.state_lines.specs.OperationTexts.{op_text, said_text, outcome_text}
 use Rattle.state_lines.specs.RefusalTexts.{refusal_text}
 
 -- ---- steps that were taken
@@ -33,10 +32,8 @@ redo_line place x =
     codes "redo " ++ (decimal place ++ (codes " number " ++ (decimal x.number ++ (codes " " ++ (op_text x.op ++ codes "\n")))))
 
 abbrev pub ended_line : ℕ → ℕ → Ending → List ℕ
-ended_line place txn ending.Committed = codes "ended " ++ (decimal txn ++ (codes " committed at " ++ (decimal place ++ codes "\n")))
-ended_line place txn (ending.Aborted v) =
-    codes "ended " ++ (decimal txn ++ (codes " aborted " ++ (decimal v ++ (codes " at " ++ (decimal place ++ codes "\n")))))
-ended_line place txn ending.NoRoom = codes "ended " ++ (decimal txn ++ (codes " noroom at " ++ (decimal place ++ codes "\n")))
+ended_line place txn how =
+    codes "ended " ++ (decimal txn ++ (codes " " ++ (outcome_text how ++ (codes " at " ++ (decimal place ++ codes "\n")))))
 
 abbrev pub outcome_line : Outcome → List ℕ
 outcome_line (outcome.Admitted t) = codes "admitted " ++ (decimal t ++ codes "\n")

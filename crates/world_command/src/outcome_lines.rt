@@ -5,11 +5,10 @@ ghost use Rattle.world_command.specs.OutcomeLines.{sent_line, held_line, told_li
 ghost use Rattle.world_command.specs.OutcomeLines.{ended_line, outcome_line, illegal_line, step_line};
 
 use access_slots::op::{News, Op, Wire};
-use state_lines::operation_texts::{op_text, said_text};
+use state_lines::operation_texts::{op_text, outcome_text, said_text};
 use state_lines::refusal_texts::refusal_text;
 use std::alloc::{AllocError, Global};
 use tc_core::state::Receipt;
-use tc_log::event::Outcome as Ending;
 use tc_world::step::{Illegal, Outcome};
 
 fn sent_line(alloc: Global, place: usize, wire: &Wire) -> Result<String, AllocError>
@@ -49,11 +48,8 @@ fn ended_line(alloc: Global, receipt: &Receipt) -> Result<String, AllocError>
 {
     let place = receipt.place;
     let txn = receipt.txn;
-    match receipt.outcome {
-        Ending::Committed => format!(in alloc; "ended {txn} committed at {place}\n"),
-        Ending::Aborted(value) => format!(in alloc; "ended {txn} aborted {value} at {place}\n"),
-        Ending::NoRoom => format!(in alloc; "ended {txn} noroom at {place}\n"),
-    }
+    let outcome = outcome_text(alloc, receipt.outcome)?;
+    format!(in alloc; "ended {txn} {outcome} at {place}\n")
 }
 
 // What a step did.
