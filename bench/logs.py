@@ -16,47 +16,25 @@ rounds, with the least and the most. Each worker makes N moves, so that about as
 import argparse
 import os
 import pathlib
-import random
-import re
 import statistics
 import subprocess
-import sys
 import tempfile
 import time
 
-TOP = pathlib.Path(__file__).resolve().parent.parent
-sys.path.append(str(TOP / "tools"))
+from transfers import PROCD, build_sqlite, moves_a_second, script
 
-from procedures import MOVE, PUT  # noqa: E402
-
-PROCD = TOP / "crates" / "procd" / "out" / "procd"
-SQLITE = TOP / "bench" / "baseline" / "sqlite.rs"
 WORKERS = (1, 4, 16, 64)
 SIZES = (96, 4096)
 SYNCS = 100
-RECORDS, AMOUNT = 1000, 1_000_000
-
-
-def script(moves):
-    """A script of so many moves, each between two records at random."""
-    draw = random.Random(moves)
-    lines = [f"dc {RECORDS} {4 * moves + RECORDS}\n", PUT, MOVE]
-    lines += [f"first put {key} {AMOUNT}\n" for key in range(RECORDS)]
-    lines += ["call move %d %d 1\n" % tuple(draw.sample(range(RECORDS), 2)) for _ in range(moves)]
-    return "".join(lines)
 
 
 def procd(program, folder, workers, moves):
     """Moves a second of a run that keeps its log."""
     text, log = folder / "script.txt", folder / "calls.log"
     text.write_text(script(moves))
-    words = [program, "run", "--log", log, "--stats", "--workers", str(workers), text]
-    ran = subprocess.run(words, stdin=subprocess.DEVNULL, capture_output=True, text=True)
-    told = dict(line.rsplit(" ", 1) for line in ran.stderr.splitlines() if re.fullmatch(r"[a-z ]+ \d+", line))
-    if ran.returncode or told.get("committed") != str(moves):
-        sys.exit(f"{program} ended with {ran.returncode}: {ran.stderr}")
+    rate = moves_a_second(program, text, workers, moves, "--log", log)
     log.unlink()
-    return float(told["calls a second"])
+    return rate
 
 
 def sqlite(program, folder, workers, moves):
@@ -108,9 +86,7 @@ def main():
         parser.error(f"there is no {options.procd}: ./procd builds it")
     with tempfile.TemporaryDirectory(dir=options.folder) as name:
         folder, peer = pathlib.Path(name), f"{name}/sqlite"
-        build = ["rustc", "--edition", "2024", "-O", "-l", "sqlite3", "-o", peer, SQLITE]
-        if subprocess.run(build, stderr=subprocess.DEVNULL).returncode:
-            sys.exit("rustc didn't build bench/baseline/sqlite.rs over the system's library")
+        build_sqlite(peer)
         syncs, rates = measured(options, folder, peer)
     for size, took in syncs.items():
         print(f"a sync of {size:>4} bytes  {spread(took, 2)} ms")

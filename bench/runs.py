@@ -1,0 +1,84 @@
+#!/usr/bin/env python3
+"""How many moves between two records a second `procd run` makes by 1, 2 and 4 workers, with nothing else on the
+processors, and with two other busy processes for each of them, beside SQLite with its rows in memory.
+
+usage: bench/runs.py [--procd PATH] [--rounds N] [--moves N]
+
+What `procd run --stats` says is `calls a second` of a script's moves, so its loading doesn't count; SQLite makes as many
+by one thread with prepared statements, and keeps no log: bench/baseline/sqlite.rs, which `rustc -O` builds over the
+system's library. All are done in turns; a figure is the median of the rounds, with the least and the most. The ratio
+behind it is that to SQLite on quiet processors, and of busy ones that to the same run on quiet ones.
+"""
+import argparse
+import contextlib
+import os
+import pathlib
+import statistics
+import subprocess
+import sys
+import tempfile
+
+from transfers import PROCD, build_sqlite, moves_a_second, script
+
+WORKERS = (1, 2, 4)
+BUSY = 2  # processes a processor
+
+
+@contextlib.contextmanager
+def busy():
+    """Other processes that are never idle."""
+    count = BUSY * len(os.sched_getaffinity(0))
+    others = [subprocess.Popen([sys.executable, "-c", "while True: pass"]) for _ in range(count)]
+    try:
+        yield
+    finally:
+        for other in others:
+            other.kill()
+            other.wait()
+
+
+def sqlite(peer, moves):
+    """Moves a second of SQLite in memory."""
+    printed = subprocess.run([peer, str(moves)], capture_output=True, text=True, check=True).stdout
+    return float(printed.split()[2])
+
+
+def spread(figures):
+    return f"{statistics.median(figures):>9,.0f} ({min(figures):,.0f} to {max(figures):,.0f}) moves a second"
+
+
+def measured(options, folder, peer):
+    """Each round's figures: of SQLite, and of runs on quiet processors and on busy ones by workers."""
+    text = folder / "script.txt"
+    text.write_text(script(options.moves))
+    theirs, rates = [], {workers: ([], []) for workers in WORKERS}
+    for _ in range(options.rounds):
+        theirs.append(sqlite(peer, options.moves))
+        for workers, (quiet, among_others) in rates.items():
+            quiet.append(moves_a_second(options.procd, text, workers, options.moves))
+            with busy():
+                among_others.append(moves_a_second(options.procd, text, workers, options.moves))
+    return theirs, rates
+
+
+def main():
+    parser = argparse.ArgumentParser(description=__doc__, formatter_class=argparse.RawDescriptionHelpFormatter)
+    parser.add_argument("--procd", default=PROCD, help="the program (that of crates/procd/out)")
+    parser.add_argument("--rounds", type=int, default=5)
+    parser.add_argument("--moves", type=int, default=40_000, help="of each run (40000)")
+    options = parser.parse_args()
+    if not pathlib.Path(options.procd).exists():
+        parser.error(f"there is no {options.procd}: ./procd builds it")
+    with tempfile.TemporaryDirectory() as name:
+        peer = f"{name}/sqlite"
+        build_sqlite(peer)
+        theirs, rates = measured(options, pathlib.Path(name), peer)
+    beside = statistics.median(theirs)
+    print(f"SQLite              {spread(theirs)}")
+    for workers, (quiet, among_others) in rates.items():
+        alone = statistics.median(quiet)
+        print(f"{workers} workers, quiet    {spread(quiet)}, {alone / beside:.2f} of SQLite's")
+        print(f"{workers} workers, busy     {spread(among_others)}, {statistics.median(among_others) / alone:.2f} of quiet")
+
+
+main()
