@@ -1,5 +1,5 @@
 -- What no answer changes, a request that is made again, and a log's first events.
-use Rattle.std.proofs.Common.{◌≡◌, ℕ, ◌-◌, true, false, List, [], ◌∷◌, ◌++◌, length, drop, length-append, ◌==◌, arith, Option, Some, None, refl, sym, ◌∙◌, ap, subst}
+use Rattle.std.proofs.Common.{◌≡◌, ℕ, ◌-◌, true, false, List, [], ◌∷◌, ◌++◌, length, drop, map, length-append, ◌==◌, arith, Option, Some, None, refl, sym, ◌∙◌, ap, subst}
 use Rattle.std.proofs.Math.Seq.{drop-append_seam}
 use Rattle.std.specs.Prelude.{IfSome}
 use Rattle.tc_log.specs.declared.event.Event.{Event}
@@ -11,10 +11,14 @@ use Rattle.transactions.specs.Standing.{Standing, standing}
 use Rattle.transactions.specs.Legal.{Legal, Allowed}
 use Rattle.transactions.proofs.StandingLemmas.{eq-false}
 use Rattle.tc_core.specs.Core.{Core}
+use Rattle.tc_core.specs.Kept.{core_of}
+use Rattle.tc_core.specs.Loaded.{Loaded}
 use Rattle.tc_core.specs.Replies.{after_ask, after_undo, after_end}
 use Rattle.tc_core.specs.Checking.{IsFirstIllegal}
 use Rattle.tc_core.specs.GivingUp.{IsOpenHere}
-use Rattle.tc_core.specs.Recovery.{first_events, asking_by, asking_in, open_request}
+use Rattle.tc_core.specs.Recovery.{first_events, asking_by, asking_in, open_request, recovered, site_noted}
+use Rattle.tc_core.specs.declared.book.Book.{Book}
+use Rattle.tc_core.specs.declared.recovery.SiteNote.{SiteNote}
 use Rattle.tc_core.specs.declared.state.Asked.{Asked}
 use Rattle.tc_core.specs.declared.state.Asked.TheVariants as reply
 
@@ -72,3 +76,14 @@ allowed_at ps (x ∷ later) earlier e legal = allowed_at ps later earlier e lega
 pub none_illegal : (ps : List Checked) (h : List Event) (place : ℕ) → Legal ps h → IsFirstIllegal ps h place → ⊥
 none_illegal ps h place legal bad =
     bad.illegal (allowed_at ps bad.stands.later bad.stands.earlier bad.e (subst (Legal ps) bad.stands.is legal))
+
+-- all of a log are its first events
+pub all-first : (n : ℕ) (h : List Event) → n ≡ length h → first_events n h ≡ h
+all-first n h all = grind (arith, all)
+
+-- a book of the whole log with what was noted is the state that came back
+pub recovered-core : (l : Loaded) (b b' : Book) (c : Core) (h : List Event) (notes : List SiteNote) (n : ℕ) → core_of l b ≡ c → n ≡ length h
+    → b'.log.events ≡ first_events n h → b'.given_up.numbers ≡ [] → b'.sites.items ≡ map site_noted notes → core_of l b' ≡ recovered c h notes
+recovered-core l b b' c h notes n same all events none sites =
+    let whole : b'.log.events ≡ h = events ∙ all-first n h all in
+    subst (λ (x : Core). core_of l b' ≡ recovered x h notes) same (rw (whole, none, sites) refl)

@@ -1,3 +1,4 @@
+pub mod Arguments
 pub mod History
 pub mod Printed
 pub mod Reading

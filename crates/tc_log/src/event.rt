@@ -22,7 +22,7 @@ pub struct Args {
 
 impl Model for Args {
     ghost use Rattle.std.specs.Prelude.{ℕ, List};
-    ghost use Rattle.tc_log.specs.Joining.Listed.{listed};
+    ghost use Rattle.tc_log.specs.Arguments.{listed};
 
     ghost Value = { List ℕ };
 

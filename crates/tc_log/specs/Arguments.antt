@@ -1,4 +1,4 @@
--- The numbers of a call as a list.
+-- The arguments of a call as a list, in place or in a vector.
 use Rattle.std.specs.Prelude.{ℕ, List}
 use Rattle.tc_log.specs.declared.event.Numbers.{Numbers}
 use Rattle.tc_log.specs.declared.event.Numbers.TheVariants.{Few, Many}
