@@ -1,10 +1,12 @@
+use crate::checks::is_same;
 use bpf_encoding::code::Code;
 use bpf_encoding::decode::{DecodeFault, decode};
 use bpf_encoding::encode::encode;
 use bpf_encoding::insn::{
     AtomicOperation, Condition, Insn, Operation, Place, Register, Size, Source, Width,
 };
-use std::test::Fail;
+use std::alloc::Global;
+use std::process::Abort;
 
 const ADD: Insn = Insn::Alu(
     Width::Bits64,
@@ -84,49 +86,54 @@ const ATOMIC: [(AtomicOperation, u8); 10] = [
     (AtomicOperation::CompareExchange, 0xf1),
 ];
 
-#[test]
-fn instructions_and_their_bytes(rt: HostRuntime) -> Result<(), Fail> {
-    for (insn, spelled) in SPELLED {
-        let code = Code::from_insns(rt.alloc(), &[insn])?;
-        let bytes = encode(rt.alloc(), &code)?;
-        assert_eq!(rt; bytes.as_slice(), spelled);
-        let read = decode(rt.alloc(), spelled)?;
-        assert_eq!(rt; read.places(), code.places());
-        assert_eq!(rt; code.at(0), Some(Place::Insn(insn)));
-    }
-    Ok(())
+// The instruction has these bytes.
+fn has_bytes(rt: &impl Abort, alloc: Global, insn: Insn, bytes: &[u8]) {
+    let code = Code::from_insns(alloc, &[insn]).expect(rt, "no code");
+    is_same(rt, code.at(0), Some(Place::Insn(insn)));
+    let encoded = encode(alloc, &code).expect(rt, "not encoded");
+    is_same(rt, encoded.as_slice(), bytes);
+    let decoded = decode(alloc, bytes).expect(rt, "not decoded");
+    is_same(rt, decoded.places(), code.places());
 }
 
 #[test]
-fn atomic_operations_and_their_bytes(rt: HostRuntime) -> Result<(), Fail> {
-    for (operation, imm) in ATOMIC {
-        let words = [0xc3, 0x21, 0x04, 0, imm, 0, 0, 0];
-        let double_words = [0xdb, 0x1a, 0xf8, 0xff, imm, 0, 0, 0];
-        let spelled = [
-            (on_four_bytes(operation), words),
-            (on_eight_bytes(operation), double_words),
-        ];
-        for (insn, bytes) in spelled {
-            let code = Code::from_insns(rt.alloc(), &[insn])?;
-            assert_eq!(rt; encode(rt.alloc(), &code)?.as_slice(), bytes.as_slice());
-            let read = decode(rt.alloc(), &bytes)?;
-            assert_eq!(rt; read.places(), code.places());
-        }
+fn instructions_and_their_bytes(rt: HostRuntime) {
+    for (insn, bytes) in &SPELLED {
+        has_bytes(&rt, rt.alloc(), *insn, bytes);
     }
-    Ok(())
 }
 
 #[test]
-fn rows_of_instructions(rt: HostRuntime) -> Result<(), Fail> {
-    let code = Code::from_insns(rt.alloc(), &[WIDE, Insn::Exit])?;
-    assert_eq!(rt; code.len(), 3);
-    assert_eq!(rt; code.at(1), Some(Place::Second));
-    assert_eq!(rt; code.at(3), None);
-    let none = Code::from_insns(rt.alloc(), &[]);
-    assert!(rt; matches!(none, Err(DecodeFault::NoCode)));
-    let most = Code::from_insns(rt.alloc(), &[WIDE; 2048])?;
-    assert_eq!(rt; most.len(), 4096);
-    let long = Code::from_insns(rt.alloc(), &[WIDE; 2049]);
-    assert!(rt; matches!(long, Err(DecodeFault::TooLong)));
-    Ok(())
+fn atomic_operations_and_their_bytes(rt: HostRuntime) {
+    for (operation, imm) in &ATOMIC {
+        let words = [0xc3, 0x21, 0x04, 0, *imm, 0, 0, 0];
+        has_bytes(&rt, rt.alloc(), on_four_bytes(*operation), &words);
+        let double_words = [0xdb, 0x1a, 0xf8, 0xff, *imm, 0, 0, 0];
+        has_bytes(&rt, rt.alloc(), on_eight_bytes(*operation), &double_words);
+    }
+}
+
+// How many slots the code of these instructions has.
+fn slots(alloc: Global, insns: &[Insn]) -> Result<usize, DecodeFault> {
+    Ok(Code::from_insns(alloc, insns)?.len())
+}
+
+fn wide_has_two_slots(rt: &impl Abort, alloc: Global) {
+    let code = Code::from_insns(alloc, &[WIDE, Insn::Exit]).expect(rt, "no code");
+    is_same(rt, code.len(), 3);
+    is_same(rt, (code.at(1), code.at(3)), (Some(Place::Second), None));
+}
+
+// No instruction, and one slot more than there may be.
+fn are_no_code(rt: &impl Abort, alloc: Global) {
+    assert!(rt; matches!(slots(alloc, &[]), Err(DecodeFault::NoCode)));
+    assert!(rt; matches!(slots(alloc, &[WIDE; 2049]), Err(DecodeFault::TooLong)));
+}
+
+#[test]
+fn rows_of_instructions(rt: HostRuntime) {
+    wide_has_two_slots(&rt, rt.alloc());
+    let most = slots(rt.alloc(), &[WIDE; 2048]);
+    is_same(&rt, most.expect(&rt, "no code"), 4096);
+    are_no_code(&rt, rt.alloc());
 }

@@ -11,11 +11,15 @@
 //! | `memory_tests` | `bpf_encoding`, `verifier`, `tc_log`, `request_numbers`, `lock_table`, `data_component`: calls that are refused memory |
 //! | `memory_state_tests` | `tc_core`: an admission that is refused memory |
 //!
+//! What they compare stands in `checks`.
+//!
 //! `lower_tests` has those that need neither `samples` nor the transaction component, `upper_tests` those of
 //! `log_file` and `embedding`. `rt test component_tests` proves and runs these; `tools/requests.py` runs them
 //! with memory refused.
 #![tactic(auto)]
 
+#[cfg(test)]
+mod checks;
 #[cfg(test)]
 mod encoding_tests;
 #[cfg(test)]

@@ -1,33 +1,26 @@
 // Bytes that are no log: a log cut short, and one with a wrong byte.
 
+use crate::checks::is_same;
 use samples::{PUT_AND_ABORT, log_bytes};
-use std::alloc::{AllocError, Global};
+use std::alloc::Global;
 use std::process::Abort;
-use std::test::Fail;
 use tc_log::log::Log;
 use tc_log::read::LogFault;
 
 const RECORD: usize = 96;
 
 /// The log prints to these bytes.
-pub(crate) fn prints_to(
-    rt: &impl Abort,
-    alloc: Global,
-    log: &Log,
-    bytes: &[u8],
-) -> Result<(), AllocError> {
-    let again = log.print(alloc)?;
-    assert_eq!(rt; again.as_slice(), bytes);
-    Ok(())
+pub(crate) fn prints_to(rt: &impl Abort, alloc: Global, log: &Log, bytes: &[u8]) {
+    let printed = log.print(alloc).expect(rt, "not printed");
+    is_same(rt, printed.as_slice(), bytes);
 }
 
 // How many events these bytes are, which print to them again; or the fault.
 fn read(rt: &impl Abort, alloc: Global, bytes: &[u8]) -> Result<usize, LogFault> {
     let log = Log::read(alloc, bytes)?;
     let events = log.len();
-    let printed = prints_to(rt, alloc, &log, bytes);
+    prints_to(rt, alloc, &log, bytes);
     drop(log);
-    printed?;
     Ok(events)
 }
 
@@ -39,17 +32,16 @@ fn is_prefix_read(rt: &impl Abort, alloc: Global, bytes: &[u8], length: usize) {
         Err(LogFault::Length)
     };
     if let Some(prefix) = bytes.get(..length) {
-        assert_eq!(rt; read(rt, alloc, prefix), want, "of {length} bytes");
+        is_same(rt, (length, read(rt, alloc, prefix)), (length, want));
     }
 }
 
 #[test]
-fn each_prefix_of_a_log(rt: HostRuntime) -> Result<(), Fail> {
-    let bytes = log_bytes(rt.alloc(), &PUT_AND_ABORT)?;
+fn each_prefix_of_a_log(rt: HostRuntime) {
+    let bytes = log_bytes(rt.alloc(), &PUT_AND_ABORT).expect(&rt, "no bytes");
     for length in 0..=bytes.len() {
         is_prefix_read(&rt, rt.alloc(), bytes.as_slice(), length);
     }
-    Ok(())
 }
 
 // Whether the body of such a record has a byte that may be any at this place.
@@ -74,43 +66,45 @@ fn is_free(kind: u8, sub: u8, place: usize) -> bool {
     }
 }
 
-fn with_255(alloc: Global, bytes: &[u8], at: usize) -> Result<Vec<u8>, AllocError> {
-    let mut hostile = Vec::from_slice(alloc, bytes)?;
-    if let Some(byte) = hostile.get_mut(at) {
-        *byte = 255;
-    }
-    Ok(hostile)
-}
-
-// The log with this byte set to 255 is one only where the byte may be any.
-fn a_byte_set(
+// How many events a log is with this byte set to 255; or the fault.
+fn read_with_255(
     rt: &impl Abort,
     alloc: Global,
     bytes: &[u8],
     at: usize,
-    is_free: bool,
-) -> Result<(), AllocError> {
-    let (index, place) = (at / RECORD, at % RECORD);
+) -> Result<usize, LogFault> {
+    let mut hostile = Vec::from_slice(alloc, bytes)?;
+    if let Some(byte) = hostile.get_mut(at) {
+        *byte = 255;
+    }
+    let events = read(rt, alloc, hostile.as_slice());
+    drop(hostile);
+    events
+}
+
+// It is one only where this byte may be any.
+fn a_byte_set(rt: &impl Abort, alloc: Global, bytes: &[u8], at: usize, is_free: bool) {
     let want = if is_free {
         Ok(PUT_AND_ABORT.len())
     } else {
-        Err(LogFault::Kind(index))
+        Err(LogFault::Kind(at / RECORD))
     };
-    let hostile = with_255(alloc, bytes, at)?;
-    let events = read(rt, alloc, hostile.as_slice());
-    assert_eq!(rt; events, want, "at {place} of event {index}");
-    Ok(())
+    is_same(rt, (at, read_with_255(rt, alloc, bytes, at)), (at, want));
 }
 
 #[test]
-fn each_byte_of_a_log_set_to_255(rt: HostRuntime) -> Result<(), Fail> {
-    let bytes = log_bytes(rt.alloc(), &PUT_AND_ABORT)?;
+fn each_byte_of_a_log_set_to_255(rt: HostRuntime) {
+    let bytes = log_bytes(rt.alloc(), &PUT_AND_ABORT).expect(&rt, "no bytes");
     for (index, (kind, sub, ..)) in PUT_AND_ABORT.iter().enumerate() {
         for place in 0..RECORD {
-            let at = index * RECORD + place;
             let is_free = is_free(*kind, *sub, place);
-            a_byte_set(&rt, rt.alloc(), bytes.as_slice(), at, is_free)?;
+            a_byte_set(
+                &rt,
+                rt.alloc(),
+                bytes.as_slice(),
+                index * RECORD + place,
+                is_free,
+            );
         }
     }
-    Ok(())
 }

@@ -5,6 +5,7 @@ ghost use Rattle.access_slots.specs.Access.{fits, is_no_room};
 ghost use Rattle.interpreter.specs.Joining.Paused.{IsPaused};
 ghost use Rattle.interpreter.specs.declared.pause.Pause.TheVariants.{Ask};
 
+use crate::checks::is_same;
 use access_slots::op::{Op, Said, fits};
 use access_slots::slot::Value;
 use interpreter::layout::Layout;
@@ -12,7 +13,6 @@ use interpreter::machine::Machine;
 use interpreter::pause::Pause;
 use samples::{bad_procedure, get_procedure, move_procedure, put_procedure, record, value};
 use std::process::Abort;
-use std::test::Fail;
 use verifier::verify::Verified;
 
 // A value that begins with this number; each byte behind it is its place.
@@ -42,6 +42,14 @@ fn call(verified: &Verified, args: &[u64]) -> Conversation
     Conversation { machine, pause }
 }
 
+// The same, where there are as many arguments as are declared.
+fn begun(rt: &impl Abort, verified: &Verified, args: &[u64]) -> Conversation
+    ensures { IsPaused verified.now result.machine result.pause }
+{
+    assert!(rt; args.len() == verified.decl().args());
+    call(verified, args)
+}
+
 // On with an answer that fits.
 fn hear(call: &mut Conversation, verified: &Verified, op: Op, said: Said)
     requires asks { IsPaused verified.now call.old.machine (Ask op) }
@@ -68,8 +76,11 @@ fn goes_on(call: &mut Conversation, verified: &Verified, said: Said) -> bool
 }
 
 fn stands(rt: &impl Abort, call: &Conversation, wanted: Pause, executed: u32) {
-    assert_eq!(rt; call.pause, wanted);
-    assert_eq!(rt; call.machine.executed(), executed);
+    is_same(
+        rt,
+        (call.pause, call.machine.executed()),
+        (wanted, executed),
+    );
 }
 
 // On with this answer, to what is wanted after so many instructions.
@@ -88,87 +99,118 @@ fn told(
     stands(rt, call, wanted, executed);
 }
 
-#[test]
-fn put_inserts(rt: HostRuntime) -> Result<(), Fail> {
-    let put = put_procedure(rt.alloc(), 0).ok_or("no put")?;
-    assert_eq!(rt; put.decl().args(), 2);
+// What is to be seen of a procedure, where it was verified.
+fn with_procedure<R: Abort, F: FnOnce(&R, &Verified)>(rt: &R, verified: Option<Verified>, sees: F)
+    requires { F.IsAlwaysCallable sees }
+{
+    let verified = verified.expect(rt, "not verified");
+    sees(rt, &verified);
+    drop(verified);
+}
+
+fn put_goes(rt: &impl Abort, put: &Verified) {
     for (said, answer) in [(Said::Done(None), 0), (Said::Duplicate, 1)] {
-        let mut it = call(&put, &[5, 100]);
+        let mut it = begun(rt, put, &[5, 100]);
         let insert = Op::Insert(record(5), value(100));
-        stands(&rt, &it, Pause::Ask(insert), 6);
-        told(&rt, &mut it, &put, said, Pause::Exit(answer), 7);
+        stands(rt, &it, Pause::Ask(insert), 6);
+        told(rt, &mut it, put, said, Pause::Exit(answer), 7);
     }
-    Ok(())
 }
 
 #[test]
-fn get_reads(rt: HostRuntime) -> Result<(), Fail> {
-    let get = get_procedure(rt.alloc()).ok_or("no get")?;
-    assert_eq!(rt; get.decl().args(), 1);
+fn put_inserts(rt: HostRuntime) {
+    with_procedure(&rt, put_procedure(rt.alloc(), 0), put_goes);
+}
+
+fn get_goes(rt: &impl Abort, get: &Verified) {
     for (said, answer) in [(Said::Value(marked(100)), 0), (Said::Absent, 1)] {
-        let mut it = call(&get, &[5]);
-        stands(&rt, &it, Pause::Ask(Op::Read(record(5))), 2);
-        told(&rt, &mut it, &get, said, Pause::Exit(answer), 5);
+        let mut it = begun(rt, get, &[5]);
+        stands(rt, &it, Pause::Ask(Op::Read(record(5))), 2);
+        told(rt, &mut it, get, said, Pause::Exit(answer), 5);
     }
-    Ok(())
 }
 
 #[test]
-fn bad_writes_and_aborts(rt: HostRuntime) -> Result<(), Fail> {
-    let bad = bad_procedure(rt.alloc()).ok_or("no bad")?;
-    assert_eq!(rt; bad.decl().args(), 1);
-    let mut it = call(&bad, &[5]);
-    stands(&rt, &it, Pause::Ask(Op::Read(record(5))), 2);
-    told(&rt, &mut it, &bad, Said::Absent, Pause::Exit(1), 5);
-    for said in [Said::Done(Some(marked(100))), Said::Missing] {
-        let mut it = call(&bad, &[5]);
-        let update = Op::Update(record(5), marked(7));
-        told(
-            &rt,
-            &mut it,
-            &bad,
-            Said::Value(marked(100)),
-            Pause::Ask(update),
-            6,
-        );
-        told(&rt, &mut it, &bad, said, Pause::Exit(5), 8);
-    }
-    Ok(())
+fn get_reads(rt: HostRuntime) {
+    with_procedure(&rt, get_procedure(rt.alloc()), get_goes);
+}
+
+fn bad_finds_no_record(rt: &impl Abort, bad: &Verified) {
+    let mut it = begun(rt, bad, &[5]);
+    stands(rt, &it, Pause::Ask(Op::Read(record(5))), 2);
+    told(rt, &mut it, bad, Said::Absent, Pause::Exit(1), 5);
+}
+
+// The answer to the update changes nothing.
+fn bad_aborts(rt: &impl Abort, bad: &Verified, said: Said) {
+    let mut it = begun(rt, bad, &[5]);
+    let update = Pause::Ask(Op::Update(record(5), marked(7)));
+    told(rt, &mut it, bad, Said::Value(marked(100)), update, 6);
+    told(rt, &mut it, bad, said, Pause::Exit(5), 8);
+}
+
+fn bad_goes(rt: &impl Abort, bad: &Verified) {
+    bad_finds_no_record(rt, bad);
+    bad_aborts(rt, bad, Said::Done(Some(marked(100))));
+    bad_aborts(rt, bad, Said::Missing);
 }
 
 #[test]
-fn move_finds_no_record(rt: HostRuntime) -> Result<(), Fail> {
-    let transfer = move_procedure(rt.alloc()).ok_or("no move")?;
-    assert_eq!(rt; transfer.decl().args(), 3);
+fn bad_writes_and_aborts(rt: HostRuntime) {
+    with_procedure(&rt, bad_procedure(rt.alloc()), bad_goes);
+}
+
+// The first record isn't there.
+fn move_finds_no_first(rt: &impl Abort, transfer: &Verified) {
+    let mut it = begun(rt, transfer, &[5, 6, 10]);
+    stands(rt, &it, Pause::Ask(Op::Read(record(5))), 3);
+    told(rt, &mut it, transfer, Said::Absent, Pause::Exit(1), 6);
+}
+
+// To the question for the second record.
+fn moving(rt: &impl Abort, transfer: &Verified) -> Conversation
+    ensures { IsPaused transfer.now result.machine result.pause }
+{
+    let mut it = begun(rt, transfer, &[5, 6, 10]);
     let second = Pause::Ask(Op::Read(record(6)));
-    let mut it = call(&transfer, &[5, 6, 10]);
-    stands(&rt, &it, Pause::Ask(Op::Read(record(5))), 3);
-    told(&rt, &mut it, &transfer, Said::Absent, Pause::Exit(1), 6);
-    let mut it = call(&transfer, &[5, 6, 10]);
-    told(&rt, &mut it, &transfer, Said::Value(marked(100)), second, 7);
-    told(&rt, &mut it, &transfer, Said::Absent, Pause::Exit(1), 10);
-    Ok(())
+    told(rt, &mut it, transfer, Said::Value(marked(100)), second, 7);
+    it
+}
+
+fn move_finds_no_second(rt: &impl Abort, transfer: &Verified) {
+    let mut it = moving(rt, transfer);
+    told(rt, &mut it, transfer, Said::Absent, Pause::Exit(1), 10);
+}
+
+fn move_without_a_record(rt: &impl Abort, transfer: &Verified) {
+    move_finds_no_first(rt, transfer);
+    move_finds_no_second(rt, transfer);
 }
 
 #[test]
-fn move_writes_both_records(rt: HostRuntime) -> Result<(), Fail> {
-    let transfer = move_procedure(rt.alloc()).ok_or("no move")?;
-    assert_eq!(rt; transfer.decl().args(), 3);
+fn move_finds_no_record(rt: HostRuntime) {
+    with_procedure(&rt, move_procedure(rt.alloc()), move_without_a_record);
+}
+
+// Both records are written; the two updates are answered so, and the call ends with this answer.
+fn moves(rt: &impl Abort, transfer: &Verified, (first, last): (Said, Said), answer: u64) {
+    let mut it = moving(rt, transfer);
+    let less = Pause::Ask(Op::Update(record(5), marked(90)));
+    told(rt, &mut it, transfer, Said::Value(value(7)), less, 17);
+    let more = Pause::Ask(Op::Update(record(6), value(17)));
+    told(rt, &mut it, transfer, first, more, 19);
+    told(rt, &mut it, transfer, last, Pause::Exit(answer), 20);
+}
+
+// The answer to the last update is the call's.
+fn move_goes(rt: &impl Abort, transfer: &Verified) {
     let done = Said::Done(Some(marked(100)));
-    // The answer to the last update is the call's.
-    for (first, last, answer) in [
-        (done, done, 0),
-        (done, Said::Missing, 1),
-        (Said::Missing, done, 0),
-    ] {
-        let mut it = call(&transfer, &[5, 6, 10]);
-        let second = Pause::Ask(Op::Read(record(6)));
-        told(&rt, &mut it, &transfer, Said::Value(marked(100)), second, 7);
-        let less = Pause::Ask(Op::Update(record(5), marked(90)));
-        told(&rt, &mut it, &transfer, Said::Value(value(7)), less, 17);
-        let more = Pause::Ask(Op::Update(record(6), value(17)));
-        told(&rt, &mut it, &transfer, first, more, 19);
-        told(&rt, &mut it, &transfer, last, Pause::Exit(answer), 20);
-    }
-    Ok(())
+    moves(rt, transfer, (done, done), 0);
+    moves(rt, transfer, (done, Said::Missing), 1);
+    moves(rt, transfer, (Said::Missing, done), 0);
+}
+
+#[test]
+fn move_writes_both_records(rt: HostRuntime) {
+    with_procedure(&rt, move_procedure(rt.alloc()), move_goes);
 }

@@ -1,10 +1,10 @@
 // A loading and an admission that are refused memory once, and are then made again: the state that they
 // were refused on is as before. tools/requests.py refuses each request in turn.
 
+use crate::checks::is_same;
 use samples::{PUT, call, put_procedure};
 use std::alloc::{AllocError, Global};
 use std::process::Abort;
-use std::test::Fail;
 use tc_core::procs::{LoadFault, LoadRefusal};
 use tc_core::state::{Call, Refusal, TcState, TxnId};
 use verifier::verify::Verified;
@@ -27,8 +27,8 @@ fn put_code(alloc: Global) -> Option<Verified> {
 
 // Nothing was loaded, for want of memory.
 fn nothing_is_loaded(rt: &impl Abort, tc: &TcState, why: LoadRefusal) {
-    assert_eq!(rt; (why, tc.find("put")), (LoadRefusal::Memory, None));
-    assert!(rt; tc.procs().is_empty());
+    let found = (why, tc.find("put"), tc.procs().is_empty());
+    is_same(rt, found, (LoadRefusal::Memory, None, true));
 }
 
 // The code comes back, and is loaded then.
@@ -51,12 +51,6 @@ fn loaded(rt: &impl Abort, tc: &mut TcState, code: Verified) -> Result<usize, Lo
     }
 }
 
-fn put_loaded(rt: &impl Abort, alloc: Global, tc: &mut TcState) -> Result<(), Fail> {
-    let code = put_code(alloc).ok_or("no put")?;
-    assert_eq!(rt; loaded(rt, tc, code), Ok(PUT));
-    Ok(())
-}
-
 fn empty_state(alloc: Global) -> Result<TcState, AllocError> {
     match TcState::new(alloc, 1) {
         Ok(tc) => Ok(tc),
@@ -65,22 +59,17 @@ fn empty_state(alloc: Global) -> Result<TcState, AllocError> {
 }
 
 // A state in which `put` is loaded.
-fn state(rt: &impl Abort, alloc: Global) -> Result<TcState, Fail> {
-    let mut tc = empty_state(alloc)?;
-    match put_loaded(rt, alloc, &mut tc) {
-        Ok(()) => Ok(tc),
-        Err(fault) => {
-            drop(tc);
-            Err(fault)
-        }
-    }
+fn state(rt: &impl Abort, alloc: Global) -> TcState {
+    let mut tc = empty_state(alloc).expect(rt, "no state");
+    let code = put_code(alloc).expect(rt, "no put");
+    is_same(rt, loaded(rt, &mut tc, code), Ok(PUT));
+    tc
 }
 
 // No event, no lock, no number and no place is taken.
 fn nothing_is_admitted(rt: &impl Abort, tc: &TcState, call: &Call) {
-    assert_eq!(rt; (tc.log().len(), tc.open_count()), (0, 0));
-    assert!(rt; tc.find_txn(1).is_none());
-    assert!(rt; !tc.blocked(call));
+    is_same(rt, (tc.log().len(), tc.open_count()), (0, 0));
+    is_same(rt, (tc.find_txn(1), tc.blocked(call)), (None, false));
 }
 
 fn admitted(rt: &impl Abort, tc: &mut TcState, call: &Call) -> Result<TxnId, Refusal> {
@@ -93,22 +82,15 @@ fn admitted(rt: &impl Abort, tc: &mut TcState, call: &Call) -> Result<TxnId, Ref
     }
 }
 
-// The transaction is the first.
-fn is_first(rt: &impl Abort, txn: Result<TxnId, Refusal>) {
-    assert_eq!(rt; txn.map(|txn| txn.serial()), Ok(1));
-}
-
-fn put_admitted(rt: &impl Abort, alloc: Global, tc: &mut TcState) -> Result<(), AllocError> {
-    let call = put_call(alloc)?;
-    is_first(rt, admitted(rt, tc, &call));
-    assert_eq!(rt; (tc.log().len(), tc.open_count()), (1, 1));
-    Ok(())
+fn put_admitted(rt: &impl Abort, tc: &mut TcState, put: &Call) {
+    let txn = admitted(rt, tc, put).expect(rt, "not admitted");
+    is_same(rt, txn.serial(), 1);
+    is_same(rt, (tc.log().len(), tc.open_count()), (1, 1));
 }
 
 #[test]
-fn an_admission(rt: HostRuntime) -> Result<(), Fail> {
-    let mut tc = state(&rt, rt.alloc())?;
-    let passed = put_admitted(&rt, rt.alloc(), &mut tc);
-    drop(tc);
-    Ok(passed?)
+fn an_admission(rt: HostRuntime) {
+    let mut tc = state(&rt, rt.alloc());
+    let put = put_call(rt.alloc()).expect(&rt, "no call");
+    put_admitted(&rt, &mut tc, &put);
 }

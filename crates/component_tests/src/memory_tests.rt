@@ -3,7 +3,8 @@
 
 ghost use Rattle.std.specs.Prelude.{◌≤◌, OnOk};
 
-use access_slots::decl::{Decl, DeclFault};
+use crate::checks::is_same;
+use access_slots::decl::Decl;
 use access_slots::lock::LockSet;
 use access_slots::slot::Mode;
 use bpf_encoding::code::Code;
@@ -17,7 +18,6 @@ use samples::procedures::keyed;
 use samples::{PUT_AND_ABORT, log_bytes};
 use std::alloc::{AllocError, Global};
 use std::process::Abort;
-use std::test::Fail;
 use tc_log::event::{Event, Outcome};
 use tc_log::log::Log;
 use tc_log::read::LogFault;
@@ -50,60 +50,42 @@ fn encoded(alloc: Global, code: &Code) -> Result<Vec<u8>, AllocError> {
 }
 
 // The code has these bytes.
-fn encodes_to(rt: &impl Abort, alloc: Global, code: &Code, bytes: &[u8]) -> Result<(), AllocError> {
-    let encoded = encoded(alloc, code)?;
-    assert_eq!(rt; encoded.as_slice(), bytes);
-    Ok(())
+fn encodes_to(rt: &impl Abort, alloc: Global, code: &Code, bytes: &[u8]) {
+    let encoded = encoded(alloc, code).expect(rt, "not encoded");
+    is_same(rt, encoded.as_slice(), bytes);
 }
 
-// Code has the bytes that it was decoded from.
-fn write_and_its_bytes(rt: &impl Abort, alloc: Global) -> Result<(), Fail> {
-    let code = decoded(alloc, &WRITE_CODE)?;
-    let passed = encodes_to(rt, alloc, &code, &WRITE_CODE);
-    drop(code);
-    Ok(passed?)
-}
-
-// The bytes of code that was made from an instruction.
-fn exit_and_its_bytes(rt: &impl Abort, alloc: Global) -> Result<(), Fail> {
-    let code = made(alloc, &[Insn::Exit])?;
-    let passed = encodes_to(rt, alloc, &code, &[0x95, 0, 0, 0, 0, 0, 0, 0]);
-    drop(code);
-    Ok(passed?)
-}
-
+// Code that was decoded, and code that was made from an instruction.
 #[test]
-fn code_and_its_bytes(rt: HostRuntime) -> Result<(), Fail> {
-    write_and_its_bytes(&rt, rt.alloc())?;
-    exit_and_its_bytes(&rt, rt.alloc())
+fn code_and_its_bytes(rt: HostRuntime) {
+    let write = decoded(rt.alloc(), &WRITE_CODE).expect(&rt, "not decoded");
+    encodes_to(&rt, rt.alloc(), &write, &WRITE_CODE);
+    let exit = made(rt.alloc(), &[Insn::Exit]).expect(&rt, "not made");
+    encodes_to(&rt, rt.alloc(), &exit, &[0x95, 0, 0, 0, 0, 0, 0, 0]);
 }
 
 // A declaration of one record that is written.
-fn write_decl() -> Result<Decl, DeclFault> {
-    Decl::new(1, &[keyed(Mode::Write, 0, 0)])
+fn write_decl(rt: &impl Abort) -> Decl {
+    Decl::new(1, &[keyed(Mode::Write, 0, 0)]).expect(rt, "not declared")
 }
 
-fn verified_once(alloc: Global) -> Result<Result<Verified, VerifyFault>, Fail> {
-    let decl = write_decl()?;
-    let code = decoded(alloc, &WRITE_CODE)?;
-    Ok(verify(alloc, code, decl))
+fn verified_once(rt: &impl Abort, alloc: Global) -> Result<Verified, VerifyFault> {
+    let code = decoded(alloc, &WRITE_CODE).expect(rt, "not decoded");
+    verify(alloc, code, write_decl(rt))
 }
 
 // A verdict that isn't reached leaves neither code nor declaration.
-fn verified(alloc: Global) -> Result<Verified, Fail> {
-    match verified_once(alloc)? {
-        Err(VerifyFault::Memory) => Ok(verified_once(alloc)??),
-        verified => Ok(verified?),
+fn verified(rt: &impl Abort, alloc: Global) -> Result<Verified, VerifyFault> {
+    match verified_once(rt, alloc) {
+        Err(VerifyFault::Memory) => verified_once(rt, alloc),
+        verified => verified,
     }
 }
 
 #[test]
-fn code_that_is_verified(rt: HostRuntime) -> Result<(), Fail> {
-    let write = verified(rt.alloc())?;
-    let size = (write.code().len(), write.calls());
-    drop(write);
-    assert_eq!(rt; size, (3, 1));
-    Ok(())
+fn code_that_is_verified(rt: HostRuntime) {
+    let write = verified(&rt, rt.alloc()).expect(&rt, "not verified");
+    is_same(&rt, (write.code().len(), write.calls()), (3, 1));
 }
 
 fn read(alloc: Global, bytes: &[u8]) -> Result<Log, LogFault> {
@@ -128,19 +110,12 @@ fn put_and_abort(alloc: Global) -> Result<Vec<u8>, AllocError> {
     }
 }
 
-fn prints_to(rt: &impl Abort, alloc: Global, log: &Log, bytes: &[u8]) -> Result<(), AllocError> {
-    let again = printed(alloc, log)?;
-    assert_eq!(rt; again.as_slice(), bytes);
-    Ok(())
-}
-
 #[test]
-fn a_log_and_its_bytes(rt: HostRuntime) -> Result<(), Fail> {
-    let bytes = put_and_abort(rt.alloc())?;
-    let log = read(rt.alloc(), bytes.as_slice())?;
-    let passed = prints_to(&rt, rt.alloc(), &log, bytes.as_slice());
-    drop(log);
-    Ok(passed?)
+fn a_log_and_its_bytes(rt: HostRuntime) {
+    let bytes = put_and_abort(rt.alloc()).expect(&rt, "no bytes");
+    let log = read(rt.alloc(), bytes.as_slice()).expect(&rt, "not read");
+    let again = printed(rt.alloc(), &log).expect(&rt, "not printed");
+    is_same(&rt, again.as_slice(), bytes.as_slice());
 }
 
 // The log has as many events as before, whose places stay.
@@ -151,32 +126,29 @@ fn reserved_in_log(rt: &impl Abort, log: &mut Log) -> Result<(), AllocError>
     match log.reserve(1) {
         Ok(()) => Ok(()),
         Err(_) => {
-            assert_eq!(rt; log.len(), before);
+            is_same(rt, log.len(), before);
             log.reserve(1)
         }
     }
 }
 
 // Twenty events are logged.
-fn twenty_are_logged(rt: &impl Abort, log: &mut Log) -> Result<(), AllocError> {
+fn twenty_are_logged(rt: &impl Abort, log: &mut Log) {
     for txn in 0..20u64 {
-        reserved_in_log(rt, log)?;
+        reserved_in_log(rt, log).expect(rt, "not reserved");
         log.push(Event::End {
             txn,
             outcome: Outcome::Committed,
         });
     }
-    assert_eq!(rt; log.len(), 20);
-    assert!(rt; matches!(log.at(7), Some(Event::End { txn: 7, .. })));
-    Ok(())
+    let is_eighth = matches!(log.at(7), Some(Event::End { txn: 7, .. }));
+    is_same(rt, (log.len(), is_eighth), (20, true));
 }
 
 #[test]
-fn events_of_a_log(rt: HostRuntime) -> Result<(), Fail> {
+fn events_of_a_log(rt: HostRuntime) {
     let mut log = Log::new(rt.alloc());
-    let passed = twenty_are_logged(&rt, &mut log);
-    drop(log);
-    Ok(passed?)
+    twenty_are_logged(&rt, &mut log);
 }
 
 // The last number and those that are open stay.
@@ -187,27 +159,29 @@ fn reserved_in_numbers(rt: &impl Abort, numbers: &mut Numbers) -> Result<(), All
     match numbers.reserve(1) {
         Ok(()) => Ok(()),
         Err(_) => {
-            assert_eq!(rt; (numbers.last(), numbers.low_water()), (last, 0));
+            is_same(rt, (numbers.last(), numbers.low_water()), (last, 0));
             numbers.reserve(1)
         }
     }
 }
 
 // The numbers up to 19 are given out.
-fn are_given_out(rt: &impl Abort, numbers: &mut Numbers) -> Result<(), AllocError> {
+fn are_given_out(rt: &impl Abort, numbers: &mut Numbers) {
     for number in 1..20u64 {
-        reserved_in_numbers(rt, numbers)?;
-        assert_eq!(rt; numbers.next().ok(), Some(number));
+        reserved_in_numbers(rt, numbers).expect(rt, "not reserved");
+        is_same(rt, numbers.next().ok(), Some(number));
     }
-    Ok(())
 }
 
 #[test]
-fn numbers_that_are_given_out(rt: HostRuntime) -> Result<(), Fail> {
+fn numbers_that_are_given_out(rt: HostRuntime) {
     let mut numbers = Numbers::new(rt.alloc());
-    let passed = are_given_out(&rt, &mut numbers);
-    drop(numbers);
-    Ok(passed?)
+    are_given_out(&rt, &mut numbers);
+}
+
+// Whether the locks are ready; nothing stands in their way.
+fn are_ready(rt: &impl Abort, table: &LockTable, set: &LockSet, are_ready: bool) {
+    is_same(rt, (table.ready(set), table.busy(set)), (are_ready, None));
 }
 
 // What is held stays, here nothing.
@@ -219,37 +193,26 @@ fn reserved_in_table(
     match table.reserve(set) {
         Ok(()) => Ok(()),
         Err(_) => {
-            assert!(rt; !table.ready(set));
-            assert_eq!(rt; table.busy(set), None);
+            are_ready(rt, table, set, false);
             table.reserve(set)
         }
     }
 }
 
-// The locks are ready, and nothing stands in their way.
-fn are_ready(rt: &impl Abort, table: &LockTable, set: &LockSet) {
-    assert!(rt; table.ready(set));
-    assert_eq!(rt; table.busy(set), None);
-}
-
 // The locks that a declaration of one argument asks for under five keys.
-fn five_are_ready(rt: &impl Abort, table: &mut LockTable, decl: &Decl) -> Result<(), AllocError> {
-    assert_eq!(rt; decl.args(), 1);
+fn five_are_ready(rt: &impl Abort, table: &mut LockTable, decl: &Decl) {
+    assert!(rt; decl.args() == 1);
     for key in 0..5u64 {
         let set = decl.resolve(&[key]);
-        reserved_in_table(rt, table, &set)?;
-        are_ready(rt, table, &set);
+        reserved_in_table(rt, table, &set).expect(rt, "not reserved");
+        are_ready(rt, table, &set, true);
     }
-    Ok(())
 }
 
 #[test]
-fn locks_that_are_ready(rt: HostRuntime) -> Result<(), Fail> {
-    let decl = write_decl()?;
+fn locks_that_are_ready(rt: HostRuntime) {
     let mut table = LockTable::new(rt.alloc());
-    let passed = five_are_ready(&rt, &mut table, &decl);
-    drop(table);
-    Ok(passed?)
+    five_are_ready(&rt, &mut table, &write_decl(&rt));
 }
 
 // A data component of room for four records.
@@ -262,10 +225,7 @@ fn dc(alloc: Global) -> Result<Dc, AllocError> {
 
 // A data component that isn't made takes nothing.
 #[test]
-fn a_data_component(rt: HostRuntime) -> Result<(), Fail> {
-    let dc = dc(rt.alloc())?;
-    let size = (dc.rows().len(), dc.mark());
-    drop(dc);
-    assert_eq!(rt; size, (0, 0));
-    Ok(())
+fn a_data_component(rt: HostRuntime) {
+    let dc = dc(rt.alloc()).expect(&rt, "not made");
+    is_same(&rt, (dc.rows().len(), dc.mark()), (0, 0));
 }

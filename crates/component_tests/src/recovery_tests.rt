@@ -1,17 +1,19 @@
 // A state comes back from each beginning of a log, and goes on to the same log.
 
+use crate::checks::is_same;
+use crate::log_tests::prints_to;
 use crate::state_tests::state;
 use access_slots::op::{News, Op, Wire};
 use data_component::dc::Dc;
-use samples::{PUT_AND_ABORT, log_bytes, record, value};
+use samples::{LogRecord, PUT_AND_ABORT, log_bytes, record, value};
 use std::alloc::Global;
 use std::process::Abort;
-use std::test::Fail;
 use tc_core::checking::CheckFault;
 use tc_core::recovery::{RecoverFault, SiteNote};
 use tc_core::state::{Asked, Redo, Request, Stranger, TcState, TxnId};
 use tc_log::event::Event;
 use tc_log::log::Log;
+use tc_log::read::LogFault;
 use transactions::{Redoing, Site};
 
 const RECORD: usize = 96;
@@ -131,135 +133,101 @@ const fn ended(events: usize) -> usize {
     }
 }
 
-// What a state prints that came back from these bytes and has gone on; or why it didn't.
-fn gone_on(
-    rt: &impl Abort,
-    alloc: Global,
-    log: &Log,
-    restarts: bool,
-) -> Result<Result<Vec<u8>, RecoverFault>, Fail> {
-    let mut dc = Dc::new(alloc, 10, 10)?;
+// What is open ends, and the state doesn't come back once more where anything has happened.
+fn all_is_over(rt: &impl Abort, log: &Log, note: SiteNote, tc: &mut TcState, dc: &mut Dc) {
+    is_redone(tc, dc);
+    all_end(tc, dc);
+    if !log.is_empty() {
+        is_same(rt, tc.recover(log, &[note]), Err(RecoverFault::Begun));
+    }
+}
+
+// A state comes back from the log, beside a data component to which everything was sent that it says, and prints
+// these bytes in the end.
+fn comes_back(rt: &impl Abort, alloc: Global, log: &Log, restarts: bool, want: &[u8]) {
+    let mut dc = Dc::new(alloc, 10, 10).expect(rt, "no data component");
     perform_sent(log, &mut dc);
     let note = note_of(&mut dc, restarts);
-    let mut tc = match state(alloc) {
-        Ok(tc) => tc,
-        Err(fault) => {
-            drop(dc);
-            return Err(fault);
-        }
-    };
-    let recovered = tc.recover(log, &[note]);
-    is_redone(&mut tc, &mut dc);
-    all_end(&mut tc, &mut dc);
-    let again = tc.recover(log, &[note]);
-    let printed = tc.log().print(alloc);
+    let mut tc = state(rt, alloc);
+    is_same(
+        rt,
+        (log.len(), tc.recover(log, &[note])),
+        (log.len(), Ok(())),
+    );
+    all_is_over(rt, log, note, &mut tc, &mut dc);
+    prints_to(rt, alloc, tc.log(), want);
     drop(tc);
     drop(dc);
-    if recovered.is_ok() && !log.is_empty() {
-        assert_eq!(rt; again, Err(RecoverFault::Begun));
-    }
-    match recovered {
-        Ok(()) => Ok(Ok(printed?)),
-        Err(fault) => {
-            drop(printed);
-            Ok(Err(fault))
-        }
-    }
 }
 
 // The first so many events.
-fn first(bytes: &[u8], events: usize) -> Option<&[u8]> {
-    bytes.get(..events.checked_mul(RECORD)?)
+fn first(bytes: &[u8], events: usize) -> &[u8] {
+    bytes
+        .get(..events.saturating_mul(RECORD))
+        .unwrap_or_default()
 }
 
-fn goes_on(
-    rt: &impl Abort,
-    alloc: Global,
-    bytes: &[u8],
-    events: usize,
-    restarts: bool,
-) -> Result<(), Fail> {
-    let (Some(beginning), Some(want)) = (first(bytes, events), first(bytes, ended(events))) else {
-        return Ok(());
-    };
-    let Ok(log) = Log::read(alloc, beginning) else {
-        assert!(rt; false, "{events} events are no log");
-        return Ok(());
-    };
-    let gone = gone_on(rt, alloc, &log, restarts);
+fn goes_on(rt: &impl Abort, alloc: Global, bytes: &[u8], events: usize, restarts: bool) {
+    let log = Log::read(alloc, first(bytes, events)).expect(rt, "no log");
+    is_same(rt, log.len(), events);
+    comes_back(rt, alloc, &log, restarts, first(bytes, ended(events)));
     drop(log);
-    match gone? {
-        Ok(printed) => assert_eq!(rt; printed.as_slice(), want, "from {events} events"),
-        Err(fault) => assert_eq!(rt; Ok(()), Err(fault), "from {events} events"),
+}
+
+fn each_beginning(rt: &impl Abort, alloc: Global, restarts: bool) {
+    let bytes = log_bytes(alloc, &PUT_AND_ABORT).expect(rt, "no bytes");
+    for events in 0..=PUT_AND_ABORT.len() {
+        goes_on(rt, alloc, bytes.as_slice(), events, restarts);
     }
-    Ok(())
 }
 
 #[test]
-fn each_beginning_goes_on(rt: HostRuntime) -> Result<(), Fail> {
-    let bytes = log_bytes(rt.alloc(), &PUT_AND_ABORT)?;
-    for events in 0..=PUT_AND_ABORT.len() {
-        goes_on(&rt, rt.alloc(), bytes.as_slice(), events, false)?;
-    }
-    Ok(())
+fn each_beginning_goes_on(rt: HostRuntime) {
+    each_beginning(&rt, rt.alloc(), false);
 }
 
 // The data component restarts while the transaction component is away, and loses all that it did.
 #[test]
-fn each_beginning_goes_on_behind_a_restart(rt: HostRuntime) -> Result<(), Fail> {
-    let bytes = log_bytes(rt.alloc(), &PUT_AND_ABORT)?;
-    for events in 0..=PUT_AND_ABORT.len() {
-        goes_on(&rt, rt.alloc(), bytes.as_slice(), events, true)?;
-    }
-    Ok(())
+fn each_beginning_goes_on_behind_a_restart(rt: HostRuntime) {
+    each_beginning(&rt, rt.alloc(), true);
+}
+
+fn read(alloc: Global, records: &[LogRecord]) -> Result<Log, LogFault> {
+    let bytes = log_bytes(alloc, records)?;
+    let log = Log::read(alloc, bytes.as_slice());
+    drop(bytes);
+    log
 }
 
 // An Admit that is followed by an End at once.
 #[test]
-fn an_illegal_log_is_refused(rt: HostRuntime) -> Result<(), Fail> {
-    let bytes = log_bytes(rt.alloc(), &[PUT_AND_ABORT[0], PUT_AND_ABORT[3]])?;
-    let Ok(log) = Log::read(rt.alloc(), bytes.as_slice()) else {
-        assert!(rt; false, "no log");
-        return Ok(());
-    };
-    let gone = gone_on(&rt, rt.alloc(), &log, false);
-    drop(log);
-    match gone? {
-        Ok(printed) => assert_eq!(rt; printed.len(), 0, "an illegal log is taken"),
-        Err(fault) => assert_eq!(rt; fault, RecoverFault::Unfit(CheckFault::LogIllegal(1))),
-    }
-    Ok(())
-}
-
-// What was noted of the data component is known of it again.
-fn known_by(rt: &impl Abort, alloc: Global, note: SiteNote) -> Result<(Site, Redo), Fail> {
-    let log = Log::read(alloc, log_bytes(alloc, &PUT_AND_ABORT)?.as_slice());
-    let mut tc = match state(alloc) {
-        Ok(tc) => tc,
-        Err(fault) => {
-            drop(log);
-            return Err(fault);
-        }
-    };
-    if let Ok(log) = log {
-        assert_eq!(rt; tc.recover(&log, &[]), Err(RecoverFault::DcCount));
-        assert_eq!(rt; tc.recover(&log, &[note]), Ok(()));
-    }
-    let site = tc.site(0);
-    let redo = tc.redo_next(0);
+fn an_illegal_log_is_refused(rt: HostRuntime) {
+    let log = read(rt.alloc(), &[PUT_AND_ABORT[0], PUT_AND_ABORT[3]]).expect(&rt, "no log");
+    let mut tc = state(&rt, rt.alloc());
+    let why = RecoverFault::Unfit(CheckFault::LogIllegal(1));
+    is_same(&rt, tc.recover(&log, &[SiteNote::Untold]), Err(why));
     drop(tc);
-    Ok((site, redo))
+    drop(log);
 }
 
-#[test]
-fn what_was_noted_is_known(rt: HostRuntime) -> Result<(), Fail> {
+// A state that comes back beside a note of its data component: what it knows of it, and what it redoes next.
+fn is_known(rt: &impl Abort, alloc: Global, log: &Log, note: SiteNote, known: (Site, Redo)) {
+    let mut tc = state(rt, alloc);
+    is_same(rt, tc.recover(log, &[]), Err(RecoverFault::DcCount));
+    is_same(rt, tc.recover(log, &[note]), Ok(()));
+    is_same(rt, (tc.site(0), tc.redo_next(0)), known);
+    drop(tc);
+}
+
+fn up_is_known(rt: &impl Abort, alloc: Global, log: &Log) {
     let up = Site {
         incarnation: 2,
         redo: None,
     };
-    let (site, redo) = known_by(&rt, rt.alloc(), SiteNote::Up(2))?;
-    assert_eq!(rt; site, up);
-    assert_eq!(rt; redo, Redo::NotDown);
+    is_known(rt, alloc, log, SiteNote::Up(2), (up, Redo::NotDown));
+}
+
+fn restart_is_known(rt: &impl Abort, alloc: Global, log: &Log) {
     let news = News {
         incarnation: 2,
         mark: 3,
@@ -275,8 +243,15 @@ fn what_was_noted_is_known(rt: HostRuntime) -> Result<(), Fail> {
         redo: true,
         op: Op::Update(record(5), value(100)),
     };
-    let (site, redo) = known_by(&rt, rt.alloc(), SiteNote::Restarted(news))?;
-    assert_eq!(rt; site, down);
-    assert_eq!(rt; redo, Redo::Send(next));
-    Ok(())
+    let known = (down, Redo::Send(next));
+    is_known(rt, alloc, log, SiteNote::Restarted(news), known);
+}
+
+// What was noted of the data component is known of it again.
+#[test]
+fn what_was_noted_is_known(rt: HostRuntime) {
+    let log = read(rt.alloc(), &PUT_AND_ABORT).expect(&rt, "no log");
+    up_is_known(&rt, rt.alloc(), &log);
+    restart_is_known(&rt, rt.alloc(), &log);
+    drop(log);
 }

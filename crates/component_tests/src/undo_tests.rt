@@ -1,13 +1,13 @@
 // Undos that fail: four tries for each write, and no room for one.
 
-use crate::state_tests::{admitted, ask_word, asks, ends, state, undo_word, undoes, wire};
+use crate::checks::is_same;
+use crate::state_tests::{admitted, ask_is, asks, ends, undo_is, undoes, wire, with_state};
 use access_slots::op::{Op, Said, Wire};
 use access_slots::slot::Mode;
 use samples::procedures::{keyed, procedure};
-use samples::{DROP, call, load, record, value};
-use std::alloc::{AllocError, Global};
+use samples::{DROP, load, record, value};
+use std::alloc::Global;
 use std::process::Abort;
-use std::test::Fail;
 use tc_core::state::{TcState, TxnId};
 use tc_log::event::Outcome;
 
@@ -22,11 +22,11 @@ exit
 
 const DROP_BOTH: usize = 5;
 
-fn load_drop_both(rt: &impl Abort, alloc: Global, tc: &mut TcState) -> Result<(), Fail> {
+// Its number; none where it isn't verified or isn't loaded.
+fn load_drop_both(alloc: Global, tc: &mut TcState) -> Option<usize> {
     let slots = [keyed(Mode::Write, 0, 0), keyed(Mode::Write, 0, 1)];
-    let code = procedure(alloc, 2, &slots, DROP_BOTH_TEXT).ok_or("not verified")?;
-    assert_eq!(rt; load(tc, "drop_both", code), Some(DROP_BOTH));
-    Ok(())
+    let code = procedure(alloc, 2, &slots, DROP_BOTH_TEXT)?;
+    load(tc, "drop_both", code)
 }
 
 // What is sent under this number, when all before it are answered.
@@ -55,45 +55,35 @@ fn put_back_at_last(rt: &impl Abort, tc: &mut TcState, txn: TxnId, numbers: [u64
     puts_back(rt, tc, txn, fourth, key, Said::Done(None));
 }
 
-fn both_are_put_back(rt: &impl Abort, alloc: Global, tc: &mut TcState) -> Result<(), Fail> {
-    load_drop_both(rt, alloc, tc)?;
-    let both = call(alloc, DROP_BOTH, &[5, 6])?;
-    let txn = admitted(rt, tc, &both, 1);
+fn both_are_put_back(rt: &impl Abort, alloc: Global, tc: &mut TcState) {
+    is_same(rt, load_drop_both(alloc, tc), Some(DROP_BOTH));
+    let txn = admitted(rt, alloc, tc, (DROP_BOTH, &[5, 6]), 1);
     deletes(rt, tc, txn, 1, 5);
     deletes(rt, tc, txn, 2, 6);
-    assert_eq!(rt; ask_word(tc, txn), ("undoing", 0));
+    ask_is(rt, tc, txn, ("undoing", 0));
     put_back_at_last(rt, tc, txn, [3, 4, 5, 6], 6);
     put_back_at_last(rt, tc, txn, [7, 8, 9, 10], 5);
-    assert_eq!(rt; undo_word(tc, txn), ("over", 0));
+    undo_is(rt, tc, txn, ("over", 0));
     ends(rt, tc, txn, 21, Outcome::Aborted(5));
-    Ok(())
 }
 
 // Each of two writes has four tries of its own.
 #[test]
-fn two_writes_undone(rt: HostRuntime) -> Result<(), Fail> {
-    let mut tc = state(rt.alloc())?;
-    let passed = both_are_put_back(&rt, rt.alloc(), &mut tc);
-    drop(tc);
-    passed
+fn two_writes_undone(rt: HostRuntime) {
+    with_state(&rt, rt.alloc(), both_are_put_back);
 }
 
-fn is_put_back(rt: &impl Abort, alloc: Global, tc: &mut TcState) -> Result<(), AllocError> {
-    let one = call(alloc, DROP, &[5])?;
-    let txn = admitted(rt, tc, &one, 1);
+fn is_put_back(rt: &impl Abort, alloc: Global, tc: &mut TcState) {
+    let txn = admitted(rt, alloc, tc, (DROP, &[5]), 1);
     deletes(rt, tc, txn, 1, 5);
     puts_back(rt, tc, txn, 2, 5, Said::NoRoom);
     puts_back(rt, tc, txn, 3, 5, Said::Done(None));
-    assert_eq!(rt; undo_word(tc, txn), ("over", 0));
+    undo_is(rt, tc, txn, ("over", 0));
     ends(rt, tc, txn, 7, Outcome::Aborted(5));
-    Ok(())
 }
 
 // No room for an undo is a try that failed: the procedure's own answer stays the outcome.
 #[test]
-fn no_room_for_an_undo(rt: HostRuntime) -> Result<(), Fail> {
-    let mut tc = state(rt.alloc())?;
-    let passed = is_put_back(&rt, rt.alloc(), &mut tc);
-    drop(tc);
-    Ok(passed?)
+fn no_room_for_an_undo(rt: HostRuntime) {
+    with_state(&rt, rt.alloc(), is_put_back);
 }
