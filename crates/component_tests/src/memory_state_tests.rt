@@ -93,4 +93,6 @@ fn an_admission(rt: HostRuntime) {
     let mut tc = state(&rt, rt.alloc());
     let put = put_call(rt.alloc()).expect(&rt, "no call");
     put_admitted(&rt, &mut tc, &put);
+    drop(put);
+    drop(tc);
 }

@@ -60,8 +60,10 @@ fn encodes_to(rt: &impl Abort, alloc: Global, code: &Code, bytes: &[u8]) {
 fn code_and_its_bytes(rt: HostRuntime) {
     let write = decoded(rt.alloc(), &WRITE_CODE).expect(&rt, "not decoded");
     encodes_to(&rt, rt.alloc(), &write, &WRITE_CODE);
+    drop(write);
     let exit = made(rt.alloc(), &[Insn::Exit]).expect(&rt, "not made");
     encodes_to(&rt, rt.alloc(), &exit, &[0x95, 0, 0, 0, 0, 0, 0, 0]);
+    drop(exit);
 }
 
 // A declaration of one record that is written.
@@ -86,6 +88,7 @@ fn verified(rt: &impl Abort, alloc: Global) -> Result<Verified, VerifyFault> {
 fn code_that_is_verified(rt: HostRuntime) {
     let write = verified(&rt, rt.alloc()).expect(&rt, "not verified");
     is_same(&rt, (write.code().len(), write.calls()), (3, 1));
+    drop(write);
 }
 
 fn read(alloc: Global, bytes: &[u8]) -> Result<Log, LogFault> {
@@ -115,6 +118,7 @@ fn a_log_and_its_bytes(rt: HostRuntime) {
     let bytes = put_and_abort(rt.alloc()).expect(&rt, "no bytes");
     let log = read(rt.alloc(), bytes.as_slice()).expect(&rt, "not read");
     let again = printed(rt.alloc(), &log).expect(&rt, "not printed");
+    drop(log);
     is_same(&rt, again.as_slice(), bytes.as_slice());
 }
 
@@ -149,6 +153,7 @@ fn twenty_are_logged(rt: &impl Abort, log: &mut Log) {
 fn events_of_a_log(rt: HostRuntime) {
     let mut log = Log::new(rt.alloc());
     twenty_are_logged(&rt, &mut log);
+    drop(log);
 }
 
 // The last number and those that are open stay.
@@ -177,6 +182,7 @@ fn are_given_out(rt: &impl Abort, numbers: &mut Numbers) {
 fn numbers_that_are_given_out(rt: HostRuntime) {
     let mut numbers = Numbers::new(rt.alloc());
     are_given_out(&rt, &mut numbers);
+    drop(numbers);
 }
 
 // Whether the locks are ready; nothing stands in their way.
@@ -213,6 +219,7 @@ fn five_are_ready(rt: &impl Abort, table: &mut LockTable, decl: &Decl) {
 fn locks_that_are_ready(rt: HostRuntime) {
     let mut table = LockTable::new(rt.alloc());
     five_are_ready(&rt, &mut table, &write_decl(&rt));
+    drop(table);
 }
 
 // A data component of room for four records.
@@ -228,4 +235,5 @@ fn dc(alloc: Global) -> Result<Dc, AllocError> {
 fn a_data_component(rt: HostRuntime) {
     let dc = dc(rt.alloc()).expect(&rt, "not made");
     is_same(&rt, (dc.rows().len(), dc.mark()), (0, 0));
+    drop(dc);
 }
