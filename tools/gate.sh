@@ -13,7 +13,15 @@ took() {
     echo "gate: $1, $(($(date +%s) - began)) s after the beginning"
 }
 
-{ rt ci 2>&1 && echo 0 > "$ended/status" || echo $? > "$ended/status"; } | tee "$ended/said"
+# How many crates are proved side by side: one a processor, as long as each has 4 GB. Left to itself `rt` goes by an estimate of
+# their memory, which is twice what they were seen to take, and leaves processors idle.
+side_by_side() {
+    processors=$(nproc) memory=$(awk '/^MemAvailable:/ { print int($2 / 4000000) }' /proc/meminfo)
+    [ "$memory" -lt "$processors" ] && processors=$memory
+    [ "$processors" -ge 1 ] && echo "$processors" || echo 1
+}
+
+{ RT_JOBS=${RT_JOBS:-$(side_by_side)} rt ci 2>&1 && echo 0 > "$ended/status" || echo $? > "$ended/status"; } | tee "$ended/said"
 status=$(cat "$ended/status")
 [ "$status" -eq 0 ] || exit "$status"
 last=$(tail -n 1 "$ended/said")
