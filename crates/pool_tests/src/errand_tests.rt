@@ -1,16 +1,14 @@
 // How many calls a worker has on their way at a time: several by several workers over what is prompt, and one
 // over all else.
 
-use crate::test_pool::{all_commit, first_answers, locked_dc};
-use crate::test_state::{PUT, all_pushed, push_call};
+use crate::test_pool::{are_committed, first_answers, is_same, locked_dc};
+use crate::test_state::puts;
 use access_slots::op::{News, Reply, Wire};
 use std::alloc::{AllocError, Global};
 use std::process::Abort;
 use std::sync::Wait;
 use std::sync::atomic::{AtomicU64, Ordering};
-use std::test::Fail;
 use std::thread::Threads;
-use tc_core::state::Call;
 use worker_pool::{Errand, Gate, Link, LockedDcs, OpenGate};
 
 // A link that knows the most wires that were carried together.
@@ -65,56 +63,39 @@ impl Gate for Slow {
     fn answered(&self, _call: usize) {}
 }
 
-fn push_puts(alloc: Global, calls: &mut Vec<Call>) -> Result<(), AllocError> {
-    for key in 1..=64u64 {
-        push_call(alloc, calls, PUT, &[key, 1])?;
-    }
-    Ok(())
-}
-
-// 64 inserts, none in the way of another.
-fn puts(alloc: Global) -> Result<Vec<Call>, AllocError> {
-    let mut calls = Vec::new(alloc);
-    let pushed = push_puts(alloc, &mut calls);
-    all_pushed(calls, pushed)
-}
-
-// The most wires that were carried together, while 64 calls were run that all commit.
+// So many wires are carried together at most, while 64 calls are run that all commit, none in the way of another.
 fn carried_together<R: Threads + Wait + Sync + Abort, G: Gate + Sync>(
     rt: &R,
     alloc: Global,
-    workers: usize,
-    is_prompt: bool,
+    (workers, is_prompt): (usize, bool),
     gate: &G,
-) -> Result<u64, Fail> {
-    let link = Together::new(alloc, is_prompt)?;
-    let answers = first_answers(rt, alloc, puts(alloc)?, workers, &link, gate);
-    let most = link.most();
+    most: u64,
+) {
+    let link = Together::new(alloc, is_prompt).expect(rt, "no link");
+    let calls = puts(alloc, 64, 1).expect(rt, "no calls");
+    let answers = first_answers(rt, alloc, calls, workers, &link, gate);
+    are_committed(rt, answers.as_slice(), 64);
+    drop(answers);
+    is_same(rt, link.most(), most);
     drop(link);
-    assert!(rt; all_commit(answers?.as_slice(), 64));
-    Ok(most)
 }
 
 #[test]
-fn eight_calls_of_a_worker_over_a_prompt_link(rt: HostRuntime) -> Result<(), Fail> {
-    assert_eq!(rt; carried_together(&rt, rt.alloc(), 2, true, &OpenGate)?, 8);
-    Ok(())
+fn eight_calls_of_a_worker_over_a_prompt_link(rt: HostRuntime) {
+    carried_together(&rt, rt.alloc(), (2, true), &OpenGate, 8);
 }
 
 #[test]
-fn one_call_of_a_worker_over_another_link(rt: HostRuntime) -> Result<(), Fail> {
-    assert_eq!(rt; carried_together(&rt, rt.alloc(), 2, false, &OpenGate)?, 1);
-    Ok(())
+fn one_call_of_a_worker_over_another_link(rt: HostRuntime) {
+    carried_together(&rt, rt.alloc(), (2, false), &OpenGate, 1);
 }
 
 #[test]
-fn one_call_of_a_worker_with_a_gate_that_is_not_prompt(rt: HostRuntime) -> Result<(), Fail> {
-    assert_eq!(rt; carried_together(&rt, rt.alloc(), 2, true, &Slow)?, 1);
-    Ok(())
+fn one_call_of_a_worker_with_a_gate_that_is_not_prompt(rt: HostRuntime) {
+    carried_together(&rt, rt.alloc(), (2, true), &Slow, 1);
 }
 
 #[test]
-fn one_call_of_one_worker(rt: HostRuntime) -> Result<(), Fail> {
-    assert_eq!(rt; carried_together(&rt, rt.alloc(), 1, true, &OpenGate)?, 1);
-    Ok(())
+fn one_call_of_one_worker(rt: HostRuntime) {
+    carried_together(&rt, rt.alloc(), (1, true), &OpenGate, 1);
 }

@@ -1,14 +1,13 @@
 // Runs whose log is kept, by one, two and eight workers over one journal in memory, with a gate that looks
 // at what is kept when it is told of an answer, and journals that fail, or that take their time.
 
-use crate::test_pool::{all_commit, locked_dc};
-use crate::test_state::{PUT, all_pushed, moves, push_call, state};
+use crate::test_pool::{answers_of, are_committed, is_same, locked_dc, state_of};
+use crate::test_state::{moves, puts, state};
 use access_slots::op::{News, Reply, Wire};
 use std::alloc::{AllocError, Global};
 use std::process::Abort;
 use std::sync::Wait;
 use std::sync::atomic::{AtomicU64, Ordering};
-use std::test::Fail;
 use std::thread;
 use std::thread::Threads;
 use tc_core::state::{Call, TcState};
@@ -161,34 +160,19 @@ impl Journal for Watched<'_> {
     }
 }
 
-fn push_puts(alloc: Global, calls: &mut Vec<Call>, count: u64) -> Result<(), AllocError> {
-    for key in 0..count {
-        push_call(alloc, calls, PUT, &[key, 1])?;
-    }
-    Ok(())
-}
-
-// A `put` under each number below this one.
-fn puts(alloc: Global, count: u64) -> Result<Vec<Call>, AllocError> {
-    let mut calls = Vec::new(alloc);
-    let pushed = push_puts(alloc, &mut calls, count);
-    all_pushed(calls, pushed)
-}
-
-// The run, over a component with room for eight rows.
-fn ran_over<R: Threads + Wait + Sync>(
+// How many events are kept of a run over a component with room for eight rows, and what comes of it.
+fn ran_over<R: Threads + Wait + Sync + Abort>(
     rt: &R,
     alloc: Global,
     calls: &[Call],
-    workers: usize,
+    (workers, fails_at): (usize, u64),
     board: &Board,
-    fails_at: u64,
-) -> Result<(usize, Result<Report, KeptFault>), Fail> {
+) -> (usize, Result<Report, KeptFault>) {
     let link = Counted {
-        dcs: locked_dc(alloc, 8)?,
+        dcs: locked_dc(alloc, 8).expect(rt, "no components"),
         board,
     };
-    let state = state(alloc)?;
+    let state = state(rt, alloc);
     let journal = Watched {
         memory: MemoryJournal::new(alloc),
         board,
@@ -198,198 +182,141 @@ fn ran_over<R: Threads + Wait + Sync>(
     let kept = journal.memory.events().len();
     drop(journal);
     drop(link);
-    Ok((kept, ran))
+    (kept, ran)
 }
 
-// The number of events that the journal has and that the log has, and the answers.
-fn reported(
-    kept: usize,
-    ran: Result<Report, KeptFault>,
-) -> Result<(usize, usize, Vec<Answer>), Fail> {
-    match ran {
-        Ok(Report { state, answers }) => {
-            let events = state.log().len();
-            drop(state);
-            Ok((kept, events, answers))
-        }
-        Err(fault) => {
-            drop(fault.into_state());
-            Err(Fail::from("no report"))
-        }
-    }
-}
-
-fn are_kept<R: Threads + Wait + Sync + Abort>(
+// The answers of a run whose journal doesn't fail, and has as many events as the log in the end.
+fn reported<R: Threads + Wait + Sync + Abort>(
     rt: &R,
     alloc: Global,
     calls: &[Call],
     workers: usize,
-) -> Result<(), Fail> {
-    let board = Board::new(alloc, calls.len(), 0)?;
-    let (kept, ran) = ran_over(rt, alloc, calls, workers, &board, 0)?;
-    let (kept, events, answers) = reported(kept, ran)?;
-    assert_eq!(rt; kept, events);
-    assert!(rt; all_commit(answers.as_slice(), calls.len()));
-    assert!(rt; board.were_kept(answers.as_slice()));
-    assert_eq!(rt; board.answered(), calls.len());
-    Ok(())
+    board: &Board,
+) -> Vec<Answer> {
+    let (kept, ran) = ran_over(rt, alloc, calls, (workers, 0), board);
+    match ran {
+        Ok(report) => {
+            is_same(rt, kept, report.state.log().len());
+            answers_of(report)
+        }
+        Err(fault) => {
+            drop(fault.into_state());
+            panic!(rt; "no report");
+        }
+    }
 }
 
-fn puts_are_kept<R: Threads + Wait + Sync + Abort>(
-    rt: &R,
-    alloc: Global,
-    workers: usize,
-) -> Result<(), Fail> {
-    let calls = puts(alloc, 8)?;
-    let passed = are_kept(rt, alloc, calls.as_slice(), workers);
+fn new_board(rt: &impl Abort, alloc: Global, calls: usize, awaited: u64) -> Board {
+    Board::new(alloc, calls, awaited).expect(rt, "no board")
+}
+
+fn new_puts(rt: &impl Abort, alloc: Global) -> Vec<Call> {
+    puts(alloc, 8, 1).expect(rt, "no calls")
+}
+
+fn puts_are_kept<R: Threads + Wait + Sync + Abort>(rt: &R, alloc: Global, workers: usize) {
+    let calls = new_puts(rt, alloc);
+    let board = new_board(rt, alloc, 8, 0);
+    let answers = reported(rt, alloc, calls.as_slice(), workers, &board);
     drop(calls);
-    passed
+    are_committed(rt, answers.as_slice(), 8);
+    is_same(rt, board.were_kept(answers.as_slice()), true);
+    is_same(rt, board.answered(), 8);
+    drop(board);
 }
 
 // Who is told of an answer finds its end kept at that moment, and all of the log is kept in the end.
 #[test]
-fn told_once_it_is_kept(rt: HostRuntime) -> Result<(), Fail> {
-    for workers in [1usize, 2, 8] {
-        puts_are_kept(&rt, rt.alloc(), workers)?;
-    }
-    Ok(())
-}
-
-fn moves_are_kept<R: Threads + Wait + Sync + Abort>(rt: &R, alloc: Global) -> Result<(), Fail> {
-    let calls = moves(alloc, 1, 8)?;
-    let board = Board::new(alloc, 8, 0)?;
-    let ran = ran_over(rt, alloc, calls.as_slice(), 8, &board, 0);
-    drop(calls);
-    let (kept, ran) = ran?;
-    let (kept, events, _answers) = reported(kept, ran)?;
-    assert_eq!(rt; kept, events);
-    assert_eq!(rt; board.answered(), 8);
-    Ok(())
+fn told_once_it_is_kept(rt: HostRuntime) {
+    puts_are_kept(&rt, rt.alloc(), 1);
+    puts_are_kept(&rt, rt.alloc(), 2);
+    puts_are_kept(&rt, rt.alloc(), 8);
 }
 
 // The same where the calls are in each other's way.
 #[test]
-fn kept_where_calls_wait_for_each_other(rt: HostRuntime) -> Result<(), Fail> {
-    moves_are_kept(&rt, rt.alloc())
-}
-
-fn kept_together<R: Threads + Wait + Sync + Abort>(
-    rt: &R,
-    alloc: Global,
-    calls: &[Call],
-) -> Result<(), Fail> {
-    let board = Board::new(alloc, 8, 8)?;
-    let (kept, ran) = ran_over(rt, alloc, calls, 8, &board, 0)?;
-    let (_kept, _events, answers) = reported(kept, ran)?;
-    assert!(rt; board.were_kept(answers.as_slice()));
-    assert!(rt; board.keeps.load(Ordering::SeqCst) < 9);
-    assert_eq!(rt; board.late.load(Ordering::SeqCst), 0);
-    Ok(())
+fn kept_where_calls_wait_for_each_other(rt: HostRuntime) {
+    let calls = moves(&rt, rt.alloc(), 1, 8);
+    let board = new_board(&rt, rt.alloc(), 8, 0);
+    let answers = reported(&rt, rt.alloc(), calls.as_slice(), 8, &board);
+    drop(answers);
+    drop(calls);
+    is_same(&rt, board.answered(), 8);
+    drop(board);
 }
 
 // Eight calls that end while something is being kept don't take eight keeps and the last one. Nothing is
 // locked meanwhile that they need.
 #[test]
-fn one_keep_for_several_answers(rt: HostRuntime) -> Result<(), Fail> {
-    let calls = puts(rt.alloc(), 8)?;
-    let passed = kept_together(&rt, rt.alloc(), calls.as_slice());
+fn one_keep_for_several_answers(rt: HostRuntime) {
+    let calls = new_puts(&rt, rt.alloc());
+    let board = new_board(&rt, rt.alloc(), 8, 8);
+    let answers = reported(&rt, rt.alloc(), calls.as_slice(), 8, &board);
     drop(calls);
-    passed
+    is_same(&rt, board.were_kept(answers.as_slice()), true);
+    assert!(&rt; board.keeps.load(Ordering::SeqCst) < 9);
+    is_same(&rt, board.late.load(Ordering::SeqCst), 0);
+    drop(board);
 }
 
-// The state of a run whose journal failed.
-fn stopped(ran: Result<Report, KeptFault>) -> Result<TcState, Fail> {
+// How many events its log has.
+fn events_of(state: TcState) -> usize {
+    let events = state.log().len();
+    drop(state);
+    events
+}
+
+// How a run ended, and how many events the log of its state has.
+fn ending(ran: Result<Report, KeptFault>) -> (&'static str, usize) {
     match ran {
-        Err(KeptFault::NotKept(state)) => Ok(state),
-        Err(KeptFault::Unbegun(fault)) => {
-            drop(fault.into_state());
-            Err(Fail::from("not begun"))
-        }
-        Ok(report) => {
-            let Report { state, answers } = report;
-            drop(state);
-            drop(answers);
-            Err(Fail::from("a report"))
-        }
+        Ok(report) => ("a report", events_of(state_of(report))),
+        Err(KeptFault::NotKept(state)) => ("not kept", events_of(state)),
+        Err(KeptFault::Unbegun(fault)) => ("not begun", events_of(fault.into_state())),
     }
 }
 
+// One worker alone has told just those before the keep that fails.
 fn stops_at<R: Threads + Wait + Sync + Abort>(
     rt: &R,
     alloc: Global,
     calls: &[Call],
     (workers, fails_at): (usize, u64),
-) -> Result<(), Fail> {
-    let board = Board::new(alloc, calls.len(), 0)?;
-    let (kept, ran) = ran_over(rt, alloc, calls, workers, &board, fails_at)?;
-    let state = stopped(ran)?;
-    let events = state.log().len();
-    drop(state);
-    assert_eq!(rt; board.keeps.load(Ordering::SeqCst), fails_at);
+) {
+    let board = new_board(rt, alloc, calls.len(), 0);
+    let (kept, ran) = ran_over(rt, alloc, calls, (workers, fails_at), &board);
+    let (ending, events) = ending(ran);
+    is_same(rt, ending, "not kept");
+    is_same(rt, board.keeps.load(Ordering::SeqCst), fails_at);
+    let told = fails_at.saturating_sub(1);
     if workers == 1 || fails_at == 1 {
-        let told = fails_at.saturating_sub(1);
-        assert_eq!(rt; board.answered() as u64, told);
-        assert_eq!(rt; kept as u64, told.saturating_mul(4));
+        let found = (board.answered() as u64, kept as u64);
+        is_same(rt, found, (told, told.saturating_mul(4)));
     }
     if workers == 1 {
-        assert_eq!(rt; events as u64, fails_at.saturating_mul(4));
+        is_same(rt, events as u64, fails_at.saturating_mul(4));
     }
-    Ok(())
+    drop(board);
 }
 
-fn all_stop<R: Threads + Wait + Sync + Abort>(
-    rt: &R,
-    alloc: Global,
-    calls: &[Call],
-) -> Result<(), Fail> {
-    for run in [(1usize, 1u64), (1, 3), (2, 1), (8, 1), (8, 2)] {
-        stops_at(rt, alloc, calls, run)?;
-    }
-    Ok(())
-}
-
-// A journal that fails isn't asked again, and nobody is told of an answer from then on: one worker alone
-// has told just those before.
+// A journal that fails isn't asked again, and nobody is told of an answer from then on.
 #[test]
-fn stops_where_a_journal_fails(rt: HostRuntime) -> Result<(), Fail> {
-    let calls = puts(rt.alloc(), 8)?;
-    let passed = all_stop(&rt, rt.alloc(), calls.as_slice());
-    drop(calls);
-    passed
-}
-
-fn unbegun_over<R: Threads + Wait + Sync + Abort>(
-    rt: &R,
-    alloc: Global,
-    link: &LockedDcs,
-) -> Result<(), Fail> {
-    let state = state(alloc)?;
-    let journal = MemoryJournal::new(alloc);
-    let (journal, ran) = run_kept(rt, alloc, state, &[], 65, 3, link, &OpenGate, journal);
-    let is_empty = journal.events().is_empty();
-    drop(journal);
-    match ran {
-        Err(KeptFault::Unbegun(fault)) => drop(fault.into_state()),
-        Err(KeptFault::NotKept(state)) => {
-            drop(state);
-            return Err(Fail::from("not kept"));
-        }
-        Ok(report) => {
-            let Report { state, answers } = report;
-            drop(state);
-            drop(answers);
-            return Err(Fail::from("a report"));
-        }
+fn stops_where_a_journal_fails(rt: HostRuntime) {
+    let calls = new_puts(&rt, rt.alloc());
+    for run in [(1usize, 1u64), (1, 3), (2, 1), (8, 1), (8, 2)] {
+        stops_at(&rt, rt.alloc(), calls.as_slice(), run);
     }
-    assert!(rt; is_empty);
-    Ok(())
+    drop(calls);
 }
 
 // A run that doesn't begin keeps nothing, and hands the journal back.
 #[test]
-fn journal_of_a_run_that_does_not_begin(rt: HostRuntime) -> Result<(), Fail> {
-    let link = locked_dc(rt.alloc(), 1)?;
-    let passed = unbegun_over(&rt, rt.alloc(), &link);
+fn journal_of_a_run_that_does_not_begin(rt: HostRuntime) {
+    let link = locked_dc(rt.alloc(), 1).expect(&rt, "no link");
+    let (alloc, state) = (rt.alloc(), state(&rt, rt.alloc()));
+    let journal = MemoryJournal::new(alloc);
+    let (journal, ran) = run_kept(&rt, alloc, state, &[], 65, 3, &link, &OpenGate, journal);
+    is_same(&rt, journal.events().len(), 0);
+    drop(journal);
+    is_same(&rt, ending(ran), ("not begun", 0));
     drop(link);
-    passed
 }

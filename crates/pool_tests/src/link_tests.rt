@@ -1,17 +1,15 @@
 // Links that are against the run. Each request is sent three times at most.
 
-use crate::test_pool::{all_commit, answers_behind_put, first_answers, holds, locked_dc};
-use crate::test_state::{GET, PUT, moves, one_call};
+use crate::test_pool::{answers_behind_put, are_committed, first_answers, holds, locked_dc};
+use crate::test_state::{calls_of, moves};
 use access_slots::op::{News, Op, Reply, Said, Wire};
-use samples::{record, value};
+use samples::{GET, PUT, record, value};
 use std::alloc::{AllocError, Global};
 use std::mem;
 use std::process::Abort;
 use std::sync::atomic::{AtomicU64, Ordering};
 use std::sync::{Mutex, Wait};
-use std::test::Fail;
 use std::thread::Threads;
-use tc_core::state::Call;
 use worker_pool::{Answer, Link, LockedDcs, OpenGate};
 
 // What a link does to the replies.
@@ -87,17 +85,11 @@ impl Link for Hostile {
     }
 }
 
-fn are_answered(rt: &impl Abort, answers: &[Answer], answer: Answer, harm: Harm) {
-    assert_eq!(rt; answers, [answer].as_slice(), "over {harm:?}");
-}
-
-fn is_carried(rt: &impl Abort, link: &Hostile, carried: u64) {
+// The answer of one call, and how often was carried for it.
+fn is_answered(rt: &impl Abort, link: &Hostile, answers: &[Answer], answer: Answer, carried: u64) {
     let harm = link.harm;
-    assert_eq!(rt;
-        link.carried.load(Ordering::SeqCst),
-        carried,
-        "over {harm:?}"
-    );
+    let found = (answers, link.carried.load(Ordering::SeqCst));
+    assert_eq!(rt; found, ([answer].as_slice(), carried), "over {harm:?}");
 }
 
 // One worker makes this call over the link: its answer, and how often was carried.
@@ -105,25 +97,13 @@ fn check<R: Threads + Wait + Sync + Abort>(
     rt: &R,
     alloc: Global,
     link: &Hostile,
-    call: Vec<Call>,
+    call: (usize, &[u64]),
     answer: Answer,
     carried: u64,
-) -> Result<(), Fail> {
-    let answers = first_answers(rt, alloc, call, 1, link, &OpenGate)?;
-    are_answered(rt, answers.as_slice(), answer, link.harm);
-    is_carried(rt, link, carried);
-    Ok(())
-}
-
-fn check_put_over<R: Threads + Wait + Sync + Abort>(
-    rt: &R,
-    alloc: Global,
-    link: &Hostile,
-    answer: Answer,
-    carried: u64,
-) -> Result<(), Fail> {
-    let put = one_call(alloc, PUT, &[5, 1])?;
-    check(rt, alloc, link, put, answer, carried)
+) {
+    let calls = calls_of(rt, alloc, &[call]);
+    let answers = first_answers(rt, alloc, calls, 1, link, &OpenGate);
+    is_answered(rt, link, answers.as_slice(), answer, carried);
 }
 
 fn check_put<R: Threads + Wait + Sync + Abort>(
@@ -132,25 +112,19 @@ fn check_put<R: Threads + Wait + Sync + Abort>(
     harm: Harm,
     answer: Answer,
     carried: u64,
-) -> Result<(), Fail> {
-    let link = Hostile::new(alloc, harm)?;
-    let checked = check_put_over(rt, alloc, &link, answer, carried);
+) {
+    let link = Hostile::new(alloc, harm).expect(rt, "no link");
+    check(rt, alloc, &link, (PUT, &[5, 1]), answer, carried);
     drop(link);
-    checked
 }
 
 // `put 5 1`, where no reply is one to its request, and where each reply comes late.
 #[test]
-fn puts_over_hostile_links(rt: HostRuntime) -> Result<(), Fail> {
-    for (harm, answer, carried) in [
-        (Harm::OtherNumber, Answer::InDoubt(1), 3),
-        (Harm::Old, Answer::InDoubt(1), 3),
-        (Harm::Misfit, Answer::InDoubt(1), 3),
-        (Harm::Late, Answer::Committed(3), 2),
-    ] {
-        check_put(&rt, rt.alloc(), harm, answer, carried)?;
-    }
-    Ok(())
+fn puts_over_hostile_links(rt: HostRuntime) {
+    check_put(&rt, rt.alloc(), Harm::OtherNumber, Answer::InDoubt(1), 3);
+    check_put(&rt, rt.alloc(), Harm::Old, Answer::InDoubt(1), 3);
+    check_put(&rt, rt.alloc(), Harm::Misfit, Answer::InDoubt(1), 3);
+    check_put(&rt, rt.alloc(), Harm::Late, Answer::Committed(3), 2);
 }
 
 // Inserts record 5 behind the back of the run.
@@ -165,56 +139,37 @@ fn insert<R: Wait + Abort>(rt: &R, dcs: &LockedDcs) {
     assert!(rt; dcs.carry(rt, 0, &insert).is_some());
 }
 
-fn check_get_over<R: Threads + Wait + Sync + Abort>(
-    rt: &R,
-    alloc: Global,
-    link: &mut Hostile,
-) -> Result<(), Fail> {
-    insert(rt, &link.dcs);
-    let get = one_call(alloc, GET, &[5])?;
-    check(rt, alloc, link, get, Answer::Aborted(1, 3), 1)?;
-    holds(rt, &mut link.dcs, 100);
-    Ok(())
-}
-
 // `get 5`, where the record is there.
 #[test]
-fn a_read_that_is_told_of_nothing(rt: HostRuntime) -> Result<(), Fail> {
-    let mut link = Hostile::new(rt.alloc(), Harm::Absent)?;
-    let checked = check_get_over(&rt, rt.alloc(), &mut link);
+fn a_read_that_is_told_of_nothing(rt: HostRuntime) {
+    let mut link = Hostile::new(rt.alloc(), Harm::Absent).expect(&rt, "no link");
+    insert(&rt, &link.dcs);
+    check(
+        &rt,
+        rt.alloc(),
+        &link,
+        (GET, &[5]),
+        Answer::Aborted(1, 3),
+        1,
+    );
+    holds(&rt, &mut link.dcs, 100);
     drop(link);
-    checked
 }
 
-fn moved_over<R: Threads + Wait + Sync + Abort>(
-    rt: &R,
-    alloc: Global,
-    workers: usize,
-    link: &mut Hostile,
-) -> Result<(), Fail> {
-    let calls = moves(alloc, 1, 8)?;
-    let answers = answers_behind_put(rt, alloc, calls, workers, link)?;
-    assert!(rt; all_commit(answers.as_slice(), 8));
+fn moved_thrice<R: Threads + Wait + Sync + Abort>(rt: &R, alloc: Global, workers: usize) {
+    let mut link = Hostile::new(alloc, Harm::Thrice).expect(rt, "no link");
+    let calls = moves(rt, alloc, 1, 8);
+    let answers = answers_behind_put(rt, alloc, calls, workers, &link);
+    are_committed(rt, answers.as_slice(), 8);
+    drop(answers);
     holds(rt, &mut link.dcs, 108);
-    Ok(())
-}
-
-fn moved_thrice<R: Threads + Wait + Sync + Abort>(
-    rt: &R,
-    alloc: Global,
-    workers: usize,
-) -> Result<(), Fail> {
-    let mut link = Hostile::new(alloc, Harm::Thrice)?;
-    let passed = moved_over(rt, alloc, workers, &mut link);
     drop(link);
-    passed
 }
 
 // Each wire is performed three times: eight moves of 1 onto itself add up to 8.
 #[test]
-fn wires_performed_three_times(rt: HostRuntime) -> Result<(), Fail> {
-    for workers in [1usize, 2, 8] {
-        moved_thrice(&rt, rt.alloc(), workers)?;
-    }
-    Ok(())
+fn wires_performed_three_times(rt: HostRuntime) {
+    moved_thrice(&rt, rt.alloc(), 1);
+    moved_thrice(&rt, rt.alloc(), 2);
+    moved_thrice(&rt, rt.alloc(), 8);
 }

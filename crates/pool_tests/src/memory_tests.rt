@@ -1,22 +1,21 @@
 // Calls by workers where a request for memory is refused: what is refused is asked for once more,
 // so each test passes wherever one request of its run is refused.
 
-use crate::test_pool::{answers_of, locked_dc, value_at};
-use crate::test_state::{PUT, all_pushed, loaded, push_call, state};
+use crate::test_pool::{answers_of, is_same, locked_dc, value_at};
+use crate::test_state::{loaded, puts, state};
 use access_slots::slot::Value;
 use samples::value;
 use std::alloc::{AllocError, Global};
 use std::process::Abort;
 use std::sync::Wait;
-use std::test::Fail;
 use std::thread::Threads;
 use tc_core::state::{Call, Refusal, TcState};
 use worker_pool::{Answer, LockedDcs, OpenGate, run};
 
-fn state_in_the_end(alloc: Global) -> Result<TcState, Fail> {
+fn state_in_the_end(rt: &impl Abort, alloc: Global) -> TcState {
     match loaded(alloc) {
-        Some(state) => Ok(state),
-        None => state(alloc),
+        Some(state) => state,
+        None => state(rt, alloc),
     }
 }
 
@@ -27,24 +26,11 @@ fn link_in_the_end(alloc: Global) -> Result<LockedDcs, AllocError> {
     }
 }
 
-fn push_puts(alloc: Global, calls: &mut Vec<Call>) -> Result<(), AllocError> {
-    for key in 0..3u64 {
-        push_call(alloc, calls, PUT, &[key, 100])?;
-    }
-    Ok(())
-}
-
 // `put` under 0, 1 and 2.
-fn three_puts(alloc: Global) -> Result<Vec<Call>, AllocError> {
-    let mut calls = Vec::new(alloc);
-    let pushed = push_puts(alloc, &mut calls);
-    all_pushed(calls, pushed)
-}
-
 fn calls_in_the_end(alloc: Global) -> Result<Vec<Call>, AllocError> {
-    match three_puts(alloc) {
+    match puts(alloc, 3, 100) {
         Ok(calls) => Ok(calls),
-        Err(_) => three_puts(alloc),
+        Err(_) => puts(alloc, 3, 100),
     }
 }
 
@@ -71,13 +57,13 @@ fn begun_again<R: Threads + Wait + Sync + Abort>(
     calls: &[Call],
     workers: usize,
     link: &LockedDcs,
-) -> Result<Vec<Answer>, Fail> {
-    assert_eq!(rt; back.log().len(), 0);
+) -> Vec<Answer> {
+    is_same(rt, back.log().len(), 0);
     match begun(rt, alloc, back, calls, workers, link) {
-        Ok(answers) => Ok(answers),
+        Ok(answers) => answers,
         Err(back) => {
             drop(back);
-            Err(Fail::from("no call was begun"))
+            panic!(rt; "no call was begun");
         }
     }
 }
@@ -88,10 +74,10 @@ fn answers<R: Threads + Wait + Sync + Abort>(
     calls: &[Call],
     workers: usize,
     link: &LockedDcs,
-) -> Result<Vec<Answer>, Fail> {
-    let state = state_in_the_end(alloc)?;
+) -> Vec<Answer> {
+    let state = state_in_the_end(rt, alloc);
     match begun(rt, alloc, state, calls, workers, link) {
-        Ok(answers) => Ok(answers),
+        Ok(answers) => answers,
         Err(back) => begun_again(rt, alloc, back, calls, workers, link),
     }
 }
@@ -105,58 +91,29 @@ fn left_by(rt: &impl Abort, answer: &Answer) -> Option<Value> {
     }
 }
 
-fn row_is_left(rt: &impl Abort, row: Option<Value>, answer: &Answer) {
-    assert_eq!(rt; row, left_by(rt, answer));
-}
-
 // Where a call isn't admitted, the others go on.
 fn rows_are_those(rt: &impl Abort, link: &mut LockedDcs, answers: &[Answer]) {
     for (key, answer) in (0..3u64).zip(answers) {
-        row_is_left(rt, value_at(link, key), answer);
+        is_same(rt, value_at(link, key), left_by(rt, answer));
     }
 }
 
-fn put_answers<R: Threads + Wait + Sync + Abort>(
-    rt: &R,
-    alloc: Global,
-    workers: usize,
-    link: &LockedDcs,
-) -> Result<Vec<Answer>, Fail> {
-    let calls = calls_in_the_end(alloc)?;
-    let answered = answers(rt, alloc, calls.as_slice(), workers, link);
+fn run_puts<R: Threads + Wait + Sync + Abort>(rt: &R, alloc: Global, workers: usize) {
+    let mut link = link_in_the_end(alloc).expect(rt, "no link");
+    let calls = calls_in_the_end(alloc).expect(rt, "no calls");
+    let answers = answers(rt, alloc, calls.as_slice(), workers, &link);
+    is_same(rt, answers.len(), 3);
+    rows_are_those(rt, &mut link, answers.as_slice());
     drop(calls);
-    answered
-}
-
-fn run_puts_over<R: Threads + Wait + Sync + Abort>(
-    rt: &R,
-    alloc: Global,
-    workers: usize,
-    link: &mut LockedDcs,
-) -> Result<(), Fail> {
-    let answers = put_answers(rt, alloc, workers, link)?;
-    assert_eq!(rt; answers.len(), 3);
-    rows_are_those(rt, link, answers.as_slice());
-    Ok(())
-}
-
-fn run_puts<R: Threads + Wait + Sync + Abort>(
-    rt: &R,
-    alloc: Global,
-    workers: usize,
-) -> Result<(), Fail> {
-    let mut link = link_in_the_end(alloc)?;
-    let passed = run_puts_over(rt, alloc, workers, &mut link);
     drop(link);
-    passed
 }
 
 #[test]
-fn calls_by_one_worker(rt: HostRuntime) -> Result<(), Fail> {
-    run_puts(&rt, rt.alloc(), 1)
+fn calls_by_one_worker(rt: HostRuntime) {
+    run_puts(&rt, rt.alloc(), 1);
 }
 
 #[test]
-fn calls_by_two_workers(rt: HostRuntime) -> Result<(), Fail> {
-    run_puts(&rt, rt.alloc(), 2)
+fn calls_by_two_workers(rt: HostRuntime) {
+    run_puts(&rt, rt.alloc(), 2);
 }

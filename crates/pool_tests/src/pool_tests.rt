@@ -2,160 +2,83 @@
 // and links that wait, lose and change what they carry.
 
 use crate::test_pool::{
-    Hold, all_commit, answers, answers_behind_put, are_those, begun, behind_put, first_answers,
-    holds, locked_dc, state_of,
+    Hold, answers, answers_behind_put, are_committed, begun, behind_put, first_answers, holds,
+    is_same, locked_dc, state_of,
 };
-use crate::test_state::{
-    BAD, GET, MOVE, NO_PROCEDURE, PUT, all_pushed, moves, one_call, push_call, state, two_puts,
-};
+use crate::test_state::{NO_PROCEDURE, add_call, calls_of, moves, state};
 use access_slots::op::{News, Reply, Wire};
 use lock_table::table::Busy;
-use samples::record;
-use std::alloc::{AllocError, Global};
+use samples::{BAD, GET, MOVE, PUT, record};
+use std::alloc::Global;
 use std::process::Abort;
 use std::sync::atomic::{AtomicU64, Ordering};
 use std::sync::{Mutex, Wait};
-use std::test::Fail;
 use std::thread::Threads;
 use tc_core::state::{Call, Refusal, TcState};
 use tc_log::event::Event;
-use worker_pool::{Answer, Gate, Link, LockedDcs, OpenGate, Report, RunFault, run};
+use worker_pool::{Answer, Gate, Link, LockedDcs, OpenGate, RunFault, run};
 
-fn one_move_over<R: Threads + Wait + Sync + Abort>(
-    rt: &R,
-    alloc: Global,
-    workers: usize,
-    link: &mut LockedDcs,
-) -> Result<(), Fail> {
-    let calls = moves(alloc, 10, 1)?;
-    let answers = answers_behind_put(rt, alloc, calls, workers, link)?;
-    are_those(rt, answers.as_slice(), &[Answer::Committed(13)]);
-    holds(rt, link, 110);
-    Ok(())
-}
-
-fn moved_onto_itself<R: Threads + Wait + Sync + Abort>(
-    rt: &R,
-    alloc: Global,
-    workers: usize,
-) -> Result<(), Fail> {
-    let mut link = locked_dc(alloc, 4)?;
-    let passed = one_move_over(rt, alloc, workers, &mut link);
+fn one_moved<R: Threads + Wait + Sync + Abort>(rt: &R, alloc: Global, workers: usize) {
+    let mut link = locked_dc(alloc, 4).expect(rt, "no link");
+    let calls = moves(rt, alloc, 10, 1);
+    let answers = answers_behind_put(rt, alloc, calls, workers, &link);
+    is_same(rt, answers.as_slice(), [Answer::Committed(13)].as_slice());
+    holds(rt, &mut link, 110);
     drop(link);
-    passed
 }
 
 // `move 5 5 10`: the last write of the record stands.
 #[test]
-fn one_record_moved_onto_itself(rt: HostRuntime) -> Result<(), Fail> {
-    for workers in [1usize, 2, 8] {
-        moved_onto_itself(&rt, rt.alloc(), workers)?;
-    }
-    Ok(())
+fn one_record_moved_onto_itself(rt: HostRuntime) {
+    one_moved(&rt, rt.alloc(), 1);
+    one_moved(&rt, rt.alloc(), 2);
+    one_moved(&rt, rt.alloc(), 8);
 }
 
-fn eight_moves_over<R: Threads + Wait + Sync + Abort>(
-    rt: &R,
-    alloc: Global,
-    workers: usize,
-    link: &mut LockedDcs,
-) -> Result<(), Fail> {
-    let calls = moves(alloc, 1, 8)?;
-    let answers = answers_behind_put(rt, alloc, calls, workers, link)?;
-    assert!(rt; all_commit(answers.as_slice(), 8));
-    holds(rt, link, 108);
-    Ok(())
-}
-
-fn eight_moved<R: Threads + Wait + Sync + Abort>(
-    rt: &R,
-    alloc: Global,
-    workers: usize,
-) -> Result<(), Fail> {
-    let mut link = locked_dc(alloc, 4)?;
-    let passed = eight_moves_over(rt, alloc, workers, &mut link);
+fn eight_moved<R: Threads + Wait + Sync + Abort>(rt: &R, alloc: Global, workers: usize) {
+    let mut link = locked_dc(alloc, 4).expect(rt, "no link");
+    let calls = moves(rt, alloc, 1, 8);
+    let answers = answers_behind_put(rt, alloc, calls, workers, &link);
+    are_committed(rt, answers.as_slice(), 8);
+    holds(rt, &mut link, 108);
     drop(link);
-    passed
 }
 
 #[test]
-fn eight_moves_by_any_number_of_workers(rt: HostRuntime) -> Result<(), Fail> {
-    for workers in [1usize, 2, 8] {
-        eight_moved(&rt, rt.alloc(), workers)?;
-    }
-    Ok(())
+fn eight_moves_by_any_number_of_workers(rt: HostRuntime) {
+    eight_moved(&rt, rt.alloc(), 1);
+    eight_moved(&rt, rt.alloc(), 2);
+    eight_moved(&rt, rt.alloc(), 8);
 }
 
-fn push_three(alloc: Global, calls: &mut Vec<Call>) -> Result<(), AllocError> {
-    push_call(alloc, calls, BAD, &[5])?;
-    push_call(alloc, calls, GET, &[6])?;
-    push_call(alloc, calls, PUT, &[6, 1])
-}
-
-// An abort, a read of what isn't there, and an insert.
-fn three_calls(alloc: Global) -> Result<Vec<Call>, AllocError> {
-    let mut calls = Vec::new(alloc);
-    let pushed = push_three(alloc, &mut calls);
-    all_pushed(calls, pushed)
-}
-
-// The abort is undone; the read answers 1; the insert finds no room.
-fn three_calls_over<R: Threads + Wait + Sync + Abort>(
-    rt: &R,
-    alloc: Global,
-    link: &mut LockedDcs,
-) -> Result<(), Fail> {
-    let answers = answers_behind_put(rt, alloc, three_calls(alloc)?, 1, link)?;
+// An abort is undone; a read of what isn't there answers 1; an insert finds no room.
+#[test]
+fn aborts_and_no_room(rt: HostRuntime) {
+    let mut link = locked_dc(rt.alloc(), 1).expect(&rt, "no link");
+    let calls = calls_of(&rt, rt.alloc(), &[(BAD, &[5]), (GET, &[6]), (PUT, &[6, 1])]);
+    let answers = answers_behind_put(&rt, rt.alloc(), calls, 1, &link);
     let wanted = [
         Answer::Aborted(5, 11),
         Answer::Aborted(1, 15),
         Answer::NoRoom(19),
     ];
-    are_those(rt, answers.as_slice(), &wanted);
-    holds(rt, link, 100);
-    Ok(())
-}
-
-#[test]
-fn aborts_and_no_room(rt: HostRuntime) -> Result<(), Fail> {
-    let mut link = locked_dc(rt.alloc(), 1)?;
-    let passed = three_calls_over(&rt, rt.alloc(), &mut link);
+    is_same(&rt, answers.as_slice(), wanted.as_slice());
+    holds(&rt, &mut link, 100);
     drop(link);
-    passed
-}
-
-fn push_refused(alloc: Global, calls: &mut Vec<Call>) -> Result<(), AllocError> {
-    push_call(alloc, calls, NO_PROCEDURE, &[5])?;
-    push_call(alloc, calls, GET, &[5, 6])
 }
 
 // Calls of no procedure, and of one that has another number of arguments.
-fn two_refused(alloc: Global) -> Result<Vec<Call>, AllocError> {
-    let mut calls = Vec::new(alloc);
-    let pushed = push_refused(alloc, &mut calls);
-    all_pushed(calls, pushed)
-}
-
-fn refused_over<R: Threads + Wait + Sync + Abort>(
-    rt: &R,
-    alloc: Global,
-    link: &LockedDcs,
-) -> Result<(), Fail> {
-    let answers = answers_behind_put(rt, alloc, two_refused(alloc)?, 2, link)?;
+#[test]
+fn refused_calls(rt: HostRuntime) {
+    let link = locked_dc(rt.alloc(), 4).expect(&rt, "no link");
+    let calls = calls_of(&rt, rt.alloc(), &[(NO_PROCEDURE, &[5]), (GET, &[5, 6])]);
+    let answers = answers_behind_put(&rt, rt.alloc(), calls, 2, &link);
     let wanted = [
         Answer::Refused(Refusal::NoProcedure),
         Answer::Refused(Refusal::ArgumentCount),
     ];
-    are_those(rt, answers.as_slice(), &wanted);
-    Ok(())
-}
-
-#[test]
-fn refused_calls(rt: HostRuntime) -> Result<(), Fail> {
-    let link = locked_dc(rt.alloc(), 4)?;
-    let passed = refused_over(&rt, rt.alloc(), &link);
+    is_same(&rt, answers.as_slice(), wanted.as_slice());
     drop(link);
-    passed
 }
 
 // Counts the calls that it is told of as begun and as answered.
@@ -180,10 +103,6 @@ impl Counts {
             self.answered.load(Ordering::SeqCst),
         )
     }
-}
-
-fn is_told(rt: &impl Abort, counts: &Counts, told: (u64, u64)) {
-    assert_eq!(rt; counts.told(), told);
 }
 
 impl Gate for Counts {
@@ -217,40 +136,30 @@ impl Gate for HoldsBegun {
     }
 }
 
-// Whether `put 5 1` and `put 6 2` are committed by two workers.
-fn do_both_commit<R: Threads + Wait + Sync, L: Link + Sync, G: Gate + Sync>(
+// `put 5 1` and `put 6 2` are committed by two workers.
+fn both_commit<R: Threads + Wait + Sync + Abort, L: Link + Sync, G: Gate + Sync>(
     rt: &R,
     alloc: Global,
     link: &L,
     gate: &G,
-) -> Result<bool, Fail> {
-    let answers = first_answers(rt, alloc, two_puts(alloc, 6)?, 2, link, gate)?;
-    Ok(all_commit(answers.as_slice(), 2))
-}
-
-fn do_both_commit_by<R: Threads + Wait + Sync>(
-    rt: &R,
-    alloc: Global,
-    gate: &HoldsBegun,
-) -> Result<bool, Fail> {
-    let link = locked_dc(alloc, 4)?;
-    let both = do_both_commit(rt, alloc, &link, gate);
-    drop(link);
-    both
+) {
+    let calls = calls_of(rt, alloc, &[(PUT, &[5, 1]), (PUT, &[6, 2])]);
+    let answers = first_answers(rt, alloc, calls, 2, link, gate);
+    are_committed(rt, answers.as_slice(), 2);
 }
 
 // Two workers are at work at once, and no lock is held while a gate is told.
 #[test]
-fn two_calls_at_once_by_a_gate(rt: HostRuntime) -> Result<(), Fail> {
+fn two_calls_at_once_by_a_gate(rt: HostRuntime) {
     let gate = HoldsBegun {
         hold: Hold::new(),
         counts: Counts::new(),
     };
-    let both = do_both_commit_by(&rt, rt.alloc(), &gate)?;
-    assert!(rt; both);
-    assert!(rt; !gate.hold.is_too_late());
-    is_told(&rt, &gate.counts, (2, 2));
-    Ok(())
+    let link = locked_dc(rt.alloc(), 4).expect(&rt, "no link");
+    both_commit(&rt, rt.alloc(), &link, &gate);
+    drop(link);
+    is_same(&rt, gate.hold.is_too_late(), false);
+    is_same(&rt, gate.counts.told(), (2, 2));
 }
 
 // Holds the first carry for record 0/0/5 until call 1 is answered.
@@ -283,17 +192,14 @@ impl Gate for HoldsCarry {
 
 // No lock is held while a wire is carried.
 #[test]
-fn two_calls_at_once_by_a_link(rt: HostRuntime) -> Result<(), Fail> {
+fn two_calls_at_once_by_a_link(rt: HostRuntime) {
     let link = HoldsCarry {
-        dcs: locked_dc(rt.alloc(), 4)?,
+        dcs: locked_dc(rt.alloc(), 4).expect(&rt, "no components"),
         hold: Hold::new(),
     };
-    let both = do_both_commit(&rt, rt.alloc(), &link, &link);
-    let is_too_late = link.hold.is_too_late();
+    both_commit(&rt, rt.alloc(), &link, &link);
+    is_same(&rt, link.hold.is_too_late(), false);
     drop(link);
-    assert!(rt; both?);
-    assert!(rt; !is_too_late);
-    Ok(())
 }
 
 // Loses every wire, and counts them.
@@ -320,34 +226,20 @@ fn are_lost(rt: &impl Abort, answers: &[Answer]) {
         holder: 1,
     };
     let wanted = [Answer::InDoubt(1), Answer::Blocked(in_the_way)];
-    are_those(rt, answers, &wanted);
-}
-
-fn lost_over<R: Threads + Wait + Sync + Abort>(
-    rt: &R,
-    alloc: Global,
-    link: &Loses,
-    gate: &Counts,
-) -> Result<(), Fail> {
-    let answers = first_answers(rt, alloc, two_puts(alloc, 5)?, 1, link, gate)?;
-    are_lost(rt, answers.as_slice());
-    Ok(())
-}
-
-fn is_carried(rt: &impl Abort, link: &Loses, carried: u64) {
-    assert_eq!(rt; link.carried.load(Ordering::SeqCst), carried);
+    is_same(rt, answers, wanted.as_slice());
 }
 
 #[test]
-fn in_doubt_after_three_carries_and_blocked(rt: HostRuntime) -> Result<(), Fail> {
+fn in_doubt_after_three_carries_and_blocked(rt: HostRuntime) {
     let link = Loses {
         carried: AtomicU64::new(0),
     };
     let gate = Counts::new();
-    lost_over(&rt, rt.alloc(), &link, &gate)?;
-    is_carried(&rt, &link, 3);
-    is_told(&rt, &gate, (1, 2));
-    Ok(())
+    let calls = calls_of(&rt, rt.alloc(), &[(PUT, &[5, 1]), (PUT, &[5, 2])]);
+    let answers = first_answers(&rt, rt.alloc(), calls, 1, &link, &gate);
+    are_lost(&rt, answers.as_slice());
+    is_same(&rt, link.carried.load(Ordering::SeqCst), 3);
+    is_same(&rt, gate.told(), (1, 2));
 }
 
 // Records every wire. It loses every third one, and changes the reply to every third one.
@@ -414,52 +306,36 @@ fn sent(wires: &[Wire], number: u64) -> usize {
     wires.iter().filter(|wire| wire.number == number).count()
 }
 
-fn push_moves_and_aborts(alloc: Global, calls: &mut Vec<Call>) -> Result<(), AllocError> {
-    push_call(alloc, calls, PUT, &[5, 100])?;
-    for _ in 0..8 {
-        push_call(alloc, calls, MOVE, &[5, 5, 1])?;
-        push_call(alloc, calls, BAD, &[5])?;
-    }
-    Ok(())
-}
-
 // Calls of which some commit, some abort, and some fall in doubt.
-fn moves_and_aborts(alloc: Global) -> Result<Vec<Call>, AllocError> {
-    let mut calls = Vec::new(alloc);
-    let pushed = push_moves_and_aborts(alloc, &mut calls);
-    all_pushed(calls, pushed)
+fn moves_and_aborts(rt: &impl Abort, alloc: Global) -> Vec<Call> {
+    let mut calls = calls_of(rt, alloc, &[(PUT, &[5, 100])]);
+    for _ in 0..8 {
+        add_call(rt, alloc, &mut calls, (MOVE, &[5, 5, 1]));
+        add_call(rt, alloc, &mut calls, (BAD, &[5]));
+    }
+    calls
 }
 
 // Each wire stands in the log, and was sent four times at most.
 fn are_logged(rt: &impl Abort, state: &TcState, wires: &[Wire]) {
-    assert!(rt; !wires.is_empty());
+    is_same(rt, wires.is_empty(), false);
     for wire in wires {
-        assert!(rt; is_logged(state, wire));
-        assert!(rt; sent(wires, wire.number) <= 4);
+        let found = (is_logged(state, wire), sent(wires, wire.number) <= 4);
+        is_same(rt, found, (true, true));
     }
 }
 
-// The state behind these calls over the link, each request sent four times at most.
-fn recorded<R: Threads + Wait + Sync>(
+// The state behind moves and aborts over the link, each request sent four times at most.
+fn moved_and_aborted<R: Threads + Wait + Sync + Abort>(
     rt: &R,
     alloc: Global,
     link: &Records,
-    calls: &[Call],
-) -> Result<TcState, Fail> {
-    let state = state(alloc)?;
-    begun(run(rt, alloc, state, calls, 4, 4, link, &OpenGate)).map(state_of)
-}
-
-// The state behind moves and aborts.
-fn moved_and_aborted<R: Threads + Wait + Sync>(
-    rt: &R,
-    alloc: Global,
-    link: &Records,
-) -> Result<TcState, Fail> {
-    let calls = moves_and_aborts(alloc)?;
-    let recorded = recorded(rt, alloc, link, calls.as_slice());
+) -> TcState {
+    let calls = moves_and_aborts(rt, alloc);
+    let state = state(rt, alloc);
+    let ran = run(rt, alloc, state, calls.as_slice(), 4, 4, link, &OpenGate);
     drop(calls);
-    recorded
+    state_of(begun(rt, ran))
 }
 
 fn are_recorded<R: Wait + Abort>(rt: &R, link: &Records, state: &TcState) {
@@ -467,27 +343,17 @@ fn are_recorded<R: Wait + Abort>(rt: &R, link: &Records, state: &TcState) {
     are_logged(rt, state, wires.as_slice());
 }
 
-fn wires_over<R: Threads + Wait + Sync + Abort>(
-    rt: &R,
-    alloc: Global,
-    link: &Records,
-) -> Result<(), Fail> {
-    let state = moved_and_aborted(rt, alloc, link)?;
-    are_recorded(rt, link, &state);
-    drop(state);
-    Ok(())
-}
-
 // What is sent is what the log says, and at most as often as there are tries.
 #[test]
-fn wires_are_the_logs(rt: HostRuntime) -> Result<(), Fail> {
+fn wires_are_the_logs(rt: HostRuntime) {
     let link = Records {
-        dcs: locked_dc(rt.alloc(), 4)?,
+        dcs: locked_dc(rt.alloc(), 4).expect(&rt, "no components"),
         wires: Mutex::new(Vec::new(rt.alloc())),
     };
-    let passed = wires_over(&rt, rt.alloc(), &link);
+    let state = moved_and_aborted(&rt, rt.alloc(), &link);
+    are_recorded(&rt, &link, &state);
+    drop(state);
     drop(link);
-    passed
 }
 
 fn name(fault: &RunFault) -> &'static str {
@@ -498,21 +364,6 @@ fn name(fault: &RunFault) -> &'static str {
     }
 }
 
-// The fault of a run that doesn't begin, and the state that is handed back.
-fn faulted(ran: Result<Report, RunFault>) -> Result<(&'static str, TcState), Fail> {
-    match ran {
-        Err(fault) => Ok((name(&fault), fault.into_state())),
-        Ok(report) => {
-            drop(state_of(report));
-            Err(Fail::from("begun"))
-        }
-    }
-}
-
-fn are_same(rt: &impl Abort, found: &str, wanted: &str) {
-    assert_eq!(rt; found, wanted);
-}
-
 // Sees that a run by so many workers and tries has this fault, and hands the state back.
 fn faults<R: Threads + Wait + Sync + Abort>(
     rt: &R,
@@ -520,10 +371,17 @@ fn faults<R: Threads + Wait + Sync + Abort>(
     state: TcState,
     link: &LockedDcs,
     (workers, tries, fault): (usize, u64, &'static str),
-) -> Result<TcState, Fail> {
-    let (found, state) = faulted(run(rt, alloc, state, &[], workers, tries, link, &OpenGate))?;
-    are_same(rt, found, fault);
-    Ok(state)
+) -> TcState {
+    match run(rt, alloc, state, &[], workers, tries, link, &OpenGate) {
+        Err(found) => {
+            is_same(rt, name(&found), fault);
+            found.into_state()
+        }
+        Ok(report) => {
+            drop(state_of(report));
+            panic!(rt; "begun");
+        }
+    }
 }
 
 // 65 workers and no try; no worker; 1,001 tries; no try.
@@ -532,42 +390,22 @@ fn all_faults<R: Threads + Wait + Sync + Abort>(
     alloc: Global,
     state: TcState,
     link: &LockedDcs,
-) -> Result<TcState, Fail> {
-    let state = faults(rt, alloc, state, link, (65, 0, "G1"))?;
-    let state = faults(rt, alloc, state, link, (0, 3, "G1"))?;
-    let state = faults(rt, alloc, state, link, (64, 1001, "G2"))?;
+) -> TcState {
+    let state = faults(rt, alloc, state, link, (65, 0, "G1"));
+    let state = faults(rt, alloc, state, link, (0, 3, "G1"));
+    let state = faults(rt, alloc, state, link, (64, 1001, "G2"));
     faults(rt, alloc, state, link, (1, 0, "G2"))
-}
-
-fn answers_behind_faults<R: Threads + Wait + Sync + Abort>(
-    rt: &R,
-    alloc: Global,
-    calls: &[Call],
-    link: &LockedDcs,
-) -> Result<Vec<Answer>, Fail> {
-    let state = behind_put(rt, alloc, link)?;
-    let state = all_faults(rt, alloc, state, link)?;
-    answers(rt, alloc, state, calls, 64, link, &OpenGate)
-}
-
-fn read_behind_faults<R: Threads + Wait + Sync + Abort>(
-    rt: &R,
-    alloc: Global,
-    link: &LockedDcs,
-) -> Result<Vec<Answer>, Fail> {
-    let get = one_call(alloc, GET, &[5])?;
-    let answered = answers_behind_faults(rt, alloc, get.as_slice(), link);
-    drop(get);
-    answered
 }
 
 // What comes back runs.
 #[test]
-fn faults_hand_the_state_back(rt: HostRuntime) -> Result<(), Fail> {
-    let link = locked_dc(rt.alloc(), 4)?;
-    let answered = read_behind_faults(&rt, rt.alloc(), &link);
+fn faults_hand_the_state_back(rt: HostRuntime) {
+    let link = locked_dc(rt.alloc(), 4).expect(&rt, "no link");
+    let state = behind_put(&rt, rt.alloc(), &link);
+    let state = all_faults(&rt, rt.alloc(), state, &link);
+    let get = calls_of(&rt, rt.alloc(), &[(GET, &[5])]);
+    let answers = answers(&rt, rt.alloc(), state, get.as_slice(), 64, &link, &OpenGate);
+    is_same(&rt, answers.as_slice(), [Answer::Committed(7)].as_slice());
+    drop(get);
     drop(link);
-    let answers = answered?;
-    are_those(&rt, answers.as_slice(), &[Answer::Committed(7)]);
-    Ok(())
 }

@@ -1,14 +1,13 @@
 // Runs over a data component that restarts and loses what came after its last checkpoint.
 
-use crate::test_pool::{answers_of, begun, behind_put};
-use crate::test_state::{PUT, all_pushed, dc, moves, push_call, state};
+use crate::test_pool::{answers_of, begun, behind_put, is_same};
+use crate::test_state::{dc, moves, puts, state};
 use access_slots::op::{News, Reply, Wire};
 use data_component::dc::Dc;
 use samples::record;
 use std::alloc::{AllocError, Global};
 use std::process::Abort;
 use std::sync::{Mutex, Wait};
-use std::test::Fail;
 use std::thread::Threads;
 use tc_core::state::{Call, TcState};
 use worker_pool::{Answer, Link, OpenGate, run};
@@ -85,15 +84,16 @@ impl Link for Restarts {
 }
 
 // What the calls are answered by so many workers.
-fn answers<R: Threads + Wait + Sync>(
+fn answers<R: Threads + Wait + Sync + Abort>(
     rt: &R,
     alloc: Global,
     state: TcState,
     calls: &[Call],
     workers: usize,
     link: &Restarts,
-) -> Result<Vec<Answer>, Fail> {
-    begun(run(rt, alloc, state, calls, workers, TRIES, link, &OpenGate)).map(answers_of)
+) -> Vec<Answer> {
+    let ran = run(rt, alloc, state, calls, workers, TRIES, link, &OpenGate);
+    answers_of(begun(rt, ran))
 }
 
 // Whether an answer is that of a commit, or of a transaction in doubt.
@@ -115,7 +115,7 @@ fn is_told(answer: &Answer, answers: &[Answer]) -> bool {
 }
 
 fn are_told(rt: &impl Abort, answers: &[Answer], calls: usize) {
-    assert_eq!(rt; answers.len(), calls);
+    is_same(rt, answers.len(), calls);
     for answer in answers {
         assert!(rt; is_told(answer, answers), "{answer:?}");
     }
@@ -125,95 +125,35 @@ fn has_restarted<R: Wait + Abort>(rt: &R, link: &Restarts) {
     assert!(rt; link.incarnation(rt) > 1);
 }
 
-fn moved<R: Threads + Wait + Sync + Abort>(
-    rt: &R,
-    alloc: Global,
-    calls: &[Call],
-    workers: usize,
-    link: &Restarts,
-) -> Result<(), Fail> {
-    let state = behind_put(rt, alloc, link)?;
-    let answers = answers(rt, alloc, state, calls, workers, link)?;
-    are_told(rt, answers.as_slice(), calls.len());
-    has_restarted(rt, link);
-    Ok(())
-}
-
-fn moved_over<R: Threads + Wait + Sync + Abort>(
-    rt: &R,
-    alloc: Global,
-    workers: usize,
-    link: &Restarts,
-) -> Result<(), Fail> {
-    let calls = moves(alloc, 1, 8)?;
-    let moved = moved(rt, alloc, calls.as_slice(), workers, link);
+fn eight_moved<R: Threads + Wait + Sync + Abort>(rt: &R, alloc: Global, workers: usize) {
+    let link = Restarts::new(alloc, 4, 7, 5).expect(rt, "no link");
+    let calls = moves(rt, alloc, 1, 8);
+    let state = behind_put(rt, alloc, &link);
+    let answers = answers(rt, alloc, state, calls.as_slice(), workers, &link);
+    are_told(rt, answers.as_slice(), 8);
+    has_restarted(rt, &link);
     drop(calls);
-    moved
-}
-
-fn eight_moved<R: Threads + Wait + Sync + Abort>(
-    rt: &R,
-    alloc: Global,
-    workers: usize,
-) -> Result<(), Fail> {
-    let link = Restarts::new(alloc, 4, 7, 5)?;
-    let moved = moved_over(rt, alloc, workers, &link);
     drop(link);
-    moved
 }
 
 // A restart at every seventh carry, a checkpoint at every fifth, and `move 5 5 1` eight times behind
 // `put 5 100`.
 #[test]
-fn eight_moves_over_restarts(rt: HostRuntime) -> Result<(), Fail> {
-    for workers in [1usize, 2, 8] {
-        eight_moved(&rt, rt.alloc(), workers)?;
-    }
-    Ok(())
+fn eight_moves_over_restarts(rt: HostRuntime) {
+    eight_moved(&rt, rt.alloc(), 1);
+    eight_moved(&rt, rt.alloc(), 2);
+    eight_moved(&rt, rt.alloc(), 8);
 }
 
-fn push_puts(alloc: Global, calls: &mut Vec<Call>) -> Result<(), AllocError> {
-    for key in 0..200u64 {
-        push_call(alloc, calls, PUT, &[key, 1])?;
-    }
-    Ok(())
-}
-
-// Two hundred calls, each of a key of its own.
-fn puts(alloc: Global) -> Result<Vec<Call>, AllocError> {
-    let mut calls = Vec::new(alloc);
-    let pushed = push_puts(alloc, &mut calls);
-    all_pushed(calls, pushed)
-}
-
-fn put_all<R: Threads + Wait + Sync + Abort>(
-    rt: &R,
-    alloc: Global,
-    calls: &[Call],
-    link: &Restarts,
-) -> Result<(), Fail> {
-    let answers = answers(rt, alloc, state(alloc)?, calls, 8, link)?;
-    are_told(rt, answers.as_slice(), 200);
-    has_restarted(rt, link);
-    Ok(())
-}
-
-fn put_over<R: Threads + Wait + Sync + Abort>(
-    rt: &R,
-    alloc: Global,
-    link: &Restarts,
-) -> Result<(), Fail> {
-    let calls = puts(alloc)?;
-    let put = put_all(rt, alloc, calls.as_slice(), link);
-    drop(calls);
-    put
-}
-
-// Eight workers send and redo beside one another.
+// Eight workers send and redo beside one another: two hundred calls, each of a key of its own.
 #[test]
-fn eight_workers_over_restarts(rt: HostRuntime) -> Result<(), Fail> {
-    let link = Restarts::new(rt.alloc(), 200, 37, 11)?;
-    let put = put_over(&rt, rt.alloc(), &link);
+fn eight_workers_over_restarts(rt: HostRuntime) {
+    let link = Restarts::new(rt.alloc(), 200, 37, 11).expect(&rt, "no link");
+    let calls = puts(rt.alloc(), 200, 1).expect(&rt, "no calls");
+    let state = state(&rt, rt.alloc());
+    let answers = answers(&rt, rt.alloc(), state, calls.as_slice(), 8, &link);
+    are_told(&rt, answers.as_slice(), 200);
+    has_restarted(&rt, &link);
+    drop(calls);
     drop(link);
-    put
 }

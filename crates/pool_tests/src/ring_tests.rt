@@ -3,18 +3,15 @@
 
 ghost use Rattle.std.specs.Prelude.{◌≤◌};
 
-use crate::test_pool::{Hold, all_commit, answers_of, begun, state_of};
-use crate::test_state::{
-    PUT, PUT_BESIDE, all_pushed, dc, moves, one_call, push_call, state, two_puts,
-};
+use crate::test_pool::{Hold, answers_of, are_committed, begun, is_same, state_of};
+use crate::test_state::{PUT_BESIDE, add_call, calls_of, dc, moves, state};
 use access_slots::op::{News, Op, Reply, Wire};
 use access_slots::slot::{Record, Value};
 use data_component::dc::Dc;
-use samples::{record, value};
-use std::alloc::{AllocError, Global};
+use samples::{PUT, record, value};
+use std::alloc::Global;
 use std::process::Abort;
 use std::sync::Wait;
-use std::test::Fail;
 use std::thread;
 use std::thread::Threads;
 use tc_core::state::{Call, TcState};
@@ -73,121 +70,38 @@ fn run_open<R: Threads + Wait + Sync>(
     )
 }
 
-// A component, and a state.
-fn dc_and_state(alloc: Global) -> Result<(Dc, TcState), Fail> {
-    let state = state(alloc)?;
-    match dc(alloc, ROWS) {
-        Ok(dc) => Ok((dc, state)),
-        Err(error) => {
-            drop(state);
-            Err(Fail::from(error))
-        }
-    }
+fn new_dc(rt: &impl Abort, alloc: Global) -> Dc {
+    dc(alloc, ROWS).expect(rt, "no component")
 }
 
-// The state behind one call, which is committed.
-fn behind_one(rt: &impl Abort, ran: Result<Report, RunFault>) -> Result<TcState, Fail> {
-    let report = begun(ran)?;
-    assert!(rt; all_commit(report.answers.as_slice(), 1));
-    Ok(state_of(report))
-}
-
-// The component and the state behind the first call by one worker.
-fn behind_first<R: Threads + Wait + Sync + Abort>(
-    rt: &R,
-    alloc: Global,
-    first: &[Call],
-    rings: &RingLink,
-) -> Result<(Dc, TcState), Fail> {
-    let (dc, state) = dc_and_state(alloc)?;
-    let (dc, ran) = run_open(rt, alloc, state, first, 1, rings, dc);
-    match behind_one(rt, ran) {
-        Ok(state) => Ok((dc, state)),
-        Err(fail) => {
-            drop(dc);
-            Err(fail)
-        }
-    }
-}
-
-fn behind_put_over<R: Threads + Wait + Sync + Abort>(
-    rt: &R,
-    alloc: Global,
-    rings: &RingLink,
-) -> Result<(Dc, TcState), Fail> {
-    let first = one_call(alloc, PUT, &[5, 100])?;
-    let behind = behind_first(rt, alloc, first.as_slice(), rings);
+// The component and the state behind `put 5 100` by one worker.
+fn behind_put<R: Threads + Wait + Sync + Abort>(rt: &R, alloc: Global) -> (Dc, TcState) {
+    let rings = RingLink::new(alloc, 1, 1).expect(rt, "no rings");
+    let first = calls_of(rt, alloc, &[(PUT, &[5, 100])]);
+    let (dc, state) = (new_dc(rt, alloc), state(rt, alloc));
+    let (dc, ran) = run_open(rt, alloc, state, first.as_slice(), 1, &rings, dc);
     drop(first);
-    behind
-}
-
-// The component and the state behind `put 5 100`.
-fn behind_put<R: Threads + Wait + Sync + Abort>(
-    rt: &R,
-    alloc: Global,
-) -> Result<(Dc, TcState), Fail> {
-    let rings = RingLink::new(alloc, 1, 1)?;
-    let behind = behind_put_over(rt, alloc, &rings);
     drop(rings);
-    behind
+    let report = begun(rt, ran);
+    are_committed(rt, report.answers.as_slice(), 1);
+    (dc, state_of(report))
 }
 
-// What record 5 holds once so many workers have committed all these calls.
+// What record 5 holds once so many workers have committed all these calls behind `put 5 100`.
 fn left<R: Threads + Wait + Sync + Abort>(
     rt: &R,
     alloc: Global,
-    state: TcState,
     calls: &[Call],
     workers: usize,
     rings: &RingLink,
-    dc: Dc,
-) -> Result<Option<Value>, Fail> {
+) -> Option<Value> {
+    let (dc, state) = behind_put(rt, alloc);
     let (dc, ran) = run_open(rt, alloc, state, calls, workers, rings, dc);
     let left = dc.get(&record(5));
     drop(dc);
-    let answers = begun(ran).map(answers_of)?;
-    assert!(rt; all_commit(answers.as_slice(), calls.len()));
-    Ok(left)
-}
-
-fn left_behind_put<R: Threads + Wait + Sync + Abort>(
-    rt: &R,
-    alloc: Global,
-    calls: &[Call],
-    workers: usize,
-    rings: &RingLink,
-) -> Result<Option<Value>, Fail> {
-    let (dc, state) = behind_put(rt, alloc)?;
-    left(rt, alloc, state, calls, workers, rings, dc)
-}
-
-fn moved_over<R: Threads + Wait + Sync + Abort>(
-    rt: &R,
-    alloc: Global,
-    amount: u64,
-    times: usize,
-    workers: usize,
-    rings: &RingLink,
-) -> Result<Option<Value>, Fail> {
-    let calls = moves(alloc, amount, times)?;
-    let left = left_behind_put(rt, alloc, calls.as_slice(), workers, rings);
-    drop(calls);
-    left
-}
-
-// What `move 5 5 AMOUNT`, so many times, behind `put 5 100` leaves in record 5.
-fn moved<R: Threads + Wait + Sync + Abort>(
-    rt: &R,
-    alloc: Global,
-    amount: u64,
-    times: usize,
-    workers: usize,
-) -> Result<Option<Value>, Fail>
-    requires { (1 ≤ workers) × (workers ≤ 64) }
-{
-    let rings = RingLink::new(alloc, 1, workers)?;
-    let left = moved_over(rt, alloc, amount, times, workers, &rings);
-    drop(rings);
+    let answers = answers_of(begun(rt, ran));
+    are_committed(rt, answers.as_slice(), calls.len());
+    drop(answers);
     left
 }
 
@@ -200,26 +114,29 @@ fn moves_leave<R: Threads + Wait + Sync + Abort>(
     times: usize,
     workers: usize,
     stands: u64,
-) -> Result<(), Fail>
+)
     requires { (1 ≤ workers) × (workers ≤ 64) }
 {
-    let left = moved(rt, alloc, amount, times, workers)?;
-    assert_eq!(rt; left, Some(value(stands)));
-    Ok(())
+    let rings = RingLink::new(alloc, 1, workers).expect(rt, "no rings");
+    let calls = moves(rt, alloc, amount, times);
+    let left = left(rt, alloc, calls.as_slice(), workers, &rings);
+    drop(calls);
+    drop(rings);
+    is_same(rt, left, Some(value(stands)));
 }
 
 #[test]
-fn one_record_moved_onto_itself(rt: HostRuntime) -> Result<(), Fail> {
-    moves_leave(&rt, rt.alloc(), 10, 1, 1, 110)?;
-    moves_leave(&rt, rt.alloc(), 10, 1, 2, 110)?;
-    moves_leave(&rt, rt.alloc(), 10, 1, 8, 110)
+fn one_record_moved_onto_itself(rt: HostRuntime) {
+    moves_leave(&rt, rt.alloc(), 10, 1, 1, 110);
+    moves_leave(&rt, rt.alloc(), 10, 1, 2, 110);
+    moves_leave(&rt, rt.alloc(), 10, 1, 8, 110);
 }
 
 #[test]
-fn eight_moves_by_any_number_of_workers(rt: HostRuntime) -> Result<(), Fail> {
-    moves_leave(&rt, rt.alloc(), 1, 8, 1, 108)?;
-    moves_leave(&rt, rt.alloc(), 1, 8, 2, 108)?;
-    moves_leave(&rt, rt.alloc(), 1, 8, 8, 108)
+fn eight_moves_by_any_number_of_workers(rt: HostRuntime) {
+    moves_leave(&rt, rt.alloc(), 1, 8, 1, 108);
+    moves_leave(&rt, rt.alloc(), 1, 8, 2, 108);
+    moves_leave(&rt, rt.alloc(), 1, 8, 8, 108);
 }
 
 // Holds call 0 until call 1 is answered: as a gate where it is begun, as a link at the first carry
@@ -256,68 +173,41 @@ impl Link for Holds {
     }
 }
 
-// What the calls come to by two workers over the first component, which goes.
-fn run_held<R: Threads + Wait + Sync>(
+// The answers of these calls by two workers over the first component.
+fn held<R: Threads + Wait + Sync + Abort>(
     rt: &R,
     alloc: Global,
-    state: TcState,
     calls: &[Call],
     holds: &Holds,
-    dc: Dc,
-) -> Result<Report, RunFault> {
+) -> Vec<Answer> {
+    let (dc, state) = (new_dc(rt, alloc), state(rt, alloc));
     let rings = &holds.rings;
     let (dc, ran) = run_beside(rt, alloc, state, calls, 2, rings, holds, holds, dc);
     drop(dc);
-    ran
+    answers_of(begun(rt, ran))
 }
 
-// The answers.
-fn held<R: Threads + Wait + Sync>(
-    rt: &R,
-    alloc: Global,
-    calls: &[Call],
-    holds: &Holds,
-) -> Result<Vec<Answer>, Fail> {
-    let (dc, state) = dc_and_state(alloc)?;
-    begun(run_held(rt, alloc, state, calls, holds, dc)).map(answers_of)
-}
-
-fn do_both_commit<R: Threads + Wait + Sync>(
-    rt: &R,
-    alloc: Global,
-    holds: &Holds,
-) -> Result<bool, Fail> {
-    let calls = two_puts(alloc, 6)?;
-    let answered = held(rt, alloc, calls.as_slice(), holds);
-    drop(calls);
-    let answers = answered?;
-    Ok(all_commit(answers.as_slice(), 2))
-}
-
-// Whether two calls at once, the first of which is held until the second is answered, are committed
-// in time.
-fn are_two_at_once<R: Threads + Wait + Sync>(
-    rt: &R,
-    alloc: Global,
-    holds_begun: bool,
-) -> Result<bool, Fail> {
+// Two calls at once, the first of which is held until the second is answered, are committed in time.
+fn are_two_at_once<R: Threads + Wait + Sync + Abort>(rt: &R, alloc: Global, holds_begun: bool) {
     let holds = Holds {
-        rings: RingLink::new(alloc, 1, 2)?,
+        rings: RingLink::new(alloc, 1, 2).expect(rt, "no rings"),
         hold: Hold::new(),
         holds_begun,
     };
-    let both = do_both_commit(rt, alloc, &holds);
-    let is_too_late = holds.hold.is_too_late();
+    let calls = calls_of(rt, alloc, &[(PUT, &[5, 1]), (PUT, &[6, 2])]);
+    let answers = held(rt, alloc, calls.as_slice(), &holds);
+    drop(calls);
+    are_committed(rt, answers.as_slice(), 2);
+    drop(answers);
+    is_same(rt, holds.hold.is_too_late(), false);
     drop(holds);
-    Ok(both? && !is_too_late)
 }
 
 // Two workers are at work at once, and nothing is locked while a gate is told or a wire is carried.
 #[test]
-fn two_calls_at_once(rt: HostRuntime) -> Result<(), Fail> {
-    assert!(rt; are_two_at_once(&rt, rt.alloc(), true)?);
-    assert!(rt; are_two_at_once(&rt, rt.alloc(), false)?);
-    Ok(())
+fn two_calls_at_once(rt: HostRuntime) {
+    are_two_at_once(&rt, rt.alloc(), true);
+    are_two_at_once(&rt, rt.alloc(), false);
 }
 
 // Closes the link when call 50 is begun.
@@ -357,67 +247,42 @@ fn run_beside_both<R: Threads + Wait + Sync>(
     ran
 }
 
-fn answers_over_both<R: Threads + Wait + Sync>(
-    rt: &R,
-    alloc: Global,
-    calls: &[Call],
-    rings: &RingLink,
-) -> Result<Vec<Answer>, Fail> {
-    let (left, state) = dc_and_state(alloc)?;
-    match dc(alloc, ROWS) {
-        Ok(right) => {
-            begun(run_beside_both(rt, alloc, state, calls, rings, left, right)).map(answers_of)
-        }
-        Err(error) => {
-            drop(left);
-            drop(state);
-            Err(Fail::from(error))
-        }
-    }
-}
-
-// The answers of these calls over both components, where the link is closed under way.
-fn closed_under_way<R: Threads + Wait + Sync>(
-    rt: &R,
-    alloc: Global,
-    calls: &[Call],
-) -> Result<Vec<Answer>, Fail> {
-    let rings = RingLink::new(alloc, 2, 2)?;
-    let answered = answers_over_both(rt, alloc, calls, &rings);
-    drop(rings);
-    answered
-}
-
-fn push_puts(alloc: Global, calls: &mut Vec<Call>) -> Result<(), AllocError> {
-    for key in 0..50u64 {
-        push_call(alloc, calls, PUT, &[key, 1])?;
-        push_call(alloc, calls, PUT_BESIDE, &[key, 1])?;
-    }
-    Ok(())
-}
-
-// A hundred calls, each of a key of its own, in both components in turn.
-fn hundred_puts(alloc: Global) -> Result<Vec<Call>, AllocError> {
+// Two calls under each key below 50, one in each component.
+fn hundred_puts(rt: &impl Abort, alloc: Global) -> Vec<Call> {
     let mut calls = Vec::new(alloc);
-    let pushed = push_puts(alloc, &mut calls);
-    all_pushed(calls, pushed)
+    for key in 0..50u64 {
+        add_call(rt, alloc, &mut calls, (PUT, &[key, 1]));
+        add_call(rt, alloc, &mut calls, (PUT_BESIDE, &[key, 1]));
+    }
+    calls
 }
 
 fn commit_or_fall_in_doubt(rt: &impl Abort, answers: &[Answer]) {
-    assert_eq!(rt; answers.len(), 100);
+    is_same(rt, answers.len(), 100);
     for answer in answers {
         assert!(rt; matches!(answer, Answer::Committed(_) | Answer::InDoubt(_)));
     }
 }
 
 #[test]
-fn closed_while_two_workers_carry(rt: HostRuntime) -> Result<(), Fail> {
-    let calls = hundred_puts(rt.alloc())?;
-    let answered = closed_under_way(&rt, rt.alloc(), calls.as_slice());
+fn closed_while_two_workers_carry(rt: HostRuntime) {
+    let rings = RingLink::new(rt.alloc(), 2, 2).expect(&rt, "no rings");
+    let calls = hundred_puts(&rt, rt.alloc());
+    let state = state(&rt, rt.alloc());
+    let (left, right) = (new_dc(&rt, rt.alloc()), new_dc(&rt, rt.alloc()));
+    let ran = run_beside_both(
+        &rt,
+        rt.alloc(),
+        state,
+        calls.as_slice(),
+        &rings,
+        left,
+        right,
+    );
+    let answers = answers_of(begun(&rt, ran));
     drop(calls);
-    let answers = answered?;
+    drop(rings);
     commit_or_fall_in_doubt(&rt, answers.as_slice());
-    Ok(())
 }
 
 fn wire(dc: u16) -> Wire {
@@ -435,37 +300,24 @@ fn wire(dc: u16) -> Wire {
 }
 
 fn carries_nothing<R: Wait + Abort>(rt: &R, rings: &RingLink, worker: usize, dc: u16) {
-    assert_eq!(rt; rings.carry(rt, worker, &wire(dc)), None);
+    is_same(rt, rings.carry(rt, worker, &wire(dc)), None);
 }
 
 fn serves_nothing<R: Wait + Abort>(rt: &R, rings: &RingLink, number: usize, dc: Dc) -> Dc {
     let dc = rings.serve(rt, number, dc);
-    assert_eq!(rt; dc.rows().len(), 0);
+    is_same(rt, dc.rows().len(), 0);
     dc
-}
-
-fn nothing_over<R: Wait + Abort>(rt: &R, rings: &RingLink, dc: Dc) {
-    carries_nothing(rt, rings, 0, 1);
-    carries_nothing(rt, rings, 1, 0);
-    let unserved = serves_nothing(rt, rings, 1, dc);
-    rings.close();
-    carries_nothing(rt, rings, 0, 0);
-    drop(serves_nothing(rt, rings, 0, unserved));
 }
 
 // No such component, no such worker, and a link that is closed; what has no inbox comes back.
 #[test]
-fn nothing_to_carry(rt: HostRuntime) -> Result<(), Fail> {
-    let dc = dc(rt.alloc(), ROWS)?;
-    match RingLink::new(rt.alloc(), 1, 1) {
-        Ok(rings) => {
-            nothing_over(&rt, &rings, dc);
-            drop(rings);
-            Ok(())
-        }
-        Err(error) => {
-            drop(dc);
-            Err(Fail::from(error))
-        }
-    }
+fn nothing_to_carry(rt: HostRuntime) {
+    let rings = RingLink::new(rt.alloc(), 1, 1).expect(&rt, "no rings");
+    carries_nothing(&rt, &rings, 0, 1);
+    carries_nothing(&rt, &rings, 1, 0);
+    let unserved = serves_nothing(&rt, &rings, 1, new_dc(&rt, rt.alloc()));
+    rings.close();
+    carries_nothing(&rt, &rings, 0, 0);
+    drop(serves_nothing(&rt, &rings, 0, unserved));
+    drop(rings);
 }

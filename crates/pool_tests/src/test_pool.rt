@@ -1,17 +1,23 @@
 //! Runs of calls by workers, of which the tests look at the answers.
 
-use crate::test_state::{PUT, dc, one_call, state};
+use crate::test_state::{calls_of, dc, state};
 use access_slots::slot::Value;
-use samples::{record, value};
+use samples::{PUT, record, value};
 use std::alloc::{AllocError, Global};
+use std::fmt::Debug;
 use std::process::Abort;
 use std::sync::Wait;
 use std::sync::atomic::{AtomicU64, Ordering};
-use std::test::Fail;
 use std::thread;
 use std::thread::Threads;
 use tc_core::state::{Call, TcState};
 use worker_pool::{Answer, Gate, Link, LockedDcs, OpenGate, Report, RunFault, run};
+
+/// What was found is what was wanted. It stands here once, since the proof of each function that has an `assert_eq!`
+/// of its own takes as long again.
+pub(crate) fn is_same<T: PartialEq + Debug + Drop>(rt: &impl Abort, found: T, wanted: T) {
+    assert_eq!(rt; found, wanted);
+}
 
 /// A data component with room for so many rows, behind a lock.
 pub(crate) fn locked_dc(alloc: Global, rows: usize) -> Result<LockedDcs, AllocError> {
@@ -26,12 +32,12 @@ pub(crate) fn value_at(dcs: &mut LockedDcs, key: u64) -> Option<Value> {
 }
 
 /// The report of calls that were begun.
-pub(crate) fn begun(ran: Result<Report, RunFault>) -> Result<Report, Fail> {
+pub(crate) fn begun(rt: &impl Abort, ran: Result<Report, RunFault>) -> Report {
     match ran {
-        Ok(report) => Ok(report),
+        Ok(report) => report,
         Err(fault) => {
             drop(fault.into_state());
-            Err(Fail::from("no call was begun"))
+            panic!(rt; "no call was begun");
         }
     }
 }
@@ -51,7 +57,7 @@ pub(crate) fn state_of(report: Report) -> TcState {
 }
 
 /// What these calls are answered by so many workers, each request sent three times at most.
-pub(crate) fn answers<R: Threads + Wait + Sync, L: Link + Sync, G: Gate + Sync>(
+pub(crate) fn answers<R: Threads + Wait + Sync + Abort, L: Link + Sync, G: Gate + Sync>(
     rt: &R,
     alloc: Global,
     state: TcState,
@@ -59,76 +65,44 @@ pub(crate) fn answers<R: Threads + Wait + Sync, L: Link + Sync, G: Gate + Sync>(
     workers: usize,
     link: &L,
     gate: &G,
-) -> Result<Vec<Answer>, Fail> {
-    begun(run(rt, alloc, state, calls, workers, 3, link, gate)).map(answers_of)
-}
-
-// Whether the report is that of one call whose end is the fourth event.
-fn is_first_put(report: &Report) -> bool {
-    report.ends() == 1 && report.answers.as_slice() == [Answer::Committed(3)].as_slice()
-}
-
-// What these calls are answered where nothing is before them.
-fn slice_answers<R: Threads + Wait + Sync, L: Link + Sync, G: Gate + Sync>(
-    rt: &R,
-    alloc: Global,
-    calls: &[Call],
-    workers: usize,
-    link: &L,
-    gate: &G,
-) -> Result<Vec<Answer>, Fail> {
-    let state = state(alloc)?;
-    answers(rt, alloc, state, calls, workers, link, gate)
+) -> Vec<Answer> {
+    let ran = run(rt, alloc, state, calls, workers, 3, link, gate);
+    answers_of(begun(rt, ran))
 }
 
 /// What these calls are answered where nothing is before them.
-pub(crate) fn first_answers<R: Threads + Wait + Sync, L: Link + Sync, G: Gate + Sync>(
+pub(crate) fn first_answers<R: Threads + Wait + Sync + Abort, L: Link + Sync, G: Gate + Sync>(
     rt: &R,
     alloc: Global,
     calls: Vec<Call>,
     workers: usize,
     link: &L,
     gate: &G,
-) -> Result<Vec<Answer>, Fail> {
-    let answered = slice_answers(rt, alloc, calls.as_slice(), workers, link, gate);
+) -> Vec<Answer> {
+    let state = state(rt, alloc);
+    let answers = answers(rt, alloc, state, calls.as_slice(), workers, link, gate);
     drop(calls);
-    answered
+    answers
 }
 
-// The state after the first call by one worker.
-fn behind_first<R: Threads + Wait + Sync + Abort, L: Link + Sync>(
-    rt: &R,
-    alloc: Global,
-    link: &L,
-    first: &[Call],
-) -> Result<TcState, Fail> {
-    let state = state(alloc)?;
-    let report = begun(run(rt, alloc, state, first, 1, 3, link, &OpenGate))?;
-    assert!(rt; is_first_put(&report));
-    Ok(state_of(report))
-}
-
-/// The state after `put 5 100` by one worker.
+/// The state after `put 5 100` by one worker, whose end is the fourth event.
 pub(crate) fn behind_put<R: Threads + Wait + Sync + Abort, L: Link + Sync>(
     rt: &R,
     alloc: Global,
     link: &L,
-) -> Result<TcState, Fail> {
-    let first = one_call(alloc, PUT, &[5, 100])?;
-    let behind = behind_first(rt, alloc, link, first.as_slice());
+) -> TcState {
+    let first = calls_of(rt, alloc, &[(PUT, &[5, 100])]);
+    let state = state(rt, alloc);
+    let ran = run(rt, alloc, state, first.as_slice(), 1, 3, link, &OpenGate);
     drop(first);
-    behind
-}
-
-fn slice_answers_behind_put<R: Threads + Wait + Sync + Abort, L: Link + Sync>(
-    rt: &R,
-    alloc: Global,
-    calls: &[Call],
-    workers: usize,
-    link: &L,
-) -> Result<Vec<Answer>, Fail> {
-    let state = behind_put(rt, alloc, link)?;
-    answers(rt, alloc, state, calls, workers, link, &OpenGate)
+    let report = begun(rt, ran);
+    is_same(rt, report.ends(), 1);
+    is_same(
+        rt,
+        report.answers.as_slice(),
+        [Answer::Committed(3)].as_slice(),
+    );
+    state_of(report)
 }
 
 /// What these calls are answered behind `put 5 100`.
@@ -138,20 +112,16 @@ pub(crate) fn answers_behind_put<R: Threads + Wait + Sync + Abort, L: Link + Syn
     calls: Vec<Call>,
     workers: usize,
     link: &L,
-) -> Result<Vec<Answer>, Fail> {
-    let answered = slice_answers_behind_put(rt, alloc, calls.as_slice(), workers, link);
+) -> Vec<Answer> {
+    let state = behind_put(rt, alloc, link);
+    let answers = answers(rt, alloc, state, calls.as_slice(), workers, link, &OpenGate);
     drop(calls);
-    answered
+    answers
 }
 
 /// Sees that record 5 holds this number, where no worker is at work.
 pub(crate) fn holds(rt: &impl Abort, dcs: &mut LockedDcs, number: u64) {
-    assert_eq!(rt; value_at(dcs, 5), Some(value(number)));
-}
-
-/// Sees that the answers are those.
-pub(crate) fn are_those(rt: &impl Abort, answers: &[Answer], wanted: &[Answer]) {
-    assert_eq!(rt; answers, wanted);
+    is_same(rt, value_at(dcs, 5), Some(value(number)));
 }
 
 /// Whether so many calls were made, and all are committed.
@@ -160,6 +130,11 @@ pub(crate) fn all_commit(answers: &[Answer], calls: usize) -> bool {
         && answers
             .iter()
             .all(|answer| matches!(answer, Answer::Committed(_)))
+}
+
+/// Sees that so many calls were made, and all are committed.
+pub(crate) fn are_committed(rt: &impl Abort, answers: &[Answer], calls: usize) {
+    assert!(rt; all_commit(answers, calls));
 }
 
 // A turn is one look at an atomic flag, and yields; says whether the flag was set in time.
