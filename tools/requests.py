@@ -5,8 +5,9 @@ usage: tools/requests.py [--tests PATH] [--procd PATH] [--scripts N] [--steps N]
 
 `pairs`: the worked runs are tests of `component_tests`, in pairs: one stops at the admission, the other goes on to the end.
 Both are run, their requests counted, and the second is to make no more than the first. `worlds`: random scripts
-(those of explore.py) go through `world`; of the requests of each it is counted which were made within each call of
-the transaction component. `refused`: of each test of calls that ask for memory the first request is refused, then
+(those of explore.py) go through `world` of the program that tools/unproved.py makes; of the requests of each it is
+counted which were made within each call of the transaction component. In a proved program those calls are no functions,
+since they are inlined. `refused`: of each test of calls that ask for memory the first request is refused, then
 the second, until a run meets none; it is to pass each time. With no SECTION the first two are run. The status is 1
 where something was wrong.
 """
@@ -113,7 +114,8 @@ def worlds_agree(options, folder):
     for call in ASKING + CALLS:
         names = [name for name in procd.entries if re.search(rf"::{call}\b", name)]
         entries, within = [sum(counted[name] for name in names) for counted in (procd.entries, procd.within)]
-        print(f"{call}, entered {entries} times: {within}", flush=True)
+        missing = "" if names else ", since it is no function of this program: tools/unproved.py makes one in which it is"
+        print(f"{call}, entered {entries} times: {within}{missing}", flush=True)
         good = good and entries > 0 and (within == 0 or call in ASKING)
     return good
 
@@ -152,9 +154,9 @@ SECTIONS = {"pairs": pairs_agree, "worlds": worlds_agree, "refused": refusals_pa
 
 def main():
     parser = argparse.ArgumentParser(description=__doc__, formatter_class=argparse.RawDescriptionHelpFormatter)
-    tests, procd = [TOP / "crates" / name for name in ("component_tests/out/component_tests_tests", "procd/out/procd")]
+    tests, procd = TOP / "crates/component_tests/out/component_tests_tests", TOP / "out-unproved/procd"
     parser.add_argument("--tests", default=tests, help="the built tests (those of crates/component_tests/out)")
-    parser.add_argument("--procd", default=procd, help="the program (that of crates/procd/out)")
+    parser.add_argument("--procd", default=procd, help="the program (that of tools/unproved.py, in which no call is inlined)")
     parser.add_argument("--scripts", type=int, default=10000, help="how many scripts (10000)")
     parser.add_argument("--steps", type=int, default=40, help="steps a script (40)")
     parser.add_argument("--seed", type=int, default=1, help="the first script's seed (1); then the next")
@@ -166,7 +168,7 @@ def main():
     for section in sections:
         path, builds = options.tests, "rt test in the crate of that name"
         if section == "worlds":
-            path, builds = options.procd, "./procd"
+            path, builds = options.procd, "tools/unproved.py"
         if not pathlib.Path(path).exists():
             parser.error(f"there is no {path}: {builds} builds it")
     with tempfile.TemporaryDirectory() as folder:
