@@ -6,8 +6,9 @@ usage: bench/runs.py [--procd PATH] [--rounds N] [--moves N]
 
 What `procd run --stats` says is `calls a second` of a script's moves, so its loading doesn't count; SQLite makes as many
 by one thread with prepared statements, and keeps no log: bench/baseline/sqlite.rs, which `rustc -O` builds over the
-system's library. All are done in turns; a figure is the median of the rounds, with the least and the most. The ratio
-behind it is that to SQLite on quiet processors, and of busy ones that to the same run on quiet ones.
+system's library. All are done in turns, one of twenty moves on busy processors; a figure is the median of the rounds,
+with the least and the most. The ratio behind it is that to SQLite on quiet processors, and of busy ones that to the same
+run on quiet ones.
 """
 import argparse
 import contextlib
@@ -22,6 +23,7 @@ from transfers import PROCD, build_sqlite, moves_a_second, script
 
 WORKERS = (1, 2, 4)
 BUSY = 2  # processes a processor
+FEWER = 20  # of so many moves one is made on busy processors
 
 
 @contextlib.contextmanager
@@ -49,15 +51,17 @@ def spread(figures):
 
 def measured(options, folder, peer):
     """Each round's figures: of SQLite, and of runs on quiet processors and on busy ones by workers."""
-    text = folder / "script.txt"
+    text, short = folder / "script.txt", folder / "short.txt"
+    fewer = options.moves // FEWER
     text.write_text(script(options.moves))
+    short.write_text(script(fewer))
     theirs, rates = [], {workers: ([], []) for workers in WORKERS}
     for _ in range(options.rounds):
         theirs.append(sqlite(peer, options.moves))
         for workers, (quiet, among_others) in rates.items():
             quiet.append(moves_a_second(options.procd, text, workers, options.moves))
             with busy():
-                among_others.append(moves_a_second(options.procd, text, workers, options.moves))
+                among_others.append(moves_a_second(options.procd, short, workers, fewer))
     return theirs, rates
 
 
