@@ -6,15 +6,12 @@ ghost use Rattle.crossbeam_queue.specs.Fifo.{Admits, Held, Learns, Pops};
 use crossbeam_queue::RuledArrayQueue;
 use crossbeam_queue::protocol::{Free, Lesson, Outcome, Protocol};
 use std::alloc::{AllocError, Global};
+use std::hint;
 use std::sync::Wait;
 use std::sync::atomic::{AtomicU64, Ordering};
-use std::{hint, thread};
 
-// How often who waits looks at the queue before it lets others run between its looks.
+// How often who waits looks at the queue before it sleeps.
 const LOOKS: u32 = 2_000;
-
-// How often it lets others run before it sleeps.
-const YIELDS: u32 = 200;
 
 // What those who sleep at a queue listen to.
 #[derive(Drop)]
@@ -51,8 +48,9 @@ impl Bell {
     }
 }
 
-// How somebody waits at a bell: it looks, then lets others run between its looks, and sleeps last, since to sleep
-// and to be woken takes longer than most waits do.
+// How somebody waits at a bell: it looks, since most waits are shorter than it takes to sleep and to be woken, and then
+// sleeps. To let others run between looks would have it wait for their turns where processors are busy: who is woken
+// runs before those who never slept.
 #[derive(Drop)]
 struct Waiter<'a> {
     bell: &'a Bell,
@@ -68,9 +66,6 @@ impl Waiter<'_> {
         if self.looks < LOOKS {
             self.looks += 1;
             hint::spin_loop();
-        } else if self.looks < LOOKS + YIELDS {
-            self.looks += 1;
-            thread::yield_now();
         } else if !self.is_counted {
             self.is_counted = true;
             self.bell.sleepers.fetch_add(1, Ordering::SeqCst);
