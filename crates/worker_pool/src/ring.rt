@@ -49,8 +49,8 @@ impl Bell {
 }
 
 // How somebody waits at a bell: it looks, since most waits are shorter than it takes to sleep and to be woken, and then
-// sleeps. To let others run between looks would have it wait for their turns where processors are busy: who is woken
-// runs before those who never slept.
+// sleeps. To let others run between looks would have it wait for their turns where processors are busy; to sleep was
+// measured to be faster there.
 #[derive(Drop)]
 struct Waiter<'a> {
     bell: &'a Bell,
