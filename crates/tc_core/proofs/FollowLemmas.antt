@@ -1,5 +1,5 @@
 -- What a book takes in is what may come next.
-use Rattle.std.proofs.Common.{◌≡◌, ◌≢◌, ℕ, ◌+◌, true, false, List, [], ◌∷◌, ◌++◌, length, Option, Some, None, Ok, Err, arith, refl, sym, ◌∙◌, ap, subst}
+use Rattle.std.proofs.Common.{◌≡◌, ◌≢◌, ℕ, ◌+◌, true, false, List, [], ◌∷◌, ◌++◌, length, replicate, zero, suc, Option, Some, None, Ok, Err, arith, refl, sym, ◌∙◌, ap, subst}
 use Rattle.std.proofs.Common.{append_assoc, length-append}
 use Rattle.std.proofs.lemmas.List.{append-nil}
 use Rattle.std.specs.Prelude.{slice_get}
@@ -8,6 +8,7 @@ use Rattle.access_slots.specs.declared.op.Op.{Op}
 use Rattle.access_slots.specs.declared.op.Said.{Said}
 use Rattle.access_slots.specs.declared.slot.Record.{Record}
 use Rattle.access_slots.specs.Access.{fits}
+use Rattle.access_slots.specs.Locks.{target}
 use Rattle.access_slots.specs.Held.{in_the_way}
 use Rattle.verifier.specs.Checked.{Checked}
 use Rattle.tc_log.specs.declared.event.Event.{Event}
@@ -26,11 +27,11 @@ use Rattle.transactions.specs.Legal.{Legal, Allowed, CanAdmit, CanAsk, CanAnswer
 use Rattle.transactions.proofs.StandingLemmas.{eq-true, some_same, none_some}
 use Rattle.transactions.proofs.Allowing.{asks_allowed, undoes_allowed, ends_allowed}
 use Rattle.transactions.specs.declared.Site.{Site}
-use Rattle.transactions.specs.InFlight.{site_of}
+use Rattle.transactions.specs.InFlight.{untold, site_of}
 use Rattle.tc_core.specs.Core.{Core, Asking}
 use Rattle.tc_core.specs.Replies.{next_at, asked_by, undo_by, undone, ask_reply, undo_reply, after_ask, after_undo, over_in, end_of, end_reply, after_end, is_heard, IsAnswer}
 use Rattle.tc_core.specs.Checking.{IsFirstIllegal}
-use Rattle.tc_core.specs.Joining.Follows.{IsAsked, awaited_by, awaited_in}
+use Rattle.tc_core.specs.Joining.Follows.{AreUntold, IsAsked, IsFurther, awaited_by, awaited_in}
 use Rattle.tc_core.specs.declared.state.Receipt.{Receipt}
 use Rattle.tc_core.specs.declared.state.NotOver.{NotOver}
 use Rattle.tc_core.specs.declared.state.Asked.{Asked}
@@ -119,15 +120,20 @@ awaited_if c t n said can = ap (λ (x : Option Standing). awaited_in x n) can.is
 pub not_awaited : (c : Core) (t n : ℕ) (said : Said) → None ≡ awaited_in (standing c.events t) n → CanAnswer c.procs c.events t n said → ⊥
 not_awaited c t n said none can = none_some _ can.r.op (sym none) (awaited_if c t n said can)
 
--- where no data components are known each is up, and of incarnation 0
-pub no_sites : (sites : List Site) (o : Op) (n : ℕ) (said : Said) → length sites ≡ 0 → is_heard (site_of sites o) (record { number = n; incarnation = 0; said = said }) ≡ true
-no_sites [] o n said none = refl
-no_sites (s ∷ sites) o n said none = absurd (omega (arith, none))
+-- nothing is told of so many new data components
+pub are_untold : (n : ℕ) → AreUntold (replicate n untold)
+are_untold zero d = refl
+are_untold (suc n) zero = refl
+are_untold (suc n) (suc d) = are_untold n d
 
-pub answer_else : (c : Core) (t n : ℕ) (o : Op) (said : Said) → length c.sites ≡ 0 → Some o ≡ awaited_in (standing c.events t) n → (IsAnswer c (request t n o) (record { number = n; incarnation = 0; said = said }) → ⊥) → CanAnswer c.procs c.events t n said → ⊥
+-- where nothing is told of data components each is up, and of incarnation 0
+heard_untold : (sites : List Site) (o : Op) (n : ℕ) (said : Said) → AreUntold sites → is_heard (site_of sites o) (record { number = n; incarnation = 0; said = said }) ≡ true
+heard_untold sites o n said untold = rw (untold (target o).dc) refl
+
+pub answer_else : (c : Core) (t n : ℕ) (o : Op) (said : Said) → AreUntold c.sites → Some o ≡ awaited_in (standing c.events t) n → (IsAnswer c (request t n o) (record { number = n; incarnation = 0; said = said }) → ⊥) → CanAnswer c.procs c.events t n said → ⊥
 answer_else c t n o said none some not can =
     let same : can.r.op ≡ o = some_same can.r.op o (sym (awaited_if c t n said can) ∙ sym some) in
-    not (record { s = can.s; is = can.is; sent = can.r; waits = can.waits; same_number = can.number; same_op = same; heard = no_sites c.sites o n said none; agree = refl; fit = subst (λ (x : Op). fits x said ≡ true) same can.fit })
+    not (record { s = can.s; is = can.is; sent = can.r; waits = can.waits; same_number = can.number; same_op = same; heard = heard_untold c.sites o n said none; agree = refl; fit = subst (λ (x : Op). fits x said ≡ true) same can.fit })
 
 -- ---- ends
 
@@ -151,6 +157,30 @@ end_else c t o r is not can =
 
 pub end_never : (c : Core) (t : ℕ) (o : Outcome) (x : NotOver) → Err x ≡ end_reply c t (end_of c t) → CanEnd c.procs c.events t o → ⊥
 end_never c t o x is can = (let one : Err x ≡ end_reply c t (Some o) = is ∙ ap (end_reply c t) (end_is c t o can) in cc)
+
+-- ---- what stays the same
+
+pub ask_further : (c : Core) (a : Asked) → IsFurther c (after_ask c a)
+ask_further c (reply.Request r) = refl
+ask_further c reply.Undoing = refl
+ask_further c reply.Over = refl
+ask_further c (reply.Stuck n) = refl
+ask_further c (reply.Waits n) = refl
+ask_further c reply.Running = refl
+ask_further c reply.Unknown = refl
+
+pub undo_further : (c : Core) (a : Asked) → IsFurther c (after_undo c a)
+undo_further c (reply.Request r) = refl
+undo_further c reply.Undoing = refl
+undo_further c reply.Over = refl
+undo_further c (reply.Stuck n) = refl
+undo_further c (reply.Waits n) = refl
+undo_further c reply.Running = refl
+undo_further c reply.Unknown = refl
+
+pub end_further : (c : Core) (t : ℕ) (o : Option Outcome) → IsFurther c (after_end c t o)
+end_further c t None = refl
+end_further c t (Some o) = refl
 
 -- ---- admissions
 

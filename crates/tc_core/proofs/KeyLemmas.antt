@@ -5,6 +5,7 @@ use Rattle.std.proofs.lemmas.Bool.{cases_eq, cond-false}
 use Rattle.indexmap.specs.IndexMap.{IndexMap, get as key_of, Updates as Keys}
 use Rattle.std.specs.Map.{lookup}
 use Rattle.slab.specs.Slab.{Slab, get, Updates}
+use Rattle.tc_core.specs.AtKey.{StandsAt}
 use Rattle.tc_core.specs.Joining.Boxes.{AreKeys}
 use Rattle.tc_core.specs.declared.transaction.Tx.{Tx}
 use Rattle.transactions.proofs.StandingLemmas.{some_same, none_some, eq-false}
@@ -85,3 +86,7 @@ module _ {S : Type 0} where
         keyed = λ k ty at. same_keys ty.serial ∙ a.keyed k ty (sym (same k) ∙ at);
         listed = λ t k at. (let s = a.listed t k (sym (same_keys t) ∙ at) in record { tx = s.tx; found = same k ∙ s.found; serial = s.serial });
       }
+
+-- what stands at the key of a transaction is that one
+pub serial-at : (txns : Slab Tx) (key t : ℕ) (tx : Tx) → StandsAt txns key t → get txns key ≡ Some tx → tx.serial ≡ t
+serial-at txns key t tx s found = sym (ap (λ (x : Tx). x.serial) (some_same s.tx tx (sym s.found ∙ found))) ∙ s.serial

@@ -1,24 +1,18 @@
 -- Lists that are mapped.
-use Rattle.std.proofs.Common.{◌≡◌, ℕ, ◌+◌, Bool, List, [], ◌∷◌, ◌++◌, map, Some, None, refl, ◌∙◌, ap, zero, suc, length, cond, not}
-use Rattle.std.specs.Prelude.{slice_get, position, nat_lt}
-use Rattle.std.specs.List.{prefix_len, position_or_len}
-use Rattle.std.specs.Option.{option_map}
+use Rattle.std.proofs.Common.{◌≡◌, ◌+◌, Bool, List, [], ◌∷◌, ◌++◌, map, Some, None, refl, ◌∙◌, ap, suc, length, cond, not}
+use Rattle.std.specs.Prelude.{position, nat_lt}
+use Rattle.std.specs.List.{prefix_len, position_or_len, AllZip}
 
 pub map-push : {X Y : Type 0} (f : X → Y) (xs : List X) (x : X) → map f (xs ++ x ∷ []) ≡ map f xs ++ f x ∷ []
 map-push f [] x = refl
 map-push f (y ∷ xs) x = ap (λ l. f y ∷ l) (map-push f xs x)
 
-module _ {K X Y : Type 0} (f : K → Y) where
-  -- what the key at a place is mapped to
-  pub named-at : (es : List (K × X)) (k : ℕ) (e : K × X) → slice_get es k ≡ Some e → slice_get (map f (map (λ e. e.0) es)) k ≡ Some (f e.0)
-  named-at [] k e at = absurd (cc)
-  named-at (x ∷ es) zero e at = ap (option_map (λ (y : K × X). f y.0)) at
-  named-at (x ∷ es) (suc k) e at = named-at es k e at
-
-  pub named-none : (es : List (K × X)) (k : ℕ) → slice_get es k ≡ None → slice_get (map f (map (λ e. e.0) es)) k ≡ None
-  named-none [] k at = refl
-  named-none (x ∷ es) zero at = absurd (cc)
-  named-none (x ∷ es) (suc k) at = named-none es k at
+-- lists of which each place is mapped to the same are mapped to the same
+pub zip-mapped : {X Y Z : Type 0} (R : X → X → Type 0) (g : X → Y) (f : Y → Z) → ((x y : X) → R x y → f (g y) ≡ f (g x)) → (xs ys : List X) → AllZip R xs ys → map f (map g ys) ≡ map f (map g xs)
+zip-mapped R g f same [] [] all = refl
+zip-mapped R g f same [] (y ∷ ys) all = absurd all
+zip-mapped R g f same (x ∷ xs) [] all = absurd all
+zip-mapped R g f same (x ∷ xs) (y ∷ ys) all = (let one = same x y all.0 in let rest = zip-mapped R g f same xs ys all.1 in rw (one, rest) refl)
 
 prefix-map : {X Y : Type 0} (f : X → Y) (p : Y → Bool) (xs : List X) → prefix_len p (map f xs) ≡ prefix_len (λ x. p (f x)) xs
 prefix-map f p [] = refl

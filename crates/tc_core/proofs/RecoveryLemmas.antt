@@ -1,9 +1,8 @@
--- What no answer changes, a request that is made again, and a log's first events.
+-- A request that is made again, and a log's first events.
 use Rattle.std.proofs.Common.{◌≡◌, ℕ, ◌-◌, true, false, List, [], ◌∷◌, ◌++◌, length, drop, map, length-append, ◌==◌, arith, Option, Some, None, refl, sym, ◌∙◌, ap, subst}
 use Rattle.std.proofs.Math.Seq.{drop-append_seam}
 use Rattle.std.specs.Prelude.{IfSome}
 use Rattle.tc_log.specs.declared.event.Event.{Event}
-use Rattle.tc_log.specs.declared.event.Outcome.{Outcome}
 use Rattle.history.specs.Places.{Begins}
 use Rattle.verifier.specs.Checked.{Checked}
 use Rattle.transactions.specs.declared.Sent.{Sent}
@@ -13,36 +12,11 @@ use Rattle.transactions.proofs.StandingLemmas.{eq-false}
 use Rattle.tc_core.specs.Core.{Core}
 use Rattle.tc_core.specs.Kept.{core_of}
 use Rattle.tc_core.specs.Loaded.{Loaded}
-use Rattle.tc_core.specs.Replies.{after_ask, after_undo, after_end}
 use Rattle.tc_core.specs.Checking.{IsFirstIllegal}
 use Rattle.tc_core.specs.GivingUp.{IsOpenHere}
 use Rattle.tc_core.specs.Recovery.{first_events, asking_by, asking_in, open_request, recovered, site_noted}
 use Rattle.tc_core.specs.declared.book.Book.{Book}
 use Rattle.tc_core.specs.declared.recovery.SiteNote.{SiteNote}
-use Rattle.tc_core.specs.declared.state.Asked.{Asked}
-use Rattle.tc_core.specs.declared.state.Asked.TheVariants as reply
-
-pub ask_gives_up_none : (c : Core) (a : Asked) → (after_ask c a).given_up ≡ c.given_up
-ask_gives_up_none c (reply.Request r) = refl
-ask_gives_up_none c reply.Undoing = refl
-ask_gives_up_none c reply.Over = refl
-ask_gives_up_none c (reply.Stuck n) = refl
-ask_gives_up_none c (reply.Waits n) = refl
-ask_gives_up_none c reply.Running = refl
-ask_gives_up_none c reply.Unknown = refl
-
-pub undo_gives_up_none : (c : Core) (a : Asked) → (after_undo c a).given_up ≡ c.given_up
-undo_gives_up_none c (reply.Request r) = refl
-undo_gives_up_none c reply.Undoing = refl
-undo_gives_up_none c reply.Over = refl
-undo_gives_up_none c (reply.Stuck n) = refl
-undo_gives_up_none c (reply.Waits n) = refl
-undo_gives_up_none c reply.Running = refl
-undo_gives_up_none c reply.Unknown = refl
-
-pub end_gives_up_none : (c : Core) (t : ℕ) (o : Option Outcome) → (after_end c t o).given_up ≡ c.given_up
-end_gives_up_none c t None = refl
-end_gives_up_none c t (Some o) = refl
 
 open_by : (c : Core) (t : ℕ) (s : Standing) → standing c.events t ≡ Some s → (sent : Option Sent) → s.sent ≡ sent → IfSome (asking_by t sent) (IsOpenHere c)
 open_by c t s is None waits = record {}

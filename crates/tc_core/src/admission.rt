@@ -1,13 +1,14 @@
 // How a call is admitted.
 
-ghost use Rattle.std.specs.Prelude.{◌≡◌, ◌↔◌, ◌+◌, ◌*◌, ◌≤◌, ◌^◌, ◌∷◌, nat_lt, [], length, Some, IsTrue, IfOk, OnOk, IfErr, OnErr};
+ghost use Rattle.std.specs.Prelude.{◌≡◌, ◌↔◌, ◌+◌, ◌*◌, ◌≤◌, ◌^◌, List, ◌∷◌, nat_lt, [], length, Some, IsTrue, IfOk, OnOk, IfErr, OnErr};
 ghost use Rattle.access_slots.specs.declared.slot.Record.{Record};
 ghost use Rattle.access_slots.specs.Held.{Compatible};
 ghost use Rattle.access_slots.specs.Locks.{mode_in, mode_named, Rising};
 ghost use Rattle.lock_table.specs.Facts.{held_by, granted, AreHeld, HoldsNothing};
 ghost use Rattle.tc_log.specs.declared.event.Event.TheVariants.{Admit};
 ghost use Rattle.history.specs.Calls.{admitted};
-ghost use Rattle.tc_core.specs.Kept.{core_of, IsBook};
+ghost use Rattle.verifier.specs.Checked.{Checked};
+ghost use Rattle.tc_core.specs.Kept.{IsBook};
 ghost use Rattle.tc_core.specs.Replies.{with_event};
 ghost use Rattle.tc_core.specs.Admission.{call_of, IsCalled, IsUncallable, IsAdmissible, IsRefused};
 ghost use Rattle.tc_core.specs.Joining.Rooms.{OnlyRoom, HasRoom, MayEnter};
@@ -15,7 +16,7 @@ ghost use Rattle.tc_core.specs.Blocked.{IsBlocked};
 
 use crate::book::Book;
 use crate::procs::Procs;
-use crate::state::{Call, Refusal, TxnId};
+use crate::state::{Call, Refusal, TcState, TxnId};
 use crate::transaction::{Own, calls_of};
 use crate::undos::Undos;
 use access_slots::lock::LockSet;
@@ -98,15 +99,14 @@ impl Book {
 
     // A call that may be admitted, and has its room, is admitted.
     #[inline(always)]
-    fn enter(&mut self, procs: &Procs, code: &Verified, proc: usize, own: Own) -> TxnId
-        requires { MayEnter procs.now.codes self.old code.now proc own }
-        ensures kept { IsBook procs.now.codes self.new }
+    pub(crate) fn enter(&mut self, code: &Verified, proc: usize, own: Own) -> TxnId
+        requires { (ps : List Checked) × MayEnter ps self.old code.now proc own }
+        ensures kept { (ps : List Checked) → MayEnter ps self.old code.now proc own → IsBook ps self.new }
         ensures serial { result.serial ≡ admitted self.old.log.events + 1 }
         ensures events { self.new.log.events ≡ Admit result.serial proc own.args ∷ self.old.log.events }
         ensures given_up { self.new.given_up ≡ self.old.given_up }
         ensures sites { self.new.sites ≡ self.old.sites }
     {
-        let _ = procs;
         let serial = self.serials + 1;
         let calls = calls_of(code);
         claim(&mut self.locks, serial, &own.locks);
@@ -123,33 +123,31 @@ impl Book {
         self.promised += 5 * calls as u64;
         TxnId { serial }
     }
+}
 
+impl TcState {
     /// Admits a call: it holds its locks, and has room for all that it may log, from now on.
     #[inline(always)]
-    pub fn admit(&mut self, alloc: Global, procs: &Procs, call: &Call) -> Result<TxnId, Refusal>
-        requires { IsBook procs.now.codes self.old }
-        ensures kept { IsBook procs.now.codes self.new }
-        ensures sites { length self.new.sites.items ≡ length self.old.sites.items }
-        ensures ok { IfOk result (λ id. id.serial ≡ admitted self.old.log.events + 1) }
-        ensures state { IfOk result (λ id. core_of procs.now self.new
-            ≡ with_event (core_of procs.now self.old) (Admit id.serial call.now.proc call.now.args.items)) }
-        ensures admitted { OnOk result (IsAdmissible (core_of procs.now self.old) (call_of call.now)) }
-        ensures err { OnErr result (core_of procs.now self.new ≡ core_of procs.now self.old) }
-        ensures refused { IfErr result (IsRefused (core_of procs.now self.old) (call_of call.now)) }
+    pub fn admit(&mut self, call: &Call) -> Result<TxnId, Refusal>
+        ensures ok { IfOk result (λ id. id.serial ≡ admitted self.old.events + 1) }
+        ensures state { IfOk result (λ id. self.new ≡ with_event self.old (Admit id.serial call.now.proc call.now.args.items)) }
+        ensures admitted { OnOk result (IsAdmissible self.old (call_of call.now)) }
+        ensures err { OnErr result (self.new ≡ self.old) }
+        ensures refused { IfErr result (IsRefused self.old (call_of call.now)) }
     {
-        let code = procedure_of(procs, call)?;
+        let code = procedure_of(&self.procs, call)?;
         let set = locks_of(code, call.args.as_slice());
-        if let Some(busy) = self.locks.busy(&set) {
+        if let Some(busy) = self.book.locks.busy(&set) {
             return Err(Refusal::Busy(busy));
         }
         let calls = calls_of(code);
-        if is_spent(self.numbers.last(), self.promised, calls) {
+        if is_spent(self.book.numbers.last(), self.book.promised, calls) {
             return Err(Refusal::NumbersSpent);
         }
-        let Ok(args) = Args::copy_of(alloc, call.args.as_slice()) else {
+        let Ok(args) = Args::copy_of(self.alloc, call.args.as_slice()) else {
             return Err(Refusal::Memory);
         };
-        let Ok(undo) = self.make_room(calls, &set) else {
+        let Ok(undo) = self.book.make_room(calls, &set) else {
             return Err(Refusal::Memory);
         };
         let own = Own {
@@ -157,21 +155,21 @@ impl Book {
             args,
             locks: set,
         };
-        Ok(self.enter(procs, code, call.proc, own))
+        Ok(self.book.enter(code, call.proc, own))
     }
 
     /// Whether other transactions stand in the way of a call, and all of them are in doubt or stuck.
-    pub fn blocked(&self, procs: &Procs, call: &Call) -> bool
-        requires { IsBook procs.now.codes self.now }
-        ensures { IsTrue result ↔ IsBlocked (core_of procs.now self.now) (call_of call.now) }
+    /// No for a call whose procedure isn't there or takes another number of arguments.
+    pub fn blocked(&self, call: &Call) -> bool
+        ensures { IsTrue result ↔ IsBlocked self.now (call_of call.now) }
     {
-        let Ok(code) = procedure_of(procs, call) else {
+        let Ok(code) = procedure_of(&self.procs, call) else {
             return false;
         };
         let set = locks_of(code, call.args.as_slice());
-        let Some(_busy) = self.locks.busy(&set) else {
+        let Some(_busy) = self.book.locks.busy(&set) else {
             return false;
         };
-        self.txns.all_stranded(&set)
+        self.book.txns.all_stranded(&set)
     }
 }

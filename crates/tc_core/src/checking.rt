@@ -12,11 +12,11 @@ ghost use Rattle.transactions.specs.Room.{each_one, total};
 ghost use Rattle.tc_core.specs.Checking.{IsFault};
 ghost use Rattle.tc_core.specs.Kept.{IsBook};
 ghost use Rattle.tc_core.specs.Recovery.{first_events};
-ghost use Rattle.tc_core.specs.Joining.Follows.{IsRequest, IsAsked, IsUnlike, awaited_by, awaited_in};
+ghost use Rattle.tc_core.specs.Joining.Follows.{AreUntold, IsAsked, IsFurther, IsRequest, IsUnlike, awaited_by, awaited_in};
 
 use crate::book::Book;
 use crate::procs::Procs;
-use crate::state::{Asked, Call, Refusal, Request, Stranger, TxnId};
+use crate::state::{Asked, Call, Refusal, Request, Stranger, TcState, TxnId};
 use access_slots::op::{Op, Reply, Said};
 use lock_table::table::LockTable;
 use std::alloc::Global;
@@ -109,56 +109,43 @@ fn is_answered(answered: Result<(), Stranger>) -> bool
     }
 }
 
-impl Book {
+impl TcState {
     // The operation that the transaction awaits under this number.
-    fn awaited(&self, procs: &Procs, txn: u64, number: u64) -> Option<Op>
-        requires { IsBook procs.now.codes self.now }
-        ensures { result ≡ awaited_in (standing self.now.log.events txn) number }
+    fn awaited(&self, txn: u64, number: u64) -> Option<Op>
+        ensures { result ≡ awaited_in (standing self.now.events txn) number }
     {
-        let _ = procs;
-        let Some(key) = self.txns.find(txn) else {
-            return None;
-        };
-        awaited_by(self.txns.sent(key), number)
+        let key = self.book.txns.find(txn)?;
+        awaited_by(self.book.txns.at(key).sent, number)
     }
 
     // Takes an Ask in, where it may come next.
-    fn follow_ask(&mut self, procs: &Procs, txn: u64, number: u64, op: &Op) -> bool
-        requires { IsBook procs.now.codes self.old }
-        ensures kept { IsBook procs.now.codes self.new }
-        ensures sites { length self.new.sites.items ≡ length self.old.sites.items }
-        ensures given_up { self.new.given_up.numbers ≡ self.old.given_up.numbers }
-        ensures follows { IsTrue result → self.new.log.events ≡ Ask txn number op.now ∷ self.old.log.events }
-        ensures illegal { IsFalse result → CanAsk procs.now.codes self.old.log.events txn number op.now → ⊥ }
+    fn follow_ask(&mut self, txn: u64, number: u64, op: &Op) -> bool
+        ensures rest { IsFurther self.old self.new }
+        ensures follows { IsTrue result → self.new.events ≡ Ask txn number op.now ∷ self.old.events }
+        ensures illegal { IsFalse result → CanAsk self.old.procs self.old.events txn number op.now → ⊥ }
     {
-        let asked = self.ask(procs, TxnId { serial: txn });
+        let asked = self.ask(TxnId { serial: txn });
         is_asked(asked, number, op)
     }
 
     // Takes an Undo in, where it may come next.
-    fn follow_undo(&mut self, procs: &Procs, txn: u64, number: u64, op: &Op) -> bool
-        requires { IsBook procs.now.codes self.old }
-        ensures kept { IsBook procs.now.codes self.new }
-        ensures sites { length self.new.sites.items ≡ length self.old.sites.items }
-        ensures given_up { self.new.given_up.numbers ≡ self.old.given_up.numbers }
-        ensures follows { IsTrue result → self.new.log.events ≡ Undo txn number op.now ∷ self.old.log.events }
-        ensures illegal { IsFalse result → CanUndo procs.now.codes self.old.log.events txn number op.now → ⊥ }
+    fn follow_undo(&mut self, txn: u64, number: u64, op: &Op) -> bool
+        ensures rest { IsFurther self.old self.new }
+        ensures follows { IsTrue result → self.new.events ≡ Undo txn number op.now ∷ self.old.events }
+        ensures illegal { IsFalse result → CanUndo self.old.procs self.old.events txn number op.now → ⊥ }
     {
-        let asked = self.undo_next(procs, TxnId { serial: txn });
+        let asked = self.undo_next(TxnId { serial: txn });
         is_asked(asked, number, op)
     }
 
     // Takes an Answer in, where it may come next.
-    fn follow_answer(&mut self, procs: &Procs, txn: u64, number: u64, said: Said) -> bool
-        requires book { IsBook procs.now.codes self.old }
-        requires sites { length self.old.sites.items ≡ 0 }
-        ensures kept { IsBook procs.now.codes self.new }
-        ensures sites { length self.new.sites.items ≡ length self.old.sites.items }
-        ensures given_up { self.new.given_up.numbers ≡ self.old.given_up.numbers }
-        ensures follows { IsTrue result → self.new.log.events ≡ Answer txn number said ∷ self.old.log.events }
-        ensures illegal { IsFalse result → CanAnswer procs.now.codes self.old.log.events txn number said → ⊥ }
+    fn follow_answer(&mut self, txn: u64, number: u64, said: Said) -> bool
+        requires { AreUntold self.old.sites }
+        ensures rest { IsFurther self.old self.new }
+        ensures follows { IsTrue result → self.new.events ≡ Answer txn number said ∷ self.old.events }
+        ensures illegal { IsFalse result → CanAnswer self.old.procs self.old.events txn number said → ⊥ }
     {
-        let Some(op) = self.awaited(procs, txn, number) else {
+        let Some(op) = self.awaited(txn, number) else {
             return false;
         };
         let request = Request { txn, number, op };
@@ -167,48 +154,35 @@ impl Book {
             incarnation: 0,
             said,
         };
-        is_answered(self.answer(procs, request, reply))
+        is_answered(self.answer(request, reply))
     }
 
     // Takes an End in, where it may come next.
-    fn follow_end(&mut self, procs: &Procs, txn: u64, outcome: Outcome) -> bool
-        requires { IsBook procs.now.codes self.old }
-        ensures kept { IsBook procs.now.codes self.new }
-        ensures sites { length self.new.sites.items ≡ length self.old.sites.items }
-        ensures given_up { self.new.given_up.numbers ≡ self.old.given_up.numbers }
-        ensures follows { IsTrue result → self.new.log.events ≡ End txn outcome ∷ self.old.log.events }
-        ensures illegal { IsFalse result → CanEnd procs.now.codes self.old.log.events txn outcome → ⊥ }
+    fn follow_end(&mut self, txn: u64, outcome: Outcome) -> bool
+        ensures rest { IsFurther self.old self.new }
+        ensures follows { IsTrue result → self.new.events ≡ End txn outcome ∷ self.old.events }
+        ensures illegal { IsFalse result → CanEnd self.old.procs self.old.events txn outcome → ⊥ }
     {
-        match self.end(procs, TxnId { serial: txn }) {
+        match self.end(TxnId { serial: txn }) {
             Ok(receipt) => receipt.outcome == outcome,
             Err(_) => false,
         }
     }
 
     // Takes an Admit in, where it may come next.
-    fn follow_admit(
-        &mut self,
-        alloc: Global,
-        procs: &Procs,
-        txn: u64,
-        proc: usize,
-        args: &Args,
-    ) -> Result<(), Unlike>
-        requires { IsBook procs.now.codes self.old }
-        ensures kept { IsBook procs.now.codes self.new }
-        ensures sites { length self.new.sites.items ≡ length self.old.sites.items }
-        ensures given_up { self.new.given_up.numbers ≡ self.old.given_up.numbers }
-        ensures follows { OnOk result (self.new.log.events ≡ Admit txn proc args.now ∷ self.old.log.events) }
-        ensures why { IfErr result (IsUnlike procs.now.codes self.old.log.events (Admit txn proc args.now)) }
+    fn follow_admit(&mut self, txn: u64, proc: usize, args: &Args) -> Result<(), Unlike>
+        ensures rest { IsFurther self.old self.new }
+        ensures follows { OnOk result (self.new.events ≡ Admit txn proc args.now ∷ self.old.events) }
+        ensures why { IfErr result (IsUnlike self.old.procs self.old.events (Admit txn proc args.now)) }
     {
-        if self.serials.checked_add(1) != Some(txn) {
+        if self.admitted().checked_add(1) != Some(txn) {
             return Err(Unlike::Illegal);
         }
-        let Ok(args) = Vec::from_slice(alloc, args.as_slice()) else {
+        let Ok(args) = Vec::from_slice(self.alloc, args.as_slice()) else {
             return Err(Unlike::Memory);
         };
         let call = Call { proc, args };
-        match self.admit(alloc, procs, &call) {
+        match self.admit(&call) {
             Ok(_) => Ok(()),
             Err(Refusal::NoProcedure) => Err(Unlike::Illegal),
             Err(Refusal::ArgumentCount) => Err(Unlike::Illegal),
@@ -219,23 +193,20 @@ impl Book {
     }
 
     // Takes an event in, where it may come next.
-    fn follow(&mut self, alloc: Global, procs: &Procs, event: &Event) -> Result<(), Unlike>
-        requires book { IsBook procs.now.codes self.old }
-        requires sites { length self.old.sites.items ≡ 0 }
-        ensures kept { IsBook procs.now.codes self.new }
-        ensures sites { length self.new.sites.items ≡ length self.old.sites.items }
-        ensures given_up { self.new.given_up.numbers ≡ self.old.given_up.numbers }
-        ensures follows { OnOk result (self.new.log.events ≡ event.now ∷ self.old.log.events) }
-        ensures why { IfErr result (IsUnlike procs.now.codes self.old.log.events event.now) }
+    fn follow(&mut self, event: &Event) -> Result<(), Unlike>
+        requires { AreUntold self.old.sites }
+        ensures rest { IsFurther self.old self.new }
+        ensures follows { OnOk result (self.new.events ≡ event.now ∷ self.old.events) }
+        ensures why { IfErr result (IsUnlike self.old.procs self.old.events event.now) }
     {
         let follows = match event {
             Event::Admit { txn, proc, args } => {
-                return self.follow_admit(alloc, procs, *txn, *proc, args);
+                return self.follow_admit(*txn, *proc, args);
             }
-            Event::Ask { txn, number, op } => self.follow_ask(procs, *txn, *number, op),
-            Event::Answer { txn, number, said } => self.follow_answer(procs, *txn, *number, *said),
-            Event::Undo { txn, number, op } => self.follow_undo(procs, *txn, *number, op),
-            Event::End { txn, outcome } => self.follow_end(procs, *txn, *outcome),
+            Event::Ask { txn, number, op } => self.follow_ask(*txn, *number, op),
+            Event::Answer { txn, number, said } => self.follow_answer(*txn, *number, *said),
+            Event::Undo { txn, number, op } => self.follow_undo(*txn, *number, op),
+            Event::End { txn, outcome } => self.follow_end(*txn, *outcome),
         };
         if follows {
             Ok(())
@@ -256,6 +227,32 @@ fn event_at(log: &Log, place: usize) -> &Event
     }
 }
 
+// The state behind a log's first so many events, where each is allowed. Nothing is told of data
+// components.
+fn replayed(alloc: Global, procs: &Procs, log: &Log, events: usize) -> Result<TcState, CheckFault>
+    requires { events ≤ length log.now.events }
+    ensures procs { IfOk result (λ s. s.procs ≡ procs.now.codes) }
+    ensures given_up { IfOk result (λ s. s.given_up ≡ []) }
+    ensures log { IfOk result (λ s. s.events ≡ first_events events log.now.events) }
+    ensures fault { IfErr result (IsFault procs.now.codes log.now.events) }
+{
+    let Ok(shared) = procs.shared() else {
+        return Err(CheckFault::Memory);
+    };
+    let Ok(mut state) = TcState::over(alloc, shared) else {
+        return Err(CheckFault::Memory);
+    };
+    for place in 0..events {
+        state.known();
+        match state.follow(event_at(log, place)) {
+            Ok(()) => {}
+            Err(Unlike::Illegal) => return Err(CheckFault::LogIllegal(place)),
+            Err(Unlike::Memory) => return Err(CheckFault::Memory),
+        }
+    }
+    Ok(state)
+}
+
 // A book of a log's first so many events, where each is allowed.
 pub(crate) fn first_book(
     alloc: Global,
@@ -269,17 +266,11 @@ pub(crate) fn first_book(
     ensures log { IfOk result (λ book. book.log.events ≡ first_events events log.now.events) }
     ensures fault { IfErr result (IsFault procs.now.codes log.now.events) }
 {
-    procs.known();
-    let Ok(mut book) = Book::new(alloc, 0) else {
-        return Err(CheckFault::Memory);
-    };
-    for place in 0..events {
-        match book.follow(alloc, procs, event_at(log, place)) {
-            Ok(()) => {}
-            Err(Unlike::Illegal) => return Err(CheckFault::LogIllegal(place)),
-            Err(Unlike::Memory) => return Err(CheckFault::Memory),
-        }
-    }
+    let TcState {
+        alloc: _,
+        procs: _,
+        book,
+    } = replayed(alloc, procs, log, events)?;
     Ok(book)
 }
 
@@ -300,7 +291,7 @@ pub fn stands_behind(alloc: Global, procs: &Procs, log: &Log) -> Result<Checked,
     ensures fault { IfErr result (IsFault procs.now.codes log.now.events) }
 {
     let book = book_of(alloc, procs, log)?;
-    let open = book.open_count(procs);
+    let open = book.txns.len();
     let Book {
         txns: _,
         locks,

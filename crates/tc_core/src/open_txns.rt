@@ -260,67 +260,6 @@ impl OpenTxns {
         self.txns[key].as_ref()
     }
 
-    /// What the transaction at a key does next.
-    #[inline(always)]
-    pub fn next(&self, key: usize) -> Next
-        requires { ContainsKey self.now key }
-        ensures { (tx : TxValue) → get self.now key ≡ Some tx → does tx ≡ Some result }
-    {
-        self.at(key).next()
-    }
-
-    /// How the transaction at a key ends, if it may end.
-    #[inline(always)]
-    pub fn ending(&self, key: usize) -> Option<Outcome>
-        requires { ContainsKey self.now key }
-        ensures { (tx : TxValue) → get self.now key ≡ Some tx → result ≡ over_in (does tx) }
-    {
-        over(self.next(key))
-    }
-
-    /// The procedure of the transaction at a key.
-    #[inline(always)]
-    pub fn procedure(&self, key: usize) -> usize
-        requires { ContainsKey self.now key }
-        ensures { (tx : TxValue) → get self.now key ≡ Some tx → result ≡ tx.proc }
-    {
-        self.at(key).proc
-    }
-
-    /// What the transaction at a key waits for.
-    pub fn sent(&self, key: usize) -> Option<Sent>
-        requires { ContainsKey self.now key }
-        ensures { (tx : TxValue) → get self.now key ≡ Some tx → result ≡ tx.sent }
-    {
-        self.at(key).sent
-    }
-
-    /// How many numbers are left to the transaction at a key.
-    #[inline(always)]
-    pub fn numbers_left(&self, key: usize) -> u64
-        requires { ContainsKey self.now key }
-        ensures { (tx : TxValue) → get self.now key ≡ Some tx → result ≡ tx.left }
-    {
-        self.at(key).left
-    }
-
-    /// Whether the transaction at a key waits for this number and operation.
-    pub fn awaits(&self, key: usize, number: u64, op: &Op) -> bool
-        requires { ContainsKey self.now key }
-        ensures { (tx : TxValue) → get self.now key ≡ Some tx → IsTrue result ↔ Awaits tx number op.now }
-    {
-        self.at(key).awaits(number, op)
-    }
-
-    /// Whether the transaction at a key waits for this request, and the reply is one to it.
-    #[inline(always)]
-    pub fn accepts(&self, key: usize, number: u64, op: &Op, reply: &Reply) -> bool
-        requires { ContainsKey self.now key }
-        ensures { (tx : TxValue) → get self.now key ≡ Some tx → IsTrue result ↔ Accepts tx number op.now reply.now.number reply.now.said }
-    {
-        self.at(key).accepts(number, op, reply)
-    }
-
     /// Whether each transaction whose locks exclude these is in doubt or stuck.
     pub fn all_stranded(&self, wanted: &LockSet) -> bool
         ensures all { IsTrue result → AllStandStill self.now wanted.now }
@@ -369,17 +308,5 @@ impl OpenTxns {
         ensures len { slab_len self.new ≡ slab_len self.old }
     {
         self.txns[key].in_doubt = true;
-    }
-}
-
-fn over(next: Next) -> Option<Outcome>
-    ensures { result ≡ over_in (Some next) }
-{
-    match next {
-        Next::Waits(_) => None,
-        Next::Asks(_) => None,
-        Next::Undoes(_) => None,
-        Next::Stuck(_) => None,
-        Next::Over(outcome) => Some(outcome),
     }
 }

@@ -1,6 +1,7 @@
 //! The loaded procedures, by number and by name.
 
 ghost use Rattle.std.specs.Prelude.{◌≡◌, ◌==◌, ◌++◌, [], ◌∷◌, ◌<◌, length, map, slice_get, option_copied, None, Some};
+ghost use Rattle.std.specs.Arc.{arc_value};
 ghost use Rattle.std.specs.Prelude.{IfOk, OnOk, IfErr, OnErr, IfNone};
 ghost use Rattle.std.specs.String.{string_bytes};
 ghost use Rattle.indexmap.specs.IndexMap.{keys, values, get_by_text};
@@ -10,8 +11,9 @@ ghost use Rattle.tc_core.specs.Loading.{load_refusal, IsFirstRefusal};
 
 use access_slots::slot::Slot;
 use indexmap::IndexMap;
-use std::alloc::Global;
+use std::alloc::{AllocError, Global};
 use std::marker::Model;
+use std::sync::Arc;
 use verifier::verify::Verified;
 
 /// Why a procedure isn't loaded, in the order in which it is looked for.
@@ -35,16 +37,17 @@ pub struct LoadFault {
 
 /// The procedures that calls name, in the order in which they were loaded, each under a name of its
 /// own. Contracts see the verified procedures by number, their names, and for how many data
-/// components they are.
+/// components they are. Each is shared with the replay of a log, and none is copied for it.
 #[derive(Drop)]
 pub struct Procs {
     alloc: Global,
     dcs: u16,
-    by_name: IndexMap<String, Verified>,
+    by_name: IndexMap<String, Arc<Verified>>,
 }
 
 impl Model for Procs {
     ghost use Rattle.std.specs.Prelude.{map};
+    ghost use Rattle.std.specs.Arc.{arc_value};
     ghost use Rattle.std.specs.String.{string_bytes};
     ghost use Rattle.indexmap.specs.IndexMap.{keys, values};
     ghost use Rattle.transactions.specs.Reached.{AllGood};
@@ -52,9 +55,9 @@ impl Model for Procs {
 
     ghost Value = { Loaded };
 
-    ghost view = { λ p. record { dcs = p.dcs; codes = values p.by_name; names = map string_bytes (keys p.by_name) } };
+    ghost view = { λ p. record { dcs = p.dcs; codes = map arc_value (values p.by_name); names = map string_bytes (keys p.by_name) } };
 
-    ghost invariant = { λ p. AllGood (values p.by_name) × AllReach p.dcs (values p.by_name) };
+    ghost invariant = { λ p. AllGood (map arc_value (values p.by_name)) × AllReach p.dcs (map arc_value (values p.by_name)) };
 }
 
 // What the verifier shows of code.
@@ -66,31 +69,41 @@ fn good(code: &Verified)
 }
 
 // The place of the procedure with this name.
-fn place_of(by_name: &IndexMap<String, Verified>, name: &str) -> Option<usize>
+fn place_of(by_name: &IndexMap<String, Arc<Verified>>, name: &str) -> Option<usize>
     ensures place { result ≡ number_of name.now (map string_bytes (keys by_name.now)) }
     ensures absent { IfNone result (get_by_text by_name.now name.now ≡ None) }
 {
     by_name.get_index_of(name)
 }
 
-// One more procedure goes last, under a name that there isn't yet.
-fn put(
-    by_name: &mut IndexMap<String, Verified>,
-    name: String,
+// One more procedure goes last, under a name that there isn't yet; where memory runs out it is handed
+// back, and those that are there stay.
+fn add(
+    alloc: Global,
+    by_name: &mut IndexMap<String, Arc<Verified>>,
+    name: &str,
     code: Verified,
 ) -> Result<(), Verified>
-    requires { get_by_text by_name.old (string_bytes name) ≡ None }
-    ensures codes { OnOk result (values by_name.new ≡ values by_name.old ++ code ∷ []) }
-    ensures names { OnOk result (map string_bytes (keys by_name.new) ≡ map string_bytes (keys by_name.old) ++ string_bytes name ∷ []) }
+    requires { get_by_text by_name.old name.now ≡ None }
+    ensures codes { OnOk result (map arc_value (values by_name.new) ≡ map arc_value (values by_name.old) ++ code ∷ []) }
+    ensures names { OnOk result (map string_bytes (keys by_name.new) ≡ map string_bytes (keys by_name.old) ++ name.now ∷ []) }
     ensures err { OnErr result (by_name.new.entries ≡ by_name.old.entries) }
     ensures back { IfErr result (λ back. back ≡ code) }
 {
-    match by_name.insert(name, code) {
+    let Ok(name) = String::from_str(alloc, name) else {
+        return Err(code);
+    };
+    // Room first, since a shared procedure can't be handed back.
+    let Ok(()) = by_name.reserve(1) else {
+        return Err(code);
+    };
+    let shared = match Arc::new(alloc, code) {
+        Ok(shared) => shared,
+        Err(failed) => return Err(failed.value),
+    };
+    match by_name.insert(name, shared) {
         Ok(_replaced) => Ok(()),
-        Err(failed) => {
-            let (_name, code) = failed.value;
-            Err(code)
-        }
+        Err(_) => unreachable!(),
     }
 }
 
@@ -113,6 +126,19 @@ impl Procs {
             dcs,
             by_name: IndexMap::new(alloc),
         }
+    }
+
+    /// The same procedures under the same names, for whoever replays a log. What takes memory is the names.
+    pub(crate) fn shared(&self) -> Result<Procs, AllocError>
+        ensures dcs { IfOk result (λ p. p.dcs ≡ self.now.dcs) }
+        ensures codes { IfOk result (λ p. p.codes ≡ self.now.codes) }
+    {
+        let by_name = self.by_name.clone()?;
+        Ok(Procs {
+            alloc: self.alloc,
+            dcs: self.dcs,
+            by_name,
+        })
     }
 
     /// How many there are.
@@ -141,7 +167,7 @@ impl Procs {
         ensures { option_copied result ≡ slice_get self.now.codes number }
     {
         match self.by_name.get_index(number) {
-            Some((_name, code)) => Some(code),
+            Some((_name, code)) => Some(&**code),
             None => None,
         }
     }
@@ -206,15 +232,9 @@ impl Procs {
                 code,
             });
         }
-        let Ok(owned) = String::from_str(self.alloc, name) else {
-            return Err(LoadFault {
-                why: LoadRefusal::Memory,
-                code,
-            });
-        };
         good(&code);
         let number = self.by_name.len();
-        match put(&mut self.by_name, owned, code) {
+        match add(self.alloc, &mut self.by_name, name, code) {
             Ok(()) => Ok(number),
             Err(code) => Err(LoadFault {
                 why: LoadRefusal::Memory,

@@ -1,17 +1,16 @@
 //! A state that comes back from what was written: its log, and what was known of data components.
 
-ghost use Rattle.std.specs.Prelude.{◌≡◌, ◌≤◌, [], length, map, vec_capacity, IfOk, IfErr};
-ghost use Rattle.history.specs.Calls.{admitted};
-ghost use Rattle.transactions.specs.Standing.{standing};
+ghost use Rattle.std.specs.Prelude.{◌≡◌, ◌≤◌, [], length, map, vec_capacity, IfOk, OnOk, IfErr, OnErr, IfSome};
+ghost use Rattle.transactions.specs.Legal.{Legal};
 ghost use Rattle.tc_core.specs.Checking.{IsFault};
+ghost use Rattle.tc_core.specs.GivingUp.{IsOpenHere};
 ghost use Rattle.tc_core.specs.Kept.{IsBook};
-ghost use Rattle.tc_core.specs.Recovery.{asking_by, asking_in, first_events, site_noted};
+ghost use Rattle.tc_core.specs.Recovery.{asking_by, first_events, open_request, recovered, site_noted, IsRecoverFault};
 
 use crate::book::Book;
 use crate::checking::{CheckFault, first_book};
-use crate::procs::Procs;
 use crate::sites::{UNTOLD, starts};
-use crate::state::Request;
+use crate::state::{Request, TcState, TxnId};
 use access_slots::op::News;
 use std::alloc::{AllocError, Global};
 use tc_log::log::Log;
@@ -87,7 +86,7 @@ fn asking_by(txn: u64, sent: Option<Sent>) -> Option<Request>
 }
 
 // Requests that are void: they are spent.
-pub(crate) fn spend(requests: &mut Vec<Request>)
+fn spend(requests: &mut Vec<Request>)
     ensures items { requests.new.items ≡ [] }
     ensures capacity { vec_capacity requests.new ≡ vec_capacity requests.old }
 {
@@ -100,53 +99,91 @@ pub(crate) fn spend(requests: &mut Vec<Request>)
     }
 }
 
-impl Book {
-    /// A book of a log's first so many events, with what was noted of each data component.
-    pub fn recovered(
-        alloc: Global,
-        procs: &Procs,
-        log: &Log,
-        events: usize,
-        notes: &[SiteNote],
-    ) -> Result<Book, CheckFault>
+impl TcState {
+    // A book of a log's first so many events, with what was noted of each data component.
+    fn recovered(&self, log: &Log, events: usize, notes: &[SiteNote]) -> Result<Book, CheckFault>
         requires events { events ≤ length log.now.events }
-        requires notes { length notes.now ≡ procs.now.dcs }
-        ensures kept { IfOk result (IsBook procs.now.codes) }
+        requires notes { length notes.now ≡ self.now.dcs }
+        ensures kept { IfOk result (IsBook self.now.procs) }
         ensures events { IfOk result (λ book. book.log.events ≡ first_events events log.now.events) }
         ensures given_up { IfOk result (λ book. book.given_up.numbers ≡ []) }
         ensures sites { IfOk result (λ book. book.sites.items ≡ map site_noted notes.now) }
-        ensures fault { IfErr result (IsFault procs.now.codes log.now.events) }
+        ensures fault { IfErr result (IsFault self.now.procs log.now.events) }
     {
-        let Ok(sites) = sites_noted(alloc, notes) else {
+        let Ok(sites) = sites_noted(self.alloc, notes) else {
             return Err(CheckFault::Memory);
         };
-        let Ok(starts) = starts(alloc, procs.dcs()) else {
+        let Ok(starts) = starts(self.alloc, self.procs.dcs()) else {
             return Err(CheckFault::Memory);
         };
-        let mut book = first_book(alloc, procs, log, events)?;
+        let mut book = first_book(self.alloc, &self.procs, log, events)?;
         book.sites = sites;
         book.starts = starts;
         Ok(book)
     }
 
-    /// The request that the transaction waits for, made again.
-    pub fn request(&self, procs: &Procs, txn: u64) -> Option<Request>
-        requires { IsBook procs.now.codes self.now }
-        ensures { result ≡ asking_in txn (standing self.now.log.events txn) }
+    /// Comes back from a log, if it is legal for the procedures loaded here, there is a note for each
+    /// data component, and nothing has happened here yet: what happened is the log, nothing is given
+    /// up, and of data components is known what was noted. Nobody holds a request:
+    /// [`TcState::request`] makes those that are open again.
+    pub fn recover(&mut self, log: &Log, notes: &[SiteNote]) -> Result<(), RecoverFault>
+        ensures begun { OnOk result (self.old.events ≡ []) }
+        ensures legal { OnOk result (Legal self.old.procs log.now.events) }
+        ensures count { OnOk result (length notes.now ≡ self.old.dcs) }
+        ensures ok { OnOk result (self.new ≡ recovered self.old log.now.events notes.now) }
+        ensures err { OnErr result (self.new ≡ self.old) }
+        ensures fault { IfErr result (IsRecoverFault self.old log.now.events (length notes.now)) }
     {
-        let _ = procs;
-        let Some(key) = self.txns.find(txn) else {
-            return None;
-        };
-        asking_by(txn, self.txns.sent(key))
+        if !self.book.log.is_empty() {
+            return Err(RecoverFault::Begun);
+        }
+        if notes.len() != usize::from(self.procs.dcs()) {
+            return Err(RecoverFault::DcCount);
+        }
+        match self.recovered(log, log.len(), notes) {
+            Ok(book) => {
+                self.book = book;
+                Ok(())
+            }
+            Err(fault) => Err(RecoverFault::Unfit(fault)),
+        }
     }
 
-    /// The serial number of the last admission, or 0.
-    pub fn admitted(&self, procs: &Procs) -> u64
-        requires { IsBook procs.now.codes self.now }
-        ensures { result ≡ admitted self.now.log.events }
+    /// Crashes, and comes back from so many of the first events of its own log and from a note for each
+    /// data component, as [`TcState::recover`] does on a new state: what came later is forgotten, and
+    /// nothing is given up. The requests that were held are void, and are spent:
+    /// [`TcState::request`] makes those that are open again. Want of memory changes nothing.
+    pub fn crash(
+        &mut self,
+        events: usize,
+        notes: &[SiteNote],
+        requests: &mut Vec<Request>,
+    ) -> Result<(), AllocError>
+        requires events { events ≤ length self.old.events }
+        requires notes { length notes.now ≡ self.old.dcs }
+        ensures ok { OnOk result (self.new ≡ recovered self.old (first_events events self.old.events) notes.now) }
+        ensures spent { OnOk result (requests.new.items ≡ []) }
+        ensures err { OnErr result (self.new ≡ self.old) }
+        ensures held { OnErr result (requests.new.items ≡ requests.old.items) }
+        ensures room { vec_capacity requests.new ≡ vec_capacity requests.old }
     {
-        let _ = procs;
-        self.serials
+        match self.recovered(&self.book.log, events, notes) {
+            Ok(book) => self.book = book,
+            Err(CheckFault::Memory) => return Err(AllocError),
+            Err(CheckFault::LogIllegal(_)) => unreachable!(),
+        }
+        spend(requests);
+        Ok(())
+    }
+
+    /// The request of the operation that an open transaction waits for, made again: for a state that
+    /// came back, whose requests nobody holds. Where one is held, either can be answered, and the other
+    /// is then a [`Stranger`]'s.
+    pub fn request(&self, txn: TxnId) -> Option<Request>
+        ensures request { result ≡ open_request self.now txn.serial }
+        ensures open_here { IfSome result (IsOpenHere self.now) }
+    {
+        let key = self.book.txns.find(txn.serial)?;
+        asking_by(txn.serial, self.book.txns.at(key).sent)
     }
 }

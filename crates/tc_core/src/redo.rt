@@ -1,12 +1,17 @@
-// What is to be redone, as the log has it.
+// Restarts of data components, and what is to be redone then, as the log has it.
 
-ghost use Rattle.std.specs.Prelude.{◌≡◌, ◌<◌, ◌≤◌, length, drop, Some, None, IfSome, IfNone};
+ghost use Rattle.std.specs.Prelude.{◌≡◌, ◌↔◌, ◌<◌, ◌≤◌, length, drop, Some, None, IfSome, IfNone};
+ghost use Rattle.std.specs.Prelude.{IsTrue, IsOk, OnOk, IfErr, OnErr};
 ghost use Rattle.history.specs.Redo.{is_done};
+ghost use Rattle.tc_core.specs.Redo.{news_fault, after_told, redo_reply, after_redo, IsRedone, after_redone};
 ghost use Rattle.tc_core.specs.Joining.Scanning.{said_in, first_in, scan};
 
-use access_slots::op::Said;
+use crate::sites::known;
+use crate::state::{NewsFault, Redo, Stranger2, TcState};
+use access_slots::op::{News, Reply, Said, Wire};
 use history::Answered;
 use tc_log::event::Event;
+use transactions::{Redoing, Site};
 
 // The first answer to a number.
 fn said_in(events: &[Event], number: u64) -> Option<Said>
@@ -57,9 +62,9 @@ fn at(events: &[Event], place: usize, dc: u16, after: u64) -> Option<Answered>
     }
 }
 
-/// The first operation of the data component above the number that was done, looked for from a place
-/// of the log on; and where it was sent.
-pub fn find_done(events: &[Event], from: usize, dc: u16, after: u64) -> Option<(usize, Answered)>
+// The first operation of the data component above the number that was done, looked for from a place
+// of the log on; and where it was sent.
+fn find_done(events: &[Event], from: usize, dc: u16, after: u64) -> Option<(usize, Answered)>
     ensures inside { IfSome result (λ x. x.0 < length events.now) }
     ensures there { IfSome result (λ x. first_in dc after (drop x.0 events.now) ≡ Some x.1) }
     ensures found { IfSome result (λ x. scan dc after (drop from events.now) ≡ Some x.1) }
@@ -71,4 +76,109 @@ pub fn find_done(events: &[Event], from: usize, dc: u16, after: u64) -> Option<(
         }
     }
     None
+}
+
+// Whether the reply is what was said to the operation, of this incarnation.
+#[inline(always)]
+fn is_said(answered: &Answered, incarnation: u64, reply: &Reply) -> bool
+    ensures { IsTrue result ↔
+        ((reply.now.number ≡ answered.now.number) × (reply.now.incarnation ≡ incarnation) × (reply.now.said ≡ answered.now.said)) }
+{
+    reply.number == answered.number
+        && reply.incarnation == incarnation
+        && reply.said == answered.said
+}
+
+impl TcState {
+    /// A data component has restarted: it is down, also where it was down already, and what was done
+    /// there above the mark is to be redone.
+    pub fn told(&mut self, dc: u16, news: News) -> Result<(), NewsFault>
+        ensures taken { OnOk result (news_fault self.old dc news ≡ None) }
+        ensures ok { OnOk result (self.new ≡ after_told self.old dc news) }
+        ensures fault { IfErr result (λ f. news_fault self.old dc news ≡ Some f) }
+        ensures err { OnErr result (self.new ≡ self.old) }
+    {
+        let at = usize::from(dc);
+        if at >= self.book.sites.len() {
+            return Err(NewsFault::NoDc);
+        }
+        if news.incarnation <= self.book.sites[at].incarnation {
+            return Err(NewsFault::OldNews);
+        }
+        self.book.sites[at] = Site {
+            incarnation: news.incarnation,
+            redo: Some(Redoing {
+                mark: news.mark,
+                redone: news.mark,
+            }),
+        };
+        self.book.starts[at] = 0;
+        Ok(())
+    }
+
+    /// What is sent to redo the next operation of a data component that is down, the same until it is
+    /// redone; where none is left the data component is up, and open requests are sent again.
+    #[inline(always)]
+    pub fn redo_next(&mut self, dc: u16) -> Redo
+        ensures reply { result ≡ redo_reply self.old dc }
+        ensures state { self.new ≡ after_redo self.old dc result }
+    {
+        let Some((site, start)) = known(self.book.sites.as_slice(), self.book.starts.as_slice(), dc)
+        else {
+            return Redo::NoDc;
+        };
+        let Some(redo) = site.redo else {
+            return Redo::NotDown;
+        };
+        match find_done(self.book.log.events(), start, dc, redo.redone) {
+            Some((_, answered)) => Redo::Send(Wire {
+                number: answered.number,
+                low_water: redo.mark,
+                incarnation: site.incarnation,
+                redo: true,
+                op: answered.op,
+            }),
+            None => {
+                let at = usize::from(dc);
+                self.book.sites[at] = Site {
+                    incarnation: site.incarnation,
+                    redo: None,
+                };
+                Redo::Finished
+            }
+        }
+    }
+
+    /// Takes a reply in that says of the operation under redo what was said to it before. Another
+    /// changes nothing.
+    pub fn redone(&mut self, dc: u16, reply: &Reply) -> Result<(), Stranger2>
+        ensures accepted { IsOk result ↔ IsRedone self.old dc reply.now }
+        ensures ok { OnOk result (self.new ≡ after_redone self.old dc reply.now.number) }
+        ensures err { OnErr result (self.new ≡ self.old) }
+    {
+        let Some((site, start)) = known(self.book.sites.as_slice(), self.book.starts.as_slice(), dc)
+        else {
+            return Err(Stranger2);
+        };
+        let Some(redo) = site.redo else {
+            return Err(Stranger2);
+        };
+        let Some((place, answered)) = find_done(self.book.log.events(), start, dc, redo.redone)
+        else {
+            return Err(Stranger2);
+        };
+        if !is_said(&answered, site.incarnation, reply) {
+            return Err(Stranger2);
+        }
+        let at = usize::from(dc);
+        self.book.sites[at] = Site {
+            incarnation: site.incarnation,
+            redo: Some(Redoing {
+                mark: redo.mark,
+                redone: answered.number,
+            }),
+        };
+        self.book.starts[at] = place + 1;
+        Ok(())
+    }
 }

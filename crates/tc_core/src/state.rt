@@ -1,31 +1,21 @@
 //! The state, and the calls on it.
 
-ghost use Rattle.std.specs.Prelude.{◌≡◌, ◌↔◌, ◌+◌, ◌≤◌, [], ◌∷◌, ◌++◌, length, replicate, vec_capacity, Some, None};
-ghost use Rattle.std.specs.Prelude.{IsTrue, IsOk, IfOk, OnOk, IfErr, OnErr, IfSome, IfNone, IsSome};
-ghost use Rattle.tc_log.specs.declared.event.Event.TheVariants.{Admit};
+ghost use Rattle.std.specs.Prelude.{◌≡◌, [], ◌∷◌, ◌++◌, length, replicate, None};
+ghost use Rattle.std.specs.Prelude.{IfOk, OnOk, IfErr, OnErr, IfSome, IfNone, IsSome};
 ghost use Rattle.history.specs.Calls.{admitted};
 ghost use Rattle.transactions.specs.Standing.{standing};
 ghost use Rattle.transactions.specs.Legal.{Legal};
 ghost use Rattle.transactions.specs.Room.{each_one, total};
 ghost use Rattle.transactions.specs.Reached.{AllGood};
+ghost use Rattle.transactions.specs.InFlight.{untold, site_at};
 ghost use Rattle.tc_core.specs.Loaded.{number_of, AllReach};
 ghost use Rattle.tc_core.specs.Loading.{load_refusal, IsFirstRefusal};
 ghost use Rattle.tc_core.specs.Core.{loaded_in};
-ghost use Rattle.tc_core.specs.Replies.{ask_reply, after_ask, IsAnswer, after_answer, end_of, end_reply, after_end};
-ghost use Rattle.tc_core.specs.Replies.{undo_reply, after_undo, with_event};
-ghost use Rattle.tc_core.specs.Admission.{call_of, IsAdmissible, IsRefused};
-ghost use Rattle.tc_core.specs.Lent.{wire_of};
-ghost use Rattle.tc_core.specs.GivingUp.{IsOpenHere, with_given_up};
-ghost use Rattle.tc_core.specs.Blocked.{IsBlocked};
-ghost use Rattle.tc_core.specs.Redo.{news_fault, after_told, redo_reply, after_redo, IsRedone, after_redone};
-ghost use Rattle.tc_core.specs.Recovery.{recovered, first_events, IsRecoverFault, open_request};
-ghost use Rattle.transactions.specs.InFlight.{untold, site_at};
 
 use crate::book::Book;
-use crate::checking::CheckFault;
 use crate::procs::{LoadFault, Procs};
-use crate::recovery::{RecoverFault, SiteNote, spend};
-use access_slots::op::{News, Op, Reply, Wire};
+use crate::sites::site_at;
+use access_slots::op::{Op, Wire};
 use lock_table::table::Busy;
 use std::alloc::{AllocError, Global};
 use std::marker::Model;
@@ -182,9 +172,9 @@ pub struct Stranger2;
 /// The state of a transaction component.
 #[derive(Drop)]
 pub struct TcState {
-    alloc: Global,
-    procs: Procs,
-    book: Book,
+    pub(crate) alloc: Global,
+    pub(crate) procs: Procs,
+    pub(crate) book: Book,
 }
 
 impl Model for TcState {
@@ -208,8 +198,18 @@ impl TcState {
         ensures given_up { IfOk result (λ s. s.given_up ≡ []) }
         ensures sites { IfOk result (λ s. s.sites ≡ replicate dcs untold) }
     {
-        let procs = Procs::new(alloc, dcs);
-        let book = Book::new(alloc, dcs)?;
+        TcState::over(alloc, Procs::new(alloc, dcs))
+    }
+
+    /// For these procedures, and nothing has happened.
+    pub(crate) fn over(alloc: Global, procs: Procs) -> Result<TcState, AllocError>
+        ensures procs { IfOk result (λ s. loaded_in s ≡ procs) }
+        ensures events { IfOk result (λ s. s.events ≡ []) }
+        ensures given_up { IfOk result (λ s. s.given_up ≡ []) }
+        ensures sites { IfOk result (λ s. s.sites ≡ replicate procs.dcs untold) }
+    {
+        procs.known();
+        let book = Book::new(alloc, procs.dcs())?;
         Ok(TcState { alloc, procs, book })
     }
 
@@ -260,135 +260,36 @@ impl TcState {
         self.procs.dcs()
     }
 
-    /// Admits a call: it holds its locks, and has room for all that it may log, from now on.
-    #[inline(always)]
-    pub fn admit(&mut self, call: &Call) -> Result<TxnId, Refusal>
-        ensures ok { IfOk result (λ id. id.serial ≡ admitted self.old.events + 1) }
-        ensures state { IfOk result (λ id. self.new ≡ with_event self.old (Admit id.serial call.now.proc call.now.args.items)) }
-        ensures admitted { OnOk result (IsAdmissible self.old (call_of call.now)) }
-        ensures err { OnErr result (self.new ≡ self.old) }
-        ensures refused { IfErr result (IsRefused self.old (call_of call.now)) }
-    {
-        self.book.admit(self.alloc, &self.procs, call)
-    }
-
-    /// Whether other transactions stand in the way of a call, and all of them are in doubt or stuck.
-    /// No for a call whose procedure isn't there or takes another number of arguments.
-    pub fn blocked(&self, call: &Call) -> bool
-        ensures { IsTrue result ↔ IsBlocked self.now (call_of call.now) }
-    {
-        self.book.blocked(&self.procs, call)
-    }
-
     /// The open transaction with this serial number.
     pub fn find_txn(&self, serial: u64) -> Option<TxnId>
         ensures found { IfSome result (λ id. (id.serial ≡ serial) × IsSome (standing self.now.events serial)) }
         ensures absent { IfNone result (standing self.now.events serial ≡ None) }
     {
-        self.book.find_txn(&self.procs, serial)
+        match self.book.txns.find(serial) {
+            Some(_) => Some(TxnId { serial }),
+            None => None,
+        }
     }
 
     /// How many transactions are open.
     pub fn open_count(&self) -> usize
         ensures { result ≡ total each_one self.now.events }
     {
-        self.book.open_count(&self.procs)
-    }
-
-    /// Comes back from a log, if it is legal for the procedures loaded here, there is a note for each
-    /// data component, and nothing has happened here yet: what happened is the log, nothing is given
-    /// up, and of data components is known what was noted. Nobody holds a request:
-    /// [`TcState::request`] makes those that are open again.
-    pub fn recover(&mut self, log: &Log, notes: &[SiteNote]) -> Result<(), RecoverFault>
-        ensures begun { OnOk result (self.old.events ≡ []) }
-        ensures legal { OnOk result (Legal self.old.procs log.now.events) }
-        ensures count { OnOk result (length notes.now ≡ self.old.dcs) }
-        ensures ok { OnOk result (self.new ≡ recovered self.old log.now.events notes.now) }
-        ensures err { OnErr result (self.new ≡ self.old) }
-        ensures fault { IfErr result (IsRecoverFault self.old log.now.events (length notes.now)) }
-    {
-        if !self.book.log.is_empty() {
-            return Err(RecoverFault::Begun);
-        }
-        if notes.len() != usize::from(self.procs.dcs()) {
-            return Err(RecoverFault::DcCount);
-        }
-        match Book::recovered(self.alloc, &self.procs, log, log.len(), notes) {
-            Ok(book) => {
-                self.book = book;
-                Ok(())
-            }
-            Err(fault) => Err(RecoverFault::Unfit(fault)),
-        }
-    }
-
-    /// Crashes, and comes back from so many of the first events of its own log and from a note for each
-    /// data component, as [`TcState::recover`] does on a new state: what came later is forgotten, and
-    /// nothing is given up. The requests that were held are void, and are spent:
-    /// [`TcState::request`] makes those that are open again. Want of memory changes nothing.
-    pub fn crash(
-        &mut self,
-        events: usize,
-        notes: &[SiteNote],
-        requests: &mut Vec<Request>,
-    ) -> Result<(), AllocError>
-        requires events { events ≤ length self.old.events }
-        requires notes { length notes.now ≡ self.old.dcs }
-        ensures ok { OnOk result (self.new ≡ recovered self.old (first_events events self.old.events) notes.now) }
-        ensures spent { OnOk result (requests.new.items ≡ []) }
-        ensures err { OnErr result (self.new ≡ self.old) }
-        ensures held { OnErr result (requests.new.items ≡ requests.old.items) }
-        ensures room { vec_capacity requests.new ≡ vec_capacity requests.old }
-    {
-        match Book::recovered(self.alloc, &self.procs, &self.book.log, events, notes) {
-            Ok(book) => self.book = book,
-            Err(CheckFault::Memory) => return Err(AllocError),
-            Err(CheckFault::LogIllegal(_)) => unreachable!(),
-        }
-        spend(requests);
-        Ok(())
-    }
-
-    /// The request of the operation that an open transaction waits for, made again: for a state that
-    /// came back, whose requests nobody holds. Where one is held, either can be answered, and the other
-    /// is then a [`Stranger`]'s.
-    pub fn request(&self, txn: TxnId) -> Option<Request>
-        ensures request { result ≡ open_request self.now txn.serial }
-        ensures open_here { IfSome result (IsOpenHere self.now) }
-    {
-        self.book.request(&self.procs, txn.serial)
+        self.book.txns.len()
     }
 
     /// The serial number of the last admission, or 0: open transactions have those up to it.
     pub fn admitted(&self) -> u64
         ensures { result ≡ admitted self.now.events }
     {
-        self.book.admitted(&self.procs)
+        self.book.serials
     }
 
     /// What happened.
     pub fn log(&self) -> &Log
         ensures { result.now.events ≡ self.now.events }
     {
-        self.book.log()
-    }
-
-    /// Runs the transaction to its next operation or its end.
-    #[inline(always)]
-    pub fn ask(&mut self, txn: TxnId) -> Asked
-        ensures reply { result ≡ ask_reply self.old txn.serial }
-        ensures state { self.new ≡ after_ask self.old result }
-    {
-        self.book.ask(&self.procs, txn)
-    }
-
-    /// Gives what undoes the last write that stands, of a transaction that is to be undone.
-    #[inline(always)]
-    pub fn undo_next(&mut self, txn: TxnId) -> Asked
-        ensures reply { result ≡ undo_reply self.old txn.serial }
-        ensures state { self.new ≡ after_undo self.old result }
-    {
-        self.book.undo_next(&self.procs, txn)
+        &self.book.log
     }
 
     /// What is known of a data component: its incarnation, and whether it is down; of one that isn't
@@ -396,81 +297,6 @@ impl TcState {
     pub fn site(&self, dc: usize) -> Site
         ensures { result ≡ site_at self.now.sites dc }
     {
-        self.book.site(dc)
-    }
-
-    /// What is sent for a request now: its number and operation, the low-water mark of now and the
-    /// known incarnation of its data component. A resend makes it again. Nothing is sent while the
-    /// data component is down.
-    #[inline(always)]
-    pub fn wire(&self, request: &Request) -> Result<Wire, Down>
-        ensures { result ≡ wire_of self.now request.now }
-    {
-        self.book.wire(&self.procs, request)
-    }
-
-    /// Takes a reply in. One that isn't to the request, or isn't of the known incarnation, or comes
-    /// while the data component is down, changes nothing.
-    #[inline(always)]
-    pub fn answer(&mut self, request: Request, reply: Reply) -> Result<(), Stranger>
-        ensures accepted { IsOk result ↔ IsAnswer self.old request reply }
-        ensures ok { OnOk result (self.new ≡ after_answer self.old request reply.said) }
-        ensures err { OnErr result (self.new ≡ self.old) }
-        ensures back { IfErr result (λ stranger. stranger.request ≡ request) }
-    {
-        self.book.answer(&self.procs, request, reply)
-    }
-
-    /// A data component has restarted: it is down, also where it was down already, and what was done
-    /// there above the mark is to be redone.
-    pub fn told(&mut self, dc: u16, news: News) -> Result<(), NewsFault>
-        ensures taken { OnOk result (news_fault self.old dc news ≡ None) }
-        ensures ok { OnOk result (self.new ≡ after_told self.old dc news) }
-        ensures fault { IfErr result (λ f. news_fault self.old dc news ≡ Some f) }
-        ensures err { OnErr result (self.new ≡ self.old) }
-    {
-        self.book.told(&self.procs, dc, news)
-    }
-
-    /// What is sent to redo the next operation of a data component that is down, the same until it is
-    /// redone; where none is left the data component is up, and open requests are sent again.
-    #[inline(always)]
-    pub fn redo_next(&mut self, dc: u16) -> Redo
-        ensures reply { result ≡ redo_reply self.old dc }
-        ensures state { self.new ≡ after_redo self.old dc result }
-    {
-        self.book.redo_next(&self.procs, dc)
-    }
-
-    /// Takes a reply in that says of the operation under redo what was said to it before. Another
-    /// changes nothing.
-    pub fn redone(&mut self, dc: u16, reply: &Reply) -> Result<(), Stranger2>
-        ensures accepted { IsOk result ↔ IsRedone self.old dc reply.now }
-        ensures ok { OnOk result (self.new ≡ after_redone self.old dc reply.now.number) }
-        ensures err { OnErr result (self.new ≡ self.old) }
-    {
-        self.book.redone(&self.procs, dc, reply)
-    }
-
-    /// Gives a request up, and says its number. The operation stays open and the locks stay held. If
-    /// the request is open here, its transaction is in doubt from now on.
-    pub fn give_up(&mut self, request: Request) -> u64
-        ensures number { result ≡ request.number }
-        ensures events { self.new.events ≡ self.old.events }
-        ensures procs { self.new.procs ≡ self.old.procs }
-        ensures rest { self.new ≡ record self.old { given_up = self.new.given_up } }
-        ensures open_here { IsOpenHere self.old request → self.new ≡ with_given_up self.old request.number }
-        ensures elsewhere { (IsOpenHere self.old request → ⊥) → self.new ≡ self.old }
-    {
-        self.book.give_up(&self.procs, request)
-    }
-
-    /// Ends a transaction that is over, and releases its locks.
-    #[inline(always)]
-    pub fn end(&mut self, txn: TxnId) -> Result<Receipt, NotOver>
-        ensures reply { result ≡ end_reply self.old txn.serial (end_of self.old txn.serial) }
-        ensures state { self.new ≡ after_end self.old txn.serial (end_of self.old txn.serial) }
-    {
-        self.book.end(&self.procs, txn)
+        site_at(self.book.sites.as_slice(), dc)
     }
 }

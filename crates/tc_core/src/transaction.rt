@@ -17,7 +17,8 @@ ghost use Rattle.semantics.specs.Reach.{AreArguments};
 ghost use Rattle.transactions.specs.Legal.{first_undo};
 ghost use Rattle.transactions.specs.Next.{next_by};
 ghost use Rattle.transactions.specs.Next as Nexts;
-ghost use Rattle.tc_core.specs.Running.{Runs, MayResume, as_reached};
+ghost use Rattle.tc_core.specs.Running.{Runs, MayResume, as_reached, does};
+ghost use Rattle.tc_core.specs.Replies.{over_in};
 
 use crate::undos::Undos;
 use access_slots::lock::LockSet;
@@ -281,7 +282,29 @@ impl Tx {
     }
 }
 
+// How it ends that has nothing else to do.
+#[inline(always)]
+fn over(next: Next) -> Option<Outcome>
+    ensures { result ≡ over_in (Some next) }
+{
+    match next {
+        Next::Waits(_) => None,
+        Next::Asks(_) => None,
+        Next::Undoes(_) => None,
+        Next::Stuck(_) => None,
+        Next::Over(outcome) => Some(outcome),
+    }
+}
+
 impl Tx {
+    /// How it ends, if it may end.
+    #[inline(always)]
+    pub fn ending(&self) -> Option<Outcome>
+        ensures { result ≡ over_in (does self.now) }
+    {
+        over(self.next())
+    }
+
     /// Whether it waits for this number and operation.
     pub fn awaits(&self, number: u64, op: &Op) -> bool
         ensures { IsTrue result ↔ Awaits self.now number op.now }

@@ -1,4 +1,4 @@
--- Whether a log's next event is taken into a book.
+-- Whether a log's next event is taken in.
 use Rattle.std.specs.Prelude.{◌≡◌, ℕ, ◌==◌, if◌then◌else◌, List, Option, Some, None}
 use Rattle.access_slots.specs.declared.op.Op.{Op}
 use Rattle.tc_log.specs.declared.event.Event.{Event}
@@ -6,7 +6,9 @@ use Rattle.verifier.specs.Checked.{Checked}
 use Rattle.transactions.specs.declared.Sent.{Sent}
 use Rattle.transactions.specs.Legal.{Allowed}
 use Rattle.transactions.specs.Standing.{Standing}
-use Rattle.tc_core.specs.Core.{Asking}
+use Rattle.transactions.specs.declared.Site.{Site}
+use Rattle.transactions.specs.InFlight.{untold, site_at}
+use Rattle.tc_core.specs.Core.{Core, Asking}
 use Rattle.tc_core.specs.declared.state.Asked.{Asked}
 use Rattle.tc_core.specs.declared.state.Asked.TheVariants as reply
 use Rattle.tc_core.specs.declared.checking.Unlike.{Unlike}
@@ -39,3 +41,11 @@ awaited_in (Some s) n = awaited_by s.sent n
 abbrev pub IsUnlike : List Checked → List Event → Event → Unlike → Type 0
 IsUnlike ps h e Illegal = Allowed ps h e → ⊥
 IsUnlike ps h e Memory = Unit {0}
+
+-- nothing is told of any data component
+abbrev pub AreUntold : List Site → Type 0
+AreUntold sites = (d : ℕ) → site_at sites d ≡ untold
+
+-- the same state but for what happened
+abbrev pub IsFurther : Core → Core → Type 0
+IsFurther c c' = c' ≡ record c { events = c'.events }

@@ -18,36 +18,34 @@ use Rattle.tc_core.proofs.book.Book.enter.Goals as goal
 
 pub overflow_add-serial : goal.overflow_add-serial
 overflow_add-serial c =
-    let fit = c.requires.room.events_fit in
-    let serials = c.requires.book.kept.serials_are in
+    let fit = c.requires.1.room.events_fit in
+    let serials = c.requires.1.book.kept.serials_are in
     omega (arith, fit, serials, admitted-length c.args.self.now.log.events)
 
 pub claim-requires-clause-nothing : goal.claim-requires-clause-nothing
 claim-requires-clause-nothing c =
-    let k = c.requires.book.kept in
-    nothing_new c.args.procs.now.codes c.args.self.now.log.events (c.args.self.now.serials + 1) c.args.self.now.locks c.args.self.now.locks k.legal (ap (λ (n : ℕ). n + 1) k.serials_are) k.locks_are (λ t r. refl)
+    let k = c.requires.1.book.kept in
+    nothing_new c.requires.0 c.args.self.now.log.events (c.args.self.now.serials + 1) c.args.self.now.locks c.args.self.now.locks k.legal (ap (λ (n : ℕ). n + 1) k.serials_are) k.locks_are (λ t r. refl)
 
 pub claim-requires-clause-free : goal.claim-requires-clause-free
 claim-requires-clause-free c =
-    let m = c.requires in
-    let ps = c.args.procs.now.codes in
+    let m = c.requires.1 in
+    let ps = c.requires.0 in
     let call : Call = record { proc = c.args.proc; args = c.args.own.args } in
     free_same (held (decls ps) c.args.self.now.log.events) (held_by c.args.self.now.locks) (locks_of (decls ps) call) (mode_in c.args.own.locks)
     (λ t r. sym (m.book.kept.locks_are t r)) (λ r. sym (wanted_locks ps call c.args.code.now c.args.own.args c.args.own.locks m.called refl m.locks r)) m.free
 
 pub enter-requires-clause-other : goal.enter-requires-clause-other
 enter-requires-clause-other c = λ k ty at same.
-    let k' = c.requires.book.kept in
+    let k' = c.requires.1.book.kept in
     let o = k'.places.stands k ty at in
-    let late = open-serial c.args.procs.now.codes c.args.self.now.log.events k'.legal ty.serial o.s o.is in
+    let late = open-serial c.requires.0 c.args.self.now.log.events k'.legal ty.serial o.s o.is in
     let serials = k'.serials_are in
     absurd (omega (arith, late.1, same, serials))
 
 pub returns-clause-kept : goal.returns-clause-kept
-returns-clause-kept c =
-    let m = c.requires in
+returns-clause-kept c = λ ps m.
     let b = c.args.self.now in
-    let ps = c.args.procs.now.codes in
     let q = c.args.code.now in
     let p = c.args.proc in
     let args = c.args.own.args in

@@ -10,8 +10,7 @@ returns-in-Ok-clause-begun c = sym (ap (λ (x : Core). x.events) c.self.view_is)
 
 pub returns-in-Ok-clause-legal : goal.returns-in-Ok-clause-legal
 returns-in-Ok-clause-legal c =
-    subst (λ (x : Core). Legal x.procs c.args.log.now.events) c.self.view_is
-    (subst (λ (h : List Event). Legal c.self.inside.procs.codes h) (c.in-Ok.ensures.events ∙ all-first _ _ c.len.ensures) c.in-Ok.ensures.kept.kept.legal)
+    subst (λ (h : List Event). Legal c.args.self.now.procs h) (c.in-Ok.ensures.events ∙ all-first _ _ c.len.ensures) c.in-Ok.ensures.kept.kept.legal
 
 pub returns-in-Ok-clause-ok : goal.returns-in-Ok-clause-ok
 returns-in-Ok-clause-ok c =

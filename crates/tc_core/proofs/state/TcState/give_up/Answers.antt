@@ -1,0 +1,78 @@
+use Rattle.std.proofs.Common.{◌≡◌, true, false, arith, sym, ◌∙◌, subst}
+use Rattle.transactions.proofs.StandingLemmas.{none_some}
+use Rattle.tc_core.specs.Core.{Core, Asking}
+use Rattle.tc_core.specs.Kept.{core_of}
+use Rattle.tc_core.specs.GivingUp.{IsOpenHere}
+use Rattle.tc_core.proofs.MarkedLemmas.{kept-doubt, marked-doubt}
+use Rattle.tc_core.proofs.KeptLemmas.{places-absent, seen, Seen}
+use Rattle.tc_core.proofs.GivingUpLemmas.{open-awaits, awaits-open, open-number}
+use Rattle.tc_core.proofs.KeyLemmas.{serial-at}
+use Rattle.tc_core.proofs.state.TcState.give_up.Goals as goal
+
+pub returns-in_default-clause-open_here : goal.returns-in_default-clause-open_here
+returns-in_default-clause-open_here c = λ o.
+    let core : Core = core_of c.self.inside.procs c.self.inside.book in
+    let r : Asking = record { txn = c.request.inside.txn; number = c.request.inside.number; op = c.request.inside.op } in
+    let here : IsOpenHere core r = subst (λ (x : Asking). IsOpenHere core x) (sym c.request.view_is) (subst (λ (x : Core). IsOpenHere x c.args.request) (sym c.self.view_is) o) in
+    absurd (none_some _ here.s (places-absent _ _ _ c.self.invariant.0.kept.places _ c.in_default.ensures.absent) here.is)
+
+pub returns-then-not-awaits-clause-open_here : goal.returns-then-not-awaits-clause-open_here
+returns-then-not-awaits-clause-open_here c = λ o.
+    let core : Core = core_of c.self.inside.procs c.self.inside.book in
+    let r : Asking = record { txn = c.request.inside.txn; number = c.request.inside.number; op = c.request.inside.op } in
+    let tx = c.at.result.now in
+    let serial = serial-at _ _ _ tx c.in-Some.ensures.found c.at.ensures in
+    let w : Seen core.procs core.events r.txn tx = seen _ _ _ _ _ _ _ _ _ _ tx c.self.invariant.0.kept c.at.ensures serial in
+    let here : IsOpenHere core r = subst (λ (x : Asking). IsOpenHere core x) (sym c.request.view_is) (subst (λ (x : Core). IsOpenHere x c.args.request) (sym c.self.view_is) o) in
+    let bad : false ≡ true = sym c.if-not-awaits.true ∙ c.awaits.ensures.1 (open-awaits core r tx w here) in
+    absurd (cc)
+
+pub add-requires-clause-some : goal.add-requires-clause-some
+add-requires-clause-some c =
+    let core : Core = core_of c.self.inside.procs c.self.inside.book in
+    let r : Asking = record { txn = c.request.inside.txn; number = c.request.inside.number; op = c.request.inside.op } in
+    let tx = c.at.result.now in
+    let serial = serial-at _ _ _ tx c.in-Some.ensures.found c.at.ensures in
+    let w : Seen core.procs core.events r.txn tx = seen _ _ _ _ _ _ _ _ _ _ tx c.self.invariant.0.kept c.at.ensures serial in
+    let here = awaits-open core r tx w (c.awaits.ensures.0 c.if-not-awaits.false) in
+    (open-number core r c.self.invariant.0.kept.legal here).0
+
+pub add-requires-clause-inside : goal.add-requires-clause-inside
+add-requires-clause-inside c =
+    let core : Core = core_of c.self.inside.procs c.self.inside.book in
+    let r : Asking = record { txn = c.request.inside.txn; number = c.request.inside.number; op = c.request.inside.op } in
+    let tx = c.at.result.now in
+    let serial = serial-at _ _ _ tx c.in-Some.ensures.found c.at.ensures in
+    let w : Seen core.procs core.events r.txn tx = seen _ _ _ _ _ _ _ _ _ _ tx c.self.invariant.0.kept c.at.ensures serial in
+    let here = awaits-open core r tx w (c.awaits.ensures.0 c.if-not-awaits.false) in
+    let few = (open-number core r c.self.invariant.0.kept.legal here).1 in
+    omega (arith, few, c.self.invariant.0.most)
+
+pub returns-clause-elsewhere : goal.returns-clause-elsewhere
+returns-clause-elsewhere c = λ no.
+    let core : Core = core_of c.self.inside.procs c.self.inside.book in
+    let r : Asking = record { txn = c.request.inside.txn; number = c.request.inside.number; op = c.request.inside.op } in
+    let tx = c.at.result.now in
+    let serial = serial-at _ _ _ tx c.in-Some.ensures.found c.at.ensures in
+    let w : Seen core.procs core.events r.txn tx = seen _ _ _ _ _ _ _ _ _ _ tx c.self.invariant.0.kept c.at.ensures serial in
+    let here = awaits-open core r tx w (c.awaits.ensures.0 c.if-not-awaits.false) in
+    absurd (no (subst (λ (x : Core). IsOpenHere x c.args.request) c.self.view_is (subst (λ (x : Asking). IsOpenHere core x) c.request.view_is here)))
+
+pub invariant_of-self : goal.invariant_of-self
+invariant_of-self c =
+    let core : Core = core_of c.self.inside.procs c.self.inside.book in
+    let r : Asking = record { txn = c.request.inside.txn; number = c.request.inside.number; op = c.request.inside.op } in
+    let tx = c.at.result.now in
+    let serial = serial-at _ _ _ tx c.in-Some.ensures.found c.at.ensures in
+    let w : Seen core.procs core.events r.txn tx = seen _ _ _ _ _ _ _ _ _ _ tx c.self.invariant.0.kept c.at.ensures serial in
+    let a = c.awaits.ensures.0 c.if-not-awaits.false in
+    let few = (open-number core r c.self.invariant.0.kept.legal (awaits-open core r tx w a)).1 in
+    let up = c.doubt.ensures.updates tx c.at.ensures in (
+      record {
+        kept = kept-doubt _ _ _ _ _ _ _ _ _ _ tx c.self.invariant.0.kept c.at.ensures up c.doubt.ensures.len;
+        most = rw c.add.ensures.most c.self.invariant.0.most;
+        marked = rw c.add.ensures.numbers (marked-doubt core.procs _ _ _ _ _ _ tx a.r c.self.invariant.0.kept.legal c.self.invariant.0.kept.places c.self.invariant.0.marked c.at.ensures a.waits a.same_number few up);
+        starts = c.self.invariant.0.starts;
+      },
+      c.self.invariant.1,
+    )

@@ -1,0 +1,9 @@
+use Rattle.std.proofs.Common.{◌∙◌, ap, length}
+use Rattle.std.proofs.lemmas.List.{length-replicate}
+use Rattle.tc_core.proofs.state.TcState.over.Goals as goal
+
+pub invariant_of-result : goal.invariant_of-result
+invariant_of-result c = (
+  c.in_ok-book.ensures.kept _ c.known.ensures.good,
+  ap length c.in_ok-book.ensures.sites ∙ (length-replicate _ _ ∙ c.dcs.ensures),
+)
