@@ -1,5 +1,5 @@
 -- What is carried for a request.
-use Rattle.std.proofs.Common.{◌≡◌, ℕ, zero, suc, List, [], ◌∷◌, Option, Some, None, Result, Ok, Err, refl, sym, ◌∙◌, ap, subst}
+use Rattle.std.proofs.Common.{◌≡◌, ℕ, zero, suc, List, [], ◌∷◌, Option, Some, None, Ok, Err, refl, ◌∙◌, ap, subst}
 use Rattle.std.specs.Prelude.{slice_get, slice_set}
 use Rattle.access_slots.specs.Locks.{target}
 use Rattle.access_slots.specs.declared.op.Wire.{Wire}
@@ -10,7 +10,7 @@ use Rattle.transactions.specs.declared.Site.{Site}
 use Rattle.transactions.specs.InFlight.{site_by, site_of}
 use Rattle.tc_core.specs.Core.{Core, Asking}
 use Rattle.tc_core.specs.Lent.{wire_for, wire_by, wire_of}
-use Rattle.tc_core.specs.Redo.{redo_reply, redo_at, redo_by, sends_again, with_site, up_again, after_redo}
+use Rattle.tc_core.specs.Redo.{redo_reply, redo_at, redo_by, sends_again, up_again, after_redo}
 use Rattle.tc_core.specs.declared.state.Down.{Down}
 use Rattle.tc_core.specs.declared.state.Redo.{Redo}
 use Rattle.tc_core.specs.declared.state.Redo.TheVariants as redo
@@ -59,7 +59,7 @@ up_where_no_send old new r d reply own is after no_send =
 
 own_by : (c : Core) (r : Asking) (incarnation : ℕ) (o : Option Redoing) (w : Wire) → Ok w ≡ wire_by c r incarnation o → IsItsOwn r w
 own_by c r incarnation None w is =
-    (let same : w ≡ wire_for c r incarnation = cc in record { number = ap (λ (x : Wire). x.number) same; op = ap (λ (x : Wire). x.op) same })
+    (let same : w ≡ wire_for c r incarnation = cc in record { number = ap (λ (x : Wire). x.number) same; op = ap (λ (x : Wire). x.op) same; sent = ap (λ (x : Wire). x.redo) same })
 own_by c r incarnation (Some redo) w is = absurd cc
 
 pub own : (c : Core) (r : Asking) (w : Wire) → Ok w ≡ wire_of c r → IsItsOwn r w

@@ -1,29 +1,27 @@
 -- What an open transaction waits for was sent behind its admission, and one that is open has something to do next.
-use Rattle.std.proofs.Common.{◌≡◌, ◌≢◌, ◌⊎◌, ℕ, zero, suc, ◌+◌, ◌<◌, ◌≤◌, Bool, true, false, ◌||◌, ◌==◌, cond, nat_lt}
+use Rattle.std.proofs.Common.{◌≡◌, ℕ, ◌≤◌, Bool, true, false, ◌==◌, cond, nat_lt}
 use Rattle.std.proofs.Common.{List, [], ◌∷◌, ◌++◌, length, Option, Some, None, refl, sym, ◌∙◌, ap, subst, inl, inr}
 use Rattle.std.proofs.Common.{arith}
 use Rattle.std.proofs.lemmas.Bool.{cases_eq}
 use Rattle.std.proofs.lemmas.Bool.Decides.{nat_tests}
 use Rattle.access_slots.specs.declared.op.Op.{Op}
 use Rattle.access_slots.specs.declared.op.Said.{Said}
-use Rattle.access_slots.specs.declared.op.Said.TheVariants.{Value, Absent, Done, Duplicate, Missing, NoRoom, Old}
 use Rattle.tc_log.specs.declared.event.Event.{Event}
 use Rattle.tc_log.specs.declared.event.Event.TheVariants.{Admit, Ask, Answer, Undo, End}
 use Rattle.tc_log.specs.declared.event.Outcome.{Outcome}
 use Rattle.tc_log.specs.declared.event.Outcome.TheVariants as outcome
 use Rattle.history.specs.Calls.{Call, txn_of}
-use Rattle.history.specs.Places.{StandsAt}
 use Rattle.transactions.specs.declared.Sent.{Sent}
 use Rattle.transactions.specs.declared.Next.{Next}
 use Rattle.transactions.specs.declared.Next.TheVariants as next
-use Rattle.transactions.specs.Standing.{Standing, standing, moved, fresh, asked, undone, answered, tries_after, tries_done}
+use Rattle.transactions.specs.Standing.{Standing, standing, moved, fresh, asked, undone, answered, tries_after}
 use Rattle.transactions.specs.Reached.{Reached, Asks, Ends, Nowhere, reached}
 use Rattle.transactions.specs.Legal.{first_undo}
-use Rattle.transactions.specs.Next.{ends_or_undoes, runs_on, idles, next_by, next_of, next_in}
-use Rattle.transactions.proofs.StandingLemmas.{standing-same, standing-other, some_same, none_some}
+use Rattle.transactions.specs.Next.{ends_or_undoes, next_by, next_in}
+use Rattle.transactions.proofs.StandingLemmas.{standing-same, standing-other, none_some}
 use Rattle.tc_core.specs.Core.{Core}
 use Rattle.tc_core.specs.Replies.{next_at}
-use Rattle.std.proofs.Common.{length-append, Result, Ok, Err}
+use Rattle.std.proofs.Common.{length-append, Err}
 use Rattle.semantics.specs.Step.{Setting}
 use Rattle.semantics.specs.Reach.{Stop, Asked as AsksAt, Exited, Trapped, Unfinished, AreArguments, IsFineStop, reach}
 use Rattle.semantics.specs.Row.{plain_bases}

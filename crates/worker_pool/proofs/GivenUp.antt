@@ -3,7 +3,7 @@ use Rattle.std.proofs.Common.{◌≡◌, ◌⊎◌, ℕ, Bool, true, false, List
 use Rattle.std.proofs.lemmas.Bool.{cases_eq}
 use Rattle.request_numbers.specs.Given.{holds}
 use Rattle.tc_core.specs.Core.{Core, Asking}
-use Rattle.tc_core.specs.Doubts.{with_number_by, with_number}
+use Rattle.tc_core.specs.Doubts.{with_number_by}
 use Rattle.tc_core.specs.GivingUp.{IsOpenHere, with_given_up}
 use Rattle.worker_pool.specs.Answers.{BeginWith}
 

@@ -1,5 +1,5 @@
 -- Places in a history that grows.
-use Rattle.std.proofs.Common.{◌≡◌, ℕ, ◌+◌, ◌<◌, ◌≤◌, List, [], ◌∷◌, ◌++◌, ◌⊎◌, length, refl, sym, ◌∙◌, ap, inl, inr, arith, length-append}
+use Rattle.std.proofs.Common.{◌≡◌, ℕ, ◌<◌, ◌≤◌, List, [], ◌∷◌, ◌++◌, ◌⊎◌, length, refl, sym, ◌∙◌, ap, inl, inr, arith, length-append}
 use Rattle.tc_log.specs.declared.event.Event.{Event}
 use Rattle.history.specs.Places.{StandsAt, Begins}
 

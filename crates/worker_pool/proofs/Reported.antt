@@ -1,7 +1,6 @@
 -- The report of calls that all have an answer.
-use Rattle.std.proofs.Common.{◌≡◌, ℕ, ◌+◌, ◌<◌, ◌≤◌, List, [], ◌∷◌, Bool, zero, suc, length, map, refl, sym, ◌∙◌, ap}
-use Rattle.std.proofs.Common.{subst, Option, Some, None, arith, cond}
-use Rattle.std.proofs.lemmas.Option.{slice_get_within}
+use Rattle.std.proofs.Common.{◌≡◌, ℕ, List, [], ◌∷◌, zero, suc, length, map, refl, sym, ◌∙◌, ap}
+use Rattle.std.proofs.Common.{subst, Option, Some, arith, cond}
 use Rattle.std.proofs.lemmas.List.Sums.{sum_by-cons}
 use Rattle.std.specs.List.{slice_get, count_by}
 use Rattle.transactions.specs.Legal.{Legal}
@@ -12,11 +11,10 @@ use Rattle.worker_pool.specs.declared.answer.Answer.{Answer}
 use Rattle.worker_pool.specs.declared.answer.Progress.{Progress}
 use Rattle.worker_pool.specs.declared.answer.Progress.TheVariants.{Waiting, Begun, Answered}
 use Rattle.tc_core.specs.Admission.{call_of}
-use Rattle.worker_pool.specs.Answers.{place_of, has_place, AnswerFits}
-use Rattle.worker_pool.specs.Kept.{serial_of, txn_of, place_in, is_placed, Keeps}
+use Rattle.worker_pool.specs.Answers.{has_place, AnswerFits}
+use Rattle.worker_pool.specs.Kept.{serial_of, txn_of, is_placed, Keeps}
 use Rattle.worker_pool.specs.Joining.Seen.{told_by, AreToldBy}
-use Rattle.worker_pool.specs.Reports.{Reports, Tells}
-use Rattle.worker_pool.specs.Reports as reports
+use Rattle.worker_pool.specs.Reports.{Reports}
 
 -- an answer is that of a call which has one
 record IsToldBy (p : Progress) (a : Answer) : Type 0 where

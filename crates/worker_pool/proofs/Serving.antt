@@ -1,5 +1,5 @@
 -- A data component that is served: none, or one wire more.
-use Rattle.std.proofs.Common.{◌≡◌, ◌⊎◌, ℕ, ap, sym, ◌∙◌, inl, inr, List, [], ◌∷◌, ◌++◌, fold}
+use Rattle.std.proofs.Common.{◌≡◌, ℕ, ap, sym, ◌∙◌, inl, inr, [], ◌∷◌, ◌++◌}
 use Rattle.std.proofs.lemmas.Bool.{cases_eq}
 use Rattle.std.proofs.lemmas.List.Sums.{fold_push}
 use Rattle.std.proofs.lemmas.List.Elements.{All-append, All-cons, All-nil}

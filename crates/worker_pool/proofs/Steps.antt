@@ -1,5 +1,5 @@
 -- What the locked value keeps is kept by each step.
-use Rattle.std.proofs.Common.{◌≡◌, ◌≢◌, ℕ, zero, suc, ◌+◌, ◌*◌, ◌^◌, ◌<◌, ◌≤◌, List, [], ◌∷◌, ◌++◌, ◌⊎◌, Bool, true}
+use Rattle.std.proofs.Common.{◌≡◌, ◌≢◌, ℕ, zero, suc, ◌+◌, ◌≤◌, List, [], ◌∷◌, Bool, true}
 use Rattle.std.proofs.Common.{false, length, refl, sym, ◌∙◌, ap, subst, inl, inr, arith, Option, Some, None, cond}
 use Rattle.std.proofs.Common.{replicate, Result, Ok, Err}
 use Rattle.std.proofs.Math.ListN.{set}
@@ -15,14 +15,13 @@ use Rattle.tc_log.specs.declared.event.Outcome.TheVariants as outcome
 use Rattle.history.specs.Calls.{admitted}
 use Rattle.history.specs.Calls as named
 use Rattle.history.specs.Flight.{given}
-use Rattle.history.specs.Places.{StandsAt}
 use Rattle.verifier.specs.Checked.{Checked}
 use Rattle.access_slots.specs.declared.op.News.{News}
 use Rattle.transactions.specs.declared.Site.{Site}
-use Rattle.transactions.specs.Standing.{Standing, standing, moved}
+use Rattle.transactions.specs.Standing.{Standing, moved}
 use Rattle.transactions.proofs.StandingLemmas.{standing-same, standing-other}
 use Rattle.tc_core.specs.Core.{Core, Asking}
-use Rattle.tc_core.specs.Admission.{IsCalled, Takes, IsAdmissible}
+use Rattle.tc_core.specs.Admission.{IsCalled, Takes}
 use Rattle.tc_core.specs.Replies.{with_event, after_ask, after_undo, after_answer, end_reply, after_end}
 use Rattle.tc_core.specs.GivingUp.{IsOpenHere, with_given_up}
 use Rattle.tc_core.specs.Redo.{after_told, up_again, after_redo, redone_at, after_redone}
@@ -43,8 +42,8 @@ use Rattle.worker_pool.specs.declared.answer.Answer.TheVariants.{Committed, Abor
 use Rattle.worker_pool.specs.declared.answer.Progress.{Progress}
 use Rattle.worker_pool.specs.declared.answer.Progress.TheVariants.{Waiting, Begun, Answered}
 use Rattle.tc_core.specs.Admission.{call_of}
-use Rattle.worker_pool.specs.Answers.{place_of, has_place, is_some, answer_of, StandsBehind, IsAdmitted, Sends}
-use Rattle.worker_pool.specs.Answers.{IsEnded, IsInDoubt, RefusalFits, StaysBut, BeginWith, IsMoment, WasBlocked, AnswerFits}
+use Rattle.worker_pool.specs.Answers.{place_of, is_some, answer_of, StandsBehind, IsAdmitted}
+use Rattle.worker_pool.specs.Answers.{IsEnded, RefusalFits, StaysBut, BeginWith, IsMoment, AnswerFits}
 use Rattle.worker_pool.specs.Kept.{ends, serial_of, txn_of, place_in, is_placed, IsOpen, IsBegun, Fits, IsAdmittedFor, Keeps}
 use Rattle.worker_pool.specs.declared.desk.Due.{Due}
 use Rattle.worker_pool.specs.Joining.Seen.{IsAnswered, AnswersStay, IsDue}
@@ -620,15 +619,15 @@ stays_then old mid new first then k it = then k (first k it)
 
 moved_stays : (old new : List Progress) (k : ℕ) (n : Next) → MovesOn old new k n → AnswersStay old new
 moved_stays old new k next.Begun it = it
-moved_stays old new k (next.Carry sending) it = it
-moved_stays old new k (next.Unanswered sending) it = it
+moved_stays old new k next.Carry it = it
+moved_stays old new k next.Unanswered it = it
 moved_stays old new k next.Busy it = it
 moved_stays old new k (next.Over due) it = it.1
 
 moves_then : (old mid new : List Progress) (k : ℕ) (n : Next) → AnswersStay old mid → MovesOn mid new k n → MovesOn old new k n
 moves_then old mid new k next.Begun first it = stays_then old mid new first it
-moves_then old mid new k (next.Carry sending) first it = stays_then old mid new first it
-moves_then old mid new k (next.Unanswered sending) first it = stays_then old mid new first it
+moves_then old mid new k next.Carry first it = stays_then old mid new first it
+moves_then old mid new k next.Unanswered first it = stays_then old mid new first it
 moves_then old mid new k next.Busy first it = stays_then old mid new first it
 moves_then old mid new k (next.Over due) first it = (it.0, stays_then old mid new first it.1, it.2)
 

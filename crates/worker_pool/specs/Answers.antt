@@ -8,7 +8,6 @@ use Rattle.tc_log.specs.declared.event.Outcome.TheVariants as outcome
 use Rattle.history.specs.Calls.{Call, admitted, held, locks_of}
 use Rattle.history.specs.Flight.{given}
 use Rattle.history.specs.Places.{StandsAt, Begins}
-use Rattle.verifier.specs.Checked.{Checked}
 use Rattle.transactions.specs.Reached.{decls}
 use Rattle.lock_table.specs.declared.table.Busy.{Busy}
 use Rattle.tc_core.specs.Core.{Core}

@@ -1,5 +1,5 @@
 -- Which transactions are in doubt, and what one that is open is told.
-use Rattle.std.specs.Prelude.{◌≡◌, ℕ, Option, Some}
+use Rattle.std.specs.Prelude.{◌≡◌, ℕ, Some}
 use Rattle.transactions.specs.declared.Next.TheVariants as next
 use Rattle.tc_core.specs.Core.{Core}
 use Rattle.tc_core.specs.Replies.{next_at}

@@ -1,5 +1,5 @@
 -- What the locked value keeps of the calls, of the log and of the state handed in.
-use Rattle.std.specs.Prelude.{◌≡◌, ◌+◌, ◌<◌, ◌≤◌, ℕ, zero, suc, List, [], ◌∷◌, Bool, true, false, length, count_by, Option, Some, None, slice_get}
+use Rattle.std.specs.Prelude.{◌≡◌, ◌+◌, ◌<◌, ◌≤◌, ℕ, List, [], ◌∷◌, Bool, length, count_by, Option, Some, None, slice_get}
 use Rattle.tc_log.specs.declared.event.Event.{Event}
 use Rattle.tc_log.specs.declared.event.Event.TheVariants.{Admit, Ask, Answer as Answers, Undo, End}
 use Rattle.history.specs.Calls.{admitted}
@@ -10,7 +10,6 @@ use Rattle.tc_core.specs.Core.{Core}
 use Rattle.tc_core.specs.Admission.{call_of, Takes}
 use Rattle.tc_core.specs.declared.state.Call.{Call}
 use Rattle.tc_core.specs.declared.state.TxnId.{TxnId}
-use Rattle.worker_pool.specs.declared.answer.Answer.{Answer}
 use Rattle.worker_pool.specs.declared.answer.Progress.{Progress}
 use Rattle.worker_pool.specs.declared.answer.Progress.TheVariants.{Waiting, Begun, Answered}
 use Rattle.worker_pool.specs.Answers.{place_of, is_some, IsAdmitted, StaysBut, AnswerFits}

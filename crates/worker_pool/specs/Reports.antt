@@ -1,6 +1,5 @@
 -- What a report says of the calls, of the log and of the state handed in.
 use Rattle.std.specs.Prelude.{◌≡◌, ◌+◌, ◌≤◌, ℕ, List, length, count_by, Option, Some, slice_get}
-use Rattle.tc_log.specs.declared.event.Event.{Event}
 use Rattle.tc_log.specs.declared.event.Event.TheVariants.{Admit}
 use Rattle.history.specs.Places.{StandsAt, Begins}
 use Rattle.transactions.specs.Legal.{Legal}

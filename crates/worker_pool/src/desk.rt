@@ -1,7 +1,7 @@
 // What lies under the lock: the state, how far each call has come, and what of the log was handed over
 // to be kept.
 
-ghost use Rattle.std.specs.Prelude.{◌≡◌, ◌+◌, ◌<◌, ◌≤◌, ◌++◌, ◌∷◌, true, List, ℕ, [], length, drop, replicate, reverse, Some, None, slice_get, OnOk, OnErr, IfOk, IfErr, IfSome, IfNone, vec_capacity, map, false};
+ghost use Rattle.std.specs.Prelude.{◌≡◌, ◌+◌, ◌<◌, ◌≤◌, ◌++◌, ◌∷◌, true, List, ℕ, [], length, drop, replicate, reverse, Some, None, slice_get, OnOk, OnErr, IfOk, IfErr, IfSome, IfNone, IsSome, vec_capacity, map, false};
 ghost use Rattle.tc_core.specs.Core.{Core, Asking};
 ghost use Rattle.tc_core.specs.Replies.{ask_reply, after_ask, end_of};
 ghost use Rattle.tc_log.specs.declared.event.Outcome.{Outcome};
@@ -14,10 +14,8 @@ ghost use Rattle.worker_pool.specs.Joining.Seen.{IsAnswered, AreToldBy};
 
 use crate::answer::{Answer, Progress};
 use crate::batch::Batch;
-use crate::carried::Carried;
 use crate::handed::{Count, Handed};
 use crate::journal::NotKept;
-use crate::redos::Redos;
 use crate::report::Report;
 use crate::sending::Sending;
 use access_slots::op::{News, Reply, Wire};
@@ -91,9 +89,9 @@ pub enum Next {
     /// It was admitted: the gate is told.
     Begun,
     /// A wire is to be carried.
-    Carry(Sending),
+    Carry,
     /// Nothing came back that answers what was carried: the link is asked for news.
-    Unanswered(Sending),
+    Unanswered,
     /// A transaction stands in its way: one that leaves is waited for.
     Busy,
     /// Its answer stands, and is due.
@@ -129,7 +127,7 @@ impl<J: Naming> Model for Desk<J> {
 }
 
 impl<J: Naming> Desk<J> {
-    ghost use Rattle.worker_pool.specs.Joining.Moves.{MovesOn};
+    ghost use Rattle.worker_pool.specs.Joining.Moves.{MovesOn, IsHeldBy};
     ghost use Rattle.worker_pool.specs.Joining.Seen.{IsAnswered, AnswersStay, IsDue};
     ghost use Rattle.worker_pool.specs.Joining.Handing.{events_of};
     ghost use Rattle.worker_pool.specs.Journals.{HasGoneOn};
@@ -242,7 +240,8 @@ impl<J: Naming> Desk<J> {
     fn begin(&mut self, k: usize, call: &Call) -> Next
         requires call { slice_get J.calls k ≡ Some call.now }
         requires waits { slice_get self.old.progress k ≡ Some Progress.Waiting }
-        ensures { MovesOn self.old.progress self.new.progress k result }
+        ensures moves { MovesOn self.old.progress self.new.progress k result }
+        ensures none { IsHeldBy result None }
     {
         match self.admit(k, call) {
             Ok(()) => Next::Begun,
@@ -305,38 +304,55 @@ impl<J: Naming> Desk<J> {
         }
     }
 
-    // What is carried for a request that may be sent so many more times: what is to be redone first, or
-    // its own operation.
+    // What is carried for a request next: its own operation, unless something is to be redone first.
     #[inline(always)]
-    fn carry(&mut self, request: Request, left: u64, redos: Redos) -> Sending
-        ensures { self.new.progress ≡ self.old.progress }
+    fn carry(&mut self, request: Request, sending: &mut Sending)
+        requires { sending.old.request ≡ None }
+        ensures held { IsSome sending.new.request }
+        ensures same { self.new.progress ≡ self.old.progress }
     {
-        let wire = match self.own_wire(&request) {
-            Some(wire) => wire,
-            None => match self.to_redo(&request) {
-                Some(wire) => return Sending::redo(request, wire, left, redos.sent(&wire)),
-                None => self.wire(&request),
-            },
-        };
-        Sending::own(request, wire, left.saturating_sub(1), redos)
+        match self.own_wire(&request) {
+            Some(wire) => sending.own(request, wire),
+            None => self.carry_behind_redo(request, sending),
+        }
+    }
+
+    // The same where the request's data component was down.
+    fn carry_behind_redo(&mut self, request: Request, sending: &mut Sending)
+        requires { sending.old.request ≡ None }
+        ensures held { IsSome sending.new.request }
+        ensures same { self.new.progress ≡ self.old.progress }
+    {
+        match self.to_redo(&request) {
+            Some(wire) => sending.redo(request, wire),
+            None => {
+                let wire = self.wire(&request);
+                sending.own(request, wire);
+            }
+        }
     }
 
     // A request is sent for the first time.
     #[inline(always)]
-    fn send(&mut self, request: Request) -> Sending
-        ensures { self.new.progress ≡ self.old.progress }
+    fn send(&mut self, request: Request, sending: &mut Sending)
+        requires { sending.old.request ≡ None }
+        ensures held { IsSome sending.new.request }
+        ensures same { self.new.progress ≡ self.old.progress }
     {
-        self.carry(request, self.tries, Redos::new(self.tries))
+        sending.begin(self.tries);
+        self.carry(request, sending);
     }
 
     // What undoes the last write that stands, of a transaction that is to be undone.
-    fn undo(&mut self, txn: TxnId) -> Sending
+    fn undo(&mut self, txn: TxnId, sending: &mut Sending)
         requires undoing { ask_reply self.old.state txn.serial ≡ Asked.Undoing }
-        ensures { self.new.progress ≡ self.old.progress }
+        requires none { sending.old.request ≡ None }
+        ensures held { IsSome sending.new.request }
+        ensures same { self.new.progress ≡ self.old.progress }
     {
         self.touched = true;
         match self.state.undo_next(txn) {
-            Asked::Request(request) => self.send(request),
+            Asked::Request(request) => self.send(request, sending),
             Asked::Undoing | Asked::Over | Asked::Running | Asked::Unknown => unreachable!(),
             Asked::Stuck(_) | Asked::Waits(_) => unreachable!(),
         }
@@ -376,14 +392,22 @@ impl<J: Naming> Desk<J> {
 
     // A transaction that was begun goes on.
     #[inline(always)]
-    fn go_on(&mut self, k: usize, call: &Call, txn: TxnId) -> Next
+    fn go_on(&mut self, k: usize, call: &Call, txn: TxnId, sending: &mut Sending) -> Next
         requires call { slice_get J.calls k ≡ Some call.now }
         requires begun { slice_get self.old.progress k ≡ Some (Progress.Begun txn) }
-        ensures { MovesOn self.old.progress self.new.progress k result }
+        requires none { sending.old.request ≡ None }
+        ensures moves { MovesOn self.old.progress self.new.progress k result }
+        ensures held { IsHeldBy result sending.new.request }
     {
         match self.ask(k, call, txn) {
-            Asked::Request(request) => Next::Carry(self.send(request)),
-            Asked::Undoing => Next::Carry(self.undo(txn)),
+            Asked::Request(request) => {
+                self.send(request, sending);
+                Next::Carry
+            }
+            Asked::Undoing => {
+                self.undo(txn, sending);
+                Next::Carry
+            }
             Asked::Over => Next::Over(self.end(k, call, txn)),
             Asked::Stuck(number) => Next::Over(self.doubt(k, call, txn, number)),
             Asked::Waits(number) => Next::Over(self.doubt(k, call, txn, number)),
@@ -400,14 +424,17 @@ impl<J: Naming> Desk<J> {
         self.progress[k]
     }
 
-    /// The next step of a call, whatever was done for it before.
-    pub fn advance(&mut self, k: usize, call: &Call) -> Next
-        requires { slice_get J.calls k ≡ Some call.now }
-        ensures { MovesOn self.old.progress self.new.progress k result }
+    /// The next step of a call, whatever was done for it before. What is to be carried is written into
+    /// `sending`, where nothing is on its way.
+    pub fn advance(&mut self, k: usize, call: &Call, sending: &mut Sending) -> Next
+        requires call { slice_get J.calls k ≡ Some call.now }
+        requires none { sending.old.request ≡ None }
+        ensures moves { MovesOn self.old.progress self.new.progress k result }
+        ensures held { IsHeldBy result sending.new.request }
     {
         match self.progress_of(k, call) {
             Progress::Waiting => self.begin(k, call),
-            Progress::Begun(txn) => self.go_on(k, call, txn),
+            Progress::Begun(txn) => self.go_on(k, call, txn, sending),
             Progress::Answered(answer, _) => Next::Over(due_for(k, answer)),
         }
     }
@@ -430,18 +457,27 @@ impl<J: Naming> Desk<J> {
         let _number = self.state.give_up(request);
     }
 
-    /// Gives up the request for which something is on its way, without going on with its call.
-    pub fn abandon(&mut self, sending: Sending) {
-        self.give_up(sending.into_request());
+    /// Gives up the request for which something is on its way, if anything is, without going on with its
+    /// call.
+    #[inline(always)]
+    pub fn abandon(&mut self, sending: Sending)
+        ensures { self.new.progress ≡ self.old.progress }
+    {
+        if let Some(request) = sending.into_request() {
+            self.give_up(request);
+        }
     }
 
     // Gives a request up, and goes on with its call.
-    fn go_on_without(&mut self, k: usize, call: &Call, request: Request) -> Next
-        requires { slice_get J.calls k ≡ Some call.now }
-        ensures { MovesOn self.old.progress self.new.progress k result }
+    fn go_on_without(&mut self, k: usize, call: &Call, sending: &mut Sending) -> Next
+        requires call { slice_get J.calls k ≡ Some call.now }
+        ensures moves { MovesOn self.old.progress self.new.progress k result }
+        ensures held { IsHeldBy result sending.new.request }
     {
-        self.give_up(request);
-        self.advance(k, call)
+        if let Some(request) = sending.take() {
+            self.give_up(request);
+        }
+        self.advance(k, call, sending)
     }
 
     // Takes in that an operation is redone.
@@ -463,67 +499,53 @@ impl<J: Naming> Desk<J> {
     /// Takes in what came back for what was carried. The call goes on where that answers it; a stranger
     /// counts as no answer.
     #[inline(always)]
-    pub fn hear(&mut self, k: usize, call: &Call, sending: Sending, reply: Reply) -> Next
-        requires { slice_get J.calls k ≡ Some call.now }
-        ensures { MovesOn self.old.progress self.new.progress k result }
+    pub fn hear(&mut self, k: usize, call: &Call, sending: &mut Sending, reply: &Reply) -> Next
+        requires call { slice_get J.calls k ≡ Some call.now }
+        ensures moves { MovesOn self.old.progress self.new.progress k result }
+        ensures held { IsHeldBy result sending.new.request }
     {
-        match sending.carried {
-            Carried::Own(_) => self.hear_own(k, call, sending, reply),
-            Carried::Redo(_) => self.hear_redo(k, call, sending, reply),
+        if sending.wire().redo {
+            return self.hear_redo(k, call, sending, reply);
         }
-    }
-
-    // The same for a request's own operation.
-    #[inline(always)]
-    fn hear_own(&mut self, k: usize, call: &Call, sending: Sending, reply: Reply) -> Next
-        requires { slice_get J.calls k ≡ Some call.now }
-        ensures { MovesOn self.old.progress self.new.progress k result }
-    {
-        let Sending {
-            request,
-            carried,
-            left,
-            redos,
-        } = sending;
-        match self.answer(request, reply) {
-            Ok(()) => self.advance(k, call),
-            Err(Stranger { request }) => Next::Unanswered(Sending {
-                request,
-                carried,
-                left,
-                redos,
-            }),
+        let Some(request) = sending.take() else {
+            return self.advance(k, call, sending);
+        };
+        match self.answer(request, *reply) {
+            Ok(()) => self.advance(k, call, sending),
+            Err(Stranger { request }) => {
+                sending.put_back(request);
+                Next::Unanswered
+            }
         }
     }
 
     // The same for what is redone.
-    fn hear_redo(&mut self, k: usize, call: &Call, sending: Sending, reply: Reply) -> Next
-        requires { slice_get J.calls k ≡ Some call.now }
-        ensures { MovesOn self.old.progress self.new.progress k result }
+    fn hear_redo(&mut self, k: usize, call: &Call, sending: &mut Sending, reply: &Reply) -> Next
+        requires call { slice_get J.calls k ≡ Some call.now }
+        ensures moves { MovesOn self.old.progress self.new.progress k result }
+        ensures held { IsHeldBy result sending.new.request }
     {
-        if self.redone(sending.dc(), &reply).is_err() {
-            return Next::Unanswered(sending);
+        if sending.is_held() && self.redone(sending.dc(), reply).is_err() {
+            return Next::Unanswered;
         }
         self.carry_on(k, call, sending)
     }
 
     // What is carried for a request next. Where what is to be redone first was sent as often as it may
     // be, the request is given up.
-    fn carry_on(&mut self, k: usize, call: &Call, sending: Sending) -> Next
-        requires { slice_get J.calls k ≡ Some call.now }
-        ensures { MovesOn self.old.progress self.new.progress k result }
+    fn carry_on(&mut self, k: usize, call: &Call, sending: &mut Sending) -> Next
+        requires call { slice_get J.calls k ≡ Some call.now }
+        ensures moves { MovesOn self.old.progress self.new.progress k result }
+        ensures held { IsHeldBy result sending.new.request }
     {
-        let Sending {
-            request,
-            carried: _,
-            left,
-            redos,
-        } = sending;
-        let sending = self.carry(request, left, redos);
+        let Some(request) = sending.take() else {
+            return self.advance(k, call, sending);
+        };
+        self.carry(request, sending);
         if sending.is_spent() {
-            return self.go_on_without(k, call, sending.into_request());
+            return self.go_on_without(k, call, sending);
         }
-        Next::Carry(sending)
+        Next::Carry
     }
 
     /// Goes on where nothing came back that answers what was carried, with the news that the link has. A
@@ -532,17 +554,18 @@ impl<J: Naming> Desk<J> {
         &mut self,
         k: usize,
         call: &Call,
-        sending: Sending,
+        sending: &mut Sending,
         news: Option<News>,
     ) -> Next
-        requires { slice_get J.calls k ≡ Some call.now }
-        ensures { MovesOn self.old.progress self.new.progress k result }
+        requires call { slice_get J.calls k ≡ Some call.now }
+        ensures moves { MovesOn self.old.progress self.new.progress k result }
+        ensures held { IsHeldBy result sending.new.request }
     {
         if let Some(news) = news {
             self.told(sending.dc(), news);
         }
-        if sending.left == 0 && matches!(sending.carried, Carried::Own(_)) {
-            return self.go_on_without(k, call, sending.into_request());
+        if sending.is_last() {
+            return self.go_on_without(k, call, sending);
         }
         self.carry_on(k, call, sending)
     }

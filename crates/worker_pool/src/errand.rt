@@ -1,12 +1,12 @@
 //! A wire on its way, as links see it.
 
 ghost use Rattle.std.specs.Prelude.{◌≡◌, true, Some, None, IfSome, IsSome};
-ghost use Rattle.worker_pool.specs.Wires.{wire_in};
 
 use crate::sending::Sending;
 use access_slots::op::{News, Reply, Wire};
 
-/// A call's wire on its way to a data component, and what came back for it.
+/// A call's wire on its way to a data component, and what came back for it. It stays in its place from the
+/// call's first question to its answer.
 pub struct Errand {
     pub(crate) call: usize,
     // Whether the call was admitted, and the gate isn't told of it yet.
@@ -20,16 +20,17 @@ pub struct Errand {
 }
 
 impl Errand {
-    // The call's wire is to be carried, unless it was carried before.
+    // Nothing is on its way for the call.
     #[inline(always)]
-    pub(crate) fn new(call: usize, is_begun: bool, sending: Sending, is_carried: bool) -> Errand
-        ensures { result.call ≡ call }
+    pub(crate) fn new(call: usize) -> Errand
+        ensures call { result.call ≡ call }
+        ensures none { result.sending.request ≡ None }
     {
         Errand {
             call,
-            is_begun,
-            sending,
-            is_carried,
+            is_begun: false,
+            sending: Sending::none(),
+            is_carried: false,
             reply: None,
             news: None,
         }
@@ -38,7 +39,7 @@ impl Errand {
     /// The wire, where it is to be carried: nothing came back for it.
     #[inline(always)]
     pub fn wire(&self) -> Option<&Wire>
-        ensures wire { IfSome result (λ wire. wire.now ≡ wire_in self.now.sending.carried) }
+        ensures wire { IfSome result (λ wire. wire.now ≡ self.now.sending.wire) }
         ensures brought { IsSome self.now.reply → result ≡ None }
     {
         if self.is_carried || self.reply.is_some() {

@@ -1,22 +1,19 @@
 // The calls that a worker has on their way.
 
-ghost use Rattle.std.specs.Prelude.{◌≡◌, ◌+◌, ◌<◌, ◌≤◌, Some, IfSome, slice_get, vec_len, vec_capacity};
+ghost use Rattle.std.specs.Prelude.{◌≡◌, ◌+◌, ◌<◌, ◌≤◌, Some, None, IfSome, slice_get, vec_len, vec_capacity};
 
 use crate::desk::{Desk, Due, Naming, Next};
 use crate::errand::Errand;
 use crate::pool::{Gate, Link};
 use std::alloc::{AllocError, Global};
 use std::marker::Model;
-use std::mem;
 use std::sync::Wait;
 use tc_core::state::Call;
 
 /// The calls that a worker has on their way, so many at most.
 pub struct Errands {
-    // Those whose wires are carried next.
+    // Those whose wires are carried next, each in its place until it is over.
     away: Vec<Errand>,
-    // Those that were carried, until the desk hears what came of it.
-    back: Vec<Errand>,
     // Answers that stand, and are due.
     over: Vec<Due>,
     // A call with another transaction in its way.
@@ -29,64 +26,51 @@ impl Model for Errands {
 
     ghost Value = { ℕ };
 
-    ghost view = { λ e. vec_len e.away + vec_len e.back + vec_len e.over };
+    ghost view = { λ e. vec_len e.away + vec_len e.over };
 
-    ghost invariant = { λ e. (vec_len e.away + vec_len e.back + vec_len e.over ≤ e.most) × (e.most ≤ vec_capacity e.away) × (e.most ≤ vec_capacity e.back) × (e.most ≤ vec_capacity e.over) };
-}
-
-// What a step of a call leads to.
-enum Step {
-    // Something is on its way for it.
-    Away(Errand),
-    // Its answer stands, and is due.
-    Over(Due),
-    // A transaction stands in its way.
-    Waits,
-}
-
-// What is to be done next for a call of which the gate may have to be told.
-#[inline(always)]
-fn step_of(call: usize, is_begun: bool, next: Next) -> Step {
-    match next {
-        Next::Carry(sending) => Step::Away(Errand::new(call, is_begun, sending, false)),
-        Next::Unanswered(sending) => Step::Away(Errand::new(call, is_begun, sending, true)),
-        Next::Over(due) => Step::Over(due),
-        Next::Begun | Next::Busy => Step::Waits,
-    }
+    ghost invariant = { λ e. (vec_len e.away + vec_len e.over ≤ e.most) × (e.most ≤ vec_capacity e.away) × (e.most ≤ vec_capacity e.over) };
 }
 
 // The first steps of a call: one that is admitted goes on at once.
 #[inline(always)]
-fn begin<J: Naming>(desk: &mut Desk<J>, k: usize, call: &Call) -> Step
-    requires { slice_get J.calls k ≡ Some call.now }
+fn begin<J: Naming>(desk: &mut Desk<J>, call: &Call, errand: &mut Errand) -> Next
+    requires call { slice_get J.calls errand.old.call ≡ Some call.now }
+    requires none { errand.old.sending.request ≡ None }
 {
-    match desk.advance(k, call) {
-        Next::Begun => step_of(k, true, desk.advance(k, call)),
-        next => step_of(k, false, next),
+    match desk.advance(errand.call, call, &mut errand.sending) {
+        Next::Begun => {
+            errand.is_begun = true;
+            desk.advance(errand.call, call, &mut errand.sending)
+        }
+        next => next,
     }
 }
 
 // The step of a call that what came back leads to, or that nothing did.
 #[inline(always)]
-fn go_on<J: Naming>(desk: &mut Desk<J>, call: &Call, errand: Errand) -> Step
-    requires { slice_get J.calls errand.call ≡ Some call.now }
+fn go_on<J: Naming>(desk: &mut Desk<J>, call: &Call, errand: &mut Errand) -> Next
+    requires { slice_get J.calls errand.old.call ≡ Some call.now }
 {
-    let Errand {
-        call: k,
-        is_begun,
-        sending,
-        is_carried: _,
-        reply,
-        news,
-    } = errand;
-    let next = match reply {
-        Some(reply) => desk.hear(k, call, sending, reply),
-        None => desk.go_on_unanswered(k, call, sending, news),
+    let next = match &errand.reply {
+        Some(reply) => desk.hear(errand.call, call, &mut errand.sending, reply),
+        None => desk.go_on_unanswered(errand.call, call, &mut errand.sending, errand.news),
     };
-    step_of(k, is_begun, next)
+    errand.reply = None;
+    next
 }
 
-// Gives an errand's request up, without going on with its call.
+// The next step of an errand's call, which is one of these.
+#[inline(always)]
+fn step<J: Naming>(desk: &mut Desk<J>, calls: &[Call], errand: &mut Errand) -> Next
+    requires { calls.now ≡ J.calls }
+{
+    match calls.get(errand.call) {
+        Some(call) => go_on(desk, call, errand),
+        None => Next::Busy,
+    }
+}
+
+// Gives an errand's request up, if it has one, without going on with its call.
 fn abandon<J: Naming>(desk: &mut Desk<J>, errand: Errand) {
     let Errand {
         call: _,
@@ -124,21 +108,36 @@ fn next_call<J: Naming>(waiting: &mut Option<usize>, desk: &mut Desk<J>) -> Opti
     }
 }
 
-// Puts what a step leads to where it belongs, of which there has to be room; or says that the call waits.
+// What becomes of an errand behind a step of its call: whether its call has to wait. One that is over
+// leaves its place.
 #[inline(always)]
-fn put(away: &mut Vec<Errand>, over: &mut Vec<Due>, step: Step) -> bool
-    requires away { vec_len away.old < vec_capacity away.old }
-    requires over { vec_len over.old < vec_capacity over.old }
-    ensures one { vec_len away.new + vec_len over.new ≤ vec_len away.old + vec_len over.old + 1 }
+fn settle<J: Naming>(
+    away: &mut Vec<Errand>,
+    over: &mut Vec<Due>,
+    desk: &mut Desk<J>,
+    at: usize,
+    next: Next,
+) -> bool
+    requires there { at < vec_len away.old }
+    requires room { vec_len over.old < vec_capacity over.old }
+    ensures one { vec_len away.new + vec_len over.new ≤ vec_len away.old + vec_len over.old }
+    ensures left { at ≤ vec_len away.new }
     ensures away { vec_capacity away.new ≡ vec_capacity away.old }
     ensures over { vec_capacity over.new ≡ vec_capacity over.old }
 {
-    match step {
-        Step::Away(errand) => away.push_reserved(errand),
-        Step::Over(due) => over.push_reserved(due),
-        Step::Waits => return false,
+    match next {
+        Next::Carry => away[at].is_carried = false,
+        Next::Unanswered => away[at].is_carried = true,
+        Next::Over(due) => {
+            over.push_reserved(due);
+            abandon(desk, away.swap_remove(at));
+        }
+        Next::Begun | Next::Busy => {
+            abandon(desk, away.swap_remove(at));
+            return true;
+        }
     }
-    true
+    false
 }
 
 impl Errands {
@@ -148,7 +147,6 @@ impl Errands {
     {
         Errands {
             away: Vec::new(alloc),
-            back: Vec::new(alloc),
             over: Vec::new(alloc),
             waiting: None,
             most: 0,
@@ -160,7 +158,6 @@ impl Errands {
         requires { self.old ≤ most }
     {
         self.away.reserve(most)?;
-        self.back.reserve(most)?;
         self.over.reserve(most)?;
         self.most = most;
         Ok(())
@@ -171,15 +168,13 @@ impl Errands {
     pub fn hear<J: Naming>(&mut self, desk: &mut Desk<J>, calls: &[Call])
         requires { calls.now ≡ J.calls }
     {
-        mem::swap(&mut self.away, &mut self.back);
-        while let Some(errand) = self.back.pop() {
+        let mut at = self.away.len();
+        'errands: while at > 0 {
+            at -= 1;
+            let errand = &mut self.away[at];
             let k = errand.call;
-            let Some(call) = calls.get(k) else {
-                abandon(desk, errand);
-                continue;
-            };
-            let step = go_on(desk, call, errand);
-            if !put(&mut self.away, &mut self.over, step) {
+            let next = step(desk, calls, errand);
+            if settle(&mut self.away, &mut self.over, desk, at, next) {
                 self.waiting = Some(k);
             }
         }
@@ -190,7 +185,7 @@ impl Errands {
         requires { calls.now ≡ J.calls }
     {
         'taking: for _ in 0..self.most {
-            if self.away.len() + self.back.len() + self.over.len() >= self.most {
+            if self.away.len() + self.over.len() >= self.most {
                 return;
             }
             let Some(k) = next_call(&mut self.waiting, desk) else {
@@ -199,8 +194,11 @@ impl Errands {
             let Some(call) = calls.get(k) else {
                 return;
             };
-            let step = begin(desk, k, call);
-            if !put(&mut self.away, &mut self.over, step) {
+            let mut errand = Errand::new(k);
+            let next = begin(desk, call, &mut errand);
+            let at = self.away.len();
+            self.away.push_reserved(errand);
+            if settle(&mut self.away, &mut self.over, desk, at, next) {
                 self.waiting = Some(k);
                 return;
             }
@@ -253,13 +251,11 @@ impl Errands {
     pub fn close<J: Naming>(self, desk: &mut Desk<J>) {
         let Errands {
             away,
-            back,
             over,
             waiting: _,
             most: _,
         } = self;
         abandon_all(desk, away);
-        abandon_all(desk, back);
         forget_all(over);
     }
 }

@@ -26,7 +26,6 @@
 
 mod answer;
 mod batch;
-mod carried;
 mod desk;
 mod errand;
 mod errands;

@@ -18,6 +18,7 @@ use crate::handed::Opened;
 use crate::journal::{Journal, NoJournal};
 use crate::keeper::{Keeper, Keeping, Stopped};
 use crate::report::Report;
+use crate::sending::Sending;
 use crate::waiting::acquire;
 use access_slots::op::{News, Reply, Wire};
 use std::alloc::{AllocError, Global};
@@ -152,27 +153,29 @@ fn finish<J: Naming, K: Journal, R: Wait, L: Link, G: Gate>(
     requires { slice_get J.calls k ≡ Some call.now }
     ensures { IsAnswered desk.new.progress k × AnswersStay desk.old.progress desk.new.progress }
 {
-    let mut next = desk.advance(k, call);
+    let mut sending = Sending::none();
+    let mut next = desk.advance(k, call, &mut sending);
     for _ in rt.forever() {
         next = match next {
-            Next::Over(due) => return conclude_alone(desk, due, worker.gate, keeper),
+            Next::Over(due) => {
+                desk.abandon(sending);
+                return conclude_alone(desk, due, worker.gate, keeper);
+            }
             Next::Begun => {
                 worker.gate.begun(k);
-                desk.advance(k, call)
+                desk.advance(k, call, &mut sending)
             }
             Next::Busy => {
                 thread::yield_now();
-                desk.advance(k, call)
+                desk.advance(k, call, &mut sending)
             }
-            Next::Carry(sending) => {
-                match worker.link.carry(rt, worker.number, sending.wire()) {
-                    Some(reply) => desk.hear(k, call, sending, reply),
-                    None => Next::Unanswered(sending),
-                }
-            }
-            Next::Unanswered(sending) => {
+            Next::Carry => match worker.link.carry(rt, worker.number, sending.wire()) {
+                Some(reply) => desk.hear(k, call, &mut sending, &reply),
+                None => Next::Unanswered,
+            },
+            Next::Unanswered => {
                 let news = worker.link.news(rt, worker.number, sending.dc());
-                desk.go_on_unanswered(k, call, sending, news)
+                desk.go_on_unanswered(k, call, &mut sending, news)
             }
         };
     }

@@ -1,4 +1,4 @@
-use Rattle.std.proofs.Common.{◌∙◌, subst}
+use Rattle.std.proofs.Common.{subst}
 use Rattle.worker_pool.specs.declared.pool.Ran.{Ran}
 use Rattle.worker_pool.specs.Joining.Handing.{events_of}
 use Rattle.worker_pool.specs.Joining.Ran.{RanFits, RanKeeps}

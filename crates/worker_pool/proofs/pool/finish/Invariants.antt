@@ -1,5 +1,5 @@
-use Rattle.worker_pool.specs.Joining.Moves.{MovesOn}
+use Rattle.worker_pool.specs.Joining.Moves.{MovesOn, IsHeldBy}
 use Rattle.worker_pool.proofs.pool.finish.Given as goal
 
 abbrev pub invariant-loop : goal.invariant-loop
-invariant-loop g l = MovesOn l.fn.desk.progress l.desk.progress l.k l.next
+invariant-loop g l = MovesOn l.fn.desk.progress l.desk.progress l.k l.next × IsHeldBy l.next l.sending.request

@@ -1,8 +1,8 @@
 use Rattle.std.proofs.Common.{◌≤◌, ◌+◌, vec_len, vec_capacity}
 use Rattle.worker_pool.proofs.errands.Errands.hear.Given as goal
 
-abbrev pub invariant-loop-errand : goal.invariant-loop-errand
-invariant-loop-errand g l = (vec_len l.self-inside.away + vec_len l.self-inside.back + vec_len l.self-inside.over ≤ l.self-inside.most) × (l.self-inside.most ≤ vec_capacity l.self-inside.away) × (l.self-inside.most ≤ vec_capacity l.self-inside.back) × (l.self-inside.most ≤ vec_capacity l.self-inside.over)
+abbrev pub invariant-errands : goal.invariant-errands
+invariant-errands g l = (l.at ≤ vec_len l.self-inside.away) × (vec_len l.self-inside.away + vec_len l.self-inside.over ≤ l.self-inside.most) × (l.self-inside.most ≤ vec_capacity l.self-inside.away) × (l.self-inside.most ≤ vec_capacity l.self-inside.over)
 
-abbrev pub decreases-loop-errand : goal.decreases-loop-errand
-decreases-loop-errand g l = vec_len l.self-inside.back
+abbrev pub decreases-errands : goal.decreases-errands
+decreases-errands g l = l.at
