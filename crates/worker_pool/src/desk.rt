@@ -255,21 +255,6 @@ impl<J: Naming> Desk<J> {
         }
     }
 
-    // What a call's transaction does next.
-    #[inline(always)]
-    fn ask(&mut self, k: usize, call: &Call, txn: TxnId) -> Asked
-        requires call { slice_get J.calls k ≡ Some call.now }
-        requires begun { slice_get self.old.progress k ≡ Some (Progress.Begun txn) }
-        ensures going { IsGoing result }
-        ensures reply { result ≡ ask_reply self.old.state txn.serial }
-        ensures state { self.new.state ≡ after_ask self.old.state result }
-        ensures same { self.new.progress ≡ self.old.progress }
-    {
-        self.touched = true;
-        self.state.known();
-        self.state.ask(txn)
-    }
-
     // What is to be redone at a request's data component before the request can be sent, if anything is.
     #[inline(always)]
     fn to_redo(&mut self, request: &Request) -> Option<Wire>
@@ -390,31 +375,6 @@ impl<J: Naming> Desk<J> {
         }
     }
 
-    // A transaction that was begun goes on.
-    #[inline(always)]
-    fn go_on(&mut self, k: usize, call: &Call, txn: TxnId, sending: &mut Sending) -> Next
-        requires call { slice_get J.calls k ≡ Some call.now }
-        requires begun { slice_get self.old.progress k ≡ Some (Progress.Begun txn) }
-        requires none { sending.old.request ≡ None }
-        ensures moves { MovesOn self.old.progress self.new.progress k result }
-        ensures held { IsHeldBy result sending.new.request }
-    {
-        match self.ask(k, call, txn) {
-            Asked::Request(request) => {
-                self.send(request, sending);
-                Next::Carry
-            }
-            Asked::Undoing => {
-                self.undo(txn, sending);
-                Next::Carry
-            }
-            Asked::Over => Next::Over(self.end(k, call, txn)),
-            Asked::Stuck(number) => Next::Over(self.doubt(k, call, txn, number)),
-            Asked::Waits(number) => Next::Over(self.doubt(k, call, txn, number)),
-            Asked::Running | Asked::Unknown => unreachable!(),
-        }
-    }
-
     // How far a call has come.
     #[inline(always)]
     fn progress_of(&self, k: usize, call: &Call) -> Progress
@@ -432,10 +392,26 @@ impl<J: Naming> Desk<J> {
         ensures moves { MovesOn self.old.progress self.new.progress k result }
         ensures held { IsHeldBy result sending.new.request }
     {
-        match self.progress_of(k, call) {
-            Progress::Waiting => self.begin(k, call),
-            Progress::Begun(txn) => self.go_on(k, call, txn, sending),
-            Progress::Answered(answer, _) => Next::Over(due_for(k, answer)),
+        let txn = match self.progress_of(k, call) {
+            Progress::Waiting => return self.begin(k, call),
+            Progress::Answered(answer, _) => return Next::Over(due_for(k, answer)),
+            Progress::Begun(txn) => txn,
+        };
+        self.touched = true;
+        self.state.known();
+        match self.state.ask(txn) {
+            Asked::Request(request) => {
+                self.send(request, sending);
+                Next::Carry
+            }
+            Asked::Undoing => {
+                self.undo(txn, sending);
+                Next::Carry
+            }
+            Asked::Over => Next::Over(self.end(k, call, txn)),
+            Asked::Stuck(number) => Next::Over(self.doubt(k, call, txn, number)),
+            Asked::Waits(number) => Next::Over(self.doubt(k, call, txn, number)),
+            Asked::Running | Asked::Unknown => unreachable!(),
         }
     }
 
