@@ -133,13 +133,27 @@ impl LockTable {
         if let Some(busy) = self.busy(set) {
             return Err(busy);
         }
+        self.claim(txn, set);
+        Ok(())
+    }
+
+    /// Gives the transaction, which holds nothing, these locks, for a caller that has looked that
+    /// nothing stands in their way. It takes no memory: the set has to be ready.
+    #[inline(always)]
+    pub fn claim(&mut self, txn: u64, set: &LockSet)
+        requires ready { self.old.reserved ≡ Some set.now }
+        requires nothing { HoldsNothing (held_by self.old) txn }
+        requires free { Compatible (held_by self.old) (mode_in set.now) }
+        ensures held { AreHeld self.new (granted (held_by self.old) txn (mode_in set.now)) }
+        ensures others { (t : ℕ) (r : Record) → (t == txn) ≡ false → held_by self.new t r ≡ held_by self.old t r }
+        ensures spent { self.new.reserved ≡ None }
+    {
         few(&self.sets);
         add_holders(&mut self.records, set.locks());
         match self.reserved.take() {
             Some(reserved) => put_set(&mut self.sets, txn, reserved),
             None => unreachable!(),
         }
-        Ok(())
     }
 
     /// Takes away the transaction's locks alone. It takes no memory.
