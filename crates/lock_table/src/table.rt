@@ -260,24 +260,17 @@ fn add_holders(records: &mut IndexMap<Record, Hold>, locks: &[Lock])
 // The lock's record has one holder less; one without holders is taken out.
 #[inline(always)]
 fn take_holder(records: &mut IndexMap<Record, Hold>, lock: &Lock)
-    ensures { Updates record_eq records.old records.new lock.now.«record»
-        (held_less (Some lock.now.mode) (get record_eq records.old lock.now.«record»)) }
+    ensures { (r : Record) → get record_eq records.new r ≡ (if record_eq lock.now.«record» r then
+        held_less (Some lock.now.mode) (get record_eq records.old lock.now.«record») else get record_eq records.old r) }
 {
-    match records.get(&lock.record).copied() {
-        Some(hold) if hold.holders > 1 => {
-            let hold = Hold {
-                mode: hold.mode,
-                holders: hold.holders - 1,
-            };
-            match records.insert(lock.record, hold) {
-                Ok(_before) => {}
-                Err(_) => unreachable!(),
-            }
-        }
-        _ => {
-            records.swap_remove(&lock.record);
-        }
+    let Some(index) = records.get_index_of(&lock.record) else {
+        return;
+    };
+    if records[index].holders > 1 {
+        records[index].holders -= 1;
+        return;
     }
+    records.swap_remove_index(index);
 }
 
 // Each of these records has one holder less.
