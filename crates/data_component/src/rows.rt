@@ -75,10 +75,10 @@ fn read(rows: &[Row], record: &Record) -> Said
     requires { SortedRows rows.now }
     ensures { (has_room : Bool) → Performs has_room rows.now rows.now (Read «record».now) result }
 {
-    match value_of(rows, record) {
-        Some(value) => Said::Value(*value),
-        None => Said::Absent,
-    }
+    let Some(value) = value_of(rows, record) else {
+        return Said::Absent;
+    };
+    Said::Value(*value)
 }
 
 // One row more, where there is room for it.
@@ -117,15 +117,13 @@ fn update(rows: &mut Vec<Row>, record: &Record, value: &Value) -> Said
     ensures performs { (has_room : Bool) → Performs has_room rows.old.items rows.new.items (Update «record».now value.now) result }
     ensures capacity { vec_capacity rows.new ≡ vec_capacity rows.old }
 {
-    match find(rows.as_slice(), record) {
-        Ok(place) => {
-            let kept = &mut rows[place].1;
-            let former = *kept;
-            *kept = *value;
-            Said::Done(Some(former))
-        }
-        Err(_) => Said::Missing,
-    }
+    let Ok(place) = find(rows.as_slice(), record) else {
+        return Said::Missing;
+    };
+    let kept = &mut rows[place].1;
+    let former = *kept;
+    *kept = *value;
+    Said::Done(Some(former))
 }
 
 #[tactic(auto, using(crate::proofs::Changing::delete_missing, crate::proofs::Changing::delete_done))]
