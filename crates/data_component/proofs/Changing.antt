@@ -89,6 +89,32 @@ update_done has_room rows new r v w i d at sorted former is =
     subst (λ (xs : Rows). Performs has_room rows xs (Update r v) (Done (Some w))) (sym (is ∙ ap (λ (j : ℕ). slice_set rows j (r, v)) at.is))
     (changed has_room rows r v w (at.value d ∙ ap Some (sym former)) sorted)
 
+-- a row that has a value under a record is the record's
+own_key : (r : Record) (x : Record × List ℕ) → value_at record_eq record_less records (Some x) r ≡ Some x.1 → x.0 ≡ r
+own_key r x is = by_test (record_eq x.0 r) refl
+  where
+    by_test : (b : Bool) → record_eq x.0 r ≡ b → x.0 ≡ r
+    by_test true same = records.same x.0 r same
+    by_test false other = absurd (let bad : None ≡ Some x.1 = sym (cond-false _ _ _ other) ∙ is in cc)
+
+-- the row that stands where a record is found is the record's
+pub found_key : (rows : Rows) (r : Record) (i : ℕ) (d : Record × List ℕ) → IsFoundAt rows r i → SortedRows rows → (slice_index_or rows i d).0 ≡ r
+found_key rows r i d at sorted =
+    let x = slice_index_or rows i d in
+    let row : slice_get rows (row_place rows r) ≡ Some x = ap (slice_get rows) (sym at.is) ∙ slice_get-get_or rows i d at.inside in
+    own_key r x (
+    ap (λ (o : Option (Record × List ℕ)). value_at record_eq record_less records o r) (sym row)
+    ∙ sym (find_at record_eq record_less records r rows sorted)
+    ∙ at.value d)
+
+-- the value alone is written, since the record stands there
+pub update_put : (has_room : Bool) (rows new : Rows) (r : Record) (v : List ℕ) (i : ℕ) (row : Record × List ℕ)
+    → IsFoundAt rows r i → SortedRows rows → row ≡ slice_index_or rows i row → new ≡ slice_set rows i (row.0, v)
+    → Performs has_room rows new (Update r v) (Done (Some row.1))
+update_put has_room rows new r v i row at sorted is set =
+    let key : row.0 ≡ r = ap (λ (x : Record × List ℕ). x.0) is ∙ found_key rows r i row at sorted in
+    update_done has_room rows new r v row.1 i row at sorted (ap (λ (x : Record × List ℕ). x.1) is) (set ∙ ap (λ (k : Record). slice_set rows i (k, v)) key)
+
 length_removed : (rows : Rows) (i : ℕ) → i < length rows → length (remove rows i) ≡ length rows - 1
 length_removed [] i inside = absurd (omega (arith, inside))
 length_removed (x ∷ rows) zero inside = omega arith

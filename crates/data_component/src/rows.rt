@@ -1,7 +1,8 @@
 //! Rows, sorted by record.
 
-ghost use Rattle.std.specs.Prelude.{Bool, ◌≡◌, ◌<◌, ◌≤◌, true, length, option_copied, IfErr, IfOk, vec_capacity};
+ghost use Rattle.std.specs.Prelude.{Bool, ◌≡◌, ◌+◌, ◌*◌, ◌^◌, ◌<◌, ◌≤◌, true, length, option_copied, IfErr, IfOk, vec_capacity};
 ghost use Rattle.std.specs.List.{insert};
+ghost use Rattle.access_slots.specs.Locks.{record_less};
 ghost use Rattle.access_slots.specs.declared.op.Op.TheVariants.{Read, Insert, Update, Delete};
 ghost use Rattle.data_component.specs.Joining.Performing.{Performs};
 ghost use Rattle.data_component.specs.Sorted.{row_of, row_place, SortedRows, IsFoundAt, IsMissingAt};
@@ -12,13 +13,32 @@ use access_slots::slot::{Record, Value};
 /// A record and its value.
 pub(crate) type Row = (Record, Value);
 
+// The record as one number, which rises as records do.
+#[inline(always)]
+fn rank(record: &Record) -> u128
+    ensures value { result ≡ («record».now.dc * 2 ^ 16 + «record».now.table) * 2 ^ 64 + «record».now.key }
+    ensures table { «record».now.table < 2 ^ 16 }
+    ensures key { «record».now.key < 2 ^ 64 }
+{
+    let table = u128::from(record.dc) * (1 << 16) + u128::from(record.table);
+    table * (1 << 64) + u128::from(record.key)
+}
+
+// Whether a record is the lesser one, by a single comparison: a look among many rows makes some ten.
+#[inline(always)]
+fn is_less(a: &Record, b: &Record) -> bool
+    ensures { result ≡ record_less a.now b.now }
+{
+    rank(a) < rank(b)
+}
+
 // How many rows are of lesser records.
 fn count_before(rows: &[Row], record: &Record) -> usize
     requires { SortedRows rows.now }
     ensures value { result ≡ row_place rows.now «record».now }
     ensures few { result ≤ length rows.now }
 {
-    rows.partition_point(|row| row.0 < *record)
+    rows.partition_point(|row| is_less(&row.0, record))
 }
 
 // The place of the record's row, or the one that it would have.
@@ -55,10 +75,10 @@ fn read(rows: &[Row], record: &Record) -> Said
     requires { SortedRows rows.now }
     ensures { (has_room : Bool) → Performs has_room rows.now rows.now (Read «record».now) result }
 {
-    match value_of(rows, record) {
-        Some(value) => Said::Value(*value),
-        None => Said::Absent,
-    }
+    let Some(value) = value_of(rows, record) else {
+        return Said::Absent;
+    };
+    Said::Value(*value)
 }
 
 // One row more, where there is room for it.
@@ -91,20 +111,19 @@ fn insert(rows: &mut Vec<Row>, has_room: bool, record: &Record, value: &Value) -
     }
 }
 
-#[tactic(auto, using(crate::proofs::Changing::update_missing, crate::proofs::Changing::update_done))]
+#[tactic(auto, using(crate::proofs::Changing::update_missing, crate::proofs::Changing::update_put))]
 fn update(rows: &mut Vec<Row>, record: &Record, value: &Value) -> Said
     requires { SortedRows rows.old.items }
     ensures performs { (has_room : Bool) → Performs has_room rows.old.items rows.new.items (Update «record».now value.now) result }
     ensures capacity { vec_capacity rows.new ≡ vec_capacity rows.old }
 {
-    match find(rows.as_slice(), record) {
-        Ok(place) => {
-            let former = rows[place].1;
-            rows[place] = (*record, *value);
-            Said::Done(Some(former))
-        }
-        Err(_) => Said::Missing,
-    }
+    let Ok(place) = find(rows.as_slice(), record) else {
+        return Said::Missing;
+    };
+    let kept = &mut rows[place].1;
+    let former = *kept;
+    *kept = *value;
+    Said::Done(Some(former))
 }
 
 #[tactic(auto, using(crate::proofs::Changing::delete_missing, crate::proofs::Changing::delete_done))]

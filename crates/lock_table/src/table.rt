@@ -133,13 +133,27 @@ impl LockTable {
         if let Some(busy) = self.busy(set) {
             return Err(busy);
         }
+        self.claim(txn, set);
+        Ok(())
+    }
+
+    /// Gives the transaction, which holds nothing, these locks, for a caller that has looked that
+    /// nothing stands in their way. It takes no memory: the set has to be ready.
+    #[inline(always)]
+    pub fn claim(&mut self, txn: u64, set: &LockSet)
+        requires ready { self.old.reserved ≡ Some set.now }
+        requires nothing { HoldsNothing (held_by self.old) txn }
+        requires free { Compatible (held_by self.old) (mode_in set.now) }
+        ensures held { AreHeld self.new (granted (held_by self.old) txn (mode_in set.now)) }
+        ensures others { (t : ℕ) (r : Record) → (t == txn) ≡ false → held_by self.new t r ≡ held_by self.old t r }
+        ensures spent { self.new.reserved ≡ None }
+    {
         few(&self.sets);
         add_holders(&mut self.records, set.locks());
         match self.reserved.take() {
             Some(reserved) => put_set(&mut self.sets, txn, reserved),
             None => unreachable!(),
         }
-        Ok(())
     }
 
     /// Takes away the transaction's locks alone. It takes no memory.
@@ -246,24 +260,17 @@ fn add_holders(records: &mut IndexMap<Record, Hold>, locks: &[Lock])
 // The lock's record has one holder less; one without holders is taken out.
 #[inline(always)]
 fn take_holder(records: &mut IndexMap<Record, Hold>, lock: &Lock)
-    ensures { Updates record_eq records.old records.new lock.now.«record»
-        (held_less (Some lock.now.mode) (get record_eq records.old lock.now.«record»)) }
+    ensures { (r : Record) → get record_eq records.new r ≡ (if record_eq lock.now.«record» r then
+        held_less (Some lock.now.mode) (get record_eq records.old lock.now.«record») else get record_eq records.old r) }
 {
-    match records.get(&lock.record).copied() {
-        Some(hold) if hold.holders > 1 => {
-            let hold = Hold {
-                mode: hold.mode,
-                holders: hold.holders - 1,
-            };
-            match records.insert(lock.record, hold) {
-                Ok(_before) => {}
-                Err(_) => unreachable!(),
-            }
-        }
-        _ => {
-            records.swap_remove(&lock.record);
-        }
+    let Some(index) = records.get_index_of(&lock.record) else {
+        return;
+    };
+    if records[index].holders > 1 {
+        records[index].holders -= 1;
+        return;
     }
+    records.swap_remove_index(index);
 }
 
 // Each of these records has one holder less.

@@ -58,10 +58,7 @@ fn claim(locks: &mut LockTable, serial: u64, set: &LockSet)
     requires free { Compatible (held_by locks.old) (mode_in set.now) }
     ensures { AreHeld locks.new (granted (held_by locks.old) serial (mode_in set.now)) }
 {
-    match locks.grant(serial, set) {
-        Ok(()) => {}
-        Err(_) => unreachable!(),
-    }
+    locks.claim(serial, set);
 }
 
 // Whether too few numbers are left for a call.

@@ -15,5 +15,5 @@ loop-lock-preserved c =
     let rises = c.loop-lock.invariant.rising in
     record {
       rising = rising_after locks i inside rises;
-      left = λ r. left_after locks i inside rises held_less _ now new (λ h. refl) c.take_holder.ensures.0 r ∙ c.loop-lock.invariant.left r;
+      left = λ r. left_after locks i inside rises held_less _ now new (λ h. refl) c.take_holder.ensures r ∙ c.loop-lock.invariant.left r;
     }
