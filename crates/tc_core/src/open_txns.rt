@@ -292,10 +292,10 @@ impl OpenTxns {
 
     /// The transaction at a key takes in what was said to it.
     #[inline(always)]
-    pub fn hear(&mut self, key: usize, code: &Verified, said: Said)
+    pub fn hear(&mut self, key: usize, code: &Verified, said: &Said)
         requires key { ContainsKey self.old key }
-        requires hears { (tx : TxValue) → get self.old key ≡ Some tx → (s : Standing) × MayHear code.now tx s said }
-        ensures updates { (tx : TxValue) → get self.old key ≡ Some tx → Heard code.now self.old self.new key tx said }
+        requires hears { (tx : TxValue) → get self.old key ≡ Some tx → (s : Standing) × MayHear code.now tx s said.now }
+        ensures updates { (tx : TxValue) → get self.old key ≡ Some tx → Heard code.now self.old self.new key tx said.now }
         ensures len { slab_len self.new ≡ slab_len self.old }
     {
         self.txns[key].hear(code, said);

@@ -147,10 +147,13 @@ impl TcState {
         }
         let code = self.procs.at(tx.proc);
         let Request { txn, number, op: _ } = request;
-        let said = reply.said;
-        self.book.txns.hear(key, code, said);
+        self.book.txns.hear(key, code, &reply.said);
         self.book.numbers.answered(number);
-        self.book.log.push(Event::Answer { txn, number, said });
+        self.book.log.push(Event::Answer {
+            txn,
+            number,
+            said: reply.said,
+        });
         self.book.owed -= 1;
         Ok(())
     }

@@ -6,7 +6,6 @@ ghost use Rattle.access_slots.specs.declared.op.Op.{Op};
 ghost use Rattle.access_slots.specs.declared.op.Said.{Said};
 ghost use Rattle.access_slots.specs.Access as Access;
 ghost use Rattle.access_slots.specs.Access.{is_no_room};
-ghost use Rattle.transactions.specs.Standing as Standings;
 ghost use Rattle.transactions.specs.Standing.{Standing, rest_of, told_to, found_full, undo_done, tries_done, answered};
 ghost use Rattle.transactions.specs.Reached.{calls_in};
 ghost use Rattle.tc_core.specs.GivingUp.{Awaits};
@@ -23,7 +22,6 @@ ghost use Rattle.tc_core.specs.Replies.{over_in};
 use crate::undos::Undos;
 use access_slots::lock::LockSet;
 use access_slots::op::{Op, Reply, Said, fits};
-use access_slots::slot::Value;
 use interpreter::layout::Layout;
 use interpreter::machine::Machine;
 use interpreter::pause::Pause;
@@ -116,14 +114,14 @@ impl Tx {
 
     /// Its run goes on with what was said to its question.
     #[inline(always)]
-    pub fn resume(&mut self, code: &Verified, said: Said)
-        requires room { is_no_room said ≡ false }
-        requires asked { (args : List ℕ) × (answers : List Said) × (o : Op) × MayResume code.now self.old args answers o said }
-        ensures runs { (args : List ℕ) (answers : List Said) (o : Op) → MayResume code.now self.old args answers o said →
-            Runs code.now self.new args (answers ++ said ∷ []) }
+    pub fn resume(&mut self, code: &Verified, said: &Said)
+        requires room { is_no_room said.now ≡ false }
+        requires asked { (args : List ℕ) × (answers : List Said) × (o : Op) × MayResume code.now self.old args answers o said.now }
+        ensures runs { (args : List ℕ) (answers : List Said) (o : Op) → MayResume code.now self.old args answers o said.now →
+            Runs code.now self.new args (answers ++ said.now ∷ []) }
         ensures rest { self.new ≡ record self.old { machine = self.new.machine; pause = self.new.pause } }
     {
-        self.pause = self.machine.resume(code, Some(said));
+        self.pause = self.machine.resume(code, Some(*said));
     }
 }
 
@@ -193,44 +191,37 @@ fn is_no_room(said: &Said) -> bool
     matches!(said, Said::NoRoom)
 }
 
-// What undoes a write that was done.
-fn inverse(op: &Op, former: Option<Value>) -> Option<Op>
-    ensures { result ≡ Standings.inverse op.now former }
+// What undoes a write that was done is the first to be undone.
+#[inline(always)]
+fn wrote(undo: &mut Undos, op: &Op, said: &Said)
+    requires { 0 < undo.old.room }
+    ensures ops { undo.new.ops ≡ undo_done false op.now said.now undo.old.ops }
+    ensures room { length undo.new.ops + undo.new.room ≡ length undo.old.ops + undo.old.room }
 {
+    let Said::Done(former) = said else {
+        return;
+    };
     match op {
-        Op::Read(_) => None,
-        Op::Insert(record, _) => Some(Op::Delete(*record)),
-        Op::Update(record, _) => match former {
-            None => None,
-            Some(value) => Some(Op::Update(*record, value)),
-        },
-        Op::Delete(record) => match former {
-            None => None,
-            Some(value) => Some(Op::Insert(*record, value)),
-        },
+        Op::Read(_) => {}
+        Op::Insert(record, _) => undo.push(Op::Delete(*record)),
+        Op::Update(record, _) => {
+            if let Some(value) = former {
+                undo.push(Op::Update(*record, *value));
+            }
+        }
+        Op::Delete(record) => {
+            if let Some(value) = former {
+                undo.push(Op::Insert(*record, *value));
+            }
+        }
     }
 }
 
 impl Tx {
-    // What undoes a write that was done is the first to be undone.
-    #[inline(always)]
-    fn wrote(&mut self, op: Op, said: Said)
-        requires { 0 < self.old.undo.room }
-        ensures ops { self.new.undo.ops ≡ undo_done false op said self.old.undo.ops }
-        ensures room { length self.new.undo.ops + self.new.undo.room ≡ length self.old.undo.ops + self.old.undo.room }
-        ensures rest { self.new ≡ record self.old { undo = self.new.undo } }
-    {
-        if let Said::Done(former) = said {
-            if let Some(op) = inverse(&op, former) {
-                self.undo.push(op);
-            }
-        }
-    }
-
     // A write was undone, or is to be tried again.
-    fn undo_heard(&mut self, said: Said)
-        ensures ops { (o : Op) → self.new.undo.ops ≡ undo_done true o said self.old.undo.ops }
-        ensures tries { self.new.tries ≡ tries_done true said self.old.tries }
+    fn undo_heard(&mut self, said: &Said)
+        ensures ops { (o : Op) → self.new.undo.ops ≡ undo_done true o said.now self.old.undo.ops }
+        ensures tries { self.new.tries ≡ tries_done true said.now self.old.tries }
         ensures room { length self.new.undo.ops + self.new.undo.room ≡ length self.old.undo.ops + self.old.undo.room }
         ensures rest { self.new ≡ record self.old { undo = self.new.undo; tries = self.new.tries } }
     {
@@ -242,43 +233,39 @@ impl Tx {
 
     // The run goes on with what was said to its question, unless an insert found no room.
     #[inline(always)]
-    fn told(&mut self, code: &Verified, op: Op, said: Said)
-        requires room { 0 < self.old.undo.room }
-        requires asked { (args : List ℕ) × (answers : List Said) × MayResume code.now self.old args answers op said }
-        ensures runs { (args : List ℕ) (answers : List Said) → MayResume code.now self.old args answers op said →
-            Runs code.now self.new args (told_to false said answers) }
-        ensures full { self.new.full ≡ (self.old.full || found_full false said) }
-        ensures ops { self.new.undo.ops ≡ undo_done false op said self.old.undo.ops }
-        ensures room { length self.new.undo.ops + self.new.undo.room ≡ length self.old.undo.ops + self.old.undo.room }
-        ensures rest { self.new
-            ≡ record self.old { machine = self.new.machine; pause = self.new.pause; full = self.new.full; undo = self.new.undo } }
+    fn told(&mut self, code: &Verified, said: &Said)
+        requires { (args : List ℕ) × (answers : List Said) × (o : Op) × MayResume code.now self.old args answers o said.now }
+        ensures runs { (args : List ℕ) (answers : List Said) (o : Op) → MayResume code.now self.old args answers o said.now →
+            Runs code.now self.new args (told_to false said.now answers) }
+        ensures full { self.new.full ≡ (self.old.full || found_full false said.now) }
+        ensures rest { self.new ≡ record self.old { machine = self.new.machine; pause = self.new.pause; full = self.new.full } }
     {
-        if is_no_room(&said) {
+        if is_no_room(said) {
             self.full = true;
             return;
         }
-        self.wrote(op, said);
         self.resume(code, said);
     }
 
     /// Takes in what was said to the operation that it waits for.
     #[inline(always)]
-    pub fn hear(&mut self, code: &Verified, said: Said)
-        requires { (s : Standing) × MayHear code.now self.old s said }
-        ensures keeps { (s : Standing) → MayHear code.now self.old s said → Keeps code.now self.new (answered said s) }
+    pub fn hear(&mut self, code: &Verified, said: &Said)
+        requires { (s : Standing) × MayHear code.now self.old s said.now }
+        ensures keeps { (s : Standing) → MayHear code.now self.old s said.now → Keeps code.now self.new (answered said.now s) }
         ensures serial { self.new.serial ≡ self.old.serial }
         ensures certain { self.new.in_doubt ≡ false }
     {
         self.in_doubt = false;
-        let Some(sent) = self.sent else {
+        let Some(sent) = &self.sent else {
             return;
         };
-        self.sent = None;
         if sent.undoing {
             self.undo_heard(said);
         } else {
-            self.told(code, sent.op, said);
+            wrote(&mut self.undo, &sent.op, said);
+            self.told(code, said);
         }
+        self.sent = None;
     }
 }
 
