@@ -14,9 +14,8 @@ ghost use Rattle.tc_core.specs.Joining.Sends.{asking_under, undoing_under};
 ghost use Rattle.tc_core.specs.Kept.{Keeps};
 ghost use Rattle.semantics.specs.Reach.{AreArguments};
 ghost use Rattle.transactions.specs.Legal.{first_undo};
-ghost use Rattle.transactions.specs.Next.{next_by};
-ghost use Rattle.transactions.specs.Next as Nexts;
-ghost use Rattle.tc_core.specs.Running.{Runs, MayResume, as_reached, does};
+ghost use Rattle.transactions.specs.Next.{next_by, ends_or_undoes};
+ghost use Rattle.tc_core.specs.Running.{Runs, MayResume, as_reached, as_next, does};
 ghost use Rattle.tc_core.specs.Replies.{over_in};
 
 use crate::undos::Undos;
@@ -27,7 +26,7 @@ use interpreter::machine::Machine;
 use interpreter::pause::Pause;
 use std::alloc::{AllocError, Global};
 use tc_log::event::{Args, Outcome};
-use transactions::{Next, Sent};
+use transactions::Sent;
 use verifier::verify::Verified;
 
 /// An open transaction: its procedure's machine, and where that stands. It is large, so it stays in one
@@ -125,44 +124,52 @@ impl Tx {
     }
 }
 
-// The end, or the next write to be undone, four times at most.
-#[inline(always)]
-fn ends_or_undoes(left: Option<Op>, tries: u64, last: u64, outcome: Outcome) -> Next
-    ensures { result ≡ Nexts.ends_or_undoes left tries last outcome }
-{
-    match left {
-        None => Next::Over(outcome),
-        Some(op) => {
-            if tries < 4 {
-                Next::Undoes(op)
-            } else {
-                Next::Stuck(last)
-            }
-        }
-    }
+/// What a transaction does next, as [`transactions::Next`] says it, with the operation where it stands.
+#[derive(Clone, Copy)]
+pub enum Does<'a> {
+    Waits(u64),
+    Asks(&'a Op),
+    Undoes(&'a Op),
+    Stuck(u64),
+    Over(Outcome),
 }
 
 impl Tx {
+    // The next write to be undone, four times at most, or the end.
+    fn undoes_or_ends(&self, outcome: Outcome) -> Does<'_>
+        ensures { as_next result ≡ ends_or_undoes (first_undo self.now.undo.ops) self.now.tries self.now.last outcome }
+    {
+        match self.undo.first() {
+            None => Does::Over(outcome),
+            Some(op) => {
+                if self.tries < 4 {
+                    Does::Undoes(op)
+                } else {
+                    Does::Stuck(self.last)
+                }
+            }
+        }
+    }
+
     /// What it does next.
     #[inline(always)]
-    pub fn next(&self) -> Next
+    pub fn next(&self) -> Does<'_>
         ensures { next_by self.now.sent self.now.full (first_undo self.now.undo.ops) self.now.tries self.now.last
-            (as_reached self.now.pause) ≡ Some result }
+            (as_reached self.now.pause) ≡ Some (as_next result) }
     {
         if let Some(sent) = &self.sent {
-            return Next::Waits(sent.number);
+            return Does::Waits(sent.number);
         }
-        let left = self.undo.first();
         if self.full {
-            return ends_or_undoes(left, self.tries, self.last, Outcome::NoRoom);
+            return self.undoes_or_ends(Outcome::NoRoom);
         }
-        match self.pause {
-            Pause::Ask(op) => Next::Asks(op),
+        match &self.pause {
+            Pause::Ask(op) => Does::Asks(op),
             Pause::Exit(value) => {
-                if value == 0 {
-                    Next::Over(Outcome::Committed)
+                if *value == 0 {
+                    Does::Over(Outcome::Committed)
                 } else {
-                    ends_or_undoes(left, self.tries, self.last, Outcome::Aborted(value))
+                    self.undoes_or_ends(Outcome::Aborted(*value))
                 }
             }
         }
@@ -170,13 +177,13 @@ impl Tx {
 
     /// It waits for the answer to its question.
     #[inline(always)]
-    pub fn send(&mut self, number: u64, op: Op)
+    pub fn send(&mut self, number: u64, op: &Op)
         requires { 1 ≤ self.old.left }
-        ensures { self.new ≡ asking_under number op self.old }
+        ensures { self.new ≡ asking_under number op.now self.old }
     {
         self.sent = Some(Sent {
             number,
-            op,
+            op: *op,
             undoing: false,
         });
         self.last = number;
@@ -271,15 +278,15 @@ impl Tx {
 
 // How it ends that has nothing else to do.
 #[inline(always)]
-fn over(next: Next) -> Option<Outcome>
-    ensures { result ≡ over_in (Some next) }
+fn over(next: Does<'_>) -> Option<Outcome>
+    ensures { result ≡ over_in (Some (as_next next.entry)) }
 {
     match next {
-        Next::Waits(_) => None,
-        Next::Asks(_) => None,
-        Next::Undoes(_) => None,
-        Next::Stuck(_) => None,
-        Next::Over(outcome) => Some(outcome),
+        Does::Waits(_) => None,
+        Does::Asks(_) => None,
+        Does::Undoes(_) => None,
+        Does::Stuck(_) => None,
+        Does::Over(outcome) => Some(outcome),
     }
 }
 
@@ -314,14 +321,14 @@ impl Tx {
     }
 
     /// It waits for the answer to an undo.
-    pub fn send_undo(&mut self, number: u64, op: Op)
+    pub fn send_undo(&mut self, number: u64, op: &Op)
         requires left { 1 ≤ self.old.left }
         requires tries { self.old.tries < 4 }
-        ensures { self.new ≡ undoing_under number op self.old }
+        ensures { self.new ≡ undoing_under number op.now self.old }
     {
         self.sent = Some(Sent {
             number,
-            op,
+            op: *op,
             undoing: true,
         });
         self.tries += 1;
