@@ -59,8 +59,20 @@ keeps_undone q tx tx1 s said r m e u rest ops tries room =
       runs = subst (λ (x : Tx). Runs q x s.call.args s.answers) (sym rest) (record { started = k.runs.started; call = k.runs.call; layout = k.runs.layout; pauses = k.runs.pauses });
     })
 
+-- it waits for the answer to its question
+pub may_resume : (q : Checked) (tx : Tx) (s : Standing) (said : Said) (r : Sent) → MayHear q tx s said → tx.sent ≡ Some r → r.undoing ≡ false
+    → MayResume q tx s.call.args s.answers r.op said
+may_resume q tx s said r m e u =
+    let same = waits_for q tx s said r m e in
+    record {
+      runs = m.keeps.runs;
+      fit = m.fitting;
+      asks = subst (λ (x : Sent). reached_of (stop_at q s.call.args s.answers) ≡ Asks x.op) same (m.asks (ap (λ (x : Sent). x.undoing) same ∙ u));
+      fits = subst (λ (x : Sent). fits x.op said ≡ true) same m.fit;
+    }
+
 pub keeps_told : (q : Checked) (tx tx1 : Tx) (s : Standing) (said : Said) (r : Sent) → MayHear q tx s said → tx.sent ≡ Some r → r.undoing ≡ false
-    → ((args : List ℕ) (answers : List Said) → MayResume q (record tx { sent = None; in_doubt = false }) args answers r.op said → Runs q tx1 args (told_to false said answers))
+    → Runs q tx1 s.call.args (told_to false said s.answers)
     → tx1.full ≡ (tx.full || found_full false said)
     → tx1.undo.ops ≡ undo_done false r.op said tx.undo.ops → length tx1.undo.ops + tx1.undo.room ≡ length tx.undo.ops + tx.undo.room
     → tx1 ≡ record tx { sent = None; machine = tx1.machine; pause = tx1.pause; full = tx1.full; undo = tx1.undo; in_doubt = false }
@@ -68,16 +80,7 @@ pub keeps_told : (q : Checked) (tx tx1 : Tx) (s : Standing) (said : Said) (r : S
 keeps_told q tx tx1 s said r m e u runs full ops room rest =
     let k = m.keeps in
     let waits : s.sent ≡ Some r = sym k.sent ∙ e in
-    let same = waits_for q tx s said r m e in
     let kept_room = k.room in
-    let fit : fits r.op said ≡ true = subst (λ (x : Sent). fits x.op said ≡ true) same m.fit in
-    let asks : reached_of (stop_at q s.call.args s.answers) ≡ Asks r.op = subst (λ (x : Sent). reached_of (stop_at q s.call.args s.answers) ≡ Asks x.op) same (m.asks (ap (λ (x : Sent). x.undoing) same ∙ u)) in
-    let may : MayResume q (record tx { sent = None; in_doubt = false }) s.call.args s.answers r.op said = record {
-      runs = record { started = k.runs.started; call = k.runs.call; layout = k.runs.layout; pauses = k.runs.pauses };
-      fit = m.fitting;
-      asks = asks;
-      fits = fit;
-    } in
     answered_where q tx1 s said r false waits u (record {
       proc = ap (λ (x : Tx). x.proc) rest ∙ k.proc;
       sent = ap (λ (x : Tx). x.sent) rest;
@@ -88,12 +91,16 @@ keeps_told q tx tx1 s said r m e u runs full ops room rest =
       left = ap (λ (x : Tx). x.left) rest ∙ k.left;
       room = omega (arith, room, kept_room);
       locks = λ r. ap (λ (x : Tx). mode_in x.locks r) rest ∙ k.locks r;
-      runs = runs s.call.args s.answers may;
+      runs = runs;
     })
 
--- a change of what is to be undone leaves the run where it stands
-pub resume_through : (q : Checked) (tx tx1 : Tx) (args : List ℕ) (answers : List Said) (o : Op) (said : Said)
-    → tx1 ≡ record tx { undo = tx1.undo } → MayResume q tx args answers o said → MayResume q tx1 args answers o said
-resume_through q tx tx1 args answers o said rest m =
+-- a change of what is to be undone, or of doubt, leaves the run where it stands
+pub resumes : (q : Checked) (tx tx1 : Tx) (args : List ℕ) (answers : List Said) (o : Op) (said : Said)
+    → tx1 ≡ record tx { undo = tx1.undo; in_doubt = tx1.in_doubt } → MayResume q tx args answers o said → MayResume q tx1 args answers o said
+resumes q tx tx1 args answers o said rest m =
     subst (λ (x : Tx). MayResume q x args answers o said) (sym rest)
     (record { runs = record { started = m.runs.started; call = m.runs.call; layout = m.runs.layout; pauses = m.runs.pauses }; fit = m.fit; asks = m.asks; fits = m.fits })
+
+-- the run stands where it does, whatever is waited for
+pub runs_on : (q : Checked) (tx : Tx) (args : List ℕ) (answers : List Said) → Runs q tx args answers → Runs q (record tx { sent = None }) args answers
+runs_on q tx args answers k = record { started = k.started; call = k.call; layout = k.layout; pauses = k.pauses }

@@ -13,7 +13,10 @@ use Rattle.transactions.specs.Reached.{Reached, Asks, Ends, reached_of, stop_at,
 use Rattle.transactions.specs.declared.Next.{Next}
 use Rattle.transactions.specs.Legal.{first_undo}
 use Rattle.transactions.specs.Next.{next_by}
+use Rattle.transactions.specs.declared.Next.TheVariants as next
 use Rattle.tc_core.specs.declared.transaction.Tx.{Tx}
+use Rattle.tc_core.specs.declared.transaction.Does.{Does}
+use Rattle.tc_core.specs.declared.transaction.Does.TheVariants as doing
 
 -- the machine, and what it stopped at, are where the procedure's run stands on these answers
 pub record Runs (q : Checked) (tx : Tx) (args : List ℕ) (answers : List Said) : Type 0 where
@@ -37,3 +40,11 @@ as_reached (pause.Exit v) = Ends v
 -- what the transaction does next, as it is kept
 abbrev pub does : Tx → Option Next
 does tx = next_by tx.sent tx.full (first_undo tx.undo.ops) tx.tries tx.last (as_reached tx.pause)
+
+-- the same, with the operation itself in place of where it stands
+abbrev pub as_next : Does → Next
+as_next (doing.Waits n) = next.Waits n
+as_next (doing.Asks o) = next.Asks o.now
+as_next (doing.Undoes o) = next.Undoes o.now
+as_next (doing.Stuck n) = next.Stuck n
+as_next (doing.Over o) = next.Over o

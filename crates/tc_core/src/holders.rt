@@ -3,13 +3,12 @@
 ghost use Rattle.std.specs.Prelude.{◌≡◌, ◌&&◌, not, Some};
 ghost use Rattle.transactions.specs.Legal.{first_undo};
 ghost use Rattle.transactions.specs.Next.{next_by};
-ghost use Rattle.tc_core.specs.Running.{as_reached};
+ghost use Rattle.tc_core.specs.Running.{as_reached, as_next};
 ghost use Rattle.tc_core.specs.Joining.Clashes.{clashes};
 ghost use Rattle.tc_core.specs.Joining.Holders.{stuck_by, stands_still};
 
-use crate::transaction::Tx;
+use crate::transaction::{Does, Tx};
 use access_slots::lock::LockSet;
-use transactions::Next;
 
 // Whether two sets of locks exclude each other.
 fn clash(wanted: &LockSet, held: &LockSet) -> bool
@@ -18,10 +17,10 @@ fn clash(wanted: &LockSet, held: &LockSet) -> bool
     wanted.locks().iter().any(|lock| held.excludes(lock))
 }
 
-fn is_stuck(next: Next) -> bool
-    ensures { result ≡ stuck_by (Some next) }
+fn is_stuck(next: Does<'_>) -> bool
+    ensures { result ≡ stuck_by (Some (as_next next.entry)) }
 {
-    matches!(next, Next::Stuck(_))
+    matches!(next, Does::Stuck(_))
 }
 
 impl Tx {

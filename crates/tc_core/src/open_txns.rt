@@ -26,7 +26,7 @@ use std::alloc::{AllocError, Global};
 use std::marker::Model;
 use std::mem;
 use tc_log::event::Outcome;
-use transactions::{Next, Sent};
+use transactions::Sent;
 use verifier::verify::Verified;
 
 /// The open transactions, each in a box at a key of its own, and found by its serial number. A box is
@@ -270,21 +270,21 @@ impl OpenTxns {
 
     /// The transaction at a key waits for the answer to its question.
     #[inline(always)]
-    pub fn send(&mut self, key: usize, number: u64, op: Op)
+    pub fn send(&mut self, key: usize, number: u64, op: &Op)
         requires key { ContainsKey self.old key }
         requires left { (tx : TxValue) → get self.old key ≡ Some tx → 1 ≤ tx.left }
-        ensures updates { (tx : TxValue) → get self.old key ≡ Some tx → Updates self.old self.new key (Some (asking_under number op tx)) }
+        ensures updates { (tx : TxValue) → get self.old key ≡ Some tx → Updates self.old self.new key (Some (asking_under number op.now tx)) }
         ensures len { slab_len self.new ≡ slab_len self.old }
     {
         self.txns[key].send(number, op);
     }
 
     /// The transaction at a key waits for the answer to an undo.
-    pub fn send_undo(&mut self, key: usize, number: u64, op: Op)
+    pub fn send_undo(&mut self, key: usize, number: u64, op: &Op)
         requires key { ContainsKey self.old key }
         requires left { (tx : TxValue) → get self.old key ≡ Some tx → 1 ≤ tx.left }
         requires tries { (tx : TxValue) → get self.old key ≡ Some tx → tx.tries < 4 }
-        ensures updates { (tx : TxValue) → get self.old key ≡ Some tx → Updates self.old self.new key (Some (undoing_under number op tx)) }
+        ensures updates { (tx : TxValue) → get self.old key ≡ Some tx → Updates self.old self.new key (Some (undoing_under number op.now tx)) }
         ensures len { slab_len self.new ≡ slab_len self.old }
     {
         self.txns[key].send_undo(number, op);
@@ -292,10 +292,10 @@ impl OpenTxns {
 
     /// The transaction at a key takes in what was said to it.
     #[inline(always)]
-    pub fn hear(&mut self, key: usize, code: &Verified, said: Said)
+    pub fn hear(&mut self, key: usize, code: &Verified, said: &Said)
         requires key { ContainsKey self.old key }
-        requires hears { (tx : TxValue) → get self.old key ≡ Some tx → (s : Standing) × MayHear code.now tx s said }
-        ensures updates { (tx : TxValue) → get self.old key ≡ Some tx → Heard code.now self.old self.new key tx said }
+        requires hears { (tx : TxValue) → get self.old key ≡ Some tx → (s : Standing) × MayHear code.now tx s said.now }
+        ensures updates { (tx : TxValue) → get self.old key ≡ Some tx → Heard code.now self.old self.new key tx said.now }
         ensures len { slab_len self.new ≡ slab_len self.old }
     {
         self.txns[key].hear(code, said);

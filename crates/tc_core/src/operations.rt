@@ -8,10 +8,10 @@ ghost use Rattle.tc_core.specs.GivingUp.{IsOpenHere, with_given_up};
 
 use crate::sites::{is_heard, site_of};
 use crate::state::{Asked, Down, NotOver, Receipt, Request, Stranger, TcState, TxnId};
+use crate::transaction::Does;
 use access_slots::op::{Reply, Wire};
 use request_numbers::numbers::Numbers;
 use tc_log::event::{Event, Outcome};
-use transactions::Next;
 
 // The next number, of which there are some.
 #[inline(always)]
@@ -50,25 +50,26 @@ impl TcState {
             return Asked::Unknown;
         };
         match self.book.txns.at(key).next() {
-            Next::Waits(number) => Asked::Waits(number),
-            Next::Undoes(_) => Asked::Undoing,
-            Next::Stuck(number) => Asked::Stuck(number),
-            Next::Over(_) => Asked::Over,
-            Next::Asks(op) => {
+            Does::Waits(number) => Asked::Waits(number),
+            Does::Undoes(_) => Asked::Undoing,
+            Does::Stuck(number) => Asked::Stuck(number),
+            Does::Over(_) => Asked::Over,
+            Does::Asks(op) => {
                 let number = next_number(&mut self.book.numbers);
+                let request = Request {
+                    txn: txn.serial,
+                    number,
+                    op: *op,
+                };
                 self.book.log.push(Event::Ask {
                     txn: txn.serial,
                     number,
-                    op,
+                    op: request.op,
                 });
-                self.book.txns.send(key, number, op);
+                self.book.txns.send(key, number, &request.op);
                 self.book.owed -= 1;
                 self.book.promised -= 1;
-                Asked::Request(Request {
-                    txn: txn.serial,
-                    number,
-                    op,
-                })
+                Asked::Request(request)
             }
         }
     }
@@ -83,25 +84,26 @@ impl TcState {
             return Asked::Unknown;
         };
         match self.book.txns.at(key).next() {
-            Next::Waits(number) => Asked::Waits(number),
-            Next::Asks(_) => Asked::Running,
-            Next::Stuck(number) => Asked::Stuck(number),
-            Next::Over(outcome) => undone(outcome),
-            Next::Undoes(op) => {
+            Does::Waits(number) => Asked::Waits(number),
+            Does::Asks(_) => Asked::Running,
+            Does::Stuck(number) => Asked::Stuck(number),
+            Does::Over(outcome) => undone(outcome),
+            Does::Undoes(op) => {
                 let number = next_number(&mut self.book.numbers);
+                let request = Request {
+                    txn: txn.serial,
+                    number,
+                    op: *op,
+                };
                 self.book.log.push(Event::Undo {
                     txn: txn.serial,
                     number,
-                    op,
+                    op: request.op,
                 });
-                self.book.txns.send_undo(key, number, op);
+                self.book.txns.send_undo(key, number, &request.op);
                 self.book.owed -= 1;
                 self.book.promised -= 1;
-                Asked::Request(Request {
-                    txn: txn.serial,
-                    number,
-                    op,
-                })
+                Asked::Request(request)
             }
         }
     }
@@ -109,7 +111,8 @@ impl TcState {
     /// What is sent for a request now: its number and operation, the low-water mark of now and the
     /// known incarnation of its data component. A resend makes it again. Nothing is sent while the
     /// data component is down.
-    #[inline(always)]
+    // Inlined it would read into the request where that stands in locals, and split each copy of it.
+    #[inline(never)]
     pub fn wire(&self, request: &Request) -> Result<Wire, Down>
         ensures { result ≡ wire_of self.now request.now }
     {
@@ -147,10 +150,13 @@ impl TcState {
         }
         let code = self.procs.at(tx.proc);
         let Request { txn, number, op: _ } = request;
-        let said = reply.said;
-        self.book.txns.hear(key, code, said);
+        self.book.txns.hear(key, code, &reply.said);
         self.book.numbers.answered(number);
-        self.book.log.push(Event::Answer { txn, number, said });
+        self.book.log.push(Event::Answer {
+            txn,
+            number,
+            said: reply.said,
+        });
         self.book.owed -= 1;
         Ok(())
     }
@@ -178,7 +184,7 @@ impl TcState {
     }
 
     /// Ends a transaction that is over, and releases its locks.
-    #[inline(always)]
+    #[inline(never)]
     pub fn end(&mut self, txn: TxnId) -> Result<Receipt, NotOver>
         ensures reply { result ≡ end_reply self.old txn.serial (end_of self.old txn.serial) }
         ensures state { self.new ≡ after_end self.old txn.serial (end_of self.old txn.serial) }

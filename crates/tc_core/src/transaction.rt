@@ -6,7 +6,6 @@ ghost use Rattle.access_slots.specs.declared.op.Op.{Op};
 ghost use Rattle.access_slots.specs.declared.op.Said.{Said};
 ghost use Rattle.access_slots.specs.Access as Access;
 ghost use Rattle.access_slots.specs.Access.{is_no_room};
-ghost use Rattle.transactions.specs.Standing as Standings;
 ghost use Rattle.transactions.specs.Standing.{Standing, rest_of, told_to, found_full, undo_done, tries_done, answered};
 ghost use Rattle.transactions.specs.Reached.{calls_in};
 ghost use Rattle.tc_core.specs.GivingUp.{Awaits};
@@ -15,21 +14,19 @@ ghost use Rattle.tc_core.specs.Joining.Sends.{asking_under, undoing_under};
 ghost use Rattle.tc_core.specs.Kept.{Keeps};
 ghost use Rattle.semantics.specs.Reach.{AreArguments};
 ghost use Rattle.transactions.specs.Legal.{first_undo};
-ghost use Rattle.transactions.specs.Next.{next_by};
-ghost use Rattle.transactions.specs.Next as Nexts;
-ghost use Rattle.tc_core.specs.Running.{Runs, MayResume, as_reached, does};
+ghost use Rattle.transactions.specs.Next.{next_by, ends_or_undoes};
+ghost use Rattle.tc_core.specs.Running.{Runs, MayResume, as_reached, as_next, does};
 ghost use Rattle.tc_core.specs.Replies.{over_in};
 
 use crate::undos::Undos;
 use access_slots::lock::LockSet;
 use access_slots::op::{Op, Reply, Said, fits};
-use access_slots::slot::Value;
 use interpreter::layout::Layout;
 use interpreter::machine::Machine;
 use interpreter::pause::Pause;
 use std::alloc::{AllocError, Global};
 use tc_log::event::{Args, Outcome};
-use transactions::{Next, Sent};
+use transactions::Sent;
 use verifier::verify::Verified;
 
 /// An open transaction: its procedure's machine, and where that stands. It is large, so it stays in one
@@ -116,55 +113,63 @@ impl Tx {
 
     /// Its run goes on with what was said to its question.
     #[inline(always)]
-    pub fn resume(&mut self, code: &Verified, said: Said)
-        requires room { is_no_room said ≡ false }
-        requires asked { (args : List ℕ) × (answers : List Said) × (o : Op) × MayResume code.now self.old args answers o said }
-        ensures runs { (args : List ℕ) (answers : List Said) (o : Op) → MayResume code.now self.old args answers o said →
-            Runs code.now self.new args (answers ++ said ∷ []) }
+    pub fn resume(&mut self, code: &Verified, said: &Said)
+        requires room { is_no_room said.now ≡ false }
+        requires asked { (args : List ℕ) × (answers : List Said) × (o : Op) × MayResume code.now self.old args answers o said.now }
+        ensures runs { (args : List ℕ) (answers : List Said) (o : Op) → MayResume code.now self.old args answers o said.now →
+            Runs code.now self.new args (answers ++ said.now ∷ []) }
         ensures rest { self.new ≡ record self.old { machine = self.new.machine; pause = self.new.pause } }
     {
-        self.pause = self.machine.resume(code, Some(said));
+        self.pause = self.machine.resume(code, Some(*said));
     }
 }
 
-// The end, or the next write to be undone, four times at most.
-#[inline(always)]
-fn ends_or_undoes(left: Option<Op>, tries: u64, last: u64, outcome: Outcome) -> Next
-    ensures { result ≡ Nexts.ends_or_undoes left tries last outcome }
-{
-    match left {
-        None => Next::Over(outcome),
-        Some(op) => {
-            if tries < 4 {
-                Next::Undoes(op)
-            } else {
-                Next::Stuck(last)
-            }
-        }
-    }
+/// What a transaction does next, as [`transactions::Next`] says it, with the operation where it stands.
+#[derive(Clone, Copy)]
+pub enum Does<'a> {
+    Waits(u64),
+    Asks(&'a Op),
+    Undoes(&'a Op),
+    Stuck(u64),
+    Over(Outcome),
 }
 
 impl Tx {
+    // The next write to be undone, four times at most, or the end.
+    fn undoes_or_ends(&self, outcome: Outcome) -> Does<'_>
+        ensures { as_next result ≡ ends_or_undoes (first_undo self.now.undo.ops) self.now.tries self.now.last outcome }
+    {
+        match self.undo.first() {
+            None => Does::Over(outcome),
+            Some(op) => {
+                if self.tries < 4 {
+                    Does::Undoes(op)
+                } else {
+                    Does::Stuck(self.last)
+                }
+            }
+        }
+    }
+
     /// What it does next.
     #[inline(always)]
-    pub fn next(&self) -> Next
+    pub fn next(&self) -> Does<'_>
         ensures { next_by self.now.sent self.now.full (first_undo self.now.undo.ops) self.now.tries self.now.last
-            (as_reached self.now.pause) ≡ Some result }
+            (as_reached self.now.pause) ≡ Some (as_next result) }
     {
         if let Some(sent) = &self.sent {
-            return Next::Waits(sent.number);
+            return Does::Waits(sent.number);
         }
-        let left = self.undo.first();
         if self.full {
-            return ends_or_undoes(left, self.tries, self.last, Outcome::NoRoom);
+            return self.undoes_or_ends(Outcome::NoRoom);
         }
-        match self.pause {
-            Pause::Ask(op) => Next::Asks(op),
+        match &self.pause {
+            Pause::Ask(op) => Does::Asks(op),
             Pause::Exit(value) => {
-                if value == 0 {
-                    Next::Over(Outcome::Committed)
+                if *value == 0 {
+                    Does::Over(Outcome::Committed)
                 } else {
-                    ends_or_undoes(left, self.tries, self.last, Outcome::Aborted(value))
+                    self.undoes_or_ends(Outcome::Aborted(*value))
                 }
             }
         }
@@ -172,13 +177,13 @@ impl Tx {
 
     /// It waits for the answer to its question.
     #[inline(always)]
-    pub fn send(&mut self, number: u64, op: Op)
+    pub fn send(&mut self, number: u64, op: &Op)
         requires { 1 ≤ self.old.left }
-        ensures { self.new ≡ asking_under number op self.old }
+        ensures { self.new ≡ asking_under number op.now self.old }
     {
         self.sent = Some(Sent {
             number,
-            op,
+            op: *op,
             undoing: false,
         });
         self.last = number;
@@ -193,44 +198,37 @@ fn is_no_room(said: &Said) -> bool
     matches!(said, Said::NoRoom)
 }
 
-// What undoes a write that was done.
-fn inverse(op: &Op, former: Option<Value>) -> Option<Op>
-    ensures { result ≡ Standings.inverse op.now former }
+// What undoes a write that was done is the first to be undone.
+#[inline(always)]
+fn wrote(undo: &mut Undos, op: &Op, said: &Said)
+    requires { 0 < undo.old.room }
+    ensures ops { undo.new.ops ≡ undo_done false op.now said.now undo.old.ops }
+    ensures room { length undo.new.ops + undo.new.room ≡ length undo.old.ops + undo.old.room }
 {
+    let Said::Done(former) = said else {
+        return;
+    };
     match op {
-        Op::Read(_) => None,
-        Op::Insert(record, _) => Some(Op::Delete(*record)),
-        Op::Update(record, _) => match former {
-            None => None,
-            Some(value) => Some(Op::Update(*record, value)),
-        },
-        Op::Delete(record) => match former {
-            None => None,
-            Some(value) => Some(Op::Insert(*record, value)),
-        },
+        Op::Read(_) => {}
+        Op::Insert(record, _) => undo.push(Op::Delete(*record)),
+        Op::Update(record, _) => {
+            if let Some(value) = former {
+                undo.push(Op::Update(*record, *value));
+            }
+        }
+        Op::Delete(record) => {
+            if let Some(value) = former {
+                undo.push(Op::Insert(*record, *value));
+            }
+        }
     }
 }
 
 impl Tx {
-    // What undoes a write that was done is the first to be undone.
-    #[inline(always)]
-    fn wrote(&mut self, op: Op, said: Said)
-        requires { 0 < self.old.undo.room }
-        ensures ops { self.new.undo.ops ≡ undo_done false op said self.old.undo.ops }
-        ensures room { length self.new.undo.ops + self.new.undo.room ≡ length self.old.undo.ops + self.old.undo.room }
-        ensures rest { self.new ≡ record self.old { undo = self.new.undo } }
-    {
-        if let Said::Done(former) = said {
-            if let Some(op) = inverse(&op, former) {
-                self.undo.push(op);
-            }
-        }
-    }
-
     // A write was undone, or is to be tried again.
-    fn undo_heard(&mut self, said: Said)
-        ensures ops { (o : Op) → self.new.undo.ops ≡ undo_done true o said self.old.undo.ops }
-        ensures tries { self.new.tries ≡ tries_done true said self.old.tries }
+    fn undo_heard(&mut self, said: &Said)
+        ensures ops { (o : Op) → self.new.undo.ops ≡ undo_done true o said.now self.old.undo.ops }
+        ensures tries { self.new.tries ≡ tries_done true said.now self.old.tries }
         ensures room { length self.new.undo.ops + self.new.undo.room ≡ length self.old.undo.ops + self.old.undo.room }
         ensures rest { self.new ≡ record self.old { undo = self.new.undo; tries = self.new.tries } }
     {
@@ -242,57 +240,53 @@ impl Tx {
 
     // The run goes on with what was said to its question, unless an insert found no room.
     #[inline(always)]
-    fn told(&mut self, code: &Verified, op: Op, said: Said)
-        requires room { 0 < self.old.undo.room }
-        requires asked { (args : List ℕ) × (answers : List Said) × MayResume code.now self.old args answers op said }
-        ensures runs { (args : List ℕ) (answers : List Said) → MayResume code.now self.old args answers op said →
-            Runs code.now self.new args (told_to false said answers) }
-        ensures full { self.new.full ≡ (self.old.full || found_full false said) }
-        ensures ops { self.new.undo.ops ≡ undo_done false op said self.old.undo.ops }
-        ensures room { length self.new.undo.ops + self.new.undo.room ≡ length self.old.undo.ops + self.old.undo.room }
-        ensures rest { self.new
-            ≡ record self.old { machine = self.new.machine; pause = self.new.pause; full = self.new.full; undo = self.new.undo } }
+    fn told(&mut self, code: &Verified, said: &Said)
+        requires { (args : List ℕ) × (answers : List Said) × (o : Op) × MayResume code.now self.old args answers o said.now }
+        ensures runs { (args : List ℕ) (answers : List Said) (o : Op) → MayResume code.now self.old args answers o said.now →
+            Runs code.now self.new args (told_to false said.now answers) }
+        ensures full { self.new.full ≡ (self.old.full || found_full false said.now) }
+        ensures rest { self.new ≡ record self.old { machine = self.new.machine; pause = self.new.pause; full = self.new.full } }
     {
-        if is_no_room(&said) {
+        if is_no_room(said) {
             self.full = true;
             return;
         }
-        self.wrote(op, said);
         self.resume(code, said);
     }
 
     /// Takes in what was said to the operation that it waits for.
     #[inline(always)]
-    pub fn hear(&mut self, code: &Verified, said: Said)
-        requires { (s : Standing) × MayHear code.now self.old s said }
-        ensures keeps { (s : Standing) → MayHear code.now self.old s said → Keeps code.now self.new (answered said s) }
+    pub fn hear(&mut self, code: &Verified, said: &Said)
+        requires { (s : Standing) × MayHear code.now self.old s said.now }
+        ensures keeps { (s : Standing) → MayHear code.now self.old s said.now → Keeps code.now self.new (answered said.now s) }
         ensures serial { self.new.serial ≡ self.old.serial }
         ensures certain { self.new.in_doubt ≡ false }
     {
         self.in_doubt = false;
-        let Some(sent) = self.sent else {
+        let Some(sent) = &self.sent else {
             return;
         };
-        self.sent = None;
         if sent.undoing {
             self.undo_heard(said);
         } else {
-            self.told(code, sent.op, said);
+            wrote(&mut self.undo, &sent.op, said);
+            self.told(code, said);
         }
+        self.sent = None;
     }
 }
 
 // How it ends that has nothing else to do.
 #[inline(always)]
-fn over(next: Next) -> Option<Outcome>
-    ensures { result ≡ over_in (Some next) }
+fn over(next: Does<'_>) -> Option<Outcome>
+    ensures { result ≡ over_in (Some (as_next next.entry)) }
 {
     match next {
-        Next::Waits(_) => None,
-        Next::Asks(_) => None,
-        Next::Undoes(_) => None,
-        Next::Stuck(_) => None,
-        Next::Over(outcome) => Some(outcome),
+        Does::Waits(_) => None,
+        Does::Asks(_) => None,
+        Does::Undoes(_) => None,
+        Does::Stuck(_) => None,
+        Does::Over(outcome) => Some(outcome),
     }
 }
 
@@ -327,14 +321,14 @@ impl Tx {
     }
 
     /// It waits for the answer to an undo.
-    pub fn send_undo(&mut self, number: u64, op: Op)
+    pub fn send_undo(&mut self, number: u64, op: &Op)
         requires left { 1 ≤ self.old.left }
         requires tries { self.old.tries < 4 }
-        ensures { self.new ≡ undoing_under number op self.old }
+        ensures { self.new ≡ undoing_under number op.now self.old }
     {
         self.sent = Some(Sent {
             number,
-            op,
+            op: *op,
             undoing: true,
         });
         self.tries += 1;

@@ -1,6 +1,6 @@
 // What undoes writes.
 
-ghost use Rattle.std.specs.Prelude.{◌≡◌, ◌+◌, ◌<◌, ◌≤◌, [], ◌∷◌, length, IfOk};
+ghost use Rattle.std.specs.Prelude.{◌≡◌, ◌+◌, ◌<◌, ◌≤◌, [], ◌∷◌, length, Some, None, IfOk, IfSome, IfNone};
 ghost use Rattle.transactions.specs.Standing.{rest_of};
 ghost use Rattle.transactions.specs.Legal.{first_undo};
 
@@ -67,9 +67,10 @@ impl Undos {
 
     /// The first one to be undone.
     #[inline(always)]
-    pub fn first(&self) -> Option<Op>
-        ensures { result ≡ first_undo self.now.ops }
+    pub fn first(&self) -> Option<&Op>
+        ensures some { IfSome result (λ op. first_undo self.now.ops ≡ Some op.now) }
+        ensures none { IfNone result (first_undo self.now.ops ≡ None) }
     {
-        self.ops.last().copied()
+        self.ops.last()
     }
 }

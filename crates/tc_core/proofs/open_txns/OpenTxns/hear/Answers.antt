@@ -29,7 +29,7 @@ returns-clause-updates c = λ tx found.
       updates = seen-updates _ c.self.inside.txns c.args.self.now c.self.view_is _ _ c.args.key (Some _) (Updates-with_value c.self.inside.txns c.args.key _ (ap is_some c.index_mut.ensures.value));
       serial = c.hear.ensures.serial ∙ ap (λ (x : Tx). x.serial) same;
       certain = c.hear.ensures.certain;
-      keeps = λ s m. c.hear.ensures.keeps s (subst (λ (x : Tx). MayHear c.args.code.now x s c.args.said) (sym same) m);
+      keeps = λ s m. c.hear.ensures.keeps s (subst (λ (x : Tx). MayHear c.args.code.now x s c.args.said.now) (sym same) m);
     }
 
 pub returns-clause-len : goal.returns-clause-len

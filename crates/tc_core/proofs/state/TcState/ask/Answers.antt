@@ -66,7 +66,7 @@ invariant_of-self c =
     let late : given h < c.next_number-number.result = omega (arith, c.next_number-number.ensures.number, c.self.invariant.0.kept.last_is) in (
       record {
         kept =
-            kept-ask _ _ _ _ _ _ _ _ _ _ _ _ c.next_number-number.result tx _ c.in-Asks.op c.self.invariant.0.kept c.at.ensures (seen _ _ _ _ _ _ _ _ _ _ tx c.self.invariant.0.kept c.at.ensures refl) c.in-Asks.ensures
+            kept-ask _ _ _ _ _ _ _ _ _ _ _ _ c.next_number-number.result tx _ c.in-Asks.op.now c.self.invariant.0.kept c.at.ensures (seen _ _ _ _ _ _ _ _ _ _ tx c.self.invariant.0.kept c.at.ensures refl) c.in-Asks.ensures
             c.next_number-number.ensures.number (rw (← serial) at c.push.ensures.events) c.push.ensures.room c.next_number-number.ensures.last c.next_number-number.ensures.pending c.next_number-number.ensures.room
             (c.send.ensures.updates tx c.at.ensures) c.send.ensures.len refl;
         most = omega (arith, c.self.invariant.0.most, more, promised);
