@@ -11,6 +11,7 @@
 //! a machine over where it is: `tc_core` does so for each call.)
 #![tactic(auto)]
 
+mod cursor;
 pub mod layout;
 pub mod machine;
 pub mod memory;
