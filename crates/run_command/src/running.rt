@@ -281,7 +281,8 @@ fn run_calls<R: Clock + Threads + Wait + Sync>(
     prepared: Prepared,
     journal: Option<FileJournal>,
 ) -> Result<Ran, Unreported>
-    ensures run { (said_first said_calls : List ScriptCall) → KeepsLog journal state.events → AreCallsOf said_first prepared.workload.first.items
+    ensures run { (said_first said_calls : List ScriptCall) → KeepsLog journal state.events
+        → AreCallsOf said_first prepared.workload.first.items
         → AreCallsOf said_calls prepared.workload.calls.items → IfOk result (λ r. IsCallsRun (λ last. KeepsLog r.journal last.events)
         state dcs.items said_first said_calls prepared.workload.manner.workers prepared.workload.manner.tries
         prepared.workload.manner.audit r.report.status (string_bytes r.report.lines)) }

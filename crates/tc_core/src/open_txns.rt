@@ -273,7 +273,8 @@ impl OpenTxns {
     pub fn send(&mut self, key: usize, number: u64, op: &Op)
         requires key { ContainsKey self.old key }
         requires left { (tx : TxValue) → get self.old key ≡ Some tx → 1 ≤ tx.left }
-        ensures updates { (tx : TxValue) → get self.old key ≡ Some tx → Updates self.old self.new key (Some (asking_under number op.now tx)) }
+        ensures updates { (tx : TxValue) → get self.old key ≡ Some tx →
+            Updates self.old self.new key (Some (asking_under number op.now tx)) }
         ensures len { slab_len self.new ≡ slab_len self.old }
     {
         self.txns[key].send(number, op);
@@ -284,7 +285,8 @@ impl OpenTxns {
         requires key { ContainsKey self.old key }
         requires left { (tx : TxValue) → get self.old key ≡ Some tx → 1 ≤ tx.left }
         requires tries { (tx : TxValue) → get self.old key ≡ Some tx → tx.tries < 4 }
-        ensures updates { (tx : TxValue) → get self.old key ≡ Some tx → Updates self.old self.new key (Some (undoing_under number op.now tx)) }
+        ensures updates { (tx : TxValue) → get self.old key ≡ Some tx →
+            Updates self.old self.new key (Some (undoing_under number op.now tx)) }
         ensures len { slab_len self.new ≡ slab_len self.old }
     {
         self.txns[key].send_undo(number, op);

@@ -206,7 +206,8 @@ pub fn are_written(
     events: usize,
 ) -> bool
     requires { AreWaiting requests.now state.now.events }
-    ensures { IsTrue result ↔ MayCrash events (record { core = state.now; dcs = dcs.now; copies = copies.now; replies = replies.now; news = news.now }) }
+    ensures { IsTrue result ↔
+        MayCrash events (record { core = state.now; dcs = dcs.now; copies = copies.now; replies = replies.now; news = news.now }) }
 {
     state.known();
     let log = state.log().events();

@@ -123,7 +123,8 @@ impl<J: Naming> Model for Desk<J> {
 
     ghost view = { λ d. record { state = d.state; progress = d.progress.items; is_touched = d.touched } };
 
-    ghost invariant = { λ d. Keeps J.start J.calls d.state d.progress.items × (d.touched ≡ false → d.state ≡ J.start) × IsHanded J.start.events d.handed d.copied d.state.events };
+    ghost invariant = { λ d. Keeps J.start J.calls d.state d.progress.items × (d.touched ≡ false → d.state ≡ J.start)
+        × IsHanded J.start.events d.handed d.copied d.state.events };
 }
 
 impl<J: Naming> Desk<J> {

@@ -102,7 +102,8 @@ impl<J: Naming, K: Journal> Model for Keeper<J, K> {
 
     ghost view = { λ k. record { journal = k.journal; handed = k.handed; batch = k.batch; is_sound = k.is_sound } };
 
-    ghost invariant = { λ k. (k.keeps ≡ J.keeps) × (k.is_sound ≡ true → HasAll K.has_kept J.before k.journal k.handed × (k.events ≡ length J.start.events + length (events_of k.handed))) };
+    ghost invariant = { λ k. (k.keeps ≡ J.keeps) × (k.is_sound ≡ true → HasAll K.has_kept J.before k.journal k.handed
+        × (k.events ≡ length J.start.events + length (events_of k.handed))) };
 }
 
 impl<J: Naming, K: Journal> Keeper<J, K> {
@@ -139,7 +140,8 @@ impl<J: Naming, K: Journal> Keeper<J, K> {
     // Leave to tell an answer whose event is kept.
     fn leave(&self, due: Due) -> Result<Leave<J>, Due>
         ensures call { IfOk result (λ leave. (leave.call ≡ due.call) × (leave.place ≡ due.place)) }
-        ensures kept { OnOk result (J.keeps ≡ true → HasAll K.has_kept J.before self.now.journal self.now.handed × IsWithin J.start.events due.place self.now.handed) }
+        ensures kept { OnOk result (J.keeps ≡ true → HasAll K.has_kept J.before self.now.journal self.now.handed
+            × IsWithin J.start.events due.place self.now.handed) }
         ensures keeps { IfErr result (λ same. J.keeps ≡ true) }
     {
         if !self.keeps {
