@@ -213,7 +213,6 @@ kept-ask ps log log' table numbers numbers' txns txns' serials owed promised key
       last = refl;
       left = omega (arith, m.keeps.left);
       room = m.keeps.room;
-      locks = m.keeps.locks;
       runs = record { started = m.keeps.runs.started; call = m.keeps.runs.call; layout = m.keeps.runs.layout; pauses = m.keeps.runs.pauses };
     } in
     let matches : Matches ps tx' s' = rw made (record { q = m.q; loaded = m.loaded; keeps = keeps }) in
@@ -329,7 +328,6 @@ kept-undo ps log log' table numbers numbers' txns txns' serials owed promised ke
       last = refl;
       left = omega (arith, m.keeps.left);
       room = m.keeps.room;
-      locks = m.keeps.locks;
       runs = record { started = m.keeps.runs.started; call = m.keeps.runs.call; layout = m.keeps.runs.layout; pauses = m.keeps.runs.pauses };
     } in
     let matches : Matches ps tx' s' = rw made (record { q = m.q; loaded = m.loaded; keeps = keeps }) in
