@@ -6,7 +6,6 @@ use Rattle.std.proofs.lemmas.Bool.{cases_eq}
 use Rattle.std.specs.Prelude.{nat_lt}
 use Rattle.std.proofs.lemmas.Bool.Decides.{nat_tests}
 use Rattle.access_slots.specs.Declaration.{Declaration}
-use Rattle.access_slots.specs.declared.slot.Slot.{Slot}
 use Rattle.access_slots.specs.declared.slot.Mode.{Mode}
 use Rattle.access_slots.specs.declared.lock.Lock.{Lock}
 use Rattle.access_slots.specs.Locks.{AreLocksOf, mode_in, mode_named}
@@ -188,11 +187,9 @@ keeps_fresh q tx p args proc sent full undo tries last left room runs = record {
 
 -- ---- the conditions
 
-pub set_locks : (ps : List Checked) (p : ℕ) (q : Checked) (args args' : List ℕ) (slots : List Slot) (set : List Lock)
-    → slice_get ps p ≡ Some q → args' ≡ args → slots ≡ q.decl.slots → AreLocksOf args' slots set
-    → (r : Record) → mode_in set r ≡ locks_of (decls ps) (record { proc = p; args = args }) r
-set_locks ps p q args args' slots set loaded same_args same_slots are r =
-    are r ∙ (ap (λ (xs : List ℕ). mode_named xs slots r) same_args ∙ (ap (λ (ss : List Slot). mode_named args ss r) same_slots ∙ ap (λ (d : Option Declaration). locks_by d args r) (sym (get_decl ps p q loaded))))
+-- the locks that this declaration's slots name are those of the procedure that has it
+pub named_locks : (q : Checked) (d : Declaration) (args : List ℕ) (set : List Lock) → d ≡ q.decl → AreLocksOf args d.slots set → AreLocksOf args q.decl.slots set
+named_locks q d args set same are = subst (λ (x : Declaration). AreLocksOf args x.slots set) same are
 
 way_same : (held held' : Held) (wanted wanted' : Wanted) → ((t : ℕ) (r : Record) → held t r ≡ held' t r)
     → ((r : Record) → wanted r ≡ wanted' r) → (r : Record) (t : ℕ)

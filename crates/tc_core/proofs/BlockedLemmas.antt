@@ -6,7 +6,6 @@ use Rattle.access_slots.specs.declared.slot.Record.{Record}
 use Rattle.access_slots.specs.declared.slot.Mode.{Mode}
 use Rattle.access_slots.specs.declared.lock.Lock.{Lock}
 use Rattle.access_slots.specs.declared.op.Op.{Op}
-use Rattle.access_slots.specs.Declaration.{Declaration}
 use Rattle.access_slots.specs.Held.{Wanted, excludes, in_the_way}
 use Rattle.access_slots.specs.Locks.{mode_in, record_eq, Rising}
 use Rattle.access_slots.proofs.Records.{eq_same, eq_is}
@@ -17,15 +16,14 @@ use Rattle.request_numbers.specs.Given.{holds}
 use Rattle.verifier.specs.Checked.{Checked}
 use Rattle.tc_log.specs.declared.event.Event.{Event}
 use Rattle.tc_log.specs.declared.event.Outcome.{Outcome}
-use Rattle.history.specs.Calls.{Call, held, held_for, locks_by, locks_of}
+use Rattle.history.specs.Calls.{Call, held, held_for, locks_of}
 use Rattle.transactions.specs.declared.Sent.{Sent}
 use Rattle.transactions.specs.declared.Next.TheVariants as next
 use Rattle.transactions.specs.Legal.{first_undo}
 use Rattle.transactions.specs.Next.{next_by, next_in, ends_or_undoes, runs_on, idles}
 use Rattle.transactions.specs.Reached.{Reached, Asks, Ends, Nowhere, decls}
 use Rattle.transactions.specs.Standing.{Standing, standing}
-use Rattle.transactions.proofs.Running.{get_decl}
-use Rattle.transactions.proofs.Headline.{held_is, no_call}
+use Rattle.transactions.proofs.Headline.{no_call}
 use Rattle.slab.specs.Slab.{Slab, get}
 use Rattle.tc_core.specs.Core.{Core}
 use Rattle.tc_core.specs.Running.{as_reached}

@@ -37,16 +37,6 @@ fn procedure_of<'a>(procs: &'a Procs, call: &Call) -> Result<&'a Verified, Refus
     Ok(code)
 }
 
-// The locks that a call takes.
-#[inline(always)]
-fn locks_of(code: &Verified, args: &[u64]) -> LockSet
-    requires { length args.now ≡ code.now.decl.args }
-    ensures locks { (r : Record) → mode_in result r ≡ mode_named args.now code.now.decl.slots r }
-    ensures rising { Rising result }
-{
-    code.decl().resolve(args)
-}
-
 // Whether too few numbers are left for a call.
 #[inline(always)]
 fn is_spent(last: u64, promised: u64, calls: usize) -> bool
@@ -124,7 +114,7 @@ impl TcState {
         ensures refused { IfErr result (IsRefused self.old (call_of call.now)) }
     {
         let code = procedure_of(&self.procs, call)?;
-        let set = locks_of(code, call.args.as_slice());
+        let set = code.decl().resolve(call.args.as_slice());
         if let Some(busy) = self.book.locks.busy(&set) {
             return Err(Refusal::Busy(busy));
         }
@@ -149,7 +139,7 @@ impl TcState {
         let Ok(code) = procedure_of(&self.procs, call) else {
             return false;
         };
-        let set = locks_of(code, call.args.as_slice());
+        let set = code.decl().resolve(call.args.as_slice());
         let Some(_busy) = self.book.locks.busy(&set) else {
             return false;
         };
