@@ -8,14 +8,14 @@ ghost use Rattle.transactions.specs.Next.{next_by};
 ghost use Rattle.tc_core.specs.Running.{as_reached, as_next};
 ghost use Rattle.tc_core.specs.Joining.Holders.{stuck_by, stands_still};
 
-use crate::transaction::{Does, Tx};
+use crate::transaction::{NextStep, Tx};
 use access_slots::lock::LockSet;
 use lock_table::table::LockTable;
 
-fn is_stuck(next: Does<'_>) -> bool
+fn is_stuck(next: NextStep<'_>) -> bool
     ensures { result ≡ stuck_by (Some (as_next next.entry)) }
 {
-    matches!(next, Does::Stuck(_))
+    matches!(next, NextStep::Stuck(_))
 }
 
 impl Tx {

@@ -114,26 +114,31 @@ impl Tx {
 
 /// What a transaction does next, as [`transactions::Next`] says it, with the operation where it stands.
 #[derive(Clone, Copy)]
-pub enum Does<'a> {
+pub enum NextStep<'a> {
+    /// It waits for the answer to the request with this number.
     Waits(u64),
+    /// It asks for this operation.
     Asks(&'a Op),
+    /// It is to be undone, first by this operation.
     Undoes(&'a Op),
+    /// A write couldn't be undone under four numbers, of which this is the last.
     Stuck(u64),
+    /// Nothing is left to do: it ends so.
     Over(Outcome),
 }
 
 impl Tx {
     // The next write to be undone, four times at most, or the end.
-    fn undoes_or_ends(&self, outcome: Outcome) -> Does<'_>
+    fn undoes_or_ends(&self, outcome: Outcome) -> NextStep<'_>
         ensures { as_next result ≡ ends_or_undoes (first_undo self.now.undo.ops) self.now.tries self.now.last outcome }
     {
         match self.undo.first() {
-            None => Does::Over(outcome),
+            None => NextStep::Over(outcome),
             Some(op) => {
                 if self.tries < 4 {
-                    Does::Undoes(op)
+                    NextStep::Undoes(op)
                 } else {
-                    Does::Stuck(self.last)
+                    NextStep::Stuck(self.last)
                 }
             }
         }
@@ -141,21 +146,21 @@ impl Tx {
 
     /// What it does next.
     #[inline(always)]
-    pub fn next(&self) -> Does<'_>
+    pub fn next(&self) -> NextStep<'_>
         ensures { next_by self.now.sent self.now.full (first_undo self.now.undo.ops) self.now.tries self.now.last
             (as_reached self.now.pause) ≡ Some (as_next result) }
     {
         if let Some(sent) = &self.sent {
-            return Does::Waits(sent.number);
+            return NextStep::Waits(sent.number);
         }
         if self.full {
             return self.undoes_or_ends(Outcome::NoRoom);
         }
         match &self.pause {
-            Pause::Ask(op) => Does::Asks(op),
+            Pause::Ask(op) => NextStep::Asks(op),
             Pause::Exit(value) => {
                 if *value == 0 {
-                    Does::Over(Outcome::Committed)
+                    NextStep::Over(Outcome::Committed)
                 } else {
                     self.undoes_or_ends(Outcome::Aborted(*value))
                 }
@@ -266,15 +271,15 @@ impl Tx {
 
 // How it ends that has nothing else to do.
 #[inline(always)]
-fn over(next: Does<'_>) -> Option<Outcome>
+fn over(next: NextStep<'_>) -> Option<Outcome>
     ensures { result ≡ over_in (Some (as_next next.entry)) }
 {
     match next {
-        Does::Waits(_) => None,
-        Does::Asks(_) => None,
-        Does::Undoes(_) => None,
-        Does::Stuck(_) => None,
-        Does::Over(outcome) => Some(outcome),
+        NextStep::Waits(_) => None,
+        NextStep::Asks(_) => None,
+        NextStep::Undoes(_) => None,
+        NextStep::Stuck(_) => None,
+        NextStep::Over(outcome) => Some(outcome),
     }
 }
 
