@@ -184,7 +184,7 @@ impl TcState {
     }
 
     /// Ends a transaction that is over, and releases its locks.
-    // Inlined it makes a move longer: with the other calls its caller is so large that less is inlined there.
+    // As `wire`, it stands apart from its caller's step: a move takes fewer machine instructions so (docs/TRIED.md).
     #[inline(never)]
     pub fn end(&mut self, txn: TxnId) -> Result<Receipt, NotOver>
         ensures reply { result ≡ end_reply self.old txn.serial (end_of self.old txn.serial) }
