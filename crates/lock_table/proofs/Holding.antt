@@ -1,5 +1,5 @@
 -- Whether anybody holds a record.
-use Rattle.std.proofs.Common.{◌≡◌, ℕ, Bool, true, false, refl, sym, ap, ◌∙◌, is_some, true≢false}
+use Rattle.std.proofs.Common.{◌≡◌, ℕ, List, [], ◌∷◌, Bool, true, false, refl, sym, ap, ◌∙◌, is_some, true≢false}
 use Rattle.std.specs.Prelude.{Option, Some, None}
 use Rattle.access_slots.specs.declared.slot.Record.{Record}
 use Rattle.access_slots.specs.declared.slot.Mode.{Mode}
@@ -7,7 +7,8 @@ use Rattle.access_slots.specs.declared.slot.Mode.TheVariants as mode
 use Rattle.access_slots.specs.declared.lock.Lock.{Lock}
 use Rattle.access_slots.specs.Held.{excludes}
 use Rattle.lock_table.specs.declared.table.Hold.{Hold}
-use Rattle.lock_table.specs.Facts.{Sets, held_in}
+use Rattle.lock_table.specs.Clashes.{clashes}
+use Rattle.lock_table.specs.Facts.{Sets, held_in, mode_among}
 use Rattle.lock_table.specs.Joining.Barring.{least_holder}
 use Rattle.lock_table.specs.Holds.{hold_mode}
 use Rattle.lock_table.proofs.Barring.{way_is, nobody_bars, least_bars}
@@ -51,3 +52,8 @@ somebody_holds sets now r h b once same holds is yes_it =
     let t = a_holder (least_holder sets (write_of r)) taken in
     let m = some_excluded (held_in sets t.0 r) (least_bars sets (write_of r) t.0 once t.1).bars in
     (t.0, m.0, ap (λ (s : Sets). held_in s t.0 r) (sym same) ∙ m.1)
+
+-- where nothing is held nothing clashes
+pub clashes_nothing : (wanted : List Lock) → clashes wanted (mode_among None) ≡ false
+clashes_nothing [] = refl
+clashes_nothing (l ∷ wanted) = clashes_nothing wanted

@@ -6,7 +6,8 @@ ghost use Rattle.access_slots.specs.declared.slot.Record.{Record};
 ghost use Rattle.access_slots.specs.declared.slot.Mode.{Mode as ModeValue};
 ghost use Rattle.access_slots.specs.Locks.{record_eq, mode_in, Rising};
 ghost use Rattle.access_slots.specs.Held.{excludes, Compatible, IsFirstInTheWay};
-ghost use Rattle.lock_table.specs.Facts.{held_by, nobody, granted, released, AreHeld, HoldsNothing};
+ghost use Rattle.lock_table.specs.Clashes.{clashes};
+ghost use Rattle.lock_table.specs.Facts.{held_by, held_in, nobody, granted, released, AreHeld, HoldsNothing};
 ghost use Rattle.lock_table.specs.Holds.{hold_mode, held_more, held_less, AreHolds, AreFew};
 ghost use Rattle.lock_table.specs.Joining.Barring.{least, least_holder, first_busy};
 
@@ -88,6 +89,14 @@ impl LockTable {
         ensures held { IsTrue result → (t : ℕ) × (m : ModeValue) × (held_by self.now t name.now ≡ Some m) }
     {
         is_in(&self.records, name)
+    }
+
+    /// Whether a lock that the transaction holds keeps one of these out: it is on the same record, and one
+    /// of the two is for writing.
+    pub fn excludes(&self, txn: u64, set: &LockSet) -> bool
+        ensures { result ≡ clashes set.now (held_by self.now txn) }
+    {
+        excludes_in(&self.sets, txn, set)
     }
 
     /// Makes the set ready until the next grant or release. No lock is changed; a refusal leaves
@@ -200,6 +209,22 @@ fn put_back(idle: &mut Vec<HeldLocks>, held: Option<HeldLocks>)
         if idle.len() < idle.capacity() {
             idle.push_reserved(held);
         }
+    }
+}
+
+fn clash(wanted: &LockSet, held: &HeldLocks) -> bool
+    ensures { result ≡ clashes wanted.now (mode_in held.now) }
+{
+    wanted.locks().iter().any(|lock| held.excludes(lock))
+}
+
+// Whether the transaction has a lock that keeps one of these out.
+fn excludes_in(sets: &IndexMap<u64, HeldLocks>, txn: u64, wanted: &LockSet) -> bool
+    ensures { result ≡ clashes wanted.now (held_in sets.now.entries txn) }
+{
+    match sets.get(&txn) {
+        Some(held) => clash(wanted, held),
+        None => false,
     }
 }
 

@@ -6,7 +6,6 @@ use Rattle.std.proofs.lemmas.Bool.{cases_eq}
 use Rattle.std.specs.Prelude.{nat_lt}
 use Rattle.std.proofs.lemmas.Bool.Decides.{nat_tests}
 use Rattle.access_slots.specs.Declaration.{Declaration}
-use Rattle.access_slots.specs.declared.slot.Slot.{Slot}
 use Rattle.access_slots.specs.declared.slot.Mode.{Mode}
 use Rattle.access_slots.specs.declared.lock.Lock.{Lock}
 use Rattle.access_slots.specs.Locks.{AreLocksOf, mode_in, mode_named}
@@ -35,7 +34,7 @@ use Rattle.tc_core.specs.declared.book.Book.{Book}
 use Rattle.tc_core.specs.Joining.Rooms.{OnlyRoom, HasRoom, MayEnter}
 use Rattle.tc_core.specs.Loaded.{Loaded}
 use Rattle.tc_core.specs.Admission.{IsCalled, needed, IsFree}
-use Rattle.tc_core.specs.declared.transaction.Own.{Own}
+use Rattle.tc_core.specs.Joining.Writes.{Writes}
 use Rattle.tc_core.proofs.MarkedLemmas.{marked-room}
 use Rattle.tc_core.specs.Kept.{IsBook, core_of, Keeps, Matches, IsOpen, Places, Kept}
 use Rattle.tc_core.proofs.KeptLemmas.{calls_kept, held-admitted}
@@ -173,8 +172,8 @@ kept-admit ps log log' table table' numbers txns txns' serials owed promised key
 -- a transaction that begins is kept as a fresh one
 pub keeps_fresh : (q : Checked) (tx : Tx) (p : ℕ) (args : List ℕ) → tx.proc ≡ p → tx.sent ≡ None → tx.full ≡ false
     → tx.undo.ops ≡ [] → tx.tries ≡ 0 → tx.last ≡ 0 → tx.left ≡ 5 * calls_in q → calls_in q ≤ tx.undo.room
-    → ((r : Record) → mode_in tx.locks r ≡ mode_named args q.decl.slots r) → Runs q tx args [] → Keeps q tx (fresh (record { proc = p; args = args }))
-keeps_fresh q tx p args proc sent full undo tries last left room locks runs = record {
+    → Runs q tx args [] → Keeps q tx (fresh (record { proc = p; args = args }))
+keeps_fresh q tx p args proc sent full undo tries last left room runs = record {
   proc = proc;
   sent = sent;
   full = full;
@@ -183,17 +182,14 @@ keeps_fresh q tx p args proc sent full undo tries last left room locks runs = re
   last = last;
   left = omega (arith, left);
   room = omega (arith, room);
-  locks = locks;
   runs = runs;
 }
 
 -- ---- the conditions
 
-pub set_locks : (ps : List Checked) (p : ℕ) (q : Checked) (args args' : List ℕ) (slots : List Slot) (set : List Lock)
-    → slice_get ps p ≡ Some q → args' ≡ args → slots ≡ q.decl.slots → AreLocksOf args' slots set
-    → (r : Record) → mode_in set r ≡ locks_of (decls ps) (record { proc = p; args = args }) r
-set_locks ps p q args args' slots set loaded same_args same_slots are r =
-    are r ∙ (ap (λ (xs : List ℕ). mode_named xs slots r) same_args ∙ (ap (λ (ss : List Slot). mode_named args ss r) same_slots ∙ ap (λ (d : Option Declaration). locks_by d args r) (sym (get_decl ps p q loaded))))
+-- the locks that this declaration's slots name are those of the procedure that has it
+pub named_locks : (q : Checked) (d : Declaration) (args : List ℕ) (set : List Lock) → d ≡ q.decl → AreLocksOf args d.slots set → AreLocksOf args q.decl.slots set
+named_locks q d args set same are = subst (λ (x : Declaration). AreLocksOf args x.slots set) same are
 
 way_same : (held held' : Held) (wanted wanted' : Wanted) → ((t : ℕ) (r : Record) → held t r ≡ held' t r)
     → ((r : Record) → wanted r ≡ wanted' r) → (r : Record) (t : ℕ)
@@ -272,23 +268,34 @@ pub many-needed : (l : Loaded) (b : Book) (q : Checked) (last calls : ℕ) (spen
     → 2 ^ 62 < needed (core_of l b) q
 many-needed l b q last calls spent is same count e f = many-from (needed (core_of l b) q) (ap (nat_lt (2 ^ 62)) (sym (needs l b q last calls is same count)) ∙ (sym e ∙ f))
 
+-- a call that nothing stands in the way of, and that enough numbers are left for
+pub admissible : (l : Loaded) (b : Book) (call : Call) (q : Checked) (args : List ℕ) (set : List Lock) (last calls : ℕ) (spent : Bool)
+    → IsBook l.codes b → IsCalled l.codes call q → args ≡ call.args
+    → ((r : Record) → mode_in set r ≡ mode_named args q.decl.slots r) → Compatible (held_by b.locks) (mode_in set)
+    → last ≡ b.numbers.last → calls ≡ calls_in q → spent ≡ nat_lt (2 ^ 62) (last + 5 * calls + b.promised) → spent ≡ false
+    → IsFree (core_of l b) call × (needed (core_of l b) q ≤ 2 ^ 62)
+admissible l b call q args set last calls spent is called same are free count number e f = (
+  free-call l.codes b call q args set is called same are free,
+  few-needed l b q last calls spent is count number e f,
+)
+
 -- a call that is admissible has its room, and may be entered
-pub may-enter : (l : Loaded) (b b' : Book) (call : Call) (q : Checked) (args : List ℕ) (own : Own) (calls : ℕ)
+pub may-enter : (l : Loaded) (b b' : Book) (call : Call) (q : Checked) (args args' : List ℕ) (undo : Writes) (set : List Lock) (calls : ℕ)
     → IsBook l.codes b → IsCalled l.codes call q → IsFree (core_of l b) call → needed (core_of l b) q ≤ 2 ^ 62 → args ≡ call.args
-    → ((r : Record) → mode_in own.locks r ≡ mode_named args q.decl.slots r) → own.args ≡ call.args → own.undo.ops ≡ [] → calls ≤ own.undo.room → calls ≡ calls_in q
-    → OnlyRoom b b' → HasRoom b' calls own.locks → MayEnter l.codes b' q call.proc own
-may-enter l b b' call q args own calls is called free few same are own_args ops room count o has =
+    → ((r : Record) → mode_in set r ≡ mode_named args q.decl.slots r) → args' ≡ call.args → undo.ops ≡ [] → calls ≤ undo.room → calls ≡ calls_in q
+    → OnlyRoom b b' → HasRoom b' calls set → MayEnter l.codes b' q call.proc args' undo set
+may-enter l b b' call q args args' undo set calls is called free few same are own_args ops room count o has =
     let promised = o.promised in
     let promised_is = is.kept.rooms.promised_is in
     let given_same : given b'.log.events ≡ given b.log.events = ap given o.events in
-    let back : call.args ≡ own.args = sym own_args in
+    let back : call.args ≡ args' = sym own_args in
     record {
       book = book-room l.codes b b' is o;
       called = record { loaded = called.loaded; count = ap (λ (xs : List ℕ). length xs) own_args ∙ called.count };
       free = subst (λ (xs : List ℕ). Compatible (held (decls l.codes) b'.log.events) (locks_of (decls l.codes) (record { proc = call.proc; args = xs }))) back
           (subst (λ (h : List Event). Compatible (held (decls l.codes) h) (locks_of (decls l.codes) call)) (sym o.events) free);
       few = omega (arith, few, given_same, promised, promised_is);
-      room = subst (λ (n : ℕ). HasRoom b' n own.locks) count has;
+      room = subst (λ (n : ℕ). HasRoom b' n set) count has;
       locks = λ r. are r ∙ ap (λ (xs : List ℕ). mode_named xs q.decl.slots r) (same ∙ back);
       ops = ops;
       undo_room = omega (arith, room, count);

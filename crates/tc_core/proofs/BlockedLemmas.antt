@@ -1,37 +1,36 @@
 -- Sets of locks that exclude each other, and who stands in the way.
-use Rattle.std.proofs.Common.{◌≡◌, ◌≢◌, ℕ, Bool, true, false, ◌||◌, List, [], ◌∷◌, Option, Some, None, refl, sym, ◌∙◌, ap}
+use Rattle.std.proofs.Common.{◌≡◌, ◌≢◌, ℕ, Bool, true, false, ◌||◌, List, [], ◌∷◌, Option, Some, None, refl, sym, ◌∙◌, ap, subst}
 use Rattle.std.specs.Prelude.{◌==◌, nat_lt, if◌then◌else◌}
 use Rattle.std.proofs.lemmas.Bool.{cond-true, cond-false}
 use Rattle.access_slots.specs.declared.slot.Record.{Record}
 use Rattle.access_slots.specs.declared.slot.Mode.{Mode}
 use Rattle.access_slots.specs.declared.lock.Lock.{Lock}
 use Rattle.access_slots.specs.declared.op.Op.{Op}
-use Rattle.access_slots.specs.Declaration.{Declaration}
-use Rattle.access_slots.specs.Held.{excludes, in_the_way}
+use Rattle.access_slots.specs.Held.{Wanted, excludes, in_the_way}
 use Rattle.access_slots.specs.Locks.{mode_in, record_eq, Rising}
 use Rattle.access_slots.proofs.Records.{eq_same, eq_is}
 use Rattle.access_slots.proofs.Locking.{none_above, rising_rest}
+use Rattle.lock_table.specs.Clashes.{clashes}
+use Rattle.lock_table.specs.Facts.{Table, AreHeld, held_by}
 use Rattle.request_numbers.specs.Given.{holds}
 use Rattle.verifier.specs.Checked.{Checked}
 use Rattle.tc_log.specs.declared.event.Event.{Event}
 use Rattle.tc_log.specs.declared.event.Outcome.{Outcome}
-use Rattle.history.specs.Calls.{Call, held, held_for, locks_by, locks_of}
+use Rattle.history.specs.Calls.{Call, held, held_for, locks_of}
 use Rattle.transactions.specs.declared.Sent.{Sent}
 use Rattle.transactions.specs.declared.Next.TheVariants as next
 use Rattle.transactions.specs.Legal.{first_undo}
 use Rattle.transactions.specs.Next.{next_by, next_in, ends_or_undoes, runs_on, idles}
 use Rattle.transactions.specs.Reached.{Reached, Asks, Ends, Nowhere, decls}
 use Rattle.transactions.specs.Standing.{Standing, standing}
-use Rattle.transactions.proofs.Running.{get_decl}
-use Rattle.transactions.proofs.Headline.{held_is, no_call}
+use Rattle.transactions.proofs.Headline.{no_call}
 use Rattle.slab.specs.Slab.{Slab, get}
 use Rattle.tc_core.specs.Core.{Core}
 use Rattle.tc_core.specs.Running.{as_reached}
 use Rattle.tc_core.specs.Replies.{next_at}
 use Rattle.tc_core.specs.Admission.{IsCalled, IsUncallable, Takes}
 use Rattle.tc_core.specs.Blocked.{IsBlocked, stranded_by, is_stranded, stands_in_the_way}
-use Rattle.tc_core.specs.Joining.Clashes.{clashes}
-use Rattle.tc_core.specs.Joining.Holders.{stuck_by, stands_still, HoldsUp}
+use Rattle.tc_core.specs.Joining.Holders.{stuck_by, stands_still, AllStandStill, HoldsUp}
 use Rattle.tc_core.specs.Kept.{IsBook, core_of, is_doubted}
 use Rattle.tc_core.specs.Loaded.{Loaded}
 use Rattle.tc_core.specs.declared.book.Book.{Book}
@@ -55,52 +54,52 @@ excludes_none None = refl
 excludes_none (Some m) = refl
 
 -- where one lock excludes another, the sets clash
-pub clash_from : (wanted kept : List Lock) (r : Record) → excludes (mode_in wanted r) (mode_in kept r) ≡ true → clashes wanted kept ≡ true
+pub clash_from : (wanted : List Lock) (kept : Wanted) (r : Record) → excludes (mode_in wanted r) (kept r) ≡ true → clashes wanted kept ≡ true
 clash_from [] kept r e = absurd (cc)
 clash_from (l ∷ locks) kept r e = by (record_eq l.«record» r) refl (λ later. clash_from locks kept r later)
   where
     by : (b : Bool) → record_eq l.«record» r ≡ b
-        → (excludes (mode_in locks r) (mode_in kept r) ≡ true → clashes locks kept ≡ true)
+        → (excludes (mode_in locks r) (kept r) ≡ true → clashes locks kept ≡ true)
         → clashes (l ∷ locks) kept ≡ true
     by true is later =
         let same : l.«record» ≡ r = eq_is l.«record» r is in
         let mine : mode_in (l ∷ locks) r ≡ Some l.mode = cond-true _ (Some l.mode) (mode_in locks r) is in
-        let here : excludes (Some l.mode) (mode_in kept l.«record») ≡ true =
-        ap (λ (x : Record). excludes (Some l.mode) (mode_in kept x)) same ∙ (ap (λ (m : Option Mode). excludes m (mode_in kept r)) (sym mine) ∙ e) in
+        let here : excludes (Some l.mode) (kept l.«record») ≡ true =
+        ap (λ (x : Record). excludes (Some l.mode) (kept x)) same ∙ (ap (λ (m : Option Mode). excludes m (kept r)) (sym mine) ∙ e) in
         ap (λ (b : Bool). b || clashes locks kept) here
     by false is later =
         let other : mode_in (l ∷ locks) r ≡ mode_in locks r = cond-false _ (Some l.mode) (mode_in locks r) is in
-        let rest = later (ap (λ (m : Option Mode). excludes m (mode_in kept r)) (sym other) ∙ e) in
-        ap (λ (b : Bool). excludes (Some l.mode) (mode_in kept l.«record») || b) rest ∙ or_true (excludes (Some l.mode) (mode_in kept l.«record»))
+        let rest = later (ap (λ (m : Option Mode). excludes m (kept r)) (sym other) ∙ e) in
+        ap (λ (b : Bool). excludes (Some l.mode) (kept l.«record») || b) rest ∙ or_true (excludes (Some l.mode) (kept l.«record»))
 
 -- and where they clash, one lock excludes another
-pub record Excluded (wanted kept : List Lock) : Type 0 where
+pub record Excluded (wanted : List Lock) (kept : Wanted) : Type 0 where
   pub name : Record
-  pub excluded : excludes (mode_in wanted name) (mode_in kept name) ≡ true
+  pub excluded : excludes (mode_in wanted name) (kept name) ≡ true
 
 -- a lock above all of these isn't among them
-apart_above : (l : Lock) (locks kept : List Lock) → Rising (l ∷ locks) → (later : Excluded locks kept) (b : Bool)
+apart_above : (l : Lock) (locks : List Lock) (kept : Wanted) → Rising (l ∷ locks) → (later : Excluded locks kept) (b : Bool)
     → record_eq l.«record» later.name ≡ b → b ≡ false
 apart_above l locks kept rising later false e = refl
 apart_above l locks kept rising later true same =
     let it = eq_is l.«record» later.name same in
     let none : mode_in locks later.name ≡ None = ap (mode_in locks) (sym it) ∙ none_above l.«record» locks rising in
-    absurd (let bad : false ≡ true = sym (ap (λ (m : Option Mode). excludes m (mode_in kept later.name)) none) ∙ later.excluded in cc)
+    absurd (let bad : false ≡ true = sym (ap (λ (m : Option Mode). excludes m (kept later.name)) none) ∙ later.excluded in cc)
 
-pub clash_at : (wanted kept : List Lock) → Rising wanted → clashes wanted kept ≡ true → Excluded wanted kept
+pub clash_at : (wanted : List Lock) (kept : Wanted) → Rising wanted → clashes wanted kept ≡ true → Excluded wanted kept
 clash_at [] kept rising e = absurd (cc)
-clash_at (l ∷ locks) kept rising e = by (excludes (Some l.mode) (mode_in kept l.«record»)) refl (λ rest. clash_at locks kept (rising_rest l locks rising) rest)
+clash_at (l ∷ locks) kept rising e = by (excludes (Some l.mode) (kept l.«record»)) refl (λ rest. clash_at locks kept (rising_rest l locks rising) rest)
   where
-    by : (b : Bool) → excludes (Some l.mode) (mode_in kept l.«record») ≡ b
+    by : (b : Bool) → excludes (Some l.mode) (kept l.«record») ≡ b
         → (clashes locks kept ≡ true → Excluded locks kept) → Excluded (l ∷ locks) kept
     by true is further = record {
       name = l.«record»;
-      excluded = ap (λ (m : Option Mode). excludes m (mode_in kept l.«record»)) (cond-true _ (Some l.mode) (mode_in locks l.«record») (eq_same l.«record»)) ∙ is;
+      excluded = ap (λ (m : Option Mode). excludes m (kept l.«record»)) (cond-true _ (Some l.mode) (mode_in locks l.«record») (eq_same l.«record»)) ∙ is;
     }
     by false is further =
         let later = further (sym (ap (λ (b : Bool). b || clashes locks kept) is) ∙ e) in
         let differ : record_eq l.«record» later.name ≡ false = apart_above l locks kept rising later (record_eq l.«record» later.name) refl in
-        record { name = later.name; excluded = ap (λ (m : Option Mode). excludes m (mode_in kept later.name)) (cond-false _ (Some l.mode) (mode_in locks later.name) differ) ∙ later.excluded }
+        record { name = later.name; excluded = ap (λ (m : Option Mode). excludes m (kept later.name)) (cond-false _ (Some l.mode) (mode_in locks later.name) differ) ∙ later.excluded }
 
 -- ---- a transaction in doubt or stuck, as it is kept and by the log
 
@@ -140,17 +139,12 @@ stranded_kept c t tx w marked =
 
 -- ---- who holds what
 
--- the locks that a transaction keeps are those that it holds
-pub locks_kept : (ps : List Checked) (h : List Event) (t : ℕ) (tx : Tx) (w : Seen ps h t tx) (r : Record) → mode_in tx.locks r ≡ held (decls ps) h t r
-locks_kept ps h t tx w r =
-    w.matches.keeps.locks r
-    ∙ (sym (ap (λ (d : Option Declaration). locks_by d w.s.call.args r) (get_decl ps w.s.call.proc w.matches.q w.matches.loaded)) ∙ sym (held_is ps h t w.s r w.is))
-
 -- a transaction in the way has a key
 pub record Holder (ps : List Checked) (h : List Event) (txns : Slab Tx) (t : ℕ) : Type 0 where
   pub key : ℕ
   pub tx : Tx
   pub found : get txns key ≡ Some tx
+  pub serial : tx.serial ≡ t
   pub sees : Seen ps h t tx
 
 pub holder_at : (l : Loaded) (b : Book) (call : Call) (r : Record) (t : ℕ) → IsBook l.codes b
@@ -164,7 +158,7 @@ holder_at l b call r t k stands = by (standing b.log.events t) refl
         absurd (cc)
     by (Some s) is =
         let has = k.kept.places.each t s is in
-        record { key = has.key; tx = has.at.tx; found = has.at.found; sees = seen _ _ _ _ _ _ _ _ has.key t has.at.tx k.kept has.at.found has.at.serial }
+        record { key = has.key; tx = has.at.tx; found = has.at.found; serial = has.at.serial; sees = seen _ _ _ _ _ _ _ _ has.key t has.at.tx k.kept has.at.found has.at.serial }
 
 -- a call that can't be made isn't called
 pub uncallable : (ps : List Checked) (call : Call) (q : Checked) (e : Refusal) → IsUncallable ps call e → IsCalled ps call q → ⊥
@@ -179,26 +173,28 @@ uncallable ps call q (refusal.Busy b) none is = none
 uncallable ps call q refusal.NumbersSpent none is = none
 uncallable ps call q refusal.Memory none is = none
 
--- one that stands in the way keeps locks that clash
-pub clash_of_holder : (ps : List Checked) (h : List Event) (t : ℕ) (tx : Tx) (w : Seen ps h t tx) (set : List Lock) (call : Call) (r : Record)
-    → ((q : Record) → mode_in set q ≡ locks_of (decls ps) call q) → in_the_way (held (decls ps) h) (locks_of (decls ps) call) r t ≡ true → clashes set tx.locks ≡ true
-clash_of_holder ps h t tx w set call r are stands =
-    clash_from set tx.locks r
-    (ap (λ (m : Option Mode). excludes m (mode_in tx.locks r)) (are r) ∙ (ap (excludes (locks_of (decls ps) call r)) (locks_kept ps h t tx w r) ∙ stands))
+-- one that stands in the way holds locks that clash
+pub clash_of_holder : (ps : List Checked) (h : List Event) (t : ℕ) (locks : Table) (set : List Lock) (call : Call) (r : Record)
+    → AreHeld locks (held (decls ps) h) → ((q : Record) → mode_in set q ≡ locks_of (decls ps) call q)
+    → in_the_way (held (decls ps) h) (locks_of (decls ps) call) r t ≡ true → clashes set (held_by locks t) ≡ true
+clash_of_holder ps h t locks set call r so are stands =
+    clash_from set (held_by locks t) r
+    (ap (λ (m : Option Mode). excludes m (held_by locks t r)) (are r) ∙ (ap (excludes (locks_of (decls ps) call r)) (so t r) ∙ stands))
 
 -- and one whose locks clash stands in the way
 pub record InTheWay (ps : List Checked) (h : List Event) (call : Call) (t : ℕ) : Type 0 where
   pub name : Record
   pub stands : in_the_way (held (decls ps) h) (locks_of (decls ps) call) name t ≡ true
 
-pub holder_of_clash : (ps : List Checked) (h : List Event) (t : ℕ) (tx : Tx) (w : Seen ps h t tx) (set : List Lock) (call : Call)
-    → ((q : Record) → mode_in set q ≡ locks_of (decls ps) call q) → Rising set → clashes set tx.locks ≡ true → InTheWay ps h call t
-holder_of_clash ps h t tx w set call are rising clash =
-    let at = clash_at set tx.locks rising clash in
+pub holder_of_clash : (ps : List Checked) (h : List Event) (t : ℕ) (locks : Table) (set : List Lock) (call : Call)
+    → AreHeld locks (held (decls ps) h) → ((q : Record) → mode_in set q ≡ locks_of (decls ps) call q) → Rising set
+    → clashes set (held_by locks t) ≡ true → InTheWay ps h call t
+holder_of_clash ps h t locks set call so are rising clash =
+    let at = clash_at set (held_by locks t) rising clash in
     record {
       name = at.name;
       stands = ap (λ (m : Option Mode). excludes m (held (decls ps) h t at.name)) (sym (are at.name))
-          ∙ (ap (excludes (mode_in set at.name)) (sym (locks_kept ps h t tx w at.name)) ∙ at.excluded);
+          ∙ (ap (excludes (mode_in set at.name)) (sym (so t at.name)) ∙ at.excluded);
     }
 
 not_false : (b : Bool) → b ≢ false → b ≡ true
@@ -209,7 +205,7 @@ not_false false n = absurd (n refl)
 pub blocked_if : (l : Loaded) (b : Book) (call : Call) (set : List Lock) (walk : Bool) → IsBook l.codes b
     → Takes (core_of l b) call → ((q : Record) → mode_in set q ≡ locks_of (decls l.codes) call q) → Rising set
     → (name : Record) (holder : ℕ) → stands_in_the_way (core_of l b) call name holder ≡ true
-    → (walk ≡ true → (key : ℕ) (tx : Tx) → get b.txns key ≡ Some tx → clashes set tx.locks ≡ true → stands_still tx ≢ false) → (walk ≡ false → HoldsUp b.txns set)
+    → (walk ≡ true → AllStandStill b.locks b.txns set) → (walk ≡ false → HoldsUp b.locks b.txns set)
     → (walk ≡ true → IsBlocked (core_of l b) call) × (IsBlocked (core_of l b) call → walk ≡ true)
 blocked_if l b call set walk k takes are rising name holder stands all some = (
   λ e. record {
@@ -219,7 +215,8 @@ blocked_if l b call set walk k takes are rising name holder stands all some = (
     stands = stands;
     stranded = λ r t here.
         let at = holder_at l b call r t k here in
-        let clash = clash_of_holder l.codes b.log.events t at.tx at.sees set call r are here in
+        let clash = subst (λ (n : ℕ). clashes set (held_by b.locks n) ≡ true) (sym at.serial)
+        (clash_of_holder l.codes b.log.events t b.locks set call r k.kept.locks_are are here) in
         stranded_kept (core_of l b) t at.tx at.sees (k.marked.marks at.key at.tx at.found) ∙ not_false (stands_still at.tx) (all e at.key at.tx at.found clash);
   },
   λ blocked. by walk refl blocked,
@@ -230,6 +227,6 @@ blocked_if l b call set walk k takes are rising name holder stands all some = (
     by false e blocked =
         let up = some e in
         let w = seen _ _ _ _ _ _ _ _ up.key up.tx.serial up.tx k.kept up.found refl in
-        let way = holder_of_clash l.codes b.log.events up.tx.serial up.tx w set call are rising up.clash in
+        let way = holder_of_clash l.codes b.log.events up.tx.serial b.locks set call k.kept.locks_are are rising up.clash in
         let still : true ≡ false = sym (blocked.stranded way.name up.tx.serial way.stands) ∙ (stranded_kept (core_of l b) up.tx.serial up.tx w (k.marked.marks up.key up.tx up.found) ∙ up.moves) in
         absurd (cc)

@@ -2,7 +2,6 @@
 use Rattle.std.proofs.Common.{◌≡◌, ℕ, ◌+◌, Bool, true, false, ◌||◌, List, length, Option}
 use Rattle.std.proofs.Common.{Some, None, arith, refl, sym, subst, ap, ◌∙◌}
 use Rattle.access_slots.specs.Access.{fits}
-use Rattle.access_slots.specs.Locks.{mode_in}
 use Rattle.access_slots.specs.declared.op.Op.{Op}
 use Rattle.access_slots.specs.declared.op.Said.{Said}
 use Rattle.verifier.specs.Checked.{Checked}
@@ -55,7 +54,6 @@ keeps_undone q tx tx1 s said r m e u rest ops tries room =
       last = ap (λ (x : Tx). x.last) rest ∙ k.last;
       left = ap (λ (x : Tx). x.left) rest ∙ k.left;
       room = omega (arith, room, kept_room);
-      locks = λ r. ap (λ (x : Tx). mode_in x.locks r) rest ∙ k.locks r;
       runs = subst (λ (x : Tx). Runs q x s.call.args s.answers) (sym rest) (record { started = k.runs.started; call = k.runs.call; layout = k.runs.layout; pauses = k.runs.pauses });
     })
 
@@ -90,7 +88,6 @@ keeps_told q tx tx1 s said r m e u runs full ops room rest =
       last = ap (λ (x : Tx). x.last) rest ∙ k.last;
       left = ap (λ (x : Tx). x.left) rest ∙ k.left;
       room = omega (arith, room, kept_room);
-      locks = λ r. ap (λ (x : Tx). mode_in x.locks r) rest ∙ k.locks r;
       runs = runs;
     })
 

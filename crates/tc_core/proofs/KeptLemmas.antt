@@ -37,7 +37,10 @@ use Rattle.tc_core.specs.Replies.{is_heard, IsAnswer, over_in}
 use Rattle.access_slots.specs.declared.op.Reply.{Reply}
 use Rattle.transactions.specs.InFlight.{site_of}
 use Rattle.tc_core.specs.Joining.Hearing.{MayHear, Accepts, Heard}
-use Rattle.tc_core.specs.Kept.{Keeps, Matches, IsOpen, Places, Kept}
+use Rattle.tc_core.specs.AtKey.{StandsAt}
+use Rattle.tc_core.specs.Kept.{Keeps, Matches, IsOpen, IsBook, Places, Kept}
+use Rattle.tc_core.specs.declared.book.Book.{Book}
+use Rattle.tc_core.proofs.KeyLemmas.{serial-at}
 use Rattle.tc_core.proofs.Resuming.{paused_reached}
 
 none_if : {X : Type 0} (o : Option X) → ((x : X) → o ≡ Some x → ⊥) → o ≡ None
@@ -115,6 +118,11 @@ seen ps log table numbers txns serials owed promised key t tx k found own =
       at = reached_kept ps tx o.s o.matches;
       sound = standing_sound ps k.good log.events k.legal tx.serial o.s o.is;
     }
+
+-- and what stands in a book at the key of this one
+pub seen-at : (ps : List Checked) (b : Book) (key t : ℕ) (tx : Tx) → IsBook ps b → StandsAt b.txns key t → get b.txns key ≡ Some tx
+    → Seen ps b.log.events t tx
+seen-at ps b key t tx is stands at = seen ps b.log b.locks b.numbers b.txns b.serials b.owed b.promised key t tx is.kept at (serial-at b.txns key t tx stands at)
 
 -- what it does next is what the log says
 pub next_kept : (ps : List Checked) (h : List Event) (t : ℕ) (tx : Tx) → (w : Seen ps h t tx)
@@ -213,7 +221,6 @@ kept-ask ps log log' table numbers numbers' txns txns' serials owed promised key
       last = refl;
       left = omega (arith, m.keeps.left);
       room = m.keeps.room;
-      locks = m.keeps.locks;
       runs = record { started = m.keeps.runs.started; call = m.keeps.runs.call; layout = m.keeps.runs.layout; pauses = m.keeps.runs.pauses };
     } in
     let matches : Matches ps tx' s' = rw made (record { q = m.q; loaded = m.loaded; keeps = keeps }) in
@@ -329,7 +336,6 @@ kept-undo ps log log' table numbers numbers' txns txns' serials owed promised ke
       last = refl;
       left = omega (arith, m.keeps.left);
       room = m.keeps.room;
-      locks = m.keeps.locks;
       runs = record { started = m.keeps.runs.started; call = m.keeps.runs.call; layout = m.keeps.runs.layout; pauses = m.keeps.runs.pauses };
     } in
     let matches : Matches ps tx' s' = rw made (record { q = m.q; loaded = m.loaded; keeps = keeps }) in

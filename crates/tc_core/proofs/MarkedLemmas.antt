@@ -118,7 +118,6 @@ kept-doubt ps log table numbers txns txns' serials owed promised key tx k found 
       last = keeps.last;
       left = keeps.left;
       room = keeps.room;
-      locks = keeps.locks;
       runs = record { started = keeps.runs.started; call = keeps.runs.call; layout = keeps.runs.layout; pauses = keeps.runs.pauses };
     } in
     let here : (j : ℕ) (ty : Tx) → j ≡ key → get txns' j ≡ Some ty → marked ≡ ty = (λ j ty same at. some_same marked ty (sym up.changed ∙ (ap (get txns') (sym same) ∙ at))) in

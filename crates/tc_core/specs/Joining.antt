@@ -1,7 +1,6 @@
 -- Definitions that only join bodies to those beside this folder: no contract that others see speaks of them.
 pub mod Beginning
 pub mod Boxes
-pub mod Clashes
 pub mod Follows
 pub mod Hearing
 pub mod Holders

@@ -15,8 +15,6 @@ use Rattle.transactions.specs.Room.{numbers_left, events_left, places_left, each
 use Rattle.transactions.specs.Legal.{Legal}
 use Rattle.slab.specs.Slab.{Slab, get, slab_len}
 use Rattle.tc_core.specs.Running.{Runs}
-use Rattle.access_slots.specs.declared.slot.Record.{Record}
-use Rattle.access_slots.specs.Locks.{mode_in, mode_named}
 use Rattle.request_numbers.specs.Given.{holds}
 use Rattle.transactions.specs.declared.Sent.{Sent}
 use Rattle.transactions.specs.declared.Redoing.{Redoing}
@@ -37,7 +35,6 @@ pub record Keeps (q : Checked) (tx : Tx) (s : Standing) : Type 0 where
   pub last : tx.last ≡ s.last
   pub left : tx.left ≡ 5 * calls_in q - s.used
   pub room : calls_in q ≤ length tx.undo.ops + tx.undo.room
-  pub locks : (r : Record) → mode_in tx.locks r ≡ mode_named s.call.args q.decl.slots r
   pub runs : Runs q tx s.call.args s.answers
 
 pub record Matches (ps : List Checked) (tx : Tx) (s : Standing) : Type 0 where

@@ -15,8 +15,8 @@ use Rattle.transactions.specs.Legal.{first_undo}
 use Rattle.transactions.specs.Next.{next_by}
 use Rattle.transactions.specs.declared.Next.TheVariants as next
 use Rattle.tc_core.specs.declared.transaction.Tx.{Tx}
-use Rattle.tc_core.specs.declared.transaction.Does.{Does}
-use Rattle.tc_core.specs.declared.transaction.Does.TheVariants as doing
+use Rattle.tc_core.specs.declared.transaction.NextStep.{NextStep}
+use Rattle.tc_core.specs.declared.transaction.NextStep.TheVariants as doing
 
 -- the machine, and what it stopped at, are where the procedure's run stands on these answers
 pub record Runs (q : Checked) (tx : Tx) (args : List ℕ) (answers : List Said) : Type 0 where
@@ -42,7 +42,7 @@ abbrev pub does : Tx → Option Next
 does tx = next_by tx.sent tx.full (first_undo tx.undo.ops) tx.tries tx.last (as_reached tx.pause)
 
 -- the same, with the operation itself in place of where it stands
-abbrev pub as_next : Does → Next
+abbrev pub as_next : NextStep → Next
 as_next (doing.Waits n) = next.Waits n
 as_next (doing.Asks o) = next.Asks o.now
 as_next (doing.Undoes o) = next.Undoes o.now

@@ -1,10 +1,8 @@
 // How a call is admitted.
 
-ghost use Rattle.std.specs.Prelude.{◌≡◌, ◌↔◌, ◌+◌, ◌*◌, ◌≤◌, ◌^◌, List, ◌∷◌, nat_lt, [], length, Some, IsTrue, IfOk, OnOk, IfErr, OnErr};
+ghost use Rattle.std.specs.Prelude.{◌≡◌, ◌↔◌, ◌+◌, ◌*◌, ◌≤◌, ◌^◌, List, ◌∷◌, nat_lt, [], length, IsTrue, IfOk, OnOk, IfErr, OnErr};
 ghost use Rattle.access_slots.specs.declared.slot.Record.{Record};
-ghost use Rattle.access_slots.specs.Held.{Compatible};
 ghost use Rattle.access_slots.specs.Locks.{mode_in, mode_named, Rising};
-ghost use Rattle.lock_table.specs.Facts.{held_by, granted, AreHeld, HoldsNothing};
 ghost use Rattle.tc_log.specs.declared.event.Event.TheVariants.{Admit};
 ghost use Rattle.history.specs.Calls.{admitted};
 ghost use Rattle.verifier.specs.Checked.{Checked};
@@ -17,10 +15,9 @@ ghost use Rattle.tc_core.specs.Blocked.{IsBlocked};
 use crate::book::Book;
 use crate::procs::Procs;
 use crate::state::{Call, Refusal, TcState, TxnId};
-use crate::transaction::{Own, calls_of};
+use crate::transaction::calls_of;
 use crate::undos::Undos;
 use access_slots::lock::LockSet;
-use lock_table::table::LockTable;
 use std::alloc::{AllocError, Global};
 use tc_log::event::{Args, Event};
 use verifier::verify::Verified;
@@ -38,27 +35,6 @@ fn procedure_of<'a>(procs: &'a Procs, call: &Call) -> Result<&'a Verified, Refus
         return Err(Refusal::ArgumentCount);
     }
     Ok(code)
-}
-
-// The locks that a call takes.
-#[inline(always)]
-fn locks_of(code: &Verified, args: &[u64]) -> LockSet
-    requires { length args.now ≡ code.now.decl.args }
-    ensures locks { (r : Record) → mode_in result r ≡ mode_named args.now code.now.decl.slots r }
-    ensures rising { Rising result }
-{
-    code.decl().resolve(args)
-}
-
-// Gives the transaction locks that nothing stands in the way of.
-#[inline(always)]
-fn claim(locks: &mut LockTable, serial: u64, set: &LockSet)
-    requires ready { locks.old.reserved ≡ Some set.now }
-    requires nothing { HoldsNothing (held_by locks.old) serial }
-    requires free { Compatible (held_by locks.old) (mode_in set.now) }
-    ensures { AreHeld locks.new (granted (held_by locks.old) serial (mode_in set.now)) }
-{
-    locks.claim(serial, set);
 }
 
 // Whether too few numbers are left for a call.
@@ -86,7 +62,7 @@ impl Book {
             return Err(AllocError);
         };
         let most = self.numbers.last() + self.promised + 5 * calls as u64;
-        self.txns.reserve(set)?;
+        self.txns.reserve()?;
         self.numbers.reserve(self.txns.capacity())?;
         self.log.reserve(events)?;
         self.given_up.reserve(most)?;
@@ -96,20 +72,25 @@ impl Book {
 
     // A call that may be admitted, and has its room, is admitted.
     #[inline(always)]
-    pub(crate) fn enter(&mut self, code: &Verified, proc: usize, own: Own) -> TxnId
-        requires { (ps : List Checked) × MayEnter ps self.old code.now proc own }
-        ensures kept { (ps : List Checked) → MayEnter ps self.old code.now proc own → IsBook ps self.new }
+    pub(crate) fn enter(
+        &mut self,
+        code: &Verified,
+        proc: usize,
+        args: Args,
+        undo: Undos,
+        set: &LockSet,
+    ) -> TxnId
+        requires { (ps : List Checked) × MayEnter ps self.old code.now proc args undo set.now }
+        ensures kept { (ps : List Checked) → MayEnter ps self.old code.now proc args undo set.now → IsBook ps self.new }
         ensures serial { result.serial ≡ admitted self.old.log.events + 1 }
-        ensures events { self.new.log.events ≡ Admit result.serial proc own.args ∷ self.old.log.events }
+        ensures events { self.new.log.events ≡ Admit result.serial proc args ∷ self.old.log.events }
         ensures given_up { self.new.given_up ≡ self.old.given_up }
         ensures sites { self.new.sites ≡ self.old.sites }
     {
         let serial = self.serials + 1;
         let calls = calls_of(code);
-        claim(&mut self.locks, serial, &own.locks);
-        let Own { undo, args, locks } = own;
-        self.txns
-            .enter(code, serial, proc, args.as_slice(), undo, locks);
+        self.locks.claim(serial, set);
+        self.txns.enter(code, serial, proc, args.as_slice(), undo);
         self.log.push(Event::Admit {
             txn: serial,
             proc,
@@ -133,7 +114,7 @@ impl TcState {
         ensures refused { IfErr result (IsRefused self.old (call_of call.now)) }
     {
         let code = procedure_of(&self.procs, call)?;
-        let set = locks_of(code, call.args.as_slice());
+        let set = code.decl().resolve(call.args.as_slice());
         if let Some(busy) = self.book.locks.busy(&set) {
             return Err(Refusal::Busy(busy));
         }
@@ -147,12 +128,7 @@ impl TcState {
         let Ok(undo) = self.book.make_room(calls, &set) else {
             return Err(Refusal::Memory);
         };
-        let own = Own {
-            undo,
-            args,
-            locks: set,
-        };
-        Ok(self.book.enter(code, call.proc, own))
+        Ok(self.book.enter(code, call.proc, args, undo, &set))
     }
 
     /// Whether other transactions stand in the way of a call, and all of them are in doubt or stuck.
@@ -163,10 +139,10 @@ impl TcState {
         let Ok(code) = procedure_of(&self.procs, call) else {
             return false;
         };
-        let set = locks_of(code, call.args.as_slice());
+        let set = code.decl().resolve(call.args.as_slice());
         let Some(_busy) = self.book.locks.busy(&set) else {
             return false;
         };
-        self.book.txns.all_stranded(&set)
+        self.book.txns.all_stranded(&self.book.locks, &set)
     }
 }

@@ -1,26 +1,21 @@
 // Open transactions that stand in the way of a call.
 
 ghost use Rattle.std.specs.Prelude.{◌≡◌, ◌&&◌, not, Some};
+ghost use Rattle.lock_table.specs.Clashes.{clashes};
+ghost use Rattle.lock_table.specs.Facts.{held_by};
 ghost use Rattle.transactions.specs.Legal.{first_undo};
 ghost use Rattle.transactions.specs.Next.{next_by};
 ghost use Rattle.tc_core.specs.Running.{as_reached, as_next};
-ghost use Rattle.tc_core.specs.Joining.Clashes.{clashes};
 ghost use Rattle.tc_core.specs.Joining.Holders.{stuck_by, stands_still};
 
-use crate::transaction::{Does, Tx};
+use crate::transaction::{NextStep, Tx};
 use access_slots::lock::LockSet;
+use lock_table::table::LockTable;
 
-// Whether two sets of locks exclude each other.
-fn clash(wanted: &LockSet, held: &LockSet) -> bool
-    ensures { result ≡ clashes wanted.now held.now }
-{
-    wanted.locks().iter().any(|lock| held.excludes(lock))
-}
-
-fn is_stuck(next: Does<'_>) -> bool
+fn is_stuck(next: NextStep<'_>) -> bool
     ensures { result ≡ stuck_by (Some (as_next next.entry)) }
 {
-    matches!(next, Does::Stuck(_))
+    matches!(next, NextStep::Stuck(_))
 }
 
 impl Tx {
@@ -31,10 +26,11 @@ impl Tx {
         self.in_doubt || is_stuck(self.next())
     }
 
-    /// Whether it stands in the way of these locks, and is neither in doubt nor stuck.
-    pub fn holds_up(&self, wanted: &LockSet) -> bool
-        ensures { result ≡ (not (stands_still self.now) && clashes wanted.now self.now.locks) }
+    /// Whether it stands in the way of these locks, where that is what is held, and is neither in doubt
+    /// nor stuck.
+    pub fn holds_up(&self, held: &LockTable, wanted: &LockSet) -> bool
+        ensures { result ≡ (not (stands_still self.now) && clashes wanted.now (held_by held.now self.now.serial)) }
     {
-        !self.is_stranded() && clash(wanted, &self.locks)
+        !self.is_stranded() && held.excludes(self.serial, wanted)
     }
 }

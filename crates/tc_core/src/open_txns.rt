@@ -21,6 +21,7 @@ use crate::undos::Undos;
 use access_slots::lock::LockSet;
 use access_slots::op::{Op, Reply, Said};
 use indexmap::IndexMap;
+use lock_table::table::LockTable;
 use slab::Slab;
 use std::alloc::{AllocError, Global};
 use std::marker::Model;
@@ -79,7 +80,6 @@ fn add_box(
     alloc: Global,
     txns: &mut Slab<Box<Tx>>,
     boxes: &mut Vec<Box<Tx>>,
-    locks: &LockSet,
 ) -> Result<(), AllocError>
     requires { AreBoxed txns.old boxes.old }
     ensures slots { txns.new.slots ≡ txns.old.slots }
@@ -91,7 +91,7 @@ fn add_box(
     }
     txns.reserve(1)?;
     boxes.reserve(txns.capacity())?;
-    boxes.push_reserved(Box::new(alloc, Tx::blank(alloc, locks.copied()))?);
+    boxes.push_reserved(Box::new(alloc, Tx::blank(alloc))?);
     Ok(())
 }
 
@@ -125,13 +125,13 @@ fn hinted(hints: &[usize], txns: &Slab<Box<Tx>>, serial: u64) -> Option<usize>
     if tx.serial == serial { Some(key) } else { None }
 }
 
-// Whether each transaction whose locks exclude these is in doubt or stuck.
-fn none_holds_up(txns: &Slab<Box<Tx>>, wanted: &LockSet) -> bool
-    ensures all { IsTrue result → (n : ℕ) → AllStandStill (unboxed n txns.now) wanted.now }
-    ensures some { result ≡ false → (n : ℕ) → HoldsUp (unboxed n txns.now) wanted.now }
+// Whether each transaction that holds locks which exclude these is in doubt or stuck.
+fn none_holds_up(txns: &Slab<Box<Tx>>, held: &LockTable, wanted: &LockSet) -> bool
+    ensures all { IsTrue result → (n : ℕ) → AllStandStill held.now (unboxed n txns.now) wanted.now }
+    ensures some { result ≡ false → (n : ℕ) → HoldsUp held.now (unboxed n txns.now) wanted.now }
 {
     for (_key, tx) in txns.iter() {
-        if tx.holds_up(wanted) {
+        if tx.holds_up(held, wanted) {
             return false;
         }
     }
@@ -166,14 +166,14 @@ impl OpenTxns {
         self.txns.capacity()
     }
 
-    /// Makes room for one more, with locks such as these. The open ones stay as they are.
+    /// Makes room for one more. The open ones stay as they are.
     #[inline(always)]
-    pub fn reserve(&mut self, locks: &LockSet) -> Result<(), AllocError>
+    pub fn reserve(&mut self) -> Result<(), AllocError>
         ensures slots { self.new.slots ≡ self.old.slots }
         ensures room { OnOk result (HasRoomFor self.new 1) }
     {
         self.keys.reserve(1)?;
-        add_box(self.alloc, &mut self.txns, &mut self.boxes, locks)
+        add_box(self.alloc, &mut self.txns, &mut self.boxes)
     }
 
     /// Room for what undoes so many writes: that of the box in which the next transaction begins, and more
@@ -202,16 +202,15 @@ impl OpenTxns {
         proc: usize,
         args: &[u64],
         undo: Undos,
-        locks: LockSet,
     ) -> usize
         requires count { length args.now ≡ code.now.decl.args }
         requires room { HasRoomFor self.old 1 }
         requires other { (key : ℕ) (tx : TxValue) → get self.old key ≡ Some tx → tx.serial ≢ serial }
-        ensures entered { Entered code.now serial proc args.now undo locks self.old self.new result }
+        ensures entered { Entered code.now serial proc args.now undo self.old self.new result }
         ensures len { slab_len self.new ≡ slab_len self.old + 1 }
     {
         let mut tx = take_box(&mut self.boxes);
-        tx.begin(code, serial, proc, args, undo, locks);
+        tx.begin(code, serial, proc, args, undo);
         let key = self.txns.insert_reserved(tx);
         list_key(&mut self.keys, serial, key);
         give_hint(&mut self.hints, serial, key);
@@ -260,12 +259,12 @@ impl OpenTxns {
         self.txns[key].as_ref()
     }
 
-    /// Whether each transaction whose locks exclude these is in doubt or stuck.
-    pub fn all_stranded(&self, wanted: &LockSet) -> bool
-        ensures all { IsTrue result → AllStandStill self.now wanted.now }
-        ensures some { result ≡ false → HoldsUp self.now wanted.now }
+    /// Whether each transaction that holds locks which exclude these is in doubt or stuck.
+    pub fn all_stranded(&self, held: &LockTable, wanted: &LockSet) -> bool
+        ensures all { IsTrue result → AllStandStill held.now self.now wanted.now }
+        ensures some { result ≡ false → HoldsUp held.now self.now wanted.now }
     {
-        none_holds_up(&self.txns, wanted)
+        none_holds_up(&self.txns, held, wanted)
     }
 
     /// The transaction at a key waits for the answer to its question.

@@ -8,7 +8,7 @@ ghost use Rattle.tc_core.specs.GivingUp.{IsOpenHere, with_given_up};
 
 use crate::sites::{is_heard, site_of};
 use crate::state::{Asked, Down, NotOver, Receipt, Request, Stranger, TcState, TxnId};
-use crate::transaction::Does;
+use crate::transaction::NextStep;
 use access_slots::op::{Reply, Wire};
 use request_numbers::numbers::Numbers;
 use tc_log::event::{Event, Outcome};
@@ -50,11 +50,11 @@ impl TcState {
             return Asked::Unknown;
         };
         match self.book.txns.at(key).next() {
-            Does::Waits(number) => Asked::Waits(number),
-            Does::Undoes(_) => Asked::Undoing,
-            Does::Stuck(number) => Asked::Stuck(number),
-            Does::Over(_) => Asked::Over,
-            Does::Asks(op) => {
+            NextStep::Waits(number) => Asked::Waits(number),
+            NextStep::Undoes(_) => Asked::Undoing,
+            NextStep::Stuck(number) => Asked::Stuck(number),
+            NextStep::Over(_) => Asked::Over,
+            NextStep::Asks(op) => {
                 let number = next_number(&mut self.book.numbers);
                 let request = Request {
                     txn: txn.serial,
@@ -84,11 +84,11 @@ impl TcState {
             return Asked::Unknown;
         };
         match self.book.txns.at(key).next() {
-            Does::Waits(number) => Asked::Waits(number),
-            Does::Asks(_) => Asked::Running,
-            Does::Stuck(number) => Asked::Stuck(number),
-            Does::Over(outcome) => undone(outcome),
-            Does::Undoes(op) => {
+            NextStep::Waits(number) => Asked::Waits(number),
+            NextStep::Asks(_) => Asked::Running,
+            NextStep::Stuck(number) => Asked::Stuck(number),
+            NextStep::Over(outcome) => undone(outcome),
+            NextStep::Undoes(op) => {
                 let number = next_number(&mut self.book.numbers);
                 let request = Request {
                     txn: txn.serial,
@@ -184,6 +184,7 @@ impl TcState {
     }
 
     /// Ends a transaction that is over, and releases its locks.
+    // As `wire`, it stands apart from its caller's step: a move takes fewer machine instructions so (docs/TRIED.md).
     #[inline(never)]
     pub fn end(&mut self, txn: TxnId) -> Result<Receipt, NotOver>
         ensures reply { result ≡ end_reply self.old txn.serial (end_of self.old txn.serial) }

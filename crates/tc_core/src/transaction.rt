@@ -19,13 +19,12 @@ ghost use Rattle.tc_core.specs.Running.{Runs, MayResume, as_reached, as_next, do
 ghost use Rattle.tc_core.specs.Replies.{over_in};
 
 use crate::undos::Undos;
-use access_slots::lock::LockSet;
 use access_slots::op::{Op, Reply, Said, fits};
 use interpreter::layout::Layout;
 use interpreter::machine::Machine;
 use interpreter::pause::Pause;
 use std::alloc::{AllocError, Global};
-use tc_log::event::{Args, Outcome};
+use tc_log::event::Outcome;
 use transactions::Sent;
 use verifier::verify::Verified;
 
@@ -44,7 +43,6 @@ pub struct Tx {
     pub last: u64,
     pub left: u64,
     pub in_doubt: bool,
-    pub locks: LockSet,
 }
 
 // How many call slots the code has, at most as many as slots.
@@ -59,8 +57,8 @@ pub fn calls_of(code: &Verified) -> usize
 
 impl Tx {
     /// A place for a transaction to begin in: none yet. It takes no memory.
-    pub fn blank(alloc: Global, locks: LockSet) -> Tx
-        ensures { result.locks ≡ locks }
+    pub fn blank(alloc: Global) -> Tx
+        ensures { (result.serial ≡ 0) × (result.sent ≡ None) }
     {
         Tx {
             serial: 0,
@@ -74,28 +72,19 @@ impl Tx {
             last: 0,
             left: 0,
             in_doubt: false,
-            locks,
         }
     }
 
     /// It begins, whatever it was before, and has run to its first question or its end.
     #[inline(always)]
-    pub fn begin(
-        &mut self,
-        code: &Verified,
-        serial: u64,
-        proc: usize,
-        args: &[u64],
-        undo: Undos,
-        locks: LockSet,
-    )
+    pub fn begin(&mut self, code: &Verified, serial: u64, proc: usize, args: &[u64], undo: Undos)
         requires { length args.now ≡ code.now.decl.args }
         ensures runs { Runs code.now self.new args.now [] }
         ensures takes { AreArguments code.now.decl args.now }
         ensures names { (self.new.serial ≡ serial) × (self.new.proc ≡ proc) }
         ensures fresh { (self.new.sent ≡ None) × (self.new.full ≡ false) × (self.new.tries ≡ 0) × (self.new.last ≡ 0) }
         ensures room { (self.new.undo ≡ undo) × (self.new.left ≡ 5 * calls_in code.now) }
-        ensures locks { (self.new.locks ≡ locks) × (self.new.in_doubt ≡ false) }
+        ensures certain { self.new.in_doubt ≡ false }
     {
         self.machine.restart(code, args, Layout::plain());
         self.pause = self.machine.resume(code, None);
@@ -108,7 +97,6 @@ impl Tx {
         self.last = 0;
         self.left = 5 * calls_of(code) as u64;
         self.in_doubt = false;
-        self.locks = locks;
     }
 
     /// Its run goes on with what was said to its question.
@@ -126,26 +114,31 @@ impl Tx {
 
 /// What a transaction does next, as [`transactions::Next`] says it, with the operation where it stands.
 #[derive(Clone, Copy)]
-pub enum Does<'a> {
+pub enum NextStep<'a> {
+    /// It waits for the answer to the request with this number.
     Waits(u64),
+    /// It asks for this operation.
     Asks(&'a Op),
+    /// It is to be undone, first by this operation.
     Undoes(&'a Op),
+    /// A write couldn't be undone under four numbers, of which this is the last.
     Stuck(u64),
+    /// Nothing is left to do: it ends so.
     Over(Outcome),
 }
 
 impl Tx {
     // The next write to be undone, four times at most, or the end.
-    fn undoes_or_ends(&self, outcome: Outcome) -> Does<'_>
+    fn undoes_or_ends(&self, outcome: Outcome) -> NextStep<'_>
         ensures { as_next result ≡ ends_or_undoes (first_undo self.now.undo.ops) self.now.tries self.now.last outcome }
     {
         match self.undo.first() {
-            None => Does::Over(outcome),
+            None => NextStep::Over(outcome),
             Some(op) => {
                 if self.tries < 4 {
-                    Does::Undoes(op)
+                    NextStep::Undoes(op)
                 } else {
-                    Does::Stuck(self.last)
+                    NextStep::Stuck(self.last)
                 }
             }
         }
@@ -153,21 +146,21 @@ impl Tx {
 
     /// What it does next.
     #[inline(always)]
-    pub fn next(&self) -> Does<'_>
+    pub fn next(&self) -> NextStep<'_>
         ensures { next_by self.now.sent self.now.full (first_undo self.now.undo.ops) self.now.tries self.now.last
             (as_reached self.now.pause) ≡ Some (as_next result) }
     {
         if let Some(sent) = &self.sent {
-            return Does::Waits(sent.number);
+            return NextStep::Waits(sent.number);
         }
         if self.full {
             return self.undoes_or_ends(Outcome::NoRoom);
         }
         match &self.pause {
-            Pause::Ask(op) => Does::Asks(op),
+            Pause::Ask(op) => NextStep::Asks(op),
             Pause::Exit(value) => {
                 if *value == 0 {
-                    Does::Over(Outcome::Committed)
+                    NextStep::Over(Outcome::Committed)
                 } else {
                     self.undoes_or_ends(Outcome::Aborted(*value))
                 }
@@ -278,15 +271,15 @@ impl Tx {
 
 // How it ends that has nothing else to do.
 #[inline(always)]
-fn over(next: Does<'_>) -> Option<Outcome>
+fn over(next: NextStep<'_>) -> Option<Outcome>
     ensures { result ≡ over_in (Some (as_next next.entry)) }
 {
     match next {
-        Does::Waits(_) => None,
-        Does::Asks(_) => None,
-        Does::Undoes(_) => None,
-        Does::Stuck(_) => None,
-        Does::Over(outcome) => Some(outcome),
+        NextStep::Waits(_) => None,
+        NextStep::Asks(_) => None,
+        NextStep::Undoes(_) => None,
+        NextStep::Stuck(_) => None,
+        NextStep::Over(outcome) => Some(outcome),
     }
 }
 
@@ -336,13 +329,4 @@ impl Tx {
         self.left -= 1;
         self.in_doubt = false;
     }
-}
-
-/// What a transaction takes along: room for what undoes its writes, its arguments for the log, and
-/// its locks.
-#[derive(Drop)]
-pub struct Own {
-    pub undo: Undos,
-    pub args: Args,
-    pub locks: LockSet,
 }

@@ -2,10 +2,11 @@
 use Rattle.std.specs.Prelude.{◌≡◌, ◌≢◌, ℕ, Bool, true, false, ◌||◌, List, Option, Some, None}
 use Rattle.slab.specs.Slab.{Slab, get}
 use Rattle.access_slots.specs.declared.lock.Lock.{Lock}
+use Rattle.lock_table.specs.Clashes.{clashes}
+use Rattle.lock_table.specs.Facts.{Table, held_by}
 use Rattle.transactions.specs.declared.Next.{Next}
 use Rattle.transactions.specs.declared.Next.TheVariants as next
 use Rattle.tc_core.specs.Running.{does}
-use Rattle.tc_core.specs.Joining.Clashes.{clashes}
 use Rattle.tc_core.specs.declared.transaction.Tx.{Tx}
 
 abbrev pub stuck_by : Option Next → Bool
@@ -21,13 +22,14 @@ abbrev pub stands_still : Tx → Bool
 stands_still tx = tx.in_doubt || stuck_by (does tx)
 
 -- each transaction in the way is in doubt or stuck
-abbrev pub AllStandStill : Slab Tx → List Lock → Type 0
-AllStandStill txns wanted = (key : ℕ) (tx : Tx) → get txns key ≡ Some tx → clashes wanted tx.locks ≡ true → stands_still tx ≢ false
+abbrev pub AllStandStill : Table → Slab Tx → List Lock → Type 0
+AllStandStill locks txns wanted =
+    (key : ℕ) (tx : Tx) → get txns key ≡ Some tx → clashes wanted (held_by locks tx.serial) ≡ true → stands_still tx ≢ false
 
 -- a transaction in the way that is neither
-pub record HoldsUp (txns : Slab Tx) (wanted : List Lock) : Type 0 where
+pub record HoldsUp (locks : Table) (txns : Slab Tx) (wanted : List Lock) : Type 0 where
   pub key : ℕ
   pub tx : Tx
   pub found : get txns key ≡ Some tx
-  pub clash : clashes wanted tx.locks ≡ true
+  pub clash : clashes wanted (held_by locks tx.serial) ≡ true
   pub moves : stands_still tx ≡ false

@@ -6,4 +6,4 @@ abbrev pub invariant-loop-key : goal.invariant-loop-key
 invariant-loop-key l =
     (goal.iterator-loop-key).can_next l._key-iterator ×
     (goal.iterator-loop-key).is_finite l._key-iterator ×
-    AreLeft l.txns l.wanted l._key-iterator
+    AreLeft l.txns l.held l.wanted l._key-iterator

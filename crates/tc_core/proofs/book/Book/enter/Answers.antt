@@ -1,7 +1,5 @@
 use Rattle.std.proofs.Common.{◌≡◌, ℕ, ◌+◌, ◌*◌, ◌≤◌, List, [], arith, refl, sym, ◌∙◌, ap, subst}
-use Rattle.access_slots.specs.declared.lock.Lock.{Lock}
-use Rattle.access_slots.specs.declared.slot.Record.{Record}
-use Rattle.access_slots.specs.Locks.{mode_in, mode_named}
+use Rattle.access_slots.specs.Locks.{mode_in}
 use Rattle.semantics.specs.Reach.{AreArguments}
 use Rattle.lock_table.specs.Facts.{held_by}
 use Rattle.history.specs.Calls.{Call, held, locks_of}
@@ -31,9 +29,9 @@ pub claim-requires-clause-free : goal.claim-requires-clause-free
 claim-requires-clause-free c =
     let m = c.requires.1 in
     let ps = c.requires.0 in
-    let call : Call = record { proc = c.args.proc; args = c.args.own.args } in
-    free_same (held (decls ps) c.args.self.now.log.events) (held_by c.args.self.now.locks) (locks_of (decls ps) call) (mode_in c.args.own.locks)
-    (λ t r. sym (m.book.kept.locks_are t r)) (λ r. sym (wanted_locks ps call c.args.code.now c.args.own.args c.args.own.locks m.called refl m.locks r)) m.free
+    let call : Call = record { proc = c.args.proc; args = c.args.args } in
+    free_same (held (decls ps) c.args.self.now.log.events) (held_by c.args.self.now.locks) (locks_of (decls ps) call) (mode_in c.args.set.now)
+    (λ t r. sym (m.book.kept.locks_are t r)) (λ r. sym (wanted_locks ps call c.args.code.now c.args.args c.args.set.now m.called refl m.locks r)) m.free
 
 pub enter-requires-clause-other : goal.enter-requires-clause-other
 enter-requires-clause-other c = λ k ty at same.
@@ -48,7 +46,7 @@ returns-clause-kept c = λ ps m.
     let b = c.args.self.now in
     let q = c.args.code.now in
     let p = c.args.proc in
-    let args = c.args.own.args in
+    let args = c.args.args in
     let call : Call = record { proc = p; args = args } in
     let n : c.calls_of-calls.result ≡ calls_in q = c.calls_of-calls.ensures.calls in
     let g = c.enter.ensures.entered in
@@ -57,11 +55,10 @@ returns-clause-kept c = λ ps m.
     let takes = subst (λ (xs : List ℕ). AreArguments q.decl xs) c.as_slice.ensures begun.takes in
     let ops : g.tx.undo.ops ≡ [] = ap (λ (u : Writes). u.ops) begun.room.0 ∙ m.ops in
     let undo_room : calls_in q ≤ g.tx.undo.room = (let u = ap (λ (u : Writes). u.room) begun.room.0 in let r = m.undo_room in omega (arith, u, r)) in
-    let locks : (r : Record) → mode_in g.tx.locks r ≡ mode_named args q.decl.slots r = (λ r. ap (λ (ls : List Lock). mode_in ls r) begun.locked.0 ∙ m.locks r) in
-    let keeps = keeps_fresh q g.tx p args begun.names.1 begun.fresh.0 begun.fresh.1 ops begun.fresh.2 begun.fresh.3 begun.room.1 undo_room locks runs in
+    let keeps = keeps_fresh q g.tx p args begun.names.1 begun.fresh.0 begun.fresh.1 ops begun.fresh.2 begun.fresh.3 begun.room.1 undo_room runs in
     let room : b.owed + (2 * (5 * calls_in q) + 2) ≤ b.log.room = (let r = m.room.events in omega (arith, r)) in
-    let it = kept-admit ps b.log c.push.new.self b.locks c.claim.new.locks b.numbers b.txns c.enter.new.self b.serials b.owed b.promised _ p args (mode_in c.args.own.locks) q g.tx
-    m.book.kept m.called.loaded takes m.free m.few room m.room.numbers_fit keeps begun.names.0 (wanted_locks ps call q args c.args.own.locks m.called refl m.locks) c.claim.ensures
+    let it = kept-admit ps b.log c.push.new.self b.locks c.claim.new.self b.numbers b.txns c.enter.new.self b.serials b.owed b.promised _ p args (mode_in c.args.set.now) q g.tx
+    m.book.kept m.called.loaded takes m.free m.few room m.room.numbers_fit keeps begun.names.0 (wanted_locks ps call q args c.args.set.now m.called refl m.locks) c.claim.ensures.held
     g.vacant g.updates c.enter.ensures.len c.push.ensures.events c.push.ensures.room in
     let one : b.owed + (10 * c.calls_of-calls.result + 1) ≡ b.owed + (2 * (5 * calls_in q) + 1) = omega (arith, n) in
     let two : b.promised + 5 * c.calls_of-calls.result ≡ b.promised + 5 * calls_in q = omega (arith, n) in
@@ -71,6 +68,6 @@ returns-clause-kept c = λ ps m.
     record {
       kept = rw (one, two) it;
       most = omega (arith, most, last, same, n);
-      marked = marked-moved _ b.log.events _ _ _ _ _ m.book.marked (omega (arith, same)) g.updates (begun.locked.1 ∙ sym (ap (is_doubted _) begun.fresh.0));
+      marked = marked-moved _ b.log.events _ _ _ _ _ m.book.marked (omega (arith, same)) g.updates (begun.certain ∙ sym (ap (is_doubted _) begun.fresh.0));
       starts = starts_event _ _ _ _ _ c.push.ensures.events m.book.starts;
     }

@@ -11,4 +11,6 @@ pub returns-clause-all : goal.returns-clause-all
 returns-clause-all c = λ yes key tx found. c.none_holds_up.ensures.all yes (ready (vec_len c.self.inside.boxes) (spare c.self.inside.keys)) key tx (ap (λ (s : Slab Tx). get s key) c.self.view_is ∙ found)
 
 pub returns-clause-some : goal.returns-clause-some
-returns-clause-some c = λ no. subst (λ (s : Slab Tx). HoldsUp s c.args.wanted.now) c.self.view_is (c.none_holds_up.ensures.some no (ready (vec_len c.self.inside.boxes) (spare c.self.inside.keys)))
+returns-clause-some c = λ no.
+    subst (λ (s : Slab Tx). HoldsUp c.args.held.now s c.args.wanted.now) c.self.view_is
+    (c.none_holds_up.ensures.some no (ready (vec_len c.self.inside.boxes) (spare c.self.inside.keys)))

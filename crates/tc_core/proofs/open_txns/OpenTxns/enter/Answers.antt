@@ -46,7 +46,7 @@ returns-clause-entered c =
     let begun = c.begin.ensures in
     record {
       tx = c.begin.new.self;
-      begins = record { runs = begun.runs; takes = begun.takes; names = begun.names; fresh = begun.fresh; room = begun.room; locked = begun.locks };
+      begins = record { runs = begun.runs; takes = begun.takes; names = begun.names; fresh = begun.fresh; room = begun.room; certain = begun.certain };
       vacant = seen-vacant _ c.self.inside.txns c.args.self.now c.self.view_is c.insert_reserved-key.result c.insert_reserved-key.ensures.was_vacant;
       updates = seen-updates _ c.self.inside.txns c.args.self.now c.self.view_is _ c.insert_reserved-key.new.self c.insert_reserved-key.result (Some _) c.insert_reserved-key.ensures.updates;
     }

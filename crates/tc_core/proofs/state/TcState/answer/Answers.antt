@@ -13,15 +13,14 @@ use Rattle.history.specs.Flight.{given}
 use Rattle.tc_core.specs.Kept.{is_doubted}
 use Rattle.tc_core.proofs.StartLemmas.{starts_event}
 use Rattle.tc_core.proofs.MarkedLemmas.{marked-moved}
-use Rattle.tc_core.proofs.KeptLemmas.{seen, Seen, may-answer, kept-answer, slice_get-short, is-answer, answer-accepts}
+use Rattle.tc_core.proofs.KeptLemmas.{seen, Seen, may-answer, kept-answer, slice_get-short, is-answer, answer-accepts, seen-at}
 use Rattle.tc_core.proofs.KeyLemmas.{serial-at}
 use Rattle.tc_core.proofs.state.TcState.answer.Goals as goal
 
 pub returns-then-not-accepts-clause-accepted : goal.returns-then-not-accepts-clause-accepted
 returns-then-not-accepts-clause-accepted c =
     let tx = c.at-tx.result.now in
-    let serial = serial-at _ _ _ tx c.in-Some.ensures.found c.at-tx.ensures in
-    let w = seen _ _ _ _ _ _ _ _ _ _ tx c.self.invariant.0.kept c.at-tx.ensures serial in
+    let w = seen-at _ _ _ _ tx c.self.invariant.0 c.in-Some.ensures.found c.at-tx.ensures in
     let core : Core = core_of c.self.inside.procs c.self.inside.book in
     let w' : Seen core.procs core.events c.args.request.txn tx = subst (λ (x : Asking). Seen core.procs core.events x.txn tx) c.request.view_is w in (
       λ e. absurd (cc),
@@ -35,8 +34,7 @@ returns-then-not-accepts-clause-accepted c =
 pub at-code-requires : goal.at-code-requires
 at-code-requires c =
     let tx = c.at-tx.result.now in
-    let serial = serial-at _ _ _ tx c.in-Some.ensures.found c.at-tx.ensures in
-    let w = seen _ _ _ _ _ _ _ _ _ _ tx c.self.invariant.0.kept c.at-tx.ensures serial in
+    let w = seen-at _ _ _ _ tx c.self.invariant.0 c.in-Some.ensures.found c.at-tx.ensures in
     let a = c.accepts.ensures.0 c.if-not-accepts.false in
     let may = may-answer _ _ _ _ _ _ _ _ _ tx _ _ _ _ c.self.invariant.0.kept w a in
     omega (arith, slice_get-short c.self.inside.procs.codes tx.proc may.q may.loaded)
@@ -44,8 +42,7 @@ at-code-requires c =
 pub hear-requires-clause-hears : goal.hear-requires-clause-hears
 hear-requires-clause-hears c = λ ty found.
     let tx = c.at-tx.result.now in
-    let serial = serial-at _ _ _ tx c.in-Some.ensures.found c.at-tx.ensures in
-    let w = seen _ _ _ _ _ _ _ _ _ _ tx c.self.invariant.0.kept c.at-tx.ensures serial in
+    let w = seen-at _ _ _ _ tx c.self.invariant.0 c.in-Some.ensures.found c.at-tx.ensures in
     let a = c.accepts.ensures.0 c.if-not-accepts.false in
     let may = may-answer _ _ _ _ _ _ _ _ _ tx _ _ _ _ c.self.invariant.0.kept w a in
     let code : may.q ≡ c.at-code.result.now = some_same _ _ (sym may.loaded ∙ c.at-code.ensures) in
@@ -55,24 +52,21 @@ hear-requires-clause-hears c = λ ty found.
 pub answered-requires : goal.answered-requires
 answered-requires c =
     let tx = c.at-tx.result.now in
-    let serial = serial-at _ _ _ tx c.in-Some.ensures.found c.at-tx.ensures in
-    let w = seen _ _ _ _ _ _ _ _ _ _ tx c.self.invariant.0.kept c.at-tx.ensures serial in
+    let w = seen-at _ _ _ _ tx c.self.invariant.0 c.in-Some.ensures.found c.at-tx.ensures in
     let a = c.accepts.ensures.0 c.if-not-accepts.false in
     (may-answer _ _ _ _ _ _ _ _ _ tx _ _ _ _ c.self.invariant.0.kept w a).holds'
 
 pub push-requires : goal.push-requires
 push-requires c =
     let tx = c.at-tx.result.now in
-    let serial = serial-at _ _ _ tx c.in-Some.ensures.found c.at-tx.ensures in
-    let w = seen _ _ _ _ _ _ _ _ _ _ tx c.self.invariant.0.kept c.at-tx.ensures serial in
+    let w = seen-at _ _ _ _ tx c.self.invariant.0 c.in-Some.ensures.found c.at-tx.ensures in
     let a = c.accepts.ensures.0 c.if-not-accepts.false in
     (may-answer _ _ _ _ _ _ _ _ _ tx _ _ _ _ c.self.invariant.0.kept w a).room
 
 pub overflow_sub-self : goal.overflow_sub-self
 overflow_sub-self c =
     let tx = c.at-tx.result.now in
-    let serial = serial-at _ _ _ tx c.in-Some.ensures.found c.at-tx.ensures in
-    let w = seen _ _ _ _ _ _ _ _ _ _ tx c.self.invariant.0.kept c.at-tx.ensures serial in
+    let w = seen-at _ _ _ _ tx c.self.invariant.0 c.in-Some.ensures.found c.at-tx.ensures in
     let a = c.accepts.ensures.0 c.if-not-accepts.false in
     (may-answer _ _ _ _ _ _ _ _ _ tx _ _ _ _ c.self.invariant.0.kept w a).owed_left
 
@@ -103,8 +97,7 @@ invariant_of-self c =
 pub returns-clause-accepted : goal.returns-clause-accepted
 returns-clause-accepted c =
     let tx = c.at-tx.result.now in
-    let serial = serial-at _ _ _ tx c.in-Some.ensures.found c.at-tx.ensures in
-    let w = seen _ _ _ _ _ _ _ _ _ _ tx c.self.invariant.0.kept c.at-tx.ensures serial in
+    let w = seen-at _ _ _ _ tx c.self.invariant.0 c.in-Some.ensures.found c.at-tx.ensures in
     let core : Core = core_of c.self.inside.procs c.self.inside.book in
     let w' : Seen core.procs core.events c.args.request.txn tx = subst (λ (x : Asking). Seen core.procs core.events x.txn tx) c.request.view_is w in
     let a = c.accepts.ensures.0 c.if-not-accepts.false in

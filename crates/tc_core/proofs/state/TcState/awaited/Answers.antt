@@ -3,15 +3,13 @@ use Rattle.transactions.specs.declared.Sent.{Sent}
 use Rattle.transactions.specs.Standing.{Standing, standing}
 use Rattle.tc_core.specs.Core.{Core}
 use Rattle.tc_core.specs.Joining.Follows.{awaited_by, awaited_in}
-use Rattle.tc_core.proofs.KeptLemmas.{seen}
-use Rattle.tc_core.proofs.KeyLemmas.{serial-at}
+use Rattle.tc_core.proofs.KeptLemmas.{seen-at}
 use Rattle.tc_core.proofs.state.TcState.awaited.Goals as goal
 
 pub returns : goal.returns
 returns c =
     let tx = c.at.result.now in
-    let serial = serial-at _ _ _ tx c.in_ok-key.ensures.found c.at.ensures in
-    let w = seen _ _ _ _ _ _ _ _ _ _ tx c.self.invariant.0.kept c.at.ensures serial in
+    let w = seen-at _ _ _ _ tx c.self.invariant.0 c.in_ok-key.ensures.found c.at.ensures in
     c.awaited_by.ensures
     ∙ (ap (λ (x : Option Sent). awaited_by x c.args.number) w.matches.keeps.sent
     ∙ (ap (λ (x : Option Standing). awaited_in x c.args.number) (sym w.is)

@@ -4,9 +4,8 @@ use Rattle.tc_core.specs.Core.{Core, Asking}
 use Rattle.tc_core.specs.Kept.{core_of}
 use Rattle.tc_core.specs.GivingUp.{IsOpenHere}
 use Rattle.tc_core.proofs.MarkedLemmas.{kept-doubt, marked-doubt}
-use Rattle.tc_core.proofs.KeptLemmas.{places-absent, seen, Seen}
+use Rattle.tc_core.proofs.KeptLemmas.{places-absent, Seen, seen-at}
 use Rattle.tc_core.proofs.GivingUpLemmas.{open-awaits, awaits-open, open-number}
-use Rattle.tc_core.proofs.KeyLemmas.{serial-at}
 use Rattle.tc_core.proofs.state.TcState.give_up.Goals as goal
 
 pub returns-in_default-clause-open_here : goal.returns-in_default-clause-open_here
@@ -21,8 +20,7 @@ returns-then-not-awaits-clause-open_here c = λ o.
     let core : Core = core_of c.self.inside.procs c.self.inside.book in
     let r : Asking = record { txn = c.request.inside.txn; number = c.request.inside.number; op = c.request.inside.op } in
     let tx = c.at.result.now in
-    let serial = serial-at _ _ _ tx c.in-Some.ensures.found c.at.ensures in
-    let w : Seen core.procs core.events r.txn tx = seen _ _ _ _ _ _ _ _ _ _ tx c.self.invariant.0.kept c.at.ensures serial in
+    let w : Seen core.procs core.events r.txn tx = seen-at _ _ _ _ tx c.self.invariant.0 c.in-Some.ensures.found c.at.ensures in
     let here : IsOpenHere core r = subst (λ (x : Asking). IsOpenHere core x) (sym c.request.view_is) (subst (λ (x : Core). IsOpenHere x c.args.request) (sym c.self.view_is) o) in
     let bad : false ≡ true = sym c.if-not-awaits.true ∙ c.awaits.ensures.1 (open-awaits core r tx w here) in
     absurd (cc)
@@ -32,8 +30,7 @@ add-requires-clause-some c =
     let core : Core = core_of c.self.inside.procs c.self.inside.book in
     let r : Asking = record { txn = c.request.inside.txn; number = c.request.inside.number; op = c.request.inside.op } in
     let tx = c.at.result.now in
-    let serial = serial-at _ _ _ tx c.in-Some.ensures.found c.at.ensures in
-    let w : Seen core.procs core.events r.txn tx = seen _ _ _ _ _ _ _ _ _ _ tx c.self.invariant.0.kept c.at.ensures serial in
+    let w : Seen core.procs core.events r.txn tx = seen-at _ _ _ _ tx c.self.invariant.0 c.in-Some.ensures.found c.at.ensures in
     let here = awaits-open core r tx w (c.awaits.ensures.0 c.if-not-awaits.false) in
     (open-number core r c.self.invariant.0.kept.legal here).0
 
@@ -42,8 +39,7 @@ add-requires-clause-inside c =
     let core : Core = core_of c.self.inside.procs c.self.inside.book in
     let r : Asking = record { txn = c.request.inside.txn; number = c.request.inside.number; op = c.request.inside.op } in
     let tx = c.at.result.now in
-    let serial = serial-at _ _ _ tx c.in-Some.ensures.found c.at.ensures in
-    let w : Seen core.procs core.events r.txn tx = seen _ _ _ _ _ _ _ _ _ _ tx c.self.invariant.0.kept c.at.ensures serial in
+    let w : Seen core.procs core.events r.txn tx = seen-at _ _ _ _ tx c.self.invariant.0 c.in-Some.ensures.found c.at.ensures in
     let here = awaits-open core r tx w (c.awaits.ensures.0 c.if-not-awaits.false) in
     let few = (open-number core r c.self.invariant.0.kept.legal here).1 in
     omega (arith, few, c.self.invariant.0.most)
@@ -53,8 +49,7 @@ returns-clause-elsewhere c = λ no.
     let core : Core = core_of c.self.inside.procs c.self.inside.book in
     let r : Asking = record { txn = c.request.inside.txn; number = c.request.inside.number; op = c.request.inside.op } in
     let tx = c.at.result.now in
-    let serial = serial-at _ _ _ tx c.in-Some.ensures.found c.at.ensures in
-    let w : Seen core.procs core.events r.txn tx = seen _ _ _ _ _ _ _ _ _ _ tx c.self.invariant.0.kept c.at.ensures serial in
+    let w : Seen core.procs core.events r.txn tx = seen-at _ _ _ _ tx c.self.invariant.0 c.in-Some.ensures.found c.at.ensures in
     let here = awaits-open core r tx w (c.awaits.ensures.0 c.if-not-awaits.false) in
     absurd (no (subst (λ (x : Core). IsOpenHere x c.args.request) c.self.view_is (subst (λ (x : Asking). IsOpenHere core x) c.request.view_is here)))
 
@@ -63,8 +58,7 @@ invariant_of-self c =
     let core : Core = core_of c.self.inside.procs c.self.inside.book in
     let r : Asking = record { txn = c.request.inside.txn; number = c.request.inside.number; op = c.request.inside.op } in
     let tx = c.at.result.now in
-    let serial = serial-at _ _ _ tx c.in-Some.ensures.found c.at.ensures in
-    let w : Seen core.procs core.events r.txn tx = seen _ _ _ _ _ _ _ _ _ _ tx c.self.invariant.0.kept c.at.ensures serial in
+    let w : Seen core.procs core.events r.txn tx = seen-at _ _ _ _ tx c.self.invariant.0 c.in-Some.ensures.found c.at.ensures in
     let a = c.awaits.ensures.0 c.if-not-awaits.false in
     let few = (open-number core r c.self.invariant.0.kept.legal (awaits-open core r tx w a)).1 in
     let up = c.doubt.ensures.updates tx c.at.ensures in (

@@ -5,8 +5,7 @@ use Rattle.transactions.specs.Standing.{Standing}
 use Rattle.tc_core.specs.Core.{Core, Asking}
 use Rattle.tc_core.specs.GivingUp.{IsOpenHere}
 use Rattle.tc_core.specs.Recovery.{asking_by, asking_in, open_request}
-use Rattle.tc_core.proofs.KeptLemmas.{seen}
-use Rattle.tc_core.proofs.KeyLemmas.{serial-at}
+use Rattle.tc_core.proofs.KeptLemmas.{seen-at}
 use Rattle.tc_core.proofs.RecoveryLemmas.{request_is_open}
 use Rattle.tc_core.proofs.state.TcState.request.Goals as goal
 
@@ -14,8 +13,7 @@ pub returns-clause-request : goal.returns-clause-request
 returns-clause-request c =
     let t = c.args.txn.serial in
     let tx = c.at.result.now in
-    let serial = serial-at _ _ _ tx c.in_ok-key.ensures.found c.at.ensures in
-    let w = seen _ _ _ _ _ _ _ _ _ _ tx c.self.invariant.0.kept c.at.ensures serial in
+    let w = seen-at _ _ _ _ tx c.self.invariant.0 c.in_ok-key.ensures.found c.at.ensures in
     c.asking_by.ensures
     ∙ (ap (λ (x : Option Sent). asking_by t x) w.matches.keeps.sent
     ∙ (ap (λ (x : Option Standing). asking_in t x) (sym w.is)
@@ -25,8 +23,7 @@ pub returns-clause-open_here : goal.returns-clause-open_here
 returns-clause-open_here c =
     let t = c.args.txn.serial in
     let tx = c.at.result.now in
-    let serial = serial-at _ _ _ tx c.in_ok-key.ensures.found c.at.ensures in
-    let w = seen _ _ _ _ _ _ _ _ _ _ tx c.self.invariant.0.kept c.at.ensures serial in
+    let w = seen-at _ _ _ _ tx c.self.invariant.0 c.in_ok-key.ensures.found c.at.ensures in
     let is : c.asking_by.result ≡ open_request c.args.self.now t
     = c.asking_by.ensures
     ∙ (ap (λ (x : Option Sent). asking_by t x) w.matches.keeps.sent
