@@ -285,18 +285,22 @@ fn closed_while_two_workers_carry(rt: HostRuntime) {
     commit_or_fall_in_doubt(&rt, answers.as_slice());
 }
 
-fn wire(dc: u16) -> Wire {
+fn wire_of(op: Op) -> Wire {
     Wire {
         number: 1,
         low_water: 0,
         incarnation: 0,
         redo: false,
-        op: Op::Read(Record {
-            dc,
-            table: 0,
-            key: 5,
-        }),
+        op,
     }
+}
+
+fn wire(dc: u16) -> Wire {
+    wire_of(Op::Read(Record {
+        dc,
+        table: 0,
+        key: 5,
+    }))
 }
 
 fn carries_nothing<R: Wait + Abort>(rt: &R, rings: &RingLink, worker: usize, dc: u16) {
@@ -320,4 +324,41 @@ fn nothing_to_carry(rt: HostRuntime) {
     carries_nothing(&rt, &rings, 0, 0);
     drop(serves_nothing(&rt, &rings, 0, unserved));
     drop(rings);
+}
+
+// Has the component that is served insert a row, and then serves another one under its number.
+fn serve_beside<R: Wait + Abort>(rt: &R, rings: &RingLink, other: Dc) -> Dc {
+    let insert = wire_of(Op::Insert(record(5), value(1)));
+    is_same(rt, rings.carry(rt, 0, &insert).is_some(), true);
+    let back = rings.serve(rt, 0, other);
+    rings.close();
+    back
+}
+
+// How many rows the component that is served has behind that, and the other one.
+fn rows_of_both<R: Threads + Wait + Sync + Abort>(
+    rt: &R,
+    rings: &RingLink,
+    dc: Dc,
+    other: Dc,
+) -> (usize, usize) {
+    let (served, back) = thread::join(
+        rt,
+        move || rings.serve(rt, 0, dc),
+        move || serve_beside(rt, rings, other),
+    );
+    let rows = (served.rows().len(), back.rows().len());
+    drop(served);
+    drop(back);
+    rows
+}
+
+// A second component under a number that is served comes back as it was.
+#[test]
+fn one_component_under_a_number(rt: HostRuntime) {
+    let rings = RingLink::new(rt.alloc(), 1, 1).expect(&rt, "no rings");
+    let (dc, other) = (new_dc(&rt, rt.alloc()), new_dc(&rt, rt.alloc()));
+    let rows = rows_of_both(&rt, &rings, dc, other);
+    drop(rings);
+    is_same(&rt, rows, (1, 0));
 }

@@ -7,10 +7,11 @@ ghost use Rattle.tc_core.specs.Core.{Core};
 ghost use Rattle.worker_pool.specs.Faults.{InRange};
 ghost use Rattle.worker_pool.specs.Journals.{KeptFaultFits};
 ghost use Rattle.worker_pool.specs.Reports.{Reports};
+ghost use Rattle.worker_pool.specs.Serving.{IsServed};
 ghost use Rattle.run_command.specs.Running.{AreAnswered, AreServed, Stops, cause_of};
 ghost use Rattle.run_command.specs.Logged.{FileJournal as FileJournalValue, KeepsLog, HaltFits};
 ghost use Rattle.run_command.specs.Joining.Halts.{ListHalts};
-ghost use Rattle.run_command.specs.Joining.Servers.{ArePromised};
+ghost use Rattle.run_command.specs.Joining.Servers.{ArePromised, BeginsAs, BeginAs};
 
 use crate::watching::{Waits, Watch};
 use data_component::dc::Dc;
@@ -24,7 +25,8 @@ use std::thread::{PromisedHandle, Scope, Threads};
 use std::time::{Clock, Duration, Instant};
 use tc_core::state::{Call, TcState};
 use worker_pool::{
-    Answer, Gate, KeptFault, OpenGate, Report, RingLink, RunFault, ServedFrom, run, run_kept,
+    Answer, Beginnings, Gate, KeptFault, Link, OpenGate, Report, RingLink, RunFault, ServedFrom,
+    run, run_kept,
 };
 
 /// How the calls of a script are run: the second list by so many workers, each request sent so often
@@ -122,13 +124,13 @@ struct Crew {
 }
 
 // Answers one list of calls.
-fn answer_unkept<R: Threads + Wait + Sync, G: Gate + Sync>(
+fn answer_unkept<R: Threads + Wait + Sync, L: Link + Sync, G: Gate + Sync>(
     rt: &R,
     alloc: Global,
     state: TcState,
     calls: &[Call],
     crew: Crew,
-    link: &RingLink,
+    link: &L,
     gate: &G,
 ) -> Result<Listed, Halt>
     ensures report { IfOk result (λ l. Reports state calls.now l.state l.answers.items) }
@@ -152,13 +154,13 @@ fn answer_unkept<R: Threads + Wait + Sync, G: Gate + Sync>(
 }
 
 // The same, and keeps the log in a journal.
-fn answer_kept<R: Threads + Wait + Sync, G: Gate + Sync>(
+fn answer_kept<R: Threads + Wait + Sync, L: Link + Sync, G: Gate + Sync>(
     rt: &R,
     alloc: Global,
     state: TcState,
     calls: &[Call],
     crew: Crew,
-    link: &RingLink,
+    link: &L,
     gate: &G,
     journal: FileJournal,
 ) -> Result<Listed, Halt>
@@ -189,13 +191,13 @@ fn answer_kept<R: Threads + Wait + Sync, G: Gate + Sync>(
 }
 
 // Answers one list of calls, and keeps the log where there is a journal.
-fn answer_list<R: Threads + Wait + Sync, G: Gate + Sync>(
+fn answer_list<R: Threads + Wait + Sync, L: Link + Sync, G: Gate + Sync>(
     rt: &R,
     alloc: Global,
     state: TcState,
     calls: &[Call],
     crew: Crew,
-    link: &RingLink,
+    link: &L,
     gate: &G,
     journal: Option<FileJournal>,
 ) -> Result<Listed, Halt>
@@ -230,12 +232,12 @@ fn since<R: Clock>(rt: &R, start: Option<Instant>) -> Option<Duration> {
 }
 
 // Runs the first calls by one worker, and then the others by all.
-fn answer_all<R: Clock + Threads + Wait + Sync>(
+fn answer_all<R: Clock + Threads + Wait + Sync, L: Link + Sync>(
     rt: &R,
     alloc: Global,
     state: TcState,
     workload: &Workload,
-    link: &RingLink,
+    link: &L,
     journal: Option<FileJournal>,
 ) -> Result<Answered, Halt>
     ensures answered { IfOk result (λ a. AreAnswered state workload.now.first.items workload.now.calls.items
@@ -293,16 +295,16 @@ type Server = PromisedHandle<Dc, ServedFrom>;
 
 /// The rings to data components, with room for the threads that serve them.
 #[derive(Drop)]
-pub struct Rings {
-    link: RingLink,
+pub struct Rings<S: Beginnings> {
+    link: RingLink<S>,
     servers: Vec<Server>,
     ghost idle: { servers.items ≡ [] },
 }
 
-impl Rings {
+impl<S: Beginnings> Rings<S> {
     /// Rings for so many components and so many workers. For a number of workers that no run has,
     /// they are those of one worker, whom the first list needs.
-    pub fn new(alloc: Global, dcs: usize, workers: u64) -> Result<Rings, AllocError> {
+    pub fn new(alloc: Global, dcs: usize, workers: u64) -> Result<Rings<S>, AllocError> {
         let workers = if (1..=64).contains(&workers) {
             workers as usize
         } else {
@@ -317,20 +319,25 @@ impl Rings {
 
 // Starts a thread for each component, which serves it under its number, up to the first that can't be
 // started.
-fn serve_all<'s, E, R: Wait + Sync>(
+fn serve_all<'s, E, S: Beginnings + Send + Sync, R: Wait + Sync>(
     scope: &Scope<'s, E>,
     rt: &'s R,
-    link: &'s RingLink,
+    link: &'s RingLink<S>,
     dcs: Vec<Dc>,
     mut servers: Vec<Server>,
 ) -> Vec<Server>
-    requires { servers.items ≡ [] }
+    requires none { servers.items ≡ [] }
+    requires first { BeginAs S.may_begin dcs.items }
     ensures { ArePromised dcs.items result.items }
 {
     for dc in dcs {
         let number = servers.len();
         let promise = ServedFrom(number, Snapshot::of(&dc));
-        let Ok(server) = scope.spawn_with(promise, move || link.serve(rt, number, dc)) else {
+        let body = move ||
+            requires { BeginsAs S.may_begin number dc }
+            ensures { IsServed number dc result }
+        { link.serve(rt, number, dc) };
+        let Ok(server) = scope.spawn_with(promise, body) else {
             return servers;
         };
         if servers.push(server).is_err() {
@@ -351,15 +358,16 @@ fn handed_back<R: Threads>(rt: &R, servers: Vec<Server>) -> Result<Vec<Dc>, Allo
 /// Answers both lists while a thread for each component serves it, and hands the components back as
 /// they are then. Where a thread can't be started, no call is begun. Where there is a journal, no answer is
 /// told before it is kept.
-pub fn answer_served<R: Clock + Threads + Wait + Sync>(
+pub fn answer_served<S: Beginnings + Send + Sync, R: Clock + Threads + Wait + Sync>(
     rt: &R,
     alloc: Global,
     state: TcState,
     dcs: Vec<Dc>,
     workload: &Workload,
-    rings: Rings,
+    rings: Rings<S>,
     journal: Option<FileJournal>,
 ) -> (Result<Answered, Halt>, Result<Vec<Dc>, AllocError>)
+    requires { BeginAs S.may_begin dcs.items }
     ensures answered { IfOk result.0 (λ a. AreAnswered state workload.now.first.items workload.now.calls.items
         a.first.items a.calls.items a.state) }
     ensures kept { KeepsLog journal state.events → IfOk result.0 (λ a. KeepsLog a.journal a.state.events) }
@@ -374,7 +382,8 @@ pub fn answer_served<R: Clock + Threads + Wait + Sync>(
         thread::scope_env(),
         rt,
         |scope| -> (Result<Answered, Halt>, Result<Vec<Dc>, AllocError>)
-            requires { servers.items ≡ [] }
+            requires none { servers.items ≡ [] }
+            requires first { BeginAs S.may_begin dcs.items }
             ensures answered { IfOk result.0 (λ a. AreAnswered state workload.entry.now.first.items workload.entry.now.calls.items
                 a.first.items a.calls.items a.state) }
             ensures kept { KeepsLog journal state.events → IfOk result.0 (λ a. KeepsLog a.journal a.state.events) }

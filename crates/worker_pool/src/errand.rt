@@ -1,6 +1,7 @@
 //! A wire on its way, as links see it.
 
 ghost use Rattle.std.specs.Prelude.{◌≡◌, true, Some, None, IfSome, IsSome};
+ghost use Rattle.access_slots.specs.Locks.{target};
 
 use crate::sending::Sending;
 use access_slots::op::{News, Reply, Wire};
@@ -46,6 +47,19 @@ impl Errand {
             return None;
         }
         Some(self.sending.wire())
+    }
+
+    // The wire, where it is to be carried to the component with this number.
+    #[inline(always)]
+    pub(crate) fn wire_for(&self, number: usize) -> Option<&Wire>
+        ensures wire { IfSome result (λ wire. (wire.now ≡ self.now.sending.wire) × ((target wire.now.op).dc ≡ number)) }
+    {
+        let wire = self.wire()?;
+        if usize::from(wire.op.record().dc) == number {
+            Some(wire)
+        } else {
+            None
+        }
     }
 
     /// Takes what came back for the wire.

@@ -40,6 +40,7 @@ mod redos;
 mod report;
 mod ring;
 mod ring_link;
+mod seat;
 mod sending;
 mod waiting;
 
@@ -52,3 +53,4 @@ pub use memory_journal::MemoryJournal;
 pub use pool::{Gate, Link, OpenGate, RunFault, run};
 pub use report::Report;
 pub use ring_link::{RingLink, ServedFrom};
+pub use seat::{AnyBeginning, Beginnings};

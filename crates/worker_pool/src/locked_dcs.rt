@@ -5,6 +5,7 @@ ghost use Rattle.access_slots.specs.Locks.{target};
 
 use crate::errand::Errand;
 use crate::pool::Link;
+use crate::seat::perform_all;
 use crate::waiting::acquire;
 use access_slots::op::{News, Reply, Wire};
 use data_component::dc::Dc;
@@ -87,37 +88,12 @@ impl Link for LockedDcs {
     /// Each component's lock is taken once for all wires that are for it.
     fn carry_all<R: Wait>(&self, rt: &R, _worker: usize, errands: &mut [Errand]) {
         for (number, dc) in self.dcs.iter().enumerate() {
-            if errands.iter().any(|errand| is_for(errand, number)) {
+            if errands
+                .iter()
+                .any(|errand| errand.wire_for(number).is_some())
+            {
                 perform_all(&mut *acquire(rt, dc), number, errands);
             }
         }
-    }
-}
-
-// Whether an errand's wire is for the component with this number.
-#[inline(always)]
-fn is_for(errand: &Errand, number: usize) -> bool {
-    match errand.wire() {
-        Some(wire) => usize::from(wire.op.record().dc) == number,
-        None => false,
-    }
-}
-
-// Performs the wires that are for the component, which has this number.
-fn perform_all(dc: &mut Dc, number: usize, errands: &mut [Errand]) {
-    for errand in errands {
-        if is_for(errand, number) {
-            perform(dc, errand);
-        }
-    }
-}
-
-// Performs an errand's wire.
-fn perform(dc: &mut Dc, errand: &mut Errand) {
-    let Some(wire) = errand.wire() else {
-        return;
-    };
-    if let Some(reply) = dc.perform(wire) {
-        errand.bring(reply);
     }
 }

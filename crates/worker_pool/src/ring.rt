@@ -133,6 +133,11 @@ impl<T: Drop, V, P: Protocol<T, V>> Ring<T, V, P> {
         unreachable!()
     }
 
+    // Whether somebody sleeps until a message comes.
+    pub fn has_sleeper(&self) -> bool {
+        self.bell.sleepers.load(Ordering::SeqCst) != 0
+    }
+
     // Has whoever waits look again.
     pub fn wake(&self) {
         self.bell.ring();

@@ -4,12 +4,13 @@ ghost use Rattle.std.specs.Prelude.{true, false, ◌≡◌, ◌<◌, ◌≤◌, 
 ghost use Rattle.std.specs.Option.{ForSome};
 ghost use Rattle.access_slots.specs.Locks.{target};
 ghost use Rattle.crossbeam_queue.specs.Fifo.{Admits, Held, Learns, Pops};
-ghost use Rattle.data_component.specs.Store.{performed, replied};
-ghost use Rattle.worker_pool.specs.Serving.{IsFor, IsServed};
+ghost use Rattle.data_component.specs.Store.{Store};
+ghost use Rattle.worker_pool.specs.Serving.{HasServed, IsServed};
 
 use crate::errand::Errand;
 use crate::pool::{AT_A_TIME, Link};
 use crate::ring::Ring;
+use crate::seat::{AnyBeginning, Beginnings, Seat};
 use access_slots::op::{News, Reply, Wire};
 use crossbeam_queue::protocol::{Free, Lesson, Outcome, Protocol};
 use data_component::dc::Dc;
@@ -42,24 +43,6 @@ type Inbox = Ring<Parcel, (), Free>;
 
 type Notes = Ring<Note, (), Free>;
 
-// What the component with this number does with a wire, as a note. One for another is met with silence.
-fn note_of(dc: &mut Dc, number: usize, wire: &Wire) -> Note
-    ensures number { result.number ≡ wire.now.number }
-    ensures store { IsFor number wire.now → dc.new ≡ performed dc.old wire.now }
-    ensures reply { IsFor number wire.now → result.reply ≡ replied dc.old wire.now }
-    ensures other { (IsFor number wire.now → ⊥) → (dc.new ≡ dc.old) × (result.reply ≡ None) }
-{
-    let reply = if usize::from(wire.op.record().dc) == number {
-        dc.perform(wire)
-    } else {
-        None
-    };
-    Note {
-        number: wire.number,
-        reply,
-    }
-}
-
 /// What a thread that serves a component promises of the component that it hands back: it is the one
 /// with this number and of this kind at first, which performed wires for it and nothing else.
 #[derive(Drop)]
@@ -69,8 +52,58 @@ impl Promise<Dc> for ServedFrom {
     ghost kept_by = { λ p dc. IsServed p.0 p.1.value dc };
 }
 
+// A component's place: its seat, and the inbox for the wires of those who don't find it idle.
+#[derive(Drop)]
+struct Place<S: Beginnings> {
+    inbox: Inbox,
+    seat: Seat<S>,
+}
+
+impl<S: Beginnings> Place<S> {
+    // What the component does with a wire, where the thread that serves it sleeps and the component is free.
+    // One that is awake is soon there, and works beside the worker.
+    fn perform_idle(&self, wire: &Wire) -> Option<Option<Reply>>
+        ensures { IfSome result (λ said. IfSome said (λ reply. reply.number ≡ wire.now.number)) }
+    {
+        if self.inbox.has_sleeper() {
+            self.seat.try_perform(wire)
+        } else {
+            None
+        }
+    }
+
+    // Has the component perform the errands' wires that are for it, where that is so. Whether it was.
+    fn perform_all_idle(&self, errands: &mut [Errand]) -> bool {
+        self.inbox.has_sleeper() && self.seat.try_perform_all(errands)
+    }
+
+    // Puts a wire into the inbox. Whether that was done: not where it is full.
+    fn send<R: Wait>(&self, rt: &R, worker: usize, wire: &Wire) -> bool {
+        let parcel = Parcel {
+            worker,
+            wire: *wire,
+        };
+        self.inbox.put(rt, parcel).is_ok()
+    }
+
+    // Puts the errands' wires that are for the component, which has this number, into the inbox. How many notes
+    // will come for them.
+    fn send_all<R: Wait>(&self, rt: &R, worker: usize, number: usize, errands: &[Errand]) -> usize {
+        let mut sent = 0usize;
+        for errand in errands {
+            if let Some(wire) = errand.wire_for(number) {
+                if self.send(rt, worker, wire) {
+                    sent = sent.saturating_add(1);
+                }
+            }
+        }
+        sent
+    }
+}
+
 /// A link to data components that run in threads of their own, numbered from 0: a worker puts a wire
-/// into the component's inbox and waits for the note that comes back.
+/// into the component's inbox and waits for the note that comes back. Where the component's thread sleeps,
+/// the worker has the component perform the wire there and then.
 ///
 /// ```
 /// let link = RingLink::new(alloc, 1, 4)?;
@@ -83,24 +116,32 @@ impl Promise<Dc> for ServedFrom {
 /// ```
 ///
 /// Each component is to be served by one thread, and each worker's number used by one thread at a
-/// time: two that share a number would take one another's notes.
+/// time: two that share a number would take one another's notes. As what each component may begin,
+/// says `S` ([`Beginnings`]); by itself it is any.
 #[derive(Drop)]
-pub struct RingLink {
-    inboxes: Vec<Inbox>,
+pub struct RingLink<S: Beginnings = AnyBeginning> {
+    places: Vec<Place<S>>,
     notes: Vec<Notes>,
     closed: AtomicU64,
 }
 
-// So many inboxes, each with places for all wires that workers have on their way.
-fn inboxes(alloc: Global, dcs: usize, workers: usize) -> Result<Vec<Inbox>, AllocError>
+// So many places with empty seats, whose inboxes have room for all wires that workers have on their way.
+fn places<S: Beginnings>(
+    alloc: Global,
+    dcs: usize,
+    workers: usize,
+) -> Result<Vec<Place<S>>, AllocError>
     requires { (0 < workers) × (workers ≤ 64) }
-    ensures { IfOk result (λ rings. vec_len rings ≡ dcs) }
+    ensures { IfOk result (λ places. vec_len places ≡ dcs) }
 {
-    let mut rings = Vec::with_capacity(alloc, dcs)?;
+    let mut places = Vec::with_capacity(alloc, dcs)?;
     for dc in 0..dcs {
-        rings.push(Ring::new(alloc, AT_A_TIME * workers)?)?;
+        places.push(Place {
+            inbox: Ring::new(alloc, AT_A_TIME * workers)?,
+            seat: Seat::empty(),
+        })?;
     }
-    Ok(rings)
+    Ok(places)
 }
 
 // A ring of notes for each worker.
@@ -114,52 +155,63 @@ fn rings_of_notes(alloc: Global, workers: usize) -> Result<Vec<Notes>, AllocErro
     Ok(rings)
 }
 
-impl RingLink {
+impl<S: Beginnings> RingLink<S> {
     /// Rings for so many components and 1 to 64 workers. Nothing is made where memory is refused.
-    pub fn new(alloc: Global, dcs: usize, workers: usize) -> Result<RingLink, AllocError>
+    pub fn new(alloc: Global, dcs: usize, workers: usize) -> Result<RingLink<S>, AllocError>
         requires { (1 ≤ workers) × (workers ≤ 64) }
-        ensures { IfOk result (λ link. (vec_len link.inboxes ≡ dcs) × (vec_len link.notes ≡ workers)) }
+        ensures { IfOk result (λ link. (vec_len link.places ≡ dcs) × (vec_len link.notes ≡ workers)) }
     {
         Ok(RingLink {
-            inboxes: inboxes(alloc, dcs, workers)?,
+            places: places(alloc, dcs, workers)?,
             notes: rings_of_notes(alloc, workers)?,
             closed: AtomicU64::new(0),
         })
     }
 
-    /// Performs the wires of this component's inbox, and puts a note of each, silence too, into the
-    /// ring of the worker that sent it. Hands the component back once the link is closed and the
-    /// inbox was found empty; at once where there is no inbox of this number. A thread that is started
-    /// with [`ServedFrom`] for a promise tells so much of it at its join.
+    /// Has this component perform the wires of its inbox, and puts a note of each, silence too, into the
+    /// ring of the worker that sent it. While the thread sleeps for want of wires, workers have the component
+    /// perform theirs. Hands it back once the link is closed and the inbox was found empty; at once
+    /// where there is no inbox of this number, and where another thread serves a component under it. A thread
+    /// that is started with [`ServedFrom`] for a promise tells at its join where what it hands back comes from.
     pub fn serve<R: Wait>(&self, rt: &R, number: usize, dc: Dc) -> Dc
-        ensures served { IsServed number dc result }
-        ensures absent { vec_len self.now.inboxes ≤ number → result ≡ dc }
+        requires { S.may_begin number dc }
+        ensures began { HasServed S.may_begin number result }
+        ensures served { ((first : Store) → S.may_begin number first → first ≡ dc) → IsServed number dc result }
+        ensures absent { vec_len self.now.places ≤ number → result ≡ dc }
     {
-        match self.inboxes.get(number) {
-            Some(inbox) => self.serve_inbox::<(), Free, Free, R>(rt, inbox, number, dc),
-            None => dc,
+        let Some(place) = self.places.get(number) else {
+            return dc;
+        };
+        match place.seat.sit(rt, number, dc) {
+            Ok(()) => {
+                self.serve_inbox::<(), Free, Free, R>(rt, &place.inbox, &place.seat);
+                place.seat.leave(rt, number)
+            }
+            Err(dc) => dc,
         }
     }
 
-    // Performs the wires of an inbox until it is closed and empty: at one moment of the call it was.
+    // Has the component of this seat perform the wires of an inbox until that is closed and empty: at one moment
+    // of the call it was.
     fn serve_inbox<V, P: Protocol<Parcel, V>, M: Outcome<Parcel, V> + Lesson<Parcel, V>, R: Wait>(
         &self,
         rt: &R,
         inbox: &Ring<Parcel, V, P>,
-        number: usize,
-        mut dc: Dc,
-    ) -> Dc
+        seat: &Seat<S>,
+    )
         requires admits { Admits P.holds P.first }
         requires pops { (pass : ℕ) → Pops P.holds pass P.first (M.then P.first) }
         requires learns { (pass : ℕ) → Learns P.holds pass P.first (M.fact P.first) }
-        ensures served { IsServed number dc result }
         ensures empty { Held 0 (M.fact P.first) }
     {
         for _ in rt.forever() {
             let Some(parcel) = inbox.take::<M, R>(rt, &self.closed) else {
-                return dc;
+                return;
             };
-            let note = note_of(&mut dc, number, &parcel.wire);
+            let note = Note {
+                number: parcel.wire.number,
+                reply: seat.perform(rt, &parcel.wire),
+            };
             self.hand_back(rt, parcel.worker, note);
         }
         unreachable!()
@@ -177,8 +229,8 @@ impl RingLink {
     /// from now on is lost. To close again changes nothing.
     pub fn close(&self) {
         self.closed.store(1, Ordering::SeqCst);
-        for inbox in &self.inboxes {
-            inbox.wake();
+        for place in &self.places {
+            place.inbox.wake();
         }
         for notes in &self.notes {
             notes.wake();
@@ -187,37 +239,6 @@ impl RingLink {
 
     fn is_closed(&self) -> bool {
         self.closed.load(Ordering::SeqCst) != 0
-    }
-
-    // Puts a wire into its component's inbox. Whether that was done: not where there is no such component,
-    // where the inbox is full, and where the link is closed.
-    fn send<R: Wait>(&self, rt: &R, worker: usize, wire: &Wire) -> bool
-        ensures { vec_len self.now.inboxes ≤ (target wire.now.op).dc → result ≡ false }
-    {
-        let Some(inbox) = self.inboxes.get(usize::from(wire.op.record().dc)) else {
-            return false;
-        };
-        if self.is_closed() {
-            return false;
-        }
-        let parcel = Parcel {
-            worker,
-            wire: *wire,
-        };
-        inbox.put(rt, parcel).is_ok()
-    }
-
-    // Puts the errands' wires into inboxes. How many notes will come for them.
-    fn send_all<R: Wait>(&self, rt: &R, worker: usize, errands: &[Errand]) -> usize {
-        let mut sent = 0usize;
-        for errand in errands {
-            if let Some(wire) = errand.wire() {
-                if self.send(rt, worker, wire) {
-                    sent = sent.saturating_add(1);
-                }
-            }
-        }
-        sent
     }
 
     // Waits for the note of this number, and drops those of others.
@@ -232,18 +253,37 @@ impl RingLink {
         }
         unreachable!()
     }
+
+    // Waits for so many notes, and brings the errands what they reply.
+    fn bring_all<R: Wait>(&self, rt: &R, notes: &Notes, count: usize, errands: &mut [Errand]) {
+        for _ in 0..count {
+            let Some(note) = notes.take::<Free, R>(rt, &self.closed) else {
+                return;
+            };
+            if let Some(reply) = note.reply {
+                bring(errands, reply);
+            }
+        }
+    }
 }
 
-impl Link for RingLink {
+impl<S: Beginnings> Link for RingLink<S> {
     /// What the wire's component replies. Nothing where there is no such component or no such
     /// worker, where the inbox is full, and where the link is closed, also while it waits.
     fn carry<R: Wait>(&self, rt: &R, worker: usize, wire: &Wire) -> Option<Reply>
-        ensures absent { vec_len self.now.inboxes ≤ (target wire.now.op).dc → result ≡ None }
+        ensures absent { vec_len self.now.places ≤ (target wire.now.op).dc → result ≡ None }
         ensures stranger { vec_len self.now.notes ≤ worker → result ≡ None }
         ensures number { IfSome result (λ reply. reply.number ≡ wire.now.number) }
     {
         let notes = self.notes.get(worker)?;
-        if !self.send(rt, worker, wire) {
+        let place = self.places.get(usize::from(wire.op.record().dc))?;
+        if self.is_closed() {
+            return None;
+        }
+        if let Some(said) = place.perform_idle(wire) {
+            return said;
+        }
+        if !place.send(rt, worker, wire) {
             return None;
         }
         self.reply_to(rt, notes, wire.number)
@@ -263,19 +303,26 @@ impl Link for RingLink {
         true
     }
 
-    /// All wires are put into the inboxes before the first note is waited for.
+    /// The wires for components whose threads sleep are performed by them there and then; all others are put
+    /// into the inboxes before the first note is waited for.
     fn carry_all<R: Wait>(&self, rt: &R, worker: usize, errands: &mut [Errand]) {
         let Some(notes) = self.notes.get(worker) else {
             return;
         };
-        for _ in 0..self.send_all(rt, worker, errands) {
-            let Some(note) = notes.take::<Free, R>(rt, &self.closed) else {
-                return;
-            };
-            if let Some(reply) = note.reply {
-                bring(errands, reply);
+        if self.is_closed() {
+            return;
+        }
+        let mut sent = 0usize;
+        for (number, place) in self.places.iter().enumerate() {
+            if errands
+                .iter()
+                .any(|errand| errand.wire_for(number).is_some())
+                && !place.perform_all_idle(errands)
+            {
+                sent = sent.saturating_add(place.send_all(rt, worker, number, errands));
             }
         }
+        self.bring_all(rt, notes, sent, errands);
     }
 }
 

@@ -3,7 +3,7 @@ use Rattle.std.specs.Prelude.{IfOk, string_bytes}
 use Rattle.run_command.specs.declared.answering.Manner.{Manner}
 use Rattle.run_command.specs.Logged.{KeepsLog}
 use Rattle.run_command.specs.Running.{AreCallsOf, IsCallsRun}
-use Rattle.run_command.proofs.running.run_from.Goals as goal
+use Rattle.run_command.proofs.running.run_first.Goals as goal
 
 pub returns-in-Ok-clause-run : goal.returns-in-Ok-clause-run
 returns-in-Ok-clause-run g c = λ kept.
