@@ -355,19 +355,19 @@ fn handed_back<R: Threads>(rt: &R, servers: Vec<Server>) -> Result<Vec<Dc>, Allo
     Ok(thread::join_promised(rt, servers)?)
 }
 
-/// Answers both lists while a thread for each component serves it, and hands the components back as
-/// they are then. Where a thread can't be started, no call is begun. Where there is a journal, no answer is
-/// told before it is kept.
-pub fn answer_served<S: Beginnings + Send + Sync, R: Clock + Threads + Wait + Sync>(
+// Answers both lists while a thread for each component serves it over this link, which is closed then.
+fn answer_over<S: Beginnings + Send + Sync, R: Clock + Threads + Wait + Sync>(
     rt: &R,
     alloc: Global,
     state: TcState,
     dcs: Vec<Dc>,
     workload: &Workload,
-    rings: Rings<S>,
+    link: &RingLink<S>,
+    servers: Vec<Server>,
     journal: Option<FileJournal>,
 ) -> (Result<Answered, Halt>, Result<Vec<Dc>, AllocError>)
-    requires { BeginAs S.may_begin dcs.items }
+    requires none { servers.items ≡ [] }
+    requires first { BeginAs S.may_begin dcs.items }
     ensures answered { IfOk result.0 (λ a. AreAnswered state workload.now.first.items workload.now.calls.items
         a.first.items a.calls.items a.state) }
     ensures kept { KeepsLog journal state.events → IfOk result.0 (λ a. KeepsLog a.journal a.state.events) }
@@ -376,8 +376,6 @@ pub fn answer_served<S: Beginnings + Send + Sync, R: Clock + Threads + Wait + Sy
     ensures fault { IfErr result.0 (HaltFits journal workload.now.manner.workers workload.now.manner.tries) }
     ensures dcs { OnOk result.0 (IfOk result.1 (λ back. AreServed dcs.items back.items)) }
 {
-    let Rings { link, servers } = rings;
-    let link = &link;
     thread::scope(
         thread::scope_env(),
         rt,
@@ -409,4 +407,31 @@ pub fn answer_served<S: Beginnings + Send + Sync, R: Clock + Threads + Wait + Sy
             }
         },
     )
+}
+
+/// Answers both lists while a thread for each component serves it, and hands the components back as
+/// they are then. Where a thread can't be started, no call is begun. Where there is a journal, no answer is
+/// told before it is kept.
+pub fn answer_served<S: Beginnings + Send + Sync, R: Clock + Threads + Wait + Sync>(
+    rt: &R,
+    alloc: Global,
+    state: TcState,
+    dcs: Vec<Dc>,
+    workload: &Workload,
+    rings: Rings<S>,
+    journal: Option<FileJournal>,
+) -> (Result<Answered, Halt>, Result<Vec<Dc>, AllocError>)
+    requires { BeginAs S.may_begin dcs.items }
+    ensures answered { IfOk result.0 (λ a. AreAnswered state workload.now.first.items workload.now.calls.items
+        a.first.items a.calls.items a.state) }
+    ensures kept { KeepsLog journal state.events → IfOk result.0 (λ a. KeepsLog a.journal a.state.events) }
+    ensures same { IfOk result.0 (λ a. is_some a.journal ≡ is_some journal) }
+    ensures range { IfOk result.0 (λ _. InRange workload.now.manner.workers workload.now.manner.tries) }
+    ensures fault { IfErr result.0 (HaltFits journal workload.now.manner.workers workload.now.manner.tries) }
+    ensures dcs { OnOk result.0 (IfOk result.1 (λ back. AreServed dcs.items back.items)) }
+{
+    let Rings { link, servers } = rings;
+    let answered = answer_over(rt, alloc, state, dcs, workload, &link, servers, journal);
+    drop(link);
+    answered
 }
