@@ -1,10 +1,10 @@
 -- Threads that promise to serve data components, and what they hand back.
-use Rattle.std.proofs.Common.{◌≡◌, ℕ, ◌<◌, ◌+◌, List, [], ◌∷◌, ◌++◌, length, drop, get_or, get_or-drop, slice_get, Some, refl, sym, ◌∙◌, ap, subst, arith, add-zero, below_more}
-use Rattle.std.proofs.lemmas.List.{drop-drop, length-drop, length_push, get_or_append_left, get_or_push}
-use Rattle.std.proofs.lemmas.Option.{slice_get_within, slice_get_read, get_or_from_slice_get}
+use Rattle.std.proofs.Common.{◌≡◌, ℕ, ◌<◌, ◌+◌, List, [], ◌∷◌, ◌++◌, length, drop, get_or, get_or-drop, refl, sym, ◌∙◌, ap, subst, arith, add-zero, below_more}
+use Rattle.std.proofs.lemmas.List.{drop-drop, length_push, get_or_append_left, get_or_push}
+use Rattle.std.proofs.lemmas.Option.{slice_get_within, get_or_from_slice_get}
 use Rattle.data_component.specs.Store.{Store}
 use Rattle.worker_pool.specs.Serving.{IsServed}
-use Rattle.run_command.specs.Joining.Servers.{Server, Promises, ArePromised, BeginsAs, BeginAs}
+use Rattle.run_command.specs.Joining.Servers.{Server, Promises, ArePromised}
 use Rattle.run_command.specs.Running.{AreServed}
 
 -- ---- starting
@@ -16,23 +16,6 @@ next_is dcs rest n dc other next =
 
 rest_is : (dcs rest : List Store) (n : ℕ) (dc : Store) → drop n dcs ≡ dc ∷ rest → rest ≡ drop (n + 1) dcs
 rest_is dcs rest n dc next = sym (ap (drop 1) next) ∙ drop-drop 1 n dcs
-
-stands_at : (dcs rest : List Store) (n : ℕ) (dc : Store) → dc ∷ rest ≡ drop n dcs → slice_get dcs n ≡ Some dc
-stands_at dcs rest n dc next =
-    let within : n < length dcs = omega (arith, length-drop n dcs, ap length next) in
-    slice_get_read dcs (length dcs) n dc refl within (next_is dcs rest n dc dc (sym next))
-
--- the next number may begin as the data component that is next
-pub next_begins : (may_begin : ℕ → Store → Type 0) (dcs rest : List Store) (n : ℕ) (dc : Store) → BeginAs may_begin dcs
-    → dc ∷ rest ≡ drop n dcs → BeginsAs may_begin n dc
-next_begins may_begin dcs rest n dc begin next = begin n dc (stands_at dcs rest n dc next)
-
--- each number may begin as the one at its place, where it may begin as that alone
-pub begin_in_place : (dcs : List Store) → BeginAs (λ number dc. slice_get dcs number ≡ Some dc) dcs
-begin_in_place dcs = λ number dc is. record {
-  may = is;
-  alone = λ first at. sym (get_or_from_slice_get dcs number first dc at) ∙ get_or_from_slice_get dcs number dc dc is;
-}
 
 -- one thread more, for the data component that is next
 one_promised : (dcs rest : List Store) (servers : List Server) (server : Server) (dc : Store) → drop (length servers) dcs ≡ dc ∷ rest

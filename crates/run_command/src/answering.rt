@@ -7,11 +7,10 @@ ghost use Rattle.tc_core.specs.Core.{Core};
 ghost use Rattle.worker_pool.specs.Faults.{InRange};
 ghost use Rattle.worker_pool.specs.Journals.{KeptFaultFits};
 ghost use Rattle.worker_pool.specs.Reports.{Reports};
-ghost use Rattle.worker_pool.specs.Serving.{IsServed};
 ghost use Rattle.run_command.specs.Running.{AreAnswered, AreServed, Stops, cause_of};
 ghost use Rattle.run_command.specs.Logged.{FileJournal as FileJournalValue, KeepsLog, HaltFits};
 ghost use Rattle.run_command.specs.Joining.Halts.{ListHalts};
-ghost use Rattle.run_command.specs.Joining.Servers.{ArePromised, BeginsAs, BeginAs};
+ghost use Rattle.run_command.specs.Joining.Servers.{ArePromised};
 
 use crate::watching::{Waits, Watch};
 use data_component::dc::Dc;
@@ -25,8 +24,7 @@ use std::thread::{PromisedHandle, Scope, Threads};
 use std::time::{Clock, Duration, Instant};
 use tc_core::state::{Call, TcState};
 use worker_pool::{
-    Answer, Beginnings, Gate, KeptFault, Link, OpenGate, Report, RingLink, RunFault, ServedFrom,
-    run, run_kept,
+    Answer, Gate, KeptFault, OpenGate, Report, RingLink, RunFault, ServedFrom, run, run_kept,
 };
 
 /// How the calls of a script are run: the second list by so many workers, each request sent so often
@@ -124,13 +122,13 @@ struct Crew {
 }
 
 // Answers one list of calls.
-fn answer_unkept<R: Threads + Wait + Sync, L: Link + Sync, G: Gate + Sync>(
+fn answer_unkept<R: Threads + Wait + Sync, G: Gate + Sync>(
     rt: &R,
     alloc: Global,
     state: TcState,
     calls: &[Call],
     crew: Crew,
-    link: &L,
+    link: &RingLink,
     gate: &G,
 ) -> Result<Listed, Halt>
     ensures report { IfOk result (λ l. Reports state calls.now l.state l.answers.items) }
@@ -154,13 +152,13 @@ fn answer_unkept<R: Threads + Wait + Sync, L: Link + Sync, G: Gate + Sync>(
 }
 
 // The same, and keeps the log in a journal.
-fn answer_kept<R: Threads + Wait + Sync, L: Link + Sync, G: Gate + Sync>(
+fn answer_kept<R: Threads + Wait + Sync, G: Gate + Sync>(
     rt: &R,
     alloc: Global,
     state: TcState,
     calls: &[Call],
     crew: Crew,
-    link: &L,
+    link: &RingLink,
     gate: &G,
     journal: FileJournal,
 ) -> Result<Listed, Halt>
@@ -191,13 +189,13 @@ fn answer_kept<R: Threads + Wait + Sync, L: Link + Sync, G: Gate + Sync>(
 }
 
 // Answers one list of calls, and keeps the log where there is a journal.
-fn answer_list<R: Threads + Wait + Sync, L: Link + Sync, G: Gate + Sync>(
+fn answer_list<R: Threads + Wait + Sync, G: Gate + Sync>(
     rt: &R,
     alloc: Global,
     state: TcState,
     calls: &[Call],
     crew: Crew,
-    link: &L,
+    link: &RingLink,
     gate: &G,
     journal: Option<FileJournal>,
 ) -> Result<Listed, Halt>
@@ -232,12 +230,12 @@ fn since<R: Clock>(rt: &R, start: Option<Instant>) -> Option<Duration> {
 }
 
 // Runs the first calls by one worker, and then the others by all.
-fn answer_all<R: Clock + Threads + Wait + Sync, L: Link + Sync>(
+fn answer_all<R: Clock + Threads + Wait + Sync>(
     rt: &R,
     alloc: Global,
     state: TcState,
     workload: &Workload,
-    link: &L,
+    link: &RingLink,
     journal: Option<FileJournal>,
 ) -> Result<Answered, Halt>
     ensures answered { IfOk result (λ a. AreAnswered state workload.now.first.items workload.now.calls.items
@@ -295,16 +293,16 @@ type Server = PromisedHandle<Dc, ServedFrom>;
 
 /// The rings to data components, with room for the threads that serve them.
 #[derive(Drop)]
-pub struct Rings<S: Beginnings> {
-    link: RingLink<S>,
+pub struct Rings {
+    link: RingLink,
     servers: Vec<Server>,
     ghost idle: { servers.items ≡ [] },
 }
 
-impl<S: Beginnings> Rings<S> {
+impl Rings {
     /// Rings for so many components and so many workers. For a number of workers that no run has,
     /// they are those of one worker, whom the first list needs.
-    pub fn new(alloc: Global, dcs: usize, workers: u64) -> Result<Rings<S>, AllocError> {
+    pub fn new(alloc: Global, dcs: usize, workers: u64) -> Result<Rings, AllocError> {
         let workers = if (1..=64).contains(&workers) {
             workers as usize
         } else {
@@ -319,25 +317,20 @@ impl<S: Beginnings> Rings<S> {
 
 // Starts a thread for each component, which serves it under its number, up to the first that can't be
 // started.
-fn serve_all<'s, E, S: Beginnings + Send + Sync, R: Wait + Sync>(
+fn serve_all<'s, E, R: Wait + Sync>(
     scope: &Scope<'s, E>,
     rt: &'s R,
-    link: &'s RingLink<S>,
+    link: &'s RingLink,
     dcs: Vec<Dc>,
     mut servers: Vec<Server>,
 ) -> Vec<Server>
-    requires none { servers.items ≡ [] }
-    requires first { BeginAs S.may_begin dcs.items }
+    requires { servers.items ≡ [] }
     ensures { ArePromised dcs.items result.items }
 {
     for dc in dcs {
         let number = servers.len();
         let promise = ServedFrom(number, Snapshot::of(&dc));
-        let body = move ||
-            requires { BeginsAs S.may_begin number dc }
-            ensures { IsServed number dc result }
-        { link.serve(rt, number, dc) };
-        let Ok(server) = scope.spawn_with(promise, body) else {
+        let Ok(server) = scope.spawn_with(promise, move || link.serve(rt, number, dc)) else {
             return servers;
         };
         if servers.push(server).is_err() {
@@ -355,19 +348,18 @@ fn handed_back<R: Threads>(rt: &R, servers: Vec<Server>) -> Result<Vec<Dc>, Allo
     Ok(thread::join_promised(rt, servers)?)
 }
 
-// Answers both lists while a thread for each component serves it over this link, which is closed then.
-fn answer_over<S: Beginnings + Send + Sync, R: Clock + Threads + Wait + Sync>(
+/// Answers both lists while a thread for each component serves it, and hands the components back as
+/// they are then. Where a thread can't be started, no call is begun. Where there is a journal, no answer is
+/// told before it is kept.
+pub fn answer_served<R: Clock + Threads + Wait + Sync>(
     rt: &R,
     alloc: Global,
     state: TcState,
     dcs: Vec<Dc>,
     workload: &Workload,
-    link: &RingLink<S>,
-    servers: Vec<Server>,
+    rings: Rings,
     journal: Option<FileJournal>,
 ) -> (Result<Answered, Halt>, Result<Vec<Dc>, AllocError>)
-    requires none { servers.items ≡ [] }
-    requires first { BeginAs S.may_begin dcs.items }
     ensures answered { IfOk result.0 (λ a. AreAnswered state workload.now.first.items workload.now.calls.items
         a.first.items a.calls.items a.state) }
     ensures kept { KeepsLog journal state.events → IfOk result.0 (λ a. KeepsLog a.journal a.state.events) }
@@ -376,12 +368,13 @@ fn answer_over<S: Beginnings + Send + Sync, R: Clock + Threads + Wait + Sync>(
     ensures fault { IfErr result.0 (HaltFits journal workload.now.manner.workers workload.now.manner.tries) }
     ensures dcs { OnOk result.0 (IfOk result.1 (λ back. AreServed dcs.items back.items)) }
 {
+    let Rings { link, servers } = rings;
+    let link = &link;
     thread::scope(
         thread::scope_env(),
         rt,
         |scope| -> (Result<Answered, Halt>, Result<Vec<Dc>, AllocError>)
-            requires none { servers.items ≡ [] }
-            requires first { BeginAs S.may_begin dcs.items }
+            requires { servers.items ≡ [] }
             ensures answered { IfOk result.0 (λ a. AreAnswered state workload.entry.now.first.items workload.entry.now.calls.items
                 a.first.items a.calls.items a.state) }
             ensures kept { KeepsLog journal state.events → IfOk result.0 (λ a. KeepsLog a.journal a.state.events) }
@@ -407,31 +400,4 @@ fn answer_over<S: Beginnings + Send + Sync, R: Clock + Threads + Wait + Sync>(
             }
         },
     )
-}
-
-/// Answers both lists while a thread for each component serves it, and hands the components back as
-/// they are then. Where a thread can't be started, no call is begun. Where there is a journal, no answer is
-/// told before it is kept.
-pub fn answer_served<S: Beginnings + Send + Sync, R: Clock + Threads + Wait + Sync>(
-    rt: &R,
-    alloc: Global,
-    state: TcState,
-    dcs: Vec<Dc>,
-    workload: &Workload,
-    rings: Rings<S>,
-    journal: Option<FileJournal>,
-) -> (Result<Answered, Halt>, Result<Vec<Dc>, AllocError>)
-    requires { BeginAs S.may_begin dcs.items }
-    ensures answered { IfOk result.0 (λ a. AreAnswered state workload.now.first.items workload.now.calls.items
-        a.first.items a.calls.items a.state) }
-    ensures kept { KeepsLog journal state.events → IfOk result.0 (λ a. KeepsLog a.journal a.state.events) }
-    ensures same { IfOk result.0 (λ a. is_some a.journal ≡ is_some journal) }
-    ensures range { IfOk result.0 (λ _. InRange workload.now.manner.workers workload.now.manner.tries) }
-    ensures fault { IfErr result.0 (HaltFits journal workload.now.manner.workers workload.now.manner.tries) }
-    ensures dcs { OnOk result.0 (IfOk result.1 (λ back. AreServed dcs.items back.items)) }
-{
-    let Rings { link, servers } = rings;
-    let answered = answer_over(rt, alloc, state, dcs, workload, &link, servers, journal);
-    drop(link);
-    answered
 }

@@ -10,7 +10,6 @@ ghost use Rattle.run_command.specs.AnswerLines.{answer_lines, fault_line};
 ghost use Rattle.state_lines.specs.AuditLines.{AddsIf, AddsAudit};
 ghost use Rattle.state_lines.specs.RowLines.{AddsRowLines};
 ghost use Rattle.run_command.specs.Logged.{KeepsLog, UnreportedFits};
-ghost use Rattle.run_command.specs.Joining.Servers.{BeginAs};
 ghost use Rattle.run_command.specs.Joining.Stopping.{StopsAt};
 ghost use Rattle.run_command.specs.Running.{said_call, AreCallsOf, is_want_of_memory, AreLinesOf, IsCallsRun, IsRun};
 
@@ -28,12 +27,11 @@ use scripts::script;
 use state_lines::audit_lines::write_audit;
 use state_lines::row_lines::write_all_rows;
 use std::alloc::{AllocError, Global};
-use std::marker::Brand;
 use std::sync::Wait;
 use std::thread::Threads;
 use std::time::Clock;
 use tc_core::state::{Call, Refusal, TcState};
-use worker_pool::{Answer, Beginnings};
+use worker_pool::Answer;
 
 // The call that a line of the script says.
 fn call_of(alloc: Global, said: &script::Call) -> Result<Call, AllocError>
@@ -154,20 +152,20 @@ fn stopped(alloc: Global, fault: Unbegun) -> Result<Report, AllocError>
 
 // What calls are run with: they themselves, and the rings to the data components.
 #[derive(Drop)]
-struct Prepared<S: Beginnings> {
+struct Prepared {
     workload: Workload,
-    rings: Rings<S>,
+    rings: Rings,
 }
 
 // Makes the calls that both lists say, and rings to so many components.
-fn prepare<S: Beginnings>(
+fn prepare(
     alloc: Global,
     first: &[script::Call],
     calls: &[script::Call],
     dcs: usize,
     manner: Manner,
     listeners: Listeners,
-) -> Result<Prepared<S>, AllocError>
+) -> Result<Prepared, AllocError>
     ensures first { IfOk result (λ p. AreCallsOf first.now p.workload.first.items) }
     ensures calls { IfOk result (λ p. AreCallsOf calls.now p.workload.calls.items) }
     ensures manner { IfOk result (λ p. p.workload.manner ≡ manner) }
@@ -275,15 +273,14 @@ fn unanswered(alloc: Global, halt: Halt) -> Result<Ran, Unreported>
 }
 
 // Runs both lists of calls from this state over these components.
-fn run_calls<S: Beginnings + Send + Sync, R: Clock + Threads + Wait + Sync>(
+fn run_calls<R: Clock + Threads + Wait + Sync>(
     rt: &R,
     alloc: Global,
     state: TcState,
     dcs: Vec<Dc>,
-    prepared: Prepared<S>,
+    prepared: Prepared,
     journal: Option<FileJournal>,
 ) -> Result<Ran, Unreported>
-    requires { BeginAs S.may_begin dcs.items }
     ensures run { (said_first said_calls : List ScriptCall) → KeepsLog journal state.events
         → AreCallsOf said_first prepared.workload.first.items
         → AreCallsOf said_calls prepared.workload.calls.items → IfOk result (λ r. IsCallsRun (λ last. KeepsLog r.journal last.events)
@@ -311,40 +308,6 @@ pub struct Calls {
     pub listeners: Listeners,
 }
 
-// Runs the calls from this state over these components, which are those that their places may begin as.
-fn run_first<S: Beginnings + Send + Sync, R: Clock + Threads + Wait + Sync>(
-    rt: &R,
-    alloc: Global,
-    state: TcState,
-    dcs: Vec<Dc>,
-    calls: Calls,
-    journal: Option<FileJournal>,
-) -> Result<Ran, Unreported>
-    requires { BeginAs S.may_begin dcs.items }
-    ensures run { KeepsLog journal state.events → IfOk result (λ r. IsCallsRun (λ last. KeepsLog r.journal last.events)
-        state dcs.items calls.first.items calls.calls.items calls.manner.workers calls.manner.tries calls.manner.audit
-        r.report.status (string_bytes r.report.lines)) }
-    ensures fault { IfErr result (UnreportedFits journal) }
-{
-    let Calls {
-        first,
-        calls,
-        manner,
-        listeners,
-    } = calls;
-    match prepare::<S>(
-        alloc,
-        first.as_slice(),
-        calls.as_slice(),
-        dcs.len(),
-        manner,
-        listeners,
-    ) {
-        Ok(ready) => run_calls(rt, alloc, state, dcs, ready, journal),
-        Err(AllocError) => Err(Unreported::Memory),
-    }
-}
-
 /// Runs the calls from this state over these components, and keeps the log where there is a journal.
 pub fn run_from<R: Clock + Threads + Wait + Sync>(
     rt: &R,
@@ -359,7 +322,23 @@ pub fn run_from<R: Clock + Threads + Wait + Sync>(
         r.report.status (string_bytes r.report.lines)) }
     ensures fault { IfErr result (UnreportedFits journal) }
 {
-    run_first::<Brand, R>(rt, alloc, state, dcs, calls, journal)
+    let Calls {
+        first,
+        calls,
+        manner,
+        listeners,
+    } = calls;
+    match prepare(
+        alloc,
+        first.as_slice(),
+        calls.as_slice(),
+        dcs.len(),
+        manner,
+        listeners,
+    ) {
+        Ok(ready) => run_calls(rt, alloc, state, dcs, ready, journal),
+        Err(AllocError) => Err(Unreported::Memory),
+    }
 }
 
 // Runs the calls of a script that is loaded, without a journal.

@@ -6,6 +6,7 @@ pub mod Refusing
 pub mod Steps
 pub mod Reported
 pub mod Serving
+pub mod Seated
 pub mod Carrying
 pub mod Handing
 pub mod Grown

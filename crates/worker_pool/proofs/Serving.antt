@@ -1,12 +1,12 @@
 -- A data component that is served: none, or some wires more.
-use Rattle.std.proofs.Common.{◌≡◌, ℕ, ap, sym, refl, ◌∙◌, inl, inr, [], ◌∷◌, ◌++◌, fold, subst}
+use Rattle.std.proofs.Common.{◌≡◌, ℕ, ap, sym, refl, ◌∙◌, inl, inr, [], ◌∷◌, ◌++◌, fold}
 use Rattle.std.proofs.lemmas.Bool.{cases_eq}
 use Rattle.std.proofs.lemmas.List.Sums.{fold_push, fold-append}
 use Rattle.std.proofs.lemmas.List.Elements.{All-append, All-cons, All-nil}
 use Rattle.access_slots.specs.Locks.{target}
 use Rattle.access_slots.specs.declared.op.Wire.{Wire}
 use Rattle.data_component.specs.Store.{Store, performed}
-use Rattle.worker_pool.specs.Serving.{IsFor, IsServed, HasServed}
+use Rattle.worker_pool.specs.Serving.{IsFor, IsServed}
 
 pub not_yet : (number : ℕ) (dc : Store) → IsServed number dc dc
 not_yet number dc = record { wires = []; own = All-nil (IsFor number); performs = refl }
@@ -35,16 +35,3 @@ then_served number before now after first then = record {
   own = All-append (IsFor number) first.wires then.wires first.own then.own;
   performs = then.performs ∙ (ap (λ s. fold performed s then.wires) first.performs ∙ sym (fold-append performed before first.wires then.wires));
 }
-
-pub has_served_on : (may_begin : ℕ → Store → Type 0) (number : ℕ) (now after : Store) → HasServed may_begin number now
-    → IsServed number now after → HasServed may_begin number after
-has_served_on may_begin number now after has then =
-    record { first = has.first; began = has.began; served = then_served number has.first now after has.served then }
-
-pub begins : (may_begin : ℕ → Store → Type 0) (number : ℕ) (dc : Store) → may_begin number dc → HasServed may_begin number dc
-begins may_begin number dc may = record { first = dc; began = may; served = not_yet number dc }
-
--- where it may begin as this component alone, it was this one
-pub began_as : (may_begin : ℕ → Store → Type 0) (number : ℕ) (dc after : Store) → ((first : Store) → may_begin number first → first ≡ dc)
-    → HasServed may_begin number after → IsServed number dc after
-began_as may_begin number dc after alone has = subst (λ (s : Store). IsServed number s after) (alone has.first has.began) has.served

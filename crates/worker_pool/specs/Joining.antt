@@ -2,5 +2,6 @@
 pub mod Handing
 pub mod Moves
 pub mod Ran
+pub mod Seated
 pub mod Seen
 pub mod Ups

@@ -13,14 +13,3 @@ pub record IsServed (number : ℕ) (before after : Store) : Type 0 where
   pub wires : List Wire
   pub own : All (IsFor number) wires
   pub performs : after ≡ fold performed before wires
-
--- the same since it was as the component with this number may begin
-pub record HasServed (may_begin : ℕ → Store → Type 0) (number : ℕ) (dc : Store) : Type 0 where
-  pub first : Store
-  pub began : may_begin number first
-  pub served : IsServed number first dc
-
--- a component with the number under which it is served
-pub record Numbered : Type 0 where
-  pub number : ℕ
-  pub dc : Store

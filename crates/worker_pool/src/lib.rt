@@ -53,4 +53,3 @@ pub use memory_journal::MemoryJournal;
 pub use pool::{Gate, Link, OpenGate, RunFault, run};
 pub use report::Report;
 pub use ring_link::{RingLink, ServedFrom};
-pub use seat::{AnyBeginning, Beginnings};

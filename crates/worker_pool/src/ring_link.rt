@@ -4,13 +4,12 @@ ghost use Rattle.std.specs.Prelude.{true, false, ◌≡◌, ◌<◌, ◌≤◌, 
 ghost use Rattle.std.specs.Option.{ForSome};
 ghost use Rattle.access_slots.specs.Locks.{target};
 ghost use Rattle.crossbeam_queue.specs.Fifo.{Admits, Held, Learns, Pops};
-ghost use Rattle.data_component.specs.Store.{Store};
-ghost use Rattle.worker_pool.specs.Serving.{HasServed, IsServed};
+ghost use Rattle.worker_pool.specs.Serving.{IsServed};
 
 use crate::errand::Errand;
 use crate::pool::{AT_A_TIME, Link};
 use crate::ring::Ring;
-use crate::seat::{AnyBeginning, Beginnings, Seat};
+use crate::seat::Seat;
 use access_slots::op::{News, Reply, Wire};
 use crossbeam_queue::protocol::{Free, Lesson, Outcome, Protocol};
 use data_component::dc::Dc;
@@ -54,12 +53,12 @@ impl Promise<Dc> for ServedFrom {
 
 // A component's place: its seat, and the inbox for the wires of those who don't find it idle.
 #[derive(Drop)]
-struct Place<S: Beginnings> {
+struct Place {
     inbox: Inbox,
-    seat: Seat<S>,
+    seat: Seat,
 }
 
-impl<S: Beginnings> Place<S> {
+impl Place {
     // What the component does with a wire, where the thread that serves it sleeps and the component is free.
     // One that is awake is soon there, and works beside the worker.
     fn perform_idle(&self, wire: &Wire) -> Option<Option<Reply>>
@@ -116,21 +115,16 @@ impl<S: Beginnings> Place<S> {
 /// ```
 ///
 /// Each component is to be served by one thread, and each worker's number used by one thread at a
-/// time: two that share a number would take one another's notes. As what each component may begin,
-/// says `S` ([`Beginnings`]); by itself it is any.
+/// time: two that share a number would take one another's notes.
 #[derive(Drop)]
-pub struct RingLink<S: Beginnings = AnyBeginning> {
-    places: Vec<Place<S>>,
+pub struct RingLink {
+    places: Vec<Place>,
     notes: Vec<Notes>,
     closed: AtomicU64,
 }
 
 // So many places with empty seats, whose inboxes have room for all wires that workers have on their way.
-fn places<S: Beginnings>(
-    alloc: Global,
-    dcs: usize,
-    workers: usize,
-) -> Result<Vec<Place<S>>, AllocError>
+fn places(alloc: Global, dcs: usize, workers: usize) -> Result<Vec<Place>, AllocError>
     requires { (0 < workers) × (workers ≤ 64) }
     ensures { IfOk result (λ places. vec_len places ≡ dcs) }
 {
@@ -138,7 +132,7 @@ fn places<S: Beginnings>(
     for dc in 0..dcs {
         places.push(Place {
             inbox: Ring::new(alloc, AT_A_TIME * workers)?,
-            seat: Seat::empty(),
+            seat: Seat::empty(alloc)?,
         })?;
     }
     Ok(places)
@@ -155,9 +149,9 @@ fn rings_of_notes(alloc: Global, workers: usize) -> Result<Vec<Notes>, AllocErro
     Ok(rings)
 }
 
-impl<S: Beginnings> RingLink<S> {
+impl RingLink {
     /// Rings for so many components and 1 to 64 workers. Nothing is made where memory is refused.
-    pub fn new(alloc: Global, dcs: usize, workers: usize) -> Result<RingLink<S>, AllocError>
+    pub fn new(alloc: Global, dcs: usize, workers: usize) -> Result<RingLink, AllocError>
         requires { (1 ≤ workers) × (workers ≤ 64) }
         ensures { IfOk result (λ link. (vec_len link.places ≡ dcs) × (vec_len link.notes ≡ workers)) }
     {
@@ -174,18 +168,16 @@ impl<S: Beginnings> RingLink<S> {
     /// where there is no inbox of this number, and where another thread serves a component under it. A thread
     /// that is started with [`ServedFrom`] for a promise tells at its join where what it hands back comes from.
     pub fn serve<R: Wait>(&self, rt: &R, number: usize, dc: Dc) -> Dc
-        requires { S.may_begin number dc }
-        ensures began { HasServed S.may_begin number result }
-        ensures served { ((first : Store) → S.may_begin number first → first ≡ dc) → IsServed number dc result }
+        ensures served { IsServed number dc result }
         ensures absent { vec_len self.now.places ≤ number → result ≡ dc }
     {
         let Some(place) = self.places.get(number) else {
             return dc;
         };
         match place.seat.sit(rt, number, dc) {
-            Ok(()) => {
+            Ok(pass) => {
                 self.serve_inbox::<(), Free, Free, R>(rt, &place.inbox, &place.seat);
-                place.seat.leave(rt, number)
+                place.seat.leave(rt, pass)
             }
             Err(dc) => dc,
         }
@@ -197,7 +189,7 @@ impl<S: Beginnings> RingLink<S> {
         &self,
         rt: &R,
         inbox: &Ring<Parcel, V, P>,
-        seat: &Seat<S>,
+        seat: &Seat,
     )
         requires admits { Admits P.holds P.first }
         requires pops { (pass : ℕ) → Pops P.holds pass P.first (M.then P.first) }
@@ -267,7 +259,7 @@ impl<S: Beginnings> RingLink<S> {
     }
 }
 
-impl<S: Beginnings> Link for RingLink<S> {
+impl Link for RingLink {
     /// What the wire's component replies. Nothing where there is no such component or no such
     /// worker, where the inbox is full, and where the link is closed, also while it waits.
     fn carry<R: Wait>(&self, rt: &R, worker: usize, wire: &Wire) -> Option<Reply>

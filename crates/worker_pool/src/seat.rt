@@ -1,36 +1,20 @@
 // Where a data component is that is served.
 
-ghost use Rattle.std.specs.Prelude.{◌≡◌, ℕ, None, Some, IfSome, IfErr};
+ghost use Rattle.std.specs.Prelude.{◌≡◌, ℕ, [], ◌∷◌, None, Some, IfErr, IfOk, IfSome};
 ghost use Rattle.data_component.specs.Store.{Store, performed, replied};
-ghost use Rattle.worker_pool.specs.Serving.{IsFor, IsServed, HasServed};
+ghost use Rattle.worker_pool.specs.Serving.{IsFor, IsServed};
+ghost use Rattle.worker_pool.specs.Joining.Seated.{Sitter, began_of, choosing, sitting, IsHolding};
 
 use crate::errand::Errand;
-use crate::waiting::{acquire, look};
+use crate::waiting::LOOKS;
 use access_slots::op::{Reply, Wire};
+use atomic_table::{Play, Table, TableRule};
 use data_component::dc::Dc;
-use std::marker::{Brand, Model, PhantomData};
-use std::sync::{Mutex, Wait};
-
-/// As which data component each number may begin to be served. One that is handed back was one of these at
-/// first: whoever wants to know more of it than that it was any picks them.
-pub trait Beginnings {
-    ghost use Rattle.std.specs.Prelude.{ℕ};
-    ghost use Rattle.data_component.specs.Store.{Store};
-
-    ghost may_begin: { ℕ → Store → Type 0 };
-}
-
-/// As any.
-#[derive(Drop)]
-pub struct AnyBeginning;
-
-impl Beginnings for AnyBeginning {
-    ghost may_begin = { λ number dc. Unit {0} };
-}
-
-impl Beginnings for Brand {
-    ghost may_begin = { λ number dc. Unit {0} };
-}
+use std::alloc::{AllocError, Global};
+use std::marker::Model;
+use std::snapshot::Snapshot;
+use std::sync::Wait;
+use std::{hint, thread};
 
 // What the component with this number does with a wire. One for another is met with silence.
 #[inline(always)]
@@ -69,125 +53,314 @@ pub fn perform_all(dc: &mut Dc, number: usize, errands: &mut [Errand])
     }
 }
 
-// A component that is served under its number.
+// A component that is served under its number, and what it was at first.
 #[derive(Drop)]
-struct Served<S: Beginnings> {
+pub struct Served {
     number: usize,
+    first: Snapshot<Dc>,
     dc: Dc,
-    of: PhantomData<S>,
 }
 
-impl<S: Beginnings> Model for Served<S> {
-    ghost use Rattle.worker_pool.specs.Serving.{Numbered, HasServed};
+impl Model for Served {
+    ghost use Rattle.worker_pool.specs.Serving.{IsServed};
+    ghost use Rattle.worker_pool.specs.Joining.Seated.{Sitter};
 
-    ghost Value = { Numbered };
+    ghost Value = { Sitter };
 
-    ghost view = { λ s. record { number = s.number; dc = s.dc } };
+    ghost view = { λ s. record { began = record { number = s.number; first = s.first.value }; dc = s.dc } };
 
-    ghost invariant = { λ s. HasServed S.may_begin s.number s.dc };
+    ghost invariant = { λ s. IsServed s.number s.first.value s.dc };
 }
 
-impl<S: Beginnings> Served<S> {
-    fn new(number: usize, dc: Dc) -> Served<S>
-        requires { S.may_begin number dc }
+impl Served {
+    fn new(number: usize, dc: Dc) -> Served
+        ensures { result.began ≡ record { number = number; first = dc } }
     {
         Served {
             number,
+            first: Snapshot::of(&dc),
             dc,
-            of: PhantomData,
         }
     }
 
     // What it does with a wire.
     #[inline(always)]
     fn perform(&mut self, wire: &Wire) -> Option<Reply>
-        ensures { IfSome result (λ reply. reply.number ≡ wire.now.number) }
+        ensures same { self.new.began ≡ self.old.began }
+        ensures number { IfSome result (λ reply. reply.number ≡ wire.now.number) }
     {
         perform_own(&mut self.dc, self.number, wire)
     }
 
     // What it does with the errands' wires that are for it.
-    fn perform_all(&mut self, errands: &mut [Errand]) {
+    fn perform_all(&mut self, errands: &mut [Errand])
+        ensures { self.new.began ≡ self.old.began }
+    {
         perform_all(&mut self.dc, self.number, errands);
     }
 
-    // The component, if it is served under this number.
-    fn handed_back(self, number: usize) -> Option<Dc>
-        ensures { IfSome result (λ dc. HasServed S.may_begin number dc) }
+    fn into_dc(self) -> Dc
+        ensures { IsServed self.began.number self.began.first result }
     {
         let Served {
-            number: own,
+            number: _,
+            first: _,
             dc,
-            of: _,
         } = self;
-        if own == number { Some(dc) } else { None }
+        dc
     }
 }
+
+// As what a component began to be served. No value of it is made.
+pub struct Began {
+    pub number: usize,
+    pub first: Dc,
+}
+
+// A thread's part at a seat. No value of it is made.
+pub enum Part {
+    // It has none.
+    Away,
+    // It is the seat's owner, whose component is served there.
+    Sits(Began),
+    // It has the seat in hands, with the component there, if there is one.
+    Holds(Option<Began>),
+}
+
+/// What a thread knows of a seat. It has no bytes.
+pub type Pass = atomic_table::Seat<Option<Served>, Part>;
+
+// The rule of a seat.
+pub struct OneAtATime;
+
+impl TableRule<Option<Served>, Part, ()> for OneAtATime {
+    ghost use Rattle.worker_pool.specs.declared.seat.Part.TheVariants.{Away};
+    ghost use Rattle.worker_pool.specs.Joining.Seated.{IsSeat};
+
+    ghost holds = { λ _. IsSeat };
+
+    ghost first = { λ _. Away };
+}
+
+// The steps at a seat.
+struct Taken;
+
+impl Play<Option<Served>, Part> for Taken {
+    ghost use Rattle.worker_pool.specs.Joining.Seated.{taken};
+
+    ghost then = { taken };
+}
+
+struct Risen;
+
+impl Play<Option<Served>, Part> for Risen {
+    ghost use Rattle.worker_pool.specs.Joining.Seated.{risen};
+
+    ghost then = { risen };
+}
+
+struct PutBack;
+
+impl Play<Option<Served>, Part> for PutBack {
+    ghost use Rattle.worker_pool.specs.Joining.Seated.{put_back};
+
+    ghost then = { put_back };
+}
+
+struct SatDown;
+
+impl Play<Option<Served>, Part> for SatDown {
+    ghost use Rattle.worker_pool.specs.Joining.Seated.{sat_down};
+
+    ghost then = { sat_down };
+}
+
+// What a component there does with a wire. Nothing where none is there.
+fn perform_there(there: &mut Option<Served>, wire: &Wire) -> Option<Option<Reply>>
+    ensures same { began_of there.new ≡ began_of there.old }
+    ensures number { IfSome result (λ said. IfSome said (λ reply. reply.number ≡ wire.now.number)) }
+{
+    match there {
+        Some(served) => Some(served.perform(wire)),
+        None => None,
+    }
+}
+
+// Has a component there perform the wires that are for it. Whether one is there.
+fn perform_all_there(there: &mut Option<Served>, errands: &mut [Errand]) -> bool
+    ensures { began_of there.new ≡ began_of there.old }
+{
+    match there {
+        Some(served) => {
+            served.perform_all(errands);
+            true
+        }
+        None => false,
+    }
+}
+
+// Puts the component there; it comes back where another one is.
+fn put_there(there: &mut Option<Served>, number: usize, dc: Dc) -> Result<(), Dc>
+    ensures put { IfOk result (λ _. (there.old ≡ None)
+        × ((sitter : Sitter) × (there.new ≡ Some sitter) × (sitter.began ≡ record { number = number; first = dc }))) }
+    ensures back { IfErr result (λ back. (there.new ≡ there.old) × (back ≡ dc)) }
+{
+    if there.is_some() {
+        return Err(dc);
+    }
+    *there = Some(Served::new(number, dc));
+    Ok(())
+}
+
+// Of the word: nobody has the seat in hands.
+const FREE: u64 = 0;
+
+// Somebody has.
+const IN_HANDS: u64 = 1;
 
 /// The place of a component, which is empty while nobody serves it. Whoever finds it free has the component
-/// perform wires there and then.
+/// perform wires there and then. It is a lock that knows whose component lies under it: who put it there
+/// has it back.
 #[derive(Drop)]
-pub struct Seat<S: Beginnings> {
-    served: Mutex<Option<Served<S>>>,
+pub struct Seat {
+    table: Table<Option<Served>, Part, (), OneAtATime, Global>,
+    ghost sized: { (table.shared.table_id.words ≡ 1) × (table.shared.table_id.slots ≡ 1) },
 }
 
-impl<S: Beginnings> Seat<S> {
+impl Seat {
     /// Nobody serves a component there.
-    pub fn empty() -> Seat<S> {
-        Seat {
-            served: Mutex::new(None),
-        }
+    pub fn empty(alloc: Global) -> Result<Seat, AllocError> {
+        let (table, _pass) = Table::vacant(alloc, &[FREE], 1, &())?;
+        Ok(Seat { table })
     }
 
-    /// The component is served there from now on; it comes back where another one is.
-    pub fn sit<R: Wait>(&self, rt: &R, number: usize, dc: Dc) -> Result<(), Dc>
-        requires { S.may_begin number dc }
-        ensures { IfErr result (λ back. back ≡ dc) }
+    fn is_free(&self) -> bool {
+        self.table.shared.peek(0) == FREE
+    }
+
+    // Takes it into one's hands, where it is free; that is looked for a moment.
+    fn look(&self) -> Option<Pass>
+        ensures own { IfSome result (λ pass. pass.table_id ≡ self.now.table.shared.table_id) }
+        ensures held { IfSome result (λ pass. IsHolding pass.me) }
     {
-        let mut served = acquire(rt, &self.served);
-        if served.is_some() {
-            return Err(dc);
+        for _ in 0..LOOKS {
+            if self.is_free() {
+                let (found, pass) = self.table.shared.swap_new_seat::<Taken>(0, IN_HANDS);
+                if found == FREE {
+                    return Some(pass);
+                }
+            }
+            hint::spin_loop();
         }
-        *served = Some(Served::new(number, dc));
-        Ok(())
+        None
     }
 
-    /// The component that is served there under this number leaves.
-    pub fn leave<R: Wait>(&self, rt: &R, number: usize) -> Dc
-        ensures { HasServed S.may_begin number result }
+    // The same, which is waited for. It is in hands for a few microseconds at a time; where who has it lost
+    // its processor, who waits lends its own.
+    fn take<R: Wait>(&self, rt: &R) -> Pass
+        ensures own { result.table_id ≡ self.now.table.shared.table_id }
+        ensures held { IsHolding result.me }
     {
         for _ in rt.forever() {
-            let served = acquire(rt, &self.served).take();
-            if let Some(dc) = served.and_then(|served| served.handed_back(number)) {
-                return dc;
+            if let Some(pass) = self.look() {
+                return pass;
             }
+            thread::yield_now();
         }
         unreachable!()
+    }
+
+    // Puts it back.
+    fn put_back(&self, mut pass: Pass)
+        requires own { pass.table_id ≡ self.now.table.shared.table_id }
+        requires held { IsHolding pass.me }
+    {
+        self.table.shared.store::<PutBack>(&mut pass, 0, FREE);
+    }
+
+    /// The component is served there from now on, and who has the pass is its owner; it comes back where another
+    /// one is.
+    pub fn sit<R: Wait>(&self, rt: &R, number: usize, dc: Dc) -> Result<Pass, Dc>
+        ensures own { IfOk result (λ pass. pass.table_id ≡ self.now.table.shared.table_id) }
+        ensures sits { IfOk result (λ pass. pass.me ≡ sitting (record { number = number; first = dc })) }
+        ensures back { IfErr result (λ back. back ≡ dc) }
+    {
+        let mut pass = self.take(rt);
+        match put_there(pass.slot_mut(&self.table.shared, 0), number, dc) {
+            Ok(()) => {
+                self.table.shared.store::<SatDown>(&mut pass, 0, FREE);
+                Ok(pass)
+            }
+            Err(dc) => {
+                self.put_back(pass);
+                Err(dc)
+            }
+        }
+    }
+
+    // The owner takes it into its hands, and is the owner no longer.
+    fn rise<R: Wait>(&self, rt: &R, pass: &mut Pass)
+        requires own { pass.old.table_id ≡ self.now.table.shared.table_id }
+        requires sits { (began : _) × (pass.old.me ≡ sitting began) }
+        ensures own { pass.new.table_id ≡ pass.old.table_id }
+        ensures chooses { (sitter : Sitter) × (pass.old.me ≡ sitting sitter.began) × (pass.new.me ≡ choosing (Some sitter)) }
+    {
+        for _ in rt.forever() {
+            if self.is_free() && self.table.shared.swap::<Risen>(pass, 0, IN_HANDS) == FREE {
+                return;
+            }
+            thread::yield_now();
+        }
+        unreachable!()
+    }
+
+    /// The owner's component leaves.
+    pub fn leave<R: Wait>(&self, rt: &R, mut pass: Pass) -> Dc
+        requires own { pass.table_id ≡ self.now.table.shared.table_id }
+        requires sits { (began : _) × (pass.me ≡ sitting began) }
+        ensures { (number : ℕ) (dc : Store) → pass.me ≡ sitting (record { number = number; first = dc })
+            → IsServed number dc result }
+    {
+        self.rise(rt, &mut pass);
+        let Some(served) = self.table.shared.exchange(&mut pass, 0, None) else {
+            unreachable!()
+        };
+        self.put_back(pass);
+        served.into_dc()
+    }
+
+    // What the component does with a wire, before the seat is put back. Nothing where none is there.
+    fn perform_held(&self, mut pass: Pass, wire: &Wire) -> Option<Option<Reply>>
+        requires own { pass.table_id ≡ self.now.table.shared.table_id }
+        requires held { IsHolding pass.me }
+        ensures { IfSome result (λ said. IfSome said (λ reply. reply.number ≡ wire.now.number)) }
+    {
+        let said = perform_there(pass.slot_mut(&self.table.shared, 0), wire);
+        self.put_back(pass);
+        said
     }
 
     /// What the component does with a wire, in its turn.
     pub fn perform<R: Wait>(&self, rt: &R, wire: &Wire) -> Option<Reply>
         ensures { IfSome result (λ reply. reply.number ≡ wire.now.number) }
     {
-        acquire(rt, &self.served).as_mut()?.perform(wire)
+        self.perform_held(self.take(rt), wire)?
     }
 
     /// What the component does with a wire, where it is free; that is looked for a moment.
     pub fn try_perform(&self, wire: &Wire) -> Option<Option<Reply>>
         ensures { IfSome result (λ said. IfSome said (λ reply. reply.number ≡ wire.now.number)) }
     {
-        Some(look(&self.served)?.as_mut()?.perform(wire))
+        self.perform_held(self.look()?, wire)
     }
 
     /// Has the component perform the wires that are for it, where it is free. Whether it was.
     pub fn try_perform_all(&self, errands: &mut [Errand]) -> bool {
-        let Some(mut served) = look(&self.served) else {
+        let Some(mut pass) = self.look() else {
             return false;
         };
-        let Some(served) = served.as_mut() else {
-            return false;
-        };
-        served.perform_all(errands);
-        true
+        let is_there = perform_all_there(pass.slot_mut(&self.table.shared, 0), errands);
+        self.put_back(pass);
+        is_there
     }
 }

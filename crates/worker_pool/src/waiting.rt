@@ -4,13 +4,13 @@ use std::sync::{Mutex, MutexGuard, Wait};
 use std::{hint, thread};
 
 // How often who waits looks at a time.
-const LOOKS: u32 = 100;
+pub(crate) const LOOKS: u32 = 100;
 
 // How often who waits lets others run before it sleeps.
 const YIELDS: u32 = 200;
 
-/// Takes the lock where one of so many looks finds it free.
-pub(crate) fn look<T>(lock: &Mutex<T>) -> Option<MutexGuard<'_, T>> {
+// Takes the lock where one of so many looks finds it free.
+fn look<T>(lock: &Mutex<T>) -> Option<MutexGuard<'_, T>> {
     for _ in 0..LOOKS {
         if let Some(guard) = lock.try_lock() {
             return Some(guard);

@@ -1,7 +1,7 @@
-use Rattle.std.proofs.Common.{rules, ◌≡◌, ℕ, length, drop, ◌∷◌, ◌++◌, [], subst, sym}
+use Rattle.std.proofs.Common.{rules, ◌≡◌, length, drop, ◌∷◌, ◌++◌, [], subst, sym}
 use Rattle.std.specs.Vec.Iter.{into_iter_items}
-use Rattle.run_command.specs.Joining.Servers.{Promises, ArePromised, BeginsAs}
-use Rattle.run_command.proofs.ServerLemmas.{one_more, next_begins}
+use Rattle.run_command.specs.Joining.Servers.{Promises, ArePromised}
+use Rattle.run_command.proofs.ServerLemmas.{one_more}
 use Rattle.run_command.proofs.answering.serve_all.Goals as goal
 
 pub returns-then-is_err : goal.returns-then-is_err
@@ -17,13 +17,3 @@ loop-dc-preserved g c =
     let next : c.in-Some.dc ∷ rest ≡ drop (length l.servers.items) c.args.dcs.items = search rules in
     let now : c.push.new.self.items ≡ l.servers.items ++ c.in-Ok.server ∷ [] = search rules in
     one_more c.args.dcs.items rest l.servers.items c.push.new.self.items c.in-Ok.server c.in-Some.dc next promises now l.invariant.1
-
-pub spawn_with-requires-clause-runs : goal.spawn_with-requires-clause-runs
-spawn_with-requires-clause-runs g c κs within =
-    let may_begin = g.S.Beginnings.may_begin in
-    let servers = c.loop-dc.servers.items in
-    let rest = into_iter_items c.next.new.self in
-    let next : c.in-Some.dc ∷ rest ≡ drop (length servers) c.args.dcs.items = search rules in
-    let place : c.len-number.result ≡ length servers = search rules in
-    subst (λ (n : ℕ). BeginsAs may_begin n c.in-Some.dc) (sym place)
-    (next_begins may_begin c.args.dcs.items rest (length servers) c.in-Some.dc c.requires.first next)

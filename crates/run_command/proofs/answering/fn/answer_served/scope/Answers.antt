@@ -1,4 +1,4 @@
-use Rattle.run_command.proofs.answering.fn.answer_over.scope.Goals as goal
+use Rattle.run_command.proofs.answering.fn.answer_served.scope.Goals as goal
 
 pub returns-else-len-count : goal.returns-else-len-count
 returns-else-len-count g c =
