@@ -2,79 +2,81 @@ ghost use Rattle.std.specs.Prelude.{IfOk};
 ghost use Rattle.frame_file.specs.Device.{Only};
 ghost use Rattle.disk_file.specs.Disk.{disk_bytes, left_of};
 
+use crate::checks::is_same;
 use disk_file::{DiskFile, OpenError};
-use frame_file::{FrameFault, FrameFile};
+use frame_file::FrameFile;
 use std::alloc::Global;
 use std::fs;
-use std::test::Fail;
+use std::fs::File;
+use std::process::Abort;
+use std::rt::Files;
 
 const PATH: &str = "disk_file_test";
 
-type File = FrameFile<DiskFile>;
+type Frames = FrameFile<DiskFile>;
 
-fn opened(rt: &HostRuntime) -> Result<File, OpenError>
+fn opened<F: Files<File = File>>(rt: &F, alloc: Global) -> Result<Frames, OpenError>
     ensures { IfOk result (λ f. Only (disk_bytes f.device) (left_of f.device)) }
 {
-    Ok(FrameFile::new(DiskFile::open(rt, rt.alloc(), PATH)?))
+    Ok(FrameFile::new(DiskFile::open(rt, alloc, PATH)?))
 }
 
 // How many frames are in the file, to which this one is appended.
-fn one_more(alloc: Global, file: &mut File, payload: &[u8]) -> Result<usize, FrameFault>
+fn one_more(rt: &impl Abort, alloc: Global, file: &mut Frames, payload: &[u8]) -> usize
     requires { Only (disk_bytes file.old.device) (left_of file.old.device) }
 {
-    let frames = file.recover(alloc)?.len();
-    file.append(alloc, payload)?;
-    Ok(frames)
+    let payloads = file.recover(alloc).expect(rt, "not recovered");
+    file.append(alloc, payload).expect(rt, "not appended");
+    payloads.len()
 }
 
-fn is_busy(rt: &HostRuntime) -> bool {
-    matches!(DiskFile::open(rt, rt.alloc(), PATH), Err(OpenError::Busy))
+fn is_busy<F: Files<File = File>>(rt: &F, alloc: Global) -> bool {
+    matches!(DiskFile::open(rt, alloc, PATH), Err(OpenError::Busy))
+}
+
+fn bytes_in(file: &Frames) -> usize {
+    file.device().bytes().len()
 }
 
 // How many bytes and frames are in the file, and how many bytes with this frame more; meanwhile nobody else
 // opens it.
-fn goes_on(rt: &HostRuntime, payload: &[u8]) -> Result<(usize, usize, usize), Fail> {
-    let Ok(mut file) = opened(rt) else {
-        return Err(Fail::from("not opened"));
-    };
-    let bytes = file.device().bytes().len();
-    let frames = one_more(rt.alloc(), &mut file, payload);
-    let more = file.device().bytes().len();
-    let is_alone = is_busy(rt);
+fn goes_on<R: Files<File = File> + Abort>(
+    rt: &R,
+    alloc: Global,
+    payload: &[u8],
+    wanted: (usize, usize, usize),
+) {
+    let mut file = opened(rt, alloc).expect(rt, "not opened");
+    let bytes = bytes_in(&file);
+    let frames = one_more(rt, alloc, &mut file, payload);
+    let more = bytes_in(&file);
+    is_same(rt, is_busy(rt, alloc), true);
     drop(file);
-    if !is_alone {
-        return Err(Fail::from("opened twice"));
-    }
-    Ok((bytes, frames?, more))
+    is_same(rt, (bytes, frames, more), wanted);
 }
 
-// What a crash leaves of a frame stands behind those that are whole; how many bytes these are.
-fn torn(rt: &HostRuntime) -> Result<usize, Fail> {
-    let mut bytes = fs::read(rt, PATH)?;
-    let whole = bytes.len();
-    bytes.extend_from_slice(&[1, 0, 0])?;
-    fs::write(rt, PATH, bytes.as_slice())?;
-    Ok(whole)
+// What a crash leaves of a frame stands behind those that are whole, which have so many bytes.
+fn is_torn<R: Files<File = File> + Abort>(rt: &R, mut bytes: Vec<u8>, whole: usize) {
+    is_same(rt, bytes.len(), whole);
+    bytes.extend_from_slice(&[1, 0, 0]).expect(rt, "no bytes");
+    fs::write(rt, PATH, bytes.as_slice()).expect(rt, "not written");
 }
 
 // A frame is in the file, and what was torn behind it is cut off when it is opened again.
 #[test]
-fn frames_in_a_file(rt: HostRuntime) -> Result<(), Fail> {
+fn frames_in_a_file(rt: HostRuntime) {
     let _ = fs::remove_file(&rt, PATH);
-    assert_eq!(rt; goes_on(&rt, b"first".as_slice())?, (0, 0, 29));
-    assert_eq!(rt; torn(&rt)?, 29);
-    assert_eq!(rt; goes_on(&rt, b"second".as_slice())?, (32, 1, 59));
-    assert_eq!(rt; fs::read(&rt, PATH)?.len(), 59);
-    fs::remove_file(&rt, PATH)?;
-    Ok(())
+    goes_on(&rt, rt.alloc(), b"first".as_slice(), (0, 0, 29));
+    let bytes = fs::read(&rt, PATH).expect(&rt, "not read");
+    is_torn(&rt, bytes, 29);
+    goes_on(&rt, rt.alloc(), b"second".as_slice(), (32, 1, 59));
+    let bytes = fs::read(&rt, PATH).expect(&rt, "not read");
+    is_same(&rt, bytes.len(), 59);
+    fs::remove_file(&rt, PATH).expect(&rt, "not removed");
 }
 
 #[test]
 fn no_file_there(rt: HostRuntime) {
-    assert!(rt;
-        matches!(
-            DiskFile::open(&rt, rt.alloc(), "no/such/folder"),
-            Err(OpenError::Io(_))
-        )
-    );
+    let opened = DiskFile::open(&rt, rt.alloc(), "no/such/folder");
+    is_same(&rt, matches!(opened, Err(OpenError::Io(_))), true);
 }

@@ -1,8 +1,8 @@
+use crate::checks::is_same;
 use access_slots::op::{Op, Said};
 use access_slots::slot::{Record, Value};
-use std::alloc::{AllocError, Global};
+use std::alloc::Global;
 use std::process::Abort;
-use std::test::Fail;
 use tc_log::event::{Args, Event, Outcome};
 use tc_log::log::Log;
 use tc_log::read::LogFault;
@@ -14,32 +14,20 @@ fn hundred() -> Value {
     value
 }
 
-fn are_same(rt: &impl Abort, bytes: &[u8], want: &[u8], place: usize) {
-    assert_eq!(rt; bytes, want, "from {place}");
-}
-
 // From the event at this place on the log prints these bytes.
-fn prints_from(
-    rt: &impl Abort,
-    alloc: Global,
-    log: &Log,
-    place: usize,
-    want: &[u8],
-) -> Result<(), AllocError> {
-    let bytes = log.print_from(alloc, place)?;
-    are_same(rt, bytes.as_slice(), want, place);
-    Ok(())
+fn prints_from(rt: &impl Abort, alloc: Global, log: &Log, place: usize, want: &[u8]) {
+    let bytes = log.print_from(alloc, place).expect(rt, "not printed");
+    is_same(rt, (place, bytes.as_slice()), (place, want));
 }
 
-fn prints(rt: &impl Abort, alloc: Global, log: &Log, want: &[u8]) -> Result<(), AllocError> {
-    let bytes = log.print(alloc)?;
-    are_same(rt, bytes.as_slice(), want, 0);
-    Ok(())
+fn prints(rt: &impl Abort, alloc: Global, log: &Log, want: &[u8]) {
+    let bytes = log.print(alloc).expect(rt, "not printed");
+    is_same(rt, bytes.as_slice(), want);
 }
 
 // An insert of 100 under 5.
-fn insert(log: &mut Log) -> Result<(), AllocError> {
-    log.reserve(1)?;
+fn insert(rt: &impl Abort, log: &mut Log) {
+    log.reserve(1).expect(rt, "not reserved");
     let record = Record {
         dc: 0,
         table: 0,
@@ -50,7 +38,6 @@ fn insert(log: &mut Log) -> Result<(), AllocError> {
         number: 1,
         op: Op::Insert(record, hundred()),
     });
-    Ok(())
 }
 
 fn its_bytes() -> [u8; 96] {
@@ -64,23 +51,18 @@ fn its_bytes() -> [u8; 96] {
     want
 }
 
-fn insert_prints(rt: &impl Abort, alloc: Global, log: &mut Log) -> Result<(), AllocError> {
-    insert(log)?;
-    prints(rt, alloc, log, &its_bytes())
-}
-
 #[test]
-fn an_insert(rt: HostRuntime) -> Result<(), Fail> {
+fn an_insert(rt: HostRuntime) {
     let mut log = Log::new(rt.alloc());
-    let passed = insert_prints(&rt, rt.alloc(), &mut log);
+    insert(&rt, &mut log);
+    prints(&rt, rt.alloc(), &log, &its_bytes());
     drop(log);
-    Ok(passed?)
 }
 
 // An admission, an answer and an end.
-fn three_events(alloc: Global, log: &mut Log) -> Result<(), AllocError> {
-    let args = Args::copy_of(alloc, &[5, 0x100])?;
-    log.reserve(3)?;
+fn three_events(rt: &impl Abort, alloc: Global, log: &mut Log) {
+    let args = Args::copy_of(alloc, &[5, 0x100]).expect(rt, "no arguments");
+    log.reserve(3).expect(rt, "not reserved");
     log.push(Event::Admit {
         txn: 7,
         proc: 3,
@@ -95,7 +77,6 @@ fn three_events(alloc: Global, log: &mut Log) -> Result<(), AllocError> {
         txn: 7,
         outcome: Outcome::Aborted(2),
     });
-    Ok(())
 }
 
 fn their_bytes() -> [u8; 288] {
@@ -116,98 +97,90 @@ fn their_bytes() -> [u8; 288] {
 fn three_are_there(rt: &impl Abort, log: &Log) {
     let last_ends = matches!(log.at(2), Some(Event::End { txn: 7, .. }));
     let found = (log.len(), last_ends, log.at(3).is_none());
-    assert_eq!(rt; found, (3, true, true));
+    is_same(rt, found, (3, true, true));
 }
 
-fn print_from_each(rt: &impl Abort, alloc: Global, log: &Log) -> Result<(), AllocError> {
+fn print_from_each(rt: &impl Abort, alloc: Global, log: &Log) {
     let want = their_bytes();
-    prints(rt, alloc, log, &want)?;
+    prints(rt, alloc, log, &want);
     for (place, start) in [(0, 0), (2, 192), (3, 288), (4, 288)] {
         let rows = want.get(start..).unwrap_or_default();
-        prints_from(rt, alloc, log, place, rows)?;
+        prints_from(rt, alloc, log, place, rows);
     }
-    Ok(())
-}
-
-fn are_in_order(rt: &impl Abort, alloc: Global, log: &mut Log) -> Result<(), AllocError> {
-    assert!(rt; log.is_empty());
-    three_events(alloc, log)?;
-    three_are_there(rt, log);
-    print_from_each(rt, alloc, log)
 }
 
 #[test]
-fn events_in_order(rt: HostRuntime) -> Result<(), Fail> {
+fn events_in_order(rt: HostRuntime) {
     let mut log = Log::new(rt.alloc());
-    let passed = are_in_order(&rt, rt.alloc(), &mut log);
+    is_same(&rt, log.is_empty(), true);
+    three_events(&rt, rt.alloc(), &mut log);
+    three_are_there(&rt, &log);
+    print_from_each(&rt, rt.alloc(), &log);
     drop(log);
-    Ok(passed?)
 }
 
 // The same numbers, copied and taken from a vector.
-fn keeps(rt: &impl Abort, alloc: Global, numbers: &[u64]) -> Result<(), AllocError> {
-    let copied = Args::copy_of(alloc, numbers)?;
-    let taken = Args::from_vec(Vec::from_slice(alloc, numbers)?);
-    assert_eq!(rt; copied.as_slice(), numbers);
-    assert_eq!(rt; taken.as_slice(), numbers);
-    Ok(())
+fn keeps(rt: &impl Abort, alloc: Global, numbers: &[u64]) {
+    let copied = Args::copy_of(alloc, numbers).expect(rt, "not copied");
+    is_same(rt, copied.as_slice(), numbers);
+    drop(copied);
+    let vector = Vec::from_slice(alloc, numbers).expect(rt, "no vector");
+    let taken = Args::from_vec(vector);
+    is_same(rt, taken.as_slice(), numbers);
+    drop(taken);
 }
 
 #[test]
-fn eight_and_nine_arguments(rt: HostRuntime) -> Result<(), Fail> {
+fn eight_and_nine_arguments(rt: HostRuntime) {
     let numbers = [1, 2, 3, 4, 5, 6, 7, 8, 9];
     for count in [0, 8, 9] {
-        keeps(&rt, rt.alloc(), numbers.get(..count).unwrap_or_default())?;
+        keeps(&rt, rt.alloc(), numbers.get(..count).unwrap_or_default());
     }
-    Ok(())
 }
 
 // An event of each kind.
-fn each_kind(alloc: Global, log: &mut Log) -> Result<(), AllocError> {
-    three_events(alloc, log)?;
-    insert(log)?;
-    log.reserve(1)?;
+fn each_kind(rt: &impl Abort, alloc: Global, log: &mut Log) {
+    three_events(rt, alloc, log);
+    insert(rt, log);
+    log.reserve(1).expect(rt, "not reserved");
     let record = Record::default();
     log.push(Event::Undo {
         txn: 7,
         number: 2,
         op: Op::Update(record, hundred()),
     });
-    Ok(())
 }
 
-fn copy_all(alloc: Global, log: &Log, copies: &mut Log) -> Result<(), AllocError> {
+fn copies_of(rt: &impl Abort, alloc: Global, log: &Log) -> Log {
+    let mut copies = Log::new(alloc);
     for event in log.events() {
-        copies.reserve(1)?;
-        copies.push(event.copied(alloc)?);
+        copies.reserve(1).expect(rt, "not reserved");
+        copies.push(event.copied(alloc).expect(rt, "not copied"));
     }
-    Ok(())
+    copies
 }
 
-// As text too: an answer Old is printed as zeros.
-fn copies_are_same(
-    rt: &impl Abort,
-    alloc: Global,
-    log: &mut Log,
-    copies: &mut Log,
-) -> Result<(), AllocError> {
-    each_kind(alloc, log)?;
-    copy_all(alloc, log, copies)?;
-    prints(rt, alloc, copies, log.print(alloc)?.as_slice())?;
-    let found = format!(in alloc; "{:?}", copies.events())?;
-    let want = format!(in alloc; "{:?}", log.events())?;
-    assert_eq!(rt; found.as_str(), want.as_str());
-    Ok(())
+fn text_of(rt: &impl Abort, alloc: Global, log: &Log) -> String {
+    format!(in alloc; "{:?}", log.events()).expect(rt, "no text")
+}
+
+// As bytes, and as text too: an answer Old is printed as zeros.
+fn logs_are_same(rt: &impl Abort, alloc: Global, found: &Log, wanted: &Log) {
+    let bytes = wanted.print(alloc).expect(rt, "not printed");
+    prints(rt, alloc, found, bytes.as_slice());
+    drop(bytes);
+    let (found, wanted) = (text_of(rt, alloc, found), text_of(rt, alloc, wanted));
+    is_same(rt, found.as_str(), wanted.as_str());
 }
 
 #[test]
-fn copied_events(rt: HostRuntime) -> Result<(), Fail> {
+fn copied_events(rt: HostRuntime) {
     let mut log = Log::new(rt.alloc());
-    let mut copies = Log::new(rt.alloc());
-    let passed = copies_are_same(&rt, rt.alloc(), &mut log, &mut copies);
+    each_kind(&rt, rt.alloc(), &mut log);
+    let copies = copies_of(&rt, rt.alloc(), &log);
+    logs_are_same(&rt, rt.alloc(), &copies, &log);
     drop(log);
     drop(copies);
-    Ok(passed?)
 }
 
 // A call of procedure 0 by transaction 1 with the arguments 5 and 100.
@@ -226,28 +199,30 @@ fn is_call(rt: &impl Abort, log: &Log) {
     match log.at(0) {
         Some(Event::Admit { txn, proc, args }) => {
             let found = (log.len(), *txn, *proc, args.as_slice());
-            assert_eq!(rt; found, (1, 1, 0, [5, 100].as_slice()));
+            is_same(rt, found, (1, 1, 0, [5, 100].as_slice()));
         }
         _ => panic!(rt; "another event"),
     }
 }
 
 #[test]
-fn a_call_is_read(rt: HostRuntime) -> Result<(), Fail> {
-    let log = Log::read(rt.alloc(), &call())?;
+fn a_call_is_read(rt: HostRuntime) {
+    let log = Log::read(rt.alloc(), &call()).expect(&rt, "not read");
     is_call(&rt, &log);
-    let passed = prints(&rt, rt.alloc(), &log, &call());
+    prints(&rt, rt.alloc(), &log, &call());
     drop(log);
-    Ok(passed?)
 }
 
 // What `read` says of these bytes: how many events, or the fault.
 fn read_len(alloc: Global, bytes: &[u8]) -> Result<usize, LogFault> {
-    Ok(Log::read(alloc, bytes)?.len())
+    let log = Log::read(alloc, bytes)?;
+    let len = log.len();
+    drop(log);
+    Ok(len)
 }
 
 fn reads(rt: &impl Abort, alloc: Global, bytes: &[u8], want: Result<usize, LogFault>) {
-    assert_eq!(rt; read_len(alloc, bytes), want);
+    is_same(rt, read_len(alloc, bytes), want);
 }
 
 // The call with this byte at this place.
@@ -260,15 +235,16 @@ fn call_with(place: usize, byte: u8) -> [u8; 96] {
 }
 
 // The call, and behind it one with a third argument.
-fn both(alloc: Global) -> Result<Vec<u8>, AllocError> {
-    let mut both = Vec::from_slice(alloc, &call())?;
-    both.extend_from_slice(&call_with(48, 1))?;
-    Ok(both)
+fn both(rt: &impl Abort, alloc: Global) -> Vec<u8> {
+    let mut both = Vec::from_slice(alloc, &call()).expect(rt, "no call");
+    both.extend_from_slice(&call_with(48, 1))
+        .expect(rt, "no second call");
+    both
 }
 
 // Another kind, a third argument, and nine arguments.
 #[test]
-fn what_no_event_prints(rt: HostRuntime) -> Result<(), Fail> {
+fn what_no_event_prints(rt: HostRuntime) {
     let alloc = rt.alloc();
     reads(&rt, alloc, &[], Ok(0));
     reads(&rt, alloc, &[0; 95], Err(LogFault::Length));
@@ -276,8 +252,8 @@ fn what_no_event_prints(rt: HostRuntime) -> Result<(), Fail> {
     for (place, byte) in [(0, 6), (48, 1), (1, 9)] {
         reads(&rt, alloc, &call_with(place, byte), Err(LogFault::Kind(0)));
     }
-    reads(&rt, alloc, both(alloc)?.as_slice(), Err(LogFault::Kind(1)));
-    Ok(())
+    let both = both(&rt, alloc);
+    reads(&rt, alloc, both.as_slice(), Err(LogFault::Kind(1)));
 }
 
 // An abort with 0, and the other ends.
@@ -297,6 +273,7 @@ fn ends(rt: HostRuntime) {
         record[1] = sub;
         record[8] = 3;
         record[16] = word;
-        assert_eq!(rt; read_len(rt.alloc(), &record).is_ok(), ok);
+        let is_read = read_len(rt.alloc(), &record).is_ok();
+        is_same(&rt, (sub, word, is_read), (sub, word, ok));
     }
 }

@@ -1,7 +1,7 @@
+use crate::checks::is_same;
 use frame_file::{FrameFault, FrameFile, Memory, read_frames};
-use std::alloc::{AllocError, Global};
+use std::alloc::Global;
 use std::process::Abort;
-use std::test::Fail;
 
 // Where the frames end that hold "first", nothing and "third".
 const ENDS: [usize; 3] = [29, 53, 82];
@@ -18,21 +18,27 @@ fn memory(alloc: Global, bytes: Vec<u8>) -> File {
     FrameFile::new(Memory::new(alloc, bytes))
 }
 
-fn append_three(alloc: Global, file: &mut File) -> Result<(), FrameFault> {
-    file.recover(alloc)?;
-    file.append(alloc, b"first".as_slice())?;
-    file.append(alloc, &[])?;
-    file.append(alloc, b"third".as_slice())
+// This frame is appended to a file that was recovered.
+fn append(rt: &impl Abort, alloc: Global, file: &mut File, payload: &[u8]) {
+    file.append(alloc, payload).expect(rt, "not appended");
+}
+
+// The payloads in a file, which is gone on with behind them.
+fn recovered(rt: &impl Abort, alloc: Global, file: &mut File) -> Vec<Vec<u8>> {
+    file.recover(alloc).expect(rt, "not recovered")
 }
 
 // The bytes of a file of these three frames.
-fn three(alloc: Global) -> Result<Vec<u8>, FrameFault> {
+fn three(rt: &impl Abort, alloc: Global) -> Vec<u8> {
     let mut file = memory(alloc, Vec::new(alloc));
-    let appended = append_three(alloc, &mut file);
-    let bytes = Vec::from_slice(alloc, file.device().bytes());
+    let payloads = recovered(rt, alloc, &mut file);
+    drop(payloads);
+    append(rt, alloc, &mut file, b"first".as_slice());
+    append(rt, alloc, &mut file, &[]);
+    append(rt, alloc, &mut file, b"third".as_slice());
+    let bytes = Vec::from_slice(alloc, file.device().bytes()).expect(rt, "no bytes");
     drop(file);
-    appended?;
-    Ok(bytes?)
+    bytes
 }
 
 // How many frames these bytes have, or the fault.
@@ -41,45 +47,38 @@ fn count(alloc: Global, bytes: &[u8]) -> Result<usize, FrameFault> {
 }
 
 fn three_are_read(rt: &impl Abort, payloads: &[Vec<u8>]) {
-    assert_eq!(rt; payloads.len(), 3);
+    is_same(rt, payloads.len(), 3);
     for (payload, want) in payloads
         .iter()
         .zip([b"first".as_slice(), &[], b"third".as_slice()])
     {
-        assert_eq!(rt; payload.as_slice(), want);
+        is_same(rt, payload.as_slice(), want);
     }
 }
 
-fn four_are_there(rt: &impl Abort, alloc: Global, bytes: &[u8]) -> Result<(), FrameFault> {
-    let found = read_frames(alloc, bytes)?;
-    assert_eq!(rt; (found.payloads.len(), found.end), (4, 112));
-    Ok(())
-}
-
-fn read_and_gone_on(rt: &impl Abort, alloc: Global, file: &mut File) -> Result<(), FrameFault> {
-    let payloads = file.recover(alloc)?;
-    three_are_read(rt, &payloads);
-    drop(payloads);
-    file.append(alloc, b"fourth".as_slice())?;
-    four_are_there(rt, alloc, file.device().bytes())
+fn four_are_there(rt: &impl Abort, alloc: Global, bytes: &[u8]) {
+    let found = read_frames(alloc, bytes).expect(rt, "not read");
+    is_same(rt, (found.payloads.len(), found.end), (4, 112));
 }
 
 #[test]
-fn what_was_appended_is_read_again(rt: HostRuntime) -> Result<(), Fail> {
+fn what_was_appended_is_read_again(rt: HostRuntime) {
     let alloc = rt.alloc();
-    let mut file = memory(alloc, three(alloc)?);
-    let passed = read_and_gone_on(&rt, alloc, &mut file);
+    let mut file = memory(alloc, three(&rt, alloc));
+    let payloads = recovered(&rt, alloc, &mut file);
+    three_are_read(&rt, payloads.as_slice());
+    drop(payloads);
+    append(&rt, alloc, &mut file, b"fourth".as_slice());
+    four_are_there(&rt, alloc, file.device().bytes());
     drop(file);
-    Ok(passed?)
 }
 
 #[test]
-fn bytes_of_a_frame(rt: HostRuntime) -> Result<(), Fail> {
-    let mut bytes = three(rt.alloc())?;
-    assert_eq!(rt; bytes.len(), ENDS[2]);
+fn bytes_of_a_frame(rt: HostRuntime) {
+    let mut bytes = three(&rt, rt.alloc());
+    is_same(&rt, bytes.len(), ENDS[2]);
     bytes.truncate(ENDS[0]);
-    assert_eq!(rt; bytes.as_slice(), FIRST.as_slice());
-    Ok(())
+    is_same(&rt, bytes.as_slice(), FIRST.as_slice());
 }
 
 // How many frames end at or before this place.
@@ -94,24 +93,23 @@ fn ended(place: usize) -> usize {
 
 // What is cut off is a frame that isn't whole.
 #[test]
-fn each_truncation_is_a_beginning(rt: HostRuntime) -> Result<(), Fail> {
+fn each_truncation_is_a_beginning(rt: HostRuntime) {
     let alloc = rt.alloc();
-    let bytes = three(alloc)?;
+    let bytes = three(&rt, alloc);
     for len in 0..=bytes.len() {
         if let Some(front) = bytes.get(..len) {
-            assert_eq!(rt; count(alloc, front), Ok(ended(len)));
+            is_same(&rt, (len, count(alloc, front)), (len, Ok(ended(len))));
         }
     }
-    Ok(())
 }
 
-// What these bytes are with this one of them changed.
-fn count_with(alloc: Global, bytes: &[u8], place: usize) -> Result<usize, FrameFault> {
-    let mut changed = Vec::from_slice(alloc, bytes)?;
+// These bytes, of which the one at this place is changed.
+fn changed_at(rt: &impl Abort, alloc: Global, bytes: &[u8], place: usize) -> Vec<u8> {
+    let mut changed = Vec::from_slice(alloc, bytes).expect(rt, "no bytes");
     if let Some(byte) = changed.get_mut(place) {
         *byte ^= 0x10;
     }
-    count(alloc, &changed)
+    changed
 }
 
 fn is_found(rt: &impl Abort, alloc: Global, bytes: &[u8], place: usize) {
@@ -120,46 +118,39 @@ fn is_found(rt: &impl Abort, alloc: Global, bytes: &[u8], place: usize) {
         1 => Err(FrameFault::Damaged(1)),
         frames => Ok(frames),
     };
-    assert_eq!(rt; count_with(alloc, bytes, place), want, "at {place}");
+    let changed = changed_at(rt, alloc, bytes, place);
+    let found = count(alloc, changed.as_slice());
+    drop(changed);
+    is_same(rt, (place, found), (place, want));
 }
 
 // A changed byte of the last frame leaves an end that isn't whole, and one before it is damage.
 #[test]
-fn each_changed_byte_is_found(rt: HostRuntime) -> Result<(), Fail> {
-    let bytes = three(rt.alloc())?;
+fn each_changed_byte_is_found(rt: HostRuntime) {
+    let bytes = three(&rt, rt.alloc());
     for place in 0..bytes.len() {
         is_found(&rt, rt.alloc(), &bytes, place);
     }
-    Ok(())
 }
 
 // A file of these bytes but the last.
-fn torn(alloc: Global, bytes: &[u8]) -> Result<File, AllocError> {
-    let mut torn = Vec::from_slice(alloc, bytes)?;
+fn torn(rt: &impl Abort, alloc: Global, bytes: &[u8]) -> File {
+    let mut torn = Vec::from_slice(alloc, bytes).expect(rt, "no bytes");
     torn.truncate(ENDS[2] - 1);
-    Ok(memory(alloc, torn))
-}
-
-fn cut_off_and_gone_on(
-    rt: &impl Abort,
-    alloc: Global,
-    file: &mut File,
-    whole: &[u8],
-) -> Result<(), FrameFault> {
-    assert_eq!(rt; file.recover(alloc)?.len(), 2);
-    assert_eq!(rt; file.device().bytes().len(), ENDS[1]);
-    file.append(alloc, b"third".as_slice())?;
-    assert_eq!(rt; file.device().bytes(), whole);
-    Ok(())
+    memory(alloc, torn)
 }
 
 // What a crash left of a frame is cut off, and the next one stands in its place.
 #[test]
-fn an_end_is_cut_off(rt: HostRuntime) -> Result<(), Fail> {
+fn an_end_is_cut_off(rt: HostRuntime) {
     let alloc = rt.alloc();
-    let bytes = three(alloc)?;
-    let mut file = torn(alloc, &bytes)?;
-    let passed = cut_off_and_gone_on(&rt, alloc, &mut file, &bytes);
+    let bytes = three(&rt, alloc);
+    let mut file = torn(&rt, alloc, &bytes);
+    let payloads = recovered(&rt, alloc, &mut file);
+    is_same(&rt, payloads.len(), 2);
+    drop(payloads);
+    is_same(&rt, file.device().bytes().len(), ENDS[1]);
+    append(&rt, alloc, &mut file, b"third".as_slice());
+    is_same(&rt, file.device().bytes(), bytes.as_slice());
     drop(file);
-    Ok(passed?)
 }

@@ -13,9 +13,13 @@
 //! | `frame_tests` | `frame_file`: each truncation and each changed byte of a file |
 //! | `disk_tests` | `disk_file`: a file of the system |
 //!
+//! What they compare stands in `checks`.
+//!
 //! `component_tests` has tests that need `samples` or the transaction component.
 #![tactic(auto)]
 
+#[cfg(test)]
+mod checks;
 #[cfg(test)]
 mod disk_tests;
 #[cfg(test)]

@@ -2,14 +2,14 @@ ghost use Rattle.std.specs.Prelude.{ℕ, ◌≡◌, ◌==◌, ◌<◌, false};
 ghost use Rattle.access_slots.specs.declared.slot.Record.{Record};
 ghost use Rattle.lock_table.specs.Facts.{held_by, HoldsNothing};
 
+use crate::checks::is_same;
 use crate::plain_table::PlainTable;
-use access_slots::decl::{Decl, DeclFault};
+use access_slots::decl::Decl;
 use access_slots::lock::LockSet;
 use access_slots::slot::{Key, Mode, Record, Slot};
 use lock_table::table::{Busy, LockTable};
-use std::alloc::{AllocError, Global};
+use std::alloc::Global;
 use std::process::Abort;
-use std::test::Fail;
 
 fn slot(mode: Mode, key: u64) -> Slot {
     Slot {
@@ -20,12 +20,9 @@ fn slot(mode: Mode, key: u64) -> Slot {
     }
 }
 
-fn set(slots: &[Slot]) -> Result<LockSet, DeclFault> {
-    let decl = Decl::new(0, slots)?;
-    if decl.args() != 0 {
-        return Err(DeclFault::TooManyArgs);
-    }
-    Ok(decl.resolve(&[]))
+fn set(rt: &impl Abort, slots: &[Slot]) -> LockSet {
+    let decl = Decl::new(0, slots).expect(rt, "not declared");
+    decl.resolve(&[])
 }
 
 fn busy(key: u64, holder: u64) -> Busy {
@@ -39,18 +36,6 @@ fn busy(key: u64, holder: u64) -> Busy {
     }
 }
 
-fn is_ready(rt: &impl Abort, table: &LockTable, set: &LockSet, ready: bool) {
-    assert_eq!(rt; table.ready(set), ready);
-}
-
-fn is_granted(rt: &impl Abort, granted: Result<(), Busy>, wanted: Result<(), Busy>) {
-    assert_eq!(rt; granted, wanted);
-}
-
-fn is_busy(rt: &impl Abort, table: &LockTable, set: &LockSet, busy: Option<Busy>) {
-    assert_eq!(rt; table.busy(set), busy);
-}
-
 // Two readers, a writer of another record, and a set that waits for all of them.
 fn waits_for_all(
     rt: &impl Abort,
@@ -58,40 +43,41 @@ fn waits_for_all(
     reader: &LockSet,
     writer: &LockSet,
     both: &LockSet,
-) -> Result<(), AllocError>
+)
     requires { (t : ℕ) → HoldsNothing (held_by table.old) t }
 {
-    table.reserve(reader)?;
-    is_ready(rt, table, reader, true);
-    is_ready(rt, table, writer, false);
-    is_granted(rt, table.grant(1, reader), Ok(()));
-    is_ready(rt, table, reader, false);
-    table.reserve(reader)?;
-    is_granted(rt, table.grant(2, reader), Ok(()));
-    table.reserve(both)?;
-    is_granted(rt, table.grant(3, both), Err(busy(5, 1)));
-    is_ready(rt, table, both, true);
-    table.reserve(writer)?;
-    is_granted(rt, table.grant(4, writer), Ok(()));
+    table.reserve(reader).expect(rt, "not reserved");
+    is_same(
+        rt,
+        (table.ready(reader), table.ready(writer)),
+        (true, false),
+    );
+    is_same(rt, table.grant(1, reader), Ok(()));
+    is_same(rt, table.ready(reader), false);
+    table.reserve(reader).expect(rt, "not reserved");
+    is_same(rt, table.grant(2, reader), Ok(()));
+    table.reserve(both).expect(rt, "not reserved");
+    is_same(rt, table.grant(3, both), Err(busy(5, 1)));
+    is_same(rt, table.ready(both), true);
+    table.reserve(writer).expect(rt, "not reserved");
+    is_same(rt, table.grant(4, writer), Ok(()));
     table.release(1);
-    is_busy(rt, table, both, Some(busy(4, 4)));
+    is_same(rt, table.busy(both), Some(busy(4, 4)));
     table.release(4);
-    is_busy(rt, table, both, Some(busy(5, 2)));
+    is_same(rt, table.busy(both), Some(busy(5, 2)));
     table.release(7);
     table.release(2);
-    is_busy(rt, table, both, None);
-    Ok(())
+    is_same(rt, table.busy(both), None);
 }
 
 #[test]
-fn the_least_record_and_its_least_holder(rt: HostRuntime) -> Result<(), Fail> {
-    let reader = set(&[slot(Mode::Read, 5)])?;
-    let writer = set(&[slot(Mode::Write, 4)])?;
-    let both = set(&[slot(Mode::Write, 4), slot(Mode::Write, 5)])?;
+fn the_least_record_and_its_least_holder(rt: HostRuntime) {
+    let reader = set(&rt, &[slot(Mode::Read, 5)]);
+    let writer = set(&rt, &[slot(Mode::Write, 4)]);
+    let both = set(&rt, &[slot(Mode::Write, 4), slot(Mode::Write, 5)]);
     let mut table = LockTable::new(rt.alloc());
-    let passed = waits_for_all(&rt, &mut table, &reader, &writer, &both);
+    waits_for_all(&rt, &mut table, &reader, &writer, &both);
     drop(table);
-    Ok(passed?)
 }
 
 // ---- the map beside a row of claims
@@ -123,35 +109,43 @@ impl Dice {
         slot(mode, self.below(12))
     }
 
-    fn set(&mut self) -> Option<LockSet> {
-        set(&[self.slot(), self.slot(), self.slot()]).ok()
+    fn set(&mut self, rt: &impl Abort) -> LockSet {
+        set(rt, &[self.slot(), self.slot(), self.slot()])
     }
 }
 
 // Three records that go neither up nor down with the transactions.
-fn scattered_set(txn: u64) -> Option<LockSet> {
+fn scattered_set(rt: &impl Abort, txn: u64) -> LockSet {
     let mode = if txn % 4 == 0 {
         Mode::Write
     } else {
         Mode::Read
     };
     let first = txn.wrapping_mul(37) % 101;
-    set(&[
-        slot(Mode::Read, 100 - first),
-        slot(mode, first),
-        slot(Mode::Read, first / 2),
-    ])
-    .ok()
+    set(
+        rt,
+        &[
+            slot(Mode::Read, 100 - first),
+            slot(mode, first),
+            slot(Mode::Read, first / 2),
+        ],
+    )
 }
 
 // Whether both grant the set, or name the same in its way.
-fn grant(map: &mut LockTable, plain: &mut PlainTable, txn: u64, set: &LockSet) -> Option<bool>
+fn grant(
+    rt: &impl Abort,
+    map: &mut LockTable,
+    plain: &mut PlainTable,
+    txn: u64,
+    set: &LockSet,
+) -> bool
     requires { HoldsNothing (held_by map.old) txn }
     ensures others { (t : ℕ) (r : Record) → (t == txn) ≡ false → held_by map.new t r ≡ held_by map.old t r }
 {
-    map.reserve(set).ok()?;
+    map.reserve(set).expect(rt, "not reserved");
     let granted = map.grant(txn, set);
-    Some(plain.grant(txn, set).ok()? == granted)
+    plain.grant(txn, set).expect(rt, "no room") == granted
 }
 
 // Takes the transaction's locks away. Whether both then name the same in the wanted locks' way.
@@ -164,44 +158,46 @@ fn release(map: &mut LockTable, plain: &mut PlainTable, txn: u64, wanted: &LockS
 }
 
 // Transactions go in another order than they came. How often both answered the same.
-fn scattered(alloc: Global, txns: u64) -> Option<u64> {
+fn scattered(rt: &impl Abort, alloc: Global, txns: u64) -> u64 {
     let mut map = LockTable::new(alloc);
     let mut plain = PlainTable::new(alloc);
     let mut same: u64 = 0;
     'txns: for txn in 0..txns {
-        let set = scattered_set(txn)?;
-        same = same.wrapping_add(u64::from(grant(&mut map, &mut plain, txn, &set)?));
+        let set = scattered_set(rt, txn);
+        same = same.wrapping_add(u64::from(grant(rt, &mut map, &mut plain, txn, &set)));
         let gone = txn.wrapping_sub(64) ^ 21;
         same = same.wrapping_add(u64::from(release(&mut map, &mut plain, gone, &set)));
     }
-    Some(same)
+    drop(map);
+    drop(plain);
+    same
 }
 
 // Sets and releases by dice. How often both answered the same.
-fn by_dice(alloc: Global, txns: u64) -> Option<u64> {
+fn by_dice(rt: &impl Abort, alloc: Global, txns: u64) -> u64 {
     let mut map = LockTable::new(alloc);
     let mut plain = PlainTable::new(alloc);
     let mut dice = Dice { state: 1 };
     let mut same: u64 = 0;
     'txns: for txn in 0..txns {
-        let set = dice.set()?;
-        same = same.wrapping_add(u64::from(grant(&mut map, &mut plain, txn, &set)?));
+        let set = dice.set(rt);
+        same = same.wrapping_add(u64::from(grant(rt, &mut map, &mut plain, txn, &set)));
         let gone = txn.wrapping_sub(dice.below(8));
         same = same.wrapping_add(u64::from(release(&mut map, &mut plain, gone, &set)));
         let oldest = txn.wrapping_sub(8);
         same = same.wrapping_add(u64::from(release(&mut map, &mut plain, oldest, &set)));
     }
-    Some(same)
+    drop(map);
+    drop(plain);
+    same
 }
 
 #[test]
-fn locks_taken_and_released_in_scattered_order(rt: HostRuntime) -> Result<(), Fail> {
-    assert_eq!(rt; scattered(rt.alloc(), 1_000), Some(2_000));
-    Ok(())
+fn locks_taken_and_released_in_scattered_order(rt: HostRuntime) {
+    is_same(&rt, scattered(&rt, rt.alloc(), 1_000), 2_000);
 }
 
 #[test]
-fn locks_taken_and_released_by_dice(rt: HostRuntime) -> Result<(), Fail> {
-    assert_eq!(rt; by_dice(rt.alloc(), 100_000), Some(300_000));
-    Ok(())
+fn locks_taken_and_released_by_dice(rt: HostRuntime) {
+    is_same(&rt, by_dice(&rt, rt.alloc(), 100_000), 300_000);
 }

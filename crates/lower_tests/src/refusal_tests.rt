@@ -1,107 +1,107 @@
 //! What both passes refuse, at which slot and why; and what lies right beside it and is accepted.
 
 use crate::verdict_tests::{
-    accepted, add, atomic, constant, copy, decl, jump_at_null, load, refused_of, store,
+    accepted, add, atomic, constant, copy, decl, declared, jump_at_null, load, refused_of, store,
 };
-use access_slots::decl::Decl;
+use bpf_encoding::insn::Condition::Equal;
+use bpf_encoding::insn::Operation::Mov;
 use bpf_encoding::insn::Register::{R0, R1, R2, R3, R5, R6, R10};
+use bpf_encoding::insn::Size::Double;
+use bpf_encoding::insn::Source::{Imm, Reg};
+use bpf_encoding::insn::Width::{Bits32, Bits64};
 use bpf_encoding::insn::{
-    AtomicOperation, ByteOrder, Condition, Extension, Insn, Operation, OrderWidth, SignedSize,
-    Size, Source, Width,
+    AtomicOperation, ByteOrder, Condition, Extension, Insn, Operation, OrderWidth, SignedSize, Size,
 };
 use register_kinds::kind::Violation;
-use std::alloc::{AllocError, Global};
+use std::alloc::Global;
 use std::process::Abort;
-use std::test::Fail;
+
+// Register 0 is 0.
+const ZERO: Insn = Insn::Alu(Bits64, Mov, R0, Imm(0));
+
+// Register 1 is the number of the first slot.
+const SLOT: Insn = Insn::Alu(Bits64, Mov, R1, Imm(0));
+
+// Over the next slot where register 0 is null.
+const AT_NULL: Insn = Insn::JumpIf(Bits64, Equal, R0, Imm(0), 1);
+
+// Two slots.
+const WIDE: Insn = Insn::LoadWide(R0, 0);
 
 // Both passes refuse the code at this slot, where one argument and two slots are declared.
-fn refused(
-    rt: &impl Abort,
-    alloc: Global,
-    insns: &[Insn],
-    slot: usize,
-    violation: Violation,
-) -> Result<(), Fail> {
-    refused_of(rt, alloc, insns, decl(1)?, (slot, violation))
+fn refused(rt: &impl Abort, alloc: Global, insns: &[Insn], slot: usize, violation: Violation) {
+    refused_of(rt, alloc, insns, decl(rt, 1), (slot, violation));
 }
 
 // The same of each code at its slot.
-fn each_refused(
-    rt: &impl Abort,
-    alloc: Global,
-    codes: &[(&[Insn], usize)],
-    violation: Violation,
-) -> Result<(), Fail> {
+fn each_refused(rt: &impl Abort, alloc: Global, codes: &[(&[Insn], usize)], violation: Violation) {
     for &(insns, slot) in codes {
-        refused(rt, alloc, insns, slot, violation)?;
+        refused(rt, alloc, insns, slot, violation);
     }
-    Ok(())
 }
 
-fn jumps_back(rt: &impl Abort, alloc: Global) -> Result<(), Fail> {
-    let codes: [(&[Insn], usize); 6] = [
-        (&[Insn::Jump(-1)], 0),
-        (&[Insn::JumpLong(i32::MIN)], 0),
-        (&[constant(R0, 0), Insn::Jump(-3)], 1),
-        (&[constant(R0, 0), jump_at_null(-1), Insn::Exit], 1),
-        (&[constant(R0, 0), jump_at_null(-2)], 1),
-        (&[constant(R0, 0), Insn::Exit, Insn::Jump(-1)], 2),
-    ];
-    each_refused(rt, alloc, &codes, Violation::Backward)
-}
+const BACKWARD: [(&[Insn], usize); 6] = [
+    (&[Insn::Jump(-1)], 0),
+    (&[Insn::JumpLong(i32::MIN)], 0),
+    (&[ZERO, Insn::Jump(-3)], 1),
+    (
+        &[
+            ZERO,
+            Insn::JumpIf(Bits64, Equal, R0, Imm(0), -1),
+            Insn::Exit,
+        ],
+        1,
+    ),
+    (&[ZERO, Insn::JumpIf(Bits64, Equal, R0, Imm(0), -2)], 1),
+    (&[ZERO, Insn::Exit, Insn::Jump(-1)], 2),
+];
 
-fn jumps_past_the_code(rt: &impl Abort, alloc: Global) -> Result<(), Fail> {
-    let codes: [(&[Insn], usize); 5] = [
-        (&[Insn::Jump(0)], 0),
-        (&[Insn::Jump(i16::MAX), Insn::Exit], 0),
-        (&[Insn::JumpLong(i32::MAX), Insn::Exit], 0),
-        (&[constant(R0, 0), jump_at_null(1), Insn::Exit], 1),
-        (&[constant(R0, 0), jump_at_null(0)], 1),
-    ];
-    each_refused(rt, alloc, &codes, Violation::OutOfCode)
-}
+const PAST_THE_CODE: [(&[Insn], usize); 5] = [
+    (&[Insn::Jump(0)], 0),
+    (&[Insn::Jump(i16::MAX), Insn::Exit], 0),
+    (&[Insn::JumpLong(i32::MAX), Insn::Exit], 0),
+    (&[ZERO, AT_NULL, Insn::Exit], 1),
+    (&[ZERO, Insn::JumpIf(Bits64, Equal, R0, Imm(0), 0)], 1),
+];
 
-fn jumps_into_wide(rt: &impl Abort, alloc: Global) -> Result<(), Fail> {
-    let wide = Insn::LoadWide(R0, 0);
-    let codes: [(&[Insn], usize); 4] = [
-        (&[Insn::Jump(1), wide, Insn::Exit], 0),
-        (&[Insn::JumpLong(1), wide, Insn::Exit], 0),
-        (&[constant(R0, 0), jump_at_null(1), wide, Insn::Exit], 1),
-        (&[wide, Insn::Jump(1), wide, Insn::Exit], 2),
-    ];
-    each_refused(rt, alloc, &codes, Violation::IntoWide)
-}
+const INTO_WIDE: [(&[Insn], usize); 4] = [
+    (&[Insn::Jump(1), WIDE, Insn::Exit], 0),
+    (&[Insn::JumpLong(1), WIDE, Insn::Exit], 0),
+    (&[ZERO, AT_NULL, WIDE, Insn::Exit], 1),
+    (&[WIDE, Insn::Jump(1), WIDE, Insn::Exit], 2),
+];
 
-fn falls_off(rt: &impl Abort, alloc: Global) -> Result<(), Fail> {
-    let wide = Insn::LoadWide(R0, 0);
-    let codes: [(&[Insn], usize); 6] = [
-        (&[constant(R0, 0)], 0),
-        (&[wide], 0),
-        (&[wide, wide], 2),
-        (&[store(R10, -8, R1)], 0),
-        (&[Insn::Call(6)], 0),
-        (&[constant(R0, 0), Insn::Exit, constant(R0, 0)], 2),
-    ];
-    each_refused(rt, alloc, &codes, Violation::FallsOff)
-}
+const OFF_THE_END: [(&[Insn], usize); 6] = [
+    (&[ZERO], 0),
+    (&[WIDE], 0),
+    (&[WIDE, WIDE], 2),
+    (&[Insn::Store(Double, R10, R1, -8)], 0),
+    (&[Insn::Call(6)], 0),
+    (&[ZERO, Insn::Exit, ZERO], 2),
+];
 
-fn unknown_helpers(rt: &impl Abort, alloc: Global) -> Result<(), Fail> {
-    let codes: [(&[Insn], usize); 6] = [
-        (&[Insn::Call(0), Insn::Exit], 0),
-        (&[Insn::Call(6), Insn::Exit], 0),
-        (&[Insn::Call(-1), Insn::Exit], 0),
-        (&[Insn::Call(6), Insn::Jump(-1)], 0),
-        (&[copy(R0, R2), Insn::Call(6), Insn::Exit], 1),
-        (&[constant(R0, 0), Insn::Exit, Insn::Call(6), Insn::Exit], 2),
-    ];
-    each_refused(rt, alloc, &codes, Violation::UnknownHelper)
-}
+const UNKNOWN_HELPERS: [(&[Insn], usize); 6] = [
+    (&[Insn::Call(0), Insn::Exit], 0),
+    (&[Insn::Call(6), Insn::Exit], 0),
+    (&[Insn::Call(-1), Insn::Exit], 0),
+    (&[Insn::Call(6), Insn::Jump(-1)], 0),
+    (
+        &[
+            Insn::Alu(Bits64, Mov, R0, Reg(R2)),
+            Insn::Call(6),
+            Insn::Exit,
+        ],
+        1,
+    ),
+    (&[ZERO, Insn::Exit, Insn::Call(6), Insn::Exit], 2),
+];
 
 // The instruction behind the others, and an end behind it.
-fn behind(alloc: Global, before: &[Insn], insn: Insn) -> Result<Vec<Insn>, AllocError> {
-    let mut code = before.to_vec(alloc)?;
-    code.extend_from_slice(&[insn, constant(R0, 0), Insn::Exit])?;
-    Ok(code)
+fn behind(rt: &impl Abort, alloc: Global, before: &[Insn], insn: Insn) -> Vec<Insn> {
+    let mut code = before.to_vec(alloc).expect(rt, "no code");
+    code.extend_from_slice(&[insn, constant(R0, 0), Insn::Exit])
+        .expect(rt, "no end");
+    code
 }
 
 // Both passes refuse each of these right behind the others, which take one slot each.
@@ -111,190 +111,197 @@ fn none_behind(
     before: &[Insn],
     insns: &[Insn],
     violation: Violation,
-) -> Result<(), Fail> {
+) {
     for &insn in insns {
-        let code = behind(alloc, before, insn)?;
-        refused(rt, alloc, &code, before.len(), violation)?;
+        let code = behind(rt, alloc, before, insn);
+        refused(rt, alloc, code.as_slice(), before.len(), violation);
     }
-    Ok(())
 }
 
-fn writes_r10(rt: &impl Abort, alloc: Global) -> Result<(), Fail> {
-    let insns = [
-        constant(R10, 0),
-        copy(R10, R1),
-        add(R10, 8),
-        Insn::Negate(Width::Bits64, R10),
-        Insn::MoveSigned(Extension::Word64, R10, R1),
-        Insn::Order(ByteOrder::Swap, OrderWidth::Order64, R10),
-        Insn::LoadWide(R10, 0),
-        load(R10, R1, 0),
-        load(R10, R10, 0),
-        Insn::LoadSigned(SignedSize::SignedByte, R10, R1, 0),
-        atomic(AtomicOperation::FetchAdd, R10, R10, -8),
-        atomic(AtomicOperation::Exchange, R10, R10, 0),
-    ];
-    none_behind(rt, alloc, &[], &insns, Violation::WritesR10)
-}
+const WRITES_R10: [Insn; 12] = [
+    Insn::Alu(Bits64, Mov, R10, Imm(0)),
+    Insn::Alu(Bits64, Mov, R10, Reg(R1)),
+    Insn::Alu(Bits64, Operation::Add, R10, Imm(8)),
+    Insn::Negate(Bits64, R10),
+    Insn::MoveSigned(Extension::Word64, R10, R1),
+    Insn::Order(ByteOrder::Swap, OrderWidth::Order64, R10),
+    Insn::LoadWide(R10, 0),
+    Insn::Load(Double, R10, R1, 0),
+    Insn::Load(Double, R10, R10, 0),
+    Insn::LoadSigned(SignedSize::SignedByte, R10, R1, 0),
+    Insn::Atomic(Bits64, AtomicOperation::FetchAdd, R10, R10, -8),
+    Insn::Atomic(Bits64, AtomicOperation::Exchange, R10, R10, 0),
+];
 
 // What the first pass finds, and writes of register 10, which always has an address.
 #[test]
-fn refused_at_once(rt: HostRuntime) -> Result<(), Fail> {
-    jumps_back(&rt, rt.alloc())?;
-    jumps_past_the_code(&rt, rt.alloc())?;
-    jumps_into_wide(&rt, rt.alloc())?;
-    falls_off(&rt, rt.alloc())?;
-    unknown_helpers(&rt, rt.alloc())?;
-    writes_r10(&rt, rt.alloc())
+fn refused_at_once(rt: HostRuntime) {
+    let alloc = rt.alloc();
+    each_refused(&rt, alloc, &BACKWARD, Violation::Backward);
+    each_refused(&rt, alloc, &PAST_THE_CODE, Violation::OutOfCode);
+    each_refused(&rt, alloc, &INTO_WIDE, Violation::IntoWide);
+    each_refused(&rt, alloc, &OFF_THE_END, Violation::FallsOff);
+    each_refused(&rt, alloc, &UNKNOWN_HELPERS, Violation::UnknownHelper);
+    none_behind(&rt, alloc, &[], &WRITES_R10, Violation::WritesR10);
 }
 
 // At first register 1 has the arguments' address, and register 10 that of the stack's end.
-fn empty_at_first(rt: &impl Abort, alloc: Global) -> Result<(), Fail> {
-    let insns = [
-        copy(R0, R2),
-        copy(R10, R2),
-        add(R0, 1),
-        Insn::Alu(Width::Bits64, Operation::Add, R1, Source::Reg(R2)),
-        Insn::Negate(Width::Bits64, R0),
-        Insn::MoveSigned(Extension::Byte32, R0, R2),
-        Insn::Order(ByteOrder::Little, OrderWidth::Order16, R0),
-        load(R0, R2, 0),
-        Insn::LoadSigned(SignedSize::SignedHalf, R0, R2, 0),
-        store(R10, -8, R2),
-        store(R2, 0, R1),
-        Insn::StoreImm(Size::Double, R2, 0, 7),
-        jump_at_null(0),
-        Insn::JumpIf(Width::Bits64, Condition::Less, R1, Source::Reg(R2), 0),
-        atomic(AtomicOperation::Add, R10, R2, -8),
-        atomic(AtomicOperation::Add, R2, R1, 0),
-        atomic(AtomicOperation::CompareExchange, R10, R1, -8),
-        Insn::Exit,
-    ];
-    none_behind(rt, alloc, &[], &insns, Violation::EmptyRegister)
-}
+const EMPTY_AT_FIRST: [Insn; 18] = [
+    Insn::Alu(Bits64, Mov, R0, Reg(R2)),
+    Insn::Alu(Bits64, Mov, R10, Reg(R2)),
+    Insn::Alu(Bits64, Operation::Add, R0, Imm(1)),
+    Insn::Alu(Bits64, Operation::Add, R1, Reg(R2)),
+    Insn::Negate(Bits64, R0),
+    Insn::MoveSigned(Extension::Byte32, R0, R2),
+    Insn::Order(ByteOrder::Little, OrderWidth::Order16, R0),
+    Insn::Load(Double, R0, R2, 0),
+    Insn::LoadSigned(SignedSize::SignedHalf, R0, R2, 0),
+    Insn::Store(Double, R10, R2, -8),
+    Insn::Store(Double, R2, R1, 0),
+    Insn::StoreImm(Double, R2, 0, 7),
+    Insn::JumpIf(Bits64, Equal, R0, Imm(0), 0),
+    Insn::JumpIf(Bits64, Condition::Less, R1, Reg(R2), 0),
+    Insn::Atomic(Bits64, AtomicOperation::Add, R10, R2, -8),
+    Insn::Atomic(Bits64, AtomicOperation::Add, R2, R1, 0),
+    Insn::Atomic(Bits64, AtomicOperation::CompareExchange, R10, R1, -8),
+    Insn::Exit,
+];
 
-fn empty_later(rt: &impl Abort, alloc: Global) -> Result<(), Fail> {
-    let slot = constant(R1, 0);
-    let written_on_one_way = [
-        constant(R0, 1),
-        jump_at_null(1),
-        constant(R2, 1),
-        copy(R0, R2),
-        Insn::Exit,
-    ];
-    let codes: [(&[Insn], usize); 4] = [
-        (&[slot, Insn::Call(5), copy(R0, R1), Insn::Exit], 2),
-        (&[slot, Insn::Call(5), copy(R0, R5), Insn::Exit], 2),
-        (&[slot, Insn::Call(5), Insn::Call(5), Insn::Exit], 2),
-        (&written_on_one_way, 3),
-    ];
-    each_refused(rt, alloc, &codes, Violation::EmptyRegister)
-}
+// Behind a call, and where a register is written on one way.
+const EMPTY_LATER: [(&[Insn], usize); 4] = [
+    (
+        &[
+            SLOT,
+            Insn::Call(5),
+            Insn::Alu(Bits64, Mov, R0, Reg(R1)),
+            Insn::Exit,
+        ],
+        2,
+    ),
+    (
+        &[
+            SLOT,
+            Insn::Call(5),
+            Insn::Alu(Bits64, Mov, R0, Reg(R5)),
+            Insn::Exit,
+        ],
+        2,
+    ),
+    (&[SLOT, Insn::Call(5), Insn::Call(5), Insn::Exit], 2),
+    (
+        &[
+            Insn::Alu(Bits64, Mov, R0, Imm(1)),
+            AT_NULL,
+            Insn::Alu(Bits64, Mov, R2, Imm(1)),
+            Insn::Alu(Bits64, Mov, R0, Reg(R2)),
+            Insn::Exit,
+        ],
+        3,
+    ),
+];
 
 // What leaves no address in a register that had one.
-fn no_address(rt: &impl Abort, alloc: Global) -> Result<(), Fail> {
-    let insns = [
-        constant(R2, 65_536),
-        load(R2, R10, -8),
-        add(R2, 65_025),
-        Insn::Alu(Width::Bits64, Operation::Sub, R2, Source::Imm(66_049)),
-        Insn::Alu(Width::Bits64, Operation::Add, R2, Source::Reg(R10)),
-        Insn::Alu(Width::Bits64, Operation::Sub, R2, Source::Reg(R10)),
-        Insn::Alu(Width::Bits64, Operation::Or, R2, Source::Imm(0)),
-        Insn::Alu(Width::Bits32, Operation::Add, R2, Source::Imm(0)),
-        Insn::Alu(Width::Bits32, Operation::Mov, R2, Source::Reg(R10)),
-        Insn::Negate(Width::Bits64, R2),
-        Insn::MoveSigned(Extension::Word64, R2, R10),
-        Insn::Order(ByteOrder::Little, OrderWidth::Order64, R2),
-        atomic(AtomicOperation::Exchange, R10, R2, -8),
-    ];
-    for insn in insns {
-        let code = [copy(R2, R10), insn, load(R0, R2, -8), Insn::Exit];
-        refused(rt, alloc, &code, 2, Violation::NotAPointer)?;
+const NO_ADDRESS: [Insn; 13] = [
+    Insn::Alu(Bits64, Mov, R2, Imm(65_536)),
+    Insn::Load(Double, R2, R10, -8),
+    Insn::Alu(Bits64, Operation::Add, R2, Imm(65_025)),
+    Insn::Alu(Bits64, Operation::Sub, R2, Imm(66_049)),
+    Insn::Alu(Bits64, Operation::Add, R2, Reg(R10)),
+    Insn::Alu(Bits64, Operation::Sub, R2, Reg(R10)),
+    Insn::Alu(Bits64, Operation::Or, R2, Imm(0)),
+    Insn::Alu(Bits32, Operation::Add, R2, Imm(0)),
+    Insn::Alu(Bits32, Mov, R2, Reg(R10)),
+    Insn::Negate(Bits64, R2),
+    Insn::MoveSigned(Extension::Word64, R2, R10),
+    Insn::Order(ByteOrder::Little, OrderWidth::Order64, R2),
+    Insn::Atomic(Bits64, AtomicOperation::Exchange, R10, R2, -8),
+];
+
+fn no_address(rt: &impl Abort, alloc: Global) {
+    for insn in &NO_ADDRESS {
+        let code = [copy(R2, R10), *insn, load(R0, R2, -8), Insn::Exit];
+        refused(rt, alloc, &code, 2, Violation::NotAPointer);
     }
-    Ok(())
 }
 
-fn constants_as_addresses(rt: &impl Abort, alloc: Global) -> Result<(), Fail> {
-    let insns = [
-        Insn::Load(Size::Byte, R2, R1, 0),
-        Insn::LoadSigned(SignedSize::SignedWord, R2, R1, 0),
-        Insn::StoreImm(Size::Byte, R1, 0, 7),
-        store(R1, 0, R10),
-        atomic(AtomicOperation::Add, R1, R10, 0),
-    ];
-    let before = [constant(R1, 8)];
-    none_behind(rt, alloc, &before, &insns, Violation::NotAPointer)
-}
+const BY_A_CONSTANT: [Insn; 5] = [
+    Insn::Load(Size::Byte, R2, R1, 0),
+    Insn::LoadSigned(SignedSize::SignedWord, R2, R1, 0),
+    Insn::StoreImm(Size::Byte, R1, 0, 7),
+    Insn::Store(Double, R1, R10, 0),
+    Insn::Atomic(Bits64, AtomicOperation::Add, R1, R10, 0),
+];
 
-fn addresses_on_one_way(rt: &impl Abort, alloc: Global) -> Result<(), Fail> {
-    let either_address = [
-        copy(R2, R10),
-        Insn::JumpIf(Width::Bits64, Condition::Equal, R1, Source::Imm(0), 1),
-        add(R2, -8),
-        load(R0, R2, -8),
-        Insn::Exit,
-    ];
-    let where_it_is_null = [
-        constant(R1, 0),
-        Insn::Call(1),
-        Insn::JumpIf(Width::Bits64, Condition::NotEqual, R0, Source::Imm(0), 1),
-        load(R0, R0, 0),
-        constant(R0, 0),
-        Insn::Exit,
-    ];
-    let moved_before_the_test = [
-        constant(R1, 0),
-        Insn::Call(1),
-        add(R0, 8),
-        load(R0, R0, 0),
-        Insn::Exit,
-    ];
-    let codes: [(&[Insn], usize); 3] = [
-        (&either_address, 3),
-        (&where_it_is_null, 3),
-        (&moved_before_the_test, 3),
-    ];
-    each_refused(rt, alloc, &codes, Violation::NotAPointer)
-}
+// Either of two addresses, one where it is null, and one that was moved before the test.
+const ADDRESSES_ON_ONE_WAY: [(&[Insn], usize); 3] = [
+    (
+        &[
+            Insn::Alu(Bits64, Mov, R2, Reg(R10)),
+            Insn::JumpIf(Bits64, Equal, R1, Imm(0), 1),
+            Insn::Alu(Bits64, Operation::Add, R2, Imm(-8)),
+            Insn::Load(Double, R0, R2, -8),
+            Insn::Exit,
+        ],
+        3,
+    ),
+    (
+        &[
+            SLOT,
+            Insn::Call(1),
+            Insn::JumpIf(Bits64, Condition::NotEqual, R0, Imm(0), 1),
+            Insn::Load(Double, R0, R0, 0),
+            ZERO,
+            Insn::Exit,
+        ],
+        3,
+    ),
+    (
+        &[
+            SLOT,
+            Insn::Call(1),
+            Insn::Alu(Bits64, Operation::Add, R0, Imm(8)),
+            Insn::Load(Double, R0, R0, 0),
+            Insn::Exit,
+        ],
+        3,
+    ),
+];
 
 // The stack has 512 bytes, and the one argument 8.
-fn outside_stack_and_arguments(rt: &impl Abort, alloc: Global) -> Result<(), Fail> {
-    let insns = [
-        store(R10, -513, R1),
-        store(R10, -4, R1),
-        load(R2, R10, -7),
-        Insn::Load(Size::Byte, R2, R10, 0),
-        Insn::Load(Size::Byte, R2, R10, -513),
-        Insn::StoreImm(Size::Half, R10, -1, 7),
-        atomic(AtomicOperation::Add, R10, R1, -7),
-        Insn::Atomic(Width::Bits32, AtomicOperation::Or, R10, R1, -3),
-        load(R2, R1, 1),
-        load(R2, R1, 8),
-        load(R2, R1, -1),
-        Insn::LoadSigned(SignedSize::SignedWord, R2, R1, 5),
-    ];
-    none_behind(rt, alloc, &[], &insns, Violation::OutOfBounds)
-}
+const OUTSIDE_STACK_AND_ARGUMENTS: [Insn; 12] = [
+    Insn::Store(Double, R10, R1, -513),
+    Insn::Store(Double, R10, R1, -4),
+    Insn::Load(Double, R2, R10, -7),
+    Insn::Load(Size::Byte, R2, R10, 0),
+    Insn::Load(Size::Byte, R2, R10, -513),
+    Insn::StoreImm(Size::Half, R10, -1, 7),
+    Insn::Atomic(Bits64, AtomicOperation::Add, R10, R1, -7),
+    Insn::Atomic(Bits32, AtomicOperation::Or, R10, R1, -3),
+    Insn::Load(Double, R2, R1, 1),
+    Insn::Load(Double, R2, R1, 8),
+    Insn::Load(Double, R2, R1, -1),
+    Insn::LoadSigned(SignedSize::SignedWord, R2, R1, 5),
+];
 
 // A buffer has 64 bytes.
-fn outside_buffers(rt: &impl Abort, alloc: Global) -> Result<(), Fail> {
-    let insns = [
-        load(R2, R0, 57),
-        load(R2, R0, -1),
-        Insn::Load(Size::Byte, R2, R0, 64),
-        Insn::StoreImm(Size::Word, R0, 61, 7),
-        store(R0, 57, R10),
-        atomic(AtomicOperation::Xor, R0, R10, 57),
-    ];
+const OUTSIDE_BUFFERS: [Insn; 6] = [
+    Insn::Load(Double, R2, R0, 57),
+    Insn::Load(Double, R2, R0, -1),
+    Insn::Load(Size::Byte, R2, R0, 64),
+    Insn::StoreImm(Size::Word, R0, 61, 7),
+    Insn::Store(Double, R0, R10, 57),
+    Insn::Atomic(Bits64, AtomicOperation::Xor, R0, R10, 57),
+];
+
+fn outside_buffers(rt: &impl Abort, alloc: Global) {
     let tested = [constant(R1, 1), Insn::Call(1), jump_at_null(1)];
-    none_behind(rt, alloc, &tested, &insns, Violation::OutOfBounds)?;
+    none_behind(rt, alloc, &tested, &OUTSIDE_BUFFERS, Violation::OutOfBounds);
     let own = [constant(R1, 1), Insn::Call(5)];
-    none_behind(rt, alloc, &own, &insns, Violation::OutOfBounds)
+    none_behind(rt, alloc, &own, &OUTSIDE_BUFFERS, Violation::OutOfBounds);
 }
 
 // An address may lie 65536 bytes from its region's first byte, on either side.
-fn outside_far_away(rt: &impl Abort, alloc: Global) -> Result<(), Fail> {
+fn outside_far_away(rt: &impl Abort, alloc: Global) {
     for by in [65_024, -66_048] {
         let before = [copy(R2, R10), add(R2, by)];
         none_behind(
@@ -303,33 +310,30 @@ fn outside_far_away(rt: &impl Abort, alloc: Global) -> Result<(), Fail> {
             &before,
             &[load(R2, R2, -8)],
             Violation::OutOfBounds,
-        )?;
+        );
     }
-    Ok(())
 }
 
-fn stores_into_arguments(rt: &impl Abort, alloc: Global) -> Result<(), Fail> {
-    let insns = [
-        Insn::StoreImm(Size::Double, R1, 0, 7),
-        Insn::StoreImm(Size::Byte, R1, 8, 7),
-        store(R1, 0, R1),
-        atomic(AtomicOperation::Add, R1, R1, 0),
-        atomic(AtomicOperation::FetchAdd, R1, R1, 0),
-    ];
-    none_behind(rt, alloc, &[], &insns, Violation::ReadOnly)
-}
+const INTO_ARGUMENTS: [Insn; 5] = [
+    Insn::StoreImm(Double, R1, 0, 7),
+    Insn::StoreImm(Size::Byte, R1, 8, 7),
+    Insn::Store(Double, R1, R1, 0),
+    Insn::Atomic(Bits64, AtomicOperation::Add, R1, R1, 0),
+    Insn::Atomic(Bits64, AtomicOperation::FetchAdd, R1, R1, 0),
+];
 
-fn before_the_null_test(rt: &impl Abort, alloc: Global) -> Result<(), Fail> {
-    let insns = [
-        load(R2, R0, 0),
-        load(R2, R0, 64),
-        Insn::LoadSigned(SignedSize::SignedByte, R2, R0, 0),
-        Insn::StoreImm(Size::Double, R0, 0, 7),
-        store(R0, 0, R10),
-        atomic(AtomicOperation::And, R0, R10, 0),
-    ];
+const BY_MAYBE_NULL: [Insn; 6] = [
+    Insn::Load(Double, R2, R0, 0),
+    Insn::Load(Double, R2, R0, 64),
+    Insn::LoadSigned(SignedSize::SignedByte, R2, R0, 0),
+    Insn::StoreImm(Double, R0, 0, 7),
+    Insn::Store(Double, R0, R10, 0),
+    Insn::Atomic(Bits64, AtomicOperation::And, R0, R10, 0),
+];
+
+fn before_the_null_test(rt: &impl Abort, alloc: Global) {
     let read = [constant(R1, 0), Insn::Call(1)];
-    none_behind(rt, alloc, &read, &insns, Violation::MaybeNull)?;
+    none_behind(rt, alloc, &read, &BY_MAYBE_NULL, Violation::MaybeNull);
     let of_a_copy = [
         constant(R1, 0),
         Insn::Call(1),
@@ -337,193 +341,185 @@ fn before_the_null_test(rt: &impl Abort, alloc: Global) -> Result<(), Fail> {
         jump_at_null(1),
     ];
     let by_it = [load(R2, R6, 0)];
-    none_behind(rt, alloc, &of_a_copy, &by_it, Violation::MaybeNull)
+    none_behind(rt, alloc, &of_a_copy, &by_it, Violation::MaybeNull);
 }
 
 // Of these conditions none is the null test.
-fn behind_other_tests(rt: &impl Abort, alloc: Global) -> Result<(), Fail> {
-    let tests = [
-        Insn::JumpIf(Width::Bits32, Condition::Equal, R0, Source::Imm(0), 1),
-        Insn::JumpIf(Width::Bits64, Condition::Equal, R0, Source::Imm(1), 1),
-        Insn::JumpIf(Width::Bits64, Condition::Equal, R0, Source::Reg(R6), 1),
-        Insn::JumpIf(Width::Bits64, Condition::LessOrEqual, R0, Source::Imm(0), 1),
-        Insn::JumpIf(Width::Bits64, Condition::AnyBit, R0, Source::Imm(-1), 1),
-    ];
-    for test in tests {
-        let before = [constant(R6, 0), constant(R1, 0), Insn::Call(1), test];
-        none_behind(rt, alloc, &before, &[load(R2, R0, 0)], Violation::MaybeNull)?;
+const OTHER_TESTS: [Insn; 5] = [
+    Insn::JumpIf(Bits32, Equal, R0, Imm(0), 1),
+    Insn::JumpIf(Bits64, Equal, R0, Imm(1), 1),
+    Insn::JumpIf(Bits64, Equal, R0, Reg(R6), 1),
+    Insn::JumpIf(Bits64, Condition::LessOrEqual, R0, Imm(0), 1),
+    Insn::JumpIf(Bits64, Condition::AnyBit, R0, Imm(-1), 1),
+];
+
+fn behind_other_tests(rt: &impl Abort, alloc: Global) {
+    for test in &OTHER_TESTS {
+        let before = [constant(R6, 0), constant(R1, 0), Insn::Call(1), *test];
+        none_behind(rt, alloc, &before, &[load(R2, R0, 0)], Violation::MaybeNull);
     }
-    Ok(())
 }
 
 // Two slots are declared.
-fn unknown_slots(rt: &impl Abort, alloc: Global) -> Result<(), Fail> {
+const NO_SLOTS: [&[Insn]; 7] = [
+    &[],
+    &[Insn::Load(Double, R1, R1, 0)],
+    &[Insn::Alu(Bits64, Mov, R1, Imm(2))],
+    &[Insn::Alu(Bits64, Mov, R1, Imm(-1))],
+    &[Insn::Alu(Bits64, Mov, R1, Reg(R10))],
+    &[Insn::Alu(Bits32, Operation::Add, R1, Imm(0))],
+    // either slot
+    &[
+        Insn::Load(Double, R0, R1, 0),
+        SLOT,
+        AT_NULL,
+        Insn::Alu(Bits64, Mov, R1, Imm(1)),
+    ],
+];
+
+const WIDE_SLOT: [Insn; 3] = [Insn::LoadWide(R1, 1 << 32), Insn::Call(1), Insn::Exit];
+
+fn unknown_slots(rt: &impl Abort, alloc: Global) {
     let calls = [Insn::Call(1), Insn::Call(3), Insn::Call(5)];
-    none_behind(rt, alloc, &[], &calls, Violation::SlotUnknown)?;
-    for slot in [
-        load(R1, R1, 0),
-        constant(R1, 2),
-        constant(R1, -1),
-        copy(R1, R10),
-        Insn::Alu(Width::Bits32, Operation::Add, R1, Source::Imm(0)),
-    ] {
-        none_behind(rt, alloc, &[slot], &calls, Violation::SlotUnknown)?;
+    for before in &NO_SLOTS {
+        none_behind(rt, alloc, before, &calls, Violation::SlotUnknown);
     }
-    let either_slot = [
-        load(R0, R1, 0),
-        constant(R1, 0),
-        jump_at_null(1),
-        constant(R1, 1),
-    ];
-    none_behind(rt, alloc, &either_slot, &calls, Violation::SlotUnknown)?;
-    let wide = [Insn::LoadWide(R1, 1 << 32), Insn::Call(1), Insn::Exit];
-    refused(rt, alloc, &wide, 2, Violation::SlotUnknown)
+    refused(rt, alloc, &WIDE_SLOT, 2, Violation::SlotUnknown);
 }
 
 // The second slot is declared for reading.
-fn writes_by_read_slots(rt: &impl Abort, alloc: Global) -> Result<(), Fail> {
+fn writes_by_read_slots(rt: &impl Abort, alloc: Global) {
     let writes = [Insn::Call(2), Insn::Call(3), Insn::Call(4)];
     let second = [constant(R1, 1)];
-    none_behind(rt, alloc, &second, &writes, Violation::ModeTooWeak)
+    none_behind(rt, alloc, &second, &writes, Violation::ModeTooWeak);
 }
 
-fn addresses_returned(rt: &impl Abort, alloc: Global) -> Result<(), Fail> {
-    let slot = constant(R1, 0);
-    let codes: [(&[Insn], usize); 5] = [
-        (&[copy(R0, R10), Insn::Exit], 1),
-        (&[copy(R0, R1), Insn::Exit], 1),
-        (&[slot, Insn::Call(1), Insn::Exit], 2),
-        (&[slot, Insn::Call(5), Insn::Exit], 2),
-        (
-            &[slot, Insn::Call(1), jump_at_null(1), Insn::Exit, Insn::Exit],
-            3,
-        ),
-    ];
-    each_refused(rt, alloc, &codes, Violation::PointerReturned)
+const ADDRESSES_RETURNED: [(&[Insn], usize); 5] = [
+    (&[Insn::Alu(Bits64, Mov, R0, Reg(R10)), Insn::Exit], 1),
+    (&[Insn::Alu(Bits64, Mov, R0, Reg(R1)), Insn::Exit], 1),
+    (&[SLOT, Insn::Call(1), Insn::Exit], 2),
+    (&[SLOT, Insn::Call(5), Insn::Exit], 2),
+    (&[SLOT, Insn::Call(1), AT_NULL, Insn::Exit, Insn::Exit], 3),
+];
+
+fn no_values(rt: &impl Abort, alloc: Global) {
+    none_behind(rt, alloc, &[], &EMPTY_AT_FIRST, Violation::EmptyRegister);
+    each_refused(rt, alloc, &EMPTY_LATER, Violation::EmptyRegister);
+    no_address(rt, alloc);
+    let before = [constant(R1, 8)];
+    none_behind(rt, alloc, &before, &BY_A_CONSTANT, Violation::NotAPointer);
+    each_refused(rt, alloc, &ADDRESSES_ON_ONE_WAY, Violation::NotAPointer);
 }
 
-fn no_values(rt: &impl Abort, alloc: Global) -> Result<(), Fail> {
-    empty_at_first(rt, alloc)?;
-    empty_later(rt, alloc)?;
-    no_address(rt, alloc)?;
-    constants_as_addresses(rt, alloc)?;
-    addresses_on_one_way(rt, alloc)
+fn outside_of_memory(rt: &impl Abort, alloc: Global) {
+    let outside = &OUTSIDE_STACK_AND_ARGUMENTS;
+    none_behind(rt, alloc, &[], outside, Violation::OutOfBounds);
+    outside_buffers(rt, alloc);
+    outside_far_away(rt, alloc);
+    none_behind(rt, alloc, &[], &INTO_ARGUMENTS, Violation::ReadOnly);
 }
 
-fn outside_of_memory(rt: &impl Abort, alloc: Global) -> Result<(), Fail> {
-    outside_stack_and_arguments(rt, alloc)?;
-    outside_buffers(rt, alloc)?;
-    outside_far_away(rt, alloc)?;
-    stores_into_arguments(rt, alloc)
-}
-
-fn answers_and_slots(rt: &impl Abort, alloc: Global) -> Result<(), Fail> {
-    before_the_null_test(rt, alloc)?;
-    behind_other_tests(rt, alloc)?;
-    unknown_slots(rt, alloc)?;
-    writes_by_read_slots(rt, alloc)?;
-    addresses_returned(rt, alloc)
+fn answers_and_slots(rt: &impl Abort, alloc: Global) {
+    before_the_null_test(rt, alloc);
+    behind_other_tests(rt, alloc);
+    unknown_slots(rt, alloc);
+    writes_by_read_slots(rt, alloc);
+    each_refused(rt, alloc, &ADDRESSES_RETURNED, Violation::PointerReturned);
 }
 
 #[test]
-fn refused_by_kinds(rt: HostRuntime) -> Result<(), Fail> {
-    no_values(&rt, rt.alloc())?;
-    outside_of_memory(&rt, rt.alloc())?;
-    answers_and_slots(&rt, rt.alloc())
+fn refused_by_kinds(rt: HostRuntime) {
+    no_values(&rt, rt.alloc());
+    outside_of_memory(&rt, rt.alloc());
+    answers_and_slots(&rt, rt.alloc());
 }
 
 // An argument's eight bytes, where so many are declared.
-fn argument_refused(rt: &impl Abort, alloc: Global, args: u8, offset: i16) -> Result<(), Fail> {
+fn argument_refused(rt: &impl Abort, alloc: Global, args: u8, offset: i16) {
     let argument = [load(R0, R1, offset), Insn::Exit];
     let found = (0, Violation::OutOfBounds);
-    refused_of(rt, alloc, &argument, decl(args)?, found)
+    refused_of(rt, alloc, &argument, decl(rt, args), found);
 }
 
-fn refused_without_slots(rt: &impl Abort, alloc: Global) -> Result<(), Fail> {
+fn refused_without_slots(rt: &impl Abort, alloc: Global) {
     let asks = [constant(R1, 0), Insn::Call(5), Insn::Exit];
-    let no_slots = Decl::new(1, &[])?;
-    refused_of(rt, alloc, &asks, no_slots, (1, Violation::SlotUnknown))
+    let no_slots = declared(rt, 1, &[]);
+    refused_of(rt, alloc, &asks, no_slots, (1, Violation::SlotUnknown));
 }
 
 #[test]
-fn refused_by_other_declarations(rt: HostRuntime) -> Result<(), Fail> {
-    argument_refused(&rt, rt.alloc(), 0, 0)?;
-    argument_refused(&rt, rt.alloc(), 1, 8)?;
+fn refused_by_other_declarations(rt: HostRuntime) {
+    argument_refused(&rt, rt.alloc(), 0, 0);
+    argument_refused(&rt, rt.alloc(), 1, 8);
     let second = [load(R0, R1, 8), Insn::Exit];
-    accepted(&rt, rt.alloc(), &second, decl(2)?)?;
-    refused_without_slots(&rt, rt.alloc())
+    accepted(&rt, rt.alloc(), &second, decl(&rt, 2));
+    refused_without_slots(&rt, rt.alloc());
 }
 
 // Both passes accept each code, where one argument and two slots are declared.
-fn each_accepted(rt: &impl Abort, alloc: Global, codes: &[&[Insn]]) -> Result<(), Fail> {
+fn each_accepted(rt: &impl Abort, alloc: Global, codes: &[&[Insn]]) {
     for &insns in codes {
-        accepted(rt, alloc, insns, decl(1)?)?;
+        accepted(rt, alloc, insns, decl(rt, 1));
     }
-    Ok(())
 }
 
-fn ways_that_are_right(rt: &impl Abort, alloc: Global) -> Result<(), Fail> {
-    let unreached = [constant(R0, 0), Insn::Exit, copy(R0, R5), Insn::Exit];
-    let to_wide = [Insn::Jump(0), Insn::LoadWide(R0, 0), Insn::Exit];
-    let one_address = [
-        copy(R2, R10),
-        Insn::JumpIf(Width::Bits64, Condition::Equal, R1, Source::Imm(0), 1),
-        constant(R3, 0),
-        load(R0, R2, -8),
+const WAYS_THAT_ARE_RIGHT: [&[Insn]; 5] = [
+    // unreached
+    &[
+        ZERO,
         Insn::Exit,
-    ];
-    let no_address = [
-        copy(R0, R10),
-        Insn::Alu(Width::Bits64, Operation::Xor, R0, Source::Imm(0)),
+        Insn::Alu(Bits64, Mov, R0, Reg(R5)),
         Insn::Exit,
-    ];
-    let kept_over_a_call = [
-        constant(R6, 0),
-        constant(R1, 0),
+    ],
+    &[Insn::Jump(0), WIDE, Insn::Exit],
+    // one address
+    &[
+        Insn::Alu(Bits64, Mov, R2, Reg(R10)),
+        Insn::JumpIf(Bits64, Equal, R1, Imm(0), 1),
+        Insn::Alu(Bits64, Mov, R3, Imm(0)),
+        Insn::Load(Double, R0, R2, -8),
+        Insn::Exit,
+    ],
+    // no address
+    &[
+        Insn::Alu(Bits64, Mov, R0, Reg(R10)),
+        Insn::Alu(Bits64, Operation::Xor, R0, Imm(0)),
+        Insn::Exit,
+    ],
+    // kept over a call
+    &[
+        Insn::Alu(Bits64, Mov, R6, Imm(0)),
+        SLOT,
         Insn::Call(5),
-        copy(R0, R6),
+        Insn::Alu(Bits64, Mov, R0, Reg(R6)),
         Insn::Exit,
-    ];
-    each_accepted(
-        rt,
-        alloc,
-        &[
-            &unreached,
-            &to_wide,
-            &one_address,
-            &no_address,
-            &kept_over_a_call,
-        ],
-    )
-}
+    ],
+];
 
-fn accesses_that_are_right(rt: &impl Abort, alloc: Global) -> Result<(), Fail> {
-    let stored = [store(R10, -512, R1), constant(R0, 0), Insn::Exit];
-    let last_byte = [Insn::Load(Size::Byte, R0, R10, -1), Insn::Exit];
-    let there_and_back = [
-        copy(R2, R10),
-        add(R2, 65_024),
-        add(R2, -65_024),
-        load(R0, R2, -8),
+const ACCESSES_THAT_ARE_RIGHT: [&[Insn]; 4] = [
+    &[Insn::Store(Double, R10, R1, -512), ZERO, Insn::Exit],
+    // the last byte
+    &[Insn::Load(Size::Byte, R0, R10, -1), Insn::Exit],
+    // there and back
+    &[
+        Insn::Alu(Bits64, Mov, R2, Reg(R10)),
+        Insn::Alu(Bits64, Operation::Add, R2, Imm(65_024)),
+        Insn::Alu(Bits64, Operation::Add, R2, Imm(-65_024)),
+        Insn::Load(Double, R0, R2, -8),
         Insn::Exit,
-    ];
+    ],
     // Register 0 gets the number that was in memory, and register 10 isn't written.
-    let exchanged = [
-        constant(R0, 0),
-        atomic(AtomicOperation::CompareExchange, R10, R10, -8),
+    &[
+        ZERO,
+        Insn::Atomic(Bits64, AtomicOperation::CompareExchange, R10, R10, -8),
         Insn::Exit,
-    ];
-    each_accepted(
-        rt,
-        alloc,
-        &[&stored, &last_byte, &there_and_back, &exchanged],
-    )
-}
+    ],
+];
 
-fn calls_that_are_right(rt: &impl Abort, alloc: Global) -> Result<(), Fail> {
+fn calls_that_are_right(rt: &impl Abort, alloc: Global) {
     for helper in [2, 3, 4] {
         let writes = [constant(R1, 0), Insn::Call(helper), Insn::Exit];
-        each_accepted(rt, alloc, &[&writes])?;
+        each_accepted(rt, alloc, &[&writes]);
     }
     for helper in [1, 5] {
         let asks = [
@@ -532,36 +528,34 @@ fn calls_that_are_right(rt: &impl Abort, alloc: Global) -> Result<(), Fail> {
             constant(R0, 0),
             Insn::Exit,
         ];
-        each_accepted(rt, alloc, &[&asks])?;
+        each_accepted(rt, alloc, &[&asks]);
     }
-    Ok(())
 }
 
 // The buffer's last bytes, where either null test says that it is there.
-fn tests_that_are_right(rt: &impl Abort, alloc: Global) -> Result<(), Fail> {
-    let jumps_at_null = [
-        constant(R1, 1),
+const TESTS_THAT_ARE_RIGHT: [&[Insn]; 2] = [
+    &[
+        Insn::Alu(Bits64, Mov, R1, Imm(1)),
         Insn::Call(1),
-        jump_at_null(1),
-        load(R1, R0, 56),
-        constant(R0, 0),
+        AT_NULL,
+        Insn::Load(Double, R1, R0, 56),
+        ZERO,
         Insn::Exit,
-    ];
-    let jumps_else = [
-        constant(R1, 1),
+    ],
+    &[
+        Insn::Alu(Bits64, Mov, R1, Imm(1)),
         Insn::Call(1),
-        Insn::JumpIf(Width::Bits64, Condition::NotEqual, R0, Source::Imm(0), 1),
+        Insn::JumpIf(Bits64, Condition::NotEqual, R0, Imm(0), 1),
         Insn::Exit,
-        load(R0, R0, 56),
+        Insn::Load(Double, R0, R0, 56),
         Insn::Exit,
-    ];
-    each_accepted(rt, alloc, &[&jumps_at_null, &jumps_else])
-}
+    ],
+];
 
 #[test]
-fn accepted_beside_them(rt: HostRuntime) -> Result<(), Fail> {
-    ways_that_are_right(&rt, rt.alloc())?;
-    accesses_that_are_right(&rt, rt.alloc())?;
-    calls_that_are_right(&rt, rt.alloc())?;
-    tests_that_are_right(&rt, rt.alloc())
+fn accepted_beside_them(rt: HostRuntime) {
+    each_accepted(&rt, rt.alloc(), &WAYS_THAT_ARE_RIGHT);
+    each_accepted(&rt, rt.alloc(), &ACCESSES_THAT_ARE_RIGHT);
+    calls_that_are_right(&rt, rt.alloc());
+    each_accepted(&rt, rt.alloc(), &TESTS_THAT_ARE_RIGHT);
 }

@@ -1,8 +1,9 @@
+use crate::checks::is_same;
 use access_slots::decl::{Decl, DeclFault};
-use access_slots::lock::Lock;
+use access_slots::lock::{Lock, LockSet};
 use access_slots::op::{Op, conflicts};
 use access_slots::slot::{Key, Mode, Record, Slot};
-use std::test::Fail;
+use std::process::Abort;
 
 const fn record(table: u16, key: u64) -> Record {
     Record { dc: 0, table, key }
@@ -17,34 +18,37 @@ const fn slot(mode: Mode, table: u16, key: Key) -> Slot {
     }
 }
 
+// What these slots lock for a call with this argument.
+fn locks_of(rt: &impl Abort, slots: &[Slot], argument: u64) -> LockSet {
+    let decl = Decl::new(1, slots).expect(rt, "not declared");
+    decl.resolve(&[argument])
+}
+
 #[test]
-fn one_record_in_two_modes(rt: HostRuntime) -> Result<(), Fail> {
+fn one_record_in_two_modes(rt: HostRuntime) {
     let slots = [
         slot(Mode::Read, 0, Key::Arg(0)),
         slot(Mode::Write, 0, Key::Arg(0)),
     ];
-    let decl = Decl::new(1, &slots)?;
-    let locks = decl.resolve(&[5]);
+    let locks = locks_of(&rt, &slots, 5);
     let want = [Lock {
         record: record(0, 5),
         mode: Mode::Write,
     }];
-    assert_eq!(rt; locks.locks(), want.as_slice());
-    assert!(rt; locks.covers(&Op::Delete(record(0, 5))));
-    assert!(rt; !locks.covers(&Op::Read(record(0, 6))));
-    Ok(())
+    is_same(&rt, locks.locks(), want.as_slice());
+    is_same(&rt, locks.covers(&Op::Delete(record(0, 5))), true);
+    is_same(&rt, locks.covers(&Op::Read(record(0, 6))), false);
 }
 
 #[test]
-fn records_in_order(rt: HostRuntime) -> Result<(), Fail> {
+fn records_in_order(rt: HostRuntime) {
     let slots = [
         slot(Mode::Read, 1, Key::Fixed(3)),
         slot(Mode::Write, 0, Key::Fixed(9)),
         slot(Mode::Read, 0, Key::Arg(0)),
         slot(Mode::Read, 0, Key::Fixed(9)),
     ];
-    let decl = Decl::new(1, &slots)?;
-    let locks = decl.resolve(&[2]);
+    let locks = locks_of(&rt, &slots, 2);
     let want = [
         Lock {
             record: record(0, 2),
@@ -59,28 +63,36 @@ fn records_in_order(rt: HostRuntime) -> Result<(), Fail> {
             mode: Mode::Read,
         },
     ];
-    assert_eq!(rt; locks.locks(), want.as_slice());
-    assert!(rt; locks.covers(&Op::Read(record(1, 3))));
-    assert!(rt; !locks.covers(&Op::Delete(record(1, 3))));
-    Ok(())
+    is_same(&rt, locks.locks(), want.as_slice());
+    is_same(&rt, locks.covers(&Op::Read(record(1, 3))), true);
+    is_same(&rt, locks.covers(&Op::Delete(record(1, 3))), false);
 }
 
 #[test]
 fn conflicts_of_operations(rt: HostRuntime) {
     let read = Op::Read(record(0, 1));
     let delete = Op::Delete(record(0, 1));
-    assert!(rt; !conflicts(&read, &read));
-    assert!(rt; conflicts(&read, &delete));
-    assert!(rt; conflicts(&delete, &delete));
-    assert!(rt; !conflicts(&delete, &Op::Delete(record(0, 2))));
+    is_same(&rt, conflicts(&read, &read), false);
+    is_same(&rt, conflicts(&read, &delete), true);
+    is_same(&rt, conflicts(&delete, &delete), true);
+    is_same(&rt, conflicts(&delete, &Op::Delete(record(0, 2))), false);
+}
+
+// Why these slots aren't declared; none where they are.
+fn fault_of(args: u8, slots: &[Slot]) -> Option<DeclFault> {
+    Decl::new(args, slots).err()
 }
 
 #[test]
 fn faults_of_declarations(rt: HostRuntime) {
     let bad = slot(Mode::Read, 0, Key::Arg(8));
     let good = slot(Mode::Read, 0, Key::Arg(7));
-    assert!(rt; matches!(Decl::new(9, &[bad; 17]), Err(DeclFault::TooManyArgs)));
-    assert!(rt; matches!(Decl::new(8, &[bad; 17]), Err(DeclFault::TooManySlots)));
-    assert!(rt; matches!(Decl::new(8, &[good, bad]), Err(DeclFault::NoSuchArg(1))));
-    assert!(rt; Decl::new(8, &[good; 16]).is_ok());
+    is_same(&rt, fault_of(9, &[bad; 17]), Some(DeclFault::TooManyArgs));
+    is_same(&rt, fault_of(8, &[bad; 17]), Some(DeclFault::TooManySlots));
+    is_same(
+        &rt,
+        fault_of(8, &[good, bad]),
+        Some(DeclFault::NoSuchArg(1)),
+    );
+    is_same(&rt, fault_of(8, &[good; 16]), None);
 }

@@ -1,8 +1,9 @@
+use crate::checks::is_same;
 use access_slots::op::{News, Op, Reply, Said, Wire};
 use access_slots::slot::{Record, Value};
 use data_component::dc::Dc;
+use std::alloc::Global;
 use std::process::Abort;
-use std::test::Fail;
 
 const fn record(key: u64) -> Record {
     Record {
@@ -21,16 +22,14 @@ fn value(first: u8) -> Value {
 
 // What is said to the operation under this number, with this low-water mark.
 fn said(dc: &mut Dc, number: u64, low_water: u64, op: Op) -> Option<Said> {
-    said_to(
-        dc,
-        &Wire {
-            number,
-            low_water,
-            incarnation: dc.incarnation(),
-            redo: false,
-            op,
-        },
-    )
+    let wire = Wire {
+        number,
+        low_water,
+        incarnation: dc.incarnation(),
+        redo: false,
+        op,
+    };
+    said_to(dc, &wire)
 }
 
 // What this incarnation says to a wire.
@@ -50,7 +49,11 @@ fn said_to(dc: &mut Dc, wire: &Wire) -> Option<Said> {
 // Operations under these numbers, with these low-water marks, and what is said to each.
 fn each_is_said(rt: &impl Abort, dc: &mut Dc, asked: &[(u64, u64, Op, Option<Said>)]) {
     for &(number, low_water, op, want) in asked {
-        assert_eq!(rt; said(dc, number, low_water, op), want, "under {number}");
+        is_same(
+            rt,
+            (number, said(dc, number, low_water, op)),
+            (number, want),
+        );
     }
 }
 
@@ -79,18 +82,22 @@ fn is_kept(rt: &impl Abort, dc: &mut Dc) {
         mark: 3,
     };
     let marks = (dc.mark(), dc.checkpoint(), dc.restart());
-    assert_eq!(rt; marks, (3, 3, Ok(news)));
+    is_same(rt, marks, (3, 3, Ok(news)));
     each_is_said(rt, dc, &[(4, 3, Op::Read(record(6)), Some(Said::Absent))]);
-    assert_eq!(rt; (dc.performed().len(), dc.rows().len()), (4, 0));
+    is_same(rt, (dc.performed().len(), dc.rows().len()), (4, 0));
+}
+
+// A data component with room for so many rows and operations.
+fn new_dc(rt: &impl Abort, alloc: Global, rows: usize, ops: usize) -> Dc {
+    Dc::new(alloc, rows, ops).expect(rt, "no data component")
 }
 
 #[test]
-fn one_record_and_four_operations(rt: HostRuntime) -> Result<(), Fail> {
-    let mut dc = Dc::new(rt.alloc(), 1, 4)?;
+fn one_record_and_four_operations(rt: HostRuntime) {
+    let mut dc = new_dc(&rt, rt.alloc(), 1, 4);
     is_full(&rt, &mut dc);
     is_kept(&rt, &mut dc);
     drop(dc);
-    Ok(())
 }
 
 // Behind a checkpoint, and in the first incarnation.
@@ -100,7 +107,7 @@ fn is_performed(rt: &impl Abort, dc: &mut Dc, old: &Wire) {
     each_is_said(rt, dc, &[(1, 0, five, Some(Said::Done(None)))]);
     let mark = dc.checkpoint();
     each_is_said(rt, dc, &[(2, 0, Op::Delete(record(5)), deleted)]);
-    assert_eq!(rt; (mark, said_to(dc, old)), (0, Some(Said::Done(None))));
+    is_same(rt, (mark, said_to(dc, old)), (0, Some(Said::Done(None))));
 }
 
 fn went_back(rt: &impl Abort, dc: &mut Dc) {
@@ -109,28 +116,30 @@ fn went_back(rt: &impl Abort, dc: &mut Dc) {
         mark: 0,
     };
     let restarted = (dc.restart(), dc.incarnation(), dc.performed().len());
-    assert_eq!(rt; restarted, (Ok(news), 1, 1));
-    assert_eq!(rt; dc.get(&record(5)), Some(value(100)));
+    is_same(rt, restarted, (Ok(news), 1, 1));
+    is_same(rt, dc.get(&record(5)), Some(value(100)));
 }
 
 // Wires, and what is said to each; the mark stays.
 fn each_wire_is_said(rt: &impl Abort, dc: &mut Dc, wires: &[(Wire, Option<Said>)]) {
     for (wire, want) in wires {
-        assert_eq!(rt; (said_to(dc, wire), dc.mark()), (*want, 0));
+        is_same(rt, (said_to(dc, wire), dc.mark()), (*want, 0));
     }
 }
 
-// A restart loses what was performed behind the last checkpoint, and wires that were sent before it
-// aren't answered; what is redone finds room beyond the limit.
-#[test]
-fn a_restart_goes_back_to_the_checkpoint(rt: HostRuntime) -> Result<(), Fail> {
-    let old = Wire {
+// A wire that was sent before a restart.
+fn old_wire() -> Wire {
+    Wire {
         number: 3,
         low_water: 2,
         incarnation: 0,
         redo: false,
         op: Op::Insert(record(6), value(1)),
-    };
+    }
+}
+
+// Wires behind the restart, and what is said to each.
+fn wires_behind(old: Wire) -> [(Wire, Option<Said>); 4] {
     let redone = Wire {
         low_water: 0,
         incarnation: 1,
@@ -147,20 +156,25 @@ fn a_restart_goes_back_to_the_checkpoint(rt: HostRuntime) -> Result<(), Fail> {
         redo: false,
         ..redone
     };
-    let wires = [
+    [
         (old, None),
         (of_a_later_one, None),
         (new, Some(Said::NoRoom)),
         (redone, Some(Said::Done(None))),
-    ];
-    let mut dc = Dc::new(rt.alloc(), 1, 4)?;
+    ]
+}
+
+// A restart loses what was performed behind the last checkpoint, and wires that were sent before it
+// aren't answered; what is redone finds room beyond the limit.
+#[test]
+fn a_restart_goes_back_to_the_checkpoint(rt: HostRuntime) {
+    let old = old_wire();
+    let mut dc = new_dc(&rt, rt.alloc(), 1, 4);
     is_performed(&rt, &mut dc, &old);
     went_back(&rt, &mut dc);
-    each_wire_is_said(&rt, &mut dc, &wires);
-    let rows = dc.rows().len();
+    each_wire_is_said(&rt, &mut dc, &wires_behind(old));
+    is_same(&rt, dc.rows().len(), 2);
     drop(dc);
-    assert_eq!(rt; rows, 2);
-    Ok(())
 }
 
 // Inserted in another order.
@@ -202,23 +216,22 @@ fn have_risen(rt: &impl Abort, dc: &Dc) {
         (record(5), value(9)),
         (record(7), value(9)),
     ];
-    assert_eq!(rt; dc.rows(), want.as_slice());
+    is_same(rt, dc.rows(), want.as_slice());
 }
 
 fn are_back(rt: &impl Abort, dc: &mut Dc) {
-    assert_eq!(rt; (dc.checkpoint(), dc.restart().is_ok()), (0, true));
+    is_same(rt, (dc.checkpoint(), dc.restart().is_ok()), (0, true));
     have_risen(rt, dc);
     let found = (dc.get(&record(3)), dc.get(&record(4)));
-    assert_eq!(rt; found, (Some(value(2)), None));
+    is_same(rt, found, (Some(value(2)), None));
 }
 
 // Inserted in another order, the rows rise; a restart brings them back.
 #[test]
-fn rows_rise(rt: HostRuntime) -> Result<(), Fail> {
-    let mut dc = Dc::new(rt.alloc(), 4, 8)?;
+fn rows_rise(rt: HostRuntime) {
+    let mut dc = new_dc(&rt, rt.alloc(), 4, 8);
     are_inserted(&rt, &mut dc);
     have_risen(&rt, &dc);
     are_back(&rt, &mut dc);
     drop(dc);
-    Ok(())
 }

@@ -1,5 +1,6 @@
 //! `verify` beside the pass with a row of kinds for every slot.
 
+use crate::checks::is_same;
 use crate::plain_verify::plain_verify;
 use access_slots::decl::Decl;
 use access_slots::slot::{Key, Mode, Slot};
@@ -10,73 +11,68 @@ use bpf_encoding::insn::{
     SignedSize, Size, Source, Width,
 };
 use register_kinds::kind::Violation;
-use std::alloc::{AllocError, Global};
+use std::alloc::Global;
 use std::process::Abort;
-use std::test::Fail;
 use verifier::verify::{VerifyFault, verify};
 
-// A declaration of so many arguments and of two slots, the second for reading alone.
-pub(crate) fn decl(args: u8) -> Result<Decl, Fail> {
-    let slot = |mode, key| Slot {
+fn slot(mode: Mode, key: Key) -> Slot {
+    Slot {
         mode,
         dc: 0,
         table: 0,
         key,
-    };
-    Ok(Decl::new(
+    }
+}
+
+/// A declaration of so many arguments and of these slots.
+pub(crate) fn declared(rt: &impl Abort, args: u8, slots: &[Slot]) -> Decl {
+    Decl::new(args, slots).expect(rt, "not declared")
+}
+
+// A declaration of so many arguments and of two slots, the second for reading alone.
+pub(crate) fn decl(rt: &impl Abort, args: u8) -> Decl {
+    declared(
+        rt,
         args,
         &[
             slot(Mode::Write, Key::Fixed(1)),
             slot(Mode::Read, Key::Fixed(2)),
         ],
-    )?)
+    )
 }
 
 // The first violation, and at which slot; or none.
 type Found = Option<(usize, Violation)>;
 
 // What `verify` finds first.
-fn found_by_verify(alloc: Global, code: Code, decl: Decl) -> Result<Found, Fail> {
+fn found_by_verify(rt: &impl Abort, alloc: Global, code: Code, decl: Decl) -> Found {
     match verify(alloc, code, decl) {
-        Ok(_) => Ok(None),
-        Err(VerifyFault::At(slot, violation)) => Ok(Some((slot, violation))),
-        Err(fault) => Err(fault)?,
+        Ok(verified) => {
+            drop(verified);
+            None
+        }
+        Err(VerifyFault::At(slot, violation)) => Some((slot, violation)),
+        Err(fault) => panic!(rt; "{fault:?}"),
     }
 }
 
 // What each of both passes finds first.
-fn found_by_both(alloc: Global, insns: &[Insn], decl: Decl) -> Result<(Found, Found), Fail> {
-    let code = Code::from_insns(alloc, insns)?;
-    let plain = plain_verify(alloc, code.places(), &decl)?;
-    Ok((plain, found_by_verify(alloc, code, decl)?))
+fn found_by_both(rt: &impl Abort, alloc: Global, insns: &[Insn], decl: Decl) -> (Found, Found) {
+    let code = Code::from_insns(alloc, insns).expect(rt, "no code");
+    let plain = plain_verify(alloc, code.places(), &decl).expect(rt, "no plain verdict");
+    (plain, found_by_verify(rt, alloc, code, decl))
 }
 
-// Whether both passes find the same, where so many arguments and two slots are declared.
-fn agree(alloc: Global, insns: &[Insn], args: u8) -> Result<bool, Fail> {
-    let (plain, found) = found_by_both(alloc, insns, decl(args)?)?;
-    Ok(plain == found)
+// Both passes find the same in the code with this number, where so many arguments and two slots are declared.
+fn agree(rt: &impl Abort, alloc: Global, insns: &[Insn], args: u8, number: u32) {
+    let (plain, found) = found_by_both(rt, alloc, insns, decl(rt, args));
+    is_same(rt, (number, found), (number, plain));
 }
 
-// Whether this is what both passes find.
-fn both_find(alloc: Global, insns: &[Insn], decl: Decl, wanted: Found) -> Result<bool, Fail> {
-    let (plain, found) = found_by_both(alloc, insns, decl)?;
-    Ok(plain == wanted && found == wanted)
-}
-
-// Whether both passes accept the code.
-fn both_accept(alloc: Global, insns: &[Insn], decl: Decl) -> Result<bool, Fail> {
-    both_find(alloc, insns, decl, None)
-}
-
-// Whether both passes refuse the code at this slot, with this violation.
-fn both_refuse(
-    alloc: Global,
-    insns: &[Insn],
-    decl: Decl,
-    slot: usize,
-    violation: Violation,
-) -> Result<bool, Fail> {
-    both_find(alloc, insns, decl, Some((slot, violation)))
+// This is what both passes find.
+fn both_find(rt: &impl Abort, alloc: Global, insns: &[Insn], decl: Decl, wanted: Found) {
+    let found = found_by_both(rt, alloc, insns, decl);
+    is_same(rt, (insns, found), (insns, (wanted, wanted)));
 }
 
 // Five instructions, of which codes of four slots are made.
@@ -102,7 +98,7 @@ fn small_insn(number: u32) -> Insn {
 }
 
 #[test]
-fn codes_of_four_slots(rt: HostRuntime) -> Result<(), Fail> {
+fn codes_of_four_slots(rt: HostRuntime) {
     for n in 0..625u32 {
         let code = [
             small_insn(n),
@@ -110,9 +106,8 @@ fn codes_of_four_slots(rt: HostRuntime) -> Result<(), Fail> {
             small_insn(n / 25),
             small_insn(n / 125),
         ];
-        assert!(rt; agree(rt.alloc(), &code, 0)?, "code {n}");
+        agree(&rt, rt.alloc(), &code, 0, n);
     }
-    Ok(())
 }
 
 // Numbers at random (Marsaglia's xorshift, 2003).
@@ -322,33 +317,37 @@ impl Draw {
     }
 }
 
+fn push(rt: &impl Abort, code: &mut Vec<Insn>, insn: Insn) {
+    code.push(insn).expect(rt, "no room");
+}
+
 // Code of 2 to 64 slots and some more behind them: registers are written, anything follows, and
 // the end is an exit.
-fn drawn_code(alloc: Global, draw: &mut Draw) -> Result<Vec<Insn>, AllocError> {
+fn drawn_code(rt: &impl Abort, alloc: Global, draw: &mut Draw) -> Vec<Insn> {
     let mut code = Vec::new(alloc);
     for register in [Register::R0, Register::R1, Register::R2, Register::R6] {
         if draw.below(4) != 0 {
             let source = draw.source();
-            code.push(Insn::Alu(Width::Bits64, Operation::Mov, register, source))?;
+            let insn = Insn::Alu(Width::Bits64, Operation::Mov, register, source);
+            push(rt, &mut code, insn);
         }
     }
     for _ in 0..1 + draw.below(58) {
-        code.push(draw.insn())?;
+        push(rt, &mut code, draw.insn());
     }
-    code.push(Insn::Exit)?;
-    Ok(code)
+    push(rt, &mut code, Insn::Exit);
+    code
 }
 
 #[test]
-fn codes_at_random(rt: HostRuntime) -> Result<(), Fail> {
+fn codes_at_random(rt: HostRuntime) {
     let mut draw = Draw {
         state: 0x9e37_79b9_7f4a_7c15,
     };
     for n in 0..20_000u32 {
-        let code = drawn_code(rt.alloc(), &mut draw)?;
-        assert!(rt; agree(rt.alloc(), &code, 2)?, "code {n}");
+        let code = drawn_code(&rt, rt.alloc(), &mut draw);
+        agree(&rt, rt.alloc(), code.as_slice(), 2, n);
     }
-    Ok(())
 }
 
 pub(crate) fn constant(register: Register, imm: i32) -> Insn {
@@ -396,12 +395,7 @@ pub(crate) fn atomic(
 
 // A slot whose key is an argument.
 fn keyed(mode: Mode, argument: u8) -> Slot {
-    Slot {
-        mode,
-        dc: 0,
-        table: 0,
-        key: Key::Arg(argument),
-    }
+    slot(mode, Key::Arg(argument))
 }
 
 // Inserts a record with a number.
@@ -475,27 +469,23 @@ fn move_amount() -> [Insn; 22] {
 }
 
 /// Both passes accept the code.
-pub(crate) fn accepted(
-    rt: &impl Abort,
-    alloc: Global,
-    insns: &[Insn],
-    decl: Decl,
-) -> Result<(), Fail> {
-    let accept = both_accept(alloc, insns, decl)?;
-    assert!(rt; accept, "{insns:?}");
-    Ok(())
+pub(crate) fn accepted(rt: &impl Abort, alloc: Global, insns: &[Insn], decl: Decl) {
+    both_find(rt, alloc, insns, decl, None);
+}
+
+// The same where so many arguments and these slots are declared.
+fn accepted_with(rt: &impl Abort, alloc: Global, insns: &[Insn], args: u8, slots: &[Slot]) {
+    accepted(rt, alloc, insns, declared(rt, args, slots));
 }
 
 #[test]
-fn procedures(rt: HostRuntime) -> Result<(), Fail> {
-    let written = Decl::new(2, &[keyed(Mode::Write, 0)])?;
-    accepted(&rt, rt.alloc(), &put(), written)?;
-    let read = Decl::new(1, &[keyed(Mode::Read, 0)])?;
-    accepted(&rt, rt.alloc(), &get(), read)?;
-    let updated = Decl::new(1, &[keyed(Mode::Write, 0)])?;
-    accepted(&rt, rt.alloc(), &bad(), updated)?;
+fn procedures(rt: HostRuntime) {
+    let (read, write) = ([keyed(Mode::Read, 0)], [keyed(Mode::Write, 0)]);
+    accepted_with(&rt, rt.alloc(), &put(), 2, &write);
+    accepted_with(&rt, rt.alloc(), &get(), 1, &read);
+    accepted_with(&rt, rt.alloc(), &bad(), 1, &write);
     let two = [keyed(Mode::Write, 0), keyed(Mode::Write, 1)];
-    accepted(&rt, rt.alloc(), &move_amount(), Decl::new(3, &two)?)
+    accepted_with(&rt, rt.alloc(), &move_amount(), 3, &two);
 }
 
 /// Both passes refuse the code at this slot, with this violation.
@@ -504,11 +494,9 @@ pub(crate) fn refused_of(
     alloc: Global,
     insns: &[Insn],
     decl: Decl,
-    (slot, violation): (usize, Violation),
-) -> Result<(), Fail> {
-    let refuse = both_refuse(alloc, insns, decl, slot, violation)?;
-    assert!(rt; refuse, "{violation:?} at {slot} of {insns:?}");
-    Ok(())
+    found: (usize, Violation),
+) {
+    both_find(rt, alloc, insns, decl, Some(found));
 }
 
 // The same where so many arguments and these slots are declared.
@@ -518,20 +506,20 @@ fn refused_with(
     insns: &[Insn],
     (args, slots): (u8, &[Slot]),
     found: (usize, Violation),
-) -> Result<(), Fail> {
-    refused_of(rt, alloc, insns, Decl::new(args, slots)?, found)
+) {
+    refused_of(rt, alloc, insns, declared(rt, args, slots), found);
 }
 
 // Each of the four goes wrong where its declaration is turned in one place.
 #[test]
-fn procedures_of_other_declarations(rt: HostRuntime) -> Result<(), Fail> {
+fn procedures_of_other_declarations(rt: HostRuntime) {
     let alloc = rt.alloc();
     let write = [keyed(Mode::Write, 0)];
-    refused_with(&rt, alloc, &put(), (1, &write), (0, Violation::OutOfBounds))?;
-    refused_with(&rt, alloc, &get(), (1, &[]), (1, Violation::SlotUnknown))?;
+    refused_with(&rt, alloc, &put(), (1, &write), (0, Violation::OutOfBounds));
+    refused_with(&rt, alloc, &get(), (1, &[]), (1, Violation::SlotUnknown));
     let read = [keyed(Mode::Read, 0)];
-    refused_with(&rt, alloc, &bad(), (1, &read), (5, Violation::ModeTooWeak))?;
+    refused_with(&rt, alloc, &bad(), (1, &read), (5, Violation::ModeTooWeak));
     let one_read = [keyed(Mode::Write, 0), keyed(Mode::Read, 1)];
     let found = (18, Violation::ModeTooWeak);
-    refused_with(&rt, alloc, &move_amount(), (3, &one_read), found)
+    refused_with(&rt, alloc, &move_amount(), (3, &one_read), found);
 }

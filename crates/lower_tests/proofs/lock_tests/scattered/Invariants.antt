@@ -4,4 +4,4 @@ use Rattle.lower_tests.proofs.lock_tests.scattered.Given as goal
 
 -- who is still to come holds nothing
 abbrev pub invariant-txns : goal.invariant-txns
-invariant-txns l = (t : ℕ) → l.txn ≤ t → HoldsNothing (held_by l.map) t
+invariant-txns g l = (t : ℕ) → l.txn ≤ t → HoldsNothing (held_by l.map) t
