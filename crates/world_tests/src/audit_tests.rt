@@ -1,5 +1,6 @@
 // The audit of short logs, and the least record that is off.
 
+use crate::checks::is_same;
 use access_slots::op::{Op, Said, Wire};
 use access_slots::slot::{Record, Value};
 use audit::auditing::{AuditFault, Audited, audit};
@@ -8,9 +9,8 @@ use data_component::dc::Dc;
 use indexmap::IndexMap;
 use lock_table::table::LockTable;
 use samples::{LogRecord, loaded, log_bytes, record, value};
-use std::alloc::{AllocError, Global};
+use std::alloc::Global;
 use std::process::Abort;
-use std::test::Fail;
 use tc_core::state::TcState;
 use tc_log::log::Log;
 
@@ -38,12 +38,9 @@ const AGAIN: [LogRecord; 8] = [
 ];
 
 // The log that these records are.
-fn log_of(alloc: Global, records: &[LogRecord]) -> Result<Option<Log>, AllocError> {
-    let bytes = log_bytes(alloc, records)?;
-    match Log::read(alloc, bytes.as_slice()) {
-        Ok(log) => Ok(Some(log)),
-        Err(_) => Ok(None),
-    }
+fn log_of(rt: &impl Abort, alloc: Global, records: &[LogRecord]) -> Log {
+    let bytes = log_bytes(alloc, records).expect(rt, "no bytes");
+    Log::read(alloc, bytes.as_slice()).expect(rt, "not read")
 }
 
 // Performs an insert under 5 as number 1.
@@ -55,61 +52,37 @@ fn insert(rt: &impl Abort, dc: &mut Dc, number: u64) {
         redo: false,
         op: Op::Insert(record(5), value(number)),
     };
-    match dc.perform(&wire) {
-        Some(reply) => assert_eq!(rt; reply.said, Said::Done(None)),
-        None => assert!(rt; false, "no reply"),
-    }
+    let reply = dc.perform(&wire).expect(rt, "no reply");
+    is_same(rt, reply.said, Said::Done(None));
 }
 
 // A data component, in which this number is inserted, where one is.
-fn dc_with(rt: &impl Abort, alloc: Global, number: Option<u64>) -> Result<Dc, AllocError> {
-    let mut dc = Dc::new(alloc, 4, 4)?;
+fn dc_with(rt: &impl Abort, alloc: Global, number: Option<u64>) -> Dc {
+    let mut dc = Dc::new(alloc, 4, 4).expect(rt, "no data component");
     if let Some(number) = number {
         insert(rt, &mut dc, number);
     }
-    Ok(dc)
+    dc
 }
 
-// What an audit says of a log and a data component, which goes.
-fn audited_beside(alloc: Global, tc: &TcState, log: &Log, dc: Dc) -> Result<Audited, AuditFault> {
-    let dcs = [dc];
-    let says = audit(alloc, tc.procs(), log, &dcs);
-    drop(dcs);
-    says
-}
-
-// The same of the log that these records are.
-fn audited_with(
-    alloc: Global,
-    tc: &TcState,
-    records: &[LogRecord],
-    dc: Dc,
-) -> Result<Result<Audited, AuditFault>, AllocError> {
-    match log_of(alloc, records) {
-        Ok(Some(log)) => {
-            let says = audited_beside(alloc, tc, &log, dc);
-            drop(log);
-            Ok(says)
-        }
-        _ => {
-            drop(dc);
-            Err(AllocError)
-        }
-    }
-}
-
-// The same of a data component in which this number is inserted, where one is.
-fn audited(
+// An audit says this of the log that these records are and a data component, which goes.
+fn says_beside(
     rt: &impl Abort,
     alloc: Global,
     tc: &TcState,
     records: &[LogRecord],
-    number: Option<u64>,
-) -> Result<Result<Audited, AuditFault>, AllocError> {
-    audited_with(alloc, tc, records, dc_with(rt, alloc, number)?)
+    dc: Dc,
+    wanted: Result<Audited, AuditFault>,
+) {
+    let log = log_of(rt, alloc, records);
+    let dcs = [dc];
+    let said = audit(alloc, tc.procs(), &log, &dcs);
+    drop(log);
+    drop(dcs);
+    is_same(rt, said, wanted);
 }
 
-// It says this of a log and one data component.
+// The same of a data component in which this number is inserted, where one is.
 fn says(
     rt: &impl Abort,
     alloc: Global,
@@ -117,37 +90,36 @@ fn says(
     records: &[LogRecord],
     number: Option<u64>,
     wanted: Result<Audited, AuditFault>,
-) -> Result<(), AllocError> {
-    let said = audited(rt, alloc, tc, records, number)?;
-    assert_eq!(rt; said, wanted);
-    Ok(())
+) {
+    let dc = dc_with(rt, alloc, number);
+    says_beside(rt, alloc, tc, records, dc, wanted);
 }
 
 // What it says of `put 5 100` ended, cut short, without its insert, and beside other data components.
-fn tells(rt: &impl Abort, alloc: Global, tc: &TcState) -> Result<(), AllocError> {
+fn tells(rt: &impl Abort, alloc: Global, tc: &TcState) {
     let ended = Audited { ended: 1, left: 0 };
     let open = Audited { ended: 0, left: 1 };
-    says(rt, alloc, tc, &PUT, Some(100), Ok(ended))?;
-    says(rt, alloc, tc, &PUT[..3], Some(100), Ok(open))?;
+    says(rt, alloc, tc, &PUT, Some(100), Ok(ended));
+    says(rt, alloc, tc, &PUT[..3], Some(100), Ok(open));
     // the list has it, the log doesn't
     let not_asked = AuditFault::NotAsked(0, 0);
-    says(rt, alloc, tc, &PUT[..1], Some(100), Err(not_asked))?;
+    says(rt, alloc, tc, &PUT[..1], Some(100), Err(not_asked));
     // it may have been performed before it is answered
-    says(rt, alloc, tc, &PUT[..2], Some(100), Ok(open))?;
-    says(rt, alloc, tc, &PUT, None, Err(AuditFault::Mismatch(1)))?;
-    says(rt, alloc, tc, &PUT, Some(99), Err(not_asked))?;
+    says(rt, alloc, tc, &PUT[..2], Some(100), Ok(open));
+    says(rt, alloc, tc, &PUT, None, Err(AuditFault::Mismatch(1)));
+    says(rt, alloc, tc, &PUT, Some(99), Err(not_asked));
     let illegal = AuditFault::LogIllegal(1);
-    says(rt, alloc, tc, &NO_INSERT, None, Err(illegal))
+    says(rt, alloc, tc, &NO_INSERT, None, Err(illegal));
 }
 
 // A data component with the record that has restarted, and kept it if it had a checkpoint.
-fn restarted_dc(rt: &impl Abort, alloc: Global, keeps: bool) -> Result<Dc, AllocError> {
-    let mut dc = dc_with(rt, alloc, Some(100))?;
+fn restarted_dc(rt: &impl Abort, alloc: Global, keeps: bool) -> Dc {
+    let mut dc = dc_with(rt, alloc, Some(100));
     if keeps {
         dc.checkpoint();
     }
-    assert!(rt; dc.restart().is_ok());
-    Ok(dc)
+    is_same(rt, dc.restart().is_ok(), true);
+    dc
 }
 
 // It says this of two puts of one record and such a data component.
@@ -157,64 +129,49 @@ fn says_behind(
     tc: &TcState,
     keeps: bool,
     wanted: Result<Audited, AuditFault>,
-) -> Result<(), AllocError> {
-    let dc = restarted_dc(rt, alloc, keeps)?;
-    let said = audited_with(alloc, tc, &AGAIN, dc)?;
-    assert_eq!(rt; said, wanted);
-    Ok(())
+) {
+    let dc = restarted_dc(rt, alloc, keeps);
+    says_beside(rt, alloc, tc, &AGAIN, dc, wanted);
 }
 
 // Behind a restart an insert that found the record there may be missing, and one that was done may
 // not; without a restart neither may.
-fn tells_of_restarts(rt: &impl Abort, alloc: Global, tc: &TcState) -> Result<(), AllocError> {
+fn tells_of_restarts(rt: &impl Abort, alloc: Global, tc: &TcState) {
     let ended = Audited { ended: 2, left: 0 };
-    says_behind(rt, alloc, tc, true, Ok(ended))?;
-    says_behind(rt, alloc, tc, false, Err(AuditFault::Mismatch(1)))?;
+    says_behind(rt, alloc, tc, true, Ok(ended));
+    says_behind(rt, alloc, tc, false, Err(AuditFault::Mismatch(1)));
     let missing = AuditFault::Mismatch(2);
-    says(rt, alloc, tc, &AGAIN, Some(100), Err(missing))
+    says(rt, alloc, tc, &AGAIN, Some(100), Err(missing));
 }
 
 #[test]
-fn restarted(rt: HostRuntime) -> Result<(), Fail> {
-    let tc = loaded(rt.alloc(), 1).ok_or("not loaded")?;
-    let told = tells_of_restarts(&rt, rt.alloc(), &tc);
+fn restarted(rt: HostRuntime) {
+    let tc = loaded(rt.alloc(), 1).expect(&rt, "not loaded");
+    tells_of_restarts(&rt, rt.alloc(), &tc);
     drop(tc);
-    Ok(told?)
 }
 
 #[test]
-fn short_logs(rt: HostRuntime) -> Result<(), Fail> {
-    let tc = loaded(rt.alloc(), 1).ok_or("not loaded")?;
-    let told = tells(&rt, rt.alloc(), &tc);
+fn short_logs(rt: HostRuntime) {
+    let tc = loaded(rt.alloc(), 1).expect(&rt, "not loaded");
+    tells(&rt, rt.alloc(), &tc);
     drop(tc);
-    Ok(told?)
 }
 
 type Values = IndexMap<Record, Value>;
 
-fn insert_two(values: &mut Values) -> Result<(), AllocError> {
-    for key in [7, 6] {
-        if values.insert(record(key), value(1)).is_err() {
-            return Err(AllocError);
-        }
-    }
-    Ok(())
-}
-
 // Values under 7 and 6.
-fn two_values(alloc: Global) -> Result<Values, AllocError> {
+fn two_values(rt: &impl Abort, alloc: Global) -> Values {
     let mut values: Values = IndexMap::new(alloc);
-    match insert_two(&mut values) {
-        Ok(()) => Ok(values),
-        Err(fault) => {
-            drop(values);
-            Err(fault)
-        }
+    for key in [7, 6] {
+        is_same(rt, values.insert(record(key), value(1)).is_ok(), true);
     }
+    values
 }
 
-// What least_off says of these values, with nothing locked.
-fn least_of(alloc: Global, values: Values, dcs: &[Dc]) -> Option<Record> {
+// What least_off says of the two, with nothing locked.
+fn least_beside(rt: &impl Abort, alloc: Global, dcs: &[Dc]) -> Option<Record> {
+    let values = two_values(rt, alloc);
     let table = LockTable::new(alloc);
     let least = least_off(&values, &table, dcs);
     drop(table);
@@ -222,14 +179,11 @@ fn least_of(alloc: Global, values: Values, dcs: &[Dc]) -> Option<Record> {
     least
 }
 
-// The same of the two, and a data component with a row under 5, or none.
-fn least(rt: &impl Abort, alloc: Global, is_there: bool) -> Result<Option<Record>, AllocError> {
-    let dcs = [dc_with(rt, alloc, Some(100))?];
+// The same beside a data component with a row under 5, or none.
+fn least(rt: &impl Abort, alloc: Global, is_there: bool) -> Option<Record> {
+    let dcs = [dc_with(rt, alloc, Some(100))];
     let seen = if is_there { &dcs[..] } else { &dcs[..0] };
-    let least = match two_values(alloc) {
-        Ok(values) => Ok(least_of(alloc, values, seen)),
-        Err(fault) => Err(fault),
-    };
+    let least = least_beside(rt, alloc, seen);
     drop(dcs);
     least
 }
@@ -237,8 +191,7 @@ fn least(rt: &impl Abort, alloc: Global, is_there: bool) -> Result<Option<Record
 // Of records that aren't as they should be, the least: one that is present and shouldn't be, or one
 // that isn't and should.
 #[test]
-fn least_record(rt: HostRuntime) -> Result<(), Fail> {
-    assert!(rt; least(&rt, rt.alloc(), true)? == Some(record(5)));
-    assert!(rt; least(&rt, rt.alloc(), false)? == Some(record(6)));
-    Ok(())
+fn least_record(rt: HostRuntime) {
+    is_same(&rt, least(&rt, rt.alloc(), true), Some(record(5)));
+    is_same(&rt, least(&rt, rt.alloc(), false), Some(record(6)));
 }

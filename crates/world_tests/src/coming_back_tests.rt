@@ -3,20 +3,20 @@
 ghost use Rattle.std.specs.List.{All};
 ghost use Rattle.coming_back.specs.Coming.{IsEmpty};
 
-use crate::step_tests::{closed, new_dcs, world};
+use crate::checks::is_same;
+use crate::step_tests::{admit, closed, is_carried, new_dcs, sent, stepped, world};
 use access_slots::slot::Value;
 use audit::auditing::audit;
 use coming_back::{ComeBackFault, Resumed, come_back};
 use data_component::dc::Dc;
-use samples::{BAD, MOVE, PUT, call, loaded, record, value};
-use std::alloc::{AllocError, Global};
+use samples::{BAD, MOVE, PUT, loaded, record, value};
+use std::alloc::Global;
 use std::process::Abort;
-use std::test::Fail;
 use tc_core::checking::CheckFault;
 use tc_core::recovery::RecoverFault;
 use tc_core::state::TcState;
 use tc_log::log::Log;
-use tc_world::{Outcome, Step, World};
+use tc_world::{Step, World};
 
 const RECORD: usize = 96;
 
@@ -27,73 +27,59 @@ const PUTS: usize = 12;
 const SMALL: usize = 2;
 
 // A wire is sent by the step, and comes to its component, and the reply back.
-fn carried(world: &mut World, step: &Step) -> bool {
-    let Ok(Outcome::Sent(copy, _)) = world.step(step) else {
-        return false;
-    };
-    let Ok(Outcome::Replied(reply, _)) = world.step(&Step::Perform(copy)) else {
-        return false;
-    };
-    world.step(&Step::Take(reply)).is_ok()
+fn carried(world: &mut World, step: Step) -> bool {
+    match sent(world, step) {
+        Some(place) => is_carried(world, place),
+        None => false,
+    }
+}
+
+// One operation of the transaction, where it has one; else its end.
+fn moves(world: &mut World, txn: u64) {
+    if !carried(world, Step::Ask(txn)) && !carried(world, Step::Undo(txn)) {
+        let _ = stepped(world, Step::End(txn));
+    }
 }
 
 // One operation of each of both transactions, as long as they have one; then their ends.
 fn both_end(world: &mut World, one: u64, other: u64) {
     for _ in 0..20 {
-        for txn in [one, other] {
-            if !carried(world, &Step::Ask(txn)) && !carried(world, &Step::Undo(txn)) {
-                let _ = world.step(&Step::End(txn));
-            }
-        }
+        moves(world, one);
+        moves(world, other);
     }
 }
 
-// Three puts, one after another.
-fn puts(alloc: Global, world: &mut World) -> Result<(), AllocError> {
-    for (txn, key, number) in [(1, 5, 100), (2, 6, 50), (3, 7, 1)] {
-        let put = Step::Admit(call(alloc, PUT, &[key, number])?);
-        let _ = world.step(&put);
-        both_end(world, txn, txn);
-    }
-    Ok(())
+fn put_ends(rt: &impl Abort, alloc: Global, world: &mut World, txn: u64, args: &[u64]) {
+    let _ = stepped(world, admit(rt, alloc, (PUT, args)));
+    both_end(world, txn, txn);
 }
 
-// A move and a write that is undone, both open at once.
-fn two_at_once(alloc: Global, world: &mut World) -> Result<(), AllocError> {
-    let moved = Step::Admit(call(alloc, MOVE, &[5, 6, 10])?);
-    let bad = Step::Admit(call(alloc, BAD, &[7])?);
-    let _ = world.step(&moved);
-    let _ = world.step(&bad);
+// Three puts, one after another; then a move and a write that is undone, both open at once.
+fn live(rt: &impl Abort, alloc: Global, world: &mut World) {
+    put_ends(rt, alloc, world, 1, &[5, 100]);
+    put_ends(rt, alloc, world, 2, &[6, 50]);
+    put_ends(rt, alloc, world, 3, &[7, 1]);
+    let _ = stepped(world, admit(rt, alloc, (MOVE, &[5, 6, 10])));
+    let _ = stepped(world, admit(rt, alloc, (BAD, &[7])));
     both_end(world, 4, 5);
-    Ok(())
-}
-
-fn live(alloc: Global, world: &mut World) -> Result<(), AllocError> {
-    puts(alloc, world)?;
-    two_at_once(alloc, world)
 }
 
 // The bytes of the log behind the five calls.
-fn written(rt: &impl Abort, alloc: Global) -> Result<Vec<u8>, Fail> {
-    let mut world = world(rt, alloc)?;
-    let lived = live(alloc, &mut world);
-    let open = world.state().open_count();
-    let bytes = world.state().log().print(alloc);
+fn written(rt: &impl Abort, alloc: Global) -> Vec<u8> {
+    let mut world = world(rt, alloc);
+    live(rt, alloc, &mut world);
+    is_same(rt, world.state().open_count(), 0);
+    let bytes = world.state().log().print(alloc).expect(rt, "not printed");
     closed(world);
-    lived?;
-    assert_eq!(rt; open, 0);
-    Ok(bytes?)
+    bytes
 }
 
 // The log of so many of the first events.
-fn beginning(alloc: Global, bytes: &[u8], events: usize) -> Result<Log, Fail> {
+fn beginning(rt: &impl Abort, alloc: Global, bytes: &[u8], events: usize) -> Log {
     let first = bytes
         .get(..events.saturating_mul(RECORD))
-        .ok_or("too few events")?;
-    match Log::read(alloc, first) {
-        Ok(log) => Ok(log),
-        Err(_) => Err(Fail::from("not read")),
-    }
+        .expect(rt, "too few events");
+    Log::read(alloc, first).expect(rt, "not read")
 }
 
 // What came back: the state, its component, and what came of open transactions.
@@ -116,30 +102,19 @@ fn come(alloc: Global, mut state: TcState, mut dcs: Vec<Dc>, log: &Log) -> Back
     }
 }
 
-// From the log, with a component for so many operations.
-fn back_from(alloc: Global, log: &Log, ops: usize) -> Result<Back, Fail> {
-    let state = loaded(alloc, 1).ok_or("not loaded")?;
-    match new_dcs(alloc, ops) {
-        Ok(dcs) => Ok(come(alloc, state, dcs, log)),
-        Err(fault) => {
-            drop(state);
-            Err(Fail::from(fault))
-        }
-    }
-}
-
-// From so many of the first events.
-fn brought_back(alloc: Global, bytes: &[u8], events: usize, ops: usize) -> Result<Back, Fail> {
-    let log = beginning(alloc, bytes, events)?;
-    let back = back_from(alloc, &log, ops);
+// From so many of the first events, with a component for so many operations.
+fn brought_back(rt: &impl Abort, alloc: Global, bytes: &[u8], events: usize, ops: usize) -> Back {
+    let log = beginning(rt, alloc, bytes, events);
+    let state = loaded(alloc, 1).expect(rt, "not loaded");
+    let back = come(alloc, state, new_dcs(rt, alloc, ops), &log);
     drop(log);
     back
 }
 
 // From so many of the events of the five calls.
-fn behind(rt: &impl Abort, alloc: Global, events: usize, ops: usize) -> Result<Back, Fail> {
-    let bytes = written(rt, alloc)?;
-    let back = brought_back(alloc, bytes.as_slice(), events, ops);
+fn behind(rt: &impl Abort, alloc: Global, events: usize, ops: usize) -> Back {
+    let bytes = written(rt, alloc);
+    let back = brought_back(rt, alloc, bytes.as_slice(), events, ops);
     drop(bytes);
     back
 }
@@ -158,7 +133,7 @@ fn expected(events: usize, admitted_at: usize, then: u64, before: Option<Value>)
 }
 
 fn row_is(rt: &impl Abort, dcs: &[Dc], key: u64, wanted: Option<Value>, events: usize) {
-    assert_eq!(rt; row(dcs, key), wanted, "behind {events} events");
+    is_same(rt, (events, row(dcs, key)), (events, wanted));
 }
 
 fn rows_are(rt: &impl Abort, dcs: &[Dc], events: usize) {
@@ -179,42 +154,40 @@ fn all_ended(resumed: &Result<Vec<Resumed>, ComeBackFault>) -> bool {
 
 fn is_sound(rt: &impl Abort, alloc: Global, state: &TcState, dcs: &[Dc], events: usize) {
     let audited = audit(alloc, state.procs(), state.log(), dcs);
-    assert!(rt; audited.is_ok(), "behind {events} events");
+    is_same(rt, (events, audited.is_ok()), (events, true));
 }
 
 fn is_back(rt: &impl Abort, alloc: Global, back: &Back, events: usize) {
-    assert!(rt; all_ended(&back.resumed), "behind {events} events");
-    assert_eq!(rt; back.state.open_count(), 0, "behind {events} events");
+    let ended = (all_ended(&back.resumed), back.state.open_count());
+    is_same(rt, (events, ended), (events, (true, 0)));
     rows_are(rt, &back.dcs, events);
     is_sound(rt, alloc, &back.state, &back.dcs, events);
 }
 
-fn comes_back(rt: &impl Abort, alloc: Global, bytes: &[u8], events: usize) -> Result<(), Fail> {
-    let back = brought_back(alloc, bytes, events, 100)?;
+fn comes_back(rt: &impl Abort, alloc: Global, bytes: &[u8], events: usize) {
+    let back = brought_back(rt, alloc, bytes, events, 100);
     is_back(rt, alloc, &back, events);
     drop(back);
-    Ok(())
 }
 
 #[test]
-fn each_beginning_comes_back(rt: HostRuntime) -> Result<(), Fail> {
+fn each_beginning_comes_back(rt: HostRuntime) {
     let alloc = rt.alloc();
-    let bytes = written(&rt, alloc)?;
+    let bytes = written(&rt, alloc);
     let events = bytes.len() / RECORD;
-    assert!(rt; events > PUTS);
+    is_same(&rt, events > PUTS, true);
     for count in 0..=events {
-        comes_back(&rt, alloc, &bytes, count)?;
+        comes_back(&rt, alloc, bytes.as_slice(), count);
     }
-    Ok(())
 }
 
 fn two_are_named(rt: &impl Abort, resumed: &[Resumed]) {
     match resumed {
         [Resumed::Ended(one), Resumed::Ended(other)] => {
-            assert_eq!(rt; (one.txn, other.txn), (4, 5));
-            assert!(rt; one.place < other.place);
+            let is_earlier = one.place < other.place;
+            is_same(rt, (one.txn, other.txn, is_earlier), (4, 5, true));
         }
-        _ => assert!(rt; false, "not both ended"),
+        _ => panic!(rt; "not both ended"),
     }
 }
 
@@ -228,18 +201,17 @@ fn resumed_in<'a>(rt: &impl Abort, back: &'a Back) -> &'a [Resumed] {
 
 // Behind the admissions of both transactions both are resumed.
 #[test]
-fn two_that_were_open_are_named(rt: HostRuntime) -> Result<(), Fail> {
-    let back = behind(&rt, rt.alloc(), PUTS + 2, 100)?;
+fn two_that_were_open_are_named(rt: HostRuntime) {
+    let back = behind(&rt, rt.alloc(), PUTS + 2, 100);
     two_are_named(&rt, resumed_in(&rt, &back));
     drop(back);
-    Ok(())
 }
 
-// Whether it didn't come back for this.
-fn is_fault(back: &Back, fault: ComeBackFault) -> bool {
+// It didn't come back for this.
+fn is_refused(rt: &impl Abort, back: &Back, wanted: ComeBackFault) {
     match &back.resumed {
-        Ok(_) => false,
-        Err(found) => *found == fault,
+        Ok(_) => panic!(rt; "it came back"),
+        Err(fault) => is_same(rt, *fault, wanted),
     }
 }
 
@@ -251,45 +223,36 @@ fn without_the_third(bytes: &mut Vec<u8>) {
     }
 }
 
-fn back_from_a_log_that_is_off(rt: &impl Abort, alloc: Global) -> Result<Back, Fail> {
-    let mut bytes = written(rt, alloc)?;
-    without_the_third(&mut bytes);
-    let back = brought_back(alloc, bytes.as_slice(), PUTS - 1, 100);
-    drop(bytes);
-    back
-}
-
 // A log whose third event is missing isn't legal from there on.
 #[test]
-fn a_log_that_is_off_is_refused(rt: HostRuntime) -> Result<(), Fail> {
-    let back = back_from_a_log_that_is_off(&rt, rt.alloc())?;
+fn a_log_that_is_off_is_refused(rt: HostRuntime) {
+    let mut bytes = written(&rt, rt.alloc());
+    without_the_third(&mut bytes);
+    let back = brought_back(&rt, rt.alloc(), bytes.as_slice(), PUTS - 1, 100);
     let fault = ComeBackFault::Recover(RecoverFault::Unfit(CheckFault::LogIllegal(2)));
-    assert!(rt; is_fault(&back, fault));
-    assert!(rt; back.state.log().is_empty());
+    is_refused(&rt, &back, fault);
+    is_same(&rt, back.state.log().is_empty(), true);
     drop(back);
-    Ok(())
 }
 
 // A component for fewer operations than are redone.
 #[test]
-fn a_component_that_is_too_small_is_refused(rt: HostRuntime) -> Result<(), Fail> {
-    let back = behind(&rt, rt.alloc(), PUTS, SMALL)?;
-    assert!(rt; is_fault(&back, ComeBackFault::NoRoom(0)));
+fn a_component_that_is_too_small_is_refused(rt: HostRuntime) {
+    let back = behind(&rt, rt.alloc(), PUTS, SMALL);
+    is_refused(&rt, &back, ComeBackFault::NoRoom(0));
     drop(back);
-    Ok(())
 }
 
 fn one_is_in_doubt(rt: &impl Abort, back: &Back) {
     let doubt = Resumed::InDoubt { txn: 4, number: 4 };
-    assert_eq!(rt; resumed_in(rt, back), [doubt].as_slice());
-    assert_eq!(rt; back.state.open_count(), 1);
+    is_same(rt, resumed_in(rt, back), [doubt].as_slice());
+    is_same(rt, back.state.open_count(), 1);
 }
 
 // One for no more operations than are redone: what goes on is in doubt.
 #[test]
-fn what_finds_no_room_is_in_doubt(rt: HostRuntime) -> Result<(), Fail> {
-    let back = behind(&rt, rt.alloc(), PUTS + 1, 3)?;
+fn what_finds_no_room_is_in_doubt(rt: HostRuntime) {
+    let back = behind(&rt, rt.alloc(), PUTS + 1, 3);
     one_is_in_doubt(&rt, &back);
     drop(back);
-    Ok(())
 }

@@ -10,11 +10,15 @@
 //! | `memory_tests` | `tc_world`: steps that are refused memory |
 //! | `audit_tests` | `audit`: short logs and what it says of them |
 //!
+//! What they compare stands in `checks`.
+//!
 //! `rt test world_tests` proves and runs these; `tools/requests.py` runs them with memory refused.
 #![tactic(auto)]
 
 #[cfg(test)]
 mod audit_tests;
+#[cfg(test)]
+mod checks;
 #[cfg(test)]
 mod coming_back_tests;
 #[cfg(test)]

@@ -1,13 +1,13 @@
 // Steps of a world that are refused memory once, and are then taken again: what they were refused on is
 // as before. tools/requests.py refuses each request in turn.
 
-use crate::step_tests::{closed, is_same, opened};
+use crate::checks::is_same;
+use crate::step_tests::{closed, opened};
 use access_slots::op::{Reply, Said};
 use data_component::dc::Dc;
 use samples::{PUT, call, loaded, record, value};
 use std::alloc::{AllocError, Global};
 use std::process::Abort;
-use std::test::Fail;
 use tc_core::state::{Call, Receipt, Refusal, TcState};
 use tc_log::event::Outcome as Ending;
 use tc_world::{Illegal, Outcome, Step, World};
@@ -45,39 +45,36 @@ fn room(alloc: Global) -> Result<Vec<Dc>, AllocError> {
 }
 
 // One data component.
-fn dcs(alloc: Global) -> Result<Vec<Dc>, AllocError> {
-    let dc = dc(alloc)?;
-    let mut dcs = match room(alloc) {
-        Ok(dcs) => dcs,
-        Err(fault) => {
-            drop(dc);
-            return Err(fault);
-        }
-    };
-    match dcs.push(dc) {
-        Ok(()) => Ok(dcs),
-        Err(fault) => {
-            drop(dcs);
-            Err(AllocError::from(fault))
-        }
-    }
+fn dcs(rt: &impl Abort, alloc: Global) -> Vec<Dc> {
+    let mut dcs = room(alloc).expect(rt, "no room");
+    let dc = dc(alloc).expect(rt, "no data component");
+    dcs.push(dc).expect(rt, "no room");
+    dcs
 }
 
-fn world(rt: &impl Abort, alloc: Global) -> Result<World, Fail> {
-    let state = state(alloc).ok_or("not loaded")?;
-    opened(rt, alloc, state, dcs(alloc))
+fn world(rt: &impl Abort, alloc: Global) -> World {
+    let state = state(alloc).expect(rt, "not loaded");
+    opened(rt, alloc, state, dcs(rt, alloc))
 }
 
-// No event of a step that is refused memory is logged.
-fn stepped(rt: &impl Abort, world: &mut World, step: &Step) -> Result<Outcome, Illegal> {
+// Whether a step was refused memory.
+fn lacks_memory(stepped: Result<Outcome, Illegal>) -> bool {
+    matches!(
+        stepped,
+        Err(Illegal::Memory | Illegal::Refused(Refusal::Memory))
+    )
+}
+
+// What comes of a step, which is taken again where it is refused memory; no event of it is logged then.
+fn stepped(rt: &impl Abort, world: &mut World, step: Step) -> Result<Outcome, Illegal> {
     let events = world.state().log().len();
-    match world.step(step) {
-        Err(Illegal::Memory) | Err(Illegal::Refused(Refusal::Memory)) => {
-            assert_eq!(rt; world.state().log().len(), events);
-            world.step(step)
-        }
-        stepped => stepped,
+    let mut stepped = world.step(&step);
+    if lacks_memory(stepped) {
+        is_same(rt, world.state().log().len(), events);
+        stepped = world.step(&step);
     }
+    drop(step);
+    stepped
 }
 
 // What a step did, as a word.
@@ -97,27 +94,27 @@ fn word(stepped: Result<Outcome, Illegal>) -> &'static str {
 }
 
 // The step goes so, and so many events are logged.
-fn goes(rt: &impl Abort, world: &mut World, step: &Step, outcome: &str, events: usize) {
+fn goes(rt: &impl Abort, world: &mut World, step: Step, outcome: &str, events: usize) {
     let word = word(stepped(rt, world, step));
-    assert_eq!(rt; (word, world.state().log().len()), (outcome, events));
+    is_same(rt, (word, world.state().log().len()), (outcome, events));
 }
 
 // A put up to its end.
-fn all_go(rt: &impl Abort, world: &mut World, admit: &Step) {
+fn all_go(rt: &impl Abort, world: &mut World, admit: Step) {
     goes(rt, world, admit, "admitted", 1);
-    goes(rt, world, &Step::Ask(1), "sent", 2);
-    goes(rt, world, &Step::Resend(1), "sent again", 2);
-    goes(rt, world, &Step::Perform(1), "reply", 2);
-    goes(rt, world, &Step::Perform(0), "reply again", 2);
+    goes(rt, world, Step::Ask(1), "sent", 2);
+    goes(rt, world, Step::Resend(1), "sent again", 2);
+    goes(rt, world, Step::Perform(1), "reply", 2);
+    goes(rt, world, Step::Perform(0), "reply again", 2);
     let reply = Reply {
         number: 1,
         incarnation: 0,
         said: Said::Absent,
     };
-    goes(rt, world, &Step::Forge(reply), "forged", 2);
-    goes(rt, world, &Step::Take(1), "took", 3);
-    goes(rt, world, &Step::Crash(3), "crashed", 3);
-    goes(rt, world, &Step::Ask(1), "over", 3);
+    goes(rt, world, Step::Forge(reply), "forged", 2);
+    goes(rt, world, Step::Take(1), "took", 3);
+    goes(rt, world, Step::Crash(3), "crashed", 3);
+    goes(rt, world, Step::Ask(1), "over", 3);
 }
 
 fn ends(rt: &impl Abort, world: &mut World) {
@@ -126,29 +123,23 @@ fn ends(rt: &impl Abort, world: &mut World) {
         txn: 1,
         outcome: Ending::Committed,
     };
-    let end = stepped(rt, world, &Step::End(1));
+    let end = stepped(rt, world, Step::End(1));
     is_same(rt, end, Ok(Outcome::Ended(receipt)));
 }
 
 // The record stands at each data component.
 fn is_put(rt: &impl Abort, world: &World) {
     for dc in world.dcs() {
-        assert_eq!(rt; dc.get(&record(5)), Some(value(100)));
+        is_same(rt, dc.get(&record(5)), Some(value(100)));
     }
 }
 
-fn put_goes(rt: &impl Abort, alloc: Global, world: &mut World) -> Result<(), AllocError> {
-    let admit = Step::Admit(put_call(alloc)?);
-    all_go(rt, world, &admit);
-    ends(rt, world);
-    is_put(rt, world);
-    Ok(())
-}
-
 #[test]
-fn steps_of_a_world(rt: HostRuntime) -> Result<(), Fail> {
-    let mut world = world(&rt, rt.alloc())?;
-    let passed = put_goes(&rt, rt.alloc(), &mut world);
+fn steps_of_a_world(rt: HostRuntime) {
+    let mut world = world(&rt, rt.alloc());
+    let put = put_call(rt.alloc()).expect(&rt, "no call");
+    all_go(&rt, &mut world, Step::Admit(put));
+    ends(&rt, &mut world);
+    is_put(&rt, &world);
     closed(world);
-    Ok(passed?)
 }

@@ -1,69 +1,37 @@
 // Each call once, where it succeeds.
 
-ghost use Rattle.std.specs.Prelude.{IfOk};
 ghost use Rattle.std.specs.List.{All};
 ghost use Rattle.coming_back.specs.Coming.{IsEmpty};
 
+use crate::checks::is_same;
 use access_slots::op::{Reply, Said};
 use data_component::dc::Dc;
 use samples::{PUT, call, loaded};
-use std::alloc::{AllocError, Global};
+use std::alloc::Global;
 use std::process::Abort;
-use std::test::Fail;
-use tc_core::state::{Call, Receipt, TcState};
+use tc_core::state::{Receipt, TcState};
 use tc_log::event::Outcome as Ending;
 use tc_world::{Illegal, Outcome, Step, World};
 
 /// One data component for so many operations, to which nothing has happened.
-pub(crate) fn new_dcs(alloc: Global, ops: usize) -> Result<Vec<Dc>, AllocError>
-    ensures { IfOk result (λ dcs. All IsEmpty dcs.items) }
+pub(crate) fn new_dcs(rt: &impl Abort, alloc: Global, ops: usize) -> Vec<Dc>
+    ensures { All IsEmpty result.items }
 {
-    let dc = Dc::new(alloc, 4, ops)?;
-    let mut dcs = Vec::new(alloc);
-    match dcs.push(dc) {
-        Ok(()) => Ok(dcs),
-        Err(fault) => {
-            drop(dcs);
-            Err(AllocError::from(fault))
-        }
-    }
+    let mut dcs = Vec::with_capacity(alloc, 1).expect(rt, "no room");
+    dcs.push_reserved(Dc::new(alloc, 4, ops).expect(rt, "no data component"));
+    dcs
 }
 
 /// A world of a state in which nothing is open, and of these data components.
-pub(crate) fn opened(
-    rt: &impl Abort,
-    alloc: Global,
-    state: TcState,
-    dcs: Result<Vec<Dc>, AllocError>,
-) -> Result<World, Fail> {
+pub(crate) fn opened(rt: &impl Abort, alloc: Global, state: TcState, dcs: Vec<Dc>) -> World {
     assert_eq!(rt; state.open_count(), 0);
-    match dcs {
-        Ok(dcs) => Ok(World::new(alloc, state, dcs)),
-        Err(fault) => {
-            drop(state);
-            Err(Fail::from(fault))
-        }
-    }
+    World::new(alloc, state, dcs)
 }
 
 /// One data component, and a transaction component that has the procedures.
-pub(crate) fn world(rt: &impl Abort, alloc: Global) -> Result<World, Fail> {
-    let state = loaded(alloc, 1).ok_or("not loaded")?;
-    opened(rt, alloc, state, new_dcs(alloc, 100))
-}
-
-/// A step did what it was to do.
-pub(crate) fn is_same(
-    rt: &impl Abort,
-    stepped: Result<Outcome, Illegal>,
-    wanted: Result<Outcome, Illegal>,
-) {
-    assert_eq!(rt; stepped, wanted);
-}
-
-/// Each of some steps was taken.
-pub(crate) fn all_went(rt: &impl Abort, ran: Result<(), (usize, Illegal)>) {
-    assert_eq!(rt; ran, Ok(()));
+pub(crate) fn world(rt: &impl Abort, alloc: Global) -> World {
+    let state = loaded(alloc, 1).expect(rt, "not loaded");
+    opened(rt, alloc, state, new_dcs(rt, alloc, 100))
 }
 
 /// Closes a world, and lets its parts go.
@@ -73,38 +41,113 @@ pub(crate) fn closed(world: World) {
     drop(dcs);
 }
 
-// The first transaction asks.
-fn is_asked(rt: &impl Abort, world: &mut World, admit: &Step) {
-    assert!(rt; matches!(world.step(admit), Ok(Outcome::Admitted(1))));
-    assert!(rt; matches!(world.step(&Step::Ask(1)), Ok(Outcome::Sent(0, _))));
+/// What a test does in a world, which is closed in this one place.
+pub(crate) fn in_world<R: Abort, F: FnOnce(&R, Global, &mut World)>(rt: &R, alloc: Global, test: F)
+    requires { F.IsAlwaysCallable test }
+{
+    let mut world = world(rt, alloc);
+    test(rt, alloc, &mut world);
+    closed(world);
+}
+
+/// Each of some steps was taken.
+pub(crate) fn all_went(rt: &impl Abort, ran: Result<(), (usize, Illegal)>) {
+    is_same(rt, ran, Ok(()));
+}
+
+/// What comes of a step, which is let go in this one place.
+pub(crate) fn stepped(world: &mut World, step: Step) -> Result<Outcome, Illegal> {
+    let stepped = world.step(&step);
+    drop(step);
+    stepped
+}
+
+/// The step does this.
+pub(crate) fn goes(rt: &impl Abort, world: &mut World, step: Step, outcome: Outcome) {
+    is_same(rt, stepped(world, step), Ok(outcome));
+}
+
+/// The step isn't possible.
+pub(crate) fn stops(rt: &impl Abort, world: &mut World, step: Step, why: Illegal) {
+    is_same(rt, stepped(world, step), Err(why));
+}
+
+/// The place of the wire that a step sends.
+pub(crate) fn sent(world: &mut World, step: Step) -> Option<usize> {
+    match stepped(world, step) {
+        Ok(Outcome::Sent(place, _)) => Some(place),
+        _ => None,
+    }
+}
+
+/// The place of the reply to the wire at this place, which comes to its data component.
+pub(crate) fn replied(world: &mut World, place: usize) -> Option<usize> {
+    match stepped(world, Step::Perform(place)) {
+        Ok(Outcome::Replied(reply, _)) => Some(reply),
+        _ => None,
+    }
+}
+
+/// The wire at this place comes to its data component, and the reply back.
+pub(crate) fn is_carried(world: &mut World, place: usize) -> bool {
+    match replied(world, place) {
+        Some(reply) => stepped(world, Step::Take(reply)).is_ok(),
+        None => false,
+    }
+}
+
+/// The step that admits a call of the procedure with this number.
+pub(crate) fn admit(rt: &impl Abort, alloc: Global, (proc, args): (usize, &[u64])) -> Step {
+    Step::Admit(call(alloc, proc, args).expect(rt, "no call"))
+}
+
+/// The steps of a call of one operation, with its transaction, and the place of its wire and of its reply.
+pub(crate) fn is_called(
+    rt: &impl Abort,
+    alloc: Global,
+    world: &mut World,
+    (txn, place): (u64, usize),
+    call: (usize, &[u64]),
+) {
+    let steps = [
+        admit(rt, alloc, call),
+        Step::Ask(txn),
+        Step::Perform(place),
+        Step::Take(place),
+        Step::End(txn),
+    ];
+    all_went(rt, world.run(&steps));
+    drop(steps);
+}
+
+// The first transaction, which puts 100 under 5, asks.
+fn is_asked(rt: &impl Abort, alloc: Global, world: &mut World) {
+    let admit = admit(rt, alloc, (PUT, &[5, 100]));
+    goes(rt, world, admit, Outcome::Admitted(1));
+    is_same(rt, sent(world, Step::Ask(1)), Some(0));
 }
 
 // Its request is sent again, under the same number.
 fn is_sent_again(rt: &impl Abort, world: &mut World) {
-    assert!(rt; matches!(world.step(&Step::Ask(1)), Err(Illegal::Waits(1))));
-    assert!(rt; matches!(world.step(&Step::Resend(1)), Ok(Outcome::Sent(1, _))));
+    stops(rt, world, Step::Ask(1), Illegal::Waits(1));
+    is_same(rt, sent(world, Step::Resend(1)), Some(1));
 }
 
 // It is performed, and the data component keeps it.
 fn is_performed(rt: &impl Abort, world: &mut World) {
-    assert!(rt; matches!(world.step(&Step::Perform(1)), Ok(Outcome::Replied(0, _))));
-    assert!(rt;
-        matches!(
-            world.step(&Step::Checkpoint(0)),
-            Ok(Outcome::Checkpointed(0, 0))
-        )
-    );
+    is_same(rt, replied(world, 1), Some(0));
+    goes(rt, world, Step::Checkpoint(0), Outcome::Checkpointed(0, 0));
 }
 
 // The reply is taken, and the transaction is over.
 fn is_answered(rt: &impl Abort, world: &mut World) {
-    assert!(rt; matches!(world.step(&Step::Take(0)), Ok(Outcome::Took(1))));
-    assert!(rt; matches!(world.step(&Step::Ask(1)), Ok(Outcome::Over(1))));
+    goes(rt, world, Step::Take(0), Outcome::Took(1));
+    goes(rt, world, Step::Ask(1), Outcome::Over(1));
 }
 
 // A transaction that runs isn't undone.
 fn not_undone(rt: &impl Abort, world: &mut World) {
-    assert!(rt; matches!(world.step(&Step::Undo(1)), Err(Illegal::Running)));
+    stops(rt, world, Step::Undo(1), Illegal::Running);
 }
 
 fn ends(rt: &impl Abort, world: &mut World) {
@@ -113,38 +156,27 @@ fn ends(rt: &impl Abort, world: &mut World) {
         txn: 1,
         outcome: Ending::Committed,
     };
-    is_same(rt, world.step(&Step::End(1)), Ok(Outcome::Ended(receipt)));
+    goes(rt, world, Step::End(1), Outcome::Ended(receipt));
 }
 
-fn put_goes(rt: &impl Abort, alloc: Global, world: &mut World) -> Result<(), AllocError> {
-    let admit = Step::Admit(call(alloc, PUT, &[5, 100])?);
-    is_asked(rt, world, &admit);
+fn put_goes(rt: &impl Abort, alloc: Global, world: &mut World) {
+    is_asked(rt, alloc, world);
     is_sent_again(rt, world);
     is_performed(rt, world);
     is_answered(rt, world);
     not_undone(rt, world);
     ends(rt, world);
-    Ok(())
 }
 
 #[test]
-fn steps_of_a_transaction(rt: HostRuntime) -> Result<(), Fail> {
-    let mut world = world(&rt, rt.alloc())?;
-    let passed = put_goes(&rt, rt.alloc(), &mut world);
-    closed(world);
-    Ok(passed?)
+fn steps_of_a_transaction(rt: HostRuntime) {
+    in_world(&rt, rt.alloc(), put_goes);
 }
 
-// The steps leave no open transaction.
-fn all_go(rt: &impl Abort, world: &mut World, steps: &[Step]) {
-    all_went(rt, world.run(steps));
-    assert_eq!(rt; world.state().open_count(), 0);
-}
-
-// They leave one row.
+// The steps leave one row.
 fn one_row(rt: &impl Abort, world: &World) {
     for dc in world.dcs() {
-        assert_eq!(rt; dc.rows().len(), 1);
+        is_same(rt, dc.rows().len(), 1);
     }
 }
 
@@ -155,72 +187,34 @@ fn second_stops(rt: &impl Abort, world: &mut World) {
         incarnation: 0,
         said: Said::Absent,
     };
-    assert_eq!(rt;
-        world.run(&[Step::Forge(reply), Step::Ask(1)]),
-        Err((1, Illegal::NoTxn))
-    );
+    let steps = [Step::Forge(reply), Step::Ask(1)];
+    is_same(rt, world.run(&steps), Err((1, Illegal::NoTxn)));
+    drop(steps);
 }
 
-fn put_goes_at_once(rt: &impl Abort, alloc: Global, world: &mut World) -> Result<(), AllocError> {
-    let steps = [
-        Step::Admit(call(alloc, PUT, &[5, 100])?),
-        Step::Ask(1),
-        Step::Perform(0),
-        Step::Take(0),
-        Step::End(1),
-    ];
-    all_go(rt, world, &steps);
+// The steps of a put leave no open transaction.
+fn put_goes_at_once(rt: &impl Abort, alloc: Global, world: &mut World) {
+    is_called(rt, alloc, world, (1, 0), (PUT, &[5, 100]));
+    is_same(rt, world.state().open_count(), 0);
     one_row(rt, world);
     second_stops(rt, world);
-    Ok(())
 }
 
 #[test]
-fn all_steps_at_once(rt: HostRuntime) -> Result<(), Fail> {
-    let mut world = world(&rt, rt.alloc())?;
-    let passed = put_goes_at_once(&rt, rt.alloc(), &mut world);
-    closed(world);
-    Ok(passed?)
+fn all_steps_at_once(rt: HostRuntime) {
+    in_world(&rt, rt.alloc(), put_goes_at_once);
 }
 
-// The request of an open transaction doesn't stand in the way of a call.
-fn is_open(
-    rt: &impl Abort,
-    alloc: Global,
-    world: &mut World,
-    other: &Call,
-) -> Result<(), AllocError> {
-    let admit = Step::Admit(call(alloc, PUT, &[5, 100])?);
-    is_asked(rt, world, &admit);
-    assert!(rt; !world.state().blocked(other));
-    Ok(())
-}
-
-// It does so once it is given up.
-fn is_in_the_way(rt: &impl Abort, state: &TcState, dcs: &[Dc], other: &Call) {
-    assert_eq!(rt; dcs.len(), 1);
-    assert!(rt; state.blocked(other));
-}
-
-fn is_given_up(rt: &impl Abort, world: World, other: &Call) {
+// The request of an open transaction doesn't stand in the way of a call until it is given up.
+#[test]
+fn open_requests_are_given_up(rt: HostRuntime) {
+    let other = call(rt.alloc(), PUT, &[5, 100]).expect(&rt, "no call");
+    let mut world = world(&rt, rt.alloc());
+    is_asked(&rt, rt.alloc(), &mut world);
+    is_same(&rt, world.state().blocked(&other), false);
     let (state, dcs) = world.close();
-    is_in_the_way(rt, &state, dcs.as_slice(), other);
+    is_same(&rt, (dcs.len(), state.blocked(&other)), (1, true));
     drop(state);
     drop(dcs);
-}
-
-#[test]
-fn open_requests_are_given_up(rt: HostRuntime) -> Result<(), Fail> {
-    let other = call(rt.alloc(), PUT, &[5, 100])?;
-    let mut world = world(&rt, rt.alloc())?;
-    match is_open(&rt, rt.alloc(), &mut world, &other) {
-        Ok(()) => {
-            is_given_up(&rt, world, &other);
-            Ok(())
-        }
-        Err(fault) => {
-            closed(world);
-            Err(Fail::from(fault))
-        }
-    }
+    drop(other);
 }
