@@ -94,19 +94,8 @@ fn their_bytes() -> [u8; 288] {
     want
 }
 
-fn three_are_there(rt: &impl Abort, log: &Log) {
-    let last_ends = matches!(log.at(2), Some(Event::End { txn: 7, .. }));
-    let found = (log.len(), last_ends, log.at(3).is_none());
-    is_same(rt, found, (3, true, true));
-}
-
-fn print_from_each(rt: &impl Abort, alloc: Global, log: &Log) {
-    let want = their_bytes();
-    prints(rt, alloc, log, &want);
-    for (place, start) in [(0, 0), (2, 192), (3, 288), (4, 288)] {
-        let rows = want.get(start..).unwrap_or_default();
-        prints_from(rt, alloc, log, place, rows);
-    }
+fn last_ends(log: &Log) -> bool {
+    matches!(log.at(2), Some(Event::End { txn: 7, .. }))
 }
 
 #[test]
@@ -114,8 +103,14 @@ fn events_in_order(rt: HostRuntime) {
     let mut log = Log::new(rt.alloc());
     is_same(&rt, log.is_empty(), true);
     three_events(&rt, rt.alloc(), &mut log);
-    three_are_there(&rt, &log);
-    print_from_each(&rt, rt.alloc(), &log);
+    let found = (log.len(), last_ends(&log), log.at(3).is_none());
+    is_same(&rt, found, (3, true, true));
+    let want = their_bytes();
+    prints(&rt, rt.alloc(), &log, &want);
+    for (place, start) in [(0, 0), (2, 192), (3, 288), (4, 288)] {
+        let rows = want.get(start..).unwrap_or_default();
+        prints_from(&rt, rt.alloc(), &log, place, rows);
+    }
     drop(log);
 }
 
@@ -194,21 +189,20 @@ fn call() -> [u8; 96] {
     record
 }
 
-// The log has this call, and no other event.
-fn is_call(rt: &impl Abort, log: &Log) {
+// The first event, where it is a call.
+fn first_call(log: &Log) -> Option<(u64, usize, &[u64])> {
     match log.at(0) {
-        Some(Event::Admit { txn, proc, args }) => {
-            let found = (log.len(), *txn, *proc, args.as_slice());
-            is_same(rt, found, (1, 1, 0, [5, 100].as_slice()));
-        }
-        _ => panic!(rt; "another event"),
+        Some(Event::Admit { txn, proc, args }) => Some((*txn, *proc, args.as_slice())),
+        _ => None,
     }
 }
 
+// The log has this call, and no other event.
 #[test]
 fn a_call_is_read(rt: HostRuntime) {
     let log = Log::read(rt.alloc(), &call()).expect(&rt, "not read");
-    is_call(&rt, &log);
+    let found = (log.len(), first_call(&log));
+    is_same(&rt, found, (1, Some((1, 0, [5, 100].as_slice()))));
     prints(&rt, rt.alloc(), &log, &call());
     drop(log);
 }

@@ -1,8 +1,6 @@
 //! What both passes refuse, at which slot and why; and what lies right beside it and is accepted.
 
-use crate::verdict_tests::{
-    accepted, add, atomic, constant, copy, decl, declared, jump_at_null, load, refused_of, store,
-};
+use crate::verdict_tests::{accepted, copy, decl, declared, load, refused_of};
 use bpf_encoding::insn::Condition::Equal;
 use bpf_encoding::insn::Operation::Mov;
 use bpf_encoding::insn::Register::{R0, R1, R2, R3, R5, R6, R10};
@@ -21,6 +19,9 @@ const ZERO: Insn = Insn::Alu(Bits64, Mov, R0, Imm(0));
 
 // Register 1 is the number of the first slot.
 const SLOT: Insn = Insn::Alu(Bits64, Mov, R1, Imm(0));
+
+// It is that of the second slot, which is declared for reading.
+const SECOND_SLOT: Insn = Insn::Alu(Bits64, Mov, R1, Imm(1));
 
 // Over the next slot where register 0 is null.
 const AT_NULL: Insn = Insn::JumpIf(Bits64, Equal, R0, Imm(0), 1);
@@ -99,7 +100,7 @@ const UNKNOWN_HELPERS: [(&[Insn], usize); 6] = [
 // The instruction behind the others, and an end behind it.
 fn behind(rt: &impl Abort, alloc: Global, before: &[Insn], insn: Insn) -> Vec<Insn> {
     let mut code = before.to_vec(alloc).expect(rt, "no code");
-    code.extend_from_slice(&[insn, constant(R0, 0), Insn::Exit])
+    code.extend_from_slice(&[insn, ZERO, Insn::Exit])
         .expect(rt, "no end");
     code
 }
@@ -146,7 +147,7 @@ fn refused_at_once(rt: HostRuntime) {
 }
 
 // At first register 1 has the arguments' address, and register 10 that of the stack's end.
-const EMPTY_AT_FIRST: [Insn; 18] = [
+const EMPTY_AT_FIRST: &[Insn] = &[
     Insn::Alu(Bits64, Mov, R0, Reg(R2)),
     Insn::Alu(Bits64, Mov, R10, Reg(R2)),
     Insn::Alu(Bits64, Operation::Add, R0, Imm(1)),
@@ -218,13 +219,13 @@ const NO_ADDRESS: [Insn; 13] = [
 ];
 
 fn no_address(rt: &impl Abort, alloc: Global) {
-    for insn in &NO_ADDRESS {
-        let code = [copy(R2, R10), *insn, load(R0, R2, -8), Insn::Exit];
+    for insn in NO_ADDRESS {
+        let code = [copy(R2, R10), insn, load(R0, R2, -8), Insn::Exit];
         refused(rt, alloc, &code, 2, Violation::NotAPointer);
     }
 }
 
-const BY_A_CONSTANT: [Insn; 5] = [
+const BY_A_CONSTANT: &[Insn] = &[
     Insn::Load(Size::Byte, R2, R1, 0),
     Insn::LoadSigned(SignedSize::SignedWord, R2, R1, 0),
     Insn::StoreImm(Size::Byte, R1, 0, 7),
@@ -268,7 +269,7 @@ const ADDRESSES_ON_ONE_WAY: [(&[Insn], usize); 3] = [
 ];
 
 // The stack has 512 bytes, and the one argument 8.
-const OUTSIDE_STACK_AND_ARGUMENTS: [Insn; 12] = [
+const OUTSIDE_STACK_AND_ARGUMENTS: &[Insn] = &[
     Insn::Store(Double, R10, R1, -513),
     Insn::Store(Double, R10, R1, -4),
     Insn::Load(Double, R2, R10, -7),
@@ -284,7 +285,7 @@ const OUTSIDE_STACK_AND_ARGUMENTS: [Insn; 12] = [
 ];
 
 // A buffer has 64 bytes.
-const OUTSIDE_BUFFERS: [Insn; 6] = [
+const OUTSIDE_BUFFERS: &[Insn] = &[
     Insn::Load(Double, R2, R0, 57),
     Insn::Load(Double, R2, R0, -1),
     Insn::Load(Size::Byte, R2, R0, 64),
@@ -293,28 +294,7 @@ const OUTSIDE_BUFFERS: [Insn; 6] = [
     Insn::Atomic(Bits64, AtomicOperation::Xor, R0, R10, 57),
 ];
 
-fn outside_buffers(rt: &impl Abort, alloc: Global) {
-    let tested = [constant(R1, 1), Insn::Call(1), jump_at_null(1)];
-    none_behind(rt, alloc, &tested, &OUTSIDE_BUFFERS, Violation::OutOfBounds);
-    let own = [constant(R1, 1), Insn::Call(5)];
-    none_behind(rt, alloc, &own, &OUTSIDE_BUFFERS, Violation::OutOfBounds);
-}
-
-// An address may lie 65536 bytes from its region's first byte, on either side.
-fn outside_far_away(rt: &impl Abort, alloc: Global) {
-    for by in [65_024, -66_048] {
-        let before = [copy(R2, R10), add(R2, by)];
-        none_behind(
-            rt,
-            alloc,
-            &before,
-            &[load(R2, R2, -8)],
-            Violation::OutOfBounds,
-        );
-    }
-}
-
-const INTO_ARGUMENTS: [Insn; 5] = [
+const INTO_ARGUMENTS: &[Insn] = &[
     Insn::StoreImm(Double, R1, 0, 7),
     Insn::StoreImm(Size::Byte, R1, 8, 7),
     Insn::Store(Double, R1, R1, 0),
@@ -322,7 +302,7 @@ const INTO_ARGUMENTS: [Insn; 5] = [
     Insn::Atomic(Bits64, AtomicOperation::FetchAdd, R1, R1, 0),
 ];
 
-const BY_MAYBE_NULL: [Insn; 6] = [
+const BY_MAYBE_NULL: &[Insn] = &[
     Insn::Load(Double, R2, R0, 0),
     Insn::Load(Double, R2, R0, 64),
     Insn::LoadSigned(SignedSize::SignedByte, R2, R0, 0),
@@ -330,69 +310,6 @@ const BY_MAYBE_NULL: [Insn; 6] = [
     Insn::Store(Double, R0, R10, 0),
     Insn::Atomic(Bits64, AtomicOperation::And, R0, R10, 0),
 ];
-
-fn before_the_null_test(rt: &impl Abort, alloc: Global) {
-    let read = [constant(R1, 0), Insn::Call(1)];
-    none_behind(rt, alloc, &read, &BY_MAYBE_NULL, Violation::MaybeNull);
-    let of_a_copy = [
-        constant(R1, 0),
-        Insn::Call(1),
-        copy(R6, R0),
-        jump_at_null(1),
-    ];
-    let by_it = [load(R2, R6, 0)];
-    none_behind(rt, alloc, &of_a_copy, &by_it, Violation::MaybeNull);
-}
-
-// Of these conditions none is the null test.
-const OTHER_TESTS: [Insn; 5] = [
-    Insn::JumpIf(Bits32, Equal, R0, Imm(0), 1),
-    Insn::JumpIf(Bits64, Equal, R0, Imm(1), 1),
-    Insn::JumpIf(Bits64, Equal, R0, Reg(R6), 1),
-    Insn::JumpIf(Bits64, Condition::LessOrEqual, R0, Imm(0), 1),
-    Insn::JumpIf(Bits64, Condition::AnyBit, R0, Imm(-1), 1),
-];
-
-fn behind_other_tests(rt: &impl Abort, alloc: Global) {
-    for test in &OTHER_TESTS {
-        let before = [constant(R6, 0), constant(R1, 0), Insn::Call(1), *test];
-        none_behind(rt, alloc, &before, &[load(R2, R0, 0)], Violation::MaybeNull);
-    }
-}
-
-// Two slots are declared.
-const NO_SLOTS: [&[Insn]; 7] = [
-    &[],
-    &[Insn::Load(Double, R1, R1, 0)],
-    &[Insn::Alu(Bits64, Mov, R1, Imm(2))],
-    &[Insn::Alu(Bits64, Mov, R1, Imm(-1))],
-    &[Insn::Alu(Bits64, Mov, R1, Reg(R10))],
-    &[Insn::Alu(Bits32, Operation::Add, R1, Imm(0))],
-    // either slot
-    &[
-        Insn::Load(Double, R0, R1, 0),
-        SLOT,
-        AT_NULL,
-        Insn::Alu(Bits64, Mov, R1, Imm(1)),
-    ],
-];
-
-const WIDE_SLOT: [Insn; 3] = [Insn::LoadWide(R1, 1 << 32), Insn::Call(1), Insn::Exit];
-
-fn unknown_slots(rt: &impl Abort, alloc: Global) {
-    let calls = [Insn::Call(1), Insn::Call(3), Insn::Call(5)];
-    for before in &NO_SLOTS {
-        none_behind(rt, alloc, before, &calls, Violation::SlotUnknown);
-    }
-    refused(rt, alloc, &WIDE_SLOT, 2, Violation::SlotUnknown);
-}
-
-// The second slot is declared for reading.
-fn writes_by_read_slots(rt: &impl Abort, alloc: Global) {
-    let writes = [Insn::Call(2), Insn::Call(3), Insn::Call(4)];
-    let second = [constant(R1, 1)];
-    none_behind(rt, alloc, &second, &writes, Violation::ModeTooWeak);
-}
 
 const ADDRESSES_RETURNED: [(&[Insn], usize); 5] = [
     (&[Insn::Alu(Bits64, Mov, R0, Reg(R10)), Insn::Exit], 1),
@@ -402,58 +319,181 @@ const ADDRESSES_RETURNED: [(&[Insn], usize); 5] = [
     (&[SLOT, Insn::Call(1), AT_NULL, Insn::Exit, Insn::Exit], 3),
 ];
 
-fn no_values(rt: &impl Abort, alloc: Global) {
-    none_behind(rt, alloc, &[], &EMPTY_AT_FIRST, Violation::EmptyRegister);
-    each_refused(rt, alloc, &EMPTY_LATER, Violation::EmptyRegister);
-    no_address(rt, alloc);
-    let before = [constant(R1, 8)];
-    none_behind(rt, alloc, &before, &BY_A_CONSTANT, Violation::NotAPointer);
-    each_refused(rt, alloc, &ADDRESSES_ON_ONE_WAY, Violation::NotAPointer);
-}
+// Register 0 is loaded from there.
+const LOADS_BY_R0: &[Insn] = &[Insn::Load(Double, R2, R0, 0)];
 
-fn outside_of_memory(rt: &impl Abort, alloc: Global) {
-    let outside = &OUTSIDE_STACK_AND_ARGUMENTS;
-    none_behind(rt, alloc, &[], outside, Violation::OutOfBounds);
-    outside_buffers(rt, alloc);
-    outside_far_away(rt, alloc);
-    none_behind(rt, alloc, &[], &INTO_ARGUMENTS, Violation::ReadOnly);
-}
+// They take the number of a slot.
+const ASKS: &[Insn] = &[Insn::Call(1), Insn::Call(3), Insn::Call(5)];
 
-fn answers_and_slots(rt: &impl Abort, alloc: Global) {
-    before_the_null_test(rt, alloc);
-    behind_other_tests(rt, alloc);
-    unknown_slots(rt, alloc);
-    writes_by_read_slots(rt, alloc);
-    each_refused(rt, alloc, &ADDRESSES_RETURNED, Violation::PointerReturned);
-}
+// What stands before them, instructions that both passes refuse right behind it, and why; two slots are declared.
+const BEHIND: [(&[Insn], &[Insn], Violation); 23] = [
+    (&[], EMPTY_AT_FIRST, Violation::EmptyRegister),
+    (
+        &[Insn::Alu(Bits64, Mov, R1, Imm(8))],
+        BY_A_CONSTANT,
+        Violation::NotAPointer,
+    ),
+    (&[], OUTSIDE_STACK_AND_ARGUMENTS, Violation::OutOfBounds),
+    (
+        &[SECOND_SLOT, Insn::Call(1), AT_NULL],
+        OUTSIDE_BUFFERS,
+        Violation::OutOfBounds,
+    ),
+    (
+        &[SECOND_SLOT, Insn::Call(5)],
+        OUTSIDE_BUFFERS,
+        Violation::OutOfBounds,
+    ),
+    // An address may lie 65536 bytes from its region's first byte, on either side.
+    (
+        &[
+            Insn::Alu(Bits64, Mov, R2, Reg(R10)),
+            Insn::Alu(Bits64, Operation::Add, R2, Imm(65_024)),
+        ],
+        &[Insn::Load(Double, R2, R2, -8)],
+        Violation::OutOfBounds,
+    ),
+    (
+        &[
+            Insn::Alu(Bits64, Mov, R2, Reg(R10)),
+            Insn::Alu(Bits64, Operation::Add, R2, Imm(-66_048)),
+        ],
+        &[Insn::Load(Double, R2, R2, -8)],
+        Violation::OutOfBounds,
+    ),
+    (&[], INTO_ARGUMENTS, Violation::ReadOnly),
+    (&[SLOT, Insn::Call(1)], BY_MAYBE_NULL, Violation::MaybeNull),
+    // The test is of a copy.
+    (
+        &[
+            SLOT,
+            Insn::Call(1),
+            Insn::Alu(Bits64, Mov, R6, Reg(R0)),
+            AT_NULL,
+        ],
+        &[Insn::Load(Double, R2, R6, 0)],
+        Violation::MaybeNull,
+    ),
+    // Of these conditions none is the null test.
+    (
+        &[
+            Insn::Alu(Bits64, Mov, R6, Imm(0)),
+            SLOT,
+            Insn::Call(1),
+            Insn::JumpIf(Bits32, Equal, R0, Imm(0), 1),
+        ],
+        LOADS_BY_R0,
+        Violation::MaybeNull,
+    ),
+    (
+        &[
+            Insn::Alu(Bits64, Mov, R6, Imm(0)),
+            SLOT,
+            Insn::Call(1),
+            Insn::JumpIf(Bits64, Equal, R0, Imm(1), 1),
+        ],
+        LOADS_BY_R0,
+        Violation::MaybeNull,
+    ),
+    (
+        &[
+            Insn::Alu(Bits64, Mov, R6, Imm(0)),
+            SLOT,
+            Insn::Call(1),
+            Insn::JumpIf(Bits64, Equal, R0, Reg(R6), 1),
+        ],
+        LOADS_BY_R0,
+        Violation::MaybeNull,
+    ),
+    (
+        &[
+            Insn::Alu(Bits64, Mov, R6, Imm(0)),
+            SLOT,
+            Insn::Call(1),
+            Insn::JumpIf(Bits64, Condition::LessOrEqual, R0, Imm(0), 1),
+        ],
+        LOADS_BY_R0,
+        Violation::MaybeNull,
+    ),
+    (
+        &[
+            Insn::Alu(Bits64, Mov, R6, Imm(0)),
+            SLOT,
+            Insn::Call(1),
+            Insn::JumpIf(Bits64, Condition::AnyBit, R0, Imm(-1), 1),
+        ],
+        LOADS_BY_R0,
+        Violation::MaybeNull,
+    ),
+    (&[], ASKS, Violation::SlotUnknown),
+    (
+        &[Insn::Load(Double, R1, R1, 0)],
+        ASKS,
+        Violation::SlotUnknown,
+    ),
+    (
+        &[Insn::Alu(Bits64, Mov, R1, Imm(2))],
+        ASKS,
+        Violation::SlotUnknown,
+    ),
+    (
+        &[Insn::Alu(Bits64, Mov, R1, Imm(-1))],
+        ASKS,
+        Violation::SlotUnknown,
+    ),
+    (
+        &[Insn::Alu(Bits64, Mov, R1, Reg(R10))],
+        ASKS,
+        Violation::SlotUnknown,
+    ),
+    (
+        &[Insn::Alu(Bits32, Operation::Add, R1, Imm(0))],
+        ASKS,
+        Violation::SlotUnknown,
+    ),
+    // either slot
+    (
+        &[Insn::Load(Double, R0, R1, 0), SLOT, AT_NULL, SECOND_SLOT],
+        ASKS,
+        Violation::SlotUnknown,
+    ),
+    (
+        &[SECOND_SLOT],
+        &[Insn::Call(2), Insn::Call(3), Insn::Call(4)],
+        Violation::ModeTooWeak,
+    ),
+];
+
+const WIDE_SLOT: [Insn; 3] = [Insn::LoadWide(R1, 1 << 32), Insn::Call(1), Insn::Exit];
 
 #[test]
 fn refused_by_kinds(rt: HostRuntime) {
-    no_values(&rt, rt.alloc());
-    outside_of_memory(&rt, rt.alloc());
-    answers_and_slots(&rt, rt.alloc());
+    let alloc = rt.alloc();
+    for &(before, insns, violation) in &BEHIND {
+        none_behind(&rt, alloc, before, insns, violation);
+    }
+    each_refused(&rt, alloc, &EMPTY_LATER, Violation::EmptyRegister);
+    no_address(&rt, alloc);
+    each_refused(&rt, alloc, &ADDRESSES_ON_ONE_WAY, Violation::NotAPointer);
+    refused(&rt, alloc, &WIDE_SLOT, 2, Violation::SlotUnknown);
+    each_refused(&rt, alloc, &ADDRESSES_RETURNED, Violation::PointerReturned);
 }
 
-// An argument's eight bytes, where so many are declared.
-fn argument_refused(rt: &impl Abort, alloc: Global, args: u8, offset: i16) {
-    let argument = [load(R0, R1, offset), Insn::Exit];
-    let found = (0, Violation::OutOfBounds);
-    refused_of(rt, alloc, &argument, decl(rt, args), found);
-}
+const FIRST_ARGUMENT: [Insn; 2] = [Insn::Load(Double, R0, R1, 0), Insn::Exit];
 
-fn refused_without_slots(rt: &impl Abort, alloc: Global) {
-    let asks = [constant(R1, 0), Insn::Call(5), Insn::Exit];
-    let no_slots = declared(rt, 1, &[]);
-    refused_of(rt, alloc, &asks, no_slots, (1, Violation::SlotUnknown));
-}
+const SECOND_ARGUMENT: [Insn; 2] = [Insn::Load(Double, R0, R1, 8), Insn::Exit];
 
+// Neither an argument is there beyond those that are declared, nor a slot.
 #[test]
 fn refused_by_other_declarations(rt: HostRuntime) {
-    argument_refused(&rt, rt.alloc(), 0, 0);
-    argument_refused(&rt, rt.alloc(), 1, 8);
-    let second = [load(R0, R1, 8), Insn::Exit];
-    accepted(&rt, rt.alloc(), &second, decl(&rt, 2));
-    refused_without_slots(&rt, rt.alloc());
+    let alloc = rt.alloc();
+    let outside = (0, Violation::OutOfBounds);
+    refused_of(&rt, alloc, &FIRST_ARGUMENT, decl(&rt, 0), outside);
+    refused_of(&rt, alloc, &SECOND_ARGUMENT, decl(&rt, 1), outside);
+    accepted(&rt, alloc, &SECOND_ARGUMENT, decl(&rt, 2));
+    let asks = [SLOT, Insn::Call(5), Insn::Exit];
+    let no_slots = declared(&rt, 1, &[]);
+    refused_of(&rt, alloc, &asks, no_slots, (1, Violation::SlotUnknown));
 }
 
 // Both passes accept each code, where one argument and two slots are declared.
@@ -516,26 +556,18 @@ const ACCESSES_THAT_ARE_RIGHT: [&[Insn]; 4] = [
     ],
 ];
 
-fn calls_that_are_right(rt: &impl Abort, alloc: Global) {
-    for helper in [2, 3, 4] {
-        let writes = [constant(R1, 0), Insn::Call(helper), Insn::Exit];
-        each_accepted(rt, alloc, &[&writes]);
-    }
-    for helper in [1, 5] {
-        let asks = [
-            constant(R1, 1),
-            Insn::Call(helper),
-            constant(R0, 0),
-            Insn::Exit,
-        ];
-        each_accepted(rt, alloc, &[&asks]);
-    }
-}
+const CALLS_THAT_ARE_RIGHT: [&[Insn]; 5] = [
+    &[SLOT, Insn::Call(2), Insn::Exit],
+    &[SLOT, Insn::Call(3), Insn::Exit],
+    &[SLOT, Insn::Call(4), Insn::Exit],
+    &[SECOND_SLOT, Insn::Call(1), ZERO, Insn::Exit],
+    &[SECOND_SLOT, Insn::Call(5), ZERO, Insn::Exit],
+];
 
 // The buffer's last bytes, where either null test says that it is there.
 const TESTS_THAT_ARE_RIGHT: [&[Insn]; 2] = [
     &[
-        Insn::Alu(Bits64, Mov, R1, Imm(1)),
+        SECOND_SLOT,
         Insn::Call(1),
         AT_NULL,
         Insn::Load(Double, R1, R0, 56),
@@ -543,7 +575,7 @@ const TESTS_THAT_ARE_RIGHT: [&[Insn]; 2] = [
         Insn::Exit,
     ],
     &[
-        Insn::Alu(Bits64, Mov, R1, Imm(1)),
+        SECOND_SLOT,
         Insn::Call(1),
         Insn::JumpIf(Bits64, Condition::NotEqual, R0, Imm(0), 1),
         Insn::Exit,
@@ -556,6 +588,6 @@ const TESTS_THAT_ARE_RIGHT: [&[Insn]; 2] = [
 fn accepted_beside_them(rt: HostRuntime) {
     each_accepted(&rt, rt.alloc(), &WAYS_THAT_ARE_RIGHT);
     each_accepted(&rt, rt.alloc(), &ACCESSES_THAT_ARE_RIGHT);
-    calls_that_are_right(&rt, rt.alloc());
+    each_accepted(&rt, rt.alloc(), &CALLS_THAT_ARE_RIGHT);
     each_accepted(&rt, rt.alloc(), &TESTS_THAT_ARE_RIGHT);
 }

@@ -350,11 +350,11 @@ fn codes_at_random(rt: HostRuntime) {
     }
 }
 
-pub(crate) fn constant(register: Register, imm: i32) -> Insn {
+fn constant(register: Register, imm: i32) -> Insn {
     Insn::Alu(Width::Bits64, Operation::Mov, register, Source::Imm(imm))
 }
 
-pub(crate) fn jump_at_null(offset: i16) -> Insn {
+fn jump_at_null(offset: i16) -> Insn {
     Insn::JumpIf(
         Width::Bits64,
         Condition::Equal,
@@ -368,29 +368,14 @@ pub(crate) fn copy(dst: Register, src: Register) -> Insn {
     Insn::Alu(Width::Bits64, Operation::Mov, dst, Source::Reg(src))
 }
 
-// Adds a constant.
-pub(crate) fn add(dst: Register, imm: i32) -> Insn {
-    Insn::Alu(Width::Bits64, Operation::Add, dst, Source::Imm(imm))
-}
-
 // Loads 8 bytes.
 pub(crate) fn load(dst: Register, base: Register, offset: i16) -> Insn {
     Insn::Load(Size::Double, dst, base, offset)
 }
 
 // Stores 8 bytes.
-pub(crate) fn store(base: Register, offset: i16, src: Register) -> Insn {
+fn store(base: Register, offset: i16, src: Register) -> Insn {
     Insn::Store(Size::Double, base, src, offset)
-}
-
-// On 8 bytes.
-pub(crate) fn atomic(
-    operation: AtomicOperation,
-    base: Register,
-    src: Register,
-    offset: i16,
-) -> Insn {
-    Insn::Atomic(Width::Bits64, operation, base, src, offset)
 }
 
 // A slot whose key is an argument.
