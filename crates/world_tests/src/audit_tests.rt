@@ -96,33 +96,28 @@ fn says(
 }
 
 // What it says of `put 5 100` ended, cut short, without its insert, and beside other data components.
-fn tells(rt: &impl Abort, alloc: Global, tc: &TcState) {
+#[test]
+fn short_logs(rt: HostRuntime) {
+    let alloc = rt.alloc();
+    let tc = loaded(alloc, 1).expect(&rt, "not loaded");
     let ended = Audited { ended: 1, left: 0 };
     let open = Audited { ended: 0, left: 1 };
-    says(rt, alloc, tc, &PUT, Some(100), Ok(ended));
-    says(rt, alloc, tc, &PUT[..3], Some(100), Ok(open));
+    says(&rt, alloc, &tc, &PUT, Some(100), Ok(ended));
+    says(&rt, alloc, &tc, &PUT[..3], Some(100), Ok(open));
     // the list has it, the log doesn't
     let not_asked = AuditFault::NotAsked(0, 0);
-    says(rt, alloc, tc, &PUT[..1], Some(100), Err(not_asked));
+    says(&rt, alloc, &tc, &PUT[..1], Some(100), Err(not_asked));
     // it may have been performed before it is answered
-    says(rt, alloc, tc, &PUT[..2], Some(100), Ok(open));
-    says(rt, alloc, tc, &PUT, None, Err(AuditFault::Mismatch(1)));
-    says(rt, alloc, tc, &PUT, Some(99), Err(not_asked));
+    says(&rt, alloc, &tc, &PUT[..2], Some(100), Ok(open));
+    says(&rt, alloc, &tc, &PUT, None, Err(AuditFault::Mismatch(1)));
+    says(&rt, alloc, &tc, &PUT, Some(99), Err(not_asked));
     let illegal = AuditFault::LogIllegal(1);
-    says(rt, alloc, tc, &NO_INSERT, None, Err(illegal));
+    says(&rt, alloc, &tc, &NO_INSERT, None, Err(illegal));
+    drop(tc);
 }
 
-// A data component with the record that has restarted, and kept it if it had a checkpoint.
-fn restarted_dc(rt: &impl Abort, alloc: Global, keeps: bool) -> Dc {
-    let mut dc = dc_with(rt, alloc, Some(100));
-    if keeps {
-        dc.checkpoint();
-    }
-    is_same(rt, dc.restart().is_ok(), true);
-    dc
-}
-
-// It says this of two puts of one record and such a data component.
+// It says this of two puts of one record and a data component with the record that has restarted, and kept it if it
+// had a checkpoint.
 fn says_behind(
     rt: &impl Abort,
     alloc: Global,
@@ -130,31 +125,25 @@ fn says_behind(
     keeps: bool,
     wanted: Result<Audited, AuditFault>,
 ) {
-    let dc = restarted_dc(rt, alloc, keeps);
+    let mut dc = dc_with(rt, alloc, Some(100));
+    if keeps {
+        dc.checkpoint();
+    }
+    is_same(rt, dc.restart().is_ok(), true);
     says_beside(rt, alloc, tc, &AGAIN, dc, wanted);
 }
 
 // Behind a restart an insert that found the record there may be missing, and one that was done may
 // not; without a restart neither may.
-fn tells_of_restarts(rt: &impl Abort, alloc: Global, tc: &TcState) {
-    let ended = Audited { ended: 2, left: 0 };
-    says_behind(rt, alloc, tc, true, Ok(ended));
-    says_behind(rt, alloc, tc, false, Err(AuditFault::Mismatch(1)));
-    let missing = AuditFault::Mismatch(2);
-    says(rt, alloc, tc, &AGAIN, Some(100), Err(missing));
-}
-
 #[test]
 fn restarted(rt: HostRuntime) {
-    let tc = loaded(rt.alloc(), 1).expect(&rt, "not loaded");
-    tells_of_restarts(&rt, rt.alloc(), &tc);
-    drop(tc);
-}
-
-#[test]
-fn short_logs(rt: HostRuntime) {
-    let tc = loaded(rt.alloc(), 1).expect(&rt, "not loaded");
-    tells(&rt, rt.alloc(), &tc);
+    let alloc = rt.alloc();
+    let tc = loaded(alloc, 1).expect(&rt, "not loaded");
+    let ended = Audited { ended: 2, left: 0 };
+    says_behind(&rt, alloc, &tc, true, Ok(ended));
+    says_behind(&rt, alloc, &tc, false, Err(AuditFault::Mismatch(1)));
+    let missing = AuditFault::Mismatch(2);
+    says(&rt, alloc, &tc, &AGAIN, Some(100), Err(missing));
     drop(tc);
 }
 

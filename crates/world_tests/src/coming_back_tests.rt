@@ -1,8 +1,5 @@
 // A state and new data components that come back from each beginning of a log.
 
-ghost use Rattle.std.specs.List.{All};
-ghost use Rattle.coming_back.specs.Coming.{IsEmpty};
-
 use crate::checks::is_same;
 use crate::step_tests::{admit, closed, is_carried, new_dcs, sent, stepped, world};
 use access_slots::slot::Value;
@@ -90,25 +87,18 @@ struct Back {
     resumed: Result<Vec<Resumed>, ComeBackFault>,
 }
 
-// The state and the component come back from the log.
-fn come(alloc: Global, mut state: TcState, mut dcs: Vec<Dc>, log: &Log) -> Back
-    requires { All IsEmpty dcs.items }
-{
-    let resumed = come_back(alloc, &mut state, dcs.as_mut_slice(), log);
+// The state and a component for so many operations come back from so many of the first events.
+fn brought_back(rt: &impl Abort, alloc: Global, bytes: &[u8], events: usize, ops: usize) -> Back {
+    let log = beginning(rt, alloc, bytes, events);
+    let mut state = loaded(alloc, 1).expect(rt, "not loaded");
+    let mut dcs = new_dcs(rt, alloc, ops);
+    let resumed = come_back(alloc, &mut state, dcs.as_mut_slice(), &log);
+    drop(log);
     Back {
         state,
         dcs,
         resumed,
     }
-}
-
-// From so many of the first events, with a component for so many operations.
-fn brought_back(rt: &impl Abort, alloc: Global, bytes: &[u8], events: usize, ops: usize) -> Back {
-    let log = beginning(rt, alloc, bytes, events);
-    let state = loaded(alloc, 1).expect(rt, "not loaded");
-    let back = come(alloc, state, new_dcs(rt, alloc, ops), &log);
-    drop(log);
-    back
 }
 
 // From so many of the events of the five calls.
@@ -144,24 +134,28 @@ fn rows_are(rt: &impl Abort, dcs: &[Dc], events: usize) {
     row_is(rt, dcs, 7, expected(events, 8, 1, None), events);
 }
 
-// Whether it came back, and each that was open has ended.
-fn all_ended(resumed: &Result<Vec<Resumed>, ComeBackFault>) -> bool {
-    match resumed {
-        Ok(resumed) => resumed.iter().all(|one| matches!(one, Resumed::Ended(_))),
-        Err(_) => false,
+// What came of open transactions, where it came back.
+fn resumed_in<'a>(rt: &impl Abort, back: &'a Back) -> &'a [Resumed] {
+    back.resumed.as_ref().expect(rt, "not back").as_slice()
+}
+
+// Whether each that was open has ended.
+fn all_ended(resumed: &[Resumed]) -> bool {
+    for one in resumed {
+        if let Resumed::InDoubt { .. } = one {
+            return false;
+        }
     }
+    true
 }
 
-fn is_sound(rt: &impl Abort, alloc: Global, state: &TcState, dcs: &[Dc], events: usize) {
-    let audited = audit(alloc, state.procs(), state.log(), dcs);
-    is_same(rt, (events, audited.is_ok()), (events, true));
-}
-
+// It came back, each that was open has ended, and an audit has nothing to say.
 fn is_back(rt: &impl Abort, alloc: Global, back: &Back, events: usize) {
-    let ended = (all_ended(&back.resumed), back.state.open_count());
+    let ended = (all_ended(resumed_in(rt, back)), back.state.open_count());
     is_same(rt, (events, ended), (events, (true, 0)));
     rows_are(rt, &back.dcs, events);
-    is_sound(rt, alloc, &back.state, &back.dcs, events);
+    let audited = audit(alloc, back.state.procs(), back.state.log(), &back.dcs);
+    is_same(rt, (events, audited.is_ok()), (events, true));
 }
 
 fn comes_back(rt: &impl Abort, alloc: Global, bytes: &[u8], events: usize) {
@@ -181,21 +175,13 @@ fn each_beginning_comes_back(rt: HostRuntime) {
     }
 }
 
-fn two_are_named(rt: &impl Abort, resumed: &[Resumed]) {
+// Two transactions that ended, and whether the first ended before the other.
+fn two_ended(resumed: &[Resumed]) -> Option<(u64, u64, bool)> {
     match resumed {
         [Resumed::Ended(one), Resumed::Ended(other)] => {
-            let is_earlier = one.place < other.place;
-            is_same(rt, (one.txn, other.txn, is_earlier), (4, 5, true));
+            Some((one.txn, other.txn, one.place < other.place))
         }
-        _ => panic!(rt; "not both ended"),
-    }
-}
-
-// What came of open transactions, where it came back.
-fn resumed_in<'a>(rt: &impl Abort, back: &'a Back) -> &'a [Resumed] {
-    match &back.resumed {
-        Ok(resumed) => resumed.as_slice(),
-        Err(_) => panic!(rt; "not back"),
+        _ => None,
     }
 }
 
@@ -203,16 +189,14 @@ fn resumed_in<'a>(rt: &impl Abort, back: &'a Back) -> &'a [Resumed] {
 #[test]
 fn two_that_were_open_are_named(rt: HostRuntime) {
     let back = behind(&rt, rt.alloc(), PUTS + 2, 100);
-    two_are_named(&rt, resumed_in(&rt, &back));
+    let named = two_ended(resumed_in(&rt, &back));
+    is_same(&rt, named, Some((4, 5, true)));
     drop(back);
 }
 
 // It didn't come back for this.
 fn is_refused(rt: &impl Abort, back: &Back, wanted: ComeBackFault) {
-    match &back.resumed {
-        Ok(_) => panic!(rt; "it came back"),
-        Err(fault) => is_same(rt, *fault, wanted),
-    }
+    is_same(rt, back.resumed.as_ref().err(), Some(&wanted));
 }
 
 fn without_the_third(bytes: &mut Vec<u8>) {
@@ -243,16 +227,12 @@ fn a_component_that_is_too_small_is_refused(rt: HostRuntime) {
     drop(back);
 }
 
-fn one_is_in_doubt(rt: &impl Abort, back: &Back) {
-    let doubt = Resumed::InDoubt { txn: 4, number: 4 };
-    is_same(rt, resumed_in(rt, back), [doubt].as_slice());
-    is_same(rt, back.state.open_count(), 1);
-}
-
 // One for no more operations than are redone: what goes on is in doubt.
 #[test]
 fn what_finds_no_room_is_in_doubt(rt: HostRuntime) {
     let back = behind(&rt, rt.alloc(), PUTS + 1, 3);
-    one_is_in_doubt(&rt, &back);
+    let doubt = Resumed::InDoubt { txn: 4, number: 4 };
+    is_same(&rt, resumed_in(&rt, &back), [doubt].as_slice());
+    is_same(&rt, back.state.open_count(), 1);
     drop(back);
 }

@@ -1,12 +1,12 @@
 // What a redo leaves out: what was asked of another component, and what wasn't done.
 
+use crate::checks::is_same;
 use crate::step_tests::{closed, goes, is_called, opened};
 use access_slots::op::{News, Op, Reply, Said, Wire};
 use data_component::dc::Dc;
 use samples::{DROP, PUT, load, loaded, put_procedure, record, value};
 use std::alloc::Global;
 use std::process::Abort;
-use tc_core::state::TcState;
 use tc_world::{Outcome, Step, World};
 
 // The number of a `put` into the second component.
@@ -21,20 +21,11 @@ fn two_dcs(rt: &impl Abort, alloc: Global) -> Vec<Dc> {
     dcs
 }
 
-// A state for two components, in the second of which one procedure more puts.
-fn state(alloc: Global) -> Option<TcState> {
-    let mut state = loaded(alloc, 2)?;
-    match put_procedure(alloc, 1).and_then(|code| load(&mut state, "put beside", code)) {
-        Some(PUT_BESIDE) => Some(state),
-        _ => {
-            drop(state);
-            None
-        }
-    }
-}
-
+// A world of two components, in the second of which one procedure more puts.
 fn world(rt: &impl Abort, alloc: Global) -> World {
-    let state = state(alloc).expect(rt, "not loaded");
+    let mut state = loaded(alloc, 2).expect(rt, "not loaded");
+    let code = put_procedure(alloc, 1).expect(rt, "no procedure");
+    is_same(rt, load(&mut state, "put beside", code), Some(PUT_BESIDE));
     opened(rt, alloc, state, two_dcs(rt, alloc))
 }
 
@@ -65,16 +56,16 @@ fn the_first_is_redone(rt: &impl Abort, world: &mut World) {
     goes(rt, world, Step::Redo(0), Outcome::Up(0));
 }
 
-fn three_are_called(rt: &impl Abort, alloc: Global, world: &mut World) {
-    is_called(rt, alloc, world, (1, 0), (PUT, &[5, 100]));
-    is_called(rt, alloc, world, (2, 1), (PUT, &[5, 100]));
-    is_called(rt, alloc, world, (3, 2), (PUT_BESIDE, &[5, 100]));
-}
-
 #[test]
 fn one_of_three_is_redone(rt: HostRuntime) {
     let mut world = world(&rt, rt.alloc());
-    three_are_called(&rt, rt.alloc(), &mut world);
+    let (put, beside) = (
+        (PUT, [5, 100].as_slice()),
+        (PUT_BESIDE, [5, 100].as_slice()),
+    );
+    is_called(&rt, rt.alloc(), &mut world, (1, 0), put);
+    is_called(&rt, rt.alloc(), &mut world, (2, 1), put);
+    is_called(&rt, rt.alloc(), &mut world, (3, 2), beside);
     the_first_is_redone(&rt, &mut world);
     closed(world);
 }

@@ -1,7 +1,7 @@
 // Restarts that lose what came after the last checkpoint, and redo.
 
 use crate::checks::is_same;
-use crate::step_tests::{admit, goes, in_world, is_called, stops};
+use crate::step_tests::{admit, closed, goes, is_called, stops, world};
 use access_slots::op::{News, Op, Reply, Said, Wire};
 use samples::{PUT, record, value};
 use std::alloc::Global;
@@ -38,16 +38,13 @@ fn first_news() -> News {
     }
 }
 
-// The component restarts, and the row is lost; a late copy of the request changes nothing.
+// The component restarts, and the row is lost; a late copy of the request changes nothing. The transaction component
+// hears of it, once, and has something to redo.
 fn row_is_lost(rt: &impl Abort, world: &mut World) {
     goes(rt, world, Step::Restart(0), Outcome::Restarted(0));
     five_stands(rt, world, false);
     goes(rt, world, Step::Perform(0), Outcome::Silent);
     five_stands(rt, world, false);
-}
-
-// The transaction component hears of it, once, and has something to redo.
-fn is_told(rt: &impl Abort, world: &mut World) {
     stops(rt, world, Step::Redo(0), Illegal::NotDown);
     stops(rt, world, Step::Tell(1), Illegal::NoNews);
     goes(rt, world, Step::Tell(0), Outcome::Told(0, first_news()));
@@ -65,16 +62,13 @@ fn is_redone(rt: &impl Abort, world: &mut World, place: usize) {
     goes(rt, world, Step::Redo(0), Outcome::Up(0));
 }
 
-fn put_lost_and_redone(rt: &impl Abort, alloc: Global, world: &mut World) {
-    is_put(rt, alloc, world, (1, 0), 5);
-    row_is_lost(rt, world);
-    is_told(rt, world);
-    is_redone(rt, world, 1);
-}
-
 #[test]
 fn a_row_lost_and_redone(rt: HostRuntime) {
-    in_world(&rt, rt.alloc(), put_lost_and_redone);
+    let mut world = world(&rt, rt.alloc());
+    is_put(&rt, rt.alloc(), &mut world, (1, 0), 5);
+    row_is_lost(&rt, &mut world);
+    is_redone(&rt, &mut world, 1);
+    closed(world);
 }
 
 // A reply that nobody gave is a stranger to the redo.
@@ -109,16 +103,13 @@ fn others_redo_nothing(rt: &impl Abort, world: &mut World) {
     goes(rt, world, Step::Take(4), Outcome::Redone(1));
 }
 
-fn put_and_others(rt: &impl Abort, alloc: Global, world: &mut World) {
-    is_put(rt, alloc, world, (1, 0), 5);
-    row_is_lost(rt, world);
-    is_told(rt, world);
-    others_redo_nothing(rt, world);
-}
-
 #[test]
 fn redone_by_its_own_answer_alone(rt: HostRuntime) {
-    in_world(&rt, rt.alloc(), put_and_others);
+    let mut world = world(&rt, rt.alloc());
+    is_put(&rt, rt.alloc(), &mut world, (1, 0), 5);
+    row_is_lost(&rt, &mut world);
+    others_redo_nothing(&rt, &mut world);
+    closed(world);
 }
 
 // The row is kept by a checkpoint, whose mark lies below the number that was answered last.
@@ -149,26 +140,22 @@ fn is_held(rt: &impl Abort, world: &mut World, admit: Step) {
     goes(rt, world, Step::Resend(2), Outcome::Sent(2, wire));
 }
 
-fn put_kept_and_held(rt: &impl Abort, alloc: Global, world: &mut World) {
-    is_put(rt, alloc, world, (1, 0), 5);
-    row_is_kept(rt, world);
-    is_held(rt, world, admit(rt, alloc, (PUT, &[6, 1])));
-}
-
 #[test]
 fn a_request_held_while_its_component_is_down(rt: HostRuntime) {
-    in_world(&rt, rt.alloc(), put_kept_and_held);
-}
-
-fn no_such_component(rt: &impl Abort, _alloc: Global, world: &mut World) {
-    stops(rt, world, Step::Checkpoint(1), Illegal::NoDc);
-    stops(rt, world, Step::Restart(1), Illegal::NoDc);
-    stops(rt, world, Step::Redo(1), Illegal::NoDc);
+    let mut world = world(&rt, rt.alloc());
+    is_put(&rt, rt.alloc(), &mut world, (1, 0), 5);
+    row_is_kept(&rt, &mut world);
+    is_held(&rt, &mut world, admit(&rt, rt.alloc(), (PUT, &[6, 1])));
+    closed(world);
 }
 
 #[test]
 fn a_component_that_is_not_there(rt: HostRuntime) {
-    in_world(&rt, rt.alloc(), no_such_component);
+    let mut world = world(&rt, rt.alloc());
+    stops(&rt, &mut world, Step::Checkpoint(1), Illegal::NoDc);
+    stops(&rt, &mut world, Step::Restart(1), Illegal::NoDc);
+    stops(&rt, &mut world, Step::Redo(1), Illegal::NoDc);
+    closed(world);
 }
 
 // News of the second restart are taken where those of the first were lost. What was done above the mark that the
@@ -206,22 +193,17 @@ fn second_is_redone(rt: &impl Abort, world: &mut World, place: usize, number: u6
 }
 
 // Both numbers above the mark are redone, one after the other.
-fn both_are_redone(rt: &impl Abort, world: &mut World) {
-    second_is_redone(rt, world, 3, 2, 6);
-    second_is_redone(rt, world, 4, 3, 7);
-    goes(rt, world, Step::Redo(0), Outcome::Up(0));
-}
-
-fn three_puts_and_two_restarts(rt: &impl Abort, alloc: Global, world: &mut World) {
-    is_put(rt, alloc, world, (1, 0), 5);
-    is_put(rt, alloc, world, (2, 1), 6);
-    goes(rt, world, Step::Checkpoint(0), Outcome::Checkpointed(0, 1));
-    is_put(rt, alloc, world, (3, 2), 7);
-    second_restart_is_told(rt, world);
-    both_are_redone(rt, world);
-}
-
 #[test]
 fn a_restart_that_nobody_was_told_of(rt: HostRuntime) {
-    in_world(&rt, rt.alloc(), three_puts_and_two_restarts);
+    let mut world = world(&rt, rt.alloc());
+    is_put(&rt, rt.alloc(), &mut world, (1, 0), 5);
+    is_put(&rt, rt.alloc(), &mut world, (2, 1), 6);
+    let kept = Outcome::Checkpointed(0, 1);
+    goes(&rt, &mut world, Step::Checkpoint(0), kept);
+    is_put(&rt, rt.alloc(), &mut world, (3, 2), 7);
+    second_restart_is_told(&rt, &mut world);
+    second_is_redone(&rt, &mut world, 3, 2, 6);
+    second_is_redone(&rt, &mut world, 4, 3, 7);
+    goes(&rt, &mut world, Step::Redo(0), Outcome::Up(0));
+    closed(world);
 }

@@ -41,15 +41,6 @@ pub(crate) fn closed(world: World) {
     drop(dcs);
 }
 
-/// What a test does in a world, which is closed in this one place.
-pub(crate) fn in_world<R: Abort, F: FnOnce(&R, Global, &mut World)>(rt: &R, alloc: Global, test: F)
-    requires { F.IsAlwaysCallable test }
-{
-    let mut world = world(rt, alloc);
-    test(rt, alloc, &mut world);
-    closed(world);
-}
-
 /// Each of some steps was taken.
 pub(crate) fn all_went(rt: &impl Abort, ran: Result<(), (usize, Illegal)>) {
     is_same(rt, ran, Ok(()));
@@ -127,50 +118,27 @@ fn is_asked(rt: &impl Abort, alloc: Global, world: &mut World) {
     is_same(rt, sent(world, Step::Ask(1)), Some(0));
 }
 
-// Its request is sent again, under the same number.
-fn is_sent_again(rt: &impl Abort, world: &mut World) {
-    stops(rt, world, Step::Ask(1), Illegal::Waits(1));
-    is_same(rt, sent(world, Step::Resend(1)), Some(1));
-}
-
-// It is performed, and the data component keeps it.
-fn is_performed(rt: &impl Abort, world: &mut World) {
-    is_same(rt, replied(world, 1), Some(0));
-    goes(rt, world, Step::Checkpoint(0), Outcome::Checkpointed(0, 0));
-}
-
-// The reply is taken, and the transaction is over.
-fn is_answered(rt: &impl Abort, world: &mut World) {
-    goes(rt, world, Step::Take(0), Outcome::Took(1));
-    goes(rt, world, Step::Ask(1), Outcome::Over(1));
-}
-
-// A transaction that runs isn't undone.
-fn not_undone(rt: &impl Abort, world: &mut World) {
-    stops(rt, world, Step::Undo(1), Illegal::Running);
-}
-
-fn ends(rt: &impl Abort, world: &mut World) {
+// The request of the first transaction is sent again, under the same number, performed, kept and answered; a
+// transaction that runs isn't undone.
+#[test]
+fn steps_of_a_transaction(rt: HostRuntime) {
+    let mut world = world(&rt, rt.alloc());
+    is_asked(&rt, rt.alloc(), &mut world);
+    stops(&rt, &mut world, Step::Ask(1), Illegal::Waits(1));
+    is_same(&rt, sent(&mut world, Step::Resend(1)), Some(1));
+    is_same(&rt, replied(&mut world, 1), Some(0));
+    let kept = Outcome::Checkpointed(0, 0);
+    goes(&rt, &mut world, Step::Checkpoint(0), kept);
+    goes(&rt, &mut world, Step::Take(0), Outcome::Took(1));
+    goes(&rt, &mut world, Step::Ask(1), Outcome::Over(1));
+    stops(&rt, &mut world, Step::Undo(1), Illegal::Running);
     let receipt = Receipt {
         place: 3,
         txn: 1,
         outcome: Ending::Committed,
     };
-    goes(rt, world, Step::End(1), Outcome::Ended(receipt));
-}
-
-fn put_goes(rt: &impl Abort, alloc: Global, world: &mut World) {
-    is_asked(rt, alloc, world);
-    is_sent_again(rt, world);
-    is_performed(rt, world);
-    is_answered(rt, world);
-    not_undone(rt, world);
-    ends(rt, world);
-}
-
-#[test]
-fn steps_of_a_transaction(rt: HostRuntime) {
-    in_world(&rt, rt.alloc(), put_goes);
+    goes(&rt, &mut world, Step::End(1), Outcome::Ended(receipt));
+    closed(world);
 }
 
 // The steps leave one row.
@@ -193,16 +161,14 @@ fn second_stops(rt: &impl Abort, world: &mut World) {
 }
 
 // The steps of a put leave no open transaction.
-fn put_goes_at_once(rt: &impl Abort, alloc: Global, world: &mut World) {
-    is_called(rt, alloc, world, (1, 0), (PUT, &[5, 100]));
-    is_same(rt, world.state().open_count(), 0);
-    one_row(rt, world);
-    second_stops(rt, world);
-}
-
 #[test]
 fn all_steps_at_once(rt: HostRuntime) {
-    in_world(&rt, rt.alloc(), put_goes_at_once);
+    let mut world = world(&rt, rt.alloc());
+    is_called(&rt, rt.alloc(), &mut world, (1, 0), (PUT, &[5, 100]));
+    is_same(&rt, world.state().open_count(), 0);
+    one_row(&rt, &world);
+    second_stops(&rt, &mut world);
+    closed(world);
 }
 
 // The request of an open transaction doesn't stand in the way of a call until it is given up.
