@@ -59,13 +59,9 @@ fn the_first_is_redone(rt: &impl Abort, world: &mut World) {
 #[test]
 fn one_of_three_is_redone(rt: HostRuntime) {
     let mut world = world(&rt, rt.alloc());
-    let (put, beside) = (
-        (PUT, [5, 100].as_slice()),
-        (PUT_BESIDE, [5, 100].as_slice()),
-    );
-    is_called(&rt, rt.alloc(), &mut world, (1, 0), put);
-    is_called(&rt, rt.alloc(), &mut world, (2, 1), put);
-    is_called(&rt, rt.alloc(), &mut world, (3, 2), beside);
+    is_called(&rt, rt.alloc(), &mut world, (1, 0), (PUT, &[5, 100]));
+    is_called(&rt, rt.alloc(), &mut world, (2, 1), (PUT, &[5, 100]));
+    is_called(&rt, rt.alloc(), &mut world, (3, 2), (PUT_BESIDE, &[5, 100]));
     the_first_is_redone(&rt, &mut world);
     closed(world);
 }

@@ -22,7 +22,8 @@ pub(crate) fn new_dcs(rt: &impl Abort, alloc: Global, ops: usize) -> Vec<Dc>
     dcs
 }
 
-/// A world of a state in which nothing is open, and of these data components.
+/// A world of a state in which nothing is open, and of these data components. The assertion stands here, since what it
+/// says is what `World::new` requires.
 pub(crate) fn opened(rt: &impl Abort, alloc: Global, state: TcState, dcs: Vec<Dc>) -> World {
     assert_eq!(rt; state.open_count(), 0);
     World::new(alloc, state, dcs)
