@@ -6,10 +6,12 @@ use mathlib.Core.Option.{none, some, some-injective, some-ne-none}
 use lib.ListN.{get_elem?}
 use Rattle.atomic_table.proofs.Lists.{at_set}
 use Rattle.atomic_table.specs.Table.{State, Step, step, Act, keeps, takes, gives, Valid, homes_after, carried_after, rest, stepped, Allows, Arrives, opening}
-use Rattle.worker_pool.specs.declared.seat.Began.{Began}
-use Rattle.worker_pool.specs.declared.seat.Part.{Part}
-use Rattle.worker_pool.specs.declared.seat.Part.TheVariants.{Away, Sits, Holds}
-use Rattle.worker_pool.specs.Joining.Seated.{Sitter, began_of, owned, word_of, Lies, Knows, IsSeat, Standing, sitting, holding, choosing, taken, risen, put_back, sat_down}
+use Rattle.worker_pool.specs.declared.served.Served.{Served}
+use Rattle.worker_pool.specs.declared.served.Began.{Began}
+use Rattle.worker_pool.specs.declared.served.Part.{Part}
+use Rattle.worker_pool.specs.declared.served.Part.TheVariants.{Away, Sits, Holds}
+use Rattle.worker_pool.specs.Joining.Seated.{IsOf, GoesOn, owned, word_of, Lies, Knows, IsSeat, Standing, sitting, holding, IsHolding, taken, risen, put_back, sat_down}
+use Rattle.worker_pool.proofs.Serving.{not_yet, then_served}
 
 abbrev Owner : Type 0
 Owner = Option (ℕ × Began)
@@ -90,15 +92,15 @@ starts = record {
 }
 
 -- who comes has it in hands, where it was free
-come : (st : Step (Option Sitter)) (before : Standing) (s : State (Option Sitter) Part) (owner : Owner) (holder : Option ℕ) → s.words ≡ word_of holder ∷ []
+come : (st : Step (Option Served)) (before : Standing) (s : State (Option Served) Part) (owner : Owner) (holder : Option ℕ) → s.words ≡ word_of holder ∷ []
     → Lies (owned owner) holder s.homes → Views owner holder s.views
-    → (new : Part) × (act : Act (Option Sitter)) × Valid s.homes [] act
+    → (new : Part) × (act : Act (Option Served)) × Valid s.homes [] act
     × IsSeat record { words = slice_set s.words 0 1; homes = homes_after s.homes [] act; views = s.views ++ new ∷ [] }
     × taken st before (slice_index s.words 0) (new, carried_after [] act)
 come st before s owner None word lies knows =
-    let lying : Option Sitter = lies.0 in
+    let lying : Option Served = lies.0 in
     let own = length s.views in (
-      Holds (began_of lying),
+      Holds (owned owner),
       takes 0 lying,
       ap (λ homes. get_elem? homes 0) lies.1,
       record {
@@ -106,10 +108,10 @@ come st before s owner None word lies knows =
         holder = Some own;
         word = ap (λ words. slice_set words 0 1) word;
         lies = ap (λ homes. slice_set homes 0 none) lies.1;
-        knows = with_new owner (Some own) s.views (Holds (began_of lying)) (refl, sym lies.2)
+        knows = with_new owner (Some own) s.views (Holds (owned owner)) (refl, refl)
             (λ pass part at. when_taken owner own pass part (knows pass part at));
       },
-      λ free. (lying, refl),
+      λ free. (owned owner, lying, refl, lies.2),
     )
 come st before s owner (Some holder) word lies knows = (
   Away,
@@ -129,32 +131,28 @@ pub comes : (slots : ℕ) → Arrives IsSeat slots 0 (λ _. 1) (taken (step slot
 comes slots s is wide within = come (step slots 0 1 0 none) (Away, []) s is.owner is.holder is.word is.lies is.knows
 
 -- the owner rises, where it was free
-rise-free : (st : Step (Option Sitter)) (s : State (Option Sitter) Part) (own : ℕ) (began : Began) (owner : Owner) (lying : Option Sitter) → s.words ≡ 0 ∷ []
-    → s.homes ≡ some lying ∷ [] → began_of lying ≡ owned owner → Views owner None s.views → owner ≡ Some (own, began)
-    → (new : Part) × (act : Act (Option Sitter)) × Valid s.homes [] act × IsSeat (stepped s 0 1 own [] new act)
+rise : (st : Step (Option Served)) (s : State (Option Served) Part) (own : ℕ) (began : Began) (owner : Owner) (holder : Option ℕ) → s.words ≡ word_of holder ∷ []
+    → Lies (owned owner) holder s.homes → Views owner holder s.views → owner ≡ Some (own, began)
+    → (new : Part) × (act : Act (Option Served)) × Valid s.homes [] act × IsSeat (stepped s 0 1 own [] new act)
     × risen st (sitting began) (slice_index s.words 0) (new, carried_after [] act)
-rise-free st s own began owner None word homes lies knows its = absurd (none-some began (lies ∙ ap owned its))
-rise-free st s own began owner (Some sitter) word homes lies knows its =
-    let same : sitter.began ≡ began = same_Some sitter.began began (lies ∙ ap owned its) in (
+rise st s own began owner None word lies knows its =
+    let lying : Option Served = lies.0 in (
       Holds None,
-      takes 0 (Some sitter),
-      ap (λ homes. get_elem? homes 0) homes,
+      takes 0 lying,
+      ap (λ homes. get_elem? homes 0) lies.1,
       record {
         owner = None;
         holder = Some own;
         word = ap (λ words. slice_set words 0 1) word;
-        lies = ap (λ homes. slice_set homes 0 none) homes;
+        lies = ap (λ homes. slice_set homes 0 none) lies.1;
         knows = with_part None (Some own) s.views own (Holds None) (refl, refl)
             (λ pass part other at. when_risen owner own began its pass part other (knows pass part at));
       },
-      ((λ free. (sitter, ap sitting (sym same), refl)), λ held. absurd (held (ap (λ words. slice_index words 0) word))),
+      (
+        (λ free. (began, lying, refl, refl, subst (λ (o : Owner). IsOf (owned o) lying) its lies.2)),
+        λ held. absurd (held (ap (λ words. slice_index words 0) word)),
+      ),
     )
-
-rise : (st : Step (Option Sitter)) (s : State (Option Sitter) Part) (own : ℕ) (began : Began) (owner : Owner) (holder : Option ℕ) → s.words ≡ word_of holder ∷ []
-    → Lies (owned owner) holder s.homes → Views owner holder s.views → owner ≡ Some (own, began)
-    → (new : Part) × (act : Act (Option Sitter)) × Valid s.homes [] act × IsSeat (stepped s 0 1 own [] new act)
-    × risen st (sitting began) (slice_index s.words 0) (new, carried_after [] act)
-rise st s own began owner None word lies knows its = rise-free st s own began owner lies.0 word lies.1 lies.2 knows its
 rise st s own began owner (Some holder) word lies knows its = (
   Sits began,
   keeps,
@@ -170,19 +168,21 @@ rise st s own began owner (Some holder) word lies knows its = (
 )
 
 rises-as : (slots own : ℕ) (began : Began) → Allows IsSeat slots own (sitting began) 0 (λ _. 1) (risen (step slots 0 1 0 none) (sitting began))
-rises-as slots own began s is wide at within = rise (step slots 0 1 0 none) s own began is.owner is.holder is.word is.lies is.knows (is.knows own (Sits began) at)
+rises-as slots own began s is wide at within =
+    rise (step slots 0 1 0 none) s own began is.owner is.holder is.word is.lies is.knows (is.knows own (Sits began) at)
 
 pub rises : (slots own : ℕ) (me : Standing) (began : Began) → me ≡ sitting began → Allows IsSeat slots own me 0 (λ _. 1) (risen (step slots 0 1 0 none) me)
 rises slots own me began its =
     subst (λ (m : Standing). Allows IsSeat slots own m 0 (λ _. 1) (risen (step slots 0 1 0 none) m)) (sym its) (rises-as slots own began)
 
 -- nothing lies there while somebody has it in hands
-out : (began : Option Began) (holder : Option ℕ) (own : ℕ) (homes : List (maybe.Option (Option Sitter))) → holder ≡ Some own → Lies began holder homes → homes ≡ none ∷ []
+out : (began : Option Began) (holder : Option ℕ) (own : ℕ) (homes : List (maybe.Option (Option Served))) → holder ≡ Some own → Lies began holder homes → homes ≡ none ∷ []
 out began holder own homes its lies = subst (λ (h : Option ℕ). Lies began h homes) its lies
 
-puts_back-as : (slots own : ℕ) (lying : Option Sitter) → Allows IsSeat slots own (holding lying) 0 (λ _. 0) (λ _. put_back (step slots 0 0 0 none) (holding lying) 0)
-puts_back-as slots own lying s is wide at within =
-    let its = is.knows own (Holds (began_of lying)) at in (
+puts_back-as : (slots own : ℕ) (began : Option Began) (lying : Option Served) → IsOf began lying
+    → Allows IsSeat slots own (holding began lying) 0 (λ _. 0) (λ _. put_back (step slots 0 0 0 none) (holding began lying) 0)
+puts_back-as slots own began lying of s is wide at within =
+    let its = is.knows own (Holds began) at in (
       Away,
       gives,
       tt,
@@ -190,61 +190,94 @@ puts_back-as slots own lying s is wide at within =
         owner = is.owner;
         holder = None;
         word = ap (λ words. slice_set words 0 0) is.word;
-        lies = (lying, ap (λ homes. slice_set homes 0 (some lying)) (out (owned is.owner) is.holder own s.homes its.0 is.lies), sym its.1);
+        lies = (
+          lying,
+          ap (λ homes. slice_set homes 0 (some lying)) (out (owned is.owner) is.holder own s.homes its.0 is.lies),
+          subst (λ (b : Option Began). IsOf b lying) (sym its.1) of,
+        );
         knows = with_part is.owner None s.views own Away tt
             (λ pass part other at. when_put_back is.owner is.holder own its.0 pass part other (is.knows pass part at));
       },
       refl,
     )
 
-pub puts_back : (slots own : ℕ) (me : Standing) (lying : Option Sitter) → me ≡ holding lying
+pub puts_back : (slots own : ℕ) (me : Standing) → IsHolding me
     → Allows IsSeat slots own me 0 (λ _. 0) (λ _. put_back (step slots 0 0 0 none) me 0)
-puts_back slots own me lying its =
-    subst (λ (m : Standing). Allows IsSeat slots own m 0 (λ _. 0) (λ _. put_back (step slots 0 0 0 none) m 0)) (sym its) (puts_back-as slots own lying)
+puts_back slots own me held =
+    subst (λ (m : Standing). Allows IsSeat slots own m 0 (λ _. 0) (λ _. put_back (step slots 0 0 0 none) m 0)) (sym held.2)
+    (puts_back-as slots own held.0 held.1 held.3)
 
 no_owner : (owner : Owner) → owned owner ≡ None → owner ≡ None
 no_owner None is = refl
 no_owner (Some owner) is = absurd (none-some owner.1 (sym is))
 
-sits_down-as : (slots own : ℕ) (sitter : Sitter)
-    → Allows IsSeat slots own (choosing (Some sitter)) 0 (λ _. 0) (λ _. sat_down (step slots 0 0 0 none) (choosing (Some sitter)) 0)
-sits_down-as slots own sitter s is wide at within =
+sits_down-as : (slots own : ℕ) (served : Served) → Allows IsSeat slots own (holding None (Some served)) 0 (λ _. 0)
+    (λ _. sat_down (step slots 0 0 0 none) (holding None (Some served)) 0)
+sits_down-as slots own served s is wide at within =
     let its = is.knows own (Holds None) at in
-    let owner : Owner = Some (own, sitter.began) in (
-      Sits sitter.began,
+    let began : Began = record { number = served.number; first = served.dc } in
+    let owner : Owner = Some (own, began) in (
+      Sits began,
       gives,
       tt,
       record {
         owner = owner;
         holder = None;
         word = ap (λ words. slice_set words 0 0) is.word;
-        lies = (Some sitter, ap (λ homes. slice_set homes 0 (some (Some sitter))) (out (owned is.owner) is.holder own s.homes its.0 is.lies), refl);
-        knows = with_part owner None s.views own (Sits sitter.began) refl
+        lies = (
+          Some served,
+          ap (λ homes. slice_set homes 0 (some (Some served))) (out (owned is.owner) is.holder own s.homes its.0 is.lies),
+          (served.dc, refl, not_yet served.number served.dc),
+        );
+        knows = with_part owner None s.views own (Sits began) refl
             (λ pass part other at. when_sat_down is.owner owner is.holder own (no_owner is.owner its.1) its.0 pass part other (is.knows pass part at));
       },
-      (sitter, refl, refl),
+      (served, refl, refl),
     )
 
-pub sits_down : (slots own : ℕ) (me : Standing) (sitter : Sitter) → me ≡ choosing (Some sitter)
+pub sits_down : (slots own : ℕ) (me : Standing) (served : Served) → me ≡ holding None (Some served)
     → Allows IsSeat slots own me 0 (λ _. 0) (λ _. sat_down (step slots 0 0 0 none) me 0)
-sits_down slots own me sitter its =
-    subst (λ (m : Standing). Allows IsSeat slots own m 0 (λ _. 0) (λ _. sat_down (step slots 0 0 0 none) m 0)) (sym its) (sits_down-as slots own sitter)
+sits_down slots own me served its =
+    subst (λ (m : Standing). Allows IsSeat slots own m 0 (λ _. 0) (λ _. sat_down (step slots 0 0 0 none) m 0)) (sym its) (sits_down-as slots own served)
 
 -- ---- what is in hands
 
 abbrev Hands : Type 0
-Hands = List (ℕ × Option Sitter)
+Hands = List (ℕ × Option Served)
 
-pub in_hands : (hands : Hands) (lying : Option Sitter) → hands ≡ (0, lying) ∷ [] → (x : Option Sitter) × (hands ≡ (0, x) ∷ rest hands)
+pub in_hands : (hands : Hands) (lying : Option Served) → hands ≡ (0, lying) ∷ [] → (x : Option Served) × (hands ≡ (0, x) ∷ rest hands)
 in_hands hands lying is = (lying, is ∙ ap (λ h. (0, lying) ∷ rest h) (sym is))
 
 -- what is found there is what lay there
-pub found_there : (hands : Hands) (lying found : Option Sitter) → hands ≡ (0, lying) ∷ [] → hands ≡ (0, found) ∷ rest hands → found ≡ lying
+found_there : (hands : Hands) (lying found : Option Served) → hands ≡ (0, lying) ∷ [] → hands ≡ (0, found) ∷ rest hands → found ≡ lying
 found_there hands lying found is has = ap (λ (h : Hands). (get_or h 0 (0, found)).1) (sym has ∙ is)
 
+-- it is the owner's still, behind wires that it performed
+goes_on : (began : Option Began) (before after : Option Served) → IsOf began before → GoesOn before after → IsOf began after
+goes_on None before after of goes = subst (λ (b : Option Served). GoesOn b after) of goes
+goes_on (Some began) before after of goes =
+    let now = subst (λ (b : Option Served). GoesOn b after) of.1 goes in
+    (now.0, now.1, then_served began.number began.first of.0 now.0 of.2 now.2)
+
+pub still_held : (me : Standing) (there new : Option Served) → IsHolding me → me.1 ≡ (0, there) ∷ rest me.1 → GoesOn there new
+    → IsHolding (me.0, (0, new) ∷ rest me.1)
+still_held me there new held has goes =
+    let same : there ≡ held.1 = found_there me.1 held.1 there (ap (λ (m : Standing). m.1) held.2) has in (
+      held.0,
+      new,
+      ap (λ (m : Standing). (m.0, (0, new) ∷ rest m.1)) held.2,
+      goes_on held.0 held.1 new held.3 (subst (λ (b : Option Served). GoesOn b new) same goes),
+    )
+
+-- where nothing lies there, nobody is the owner
+nobody : (began : Option Began) (lying : Option Served) → IsOf began lying → lying ≡ None → began ≡ None
+nobody None lying of is = refl
+nobody (Some began) lying of is = absurd (none-some (record { number = began.number; dc = of.0 }) (sym is ∙ of.1))
+
 -- who found nothing there and put a component there may become its owner
-pub chosen : (me : Standing) (lying there new : Option Sitter) (sitter : Sitter) → me ≡ holding lying → me.1 ≡ (0, there) ∷ rest me.1 → there ≡ None → new ≡ Some sitter
-    → ◌≡◌ {A = Standing} (me.0, (0, new) ∷ rest me.1) (choosing (Some sitter))
-chosen me lying there new sitter its has empty is =
-    let nothing : lying ≡ None = sym (found_there me.1 lying there (ap (λ (m : Standing). m.1) its) has) ∙ empty in
-    ap (λ (m : Standing). (m.0, (0, new) ∷ rest m.1)) (its ∙ ap holding nothing) ∙ ap choosing is
+pub chosen : (me : Standing) (there new : Option Served) (served : Served) → IsHolding me → me.1 ≡ (0, there) ∷ rest me.1 → there ≡ None → new ≡ Some served
+    → ◌≡◌ {A = Standing} (me.0, (0, new) ∷ rest me.1) (holding None (Some served))
+chosen me there new served held has empty is =
+    let nothing : held.1 ≡ None = sym (found_there me.1 held.1 there (ap (λ (m : Standing). m.1) held.2) has) ∙ empty in
+    let none_began : held.0 ≡ None = nobody held.0 held.1 held.3 nothing in
+    ap (λ (m : Standing). (m.0, (0, new) ∷ rest m.1)) held.2 ∙ (λ i. holding (none_began i) (is i))

@@ -42,6 +42,7 @@ mod ring;
 mod ring_link;
 mod seat;
 mod sending;
+mod served;
 mod waiting;
 
 pub use answer::{Answer, Progress};

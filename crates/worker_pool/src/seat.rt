@@ -1,18 +1,17 @@
 // Where a data component is that is served.
 
-ghost use Rattle.std.specs.Prelude.{◌≡◌, ℕ, [], ◌∷◌, None, Some, IfErr, IfOk, IfSome};
+ghost use Rattle.std.specs.Prelude.{◌≡◌, ℕ, None, Some, IfErr, IfOk, IfSome};
 ghost use Rattle.data_component.specs.Store.{Store, performed, replied};
 ghost use Rattle.worker_pool.specs.Serving.{IsFor, IsServed};
-ghost use Rattle.worker_pool.specs.Joining.Seated.{Sitter, began_of, choosing, sitting, IsHolding};
+ghost use Rattle.worker_pool.specs.Joining.Seated.{GoesOn, HasRisen, IsHolding, sitting};
 
 use crate::errand::Errand;
+use crate::served::{Part, Served};
 use crate::waiting::LOOKS;
 use access_slots::op::{Reply, Wire};
 use atomic_table::{Play, Table, TableRule};
 use data_component::dc::Dc;
 use std::alloc::{AllocError, Global};
-use std::marker::Model;
-use std::snapshot::Snapshot;
 use std::sync::Wait;
 use std::{hint, thread};
 
@@ -53,80 +52,6 @@ pub fn perform_all(dc: &mut Dc, number: usize, errands: &mut [Errand])
     }
 }
 
-// A component that is served under its number, and what it was at first.
-#[derive(Drop)]
-pub struct Served {
-    number: usize,
-    first: Snapshot<Dc>,
-    dc: Dc,
-}
-
-impl Model for Served {
-    ghost use Rattle.worker_pool.specs.Serving.{IsServed};
-    ghost use Rattle.worker_pool.specs.Joining.Seated.{Sitter};
-
-    ghost Value = { Sitter };
-
-    ghost view = { λ s. record { began = record { number = s.number; first = s.first.value }; dc = s.dc } };
-
-    ghost invariant = { λ s. IsServed s.number s.first.value s.dc };
-}
-
-impl Served {
-    fn new(number: usize, dc: Dc) -> Served
-        ensures { result.began ≡ record { number = number; first = dc } }
-    {
-        Served {
-            number,
-            first: Snapshot::of(&dc),
-            dc,
-        }
-    }
-
-    // What it does with a wire.
-    #[inline(always)]
-    fn perform(&mut self, wire: &Wire) -> Option<Reply>
-        ensures same { self.new.began ≡ self.old.began }
-        ensures number { IfSome result (λ reply. reply.number ≡ wire.now.number) }
-    {
-        perform_own(&mut self.dc, self.number, wire)
-    }
-
-    // What it does with the errands' wires that are for it.
-    fn perform_all(&mut self, errands: &mut [Errand])
-        ensures { self.new.began ≡ self.old.began }
-    {
-        perform_all(&mut self.dc, self.number, errands);
-    }
-
-    fn into_dc(self) -> Dc
-        ensures { IsServed self.began.number self.began.first result }
-    {
-        let Served {
-            number: _,
-            first: _,
-            dc,
-        } = self;
-        dc
-    }
-}
-
-// As what a component began to be served. No value of it is made.
-pub struct Began {
-    pub number: usize,
-    pub first: Dc,
-}
-
-// A thread's part at a seat. No value of it is made.
-pub enum Part {
-    // It has none.
-    Away,
-    // It is the seat's owner, whose component is served there.
-    Sits(Began),
-    // It has the seat in hands, with the component there, if there is one.
-    Holds(Option<Began>),
-}
-
 /// What a thread knows of a seat. It has no bytes.
 pub type Pass = atomic_table::Seat<Option<Served>, Part>;
 
@@ -134,7 +59,7 @@ pub type Pass = atomic_table::Seat<Option<Served>, Part>;
 pub struct OneAtATime;
 
 impl TableRule<Option<Served>, Part, ()> for OneAtATime {
-    ghost use Rattle.worker_pool.specs.declared.seat.Part.TheVariants.{Away};
+    ghost use Rattle.worker_pool.specs.declared.served.Part.TheVariants.{Away};
     ghost use Rattle.worker_pool.specs.Joining.Seated.{IsSeat};
 
     ghost holds = { λ _. IsSeat };
@@ -177,22 +102,22 @@ impl Play<Option<Served>, Part> for SatDown {
 
 // What a component there does with a wire. Nothing where none is there.
 fn perform_there(there: &mut Option<Served>, wire: &Wire) -> Option<Option<Reply>>
-    ensures same { began_of there.new ≡ began_of there.old }
+    ensures goes_on { GoesOn there.old there.new }
     ensures number { IfSome result (λ said. IfSome said (λ reply. reply.number ≡ wire.now.number)) }
 {
     match there {
-        Some(served) => Some(served.perform(wire)),
+        Some(served) => Some(perform_own(&mut served.dc, served.number, wire)),
         None => None,
     }
 }
 
 // Has a component there perform the wires that are for it. Whether one is there.
 fn perform_all_there(there: &mut Option<Served>, errands: &mut [Errand]) -> bool
-    ensures { began_of there.new ≡ began_of there.old }
+    ensures { GoesOn there.old there.new }
 {
     match there {
         Some(served) => {
-            served.perform_all(errands);
+            perform_all(&mut served.dc, served.number, errands);
             true
         }
         None => false,
@@ -201,14 +126,13 @@ fn perform_all_there(there: &mut Option<Served>, errands: &mut [Errand]) -> bool
 
 // Puts the component there; it comes back where another one is.
 fn put_there(there: &mut Option<Served>, number: usize, dc: Dc) -> Result<(), Dc>
-    ensures put { IfOk result (λ _. (there.old ≡ None)
-        × ((sitter : Sitter) × (there.new ≡ Some sitter) × (sitter.began ≡ record { number = number; first = dc }))) }
+    ensures put { IfOk result (λ _. (there.old ≡ None) × (there.new ≡ Some (record { number = number; dc = dc }))) }
     ensures back { IfErr result (λ back. (there.new ≡ there.old) × (back ≡ dc)) }
 {
     if there.is_some() {
         return Err(dc);
     }
-    *there = Some(Served::new(number, dc));
+    *there = Some(Served { number, dc });
     Ok(())
 }
 
@@ -303,7 +227,7 @@ impl Seat {
         requires own { pass.old.table_id ≡ self.now.table.shared.table_id }
         requires sits { (began : _) × (pass.old.me ≡ sitting began) }
         ensures own { pass.new.table_id ≡ pass.old.table_id }
-        ensures chooses { (sitter : Sitter) × (pass.old.me ≡ sitting sitter.began) × (pass.new.me ≡ choosing (Some sitter)) }
+        ensures risen { HasRisen pass.old.me pass.new.me }
     {
         for _ in rt.forever() {
             if self.is_free() && self.table.shared.swap::<Risen>(pass, 0, IN_HANDS) == FREE {
@@ -326,7 +250,7 @@ impl Seat {
             unreachable!()
         };
         self.put_back(pass);
-        served.into_dc()
+        served.dc
     }
 
     // What the component does with a wire, before the seat is put back. Nothing where none is there.

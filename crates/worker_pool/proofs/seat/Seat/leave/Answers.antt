@@ -3,4 +3,4 @@ use Rattle.worker_pool.proofs.Seated.{in_hands}
 use Rattle.worker_pool.proofs.seat.Seat.leave.Goals as goal
 
 pub exchange-requires : goal.exchange-requires
-exchange-requires g c = (search rules, in_hands _ _ (ap (λ m. m.1) c.rise.ensures.chooses.2))
+exchange-requires g c = (search rules, in_hands _ _ (ap (λ m. m.1) c.rise.ensures.risen.3))

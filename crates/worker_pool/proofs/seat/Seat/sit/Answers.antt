@@ -4,10 +4,8 @@ use Rattle.worker_pool.proofs.seat.Seat.sit.Goals as goal
 
 pub store-requires : goal.store-requires
 store-requires g c =
-    let held = c.take-pass.ensures.held in
     let put = c.in-Ok.ensures.put in (
       search rules,
       search rules,
-      sits_down _ _ _ put.1.0
-          (chosen c.take-pass.result.me held.0 c.slot_mut.result.now _ put.1.0 held.1 c.slot_mut.ensures.value put.0 put.1.1),
+      sits_down _ _ _ _ (chosen c.take-pass.result.me c.slot_mut.result.now _ _ c.take-pass.ensures.held c.slot_mut.ensures.value put.0 put.1),
     )

@@ -1,0 +1,26 @@
+// What lies in a seat, and the parts of threads at it.
+
+use data_component::dc::Dc;
+
+// A component that is served, and under which number.
+#[derive(Drop)]
+pub struct Served {
+    pub number: usize,
+    pub dc: Dc,
+}
+
+// As what a component began to be served. No value of it is made.
+pub struct Began {
+    pub number: usize,
+    pub first: Dc,
+}
+
+// A thread's part at a seat. No value of it is made.
+pub enum Part {
+    // It has none.
+    Away,
+    // It is the seat's owner, whose component is served there.
+    Sits(Began),
+    // It has the seat in hands, with the component there, if there is one.
+    Holds(Option<Began>),
+}
