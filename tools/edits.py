@@ -1,12 +1,13 @@
 #!/usr/bin/env python3
 """Tries the edits crates/NAME/more-edits/*.edit, which aren't part of the gate: the prover has to refuse each.
 
-  tools/edits.py [NAME..]   those of all crates, or of these
+  tools/edits.py [NAME..]            those of all crates, or of these
+  tools/edits.py NAME/EDIT [..]      these alone, as tc_core/sent-while-down
 
 They are like the edits of must-fail/, which `rt ci` tries; these stand apart to keep it short, since each takes a processor
-for 20 to 40 seconds. Here they take the place of the others in a copy of the repository, for `rt must-fail`, which says of
-each what became of it. What it tried once it doesn't try again while nothing changes. The last line is
-`N refused, M not`.
+for 20 to 40 seconds. Here they take the place of the others in a copy of the repository, for `rt ci NAME..`, which says of
+each what became of it. It takes over what an earlier `rt ci` proved on this machine, and proves what that hasn't, with the
+crates below. The last line is `N refused, M not`; M counts those that can't be applied too.
 """
 import os
 import re
@@ -15,41 +16,68 @@ import subprocess
 import sys
 import tempfile
 
-from build import PARTS, TOP, linked
+from build import PARTS, TOP
 
 MORE = "more-edits"
+TRIED = re.compile(r"must-fail (\S+/\S+)\.edit: (.*)")
 
 
-def copied(place):
-    """Copies the repository, what is built linked, with each crate's further edits as those that must fail."""
+def edits_of(crate):
+    """The names of a crate's further edits."""
+    at = f"{TOP}/crates/{crate}/{MORE}"
+    return sorted(it.removesuffix(".edit") for it in os.listdir(at) if it.endswith(".edit")) if os.path.isdir(at) else []
+
+
+def wanted(words):
+    """The edits that the words name, as CRATE/EDIT; nothing where one names none."""
+    if not words:
+        words = os.listdir(f"{TOP}/crates")
+        return [f"{crate}/{it}" for crate in sorted(words) for it in edits_of(crate)]
+    found = []
+    for word in words:
+        crate, _, edit = word.partition("/")
+        of_word = [f"{crate}/{it}" for it in edits_of(crate) if edit in ("", it)]
+        if not of_word:
+            return []
+        found += of_word
+    return found
+
+
+def copied(place, edits):
+    """Copies the repository, with these edits as those that must fail and no others."""
     for name in ("crates.txt", "HANDLES"):
         shutil.copyfile(f"{TOP}/{name}", f"{place}/{name}")
     os.mkdir(f"{place}/.git")  # (the copy is the top of a repository)
     for crate in os.listdir(f"{TOP}/crates"):
-        one, other = f"{TOP}/crates/{crate}", f"{place}/crates/{crate}"
         for part in PARTS:
-            if os.path.isdir(f"{one}/{part}"):
-                shutil.copytree(f"{one}/{part}", f"{other}/{part}")
-        linked(f"{one}/out", f"{other}/out")
-        if os.path.isdir(f"{one}/{MORE}"):
-            shutil.copytree(f"{one}/{MORE}", f"{other}/must-fail")
+            if os.path.isdir(f"{TOP}/crates/{crate}/{part}"):
+                shutil.copytree(f"{TOP}/crates/{crate}/{part}", f"{place}/crates/{crate}/{part}")
+    for it in edits:
+        crate, name = it.split("/")
+        os.makedirs(f"{place}/crates/{crate}/must-fail", exist_ok=True)
+        shutil.copyfile(f"{TOP}/crates/{crate}/{MORE}/{name}.edit", f"{place}/crates/{crate}/must-fail/{name}.edit")
 
 
 def main():
-    names = sys.argv[1:] or sorted(it for it in os.listdir(f"{TOP}/crates") if os.path.isdir(f"{TOP}/crates/{it}/{MORE}"))
-    if not all(os.path.isdir(f"{TOP}/crates/{it}/{MORE}") for it in names):
+    edits = wanted(sys.argv[1:])
+    if not edits:
         print(__doc__, file=sys.stderr)
         return 2
-    refused = others = 0
+    refused = set()
     with tempfile.TemporaryDirectory(prefix="out-edits-", dir=TOP) as place:
-        copied(place)
-        with subprocess.Popen(["rt", "must-fail", *names], cwd=place, stdout=subprocess.PIPE, text=True) as ran:
+        copied(place, edits)
+        names = sorted({it.split("/")[0] for it in edits})
+        with subprocess.Popen(["rt", "ci", *names], cwd=place, stdout=subprocess.PIPE, stderr=subprocess.STDOUT, text=True) as ran:
             for line in ran.stdout:
-                print(line, end="", flush=True)
-                if re.search(r"must-fail \S+\.edit: ", line):
-                    refused, others = (refused + 1, others) if ".edit: refused, " in line else (refused, others + 1)
-    print(f"{refused} refused, {others} not")
-    return 1 if ran.returncode or others else 0
+                tried = TRIED.search(line)
+                if tried:
+                    print(line, end="", flush=True)
+                    if tried[2].startswith("refused, "):
+                        refused.add(tried[1])
+    others = [it for it in edits if it not in refused]
+    print("".join(f"not refused: {it}\n" for it in others), end="")
+    print(f"{len(refused)} refused, {len(others)} not")
+    return 1 if others else 0
 
 
 if __name__ == "__main__":
