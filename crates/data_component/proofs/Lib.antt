@@ -4,3 +4,5 @@ pub mod Changing
 pub mod Remembering
 pub mod Serving
 pub mod Worked
+pub mod Forgetting
+pub mod Shortening

@@ -13,7 +13,7 @@ use Rattle.access_slots.specs.declared.op.Op.TheVariants.{Read, Insert, Update, 
 use Rattle.access_slots.specs.declared.op.Said.{Said}
 use Rattle.access_slots.specs.declared.op.Said.TheVariants.{Value, Absent, Done, Duplicate, Missing, NoRoom, Old}
 use Rattle.access_slots.specs.Locks.{record_eq, target}
-use Rattle.data_component.specs.Performed.{Performed, RecordValue, left, value_of, counted, said_to, count, answer, has_room, said_under, IsAnswerBehind, IsRight}
+use Rattle.data_component.specs.Performed.{Performed, RecordValue, left, value_in, counted, said_to, count, answer, has_room, said_under, IsAnswerBehind, IsRight}
 use Rattle.data_component.specs.Sorted.{Rows, Kept, SortedKept, place_of, kept_place}
 use Rattle.data_component.specs.Joining.Performing.{Performs}
 use Rattle.data_component.specs.Keeping.{AreRowsOf, AreKept, AllBelow, Keeps, said_by, said_in}
@@ -23,20 +23,20 @@ use Rattle.data_component.proofs.Orders.{numbers, number_eq}
 -- ---- rows
 
 -- what is said to an operation is what the list gives
-pub says : (room : Bool) (table new : Rows) (list : List Performed) (o : Op) (said : Said) → AreRowsOf table list
-    → Performs room table new o said → said ≡ answer room list o
-says room table new list o said rows does = does.answer ∙ ap (λ (v : Option (List ℕ)). said_to room v o) (rows.values (target o))
+pub says : (room : Bool) (table new : Rows) (base : Rows) (list : List Performed) (o : Op) (said : Said) → AreRowsOf table base list
+    → Performs room table new o said → said ≡ answer room base list o
+says room table new base list o said rows does = does.answer ∙ ap (λ (v : Option (List ℕ)). said_to room v o) (rows.values (target o))
 
 -- as long as fewer than the limit are present, and for one that is redone
-pub says_within : (limit : ℕ) (redo room : Bool) (table new : Rows) (list : List Performed) (o : Op) (said : Said) → AreRowsOf table list
-    → room ≡ (redo || nat_lt (length table) limit) → Performs room table new o said → said ≡ answer (has_room limit redo list) list o
-says_within limit redo room table new list o said rows is does =
-    says room table new list o said rows does
-    ∙ ap (λ (b : Bool). answer b list o) (is ∙ ap (λ (n : ℕ). redo || nat_lt n limit) rows.count)
+pub says_within : (limit : ℕ) (redo room : Bool) (table new base : Rows) (list : List Performed) (o : Op) (said : Said) → AreRowsOf table base list
+    → room ≡ (redo || nat_lt (length table) limit) → Performs room table new o said → said ≡ answer (has_room limit redo base list) base list o
+says_within limit redo room table new base list o said rows is does =
+    says room table new base list o said rows does
+    ∙ ap (λ (b : Bool). answer b base list o) (is ∙ ap (λ (n : ℕ). redo || nat_lt n limit) rows.count)
 
-pub more_rows : (room : Bool) (table new : Rows) (list : List Performed) (n : ℕ) (o : Op) (said : Said)
-    → AreRowsOf table list → Performs room table new o said → AreRowsOf new ((n, o, said) ∷ list)
-more_rows room table new list n o said rows does = record {
+pub more_rows : (room : Bool) (table new base : Rows) (list : List Performed) (n : ℕ) (o : Op) (said : Said)
+    → AreRowsOf table base list → Performs room table new o said → AreRowsOf new base ((n, o, said) ∷ list)
+more_rows room table new base list n o said rows does = record {
   sorted = does.sorted;
   values = λ r. does.values r ∙ ap (λ (v : Option (List ℕ)). if record_eq (target o) r then left o said v else v) (rows.values r);
   count = does.count ∙ ap (counted o said) rows.count;
@@ -61,16 +61,17 @@ counted_few (Delete r) Missing n = omega arith
 counted_few (Delete r) NoRoom n = omega arith
 counted_few (Delete r) Old n = omega arith
 
--- so there are at most as many records as operations
-count_few : (list : List Performed) → count list ≤ length list
-count_few [] = omega arith
-count_few (e ∷ list) = omega (arith, counted_few e.1 e.2 (count list), count_few list)
+-- so there are at most as many records as there were and operations
+count_few : (base : Rows) (list : List Performed) → count base list ≤ length base + length list
+count_few base [] = omega arith
+count_few base (e ∷ list) = omega (arith, counted_few e.1 e.2 (count base list), count_few base list)
 
-pub few_rows : (table : Rows) (performed : List Performed) → AreRowsOf table (reverse performed) → length table ≤ length performed
-few_rows table performed rows = omega (arith, rows.count, count_few (reverse performed), length-reverse performed)
+pub few_rows : (table base : Rows) (performed : List Performed) → AreRowsOf table base (reverse performed) → length table ≤ length base + length performed
+few_rows table base performed rows = omega (arith, rows.count, count_few base (reverse performed), length-reverse performed)
 
-pub few_behind : (table : Rows) (performed : List Performed) (k : ℕ) → k ≤ length performed → AreRowsOf table (reverse (take k performed)) → length table ≤ k
-few_behind table performed k inside rows = omega (arith, few_rows table (take k performed) rows, length-take-le k performed inside)
+pub few_behind : (table base : Rows) (performed : List Performed) (k : ℕ) → k ≤ length performed → AreRowsOf table base (reverse (take k performed))
+    → length table ≤ length base + k
+few_behind table base performed k inside rows = omega (arith, few_rows table base (take k performed) rows, length-take-le k performed inside)
 
 -- ---- places
 
@@ -191,24 +192,26 @@ left_out kept new mark performed are is fewer = record {
 pub higher_mark : (kept : Kept) (mark high : ℕ) (performed : List Performed) → mark ≤ high → AreKept kept mark performed → AreKept kept high performed
 higher_mark kept mark high performed up are = record { sorted = are.sorted; within = are.within; few = are.few; found = λ n above. are.found n (omega (arith, up, above)) }
 
-pub keeps_more : (redo room : Bool) (table new : Rows) (performed : List Performed) (kept : Kept) (mark limit ops n : ℕ) (o : Op) (said : Said)
-    → Keeps table performed kept mark limit ops → mark < n → said_under (reverse performed) n ≡ None
-    → length performed < ops → room ≡ (redo || nat_lt (length table) limit) → Performs room table new o said → Keeps new (performed ++ (n, o, said) ∷ []) (kept_more kept n (length performed)) mark limit ops
-keeps_more redo room table new performed kept mark limit ops n o said was above fresh inside is does =
+pub keeps_more : (redo room : Bool) (table new base : Rows) (performed : List Performed) (kept : Kept) (mark limit ops n : ℕ) (o : Op) (said : Said)
+    → Keeps table base performed kept mark limit ops → mark < n → said_under (reverse performed) n ≡ None
+    → length performed < ops → room ≡ (redo || nat_lt (length table) limit) → Performs room table new o said → Keeps new base (performed ++ (n, o, said) ∷ []) (kept_more kept n (length performed)) mark limit ops
+keeps_more redo room table new base performed kept mark limit ops n o said was above fresh inside is does =
     let list = reverse performed in
     let more = sym (pushed (n, o, said) performed) in
     record {
-      right = subst (IsRight limit) more (fresh, (redo, says_within limit redo room table new list o said was.rows is does), was.right);
-      rows = subst (AreRowsOf new) more (more_rows room table new list n o said was.rows does);
+      right = subst (IsRight limit base) more (fresh, (redo, says_within limit redo room table new base list o said was.rows is does), was.right);
+      begins = was.begins;
+      fits = was.fits;
+      rows = subst (AreRowsOf new base) more (more_rows room table new base list n o said was.rows does);
       kept = more_kept kept mark performed n o said was.kept above fresh;
       few = omega (arith, inside, length-append performed ((n, o, said) ∷ []));
     }
 
 -- ---- the list, from its oldest entry on
 
-right_behind : (limit : ℕ) (later list : List Performed) → IsRight limit (later ++ list) → IsRight limit list
-right_behind limit [] list right = right
-right_behind limit (e ∷ later) list right = right_behind limit later list right.2
+right_behind : (limit : ℕ) (base : Rows) (later list : List Performed) → IsRight limit base (later ++ list) → IsRight limit base list
+right_behind limit base [] list right = right
+right_behind limit base (e ∷ later) list right = right_behind limit base later list right.2
 
 taken : (performed : List Performed) (k : ℕ) → reverse performed ≡ reverse (drop k performed) ++ reverse (take k performed)
 taken performed k = ap reverse (sym (take-append-drop k performed)) ∙ reverse-append (take k performed) (drop k performed)
@@ -218,27 +221,27 @@ taken_more : (performed : List Performed) (k : ℕ) (d : Performed) → k < leng
 taken_more performed k d inside = (take_at_read performed k d inside).1
 
 -- the next entry was fresh, and its answer is what the earlier ones give
-pub next_is_right : (limit : ℕ) (performed : List Performed) (k : ℕ) (d : Performed) → k < length performed
-    → IsRight limit (reverse performed) → IsRight limit (slice_index_or performed k d ∷ reverse (take k performed))
-next_is_right limit performed k d inside right =
-    let behind = right_behind limit (reverse (drop (k + 1) performed)) (reverse (take (k + 1) performed)) (subst (IsRight limit) (taken performed (k + 1)) right) in
-    subst (IsRight limit) (ap reverse (taken_more performed k d inside) ∙ pushed (slice_index_or performed k d) (take k performed)) behind
+pub next_is_right : (limit : ℕ) (base : Rows) (performed : List Performed) (k : ℕ) (d : Performed) → k < length performed
+    → IsRight limit base (reverse performed) → IsRight limit base (slice_index_or performed k d ∷ reverse (take k performed))
+next_is_right limit base performed k d inside right =
+    let behind = right_behind limit base (reverse (drop (k + 1) performed)) (reverse (take (k + 1) performed)) (subst (IsRight limit base) (taken performed (k + 1)) right) in
+    subst (IsRight limit base) (ap reverse (taken_more performed k d inside) ∙ pushed (slice_index_or performed k d) (take k performed)) behind
 
 -- the oldest entries are right by themselves
-pub right_cut : (limit k : ℕ) (performed : List Performed) → IsRight limit (reverse performed) → IsRight limit (reverse (take k performed))
-right_cut limit k performed right =
-    right_behind limit (reverse (drop k performed)) (reverse (take k performed)) (subst (IsRight limit) (taken performed k) right)
+pub right_cut : (limit k : ℕ) (base : Rows) (performed : List Performed) → IsRight limit base (reverse performed) → IsRight limit base (reverse (take k performed))
+right_cut limit k base performed right =
+    right_behind limit base (reverse (drop k performed)) (reverse (take k performed)) (subst (IsRight limit base) (taken performed k) right)
 
 -- ---- as the code has it
 
-pub keeps_next : (redo room : Bool) (table new : Rows) (performed longer : List Performed) (kept more : Kept) (mark limit ops n : ℕ) (o : Op) (said : Said) (place : ℕ)
-    → Keeps table performed kept mark limit ops → mark < n → said_under (reverse performed) n ≡ None
-    → length performed < ops → room ≡ (redo || nat_lt (length table) limit) → Performs room table new o said → longer ≡ performed ++ (n, o, said) ∷ [] → more ≡ insert kept (kept_place kept n) (n, place) → place ≡ length performed → Keeps new longer more mark limit ops
-keeps_next redo room table new performed longer kept more mark limit ops n o said place was above fresh inside is does grown put at =
+pub keeps_next : (redo room : Bool) (table new base : Rows) (performed longer : List Performed) (kept more : Kept) (mark limit ops n : ℕ) (o : Op) (said : Said) (place : ℕ)
+    → Keeps table base performed kept mark limit ops → mark < n → said_under (reverse performed) n ≡ None
+    → length performed < ops → room ≡ (redo || nat_lt (length table) limit) → Performs room table new o said → longer ≡ performed ++ (n, o, said) ∷ [] → more ≡ insert kept (kept_place kept n) (n, place) → place ≡ length performed → Keeps new base longer more mark limit ops
+keeps_next redo room table new base performed longer kept more mark limit ops n o said place was above fresh inside is does grown put at =
     let whole = put ∙ ap (λ (i : ℕ). insert kept (kept_place kept n) (n, i)) at in
-    subst (λ (l : List Performed). Keeps new l more mark limit ops) (sym grown)
-    (subst (λ (k : Kept). Keeps new (performed ++ (n, o, said) ∷ []) k mark limit ops) (sym whole)
-    (keeps_more redo room table new performed kept mark limit ops n o said was above fresh inside is does))
+    subst (λ (l : List Performed). Keeps new base l more mark limit ops) (sym grown)
+    (subst (λ (k : Kept). Keeps new base (performed ++ (n, o, said) ∷ []) k mark limit ops) (sym whole)
+    (keeps_more redo room table new base performed kept mark limit ops n o said was above fresh inside is does))
 
 -- an answer tells whether there was room, where that mattered
 found_room : (room : Bool) (value : RecordValue) (o : Op) → said_to (not (is_no_room (said_to room value o))) value o ≡ said_to room value o
@@ -250,32 +253,32 @@ found_room false (Some w) (Insert r v) = refl
 found_room room value (Update r v) = refl
 found_room room value (Delete r) = refl
 
-pub answers_again : (limit : ℕ) (list : List Performed) (o : Op) (said : Said) → IsAnswerBehind limit list o said
-    → answer (not (is_no_room said)) list o ≡ said
-answers_again limit list o said is =
-    let room = has_room limit is.0 list in
-    ap (λ (s : Said). answer (not (is_no_room s)) list o) is.1 ∙ found_room room (value_of list (target o)) o ∙ sym is.1
+pub answers_again : (limit : ℕ) (base : Rows) (list : List Performed) (o : Op) (said : Said) → IsAnswerBehind limit base list o said
+    → answer (not (is_no_room said)) base list o ≡ said
+answers_again limit base list o said is =
+    let room = has_room limit is.0 base list in
+    ap (λ (s : Said). answer (not (is_no_room s)) base list o) is.1 ∙ found_room room (value_in base list (target o)) o ∙ sym is.1
 
 -- the rows behind one more entry of the list
-pub rows_next : (limit : ℕ) (again : Bool) (table new : Rows) (performed : List Performed) (k : ℕ) (d : Performed) (said : Said)
-    → k < length performed → IsRight limit (reverse performed) → AreRowsOf table (reverse (take k performed))
+pub rows_next : (limit : ℕ) (again : Bool) (table new base : Rows) (performed : List Performed) (k : ℕ) (d : Performed) (said : Said)
+    → k < length performed → IsRight limit base (reverse performed) → AreRowsOf table base (reverse (take k performed))
     → again ≡ not (is_no_room (slice_index_or performed k d).2) → Performs again table new (slice_index_or performed k d).1 said
-    → AreRowsOf new (reverse (take (k + 1) performed))
-rows_next limit again table new performed k d said inside right rows found does =
+    → AreRowsOf new base (reverse (take (k + 1) performed))
+rows_next limit again table new base performed k d said inside right rows found does =
     let e = slice_index_or performed k d in
     let behind = reverse (take k performed) in
-    let next = next_is_right limit performed k d inside right in
+    let next = next_is_right limit base performed k d inside right in
     let same : said ≡ e.2
-    = says again table new behind e.1 said rows does ∙ ap (λ (b : Bool). answer b behind e.1) found ∙ answers_again limit behind e.1 e.2 next.1 in
-    subst (AreRowsOf new) (sym (ap reverse (taken_more performed k d inside) ∙ pushed e (take k performed)))
-    (subst (λ (s : Said). AreRowsOf new ((e.0, e.1, s) ∷ behind)) same (more_rows again table new behind e.0 e.1 said rows does))
+    = says again table new base behind e.1 said rows does ∙ ap (λ (b : Bool). answer b base behind e.1) found ∙ answers_again limit base behind e.1 e.2 next.1 in
+    subst (AreRowsOf new base) (sym (ap reverse (taken_more performed k d inside) ∙ pushed e (take k performed)))
+    (subst (λ (s : Said). AreRowsOf new base ((e.0, e.1, s) ∷ behind)) same (more_rows again table new base behind e.0 e.1 said rows does))
 
-pub kept_next : (limit : ℕ) (kept more : Kept) (mark : ℕ) (performed : List Performed) (k place n : ℕ) (d : Performed)
-    → k < length performed → IsRight limit (reverse performed) → AreKept kept mark (take k performed)
+pub kept_next : (limit : ℕ) (base : Rows) (kept more : Kept) (mark : ℕ) (performed : List Performed) (k place n : ℕ) (d : Performed)
+    → k < length performed → IsRight limit base (reverse performed) → AreKept kept mark (take k performed)
     → n ≡ (slice_index_or performed k d).0 → mark < n → more ≡ insert kept (kept_place kept n) (n, place) → place ≡ k → AreKept more mark (take (k + 1) performed)
-kept_next limit kept more mark performed k place n d inside right are number above put at =
+kept_next limit base kept more mark performed k place n d inside right are number above put at =
     let e = slice_index_or performed k d in
-    let next = next_is_right limit performed k d inside right in
+    let next = next_is_right limit base performed k d inside right in
     let count : length (take k performed) ≡ k = length-take-le k performed (omega (arith, inside)) in
     let whole : more ≡ insert kept (kept_place kept e.0) (e.0, length (take k performed)) = put ∙ ap₂ (λ (m i : ℕ). insert kept (kept_place kept m) (m, i)) number (at ∙ sym count) in
     subst (λ (x : Kept). AreKept x mark (take (k + 1) performed)) (sym whole)
@@ -290,15 +293,17 @@ kept_still kept mark performed k n d inside are number low =
     (same_kept kept mark (take k performed) (slice_index_or performed k d) are (subst (λ (m : ℕ). m ≤ mark) number low))
 
 -- cut back to the oldest entries
-pub keeps_cut : (table new : Rows) (performed cut seen : List Performed) (kept more : Kept) (mark low limit ops saved : ℕ)
-    → Keeps table performed kept mark limit ops → saved ≤ length performed → cut ≡ take saved performed → seen ≡ cut
-    → AreRowsOf new (reverse seen) → AreKept more low seen → Keeps new cut more low limit ops
-keeps_cut table new performed cut seen kept more mark low limit ops saved was inside is same rows are =
+pub keeps_cut : (table new base : Rows) (performed cut seen : List Performed) (kept more : Kept) (mark low limit ops saved : ℕ)
+    → Keeps table base performed kept mark limit ops → saved ≤ length performed → cut ≡ take saved performed → seen ≡ cut
+    → AreRowsOf new base (reverse seen) → AreKept more low seen → Keeps new base cut more low limit ops
+keeps_cut table new base performed cut seen kept more mark low limit ops saved was inside is same rows are =
     let many : length cut ≡ saved = ap length is ∙ length-take-le saved performed inside in
     let few = was.few in
     record {
-      right = subst (λ (l : List Performed). IsRight limit (reverse l)) (sym is) (right_cut limit saved performed was.right);
-      rows = subst (λ (l : List Performed). AreRowsOf new (reverse l)) same rows;
+      right = subst (λ (l : List Performed). IsRight limit base (reverse l)) (sym is) (right_cut limit saved base performed was.right);
+      begins = was.begins;
+      fits = was.fits;
+      rows = subst (λ (l : List Performed). AreRowsOf new base (reverse l)) same rows;
       kept = subst (λ (l : List Performed). AreKept more low l) same are;
       few = omega (arith, many, inside, few);
     }

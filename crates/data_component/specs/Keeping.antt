@@ -2,14 +2,14 @@
 use Rattle.std.specs.Prelude.{◌≡◌, ℕ, ◌<◌, ◌≤◌, List, length, reverse, slice_get, Option, Some, None}
 use Rattle.access_slots.specs.declared.slot.Record.{Record}
 use Rattle.access_slots.specs.declared.op.Said.{Said}
-use Rattle.data_component.specs.Performed.{Performed, value_of, count, said_under, IsRight}
+use Rattle.data_component.specs.Performed.{Performed, value_in, count, said_under, IsRight}
 use Rattle.data_component.specs.Sorted.{Rows, row_of, SortedRows, Kept, place_of, SortedKept}
 
--- the rows are what the list says of each record
-pub record AreRowsOf (rows : Rows) (list : List Performed) : Type 0 where
+-- the rows are what the list says of each record, behind the rows with which it began
+pub record AreRowsOf (rows base : Rows) (list : List Performed) : Type 0 where
   pub sorted : SortedRows rows
-  pub values : (r : Record) → row_of rows r ≡ value_of list r
-  pub count : length rows ≡ count list
+  pub values : (r : Record) → row_of rows r ≡ value_in base list r
+  pub count : length rows ≡ count base list
 
 abbrev pub said_by : Option Performed → Option Said
 said_by None = None
@@ -30,8 +30,10 @@ pub record AreKept (kept : Kept) (mark : ℕ) (performed : List Performed) : Typ
   pub few : length kept ≤ length performed
   pub found : (n : ℕ) → mark < n → said_in performed (place_of kept n) ≡ said_under (reverse performed) n
 
-pub record Keeps (table : Rows) (performed : List Performed) (index : Kept) (mark limit ops : ℕ) : Type 0 where
-  pub right : IsRight limit (reverse performed)
-  pub rows : AreRowsOf table (reverse performed)
+pub record Keeps (table base : Rows) (performed : List Performed) (index : Kept) (mark limit ops : ℕ) : Type 0 where
+  pub right : IsRight limit base (reverse performed)
+  pub begins : SortedRows base
+  pub fits : length base ≤ limit
+  pub rows : AreRowsOf table base (reverse performed)
   pub kept : AreKept index mark performed
   pub few : length performed ≤ ops

@@ -3,3 +3,4 @@ pub mod Store
 pub mod Sorted
 pub mod Keeping
 pub mod Joining
+pub mod Shortened

@@ -1,18 +1,23 @@
 -- A data component: what it has performed, what its last checkpoint kept, and how it performs a wire, restarts and keeps a
 -- checkpoint (Lomet, Fekete, Weikum, Zwilling, CIDR 2009: a data component that fails is restored, and the transaction component
 -- sends its operations again).
-use Rattle.std.specs.Prelude.{ℕ, ◌+◌, ◌≤◌, ◌^◌, Bool, nat_lt, nat_le, ◌==◌, if◌then◌else◌, List, [], ◌∷◌, length, Option, Some, None}
+use Rattle.std.specs.Prelude.{◌≡◌, ℕ, ◌+◌, ◌≤◌, ◌^◌, Bool, nat_lt, nat_le, ◌==◌, ◌&&◌, if◌then◌else◌, List, [], ◌∷◌, length, Option, Some, None}
 use Rattle.access_slots.specs.declared.op.Op.{Op}
 use Rattle.access_slots.specs.declared.op.Said.{Said}
 use Rattle.access_slots.specs.declared.op.Said.TheVariants.{Old}
 use Rattle.access_slots.specs.declared.op.Wire.{Wire}
 use Rattle.access_slots.specs.declared.op.Reply.{Reply}
 use Rattle.access_slots.specs.declared.op.News.{News}
-use Rattle.data_component.specs.Performed.{Performed, said_under, answer, has_room}
+use Rattle.access_slots.specs.declared.slot.Record.{Record}
+use Rattle.data_component.specs.Performed.{Performed, value_in, count, said_under, answer, has_room, all_at_most}
+use Rattle.data_component.specs.Sorted.{Rows, row_of, SortedRows}
 
--- what was performed, the newest first, and the low-water mark; the list and mark that the last checkpoint kept; how often it
--- has restarted; how many records and how many operations there may be
+-- the rows with which the list begins, and the mark behind which it does; what was performed since, the newest first, and the low-water
+-- mark; the list and mark that the last checkpoint kept; how often it has restarted; how many records and how many operations there may
+-- be
 pub record Store : Type 0 where
+  pub base : Rows
+  pub base_mark : ℕ
   pub list : List Performed
   pub mark : ℕ
   pub saved : List Performed
@@ -22,7 +27,7 @@ pub record Store : Type 0 where
   pub ops : ℕ
 
 abbrev pub empty : ℕ → ℕ → Store
-empty rows ops = record { list = []; mark = 0; saved = []; saved_mark = 0; incarnation = 0; rows = rows; ops = ops }
+empty rows ops = record { base = []; base_mark = 0; list = []; mark = 0; saved = []; saved_mark = 0; incarnation = 0; rows = rows; ops = ops }
 
 -- ---- wires
 
@@ -45,7 +50,7 @@ pub data Fate : Type 0 where
   New : Said → Fate
 
 abbrev pub fate_of_new : Store → Bool → Op → Fate
-fate_of_new s redo o = if nat_lt (length s.list) s.ops then New (answer (has_room s.rows redo s.list) s.list o) else Silent
+fate_of_new s redo o = if nat_lt (length s.list) s.ops then New (answer (has_room s.rows redo s.base s.list) s.base s.list o) else Silent
 
 abbrev pub fate_above : Option Said → Store → Bool → Op → Fate
 fate_above (Some said) s redo o = Again said
@@ -96,3 +101,23 @@ restarted s = record s { list = s.saved; mark = s.saved_mark; incarnation = s.in
 
 abbrev pub news_of : Store → News
 news_of s = record { incarnation = s.incarnation; mark = s.mark }
+
+-- ---- a low-water mark by itself, and what is forgotten (the same paper: request IDs at or under the mark aren't sent again)
+
+-- a low-water mark that was told with no wire, of an incarnation
+abbrev pub heard : Store → ℕ → ℕ → Store
+heard s incarnation low_water = if s.incarnation == incarnation then marked s low_water else s
+
+-- whether the last checkpoint has all that was performed, each number is at or under the mark that it kept, and no more records are present
+-- than there may be
+abbrev pub may_forget : Store → Bool
+may_forget s = (length s.saved == length s.list) && nat_le (count s.base s.list) s.rows && all_at_most s.saved_mark s.list
+
+-- the list is empty, and begins with the rows that it left, behind the mark of the checkpoint, which had all of it
+pub record HasForgotten (s t : Store) : Type 0 where
+  pub all : s.saved ≡ s.list
+  pub low : s.saved_mark ≤ s.mark
+  pub sorted : SortedRows t.base
+  pub values : (r : Record) → row_of t.base r ≡ value_in s.base s.list r
+  pub count : length t.base ≡ count s.base s.list
+  pub rest : t ≡ record s { base = t.base; base_mark = s.saved_mark; list = []; saved = [] }

@@ -1,10 +1,11 @@
 //! The data component.
 
-ghost use Rattle.std.specs.Prelude.{◌≡◌, ◌↔◌, ◌<◌, ◌≤◌, [], Some, None, length, reverse, IsErr, IfOk, OnOk, OnErr, not, vec_capacity};
+ghost use Rattle.std.specs.Prelude.{◌≡◌, ◌↔◌, ◌+◌, ◌<◌, ◌≤◌, [], Some, None, true, false, length, reverse, IsErr, IfOk, OnOk, OnErr, not, vec_capacity};
 ghost use Rattle.access_slots.specs.Access.{is_no_room};
-ghost use Rattle.data_component.specs.Performed.{value_of, said_under, IsRight};
+ghost use Rattle.data_component.specs.Performed.{value_in, said_under, IsRight, all_at_most};
+ghost use Rattle.data_component.specs.Sorted.{SortedRows};
 ghost use Rattle.data_component.specs.Store.{empty, marked, fate, fate_of_new, reply_by, store_by, replied, performed};
-ghost use Rattle.data_component.specs.Store.{checkpointed, IsSpent, restarted, news_of};
+ghost use Rattle.data_component.specs.Store.{checkpointed, IsSpent, restarted, news_of, heard, may_forget, HasForgotten};
 ghost use Rattle.data_component.specs.Keeping.{AreRowsOf, AreKept};
 
 use crate::kept::{Kept, keep, leave_out_old, place_of};
@@ -26,9 +27,12 @@ const MOST_INCARNATIONS: u64 = 1 << 62;
 /// A store of records that performs each numbered operation once (Lomet, Fekete, Weikum, Zwilling,
 /// CIDR 2009: idempotence by unique request IDs). A checkpoint keeps its list of what was performed
 /// and its low-water mark; a restart cuts both back to the last checkpoint, and begins a new
-/// incarnation. The rows, and the places of the numbers above the mark, are rebuilt from the list.
+/// incarnation. The rows, and the places of the numbers above the mark, are rebuilt from the list, and
+/// from the rows with which it begins: those that it left when it was forgotten last.
 #[derive(Drop)]
 pub struct Dc {
+    base: Vec<Row>,
+    base_mark: u64,
     rows: Vec<Row>,
     performed: Vec<Performed>,
     kept: Vec<Kept>,
@@ -42,13 +46,15 @@ pub struct Dc {
 }
 
 impl Model for Dc {
-    ghost use Rattle.std.specs.Prelude.{◌≤◌, length, reverse, take, vec_capacity};
+    ghost use Rattle.std.specs.Prelude.{◌+◌, ◌≤◌, length, reverse, take, vec_capacity};
     ghost use Rattle.data_component.specs.Store.{Store};
     ghost use Rattle.data_component.specs.Keeping.{Keeps};
 
     ghost Value = { Store };
 
     ghost view = { λ d. record {
+      base = d.base.items;
+      base_mark = d.base_mark;
       list = reverse d.performed.items;
       mark = d.mark;
       saved = reverse (take d.saved d.performed.items);
@@ -59,9 +65,10 @@ impl Model for Dc {
     } };
 
     ghost invariant = { λ d.
-        Keeps d.rows.items d.performed.items d.kept.items d.mark d.row_limit d.op_limit
-        × (d.op_limit ≤ vec_capacity d.rows) × (d.op_limit ≤ vec_capacity d.performed) × (d.op_limit ≤ vec_capacity d.kept)
-        × (d.saved ≤ length d.performed.items) };
+        Keeps d.rows.items d.base.items d.performed.items d.kept.items d.mark d.row_limit d.op_limit
+        × (d.row_limit + d.op_limit ≤ vec_capacity d.rows) × (d.op_limit ≤ vec_capacity d.performed) × (d.op_limit ≤ vec_capacity d.kept)
+        × (d.saved ≤ length d.performed.items) × (d.row_limit ≤ vec_capacity d.base)
+        × (d.base_mark ≤ d.saved_mark) × (d.saved_mark ≤ d.mark) };
 }
 
 impl Dc {
@@ -70,8 +77,13 @@ impl Dc {
     pub fn new(alloc: Global, rows: usize, ops: usize) -> Result<Dc, AllocError>
         ensures { IfOk result (λ d. d ≡ empty rows ops) }
     {
+        let Some(most) = rows.checked_add(ops) else {
+            return Err(AllocError);
+        };
         Ok(Dc {
-            rows: Vec::with_capacity(alloc, rows.saturating_add(ops))?,
+            base: Vec::with_capacity(alloc, rows)?,
+            base_mark: 0,
+            rows: Vec::with_capacity(alloc, most)?,
             performed: Vec::with_capacity(alloc, ops)?,
             kept: Vec::with_capacity(alloc, ops)?,
             mark: 0,
@@ -104,6 +116,16 @@ impl Dc {
         }
         self.raise(wire.low_water);
         self.perform_marked(wire.number, wire.redo, &wire.op)
+    }
+
+    /// Hears a low-water mark that comes with no wire; one that is told to another incarnation changes
+    /// nothing. So a checkpoint behind it can keep a mark at or above all that was performed.
+    pub fn hear_mark(&mut self, incarnation: u64, low_water: u64)
+        ensures { self.new ≡ heard self.old incarnation low_water }
+    {
+        if self.incarnation == incarnation {
+            self.raise(low_water);
+        }
     }
 
     // The mark rises, or stays.
@@ -177,6 +199,32 @@ impl Dc {
         self.mark
     }
 
+    /// Forgets what it has performed: the rows stay, and are those with which the list begins from now
+    /// on. It does so where the last checkpoint has all that was performed and each number is at or
+    /// under the mark that it kept, and where no more records are present than there may be (an insert
+    /// that is redone finds room for one more). Else it says no, and nothing changes. It takes no memory.
+    pub fn forget(&mut self) -> bool
+        ensures told { result ≡ may_forget self.old }
+        ensures forgotten { result ≡ true → HasForgotten self.old self.new }
+        ensures stays { result ≡ false → self.new ≡ self.old }
+    {
+        if self.saved != self.performed.len() {
+            return false;
+        }
+        if self.rows.len() > self.row_limit {
+            return false;
+        }
+        if !are_at_most(self.performed.as_slice(), self.saved_mark) {
+            return false;
+        }
+        put_all(&mut self.base, self.rows.as_slice());
+        self.base_mark = self.saved_mark;
+        self.performed.clear();
+        self.kept.clear();
+        self.saved = 0;
+        true
+    }
+
     /// Which incarnation it is: 0 at first, and one more at each restart.
     pub fn incarnation(&self) -> u64
         ensures { result ≡ self.now.incarnation }
@@ -199,11 +247,11 @@ impl Dc {
         self.performed.truncate(self.saved);
         self.mark = self.saved_mark;
         self.incarnation += 1;
-        self.rows.clear();
         self.kept.clear();
         rebuild(
             &mut self.rows,
             &mut self.kept,
+            self.base.as_slice(),
             self.performed.as_slice(),
             self.mark,
             self.row_limit,
@@ -216,24 +264,43 @@ impl Dc {
 
     /// The record's value, if it is present.
     pub fn get(&self, record: &Record) -> Option<Value>
-        ensures { result ≡ value_of self.now.list «record».now }
+        ensures { result ≡ value_in self.now.base self.now.list «record».now }
     {
         rows::value_of(self.rows.as_slice(), record).copied()
     }
 
     /// The records that are present, rising, with their values.
     pub fn rows(&self) -> &[Row]
-        ensures rows { AreRowsOf result.now self.now.list }
-        ensures few { length result.now ≤ length self.now.list }
+        ensures rows { AreRowsOf result.now self.now.base self.now.list }
+        ensures few { length result.now ≤ length self.now.base + length self.now.list }
     {
         self.rows.as_slice()
+    }
+
+    /// The records that were present where the list begins, rising, with their values.
+    pub fn base(&self) -> &[Row]
+        ensures rows { result.now ≡ self.now.base }
+        ensures sorted { SortedRows result.now }
+        ensures few { length result.now ≤ self.now.rows }
+    {
+        self.base.as_slice()
+    }
+
+    /// The mark behind which the list begins: what was performed under a number at or under it has been
+    /// forgotten.
+    pub fn base_mark(&self) -> u64
+        ensures mark { result ≡ self.now.base_mark }
+        ensures low { self.now.base_mark ≤ self.now.saved_mark }
+        ensures saved { self.now.saved_mark ≤ self.now.mark }
+    {
+        self.base_mark
     }
 
     /// What was performed, the oldest first. No number stands twice, and each answer is what the
     /// operations before it give, to an operation or to one that is redone.
     pub fn performed(&self) -> &[Performed]
         ensures list { result.now ≡ reverse self.now.list }
-        ensures right { IsRight self.now.rows self.now.list }
+        ensures right { IsRight self.now.rows self.now.base self.now.list }
         ensures few { length self.now.list ≤ self.now.ops }
     {
         self.performed.as_slice()
@@ -268,25 +335,47 @@ fn found_room(said: &Said) -> bool
     !matches!(said, Said::NoRoom)
 }
 
-// Rows, and the places of the numbers above the mark, from the list of what was performed.
+// Whether each number is at most this one.
+fn are_at_most(performed: &[Performed], mark: u64) -> bool
+    ensures { result ≡ all_at_most mark performed.now }
+{
+    performed.iter().all(|entry| entry.0 <= mark)
+}
+
+// These rows in place of those that there are, where there is room for them.
+fn put_all(rows: &mut Vec<Row>, all: &[Row])
+    requires { length all.now ≤ vec_capacity rows.old }
+    ensures items { rows.new.items ≡ all.now }
+    ensures capacity { vec_capacity rows.old ≤ vec_capacity rows.new }
+{
+    rows.clear();
+    match rows.extend_from_slice(all) {
+        Ok(()) => {}
+        Err(_) => unreachable!(),
+    }
+}
+
+// Rows, and the places of the numbers above the mark, from the list of what was performed and the rows
+// with which it begins.
 fn rebuild(
     rows: &mut Vec<Row>,
     kept: &mut Vec<Kept>,
+    base: &[Row],
     performed: &[Performed],
     mark: u64,
     row_limit: usize,
 )
-    requires right { IsRight row_limit (reverse performed.now) }
-    requires no_rows { rows.old.items ≡ [] }
+    requires right { IsRight row_limit base.now (reverse performed.now) }
+    requires sorted { SortedRows base.now }
     requires none_kept { kept.old.items ≡ [] }
-    requires room { length performed.now ≤ vec_capacity rows.old }
+    requires room { length base.now + length performed.now ≤ vec_capacity rows.old }
     requires places { length performed.now ≤ vec_capacity kept.old }
-    ensures rows { AreRowsOf rows.new.items (reverse performed.now) }
-    ensures few { length rows.new.items ≤ length performed.now }
+    ensures rows { AreRowsOf rows.new.items base.now (reverse performed.now) }
     ensures kept { AreKept kept.new.items mark performed.now }
-    ensures capacity { (vec_capacity rows.new ≡ vec_capacity rows.old) × (vec_capacity kept.new ≡ vec_capacity kept.old) }
+    ensures capacity { (vec_capacity rows.old ≤ vec_capacity rows.new) × (vec_capacity kept.new ≡ vec_capacity kept.old) }
 {
     let _ = row_limit;
+    put_all(rows, base);
     'performed: for (place, (number, op, said)) in performed.iter().enumerate() {
         let _ = rows::perform(rows, found_room(said), op);
         if *number > mark {

@@ -12,6 +12,7 @@
 
 pub mod dc;
 mod kept;
+pub mod laws;
 mod rows;
 
 pub use dc::{Dc, IncarnationsSpent};
