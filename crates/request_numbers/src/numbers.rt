@@ -51,6 +51,17 @@ impl Numbers {
         }
     }
 
+    /// Goes on behind this number, where none is open: all up to it count as given out and answered.
+    pub fn begin_behind(&mut self, last: u64)
+        requires few { last ≤ 2 ^ 62 }
+        requires none { self.old.pending ≡ [] }
+        ensures last { self.new.last ≡ last }
+        ensures pending { self.new.pending ≡ [] }
+        ensures room { self.new.room ≡ self.old.room }
+    {
+        self.last = last;
+    }
+
     /// The last number given out, 0 before the first.
     pub fn last(&self) -> u64
         ensures value { result ≡ self.now.last }
