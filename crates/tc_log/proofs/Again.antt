@@ -14,11 +14,11 @@ use Rattle.access_slots.specs.declared.op.Op.TheVariants.{Read, Insert, Update, 
 use Rattle.access_slots.specs.declared.op.Said.{Said}
 use Rattle.access_slots.specs.declared.op.Said.TheVariants.{Value, Absent, Done, Duplicate, Missing, NoRoom, Old}
 use Rattle.tc_log.specs.declared.event.Event.{Event}
-use Rattle.tc_log.specs.declared.event.Event.TheVariants.{Admit, Ask, Answer, Undo, End}
+use Rattle.tc_log.specs.declared.event.Event.TheVariants.{Admit, Ask, Answer, Undo, End, Checkpoint}
 use Rattle.tc_log.specs.declared.event.Outcome.{Outcome}
 use Rattle.tc_log.specs.declared.event.Outcome.TheVariants as outcome
 use Rattle.tc_log.specs.Printed.{Cells, cells_of, cells_bytes, head_bytes, number_bytes, printed, printed_cells}
-use Rattle.tc_log.specs.Printed.{zeros, args_bytes, with_value, op_cells}
+use Rattle.tc_log.specs.Printed.{zeros, args_bytes, plain, with_value, op_cells}
 use Rattle.tc_log.specs.Reading.{record_at, u16_at, u64_at, cells_in, event_in, call_in, numbers_in, IsEvent, IsOp}
 use Rattle.tc_log.specs.Reading.{IsOutcome, AreNumbers, has_row, is_some, IsPrinted, ArePrinted, HaveRows}
 
@@ -150,6 +150,7 @@ read_back (Ask txn number o) is row = ask_back o txn number is.0 is.1 is.2
 read_back (Answer txn number said) is row = answer_back said txn number is.0 is.1 row
 read_back (Undo txn number o) is row = undo_back o txn number is.0 is.1 is.2
 read_back (End txn o) is row = end_back o txn is.0 is.1 row
+read_back (Checkpoint admitted given) is row = ap event_in (cells_back (plain 6 0 admitted given) (plain_fits (plain 6 0 admitted given) refl refl refl is.0 is.1))
 
 -- ---- what is read
 

@@ -11,7 +11,7 @@ use Rattle.access_slots.specs.declared.op.Op.TheVariants.{Read, Insert, Update, 
 use Rattle.access_slots.specs.declared.op.Said.{Said}
 use Rattle.access_slots.specs.declared.op.Said.TheVariants.{Value, Absent, Done, Duplicate, Missing, NoRoom, Old}
 use Rattle.tc_log.specs.declared.event.Event.{Event}
-use Rattle.tc_log.specs.declared.event.Event.TheVariants.{Admit, Ask, Answer, Undo, End}
+use Rattle.tc_log.specs.declared.event.Event.TheVariants.{Admit, Ask, Answer, Undo, End, Checkpoint}
 use Rattle.tc_log.specs.declared.event.Outcome.{Outcome}
 use Rattle.tc_log.specs.declared.event.Outcome.TheVariants as outcome
 use Rattle.tc_log.specs.Printed.{Cells, printed, printed_cells, zeros, op_cells}
@@ -65,6 +65,7 @@ long (Ask txn number o) is row = whole _ (op_long 2 txn number o is.2)
 long (Answer txn number said) is row = said_long txn number said is.2
 long (Undo txn number o) is row = whole _ (op_long 4 txn number o is.2)
 long (End txn o) is row = end_long txn o row
+long (Checkpoint admitted given) is row = whole _ refl
 
 -- ---- the events that are printed so
 

@@ -8,7 +8,7 @@ use Rattle.access_slots.specs.declared.op.Op.TheVariants.{Read, Insert, Update, 
 use Rattle.access_slots.specs.declared.op.Said.{Said}
 use Rattle.access_slots.specs.declared.op.Said.TheVariants.{Value, Absent, Done, Duplicate, Missing, NoRoom, Old}
 use Rattle.tc_log.specs.declared.event.Event.{Event}
-use Rattle.tc_log.specs.declared.event.Event.TheVariants.{Admit, Ask, Answer, Undo, End}
+use Rattle.tc_log.specs.declared.event.Event.TheVariants.{Admit, Ask, Answer, Undo, End, Checkpoint}
 use Rattle.tc_log.specs.declared.event.Outcome.{Outcome}
 use Rattle.tc_log.specs.declared.event.Outcome.TheVariants as outcome
 
@@ -82,6 +82,7 @@ cells_of (Ask txn number o) = Some (op_cells 2 txn number o)
 cells_of (Answer txn number said) = said_cells txn number said
 cells_of (Undo txn number o) = Some (op_cells 4 txn number o)
 cells_of (End txn o) = outcome_cells txn o
+cells_of (Checkpoint admitted given) = Some (plain 6 0 admitted given)
 
 abbrev pub printed_cells : Option Cells → List ℕ
 printed_cells None = zeros 96

@@ -10,7 +10,7 @@ use Rattle.access_slots.specs.declared.op.Op.TheVariants.{Read, Insert, Update, 
 use Rattle.access_slots.specs.declared.op.Said.{Said}
 use Rattle.access_slots.specs.declared.op.Said.TheVariants.{Value, Absent, Done, Duplicate, Missing, NoRoom}
 use Rattle.tc_log.specs.declared.event.Event.{Event}
-use Rattle.tc_log.specs.declared.event.Event.TheVariants.{Admit, Ask, Answer, Undo, End}
+use Rattle.tc_log.specs.declared.event.Event.TheVariants.{Admit, Ask, Answer, Undo, End, Checkpoint}
 use Rattle.tc_log.specs.declared.event.Outcome.{Outcome}
 use Rattle.tc_log.specs.declared.event.Outcome.TheVariants as outcome
 use Rattle.tc_log.specs.declared.read.LogFault.{LogFault}
@@ -79,7 +79,8 @@ event_in c =
     if c.kind == 2 then option_map (Ask c.txn c.word) (op_in c) else
     if c.kind == 3 then option_map (Answer c.txn c.word) (said_in c) else
     if c.kind == 4 then option_map (Undo c.txn c.word) (op_in c) else
-    if c.kind == 5 then option_map (End c.txn) (outcome_in c) else None
+    if c.kind == 5 then option_map (End c.txn) (outcome_in c) else
+    if c.kind == 6 then Some (Checkpoint c.txn c.word) else None
 
 -- ---- records of 96 bytes that are an event's
 
@@ -113,6 +114,7 @@ IsEvent (Ask txn number o) = (txn < 2 ^ 64) × (number < 2 ^ 64) × IsOp o
 IsEvent (Answer txn number said) = (txn < 2 ^ 64) × (number < 2 ^ 64) × IsSaid said
 IsEvent (Undo txn number o) = (txn < 2 ^ 64) × (number < 2 ^ 64) × IsOp o
 IsEvent (End txn o) = (txn < 2 ^ 64) × IsOutcome o
+IsEvent (Checkpoint admitted given) = (admitted < 2 ^ 64) × (given < 2 ^ 64)
 
 abbrev pub is_some : Option Cells → Bool
 is_some None = false

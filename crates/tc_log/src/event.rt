@@ -75,7 +75,7 @@ pub enum Outcome {
     NoRoom,
 }
 
-/// One event of one transaction, by its serial number.
+/// One event of one transaction, by its serial number; or what a log begins behind.
 #[derive(Debug, Drop)]
 pub enum Event {
     /// It is admitted, with all its locks.
@@ -88,6 +88,9 @@ pub enum Event {
     Undo { txn: u64, number: u64, op: Op },
     /// It ends, and its locks are free.
     End { txn: u64, outcome: Outcome },
+    /// The log begins behind an earlier one, in which so many transactions were admitted and all of them
+    /// ended, and so many numbers were given out and all of them answered. It is of no transaction.
+    Checkpoint { admitted: u64, given: u64 },
 }
 
 impl Event {
@@ -110,6 +113,7 @@ impl Event {
             Event::Answer { txn, number, said } => Event::Answer { txn, number, said },
             Event::Undo { txn, number, op } => Event::Undo { txn, number, op },
             Event::End { txn, outcome } => Event::End { txn, outcome },
+            Event::Checkpoint { admitted, given } => Event::Checkpoint { admitted, given },
         })
     }
 }

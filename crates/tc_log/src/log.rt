@@ -7,6 +7,9 @@ use crate::event::Event;
 use std::alloc::{AllocError, Global};
 use std::marker::Model;
 
+// No memory has room for more.
+const MOST: usize = 1 << 62;
+
 /// Events in the order in which they happened, counted from 0.
 #[derive(Drop)]
 pub struct Log {
@@ -73,10 +76,23 @@ impl Log {
     pub fn reserve(&mut self, more: usize) -> Result<(), AllocError>
         ensures events { self.new.events ≡ self.old.events }
         ensures ok { OnOk result (more ≤ self.new.room) }
-        ensures fits { OnOk result (length self.new.events + more < 2 ^ 64) }
+        ensures fits { OnOk result (length self.new.events + more ≤ 2 ^ 62) }
         ensures room { self.old.room ≤ self.new.room }
     {
+        if self.events.len() > MOST || more > MOST - self.events.len() {
+            return Err(AllocError);
+        }
         self.events.reserve(more)
+    }
+
+    /// This event alone in place of all that there are. The memory stays, for further ones.
+    pub fn begin_anew(&mut self, event: Event)
+        requires { 0 < self.old.room + length self.old.events }
+        ensures events { self.new.events ≡ event ∷ [] }
+        ensures room { self.new.room + 1 ≡ self.old.room + length self.old.events }
+    {
+        self.events.clear();
+        self.events.push_reserved(event)
     }
 
     /// One event more. It takes no memory: there has to be room.

@@ -134,6 +134,14 @@ fn cells_of(event: &Event) -> Option<Cells<'_>>
         Event::Answer { txn, number, said } => said_cells(*txn, *number, said),
         Event::Undo { txn, number, op } => Some(op_cells(4, *txn, *number, op)),
         Event::End { txn, outcome } => outcome_cells(*txn, *outcome),
+        Event::Checkpoint { admitted, given } => Some(cells_at(
+            6,
+            0,
+            *admitted,
+            *given,
+            &NO_RECORD,
+            Body::Zeros,
+        )),
     }
 }
 

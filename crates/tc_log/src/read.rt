@@ -179,6 +179,10 @@ fn event_in(alloc: Global, bytes: &[u8]) -> Result<Option<Event>, AllocError>
         3 => said_in(bytes).map(|said| Event::Answer { txn, number, said }),
         4 => op_in(bytes).map(|op| Event::Undo { txn, number, op }),
         5 => outcome_in(bytes).map(|outcome| Event::End { txn, outcome }),
+        6 => Some(Event::Checkpoint {
+            admitted: txn,
+            given: number,
+        }),
         _ => None,
     })
 }
