@@ -7,7 +7,7 @@ use Rattle.access_slots.specs.Declaration.{Declaration}
 use Rattle.access_slots.specs.Locks.{mode_named}
 use Rattle.access_slots.specs.Held.{Held, Wanted}
 use Rattle.tc_log.specs.declared.event.Event.{Event}
-use Rattle.tc_log.specs.declared.event.Event.TheVariants.{Admit, Ask, Answer, Undo, End}
+use Rattle.tc_log.specs.declared.event.Event.TheVariants.{Admit, Ask, Answer, Undo, End, Checkpoint}
 
 -- a procedure by its number, and its arguments
 pub record Call : Type 0 where
@@ -21,11 +21,14 @@ txn_of (Ask t n o) = t
 txn_of (Answer t n said) = t
 txn_of (Undo t n o) = t
 txn_of (End t o) = t
+-- it is of none: serial numbers begin with 1
+txn_of (Checkpoint before numbers) = 0
 
 -- how many transactions were admitted
 abbrev pub admitted : List Event → ℕ
 admitted [] = 0
 admitted (Admit t p args ∷ h) = admitted h + 1
+admitted (Checkpoint before numbers ∷ h) = before
 admitted (_ ∷ h) = admitted h
 
 -- the call of a transaction that is open: admitted, and not ended

@@ -5,13 +5,14 @@ use Rattle.std.specs.Prelude.{List, [], ◌∷◌, ◌++◌, Option, Some, None}
 use Rattle.access_slots.specs.declared.op.Op.{Op}
 use Rattle.request_numbers.specs.Given.{others}
 use Rattle.tc_log.specs.declared.event.Event.{Event}
-use Rattle.tc_log.specs.declared.event.Event.TheVariants.{Ask, Answer, Undo}
+use Rattle.tc_log.specs.declared.event.Event.TheVariants.{Ask, Answer, Undo, Checkpoint}
 
 -- how many numbers were given out, which is the last one
 abbrev pub given : List Event → ℕ
 given [] = 0
 given (Ask t n o ∷ h) = given h + 1
 given (Undo t n o ∷ h) = given h + 1
+given (Checkpoint before numbers ∷ h) = numbers
 given (_ ∷ h) = given h
 
 -- an operation and its transaction
