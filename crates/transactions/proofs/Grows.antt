@@ -8,7 +8,7 @@ use Rattle.access_slots.specs.declared.slot.Record.{Record}
 use Rattle.access_slots.specs.declared.slot.Mode.{Mode}
 use Rattle.verifier.specs.Checked.{Checked}
 use Rattle.tc_log.specs.declared.event.Event.{Event}
-use Rattle.tc_log.specs.declared.event.Event.TheVariants.{Admit, Ask, Answer, Undo, End}
+use Rattle.tc_log.specs.declared.event.Event.TheVariants.{Admit, Ask, Answer, Undo, End, Checkpoint}
 use Rattle.history.specs.Calls.{Call, held, held_for, open_call, locks_by, locks_of}
 use Rattle.transactions.specs.Standing.{Standing, standing}
 use Rattle.transactions.specs.Reached.{Reached, reached, reached_by, decls, calls, calls_by, IsGood, AllGood}
@@ -51,6 +51,7 @@ held_grows ps q (Admit u p args ∷ h) legal t r =
 held_grows ps q (Ask u n o ∷ h) legal t r = held_grows ps q h legal.1 t r
 held_grows ps q (Answer u n said ∷ h) legal t r = held_grows ps q h legal.1 t r
 held_grows ps q (Undo u n o ∷ h) legal t r = held_grows ps q h legal.1 t r
+held_grows ps q (Checkpoint before numbers ∷ h) legal t r = held_grows ps q h legal.1 t r
 held_grows ps q (End u outcome ∷ h) legal t r = held_choice ps q (u == t) None (open_call h t) r refl (held_grows ps q h legal.1 t r)
 
 module _ (ps : List Checked) (q : Checked) (good : AllGood ps) where
@@ -83,6 +84,9 @@ module _ (ps : List Checked) (q : Checked) (good : AllGood ps) where
   legal_grows (End t outcome ∷ h) legal =
       let a = legal.0 in
       (record { s = a.s; is = a.is; idle = a.idle; ends = ap (ending a.s.full (first_undo a.s.undo)) (reached_grows h legal.1 t a.s a.is) ∙ a.ends }, legal_grows h legal.1)
+  legal_grows (Checkpoint before numbers ∷ h) legal =
+      let a = legal.0 in
+      (record { oldest = a.oldest; few_admitted = a.few_admitted; few_given = a.few_given }, legal_grows h legal.1)
 
   pub good_grows : IsGood q → AllGood (ps ++ q ∷ [])
   good_grows one = λ p v e. elim (get_cases ps q v p e) [ inl was ↦ good p v was | inr new ↦ subst IsGood new one ]

@@ -12,14 +12,14 @@ use Rattle.access_slots.specs.Held.{excludes, Compatible}
 use Rattle.access_slots.specs.Locks.{record_eq, allows, target, is_read, conflict}
 use Rattle.verifier.specs.Checked.{Checked}
 use Rattle.tc_log.specs.declared.event.Event.{Event}
-use Rattle.tc_log.specs.declared.event.Event.TheVariants.{Admit, Ask, Answer, Undo, End}
+use Rattle.tc_log.specs.declared.event.Event.TheVariants.{Admit, Ask, Answer, Undo, End, Checkpoint}
 use Rattle.history.specs.Calls.{Call, admitted, txn_of, held, held_for, open_call, locks_of}
 use Rattle.history.specs.Flight.{Flight, given, open_op}
 use Rattle.transactions.specs.declared.Sent.{Sent}
 use Rattle.transactions.specs.Standing.{Standing, standing, moved, fresh, asked, undone, answered, sent_as}
 use Rattle.transactions.specs.Reached.{decls, covers, AllGood}
 use Rattle.transactions.specs.Legal.{Legal, Allowed, CanAdmit, CanAsk, CanAnswer, CanUndo, CanEnd}
-use Rattle.transactions.proofs.StandingLemmas.{eq-true, eq-false, some_same, none_some, standing-same, standing-other, standing-above}
+use Rattle.transactions.proofs.StandingLemmas.{eq-true, eq-false, some_same, none_some, standing-same, standing-other, standing-checkpoint, standing-above}
 use Rattle.access_slots.proofs.Records.{eq_is}
 use Rattle.transactions.proofs.Sound.{Sound, standing_sound}
 use Rattle.transactions.proofs.Flights.{flight}
@@ -56,6 +56,7 @@ calls_agree (Admit u p args ∷ h) t = by (u == t) (calls_agree h t)
 calls_agree (Ask u n o ∷ h) t = ask_call (u == t) u n o (standing h t) ∙ calls_agree h t
 calls_agree (Answer u n said ∷ h) t = answer_call (u == t) u n said (standing h t) ∙ calls_agree h t
 calls_agree (Undo u n o ∷ h) t = undo_call (u == t) u n o (standing h t) ∙ calls_agree h t
+calls_agree (Checkpoint before numbers ∷ h) t = ap call_in (standing-checkpoint before numbers h t) ∙ calls_agree h t
 calls_agree (End u outcome ∷ h) t = by (u == t) (calls_agree h t)
   where
     by : (b : Bool) → call_in (standing h t) ≡ open_call h t → call_in (cond b None (standing h t)) ≡ cond b None (open_call h t)
@@ -129,6 +130,7 @@ held_apart ps (Admit v p args ∷ h) legal t u r differ =
 held_apart ps (Ask v n o ∷ h) legal t u r differ = held_apart ps h legal.1 t u r differ
 held_apart ps (Answer v n said ∷ h) legal t u r differ = held_apart ps h legal.1 t u r differ
 held_apart ps (Undo v n o ∷ h) legal t u r differ = held_apart ps h legal.1 t u r differ
+held_apart ps (Checkpoint before numbers ∷ h) legal t u r differ = held_apart ps h legal.1 t u r differ
 held_apart ps (End v outcome ∷ h) legal t u r differ =
     end_new (v == t) ps (open_call h t) r (held (decls ps) (End v outcome ∷ h) u r) (end_old (v == u) ps (open_call h u) r (held (decls ps) h t r) (held_apart ps h legal.1 t u r differ))
 
@@ -193,6 +195,9 @@ awaited ps (Answer u m said ∷ h) legal n f is =
           differ (sym a.number ∙ (ap (λ (x : Sent). x.number) sent ∙ ih.number))) in
           still_awaits h (Answer u m said) n f other ih
     ]
+awaited ps (Checkpoint before numbers ∷ h) legal n f is =
+    let ih = awaited ps h legal.1 n f is in
+    record { s = ih.s; is = standing-checkpoint before numbers h f.txn ∙ ih.is; r = ih.r; waits = ih.waits; number = ih.number; op = ih.op }
 awaited ps (End u outcome ∷ h) legal n f is =
     let ih = awaited ps h legal.1 n f is in
     still_awaits h (End u outcome) n f (idle_other h u n f legal.0.s legal.0.is legal.0.idle ih) ih

@@ -4,7 +4,7 @@ use Rattle.std.proofs.Common.{arith, refl, sym, ◌∙◌, ap, inl, inr, ◌==�
 use Rattle.std.proofs.lemmas.Bool.{cases_eq, cond-true, cond-false, cases_lt}
 use Rattle.verifier.specs.Checked.{Checked}
 use Rattle.tc_log.specs.declared.event.Event.{Event}
-use Rattle.tc_log.specs.declared.event.Event.TheVariants.{Admit, Ask, Answer, Undo, End}
+use Rattle.tc_log.specs.declared.event.Event.TheVariants.{Admit, Ask, Answer, Undo, End, Checkpoint}
 use Rattle.history.specs.Flight.{Flight, given, open_op, is_flight, is_open, AllAnswered, IsLowWater, low_water}
 use Rattle.history.proofs.Laws.{computed_is}
 use Rattle.transactions.specs.Legal.{Legal, Allowed}
@@ -33,6 +33,10 @@ answered_stay ps h (Undo t m o) n a all = (let few = all.given_out in let next =
   answered = λ k some most. above m k (open_op h k) (record { txn = t; op = o }) (omega (arith, few, next, most)) (all.answered k some most);
 })
 answered_stay ps h (End t outcome) n a all = record { given_out = all.given_out; answered = all.answered }
+answered_stay ps h (Checkpoint before numbers) n a all =
+    let none : given h ≡ 0 = ap given a.oldest in
+    let few = all.given_out in
+    record { given_out = omega (arith, none, few); answered = all.answered }
 
 -- the mark never falls
 pub mark_rises : (ps : List Checked) (h : List Event) (e : Event) → Allowed ps h e → low_water h ≤ low_water (e ∷ h)
@@ -55,6 +59,7 @@ flight_some ps (Answer u m said ∷ h) legal n f is = elim (cases_eq m n) [
   | inr differ ↦ flight_some ps h legal.1 n f (sym (cond-false _ None (open_op h n) (eq-false m n differ)) ∙ is)
 ]
 flight_some ps (End u outcome ∷ h) legal n f is = flight_some ps h legal.1 n f is
+flight_some ps (Checkpoint before numbers ∷ h) legal n f is = flight_some ps h legal.1 n f is
 
 -- and lies above the mark
 pub flight_above : (ps : List Checked) (h : List Event) → Legal ps h → (n : ℕ) (f : Flight) → open_op h n ≡ Some f → low_water h < n

@@ -10,7 +10,7 @@ use Rattle.access_slots.specs.Locks.{record_eq, allows, target, is_read, conflic
 use Rattle.access_slots.proofs.Records.{eq_is}
 use Rattle.verifier.specs.Checked.{Checked}
 use Rattle.tc_log.specs.declared.event.Event.{Event}
-use Rattle.tc_log.specs.declared.event.Event.TheVariants.{Admit, Ask, Answer, Undo, End}
+use Rattle.tc_log.specs.declared.event.Event.TheVariants.{Admit, Ask, Answer, Undo, End, Checkpoint}
 use Rattle.history.specs.declared.Answered.{Answered}
 use Rattle.history.specs.Calls.{Call, admitted, held, held_for, open_call, call_of, locks_of}
 use Rattle.history.specs.Flight.{Flight, given, open_op}
@@ -57,6 +57,7 @@ answered_number (Answer t m said ∷ h) n a is = elim (cases_eq m n) [
 ]
 answered_number (Undo t m o ∷ h) n a is = answered_number h n a is
 answered_number (End t o ∷ h) n a is = answered_number h n a is
+answered_number (Checkpoint before numbers ∷ h) n a is = answered_number h n a is
 
 -- only numbers that were given out are answered
 pub answered_given : (ps : List Checked) (h : List Event) → Legal ps h → (n : ℕ) (a : Answered) → answered h n ≡ Some a → n ≤ given h
@@ -71,6 +72,7 @@ answered_given ps (Answer t m said ∷ h) legal n a is = elim (cases_eq m n) [
 ]
 answered_given ps (Undo t m o ∷ h) legal n a is = (let few = answered_given ps h legal.1 n a is in omega (arith, few))
 answered_given ps (End t o ∷ h) legal n a is = answered_given ps h legal.1 n a is
+answered_given ps (Checkpoint before numbers ∷ h) legal n a is = absurd (none_some _ a (ap (λ (x : List Event). answered x n) legal.0.oldest) is)
 
 -- ---- the least number that was done
 
@@ -196,6 +198,7 @@ open_called (Admit u p args ∷ h) t c is = by (u == t) (open_called h t c) is
 open_called (Ask u n o ∷ h) t c is = open_called h t c is
 open_called (Answer u n said ∷ h) t c is = open_called h t c is
 open_called (Undo u n o ∷ h) t c is = open_called h t c is
+open_called (Checkpoint before numbers ∷ h) t c is = open_called h t c is
 open_called (End u o ∷ h) t c is = by (u == t) (open_called h t c) is
   where
     by : (b : Bool) → (open_call h t ≡ Some c → call_of h t ≡ Some c) → cond b None (open_call h t) ≡ Some c → call_of h t ≡ Some c
@@ -213,6 +216,7 @@ called_early ps (Ask u n o ∷ h) legal t c is = called_early ps h legal.1 t c i
 called_early ps (Answer u n said ∷ h) legal t c is = called_early ps h legal.1 t c is
 called_early ps (Undo u n o ∷ h) legal t c is = called_early ps h legal.1 t c is
 called_early ps (End u o ∷ h) legal t c is = called_early ps h legal.1 t c is
+called_early ps (Checkpoint before numbers ∷ h) legal t c is = absurd (none_some _ c (ap (λ (x : List Event). call_of x t) legal.0.oldest) is)
 
 covered_flight : (ps : List Checked) (h : List Event) → AllGood ps → Legal ps h → (n : ℕ) (f : Flight) → open_op h n ≡ Some f → IsCovered ps h f.txn f.op
 covered_flight ps h good legal n f is = by (open_call h f.txn) refl (flight_covered ps h good legal n f is)
@@ -245,6 +249,8 @@ covered_answer ps (Answer u m said ∷ h) good legal n a is = elim (cases_eq m n
       record { call = c.call; is = c.is; allowed = c.allowed }
 ]
 covered_answer ps (Undo u m o ∷ h) good legal n a is =
+    (let c = covered_answer ps h good legal.1 n a is in record { call = c.call; is = c.is; allowed = c.allowed })
+covered_answer ps (Checkpoint before numbers ∷ h) good legal n a is =
     (let c = covered_answer ps h good legal.1 n a is in record { call = c.call; is = c.is; allowed = c.allowed })
 covered_answer ps (End u o ∷ h) good legal n a is =
     (let c = covered_answer ps h good legal.1 n a is in record { call = c.call; is = c.is; allowed = c.allowed })

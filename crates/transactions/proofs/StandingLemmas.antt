@@ -1,5 +1,6 @@
 -- How one more event changes where the transactions stand.
 use Rattle.std.proofs.Common.{◌≡◌, ◌≢◌, ◌⊎◌, ℕ, ◌+◌, ◌<◌, ◌≤◌, Bool, true, false, List, [], ◌∷◌, length, Option, Some}
+use Rattle.std.specs.Prelude.{if◌then◌else◌}
 use Rattle.std.proofs.Common.{None, arith, refl, sym, ◌∙◌, ap, subst, zero, suc, inl, inr, ◌==◌}
 use Rattle.std.proofs.lemmas.Bool.Decides.{nat_tests}
 use Rattle.std.proofs.lemmas.Bool.{cases_eq, cases_lt}
@@ -7,7 +8,7 @@ use Rattle.access_slots.specs.declared.op.Op.{Op}
 use Rattle.access_slots.specs.declared.op.Said.{Said}
 use Rattle.verifier.specs.Checked.{Checked}
 use Rattle.tc_log.specs.declared.event.Event.{Event}
-use Rattle.tc_log.specs.declared.event.Event.TheVariants.{Admit, Ask, Answer, Undo, End}
+use Rattle.tc_log.specs.declared.event.Event.TheVariants.{Admit, Ask, Answer, Undo, End, Checkpoint}
 use Rattle.history.specs.Calls.{Call, admitted, txn_of}
 use Rattle.transactions.specs.Standing.{Standing, standing, moved, fresh, asked, undone, answered}
 use Rattle.transactions.specs.Room.{weighed, total_to, total}
@@ -33,10 +34,19 @@ standing-same e h t own = rw (eq-true (txn_of e) t own) refl
 pub standing-other : (e : Event) (h : List Event) (t : ℕ) → txn_of e ≢ t → standing (e ∷ h) t ≡ standing h t
 standing-other e h t other = rw (eq-false (txn_of e) t other) refl
 
--- an event that is no admission is of an open transaction
+-- where a log begins nobody stands otherwise
+pub standing-checkpoint : (before numbers : ℕ) (h : List Event) (t : ℕ) → standing (Checkpoint before numbers ∷ h) t ≡ standing h t
+standing-checkpoint before numbers h t = by (0 == t)
+  where
+    by : (b : Bool) → (if b then standing h t else standing h t) ≡ standing h t
+    by true = refl
+    by false = refl
+
+-- an event that is no admission is of an open transaction, or the log begins with it
 pub data Acts (ps : List Checked) (h : List Event) (e : Event) : Type 0 where
   admits_one : txn_of e ≡ admitted h + 1 → admitted (e ∷ h) ≡ admitted h + 1 → Acts ps h e
   goes_on : (s : Standing) → standing h (txn_of e) ≡ Some s → admitted (e ∷ h) ≡ admitted h → Acts ps h e
+  begins : (before numbers : ℕ) → e ≡ Checkpoint before numbers → h ≡ [] → Acts ps h e
 
 pub acts : (ps : List Checked) (h : List Event) (e : Event) → Allowed ps h e → Acts ps h e
 acts ps h (Admit t p args) a = admits_one a.next refl
@@ -44,6 +54,11 @@ acts ps h (Ask t n o) a = goes_on a.s a.is refl
 acts ps h (Answer t n said) a = goes_on a.s a.is refl
 acts ps h (Undo t n o) a = goes_on a.s a.is refl
 acts ps h (End t outcome) a = goes_on a.s a.is refl
+acts ps h (Checkpoint before numbers) a = begins before numbers refl a.oldest
+
+-- and then nobody is open
+none_begun : (h : List Event) (e : Event) (before numbers t : ℕ) → e ≡ Checkpoint before numbers → h ≡ [] → standing (e ∷ h) t ≡ None
+none_begun h e before numbers t is none = rw (is, none) (standing-checkpoint before numbers [] t)
 
 above_by : (ps : List Checked) (h : List Event) (e : Event) (t : ℕ) → Acts ps h e → admitted (e ∷ h) < t
     → (admitted h < t → standing h t ≡ None) → standing (e ∷ h) t ≡ None
@@ -56,6 +71,7 @@ above_by ps h e t (goes_on s is same) above ih =
       | inl own ↦ absurd (none_some (standing h t) s was (ap (standing h) (sym own) ∙ is))
       | inr other ↦ standing-other e h t other ∙ was
     ]
+above_by ps h e t (begins before numbers is none) above ih = none_begun h e before numbers t is none
 
 -- no transaction above the last admitted is open
 pub standing-above : (ps : List Checked) (h : List Event) → Legal ps h → (t : ℕ) → admitted h < t → standing h t ≡ None
@@ -69,6 +85,7 @@ zero_by ps h e (goes_on s is same) was =
       | inl own ↦ absurd (none_some (standing h 0) s was (ap (standing h) (sym own) ∙ is))
       | inr other ↦ standing-other e h 0 other ∙ was
     ]
+zero_by ps h e (begins before numbers is none) was = none_begun h e before numbers 0 is none
 
 pub standing-zero : (ps : List Checked) (h : List Event) → Legal ps h → standing h 0 ≡ None
 standing-zero ps [] legal = refl
@@ -116,6 +133,8 @@ each_standing P ps admit ask answer undo (End u outcome ∷ h) legal t s is =
       | inl same ↦ absurd (none_some _ s (standing-same (End u outcome) h t same) is)
       | inr other ↦ each_standing P ps admit ask answer undo h legal.1 t s (sym (standing-other (End u outcome) h t other) ∙ is)
     ]
+each_standing P ps admit ask answer undo (Checkpoint before numbers ∷ h) legal t s is =
+    each_standing P ps admit ask answer undo h legal.1 t s (sym (standing-checkpoint before numbers h t) ∙ is)
 
 -- a sum below the event's transaction stays
 pub total_to-below : (w : Standing → ℕ) (e : Event) (h : List Event) (n : ℕ) → n < txn_of e → total_to w (e ∷ h) n ≡ total_to w h n

@@ -1,12 +1,12 @@
 -- Which histories are legal.
-use Rattle.std.specs.Prelude.{◌≡◌, ℕ, ◌+◌, ◌<◌, Bool, true, false, not, ◌==◌, if◌then◌else◌, List, [], ◌∷◌, Option, Some, None, slice_get}
+use Rattle.std.specs.Prelude.{◌≡◌, ℕ, ◌+◌, ◌<◌, ◌≤◌, ◌^◌, Bool, true, false, not, ◌==◌, if◌then◌else◌, List, [], ◌∷◌, Option, Some, None, slice_get}
 use Rattle.access_slots.specs.Access.{fits}
 use Rattle.access_slots.specs.Held.{Compatible}
 use Rattle.access_slots.specs.declared.op.Op.{Op}
 use Rattle.access_slots.specs.declared.op.Said.{Said}
 use Rattle.semantics.specs.Reach.{AreArguments}
 use Rattle.tc_log.specs.declared.event.Event.{Event}
-use Rattle.tc_log.specs.declared.event.Event.TheVariants.{Admit, Ask, Answer, Undo, End}
+use Rattle.tc_log.specs.declared.event.Event.TheVariants.{Admit, Ask, Answer, Undo, End, Checkpoint}
 use Rattle.tc_log.specs.declared.event.Outcome.{Outcome}
 use Rattle.tc_log.specs.declared.event.Outcome.TheVariants as outcome
 use Rattle.verifier.specs.Checked.{Checked}
@@ -84,6 +84,12 @@ module _ (ps : List Checked) (h : List Event) where
     pub idle : s.sent ≡ None
     pub ends : ending s.full (first_undo s.undo) (reached ps s) ≡ Some outcome
 
+  -- the log begins with it: nothing came before
+  pub record CanBegin (before numbers : ℕ) : Type 0 where
+    pub oldest : h ≡ []
+    pub few_admitted : before ≤ 2 ^ 62
+    pub few_given : numbers ≤ 2 ^ 62
+
   -- the event may come next
   abbrev pub Allowed : Event → Type 0
   Allowed (Admit t p args) = CanAdmit t (record { proc = p; args = args })
@@ -91,6 +97,7 @@ module _ (ps : List Checked) (h : List Event) where
   Allowed (Answer t n said) = CanAnswer t n said
   Allowed (Undo t n o) = CanUndo t n o
   Allowed (End t outcome) = CanEnd t outcome
+  Allowed (Checkpoint before numbers) = CanBegin before numbers
 
 -- each event was allowed behind the ones before it
 abbrev pub Legal : List Checked → List Event → Type 0

@@ -16,11 +16,13 @@
 //! that the attribute above it names.
 #![tactic(auto)]
 
-ghost use Rattle.std.specs.Prelude.{◌≡◌, ◌≢◌, ◌↔◌, ◌+◌, ◌*◌, ◌<◌, ◌≤◌, ◌++◌, [], ◌∷◌, ℕ, List, Some, true, false, reverse};
+ghost use Rattle.std.specs.Prelude.{◌≡◌, ◌≢◌, ◌↔◌, ◌+◌, ◌*◌, ◌<◌, ◌≤◌, ◌^◌, ◌++◌, [], ◌∷◌, ℕ, List, Some, true, false, reverse};
 ghost use Rattle.std.specs.List.{flat_map};
 ghost use Rattle.access_slots.specs.declared.op.Op.{Op as Operation};
+ghost use Rattle.access_slots.specs.declared.slot.Record.{Record as RecordValue};
 ghost use Rattle.access_slots.specs.Locks.{allows, target, is_read, conflict};
-ghost use Rattle.history.specs.Calls.{held, held_for, call_of};
+ghost use Rattle.history.specs.Calls.{admitted, held, held_for, call_of};
+ghost use Rattle.history.specs.Anew.{anew};
 ghost use Rattle.history.specs.Flight.{Flight, given, open_op, AllAnswered, low_water};
 ghost use Rattle.history.specs.Redo.{to_redo, IsToRedo};
 ghost use Rattle.history.specs.Places.{StandsAt};
@@ -34,6 +36,8 @@ ghost use Rattle.transactions.specs.Standing.{Standing, standing};
 ghost use Rattle.transactions.specs.Reached.{calls, decls, AllGood};
 ghost use Rattle.transactions.specs.Legal.{Legal, Allowed, CanAsk, CanUndo, CanEnd};
 ghost use Rattle.transactions.specs.Next.{next_in};
+ghost use Rattle.transactions.specs.Alike.{IsAtRest, AreAlike};
+ghost use Rattle.transactions.specs.Room.{total};
 ghost use Rattle.transactions.specs.Rows.{AllTakeFew};
 ghost use Rattle.transactions.specs.Sending.{IsSentBehind};
 ghost use Rattle.transactions.specs.InFlight.{InFlight};
@@ -185,4 +189,30 @@ pub fn none_in_flight_conflict()
 #[tactic(auto, using(crate::proofs::Rows::legal_prints))]
 pub fn legal_logs_are_printed()
     ensures { (ps : List Checked) (h : List Event) → AllTakeFew ps → Legal ps h → ArePrinted (reverse h) (flat_map printed (reverse h)) }
+{}
+
+/// Where no transaction is open, a log may begin anew: behind the one event that it becomes the same is
+/// said, whatever follows, as behind the long log.
+#[tactic(auto, using(crate::proofs::Alike::anew_alike))]
+pub fn beginning_anew_is_alike()
+    ensures { (ps : List Checked) (later h : List Event) → Legal ps h → IsAtRest h → AreAlike (given h) (later ++ h) (later ++ anew h) }
+{}
+
+/// And the same may follow.
+#[tactic(auto, using(crate::proofs::Alike::legal_anew, crate::proofs::Alike::legal_back))]
+pub fn beginning_anew_is_legal()
+    ensures short { (ps : List Checked) (later h : List Event) → Legal ps h → IsAtRest h → admitted h ≤ 2 ^ 62 → given h ≤ 2 ^ 62
+        → Legal ps (later ++ h) → Legal ps (later ++ anew h) }
+    ensures long { (ps : List Checked) (later h : List Event) → Legal ps h → IsAtRest h → Legal ps (later ++ anew h) → Legal ps (later ++ h) }
+{}
+
+/// Of logs that are alike, the same locks are held, the low-water mark is the same, so is what open
+/// transactions may still do, and above the number what is to be redone.
+#[tactic(auto, using(crate::proofs::Alike::held_alike, crate::proofs::Alike::low_water_alike, crate::proofs::Alike::total_alike, crate::proofs::Alike::redo_alike))]
+pub fn alike_logs_say_the_same()
+    ensures locks { (ps : List Checked) (from : ℕ) (h k : List Event) → AreAlike from h k → (t : ℕ) (r : RecordValue)
+        → held (decls ps) h t r ≡ held (decls ps) k t r }
+    ensures mark { (from : ℕ) (h k : List Event) → AreAlike from h k → low_water h ≡ low_water k }
+    ensures totals { (w : Standing → ℕ) (from : ℕ) (h k : List Event) → AreAlike from h k → total w h ≡ total w k }
+    ensures redo { (from : ℕ) (h k : List Event) → AreAlike from h k → (d redone : ℕ) → from ≤ redone → to_redo h d redone ≡ to_redo k d redone }
 {}
