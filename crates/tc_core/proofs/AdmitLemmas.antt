@@ -16,12 +16,13 @@ use Rattle.verifier.specs.Checked.{Checked}
 use Rattle.lock_table.specs.Facts.{Table, AreHeld, held_by, granted}
 use Rattle.request_numbers.specs.Given.{Given}
 use Rattle.tc_log.specs.declared.event.Event.{Event}
-use Rattle.tc_log.specs.declared.event.Event.TheVariants.{Admit, Ask, Answer, Undo, End}
+use Rattle.tc_log.specs.declared.event.Event.TheVariants.{Admit, Ask, Answer, Undo, End, Checkpoint}
 use Rattle.tc_log.specs.History.{History}
 use Rattle.history.specs.Calls.{Call, admitted, held, held_for, locks_by, locks_of}
 use Rattle.transactions.proofs.Running.{get_decl}
 use Rattle.transactions.proofs.Headline.{no_call}
 use Rattle.history.specs.Flight.{given}
+use Rattle.history.specs.Anew.{begun}
 use Rattle.transactions.specs.Standing.{Standing, standing, fresh}
 use Rattle.transactions.specs.Reached.{decls, calls, calls_in}
 use Rattle.transactions.specs.Room.{numbers_left, events_left, places_left, each_one, weighed, total_to, total}
@@ -77,6 +78,7 @@ book-room ps b b' is o =
           numbers_fit = omega (arith, fits, given_same, promised);
         };
       };
+      from = omega (arith, is.from, o.from, ap begun o.events);
       most = omega (arith, most, given_same, promised, more_given_up);
       marked = marked-room _ _ _ _ _ _ is.marked o.given_up o.events o.slots;
       starts = rw (o.events, o.sites, o.starts) is.starts;
@@ -222,13 +224,14 @@ pub nothing_new : (ps : List Checked) (h : List Event) (t : ℕ) (claims claims'
 nothing_new ps h t claims claims' legal next are same r =
     same t r ∙ (are t r ∙ ap (λ (c : Option Call). held_for (decls ps) c r) (no_call ps h t (standing-above ps h legal t (omega (arith, next)))))
 
-pub admitted-length : (h : List Event) → admitted h ≤ length h
-admitted-length [] = omega arith
-admitted-length (Admit t p args ∷ h) = omega (arith, admitted-length h)
-admitted-length (Ask t n o ∷ h) = omega (arith, admitted-length h)
-admitted-length (Answer t n said ∷ h) = omega (arith, admitted-length h)
-admitted-length (Undo t n o ∷ h) = omega (arith, admitted-length h)
-admitted-length (End t outcome ∷ h) = omega (arith, admitted-length h)
+pub admitted-length : (ps : List Checked) (h : List Event) → Legal ps h → admitted h ≤ 2 ^ 62 + length h
+admitted-length ps [] legal = omega arith
+admitted-length ps (Admit t p args ∷ h) legal = omega (arith, admitted-length ps h legal.1)
+admitted-length ps (Ask t n o ∷ h) legal = omega (arith, admitted-length ps h legal.1)
+admitted-length ps (Answer t n said ∷ h) legal = omega (arith, admitted-length ps h legal.1)
+admitted-length ps (Undo t n o ∷ h) legal = omega (arith, admitted-length ps h legal.1)
+admitted-length ps (End t outcome ∷ h) legal = omega (arith, admitted-length ps h legal.1)
+admitted-length ps (Checkpoint before numbers ∷ h) legal = (let few = legal.0.few_admitted in omega (arith, few))
 
 pub within-from : (a b : ℕ) → true ≡ nat_lt a b → a < b
 within-from a b e = grind (arith, nat_tests)

@@ -46,4 +46,4 @@ kept-load ps q log table numbers txns serials owed promised k one =
     }
 
 pub book-load : (ps ps' : List Checked) (q : Checked) (b : Book) → IsBook ps b → IsGood q → ps' ≡ ps ++ q ∷ [] → IsBook ps' b
-book-load ps ps' q b is good more = subst (λ (xs : List Checked). IsBook xs b) (sym more) (record { kept = kept-load ps q _ _ _ _ _ _ _ is.kept good; most = is.most; marked = is.marked; starts = is.starts })
+book-load ps ps' q b is good more = subst (λ (xs : List Checked). IsBook xs b) (sym more) (record { kept = kept-load ps q _ _ _ _ _ _ _ is.kept good; from = is.from; most = is.most; marked = is.marked; starts = is.starts })

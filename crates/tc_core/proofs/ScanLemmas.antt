@@ -10,7 +10,7 @@ use Rattle.access_slots.specs.declared.op.Op.{Op}
 use Rattle.access_slots.specs.declared.op.Said.{Said}
 use Rattle.verifier.specs.Checked.{Checked}
 use Rattle.tc_log.specs.declared.event.Event.{Event}
-use Rattle.tc_log.specs.declared.event.Event.TheVariants.{Admit, Ask, Answer, Undo, End}
+use Rattle.tc_log.specs.declared.event.Event.TheVariants.{Admit, Ask, Answer, Undo, End, Checkpoint}
 use Rattle.history.specs.declared.Answered.{Answered}
 use Rattle.history.specs.Flight.{Flight, given, open_op}
 use Rattle.history.specs.Redo.{answered, with_answer, is_done, is_done_at, if_done_at, done_at, or_else, to_redo, IsToRedo}
@@ -46,6 +46,7 @@ said_more (Ask t m o ∷ es) e n = said_more es e n
 said_more (Answer t m said ∷ es) e n = ap (cond (m == n) (Some said)) (said_more es e n) ∙ pick_more (m == n) said (said_in es n) (said_in (e ∷ []) n)
 said_more (Undo t m o ∷ es) e n = said_more es e n
 said_more (End t o ∷ es) e n = said_more es e n
+said_more (Checkpoint before numbers ∷ es) e n = said_more es e n
 
 abbrev flight : ℕ → Op → Flight
 flight t o = record { txn = t; op = o }
@@ -57,6 +58,7 @@ sent_more (Ask t m o ∷ es) e n = ap (cond (m == n) (Some (flight t o))) (sent_
 sent_more (Answer t m said ∷ es) e n = sent_more es e n
 sent_more (Undo t m o ∷ es) e n = ap (cond (m == n) (Some (flight t o))) (sent_more es e n) ∙ pick_more (m == n) (flight t o) (sent_in es n) (sent_in (e ∷ []) n)
 sent_more (End t o ∷ es) e n = sent_more es e n
+sent_more (Checkpoint before numbers ∷ es) e n = sent_more es e n
 
 sent_by_more : (k : ℕ) (es : List Event) (e : Event) → sent_by k (es ++ e ∷ []) ≡ sent_by (sent_by k es) (e ∷ [])
 sent_by_more k [] e = refl
@@ -65,6 +67,7 @@ sent_by_more k (Ask t n o ∷ es) e = sent_by_more (k + 1) es e
 sent_by_more k (Answer t n said ∷ es) e = sent_by_more k es e
 sent_by_more k (Undo t n o ∷ es) e = sent_by_more (k + 1) es e
 sent_by_more k (End t o ∷ es) e = sent_by_more k es e
+sent_by_more k (Checkpoint before numbers ∷ es) e = sent_by_more numbers es e
 
 numbered_more : (k : ℕ) (es : List Event) (e : Event) → AreNumbered k es → AreNumbered (sent_by k es) (e ∷ []) → AreNumbered k (es ++ e ∷ [])
 numbered_more k [] e are is = is
@@ -73,6 +76,7 @@ numbered_more k (Ask t n o ∷ es) e are is = (are.0, numbered_more (k + 1) es e
 numbered_more k (Answer t n said ∷ es) e are is = (are.0, numbered_more k es e are.1 is)
 numbered_more k (Undo t n o ∷ es) e are is = (are.0, numbered_more (k + 1) es e are.1 is)
 numbered_more k (End t o ∷ es) e are is = numbered_more k es e are is
+numbered_more k (Checkpoint before numbers ∷ es) e are is = (are.0, numbered_more numbers es e are.1 is)
 
 -- ---- the numbers of a legal log
 
@@ -91,6 +95,7 @@ last_fits ps h (Ask t n o) legal a = ((a.next, tt), refl)
 last_fits ps h (Answer t n said) legal a = ((answered_few ps h t n said legal a, tt), refl)
 last_fits ps h (Undo t n o) legal a = ((a.next, tt), refl)
 last_fits ps h (End t o) legal a = (tt, refl)
+last_fits ps h (Checkpoint before numbers) legal a = (let none : given h ≡ 0 = ap given a.oldest in ((omega (arith, none), tt), refl))
 
 is_numbered : (ps : List Checked) (h : List Event) → Legal ps h → IsNumbered h (reverse h)
 is_numbered ps [] legal = record { numbered = tt; count = refl }
@@ -194,6 +199,9 @@ agrees_more ps h es (Undo t m o) n legal allowed a =
           still h es (Undo t m o) n a (cond-false _ _ _ e) refl (cond-false _ _ _ e) refl (omega arith)
     ]
 agrees_more ps h es (End t o) n legal allowed a = still h es (End t o) n a refl refl refl refl (omega arith)
+agrees_more ps h es (Checkpoint before numbers) n legal allowed a =
+    let none : given h ≡ 0 = ap given allowed.oldest in
+    still h es (Checkpoint before numbers) n a refl refl refl refl (omega (arith, none))
 
 agrees : (ps : List Checked) (h : List Event) → Legal ps h → (n : ℕ) → Agrees h (reverse h) n
 agrees ps [] legal n = record { open_sent = λ f is. absurd cc; open_unsaid = λ f is. refl; same = refl; late_unsent = λ late. refl; late_unsaid = λ late. refl }
@@ -232,6 +240,7 @@ unsent_below k (Undo t m o ∷ es) are n few =
     let next = are.0 in
     cond-false _ _ _ (eq-false m n (omega (arith, next, few))) ∙ unsent_below (k + 1) es are.1 n (omega (arith, few))
 unsent_below k (End t o ∷ es) are n few = unsent_below k es are n few
+unsent_below k (Checkpoint before numbers ∷ es) are n few = unsent_below numbers es are.1 n (omega (arith, are.0, few))
 
 -- the one that is sent first, and those behind it
 and_parts : (x y : Bool) → (x && y) ≡ true → (x ≡ true) × (y ≡ true)
@@ -354,6 +363,7 @@ scan_least d after k (Ask t n o ∷ es) are = least_here d after k t n o es are.
 scan_least d after k (Answer t n said ∷ es) are = least_same _ (λ m. done_in es d m) after (scan d after es) (said_apart k d n said es are.0 are.1) (scan_least d after k es are.1)
 scan_least d after k (Undo t n o ∷ es) are = least_here d after k t n o es are.0 are.1 (done_behind d after t n o es) refl (scan d after es) (scan_least d after (k + 1) es are.1)
 scan_least d after k (End t o ∷ es) are = scan_least d after k es are
+scan_least d after k (Checkpoint before numbers ∷ es) are = scan_least d after numbers es are.1
 
 -- a look through the whole log finds what is to be redone
 pub scan_is : (ps : List Checked) (h : List Event) → Legal ps h → (d redone : ℕ) → scan d redone (reverse h) ≡ to_redo h d redone
@@ -378,6 +388,7 @@ scan_from d after (suc place) (Answer t n said ∷ es) are = scan_from d after p
 scan_from d after (suc place) (Undo t n o ∷ es) are =
     scan_from d after place es are.1 ∙ ap (λ (x : Option Answered). or_else x (scan d after es)) (sym (behind_low d after t n o es are.0))
 scan_from d after (suc place) (End t o ∷ es) are = scan_from d after place es are
+scan_from d after (suc place) (Checkpoint before numbers ∷ es) are = scan_from d after place es are
 
 behind_number : (d after t n : ℕ) (o : Op) (es : List Event) (a : Answered) → done_behind d after t n o es ≡ Some a → a.number ≡ n
 behind_number d after t n o es a is = elim (cases_lt after n) [
@@ -403,6 +414,7 @@ up_to d after k zero (Undo t n o ∷ es) a are is =
     let next = are.0 in
     record { below = omega (arith, next, number); sent = (omega (arith, number), tt) }
 up_to d after k zero (End t o ∷ es) a are is = absurd cc
+up_to d after k zero (Checkpoint before numbers ∷ es) a are is = absurd cc
 up_to d after k (suc place) [] a are is = absurd cc
 up_to d after k (suc place) (Admit t p args ∷ es) a are is = (let rest = up_to d after k place es a are is in record { below = rest.below; sent = rest.sent })
 up_to d after k (suc place) (Ask t n o ∷ es) a are is =
@@ -417,6 +429,10 @@ up_to d after k (suc place) (Undo t n o ∷ es) a are is =
     let low = rest.below in
     record { below = omega (arith, low); sent = (omega (arith, low, next), rest.sent) }
 up_to d after k (suc place) (End t o ∷ es) a are is = (let rest = up_to d after k place es a are is in record { below = rest.below; sent = rest.sent })
+up_to d after k (suc place) (Checkpoint before numbers ∷ es) a are is =
+    let rest = up_to d after numbers place es a are.1 is in
+    let low = rest.below in
+    record { below = omega (arith, are.0, low); sent = rest.sent }
 
 pub begin_behind : (ps : List Checked) (h : List Event) → Legal ps h → (d after place : ℕ) (a : Answered)
     → first_in d after (drop place (reverse h)) ≡ Some a → AreSentUpTo a.number (take (place + 1) (reverse h))

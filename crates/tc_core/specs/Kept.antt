@@ -5,10 +5,11 @@ use Rattle.verifier.specs.Checked.{Checked}
 use Rattle.lock_table.specs.Facts.{Table, AreHeld}
 use Rattle.request_numbers.specs.Given.{Given}
 use Rattle.tc_log.specs.declared.event.Event.{Event}
-use Rattle.tc_log.specs.declared.event.Event.TheVariants.{Admit, Ask, Answer, Undo, End}
+use Rattle.tc_log.specs.declared.event.Event.TheVariants.{Admit, Ask, Answer, Undo, End, Checkpoint}
 use Rattle.tc_log.specs.History.{History}
 use Rattle.history.specs.Calls.{admitted, held}
 use Rattle.history.specs.Flight.{given, open_numbers}
+use Rattle.history.specs.Anew.{begun}
 use Rattle.transactions.specs.Standing.{Standing, standing}
 use Rattle.transactions.specs.Reached.{decls, calls_in, AllGood}
 use Rattle.transactions.specs.Room.{numbers_left, events_left, places_left, each_one, total}
@@ -97,6 +98,7 @@ AreSentUpTo n (Ask t m o ∷ es) = (m ≤ n) × AreSentUpTo n es
 AreSentUpTo n (Answer t m said ∷ es) = AreSentUpTo n es
 AreSentUpTo n (Undo t m o ∷ es) = (m ≤ n) × AreSentUpTo n es
 AreSentUpTo n (End t o ∷ es) = AreSentUpTo n es
+AreSentUpTo n (Checkpoint before numbers ∷ es) = AreSentUpTo n es
 
 -- a data component's redo needs not look at the log, oldest event first, before its place
 abbrev pub MayBegin : List Event → ℕ → Option Redoing → Type 0
@@ -112,6 +114,7 @@ pub record AreStarts (sites : List Site) (starts : List ℕ) (h : List Event) : 
 -- what is kept of these procedures' log
 pub record IsBook (ps : List Checked) (b : Book) : Type 0 where
   pub kept : Kept ps b.log b.locks b.numbers b.txns b.serials b.owed b.promised
+  pub from : b.given_up.from ≡ begun b.log.events
   pub most : given b.log.events + b.promised ≤ b.given_up.most
   pub marked : Marked b.given_up.numbers b.log.events b.txns
   pub starts : AreStarts b.sites.items b.starts.items b.log.events

@@ -5,6 +5,7 @@ use Rattle.access_slots.specs.declared.op.Wire.{Wire}
 use Rattle.access_slots.specs.declared.op.Reply.{Reply}
 use Rattle.access_slots.specs.declared.op.News.{News}
 use Rattle.history.specs.Redo.{to_redo}
+use Rattle.history.specs.Anew.{begun}
 use Rattle.history.specs.declared.Answered.{Answered}
 use Rattle.transactions.specs.declared.Redoing.{Redoing}
 use Rattle.transactions.specs.declared.Site.{Site}
@@ -19,13 +20,17 @@ with_site c d s = record c { sites = slice_set c.sites d s }
 
 -- ---- a restart is told
 
-abbrev pub news_fault_by : Option Site → News → Option NewsFault
-news_fault_by None news = Some fault.NoDc
-news_fault_by (Some s) news = if nat_lt s.incarnation news.incarnation then None else Some fault.OldNews
+-- the redo behind these news would begin before the log does
+abbrev pub lost_fault : ℕ → News → Option NewsFault
+lost_fault from news = if nat_lt news.mark from then Some fault.Forgotten else None
+
+abbrev pub news_fault_by : ℕ → Option Site → News → Option NewsFault
+news_fault_by from None news = Some fault.NoDc
+news_fault_by from (Some s) news = if nat_lt s.incarnation news.incarnation then lost_fault from news else Some fault.OldNews
 
 -- why news of this data component aren't taken
 abbrev pub news_fault : Core → ℕ → News → Option NewsFault
-news_fault c d news = news_fault_by (slice_get c.sites d) news
+news_fault c d news = news_fault_by (begun c.events) (slice_get c.sites d) news
 
 -- the new incarnation is known, and down; its redo begins above the mark
 abbrev pub down_by : News → Site

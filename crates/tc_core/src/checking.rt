@@ -2,7 +2,7 @@
 
 ghost use Rattle.std.specs.Prelude.{◌≡◌, ◌↔◌, ◌<◌, ◌≤◌, [], ◌∷◌, length, IsTrue, IsFalse, IsOk, IfOk, OnOk, IfErr};
 ghost use Rattle.lock_table.specs.Facts.{AreHeld};
-ghost use Rattle.tc_log.specs.declared.event.Event.TheVariants.{Admit, Ask, Answer, Undo, End};
+ghost use Rattle.tc_log.specs.declared.event.Event.TheVariants.{Admit, Ask, Answer, Undo, End, Checkpoint};
 ghost use Rattle.history.specs.Calls.{held};
 ghost use Rattle.history.specs.Places.{StandsAt};
 ghost use Rattle.transactions.specs.Standing.{standing};
@@ -40,6 +40,9 @@ pub struct Checked {
     pub locks: LockTable,
     pub open: usize,
 }
+
+// No log begins behind more.
+const MOST: u64 = 1 << 62;
 
 // Why an event isn't taken into a book.
 #[derive(Clone, Copy)]
@@ -192,9 +195,30 @@ impl TcState {
         }
     }
 
+    // Takes a Checkpoint in, where the log may begin with it.
+    fn follow_checkpoint(&mut self, admitted: u64, given: u64) -> Result<(), Unlike>
+        requires { self.old.given_up ≡ [] }
+        ensures rest { IsFurther self.old self.new }
+        ensures follows { OnOk result (self.new.events ≡ Checkpoint admitted given ∷ self.old.events) }
+        ensures why { IfErr result (IsUnlike self.old.procs self.old.events (Checkpoint admitted given)) }
+    {
+        if !self.book.log.is_empty() {
+            return Err(Unlike::Illegal);
+        }
+        if admitted > MOST || given > MOST {
+            return Err(Unlike::Illegal);
+        }
+        if self.book.log.reserve(1).is_err() {
+            return Err(Unlike::Memory);
+        }
+        self.book.begin_behind(admitted, given);
+        Ok(())
+    }
+
     // Takes an event in, where it may come next.
     fn follow(&mut self, event: &Event) -> Result<(), Unlike>
-        requires { AreUntold self.old.sites }
+        requires untold { AreUntold self.old.sites }
+        requires given_up { self.old.given_up ≡ [] }
         ensures rest { IsFurther self.old self.new }
         ensures follows { OnOk result (self.new.events ≡ event.now ∷ self.old.events) }
         ensures why { IfErr result (IsUnlike self.old.procs self.old.events event.now) }
@@ -207,6 +231,9 @@ impl TcState {
             Event::Answer { txn, number, said } => self.follow_answer(*txn, *number, *said),
             Event::Undo { txn, number, op } => self.follow_undo(*txn, *number, op),
             Event::End { txn, outcome } => self.follow_end(*txn, *outcome),
+            Event::Checkpoint { admitted, given } => {
+                return self.follow_checkpoint(*admitted, *given);
+            }
         };
         if follows {
             Ok(())

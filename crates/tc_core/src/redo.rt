@@ -105,6 +105,9 @@ impl TcState {
         if news.incarnation <= self.book.sites[at].incarnation {
             return Err(NewsFault::OldNews);
         }
+        if news.mark < self.book.given_up.from() {
+            return Err(NewsFault::Forgotten);
+        }
         self.book.sites[at] = Site {
             incarnation: news.incarnation,
             redo: Some(Redoing {

@@ -28,6 +28,13 @@ pub fn starts(alloc: Global, dcs: u16) -> Result<Vec<usize>, AllocError>
     Ok(vec![in alloc; 0; usize::from(dcs)]?)
 }
 
+/// Each of these places is the log's first.
+pub fn begin_all(starts: &mut Vec<usize>)
+    ensures { starts.new.items ≡ replicate (length starts.old.items) 0 }
+{
+    starts.fill(0);
+}
+
 /// What is known of a data component, and its place of the log.
 pub fn known(sites: &[Site], starts: &[usize], dc: u16) -> Option<(Site, usize)>
     requires { length starts.now ≡ length sites.now }

@@ -150,6 +150,9 @@ pub enum NewsFault {
     NoDc,
     /// Q2: their incarnation isn't above the known one.
     OldNews,
+    /// Q3: their mark is below the numbers behind which the log begins: what the data component lost
+    /// can't be redone from here.
+    Forgotten,
 }
 
 /// How the redo of a data component goes on.

@@ -2,7 +2,7 @@
 use Rattle.std.specs.Prelude.{◌≡◌, ℕ, ◌+◌, ◌≤◌, ◌==◌, if◌then◌else◌, List, [], ◌∷◌, Option, Some, None}
 use Rattle.access_slots.specs.declared.op.Said.{Said}
 use Rattle.tc_log.specs.declared.event.Event.{Event}
-use Rattle.tc_log.specs.declared.event.Event.TheVariants.{Admit, Ask, Answer, Undo, End}
+use Rattle.tc_log.specs.declared.event.Event.TheVariants.{Admit, Ask, Answer, Undo, End, Checkpoint}
 use Rattle.history.specs.Flight.{Flight}
 use Rattle.history.specs.Redo.{with_answer, if_done_at}
 use Rattle.history.specs.declared.Answered.{Answered}
@@ -16,6 +16,7 @@ AreNumbered k (Ask t n o ∷ es) = (n ≡ k + 1) × AreNumbered (k + 1) es
 AreNumbered k (Answer t n said ∷ es) = (n ≤ k) × AreNumbered k es
 AreNumbered k (Undo t n o ∷ es) = (n ≡ k + 1) × AreNumbered (k + 1) es
 AreNumbered k (End t o ∷ es) = AreNumbered k es
+AreNumbered k (Checkpoint before numbers ∷ es) = (k ≤ numbers) × AreNumbered numbers es
 
 -- how many numbers are sent behind these events
 abbrev pub sent_by : ℕ → List Event → ℕ
@@ -25,6 +26,7 @@ sent_by k (Ask t n o ∷ es) = sent_by (k + 1) es
 sent_by k (Answer t n said ∷ es) = sent_by k es
 sent_by k (Undo t n o ∷ es) = sent_by (k + 1) es
 sent_by k (End t o ∷ es) = sent_by k es
+sent_by k (Checkpoint before numbers ∷ es) = sent_by numbers es
 
 -- what was sent first under the number
 abbrev pub sent_in : List Event → ℕ → Option Flight
@@ -34,6 +36,7 @@ sent_in (Ask t m o ∷ es) n = if m == n then Some (record { txn = t; op = o }) 
 sent_in (Answer t m said ∷ es) n = sent_in es n
 sent_in (Undo t m o ∷ es) n = if m == n then Some (record { txn = t; op = o }) else sent_in es n
 sent_in (End t o ∷ es) n = sent_in es n
+sent_in (Checkpoint before numbers ∷ es) n = sent_in es n
 
 abbrev pub with_said : ℕ → Option Flight → Option Said → Option Answered
 with_said n f None = None

@@ -4,7 +4,7 @@ use Rattle.access_slots.specs.Locks.{target}
 use Rattle.access_slots.specs.declared.op.Op.{Op}
 use Rattle.access_slots.specs.declared.op.Said.{Said}
 use Rattle.tc_log.specs.declared.event.Event.{Event}
-use Rattle.tc_log.specs.declared.event.Event.TheVariants.{Admit, Ask, Answer, Undo, End}
+use Rattle.tc_log.specs.declared.event.Event.TheVariants.{Admit, Ask, Answer, Undo, End, Checkpoint}
 use Rattle.history.specs.Redo.{is_done, or_else}
 use Rattle.history.specs.declared.Answered.{Answered}
 
@@ -16,6 +16,7 @@ said_in (Ask t m o ∷ es) n = said_in es n
 said_in (Answer t m said ∷ es) n = if m == n then Some said else said_in es n
 said_in (Undo t m o ∷ es) n = said_in es n
 said_in (End t o ∷ es) n = said_in es n
+said_in (Checkpoint before numbers ∷ es) n = said_in es n
 
 -- the operation is for the data component, under a number above this one
 abbrev pub is_sought : ℕ → ℕ → ℕ → Op → Bool
@@ -37,6 +38,7 @@ first_in d after (Ask t n o ∷ es) = done_behind d after t n o es
 first_in d after (Answer t n said ∷ es) = None
 first_in d after (Undo t n o ∷ es) = done_behind d after t n o es
 first_in d after (End t o ∷ es) = None
+first_in d after (Checkpoint before numbers ∷ es) = None
 
 -- the first operation of the data component above the number that was done
 abbrev pub scan : ℕ → ℕ → List Event → Option Answered

@@ -4,6 +4,7 @@ use Rattle.semantics.specs.Reach.{AreArguments}
 use Rattle.lock_table.specs.Facts.{held_by}
 use Rattle.history.specs.Calls.{Call, held, locks_of}
 use Rattle.history.specs.Flight.{given}
+use Rattle.history.specs.Anew.{begun}
 use Rattle.transactions.specs.Reached.{calls_in, decls}
 use Rattle.tc_core.specs.Kept.{is_doubted}
 use Rattle.tc_core.specs.Running.{Runs}
@@ -18,7 +19,7 @@ pub overflow_add-serial : goal.overflow_add-serial
 overflow_add-serial c =
     let fit = c.requires.1.room.events_fit in
     let serials = c.requires.1.book.kept.serials_are in
-    omega (arith, fit, serials, admitted-length c.args.self.now.log.events)
+    omega (arith, fit, serials, admitted-length c.requires.0 c.args.self.now.log.events c.requires.1.book.kept.legal)
 
 pub claim-requires-clause-nothing : goal.claim-requires-clause-nothing
 claim-requires-clause-nothing c =
@@ -50,15 +51,15 @@ returns-clause-kept c = λ ps m.
     let call : Call = record { proc = p; args = args } in
     let n : c.calls_of-calls.result ≡ calls_in q = c.calls_of-calls.ensures.calls in
     let g = c.enter.ensures.entered in
-    let begun = g.begins in
-    let runs = subst (λ (xs : List ℕ). Runs q g.tx xs []) c.as_slice.ensures begun.runs in
-    let takes = subst (λ (xs : List ℕ). AreArguments q.decl xs) c.as_slice.ensures begun.takes in
-    let ops : g.tx.undo.ops ≡ [] = ap (λ (u : Writes). u.ops) begun.room.0 ∙ m.ops in
-    let undo_room : calls_in q ≤ g.tx.undo.room = (let u = ap (λ (u : Writes). u.room) begun.room.0 in let r = m.undo_room in omega (arith, u, r)) in
-    let keeps = keeps_fresh q g.tx p args begun.names.1 begun.fresh.0 begun.fresh.1 ops begun.fresh.2 begun.fresh.3 begun.room.1 undo_room runs in
+    let begins = g.begins in
+    let runs = subst (λ (xs : List ℕ). Runs q g.tx xs []) c.as_slice.ensures begins.runs in
+    let takes = subst (λ (xs : List ℕ). AreArguments q.decl xs) c.as_slice.ensures begins.takes in
+    let ops : g.tx.undo.ops ≡ [] = ap (λ (u : Writes). u.ops) begins.room.0 ∙ m.ops in
+    let undo_room : calls_in q ≤ g.tx.undo.room = (let u = ap (λ (u : Writes). u.room) begins.room.0 in let r = m.undo_room in omega (arith, u, r)) in
+    let keeps = keeps_fresh q g.tx p args begins.names.1 begins.fresh.0 begins.fresh.1 ops begins.fresh.2 begins.fresh.3 begins.room.1 undo_room runs in
     let room : b.owed + (2 * (5 * calls_in q) + 2) ≤ b.log.room = (let r = m.room.events in omega (arith, r)) in
     let it = kept-admit ps b.log c.push.new.self b.locks c.claim.new.self b.numbers b.txns c.enter.new.self b.serials b.owed b.promised _ p args (mode_in c.args.set.now) q g.tx
-    m.book.kept m.called.loaded takes m.free m.few room m.room.numbers_fit keeps begun.names.0 (wanted_locks ps call q args c.args.set.now m.called refl m.locks) c.claim.ensures.held
+    m.book.kept m.called.loaded takes m.free m.few room m.room.numbers_fit keeps begins.names.0 (wanted_locks ps call q args c.args.set.now m.called refl m.locks) c.claim.ensures.held
     g.vacant g.updates c.enter.ensures.len c.push.ensures.events c.push.ensures.room in
     let one : b.owed + (10 * c.calls_of-calls.result + 1) ≡ b.owed + (2 * (5 * calls_in q) + 1) = omega (arith, n) in
     let two : b.promised + 5 * c.calls_of-calls.result ≡ b.promised + 5 * calls_in q = omega (arith, n) in
@@ -68,6 +69,7 @@ returns-clause-kept c = λ ps m.
     record {
       kept = rw (one, two) it;
       most = omega (arith, most, last, same, n);
-      marked = marked-moved _ b.log.events _ _ _ _ _ m.book.marked (omega (arith, same)) g.updates (begun.certain ∙ sym (ap (is_doubted _) begun.fresh.0));
+      marked = marked-moved _ b.log.events _ _ _ _ _ m.book.marked (omega (arith, same)) g.updates (begins.certain ∙ sym (ap (is_doubted _) begins.fresh.0));
+      from = (let still : begun c.push.new.self.events ≡ begun b.log.events = ap begun c.push.ensures.events in let was = m.book.from in omega (arith, still, was));
       starts = starts_event _ _ _ _ _ c.push.ensures.events m.book.starts;
     }

@@ -10,6 +10,7 @@ use Rattle.tc_core.specs.Joining.Hearing.{MayHear, Accepts}
 use Rattle.tc_core.specs.declared.transaction.Tx.{Tx}
 use Rattle.transactions.proofs.StandingLemmas.{some_same}
 use Rattle.history.specs.Flight.{given}
+use Rattle.history.specs.Anew.{begun}
 use Rattle.tc_core.specs.Kept.{is_doubted}
 use Rattle.tc_core.proofs.StartLemmas.{starts_event}
 use Rattle.tc_core.proofs.MarkedLemmas.{marked-moved}
@@ -89,6 +90,7 @@ invariant_of-self c =
             heard c.hear.ensures.len (rw (← serial) at c.push.ensures.events) c.push.ensures.room c.answered.ensures.last c.answered.ensures.pending c.answered.ensures.room;
         most = rw more c.self.invariant.0.most;
         marked = marked-moved _ c.self.inside.book.log.events _ _ _ _ _ c.self.invariant.0.marked (omega (arith, more)) heard.updates (heard.certain ∙ sym (ap (is_doubted _) silent));
+        from = (let same : begun c.push.new.self.events ≡ begun c.self.inside.book.log.events = ap begun c.push.ensures.events in omega (arith, same, c.self.invariant.0.from));
         starts = starts_event _ _ _ _ _ c.push.ensures.events c.self.invariant.0.starts;
       },
       c.self.invariant.1,

@@ -32,7 +32,8 @@ add-requires-clause-some c =
     let tx = c.at.result.now in
     let w : Seen core.procs core.events r.txn tx = seen-at _ _ _ _ tx c.self.invariant.0 c.in-Some.ensures.found c.at.ensures in
     let here = awaits-open core r tx w (c.awaits.ensures.0 c.if-not-awaits.false) in
-    (open-number core r c.self.invariant.0.kept.legal here).0
+    let late = (open-number core r c.self.invariant.0.kept.legal here).0 in
+    omega (arith, late, c.self.invariant.0.from)
 
 pub add-requires-clause-inside : goal.add-requires-clause-inside
 add-requires-clause-inside c =
@@ -64,6 +65,7 @@ invariant_of-self c =
     let up = c.doubt.ensures.updates tx c.at.ensures in (
       record {
         kept = kept-doubt _ _ _ _ _ _ _ _ _ _ tx c.self.invariant.0.kept c.at.ensures up c.doubt.ensures.len;
+        from = rw c.add.ensures.from c.self.invariant.0.from;
         most = rw c.add.ensures.most c.self.invariant.0.most;
         marked = rw c.add.ensures.numbers (marked-doubt core.procs _ _ _ _ _ _ tx a.r c.self.invariant.0.kept.legal c.self.invariant.0.kept.places c.self.invariant.0.marked c.at.ensures a.waits a.same_number few up);
         starts = c.self.invariant.0.starts;

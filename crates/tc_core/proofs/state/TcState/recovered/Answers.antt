@@ -15,6 +15,7 @@ returns-clause-kept c =
     let many : length sites ≡ c.dcs.result = ap (length {A = Site}) c.in-Ok.ensures ∙ (length-map c.args.notes.now site_noted ∙ (c.requires.notes ∙ (ap (λ (x : Core). x.dcs) (sym c.self.view_is) ∙ sym c.dcs.ensures))) in
     rw (← c.self.view_is) (record {
       kept = is.kept;
+      from = is.from;
       most = is.most;
       marked = is.marked;
       starts = subst (λ (xs : List ℕ). AreStarts sites xs h) (sym c.in-Ok-starts.ensures) (starts_first c.dcs.result sites h many);

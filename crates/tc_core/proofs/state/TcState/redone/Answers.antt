@@ -61,6 +61,7 @@ invariant_of-self c =
     = ap (λ (es : List Event). first_in c.args.dc c.in-Some-redo.redo.redone (drop c.in-Some-find_done.place es)) (sym c.events.ensures) ∙ c.in-Some-find_done.ensures.there in (
       record {
         kept = c.self.invariant.0.kept;
+        from = c.self.invariant.0.from;
         most = c.self.invariant.0.most;
         marked = c.self.invariant.0.marked;
         starts = starts_set _ _ _ _ _ _ c.self.invariant.0.starts (omega (arith, inside, many, length-reverse h))

@@ -5,6 +5,7 @@ use Rattle.tc_core.specs.declared.transaction.Tx.{Tx}
 use Rattle.tc_core.proofs.ReplyLemmas.{next-unknown, next-known}
 use Rattle.transactions.proofs.StandingLemmas.{some_same}
 use Rattle.history.specs.Flight.{given}
+use Rattle.history.specs.Anew.{begun}
 use Rattle.tc_core.proofs.StartLemmas.{starts_event}
 use Rattle.tc_core.proofs.MarkedLemmas.{marked-moved}
 use Rattle.tc_core.proofs.KeptLemmas.{places-absent, seen, may-send-undo, kept-undo, seen-at}
@@ -72,6 +73,7 @@ invariant_of-self c =
             (c.send_undo.ensures.updates tx c.at.ensures) c.send_undo.ensures.len refl;
         most = omega (arith, c.self.invariant.0.most, more, promised);
         marked = marked-moved _ h _ _ _ _ _ c.self.invariant.0.marked (omega (arith, more)) (c.send_undo.ensures.updates tx c.at.ensures) (sym (c.self.invariant.0.marked.early _ late));
+        from = (let same : begun c.push.new.self.events ≡ begun c.self.inside.book.log.events = ap begun c.push.ensures.events in omega (arith, same, c.self.invariant.0.from));
         starts = starts_event _ _ _ _ _ c.push.ensures.events c.self.invariant.0.starts;
       },
       c.self.invariant.1,
