@@ -10,17 +10,17 @@ use Rattle.access_slots.specs.Access.{fits}
 use Rattle.access_slots.specs.Locks.{record_eq, target, is_read, conflict}
 use Rattle.access_slots.proofs.Records.{eq_is}
 use Rattle.tc_log.specs.declared.event.Event.{Event}
-use Rattle.tc_log.specs.declared.event.Event.TheVariants.{Admit, Ask, Answer, Undo, End}
+use Rattle.tc_log.specs.declared.event.Event.TheVariants.{Admit, Ask, Answer, Undo, End, Checkpoint}
 use Rattle.verifier.specs.Checked.{Checked}
 use Rattle.history.specs.Flight.{Flight, open_op, given}
 use Rattle.history.specs.Redo.{is_done}
-use Rattle.data_component.specs.Performed.{Performed, RecordValue, value_of, said_under}
+use Rattle.data_component.specs.Performed.{Performed, RecordValue, said_under, value_over}
 use Rattle.transactions.specs.Reached.{AllGood}
 use Rattle.transactions.specs.Legal.{Legal, CanAnswer}
 use Rattle.transactions.proofs.StandingLemmas.{some_same, none_some}
 use Rattle.transactions.proofs.Flights.{flight}
 use Rattle.serial.specs.Values.{Table, applied, told, said_freely}
-use Rattle.serial.specs.Serial.{done, now, HonestTo, Honest}
+use Rattle.serial.specs.Serial.{done, now_from, HonestTo, HonestFrom}
 use Rattle.serial.specs.Lists.{logged, dc_of, writes_on, AllBelow}
 use Rattle.serial.specs.Joining.Beside.{Beside, added}
 use Rattle.serial.specs.Joining.Behind.{Behind, IsEnd, NoneDone}
@@ -35,7 +35,7 @@ use Rattle.serial.proofs.CutLemmas.{up_to, under_cut, under_back, entry_back, on
 
 -- ---- a number that isn't given out yet
 
-module _ (lg : ℕ → Option Op) (fl : ℕ → Option Flight) (dn : List Performed) (d top : ℕ) (v : List Performed) (n : ℕ) (g : Flight) where
+module _ (base : Table) (lg : ℕ → Option Op) (fl : ℕ → Option Flight) (dn : List Performed) (d top : ℕ) (v : List Performed) (n : ℕ) (g : Flight) where
   abbrev Ungiven : Type 0
   Ungiven = (top < n) × ((m : ℕ) (q : Op) → lg m ≡ Some q → m ≤ top) × AllBelow (top + 1) dn
 
@@ -53,7 +53,7 @@ module _ (lg : ℕ → Option Op) (fl : ℕ → Option Flight) (dn : List Perfor
       let l : (if n == m then Some g.op else lg m) ≡ Some w.entry.1 = subst (λ (k : ℕ). (if n == k then Some g.op else lg k) ≡ Some w.entry.1) w.number (entries w.place w.entry w.at).0 in
       new.1 m w.entry.1 (sym (if_none n m (Some g.op) (lg m) other) ∙ l)
 
-  pub beside_unsent : Ungiven → Beside (λ m. if n == m then Some g.op else lg m) (λ m. if n == m then Some g else fl m) dn d v → Beside lg fl dn d (up_to top v)
+  pub beside_unsent : Ungiven → Beside base (λ m. if n == m then Some g.op else lg m) (λ m. if n == m then Some g else fl m) dn d v → Beside base lg fl dn d (up_to top v)
   beside_unsent new b =
       record {
         entries = λ k e is.
@@ -91,7 +91,7 @@ module _ (lg : ℕ → Option Op) (fl : ℕ → Option Flight) (dn : List Perfor
             ∙ (kept_if (is_done said) top (m, f.op, said) (writes_on r dn) u.0 ∙ ap (added (m, f.op, said)) (whole new r)));
       }
 
-  pub behind_unsent : Ungiven → Behind (λ m. if n == m then Some g.op else lg m) (λ m. if n == m then Some g else fl m) dn d v → Behind lg fl dn d (up_to top v)
+  pub behind_unsent : Ungiven → Behind base (λ m. if n == m then Some g.op else lg m) (λ m. if n == m then Some g else fl m) dn d v → Behind base lg fl dn d (up_to top v)
   behind_unsent new b =
       record {
         entries = λ k e is.
@@ -163,32 +163,32 @@ entry_same : (n m : ℕ) (o q : Op) (said s : Said) (list : List Performed) → 
 entry_same n m o q said s list e f g = cc
 
 -- it is open, and is answered so next
-pub record IsNextAnswer (lg : ℕ → Option Op) (fl : ℕ → Option Flight) (dn : List Performed) (n : ℕ) (f : Flight) (said : Said) : Type 0 where
+pub record IsNextAnswer (base : Table) (lg : ℕ → Option Op) (fl : ℕ → Option Flight) (dn : List Performed) (n : ℕ) (f : Flight) (said : Said) : Type 0 where
   pub flies : fl n ≡ Some f
   pub logs : lg n ≡ Some f.op
   pub fit : fits f.op said ≡ true
   pub apart : (m : ℕ) (g : Flight) → fl m ≡ Some g → n ≢ m → conflict g.op f.op ≡ false
   pub absent : said_under dn n ≡ None
-  pub honest : HonestTo (Some f) said (value_of dn)
+  pub honest : HonestTo (Some f) said (value_over base dn)
 
-module _ (lg : ℕ → Option Op) (fl : ℕ → Option Flight) (dn : List Performed) (d : ℕ) (v : List Performed) (n : ℕ) (f : Flight) (said : Said) where
+module _ (base : Table) (lg : ℕ → Option Op) (fl : ℕ → Option Flight) (dn : List Performed) (d : ℕ) (v : List Performed) (n : ℕ) (f : Flight) (said : Said) where
   still : (m : ℕ) (g : Flight) → (if n == m then None else fl m) ≡ Some g → (n ≢ m) × (fl m ≡ Some g)
   still m g e = elim (cases_eq n m) [
     | inl same ↦ absurd (none_some _ g (if_some n m None (fl m) same) e)
     | inr other ↦ (other, sym (if_none n m None (fl m) other) ∙ e)
   ]
 
-  differs : IsNextAnswer lg fl dn n f said → (m : ℕ) (s : Said) → said_under dn m ≡ Some s → n ≢ m
+  differs : IsNextAnswer base lg fl dn n f said → (m : ℕ) (s : Said) → said_under dn m ≡ Some s → n ≢ m
   differs a m s under same = none_some _ s a.absent (ap (said_under dn) same ∙ under)
 
-  one_op : IsNextAnswer lg fl dn n f said → (m : ℕ) (g : Flight) → fl m ≡ Some g → n ≡ m → f ≡ g
+  one_op : IsNextAnswer base lg fl dn n f said → (m : ℕ) (g : Flight) → fl m ≡ Some g → n ≡ m → f ≡ g
   one_op a m g is eq = some_same f g (sym a.flies ∙ (ap fl eq ∙ is))
 
   here : (r : Record) → r.dc ≡ d → record_eq (target f.op) r ≡ true → dc_of f.op ≡ d
   here r dc same = ap (λ (x : Record). x.dc) (eq_is (target f.op) r same) ∙ dc
 
   -- of one data component
-  one_dc : IsNextAnswer lg fl dn n f said → ((k : ℕ) (e : Performed) → slice_get v k ≡ Some e → (lg e.0 ≡ Some e.1) × (dc_of e.1 ≡ d)) → (s : Said) → said_under v n ≡ Some s → dc_of f.op ≡ d
+  one_dc : IsNextAnswer base lg fl dn n f said → ((k : ℕ) (e : Performed) → slice_get v k ≡ Some e → (lg e.0 ≡ Some e.1) × (dc_of e.1 ≡ d)) → (s : Said) → said_under v n ≡ Some s → dc_of f.op ≡ d
   one_dc a entries s under =
       let w = entry_of v n s under in
       let l = entries w.place w.entry w.at in
@@ -196,17 +196,17 @@ module _ (lg : ℕ → Option Op) (fl : ℕ → Option Flight) (dn : List Perfor
       ap dc_of (sym one) ∙ l.1
 
   -- what is honest to the answers with this one is honest to those without
-  honest_one : IsNextAnswer lg fl dn n f said → ((s : Said) → said_under v n ≡ Some s → said ≡ s)
-      → ((m : ℕ) (g : Flight) (s : Said) → (if n == m then None else fl m) ≡ Some g → said_under v m ≡ Some s → HonestTo (Some g) s (value_of ((n, f.op, said) ∷ dn)))
-      → (m : ℕ) (g : Flight) (s : Said) → fl m ≡ Some g → said_under v m ≡ Some s → HonestTo (Some g) s (value_of dn)
+  honest_one : IsNextAnswer base lg fl dn n f said → ((s : Said) → said_under v n ≡ Some s → said ≡ s)
+      → ((m : ℕ) (g : Flight) (s : Said) → (if n == m then None else fl m) ≡ Some g → said_under v m ≡ Some s → HonestTo (Some g) s (value_over base ((n, f.op, said) ∷ dn)))
+      → (m : ℕ) (g : Flight) (s : Said) → fl m ≡ Some g → said_under v m ≡ Some s → HonestTo (Some g) s (value_over base dn)
   honest_one a so was m g s is under = elim (cases_eq n m) [
     | inl eq ↦
-        subst (λ (x : Flight). HonestTo (Some x) s (value_of dn)) (one_op a m g is eq)
-        (subst (λ (x : Said). HonestTo (Some f) x (value_of dn)) (so s (ap (said_under v) eq ∙ under)) a.honest)
-    | inr other ↦ honest_back g.op f.op s said (value_of dn) (a.apart m g is other) (was m g s (if_none n m None (fl m) other ∙ is) under)
+        subst (λ (x : Flight). HonestTo (Some x) s (value_over base dn)) (one_op a m g is eq)
+        (subst (λ (x : Said). HonestTo (Some f) x (value_over base dn)) (so s (ap (said_under v) eq ∙ under)) a.honest)
+    | inr other ↦ honest_back g.op f.op s said (value_over base dn) (a.apart m g is other) (was m g s (if_none n m None (fl m) other ∙ is) under)
   ]
 
-  pub beside_unanswered : IsNextAnswer lg fl dn n f said → Beside lg (λ m. if n == m then None else fl m) ((n, f.op, said) ∷ dn) d v → Beside lg fl dn d v
+  pub beside_unanswered : IsNextAnswer base lg fl dn n f said → Beside base lg (λ m. if n == m then None else fl m) ((n, f.op, said) ∷ dn) d v → Beside base lg fl dn d v
   beside_unanswered a b =
       let so : (s : Said) → said_under v n ≡ Some s → said ≡ s = (λ s under. sym (b.agrees n f.op s said a.logs (one_dc a b.entries s under) under (under_same n n f.op said dn refl))) in
       record {
@@ -234,7 +234,7 @@ module _ (lg : ℕ → Option Op) (fl : ℕ → Option Flight) (dn : List Perfor
         ];
       }
 
-  pub behind_unanswered : IsNextAnswer lg fl dn n f said → Behind lg (λ m. if n == m then None else fl m) ((n, f.op, said) ∷ dn) d v → Behind lg fl dn d v
+  pub behind_unanswered : IsNextAnswer base lg fl dn n f said → Behind base lg (λ m. if n == m then None else fl m) ((n, f.op, said) ∷ dn) d v → Behind base lg fl dn d v
   behind_unanswered a b =
       record {
         entries = b.entries;
@@ -251,7 +251,7 @@ module _ (lg : ℕ → Option Op) (fl : ℕ → Option Flight) (dn : List Perfor
               let there : said_under v n ≡ Some said = ap (said_under v) eq ∙ (under ∙ ap (λ (x : Said). Some x) (sym two)) in
               mine_first r dc mine did' there ∙ entry_same n m f.op g.op said s (writes_on r dn) eq (ap (λ (x : Flight). x.op) one) two
           | inr other ↦
-              let write : is_read g.op ≡ false = honest_write g s (value_of dn) (honest m g s is under) did in
+              let write : is_read g.op ≡ false = honest_write g s (value_over base dn) (honest m g s is under) did in
               b.ahead r m g s dc (if_none n m None (fl m) other ∙ is) under same did
               ∙ ap (λ (l : List Performed). (m, g.op, s) ∷ l) (writes_none r (n, f.op, said) dn (λ x. absurd (clash_first g.op f.op r (a.apart m g is other) same x write)))
         ];
@@ -260,7 +260,7 @@ module _ (lg : ℕ → Option Op) (fl : ℕ → Option Flight) (dn : List Perfor
       so : (s : Said) → said_under v n ≡ Some s → said ≡ s
       so s under = sym (b.agrees n f.op s said a.logs (one_dc a b.entries s under) under (under_same n n f.op said dn refl))
 
-      honest : (m : ℕ) (g : Flight) (s : Said) → fl m ≡ Some g → said_under v m ≡ Some s → HonestTo (Some g) s (value_of dn)
+      honest : (m : ℕ) (g : Flight) (s : Said) → fl m ≡ Some g → said_under v m ≡ Some s → HonestTo (Some g) s (value_over base dn)
       honest m g s is under = honest_one a so (λ k y t is' under'. b.honest k y t is' under') m g s is under
 
       done_here : (r : Record) → record_eq (target f.op) r ≡ true → is_done said ≡ true → writes_on r ((n, f.op, said) ∷ dn) ≡ (n, f.op, said) ∷ writes_on r dn
@@ -302,7 +302,7 @@ module _ (lg : ℕ → Option Op) (fl : ℕ → Option Flight) (dn : List Perfor
 
 -- ---- a log, and the same without its last events
 
-pub record Earlier (lg : ℕ → Option Op) (fl : ℕ → Option Flight) (dn : List Performed) (top : ℕ) (lg' : ℕ → Option Op) (fl' : ℕ → Option Flight) (dn' : List Performed) (top' : ℕ) : Type 0 where
+pub record Earlier (base : Table) (lg : ℕ → Option Op) (fl : ℕ → Option Flight) (dn : List Performed) (top : ℕ) (lg' : ℕ → Option Op) (fl' : ℕ → Option Flight) (dn' : List Performed) (top' : ℕ) : Type 0 where
   pub fewer : top' ≤ top
   pub below : (n : ℕ) (o : Op) → lg' n ≡ Some o → n ≤ top'
   pub logs_on : (n : ℕ) (o : Op) → lg' n ≡ Some o → lg n ≡ Some o
@@ -310,11 +310,11 @@ pub record Earlier (lg : ℕ → Option Op) (fl : ℕ → Option Flight) (dn : L
   pub flies_back : (n : ℕ) (f : Flight) → fl n ≡ Some f → n ≤ top' → fl' n ≡ Some f
   pub says_on : (n : ℕ) (said : Said) → said_under dn' n ≡ Some said → said_under dn n ≡ Some said
   pub says_back : (n : ℕ) (said : Said) → said_under dn n ≡ Some said → n ≤ top' → fl' n ≡ None → said_under dn' n ≡ Some said
-  pub beside : (d : ℕ) (v : List Performed) → Beside lg fl dn d v → Beside lg' fl' dn' d (up_to top' v)
-  pub behind : (d : ℕ) (v : List Performed) → Behind lg fl dn d v → Behind lg' fl' dn' d (up_to top' v)
+  pub beside : (d : ℕ) (v : List Performed) → Beside base lg fl dn d v → Beside base lg' fl' dn' d (up_to top' v)
+  pub behind : (d : ℕ) (v : List Performed) → Behind base lg fl dn d v → Behind base lg' fl' dn' d (up_to top' v)
 
-earlier_same : (lg : ℕ → Option Op) (fl : ℕ → Option Flight) (dn : List Performed) (top : ℕ) → ((n : ℕ) (o : Op) → lg n ≡ Some o → n ≤ top) → Earlier lg fl dn top lg fl dn top
-earlier_same lg fl dn top below = record {
+earlier_same : (base : Table) (lg : ℕ → Option Op) (fl : ℕ → Option Flight) (dn : List Performed) (top : ℕ) → ((n : ℕ) (o : Op) → lg n ≡ Some o → n ≤ top) → Earlier base lg fl dn top lg fl dn top
+earlier_same base lg fl dn top below = record {
   fewer = omega arith;
   below = below;
   logs_on = λ n o is. is;
@@ -322,13 +322,13 @@ earlier_same lg fl dn top below = record {
   flies_back = λ n f is low. is;
   says_on = λ n said is. is;
   says_back = λ n said is low none. is;
-  beside = λ d v b. subst (Beside lg fl dn d) (sym (cut_all top v (all_below top v (λ k e is. below e.0 e.1 (b.entries k e is).0)))) b;
-  behind = λ d v b. subst (Behind lg fl dn d) (sym (cut_all top v (all_below top v (λ k e is. below e.0 e.1 (b.entries k e is).0)))) b;
+  beside = λ d v b. subst (Beside base lg fl dn d) (sym (cut_all top v (all_below top v (λ k e is. below e.0 e.1 (b.entries k e is).0)))) b;
+  behind = λ d v b. subst (Behind base lg fl dn d) (sym (cut_all top v (all_below top v (λ k e is. below e.0 e.1 (b.entries k e is).0)))) b;
 }
 
-earlier_still : (lg lg' lg'' : ℕ → Option Op) (fl fl' fl'' : ℕ → Option Flight) (dn dn' dn'' : List Performed) (top top' top'' : ℕ)
-    → Earlier lg fl dn top lg' fl' dn' top' → Earlier lg' fl' dn' top' lg'' fl'' dn'' top'' → Earlier lg fl dn top lg'' fl'' dn'' top''
-earlier_still lg lg' lg'' fl fl' fl'' dn dn' dn'' top top' top'' x y =
+earlier_still : (base : Table) (lg lg' lg'' : ℕ → Option Op) (fl fl' fl'' : ℕ → Option Flight) (dn dn' dn'' : List Performed) (top top' top'' : ℕ)
+    → Earlier base lg fl dn top lg' fl' dn' top' → Earlier base lg' fl' dn' top' lg'' fl'' dn'' top'' → Earlier base lg fl dn top lg'' fl'' dn'' top''
+earlier_still base lg lg' lg'' fl fl' fl'' dn dn' dn'' top top' top'' x y =
     let fewer = x.fewer in
     let fewer' = y.fewer in
     record {
@@ -339,13 +339,13 @@ earlier_still lg lg' lg'' fl fl' fl'' dn dn' dn'' top top' top'' x y =
       flies_back = λ n f is low. y.flies_back n f (x.flies_back n f is (omega (arith, low, fewer'))) low;
       says_on = λ n said is. x.says_on n said (y.says_on n said is);
       says_back = λ n said is low none. y.says_back n said (x.says_back n said is (omega (arith, low, fewer')) (none_by (fl' n) (λ f flies. none_some _ f none (y.flies_back n f flies low)))) low none;
-      beside = λ d v b. subst (Beside lg'' fl'' dn'' d) (cut_cut top' top'' v fewer') (y.beside d (up_to top' v) (x.beside d v b));
-      behind = λ d v b. subst (Behind lg'' fl'' dn'' d) (cut_cut top' top'' v fewer') (y.behind d (up_to top' v) (x.behind d v b));
+      beside = λ d v b. subst (Beside base lg'' fl'' dn'' d) (cut_cut top' top'' v fewer') (y.beside d (up_to top' v) (x.beside d v b));
+      behind = λ d v b. subst (Behind base lg'' fl'' dn'' d) (cut_cut top' top'' v fewer') (y.behind d (up_to top' v) (x.behind d v b));
     }
 
-before_sent : (lg : ℕ → Option Op) (fl : ℕ → Option Flight) (dn : List Performed) (top more n : ℕ) (g : Flight) → n ≡ top + 1 → top ≤ more → ((m : ℕ) (q : Op) → lg m ≡ Some q → m ≤ top) → AllBelow (top + 1) dn
-    → Earlier (λ m. if n == m then Some g.op else lg m) (λ m. if n == m then Some g else fl m) dn more lg fl dn top
-before_sent lg fl dn top more n g next fewer below few =
+before_sent : (base : Table) (lg : ℕ → Option Op) (fl : ℕ → Option Flight) (dn : List Performed) (top more n : ℕ) (g : Flight) → n ≡ top + 1 → top ≤ more → ((m : ℕ) (q : Op) → lg m ≡ Some q → m ≤ top) → AllBelow (top + 1) dn
+    → Earlier base (λ m. if n == m then Some g.op else lg m) (λ m. if n == m then Some g else fl m) dn more lg fl dn top
+before_sent base lg fl dn top more n g next fewer below few =
     let above : top < n = omega (arith, next) in
     let apart : (m : ℕ) → m ≤ top → n ≢ m = (λ m low same. omega (arith, above, low, same)) in
     record {
@@ -356,13 +356,13 @@ before_sent lg fl dn top more n g next fewer below few =
       flies_back = λ m f is low. sym (if_none n m (Some g) (fl m) (apart m low)) ∙ is;
       says_on = λ m said is. is;
       says_back = λ m said is low none. is;
-      beside = λ d v b. beside_unsent lg fl dn d top v n g (above, below, few) b;
-      behind = λ d v b. behind_unsent lg fl dn d top v n g (above, below, few) b;
+      beside = λ d v b. beside_unsent base lg fl dn d top v n g (above, below, few) b;
+      behind = λ d v b. behind_unsent base lg fl dn d top v n g (above, below, few) b;
     }
 
-before_answered : (lg : ℕ → Option Op) (fl : ℕ → Option Flight) (dn : List Performed) (top n : ℕ) (f : Flight) (said : Said) → ((m : ℕ) (q : Op) → lg m ≡ Some q → m ≤ top) → IsNextAnswer lg fl dn n f said
-    → Earlier lg (λ m. if n == m then None else fl m) ((n, f.op, said) ∷ dn) top lg fl dn top
-before_answered lg fl dn top n f said below a =
+before_answered : (base : Table) (lg : ℕ → Option Op) (fl : ℕ → Option Flight) (dn : List Performed) (top n : ℕ) (f : Flight) (said : Said) → ((m : ℕ) (q : Op) → lg m ≡ Some q → m ≤ top) → IsNextAnswer base lg fl dn n f said
+    → Earlier base lg (λ m. if n == m then None else fl m) ((n, f.op, said) ∷ dn) top lg fl dn top
+before_answered base lg fl dn top n f said below a =
     let same : (v : List Performed) → ((k : ℕ) (e : Performed) → slice_get v k ≡ Some e → lg e.0 ≡ Some e.1) → v ≡ up_to top v = (λ v logs. sym (cut_all top v (all_below top v (λ k e is. below e.0 e.1 (logs k e is))))) in
     record {
       fewer = omega arith;
@@ -375,62 +375,84 @@ before_answered lg fl dn top n f said below a =
       ];
       says_on = λ m s is. under_other n m f.op said dn (λ eq. none_some _ s a.absent (ap (said_under dn) eq ∙ is)) ∙ is;
       says_back = λ m s is low none. sym (under_other n m f.op said dn (λ eq. none_some _ f none (ap fl (sym eq) ∙ a.flies))) ∙ is;
-      beside = λ d v b. subst (Beside lg fl dn d) (same v (λ k e is. (b.entries k e is).0)) (beside_unanswered lg fl dn d v n f said a b);
-      behind = λ d v b. subst (Behind lg fl dn d) (same v (λ k e is. (b.entries k e is).0)) (behind_unanswered lg fl dn d v n f said a b);
+      beside = λ d v b. subst (Beside base lg fl dn d) (same v (λ k e is. (b.entries k e is).0)) (beside_unanswered base lg fl dn d v n f said a b);
+      behind = λ d v b. subst (Behind base lg fl dn d) (same v (λ k e is. (b.entries k e is).0)) (behind_unanswered base lg fl dn d v n f said a b);
     }
 
-abbrev pub Before : List Event → List Event → Type 0
-Before h first = Earlier (logged h) (open_op h) (done h) (given h) (logged first) (open_op first) (done first) (given first)
+abbrev pub Before : Table → List Event → List Event → Type 0
+Before base h first = Earlier base (logged h) (open_op h) (done h) (given h) (logged first) (open_op first) (done first) (given first)
 
-answer_back : (ps : List Checked) (h first : List Event) (t n : ℕ) (said : Said) → AllGood ps → Legal ps h → CanAnswer ps h t n said → HonestTo (open_op h n) said (now h) → Before h first → Before (Answer t n said ∷ h) first
-answer_back ps h first t n said good legal can honest before =
+answer_back : (ps : List Checked) (base : Table) (h first : List Event) (t n : ℕ) (said : Said) → AllGood ps → Legal ps h → CanAnswer ps h t n said → HonestTo (open_op h n) said (now_from base h) → Before base h first → Before base (Answer t n said ∷ h) first
+answer_back ps base h first t n said good legal can honest before =
     let f : Flight = flight t can.r.op in
     let flies : open_op h n ≡ Some f = answered_flight ps h t n said legal can in
     let becomes : done (Answer t n said ∷ h) ≡ (n, f.op, said) ∷ done h = done_answer h t n f said flies in
-    let a : IsNextAnswer (logged h) (open_op h) (done h) n f said = record {
+    let a : IsNextAnswer base (logged h) (open_op h) (done h) n f said = record {
       flies = flies;
       logs = flight_logged h n f flies;
       fit = can.fit;
       apart = flights ps h good legal n f flies;
       absent = flight_absent ps h legal n f flies;
-      honest = subst (λ (y : Option Flight). HonestTo y said (now h)) flies honest;
+      honest = subst (λ (y : Option Flight). HonestTo y said (now_from base h)) flies honest;
     } in
-    earlier_still _ _ _ _ _ _ _ _ _ _ _ _
-    (subst (λ (z : List Performed). Earlier (logged h) (λ m. if n == m then None else open_op h m) z (given h) (logged h) (open_op h) (done h) (given h)) (sym becomes)
-    (before_answered (logged h) (open_op h) (done h) (given h) n f said (logged_below ps h legal) a))
+    earlier_still base _ _ _ _ _ _ _ _ _ _ _ _
+    (subst (λ (z : List Performed). Earlier base (logged h) (λ m. if n == m then None else open_op h m) z (given h) (logged h) (open_op h) (done h) (given h)) (sym becomes)
+    (before_answered base (logged h) (open_op h) (done h) (given h) n f said (logged_below ps h legal) a))
     before
 
-sent_back : (ps : List Checked) (h first : List Event) (t n : ℕ) (o : Op) → Legal ps h → n ≡ given h + 1 → Before h first
-    → Earlier (λ m. if n == m then Some o else logged h m) (λ m. if n == m then Some (flight t o) else open_op h m) (done h) (given h + 1) (logged first) (open_op first) (done first) (given first)
-sent_back ps h first t n o legal next before =
-    earlier_still _ _ _ _ _ _ _ _ _ _ _ _
-    (before_sent (logged h) (open_op h) (done h) (given h) (given h + 1) n (flight t o) next (omega arith) (logged_below ps h legal) (done_below ps h legal))
+sent_back : (ps : List Checked) (base : Table) (h first : List Event) (t n : ℕ) (o : Op) → Legal ps h → n ≡ given h + 1 → Before base h first
+    → Earlier base (λ m. if n == m then Some o else logged h m) (λ m. if n == m then Some (flight t o) else open_op h m) (done h) (given h + 1) (logged first) (open_op first) (done first) (given first)
+sent_back ps base h first t n o legal next before =
+    earlier_still base _ _ _ _ _ _ _ _ _ _ _ _
+    (before_sent base (logged h) (open_op h) (done h) (given h) (given h + 1) n (flight t o) next (omega arith) (logged_below ps h legal) (done_below ps h legal))
     before
 
-pub earlier : (ps : List Checked) (later first : List Event) → AllGood ps → Legal ps (later ++ first) → Honest (later ++ first) → Before (later ++ first) first
-earlier ps [] first good legal honest = earlier_same (logged first) (open_op first) (done first) (given first) (logged_below ps first legal)
-earlier ps (Admit t p args ∷ later) first good legal honest = earlier ps later first good legal.1 honest.1
-earlier ps (Ask t n o ∷ later) first good legal honest = sent_back ps (later ++ first) first t n o legal.1 legal.0.next (earlier ps later first good legal.1 honest.1)
-earlier ps (Answer t n said ∷ later) first good legal honest = answer_back ps (later ++ first) first t n said good legal.1 legal.0 honest.0 (earlier ps later first good legal.1 honest.1)
-earlier ps (Undo t n o ∷ later) first good legal honest = sent_back ps (later ++ first) first t n o legal.1 legal.0.next (earlier ps later first good legal.1 honest.1)
-earlier ps (End t ends ∷ later) first good legal honest = earlier ps later first good legal.1 honest.1
+-- a log begins with its checkpoint
+tail_none : (later first : List Event) → later ++ first ≡ [] → first ≡ []
+tail_none [] first is = is
+tail_none (e ∷ later) first is = absurd cc
+
+pub earlier : (ps : List Checked) (base : Table) (later first : List Event) → AllGood ps → Legal ps (later ++ first) → HonestFrom base (later ++ first) → Before base (later ++ first) first
+earlier ps base [] first good legal honest = earlier_same base (logged first) (open_op first) (done first) (given first) (logged_below ps first legal)
+earlier ps base (Admit t p args ∷ later) first good legal honest = earlier ps base later first good legal.1 honest.1
+earlier ps base (Ask t n o ∷ later) first good legal honest = sent_back ps base (later ++ first) first t n o legal.1 legal.0.next (earlier ps base later first good legal.1 honest.1)
+earlier ps base (Answer t n said ∷ later) first good legal honest = answer_back ps base (later ++ first) first t n said good legal.1 legal.0 honest.0 (earlier ps base later first good legal.1 honest.1)
+earlier ps base (Undo t n o ∷ later) first good legal honest = sent_back ps base (later ++ first) first t n o legal.1 legal.0.next (earlier ps base later first good legal.1 honest.1)
+earlier ps base (End t ends ∷ later) first good legal honest = earlier ps base later first good legal.1 honest.1
+earlier ps base (Checkpoint before numbers ∷ later) first good legal honest =
+    let x = earlier ps base later first good legal.1 honest.1 in
+    let none : given first ≡ 0 = ap given (tail_none later first legal.0.oldest) in
+    record {
+      fewer = omega (arith, none);
+      below = x.below;
+      logs_on = x.logs_on;
+      logs_back = x.logs_back;
+      flies_back = x.flies_back;
+      says_on = x.says_on;
+      says_back = x.says_back;
+      beside = x.beside;
+      behind = x.behind;
+    }
 
 -- what is allowed behind each event, and each honest answer, is so behind the first ones
 pub legal_first : (ps : List Checked) (later first : List Event) → Legal ps (later ++ first) → Legal ps first
 legal_first ps [] first legal = legal
 legal_first ps (e ∷ later) first legal = legal_first ps later first legal.1
 
-pub honest_first : (later first : List Event) → Honest (later ++ first) → Honest first
-honest_first [] first honest = honest
-honest_first (e ∷ later) first honest = honest_first later first honest.1
+pub honest_first : (base : Table) (later first : List Event) → HonestFrom base (later ++ first) → HonestFrom base first
+honest_first base [] first honest = honest
+honest_first base (e ∷ later) first honest = honest_first base later first honest.1
 
-pub given_more : (later first : List Event) → given first ≤ given (later ++ first)
-given_more [] first = omega arith
-given_more (Admit t p args ∷ later) first = given_more later first
-given_more (Ask t n o ∷ later) first = (let ih = given_more later first in omega (arith, ih))
-given_more (Answer t n said ∷ later) first = given_more later first
-given_more (Undo t n o ∷ later) first = (let ih = given_more later first in omega (arith, ih))
-given_more (End t o ∷ later) first = given_more later first
+pub given_more : (ps : List Checked) (later first : List Event) → Legal ps (later ++ first) → given first ≤ given (later ++ first)
+given_more ps [] first legal = omega arith
+given_more ps (Admit t p args ∷ later) first legal = given_more ps later first legal.1
+given_more ps (Ask t n o ∷ later) first legal = (let ih = given_more ps later first legal.1 in omega (arith, ih))
+given_more ps (Answer t n said ∷ later) first legal = given_more ps later first legal.1
+given_more ps (Undo t n o ∷ later) first legal = (let ih = given_more ps later first legal.1 in omega (arith, ih))
+given_more ps (End t o ∷ later) first legal = given_more ps later first legal.1
+given_more ps (Checkpoint before numbers ∷ later) first legal =
+    let none : given first ≡ 0 = ap given (tail_none later first legal.0.oldest) in
+    omega (arith, none)
 
 -- numbers are given out from 1 on
 pub logged_some : (ps : List Checked) (h : List Event) → Legal ps h → (n : ℕ) (o : Op) → logged h n ≡ Some o → 0 < n
@@ -450,3 +472,4 @@ logged_some ps (Undo t m q ∷ h) legal n o e =
       | inr other ↦ logged_some ps h legal.1 n o (sym (if_none m n (Some q) (logged h n) other) ∙ e)
     ]
 logged_some ps (End t ends ∷ h) legal n o e = logged_some ps h legal.1 n o e
+logged_some ps (Checkpoint before numbers ∷ h) legal n o e = logged_some ps h legal.1 n o e

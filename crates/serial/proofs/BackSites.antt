@@ -7,7 +7,10 @@ use Rattle.access_slots.specs.declared.op.Wire.{Wire}
 use Rattle.access_slots.specs.declared.op.Reply.{Reply}
 use Rattle.access_slots.specs.declared.op.News.{News}
 use Rattle.history.specs.Flight.{Flight}
+use Rattle.serial.specs.Values.{Table}
 use Rattle.data_component.specs.Performed.{Performed}
+use Rattle.access_slots.specs.declared.slot.Record.{Record}
+use Rattle.data_component.specs.Sorted.{row_of}
 use Rattle.data_component.specs.Store.{Store}
 use Rattle.transactions.specs.declared.Site.{Site}
 use Rattle.transactions.specs.declared.Redoing.{Redoing}
@@ -50,15 +53,15 @@ over_less fl top low p x le =
     let l = x.given_out in
     record { given_out = omega (arith, l, le); answered = λ m less. x.answered m (omega (arith, less, le)) }
 
-module _ (lg : ℕ → Option Op) (fl : ℕ → Option Flight) (dn : List Performed) (top : ℕ) (lg' : ℕ → Option Op) (fl' : ℕ → Option Flight) (dn' : List Performed) (top' low : ℕ) where
-  stands_back : Earlier lg fl dn top lg' fl' dn' top' → (d p : ℕ) (list : List Performed) → StandsTo lg dn d p list → StandsTo lg' dn' d p list
+module _ (base : Table) (lg : ℕ → Option Op) (fl : ℕ → Option Flight) (dn : List Performed) (top : ℕ) (lg' : ℕ → Option Op) (fl' : ℕ → Option Flight) (dn' : List Performed) (top' low : ℕ) where
+  stands_back : Earlier base lg fl dn top lg' fl' dn' top' → (d p : ℕ) (list : List Performed) → StandsTo lg dn d p list → StandsTo lg' dn' d p list
   stands_back e d p list to n o said logs dc was did le = to n o said (e.logs_on n o logs) dc (e.says_on n said was) did le
 
-  stands_cut : Earlier lg fl dn top lg' fl' dn' top' → (d p : ℕ) (v : List Performed) → StandsTo lg dn d p v → StandsTo lg' dn' d p (up_to top' v)
+  stands_cut : Earlier base lg fl dn top lg' fl' dn' top' → (d p : ℕ) (v : List Performed) → StandsTo lg dn d p v → StandsTo lg' dn' d p (up_to top' v)
   stands_cut e d p v to n o said logs dc was did le = under_cut top' n v (e.below n o logs) ∙ to n o said (e.logs_on n o logs) dc (e.says_on n said was) did le
 
-  site_back : Earlier lg fl dn top lg' fl' dn' top' → Over fl' top' low → (d : ℕ) (dcs : List Store) (copies : List Wire) (s : Store) (t t' : Site) (v : List Performed) → IsNotedOf low d dcs copies t t' → IsUpTo top' low s
-      → SiteOk lg fl dn top d s t v → SiteOk lg' fl' dn' top' d s t' (up_to top' v)
+  site_back : Earlier base lg fl dn top lg' fl' dn' top' → Over fl' top' low → (d : ℕ) (dcs : List Store) (copies : List Wire) (s : Store) (t t' : Site) (v : List Performed) → IsNotedOf low d dcs copies t t' → IsUpTo top' low s
+      → SiteOk base lg fl dn top d s t v → SiteOk base lg' fl' dn' top' d s t' (up_to top' v)
   site_back e over d dcs copies s t t' v noted few k =
       record {
         up = λ is. e.beside d v (k.up (noted.up is));
@@ -68,7 +71,7 @@ module _ (lg : ℕ → Option Op) (fl : ℕ → Option Flight) (dn : List Perfor
             let anew = begun.anew in
             record {
               stands = stands_cut e d r'.redone v (redo_cases t.redo (StandsTo lg dn d r'.redone v)
-                  (λ isup. stands_up lg fl dn d r'.redone v (k.up isup))
+                  (λ isup. stands_up base lg fl dn d r'.redone v (k.up isup))
                   (λ r isdown.
                   let was = k.down r isdown in
                   let told = was.told_le in
@@ -81,6 +84,7 @@ module _ (lg : ℕ → Option Op) (fl : ℕ → Option Flight) (dn : List Perfor
         same = λ is. sym whole ∙ ap (up_to top') (k.same (sym noted.same ∙ is));
         idle = λ less. k.idle (subst (λ (n : ℕ). n < s.incarnation) noted.same less);
         cut = subst (IsEnd (up_to top' v)) whole (end_cut top' v s.list k.cut);
+        based = k.based;
         saved_cut = k.saved_cut;
         whole = λ never n o said logs dc was. k.whole never n o said (e.logs_on n o logs) dc (e.says_on n said was);
         mark_to = stands_back e d s.mark s.list k.mark_to;
@@ -93,9 +97,9 @@ module _ (lg : ℕ → Option Op) (fl : ℕ → Option Flight) (dn : List Perfor
       whole = cut_all top' s.list (all_below top' s.list few.list)
 
   pub ok_back : (sites sites' : List Site) (dcs : List Store) (copies : List Wire) (replies : List Reply) (news : List (ℕ × News))
-      → Earlier lg fl dn top lg' fl' dn' top' → Over fl' top' low → ((d : ℕ) → IsNotedOf low d dcs copies (site_at sites d) (site_at sites' d)) → ((d : ℕ) (s : Store) → slice_get dcs d ≡ Some s → IsUpTo top' low s)
+      → Earlier base lg fl dn top lg' fl' dn' top' → Over fl' top' low → ((d : ℕ) → IsNotedOf low d dcs copies (site_at sites d) (site_at sites' d)) → ((d : ℕ) (s : Store) → slice_get dcs d ≡ Some s → IsUpTo top' low s)
       → All (RestsOn fl' top' low) copies → All (λ (x : Reply). x.number ≤ top') replies → All (λ (x : ℕ × News). x.1.mark ≤ low) news
-      → AreOk lg fl dn top sites dcs copies replies news → AreOk lg' fl' dn' top' sites' dcs copies replies news
+      → AreOk base lg fl dn top sites dcs copies replies news → AreOk base lg' fl' dn' top' sites' dcs copies replies news
   ok_back sites sites' dcs copies replies news e over noted few rests given_out low_news k =
       record {
         v = λ d. up_to top' (k.v d);
@@ -109,7 +113,7 @@ module _ (lg : ℕ → Option Op) (fl : ℕ → Option Flight) (dn : List Perfor
             redo_cases (site_at sites d).redo ((s : Store) × (slice_get dcs d ≡ Some s)) (λ isup. begun.there isup) (λ r isdown. k.there d r isdown);
       }
     where
-      copy : (x : Wire) → ((d : ℕ) → dc_of x.op ≡ d → x.incarnation ≡ (site_at sites d).incarnation → x.redo ≡ false → (site_at sites d).redo ≡ None → (site_at sites' d).redo ≡ None) → RestsOn fl' top' low x → CopyOk lg fl dn top sites dcs k.v x → CopyOk lg' fl' dn' top' sites' dcs (λ d. up_to top' (k.v d)) x
+      copy : (x : Wire) → ((d : ℕ) → dc_of x.op ≡ d → x.incarnation ≡ (site_at sites d).incarnation → x.redo ≡ false → (site_at sites d).redo ≡ None → (site_at sites' d).redo ≡ None) → RestsOn fl' top' low x → CopyOk base lg fl dn top sites dcs k.v x → CopyOk base lg' fl' dn' top' sites' dcs (λ d. up_to top' (k.v d)) x
       copy x ordinary rest y =
           let t = noted (dc_of x.op) in
           record {
@@ -152,7 +156,7 @@ module _ (lg : ℕ → Option Op) (fl : ℕ → Option Flight) (dn : List Perfor
             now = λ is. elim (y.now (is ∙ t.same)) [ inl old ↦ inl old | inr under ↦ inr (under_cut top' x.number (k.v (dc_of y.o)) low ∙ under) ];
           }
 
-      told : (x : ℕ × News) → x.1.mark ≤ low → NewsOk lg fl dn top sites dcs x → NewsOk lg' fl' dn' top' sites' dcs x
+      told : (x : ℕ × News) → x.1.mark ≤ low → NewsOk base lg fl dn top sites dcs x → NewsOk base lg' fl' dn' top' sites' dcs x
       told x le y = record {
         s = y.s;
         at = y.at;
@@ -167,8 +171,8 @@ end_none : (big : List Performed) → IsEnd big []
 end_none [] = refl
 end_none (x ∷ big) = inr (end_none big)
 
-behind_none : (lg : ℕ → Option Op) (fl : ℕ → Option Flight) (dn : List Performed) (d : ℕ) → Behind lg fl dn d []
-behind_none lg fl dn d = record {
+behind_none : (base : Table) (lg : ℕ → Option Op) (fl : ℕ → Option Flight) (dn : List Performed) (d : ℕ) → Behind base lg fl dn d []
+behind_none base lg fl dn d = record {
   entries = λ k e is. absurd (none_some _ e refl is);
   once = tt;
   agrees = λ n o s said is dc under was. absurd (none_some _ s refl under);
@@ -181,20 +185,21 @@ behind_none lg fl dn d = record {
 stands_none : (lg : ℕ → Option Op) (dn : List Performed) (d : ℕ) (list : List Performed) → ((n : ℕ) (o : Op) → lg n ≡ Some o → 0 < n) → (p : ℕ) → p ≡ 0 → StandsTo lg dn d p list
 stands_none lg dn d list above p none n o said logs dc was did low = (let some = above n o logs in absurd (omega (arith, some, none, low)))
 
-pub site_new : (lg : ℕ → Option Op) (fl : ℕ → Option Flight) (dn : List Performed) (top d : ℕ) (s : Store) → ((n : ℕ) (o : Op) → lg n ≡ Some o → 0 < n) → Over fl top 0
-    → s.list ≡ [] → s.saved ≡ [] → s.mark ≡ 0 → s.saved_mark ≡ 0 → 0 < s.incarnation
-    → SiteOk lg fl dn top d s (record { incarnation = s.incarnation; redo = Some (record { mark = s.mark; redone = s.mark }) }) []
-site_new lg fl dn top d s above over list saved mark saved_mark restarted =
+pub site_new : (base : Table) (lg : ℕ → Option Op) (fl : ℕ → Option Flight) (dn : List Performed) (top d : ℕ) (s : Store) → ((n : ℕ) (o : Op) → lg n ≡ Some o → 0 < n) → Over fl top 0
+    → ((r : Record) → r.dc ≡ d → row_of s.base r ≡ base r) → s.list ≡ [] → s.saved ≡ [] → s.mark ≡ 0 → s.saved_mark ≡ 0 → 0 < s.incarnation
+    → SiteOk base lg fl dn top d s (record { incarnation = s.incarnation; redo = Some (record { mark = s.mark; redone = s.mark }) }) []
+site_new base lg fl dn top d s above over based list saved mark saved_mark restarted =
     let at : Redoing = record { mark = s.mark; redone = s.mark } in
     let over_at : (p : ℕ) → p ≡ 0 → Over fl top p = (λ p none. over_less fl top 0 p over (omega (arith, none))) in
     record {
       up = λ is. absurd (none_some _ at is refl);
-      behind = behind_none lg fl dn d;
-      down = λ r is. subst (RedoneTo lg fl dn top d []) (some_same at r is) (record { stands = stands_none lg dn d [] above s.mark mark; told_le = omega arith; told_over = over_at s.mark mark });
+      behind = behind_none base lg fl dn d;
+      down = λ r is. subst (RedoneTo base lg fl dn top d []) (some_same at r is) (record { stands = stands_none lg dn d [] above s.mark mark; told_le = omega arith; told_over = over_at s.mark mark });
       ahead = λ less. absurd (omega (arith, less));
       same = λ is. list;
       idle = λ less. absurd (omega (arith, less));
       cut = list;
+      based = based;
       saved_cut = subst (λ (l : List Performed). IsEnd l s.saved) (sym list) saved;
       whole = λ never. absurd (omega (arith, never, restarted));
       mark_to = stands_none lg dn d s.list above s.mark mark;
