@@ -12,7 +12,7 @@ use Rattle.serial.proofs.AuditLemmas.{legal_tail}
 use Rattle.tc_core.specs.Checking.{IsFirstIllegal}
 use Rattle.audit.specs.Auditing.{IsFirstNotAsked, IsAuditFault}
 use Rattle.audit.specs.declared.auditing.AuditFault.{AuditFault}
-use Rattle.audit.specs.declared.auditing.AuditFault.TheVariants.{LogIllegal, NotAsked, Mismatch, Rows, Memory}
+use Rattle.audit.specs.declared.auditing.AuditFault.TheVariants.{Begun, LogIllegal, NotAsked, Mismatch, Rows, Memory}
 use Rattle.audit.proofs.MatchLemmas.{Somewhere, turned}
 
 each_allowed : (ps : List Checked) (h : List Event) (place : ℕ) → Legal ps h → IsFirstIllegal ps h place → ⊥
@@ -24,8 +24,9 @@ each_asked ps h dcs d place agreed f =
     f.not (agreed.asked d f.s w.place f.e f.there w.at)
 
 pub no_fault : (ps : List Checked) (h : List Event) (dcs : List Store) (f : AuditFault) → Legal ps h → IsAgreed ps h dcs → IsAuditFault ps h dcs f → f ≡ Memory
-no_fault ps h dcs (LogIllegal place) legal agreed so = absurd (each_allowed ps h place legal so)
-no_fault ps h dcs (NotAsked d place) legal agreed so = absurd (each_asked ps h dcs d place agreed so.1)
-no_fault ps h dcs (Mismatch n) legal agreed so = absurd (so.2.not (agreed.matched n so.2.o so.2.said so.2.logs so.2.answered))
-no_fault ps h dcs (Rows r) legal agreed so = absurd (so.3.not (agreed.kept r so.3.free))
+no_fault ps h dcs (Begun d) legal agreed so = absurd (so.not (agreed.together d so.s so.there))
+no_fault ps h dcs (LogIllegal place) legal agreed so = absurd (each_allowed ps h place legal so.1)
+no_fault ps h dcs (NotAsked d place) legal agreed so = absurd (each_asked ps h dcs d place agreed so.2)
+no_fault ps h dcs (Mismatch n) legal agreed so = absurd (so.3.not (agreed.matched n so.3.o so.3.said so.3.logs so.3.answered))
+no_fault ps h dcs (Rows r) legal agreed so = absurd (so.4.not (agreed.kept r so.4.free))
 no_fault ps h dcs Memory legal agreed so = refl
