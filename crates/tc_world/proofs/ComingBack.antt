@@ -8,6 +8,8 @@ use Rattle.access_slots.specs.declared.op.Wire.{Wire}
 use Rattle.tc_log.specs.declared.event.Event.{Event}
 use Rattle.history.specs.Flight.{Flight, open_op, is_flight, given, low_water}
 use Rattle.data_component.specs.Performed.{Performed}
+use Rattle.history.specs.Anew.{begun}
+use Rattle.tc_world.proofs.Bare.{begun_first}
 use Rattle.data_component.specs.Store.{Store}
 use Rattle.transactions.specs.declared.Redoing.{Redoing}
 use Rattle.transactions.specs.declared.Site.{Site}
@@ -15,7 +17,7 @@ use Rattle.transactions.specs.InFlight.{site_at, site_by, untold}
 use Rattle.transactions.specs.Reached.{AllGood}
 use Rattle.transactions.specs.Legal.{Legal}
 use Rattle.transactions.proofs.StandingLemmas.{some_same, none_some, eq-true, eq-false}
-use Rattle.serial.specs.Serial.{done, Honest}
+use Rattle.serial.specs.Serial.{empty_table, done, Honest}
 use Rattle.serial.specs.Lists.{logged}
 use Rattle.serial.specs.Joining.Site.{Over}
 use Rattle.serial.proofs.RedoneLemmas.{over_low}
@@ -139,18 +141,20 @@ pub come_back_listed : (w : Whole) (first : List Event) (notes : List SiteNote) 
     → IsWritten first notes w → IsListed w → IsListed (come_back first notes w)
 come_back_listed w first notes good legal written s =
     record {
-      honest = honest_first written.begins.later first (subst Honest written.begins.is s.honest);
-      ok = ok_back (logged w.core.events) (open_op w.core.events) (done w.core.events) (given w.core.events) (logged first) (open_op first) (done first) (given first) (low_water first)
+      honest = honest_first empty_table written.begins.later first (subst Honest written.begins.is s.honest);
+      bare = s.bare;
+      unbegun = begun_first w.core.procs written.begins.later first (subst (Legal w.core.procs) written.begins.is legal) (sym (ap begun written.begins.is) ∙ s.unbegun);
+      ok = ok_back empty_table (logged w.core.events) (open_op w.core.events) (done w.core.events) (given w.core.events) (logged first) (open_op first) (done first) (given first) (low_water first)
           w.core.sites (map site_noted notes) w.dcs w.copies w.replies w.news before over noted
           (λ d y at. up_to_it first y (all_at (IsWrittenAt first) w.dcs d y at written.stores))
           (λ k x inside. rests first _ (written.copies k x inside))
           written.replies written.news s.ok;
     }
   where
-    before : Earlier (logged w.core.events) (open_op w.core.events) (done w.core.events) (given w.core.events) (logged first) (open_op first) (done first) (given first)
+    before : Earlier empty_table (logged w.core.events) (open_op w.core.events) (done w.core.events) (given w.core.events) (logged first) (open_op first) (done first) (given first)
     before =
-        subst (λ (h : List Event). Earlier (logged h) (open_op h) (done h) (given h) (logged first) (open_op first) (done first) (given first)) (sym written.begins.is)
-        (earlier w.core.procs written.begins.later first good (subst (Legal w.core.procs) written.begins.is legal) (subst Honest written.begins.is s.honest))
+        subst (λ (h : List Event). Earlier empty_table (logged h) (open_op h) (done h) (given h) (logged first) (open_op first) (done first) (given first)) (sym written.begins.is)
+        (earlier w.core.procs empty_table written.begins.later first good (subst (Legal w.core.procs) written.begins.is legal) (subst Honest written.begins.is s.honest))
 
     over : Over (open_op first) (given first) (low_water first)
     over = over_low w.core.procs first (come_back_legal w first notes legal written)

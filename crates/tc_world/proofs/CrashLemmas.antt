@@ -24,9 +24,11 @@ use Rattle.tc_world.specs.Whole.{Whole}
 use Rattle.tc_world.specs.Marks.{IsLow}
 use Rattle.tc_world.specs.Waiting.{AreWaiting}
 use Rattle.tc_world.specs.Recovery.{IsWrittenFor, IsWrittenAt, Noted, MayCrash}
-use Rattle.tc_world.specs.Joining.Written.{gives, is_left, low_left, is_wire_told, are_told, is_store_told}
+use Rattle.tc_world.specs.Joining.Written.{given_of, is_left, low_left, is_wire_told, are_told, is_store_told}
 use Rattle.tc_world.proofs.ComingBack.{noted_at}
-use Rattle.tc_world.proofs.LookingLemmas.{all_reverse, front, back, given_is, left_is, low_is}
+use Rattle.tc_world.proofs.Bare.{none_behind}
+use Rattle.history.specs.Anew.{begun as log_begun}
+use Rattle.tc_world.proofs.LookingLemmas.{all_reverse, front, back, given_first, left_is, low_is}
 
 -- ---- the log in two
 
@@ -165,7 +167,7 @@ pub record Looks (w : Whole) (n : ℕ) (rs : List Asking) (given' low' : ℕ) (e
   pub later : es ≡ reverse (later_events n w.core.events)
 
 pub looks : (w : Whole) (n : ℕ) (rs : List Asking) (given' low : ℕ) (first' es : List Event) → Legal w.core.procs w.core.events → AreWaiting rs w.core.events
-    → n ≤ length w.core.events → first' ≡ take n (reverse w.core.events) → es ≡ drop n (reverse w.core.events) → given' ≡ count_by gives first'
+    → n ≤ length w.core.events → first' ≡ take n (reverse w.core.events) → es ≡ drop n (reverse w.core.events) → given' ≡ given_of (log_begun w.core.events) first'
     → low ≡ low_left given' es rs → Looks w n rs given' low es
 looks w n rs given' low first' es legal waits inside front_is back_is given_by low_by = record {
   legal = legal;
@@ -182,8 +184,8 @@ looks w n rs given' low first' es legal waits inside front_is back_is given_by l
     given_now : given' ≡ given (first_events n h)
     given_now =
         given_by
-        ∙ (ap (count_by gives) (front_is ∙ (ap (λ (x : List Event). take n (reverse x)) (sym (cut_is n h)) ∙ front (later_events n h) (first_events n h) n (first_many n h inside)))
-        ∙ given_is (first_events n h))
+        ∙ (ap (given_of (log_begun h)) (front_is ∙ (ap (λ (x : List Event). take n (reverse x)) (sym (cut_is n h)) ∙ front (later_events n h) (first_events n h) n (first_many n h inside)))
+        ∙ (ap (λ (x : List Event). given_of (log_begun x) (reverse (first_events n h))) (sym (cut_is n h)) ∙ given_first w.core.procs (later_events n h) (first_events n h) (subst (Legal w.core.procs) (sym (cut_is n h)) legal)))
 
     later_now : es ≡ reverse (later_events n h)
     later_now = back_is ∙ (ap (λ (x : List Event). drop n (reverse x)) (sym (cut_is n h)) ∙ back (later_events n h) (first_events n h) n (first_many n h inside))
@@ -223,13 +225,16 @@ module _ (w : Whole) (n : ℕ) (rs : List Asking) (given' low : ℕ) (es : List 
 -- ---- requests made again
 
 -- what came later admitted no less
-pub admitted_more : (later first : List Event) → admitted first ≤ admitted (later ++ first)
-admitted_more [] first = omega arith
-admitted_more (event.Admit t p args ∷ later) first = (let ih = admitted_more later first in omega (arith, ih))
-admitted_more (event.Ask t n o ∷ later) first = admitted_more later first
-admitted_more (event.Answer t n said ∷ later) first = admitted_more later first
-admitted_more (event.Undo t n o ∷ later) first = admitted_more later first
-admitted_more (event.End t o ∷ later) first = admitted_more later first
+pub admitted_more : (ps : List Checked) (later first : List Event) → Legal ps (later ++ first) → admitted first ≤ admitted (later ++ first)
+admitted_more ps [] first legal = omega arith
+admitted_more ps (event.Admit t p args ∷ later) first legal = (let ih = admitted_more ps later first legal.1 in omega (arith, ih))
+admitted_more ps (event.Ask t n o ∷ later) first legal = admitted_more ps later first legal.1
+admitted_more ps (event.Answer t n said ∷ later) first legal = admitted_more ps later first legal.1
+admitted_more ps (event.Undo t n o ∷ later) first legal = admitted_more ps later first legal.1
+admitted_more ps (event.End t o ∷ later) first legal = admitted_more ps later first legal.1
+admitted_more ps (event.Checkpoint before numbers ∷ later) first legal =
+    let none : admitted first ≡ 0 = ap admitted (none_behind later first legal.0.oldest) in
+    omega (arith, none)
 
-pub fewer_admitted : (n : ℕ) (h : List Event) → admitted (first_events n h) ≤ admitted h
-fewer_admitted n h = subst (λ (x : List Event). admitted (first_events n h) ≤ admitted x) (cut_is n h) (admitted_more (later_events n h) (first_events n h))
+pub fewer_admitted : (ps : List Checked) (n : ℕ) (h : List Event) → Legal ps h → admitted (first_events n h) ≤ admitted h
+fewer_admitted ps n h legal = subst (λ (x : List Event). admitted (first_events n h) ≤ admitted x) (cut_is n h) (admitted_more ps (later_events n h) (first_events n h) (subst (Legal ps) (sym (cut_is n h)) legal))

@@ -27,7 +27,7 @@ use Rattle.transactions.proofs.StandingLemmas.{some_same, none_some}
 use Rattle.transactions.proofs.Flights.{flight, standing_flight}
 use Rattle.tc_core.specs.Core.{Core, Asking}
 use Rattle.tc_core.specs.Replies.{with_event, ask_reply, after_ask, undo_reply, after_undo, end_of, is_heard, is_up}
-use Rattle.tc_core.specs.Redo.{with_site, news_fault_by, IsRedone, after_told, redo_wire, redo_at, redo_by, sends_again, after_redo, after_redone, redone_to, redone_at, up_again}
+use Rattle.tc_core.specs.Redo.{with_site, news_fault_by, lost_fault, IsRedone, after_told, redo_wire, redo_at, redo_by, sends_again, after_redo, after_redone, redone_to, redone_at, up_again}
 use Rattle.tc_core.specs.declared.state.Down.{Down}
 use Rattle.tc_core.specs.declared.state.NewsFault.TheVariants as fault
 use Rattle.tc_core.specs.declared.state.Redo.TheVariants as redo
@@ -55,10 +55,13 @@ use Rattle.tc_world.specs.declared.step.Outcome.{Outcome}
 use Rattle.tc_world.specs.declared.step.Illegal.{Illegal}
 use Rattle.tc_world.specs.OneAtATime.{is_forge, NoForge, IsKnown, EachIsKnown, IsOneAtATime}
 use Rattle.tc_world.specs.Joining.Listed.{IsListed}
-use Rattle.serial.specs.Serial.{done, HonestTo, Honest}
+use Rattle.serial.specs.Serial.{empty_table, done, HonestTo, Honest}
 use Rattle.serial.specs.Serial.{now as serial_now}
 use Rattle.serial.specs.Lists.{logged, dc_of}
-use Rattle.serial.specs.Audit.{IsAgreed}
+use Rattle.serial.specs.Audit.{IsAgreed, base_of}
+use Rattle.history.specs.Anew.{begun}
+use Rattle.data_component.specs.Sorted.{Rows, row_of}
+use Rattle.tc_world.proofs.Bare.{bare_set, performed_bare, bare_base, honest_same, beside_same}
 use Rattle.serial.specs.Joining.Beside.{Beside}
 use Rattle.serial.specs.Joining.Behind.{Behind, StandsTo, IsEnd, IsNext}
 use Rattle.serial.specs.Joining.Site.{SiteOk}
@@ -104,7 +107,7 @@ known_behind o p w v known goes = subst (λ (x : Whole). Known x.core) (sym (wen
 -- ---- what happens to a world
 
 abbrev Lists : Whole → Core → Type 0
-Lists w c = AreOk (logged c.events) (open_op c.events) (done c.events) (given c.events) c.sites w.dcs w.copies w.replies w.news
+Lists w c = AreOk empty_table (logged c.events) (open_op c.events) (done c.events) (given c.events) c.sites w.dcs w.copies w.replies w.news
 
 -- a new number is given out
 asked : (ps : List Checked) (w : Whole) (e : Event) (t n : ℕ) (o : Op) → Legal ps w.core.events → n ≡ given w.core.events + 1
@@ -115,18 +118,18 @@ asked : (ps : List Checked) (w : Whole) (e : Event) (t n : ℕ) (o : Op) → Leg
 asked ps w e t n o legal next lg fl dn top k =
     let h = w.core.events in
     let new : (m : ℕ) (q : Op) → logged h m ≡ Some q → n ≢ m = (λ m q is. let b = logged_below ps h legal m q is in omega (arith, next, b)) in
-    let now = ok_sent (logged h) (open_op h) (done h) (given h) w.core.sites w.dcs w.copies w.replies w.news n (flight t o) (omega (arith, next)) new (λ m said is. done_logged ps h legal m said is) k in
-    subst (λ (g : ℕ → Option Op). AreOk g (open_op (e ∷ h)) (done (e ∷ h)) (given (e ∷ h)) w.core.sites w.dcs w.copies w.replies w.news) (sym lg)
-    (subst (λ (g : ℕ → Option Flight). AreOk (λ m. if n == m then Some o else logged h m) g (done (e ∷ h)) (given (e ∷ h)) w.core.sites w.dcs w.copies w.replies w.news) (sym fl)
-    (subst (λ (g : List Performed). AreOk (λ m. if n == m then Some o else logged h m) (λ m. if n == m then Some (flight t o) else open_op h m) g (given (e ∷ h)) w.core.sites w.dcs w.copies w.replies w.news) (sym dn)
-    (subst (λ (g : ℕ). AreOk (λ m. if n == m then Some o else logged h m) (λ m. if n == m then Some (flight t o) else open_op h m) (done h) g w.core.sites w.dcs w.copies w.replies w.news) (sym top) now)))
+    let now = ok_sent empty_table (logged h) (open_op h) (done h) (given h) w.core.sites w.dcs w.copies w.replies w.news n (flight t o) (omega (arith, next)) new (λ m said is. done_logged ps h legal m said is) k in
+    subst (λ (g : ℕ → Option Op). AreOk empty_table g (open_op (e ∷ h)) (done (e ∷ h)) (given (e ∷ h)) w.core.sites w.dcs w.copies w.replies w.news) (sym lg)
+    (subst (λ (g : ℕ → Option Flight). AreOk empty_table (λ m. if n == m then Some o else logged h m) g (done (e ∷ h)) (given (e ∷ h)) w.core.sites w.dcs w.copies w.replies w.news) (sym fl)
+    (subst (λ (g : List Performed). AreOk empty_table (λ m. if n == m then Some o else logged h m) (λ m. if n == m then Some (flight t o) else open_op h m) g (given (e ∷ h)) w.core.sites w.dcs w.copies w.replies w.news) (sym dn)
+    (subst (λ (g : ℕ). AreOk empty_table (λ m. if n == m then Some o else logged h m) (λ m. if n == m then Some (flight t o) else open_op h m) (done h) g w.core.sites w.dcs w.copies w.replies w.news) (sym top) now)))
 
 abbrev pub IsCopy : Whole → (ℕ → List Performed) → Wire → Type 0
-IsCopy w v x = CopyOk (logged w.core.events) (open_op w.core.events) (done w.core.events) (given w.core.events) w.core.sites w.dcs v x
+IsCopy w v x = CopyOk empty_table (logged w.core.events) (open_op w.core.events) (done w.core.events) (given w.core.events) w.core.sites w.dcs v x
 
 copied : (w : Whole) (x : Wire) → (s : IsListed w) → IsCopy w s.ok.v x → IsListed (with_copy w x)
 copied w x s y =
-    record { honest = s.honest; ok = ok_copy (logged w.core.events) (open_op w.core.events) (done w.core.events) (given w.core.events) w.core.sites w.dcs w.copies w.replies w.news x s.ok y }
+    record { honest = s.honest; bare = s.bare; unbegun = s.unbegun; ok = ok_copy empty_table (logged w.core.events) (open_op w.core.events) (done w.core.events) (given w.core.events) w.core.sites w.dcs w.copies w.replies w.news x s.ok y }
 
 -- the wire of an open number
 wire_ok : (w : Whole) (v : ℕ → List Performed) (r : Asking) (f : Flight) (redo : Option Redoing) (x : Wire) → Legal w.core.procs w.core.events → logged w.core.events r.number ≡ Some r.op → open_op w.core.events r.number ≡ Some f
@@ -150,7 +153,7 @@ asks_listed w v t (reply.Request r) o known s goes = by (wire_of c r) refl goes
     c = with_event w.core (event.Ask r.txn r.number r.op)
 
     mid : Known c → IsListed (with_core w c)
-    mid now_known = record { honest = (tt, s.honest); ok = asked w.core.procs w (event.Ask r.txn r.number r.op) r.txn r.number r.op now_known.legal.1 now_known.legal.0.next refl refl refl (sym now_known.legal.0.next) s.ok }
+    mid now_known = record { honest = (tt, s.honest); bare = s.bare; unbegun = s.unbegun; ok = asked w.core.procs w (event.Ask r.txn r.number r.op) r.txn r.number r.op now_known.legal.1 now_known.legal.0.next refl refl refl (sym now_known.legal.0.next) s.ok }
 
     logs : logged c.events r.number ≡ Some r.op
     logs = if_some r.number r.number (Some r.op) (logged w.core.events r.number) refl
@@ -175,7 +178,7 @@ undoes_listed w v t (reply.Request r) o known s goes = by (wire_of c r) refl goe
     c = with_event w.core (event.Undo r.txn r.number r.op)
 
     mid : Known c → IsListed (with_core w c)
-    mid now_known = record { honest = (tt, s.honest); ok = asked w.core.procs w (event.Undo r.txn r.number r.op) r.txn r.number r.op now_known.legal.1 now_known.legal.0.next refl refl refl (sym now_known.legal.0.next) s.ok }
+    mid now_known = record { honest = (tt, s.honest); bare = s.bare; unbegun = s.unbegun; ok = asked w.core.procs w (event.Undo r.txn r.number r.op) r.txn r.number r.op now_known.legal.1 now_known.legal.0.next refl refl refl (sym now_known.legal.0.next) s.ok }
 
     logs : logged c.events r.number ≡ Some r.op
     logs = if_some r.number r.number (Some r.op) (logged w.core.events r.number) refl
@@ -196,7 +199,7 @@ undoes_listed w v t reply.Unknown o known s goes = absurd (stopped _ o v goes)
 ends_listed : (w v : Whole) (t : ℕ) (s : Option Standing) (e : Option Ending) (o : Outcome) → IsListed w → ends_by w t s e ≡ Goes o v → IsListed v
 ends_listed w v t None e o kept goes = absurd (stopped _ o v goes)
 ends_listed w v t (Some s) None o kept goes = absurd (stopped _ o v goes)
-ends_listed w v t (Some s) (Some e) o kept goes = behind _ o (with_core w (with_event w.core (event.End t e))) v (record { honest = (tt, kept.honest); ok = kept.ok }) goes
+ends_listed w v t (Some s) (Some e) o kept goes = behind _ o (with_core w (with_event w.core (event.End t e))) v (record { honest = (tt, kept.honest); bare = kept.bare; unbegun = kept.unbegun; ok = kept.ok }) goes
 
 resends_listed : (w v : Whole) (t : ℕ) (s : Option Standing) (o : Outcome) → Known v.core → standing w.core.events t ≡ s → IsListed w → resends_by w t s ≡ Goes o v → IsListed v
 resends_listed w v t None o known is kept goes = absurd (stopped _ o v goes)
@@ -226,11 +229,11 @@ gets_known w v (Some x) o known goes = known_behind _ o (with_reply w x) v known
 gets_listed : (w v : Whole) (x : Option Reply) (o : Outcome) → (s : IsListed w) → ((y : Reply) → x ≡ Some y → ReplyOk (logged w.core.events) w.core.sites w.dcs s.ok.v y) → gets_reply w x ≡ Goes o v → IsListed v
 gets_listed w v None o s said goes = behind _ o w v s goes
 gets_listed w v (Some x) o s said goes =
-    behind _ o (with_reply w x) v (record { honest = s.honest; ok = ok_reply (logged w.core.events) (open_op w.core.events) (done w.core.events) (given w.core.events) w.core.sites w.dcs w.copies w.replies w.news x s.ok (said x refl) }) goes
+    behind _ o (with_reply w x) v (record { honest = s.honest; bare = s.bare; unbegun = s.unbegun; ok = ok_reply empty_table (logged w.core.events) (open_op w.core.events) (done w.core.events) (given w.core.events) w.core.sites w.dcs w.copies w.replies w.news x s.ok (said x refl) }) goes
 
 performs_at_listed : (w v : Whole) (x : Wire) (d : Option Store) (o : Outcome) → Known v.core → slice_get w.dcs (dc_of x.op) ≡ d → (s : IsListed w) → IsCopy w s.ok.v x → performs_at w x d ≡ Goes o v → IsListed v
 performs_at_listed w v x None o known at s y goes = absurd (stopped _ o v goes)
-performs_at_listed w v x (Some d) o known at s y goes = gets_listed (with_store w x d) v (replied d x) o (record { honest = s.honest; ok = both.0 }) said goes
+performs_at_listed w v x (Some d) o known at s y goes = gets_listed (with_store w x d) v (replied d x) o (record { honest = s.honest; bare = bare_set w.dcs (dc_of x.op) d (performed d x) at (performed_bare d x) s.bare; unbegun = s.unbegun; ok = both.0 }) said goes
   where
     was : Known w.core
     was = gets_known (with_store w x d) v (replied d x) o known goes
@@ -238,14 +241,14 @@ performs_at_listed w v x (Some d) o known at s y goes = gets_listed (with_store 
     j : ℕ
     j = dc_of x.op
 
-    facts : LogFacts (logged w.core.events) (open_op w.core.events) (done w.core.events)
-    facts = log_facts w.core.procs w.core.events was.good was.legal s.honest
+    facts : LogFacts empty_table (logged w.core.events) (open_op w.core.events) (done w.core.events)
+    facts = log_facts w.core.procs empty_table w.core.events was.good was.legal s.honest
 
-    becomes : Becomes (logged w.core.events) (open_op w.core.events) (done w.core.events) (given w.core.events) (dc_of x.op) d (performed d x) (site_at w.core.sites (dc_of x.op)) (s.ok.v (dc_of x.op))
-    becomes = performs_ok (logged w.core.events) (open_op w.core.events) (done w.core.events) (given w.core.events) d (site_at w.core.sites j) (s.ok.v j) x facts (λ m g is. flight_logged w.core.events m g is) y.logs y.known (y.ahead d at) y.over y.now (s.ok.stores j d at)
+    becomes : Becomes empty_table (logged w.core.events) (open_op w.core.events) (done w.core.events) (given w.core.events) (dc_of x.op) d (performed d x) (site_at w.core.sites (dc_of x.op)) (s.ok.v (dc_of x.op))
+    becomes = performs_ok empty_table (logged w.core.events) (open_op w.core.events) (done w.core.events) (given w.core.events) d (site_at w.core.sites j) (s.ok.v j) x facts (λ m g is. flight_logged w.core.events m g is) y.logs y.known (y.ahead d at) y.over y.now (s.ok.stores j d at)
 
-    both : (l : AreOk (logged w.core.events) (open_op w.core.events) (done w.core.events) (given w.core.events) w.core.sites (slice_set w.dcs (dc_of x.op) (performed d x)) w.copies w.replies w.news) × (l.v ≡ (λ i. if dc_of x.op == i then becomes.u else s.ok.v i))
-    both = ok_stored (logged w.core.events) (open_op w.core.events) (done w.core.events) (given w.core.events) w.core.sites w.dcs w.copies w.replies w.news j d (performed d x) becomes.u at s.ok
+    both : (l : AreOk empty_table (logged w.core.events) (open_op w.core.events) (done w.core.events) (given w.core.events) w.core.sites (slice_set w.dcs (dc_of x.op) (performed d x)) w.copies w.replies w.news) × (l.v ≡ (λ i. if dc_of x.op == i then becomes.u else s.ok.v i))
+    both = ok_stored empty_table (logged w.core.events) (open_op w.core.events) (done w.core.events) (given w.core.events) w.core.sites w.dcs w.copies w.replies w.news j d (performed d x) becomes.u at s.ok
         (let same = becomes.incarnation in omega (arith, same)) becomes.grows (λ less p to. subst (StandsTo (logged w.core.events) (done w.core.events) j p) (sym (becomes.lists less)) to) becomes.ok
 
     said : (z : Reply) → replied d x ≡ Some z → ReplyOk (logged w.core.events) w.core.sites (slice_set w.dcs (dc_of x.op) (performed d x)) both.0.v z
@@ -303,8 +306,10 @@ took w f x known flies heard fit s y =
     let becomes : done (event.Answer f.txn x.number x.said ∷ h) ≡ (x.number, f.op, x.said) ∷ done h = done_answer h f.txn x.number f x.said flies in
     record {
       honest = (subst (λ (z : Option Flight). HonestTo z x.said (serial_now h)) (sym flies) honest, s.honest);
-      ok = subst (λ (z : List Performed). AreOk (logged h) (λ m. if x.number == m then None else open_op h m) z (given h) w.core.sites w.dcs w.copies w.replies w.news) (sym becomes)
-          (ok_answered (logged h) (open_op h) (done h) (given h) w.core.sites w.dcs w.copies w.replies w.news x.number f x.said y.s flies logs fit (flights w.core.procs h known.good legal x.number f flies) (flight_absent w.core.procs h legal x.number f flies) at up s.ok there);
+      bare = s.bare;
+      unbegun = s.unbegun;
+      ok = subst (λ (z : List Performed). AreOk empty_table (logged h) (λ m. if x.number == m then None else open_op h m) z (given h) w.core.sites w.dcs w.copies w.replies w.news) (sym becomes)
+          (ok_answered empty_table (logged h) (open_op h) (done h) (given h) w.core.sites w.dcs w.copies w.replies w.news x.number f x.said y.s flies logs fit (flights w.core.procs h known.good legal x.number f flies) (flight_absent w.core.procs h legal x.number f flies) at up s.ok there);
     }
 
 takes_answer_listed : (w v : Whole) (f : Flight) (x : Reply) (b : Bool) (o : Outcome) → Known v.core → open_op w.core.events x.number ≡ Some f → (is_heard (site_of w.core.sites f.op) x && fits f.op x.said) ≡ b
@@ -321,7 +326,7 @@ not_old said did old = (let bad : true ≡ false = sym did ∙ ap is_done old in
 redone_listed : (w : Whole) (x : Reply) (d : ℕ) → Known w.core → (is : IsRedone w.core d x) → (s : IsListed w) → ReplyOk (logged w.core.events) w.core.sites w.dcs s.ok.v x → IsListed (with_core w (after_redone w.core d x.number))
 redone_listed w x d known is s y =
     subst (λ (z : Option Site). IsListed (with_core w (redone_at w.core d x.number z))) (sym is.there)
-    (subst (λ (z : Option Redoing). IsListed (with_core w (with_site w.core d (record is.site { redo = redone_to x.number z })))) (sym is.down) (record { honest = s.honest; ok = now_ok }))
+    (subst (λ (z : Option Redoing). IsListed (with_core w (with_site w.core d (record is.site { redo = redone_to x.number z })))) (sym is.down) (record { honest = s.honest; bare = s.bare; unbegun = s.unbegun; ok = now_ok }))
   where
     h : List Event
     h = w.core.events
@@ -383,10 +388,10 @@ redone_listed w x d known is s y =
           | inr not_below ↦ omega (arith, not_below)
         ]
 
-    now_ok : AreOk (logged w.core.events) (open_op w.core.events) (done w.core.events) (given w.core.events) (slice_set w.core.sites d (record is.site { redo = Some (record is.r { redone = x.number }) })) w.dcs w.copies w.replies w.news
-    now_ok = ok_resited (logged h) (open_op h) (done h) (given h) w.core.sites w.dcs w.copies w.replies w.news d is.site t' is.there refl (λ up. absurd (none_some _ is.r up is.down)) s.ok
+    now_ok : AreOk empty_table (logged w.core.events) (open_op w.core.events) (done w.core.events) (given w.core.events) (slice_set w.core.sites d (record is.site { redo = Some (record is.r { redone = x.number }) })) w.dcs w.copies w.replies w.news
+    now_ok = ok_resited empty_table (logged h) (open_op h) (done h) (given h) w.core.sites w.dcs w.copies w.replies w.news d is.site t' is.there refl (λ up. absurd (none_some _ is.r up is.down)) s.ok
         (λ r down. (y.s, subst (λ (i : ℕ). slice_get w.dcs i ≡ Some y.s) here y.at))
-        (λ z ok. site_redone (logged h) (open_op h) (done h) (given h) d z is.site (s.ok.v d) is.r x.number is.a.op is.a.said is.down next rises there ok)
+        (λ z ok. site_redone empty_table (logged h) (open_op h) (done h) (given h) d z is.site (s.ok.v d) is.r x.number is.a.op is.a.said is.down next rises there ok)
 
 takes_listed : (w v : Whole) (i : ℕ) (x : Option Reply) (o : Outcome) → Known v.core → slice_get w.replies i ≡ x → IsListed w → TakesReply w x o v → IsListed v
 takes_listed w v i None o known at s takes = absurd takes
@@ -411,9 +416,9 @@ checkpoints_listed : (w v : Whole) (d : ℕ) (x : Option Store) (o : Outcome) �
 checkpoints_listed w v d None o at s goes = absurd (stopped _ o v goes)
 checkpoints_listed w v d (Some x) o at s goes =
     let h = w.core.events in
-    let site = site_checkpoint (logged h) (open_op h) (done h) (given h) d x (site_at w.core.sites d) (s.ok.v d) (s.ok.stores d x at) in
-    let both = ok_stored (logged h) (open_op h) (done h) (given h) w.core.sites w.dcs w.copies w.replies w.news d x (checkpointed x) (s.ok.v d) at s.ok (omega arith) (same_ghost w s d) (λ less p to. to) site in
-    behind _ o (with_dcs w (slice_set w.dcs d (checkpointed x))) v (record { honest = s.honest; ok = both.0 }) goes
+    let site = site_checkpoint empty_table (logged h) (open_op h) (done h) (given h) d x (site_at w.core.sites d) (s.ok.v d) (s.ok.stores d x at) in
+    let both = ok_stored empty_table (logged h) (open_op h) (done h) (given h) w.core.sites w.dcs w.copies w.replies w.news d x (checkpointed x) (s.ok.v d) at s.ok (omega arith) (same_ghost w s d) (λ less p to. to) site in
+    behind _ o (with_dcs w (slice_set w.dcs d (checkpointed x))) v (record { honest = s.honest; bare = bare_set w.dcs d x (checkpointed x) at (refl, refl) s.bare; unbegun = s.unbegun; ok = both.0 }) goes
 
 restarts_listed : (w v : Whole) (d : ℕ) (x : Option Store) (o : Outcome) → slice_get w.dcs d ≡ x → IsListed w → restarts_at w d x ≡ Goes o v → IsListed v
 restarts_listed w v d None o at s goes = absurd (stopped _ o v goes)
@@ -422,13 +427,13 @@ restarts_listed w v d (Some x) o at s goes = by (nat_le (2 ^ 62) x.incarnation) 
     h : List Event
     h = w.core.events
 
-    was : SiteOk (logged w.core.events) (open_op w.core.events) (done w.core.events) (given w.core.events) d x (site_at w.core.sites d) (s.ok.v d)
+    was : SiteOk empty_table (logged w.core.events) (open_op w.core.events) (done w.core.events) (given w.core.events) d x (site_at w.core.sites d) (s.ok.v d)
     was = s.ok.stores d x at
 
-    both : (l : AreOk (logged w.core.events) (open_op w.core.events) (done w.core.events) (given w.core.events) w.core.sites (slice_set w.dcs d (restarted x)) w.copies w.replies w.news) × (l.v ≡ (λ i. if d == i then s.ok.v d else s.ok.v i))
-    both = ok_stored (logged h) (open_op h) (done h) (given h) w.core.sites w.dcs w.copies w.replies w.news d x (restarted x) (s.ok.v d) at s.ok (omega arith) (same_ghost w s d)
+    both : (l : AreOk empty_table (logged w.core.events) (open_op w.core.events) (done w.core.events) (given w.core.events) w.core.sites (slice_set w.dcs d (restarted x)) w.copies w.replies w.news) × (l.v ≡ (λ i. if d == i then s.ok.v d else s.ok.v i))
+    both = ok_stored empty_table (logged h) (open_op h) (done h) (given h) w.core.sites w.dcs w.copies w.replies w.news d x (restarted x) (s.ok.v d) at s.ok (omega arith) (same_ghost w s d)
         (λ less p to. subst (StandsTo (logged h) (done h) d p) (was.idle less) to)
-        (site_restart (logged h) (open_op h) (done h) (given h) d x (site_at w.core.sites d) (s.ok.v d) was)
+        (site_restart empty_table (logged h) (open_op h) (done h) (given h) d x (site_at w.core.sites d) (s.ok.v d) was)
 
     by : (b : Bool) → restarts_as w d x b ≡ Goes o v → IsListed v
     by true goes' = absurd (stopped _ o v goes')
@@ -437,32 +442,38 @@ restarts_listed w v d (Some x) o at s goes = by (nat_le (2 ^ 62) x.incarnation) 
         behind _ o (with_news (with_dcs w (slice_set w.dcs d (restarted x))) d (news_of (restarted x))) v
         (record {
           honest = s.honest;
-          ok = ok_news (logged h) (open_op h) (done h) (given h) w.core.sites (slice_set w.dcs d (restarted x)) w.copies w.replies w.news n both.0
+          bare = bare_set w.dcs d x (restarted x) at (refl, refl) s.bare;
+          unbegun = s.unbegun;
+          ok = ok_news empty_table (logged h) (open_op h) (done h) (given h) w.core.sites (slice_set w.dcs d (restarted x)) w.copies w.replies w.news n both.0
               (record { s = restarted x; at = set_same w.dcs d x (restarted x) at; over = was.saved_over; made = omega arith; later = λ less. was.saved_to });
         }) goes'
 
 lt_true : (a b : ℕ) → nat_lt a b ≡ true → a < b
 lt_true a b e = grind (arith, nat_tests)
 
-told_by : (w v : Whole) (x : ℕ × News) (t : Option Site) (o : Outcome) → slice_get w.core.sites x.0 ≡ t → NewsOk (logged w.core.events) (open_op w.core.events) (done w.core.events) (given w.core.events) w.core.sites w.dcs x → IsListed w → tells_unless w x.0 x.1 (news_fault_by t x.1) ≡ Goes o v → IsListed v
+told_by : (w v : Whole) (x : ℕ × News) (t : Option Site) (o : Outcome) → slice_get w.core.sites x.0 ≡ t → NewsOk empty_table (logged w.core.events) (open_op w.core.events) (done w.core.events) (given w.core.events) w.core.sites w.dcs x → IsListed w → tells_unless w x.0 x.1 (news_fault_by (begun w.core.events) t x.1) ≡ Goes o v → IsListed v
 told_by w v x None o at y s goes = absurd (stopped _ o v goes)
 told_by w v x (Some t) o at y s goes = by (nat_lt t.incarnation x.1.incarnation) refl goes
   where
     h : List Event
     h = w.core.events
 
-    by : (b : Bool) → nat_lt t.incarnation x.1.incarnation ≡ b → tells_unless w x.0 x.1 (if b then None else Some fault.OldNews) ≡ Goes o v → IsListed v
+    by : (b : Bool) → nat_lt t.incarnation x.1.incarnation ≡ b → tells_unless w x.0 x.1 (if b then lost_fault (begun w.core.events) x.1 else Some fault.OldNews) ≡ Goes o v → IsListed v
     by false less goes' = absurd (stopped _ o v goes')
-    by true less goes' =
-        let later : t.incarnation < x.1.incarnation = lt_true t.incarnation x.1.incarnation less in
-        let known : (site_at w.core.sites x.0).incarnation ≡ t.incarnation = ap (λ (z : Option Site). (site_by z).incarnation) at in
-        behind _ o (with_core w (after_told w.core x.0 x.1)) v
-        (record { honest = s.honest; ok = ok_told (logged h) (open_op h) (done h) (given h) w.core.sites w.dcs w.copies w.replies w.news x.0 x.1.incarnation x.1.mark y.s t at y.at later y.made (y.later (omega (arith, known, later))) y.over s.ok }) goes'
+    by true less goes' = taken (nat_lt x.1.mark (begun w.core.events)) less goes'
+      where
+        taken : (b : Bool) → nat_lt t.incarnation x.1.incarnation ≡ true → tells_unless w x.0 x.1 (if b then Some fault.Forgotten else None) ≡ Goes o v → IsListed v
+        taken true less goes' = absurd (stopped _ o v goes')
+        taken false less goes' =
+            let later : t.incarnation < x.1.incarnation = lt_true t.incarnation x.1.incarnation less in
+            let known : (site_at w.core.sites x.0).incarnation ≡ t.incarnation = ap (λ (z : Option Site). (site_by z).incarnation) at in
+            behind _ o (with_core w (after_told w.core x.0 x.1)) v
+            (record { honest = s.honest; bare = s.bare; unbegun = s.unbegun; ok = ok_told empty_table (logged h) (open_op h) (done h) (given h) w.core.sites w.dcs w.copies w.replies w.news x.0 x.1.incarnation x.1.mark y.s t at y.at later y.made (y.later (omega (arith, known, later))) y.over s.ok }) goes'
 
 tells_listed : (w v : Whole) (i : ℕ) (x : Option (ℕ × News)) (o : Outcome) → slice_get w.news i ≡ x → IsListed w → tells_news w x ≡ Goes o v → IsListed v
 tells_listed w v i None o at s goes = absurd (stopped _ o v goes)
 tells_listed w v i (Some x) o at s goes =
-    told_by w v x (slice_get w.core.sites x.0) o refl (all_at (NewsOk (logged w.core.events) (open_op w.core.events) (done w.core.events) (given w.core.events) w.core.sites w.dcs) w.news i x at s.ok.news) s goes
+    told_by w v x (slice_get w.core.sites x.0) o refl (all_at (NewsOk empty_table (logged w.core.events) (open_op w.core.events) (done w.core.events) (given w.core.events) w.core.sites w.dcs) w.news i x at s.ok.news) s goes
 
 redoes_listed : (w v : Whole) (d : ℕ) (x : Option Site) (o : Outcome) → Known v.core → slice_get w.core.sites d ≡ x → IsListed w → redoes_by w d (redo_at w.core d x) ≡ Goes o v → IsListed v
 redoes_listed w v d None o known at s goes = absurd (stopped _ o v goes)
@@ -481,7 +492,7 @@ redoes_listed w v d (Some x) o known at s goes = by x.redo refl goes
         store : (z : Store) × (slice_get w.dcs d ≡ Some z)
         store = s.ok.there d r down
 
-        site : SiteOk (logged w.core.events) (open_op w.core.events) (done w.core.events) (given w.core.events) d store.0 (site_at w.core.sites d) (s.ok.v d)
+        site : SiteOk empty_table (logged w.core.events) (open_op w.core.events) (done w.core.events) (given w.core.events) d store.0 (site_at w.core.sites d) (s.ok.v d)
         site = s.ok.stores d store.0 store.1
 
         sends : (a : Option Answered) → to_redo w.core.events d r.redone ≡ a → redoes_by w d (sends_again x.incarnation r.mark a) ≡ Goes o v → IsListed v
@@ -517,12 +528,12 @@ redoes_listed w v d (Some x) o known at s goes = by x.redo refl goes
         sends None next goes'' =
             let t' : Site = record x { redo = None } in
             let was : Known w.core = known_up w d (slice_get w.core.sites d) (known_behind _ o (with_core w (after_redo w.core d redo.Finished)) v known goes'') in
-            let facts = log_facts w.core.procs h was.good was.legal s.honest in
-            let ok = ok_resited (logged h) (open_op h) (done h) (given h) w.core.sites w.dcs w.copies w.replies w.news d x t' at refl (λ up. refl) s.ok
+            let facts = log_facts w.core.procs empty_table h was.good was.legal s.honest in
+            let ok = ok_resited empty_table (logged h) (open_op h) (done h) (given h) w.core.sites w.dcs w.copies w.replies w.news d x t' at refl (λ up. refl) s.ok
             (λ q e. absurd (none_some _ q refl e))
-            (λ z k. site_up (logged h) (open_op h) (done h) (given h) d z x (s.ok.v d) r facts is (λ n q said logs dc was' did. none_left w.core.procs h was.legal d r.redone next n q said logs dc was' did) k) in
+            (λ z k. site_up empty_table (logged h) (open_op h) (done h) (given h) d z x (s.ok.v d) r facts is (λ n q said logs dc was' did. none_left w.core.procs h was.legal d r.redone next n q said logs dc was' did) k) in
             behind _ o (with_core w (after_redo w.core d redo.Finished)) v
-            (subst (λ (y : Option Site). IsListed (with_core w (up_again w.core d y))) (sym at) (record { honest = s.honest; ok = ok })) goes''
+            (subst (λ (y : Option Site). IsListed (with_core w (up_again w.core d y))) (sym at) (record { honest = s.honest; bare = s.bare; unbegun = s.unbegun; ok = ok })) goes''
           where
             known_up : (w : Whole) (d : ℕ) (z : Option Site) → Known (up_again w.core d z) → Known w.core
             known_up w d None k = k
@@ -530,7 +541,7 @@ redoes_listed w v d (Some x) o known at s goes = by x.redo refl goes
 
 -- whatever the step is, but a forged reply
 pub stay_listed : (w v : Whole) (x : Step) (o : Outcome) → Known w.core → Known v.core → is_forge x ≡ false → Steps w x o v → IsListed w → IsListed v
-stay_listed w v (step.Admit call) o was known honest goes s = subst IsListed (sym goes.next) (record { honest = (tt, s.honest); ok = s.ok })
+stay_listed w v (step.Admit call) o was known honest goes s = subst IsListed (sym goes.next) (record { honest = (tt, s.honest); bare = s.bare; unbegun = s.unbegun; ok = s.ok })
 stay_listed w v (step.Ask t) o was known honest goes s = asks_listed w v t (ask_reply w.core t) o known s goes
 stay_listed w v (step.Undo t) o was known honest goes s = undoes_listed w v t (undo_reply w.core t) o known s goes
 stay_listed w v (step.End t) o was known honest goes s = ends_listed w v t (standing w.core.events t) (end_of w.core t) o s goes
@@ -547,11 +558,12 @@ stay_listed w v (step.Crash n) o was known honest goes s =
 
 -- ---- a fresh world
 
-site_fresh : (d : ℕ) (s : Store) (t : Site) → s.list ≡ [] → s.saved ≡ [] → s.mark ≡ 0 → s.saved_mark ≡ 0 → t.redo ≡ None → SiteOk (λ n. None) (λ n. None) [] 0 d s t []
-site_fresh d s t list saved mark saved_mark up =
+site_fresh : (d : ℕ) (s : Store) (t : Site) → s.base ≡ [] → s.list ≡ [] → s.saved ≡ [] → s.mark ≡ 0 → s.saved_mark ≡ 0 → t.redo ≡ None → SiteOk empty_table (λ n. None) (λ n. None) [] 0 d s t []
+site_fresh d s t base list saved mark saved_mark up =
     record {
-      up = λ e. beside_none d;
-      behind = beside_behind (λ n. None) (λ n. None) [] d [] (beside_none d);
+      based = λ r here. ap (λ (rows : Rows). row_of rows r) base;
+      up = λ e. beside_none empty_table d;
+      behind = beside_behind empty_table (λ n. None) (λ n. None) [] d [] (beside_none empty_table d);
       down = λ r e. absurd (none_some _ r up e);
       ahead = λ less. record { known = refl; now = list; kept = saved };
       same = λ e. list;
@@ -573,25 +585,27 @@ pub fresh_listed : (w : Whole) → IsFresh w → IsListed w
 fresh_listed w fresh =
     record {
       honest = subst Honest (sym fresh.events) tt;
-      ok = subst (λ (h : List Event). AreOk (logged h) (open_op h) (done h) (given h) w.core.sites w.dcs w.copies w.replies w.news) (sym fresh.events) (record {
+      bare = λ d s at. all_at (λ (x : Store). (x.base ≡ []) × (x.base_mark ≡ 0)) w.dcs d s at fresh.bases;
+      unbegun = ap begun fresh.events;
+      ok = subst (λ (h : List Event). AreOk empty_table (logged h) (open_op h) (done h) (given h) w.core.sites w.dcs w.copies w.replies w.news) (sym fresh.events) (record {
         v = λ d. [];
-        copies = subst (All (CopyOk (logged []) (open_op []) (done []) 0 w.core.sites w.dcs (λ d. []))) (sym fresh.copies) (λ k x inside. absurd (omega (arith, inside)));
+        copies = subst (All (CopyOk empty_table (logged []) (open_op []) (done []) 0 w.core.sites w.dcs (λ d. []))) (sym fresh.copies) (λ k x inside. absurd (omega (arith, inside)));
         replies = subst (All (ReplyOk (logged []) w.core.sites w.dcs (λ d. []))) (sym fresh.replies) (λ k x inside. absurd (omega (arith, inside)));
-        news = subst (All (NewsOk (logged []) (open_op []) (done []) 0 w.core.sites w.dcs)) (sym fresh.news) (λ k x inside. absurd (omega (arith, inside)));
+        news = subst (All (NewsOk empty_table (logged []) (open_op []) (done []) 0 w.core.sites w.dcs)) (sym fresh.news) (λ k x inside. absurd (omega (arith, inside)));
         stores = λ d s at.
             let lists = all_at (λ (x : Store). (x.list ≡ []) × (x.saved ≡ [])) w.dcs d s at fresh.lists in
             let marks = all_at (λ (x : Store). (x.mark ≡ 0) × (x.saved_mark ≡ 0)) w.dcs d s at fresh.marks in
-            site_fresh d s (site_at w.core.sites d) lists.0 lists.1 marks.0 marks.1 (fresh_up w d (slice_get w.core.sites d) fresh refl);
+            site_fresh d s (site_at w.core.sites d) (all_at (λ (x : Store). (x.base ≡ []) × (x.base_mark ≡ 0)) w.dcs d s at fresh.bases).0 lists.0 lists.1 marks.0 marks.1 (fresh_up w d (slice_get w.core.sites d) fresh refl);
         said = λ n o said logs was. absurd (none_some _ o refl logs);
         there = λ d r down. absurd (none_some _ r (fresh_up w d (slice_get w.core.sites d) fresh refl) down);
       });
     }
 
 -- the list of a data component that is up, and of the incarnation that is known, stands beside the log
-beside_known : (w : Whole) → IsListed w → (d : ℕ) (x : Store) → slice_get w.dcs d ≡ Some x → IsKnown w d x → Beside (logged w.core.events) (open_op w.core.events) (done w.core.events) d x.list
+beside_known : (w : Whole) → IsListed w → (d : ℕ) (x : Store) → slice_get w.dcs d ≡ Some x → IsKnown w d x → Beside empty_table (logged w.core.events) (open_op w.core.events) (done w.core.events) d x.list
 beside_known w s d x at is =
     let k = s.ok.stores d x at in
-    subst (Beside (logged w.core.events) (open_op w.core.events) (done w.core.events) d) (sym (k.same is.now)) (k.up is.up)
+    subst (Beside empty_table (logged w.core.events) (open_op w.core.events) (done w.core.events) d) (sym (k.same is.now)) (k.up is.up)
 
 pub one_at_a_time : (w : Whole) → Known w.core → IsListed w → IsOneAtATime w
 one_at_a_time w known s =
@@ -602,16 +616,19 @@ one_at_a_time w known s =
       stands = λ d x n o said at is dc logs was did. (beside_known w s d x at is).answers n o said logs dc was did;
       once = λ d x at. (cut d x at).once;
       asked = λ d x k e at is. (cut d x at).entries k e is;
-      between = λ d x r at is dc. in_step w.core.procs w.core.events d x.list known.good known.legal (beside_known w s d x at is) r dc;
+      between = λ d x r at is dc. in_step w.core.procs empty_table w.core.events d x.list known.good known.legal (beside_known w s d x at is) r dc;
     }
   where
-    cut : (d : ℕ) (x : Store) → slice_get w.dcs d ≡ Some x → Behind (logged w.core.events) (open_op w.core.events) (done w.core.events) d x.list
-    cut d x at = (let k = s.ok.stores d x at in behind_end (logged w.core.events) (open_op w.core.events) (done w.core.events) d (s.ok.v d) x.list k.cut k.behind)
+    cut : (d : ℕ) (x : Store) → slice_get w.dcs d ≡ Some x → Behind empty_table (logged w.core.events) (open_op w.core.events) (done w.core.events) d x.list
+    cut d x at = (let k = s.ok.stores d x at in behind_end empty_table (logged w.core.events) (open_op w.core.events) (done w.core.events) d (s.ok.v d) x.list k.cut k.behind)
 
 -- and where each is, an audit finds nothing
 pub agrees : (w : Whole) → Known w.core → IsListed w → EachIsKnown w → IsAgreed w.core.procs w.core.events w.dcs
 agrees w known s each =
-    agreed w.core.procs w.core.events w.dcs known.good known.legal s.honest (λ d x at. (beside_known w s d x at (each d x at), (s.ok.stores d x at).whole)) s.ok.said
+    let same = bare_base w.dcs s.bare in
+    agreed w.core.procs w.core.events w.dcs known.good known.legal (honest_same empty_table (base_of w.dcs) same w.core.events s.honest)
+    (λ d x at. (beside_same empty_table (base_of w.dcs) same (logged w.core.events) (open_op w.core.events) (done w.core.events) d x.list (beside_known w s d x at (each d x at)), (s.ok.stores d x at).whole))
+    s.ok.said (λ d x at. (s.bare d x at).1 ∙ sym s.unbegun)
 
 pub honest_at : (xs : List Step) (k : ℕ) (x : Step) → NoForge xs → k < length xs → x ≡ slice_index_or xs k x → is_forge x ≡ false
 honest_at xs k x none inside is = ap is_forge is ∙ none k x inside

@@ -10,7 +10,7 @@ use Rattle.std.proofs.lemmas.List.{reverse-append, length-reverse}
 use Rattle.std.proofs.lemmas.List.Folds.{list_all-append, list_any-append}
 use Rattle.std.proofs.lemmas.List.Sums.{sum_by-append}
 use Rattle.tc_log.specs.declared.event.Event.{Event}
-use Rattle.tc_log.specs.declared.event.Event.TheVariants.{Admit, Ask, Answer, Undo, End}
+use Rattle.tc_log.specs.declared.event.Event.TheVariants.{Admit, Ask, Answer, Undo, End, Checkpoint}
 use Rattle.verifier.specs.Checked.{Checked}
 use Rattle.history.specs.Flight.{Flight, given, open_op, is_flight, is_open, low_water, AllAnswered}
 use Rattle.history.proofs.Laws.{low_water_is}
@@ -22,7 +22,10 @@ use Rattle.serial.proofs.ListLemmas.{if_none, if_some}
 use Rattle.serial.proofs.BackLemmas.{given_more}
 use Rattle.tc_core.specs.Core.{Asking}
 use Rattle.tc_world.specs.Waiting.{asking_by, request_of, AreWaiting}
-use Rattle.tc_world.specs.Joining.Written.{gives, answers, is_left, below, below_event, below_request, low_left}
+use Rattle.history.specs.Anew.{begun}
+use Rattle.tc_world.proofs.Bare.{none_behind}
+use Rattle.serial.proofs.BackLemmas.{legal_first}
+use Rattle.tc_world.specs.Joining.Written.{gives, given_of, answers, is_left, below, below_event, below_request, low_left}
 
 -- ---- events in the order in which they happened
 
@@ -69,13 +72,42 @@ back later first n count =
 count_last : (h : List Event) (e : Event) → count_by gives (reverse (e ∷ h)) ≡ count_by gives (reverse h) + count_by gives (e ∷ [])
 count_last h e = ap (count_by gives) (reverse-append (e ∷ []) h) ∙ sum_by-append _ (reverse h) (e ∷ [])
 
-pub given_is : (h : List Event) → count_by gives (reverse h) ≡ given h
-given_is [] = refl
-given_is (Admit t p args ∷ h) = (let one = count_last h (Admit t p args) in let ih = given_is h in omega (arith, one, ih))
-given_is (Ask t n o ∷ h) = (let one = count_last h (Ask t n o) in let ih = given_is h in omega (arith, one, ih))
-given_is (Answer t n said ∷ h) = (let one = count_last h (Answer t n said) in let ih = given_is h in omega (arith, one, ih))
-given_is (Undo t n o ∷ h) = (let one = count_last h (Undo t n o) in let ih = given_is h in omega (arith, one, ih))
-given_is (End t o ∷ h) = (let one = count_last h (End t o) in let ih = given_is h in omega (arith, one, ih))
+pub given_is : (ps : List Checked) (h : List Event) → Legal ps h → count_by gives (reverse h) + begun h ≡ given h
+given_is ps [] legal = refl
+given_is ps (Admit t p args ∷ h) legal = (let one = count_last h (Admit t p args) in let ih = given_is ps h legal.1 in omega (arith, one, ih))
+given_is ps (Ask t n o ∷ h) legal = (let one = count_last h (Ask t n o) in let ih = given_is ps h legal.1 in omega (arith, one, ih))
+given_is ps (Answer t n said ∷ h) legal = (let one = count_last h (Answer t n said) in let ih = given_is ps h legal.1 in omega (arith, one, ih))
+given_is ps (Undo t n o ∷ h) legal = (let one = count_last h (Undo t n o) in let ih = given_is ps h legal.1 in omega (arith, one, ih))
+given_is ps (End t o ∷ h) legal = (let one = count_last h (End t o) in let ih = given_is ps h legal.1 in omega (arith, one, ih))
+given_is ps (Checkpoint before numbers ∷ h) legal =
+    let one = count_last h (Checkpoint before numbers) in
+    let none : count_by gives (reverse h) ≡ 0 = ap (λ (x : List Event). count_by gives (reverse x)) legal.0.oldest in
+    omega (arith, one, none)
+
+given_some : (b : ℕ) (es : List Event) → 0 < length es → given_of b es ≡ b + count_by gives es
+given_some b [] some = absurd (omega (arith, some))
+given_some b (e ∷ es) some = refl
+
+begun_same : (ps : List Checked) (later first : List Event) → Legal ps (later ++ first) → 0 < length first → begun (later ++ first) ≡ begun first
+begun_same ps [] first legal some = refl
+begun_same ps (Admit t p args ∷ later) first legal some = begun_same ps later first legal.1 some
+begun_same ps (Ask t n o ∷ later) first legal some = begun_same ps later first legal.1 some
+begun_same ps (Answer t n said ∷ later) first legal some = begun_same ps later first legal.1 some
+begun_same ps (Undo t n o ∷ later) first legal some = begun_same ps later first legal.1 some
+begun_same ps (End t o ∷ later) first legal some = begun_same ps later first legal.1 some
+begun_same ps (Checkpoint before numbers ∷ later) first legal some =
+    let none : length first ≡ 0 = ap (λ (x : List Event). length x) (none_behind later first legal.0.oldest) in
+    absurd (omega (arith, none, some))
+
+pub given_first : (ps : List Checked) (later first : List Event) → Legal ps (later ++ first) → given_of (begun (later ++ first)) (reverse first) ≡ given first
+given_first ps later [] legal = refl
+given_first ps later (e ∷ first) legal =
+    let h : List Event = e ∷ first in
+    let many : length (reverse h) ≡ length h = length-reverse h in
+    let is = given_is ps h (legal_first ps later h legal) in
+    let same = begun_same ps later h legal (omega arith) in
+    let some = given_some (begun (later ++ h)) (reverse h) (omega (arith, many)) in
+    omega (arith, is, same, some)
 
 -- ---- what is left open
 
@@ -101,7 +133,7 @@ open_first : (ps : List Checked) (later first : List Event) (n : ℕ) → Legal 
 open_first ps [] first n legal low = sym (or-false (is_open first n))
 open_first ps (Admit t p args ∷ later) first n legal low = open_first ps later first n legal.1 low
 open_first ps (Ask t m q ∷ later) first n legal low =
-    let more = given_more later first in
+    let more = given_more ps later first legal.1 in
     sent_later n m (given (later ++ first)) (record { txn = t; op = q }) (open_op (later ++ first) n) (is_open first n) (list_any (answers n) later)
     (omega (arith, low, more)) legal.0.next (open_first ps later first n legal.1 low)
 open_first ps (Answer t m said ∷ later) first n legal low =
@@ -112,10 +144,11 @@ open_first ps (Answer t m said ∷ later) first n legal low =
     ap is_flight (ap (open_op (later ++ first)) (sym (can.number ∙ same)) ∙ flies))
     (open_first ps later first n legal.1 low)
 open_first ps (Undo t m q ∷ later) first n legal low =
-    let more = given_more later first in
+    let more = given_more ps later first legal.1 in
     sent_later n m (given (later ++ first)) (record { txn = t; op = q }) (open_op (later ++ first) n) (is_open first n) (list_any (answers n) later)
     (omega (arith, low, more)) legal.0.next (open_first ps later first n legal.1 low)
 open_first ps (End t o ∷ later) first n legal low = open_first ps later first n legal.1 low
+open_first ps (Checkpoint before numbers ∷ later) first n legal low = open_first ps later first n legal.1 low
 
 abbrev is_asking : Option Asking → Bool
 is_asking None = false
@@ -163,6 +196,7 @@ event_le low (Ask t n o) = omega arith
 event_le low (Answer t n said) = below_le low n
 event_le low (Undo t n o) = omega arith
 event_le low (End t o) = omega arith
+event_le low (Checkpoint before numbers) = omega arith
 
 events_le : (es : List Event) (low : ℕ) → fold below_event low es ≤ low
 events_le [] low = omega arith
@@ -181,6 +215,7 @@ event_less low n (Answer t m said) is some = elim (cases_eq m n) [
 ]
 event_less low n (Undo t m o) is some = absurd cc
 event_less low n (End t o) is some = absurd cc
+event_less low n (Checkpoint before numbers) is some = absurd cc
 
 events_less : (es : List Event) (low n : ℕ) → list_any (answers n) es ≡ true → 0 < n → fold below_event low es < n
 events_less [] low n is some = absurd cc
@@ -205,6 +240,7 @@ event_above m low (Ask t n o) le above = le
 event_above m low (Answer t n said) le above = above_less m low n le (above n (eq-true n n refl))
 event_above m low (Undo t n o) le above = le
 event_above m low (End t o) le above = le
+event_above m low (Checkpoint before numbers) le above = le
 
 or_left : (a b : Bool) → a ≡ true → (a || b) ≡ true
 or_left a b is = ap (λ (x : Bool). x || b) is

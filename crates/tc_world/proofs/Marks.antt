@@ -325,6 +325,7 @@ tells_low w v i (Some x) o at low goes = by (news_fault w.core x.0 x.1) goes
     by : (f : Option NewsFault) → tells_unless w x.0 x.1 f ≡ Goes o v → AreMarksLow v
     by (Some fault.NoDc) goes' = absurd (stopped _ o v goes')
     by (Some fault.OldNews) goes' = absurd (stopped _ o v goes')
+    by (Some fault.Forgotten) goes' = absurd (stopped _ o v goes')
     by None goes' =
         let few = all_at (λ (y : ℕ × News). y.1.mark ≤ low_water w.core.events) w.news i x at low.news in
         low_behind _ o (with_core w (after_told w.core x.0 x.1)) v (known_low w x.0 (down_by x.1) few low) goes'

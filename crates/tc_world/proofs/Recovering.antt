@@ -1,5 +1,5 @@
 -- A world whose messages are lost, or whose data components die with its transaction component, is a world again.
-use Rattle.std.proofs.Common.{◌≡◌, ℕ, zero, suc, ◌≤◌, List, [], ◌∷◌, length, map, Option, Some, None, arith, refl, sym, ap, subst}
+use Rattle.std.proofs.Common.{◌≡◌, ℕ, zero, suc, ◌≤◌, List, [], ◌∷◌, length, map, Option, Some, None, arith, refl, sym, ◌∙◌, ap, subst}
 use Rattle.std.specs.Prelude.{slice_get}
 use Rattle.std.specs.List.{All}
 use Rattle.access_slots.specs.declared.op.Wire.{Wire}
@@ -7,6 +7,9 @@ use Rattle.access_slots.specs.declared.op.Reply.{Reply}
 use Rattle.access_slots.specs.declared.op.News.{News}
 use Rattle.tc_log.specs.declared.event.Event.{Event}
 use Rattle.history.specs.Flight.{open_op, given, low_water}
+use Rattle.history.specs.Anew.{begun}
+use Rattle.data_component.specs.Sorted.{Rows, row_of}
+use Rattle.tc_world.proofs.Bare.{begun_first}
 use Rattle.data_component.specs.Store.{Store, news_of}
 use Rattle.transactions.specs.declared.Redoing.{Redoing}
 use Rattle.transactions.specs.declared.Site.{Site}
@@ -14,7 +17,7 @@ use Rattle.transactions.specs.InFlight.{site_at}
 use Rattle.transactions.specs.Reached.{AllGood}
 use Rattle.transactions.specs.Legal.{Legal}
 use Rattle.transactions.proofs.StandingLemmas.{some_same, none_some}
-use Rattle.serial.specs.Serial.{done, Honest}
+use Rattle.serial.specs.Serial.{empty_table, done, Honest}
 use Rattle.history.specs.Places.{Begins}
 use Rattle.serial.specs.Lists.{logged, dc_of}
 use Rattle.serial.specs.Joining.Site.{Over, SiteOk}
@@ -49,11 +52,13 @@ lost_low w xs rs ns wires news low = record {
 pub lost_listed : (w : Whole) (xs : List Wire) (rs : List Reply) (ns : List (ℕ × News)) → AreAmong xs w.copies → AreAmong rs w.replies → AreAmong ns w.news → IsListed w → IsListed (left_with xs rs ns w)
 lost_listed w xs rs ns wires replies news s = record {
   honest = s.honest;
+  bare = s.bare;
+  unbegun = s.unbegun;
   ok = record {
     v = s.ok.v;
     copies = among_all (IsCopy w s.ok.v) xs w.copies wires s.ok.copies;
     replies = among_all (ReplyOk (logged w.core.events) w.core.sites w.dcs s.ok.v) rs w.replies replies s.ok.replies;
-    news = among_all (NewsOk (logged w.core.events) (open_op w.core.events) (done w.core.events) (given w.core.events) w.core.sites w.dcs) ns w.news news s.ok.news;
+    news = among_all (NewsOk empty_table (logged w.core.events) (open_op w.core.events) (done w.core.events) (given w.core.events) w.core.sites w.dcs) ns w.news news s.ok.news;
     stores = s.ok.stores;
     said = s.ok.said;
     there = s.ok.there;
@@ -103,7 +108,9 @@ pub start_over_listed : (w : Whole) (first : List Event) (dcs : List Store) → 
     → Begins first w.core.events → All IsNew dcs → length dcs ≡ length w.dcs → IsListed w → IsListed (start_over first dcs w)
 start_over_listed w first dcs good legal begins new many s =
     record {
-      honest = honest_first begins.later first (subst Honest begins.is s.honest);
+      honest = honest_first empty_table begins.later first (subst Honest begins.is s.honest);
+      bare = λ d x at. (let is = all_at IsNew dcs d x at new in (is.base, is.base_mark));
+      unbegun = begun_first w.core.procs begins.later first (subst (Legal w.core.procs) begins.is legal) (sym (ap begun begins.is) ∙ s.unbegun);
       ok = record {
         v = λ d. [];
         copies = λ k x inside. absurd (omega (arith, inside));
@@ -111,8 +118,8 @@ start_over_listed w first dcs good legal begins new many s =
         news = λ k x inside. absurd (omega (arith, inside));
         stores = λ d x at.
             let is = all_at IsNew dcs d x at new in
-            subst (λ (t : Site). SiteOk (logged first) (open_op first) (done first) (given first) d x t []) (sym (new_at dcs d x at))
-            (site_new (logged first) (open_op first) (done first) (given first) d x (logged_some w.core.procs first legal_now) over is.list is.saved is.mark is.saved_mark is.restarted);
+            subst (λ (t : Site). SiteOk empty_table (logged first) (open_op first) (done first) (given first) d x t []) (sym (new_at dcs d x at))
+            (site_new empty_table (logged first) (open_op first) (done first) (given first) d x (logged_some w.core.procs first legal_now) over (λ r here. ap (λ (rows : Rows). row_of rows r) is.base) is.list is.saved is.mark is.saved_mark is.restarted);
         said = λ n o said logs was. (let there = s.ok.said n o said (before.logs_on n o logs) (before.says_on n said was) in as_many dcs w.dcs (dc_of o) there.0 many there.1);
         there = λ d r down. there d r down (slice_get dcs d) refl;
       };
@@ -124,10 +131,10 @@ start_over_listed w first dcs good legal begins new many s =
     over : Over (open_op first) (given first) 0
     over = over_less (open_op first) (given first) (low_water first) 0 (over_low w.core.procs first legal_now) (omega arith)
 
-    before : Earlier (logged w.core.events) (open_op w.core.events) (done w.core.events) (given w.core.events) (logged first) (open_op first) (done first) (given first)
+    before : Earlier empty_table (logged w.core.events) (open_op w.core.events) (done w.core.events) (given w.core.events) (logged first) (open_op first) (done first) (given first)
     before =
-        subst (λ (h : List Event). Earlier (logged h) (open_op h) (done h) (given h) (logged first) (open_op first) (done first) (given first)) (sym begins.is)
-        (earlier w.core.procs begins.later first good (subst (Legal w.core.procs) begins.is legal) (subst Honest begins.is s.honest))
+        subst (λ (h : List Event). Earlier empty_table (logged h) (open_op h) (done h) (given h) (logged first) (open_op first) (done first) (given first)) (sym begins.is)
+        (earlier w.core.procs empty_table begins.later first good (subst (Legal w.core.procs) begins.is legal) (subst Honest begins.is s.honest))
 
     there : (d : ℕ) (r : Redoing) → (site_at (map site_noted (map (λ (x : Store). Restarted (news_of x)) dcs)) d).redo ≡ Some r → (o : Option Store) → slice_get dcs d ≡ o
         → (x : Store) × (slice_get dcs d ≡ Some x)

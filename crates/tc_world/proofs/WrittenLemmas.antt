@@ -252,6 +252,7 @@ module _ (first : List Event) where
       by : (f : Option NewsFault) → tells_unless w x.0 x.1 f ≡ Goes o v → Rest first v
       by (Some fault.NoDc) goes' = absurd (stopped _ o v goes')
       by (Some fault.OldNews) goes' = absurd (stopped _ o v goes')
+      by (Some fault.Forgotten) goes' = absurd (stopped _ o v goes')
       by None goes' =
           let few = all_at (λ (y : ℕ × News). y.1.mark ≤ low_water first) w.news i x at rest.news in
           behind _ o (with_core w (after_told w.core x.0 x.1)) v (resited w x.0 (down_by x.1) few rest) goes'
@@ -333,20 +334,21 @@ closed_more : (ps : List Checked) (later first : List Event) (n : ℕ) → Legal
 closed_more ps [] first n legal low closed = closed
 closed_more ps (event.Admit t p args ∷ later) first n legal low closed = closed_more ps later first n legal.1 low closed
 closed_more ps (event.Ask t m q ∷ later) first n legal low closed =
-    let more = given_more later first in
+    let more = given_more ps later first legal.1 in
     closed_sent (given (later ++ first)) n m (record { txn = t; op = q }) (open_op (later ++ first) n) (omega (arith, low, more)) legal.0.next (closed_more ps later first n legal.1 low closed)
 closed_more ps (event.Answer t m said ∷ later) first n legal low closed = closed_answered n m (open_op (later ++ first) n) (closed_more ps later first n legal.1 low closed)
 closed_more ps (event.Undo t m q ∷ later) first n legal low closed =
-    let more = given_more later first in
+    let more = given_more ps later first legal.1 in
     closed_sent (given (later ++ first)) n m (record { txn = t; op = q }) (open_op (later ++ first) n) (omega (arith, low, more)) legal.0.next (closed_more ps later first n legal.1 low closed)
 closed_more ps (event.End t o ∷ later) first n legal low closed = closed_more ps later first n legal.1 low closed
+closed_more ps (event.Checkpoint before numbers ∷ later) first n legal low closed = closed_more ps later first n legal.1 low closed
 
 pub wire_more : (ps : List Checked) (first more : List Event) (x : Wire) → Legal ps more → Begins first more → IsWrittenFor first x → IsWrittenFor more x
 wire_more ps first more x legal begins ready =
     let legal' : Legal ps (begins.later ++ first) = subst (Legal ps) begins.is legal in
     subst (λ (h : List Event). IsWrittenFor h x) (sym begins.is)
     (record {
-      number = (let a = ready.number in let b = given_more begins.later first in omega (arith, a, b));
+      number = (let a = ready.number in let b = given_more ps begins.later first legal' in omega (arith, a, b));
       mark = (let a = ready.mark in let b = mark_more ps begins.later first legal' in omega (arith, a, b));
       redone = λ is. closed_more ps begins.later first x.number legal' ready.number (ready.redone is);
     })
@@ -363,7 +365,7 @@ pub more_written : (w : Whole) (first more : List Event) (notes : List SiteNote)
     → IsWritten first notes w → IsWritten more notes w
 more_written w first more notes legal on in_log s =
     let legal' : Legal w.core.procs more = legal_first w.core.procs in_log.later more (subst (Legal w.core.procs) in_log.is legal) in
-    let a : given first ≤ given more = subst (λ (h : List Event). given first ≤ given h) (sym on.is) (given_more on.later first) in
+    let a : given first ≤ given more = subst (λ (h : List Event). given first ≤ given h) (sym on.is) (given_more w.core.procs on.later first (subst (Legal w.core.procs) on.is legal')) in
     let b : low_water first ≤ low_water more = subst (λ (h : List Event). low_water first ≤ low_water h) (sym on.is) (mark_more w.core.procs on.later first (subst (Legal w.core.procs) on.is legal')) in
     record {
       begins = in_log;

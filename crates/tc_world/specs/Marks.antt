@@ -9,14 +9,15 @@ use Rattle.history.specs.Flight.{low_water, is_open}
 use Rattle.data_component.specs.Store.{Store}
 use Rattle.tc_world.specs.Whole.{Whole}
 
--- nothing has happened: no event, nothing sent, nothing performed or kept by a checkpoint, no news, each mark is 0, and no data
--- component is down
+-- nothing has happened: no event, nothing sent, nothing performed, forgotten or kept by a checkpoint, no news, each mark is 0, and no
+-- data component is down
 pub record IsFresh (w : Whole) : Type 0 where
   pub events : w.core.events ≡ []
   pub copies : w.copies ≡ []
   pub replies : w.replies ≡ []
   pub news : w.news ≡ []
   pub lists : All (λ (d : Store). (d.list ≡ []) × (d.saved ≡ [])) w.dcs
+  pub bases : All (λ (d : Store). (d.base ≡ []) × (d.base_mark ≡ 0)) w.dcs
   pub marks : All (λ (d : Store). (d.mark ≡ 0) × (d.saved_mark ≡ 0)) w.dcs
   pub up : All (λ (s : Site). s.redo ≡ None) w.core.sites
 

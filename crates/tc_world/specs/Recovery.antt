@@ -102,6 +102,8 @@ LosesNone n other = Unit {0}
 
 -- a data component that has restarted, before which nothing is left
 pub record IsNew (s : Store) : Type 0 where
+  pub base : s.base ≡ []
+  pub base_mark : s.base_mark ≡ 0
   pub list : s.list ≡ []
   pub saved : s.saved ≡ []
   pub mark : s.mark ≡ 0

@@ -187,6 +187,7 @@ abbrev pub tells_unless : Whole → ℕ → News → Option NewsFault → Fate
 tells_unless w d n None = Goes (outcome.Told d n) (with_core w (after_told w.core d n))
 tells_unless w d n (Some fault.NoDc) = Stops illegal.NoDc
 tells_unless w d n (Some fault.OldNews) = Stops illegal.OldNews
+tells_unless w d n (Some fault.Forgotten) = Stops illegal.Forgotten
 
 abbrev pub tells_news : Whole → Option (ℕ × News) → Fate
 tells_news w None = Stops illegal.NoNews

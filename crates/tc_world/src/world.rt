@@ -313,6 +313,7 @@ impl World {
             Ok(()) => Ok(Outcome::Told(dc, news)),
             Err(NewsFault::NoDc) => Err(Illegal::NoDc),
             Err(NewsFault::OldNews) => Err(Illegal::OldNews),
+            Err(NewsFault::Forgotten) => Err(Illegal::Forgotten),
         }
     }
 

@@ -1,6 +1,6 @@
 // What was carried, held against what the first events of a log say of numbers.
 
-ghost use Rattle.std.specs.Prelude.{ℕ, ◌≡◌, ◌↔◌, ◌≤◌, ◌==◌, IsTrue, count_by, fold};
+ghost use Rattle.std.specs.Prelude.{ℕ, ◌≡◌, ◌↔◌, ◌≤◌, ◌^◌, ◌==◌, IsTrue, count_by, fold};
 ghost use Rattle.std.specs.List.{All, list_all, list_any};
 ghost use Rattle.access_slots.specs.declared.op.Reply.{Reply as ReplyValue};
 ghost use Rattle.access_slots.specs.declared.op.News.{News as NewsValue};
@@ -8,7 +8,7 @@ ghost use Rattle.transactions.specs.declared.Site.{Site as SiteValue};
 ghost use Rattle.tc_world.specs.Marks.{IsLow};
 ghost use Rattle.tc_world.specs.Waiting.{AreWaiting};
 ghost use Rattle.tc_world.specs.Recovery.{MayCrash};
-ghost use Rattle.tc_world.specs.Joining.Written.{gives, answers, is_left, below, below_request, below_event, low_left};
+ghost use Rattle.tc_world.specs.Joining.Written.{gives, given_of, answers, is_left, below, below_request, below_event, low_left};
 ghost use Rattle.tc_world.specs.Joining.Written.{is_wire_told, are_told, is_store_told};
 ghost use Rattle.tc_core.specs.Core.{Asking};
 
@@ -25,10 +25,20 @@ fn gives(event: &Event) -> bool
 }
 
 // How many numbers these events gave out.
-fn given_in(events: &[Event]) -> u64
+fn count_in(events: &[Event]) -> u64
     ensures { result ≡ count_by gives events.now }
 {
     events.iter().filter(|event| gives(event)).count() as u64
+}
+
+// How many numbers were given out up to these events, the first ones of a log that begins behind
+// `begun`.
+fn given_in(begun: u64, events: &[Event]) -> u64
+    requires { begun ≤ 2 ^ 62 }
+    ensures { result ≡ given_of begun events.now }
+{
+    let count = count_in(events);
+    if events.len() > 0 { begun + count } else { 0 }
 }
 
 fn answers(event: &Event, number: u64) -> bool
@@ -215,7 +225,7 @@ pub fn are_written(
         return false;
     }
     let (first, later) = log.split_at(events);
-    let given = given_in(first);
+    let given = given_in(state.begun(), first);
     let low_water = low_left(given, later, requests);
     are_wires_told(given, low_water, later, requests, copies)
         && are_replies_told(given, replies)

@@ -1,6 +1,6 @@
 -- A look at what was carried, and what it is held against: how many numbers a log's first events gave out, up to which all were
 -- answered, and which are left open.
-use Rattle.std.specs.Prelude.{ℕ, ◌-◌, min, nat_le, Bool, true, false, not, ◌&&◌, ◌||◌, ◌==◌, List, reverse, fold}
+use Rattle.std.specs.Prelude.{ℕ, ◌+◌, ◌-◌, min, count_by, [], ◌∷◌, nat_le, Bool, true, false, not, ◌&&◌, ◌||◌, ◌==◌, List, reverse, fold}
 use Rattle.std.specs.List.{list_all, list_any}
 use Rattle.access_slots.specs.declared.op.Wire.{Wire}
 use Rattle.tc_log.specs.declared.event.Event.{Event}
@@ -17,6 +17,11 @@ gives other = false
 abbrev pub answers : ℕ → Event → Bool
 answers n (Answer t m said) = m == n
 answers n other = false
+
+-- how many numbers these events gave out, where the log begins behind b: none before the first event
+abbrev pub given_of : ℕ → List Event → ℕ
+given_of b [] = 0
+given_of b (e ∷ es) = b + count_by gives (e ∷ es)
 
 -- a later event answers the number, or it is open still
 abbrev pub is_left : List Event → List Asking → ℕ → Bool

@@ -11,9 +11,14 @@ use Rattle.tc_core.specs.Recovery.{first_events}
 use Rattle.tc_world.specs.Whole.{Whole}
 use Rattle.tc_world.specs.Marks.{IsLow}
 use Rattle.tc_world.specs.Recovery.{IsWrittenFor, IsWrittenAt, MayCrash}
+use Rattle.tc_world.specs.Joining.Written.{given_of}
+use Rattle.audit.proofs.GivenLemmas.{begun_few}
 use Rattle.tc_world.proofs.CrashLemmas.{looks, copies_so, replies_so, stores_so, news_so, sites_so, both_so, not_so, lacking, may_crash}
 use Rattle.tc_world.proofs.written.are_written.Goals as goal
 use Rattle.tc_world.proofs.written.are_written.Goals.{then-are_wires_told, else-are_wires_told, then-are_replies_told, else-are_replies_told, then-are_stores_told, else-are_stores_told}
+
+pub given_in-given-requires : goal.given_in-given-requires
+given_in-given-requires c = (let few = begun_few _ _ c.known.ensures.legal in let is = c.begun.ensures in omega (arith, few, is))
 
 pub returns-then-are_news_told : goal.returns-then-are_news_told
 returns-then-are_news_told c =
@@ -22,7 +27,7 @@ returns-then-are_news_told c =
     let log : c.events-log.result.now ≡ reverse h = c.events-log.ensures ∙ ap reverse c.log.ensures in
     let inside : c.args.events ≤ length h = omega (arith, c.if-events-log.false, ap (length {A = Event}) log, length-reverse h) in
     let x = looks w c.args.events c.args.requests.now c.given_in-given.result c.low_left-low_water.result c.split_at.result.0.now c.split_at.result.1.now c.known.ensures.legal c.requires inside
-    (c.split_at.ensures.front ∙ ap (take c.args.events) log) (c.split_at.ensures.back ∙ ap (drop c.args.events) log) c.given_in-given.ensures c.low_left-low_water.ensures in
+    (c.split_at.ensures.front ∙ ap (take c.args.events) log) (c.split_at.ensures.back ∙ ap (drop c.args.events) log) (c.given_in-given.ensures ∙ ap (λ (b : ℕ). given_of b c.split_at.result.0.now) c.begun.ensures) c.low_left-low_water.ensures in
     let first = first_events c.args.events h in
     let copies : Type 0 = All (IsWrittenFor first) w.copies in
     let replies : Type 0 = All (λ (y : Reply). y.number ≤ given first) w.replies in
@@ -52,7 +57,7 @@ returns-else-are_news_told c =
     let log : c.events-log.result.now ≡ reverse h = c.events-log.ensures ∙ ap reverse c.log.ensures in
     let inside : c.args.events ≤ length h = omega (arith, c.if-events-log.false, ap (length {A = Event}) log, length-reverse h) in
     let x = looks w c.args.events c.args.requests.now c.given_in-given.result c.low_left-low_water.result c.split_at.result.0.now c.split_at.result.1.now c.known.ensures.legal c.requires inside
-    (c.split_at.ensures.front ∙ ap (take c.args.events) log) (c.split_at.ensures.back ∙ ap (drop c.args.events) log) c.given_in-given.ensures c.low_left-low_water.ensures in
+    (c.split_at.ensures.front ∙ ap (take c.args.events) log) (c.split_at.ensures.back ∙ ap (drop c.args.events) log) (c.given_in-given.ensures ∙ ap (λ (b : ℕ). given_of b c.split_at.result.0.now) c.begun.ensures) c.low_left-low_water.ensures in
     let first = first_events c.args.events h in
     let copies : Type 0 = All (IsWrittenFor first) w.copies in
     let replies : Type 0 = All (λ (y : Reply). y.number ≤ given first) w.replies in

@@ -6,7 +6,7 @@ use Rattle.tc_world.proofs.world.World.crash.Goals as goal
 
 pub make_again-requires-clause-room : goal.make_again-requires-clause-room
 make_again-requires-clause-room c =
-    let few = fewer_admitted c.args.events c.self.inside.state.events in
+    let few = fewer_admitted _ c.args.events c.self.inside.state.events c.known.ensures.legal in
     let now = ap (λ (x : Core). admitted x.events) c.in_ok-crash.ensures.ok in
     let all = c.admitted.ensures in
     let room = c.in_ok-reserve.ensures.ok in
