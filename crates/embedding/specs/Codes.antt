@@ -6,6 +6,8 @@ use Rattle.bpf_encoding.specs.declared.decode.DecodeFault.{DecodeFault}
 use Rattle.bpf_encoding.specs.declared.decode.DecodeFault.TheVariants as decode
 use Rattle.register_kinds.specs.declared.kind.Violation.{Violation}
 use Rattle.register_kinds.specs.declared.kind.Violation.TheVariants as violation
+use Rattle.tc_core.specs.declared.beginning.CheckpointFault.{CheckpointFault}
+use Rattle.tc_core.specs.declared.beginning.CheckpointFault.TheVariants as anew
 use Rattle.tc_core.specs.declared.state.NewsFault.{NewsFault}
 use Rattle.tc_core.specs.declared.state.NewsFault.TheVariants as news
 
@@ -60,7 +62,17 @@ decl_place decl.TooManyArgs = 0
 decl_place decl.TooManySlots = 0
 decl_place (decl.NoSuchArg slot) = slot
 
--- I10, I15
+-- I10, I15, Q3
 abbrev pub news_number : NewsFault → ℕ
 news_number news.NoDc = 0x490a
 news_number news.OldNews = 0x490f
+news_number news.Forgotten = 0x5103
+
+-- G1 to G6
+abbrev pub checkpoint_number : CheckpointFault → ℕ
+checkpoint_number anew.Nothing = 0x4701
+checkpoint_number (anew.Open n) = 0x4702
+checkpoint_number anew.DcCount = 0x4703
+checkpoint_number anew.Down = 0x4704
+checkpoint_number anew.Behind = 0x4705
+checkpoint_number anew.Spent = 0x4706

@@ -1,12 +1,12 @@
 -- What one call makes of a data component, by the frame that it was made with, the code that it answered and the frame behind it.
-use Rattle.std.specs.Prelude.{◌≡◌, ◌≢◌, ℕ, ◌==◌, ⊤, MatchBool, List, Option, Some, None}
+use Rattle.std.specs.Prelude.{◌≡◌, ◌≢◌, ℕ, Bool, true, false, ◌==◌, ⊤, MatchBool, List, Option, Some, None}
 use Rattle.access_slots.specs.declared.op.Reply.{Reply}
 use Rattle.access_slots.specs.declared.op.Wire.{Wire}
 use Rattle.access_slots.specs.declared.slot.Record.{Record}
-use Rattle.data_component.specs.Performed.{value_of}
-use Rattle.data_component.specs.Store.{Store, replied, performed, checkpointed, restarted, news_of}
-use Rattle.embedding.specs.Frames.{IsOf, Carries, Brings, news_in}
-use Rattle.embedding.specs.declared.call.TheConstants.{PERFORM, CHECKPOINT, RESTART, GET, MARK, INCARNATION}
+use Rattle.data_component.specs.Performed.{value_in}
+use Rattle.data_component.specs.Store.{Store, replied, performed, checkpointed, restarted, news_of, heard, may_forget, HasForgotten}
+use Rattle.embedding.specs.Frames.{bit, IsOf, Carries, Brings, news_in}
+use Rattle.embedding.specs.declared.call.TheConstants.{PERFORM, CHECKPOINT, RESTART, GET, MARK, INCARNATION, HEAR_MARK, FORGET}
 use Rattle.embedding.specs.declared.codes.TheConstants.{SILENT}
 use Rattle.embedding.specs.declared.frame.Frame.{Frame}
 
@@ -39,7 +39,15 @@ ShowsValue (Some v) f = (f.kind ≡ 1) × (f.value ≡ v)
 pub record Finds (s : Store) (f : Frame) (f' : Frame) : Type 0 where
   pub r : Record
   pub named : IsOf f r
-  pub shown : ShowsValue (value_of s.list r) f'
+  pub shown : ShowsValue (value_in s.base s.list r) f'
+
+-- it has forgotten what it performed, where it may, and the frame says whether it has
+pub record Forgets (s : Store) (s' : Store) (f' : Frame) : Type 0 where
+  pub forgot : Bool
+  pub is : forgot ≡ may_forget s
+  pub told : f'.word ≡ bit forgot
+  pub forgotten : forgot ≡ true → HasForgotten s s'
+  pub stays : forgot ≡ false → s' ≡ s
 
 -- what a call has done that answered 0, by its number; one that isn't named here leaves the data component as it was
 abbrev pub KeptBy : ℕ → Store → Frame → Store → Frame → Type 0
@@ -47,7 +55,9 @@ KeptBy what s f s' f' =
     MatchBool (what == PERFORM) (Performs s f s' f')
     (MatchBool (what == CHECKPOINT) ((s' ≡ checkpointed s) × (f'.low_water ≡ s.mark))
     (MatchBool (what == RESTART) (HasRestarted s s' f')
-    (s' ≡ s)))
+    (MatchBool (what == HEAR_MARK) (s' ≡ heard s f.incarnation f.low_water)
+    (MatchBool (what == FORGET) (Forgets s s' f')
+    (s' ≡ s)))))
 
 -- what such a call says, that has changed nothing
 abbrev pub SeenBy : ℕ → Store → Frame → Frame → Type 0

@@ -1,9 +1,10 @@
 -- What one call makes of a transaction component, by the frame that it was made with, the code that it answered and the frame
 -- behind it.
-use Rattle.std.specs.Prelude.{◌≡◌, ◌≢◌, ◌+◌, ℕ, Bool, ◌==◌, ◌<◌, ⊤, MatchBool, IsTrue, ◌↔◌, List, [], ◌∷◌, ◌++◌, length, min, reverse, take, slice_get, swap_remove, Some, None, Ok}
+use Rattle.std.specs.Prelude.{◌≡◌, ◌≢◌, ◌+◌, ℕ, Bool, ◌==◌, ◌<◌, ⊤, MatchBool, IsTrue, ◌↔◌, List, [], ◌∷◌, ◌++◌, length, min, replicate, reverse, take, slice_get, swap_remove, Some, None, Ok}
 use Rattle.access_slots.specs.declared.op.Reply.{Reply}
 use Rattle.access_slots.specs.declared.op.Wire.{Wire}
 use Rattle.history.specs.Calls.{admitted}
+use Rattle.history.specs.Flight.{low_water}
 use Rattle.tc_log.specs.declared.event.Event.{Event}
 use Rattle.tc_log.specs.declared.event.Event.TheVariants.{Admit}
 use Rattle.tc_log.specs.Printed.{printed}
@@ -20,13 +21,15 @@ use Rattle.tc_core.specs.Loading.{load_refusal, IsFirstRefusal}
 use Rattle.tc_core.specs.Redo.{news_fault, after_told, redo_reply, after_redo, IsRedone, after_redone}
 use Rattle.tc_core.specs.Replies.{ask_reply, after_ask, undo_reply, after_undo, IsAnswer, after_answer, end_of, after_end, with_event}
 use Rattle.tc_core.specs.declared.procs.LoadRefusal.{LoadRefusal}
+use Rattle.tc_core.specs.Checkpointing.{MayCheckpoint, checkpointed, IsCheckpointFault}
+use Rattle.tc_core.specs.declared.beginning.CheckpointFault.{CheckpointFault}
 use Rattle.tc_core.specs.declared.state.NewsFault.{NewsFault}
 use Rattle.tc_core.specs.declared.state.Refusal.{Refusal}
-use Rattle.embedding.specs.Codes.{news_number}
+use Rattle.embedding.specs.Codes.{news_number, checkpoint_number}
 use Rattle.embedding.specs.Frames.{bit, Carries, Brings, news_in, args_in, text_in, call_in}
 use Rattle.embedding.specs.Gathering.{GatheredBy, IsAsGathered, checked_of, IsProcedure, IsWrong, wrong_number, wrong_place}
 use Rattle.embedding.specs.Telling.{Tells, requests_of, EndsAs, TellsRefusal, TellsLoading, TellsRedo, TellsSite}
-use Rattle.embedding.specs.declared.call.TheConstants.{LOAD, FIND, ADMIT, BLOCKED, ASK, UNDO, WIRE, ANSWER, GIVE_UP, END, OPEN_COUNT, LOG_LENGTH, LOG_BYTES, SITE, TOLD, REDO_NEXT, REDONE}
+use Rattle.embedding.specs.declared.call.TheConstants.{LOAD, FIND, ADMIT, BLOCKED, ASK, UNDO, WIRE, ANSWER, GIVE_UP, END, OPEN_COUNT, LOG_LENGTH, LOG_BYTES, SITE, TOLD, REDO_NEXT, REDONE, LOG_ANEW, LOW_WATER}
 use Rattle.embedding.specs.declared.codes.TheConstants.{BAD_FRAME, MEMORY, NOT_TEXT, NO_TXN, NOT_OVER, NOTHING_OPEN, STRANGER}
 use Rattle.embedding.specs.declared.frame.Frame.{Frame}
 use Rattle.embedding.specs.declared.gathered.Wrong.{Wrong}
@@ -176,6 +179,25 @@ pub record IsNotRedone (p : TcPart) (f : Frame) : Type 0 where
   pub brought : Brings f reply
   pub unfit : IsRedone p.state f.dc reply → ⊥
 
+-- ---- a log that begins anew
+
+-- the least mark that data components' checkpoints have kept, as the frame says it, for each of them
+abbrev pub kept_in : TcPart → Frame → List ℕ
+kept_in p f = replicate p.state.dcs f.low_water
+
+pub record BeginsAnew (p : TcPart) (f : Frame) (p' : TcPart) : Type 0 where
+  pub may : MayCheckpoint p.state (kept_in p f)
+  pub is : p'.state ≡ checkpointed p.state
+
+pub record IsNotBegun (p : TcPart) (f : Frame) (code : ℕ) : Type 0 where
+  pub why : CheckpointFault
+  pub is : IsCheckpointFault p.state (kept_in p f) why
+  pub number : code ≡ checkpoint_number why
+
+-- want of memory aside
+abbrev pub WhyNotBegun : TcPart → Frame → ℕ → Type 0
+WhyNotBegun p f code = code ≢ MEMORY → IsNotBegun p f code
+
 -- ---- calls that only look
 
 pub record ShowsEvent (p : TcPart) (f : Frame) (f' : Frame) : Type 0 where
@@ -202,7 +224,8 @@ DoneBy what p f p' f' =
     (MatchBool (what == TOLD) (Hears p f p')
     (MatchBool (what == REDO_NEXT) (Redoes p f 0 p' f')
     (MatchBool (what == REDONE) (HasRedone p f p')
-    (p'.state ≡ p.state))))))))))
+    (MatchBool (what == LOG_ANEW) (BeginsAnew p f p')
+    (p'.state ≡ p.state)))))))))))
 
 abbrev pub KeepsRequests : TcPart → TcPart → Type 0
 KeepsRequests p p' = p'.requests.items ≡ p.requests.items
@@ -227,7 +250,8 @@ ShownBy what p f f' =
     (MatchBool (what == LOG_LENGTH) (f'.word ≡ length p.state.events)
     (MatchBool (what == LOG_BYTES) (ShowsEvent p f f')
     (MatchBool (what == SITE) (TellsSite (site_at p.state.sites f.dc) f')
-    ⊤))))))
+    (MatchBool (what == LOW_WATER) (f'.low_water ≡ low_water p.state.events)
+    ⊤)))))))
 
 -- why a call did nothing, by its number
 abbrev pub RefusedBy : ℕ → TcPart → Frame → ℕ → TcPart → Frame → Type 0
@@ -243,7 +267,8 @@ RefusedBy what p f code p' f' =
     (MatchBool (what == TOLD) (WhyNotHeard p f code)
     (MatchBool (what == REDO_NEXT) (TellsRedo (redo_reply p.state f.dc) code f')
     (MatchBool (what == REDONE) (code ≡ STRANGER → IsNotRedone p f)
-    ⊤))))))))))
+    (MatchBool (what == LOG_ANEW) (WhyNotBegun p f code)
+    ⊤)))))))))))
 
 -- refused means unchanged; the reply of a stranger aside, whose request is kept in another place (IsStranger)
 pub record IsServed (p : TcPart) (f : Frame) (code : ℕ) (p' : TcPart) (f' : Frame) : Type 0 where

@@ -52,6 +52,11 @@ pub const REDO_NEXT: u32 = 33;
 
 pub const REDONE: u32 = 34;
 
+/// Its log begins anew, and up to which number all are answered.
+pub const LOG_ANEW: u32 = 35;
+
+pub const LOW_WATER: u32 = 36;
+
 /// Of a data component.
 pub const PERFORM: u32 = 40;
 
@@ -68,6 +73,10 @@ pub const MARK: u32 = 45;
 pub const CHECKPOINT: u32 = 46;
 
 pub const INCARNATION: u32 = 47;
+
+pub const HEAR_MARK: u32 = 48;
+
+pub const FORGET: u32 = 49;
 
 /// Of a program.
 pub const VERIFY: u32 = 50;

@@ -1,11 +1,12 @@
 //! What a call answers: 0, or why it did nothing, as a letter and a number in one word.
 
 ghost use Rattle.std.specs.Prelude.{◌≡◌, ◌≢◌};
-ghost use Rattle.embedding.specs.Codes.{decode_number, decode_place, violation_number, decl_number, decl_place, news_number};
+ghost use Rattle.embedding.specs.Codes.{decode_number, decode_place, violation_number, decl_number, decl_place, news_number, checkpoint_number};
 
 use access_slots::decl::DeclFault;
 use bpf_encoding::decode::DecodeFault;
 use register_kinds::kind::Violation;
+use tc_core::beginning::CheckpointFault;
 use tc_core::state::NewsFault;
 
 /// It was done.
@@ -48,6 +49,8 @@ pub const DOWN: u32 = 0x490d;
 pub const OLD_NEWS: u32 = 0x490f;
 /// I16: the data component isn't down.
 pub const NOT_DOWN: u32 = 0x4910;
+/// Q3: the news' mark is below the numbers behind which the log begins.
+pub const FORGOTTEN: u32 = 0x5103;
 /// P1: the name is taken.
 pub const NAME_TAKEN: u32 = 0x5001;
 /// P2: a slot names a data component that isn't there.
@@ -107,7 +110,7 @@ pub fn decl_code(fault: DeclFault) -> (u32, u64)
     }
 }
 
-/// I10 or I15.
+/// I10, I15 or Q3.
 pub fn news_code(fault: NewsFault) -> u32
     ensures refused { result ≢ 0 }
     ensures number { result ≡ news_number fault }
@@ -115,5 +118,21 @@ pub fn news_code(fault: NewsFault) -> u32
     match fault {
         NewsFault::NoDc => NO_DC,
         NewsFault::OldNews => OLD_NEWS,
+        NewsFault::Forgotten => FORGOTTEN,
+    }
+}
+
+/// G1 to G6.
+pub fn checkpoint_code(fault: CheckpointFault) -> u32
+    ensures refused { result ≢ 0 }
+    ensures number { result ≡ checkpoint_number fault }
+{
+    match fault {
+        CheckpointFault::Nothing => 0x4701,
+        CheckpointFault::Open(_) => 0x4702,
+        CheckpointFault::DcCount => 0x4703,
+        CheckpointFault::Down => 0x4704,
+        CheckpointFault::Behind => 0x4705,
+        CheckpointFault::Spent => 0x4706,
     }
 }

@@ -1,11 +1,11 @@
 // A data component behind a frame.
 
 ghost use Rattle.std.specs.Prelude.{◌≡◌, ◌≢◌, ◌<◌, length};
-ghost use Rattle.embedding.specs.Keeping.{Performs, WhySilent, Finds, HasRestarted, IsKept};
+ghost use Rattle.embedding.specs.Keeping.{Performs, WhySilent, Finds, HasRestarted, Forgets, IsKept};
 
 use crate::call;
 use crate::codes::{BAD_FRAME, DONE, INCARNATIONS_SPENT, NO_PLACE, NO_SUCH_CALL, SILENT};
-use crate::frame::Frame;
+use crate::frame::{Frame, bit_of};
 use access_slots::op::Said;
 use data_component::dc::Dc;
 
@@ -61,6 +61,13 @@ fn row(dc: &Dc, frame: &mut Frame) -> u32
     DONE
 }
 
+fn forget(dc: &mut Dc, frame: &mut Frame)
+    ensures { Forgets dc.old dc.new frame.new }
+{
+    let forgot = dc.forget();
+    frame.word = u64::from(bit_of(forgot));
+}
+
 /// Makes the call that the frame has.
 pub fn serve(dc: &mut Dc, frame: &mut Frame) -> u32
     ensures { IsKept dc.old frame.old result dc.new frame.new }
@@ -87,6 +94,14 @@ pub fn serve(dc: &mut Dc, frame: &mut Frame) -> u32
         }
         call::INCARNATION => {
             frame.incarnation = dc.incarnation();
+            DONE
+        }
+        call::HEAR_MARK => {
+            dc.hear_mark(frame.incarnation, frame.low_water);
+            DONE
+        }
+        call::FORGET => {
+            forget(dc, frame);
             DONE
         }
         _ => NO_SUCH_CALL,

@@ -12,7 +12,7 @@ ghost use Rattle.embedding.specs.Gathering.{HasNothing, IsAsGathered};
 ghost use Rattle.embedding.specs.Sound.{IsSoundCore};
 ghost use Rattle.embedding.specs.Telling.{TellsRedo, TellsSite};
 ghost use Rattle.embedding.specs.Serving.{Loads, WhyNotLoaded, Admits, WhyNotAdmitted, Asks, Undoes, Resends, Answers, IsStranger, GivesUp, Ends};
-ghost use Rattle.embedding.specs.Serving.{KeepsRequests, Hears, WhyNotHeard, Redoes, HasRedone, IsNotRedone, SaysBlocked, ShowsEvent, IsServed, IsRequestOf, HasNoRequest};
+ghost use Rattle.embedding.specs.Serving.{KeepsRequests, Hears, WhyNotHeard, Redoes, HasRedone, IsNotRedone, BeginsAnew, WhyNotBegun, SaysBlocked, ShowsEvent, IsServed, IsRequestOf, HasNoRequest};
 
 use crate::codes::{
     self, BAD_FRAME, DONE, DOWN, MEMORY, NO_DC, NO_PLACE, NO_SUCH_CALL, NO_TXN, NOT_OVER,
@@ -371,6 +371,23 @@ impl TcPart {
         }
     }
 
+    fn begin_anew(&mut self, frame: &Frame) -> u32
+        ensures refused { result ≢ 0 → self.new.state ≡ self.old.state }
+        ensures why { result ≢ 0 → WhyNotBegun self.old frame.now result }
+        ensures done { result ≡ 0 → BeginsAnew self.old frame.now self.new }
+        ensures gathered { IsAsGathered self.old.gathered self.new.gathered }
+        ensures kept { KeepsRequests self.old self.new }
+    {
+        let dcs = usize::from(self.state.dcs());
+        let Ok(kept) = Vec::from_elem(self.alloc, frame.low_water, dcs) else {
+            return MEMORY;
+        };
+        match self.state.checkpoint(kept.as_slice()) {
+            Ok(()) => DONE,
+            Err(fault) => codes::checkpoint_code(fault),
+        }
+    }
+
     /// Makes the call that the frame has.
     pub fn serve(&mut self, frame: &mut Frame) -> u32
         ensures { IsServed self.old frame.old result self.new frame.new }
@@ -402,6 +419,11 @@ impl TcPart {
             call::TOLD => self.told(frame),
             call::REDO_NEXT => self.redo_next(frame),
             call::REDONE => self.redone(frame),
+            call::LOG_ANEW => self.begin_anew(frame),
+            call::LOW_WATER => {
+                frame.low_water = self.state.low_water();
+                DONE
+            }
             _ => NO_SUCH_CALL,
         }
     }

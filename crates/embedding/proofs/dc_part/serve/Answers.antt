@@ -25,3 +25,9 @@ returns-in-46 c = kept_as _ _ _ _ _ _ c.in-46.is (λ nz _. absurd (nz refl)) (λ
 
 pub returns-in-47 : goal.returns-in-47
 returns-in-47 c = kept_as _ _ _ _ _ _ c.in-47.is (λ nz _. absurd (nz refl)) (λ e. absurd (omega (arith, e))) (λ _. refl) (λ _. c.incarnation-frame.ensures)
+
+pub returns-in-48 : goal.returns-in-48
+returns-in-48 c = kept_as _ _ _ _ _ _ c.in-48.is (λ nz _. absurd (nz refl)) (λ e. absurd (omega (arith, e))) (λ _. c.hear_mark.ensures) (λ _. tt)
+
+pub returns-in-49 : goal.returns-in-49
+returns-in-49 c = kept_as _ _ _ _ _ _ c.in-49.is (λ nz _. absurd (nz refl)) (λ e. absurd (omega (arith, e))) (λ _. c.forget.ensures) (λ _. tt)

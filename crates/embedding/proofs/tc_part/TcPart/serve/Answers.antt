@@ -82,3 +82,11 @@ returns-in-33 c = served_as _ _ _ _ _ _ c.in-33.is (c.redo_next.ensures.refused)
 pub returns-in-34 : goal.returns-in-34
 returns-in-34 c = served_as _ _ _ _ _ _ c.in-34.is (c.redone.ensures.refused) (λ _. c.redone.ensures.why) (c.redone.ensures.done) (λ _. tt)
     (λ _. c.redone.ensures.gathered) (λ _. c.redone.ensures.gathered) (λ _. c.redone.ensures.kept) (λ _ _. c.redone.ensures.kept)
+
+pub returns-in-35 : goal.returns-in-35
+returns-in-35 c = served_as _ _ _ _ _ _ c.in-35.is (c.begin_anew.ensures.refused) (c.begin_anew.ensures.why) (c.begin_anew.ensures.done) (λ _. tt)
+    (λ _. c.begin_anew.ensures.gathered) (λ _. c.begin_anew.ensures.gathered) (λ _. c.begin_anew.ensures.kept) (λ _ _. c.begin_anew.ensures.kept)
+
+pub returns-in-36 : goal.returns-in-36
+returns-in-36 c = served_as _ _ _ _ _ _ c.in-36.is (λ _. refl) (λ _. tt) (λ _. refl) (λ _. c.low_water-frame.ensures)
+    (λ _. same_gathered _) (λ _. same_gathered _) (λ _. refl) (λ _ _. refl)
