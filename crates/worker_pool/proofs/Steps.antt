@@ -58,19 +58,9 @@ use Rattle.worker_pool.proofs.GivenUp.{begin_same, begin_then, given_up_more}
 
 -- ---- one event more
 
-admitted_more : (h : List Event) (e : Event) → admitted h ≤ admitted (e ∷ h)
-admitted_more h (Admit t p args) = omega arith
-admitted_more h (Ask t n o) = omega arith
-admitted_more h (Answers t n said) = omega arith
-admitted_more h (Undo t n o) = omega arith
-admitted_more h (End t o) = omega arith
-
-given_more : (h : List Event) (e : Event) → given h ≤ given (e ∷ h)
-given_more h (Admit t p args) = omega arith
-given_more h (Ask t n o) = omega arith
-given_more h (Answers t n said) = omega arith
-given_more h (Undo t n o) = omega arith
-given_more h (End t o) = omega arith
+-- the event takes back neither admissions nor numbers
+abbrev IsMore : List Event → Event → Type 0
+IsMore h e = (admitted h ≤ admitted (e ∷ h)) × (given h ≤ given (e ∷ h))
 
 stays_more : (start c : Core) (e : Event) → StaysBut start c → StaysBut start (with_event c e)
 stays_more start c e stays = ap (λ (s : Core). record s { events = e ∷ c.events; given_up = c.given_up; sites = c.sites }) stays
@@ -87,23 +77,23 @@ ended_more start h e c o place how it =
     record { t = it.t; own = it.own; takes = it.takes; admitted = is_admitted_more start.events h e c it.t it.admitted; ended = behind_more start.events h e place (End it.t how) it.ended }
 
 refusal_more : (start : Core) (h : List Event) (e : Event) (c : named.Call) (why : Refusal)
-    → RefusalFits start h c why → RefusalFits start (e ∷ h) c why
-refusal_more start h e c refusal.NoProcedure it = it
-refusal_more start h e c refusal.ArgumentCount it = it
-refusal_more start h e c (refusal.Busy b) it = it
-refusal_more start h e c refusal.NumbersSpent it = (it.0, (let many = it.1 in omega (arith, admitted_more h e, given_more h e, many)))
-refusal_more start h e c refusal.Memory it = it
+    → IsMore h e → RefusalFits start h c why → RefusalFits start (e ∷ h) c why
+refusal_more start h e c refusal.NoProcedure more it = it
+refusal_more start h e c refusal.ArgumentCount more it = it
+refusal_more start h e c (refusal.Busy b) more it = it
+refusal_more start h e c refusal.NumbersSpent more it = (it.0, (let many = it.1 in omega (arith, more.0, more.1, many)))
+refusal_more start h e c refusal.Memory more it = it
 
 -- one event more is one moment more
 moment_more : (start then now : Core) (e : Event) → IsMoment start then now → IsMoment start then (with_event now e)
 moment_more start then now e m = record { stays = m.stays; begins = m.begins; goes_on = begins_more then.events now.events e m.goes_on; given_up = m.given_up }
 
 answer_more : (start now : Core) (e : Event) (c : named.Call) (a : Answer) (o : Option ℕ)
-    → AnswerFits start now c a o → AnswerFits start (with_event now e) c a o
-answer_more start now e c (Committed p) o it = ended_more start now.events e c o p outcome.Committed it
-answer_more start now e c (Aborted v p) o it = ended_more start now.events e c o p (outcome.Aborted v) it
-answer_more start now e c (NoRoom p) o it = ended_more start now.events e c o p outcome.NoRoom it
-answer_more start now e c (InDoubt n) o it =
+    → IsMore now.events e → AnswerFits start now c a o → AnswerFits start (with_event now e) c a o
+answer_more start now e c (Committed p) o more it = ended_more start now.events e c o p outcome.Committed it
+answer_more start now e c (Aborted v p) o more it = ended_more start now.events e c o p (outcome.Aborted v) it
+answer_more start now e c (NoRoom p) o more it = ended_more start now.events e c o p outcome.NoRoom it
+answer_more start now e c (InDoubt n) o more it =
     record {
       t = it.t;
       own = it.own;
@@ -111,7 +101,7 @@ answer_more start now e c (InDoubt n) o it =
       admitted = is_admitted_more start.events now.events e c it.t it.admitted;
       sent = sends_more start.events now.events e it.t n it.sent;
     }
-answer_more start now e c (Blocked b) o it =
+answer_more start now e c (Blocked b) o more it =
     record {
       waits = it.waits;
       takes = it.takes;
@@ -124,15 +114,15 @@ answer_more start now e c (Blocked b) o it =
       admitted = stands_more now.events e it.place (Admit b.holder it.other.proc it.other.args) it.admitted;
       excluded = it.excluded;
     }
-answer_more start now e c (Refused why) o it = (it.0, refusal_more start now.events e c why it.1)
+answer_more start now e c (Refused why) o more it = (it.0, refusal_more start now.events e c why more it.1)
 
 -- where the transaction stays open
-fits_more : (start now : Core) (e : Event) (c : named.Call) (p : Progress)
+fits_more : (start now : Core) (e : Event) (c : named.Call) (p : Progress) → IsMore now.events e
     → ((t : ℕ) → txn_of p ≡ Some t → IsOpen now.events t → IsOpen (e ∷ now.events) t) → Fits start now c p → Fits start (with_event now e) c p
-fits_more start now e c Waiting still it = it
-fits_more start now e c (Begun t) still it =
+fits_more start now e c Waiting more still it = it
+fits_more start now e c (Begun t) more still it =
     record { takes = it.takes; admitted = is_admitted_more start.events now.events e c t.serial it.admitted; still = still t.serial refl it.still }
-fits_more start now e c (Answered a o) still it = answer_more start now e c a (serial_of o) it
+fits_more start now e c (Answered a o) more still it = answer_more start now e c a (serial_of o) more it
 
 -- ---- no event, but numbers given up or news of data components
 
@@ -253,14 +243,16 @@ told start calls state ps k p p' c keeps at of fits same was none = record {
 
 -- an event that neither admits nor ends a transaction
 record IsQuiet (h : List Event) (e : Event) : Type 0 where
+  more : IsMore h e
   no_end : ends (e ∷ h) ≡ ends h
   no_admit : (t proc : ℕ) (args : List ℕ) → e ≡ Admit t proc args → ⊥
   still : (t : ℕ) → IsOpen h t → IsOpen (e ∷ h) t
 
-quiet_by : (h : List Event) (e : Event) → ends (e ∷ h) ≡ ends h
+quiet_by : (h : List Event) (e : Event) → IsMore h e → ends (e ∷ h) ≡ ends h
     → ((t proc : ℕ) (args : List ℕ) → e ≡ Admit t proc args → ⊥)
     → ((s : Standing) → (s' : Standing) × (moved e (Some s) ≡ Some s')) → IsQuiet h e
-quiet_by h e no_end no_admit goes_on = record {
+quiet_by h e more no_end no_admit goes_on = record {
+  more = more;
   no_end = no_end;
   no_admit = no_admit;
   still = λ t open'. elim (cases_eq (named.txn_of e) t) [
@@ -270,13 +262,13 @@ quiet_by h e no_end no_admit goes_on = record {
 }
 
 quiet_ask : (h : List Event) (t n : ℕ) (o : _) → IsQuiet h (Ask t n o)
-quiet_ask h t n o = quiet_by h (Ask t n o) refl (λ u proc args bad. cc) (λ s. (_, refl))
+quiet_ask h t n o = quiet_by h (Ask t n o) (omega arith, omega arith) refl (λ u proc args bad. cc) (λ s. (_, refl))
 
 quiet_answer : (h : List Event) (t n : ℕ) (said : _) → IsQuiet h (Answers t n said)
-quiet_answer h t n said = quiet_by h (Answers t n said) refl (λ u proc args bad. cc) (λ s. (_, refl))
+quiet_answer h t n said = quiet_by h (Answers t n said) (omega arith, omega arith) refl (λ u proc args bad. cc) (λ s. (_, refl))
 
 quiet_undo : (h : List Event) (t n : ℕ) (o : _) → IsQuiet h (Undo t n o)
-quiet_undo h t n o = quiet_by h (Undo t n o) refl (λ u proc args bad. cc) (λ s. (_, refl))
+quiet_undo h t n o = quiet_by h (Undo t n o) (omega arith, omega arith) refl (λ u proc args bad. cc) (λ s. (_, refl))
 
 grown : (start : Core) (calls : List Call) (state : Core) (ps : List Progress) (e : Event) → IsQuiet state.events e
     → Keeps start calls state ps → Keeps start calls (with_event state e) ps
@@ -286,8 +278,8 @@ grown start calls state ps e quiet keeps =
       stays = stays_more start state e keeps.stays;
       begins = begins_more start.events h e keeps.begins;
       one_each = keeps.one_each;
-      fits = λ k p c at of. fits_more start state e (call_of c) p (λ t own. quiet.still t) (keeps.fits k p c at of);
-      recent = λ k p t at own. let old = keeps.recent k p t at own in omega (arith, old, admitted_more h e);
+      fits = λ k p c at of. fits_more start state e (call_of c) p quiet.more (λ t own. quiet.still t) (keeps.fits k p c at of);
+      recent = λ k p t at own. let old = keeps.recent k p t at own in omega (arith, old, quiet.more.0);
       own = keeps.own;
       known = λ place t proc args low stands. elim (stood h e place (Admit t proc args) stands) [
         | inl x ↦ keeps.known place t proc args low x
@@ -409,7 +401,7 @@ admitted_one start calls state ps k t c keeps at of there is =
       one_each = length_set ps k p' ∙ keeps.one_each;
       fits = λ i q d at' of'. elim (get_set ps k i p' q at') [
         | inl x ↦ subst (λ (y : Progress). Fits start (with_event state e) (call_of d) y) x.1 (subst (λ (y : Call). Fits start (with_event state e) (call_of y) p') (same_call calls k i c d of x.0 of') new)
-        | inr x ↦ fits_more start state e (call_of d) q
+        | inr x ↦ fits_more start state e (call_of d) q (omega arith, omega arith)
             (λ u own. open_other h e u (λ tu. absurd (above u (ap (λ (n : ℕ). Some n) tu) (keeps.recent i q u x.1 own)))) (keeps.fits i q d x.1 of')
       ];
       recent = λ i q u at' own. elim (get_set ps k i p' q at') [
@@ -471,7 +463,7 @@ ended start calls state ps k t o a c keeps at of fits' place =
       one_each = length_set ps k p' ∙ keeps.one_each;
       fits = λ i q d at' of'. elim (get_set ps k i p' q at') [
         | inl x ↦ subst (λ (y : Progress). Fits start (with_event state e) (call_of d) y) x.1 (subst (λ (y : Call). Fits start (with_event state e) (call_of y) p') (same_call calls k i c d of x.0 of') fits')
-        | inr x ↦ fits_more start state e (call_of d) q
+        | inr x ↦ fits_more start state e (call_of d) q (omega arith, omega arith)
             (λ u own. open_other h e u (λ tu. x.0 (keeps.own i k q p u x.1 at own (ap (λ (n : ℕ). Some n) tu)))) (keeps.fits i q d x.1 of')
       ];
       recent = λ i q u at' own. let w = owner ps k p p' at refl i q u at' own in keeps.recent i w.progress u w.at w.own;

@@ -1,7 +1,7 @@
 -- What the locked value keeps of the calls, of the log and of the state handed in.
 use Rattle.std.specs.Prelude.{◌≡◌, ◌+◌, ◌<◌, ◌≤◌, ℕ, List, [], ◌∷◌, Bool, length, count_by, Option, Some, None, slice_get}
 use Rattle.tc_log.specs.declared.event.Event.{Event}
-use Rattle.tc_log.specs.declared.event.Event.TheVariants.{Admit, Ask, Answer as Answers, Undo, End}
+use Rattle.tc_log.specs.declared.event.Event.TheVariants.{Admit, Ask, Answer as Answers, Undo, End, Checkpoint}
 use Rattle.history.specs.Calls.{admitted}
 use Rattle.history.specs.Calls as named
 use Rattle.history.specs.Places.{StandsAt, Begins}
@@ -22,6 +22,7 @@ ends (Ask t n o ∷ h) = ends h
 ends (Answers t n said ∷ h) = ends h
 ends (Undo t n o ∷ h) = ends h
 ends (End t o ∷ h) = ends h + 1
+ends (Checkpoint before numbers ∷ h) = ends h
 
 abbrev pub serial_of : Option TxnId → Option ℕ
 serial_of None = None
