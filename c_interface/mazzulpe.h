@@ -32,7 +32,7 @@
  * for microseconds; carry a wire to your storage without the lock.
  *
  * MEMORY. A handle takes mazzulpe_size() bytes, and its tables more as they grow, all by the three
- * functions of heap.c. The log grows by some 120 bytes an event, and stays. Once mz_admit has answered
+ * functions of heap.c. The log grows by some 120 bytes an event, until mz_checkpoint. Once mz_admit has answered
  * MZ_OK, no call on that transaction takes memory, but for mz_log_bytes and mz_log_at.
  *
  * RANGES. Data components are 0 to 65534, tables 0 to 65535, keys, numbers and arguments 64 bits, values
@@ -80,6 +80,12 @@ typedef uint32_t mz_code;
 #define MZ_DC_DOWN MZ_CODE('I', 13)           /* the data component is down, so nothing is sent there */
 #define MZ_OLD_NEWS MZ_CODE('I', 15)          /* this restart, or a later one, is known */
 #define MZ_NOT_DOWN MZ_CODE('I', 16)          /* the data component isn't down */
+#define MZ_FORGOTTEN MZ_CODE('Q', 3)          /* the data component lost what the log can't redo any more */
+#define MZ_NOTHING_YET MZ_CODE('G', 1)        /* nothing has happened: there is nothing to begin behind */
+#define MZ_TXNS_OPEN MZ_CODE('G', 2)          /* a transaction is open, one in doubt or stuck perhaps */
+#define MZ_ONE_DOWN MZ_CODE('G', 4)           /* a data component is down */
+#define MZ_BEHIND MZ_CODE('G', 5)             /* a checkpoint hasn't kept all that was answered */
+#define MZ_ADMISSIONS_SPENT MZ_CODE('G', 6)   /* more than 2^62 transactions were admitted */
 #define MZ_NAME_TAKEN MZ_CODE('P', 1)
 #define MZ_DC_UNKNOWN MZ_CODE('P', 2)         /* an access slot names a data component that isn't there */
 /* 'E' 1 to 7: the bytes are no code; 'S' 1 to 3: the access slots are no declaration; 'V' 1 to 14: the
@@ -176,9 +182,9 @@ enum {
     MZ_CALL_BYTES = 10, MZ_CALL_SLOT, MZ_CALL_CLEAR, MZ_CALL_LOAD, MZ_CALL_FIND,
     MZ_CALL_ADMIT = 20, MZ_CALL_BLOCKED, MZ_CALL_ASK, MZ_CALL_UNDO, MZ_CALL_WIRE, MZ_CALL_ANSWER,
     MZ_CALL_GIVE_UP, MZ_CALL_END, MZ_CALL_OPEN_COUNT, MZ_CALL_LOG_LENGTH, MZ_CALL_LOG_BYTES,
-    MZ_CALL_SITE, MZ_CALL_TOLD, MZ_CALL_REDO_NEXT, MZ_CALL_REDONE,
+    MZ_CALL_SITE, MZ_CALL_TOLD, MZ_CALL_REDO_NEXT, MZ_CALL_REDONE, MZ_CALL_LOG_ANEW, MZ_CALL_LOW_WATER,
     MZ_CALL_PERFORM = 40, MZ_CALL_RESTART, MZ_CALL_GET, MZ_CALL_ROWS, MZ_CALL_ROW, MZ_CALL_MARK,
-    MZ_CALL_CHECKPOINT, MZ_CALL_INCARNATION,
+    MZ_CALL_CHECKPOINT, MZ_CALL_INCARNATION, MZ_CALL_HEAR_MARK, MZ_CALL_FORGET,
     MZ_CALL_VERIFY = 50, MZ_CALL_RUN, MZ_CALL_RESUME
 };
 
@@ -442,6 +448,24 @@ static inline uint64_t mz_open_count(mz_tc *tc) {
     return tc->frame.word;
 }
 
+/* ---- a log that begins anew, so that it doesn't grow for ever */
+
+/* The low-water mark: each number up to it is answered. Tell it to your storage before its checkpoint: then
+ * it needn't know numbers up to it any more. */
+static inline uint64_t mz_low_water(mz_tc *tc) {
+    mz_make(&tc->frame, MZ_CALL_LOW_WATER);
+    return tc->frame.low_water;
+}
+
+/* The log begins anew, as one event, and its memory is for further ones; places count from 0 again, numbers
+ * and transactions go on. kept: the least mark that a checkpoint of your storage has kept for good. Stop
+ * admitting first, and end what is open: MZ_TXNS_OPEN. MZ_BEHIND where kept is below mz_low_water,
+ * MZ_ONE_DOWN, MZ_NOTHING_YET, MZ_ADMISSIONS_SPENT. */
+static inline mz_code mz_checkpoint(mz_tc *tc, uint64_t kept) {
+    tc->frame.low_water = kept;
+    return mz_make(&tc->frame, MZ_CALL_LOG_ANEW);
+}
+
 /* ---- data components that restart */
 
 /* What is known of a data component: its incarnation, and whether it is down; either may be NULL. MZ_NO_DC. */
@@ -455,7 +479,7 @@ static inline mz_code mz_site(mz_tc *tc, uint16_t dc, uint64_t *incarnation, int
 }
 
 /* A data component has restarted: it is down from now on, also where it was down already, and what was
- * done there above the mark is to be redone. MZ_OLD_NEWS, MZ_NO_DC. */
+ * done there above the mark is to be redone. MZ_OLD_NEWS, MZ_FORGOTTEN, MZ_NO_DC. */
 static inline mz_code mz_told(mz_tc *tc, uint16_t dc, const mz_news *news) {
     mz_frame *f = &tc->frame;
     f->dc = dc;
@@ -680,6 +704,22 @@ static inline mz_code mz_dc_perform(mz_dc *dc, const mz_wire *wire, mz_reply *re
 /* Keeps what it has: a restart loses what comes after this. */
 static inline mz_code mz_dc_checkpoint(mz_dc *dc) { return mz_make(&dc->frame, MZ_CALL_CHECKPOINT); }
 
+/* Hears a low-water mark that comes with no wire: the transaction component's, for this incarnation. */
+static inline mz_code mz_dc_hear_mark(mz_dc *dc, uint64_t incarnation, uint64_t low_water) {
+    dc->frame.incarnation = incarnation;
+    dc->frame.low_water = low_water;
+    return mz_make(&dc->frame, MZ_CALL_HEAR_MARK);
+}
+
+/* Forgets the operations that it performed, and keeps the records: where its last checkpoint has all of them,
+ * and all their numbers are at or under the mark that it kept (else *forgotten is 0, and nothing changes).
+ * Then there is room again for as many as at first. */
+static inline mz_code mz_dc_forget(mz_dc *dc, int *forgotten) {
+    mz_code c = mz_make(&dc->frame, MZ_CALL_FORGET);
+    if (c == MZ_OK) *forgotten = dc->frame.word == 1;
+    return c;
+}
+
 /* Loses what came after the last checkpoint, and begins the next incarnation, whose news are for mz_told.
  * MZ_INCARNATIONS_SPENT. */
 static inline mz_code mz_dc_restart(mz_dc *dc, mz_news *news) {
@@ -811,6 +851,12 @@ static inline const char *mz_code_text(mz_code code) {
     case MZ_DC_DOWN: return "Down";
     case MZ_OLD_NEWS: return "OldNews";
     case MZ_NOT_DOWN: return "NotDown";
+    case MZ_FORGOTTEN: return "Forgotten";
+    case MZ_NOTHING_YET: return "NothingYet";
+    case MZ_TXNS_OPEN: return "TxnsOpen";
+    case MZ_ONE_DOWN: return "OneDown";
+    case MZ_BEHIND: return "Behind";
+    case MZ_ADMISSIONS_SPENT: return "AdmissionsSpent";
     case MZ_NAME_TAKEN: return "NameTaken";
     case MZ_DC_UNKNOWN: return "DcUnknown";
     }
