@@ -15,7 +15,7 @@ use Rattle.access_slots.specs.Locks.{record_eq, record_less, target}
 use Rattle.data_component.specs.Performed.{left, counted, said_to, said_to_read, said_to_insert, said_to_change}
 use Rattle.data_component.specs.Sorted.{Rows, row_of, row_place, SortedRows, IsFoundAt, IsMissingAt}
 use Rattle.data_component.specs.Joining.Performing.{Performs}
-use Rattle.data_component.proofs.Finding.{length_inserted, value_at, find_at, sorted_inserted, find_inserted}
+use Rattle.data_component.proofs.Finding.{length_inserted, value_at, find_at, place_of_key, sorted_inserted, find_inserted}
 use Rattle.data_component.proofs.Finding.{sorted_set, find_set, sorted_removed, find_removed}
 use Rattle.data_component.proofs.Orders.{records}
 
@@ -41,6 +41,15 @@ read_found has_room rows r v is sorted = stays has_room rows (Read r) (Value v) 
 
 pub read_absent : (has_room : Bool) (rows : Rows) (r : Record) → row_of rows r ≡ None → SortedRows rows → Performs has_room rows rows (Read r) Absent
 read_absent has_room rows r is sorted = stays has_room rows (Read r) Absent (ap said_to_read (sym is)) (λ was. refl) refl sorted
+
+pub read_at : (has_room : Bool) (rows : Rows) (r : Record) (i : ℕ) (row : Record × List ℕ) → IsFoundAt rows r i → SortedRows rows
+    → row ≡ slice_index_or rows i row → Performs has_room rows rows (Read r) (Value row.1)
+read_at has_room rows r i row at sorted is =
+    read_found has_room rows r row.1 (at.value row ∙ ap (λ (x : Record × List ℕ). Some x.1) (sym is)) sorted
+
+pub read_missing : (has_room : Bool) (rows : Rows) (r : Record) (i : ℕ) → IsMissingAt rows r i → SortedRows rows
+    → Performs has_room rows rows (Read r) Absent
+read_missing has_room rows r i at sorted = read_absent has_room rows r at.missing sorted
 
 pub insert_duplicate : (has_room : Bool) (rows : Rows) (r : Record) (v : List ℕ) (i : ℕ) → IsFoundAt rows r i
     → SortedRows rows → Performs has_room rows rows (Insert r v) Duplicate
@@ -166,3 +175,9 @@ missing_there rows r i d sorted at inside other = record {
 pub none_there : (rows : Rows) (r : Record) (i : ℕ) → SortedRows rows → i ≡ row_place rows r → i ≤ length rows
     → length rows ≤ i → IsMissingAt rows r i
 none_there rows r i sorted is few past = record { inside = few; is = is; missing = seen None rows r i sorted is (slice_get_past rows i past) }
+
+-- where the record's row stands is where it is found
+pub hinted_there : (rows : Rows) (r : Record) (i : ℕ) (d : Record × List ℕ) → SortedRows rows → i < length rows
+    → record_eq (slice_index_or rows i d).0 r ≡ true → IsFoundAt rows r i
+hinted_there rows r i d sorted inside same =
+    found_there rows r i d sorted (place_of_key record_eq record_less records r rows i d sorted inside (records.same _ _ same)) inside same

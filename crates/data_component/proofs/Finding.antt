@@ -30,6 +30,10 @@ told_apart eq less order q a b differ = by_test (eq a b) refl
     by_test false is = is
     by_test true is = absurd (differ (ap q (order.same a b is)))
 
+not_below_itself : {K : Type 0} (eq less : K → K → Bool) → IsOrder eq less → (b : Bool) (k : K) → less k k ≡ b → less k k ≡ false
+not_below_itself eq less order false k is = is
+not_below_itself eq less order true k is = absurd (let twice = order.itself k in let apart = order.apart k k is in cc)
+
 module _ {K V : Type 0} (eq less : K → K → Bool) (order : IsOrder eq less) where
   abbrev pub below : K → K × V → Bool
   below k x = less x.0 k
@@ -82,6 +86,21 @@ module _ {K V : Type 0} (eq less : K → K → Bool) (order : IsOrder eq less) w
   pub find_at : (k : K) (xs : List (K × V)) → Sorted less xs → find eq xs k ≡ value_at (slice_get xs (place k xs)) k
   find_at k [] sorted = refl
   find_at k (x ∷ xs) sorted = find_choice (below k x) k x xs refl sorted.0 (find_at k xs sorted.1)
+
+  -- ---- a key that stands somewhere stands at its place
+
+  above_at : (a : K) (xs : List (K × V)) (i : ℕ) (d : K × V) → AllAbove less a xs → i < length xs → less a (slice_index_or xs i d).0 ≡ true
+  above_at a [] i d all inside = absurd (omega (arith, inside))
+  above_at a (x ∷ xs) zero d all inside = all.0
+  above_at a (x ∷ xs) (suc i) d all inside = above_at a xs i d all.1 (omega (arith, inside))
+
+  pub place_of_key : (k : K) (xs : List (K × V)) (i : ℕ) (d : K × V) → Sorted less xs → i < length xs → (slice_index_or xs i d).0 ≡ k → i ≡ place k xs
+  place_of_key k [] i d sorted inside is = absurd (omega (arith, inside))
+  place_of_key k (x ∷ xs) zero d sorted inside is =
+      sym (here k x xs (subst (λ (m : K). less m k ≡ false) (sym is) (not_below_itself eq less order (less k k) k refl)))
+  place_of_key k (x ∷ xs) (suc i) d sorted inside is =
+      ap suc (place_of_key k xs i d sorted.1 (omega (arith, inside)) is)
+      ∙ sym (further k x xs (subst (λ (m : K). less x.0 m ≡ true) is (above_at x.0 xs i d sorted.0 (omega (arith, inside)))))
 
   -- ---- a later pair keeps behind a lesser one
 

@@ -9,7 +9,7 @@ ghost use Rattle.data_component.specs.Store.{checkpointed, IsSpent, restarted, n
 ghost use Rattle.data_component.specs.Keeping.{AreRowsOf, AreKept};
 
 use crate::kept::{Kept, keep, leave_out_old, place_of};
-use crate::rows::{self, Row};
+use crate::rows::{self, HINTS, Hints, Row};
 use access_slots::op::{News, Op, Reply, Said, Wire};
 use access_slots::slot::{Record, Value};
 use std::alloc::{AllocError, Global};
@@ -34,6 +34,7 @@ pub struct Dc {
     base: Vec<Row>,
     base_mark: u64,
     rows: Vec<Row>,
+    hints: Hints,
     performed: Vec<Performed>,
     kept: Vec<Kept>,
     mark: u64,
@@ -84,6 +85,7 @@ impl Dc {
             base: Vec::with_capacity(alloc, rows)?,
             base_mark: 0,
             rows: Vec::with_capacity(alloc, most)?,
+            hints: vec![in alloc; 0; rows.min(HINTS)]?,
             performed: Vec::with_capacity(alloc, ops)?,
             kept: Vec::with_capacity(alloc, ops)?,
             mark: 0,
@@ -183,7 +185,7 @@ impl Dc {
             return None;
         }
         let has_room = redo || self.rows.len() < self.row_limit;
-        let said = rows::perform(&mut self.rows, has_room, op);
+        let said = rows::perform(&mut self.rows, &mut self.hints, has_room, op);
         keep(&mut self.kept, number, self.performed.len());
         self.performed.push_reserved((number, *op, said));
         Some(self.reply(number, said))
@@ -250,6 +252,7 @@ impl Dc {
         self.kept.clear();
         rebuild(
             &mut self.rows,
+            &mut self.hints,
             &mut self.kept,
             self.base.as_slice(),
             self.performed.as_slice(),
@@ -359,6 +362,7 @@ fn put_all(rows: &mut Vec<Row>, all: &[Row])
 // with which it begins.
 fn rebuild(
     rows: &mut Vec<Row>,
+    hints: &mut Hints,
     kept: &mut Vec<Kept>,
     base: &[Row],
     performed: &[Performed],
@@ -377,7 +381,7 @@ fn rebuild(
     let _ = row_limit;
     put_all(rows, base);
     'performed: for (place, (number, op, said)) in performed.iter().enumerate() {
-        let _ = rows::perform(rows, found_room(said), op);
+        let _ = rows::perform(rows, hints, found_room(said), op);
         if *number > mark {
             keep(kept, *number, place);
         }

@@ -41,9 +41,9 @@ fn count_before(rows: &[Row], record: &Record) -> usize
     rows.partition_point(|row| is_less(&row.0, record))
 }
 
-// The place of the record's row, or the one that it would have.
+// The place of the record's row, or the one that it would have, by halves.
 #[tactic(auto, using(crate::proofs::Changing::found_there, crate::proofs::Changing::missing_there, crate::proofs::Changing::none_there))]
-fn find(rows: &[Row], record: &Record) -> Result<usize, usize>
+fn search(rows: &[Row], record: &Record) -> Result<usize, usize>
     requires { SortedRows rows.now }
     ensures ok { IfOk result (IsFoundAt rows.now «record».now) }
     ensures err { IfErr result (IsMissingAt rows.now «record».now) }
@@ -59,26 +59,74 @@ fn find(rows: &[Row], record: &Record) -> Result<usize, usize>
     }
 }
 
+// Whether the record's row stands at this place.
+#[inline(always)]
+#[tactic(auto, using(crate::proofs::Changing::hinted_there))]
+fn stands_at(rows: &[Row], record: &Record, place: usize) -> bool
+    requires { SortedRows rows.now }
+    ensures { result ≡ true → IsFoundAt rows.now «record».now place }
+{
+    match rows.get(place) {
+        Some(row) => row.0 == *record,
+        None => false,
+    }
+}
+
+/// So many hints there are at most.
+pub(crate) const HINTS: usize = 4096;
+
+/// Where rows stood that were looked for last, each under its key's rest. A hint may be of another record, or
+/// of a place where the row stands no more, so each is tested where it is used.
+pub(crate) type Hints = Vec<usize>;
+
+#[inline(always)]
+fn hint_of(record: &Record) -> usize
+    ensures { result < 4096 }
+{
+    record.key as usize % HINTS
+}
+
+// The place of the record's row, or the one that it would have: the hint's where the row stands there, else
+// by halves, which is the next hint.
+#[inline(always)]
+fn find(rows: &[Row], hints: &mut Hints, record: &Record) -> Result<usize, usize>
+    requires { SortedRows rows.now }
+    ensures ok { IfOk result (IsFoundAt rows.now «record».now) }
+    ensures err { IfErr result (IsMissingAt rows.now «record».now) }
+{
+    let Some(hint) = hints.get_mut(hint_of(record)) else {
+        return search(rows, record);
+    };
+    if stands_at(rows, record, *hint) {
+        return Ok(*hint);
+    }
+    let found = search(rows, record);
+    if let Ok(place) = found {
+        *hint = place;
+    }
+    found
+}
+
 /// The record's value, if it is present.
 pub(crate) fn value_of<'a>(rows: &'a [Row], record: &Record) -> Option<&'a Value>
     requires { SortedRows rows.now }
     ensures { option_copied result ≡ row_of rows.now «record».now }
 {
-    match find(rows, record) {
+    match search(rows, record) {
         Ok(place) => Some(&rows[place].1),
         Err(_) => None,
     }
 }
 
-#[tactic(auto, using(crate::proofs::Changing::read_found, crate::proofs::Changing::read_absent))]
-fn read(rows: &[Row], record: &Record) -> Said
+#[tactic(auto, using(crate::proofs::Changing::read_at, crate::proofs::Changing::read_missing))]
+fn read(rows: &[Row], hints: &mut Hints, record: &Record) -> Said
     requires { SortedRows rows.now }
     ensures { (has_room : Bool) → Performs has_room rows.now rows.now (Read «record».now) result }
 {
-    let Some(value) = value_of(rows, record) else {
-        return Said::Absent;
-    };
-    Said::Value(*value)
+    match find(rows, hints, record) {
+        Ok(place) => Said::Value(rows[place].1),
+        Err(_) => Said::Absent,
+    }
 }
 
 // One row more, where there is room for it.
@@ -95,13 +143,19 @@ fn put_in(rows: &mut Vec<Row>, place: usize, row: Row)
 }
 
 #[tactic(auto, using(crate::proofs::Changing::insert_duplicate, crate::proofs::Changing::insert_no_room, crate::proofs::Changing::insert_done))]
-fn insert(rows: &mut Vec<Row>, has_room: bool, record: &Record, value: &Value) -> Said
+fn insert(
+    rows: &mut Vec<Row>,
+    hints: &mut Hints,
+    has_room: bool,
+    record: &Record,
+    value: &Value,
+) -> Said
     requires sorted { SortedRows rows.old.items }
     requires room { length rows.old.items < vec_capacity rows.old }
     ensures performs { Performs has_room rows.old.items rows.new.items (Insert «record».now value.now) result }
     ensures capacity { vec_capacity rows.new ≡ vec_capacity rows.old }
 {
-    match find(rows.as_slice(), record) {
+    match find(rows.as_slice(), hints, record) {
         Ok(_) => Said::Duplicate,
         Err(_) if !has_room => Said::NoRoom,
         Err(place) => {
@@ -112,12 +166,12 @@ fn insert(rows: &mut Vec<Row>, has_room: bool, record: &Record, value: &Value) -
 }
 
 #[tactic(auto, using(crate::proofs::Changing::update_missing, crate::proofs::Changing::update_put))]
-fn update(rows: &mut Vec<Row>, record: &Record, value: &Value) -> Said
+fn update(rows: &mut Vec<Row>, hints: &mut Hints, record: &Record, value: &Value) -> Said
     requires { SortedRows rows.old.items }
     ensures performs { (has_room : Bool) → Performs has_room rows.old.items rows.new.items (Update «record».now value.now) result }
     ensures capacity { vec_capacity rows.new ≡ vec_capacity rows.old }
 {
-    let Ok(place) = find(rows.as_slice(), record) else {
+    let Ok(place) = find(rows.as_slice(), hints, record) else {
         return Said::Missing;
     };
     let kept = &mut rows[place].1;
@@ -127,28 +181,28 @@ fn update(rows: &mut Vec<Row>, record: &Record, value: &Value) -> Said
 }
 
 #[tactic(auto, using(crate::proofs::Changing::delete_missing, crate::proofs::Changing::delete_done))]
-fn delete(rows: &mut Vec<Row>, record: &Record) -> Said
+fn delete(rows: &mut Vec<Row>, hints: &mut Hints, record: &Record) -> Said
     requires { SortedRows rows.old.items }
     ensures performs { (has_room : Bool) → Performs has_room rows.old.items rows.new.items (Delete «record».now) result }
     ensures capacity { vec_capacity rows.new ≡ vec_capacity rows.old }
 {
-    match find(rows.as_slice(), record) {
+    match find(rows.as_slice(), hints, record) {
         Ok(place) => Said::Done(Some(rows.remove(place).1)),
         Err(_) => Said::Missing,
     }
 }
 
 /// Performs the operation, where a further record has room or not. The vector has room for one.
-pub(crate) fn perform(rows: &mut Vec<Row>, has_room: bool, op: &Op) -> Said
+pub(crate) fn perform(rows: &mut Vec<Row>, hints: &mut Hints, has_room: bool, op: &Op) -> Said
     requires sorted { SortedRows rows.old.items }
     requires room { length rows.old.items < vec_capacity rows.old }
     ensures performs { Performs has_room rows.old.items rows.new.items op.now result }
     ensures capacity { vec_capacity rows.new ≡ vec_capacity rows.old }
 {
     match op {
-        Op::Read(record) => read(rows.as_slice(), record),
-        Op::Insert(record, value) => insert(rows, has_room, record, value),
-        Op::Update(record, value) => update(rows, record, value),
-        Op::Delete(record) => delete(rows, record),
+        Op::Read(record) => read(rows.as_slice(), hints, record),
+        Op::Insert(record, value) => insert(rows, hints, has_room, record, value),
+        Op::Update(record, value) => update(rows, hints, record, value),
+        Op::Delete(record) => delete(rows, hints, record),
     }
 }

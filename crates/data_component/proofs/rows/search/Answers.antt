@@ -1,6 +1,6 @@
 use Rattle.std.proofs.Common.{rules, ◌∙◌, sym}
 use Rattle.data_component.proofs.Changing.{found_there, missing_there}
-use Rattle.data_component.proofs.rows.find.Goals as goal
+use Rattle.data_component.proofs.rows.search.Goals as goal
 
 pub returns-then-eq-clause-ok : goal.returns-then-eq-clause-ok
 returns-then-eq-clause-ok c =
