@@ -1,3 +1,4 @@
+pub mod Entering
 pub mod Finding
 pub mod Orders
 pub mod Changing

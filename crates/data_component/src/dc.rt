@@ -1,22 +1,21 @@
 //! The data component.
 
-ghost use Rattle.std.specs.Prelude.{◌≡◌, ◌↔◌, ◌+◌, ◌<◌, ◌≤◌, [], Some, None, true, false, length, reverse, IsErr, IfOk, OnOk, OnErr, not, vec_capacity};
+ghost use Rattle.std.specs.Prelude.{◌≡◌, ◌↔◌, ◌+◌, ◌<◌, ◌≤◌, [], ◌∷◌, ◌++◌, Some, None, true, false, length, reverse, take, IsErr, IfOk, OnOk, OnErr, not, vec_capacity};
 ghost use Rattle.access_slots.specs.Access.{is_no_room};
-ghost use Rattle.data_component.specs.Performed.{value_in, said_under, IsRight, all_at_most};
+ghost use Rattle.data_component.specs.Performed.{value_in, said_under, IsRight};
 ghost use Rattle.data_component.specs.Sorted.{SortedRows};
 ghost use Rattle.data_component.specs.Store.{empty, marked, fate, fate_of_new, reply_by, store_by, replied, performed};
 ghost use Rattle.data_component.specs.Store.{checkpointed, IsSpent, restarted, news_of, heard, may_forget, HasForgotten};
 ghost use Rattle.data_component.specs.Keeping.{AreRowsOf, AreKept};
 
+use crate::entries::Entries;
+pub use crate::entries::Performed;
 use crate::kept::{Kept, keep, leave_out_old, place_of};
-use crate::rows::{self, HINTS, Hints, Row};
+use crate::rows::{self, HINTS, Hints, Row, hint_of};
 use access_slots::op::{News, Op, Reply, Said, Wire};
 use access_slots::slot::{Record, Value};
 use std::alloc::{AllocError, Global};
 use std::marker::Model;
-
-/// A number, its operation and what was said to it.
-pub type Performed = (u64, Op, Said);
 
 /// 2^62 incarnations are over (K1).
 #[derive(Clone, Copy, Debug, PartialEq, Eq)]
@@ -35,7 +34,9 @@ pub struct Dc {
     base_mark: u64,
     rows: Vec<Row>,
     hints: Hints,
-    performed: Vec<Performed>,
+    performed: Entries,
+    // The numbers of the values that records had last, as hints of where they stand in the list.
+    numbers: Hints,
     kept: Vec<Kept>,
     mark: u64,
     // So many operations, and this mark, the last checkpoint kept.
@@ -67,7 +68,7 @@ impl Model for Dc {
 
     ghost invariant = { λ d.
         Keeps d.rows.items d.base.items d.performed.items d.kept.items d.mark d.row_limit d.op_limit
-        × (d.row_limit + d.op_limit ≤ vec_capacity d.rows) × (d.op_limit ≤ vec_capacity d.performed) × (d.op_limit ≤ vec_capacity d.kept)
+        × (d.row_limit + d.op_limit ≤ vec_capacity d.rows) × (d.op_limit ≤ d.performed.most) × (d.op_limit ≤ vec_capacity d.kept)
         × (d.saved ≤ length d.performed.items) × (d.row_limit ≤ vec_capacity d.base)
         × (d.base_mark ≤ d.saved_mark) × (d.saved_mark ≤ d.mark) };
 }
@@ -86,7 +87,8 @@ impl Dc {
             base_mark: 0,
             rows: Vec::with_capacity(alloc, most)?,
             hints: vec![in alloc; 0; rows.min(HINTS)]?,
-            performed: Vec::with_capacity(alloc, ops)?,
+            performed: Entries::with_room(alloc, ops)?,
+            numbers: vec![in alloc; 0; rows.min(HINTS)]?,
             kept: Vec::with_capacity(alloc, ops)?,
             mark: 0,
             saved: 0,
@@ -169,7 +171,7 @@ impl Dc {
         ensures { result ≡ said_under self.now.list number }
     {
         match place_of(self.kept.as_slice(), number) {
-            Some(place) => Some(self.performed[place].2),
+            Some(place) => Some(self.performed.said_at(place)),
             None => None,
         }
     }
@@ -187,7 +189,7 @@ impl Dc {
         let has_room = redo || self.rows.len() < self.row_limit;
         let said = rows::perform(&mut self.rows, &mut self.hints, has_room, op);
         keep(&mut self.kept, number, self.performed.len());
-        self.performed.push_reserved((number, *op, said));
+        note(&mut self.performed, &mut self.numbers, number, op, &said);
         Some(self.reply(number, said))
     }
 
@@ -216,12 +218,12 @@ impl Dc {
         if self.rows.len() > self.row_limit {
             return false;
         }
-        if !are_at_most(self.performed.as_slice(), self.saved_mark) {
+        if !self.performed.are_at_most(self.saved_mark) {
             return false;
         }
         put_all(&mut self.base, self.rows.as_slice());
         self.base_mark = self.saved_mark;
-        self.performed.clear();
+        self.performed.truncate(0);
         self.kept.clear();
         self.saved = 0;
         true
@@ -255,7 +257,7 @@ impl Dc {
             &mut self.hints,
             &mut self.kept,
             self.base.as_slice(),
-            self.performed.as_slice(),
+            &self.performed,
             self.mark,
             self.row_limit,
         );
@@ -301,12 +303,12 @@ impl Dc {
 
     /// What was performed, the oldest first. No number stands twice, and each answer is what the
     /// operations before it give, to an operation or to one that is redone.
-    pub fn performed(&self) -> &[Performed]
-        ensures list { result.now ≡ reverse self.now.list }
+    pub fn performed(&self) -> &Entries
+        ensures list { result.now.items ≡ reverse self.now.list }
         ensures right { IsRight self.now.rows self.now.base self.now.list }
         ensures few { length self.now.list ≤ self.now.ops }
     {
-        self.performed.as_slice()
+        &self.performed
     }
 
     /// The low-water mark: numbers at or under it are answered [`Said::Old`].
@@ -316,11 +318,12 @@ impl Dc {
         self.mark
     }
 
-    /// What the last checkpoint kept of what was performed, the oldest first; none before the first.
-    pub fn saved(&self) -> &[Performed]
-        ensures { result.now ≡ reverse self.now.saved }
+    /// So many operations, the oldest, the last checkpoint kept of what was performed; none before the first.
+    pub fn saved(&self) -> usize
+        ensures saved { take result (reverse self.now.list) ≡ reverse self.now.saved }
+        ensures few { result ≤ length self.now.list }
     {
-        &self.performed[..self.saved]
+        self.saved
     }
 
     /// The mark that the last checkpoint kept; 0 before the first.
@@ -338,11 +341,19 @@ fn found_room(said: &Said) -> bool
     !matches!(said, Said::NoRoom)
 }
 
-// Whether each number is at most this one.
-fn are_at_most(performed: &[Performed], mark: u64) -> bool
-    ensures { result ≡ all_at_most mark performed.now }
+// One entry more. What was said is mostly the value that its record had last.
+#[inline(always)]
+fn note(performed: &mut Entries, numbers: &mut Hints, number: u64, op: &Op, said: &Said)
+    requires { length performed.old.items < performed.old.most }
+    ensures items { performed.new.items ≡ performed.old.items ++ (number, op.now, said.now) ∷ [] }
+    ensures most { performed.new.most ≡ performed.old.most }
 {
-    performed.iter().all(|entry| entry.0 <= mark)
+    match numbers.get_mut(hint_of(op.record())) {
+        Some(hint) => *hint = performed.push(number, op, said, *hint),
+        None => {
+            let _ = performed.push(number, op, said, 0);
+        }
+    }
 }
 
 // These rows in place of those that there are, where there is room for them.
@@ -365,25 +376,26 @@ fn rebuild(
     hints: &mut Hints,
     kept: &mut Vec<Kept>,
     base: &[Row],
-    performed: &[Performed],
+    performed: &Entries,
     mark: u64,
     row_limit: usize,
 )
-    requires right { IsRight row_limit base.now (reverse performed.now) }
+    requires right { IsRight row_limit base.now (reverse performed.now.items) }
     requires sorted { SortedRows base.now }
     requires none_kept { kept.old.items ≡ [] }
-    requires room { length base.now + length performed.now ≤ vec_capacity rows.old }
-    requires places { length performed.now ≤ vec_capacity kept.old }
-    ensures rows { AreRowsOf rows.new.items base.now (reverse performed.now) }
-    ensures kept { AreKept kept.new.items mark performed.now }
+    requires room { length base.now + length performed.now.items ≤ vec_capacity rows.old }
+    requires places { length performed.now.items ≤ vec_capacity kept.old }
+    ensures rows { AreRowsOf rows.new.items base.now (reverse performed.now.items) }
+    ensures kept { AreKept kept.new.items mark performed.now.items }
     ensures capacity { (vec_capacity rows.old ≤ vec_capacity rows.new) × (vec_capacity kept.new ≡ vec_capacity kept.old) }
 {
     let _ = row_limit;
     put_all(rows, base);
-    'performed: for (place, (number, op, said)) in performed.iter().enumerate() {
-        let _ = rows::perform(rows, hints, found_room(said), op);
-        if *number > mark {
-            keep(kept, *number, place);
+    'performed: for place in 0..performed.len() {
+        let (number, op, said) = performed.at(place);
+        let _ = rows::perform(rows, hints, found_room(&said), &op);
+        if number > mark {
+            keep(kept, number, place);
         }
     }
 }

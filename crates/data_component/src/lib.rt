@@ -11,6 +11,7 @@
 #![tactic(auto)]
 
 pub mod dc;
+pub mod entries;
 mod kept;
 pub mod laws;
 mod rows;

@@ -79,8 +79,9 @@ pub(crate) const HINTS: usize = 4096;
 /// of a place where the row stands no more, so each is tested where it is used.
 pub(crate) type Hints = Vec<usize>;
 
+/// Where a record's hint stands among hints.
 #[inline(always)]
-fn hint_of(record: &Record) -> usize
+pub(crate) fn hint_of(record: &Record) -> usize
     ensures { result < 4096 }
 {
     record.key as usize % HINTS
