@@ -1,17 +1,16 @@
 -- Lists of open numbers.
-use Rattle.std.proofs.Common.{arith, ◌≡◌, ◌≢◌, ℕ, ◌+◌, ◌-◌, ◌<◌, ◌≤◌, Bool, true, false, not, cond, ◌||◌, ◌==◌, List}
+use Rattle.std.proofs.Common.{arith, ◌≡◌, ℕ, ◌+◌, ◌<◌, ◌≤◌, Bool, true, false, not, cond, ◌||◌, ◌==◌, List}
 use Rattle.std.proofs.Common.{[], ◌∷◌, ◌++◌, length, sym, refl, ap, ◌∙◌, inl, inr}
-use Rattle.std.specs.List.{list_any, filter}
 use Rattle.std.proofs.lemmas.Bool.{cases_eq, cases_lt, cond-true, cond-false, false≢true, eq-eqb, ne_eqb}
 use Rattle.request_numbers.specs.Given.{others, holds, Rising, low_water_of}
-use Rattle.request_numbers.specs.LowWater.{AllAnswered, IsLowWater}
+use Rattle.request_numbers.specs.LowWater.{IsLowWater}
 
 rising_le : (low last : ℕ) (ns : List ℕ) → Rising low last ns → low ≤ last
 rising_le low last [] h = h
 rising_le low last (n ∷ ns) h = omega (arith, h.0, rising_le n last ns h.1)
 
 -- a smaller bound
-rising_from : (low from last : ℕ) (ns : List ℕ) → from ≤ low → Rising low last ns → Rising from last ns
+pub rising_from : (low from last : ℕ) (ns : List ℕ) → from ≤ low → Rising low last ns → Rising from last ns
 rising_from low from last [] le h = omega (arith, le, h)
 rising_from low from last (n ∷ ns) le h = (omega (arith, le, h.0), h.1)
 
@@ -20,14 +19,14 @@ rising_more low last [] h = (omega (arith, h), omega arith)
 rising_more low last (n ∷ ns) h = (h.0, rising_more n last ns h.1)
 
 -- the number is none of those above it
-not_above : (k low last : ℕ) (ns : List ℕ) → k ≤ low → Rising low last ns → holds k ns ≡ false
+pub not_above : (k low last : ℕ) (ns : List ℕ) → k ≤ low → Rising low last ns → holds k ns ≡ false
 not_above k low last [] le h = refl
 not_above k low last (n ∷ ns) le h =
     ap (λ (b : Bool). b || holds k ns) (ne_eqb n k (λ same. absurd (omega (arith, same, le, h.0))))
     ∙ not_above k n last ns (omega (arith, le, h.0)) h.1
 
 -- and taking it out changes nothing
-others_above : (k low last : ℕ) (ns : List ℕ) → k ≤ low → Rising low last ns → others k ns ≡ ns
+pub others_above : (k low last : ℕ) (ns : List ℕ) → k ≤ low → Rising low last ns → others k ns ≡ ns
 others_above k low last [] le h = refl
 others_above k low last (n ∷ ns) le h =
     cond-true _ _ _ (ap not (ne_eqb n k (λ same. absurd (omega (arith, same, le, h.0)))))

@@ -1,17 +1,20 @@
-use Rattle.std.proofs.Common.{arith, ◌≡◌, ◌+◌, length, true, ap, sym, subst, List, ℕ}
-use Rattle.request_numbers.specs.Given.{Given, Rising, holds, others}
-use Rattle.request_numbers.proofs.Pending.{others_rising, one_less}
+use Rattle.std.proofs.Common.{◌≡◌, true, sym, subst, ◌∙◌}
+use Rattle.request_numbers.specs.Given.{Given, holds}
+use Rattle.request_numbers.proofs.Closing.{fewer_open, answered_kept}
 use Rattle.request_numbers.proofs.numbers.Numbers.answered.Goals as goal
 
-pub invariant_of-self : goal.invariant_of-self
-invariant_of-self c = (
-  c.self.invariant.0,
-  subst (Rising 0 c.self.inside.last) (sym c.keep_others.ensures.items) (others_rising c.args.number 0 c.self.inside.last c.self.inside.pending.items c.self.invariant.1),
-)
+pub settled-self-inside-requires-clause-pending : goal.settled-self-inside-requires-clause-pending
+settled-self-inside-requires-clause-pending c =
+    let is = subst (λ (g : Given). holds c.args.number g.pending ≡ true) (sym c.self.view_is) c.requires in
+    fewer_open c.args.number c.self.inside.last c.self.inside.places.items c.close.new.places.items c.self.inside.pending
+    c.self.invariant.1.rising c.self.invariant.1.all is c.close.ensures.open
 
-pub returns-clause-room : goal.returns-clause-room
-returns-clause-room c =
-    let is_open : holds c.args.number c.self.inside.pending.items ≡ true = subst (λ (g : Given). holds c.args.number g.pending ≡ true) (sym c.self.view_is) c.requires in
-    let fewer = one_less c.args.number 0 c.self.inside.last c.self.inside.pending.items c.self.invariant.1 is_open in
-    let room = ap (λ (g : Given). g.room) c.self.view_is in
-    omega (arith, fewer, room, ap length c.keep_others.ensures.items, c.keep_others.ensures.capacity, c.keep_others.new.pending.ok.0, c.self.inside.pending.ok.0)
+pub invariant_of-self : goal.invariant_of-self
+invariant_of-self c =
+    let is = subst (λ (g : Given). holds c.args.number g.pending ≡ true) (sym c.self.view_is) c.requires in
+    let settled = c.settled-self-inside.ensures in (
+      c.self.invariant.0,
+      answered_kept c.args.number c.self.inside.last c.self.inside.places.items c.close.new.places.items c.settled-self-inside.new.places.items c.self.inside.first
+          c.settled-self-inside.result c.self.inside.pending _ _ c.self.invariant.1 is c.close.ensures.open settled.open (settled.rising c.self.inside.last)
+          c.close.ensures.numbers settled.first settled.half (settled.capacity ∙ c.close.ensures.capacity),
+    )
