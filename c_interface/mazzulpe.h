@@ -218,7 +218,7 @@ typedef struct {
     uint32_t busy;       /* with MZ_DEBUG: 1 while a call is on its way */
     uint64_t object;     /* of a transaction component: the digest of the object file that MZ_MEMORY cut off */
     uint64_t of_object;  /* and how many of its procedures are loaded */
-    uint64_t spare_too;
+    uint64_t spare_too;  /* so that what comes behind is aligned to 16 */
 } mz_head;
 
 enum { MZ_KIND_TC = 0x4d5a5443, MZ_KIND_DC = 0x4d5a4443, MZ_KIND_PROGRAM = 0x4d5a5052, MZ_KIND_CLOSED = 0x4d5a0000 };
@@ -678,6 +678,7 @@ static inline uint64_t mz_little(const uint8_t *at, int bytes) {
 
 /* What the 96 bytes of an event say. */
 static inline void mz_event_of(const uint8_t bytes[MZ_EVENT_BYTES], mz_event *event) {
+    if (!bytes || !event) return;
     uint64_t word = mz_little(bytes + 16, 8);
     memset(event, 0, sizeof *event);
     event->kind = (mz_event_kind)bytes[0];
@@ -999,7 +1000,8 @@ static inline const char *mz_code_text(mz_code code) {
     static const char *const v[] = {
         "Backward", "OutOfCode", "IntoWide", "FallsOff", "EmptyRegister", "WritesR10", "NotAPointer",
         "OutOfBounds", "ReadOnly", "MaybeNull", "UnknownHelper", "SlotUnknown", "ModeTooWeak", "PointerReturned"};
-    static const char *const e[] = {"NoCode", "Length", "TooLong", "WideCut", "UnusedField", "Undefined", "OutsideProfile"};
+    static const char *const e[] = {
+        "NoCode", "Length", "TooLong", "WideCut", "UnusedField", "Undefined", "OutsideProfile"};
     static const char *const s[] = {"TooManyArgs", "TooManySlots", "NoSuchArg"};
     uint32_t n = code & 255;
     switch (code) {

@@ -37,7 +37,8 @@ static inline int mz_object_open(mz_object *o, const void *file, size_t size) {
 static inline int mz_object_section(const mz_object *o, uint64_t place, mz_section *section) {
     const uint8_t *header = o->file + o->headers + place * o->each;
     uint64_t name = mz_little(header, 4), where = mz_little(header + 24, 8), bytes = mz_little(header + 32, 8);
-    if (mz_little(header + 4, 4) != 1 || where > o->size || bytes > o->size - where || name >= o->names_size) return 0;
+    if (mz_little(header + 4, 4) != 1 || name >= o->names_size) return 0;
+    if (where > o->size || bytes > o->size - where) return 0;
     const char *text = (const char *)o->file + o->names + name;
     if (!memchr(text, 0, (size_t)(o->names_size - name))) return 0;
     section->name = text;
@@ -48,8 +49,10 @@ static inline int mz_object_section(const mz_object *o, uint64_t place, mz_secti
 
 static inline int mz_object_find(const mz_object *o, const char *kind, const char *name, mz_section *section) {
     size_t length = strlen(kind);
-    for (uint64_t i = 0; i < o->count; i++)
-        if (mz_object_section(o, i, section) && !strncmp(section->name, kind, length) && !strcmp(section->name + length, name)) return 1;
+    for (uint64_t i = 0; i < o->count; i++) {
+        if (!mz_object_section(o, i, section) || strncmp(section->name, kind, length)) continue;
+        if (!strcmp(section->name + length, name)) return 1;
+    }
     return 0;
 }
 
@@ -102,8 +105,8 @@ static inline int mz_object_twice(const mz_object *o, const mz_object_procedure 
 }
 
 /* Why mz_load would refuse this procedure, want of memory aside; `loaded`: its name is taken by itself. */
-static inline mz_code mz_object_checked(mz_tc *tc, mz_program *program, const mz_object *o, const mz_object_procedure *it,
-                                        int loaded, uint64_t *place) {
+static inline mz_code mz_object_checked(mz_tc *tc, mz_program *program, const mz_object *o,
+                                        const mz_object_procedure *it, int loaded, uint64_t *place) {
     uint64_t number;
     mz_code c = mz_program_verify(program, it->code.bytes, it->code.size, it->slots, it->count, it->args, place);
     if (c != MZ_OK) return c;
@@ -154,7 +157,8 @@ static inline mz_code mz_object_load(mz_tc *tc, mz_program *program, const mz_ob
  * bytes, and *place (which may be NULL) is as mz_load says. MZ_BAD_OBJECT: the file isn't whole, isn't such a
  * file, or has no access slots for this procedure; with no procedure in it nothing is loaded, and that is
  * MZ_OK. MZ_MEMORY alone may leave some loaded: call it again with the same file, and it goes on. */
-static inline mz_code mz_load_object(mz_tc *tc, const void *file, size_t size, char refused[MZ_NAME + 1], uint64_t *place) {
+static inline mz_code mz_load_object(mz_tc *tc, const void *file, size_t size, char refused[MZ_NAME + 1],
+                                     uint64_t *place) {
     mz_object object;
     mz_object_procedure it;
     mz_frame *f;

@@ -36,10 +36,12 @@ def by_cxx(compiler, use, folder, home):
     env = {**os.environ, "HOME": home, "PKG_CONFIG_PATH": f"{prefix}/lib/pkgconfig", "PREFIX": os.path.relpath(prefix, HERE)}
     shell('make -s install PREFIX="$PREFIX"', HERE, env)
     shutil.copyfile(f"{folder}/main.c", f"{folder}/main.cpp")
-    commands = [line.replace(f"{'$HOME'}/mazzulpe", "$HOME/a prefix") for line in use.splitlines() if not line.startswith("export")]
-    at = next(i for i, line in enumerate(commands) if line.startswith("cc "))
-    commands[at] = f"eval \"{compiler} -Wall -Wextra -pedantic -Werror -o main main.cpp {commands[at][commands[at].index('$(') :]}\""
-    return shell("\n".join(commands), folder, env)
+    with_flags = re.search(r"^cc .*(\$\(pkg-config .*\))$", use, re.MULTILINE)
+    commands = use.replace("$HOME/mazzulpe/", "$HOME/a prefix/")
+    commands = re.sub(r"^export .*$", "", commands, flags=re.MULTILINE)
+    flags = "-Wall -Wextra -pedantic -Werror"
+    commands = commands.replace(with_flags[0], f'eval "{compiler} {flags} -o main main.cpp {with_flags[1]}"')
+    return shell(commands, folder, env)
 
 
 def main():

@@ -1,6 +1,6 @@
 /* A million calls of the bank in rounds: behind each round the log begins anew, and the data components forget
- * what they performed, which have room for two rounds' operations alone. anew OBJECT [grow]: with the word, they don't, and
- * the calls end where the lists are full. */
+ * what they performed, which have room for two rounds' operations alone. anew OBJECT [grow]: with the word
+ * they don't, and the calls end where the lists are full. */
 #include "mazzulpe_object.h"
 #include <sys/resource.h>
 
@@ -89,8 +89,9 @@ int main(int count, char **argv) {
         }
         if (anew) begin_anew(tc, &w);
         if (round == 0 || round == 999)
-            printf("round %d: log %llu events, low water %llu, total %llu\n", round + 1, (unsigned long long)mz_log_length(tc),
-                   (unsigned long long)mz_low_water(tc), (unsigned long long)total(&w));
+            printf("round %d: log %llu events, low water %llu, total %llu\n", round + 1,
+                   (unsigned long long)mz_log_length(tc), (unsigned long long)mz_low_water(tc),
+                   (unsigned long long)total(&w));
         if (round == 99) early = resident();
     }
     printf("memory of round 100: %s\n", resident() == early ? "enough to the end" : "not enough");
@@ -100,7 +101,8 @@ int main(int count, char **argv) {
     if (c == MZ_OK) c = mz_told(tc, 0, &news);
     if (c != MZ_OK) die("restart", c);
     c = mz_redo(tc, 0, carry, &w, 3, &up);
-    printf("restarted at mark %llu: %s, %s, total %llu\n", (unsigned long long)news.mark, mz_code_text(c), up ? "up" : "down", (unsigned long long)total(&w));
+    printf("restarted at mark %llu: %s, %s, total %llu\n", (unsigned long long)news.mark, mz_code_text(c),
+           up ? "up" : "down", (unsigned long long)total(&w));
     news.incarnation++;
     news.mark--;
     printf("news of less than the log has: %s\n", mz_code_text(mz_told(tc, 0, &news)));

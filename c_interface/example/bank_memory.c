@@ -93,9 +93,9 @@ int main(void) {
     long kinds[MZ_EVENT_CHECKPOINT + 1] = {0};
     mz_event event;
     for (uint64_t at = 0; mz_log_at(tc, at, &event) == MZ_OK; at++) kinds[event.kind]++;
-    printf("log of %llu: %ld admitted, %ld asked, %ld answered, %ld undone, %ld ended; %llu open\n", (unsigned long long)mz_log_length(tc),
-           kinds[MZ_EVENT_ADMIT], kinds[MZ_EVENT_ASK], kinds[MZ_EVENT_ANSWER], kinds[MZ_EVENT_UNDO], kinds[MZ_EVENT_END],
-           (unsigned long long)mz_open_count(tc));
+    printf("log of %llu: %ld admitted, %ld asked, %ld answered, %ld undone, %ld ended; %llu open\n",
+           (unsigned long long)mz_log_length(tc), kinds[MZ_EVENT_ADMIT], kinds[MZ_EVENT_ASK], kinds[MZ_EVENT_ANSWER],
+           kinds[MZ_EVENT_UNDO], kinds[MZ_EVENT_END], (unsigned long long)mz_open_count(tc));
     begin_anew(tc, &w);
     if (mz_log_at(tc, 0, &event) == MZ_OK && event.kind == MZ_EVENT_CHECKPOINT)
         printf("log of %llu: begun behind transaction %llu and number %llu\n", (unsigned long long)mz_log_length(tc),

@@ -4,7 +4,9 @@
 #[allow(dead_code)]
 mod mazzulpe;
 
-use mazzulpe::{At, Carried, DC_DOWN, Dc, Event, FORGOTTEN, Key, News, Next, NotAdmitted, Op, Outcome, Program, Ran, Record};
+use mazzulpe::{
+    At, Carried, DC_DOWN, Dc, Event, FORGOTTEN, Key, News, Next, NotAdmitted, Op, Outcome, Program, Ran, Record,
+};
 use mazzulpe::{Refusal, Reply, Said, Slot, TXNS_OPEN, Tc, Value, Wire};
 use std::collections::HashMap;
 use std::sync::{Condvar, Mutex, MutexGuard};
@@ -207,7 +209,13 @@ fn in_memory() -> Result<(), Refusal> {
         for place in 0..dc.rows() {
             let (record, value) = dc.row(place)?;
             assert_eq!(dc.get(&record)?, Some(value));
-            println!("row {}/{}/{} {}", record.dc, record.table, record.key, u64::from_le_bytes(value[..8].try_into().unwrap()));
+            println!(
+                "row {}/{}/{} {}",
+                record.dc,
+                record.table,
+                record.key,
+                u64::from_le_bytes(value[..8].try_into().unwrap())
+            );
         }
     }
     Ok(())
@@ -247,12 +255,20 @@ fn main() {
     }
     let copy = bank.store.lock().unwrap().clone();
     let committed: usize = std::thread::scope(|scope| {
-        let workers: Vec<_> = (0..THREADS).map(|w| scope.spawn({ let bank = &bank; move || bank.transfers(transfer, w + 1) })).collect();
+        let workers: Vec<_> = (0..THREADS)
+            .map(|w| {
+                scope.spawn({
+                    let bank = &bank;
+                    move || bank.transfers(transfer, w + 1)
+                })
+            })
+            .collect();
         std::thread::sleep(std::time::Duration::from_millis(20));
         bank.put_back(copy);
         workers.into_iter().map(|w| w.join().unwrap()).sum()
     });
     assert!(committed > 0);
-    let sum: u64 = bank.store.lock().unwrap().records.values().map(|v| u64::from_le_bytes(v[..8].try_into().unwrap())).sum();
+    let sum: u64 =
+        bank.store.lock().unwrap().records.values().map(|v| u64::from_le_bytes(v[..8].try_into().unwrap())).sum();
     println!("{} transfers by {THREADS} threads, sum {sum}", THREADS * EACH);
 }

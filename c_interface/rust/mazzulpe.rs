@@ -146,13 +146,15 @@ const VIOLATIONS: [&str; 14] = [
     "ModeTooWeak",
     "PointerReturned",
 ];
-const CODE_FAULTS: [&str; 7] = ["NoCode", "Length", "TooLong", "WideCut", "UnusedField", "Undefined", "OutsideProfile"];
+const CODE_FAULTS: [&str; 7] =
+    ["NoCode", "Length", "TooLong", "WideCut", "UnusedField", "Undefined", "OutsideProfile"];
 const SLOT_FAULTS: [&str; 3] = ["TooManyArgs", "TooManySlots", "NoSuchArg"];
 
 impl Refusal {
     /// What it says, in a word, as `Busy`; `?` of a number that is none.
     pub fn code_text(self) -> &'static str {
-        let listed = |words: &[&'static str]| words.get(((self.0 & 255) as usize).wrapping_sub(1)).copied().unwrap_or("?");
+        let listed =
+            |words: &[&'static str]| words.get(((self.0 & 255) as usize).wrapping_sub(1)).copied().unwrap_or("?");
         match self {
             NO_SUCH_CALL => "NoSuchCall",
             BAD_ARGUMENT => "BadArgument",
@@ -334,20 +336,45 @@ pub struct Receipt {
 #[derive(Clone, Copy, Debug, PartialEq, Eq)]
 pub enum NotAdmitted {
     /// The least record in the way, and its least holder.
-    Busy { record: Record, holder: u64 },
+    Busy {
+        record: Record,
+        holder: u64,
+    },
     Refused(Refusal),
 }
 
 /// An event of the log.
 #[derive(Clone, Debug)]
 pub enum Event {
-    Admit { txn: u64, procedure: u64, args: Vec<u64> },
-    Ask { txn: u64, number: u64, op: Op },
-    Answer { txn: u64, number: u64, said: Said },
-    Undo { txn: u64, number: u64, op: Op },
-    End { txn: u64, outcome: Outcome },
+    Admit {
+        txn: u64,
+        procedure: u64,
+        args: Vec<u64>,
+    },
+    Ask {
+        txn: u64,
+        number: u64,
+        op: Op,
+    },
+    Answer {
+        txn: u64,
+        number: u64,
+        said: Said,
+    },
+    Undo {
+        txn: u64,
+        number: u64,
+        op: Op,
+    },
+    End {
+        txn: u64,
+        outcome: Outcome,
+    },
     /// The oldest of a log that began anew: the last transaction and number before it.
-    Checkpoint { admitted: u64, given: u64 },
+    Checkpoint {
+        admitted: u64,
+        given: u64,
+    },
 }
 
 impl Event {
@@ -359,7 +386,11 @@ impl Event {
         let value: Value = bytes[32..].try_into().expect("64 bytes");
         let op = || Op::of(sub, Record { dc: short_at(2), table: short_at(4), key: number_at(24) }, value);
         Some(match bytes[0] {
-            1 => Event::Admit { txn, procedure: word, args: (0..usize::from(bytes[1]).min(8)).map(|i| number_at(32 + 8 * i)).collect() },
+            1 => Event::Admit {
+                txn,
+                procedure: word,
+                args: (0..usize::from(bytes[1]).min(8)).map(|i| number_at(32 + 8 * i)).collect(),
+            },
             2 => Event::Ask { txn, number: word, op: op() },
             3 => Event::Answer { txn, number: word, said: Said::of(sub, value) },
             4 => Event::Undo { txn, number: word, op: op() },

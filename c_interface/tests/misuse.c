@@ -98,9 +98,11 @@ static void pointers(mz_tc *tc, mz_dc *dc, mz_program *program) {
     SEEN(mz_admit(tc, 0, NULL, 1, &txn, NULL, NULL) == bad && mz_admit(tc, 0, NULL, 0, NULL, NULL, NULL) == bad);
     SEEN(mz_blocked(tc, 0, NULL, 0, NULL) == bad && mz_ask(tc, 1, NULL) == bad && mz_undo(tc, 1, NULL) == bad);
     SEEN(mz_resend(tc, 1, NULL) == bad && mz_answer(tc, 1, NULL) == bad && mz_end(tc, 1, NULL) == bad);
-    SEEN(mz_told(tc, 0, NULL) == bad && mz_redo_next(tc, 0, NULL, &flag) == bad && mz_redo_next(tc, 0, &wire, NULL) == bad);
-    SEEN(mz_redone(tc, 0, NULL) == bad && mz_log_bytes(tc, 0, NULL) == bad && mz_log_at(tc, 0, NULL) == bad);
-    SEEN(mz_run(tc, 1, NULL, NULL, 1, &receipt, &stopped) == bad && mz_run(tc, 1, lost, NULL, 1, NULL, &stopped) == bad);
+    SEEN(mz_redo_next(tc, 0, NULL, &flag) == bad && mz_redo_next(tc, 0, &wire, NULL) == bad);
+    SEEN(mz_told(tc, 0, NULL) == bad && mz_redone(tc, 0, NULL) == bad);
+    SEEN(mz_log_bytes(tc, 0, NULL) == bad && mz_log_at(tc, 0, NULL) == bad);
+    SEEN(mz_run(tc, 1, NULL, NULL, 1, &receipt, &stopped) == bad);
+    SEEN(mz_run(tc, 1, lost, NULL, 1, NULL, &stopped) == bad && mz_run(tc, 1, lost, NULL, 1, &receipt, NULL) == bad);
     SEEN(mz_run(tc, 1, lost, NULL, 0, &receipt, &stopped) == bad && mz_redo(tc, 0, lost, NULL, 0, &flag) == bad);
     SEEN(mz_redo(tc, 0, NULL, NULL, 1, &flag) == bad && mz_redo(tc, 0, lost, NULL, 1, NULL) == bad);
     SEEN(mz_dc_perform(dc, NULL, &reply) == bad && mz_dc_perform(dc, &wire, NULL) == bad);

@@ -66,7 +66,12 @@ fn accesses(bytes: &[u8]) -> Option<(u8, Vec<Slot>)> {
             2 | 3 => Key::Argument(u8::try_from(key).ok()?),
             _ => return None,
         };
-        Some(Slot { write: flags % 2 == 1, dc: number::<2>(entry, 0)? as u16, table: number::<2>(entry, 2)? as u16, key })
+        Some(Slot {
+            write: flags % 2 == 1,
+            dc: number::<2>(entry, 0)? as u16,
+            table: number::<2>(entry, 2)? as u16,
+            key,
+        })
     };
     Some((u8::try_from(number::<8>(first, 8)?).ok()?, entries.map(slot).collect::<Option<_>>()?))
 }
@@ -89,7 +94,13 @@ fn digest(bytes: &[u8]) -> u64 {
 
 impl Tc {
     /// Why [`Tc::load`] would refuse this procedure, want of memory aside; `loaded`: its name is taken by itself.
-    fn checked(&mut self, program: &mut Program, it: &Procedure, loaded: bool, twice: bool) -> Result<(), (Refusal, u64)> {
+    fn checked(
+        &mut self,
+        program: &mut Program,
+        it: &Procedure,
+        loaded: bool,
+        twice: bool,
+    ) -> Result<(), (Refusal, u64)> {
         program.verify(it.code, &it.slots, it.args)?;
         let name = std::str::from_utf8(it.name).map_err(|_| (NOT_TEXT, 0))?;
         match self.find(name) {
@@ -118,7 +129,8 @@ impl Tc {
         let loaded = self.cut_off.filter(|(of, _)| *of == digest).map_or(0, |(_, loaded)| loaded);
         for (i, it) in all.iter().enumerate() {
             let twice = all[..i].iter().any(|other| other.name == it.name);
-            self.checked(&mut program, it, i < loaded, twice).map_err(|(refusal, slot)| (refusal, told(it.name), slot))?;
+            self.checked(&mut program, it, i < loaded, twice)
+                .map_err(|(refusal, slot)| (refusal, told(it.name), slot))?;
         }
         for (i, it) in all.iter().enumerate().skip(loaded) {
             let name = std::str::from_utf8(it.name).map_err(|_| (NOT_TEXT, told(it.name), 0))?;
