@@ -56,6 +56,12 @@ def rust_codes(text):
     return {name: (letter, int(n), words.get(name)) for name, letter, n in codes}
 
 
+def words_of_faults(text, names):
+    """The words of what the verifier, the decoder and a declaration say, which stand in a list each."""
+    lists = [re.search(rf"\b{name}(?:\[\]|: \[&str; \d+\]) =\s*[{{\[](.*?)[}}\]];", text, re.DOTALL)[1] for name in names]
+    return [re.findall(r'"(\w+)"', it) for it in lists]
+
+
 def header_calls(text):
     """The numbers of the calls, which an enum counts up."""
     body, numbers, last = re.search(r"enum \{\s*(MZ_CALL_START_TC.*?)\}", text, re.DOTALL)[1], {}, 0
@@ -97,6 +103,9 @@ def differences():
         yield f"numbers of calls in rust/mazzulpe.rs: {sorted(in_wrapper.items() - calls.items())}"
     if header_codes(header) != rust_codes(rust):
         yield f"codes: {sorted(header_codes(header).items() ^ rust_codes(rust).items())}"
+    faults = words_of_faults(header, "ves"), words_of_faults(rust, ("VIOLATIONS", "CODE_FAULTS", "SLOT_FAULTS"))
+    if faults[0] != faults[1]:
+        yield f"words of faults: {faults}"
     # (what the verifier and the decoder say are numbers alone; of G3 a caller by frames can't be told)
     known = {ord(letter) << 8 | n for letter, n, _ in header_codes(header).values()} | {0x4703}
     strange = {int(it, 16) for it in re.findall(r"0x([0-9a-f]{4})", ours["codes.rt"])} - known

@@ -3,7 +3,7 @@
 in crates/mazzulpe, which would prove all below once more, since it takes nothing that it hasn't built itself.
 
   tools/archive.py              that one
-  tools/archive.py --unproved   out-unproved/libmazzulpe.a, compiled without any proof, in two minutes: for trying the interface
+  tools/archive.py --unproved   out-unproved/libmazzulpe.a, compiled without any proof in a minute: to try the interface
 
 The kit's `rattle build` proves the functions of `mazzulpe` anew and takes each library below as it was proved; where
 one isn't there, or was built over another state of a library below it, nothing is made.
@@ -13,6 +13,7 @@ of the module that the kit makes of that the functions are then made visible, an
 """
 import os
 import re
+import shutil
 import subprocess
 import sys
 import tempfile
@@ -57,23 +58,31 @@ def words(kit_at, made):
     return [*said, "-o", made]
 
 
-def ran(words, place):
+def proved(kit_at, made):
+    """Builds the library over what is proved; answers the kit's status."""
+    called = [f"{kit_at}/bin/rattle", "build", *words(kit_at, made)]
+    return subprocess.run(called, cwd=f"{TOP}/crates/{CRATE}", check=False).returncode
+
+
+def ran(tool, place):
     """Runs a tool of the kit in the folder."""
-    done = subprocess.run(words, cwd=place, capture_output=True, text=True, check=False)
+    done = subprocess.run(tool, cwd=place, capture_output=True, text=True, check=False)
     if done.returncode:
-        raise Failed(f"{os.path.basename(words[0])} ended with {done.returncode}\n{done.stderr}")
+        raise Failed(f"{os.path.basename(tool[0])} ended with {done.returncode}\n{done.stderr}")
 
 
 def unproved(kit_at, made):
     """Compiles the library without its proofs."""
     with tempfile.TemporaryDirectory(prefix="archive-") as place:
         os.mkdir(f"{place}/src")
-        with open(f"{TOP}/crates/{CRATE}/src/lib.rt", encoding="utf-8") as it, open(f"{place}/src/main.rt", "w", encoding="utf-8") as out:
-            out.write(it.read() + MAIN)
+        shutil.copyfile(f"{TOP}/crates/{CRATE}/src/lib.rt", f"{place}/src/main.rt")
+        with open(f"{place}/src/main.rt", "a", encoding="utf-8") as it:
+            it.write(MAIN)
         left_out = (CHECKED, "-O0", "-fPIE", "-o", "module.bc", "module.o")
         given = [word for word in module_of(CRATE, f"{place}/src/main.rt", kit_at, place) if word not in left_out]
         clang = f"{kit_at}/toolchain/bin/clang"
-        ran([clang, "-x", "ir", "-S", "-emit-llvm", "-Xclang", "-disable-llvm-passes", "module.bc", "-o", "module.ll"], place)
+        as_text = ["-x", "ir", "-S", "-emit-llvm", "-Xclang", "-disable-llvm-passes"]
+        ran([clang, *as_text, "module.bc", "-o", "module.ll"], place)
         with open(f"{place}/module.ll", encoding="utf-8") as it:
             text = it.read().replace("define i32 @main()", "define internal i32 @main()")
         text = re.sub(rf'(?m)^define internal (.*)@"{CRATE}::({CRATE}_\w+)"', r"define \1@\2", text)
@@ -92,12 +101,11 @@ def main():
     if len(sys.argv) > 1 and not without:
         print(__doc__, file=sys.stderr)
         return 2
-    folder = f"{TOP}/crates/{CRATE}"
-    made = f"{TOP}/out-unproved/lib{CRATE}.a" if without else f"{folder}/out/lib{CRATE}.a"
+    made = f"{TOP}/out-unproved/lib{CRATE}.a" if without else f"{TOP}/crates/{CRATE}/out/lib{CRATE}.a"
     os.makedirs(os.path.dirname(made), exist_ok=True)
     try:
         kit_at = kit()
-        status = unproved(kit_at, made) if without else subprocess.run([f"{kit_at}/bin/rattle", "build", *words(kit_at, made)], cwd=folder, check=False).returncode
+        status = unproved(kit_at, made) if without else proved(kit_at, made)
     except (Failed, OSError) as error:
         print(f"archive: {error}", file=sys.stderr)
         return 70
