@@ -3,11 +3,12 @@
 set -e
 fakes=$(mktemp -d)
 trap 'rm -rf "$fakes"' EXIT
-for tool in rustc clang c++ g++ pkg-config; do
+for tool in rustc clang c++ pkg-config; do
     printf '#!/bin/sh\nexit 1\n' > "$fakes/$tool"
     chmod +x "$fakes/$tool"
 done
-said=$(PATH="$fakes:$PATH" make -s headers check_procedures check_sqlite check_rust check_page)
+said=$(PATH="$fakes:$PATH" make -s CLANG="$fakes/clang" CXX="$fakes/c++" \
+    headers check_procedures check_sqlite check_rust check_page)
 for what in C++ Procedures SQLite Rust page; do
     echo "$said" | grep -q "^$what: left out, " || { echo "left out: nothing is said of $what"; exit 1; }
 done
