@@ -28,7 +28,7 @@ STEP += rf"|ended \d+ {ENDED} at \d+|checkpoint \d+ mark \d+|restarted \d+|told 
 STEP += rf"|redo \d+ number \d+ {OPERATION}|redone number \d+|up \d+|crashed \d+ open \d+|illegal {ILLEGAL})"
 AUDIT = r"audit (ok ended \d+ open \d+|skipped dc \d+ (down|restarted))\n"
 ROW, EVENT = rf"row {RECORD} {VALUE}", "[0-9a-f]{192}"
-LOGGED = rf"\d+ (admit \d+ procedure \d+( \d+)*|(ask|undo) \d+ number \d+ {OPERATION}|answer \d+ number \d+ {SAID}|end \d+ {ENDED})"
+LOGGED = rf"\d+ (admit \d+ procedure \d+( \d+)*|(ask|undo) \d+ number \d+ {OPERATION}|answer \d+ number \d+ {SAID}|end \d+ {ENDED}|checkpoint \d+ \d+)"
 CALL = rf"(first|call) \d+ ({ENDED}|in doubt \d+|blocked {RECORD}|refused {REFUSAL})"
 
 # What each command prints of what it doesn't refuse, and its refusals.

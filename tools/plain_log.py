@@ -8,10 +8,11 @@ import collections
 
 from plain_model import FOUR, PROCEDURES, SUBS, DataComponent, Transaction, Wire, fits, record_text
 
-ADMIT, ASK, ANSWER, UNDO, END = range(1, 6)
+ADMIT, ASK, ANSWER, UNDO, END, CHECKPOINT = range(1, 7)
 OPERATIONS = {sub: word for word, sub in SUBS.items()}
 ANSWERS = {2: ("absent",), 3: ("done", None), 5: ("duplicate",), 6: ("missing",), 7: ("noroom",)}
 AMPLE = 1 << 30  # rows and operations, where there is to be room
+FEW = 1 << 62  # admissions and numbers behind which a log may begin
 
 Event = collections.namedtuple("Event", "kind sub txn word op said args")
 
@@ -105,9 +106,16 @@ class Replay:
             reads_only[record] = is_read
         return None
 
+    def began(self, event):
+        if self.numbers or self.calls:
+            return "a checkpoint stands behind other events"
+        self.numbers = event.word
+        return None
+
     def event(self, event):
         """Takes an event in, and answers why it can't come here, or None."""
         takes = {ADMIT: self.admitted, ASK: self.sent, ANSWER: self.answered, UNDO: self.sent, END: self.finished}
+        takes[CHECKPOINT] = self.began
         return takes[event.kind](event)
 
     def note(self, word, dc, *above):
@@ -141,6 +149,13 @@ class Legal:
 
     def __init__(self, names):
         self.names, self.txns, self.serials, self.numbers, self.open = names, {}, 0, 0, {}
+        self.is_new = True
+
+    def begins(self, event):
+        if not self.is_new or max(event.txn, event.word) > FEW:
+            return False
+        self.serials, self.numbers = event.txn, event.word
+        return True
 
     def admits(self, event):
         if event.txn != self.serials + 1 or event.word >= len(self.names):
@@ -187,7 +202,9 @@ class Legal:
     def event(self, event):
         """Takes an event in, and answers whether it can come here."""
         takes = {ADMIT: self.admits, ASK: self.sends, ANSWER: self.answers, UNDO: self.sends, END: self.ends}
-        return takes[event.kind](event)
+        takes[CHECKPOINT] = self.begins
+        is_legal, self.is_new = takes[event.kind](event), False
+        return is_legal
 
     def first_illegal(self, log):
         """Takes events in up to the first that can't come there, whose place is answered, or None."""

@@ -67,6 +67,7 @@ LINES = [
     (event(5, 1, 1), "end 1 committed"),
     (event(5, 2, 2, 5), "end 2 aborted 5"),
     (event(5, 3, 3), "end 3 noroom"),
+    (event(6, 0, 9, 11), "checkpoint 9 11"),
 ]
 ROWS = [row for row, _line in LINES]
 PRINTED = "".join(f"{place} {line}\n" for place, (_row, line) in enumerate(LINES))
@@ -112,6 +113,12 @@ AUDITED = [
     (frames(OWN, batch(*kept(1, 1, DONE), *kept(2, 2, DONE), *kept(3, 3, DONE))), "refused log NoRoom dc 1\n", 1),
     (frames(OWN, batch(ENDED)), "refused U1 LogIllegal place 0\n", 1),
     (frames(OWN, batch(ADMITTED, SECOND, ENDED, ENDED)), "refused U1 LogIllegal place 3\n", 1),
+    (frames(OWN, batch(event(6, 0, 0, 0), ADMITTED, ENDED)), "audit ok ended 1 open 0\n", 0),
+    (frames(OWN, batch(event(6, 0, 1, 0), SECOND, ABORTED)), "audit ok ended 1 open 0\n", 0),
+    (frames(OWN, batch(event(6, 0, 1, 0), ADMITTED)), "refused U1 LogIllegal place 1\n", 1),
+    (frames(OWN, batch(ADMITTED, ENDED, event(6, 0, 1, 0))), "refused U1 LogIllegal place 2\n", 1),
+    (frames(OWN, batch(event(6, 0, (1 << 62) + 1, 0))), "refused U1 LogIllegal place 0\n", 1),
+    (frames(OWN, batch(event(6, 0, 3, 4))), "refused log Forgotten dc 0\n", 1),
     (frames(OWN, batch(ADMITTED, event(5, 2, 1, 5))) + b"?", "refused U1 LogIllegal place 1\n", 1),
     (frames(header(3, NOTE, NOTHING, KEEP)), "refused log Other\n", 1),
     (frames(header(2, NOTE)), "refused log Other\n", 1),

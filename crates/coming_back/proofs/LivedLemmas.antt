@@ -263,6 +263,7 @@ closed_by ps (event.Undo t m o ∷ h) legal n a is =
     let next = legal.0.next in
     cond-false _ _ _ (eq-false m n (λ same. absurd (omega (arith, few, next, same)))) ∙ closed_by ps h legal.1 n a is
 closed_by ps (event.End t o ∷ h) legal n a is = closed_by ps h legal.1 n a is
+closed_by ps (event.Checkpoint a g ∷ h) legal n b is = closed_by ps h legal.1 n b is
 
 redone_closed : (c : Core) (d : ℕ) (z : Reply) → Legal c.procs c.events → IsRedone c d z → open_op c.events z.number ≡ None
 redone_closed c d z legal it =

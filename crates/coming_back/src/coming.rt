@@ -30,7 +30,8 @@ use tc_log::log::Log;
 #[derive(Clone, Copy, Debug, PartialEq, Eq)]
 pub enum ComeBackFault {
     /// The log isn't one of these procedures, there is another number of data components, something has
-    /// happened here already, or memory ran out. The state is as it was.
+    /// happened here already, the log begins behind what a data component lost, or memory ran out. The
+    /// state is as it was.
     Recover(RecoverFault),
     /// This data component is full before all that was done is redone: it is for fewer operations than
     /// before.

@@ -150,7 +150,7 @@ fn put_admitted(rt: HostRuntime) {
 }
 
 // 100 is put under 5 by the first transaction, which commits.
-fn put_commits(rt: &impl Abort, alloc: Global, tc: &mut TcState) {
+pub(crate) fn put_commits(rt: &impl Abort, alloc: Global, tc: &mut TcState) {
     let put = before_put(rt, alloc, tc);
     let insert = Op::Insert(record(5), value(100));
     asks(rt, tc, put, wire(1, 0, insert), Said::Done(None));

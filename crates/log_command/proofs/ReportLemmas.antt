@@ -12,10 +12,11 @@ use Rattle.log_file.specs.declared.stored.Stored.{Stored}
 use Rattle.log_file.specs.Stored.{IsStored}
 use Rattle.verifier.specs.Checked.{Checked}
 use Rattle.transactions.specs.Legal.{Legal}
-use Rattle.data_component.specs.Store.{Store, restarted}
+use Rattle.data_component.specs.Store.{Store, restarted, news_of}
 use Rattle.serial.specs.Audit.{IsAgreed}
 use Rattle.tc_core.specs.Core.{Core, loaded_in}
-use Rattle.tc_core.specs.declared.recovery.RecoverFault.TheVariants.{Begun, DcCount, Unfit}
+use Rattle.tc_core.specs.declared.recovery.RecoverFault.TheVariants.{Begun, DcCount, Unfit, Forgotten}
+use Rattle.tc_core.specs.declared.recovery.SiteNote.TheVariants.{Restarted}
 use Rattle.tc_world.specs.Whole.{Whole}
 use Rattle.tc_world.specs.OneAtATime.{EachIsKnown}
 use Rattle.coming_back.specs.declared.coming.ComeBackFault.{ComeBackFault}
@@ -99,8 +100,9 @@ audited_is start back empties s dcs result are has found =
 pub of_log : (start : Core) (log : List Event) (count : ℕ) (back : Core) (dcs : List Store) (fault : ComeBackFault) → IsFaultOf start log count back dcs fault
     → start.events ≡ [] → count ≡ start.dcs → IsOfLog fault
 of_log start log count back dcs (Recover Begun) why none same = why.0 none
-of_log start log count back dcs (Recover DcCount) why none same = why.0 same
+of_log start log count back dcs (Recover DcCount) why none same = why.0 (length-map (λ (s : Store). Restarted (news_of s)) dcs ∙ (why.1.0 ∙ same))
 of_log start log count back dcs (Recover (Unfit fault)) why none same = tt
+of_log start log count back dcs (Recover (Forgotten d)) why none same = tt
 of_log start log count back dcs (NoRoom d) why none same = tt
 of_log start log count back dcs (Otherwise d) why none same = tt
 of_log start log count back dcs Memory why none same = tt

@@ -2,7 +2,7 @@
 use Rattle.std.specs.Prelude.{ℕ, ◌+◌, List, [], ◌∷◌, ◌++◌, codes, decimal}
 use Rattle.std.specs.List.{flat_map}
 use Rattle.tc_log.specs.declared.event.Event.{Event}
-use Rattle.tc_log.specs.declared.event.Event.TheVariants.{Admit, Ask, Answer, Undo, End}
+use Rattle.tc_log.specs.declared.event.Event.TheVariants.{Admit, Ask, Answer, Undo, End, Checkpoint}
 use Rattle.state_lines.specs.OperationTexts.{op_text, said_text, outcome_text}
 
 -- each behind a space
@@ -20,6 +20,7 @@ event_line place (Answer t n said) =
 event_line place (Undo t n o) =
     decimal place ++ (codes " undo " ++ (decimal t ++ (codes " number " ++ (decimal n ++ (codes " " ++ (op_text o ++ codes "\n"))))))
 event_line place (End t o) = decimal place ++ (codes " end " ++ (decimal t ++ (codes " " ++ (outcome_text o ++ codes "\n"))))
+event_line place (Checkpoint a g) = decimal place ++ (codes " checkpoint " ++ (decimal a ++ (codes " " ++ (decimal g ++ codes "\n"))))
 
 -- of events in order, the first of them at this place
 abbrev pub event_lines : ℕ → List Event → List ℕ

@@ -10,7 +10,7 @@ use Rattle.verifier.specs.Checked.{Checked}
 use Rattle.transactions.specs.Legal.{Legal}
 use Rattle.data_component.specs.Store.{Store, restarted}
 use Rattle.tc_core.specs.declared.checking.CheckFault.TheVariants.{LogIllegal}
-use Rattle.tc_core.specs.declared.recovery.RecoverFault.TheVariants.{Unfit}
+use Rattle.tc_core.specs.declared.recovery.RecoverFault.TheVariants.{Unfit, Forgotten}
 use Rattle.tc_core.specs.Core.{Core, loaded_in}
 use Rattle.serial.specs.Audit.{IsAgreed}
 use Rattle.tc_world.specs.Whole.{Whole}
@@ -45,10 +45,11 @@ unfinished_line bytes = if bytes == 0 then [] else codes "unfinished " ++ (decim
 abbrev pub stored_lines : Stored → List ℕ
 stored_lines s = event_lines 0 (reverse s.log.events) ++ unfinished_line s.unfinished
 
--- why data components aren't brought to where the log left them: its first event that isn't allowed, or one that has no room for what the
--- log says that it did, or does otherwise
+-- why data components aren't brought to where the log left them: its first event that isn't allowed, or one that lost what the log has no
+-- more, has no room for what the log says that it did, or does otherwise
 abbrev pub unfit_line : ComeBackFault → Option (List ℕ)
 unfit_line (Recover (Unfit (LogIllegal place))) = Some (codes "refused U1 LogIllegal place " ++ (decimal place ++ codes "\n"))
+unfit_line (Recover (Forgotten dc)) = Some (codes "refused log Forgotten dc " ++ (decimal dc ++ codes "\n"))
 unfit_line (Recover other) = None
 unfit_line (NoRoom dc) = Some (codes "refused log NoRoom dc " ++ (decimal dc ++ codes "\n"))
 unfit_line (Otherwise dc) = Some (codes "refused log Otherwise dc " ++ (decimal dc ++ codes "\n"))

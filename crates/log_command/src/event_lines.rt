@@ -44,6 +44,9 @@ fn event_line(alloc: Global, place: usize, event: &Event) -> Result<String, Allo
             let outcome = outcome_text(alloc, *outcome)?;
             format!(in alloc; "{place} end {txn} {outcome}\n")
         }
+        Event::Checkpoint { admitted, given } => {
+            format!(in alloc; "{place} checkpoint {admitted} {given}\n")
+        }
     }
 }
 

@@ -54,6 +54,9 @@ pub(crate) fn unfit_line(alloc: Global, fault: &ComeBackFault) -> Result<String,
         ComeBackFault::Recover(RecoverFault::Unfit(CheckFault::Memory)) => Err(AllocError),
         ComeBackFault::Recover(RecoverFault::Begun) => unreachable!(),
         ComeBackFault::Recover(RecoverFault::DcCount) => unreachable!(),
+        ComeBackFault::Recover(RecoverFault::Forgotten(dc)) => {
+            format!(in alloc; "refused log Forgotten dc {dc}\n")
+        }
         ComeBackFault::NoRoom(dc) => format!(in alloc; "refused log NoRoom dc {dc}\n"),
         ComeBackFault::Otherwise(dc) => format!(in alloc; "refused log Otherwise dc {dc}\n"),
         ComeBackFault::Memory => Err(AllocError),

@@ -207,6 +207,34 @@ fn a_call_is_read(rt: HostRuntime) {
     drop(log);
 }
 
+// Behind two admissions and 513 numbers.
+fn a_checkpoint() -> [u8; 96] {
+    let mut record = [0u8; 96];
+    record[0] = 6;
+    record[8] = 2;
+    record[16] = 1;
+    record[17] = 2;
+    record
+}
+
+// The log is that one event, whatever it was.
+#[test]
+fn a_log_begins_anew(rt: HostRuntime) {
+    let alloc = rt.alloc();
+    let mut log = Log::new(alloc);
+    three_events(&rt, alloc, &mut log);
+    log.begin_anew(Event::Checkpoint {
+        admitted: 2,
+        given: 513,
+    });
+    is_same(&rt, log.len(), 1);
+    prints(&rt, alloc, &log, &a_checkpoint());
+    let read = Log::read(alloc, &a_checkpoint()).expect(&rt, "not read");
+    logs_are_same(&rt, alloc, &read, &log);
+    drop(log);
+    drop(read);
+}
+
 // What `read` says of these bytes: how many events, or the fault.
 fn read_len(alloc: Global, bytes: &[u8]) -> Result<usize, LogFault> {
     let log = Log::read(alloc, bytes)?;

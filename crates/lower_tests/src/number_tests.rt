@@ -18,3 +18,17 @@ fn answers_in_another_order(rt: HostRuntime) {
     is_same(&rt, (numbers.low_water(), numbers.last()), (2, 2));
     drop(numbers);
 }
+
+// Behind 7 the next is 8, and all up to 7 are answered.
+#[test]
+fn numbers_begin_behind(rt: HostRuntime) {
+    let mut numbers = Numbers::new(rt.alloc());
+    numbers.reserve(1).expect(&rt, "not reserved");
+    numbers.begin_behind(7);
+    let marks = (numbers.last(), numbers.low_water());
+    is_same(&rt, (marks, numbers.next()), ((7, 7), Ok(8)));
+    is_same(&rt, (numbers.is_open(7), numbers.low_water()), (false, 7));
+    numbers.answered(8);
+    is_same(&rt, numbers.low_water(), 8);
+    drop(numbers);
+}

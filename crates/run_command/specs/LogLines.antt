@@ -5,7 +5,7 @@ use Rattle.frame_file.specs.declared.reading.FrameFault.TheVariants.{Device, Ful
 use Rattle.log_file.specs.declared.reading.OpenFault.{OpenFault}
 use Rattle.log_file.specs.declared.reading.OpenFault.TheVariants.{Frames, Empty, Other, NoBatch, Row}
 use Rattle.tc_core.specs.declared.checking.CheckFault.TheVariants as check
-use Rattle.tc_core.specs.declared.recovery.RecoverFault.TheVariants.{Begun, DcCount, Unfit}
+use Rattle.tc_core.specs.declared.recovery.RecoverFault.TheVariants.{Begun, DcCount, Unfit, Forgotten}
 use Rattle.coming_back.specs.declared.coming.ComeBackFault.{ComeBackFault}
 use Rattle.coming_back.specs.declared.coming.ComeBackFault.TheVariants.{Recover, NoRoom, Otherwise, Memory}
 use Rattle.coming_back.specs.declared.resumed.Resumed.{Resumed}
@@ -28,6 +28,7 @@ back_refusal (Recover (Unfit (check.LogIllegal place))) = Some (codes "refused l
 back_refusal (Recover (Unfit check.Memory)) = None
 back_refusal (Recover Begun) = Some (codes "refused log Begun\n")
 back_refusal (Recover DcCount) = Some (codes "refused log DcCount\n")
+back_refusal (Recover (Forgotten dc)) = Some (codes "refused log Forgotten dc " ++ (decimal dc ++ codes "\n"))
 back_refusal (NoRoom dc) = Some (codes "refused log NoRoom dc " ++ (decimal dc ++ codes "\n"))
 back_refusal (Otherwise dc) = Some (codes "refused log Otherwise dc " ++ (decimal dc ++ codes "\n"))
 back_refusal Memory = None

@@ -47,6 +47,9 @@ pub fn back_refusal(alloc: Global, fault: &ComeBackFault) -> Result<Option<Strin
         ComeBackFault::Recover(RecoverFault::DcCount) => {
             Some(String::from_str(alloc, "refused log DcCount\n")?)
         }
+        ComeBackFault::Recover(RecoverFault::Forgotten(dc)) => {
+            Some(format!(in alloc; "refused log Forgotten dc {dc}\n")?)
+        }
         ComeBackFault::NoRoom(dc) => Some(format!(in alloc; "refused log NoRoom dc {dc}\n")?),
         ComeBackFault::Otherwise(dc) => {
             Some(format!(in alloc; "refused log Otherwise dc {dc}\n")?)

@@ -29,6 +29,7 @@ IsFound ps h dcs (Err why) = IsAuditFault ps h dcs why
 
 abbrev pub audit_line : Found → List ℕ
 audit_line (Ok a) = codes "audit ok ended " ++ (decimal a.ended ++ (codes " open " ++ (decimal a.left ++ codes "\n")))
+audit_line (Err (fault.Begun dc)) = codes "refused U0 Begun dc " ++ (decimal dc ++ codes "\n")
 audit_line (Err (fault.LogIllegal place)) = codes "refused U1 LogIllegal place " ++ (decimal place ++ codes "\n")
 audit_line (Err (fault.NotAsked dc place)) =
     codes "refused U2 NotAsked dc " ++ (decimal dc ++ (codes " place " ++ (decimal place ++ codes "\n")))

@@ -28,6 +28,7 @@ fn audit_line(alloc: Global, found: &Result<Audited, AuditFault>) -> Result<Stri
 {
     match found {
         Ok(Audited { ended, left }) => format!(in alloc; "audit ok ended {ended} open {left}\n"),
+        Err(AuditFault::Begun(dc)) => format!(in alloc; "refused U0 Begun dc {dc}\n"),
         Err(AuditFault::LogIllegal(place)) => {
             format!(in alloc; "refused U1 LogIllegal place {place}\n")
         }

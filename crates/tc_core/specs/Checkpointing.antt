@@ -20,8 +20,9 @@ are_up sites = list_all (λ (s : Site). is_up s.redo) sites
 abbrev pub have_kept : ℕ → List ℕ → Bool
 have_kept n marks = list_all (λ (m : ℕ). nat_le n m) marks
 
--- no transaction is open, and each data component is up and has kept all that was answered
+-- something has happened, no transaction is open, and each data component is up and has kept all that was answered
 pub record MayCheckpoint (c : Core) (kept : List ℕ) : Type 0 where
+  pub some : c.events ≢ []
   pub rest : IsAtRest c.events
   pub count : length kept ≡ c.dcs
   pub up : are_up c.sites ≡ true
@@ -32,10 +33,14 @@ pub record MayCheckpoint (c : Core) (kept : List ℕ) : Type 0 where
 abbrev pub checkpointed : Core → Core
 checkpointed c = record c { events = anew c.events; given_up = [] }
 
+-- why it may not begin anew, and nothing that is looked for first is so
 abbrev pub IsCheckpointFault : Core → List ℕ → CheckpointFault → Type 0
 IsCheckpointFault c kept Nothing = c.events ≡ []
 IsCheckpointFault c kept (Open n) = (n ≡ total each_one c.events) × (0 < n)
-IsCheckpointFault c kept DcCount = length kept ≢ c.dcs
-IsCheckpointFault c kept Down = are_up c.sites ≡ false
-IsCheckpointFault c kept Behind = have_kept (given c.events) kept ≡ false
-IsCheckpointFault c kept Spent = 2 ^ 62 < admitted c.events
+IsCheckpointFault c kept DcCount = IsAtRest c.events × (length kept ≢ c.dcs)
+IsCheckpointFault c kept Down = IsAtRest c.events × (length kept ≡ c.dcs) × (are_up c.sites ≡ false)
+IsCheckpointFault c kept Behind =
+    IsAtRest c.events × (length kept ≡ c.dcs) × (are_up c.sites ≡ true) × (have_kept (given c.events) kept ≡ false)
+IsCheckpointFault c kept Spent =
+    IsAtRest c.events × (length kept ≡ c.dcs) × (are_up c.sites ≡ true) × (have_kept (given c.events) kept ≡ true)
+    × (2 ^ 62 < admitted c.events)

@@ -1,11 +1,12 @@
 //! A state that comes back from what was written: its log, and what was known of data components.
 
-ghost use Rattle.std.specs.Prelude.{◌≡◌, ◌≤◌, [], length, map, vec_capacity, IfOk, OnOk, IfErr, OnErr, IfSome};
+ghost use Rattle.std.specs.Prelude.{◌≡◌, ◌≤◌, [], length, map, vec_capacity, IfOk, OnOk, IfErr, OnErr, IfSome, IfNone};
+ghost use Rattle.history.specs.Anew.{begun};
 ghost use Rattle.transactions.specs.Legal.{Legal};
 ghost use Rattle.tc_core.specs.Checking.{IsFault};
 ghost use Rattle.tc_core.specs.GivingUp.{IsOpenHere};
 ghost use Rattle.tc_core.specs.Kept.{IsBook};
-ghost use Rattle.tc_core.specs.Recovery.{asking_by, first_events, open_request, recovered, site_noted, IsRecoverFault};
+ghost use Rattle.tc_core.specs.Recovery.{asking_by, first_events, open_request, recovered, site_noted, AllReach, IsForgotten, IsRecoverFault, reaches};
 
 use crate::book::Book;
 use crate::checking::{CheckFault, first_book};
@@ -39,6 +40,9 @@ pub enum RecoverFault {
     DcCount,
     /// The log isn't legal, or memory ran out.
     Unfit(CheckFault),
+    /// The log begins behind the mark of this data component's restart: what it lost can't be redone from
+    /// here.
+    Forgotten(usize),
 }
 
 // What is known of a data component of which this was written last.
@@ -69,6 +73,29 @@ fn sites_noted(alloc: Global, notes: &[SiteNote]) -> Result<Vec<Site>, AllocErro
         sites.push(site_noted(note))?;
     }
     Ok(sites)
+}
+
+// Whether what the data component lost can be redone from a log that begins behind this number.
+fn reaches(from: u64, note: &SiteNote) -> bool
+    ensures { result ≡ reaches from note.now }
+{
+    match note {
+        SiteNote::Restarted(news) => from <= news.mark,
+        SiteNote::Untold | SiteNote::Up(_) => true,
+    }
+}
+
+// The first data component that lost what a log has no more which begins behind this number.
+fn first_forgotten(from: u64, notes: &[SiteNote]) -> Option<usize>
+    ensures none { IfNone result (AllReach from notes.now) }
+    ensures some { IfSome result (IsForgotten from notes.now) }
+{
+    for (place, note) in notes.iter().enumerate() {
+        if !reaches(from, note) {
+            return Some(place);
+        }
+    }
+    None
 }
 
 // The request of what is awaited.
@@ -123,16 +150,17 @@ impl TcState {
     }
 
     /// Comes back from a log, if it is legal for the procedures loaded here, there is a note for each
-    /// data component, and nothing has happened here yet: what happened is the log, nothing is given
-    /// up, and of data components is known what was noted. Nobody holds a request:
-    /// [`TcState::request`] makes those that are open again.
+    /// data component, nothing has happened here yet, and what data components lost can be redone from
+    /// where the log begins: what happened is the log, nothing is given up, and of data components is
+    /// known what was noted. Nobody holds a request: [`TcState::request`] makes those that are open again.
     pub fn recover(&mut self, log: &Log, notes: &[SiteNote]) -> Result<(), RecoverFault>
         ensures begun { OnOk result (self.old.events ≡ []) }
         ensures legal { OnOk result (Legal self.old.procs log.now.events) }
         ensures count { OnOk result (length notes.now ≡ self.old.dcs) }
         ensures ok { OnOk result (self.new ≡ recovered self.old log.now.events notes.now) }
         ensures err { OnErr result (self.new ≡ self.old) }
-        ensures fault { IfErr result (IsRecoverFault self.old log.now.events (length notes.now)) }
+        ensures reaches { OnOk result (AllReach (begun log.now.events) notes.now) }
+        ensures fault { IfErr result (IsRecoverFault self.old log.now.events notes.now) }
     {
         if !self.book.log.is_empty() {
             return Err(RecoverFault::Begun);
@@ -140,12 +168,19 @@ impl TcState {
         if notes.len() != usize::from(self.procs.dcs()) {
             return Err(RecoverFault::DcCount);
         }
-        match self.recovered(log, log.len(), notes) {
-            Ok(book) => {
+        let book = match self.recovered(log, log.len(), notes) {
+            Ok(book) => book,
+            Err(fault) => return Err(RecoverFault::Unfit(fault)),
+        };
+        match first_forgotten(book.given_up.from(), notes) {
+            None => {
                 self.book = book;
                 Ok(())
             }
-            Err(fault) => Err(RecoverFault::Unfit(fault)),
+            Some(dc) => {
+                drop(book);
+                Err(RecoverFault::Forgotten(dc))
+            }
         }
     }
 

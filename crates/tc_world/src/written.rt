@@ -9,11 +9,11 @@ ghost use Rattle.tc_world.specs.Marks.{IsLow};
 ghost use Rattle.tc_world.specs.Waiting.{AreWaiting};
 ghost use Rattle.tc_world.specs.Recovery.{MayCrash};
 ghost use Rattle.tc_world.specs.Joining.Written.{gives, given_of, answers, is_left, below, below_request, below_event, low_left};
-ghost use Rattle.tc_world.specs.Joining.Written.{is_wire_told, are_told, is_store_told};
+ghost use Rattle.tc_world.specs.Joining.Written.{is_wire_told, is_store_told};
 ghost use Rattle.tc_core.specs.Core.{Asking};
 
 use access_slots::op::{News, Reply, Wire};
-use data_component::dc::{Dc, Performed};
+use data_component::dc::Dc;
 use tc_core::state::{Request, TcState};
 use tc_log::event::Event;
 use transactions::Site;
@@ -151,20 +151,14 @@ fn are_replies_told(given: u64, replies: &[Reply]) -> bool
     replies.iter().all(|reply| reply.number <= given)
 }
 
-// Whether no later number was performed.
-fn are_told(given: u64, list: &[Performed]) -> bool
-    ensures { result ≡ are_told given list.now }
-{
-    list.iter().all(|(number, _, _)| *number <= given)
-}
-
+// Whether no later number was performed, and the marks aren't above this one.
 fn is_store_told(given: u64, low_water: u64, dc: &Dc) -> bool
     ensures { result ≡ is_store_told given low_water dc.now }
 {
     dc.mark() <= low_water
         && dc.saved_mark() <= low_water
-        && are_told(given, dc.performed())
-        && are_told(given, dc.saved())
+        && dc.performed().are_at_most(given)
+        && dc.performed().are_first_at_most(dc.saved(), given)
 }
 
 // Whether no data component has performed a later number, or has a mark above this one, behind a

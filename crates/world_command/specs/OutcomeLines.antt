@@ -76,6 +76,7 @@ illegal_line illegal.NoNews = codes "illegal I14 NoNews\n"
 illegal_line illegal.OldNews = codes "illegal I15 OldNews\n"
 illegal_line illegal.NotDown = codes "illegal I16 NotDown\n"
 illegal_line illegal.NotWritten = codes "illegal I17 NotWritten\n"
+illegal_line illegal.Forgotten = codes "illegal I18 Forgotten\n"
 
 abbrev pub step_line : Result Outcome Illegal → List ℕ
 step_line (Ok o) = outcome_line o

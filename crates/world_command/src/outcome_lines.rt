@@ -107,6 +107,7 @@ fn illegal_line(alloc: Global, why: &Illegal) -> Result<String, AllocError>
         Illegal::OldNews => String::from_str(alloc, "illegal I15 OldNews\n"),
         Illegal::NotDown => String::from_str(alloc, "illegal I16 NotDown\n"),
         Illegal::NotWritten => String::from_str(alloc, "illegal I17 NotWritten\n"),
+        Illegal::Forgotten => String::from_str(alloc, "illegal I18 Forgotten\n"),
     }
 }
 
