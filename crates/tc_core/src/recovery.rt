@@ -172,7 +172,8 @@ impl TcState {
             Ok(book) => book,
             Err(fault) => return Err(RecoverFault::Unfit(fault)),
         };
-        match first_forgotten(book.given_up.from(), notes) {
+        let begun = book.given_up.from();
+        match first_forgotten(begun, notes) {
             None => {
                 self.book = book;
                 Ok(())
