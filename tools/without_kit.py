@@ -5,6 +5,7 @@ usage: tools/without_kit.py
 """
 import os
 import pathlib
+import re
 import shutil
 import subprocess
 import sys
@@ -46,9 +47,10 @@ def main():
         clone(place)
         env = {**os.environ, "PATH": path_without_kit(place)}
         for words in COMMANDS:
-            ran = subprocess.run(words, cwd=place, env=env, stdin=subprocess.DEVNULL, capture_output=True, text=True, check=False)
-            lines = ran.stderr.splitlines()
-            if ran.returncode != 70 or ran.stdout or len(lines) != 1 or "Rattle kit" not in lines[0] or "README.md" not in lines[0]:
+            given = {"cwd": place, "env": env, "stdin": subprocess.DEVNULL}
+            ran = subprocess.run(words, **given, capture_output=True, text=True, check=False)
+            is_said = re.fullmatch(r"\w+: [^\n]*the Rattle kit[^\n]*README.md[^\n]*\n", ran.stderr)
+            if ran.returncode != 70 or ran.stdout or not is_said:
                 good = False
                 print(f"without_kit: {' '.join(words)}: status {ran.returncode}, {ran.stdout!r}, {ran.stderr!r}")
     print(f"without_kit: {len(COMMANDS)} commands, {'nothing wrong' if good else 'wrong'}")
