@@ -17,6 +17,8 @@ import subprocess
 import sys
 import time
 
+from unproved import NO_KIT
+
 TOP = os.path.dirname(os.path.dirname(os.path.realpath(__file__)))
 PARTS = ("src", "specs", "proofs")
 GIGABYTE = 1 << 30
@@ -228,6 +230,9 @@ def main():
     if len(sys.argv) > 2 or name not in known.uses:
         print(__doc__, file=sys.stderr)
         return 2
+    if not shutil.which("rt"):
+        tell(NO_KIT)
+        return 70
     signal.signal(signal.SIGTERM, lambda *_: sys.exit(70))
     place = swept()
     try:

@@ -37,6 +37,8 @@ for example in examples/*/; do
 done
 tried tools/believed.py
 tried tools/printed.py
+tried tools/without_kit.py
+tried tools/terminal.py
 tried tools/hostile.py files
 tried tools/hostile.py --every 25 code texts worlds memory
 tried tools/explore.py --audit --seconds 20

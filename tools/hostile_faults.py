@@ -116,7 +116,7 @@ def failing_reads(faulty, words, given, size, every):
     """A read fails behind each byte in turn, gives less than it was asked for, or is interrupted."""
     usual, name = faulty.run(words, given), next(str(word) for word in words if word == "-" or "/" in str(word))
     for count in range(0, size + 1, every):
-        faulty.check(words, given, Ran(3, b"", f"cannot read {name}\n".encode()), read_fails_after=count)
+        faulty.check(words, given, Ran(3, b"", f"cannot read {name}: input/output error\n".encode()), read_fails_after=count)
     for most in (1, 7):
         faulty.check(words, given, usual, read_most=most)
         faulty.check(words, given, usual, read_most=most, read_interrupted=1)
@@ -126,9 +126,9 @@ def failing_writes(faulty, words, given, every):
     """A write fails behind each byte in turn, takes less than it was given, or is interrupted."""
     usual = faulty.run(words, given)
     for count in range(0, len(usual.out), every):
-        faulty.check(words, given, Ran(3, usual.out[:count], b"cannot write\n"), write_fails_after=count)
+        faulty.check(words, given, Ran(3, usual.out[:count], b"cannot write: no space left on device\n"), write_fails_after=count)
     if usual.out:
-        faulty.check(words, given, Ran(3, b"", b"cannot write\n"), write_nothing=1)
+        faulty.check(words, given, Ran(3, b"", b"cannot write: failed to write whole buffer\n"), write_nothing=1)
     for most in (1, 7):
         faulty.check(words, given, usual, write_most=most)
         faulty.check(words, given, usual, write_most=most, write_interrupted=1)
@@ -150,7 +150,7 @@ def hostile_files(program, tally, every):
         tally.add("command lines")
         failing_writes(faulty, words, given, every)
     if every == 1:
-        end = Ran(3, b"", b"cannot read /dev/zero\n")
+        end = Ran(3, b"", b"cannot read /dev/zero: no end within 16777216 reads\n")
         faulty.check(["exec", "--raw", "/dev/zero"], b"", end, read_most=1)
     return None
 
@@ -182,23 +182,33 @@ def to_closed_pipe(program, words):
         os.close(writer)
 
 
+# Names, `.` for a folder that there is, and why they can't be read.
+UNREADABLE = [
+    (".", "is a directory"),
+    ("./none", "no such file or directory"),
+    ("\u00e9/\u00e9", "no such file or directory"),
+    ("/dev/zero", "no end within 268435456 bytes"),
+]
+
+
 def from_system(faulty):
-    """A folder, no such file, a full device, a file that may not grow, a pipe that nobody reads."""
+    """A folder, no such file, an endless device, a full one, a file that may not grow, a pipe that nobody reads."""
     program, folder = faulty.program, str(faulty.program.folder)
     for command in COMMANDS:
-        for name in (folder, folder + "/none", "\u00e9/\u00e9"):
+        for name, why in UNREADABLE:
+            name = folder + name[1:] if name.startswith(".") else name
             words = [*map(str, command.before), name, *map(str, command.behind)]
-            end = Ran(3, b"", f"cannot read {name}\n".encode())
+            end = Ran(3, b"", f"cannot read {name}: {why}\n".encode())
             faulty.wanted(words, b"", program.run(words), [end])
     words = ["world", "--log", program.file(WORLD)]
     whole, limit = program.run(words).out, 100
     with open("/dev/full", "wb") as full:
-        faulty.wanted([*words, "> /dev/full"], b"", to_file(program, words, full), [(3, b"cannot write\n")])
-    faulty.wanted([*words, "| nobody"], b"", to_closed_pipe(program, words), [(3, b"cannot write\n")])
+        faulty.wanted([*words, "> /dev/full"], b"", to_file(program, words, full), [(3, b"cannot write: no space left on device\n")])
+    faulty.wanted([*words, "| nobody"], b"", to_closed_pipe(program, words), [(3, b"cannot write: broken pipe\n")])
     path = faulty.program.folder / "limited"
     with open(path, "wb") as limited:
         ended = to_file(program, words, limited, lambda: limited_to(limit))
-    faulty.wanted([*words, "> limited"], b"", (*ended, path.read_bytes()), [(3, b"cannot write\n", whole[:limit])])
+    faulty.wanted([*words, "> limited"], b"", (*ended, path.read_bytes()), [(3, b"cannot write: file too large\n", whole[:limit])])
     for words, given in every_command(program):
         why = undocumented(program.run(words, given))
         if why:

@@ -72,7 +72,7 @@ def wrong(command, data, ran):
     """What is wrong with this end, or None."""
     word = command.before[0]
     if word not in ("exec", "dis", "log") and not is_text(data):
-        return None if ran == Ran(3, b"", b"cannot read -\n") else "no text"
+        return None if ran == Ran(3, b"", b"cannot read -: it isn't UTF-8\n") else "no text"
     printed = ran.out.decode()
     if ran.status == 1 and re.fullmatch(REFUSALS[word], printed):
         return undocumented(ran)

@@ -8,7 +8,7 @@ import shutil
 import subprocess
 
 Ran = collections.namedtuple("Ran", "status out err")
-REASONS = {3: rb"cannot read [^\n]+\n|cannot write\n", 4: rb"memory\n"}
+REASONS = {3: rb"cannot read [^\n]+\n|cannot write: [^\n]+\n", 4: rb"memory\n"}
 SHOWN = 5  # of what is wrong, how much is shown
 
 

@@ -9,6 +9,22 @@ WRONG = [
     (["exec"], b"error: "),
     (["exec", "-", "18446744073709551616"], NUMBER),
     (["run", "--workers", "x", "-"], NUMBER),
+    (["world", "--stats", "-"], b"error: unexpected argument '--stats' found\n\nUsage: procd world [OPTIONS] <FILE>\n"),
+]
+
+# A byte order mark, U+FEFF in UTF-8.
+MARK = b"\xef\xbb\xbf"
+MARKED = "-: it begins with a byte order mark (U+FEFF); save it as UTF-8 without one"
+# Words, standard input, and what can't be read and why.
+UNREAD = [
+    (["exec", "no-such-file"], b"", "no-such-file: no such file or directory"),
+    (["verify", "/"], b"", "/: is a directory"),
+    (["world", "/dev/zero"], b"", "/dev/zero: no end within 268435456 bytes"),
+    (["asm", "-"], b"exit ; \xff\n", "-: it isn't UTF-8"),
+    (["asm", "-"], MARK + b"exit\n", MARKED),
+    (["verify", "-"], MARK + b"dc 1 1\n", MARKED),
+    (["world", "-"], MARK + b"dc 1 1\n", MARKED),
+    (["run", "-"], MARK + b"dc 1 1\n", MARKED),
 ]
 
 
@@ -16,5 +32,5 @@ def rows(_program):
     """All rows."""
     given = b"b700000000000000 9500000000000000"
     yield from (Row(words, given, b"", 2, told) for words, told in WRONG)
-    yield Row(["exec", "no-such-file"], b"", b"", 3, b"cannot read no-such-file\n")
-    yield Row(["asm", "-"], b"exit ; \xff\n", b"", 3, b"cannot read -\n")
+    yield from (Row(words, given, b"", 3, f"cannot read {why}\n".encode()) for words, given, why in UNREAD)
+    yield Row(["exec", "-"], MARK + given, b"refused H1 NotHex at 0\n", 1)

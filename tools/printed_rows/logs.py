@@ -144,7 +144,7 @@ def rows(_program):
     for given, printed, status in AUDITED:
         yield Row([*audit, str(script)], given, printed.encode(), status)
     yield Row([*audit, str(bad)], frames(OWN), b"refused line 1 F1 BadLine\n", 1)
-    yield Row([*audit, "no-such-script"], frames(OWN), b"", 3, b"cannot read no-such-script\n")
-    yield Row(["log", "no-such-file"], b"", b"", 3, b"cannot read no-such-file\n")
+    yield Row([*audit, "no-such-script"], frames(OWN), b"", 3, b"cannot read no-such-script: no such file or directory\n")
+    yield Row(["log", "no-such-file"], b"", b"", 3, b"cannot read no-such-file: no such file or directory\n")
     yield Row(["log", "--audit", "-"], b"", b"", 2, b"error: ")
     yield Row(["log", "-", str(script)], b"", b"", 2, b"error: ")

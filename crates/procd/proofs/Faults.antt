@@ -1,7 +1,7 @@
 -- A fault is always among what a run may give.
 use Rattle.std.proofs.Common.{arith, ◌≡◌, ℕ, List, Option, Some, None, Bool, [], refl, sym, subst, inl, inr, codes}
 use Rattle.std.specs.Prelude.{IfSome, ◌≤◌}
-use Rattle.procd.specs.Streams.{Stream, IsKept, Begins, Ends, EndsOn, Runs, FurtherFails, cannot_read_line, cannot_write_line}
+use Rattle.procd.specs.Streams.{Stream, IsKept, Begins, Ends, EndsOn, Runs, FurtherFails, TellsUnread, TellsUnwritten, IsToldOrNoMemory}
 use Rattle.procd.specs.Joining.Further.{Reads, Writes, IsTaskFault, IsScriptFault, IsLogFault}
 use Rattle.procd.specs.declared.report.ReportFault.{ReportFault}
 use Rattle.procd.specs.declared.report.ReportFault.TheVariants.{NotText, Unread, Unwritten, Memory}
@@ -18,17 +18,21 @@ known_is None = tt
 known_is (Some text) = refl
 
 module _ (file : List ℕ) (wish : Wish) (input : Option (List ℕ)) (out err : Stream) (status : ℕ) where
-  pub cannot_read_fits : status ≡ 3 → IsKept out → Begins err (cannot_read_line file) → EndsOn file wish input out err status
-  cannot_read_fits is kept told = (known input, known_is input, inl (is, kept, told))
-
   pub no_memory_fits : status ≡ 4 → IsKept out → Begins err (codes "memory\n") → EndsOn file wish input out err status
   no_memory_fits is kept told = (known input, known_is input, inr (inl (is, kept, told)))
+
+  pub cannot_read_fits : IsToldOrNoMemory (TellsUnread file err) err status → IsKept out → EndsOn file wish input out err status
+  cannot_read_fits fault kept =
+      elim fault [
+        | inl told ↦ (known input, known_is input, inl (told.0, kept, told.1))
+        | inr memory ↦ no_memory_fits memory.0 kept memory.1
+      ]
 
   pub no_memory_runs : status ≡ 4 → IsKept out → Begins err (codes "memory\n") → Runs file wish input out err status
   no_memory_runs is kept told = (known input, (λ e. known_is input), inr (inl (is, kept, told)))
 
 -- a further file that isn't read is told, and so is one that isn't written
-read_fails : (wish : Wish) (path : List ℕ) (err : Stream) → Reads wish path → Begins err (cannot_read_line path) → FurtherFails wish err
+read_fails : (wish : Wish) (path : List ℕ) (err : Stream) → Reads wish path → TellsUnread path err → FurtherFails wish err
 read_fails (Exec raw numbers) path err is told = absurd is
 read_fails Asm path err is told = absurd is
 read_fails (Dis raw) path err is told = absurd is
@@ -38,7 +42,7 @@ read_fails (Run workers tries stats audit tell log) path err is told =
     subst (λ (l : Option (List ℕ)). FurtherFails (Run workers tries stats audit tell l) err) (sym is) (inl told)
 read_fails (Log script) path err is told = subst (λ (s : Option (List ℕ)). FurtherFails (Log s) err) (sym is) told
 
-write_fails : (wish : Wish) (path : List ℕ) (err : Stream) → Writes wish path → Begins err (cannot_write_line path) → FurtherFails wish err
+write_fails : (wish : Wish) (path : List ℕ) (err : Stream) → Writes wish path → TellsUnwritten path err → FurtherFails wish err
 write_fails (Exec raw numbers) path err is told = absurd is
 write_fails Asm path err is told = absurd is
 write_fails (Dis raw) path err is told = absurd is
@@ -49,26 +53,41 @@ write_fails (Run workers tries stats audit tell log) path err is told =
 write_fails (Log script) path err is told = absurd is
 
 module _ (file : List ℕ) (wish : Wish) (text : List ℕ) (out err : Stream) (status : ℕ) where
-  pub unread_ends : (path : List ℕ) → Reads wish path → status ≡ 3 → IsKept out → Begins err (cannot_read_line path)
-      → Ends file wish text out err status
-  unread_ends path of is kept told = inr (inr (inl (is, kept, read_fails wish path err of told)))
+  no_memory_ends : status ≡ 4 → IsKept out → Begins err (codes "memory\n") → Ends file wish text out err status
+  no_memory_ends is kept told = inr (inl (is, kept, told))
 
-  pub unwritten_ends : (path : List ℕ) → Writes wish path → status ≡ 3 → IsKept out → Begins err (cannot_write_line path)
+  pub no_text_ends : IsToldOrNoMemory (TellsUnread file err) err status → IsKept out → Ends file wish text out err status
+  no_text_ends fault kept =
+      elim fault [ inl told ↦ inl (told.0, kept, told.1) | inr memory ↦ no_memory_ends memory.0 kept memory.1 ]
+
+  pub unread_ends : (path : List ℕ) → Reads wish path → IsToldOrNoMemory (TellsUnread path err) err status → IsKept out
       → Ends file wish text out err status
-  unwritten_ends path of is kept told = inr (inr (inl (is, kept, write_fails wish path err of told)))
+  unread_ends path of fault kept =
+      elim fault [
+        | inl told ↦ inr (inr (inl (told.0, kept, read_fails wish path err of told.1)))
+        | inr memory ↦ no_memory_ends memory.0 kept memory.1
+      ]
+
+  pub unwritten_ends : (path : List ℕ) → Writes wish path → IsToldOrNoMemory (TellsUnwritten path err) err status → IsKept out
+      → Ends file wish text out err status
+  unwritten_ends path of fault kept =
+      elim fault [
+        | inl told ↦ inr (inr (inl (told.0, kept, write_fails wish path err of told.1)))
+        | inr memory ↦ no_memory_ends memory.0 kept memory.1
+      ]
 
 -- the script of an audit, and the log of a run, are further files
 pub script_fault : (path : List ℕ) (fault : ReportFault) → IsScriptFault path fault → IsTaskFault (Log (Some path)) fault
-script_fault path NotText is = absurd is
-script_fault path (Unread other) is = is
-script_fault path (Unwritten other) is = absurd is
+script_fault path (NotText fault) is = absurd is
+script_fault path (Unread other why) is = is
+script_fault path (Unwritten other why) is = absurd is
 script_fault path Memory is = tt
 
 pub log_fault : (workers tries : ℕ) (stats audit tell : Bool) (log : Option (List ℕ)) (fault : ReportFault) → IsLogFault log fault
     → IsTaskFault (Run workers tries stats audit tell log) fault
-log_fault workers tries stats audit tell log NotText is = tt
-log_fault workers tries stats audit tell log (Unread other) is = is
-log_fault workers tries stats audit tell log (Unwritten other) is = is
+log_fault workers tries stats audit tell log (NotText fault) is = tt
+log_fault workers tries stats audit tell log (Unread other why) is = is
+log_fault workers tries stats audit tell log (Unwritten other why) is = is
 log_fault workers tries stats audit tell log Memory is = tt
 
 not_three : (result : ℕ) → result ≡ 3 → result ≡ 2 → ⊥

@@ -5,7 +5,8 @@ use Rattle.std.proofs.lemmas.List.{take_rest}
 use Rattle.std.proofs.Math.Seq.{take-append_seam, take-length}
 use Rattle.std.specs.Io.KnownBytes.{Appends, Keeps}
 use Rattle.std.proofs.KnownBytes.{Appends-kept, Appends-nil, Appends-trans}
-use Rattle.procd.specs.Streams.{Stream, stream, Gets, Begins}
+use Rattle.std.specs.Prelude.{Result, Ok, Err, IfOk, codes}
+use Rattle.procd.specs.Streams.{Stream, stream, Gets, Begins, IsFaultLine}
 
 -- what is written of a text, and what is left of it
 pub moves_front : (text done rest : List ℕ) (n : ℕ) → text ≡ done ++ rest
@@ -46,3 +47,9 @@ begins_behind a b c text more gets begins =
 
 pub true_not_false : true ≡ false → ⊥
 true_not_false e = cc
+
+-- a line that is made of these is a fault's
+pub if_ok_fault_line : {S E : Type 0} (bytes : S → List ℕ) (what file why : List ℕ) (r : Result S E)
+    → IfOk r (λ line. bytes line ≡ what ++ (file ++ (why ++ codes "\n"))) → IfOk r (λ line. IsFaultLine what file (bytes line))
+if_ok_fault_line bytes what file why (Ok line) is = (why, is)
+if_ok_fault_line bytes what file why (Err e) is = tt

@@ -1,5 +1,8 @@
 -- What is printed, and the exit status.
-use Rattle.std.specs.Prelude.{◌≡◌, ℕ, Bool, List, Option, Some, None}
+use Rattle.std.specs.Prelude.{◌≡◌, ℕ, Bool, List, [], ◌∷◌, take, Option, Some, None}
+use Rattle.std.specs.Str.{IsUtf8}
+use Rattle.procd.specs.declared.reading.TextFault.{TextFault}
+use Rattle.procd.specs.declared.reading.TextFault.TheVariants.{NotUtf8, Marked}
 use Rattle.bpf_asm.specs.Lines.{assembled}
 use Rattle.command_line.specs.Task.{Wish, Exec, Asm, Dis, Verify, World, Run, Log}
 use Rattle.scripts.specs.Reading.{script_said}
@@ -11,6 +14,15 @@ use Rattle.world_command.specs.WorldReport.{IsWorld}
 use Rattle.run_command.specs.Running.{IsRun}
 use Rattle.run_command.specs.Logged.{FileJournal, IsLogged}
 use Rattle.log_command.specs.LogReport.{IsListing, IsAudit}
+
+-- the byte order mark, U+FEFF in UTF-8
+abbrev pub byte_order_mark : List ℕ
+byte_order_mark = 239 ∷ 187 ∷ 191 ∷ []
+
+-- why bytes aren't a text
+abbrev pub IsTextFault : List ℕ → TextFault → Type 0
+IsTextFault bytes NotUtf8 = ¬ (IsUtf8 bytes)
+IsTextFault bytes Marked = take 3 bytes ≡ byte_order_mark
 
 -- a run whose log is kept, by some journal
 abbrev pub IsKeptRun : ℕ → ℕ → Bool → List ℕ → ℕ → List ℕ → Type 0

@@ -1,5 +1,5 @@
 -- What a run gives for a command line: the exit status, and what stands on standard output and standard error.
-use Rattle.std.specs.Prelude.{◌≡◌, ◌⊎◌, ℕ, Bool, true, false, List, ◌++◌, take, Option, Some, IfSome, codes}
+use Rattle.std.specs.Prelude.{◌≡◌, ◌⊎◌, ℕ, Bool, true, false, List, ◌++◌, take, Option, Some, IfSome, Result, Ok, Err, codes}
 use Rattle.std.specs.Io.KnownBytes.{Appends}
 use Rattle.procd.specs.Report.{IsReport}
 use Rattle.command_line.specs.Task.{Wish, Run, Log, may_tell}
@@ -16,6 +16,11 @@ stream old new = record { old = old; new = new }
 abbrev pub IsKept : Stream → Type 0
 IsKept s = s.new ≡ s.old
 
+-- how many bytes a call wrote: none where it failed
+abbrev pub written : {E : Type 0} → Result ℕ E → ℕ
+written (Ok n) = n
+written (Err error) = 0
+
 -- the text was written
 abbrev pub Gets : Stream → List ℕ → Type 0
 Gets s text = Appends s.old s.new text
@@ -24,15 +29,35 @@ Gets s text = Appends s.old s.new text
 abbrev pub Begins : Stream → List ℕ → Type 0
 Begins s text = (n : ℕ) × Gets s (take n text)
 
-abbrev pub cannot_read_line : List ℕ → List ℕ
-cannot_read_line file = (codes "cannot read " ++ file) ++ codes "\n"
+-- `cannot read FILE` and `cannot write FILE`, with what stands behind it: `: ` and the reason, where it is known
+abbrev pub cannot_read_line : List ℕ → List ℕ → List ℕ
+cannot_read_line file why = codes "cannot read " ++ (file ++ (why ++ codes "\n"))
 
-abbrev pub cannot_write_line : List ℕ → List ℕ
-cannot_write_line file = (codes "cannot write " ++ file) ++ codes "\n"
+abbrev pub cannot_write_line : List ℕ → List ℕ → List ℕ
+cannot_write_line file why = codes "cannot write " ++ (file ++ (why ++ codes "\n"))
+
+-- a line of what can't be done, with which file, and perhaps why
+abbrev pub IsFaultLine : List ℕ → List ℕ → List ℕ → Type 0
+IsFaultLine what file line = (why : List ℕ) × (line ≡ what ++ (file ++ (why ++ codes "\n")))
+
+-- it is told, for some reason
+abbrev pub TellsUnread : List ℕ → Stream → Type 0
+TellsUnread file err = (why : List ℕ) × Begins err (cannot_read_line file why)
+
+abbrev pub TellsUnwritten : List ℕ → Stream → Type 0
+TellsUnwritten file err = (why : List ℕ) × Begins err (cannot_write_line file why)
+
+-- `cannot write`, of standard output
+abbrev pub TellsNotPrinted : Stream → Type 0
+TellsNotPrinted err = (why : List ℕ) × Begins err (codes "cannot write" ++ (why ++ codes "\n"))
+
+-- a file fault that is told so, or want of memory for telling it
+abbrev pub IsToldOrNoMemory : Type 0 → Stream → ℕ → Type 0
+IsToldOrNoMemory Told err status = ((status ≡ 3) × Told) ⊎ ((status ≡ 4) × Begins err (codes "memory\n"))
 
 -- the file can't be read
 abbrev pub IsReadFault : List ℕ → Stream → Stream → ℕ → Type 0
-IsReadFault file out err status = (status ≡ 3) × IsKept out × Begins err (cannot_read_line file)
+IsReadFault file out err status = (status ≡ 3) × IsKept out × TellsUnread file err
 
 -- memory ran out
 abbrev pub IsMemoryFault : Stream → Stream → ℕ → Type 0
@@ -40,8 +65,8 @@ IsMemoryFault out err status = (status ≡ 4) × IsKept out × Begins err (codes
 
 -- a further file can't be read or written: the one that keeps a run's log, or the script beside a log
 abbrev pub FurtherFails : Wish → Stream → Type 0
-FurtherFails (Run workers tries stats audit tell (Some path)) err = Begins err (cannot_read_line path) ⊎ Begins err (cannot_write_line path)
-FurtherFails (Log (Some path)) err = Begins err (cannot_read_line path)
+FurtherFails (Run workers tries stats audit tell (Some path)) err = TellsUnread path err ⊎ TellsUnwritten path err
+FurtherFails (Log (Some path)) err = TellsUnread path err
 FurtherFails other err = ⊥
 
 abbrev pub IsFurtherFault : Wish → Stream → Stream → ℕ → Type 0
@@ -50,7 +75,7 @@ IsFurtherFault wish out err status = (status ≡ 3) × IsKept out × FurtherFail
 -- there is a report, and standard output takes no more than the first bytes of its lines
 abbrev pub IsWriteFault : Wish → List ℕ → Stream → Stream → ℕ → Type 0
 IsWriteFault wish text out err status =
-    (meant : ℕ) × (lines : List ℕ) × IsReport wish text meant lines × (status ≡ 3) × Begins out lines × Begins err (codes "cannot write\n")
+    (meant : ℕ) × (lines : List ℕ) × IsReport wish text meant lines × (status ≡ 3) × Begins out lines × TellsNotPrinted err
 
 -- where figures are asked for, they are told
 abbrev pub TellsIf : Bool → Stream → Type 0

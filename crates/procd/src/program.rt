@@ -1,20 +1,21 @@
 //! The program, over readers and writers that are handed in.
 
-ghost use Rattle.std.specs.Prelude.{◌≡◌, ◌≤◌, ◌++◌, ℕ, List, IfSome, None, Some, true, false};
-ghost use Rattle.std.specs.Prelude.{codes, length, map, take, unwrap_or};
+ghost use Rattle.std.specs.Prelude.{◌≡◌, ◌≤◌, ◌++◌, ℕ, List, IfOk, OnOk, None, Some, Ok, true, false};
+ghost use Rattle.std.specs.Prelude.{codes, length, map, take, string_bytes};
 ghost use Rattle.std.specs.Io.KnownBytes.{Appends};
 ghost use Rattle.command_line.specs.Said.{Says, IsWrong, shows};
-ghost use Rattle.procd.specs.Streams.{stream, TellsIf, IsKept, Gets, Begins, Ends, EndsOn, Runs, IsMisuse, cannot_read_line, cannot_write_line};
+ghost use Rattle.procd.specs.Streams.{stream, written, TellsIf, IsKept, Gets, Begins, Ends, EndsOn, Runs, IsMisuse};
+ghost use Rattle.procd.specs.Streams.{IsFaultLine, TellsUnread, TellsUnwritten, TellsNotPrinted, IsToldOrNoMemory};
 ghost use Rattle.command_line.specs.Task.{Wish, wish_of};
 ghost use Rattle.clap.specs.Words.{kind_of};
 
-use crate::reading::{ReadFault, read_all};
-use crate::report::{Meanwhile, ReportFault, report_on};
+use crate::reading::{MOST_BYTES, ReadFault, Reason, most_of, read_all};
+use crate::report::{Meanwhile, ReportFault, explain, report_on};
 use clap::Error;
 use clap::error::ErrorKind;
 use command_line::words::{Wanted, WordFault, wanted_of};
 use report_texts::report::Report;
-use std::alloc::Global;
+use std::alloc::{AllocError, Global};
 use std::convert::AsStr;
 use std::fs::File;
 use std::io::{self, Read, Write};
@@ -35,36 +36,36 @@ const MEMORY: u8 = 4;
 /// How often a text is written on at most: the end of a writer that is always interrupted.
 const WRITES: u64 = 16_777_216;
 
-// Writes some of these bytes, and answers how many, or `None` where the writer takes no more.
-fn write_some<W: Write>(to: &mut W, bytes: &[u8]) -> Option<usize>
-    ensures bound { IfSome result (λ n. n ≤ length bytes.now) }
-    ensures bytes { Appends (W.contents to.old) (W.contents to.new) (take (unwrap_or result 0) bytes.now) }
+// Writes some of these bytes, and answers how many.
+fn write_some<W: Write>(to: &mut W, bytes: &[u8]) -> io::Result<usize>
+    ensures bound { IfOk result (λ n. n ≤ length bytes.now) }
+    ensures bytes { Appends (W.contents to.old) (W.contents to.new) (take (written result) bytes.now) }
 {
     match to.write(bytes) {
-        Ok(0) => None,
-        Ok(n) => Some(n),
-        Err(e) if e.kind() == io::ErrorKind::Interrupted => Some(0),
-        Err(_) => None,
+        Ok(0) => Err(io::Error::new(io::ErrorKind::WriteZero, "failed to write whole buffer")),
+        Ok(n) => Ok(n),
+        Err(e) if e.kind() == io::ErrorKind::Interrupted => Ok(0),
+        Err(e) => Err(e),
     }
 }
 
-// Writes the text, and says whether all of it was written. What isn't is lost.
+// Writes the text, or says why not all of it was written. What isn't is lost.
 #[tactic(auto, using(crate::proofs::Streaming::begins_by))]
-fn tell<W: Write>(to: &mut W, text: &str) -> bool
-    ensures whole { result ≡ true → Gets (stream (W.contents to.old) (W.contents to.new)) text.now }
+fn tell<W: Write>(to: &mut W, text: &str) -> io::Result<()>
+    ensures whole { OnOk result (Gets (stream (W.contents to.old) (W.contents to.new)) text.now) }
     ensures part { Begins (stream (W.contents to.old) (W.contents to.new)) text.now }
 {
     let mut rest = text.as_bytes();
     for _ in 0..WRITES {
         if rest.is_empty() {
-            return true;
+            return Ok(());
         }
         match write_some(to, rest) {
-            Some(n) => rest = &rest[n..],
-            None => return false,
+            Ok(n) => rest = &rest[n..],
+            Err(error) => return Err(error),
         }
     }
-    false
+    Err(io::Error::from(io::ErrorKind::Interrupted))
 }
 
 /// Says that memory ran out, and answers the status for it.
@@ -76,28 +77,81 @@ pub fn no_memory<E: Write>(err: &mut E) -> u8
     MEMORY
 }
 
-fn cannot_write<E: Write>(err: &mut E) -> u8
-    ensures status { result ≡ 3 }
-    ensures told { Begins (stream (E.contents err.old) (E.contents err.new)) (codes "cannot write\n") }
+// What stands behind a fault: nothing, or a colon and the reason.
+fn behind_fault(alloc: Global, reason: Option<&Reason>) -> Result<String, AllocError> {
+    let Some(reason) = reason else {
+        return Ok(String::new(alloc));
+    };
+    let words = reason.words(alloc)?;
+    format!(in alloc; ": {words}")
+}
+
+fn joined_line(alloc: Global, what: &str, file: &str, why: &str) -> Result<String, AllocError>
+    ensures { IfOk result (λ line. string_bytes line ≡ what.now ++ (file.now ++ (why.now ++ codes "\n"))) }
 {
-    let _ = tell(err, "cannot write\n");
+    format!(in alloc; "{what}{file}{why}\n")
+}
+
+// The line of a file fault: what can't be done, with which file, and why, where that is known.
+fn fault_line(
+    alloc: Global,
+    what: &str,
+    file: &str,
+    reason: Option<&Reason>,
+) -> Result<String, AllocError>
+    ensures { IfOk result (λ line. IsFaultLine what.now file.now (string_bytes line)) }
+{
+    let why = behind_fault(alloc, reason)?;
+    joined_line(alloc, what, file, why.as_str())
+}
+
+// Says that standard output isn't written, and why, where there is memory for it.
+fn cannot_write<E: Write>(alloc: Global, err: &mut E, error: io::Error) -> u8
+    ensures status { result ≡ 3 }
+    ensures told { TellsNotPrinted (stream (E.contents err.old) (E.contents err.new)) }
+{
+    match fault_line(alloc, "cannot write", "", Some(&Reason::System(error))) {
+        Ok(line) => {
+            let _ = tell(err, line.as_str());
+        }
+        Err(AllocError) => {
+            let _ = tell(err, "cannot write\n");
+        }
+    }
     FILE_FAULT
 }
 
-fn cannot_read<E: Write>(err: &mut E, name: &str) -> u8
-    ensures status { result ≡ 3 }
-    ensures told { Begins (stream (E.contents err.old) (E.contents err.new)) (cannot_read_line name.now) }
+// Says that a file isn't read, and why.
+fn cannot_read<E: Write>(alloc: Global, err: &mut E, file: &str, reason: Option<&Reason>) -> u8
+    ensures { IsToldOrNoMemory (TellsUnread file.now (stream (E.contents err.old) (E.contents err.new)))
+        (stream (E.contents err.old) (E.contents err.new)) result }
 {
-    let _ = tell(err, "cannot read ") && tell(err, name) && tell(err, "\n");
-    FILE_FAULT
+    match fault_line(alloc, "cannot read ", file, reason) {
+        Ok(line) => {
+            let _ = tell(err, line.as_str());
+            FILE_FAULT
+        }
+        Err(AllocError) => no_memory(err),
+    }
 }
 
-fn cannot_write_file<E: Write>(err: &mut E, name: &str) -> u8
-    ensures status { result ≡ 3 }
-    ensures told { Begins (stream (E.contents err.old) (E.contents err.new)) (cannot_write_line name.now) }
+// Says that a file isn't written, and why.
+fn cannot_write_file<E: Write>(
+    alloc: Global,
+    err: &mut E,
+    file: &str,
+    reason: Option<&Reason>,
+) -> u8
+    ensures { IsToldOrNoMemory (TellsUnwritten file.now (stream (E.contents err.old) (E.contents err.new)))
+        (stream (E.contents err.old) (E.contents err.new)) result }
 {
-    let _ = tell(err, "cannot write ") && tell(err, name) && tell(err, "\n");
-    FILE_FAULT
+    match fault_line(alloc, "cannot write ", file, reason) {
+        Ok(line) => {
+            let _ = tell(err, line.as_str());
+            FILE_FAULT
+        }
+        Err(AllocError) => no_memory(err),
+    }
 }
 
 // Tells the figures, where they are asked for and there are some.
@@ -126,23 +180,37 @@ fn run_text<F: Files<File = File> + Clock + Threads + Wait + Sync, W: Write, E: 
     let report = match report_on(rt, alloc, &wanted.task, text, meanwhile) {
         Ok(report) => report,
         Err(ReportFault::Memory) => return no_memory(err),
-        Err(ReportFault::NotText) => return cannot_read(err, wanted.file),
-        Err(ReportFault::Unread(path)) => return cannot_read(err, path),
-        Err(ReportFault::Unwritten(path)) => return cannot_write_file(err, path),
+        Err(ReportFault::NotText(fault)) => {
+            return cannot_read(alloc, err, wanted.file, Some(&Reason::Text(fault)));
+        }
+        Err(ReportFault::Unread(path, reason)) => return cannot_read(
+            alloc,
+            err,
+            path,
+            reason.as_ref(),
+        ),
+        Err(ReportFault::Unwritten(path, reason)) => return cannot_write_file(
+            alloc,
+            err,
+            path,
+            reason.as_ref(),
+        ),
     };
-    if !tell(out, report.lines.as_str()) {
-        return cannot_write(err);
+    if let Err(error) = tell(out, report.lines.as_str()) {
+        return cannot_write(alloc, err, error);
     }
+    explain(alloc, meanwhile.terminal, &wanted.task, text, &report);
     tell_notes(err, wanted.task.may_tell(), &report);
     report.status
 }
 
-// Reads all that is there, and does the task with it.
+// Reads all that is there, up to so many bytes, and does the task with it.
 fn run_input<F: Files<File = File> + Clock + Threads + Wait + Sync, R: Read, W: Write, E: Write>(
     rt: &F,
     alloc: Global,
     wanted: &Wanted,
     input: &mut R,
+    most: usize,
     out: &mut W,
     err: &mut E,
     meanwhile: Meanwhile,
@@ -151,10 +219,10 @@ fn run_input<F: Files<File = File> + Clock + Threads + Wait + Sync, R: Read, W: 
         (stream (W.contents out.old) (W.contents out.new))
         (stream (E.contents err.old) (E.contents err.new)) result }
 {
-    match read_all(alloc, input) {
+    match read_all(alloc, input, most) {
         Ok(text) => run_text(rt, alloc, wanted, text.as_slice(), out, err, meanwhile),
         Err(ReadFault::Memory) => no_memory(err),
-        Err(ReadFault::Read) => cannot_read(err, wanted.file),
+        Err(ReadFault::Unread(reason)) => cannot_read(alloc, err, wanted.file, Some(&reason)),
     }
 }
 
@@ -172,8 +240,11 @@ fn run_file<F: Files<File = File> + Clock + Threads + Wait + Sync, W: Write, E: 
         (stream (E.contents err.old) (E.contents err.new)) result }
 {
     match File::open(rt, wanted.file) {
-        Ok(mut file) => run_input(rt, alloc, wanted, &mut file, out, err, meanwhile),
-        Err(_) => cannot_read(err, wanted.file),
+        Ok(mut file) => {
+            let most = most_of(&file);
+            run_input(rt, alloc, wanted, &mut file, most, out, err, meanwhile)
+        }
+        Err(error) => cannot_read(alloc, err, wanted.file, Some(&Reason::System(error))),
     }
 }
 
@@ -192,13 +263,41 @@ fn run_wanted<F: Files<File = File> + Clock + Threads + Wait + Sync, R: Read, W:
         (stream (E.contents err.old) (E.contents err.new)) result }
 {
     if wanted.file == "-" {
-        return run_input(rt, alloc, wanted, input, out, err, meanwhile);
+        return run_input(rt, alloc, wanted, input, MOST_BYTES, out, err, meanwhile);
     }
     run_file(rt, alloc, wanted, out, err, meanwhile)
 }
 
+// What a wrong command line is told, in two parts: clap's text but for its tip to pass a word as a value, since no
+// command takes one that begins with a dash.
+fn without_tip(text: &str) -> (&str, &str) {
+    let Some((before, tip)) = text.split_once("  tip: to pass '") else {
+        return (text, "");
+    };
+    match tip.split_once("\n\n") {
+        Some((_, behind)) => (before, behind),
+        None => (before, ""),
+    }
+}
+
+// Tells why a command line is wrong.
+fn told_misuse<E: Write>(alloc: Global, error: &Error, err: &mut E) -> u8
+    ensures { result ≡ 2 }
+{
+    match format!(in alloc; "{error}") {
+        Ok(text) => {
+            let (before, behind) = without_tip(text.as_str());
+            let _ = tell(err, before).and_then(|()| tell(err, behind));
+        }
+        Err(AllocError) => {
+            let _ = write!(err, "{error}");
+        }
+    }
+    MISUSE
+}
+
 // A command line that asks for help, or is wrong.
-fn misuse<W: Write, E: Write>(error: Error, out: &mut W, err: &mut E) -> u8
+fn misuse<W: Write, E: Write>(alloc: Global, error: Error, out: &mut W, err: &mut E) -> u8
     ensures memory { kind_of error ≡ ErrorKind.OutOfMemory → (result ≡ 4)
         × (W.contents out.new ≡ W.contents out.old)
         × Begins (stream (E.contents err.old) (E.contents err.new)) (codes "memory\n") }
@@ -210,19 +309,20 @@ fn misuse<W: Write, E: Write>(error: Error, out: &mut W, err: &mut E) -> u8
         return no_memory(err);
     }
     if error.use_stderr() {
-        let _ = write!(err, "{error}");
-        return MISUSE;
+        return told_misuse(alloc, &error, err);
     }
-    if write!(out, "{error}").is_err() {
-        return cannot_write(err);
+    match write!(out, "{error}") {
+        Ok(()) => 0,
+        Err(error) => cannot_write(alloc, err, error),
     }
-    0
 }
 
 fn wrong_words<E: Write>(err: &mut E, text: &str) -> u8
     ensures { result ≡ 2 }
 {
-    let _ = tell(err, text) && tell(err, "\n\nFor more information, try 'procd --help'.\n");
+    for part in [text, "\n\nFor more information, try 'procd --help'.\n"] {
+        let _ = tell(err, part);
+    }
     MISUSE
 }
 
@@ -263,7 +363,7 @@ pub fn program<
 {
     match wanted_of(alloc, words) {
         Ok(wanted) => run_wanted(rt, alloc, &wanted, input, out, err, meanwhile),
-        Err(WordFault::Clap(error)) => misuse(error, out, err),
+        Err(WordFault::Clap(error)) => misuse(alloc, error, out, err),
         Err(WordFault::Memory) => no_memory(err),
         Err(WordFault::NotNumber) => {
             wrong_words(err, "error: an ARG or N is no number of 64 bits in decimal")

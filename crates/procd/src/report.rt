@@ -1,21 +1,22 @@
 //! What a command says of the text that was read.
 
-ghost use Rattle.std.specs.Prelude.{◌≡◌, ◌≢◌, true, Some, option_map, IfOk, IfErr, string_bytes};
-ghost use Rattle.std.specs.Str.{IsUtf8};
+ghost use Rattle.std.specs.Prelude.{◌≡◌, Some, option_map, IfOk, IfErr, string_bytes};
 ghost use Rattle.procd.specs.Report.{IsReport, IsKeptRun, IsRunReport, IsLogReport};
-ghost use Rattle.procd.specs.Joining.Further.{IsScriptFault, IsLogFault, IsTaskFault};
+ghost use Rattle.procd.specs.Joining.Further.{IsScriptFault, IsLogFault, IsTaskFault, IsNoText, IsNoTextOf, IsOfText};
 ghost use Rattle.command_line.specs.Task.{Log, wish_of, reads_text};
 
-use crate::reading::{ReadFault, read_all};
+use crate::reading::{ReadFault, Reason, TextFault, most_of, read_all, text_of};
 use command_line::words::Task;
 use log_command::auditing::auditing;
 use log_command::listing::listing;
+use report_texts::explanation::explanation;
 use report_texts::report::Report;
 use run_command::logged::{Unlogged, running_logged};
 use run_command::running::{Listeners, Manner, running};
+use scripts::keyword::Command;
 use std::alloc::{AllocError, Global};
 use std::fs::File;
-use std::io::Stderr;
+use std::io::{Stderr, Write};
 use std::rt::Files;
 use std::sync::Wait;
 use std::thread::Threads;
@@ -34,15 +35,26 @@ pub struct Meanwhile {
 }
 
 /// Why there is no report.
-#[derive(Clone, Copy, Debug, PartialEq, Eq)]
+#[derive(Clone, Copy, Debug)]
 pub enum ReportFault<'a> {
-    /// What was read is no text in UTF-8.
-    NotText,
-    /// The further file with this path can't be read: a run's log, or the script beside a log.
-    Unread(&'a str),
+    /// What was read is no text.
+    NotText(TextFault),
+    /// The further file with this path can't be read, and why: a run's log, or the script beside a log.
+    Unread(&'a str, Option<Reason>),
     /// The file with this path, which is to keep a run's log, can't be written.
-    Unwritten(&'a str),
+    Unwritten(&'a str, Option<Reason>),
     Memory,
+}
+
+impl From<TextFault> for ReportFault<'_> {
+    ghost use Rattle.std.specs.Prelude.{◌≡◌};
+    ghost use Rattle.procd.specs.declared.report.ReportFault.TheVariants.{NotText};
+
+    ghost from_gives = { λ fault e. e ≡ NotText fault };
+
+    fn from(fault: TextFault) -> Self {
+        ReportFault::NotText(fault)
+    }
 }
 
 impl From<AllocError> for ReportFault<'_> {
@@ -64,13 +76,15 @@ fn read_script<'a, R: Files>(
 ) -> Result<Vec<u8>, ReportFault<'a>>
     ensures { IfErr result (IsScriptFault path.entry.now) }
 {
-    let Ok(mut file) = File::open(rt, path) else {
-        return Err(ReportFault::Unread(path));
+    let mut file = match File::open(rt, path) {
+        Ok(file) => file,
+        Err(error) => return Err(ReportFault::Unread(path, Some(Reason::System(error)))),
     };
-    match read_all(alloc, &mut file) {
+    let most = most_of(&file);
+    match read_all(alloc, &mut file, most) {
         Ok(text) => Ok(text),
         Err(ReadFault::Memory) => Err(ReportFault::Memory),
-        Err(ReadFault::Read) => Err(ReportFault::Unread(path)),
+        Err(ReadFault::Unread(reason)) => Err(ReportFault::Unread(path, Some(reason))),
     }
 }
 
@@ -85,13 +99,13 @@ fn logged<'a, R: Files<File = File> + Clock + Threads + Wait + Sync>(
 ) -> Result<Report, ReportFault<'a>>
     ensures ok { IfOk result (λ r. IsKeptRun manner.workers manner.tries manner.audit text.now r.status (string_bytes r.lines)) }
     ensures fault { IfErr result (IsLogFault (Some path.entry.now)) }
-    ensures text { IfErr result (λ e. e ≢ ReportFault.NotText) }
+    ensures text { IfErr result IsOfText }
 {
     match running_logged(rt, alloc, path, text, manner, listeners) {
         Ok(ran) => Ok(ran.report),
         Err(Unlogged::Memory) => Err(ReportFault::Memory),
-        Err(Unlogged::Unread) => Err(ReportFault::Unread(path)),
-        Err(Unlogged::Unwritten) => Err(ReportFault::Unwritten(path)),
+        Err(Unlogged::Unread) => Err(ReportFault::Unread(path, None)),
+        Err(Unlogged::Unwritten) => Err(ReportFault::Unwritten(path, None)),
     }
 }
 
@@ -106,12 +120,10 @@ fn run_report<'a, R: Files<File = File> + Clock + Threads + Wait + Sync>(
 ) -> Result<Report, ReportFault<'a>>
     ensures ok { IfOk result (λ r. IsRunReport manner.workers manner.tries manner.audit (option_map (λ path. path.now) log.entry) text.now
         r.status (string_bytes r.lines)) }
-    ensures not_text { IfErr result (λ e. e ≡ ReportFault.NotText → ¬ (IsUtf8 text.now)) }
+    ensures not_text { IfErr result (IsNoText text.now) }
     ensures log { IfErr result (IsLogFault (option_map (λ path. path.now) log.entry)) }
 {
-    let Ok(text) = str::from_utf8(text) else {
-        return Err(ReportFault::NotText);
-    };
+    let text = text_of(text)?;
     match log {
         Some(path) => logged(rt, alloc, path, text, manner, listeners),
         None => match running(rt, alloc, text, manner, listeners) {
@@ -129,16 +141,42 @@ fn log_report<'a, R: Files>(
     script: Option<&'a str>,
 ) -> Result<Report, ReportFault<'a>>
     ensures ok { IfOk result (λ r. IsLogReport (option_map (λ path. path.now) script.entry) file.now r.status (string_bytes r.lines)) }
-    ensures text { IfErr result (λ e. e ≢ ReportFault.NotText) }
+    ensures text { IfErr result IsOfText }
     ensures script { IfErr result (IsTaskFault (Log (option_map (λ path. path.now) script.entry))) }
 {
     let Some(path) = script else {
         return Ok(listing(alloc, file)?);
     };
     let script = read_script(rt, alloc, path)?;
-    match str::from_utf8(script.as_slice()) {
+    match text_of(script.as_slice()) {
         Ok(script) => Ok(auditing(alloc, file, script)?),
-        Err(_) => Err(ReportFault::Unread(path)),
+        Err(fault) => Err(ReportFault::Unread(path, Some(Reason::Text(fault)))),
+    }
+}
+
+// The command of a task that reads a script.
+fn script_command(task: &Task) -> Option<Command> {
+    match task {
+        Task::Verify => Some(Command::Verify),
+        Task::World { .. } => Some(Command::World),
+        Task::Run { .. } => Some(Command::Run),
+        _ => None,
+    }
+}
+
+/// Says on a terminal, behind this report, what is wrong with a script that was refused for a bad line or a bad number.
+pub fn explain(alloc: Global, terminal: Option<Stderr>, task: &Task, text: &[u8], report: &Report) {
+    let (Some(mut terminal), Some(command)) = (terminal, script_command(task)) else {
+        return;
+    };
+    let Ok(text) = text_of(text) else {
+        return;
+    };
+    if report.status == 0 {
+        return;
+    }
+    if let Ok(Some(line)) = explanation(alloc, command, text) {
+        let _ = terminal.write_all(line.as_bytes());
     }
 }
 
@@ -151,32 +189,22 @@ pub fn report_on<'a, R: Files<File = File> + Clock + Threads + Wait + Sync>(
     meanwhile: Meanwhile,
 ) -> Result<Report, ReportFault<'a>>
     ensures ok { IfOk result (λ r. IsReport (wish_of task.now) text.now r.status (string_bytes r.lines)) }
-    // Only assembly text and scripts have to be UTF-8.
-    ensures not_text { IfErr result (λ e. e ≡ ReportFault.NotText → (reads_text (wish_of task.now) ≡ true) × ¬ (IsUtf8 text.now)) }
+    // Only assembly text and scripts have to be UTF-8, and without a byte order mark.
+    ensures not_text { IfErr result (IsNoTextOf (reads_text (wish_of task.now)) text.now) }
     // A further file that can't be read or written is the one that is wanted.
     ensures further { IfErr result (IsTaskFault (wish_of task.now)) }
 {
     match task {
         Task::Exec { raw, numbers } => Ok(execution(alloc, *raw, text, numbers.as_slice())?),
-        Task::Asm => match str::from_utf8(text) {
-            Ok(text) => Ok(assembly(alloc, text)?),
-            Err(_) => Err(ReportFault::NotText),
-        },
-        Task::Verify => match str::from_utf8(text) {
-            Ok(text) => Ok(verification(alloc, text)?),
-            Err(_) => Err(ReportFault::NotText),
-        },
-        Task::World { log, audit } => match str::from_utf8(text) {
-            Ok(text) => Ok(world(
-                alloc,
-                Behind {
-                    audit: *audit,
-                    log: *log,
-                },
-                text,
-            )?),
-            Err(_) => Err(ReportFault::NotText),
-        },
+        Task::Asm => Ok(assembly(alloc, text_of(text)?)?),
+        Task::Verify => Ok(verification(alloc, text_of(text)?)?),
+        Task::World { log, audit } => {
+            let behind = Behind {
+                audit: *audit,
+                log: *log,
+            };
+            Ok(world(alloc, behind, text_of(text)?)?)
+        }
         Task::Run {
             workers,
             tries,

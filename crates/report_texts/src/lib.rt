@@ -8,6 +8,7 @@
 //! ```
 #![tactic(auto)]
 
+pub mod explanation;
 pub mod fault_names;
 pub mod hex;
 pub mod report;

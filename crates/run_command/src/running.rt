@@ -173,8 +173,7 @@ fn prepare(
     let first = calls_of(alloc, first)?;
     let calls = calls_of(alloc, calls)?;
     let rings = Rings::new(alloc, dcs, manner.workers)?;
-    let watched = if manner.stats { calls.len() } else { 0 };
-    let waits = Waits::new(alloc, watched, listeners)?;
+    let waits = Waits::new(alloc, calls.len(), manner.stats, listeners)?;
     Ok(Prepared {
         workload: Workload {
             first,

@@ -23,6 +23,8 @@ pub struct Listeners {
 #[derive(Drop)]
 pub struct Waits {
     alloc: Global,
+    // How many calls there are.
+    total: usize,
     // Of each call, in nanoseconds: 0, then when it began, and at last how long it took.
     calls: Vec<AtomicU64>,
     listeners: Listeners,
@@ -31,14 +33,21 @@ pub struct Waits {
 }
 
 impl Waits {
-    /// Room for the times of so many calls, of which none has begun.
-    pub fn new(alloc: Global, calls: usize, listeners: Listeners) -> Result<Waits, AllocError> {
-        let mut times = Vec::with_capacity(alloc, calls)?;
-        for _ in 0..calls {
+    /// So many calls, of which none has begun, with room for the times of them where these are asked for.
+    pub fn new(
+        alloc: Global,
+        total: usize,
+        is_timed: bool,
+        listeners: Listeners,
+    ) -> Result<Waits, AllocError> {
+        let timed = if is_timed { total } else { 0 };
+        let mut times = Vec::with_capacity(alloc, timed)?;
+        for _ in 0..timed {
             times.push(AtomicU64::new(0))?;
         }
         Ok(Waits {
             alloc,
+            total,
             calls: times,
             listeners,
             answered: AtomicU64::new(0),
@@ -61,7 +70,8 @@ impl Waits {
         }
     }
 
-    // Writes how many calls are answered over the line of before, where that is a second old.
+    // Writes how many calls are answered, of how many, and how many a second so far, over the line of before, where
+    // that is a second old.
     fn tell(&self, mut terminal: Stderr, now: u64) {
         let answered = self.answered.fetch_add(1, Ordering::SeqCst).wrapping_add(1);
         let last = self.told.load(Ordering::SeqCst);
@@ -71,7 +81,13 @@ impl Waits {
                 .compare_exchange(last, now, Ordering::SeqCst, Ordering::SeqCst)
                 .is_ok()
         {
-            let _ = write!(terminal, "\r{answered} calls answered");
+            let total = self.total;
+            let rate = u128::from(answered) * 1_000_000_000 / u128::from(now.max(1));
+            // Behind a longer line of before, the rest of the line is erased.
+            let _ = write!(
+                terminal,
+                "\r{answered} of {total} calls answered, {rate} a second\x1b[K"
+            );
         }
     }
 

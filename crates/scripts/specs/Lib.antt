@@ -5,3 +5,4 @@ pub mod Keywords
 pub mod Lines
 pub mod Open
 pub mod Reading
+pub mod Causes

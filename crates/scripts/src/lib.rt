@@ -6,6 +6,7 @@
 //! ```
 #![tactic(auto)]
 
+pub mod cause;
 pub mod fault;
 pub mod keyword;
 pub mod line;

@@ -7,6 +7,5 @@ pub returns-in-Err-Memory : goal.returns-in-Err-Memory
 returns-in-Err-Memory g c =
     no_memory_fits c.args.wanted.now.file.now (wish_of c.args.wanted.now.task) _ _ _ _ c.no_memory.ensures.status refl c.no_memory.ensures.told
 
-pub returns-in-Err-Read : goal.returns-in-Err-Read
-returns-in-Err-Read g c =
-    cannot_read_fits c.args.wanted.now.file.now (wish_of c.args.wanted.now.task) _ _ _ _ c.cannot_read.ensures.status refl c.cannot_read.ensures.told
+pub returns-in-Err-Unread : goal.returns-in-Err-Unread
+returns-in-Err-Unread g c = cannot_read_fits c.args.wanted.now.file.now (wish_of c.args.wanted.now.task) _ _ _ _ c.cannot_read.ensures refl

@@ -1,0 +1,10 @@
+use Rattle.std.proofs.Common.{[], subst, ◌∙◌}
+use Rattle.procd.specs.Streams.{Begins}
+use Rattle.procd.proofs.program.cannot_write.Goals as goal
+
+pub returns-in-Ok-clause-told : goal.returns-in-Ok-clause-told
+returns-in-Ok-clause-told g c =
+    (c.in-Ok.ensures.0, subst (Begins _) (c.as_str.ensures.value ∙ c.in-Ok.ensures.1) c.tell.ensures.part)
+
+pub returns-in-Err-clause-told : goal.returns-in-Err-clause-told
+returns-in-Err-clause-told g c = ([], c.tell-in-Err.ensures.part)

@@ -1,0 +1,174 @@
+#!/usr/bin/env python3
+"""What the program tells a terminal on standard error, by a pseudo-terminal, and how a signal ends it.
+
+usage: tools/terminal.py [--procd PATH]
+
+Of a script that is refused, the word that is at fault; of a long run, how many calls are answered, of how many, and how
+many a second; SIGINT and SIGTERM end a run at once, with nothing on standard output. The expected lines are written by
+hand. A line for each that is otherwise, and one with the count; the status is 1 where one was.
+"""
+import argparse
+import errno
+import os
+import pathlib
+import pty
+import re
+import signal
+import subprocess
+import sys
+import tempfile
+import time
+
+TOP = pathlib.Path(__file__).resolve().parent.parent
+BUILT = TOP / "crates" / "procd" / "out" / "procd"
+PUT = "dc 65536 1048576\nproc put 2\nslot write 0 0 $0\nldxdw r6, [r1+8]\nmov r1, 0\ncall 5\nstxdw [r0+0], r6\n"
+PUT += "mov r1, 0\ncall 2\nmov r0, 0\nexit\nend\n"
+CALLS = 400_000
+BEGINS = "is no word that a line outside of procedures begins with"
+# A command, a script, its line on standard output, and what the terminal is told.
+REFUSED = [
+    (
+        "run", "dc 1 1\nfoo 1\n", "line 2 F1 BadLine",
+        f'line 2: "foo" {BEGINS}; of run these are dc, proc, first and call',
+    ),
+    ("verify", "foo\n", "line 1 F1 BadLine", f'line 1: "foo" {BEGINS}; of verify these are dc and proc'),
+    (
+        "world", "dc 1 1\n\nFirst a\n", "line 3 F1 BadLine",
+        f'line 3: "First" {BEGINS}; of world these are dc, proc and the steps, as admit or ask',
+    ),
+    ("run", "dc 1 1\nask 1\n", "line 2 F1 BadLine", 'line 2: "ask" is a word of scripts for world alone'),
+    ("world", PUT + "call put 1 2\n", "line 13 F1 BadLine", 'line 13: "call" is a word of scripts for run alone'),
+    ("run", "dc 4\n", "line 1 F1 BadLine", 'line 1: a line that begins with "dc" is of the form dc ROWS OPS'),
+    (
+        "run", "dc 1 1\nproc a 0\nslot reed 0 0 1\n", "line 3 F1 BadLine",
+        'line 3: a line that begins with "slot" is of the form slot read|write DC TABLE KEY',
+    ),
+    (
+        "verify", "dc 1 1\nproc a 0\n exit\n", "line 3 F1 BadLine",
+        'line 3: the script ends inside of a procedure: a line "end" is missing',
+    ),
+    (
+        "verify", "dc 1 1\nproc a 0\ncall 1\n", "line 3 F1 BadLine",
+        'line 3: the script ends inside of a procedure: a line "end" is missing',
+    ),
+    (
+        "run", "dc 1 1\nproc a 0\nslot read 0 70000 1\n", "line 3 F2 BadNumber",
+        'line 3: "70000" is no number from 0 to 65535 in decimal digits',
+    ),
+    (
+        "run", "dc 1 1\nproc a 0\nslot read 0 0 $256\n", "line 3 F2 BadNumber",
+        'line 3: "256" is no number from 0 to 255 in decimal digits',
+    ),
+    ("run", "dc +4 1\n", "line 1 F2 BadNumber", 'line 1: "+4" is no number from 0 to 65536 in decimal digits'),
+    (
+        "run", "dc 4 1048577\n", "line 1 F2 BadNumber",
+        'line 1: "1048577" is no number from 0 to 1048576 in decimal digits',
+    ),
+    (
+        "run", "dc 1 1\nproc a 256\n", "line 2 F2 BadNumber",
+        'line 2: "256" is no number from 0 to 255 in decimal digits',
+    ),
+    ("run", PUT + "call put 1 x\n", "line 13 F2 BadNumber", 'line 13: "x" is no number of 64 bits in decimal digits'),
+    (
+        "world", "dc 1 1\nrestart 70000\n", "line 2 F2 BadNumber",
+        'line 2: "70000" is no number from 0 to 65535 in decimal digits',
+    ),
+    (
+        "world", "dc 1 1\nforge 1 done was y\n", "line 2 F2 BadNumber",
+        'line 2: "y" is no number of 64 bits in decimal digits',
+    ),
+    (
+        "world", "dc 1 1\nforge 1 value -1\n", "line 2 F2 BadNumber",
+        'line 2: "-1" is no number of 64 bits in decimal digits',
+    ),
+    (
+        "run", "\tf\x1boo\n", "line 1 F1 BadLine",
+        f'line 1: "f\\u{{1b}}oo" {BEGINS}; of run these are dc, proc, first and call',
+    ),
+    ("run", "proc a 0\n", "line 1 F9 Order", ""),
+]
+
+
+def on_terminal(words, given):
+    """Runs it with a terminal as standard error: the status, standard output, and what the terminal got."""
+    reader, terminal = pty.openpty()
+    with tempfile.TemporaryFile() as script, tempfile.TemporaryFile() as out:
+        script.write(given.encode())
+        script.seek(0)
+        with subprocess.Popen(words, stdin=script, stdout=out, stderr=terminal) as process:
+            os.close(terminal)
+            told = b""
+            while chunk := read_some(reader):
+                told += chunk
+        out.seek(0)
+        printed = out.read().decode()
+    os.close(reader)
+    return process.returncode, printed, told.decode().replace("\r\n", "\n")
+
+
+def read_some(reader):
+    """What a terminal's other side gives; nothing once nobody has it open."""
+    try:
+        return os.read(reader, 4096)
+    except OSError as error:
+        if error.errno != errno.EIO:
+            raise
+        return b""
+
+
+def refusals(procd):
+    """Each script that is refused, where that went otherwise."""
+    for command, script, why, told in REFUSED:
+        wanted = (1, f"refused {why}\n", f"{told}\n" if told else "")
+        ended = on_terminal([procd, command, "-"], script)
+        if ended != wanted:
+            yield f"{command} of {script!r}: {ended}, not {wanted}"
+
+
+def progress(procd):
+    """A long run, where it told no progress or told it otherwise."""
+    calls = "".join(f"call put {call % 60000} 1\n" for call in range(CALLS))
+    status, _, told = on_terminal([procd, "run", "--workers", "1", "-"], PUT + calls)
+    lines = told.rstrip("\n").split("\r")[1:]
+    form = re.compile(rf"(\d+) of {CALLS} calls answered, (\d+) a second\x1b\[K")
+    if status or not lines or not told.endswith("\n"):
+        yield f"progress: status {status}, {told!r}"
+    for line in lines:
+        met = form.fullmatch(line)
+        if not met or not 0 < int(met[1]) <= CALLS or int(met[2]) == 0:
+            yield f"progress: {line!r}"
+
+
+def signals(procd):
+    """A run that a signal meets, where it doesn't end at once and in silence."""
+    calls = "".join(f"call put {call % 60000} 1\n" for call in range(CALLS))
+    words = [procd, "run", "--tell", "--workers", "1", "-"]
+    for number in (signal.SIGINT, signal.SIGTERM):
+        with tempfile.TemporaryFile() as script, tempfile.TemporaryFile() as out:
+            script.write((PUT + calls).encode())
+            script.seek(0)
+            with subprocess.Popen(words, stdin=script, stdout=out, stderr=subprocess.PIPE) as process:
+                process.stderr.readline()
+                process.send_signal(number)
+                began = time.time()
+                process.stderr.read()
+            out.seek(0)
+            printed = out.read()
+        if process.returncode != -number or printed or time.time() - began > 5:
+            yield f"{number.name}: status {process.returncode}, {printed[:80]!r}"
+
+
+def main():
+    parser = argparse.ArgumentParser(description=__doc__, formatter_class=argparse.RawDescriptionHelpFormatter)
+    parser.add_argument("--procd", default=str(BUILT), help="the program (that of crates/procd/out)")
+    procd = parser.parse_args().procd
+    wrong = [*refusals(procd), *progress(procd), *signals(procd)]
+    for line in wrong:
+        print(f"terminal: {line}")
+    ended = "wrong" if wrong else "nothing wrong"
+    print(f"terminal: {len(REFUSED)} refusals, progress of {CALLS:,} calls, 2 signals, {ended}")
+    sys.exit(1 if wrong else 0)
+
+
+if __name__ == "__main__":
+    main()
