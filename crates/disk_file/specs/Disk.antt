@@ -1,7 +1,7 @@
 -- A file of the system, as its device shows it.
 use Rattle.std.specs.Prelude.{ℕ, List}
 use Rattle.disk_file.specs.declared.disk.DiskFile.{DiskFile}
-use Rattle.disk_file.specs.Events.{MayLeave}
+use Rattle.disk_file.specs.Events.{MayLeave, pieces_in}
 
 -- what a read returns
 abbrev pub disk_bytes : DiskFile → List ℕ
@@ -10,3 +10,7 @@ disk_bytes d = d.bytes.items
 -- what a crash may leave
 abbrev pub left_of : DiskFile → List ℕ → Type 0
 left_of d c = MayLeave d.calls.events c
+
+-- what was cut off, and is kept and synced in another file
+abbrev pub kept_of : DiskFile → List ℕ
+kept_of d = pieces_in d.kept.events

@@ -1,13 +1,13 @@
 -- The calls of a file that were made, and what a crash leaves behind them. Newest first.
-use Rattle.std.specs.Prelude.{◌≡◌, ◌⊎◌, ℕ, ◌+◌, ◌<◌, ◌==◌, if◌then◌else◌, List, [], ◌∷◌, length, slice_index}
+use Rattle.std.specs.Prelude.{◌≡◌, ◌⊎◌, ℕ, ◌+◌, ◌<◌, ◌==◌, if◌then◌else◌, List, [], ◌∷◌, ◌++◌, length, slice_index}
 use mathlib.Core.Logic.{inl, inr}
 use native.Mathlib.Nat.{lt_irrefl}
 use Rattle.frame_file.specs.Device.{Torn, Cut}
 
--- opened with these bytes, all on the disk; so many bytes appended; cut to a length; these bytes synced; a sync that failed
+-- opened with these bytes, all on the disk; these bytes appended; cut to a length; these bytes synced; a sync that failed
 pub data Call : Type 0 where
   Opened : List ℕ → Call
-  Appended : ℕ → Call
+  Appended : List ℕ → Call
   CutTo : ℕ → Call
   Synced : List ℕ → Call
   Unsynced : Call
@@ -21,7 +21,7 @@ pub record Event : Type 0 where
 abbrev pub call_of : ℕ → ℕ → List ℕ → Call
 call_of kind len bytes =
     if kind == 0 then Opened bytes else
-    if kind == 1 then Appended (length bytes) else
+    if kind == 1 then Appended bytes else
     if kind == 2 then CutTo len else
     if kind == 3 then Synced bytes else Unsynced
 
@@ -32,7 +32,7 @@ event_of numbers bytes = record { call = call_of (slice_index numbers 0) (slice_
 -- what a crash leaves behind a call, by what it left before it
 abbrev pub left_by : Call → (List ℕ → Type 0) → List ℕ → Type 0
 left_by (Opened file) left c = c ≡ file
-left_by (Appended n) left c = (d : List ℕ) × left d × Torn n d c
+left_by (Appended bytes) left c = (d : List ℕ) × left d × Torn bytes d c
 left_by (CutTo n) left c = (d : List ℕ) × left d × Cut n d c
 left_by (Synced file) left c = (c ≡ file) × left c
 left_by Unsynced left c = left c
@@ -49,6 +49,18 @@ LeftSince (x ∷ events) t c = MayLeave (x ∷ events) c ⊎ ((t < length (x ∷
 abbrev pub fault_count : List Event → ℕ
 fault_count [] = 0
 fault_count (x ∷ events) = x.fault + fault_count events
+
+-- what was synced, one piece behind another: of a file that holds what is cut off from another
+abbrev pub synced_by : Call → List ℕ
+synced_by (Opened file) = []
+synced_by (Appended bytes) = []
+synced_by (CutTo n) = []
+synced_by (Synced bytes) = bytes
+synced_by Unsynced = []
+
+abbrev pub pieces_in : List Event → List ℕ
+pieces_in [] = []
+pieces_in (x ∷ events) = pieces_in events ++ synced_by x.call
 
 pub counted : (events : List Event) (t : ℕ) (c : List ℕ) → MayLeave events c → LeftSince events t c
 counted [] t c now = now

@@ -1,9 +1,9 @@
 // A file of the operating system.
 
-ghost use Rattle.std.specs.Prelude.{◌≡◌, length, IfOk};
-ghost use Rattle.frame_file.specs.Device.{Only};
-ghost use Rattle.disk_file.specs.Disk.{disk_bytes, left_of};
-ghost use Rattle.disk_file.specs.Events.{MayLeave, LeftSince, fault_count, counted, alone};
+ghost use Rattle.std.specs.Prelude.{◌≡◌, ◌≤◌, ◌+◌, ◌++◌, length, drop, IfOk, OnOk, OnErr};
+ghost use Rattle.frame_file.specs.Device.{Only, HasCause};
+ghost use Rattle.disk_file.specs.Disk.{disk_bytes, left_of, kept_of};
+ghost use Rattle.disk_file.specs.Events.{MayLeave, LeftSince, pieces_in, fault_count, counted, alone};
 
 use crate::record::Record;
 use frame_file::{Device, DeviceError};
@@ -30,6 +30,10 @@ pub struct DiskFile {
     // what was read when it was opened, and what was appended since
     bytes: Vec<u8>,
     calls: Record,
+    // where what is cut off is kept, how many bytes that are, and the calls of that file
+    dropped: Option<File>,
+    cut_off: usize,
+    kept: Record,
 }
 
 impl DiskFile {
@@ -40,7 +44,51 @@ impl DiskFile {
     {
         let mut calls = Record::new();
         calls.note(&[OPENED, 0, 0], &bytes);
-        DiskFile { file, bytes, calls }
+        DiskFile {
+            file,
+            bytes,
+            calls,
+            dropped: None,
+            cut_off: 0,
+            kept: Record::new(),
+        }
+    }
+
+    /// From now on, what is cut off is kept behind the last byte of this file.
+    pub(crate) fn keep_in(&mut self, dropped: File)
+        ensures bytes { disk_bytes self.new ≡ disk_bytes self.old }
+        ensures left { Only (disk_bytes self.old) (left_of self.old) → Only (disk_bytes self.new) (left_of self.new) }
+    {
+        self.dropped = Some(dropped);
+    }
+
+    // Keeps what stands from this place on.
+    fn keep(&mut self, len: usize) -> Result<(), DeviceError>
+        requires { len ≤ length (disk_bytes self.old) }
+        ensures kept { OnOk result (kept_of self.new ≡ kept_of self.old ++ drop len (disk_bytes self.old)) }
+        ensures bytes { self.new.bytes ≡ self.old.bytes }
+        ensures calls { self.new.calls ≡ self.old.calls }
+        ensures cause { HasCause (fault_count self.old.kept.events) (fault_count self.new.kept.events) result }
+    {
+        let end = &self.bytes[len..];
+        if end.is_empty() {
+            return Ok(());
+        }
+        let Some(dropped) = &mut self.dropped else {
+            return Err(DeviceError::Unkept);
+        };
+        if dropped.write_all(end).is_err() || dropped.sync_data().is_err() {
+            self.kept.note(&[UNSYNCED, 1, 0], &[]);
+            return Err(DeviceError::Failed);
+        }
+        self.kept.note(&[SYNCED, 0, 0], end);
+        self.cut_off = self.cut_off.saturating_add(end.len());
+        Ok(())
+    }
+
+    /// How many bytes were cut off since it was opened.
+    pub fn cut_off(&self) -> usize {
+        self.cut_off
     }
 
     /// What a read returns.
@@ -60,7 +108,9 @@ impl Device for DiskFile {
 
     ghost left_since = { λ d t c. LeftSince d.calls.events t c };
 
-    ghost faults = { λ d. fault_count d.calls.events };
+    ghost faults = { λ d. fault_count d.calls.events + fault_count d.kept.events };
+
+    ghost kept = { λ d. kept_of d };
 
     ghost counts_now = { λ d t c le now. counted d.calls.events t c now };
 
@@ -82,6 +132,7 @@ impl Device for DiskFile {
     }
 
     fn cut(&mut self, len: usize) -> Result<(), DeviceError> {
+        self.keep(len)?;
         if self.file.set_len(len as u64).is_err() {
             self.calls.note(&[CUT, 1, len as u64], &[]);
             return Err(DeviceError::Failed);

@@ -12,4 +12,4 @@ mod opening;
 mod record;
 
 pub use disk::DiskFile;
-pub use opening::OpenError;
+pub use opening::{FileKind, OpenError};

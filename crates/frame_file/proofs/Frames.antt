@@ -116,13 +116,13 @@ own_number m p after bytes small fits is =
     let b = begun m p after bytes fits is in
     ap (λ (x : List ℕ). from_le_bytes w64 x) (sym (take-take 8 24 bytes (omega arith)) ∙ ap (λ (x : List ℕ). take 8 x) b.head) ∙ number_back m p small
 
-pub none_begins_short : (n : ℕ) (bytes : List ℕ) → length bytes < 24 → NoneBegins n bytes
-none_begins_short n bytes short m later small = none_short m bytes short
+pub none_begins_short : (bytes : List ℕ) → length bytes < 24 → NoneBegins bytes
+none_begins_short bytes short m small = none_short m bytes short
 
-pub none_begins : (n own : ℕ) (bytes : List ℕ) → own ≡ from_le_bytes w64 (take 8 bytes) → (n < own → NoFrame own bytes) → NoneBegins n bytes
-none_begins n own bytes is none m later small p after fits at =
+pub none_begins : (own : ℕ) (bytes : List ℕ) → own ≡ from_le_bytes w64 (take 8 bytes) → NoFrame own bytes → NoneBegins bytes
+none_begins own bytes is none m small p after fits at =
     let same : own ≡ m = is ∙ own_number m p after bytes small fits at in
-    none (subst (λ (k : ℕ). n < k) (sym same) later) p after fits (at ∙ ap (λ (k : ℕ). framed k p ++ after) (sym same))
+    none p after fits (at ∙ ap (λ (k : ℕ). framed k p ++ after) (sym same))
 
 pub length-framed : (n : ℕ) (p : List ℕ) → length (framed n p) ≡ 24 + length p
 length-framed n p = omega (arith, length-append (head_bytes n p) p, length-head n p)

@@ -1,5 +1,6 @@
+pub mod Ends
 pub mod Frames
 pub mod Readings
 pub mod Torns
 mod Kept
-mod Moments
+pub mod Moments

@@ -1,10 +1,11 @@
 -- A file is read as one list of payloads.
-use Rattle.std.proofs.Common.{◌≡◌, ℕ, ◌+◌, ◌-◌, ◌<◌, ◌≤◌, zero, suc, List, [], ◌∷◌, ◌++◌, length, take, drop, Vec, refl, sym, ◌∙◌, ap, subst, arith, append_assoc, length-append, take-append-drop}
+use Rattle.std.proofs.Common.{◌≡◌, ◌⊎◌, ⊎_elim, ℕ, ◌+◌, ◌-◌, ◌<◌, ◌≤◌, zero, suc, List, [], ◌∷◌, ◌++◌, length, take, drop, Vec, refl, sym, ◌∙◌, ap, subst, arith, append_assoc, length-append, take-append-drop}
 use Rattle.std.proofs.lemmas.List.{append-nil, drop_at, take_at}
 use Rattle.std.specs.declared.alloc.Global.{Global}
 use Rattle.frame_file.specs.Device.{Cut}
-use Rattle.frame_file.specs.Frame.{framed, frames_from, IsPayload, ArePayloads, NoFrame, NoneBegins, LaterFrame}
+use Rattle.frame_file.specs.Frame.{framed, frames_from, IsPayload, ArePayloads, NoFrame, NoneBegins, HasFrame, IsEnd}
 use Rattle.frame_file.specs.Reading.{Reads, ReadsAs, payloads_in}
+use Rattle.frame_file.proofs.Ends.{torn_front}
 use Rattle.frame_file.proofs.Frames.{Goes, goes, frames_push, fit_push, length-framed}
 
 reads_goes : (file : List ℕ) (ps qs : List (List ℕ)) (a : Reads file ps) (b : Reads file qs) → Goes 0 ps qs a.rest b.rest
@@ -38,24 +39,57 @@ front_none n k rest none p after fits is =
     none p (after ++ drop k rest) fits
     (sym (take-append-drop k rest) ∙ (ap (λ (b : List ℕ). b ++ drop k rest) is ∙ append_assoc (framed n p) after (drop k rest)))
 
+-- and of an end an end
+has_front : (k : ℕ) (rest : List ℕ) → HasFrame (take k rest) → HasFrame rest
+has_front k rest w = record {
+  number = w.number;
+  small = w.small;
+  payload = w.payload;
+  fits = w.fits;
+  before = w.before;
+  after = w.after ++ drop k rest;
+  is =
+      let frame = framed w.number w.payload in
+      sym (take-append-drop k rest)
+      ∙ (ap (λ (b : List ℕ). b ++ drop k rest) w.is
+      ∙ (append_assoc w.before (frame ++ w.after) (drop k rest) ∙ ap (λ (b : List ℕ). w.before ++ b) (append_assoc frame w.after (drop k rest))));
+}
+
+end_front : (n k : ℕ) (rest : List ℕ) → IsEnd n rest → IsEnd n (take k rest)
+end_front n k rest ends = record { none = λ w. ends.none (has_front k rest w); torn = λ some. torn_front n k rest (ends.torn some) }
+
+pub end_inside : (file : List ℕ) (ps : List (List ℕ)) (end : ℕ) → Reads file ps → end ≡ length (frames_from 0 ps) → end ≤ length file
+end_inside file ps end reads at = (let long = ap length reads.is in omega (arith, at, long, length-append (frames_from 0 ps) reads.rest))
+
 -- a cut behind the frames keeps them
 pub cut_reads : (file c : List ℕ) (ps : List (List ℕ)) (end : ℕ) → Reads file ps → end ≡ length (frames_from 0 ps) → Cut end file c → Reads c ps
 cut_reads file c ps end reads at cut =
     let n = length c - length (frames_from 0 ps) in
-    let enough = cut.no_shorter in
+    let inside = end_inside file ps end reads at in
+    let enough : end ≤ length c = ⊎_elim (λ (le : end ≤ length c). le) (λ (same : c ≡ file). subst (λ (f : List ℕ). end ≤ length f) (sym same) inside) cut.no_shorter in
     let whole : c ≡ frames_from 0 ps ++ take n reads.rest
     = sym cut.front ∙ (ap (λ (b : List ℕ). take (length c) b) reads.is ∙ take_past (frames_from 0 ps) reads.rest (length c) n (omega (arith, enough, at))) in
     record { rest = take n reads.rest; is = whole; fit = reads.fit; ends = front_none (length ps) n reads.rest reads.ends }
 
 -- and the file is read as before
 pub cut_reads_as : (file c : List ℕ) (ps : List (List ℕ)) (end : ℕ) → Reads file ps → end ≡ length (frames_from 0 ps) → Cut end file c → ReadsAs file c
-cut_reads_as file c ps end reads at cut payloads other = subst (Reads c) (sym (reads_one file ps payloads reads other)) (cut_reads file c ps end reads at cut)
+unfolding cut_reads
+cut_reads_as file c ps end reads at cut payloads other =
+    let same : payloads ≡ ps = reads_one file ps payloads reads other in
+    let here : end ≡ length (frames_from 0 payloads) = at ∙ ap (λ (p : List (List ℕ)). length (frames_from 0 p)) (sym same) in
+    let n = length c - length (frames_from 0 payloads) in
+    (cut_reads file c payloads end other here cut, λ ends. end_front (length payloads) n other.rest ends)
+
+pub same_reads_as : (file c : List ℕ) → c ≡ file → ReadsAs file c
+same_reads_as file c is = subst (ReadsAs file) (sym is) (λ payloads reads. (reads, λ ends. ends))
+
+-- a file has one end behind its frames
+pub one_end : (file : List ℕ) (ps : List (List ℕ)) (a b : Reads file ps) → a.rest ≡ b.rest
+one_end file ps a b = sym (drop_at (frames_from 0 ps) a.rest (length (frames_from 0 ps)) refl)
+    ∙ (ap (λ (f : List ℕ). drop (length (frames_from 0 ps)) f) (sym a.is ∙ b.is) ∙ drop_at (frames_from 0 ps) b.rest (length (frames_from 0 ps)) refl)
 
 pub cut_done : (file : List ℕ) (ps : List (List ℕ)) (end : ℕ) → Reads file ps → end ≡ length (frames_from 0 ps) → take end file ≡ frames_from 0 ps
 cut_done file ps end reads at = ap (λ (b : List ℕ). take end b) reads.is ∙ take_at (frames_from 0 ps) reads.rest end (sym at)
-
-pub end_inside : (file : List ℕ) (ps : List (List ℕ)) (end : ℕ) → Reads file ps → end ≡ length (frames_from 0 ps) → end ≤ length file
-end_inside file ps end reads at = (let long = ap length reads.is in omega (arith, at, long, length-append (frames_from 0 ps) reads.rest))
 
 -- ---- one frame after another
 
@@ -86,12 +120,11 @@ pub fit_on : (payload : List ℕ) (vecs new : List (Vec ℕ Global)) (v : Vec �
     → v.items ≡ payload → ArePayloads (payloads_in new)
 fit_on payload vecs new v fit fits grown is = subst ArePayloads (sym (all_on payload vecs new v grown is)) (fit_push (payloads_in vecs) payload fit fits)
 
--- ---- frames of later numbers
+-- ---- frames that stand anywhere
 
-pub later_in : (n place : ℕ) (bytes : List ℕ) → LaterFrame n (drop place bytes) → LaterFrame n bytes
-later_in n place bytes w = record {
+pub frame_in : (place : ℕ) (bytes : List ℕ) → HasFrame (drop place bytes) → HasFrame bytes
+frame_in place bytes w = record {
   number = w.number;
-  later = w.later;
   small = w.small;
   payload = w.payload;
   fits = w.fits;
@@ -102,12 +135,12 @@ later_in n place bytes w = record {
       ∙ (ap (λ (b : List ℕ). take place bytes ++ b) w.is ∙ sym (append_assoc (take place bytes) w.before (framed w.number w.payload ++ w.after)));
 }
 
-pub none_later : (n : ℕ) (bytes : List ℕ) → ((at : ℕ) → at < length bytes → NoneBegins n (drop at bytes)) → LaterFrame n bytes → ⊥
-none_later n bytes none w =
+pub none_in : (bytes : List ℕ) → ((at : ℕ) → at < length bytes → NoneBegins (drop at bytes)) → HasFrame bytes → ⊥
+none_in bytes none w =
     let frame = framed w.number w.payload in
     let long = ap length w.is in
     let inside : length w.before < length bytes
     = omega (arith, long, length-append w.before (frame ++ w.after), length-append frame w.after, length-framed w.number w.payload) in
     let there : drop (length w.before) bytes ≡ frame ++ w.after
     = ap (λ (b : List ℕ). drop (length w.before) b) w.is ∙ drop_at w.before (frame ++ w.after) (length w.before) refl in
-    none (length w.before) inside w.number w.later w.small w.payload w.after w.fits there
+    none (length w.before) inside w.number w.small w.payload w.after w.fits there

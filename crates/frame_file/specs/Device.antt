@@ -1,18 +1,31 @@
 -- What the calls of a device do to its file, and what a crash may do between two syncs.
-use Rattle.std.specs.Prelude.{◌<◌, ◌≡◌, ◌⊎◌, ℕ, ◌≤◌, List, ◌++◌, length, take, Result, IsErrOf}
+use Rattle.std.specs.Prelude.{◌<◌, ◌≡◌, ◌⊎◌, ℕ, ◌*◌, ◌≤◌, List, ◌++◌, length, take, drop, replicate, Result, IsErrOf}
 use Rattle.frame_file.specs.declared.device.DeviceError.{DeviceError}
 use Rattle.frame_file.specs.declared.device.DeviceError.TheVariants.{Failed}
 
--- after an append of n bytes that a crash cuts short: at most as many bytes more, whatever they are
-pub record Torn (n : ℕ) (old new : List ℕ) : Type 0 where
-  pub tail : List ℕ
-  pub short : length tail ≤ n
-  pub is : new ≡ old ++ tail
+-- the word at this place, counted in words of 8 bytes, as far as it is there
+abbrev pub word_at : ℕ → List ℕ → List ℕ
+word_at k bytes = take 8 (drop (8 * k) bytes)
 
--- after a cut: some length between
+-- what is there of a word that was being written: its first bytes, or zeros (a hole)
+abbrev pub IsLeft : List ℕ → List ℕ → Type 0
+IsLeft word there = (there ≡ take (length there) word) ⊎ (there ≡ take (length there) (replicate 8 0))
+
+-- after an append that a crash cuts short: no more bytes than were to be written, in words of which each was written or is a hole
+pub record Torn (bytes old new : List ℕ) : Type 0 where
+  pub tail : List ℕ
+  pub is : new ≡ old ++ tail
+  pub short : length tail ≤ length bytes
+  pub words : (k : ℕ) → IsLeft (word_at k bytes) (word_at k tail)
+
+-- after a cut: some length between, or nothing is cut off
 pub record Cut (n : ℕ) (old new : List ℕ) : Type 0 where
-  pub no_shorter : n ≤ length new
+  pub no_shorter : (n ≤ length new) ⊎ (new ≡ old)
   pub front : take (length new) old ≡ new
+
+-- what is cut off is kept first: it stands behind what was kept before, or a crash leaves no less than it did
+abbrev pub KeepsFirst : List ℕ → List ℕ → List ℕ → (List ℕ → Type 0) → (List ℕ → Type 0) → Type 0
+KeepsFirst end was kept old new = (kept ≡ was ++ end) ⊎ ((c : List ℕ) → new c → old c)
 
 -- each new outcome of a crash is an old outcome after a step
 abbrev pub Follows : (List ℕ → List ℕ → Type 0) → (List ℕ → Type 0) → (List ℕ → Type 0) → Type 0

@@ -1,6 +1,7 @@
 -- Frames as bytes.
-use Rattle.std.specs.Prelude.{◌≡◌, ℕ, ◌+◌, ◌*◌, ◌%◌, ◌<◌, ◌^◌, List, [], ◌∷◌, ◌++◌, length, bit_xor}
-use Rattle.std.specs.Int.{w64, to_le_bytes}
+use Rattle.std.specs.Prelude.{◌≡◌, ◌⊎◌, ℕ, ◌+◌, ◌*◌, ◌%◌, ◌<◌, ◌≤◌, ◌^◌, List, [], ◌∷◌, ◌++◌, length, bit_xor}
+use Rattle.std.specs.Int.{w64, to_le_bytes, from_le_bytes}
+use Rattle.frame_file.specs.Device.{word_at, IsLeft}
 
 -- FNV-1a of 64 bits (Fowler, Noll, Vo): one byte more
 abbrev pub hash_step : ℕ → ℕ → ℕ
@@ -38,17 +39,28 @@ ArePayloads (payload ∷ payloads) = IsPayload payload × ArePayloads payloads
 abbrev pub NoFrame : ℕ → List ℕ → Type 0
 NoFrame n bytes = (payload after : List ℕ) → IsPayload payload → bytes ≡ framed n payload ++ after → ⊥
 
--- nor one of a later number
-abbrev pub NoneBegins : ℕ → List ℕ → Type 0
-NoneBegins n bytes = (number : ℕ) → n < number → number < 2 ^ 64 → NoFrame number bytes
+-- nor of any
+abbrev pub NoneBegins : List ℕ → Type 0
+NoneBegins bytes = (number : ℕ) → number < 2 ^ 64 → NoFrame number bytes
 
--- somewhere in the bytes stands a frame of a later number
-pub record LaterFrame (n : ℕ) (bytes : List ℕ) : Type 0 where
+-- somewhere in the bytes stands a whole frame
+pub record HasFrame (bytes : List ℕ) : Type 0 where
   pub number : ℕ
-  pub later : n < number
   pub small : number < 2 ^ 64
   pub payload : List ℕ
   pub fits : IsPayload payload
   pub before : List ℕ
   pub after : List ℕ
   pub is : bytes ≡ before ++ (framed number payload ++ after)
+
+-- a crash can have left these bytes of the frame of this number: the first word is the number or a hole, and the length, where it is
+-- there, is a hole or that of a frame which is no shorter than they are
+pub record MayBeTorn (n : ℕ) (tail : List ℕ) : Type 0 where
+  pub numbered : IsLeft (to_le_bytes w64 n) (word_at 0 tail)
+  pub measured : 16 ≤ length tail → (from_le_bytes w64 (word_at 1 tail) ≡ 0) ⊎ (length tail ≤ 24 + from_le_bytes w64 (word_at 1 tail))
+
+-- where this frame would begin, no whole frame stands, and behind others only what a crash can leave. What the first frame was to be is known
+-- to whoever opens the file
+pub record IsEnd (n : ℕ) (rest : List ℕ) : Type 0 where
+  pub none : HasFrame rest → ⊥
+  pub torn : 0 < n → MayBeTorn n rest

@@ -2,9 +2,10 @@
 use Rattle.std.specs.Prelude.{◌≡◌, ◌⊎◌, ℕ, List, [], ◌∷◌, ◌++◌, length, map, Vec}
 use Rattle.std.specs.declared.alloc.Global.{Global}
 use Rattle.frame_file.specs.Device.{Only}
-use Rattle.frame_file.specs.Frame.{frames_from, framed, IsPayload, ArePayloads, NoFrame, LaterFrame}
+use Rattle.frame_file.specs.Frame.{frames_from, framed, IsPayload, ArePayloads, NoFrame, MayBeTorn, IsEnd}
 use Rattle.frame_file.specs.declared.device.DeviceError.TheVariants.{Memory}
 use Rattle.frame_file.specs.declared.file.FrameFile.{FrameFile}
+use Rattle.frame_file.specs.declared.reading.Found.{Found}
 use Rattle.frame_file.specs.declared.reading.FrameFault.{FrameFault}
 use Rattle.frame_file.specs.declared.reading.FrameFault.TheVariants.{Device, Full, Damaged}
 
@@ -15,12 +16,12 @@ pub record Reads (file : List ℕ) (payloads : List (List ℕ)) : Type 0 where
   pub fit : ArePayloads payloads
   pub ends : NoFrame (length payloads) rest
 
--- the frame of this number isn't whole, and behind it stands one of a later number
+-- the frame of this number isn't whole, and what stands there is no end that a crash leaves
 pub record IsDamaged (file : List ℕ) (number : ℕ) : Type 0 where
   pub payloads : List (List ℕ)
   pub reads : Reads file payloads
   pub number_is : number ≡ length payloads
-  pub later : LaterFrame number reads.rest
+  pub no_end : IsEnd number reads.rest → ⊥
 
 abbrev pub IsReadFault : List ℕ → FrameFault → Type 0
 IsReadFault file (Device e) = e ≡ Memory
@@ -29,6 +30,12 @@ IsReadFault file (Damaged number) = IsDamaged file number
 
 abbrev pub payloads_in : List (Vec ℕ Global) → List (List ℕ)
 payloads_in vecs = map (λ (v : Vec ℕ Global). v.items) vecs
+
+-- these frames, up to this place of the file, and behind them an end
+pub record IsFound (file : List ℕ) (found : Found) : Type 0 where
+  pub reads : Reads file (payloads_in found.payloads.items)
+  pub end : found.end ≡ length (frames_from 0 (payloads_in found.payloads.items))
+  pub ends : IsEnd (length found.payloads.items) reads.rest
 
 -- the file is these frames, all of them on the disk
 pub record IsSettled {D : Type 0} (seen : D → List ℕ) (may_leave : D → List ℕ → Type 0)
@@ -49,11 +56,13 @@ IsTold payloads payload file =
     (other after : List ℕ) → IsPayload other → file ≡ frames_from 0 payloads ++ (framed (length payloads) other ++ after) → other ≡ payload
 
 -- what a crash left while the payload was being written behind the others: all others are read, whatever it left; and but for a
--- checksum that is right by chance, no more than that payload behind them
+-- checksum that is right by chance, no more than that payload behind them; and then an end that may be torn
 pub record IsBeforeOrAfter (payloads : List (List ℕ)) (payload file : List ℕ) : Type 0 where
   pub kept : (all : List (List ℕ)) → Reads file all → Begin payloads all
   pub told : (all : List (List ℕ)) → Reads file all → IsTold payloads payload file → (all ≡ payloads) ⊎ (all ≡ payloads ++ payload ∷ [])
+  pub torn : (all : List (List ℕ)) (reads : Reads file all) → IsTold payloads payload file → MayBeTorn (length all) reads.rest
 
--- it is read as the other is
+-- it is read as the other is, and where that has an end, so has it
 abbrev pub ReadsAs : List ℕ → List ℕ → Type 0
-ReadsAs old new = (payloads : List (List ℕ)) → Reads old payloads → Reads new payloads
+ReadsAs old new = (payloads : List (List ℕ)) (reads : Reads old payloads)
+    → (again : Reads new payloads) × (IsEnd (length payloads) reads.rest → IsEnd (length payloads) again.rest)

@@ -1,8 +1,8 @@
 // A file as a log sees it: what a read returns, and what a crash may leave.
 
-ghost use Rattle.std.specs.Prelude.{◌≡◌, ◌≤◌, ◌++◌, List, ℕ, length, take, IfOk, OnOk};
+ghost use Rattle.std.specs.Prelude.{◌≡◌, ◌≤◌, ◌++◌, List, ℕ, length, take, drop, IfOk, OnOk};
 ghost use Rattle.frame_file.specs.declared.device.DeviceError.TheVariants.{Memory};
-ghost use Rattle.frame_file.specs.Device.{Only, Follows, Torn, Cut, Elapses, HasCause};
+ghost use Rattle.frame_file.specs.Device.{Only, Follows, Torn, Cut, KeepsFirst, Elapses, HasCause};
 
 use std::alloc::{AllocError, AllocFailed, Global};
 
@@ -13,6 +13,8 @@ pub enum DeviceError {
     Memory,
     /// The disk failed.
     Failed,
+    /// There is no place for what would be cut off.
+    Unkept,
 }
 
 impl From<AllocError> for DeviceError {
@@ -31,8 +33,8 @@ impl<T: Drop> From<AllocFailed<T>> for DeviceError {
     }
 }
 
-/// A file that grows at its end. Between two syncs a crash may leave any part of what was appended, and
-/// any bytes in its place.
+/// A file that grows at its end. Between two syncs a crash may leave any part of what was appended, with
+/// zeros in the place of some of its words of 8 bytes.
 pub trait Device {
     /// The bytes that a read returns.
     ghost seen: { Self → List ℕ };
@@ -49,25 +51,31 @@ pub trait Device {
     /// How often the disk has failed.
     ghost faults: { Self → ℕ };
 
+    /// What was cut off and is kept elsewhere, one piece behind another.
+    ghost kept: { Self → List ℕ };
+
     /// All the bytes.
     fn read(&mut self, alloc: Global) -> Result<Vec<u8>, DeviceError>
         ensures bytes { IfOk result (λ bytes. bytes.items ≡ seen self.old) }
         ensures seen { seen self.new ≡ seen self.old }
+        ensures kept { kept self.new ≡ kept self.old }
         ensures crash { (c : List ℕ) → may_leave self.new c → may_leave self.old c }
         ensures time { Elapses (moment self.old) (moment self.new) (left_since self.old) (left_since self.new) (may_leave self.new) }
         ensures cause { HasCause (faults self.old) (faults self.new) result };
 
-    /// Writes behind the last byte. Until a sync, a crash may leave any bytes there, no more than these.
+    /// Writes behind the last byte. Until a sync, a crash may leave a part of these bytes there, and holes.
     fn append(&mut self, bytes: &[u8]) -> Result<(), DeviceError>
         ensures written { OnOk result (seen self.new ≡ seen self.old ++ bytes.now) }
-        ensures crash { Follows (Torn (length bytes.now)) (may_leave self.old) (may_leave self.new) }
+        ensures crash { Follows (Torn bytes.now) (may_leave self.old) (may_leave self.new) }
         ensures time { Elapses (moment self.old) (moment self.new) (left_since self.old) (left_since self.new) (may_leave self.new) }
         ensures cause { HasCause (faults self.old) (faults self.new) result };
 
-    /// Cuts the file to a length.
+    /// Cuts the file to a length, once what is cut off is kept, and synced, elsewhere.
     fn cut(&mut self, len: usize) -> Result<(), DeviceError>
         requires { len ≤ length (seen self.old) }
         ensures cut { OnOk result (seen self.new ≡ take len (seen self.old)) }
+        ensures kept { OnOk result (kept self.new ≡ kept self.old ++ drop len (seen self.old)) }
+        ensures first { KeepsFirst (drop len (seen self.old)) (kept self.old) (kept self.new) (may_leave self.old) (may_leave self.new) }
         ensures crash { Follows (Cut len) (may_leave self.old) (may_leave self.new) }
         ensures time { Elapses (moment self.old) (moment self.new) (left_since self.old) (left_since self.new) (may_leave self.new) }
         ensures cause { HasCause (faults self.old) (faults self.new) result };
@@ -76,6 +84,7 @@ pub trait Device {
     fn sync(&mut self) -> Result<(), DeviceError>
         ensures durable { OnOk result (Only (seen self.old) (may_leave self.new)) }
         ensures seen { seen self.new ≡ seen self.old }
+        ensures kept { kept self.new ≡ kept self.old }
         ensures crash { (c : List ℕ) → may_leave self.new c → may_leave self.old c }
         ensures time { Elapses (moment self.old) (moment self.new) (left_since self.old) (left_since self.new) (may_leave self.new) }
         ensures cause { HasCause (faults self.old) (faults self.new) result };

@@ -1,14 +1,15 @@
 // A file of frames over a device.
 
-ghost use Rattle.std.specs.Prelude.{◌≡◌, ◌<◌, ◌≤◌, ◌+◌, ◌^◌, ◌++◌, [], ◌∷◌, ℕ, List, IfOk, OnOk, IsErrOf};
+ghost use Rattle.std.specs.Prelude.{◌≡◌, ◌<◌, ◌≤◌, ◌+◌, ◌^◌, ◌++◌, [], ◌∷◌, ℕ, List, length, drop, IfOk, OnOk, IsErrOf};
 ghost use Rattle.frame_file.specs.Device.{Only, LeavesOnly};
-ghost use Rattle.frame_file.specs.Reading.{Reads, IsDamaged, IsSettled, IsBeforeOrAfter, ReadsAs, payloads_in};
+ghost use Rattle.frame_file.specs.Frame.{frames_from};
+ghost use Rattle.frame_file.specs.Reading.{Reads, IsFound, IsDamaged, IsSettled, IsBeforeOrAfter, ReadsAs, payloads_in};
 ghost use Rattle.frame_file.specs.declared.device.DeviceError.TheVariants.{Failed};
 ghost use Rattle.frame_file.specs.declared.reading.FrameFault.TheVariants.{Device as DeviceFault, Full, Damaged};
 
-use crate::device::Device;
+use crate::device::{Device, DeviceError};
 use crate::frame::{HEAD, write_frame};
-use crate::reading::{FrameFault, read_frames};
+use crate::reading::{Found, FrameFault, read_frames};
 use std::alloc::Global;
 
 /// A file of frames: read by [`FrameFile::recover`] before anything is appended. After each `Err` of a
@@ -35,22 +36,54 @@ impl<D: Device> FrameFile<D> {
         &self.device
     }
 
+    /// All the bytes of the file, which isn't changed.
+    pub fn bytes(&mut self, alloc: Global) -> Result<Vec<u8>, DeviceError>
+        ensures bytes { IfOk result (λ bytes. bytes.items ≡ D.seen self.old.device) }
+        ensures seen { D.seen self.new.device ≡ D.seen self.old.device }
+        ensures kept { D.kept self.new.device ≡ D.kept self.old.device }
+        ensures crash { (c : List ℕ) → D.may_leave self.new.device c → D.may_leave self.old.device c }
+        ensures any_moment { Only (D.seen self.old.device) (D.may_leave self.old.device)
+            → LeavesOnly D.moment D.left_since self.old.device self.new.device (λ c. c ≡ D.seen self.old.device) }
+        ensures failed { IsErrOf result Failed → D.faults self.old.device < D.faults self.new.device }
+        ensures later { D.faults self.old.device ≤ D.faults self.new.device }
+    {
+        self.device.read(alloc)
+    }
+
+    /// Cuts off the end behind the frames that were found in the file's bytes, once it is kept elsewhere.
+    /// This may be cut short by a crash too, which leaves a file that is read the same.
+    pub fn settle(&mut self, found: &Found) -> Result<(), DeviceError>
+        requires found { IsFound (D.seen self.old.device) found.now }
+        // After a restart, what is read is what is on the disk.
+        requires settled { Only (D.seen self.old.device) (D.may_leave self.old.device) }
+        ensures settled { OnOk result (IsSettled D.seen D.may_leave self.new (payloads_in found.now.payloads.items)) }
+        ensures kept { OnOk result (D.kept self.new.device ≡ D.kept self.old.device ++ drop found.now.end (D.seen self.old.device)) }
+        ensures any_moment { LeavesOnly D.moment D.left_since self.old.device self.new.device (ReadsAs (D.seen self.old.device)) }
+        ensures failed { IsErrOf result Failed → D.faults self.old.device < D.faults self.new.device }
+    {
+        self.device.cut(found.end)?;
+        self.device.sync()?;
+        self.count = found.payloads.len() as u64;
+        Ok(())
+    }
+
     /// The payloads of a file that a crash may have left. Its end, where it isn't a whole frame, is cut
-    /// off. This may be cut short by a crash too, which leaves a file that is read the same.
+    /// off, as [`FrameFile::settle`] does. A file that isn't read isn't changed.
     pub fn recover(&mut self, alloc: Global) -> Result<Vec<Vec<u8>>, FrameFault>
         // After a restart, what is read is what is on the disk.
         requires { Only (D.seen self.old.device) (D.may_leave self.old.device) }
         ensures reads { IfOk result (λ payloads. Reads (D.seen self.old.device) (payloads_in payloads.items)) }
         ensures settled { IfOk result (λ payloads. IsSettled D.seen D.may_leave self.new (payloads_in payloads.items)) }
+        ensures kept { IfOk result (λ payloads. D.kept self.new.device
+            ≡ D.kept self.old.device ++ drop (length (frames_from 0 (payloads_in payloads.items))) (D.seen self.old.device)) }
         ensures damaged { (number : ℕ) → IsErrOf result (Damaged number) → IsDamaged (D.seen self.old.device) number }
+        ensures unchanged { (number : ℕ) → IsErrOf result (Damaged number) → D.seen self.new.device ≡ D.seen self.old.device }
         ensures any_moment { LeavesOnly D.moment D.left_since self.old.device self.new.device (ReadsAs (D.seen self.old.device)) }
         ensures failed { IsErrOf result (DeviceFault Failed) → D.faults self.old.device < D.faults self.new.device }
     {
-        let bytes = self.device.read(alloc)?;
+        let bytes = self.bytes(alloc)?;
         let found = read_frames(alloc, &bytes)?;
-        self.device.cut(found.end)?;
-        self.device.sync()?;
-        self.count = found.payloads.len() as u64;
+        self.settle(&found)?;
         Ok(found.payloads)
     }
 

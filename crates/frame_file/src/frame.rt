@@ -1,8 +1,9 @@
 // One frame: its 24 bytes of a head, and its payload.
 
-ghost use Rattle.std.specs.Prelude.{◌≡◌, ◌↔◌, ◌++◌, ◌<◌, ◌^◌, drop, length, IsTrue, IfSome, IfNone, OnOk};
+ghost use Rattle.std.specs.Prelude.{◌≡◌, ◌↔◌, ◌++◌, ◌<◌, ◌≤◌, ◌^◌, drop, length, IsTrue, IfSome, IfNone, OnOk};
 ghost use Rattle.std.specs.Int.{w64, to_le_bytes, from_le_bytes};
-ghost use Rattle.frame_file.specs.Frame.{hash_step, hashed, checksum, head_bytes, framed, IsPayload, NoFrame};
+ghost use Rattle.frame_file.specs.Frame.{hash_step, hashed, checksum, head_bytes, framed, IsPayload, NoFrame, MayBeTorn};
+ghost use Rattle.frame_file.specs.Device.{IsLeft};
 
 use byteorder::{ByteOrder, LittleEndian};
 use std::alloc::AllocError;
@@ -122,4 +123,29 @@ pub fn first_frame(number: u64, bytes: &[u8]) -> Option<(&[u8], &[u8])>
     } else {
         None
     }
+}
+
+// Whether these are the first bytes of a word, or zeros.
+fn is_left(word: &[u8; 8], there: &[u8]) -> bool
+    requires { length there.now ≤ 8 }
+    ensures { IsTrue result ↔ IsLeft word.now there.now }
+{
+    let is_written = there == &word[..there.len()];
+    let is_hole = there == &[0; 8][..there.len()];
+    is_written || is_hole
+}
+
+/// Whether a crash can have left these bytes of the frame of this number.
+pub fn may_be_torn(number: u64, tail: &[u8]) -> bool
+    ensures { IsTrue result ↔ MayBeTorn number tail.now }
+{
+    let first = &tail[..tail.len().min(8)];
+    if !is_left(&long_bytes(number), first) {
+        return false;
+    }
+    if tail.len() < 16 {
+        return true;
+    }
+    let length = long(&tail[8..16]);
+    length == 0 || tail.len() as u64 <= length.saturating_add(HEAD as u64)
 }

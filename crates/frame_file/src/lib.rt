@@ -8,10 +8,10 @@
 //! ```
 //!
 //! A frame is its number, its length and a checksum, 8 bytes each, the lowest first, and its payload.
-//! Frames are numbered from 0 on. A crash in the middle of [`FrameFile::append`] leaves any bytes behind
-//! the frames before, no more than were to be written: these frames are read again whatever the bytes
-//! are, and no other, unless the checksum of one that nobody wrote is right by chance. (`frame_tests` of
-//! `lower_tests` has the tests.)
+//! Frames are numbered from 0 on. A crash in the middle of [`FrameFile::append`] leaves a part of the new
+//! frame behind those before, and holes in it: these frames are read again whatever it leaves, and no
+//! other, unless the checksum of one that nobody wrote is right by chance. Where something else stands
+//! behind them, the file isn't read, and not changed. (`frame_tests` of `lower_tests` has the tests.)
 #![tactic(auto)]
 
 mod device;
@@ -22,6 +22,6 @@ mod reading;
 
 pub use device::{Device, DeviceError};
 pub use file::FrameFile;
-pub use frame::{long, write_long};
+pub use frame::{long, write_frame, write_long};
 pub use memory::Memory;
 pub use reading::{Found, FrameFault, read_frames};

@@ -8,12 +8,13 @@ use crate::device::{Device, DeviceError};
 use std::alloc::{AllocError, Global};
 
 /// A file in memory, for tests: each call is done at once, so a crash leaves what is there. It keeps each
-/// content that it had.
+/// content that it had, and what was cut off.
 #[derive(Drop)]
 pub struct Memory {
     alloc: Global,
     bytes: Vec<u8>,
     past: Vec<Vec<u8>>,
+    dropped: Vec<u8>,
 }
 
 impl Memory {
@@ -27,6 +28,7 @@ impl Memory {
             alloc,
             bytes,
             past: Vec::new(alloc),
+            dropped: Vec::new(alloc),
         }
     }
 
@@ -35,6 +37,13 @@ impl Memory {
         ensures { result.now ≡ memory_bytes self.now }
     {
         &self.bytes
+    }
+
+    /// What was cut off, one piece behind another.
+    pub fn dropped(&self) -> &[u8]
+        ensures { result.now ≡ self.now.dropped.items }
+    {
+        &self.dropped
     }
 }
 
@@ -66,6 +75,8 @@ impl Device for Memory {
 
     ghost faults = { λ m. 0 };
 
+    ghost kept = { λ m. m.dropped.items };
+
     ghost counts_now = { λ m t c le now. inl now };
 
     ghost only_now = { λ m c left. only_bytes m.past.items m.bytes.items c left };
@@ -82,6 +93,7 @@ impl Device for Memory {
 
     fn cut(&mut self, len: usize) -> Result<(), DeviceError> {
         let next = self.bytes[..len].to_vec(self.alloc)?;
+        self.dropped.extend_from_slice(&self.bytes[len..])?;
         Ok(replace(self.alloc, &mut self.bytes, &mut self.past, next)?)
     }
 

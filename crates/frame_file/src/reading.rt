@@ -1,13 +1,13 @@
 // The frames of a file.
 
-ghost use Rattle.std.specs.Prelude.{◌≡◌, ◌↔◌, ◌<◌, ◌≤◌, drop, length, IsTrue, IsFalse, IfOk, IfErr};
-ghost use Rattle.frame_file.specs.Frame.{frames_from, NoneBegins, LaterFrame};
-ghost use Rattle.frame_file.specs.Reading.{Reads, IsReadFault, payloads_in};
+ghost use Rattle.std.specs.Prelude.{◌≡◌, ◌↔◌, IsTrue, IsFalse, IfOk, IfErr};
+ghost use Rattle.frame_file.specs.Frame.{NoneBegins, HasFrame, IsEnd};
+ghost use Rattle.frame_file.specs.Reading.{IsFound, IsReadFault};
 ghost use Rattle.frame_file.specs.declared.reading.FrameFault.TheVariants.{Device as DeviceFault};
 ghost use Rattle.frame_file.specs.declared.device.DeviceError.TheVariants.{Memory};
 
 use crate::device::DeviceError;
-use crate::frame::{HEAD, first_frame, long};
+use crate::frame::{HEAD, first_frame, long, may_be_torn};
 use std::alloc::{AllocError, AllocFailed, Global};
 
 /// Why a file of frames isn't read or written.
@@ -17,8 +17,8 @@ pub enum FrameFault {
     Device(DeviceError),
     /// There are 2^64 - 1 frames.
     Full,
-    /// The frame of this number, counted from 0, isn't whole, and behind it stands a later one: this
-    /// is no end that a crash left.
+    /// The frame of this number, counted from 0, isn't whole, and what stands there is no end that a crash
+    /// left.
     Damaged(u64),
 }
 
@@ -53,43 +53,49 @@ pub struct Found {
     pub end: usize,
 }
 
-// Whether the bytes begin with a frame of a later number.
-fn begins_later(number: u64, bytes: &[u8]) -> bool
-    ensures later { IsTrue result → LaterFrame number bytes.now }
-    ensures none { IsFalse result → NoneBegins number bytes.now }
+// Whether the bytes begin with a frame of any number.
+fn begins_frame(bytes: &[u8]) -> bool
+    ensures frame { IsTrue result → HasFrame bytes.now }
+    ensures none { IsFalse result → NoneBegins bytes.now }
 {
     if bytes.len() < HEAD {
         return false;
     }
     let own = long(&bytes[..8]);
-    if own <= number {
-        return false;
-    }
     match first_frame(own, bytes) {
         Some((_payload, _after)) => true,
         None => false,
     }
 }
 
-// Whether a frame of a later number stands anywhere.
-fn has_later(number: u64, bytes: &[u8]) -> bool
-    ensures later { IsTrue result → LaterFrame number bytes.now }
-    ensures none { IsFalse result → LaterFrame number bytes.now → ⊥ }
+// Whether a whole frame stands anywhere.
+fn has_frame(bytes: &[u8]) -> bool
+    ensures frame { IsTrue result → HasFrame bytes.now }
+    ensures none { IsFalse result → HasFrame bytes.now → ⊥ }
 {
     'places: for place in 0..bytes.len() {
-        if begins_later(number, &bytes[place..]) {
+        if begins_frame(&bytes[place..]) {
             return true;
         }
     }
     false
 }
 
-/// The frames of these bytes, up to the first that isn't whole; refused where a later one is, since a
-/// crash leaves no such end.
+// Whether these bytes may stand where the frame of this number would begin.
+fn is_end(number: u64, rest: &[u8]) -> bool
+    ensures end { IsTrue result → IsEnd number rest.now }
+    ensures none { IsFalse result → IsEnd number rest.now → ⊥ }
+{
+    if number > 0 && !may_be_torn(number, rest) {
+        return false;
+    }
+    !has_frame(rest)
+}
+
+/// The frames of these bytes, up to the first that isn't whole; refused where what stands there is nothing
+/// that a crash leaves: a whole frame is there, or behind the first frame what can't be of the next one.
 pub fn read_frames(alloc: Global, bytes: &[u8]) -> Result<Found, FrameFault>
-    ensures reads { IfOk result (λ found. Reads bytes.now (payloads_in found.payloads.items)) }
-    ensures end { IfOk result (λ found. found.end ≡ length (frames_from 0 (payloads_in found.payloads.items))) }
-    ensures whole { IfOk result (λ found. LaterFrame (length found.payloads.items) (drop found.end bytes.now) → ⊥) }
+    ensures found { IfOk result (IsFound bytes.now) }
     ensures fault { IfErr result (IsReadFault bytes.now) }
 {
     let mut payloads = Vec::new(alloc);
@@ -99,7 +105,7 @@ pub fn read_frames(alloc: Global, bytes: &[u8]) -> Result<Found, FrameFault>
         rest = after;
     }
     let number = payloads.len() as u64;
-    if has_later(number, rest) {
+    if !is_end(number, rest) {
         return Err(FrameFault::Damaged(number));
     }
     let end = bytes.len() - rest.len();

@@ -1,5 +1,5 @@
 -- A file that is read by itself.
-use Rattle.std.proofs.Common.{arith, ◌≡◌, ℕ, ◌+◌, ◌-◌, ◌<◌, ◌≤◌, ◌^◌, List, [], ◌∷◌, ◌++◌, length, take, drop, refl, sym, ◌∙◌, ap, subst, length-append}
+use Rattle.std.proofs.Common.{arith, ◌≡◌, ◌⊎◌, inl, inr, ℕ, ◌+◌, ◌-◌, ◌<◌, ◌≤◌, ◌^◌, List, [], ◌∷◌, ◌++◌, length, take, drop, refl, sym, ◌∙◌, ap, subst, length-append}
 use Rattle.std.specs.Int.{w64, to_le_bytes, from_le_bytes}
 use Rattle.frame_file.specs.Frame.{frames_from}
 use Rattle.frame_file.specs.Reading.{Reads, IsReadFault}
@@ -12,7 +12,7 @@ use Rattle.log_file.specs.declared.reading.OpenFault.TheVariants.{Frames, Empty,
 use Rattle.log_file.specs.Bytes.{header_bytes}
 use Rattle.log_file.specs.Reading.{IsHeader, IsSayFault}
 use Rattle.log_file.specs.Stored.{IsNoHeader, IsFileFault}
-use Rattle.log_file.specs.Joining.Fields.{header_in, BeginsWith, IsHeaderFault}
+use Rattle.log_file.specs.Joining.Fields.{header_in, BeginsWith}
 use Rattle.log_file.proofs.LawLemmas.{dcs_back, procedures_back, digest_back, same_header}
 
 -- ---- headers
@@ -45,28 +45,21 @@ other_none h first fields differs g is few whole same =
 first_same : (x y : List ℕ) (xs ys : List (List ℕ)) → x ∷ xs ≡ y ∷ ys → x ≡ y
 first_same x y xs ys same = cc
 
-pub header_fault : (file : List ℕ) (payloads : List (List ℕ)) (fault : OpenFault) → Reads file payloads → IsHeaderFault payloads fault → IsFileFault file fault
-header_fault file payloads (Frames fault) reads why = absurd why
-header_fault file payloads Empty reads why = subst (Reads file) why reads
-header_fault file payloads Other reads why = record { first = why.0; rest = why.1; reads = subst (Reads file) why.2 reads; none = why.3 }
-header_fault file payloads (NoBatch number) reads why = absurd why
-header_fault file payloads (Row place) reads why = absurd why
-
 memory_fault : (file : List ℕ) (fault : FrameFault) → fault ≡ Device Memory → IsReadFault file fault
 memory_fault file fault is = subst (IsReadFault file) (sym is) refl
 
 pub say_fault : (h : Header) (file : List ℕ) (payloads : List (List ℕ)) (fault : OpenFault) → Reads file payloads → BeginsWith payloads h
     → IsSayFault h payloads fault → IsFileFault file fault
 say_fault h file payloads (Frames fault) reads begins why = memory_fault file fault why
-say_fault h file payloads Empty reads begins why = subst (Reads file) why reads
+say_fault h file payloads Empty reads begins why = absurd (let bad : begins.first ∷ begins.rest ≡ [] = sym begins.is ∙ why in cc)
 say_fault h file payloads Other reads begins why =
     let same : why.first ≡ begins.first = first_same why.first begins.first why.rest begins.rest (sym why.is ∙ begins.is) in
-    record {
+    inl (record {
       first = begins.first;
       rest = begins.rest;
       reads = subst (Reads file) begins.is reads;
       none = other_none h begins.first begins.fields (λ e. why.differs (same ∙ e));
-    }
+    })
 say_fault h file payloads (NoBatch number) reads begins why =
     record { header = h; unsaid = record { payloads = payloads; reads = reads; why = why } }
 say_fault h file payloads (Row place) reads begins why =

@@ -1,5 +1,5 @@
 -- What the payloads of a log's file say.
-use Rattle.std.specs.Prelude.{◌≡◌, ℕ, ◌+◌, ◌%◌, ◌<◌, ◌^◌, List, [], ◌∷◌, ◌++◌, length, replicate, slice_set, slice_index_or}
+use Rattle.std.specs.Prelude.{◌≡◌, ◌⊎◌, ℕ, ◌+◌, ◌%◌, ◌<◌, ◌^◌, List, [], ◌∷◌, ◌++◌, length, take, drop, replicate, slice_set, slice_index_or}
 use Rattle.std.specs.List.{All, fold}
 use Rattle.tc_log.specs.declared.event.Event.{Event}
 use Rattle.tc_log.specs.Reading.{ArePrinted, AreOnlyOnes, IsFirstUnread}
@@ -8,6 +8,7 @@ use Rattle.tc_core.specs.declared.recovery.SiteNote.TheVariants.{Untold, Restart
 use Rattle.frame_file.specs.declared.device.DeviceError.TheVariants.{Memory}
 use Rattle.frame_file.specs.declared.reading.FrameFault.{FrameFault}
 use Rattle.frame_file.specs.declared.reading.FrameFault.TheVariants.{Device, Full, Damaged}
+use Rattle.frame_file.specs.Frame.{framed}
 use Rattle.frame_file.specs.Reading.{Reads, IsDamaged}
 use Rattle.log_file.specs.declared.header.Header.{Header}
 use Rattle.log_file.specs.declared.note.Note.{Note}
@@ -118,6 +119,11 @@ IsFramesFault file (Damaged number) = IsDamaged file number
 IsFramesFault file (Device e) = Unit {0}
 IsFramesFault file Full = Unit {0}
 
+-- it is empty, or the beginning of this header's frame
+pub record IsBegun (h : Header) (file : List ℕ) : Type 0 where
+  pub reads : Reads file []
+  pub front : file ≡ take (length file) (framed 0 (header_bytes h))
+
 -- the file's frames are these payloads, which aren't read
 pub record IsUnsaid (h : Header) (file : List ℕ) (fault : OpenFault) : Type 0 where
   pub payloads : List (List ℕ)
@@ -126,7 +132,26 @@ pub record IsUnsaid (h : Header) (file : List ℕ) (fault : OpenFault) : Type 0 
 
 abbrev pub IsOpenFault : Header → List ℕ → OpenFault → Type 0
 IsOpenFault h file (Frames fault) = IsFramesFault file fault
-IsOpenFault h file Empty = IsUnsaid h file Empty
-IsOpenFault h file Other = IsUnsaid h file Other
+IsOpenFault h file Empty = IsBegun h file
+IsOpenFault h file Other = IsUnsaid h file Other ⊎ (Reads file [] × (IsBegun h file → ⊥))
 IsOpenFault h file (NoBatch number) = IsUnsaid h file (NoBatch number)
 IsOpenFault h file (Row place) = IsUnsaid h file (Row place)
+
+-- the file isn't taken for this header's log
+abbrev pub IsRefusal : OpenFault → Type 0
+IsRefusal (Frames (Damaged number)) = Unit {0}
+IsRefusal (Frames other) = ⊥
+IsRefusal Empty = ⊥
+IsRefusal Other = Unit {0}
+IsRefusal (NoBatch number) = Unit {0}
+IsRefusal (Row place) = Unit {0}
+
+-- nothing of the device has changed that a read or a crash shows, and nothing was cut off
+pub record IsAsItWas {D : Type 0} (seen : D → List ℕ) (may_leave : D → List ℕ → Type 0) (kept : D → List ℕ) (old new : D) : Type 0 where
+  pub bytes : seen new ≡ seen old
+  pub left : (c : List ℕ) → may_leave new c → may_leave old c
+  pub same : kept new ≡ kept old
+
+-- what was cut off from the file is kept behind what was kept before
+abbrev pub Keeps : {D : Type 0} (seen kept : D → List ℕ) (old new : D) → Type 0
+Keeps seen kept old new = kept new ≡ kept old ++ drop (length (seen new)) (seen old)

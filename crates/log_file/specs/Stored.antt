@@ -1,5 +1,6 @@
 -- What the bytes of a log's file say, whoever wrote it.
-use Rattle.std.specs.Prelude.{◌≡◌, ℕ, ◌+◌, ◌<◌, ◌^◌, List, [], ◌∷◌, length, reverse}
+use Rattle.std.specs.Prelude.{◌≡◌, ◌⊎◌, ℕ, ◌+◌, ◌<◌, ◌^◌, List, [], ◌∷◌, ◌++◌, length, take, reverse}
+use Rattle.std.specs.Int.{w64, to_le_bytes}
 use Rattle.frame_file.specs.Frame.{frames_from}
 use Rattle.frame_file.specs.Reading.{Reads, IsReadFault}
 use Rattle.log_file.specs.declared.header.Header.{Header}
@@ -22,6 +23,12 @@ pub record IsStored (file : List ℕ) (s : Stored) : Type 0 where
 abbrev pub IsNoHeader : List ℕ → Type 0
 IsNoHeader bytes = (h : Header) → IsHeader h → h.dcs < 2 ^ 16 → length h.digest ≡ 32 → bytes ≡ header_bytes h → ⊥
 
+-- as far as there, it begins as a header's frame does: the number 0, and the length 64
+pub record MayBegin (file : List ℕ) : Type 0 where
+  pub reads : Reads file []
+  pub short : length file < 88
+  pub front : take 16 file ≡ take (length (take 16 file)) (to_le_bytes w64 0 ++ to_le_bytes w64 64)
+
 -- there is a first payload, which is no header's
 pub record IsNobodys (file : List ℕ) : Type 0 where
   pub first : List ℕ
@@ -36,7 +43,7 @@ pub record IsAnybodys (file : List ℕ) (fault : OpenFault) : Type 0 where
 
 abbrev pub IsFileFault : List ℕ → OpenFault → Type 0
 IsFileFault file (Frames fault) = IsReadFault file fault
-IsFileFault file Empty = Reads file []
-IsFileFault file Other = IsNobodys file
+IsFileFault file Empty = MayBegin file
+IsFileFault file Other = IsNobodys file ⊎ (Reads file [] × (MayBegin file → ⊥))
 IsFileFault file (NoBatch number) = IsAnybodys file (NoBatch number)
 IsFileFault file (Row place) = IsAnybodys file (Row place)

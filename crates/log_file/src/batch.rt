@@ -99,7 +99,8 @@ pub(crate) fn read_batch(
     }
 }
 
-fn is_same(bytes: &[u8], others: &[u8]) -> bool
+/// Whether they are the same bytes.
+pub(crate) fn is_same(bytes: &[u8], others: &[u8]) -> bool
     ensures { IsTrue result ↔ (bytes.now ≡ others.now) }
 {
     bytes == others

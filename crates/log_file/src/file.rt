@@ -7,13 +7,13 @@ ghost use Rattle.frame_file.specs.declared.device.DeviceError.TheVariants.{Faile
 ghost use Rattle.frame_file.specs.declared.reading.FrameFault.TheVariants.{Device as DeviceFault};
 ghost use Rattle.log_file.specs.declared.reading.OpenFault.TheVariants.{Empty as EmptyFault};
 ghost use Rattle.log_file.specs.Bytes.{batch_bytes, header_bytes};
-ghost use Rattle.log_file.specs.Reading.{Says, IsOpenFault};
+ghost use Rattle.log_file.specs.Reading.{Says, IsOpenFault, IsRefusal, IsAsItWas, Keeps};
 
 use crate::batch::batch_bytes;
 use crate::header::{Header, header_bytes};
 use crate::note::Note;
-use crate::reading::{OpenFault, Recovered, read_log};
-use frame_file::{Device, FrameFault, FrameFile};
+use crate::reading::{OpenFault, Recovered, read_own};
+use frame_file::{Device, FrameFault, FrameFile, read_frames};
 use std::alloc::Global;
 
 /// The log of a transaction component in a file: opened, and where it is empty created, before anything is
@@ -42,23 +42,33 @@ impl<D: Device> LogFile<D> {
     }
 
     /// Reads a file that a crash may have left: the log and the notes of all that was acknowledged, and
-    /// perhaps of what was being appended. An end that a crash left is cut off. This may be cut short by
-    /// a crash too, which leaves a file that is read the same.
+    /// perhaps of what was being appended. An end that a crash left is cut off, once it is kept elsewhere.
+    /// This may be cut short by a crash too, which leaves a file that is read the same. A file that isn't
+    /// this header's log is refused, and not changed.
     pub fn open(&mut self, alloc: Global, header: &Header) -> Result<Recovered, OpenFault>
         // After a restart, what is read is what is on the disk.
         requires { Only (D.seen self.old.frames.device) (D.may_leave self.old.frames.device) }
         ensures says { IfOk result (λ r. (payloads : List (List ℕ)) × Reads (D.seen self.old.frames.device) payloads
             × IsSettled D.seen D.may_leave self.new.frames payloads × Says header.now payloads r.notes.items (reverse r.log.events)) }
         ensures empty { IsErrOf result EmptyFault → IsSettled D.seen D.may_leave self.new.frames [] }
+        ensures kept { IfOk result (λ _. Keeps D.seen D.kept self.old.frames.device self.new.frames.device) }
+        ensures kept_begun { IsErrOf result EmptyFault → Keeps D.seen D.kept self.old.frames.device self.new.frames.device }
         ensures fault { IfErr result (IsOpenFault header.now (D.seen self.old.frames.device)) }
+        ensures refused { IfErr result (λ fault. IsRefusal fault → IsAsItWas D.seen D.may_leave D.kept self.old.frames.device self.new.frames.device) }
         ensures any_moment { LeavesOnly D.moment D.left_since self.old.frames.device self.new.frames.device
             (ReadsAs (D.seen self.old.frames.device)) }
     {
-        let payloads = self.frames.recover(alloc)?;
-        read_log(alloc, header, &payloads)
+        let bytes = self.frames.bytes(alloc)?;
+        let found = read_frames(alloc, &bytes)?;
+        let recovered = read_own(alloc, header, &bytes, &found)?;
+        self.frames.settle(&found)?;
+        match recovered {
+            Some(recovered) => Ok(recovered),
+            None => Err(OpenFault::Empty),
+        }
     }
 
-    /// Begins the log of a file without frames, which `open` has found [`OpenFault::Empty`].
+    /// Begins the log of a file that `open` has found [`OpenFault::Empty`].
     pub fn create(&mut self, alloc: Global, header: &Header) -> Result<(), FrameFault>
         ensures acknowledged { IsSettled D.seen D.may_leave self.old.frames [] →
             OnOk result (IsSettled D.seen D.may_leave self.new.frames (header_bytes header.now ∷ [])) }

@@ -1,17 +1,25 @@
 // The first payload.
 
-ghost use Rattle.std.specs.Prelude.{◌≡◌, IfOk, IfSome, IfNone};
+ghost use Rattle.std.specs.Prelude.{◌≡◌, ◌↔◌, ◌<◌, ◌++◌, length, take, IsTrue, IfOk, IfSome, IfNone};
+ghost use Rattle.std.specs.Int.{w64, to_le_bytes};
+ghost use Rattle.frame_file.specs.Frame.{framed};
 ghost use Rattle.log_file.specs.Bytes.{header_bytes};
 ghost use Rattle.log_file.specs.Stored.{IsNoHeader};
 ghost use Rattle.log_file.specs.Joining.Fields.{header_in};
 
-use frame_file::{long, write_long};
+use crate::batch::is_same;
+use frame_file::{long, write_frame, write_long};
 use std::alloc::{AllocError, Global};
 
 // "mazzulpe", the lowest byte first.
 const MAGIC: u64 = 0x6570_6c75_7a7a_616d;
 
 const VERSION: u64 = 1;
+
+// The bytes of a header's frame, and the first 16 of them: its number and its length.
+const FRAME: usize = 88;
+
+const HEAD_FRONT: [u8; 16] = [0, 0, 0, 0, 0, 0, 0, 0, 64, 0, 0, 0, 0, 0, 0, 0];
 
 /// Whose log it is: one that was written for others isn't read.
 #[derive(Clone, Copy, Debug, PartialEq, Eq)]
@@ -57,4 +65,43 @@ pub(crate) fn header_in(bytes: &[u8]) -> Option<Header>
         procedures: long(&bytes[24..32]),
         digest,
     })
+}
+
+// As many of the bytes, or all.
+#[tactic(auto, using(std::proofs::lemmas::List::take_min))]
+fn front_of(bytes: &[u8], len: usize) -> &[u8]
+    ensures { result.now ≡ take len bytes.now }
+{
+    &bytes[..len.min(bytes.len())]
+}
+
+/// Whether the bytes are the beginning of this header's frame, or none.
+pub(crate) fn is_begun(alloc: Global, header: &Header, bytes: &[u8]) -> Result<bool, AllocError>
+    ensures { IfOk result (λ begun. IsTrue begun ↔ (bytes.now ≡ take (length bytes.now) (framed 0 (header_bytes header.now)))) }
+{
+    let payload = header_bytes(alloc, header)?;
+    let mut frame = Vec::with_capacity(alloc, FRAME)?;
+    write_frame(&mut frame, 0, &payload)?;
+    Ok(is_same(bytes, front_of(&frame, bytes.len())))
+}
+
+// Whether these bytes are the first that a header's frame has.
+fn begins_head(front: &[u8]) -> bool
+    ensures { IsTrue result ↔ (front.now ≡ take (length front.now) (to_le_bytes w64 0 ++ to_le_bytes w64 64)) }
+{
+    is_same(front, front_of(&HEAD_FRONT, front.len()))
+}
+
+/// Whether a file without a frame may be the beginning of a header's: as far as they are there, its first
+/// bytes are the number 0 and the length 64.
+pub(crate) fn may_begin(bytes: &[u8]) -> bool
+    ensures { IsTrue result ↔ ((length bytes.now < 88)
+        × (take 16 bytes.now ≡ take (length (take 16 bytes.now)) (to_le_bytes w64 0 ++ to_le_bytes w64 64))) }
+{
+    let is_short = bytes.len() < FRAME;
+    let is_head = begins_head(front_of(bytes, 16));
+    if !is_short {
+        return false;
+    }
+    is_head
 }

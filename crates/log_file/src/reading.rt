@@ -1,17 +1,17 @@
 // The log that payloads say.
 
-ghost use Rattle.std.specs.Prelude.{◌≡◌, ◌%◌, length, reverse, IfOk, IfErr};
-ghost use Rattle.frame_file.specs.Reading.{payloads_in};
+ghost use Rattle.std.specs.Prelude.{◌≡◌, ◌≢◌, ◌%◌, [], length, reverse, IfOk, IfErr, IfSome, IfNone};
+ghost use Rattle.frame_file.specs.Reading.{IsFound, payloads_in};
 ghost use Rattle.frame_file.specs.declared.device.DeviceError.TheVariants.{Memory};
 ghost use Rattle.frame_file.specs.declared.reading.FrameFault.TheVariants.{Device as DeviceFault};
 ghost use Rattle.tc_log.specs.Reading.{ArePrinted, AreOnlyOnes};
-ghost use Rattle.log_file.specs.declared.reading.OpenFault.TheVariants.{Frames as FramesFault};
-ghost use Rattle.log_file.specs.Reading.{Says, IsSayFault};
+ghost use Rattle.log_file.specs.declared.reading.OpenFault.TheVariants.{Frames as FramesFault, Empty as EmptyFault};
+ghost use Rattle.log_file.specs.Reading.{Says, IsSayFault, IsBegun, IsOpenFault};
 ghost use Rattle.log_file.specs.Joining.Fields.{IsRowsFault};
 
 use crate::gathering::gather;
-use crate::header::{Header, header_bytes};
-use frame_file::{DeviceError, FrameFault};
+use crate::header::{Header, header_bytes, is_begun};
+use frame_file::{DeviceError, Found, FrameFault};
 use std::alloc::{AllocError, AllocFailed, Global};
 use tc_core::SiteNote;
 use tc_log::log::Log;
@@ -22,10 +22,10 @@ use tc_log::read::LogFault;
 pub enum OpenFault {
     /// Its frames aren't read, or memory ran out.
     Frames(FrameFault),
-    /// There is no frame: a log is begun by [`crate::LogFile::create`].
+    /// It is empty, or the beginning of this header's frame: a log is begun by [`crate::LogFile::create`].
     Empty,
     /// The first frame isn't this header's: another format, number of data components, or other
-    /// procedures.
+    /// procedures. Or there is no frame, and the file is no beginning of this header's.
     Other,
     /// The frame of this number, the header's being 0, is the first that isn't a batch: its notes are cut
     /// short or of no kind, one is of a data component that there isn't, or its rows are no whole number.
@@ -39,6 +39,14 @@ impl From<FrameFault> for OpenFault {
 
     fn from(fault: FrameFault) -> Self {
         OpenFault::Frames(fault)
+    }
+}
+
+impl From<DeviceError> for OpenFault {
+    ghost from_gives = { λ error e. e ≡ FramesFault (DeviceFault error) };
+
+    fn from(error: DeviceError) -> Self {
+        OpenFault::Frames(FrameFault::Device(error))
     }
 }
 
@@ -104,4 +112,27 @@ pub(crate) fn read_log(
         log,
         notes: gathered.known,
     })
+}
+
+/// The log and the notes that a file's frames say; none where it is empty, or the beginning of this header's
+/// frame.
+pub(crate) fn read_own(
+    alloc: Global,
+    header: &Header,
+    bytes: &[u8],
+    found: &Found,
+) -> Result<Option<Recovered>, OpenFault>
+    requires { IsFound bytes.now found.now }
+    ensures says { IfOk result (λ o. IfSome o (λ r. Says header.now (payloads_in found.now.payloads.items) r.notes.items (reverse r.log.events))) }
+    ensures none { IfOk result (λ o. IfNone o ((payloads_in found.now.payloads.items ≡ []) × IsBegun header.now bytes.now)) }
+    ensures fault { IfErr result (IsOpenFault header.now bytes.now) }
+    ensures refused { IfErr result (λ fault. fault ≢ EmptyFault) }
+{
+    if found.payloads.is_empty() {
+        if is_begun(alloc, header, bytes)? {
+            return Ok(None);
+        }
+        return Err(OpenFault::Other);
+    }
+    Ok(Some(read_log(alloc, header, &found.payloads)?))
 }

@@ -1,11 +1,11 @@
 // A file that is read by itself, whoever wrote it.
 
 ghost use Rattle.std.specs.Prelude.{IfOk, IfErr};
-ghost use Rattle.frame_file.specs.Reading.{payloads_in};
+ghost use Rattle.frame_file.specs.Reading.{Reads, payloads_in};
 ghost use Rattle.log_file.specs.Stored.{IsStored, IsFileFault};
-ghost use Rattle.log_file.specs.Joining.Fields.{BeginsWith, IsHeaderFault};
+ghost use Rattle.log_file.specs.Joining.Fields.{BeginsWith};
 
-use crate::header::{Header, header_in};
+use crate::header::{Header, header_in, may_begin};
 use crate::reading::{OpenFault, Recovered, read_log};
 use frame_file::read_frames;
 use std::alloc::Global;
@@ -24,12 +24,17 @@ pub struct Stored {
 }
 
 // The header that the first payload may be, by its fields.
-fn first_header(payloads: &[Vec<u8>]) -> Result<Header, OpenFault>
+fn first_header(bytes: &[u8], payloads: &[Vec<u8>]) -> Result<Header, OpenFault>
+    requires { Reads bytes.now (payloads_in payloads.now) }
     ensures begins { IfOk result (BeginsWith (payloads_in payloads.now)) }
-    ensures fault { IfErr result (IsHeaderFault (payloads_in payloads.now)) }
+    ensures fault { IfErr result (IsFileFault bytes.now) }
 {
     let Some((first, _rest)) = payloads.split_first() else {
-        return Err(OpenFault::Empty);
+        return Err(if may_begin(bytes) {
+            OpenFault::Empty
+        } else {
+            OpenFault::Other
+        });
     };
     match header_in(first) {
         Some(header) => Ok(header),
@@ -44,7 +49,7 @@ pub fn read_file(alloc: Global, bytes: &[u8]) -> Result<Stored, OpenFault>
     ensures fault { IfErr result (IsFileFault bytes.now) }
 {
     let found = read_frames(alloc, bytes)?;
-    let header = first_header(&found.payloads)?;
+    let header = first_header(bytes, &found.payloads)?;
     let Recovered { log, notes } = read_log(alloc, &header, &found.payloads)?;
     Ok(Stored {
         header,

@@ -3,8 +3,8 @@ ghost use Rattle.frame_file.specs.Device.{Only};
 ghost use Rattle.disk_file.specs.Disk.{disk_bytes, left_of};
 
 use crate::checks::is_same;
-use disk_file::{DiskFile, OpenError};
-use frame_file::FrameFile;
+use disk_file::{DiskFile, FileKind, OpenError};
+use frame_file::{DeviceError, FrameFault, FrameFile};
 use std::alloc::Global;
 use std::fs;
 use std::fs::File;
@@ -13,12 +13,16 @@ use std::rt::Files;
 
 const PATH: &str = "disk_file_test";
 
+const DROPPED: &str = "disk_file_test.dropped";
+
 type Frames = FrameFile<DiskFile>;
 
 fn opened<F: Files<File = File>>(rt: &F, alloc: Global) -> Result<Frames, OpenError>
     ensures { IfOk result (λ f. Only (disk_bytes f.device) (left_of f.device)) }
 {
-    Ok(FrameFile::new(DiskFile::open(rt, alloc, PATH)?))
+    let mut file = DiskFile::open(rt, alloc, PATH)?;
+    file.keep_dropped(rt, alloc, PATH)?;
+    Ok(FrameFile::new(file))
 }
 
 // How many frames are in the file, to which this one is appended.
@@ -66,17 +70,53 @@ fn is_torn<R: Files<File = File> + Abort>(rt: &R, mut bytes: Vec<u8>, whole: usi
 #[test]
 fn frames_in_a_file(rt: HostRuntime) {
     let _ = fs::remove_file(&rt, PATH);
+    let _ = fs::remove_file(&rt, DROPPED);
     goes_on(&rt, rt.alloc(), b"first".as_slice(), (0, 0, 29));
     let bytes = fs::read(&rt, PATH).expect(&rt, "not read");
     is_torn(&rt, bytes, 29);
     goes_on(&rt, rt.alloc(), b"second".as_slice(), (32, 1, 59));
     let bytes = fs::read(&rt, PATH).expect(&rt, "not read");
     is_same(&rt, bytes.len(), 59);
+    let dropped = fs::read(&rt, DROPPED).expect(&rt, "not read");
+    is_same(&rt, dropped.as_slice(), [1, 0, 0].as_slice());
     fs::remove_file(&rt, PATH).expect(&rt, "not removed");
+    fs::remove_file(&rt, DROPPED).expect(&rt, "not removed");
 }
 
 #[test]
 fn no_file_there(rt: HostRuntime) {
     let opened = DiskFile::open(&rt, rt.alloc(), "no/such/folder");
     is_same(&rt, matches!(opened, Err(OpenError::Io(_))), true);
+}
+
+// Nothing is cut off where there is no place for it.
+#[test]
+fn no_place_for_an_end(rt: HostRuntime) {
+    const ALONE: &str = "disk_file_alone";
+    let alloc = rt.alloc();
+    fs::write(&rt, ALONE, [0, 0, 0].as_slice()).expect(&rt, "not written");
+    let mut file = FrameFile::new(DiskFile::open(&rt, alloc, ALONE).expect(&rt, "not opened"));
+    let unkept = FrameFault::Device(DeviceError::Unkept);
+    is_same(&rt, file.recover(alloc).err(), Some(unkept));
+    drop(file);
+    let bytes = fs::read(&rt, ALONE).expect(&rt, "not read");
+    is_same(&rt, bytes.as_slice(), [0, 0, 0].as_slice());
+    fs::remove_file(&rt, ALONE).expect(&rt, "not removed");
+}
+
+// What isn't a file of bytes isn't opened.
+#[test]
+fn no_file_of_bytes(rt: HostRuntime) {
+    let zeros = DiskFile::open(&rt, rt.alloc(), "/dev/zero");
+    is_same(
+        &rt,
+        matches!(zeros, Err(OpenError::Kind(FileKind::CharacterDevice))),
+        true,
+    );
+    let folder = DiskFile::open(&rt, rt.alloc(), ".");
+    is_same(
+        &rt,
+        matches!(folder, Err(OpenError::Kind(FileKind::Directory))),
+        true,
+    );
 }

@@ -113,10 +113,12 @@ fn changed_at(rt: &impl Abort, alloc: Global, bytes: &[u8], place: usize) -> Vec
 }
 
 fn is_found(rt: &impl Abort, alloc: Global, bytes: &[u8], place: usize) {
-    let want = match ended(place) {
-        0 => Err(FrameFault::Damaged(0)),
-        1 => Err(FrameFault::Damaged(1)),
-        frames => Ok(frames),
+    let want = match place {
+        0..=28 => Err(FrameFault::Damaged(0)),
+        29..=52 => Err(FrameFault::Damaged(1)),
+        // The number of a frame that is torn can't be another one.
+        53..=60 => Err(FrameFault::Damaged(2)),
+        _ => Ok(2),
     };
     let changed = changed_at(rt, alloc, bytes, place);
     let found = count(alloc, changed.as_slice());
@@ -150,7 +152,62 @@ fn an_end_is_cut_off(rt: HostRuntime) {
     is_same(&rt, payloads.len(), 2);
     drop(payloads);
     is_same(&rt, file.device().bytes().len(), ENDS[1]);
+    let cut = bytes.get(ENDS[1]..ENDS[2] - 1).unwrap_or_default();
+    is_same(&rt, file.device().dropped(), cut);
     append(&rt, alloc, &mut file, b"third".as_slice());
     is_same(&rt, file.device().bytes(), bytes.as_slice());
     drop(file);
+}
+
+// Three frames, and these bytes behind them.
+fn behind(rt: &impl Abort, alloc: Global, end: &[u8]) -> Vec<u8> {
+    let mut bytes = three(rt, alloc);
+    bytes.extend_from_slice(end).expect(rt, "no bytes");
+    bytes
+}
+
+// What no crash leaves behind three frames is refused, and not cut off.
+fn is_refused(rt: &impl Abort, alloc: Global, end: &[u8]) {
+    let bytes = behind(rt, alloc, end);
+    let mut file = memory(alloc, behind(rt, alloc, end));
+    let refused = matches!(file.recover(alloc), Err(FrameFault::Damaged(3)));
+    is_same(rt, (end.len(), refused), (end.len(), true));
+    is_same(rt, file.device().bytes(), bytes.as_slice());
+    is_same(rt, file.device().dropped().len(), 0);
+    drop(file);
+}
+
+#[test]
+fn other_ends_are_damaged(rt: HostRuntime) {
+    let alloc = rt.alloc();
+    let bytes = three(&rt, alloc);
+    is_refused(&rt, alloc, b"?".as_slice());
+    is_refused(&rt, alloc, b"more than a word of text".as_slice());
+    is_refused(&rt, alloc, FIRST.as_slice());
+    is_refused(&rt, alloc, bytes.as_slice());
+    is_refused(&rt, alloc, &[3, 0, 0, 0, 0, 0, 0, 1]);
+    is_refused(
+        &rt,
+        alloc,
+        &[
+            3, 0, 0, 0, 0, 0, 0, 0, 1, 0, 0, 0, 0, 0, 0, 0, 0, 0, 0, 0, 0, 0, 0, 0, 0, 0,
+        ],
+    );
+}
+
+// The third frame with this word of it in a hole.
+fn hole(rt: &impl Abort, alloc: Global, word: usize) -> Result<usize, FrameFault> {
+    let mut bytes = three(rt, alloc);
+    for byte in bytes.iter_mut().skip(ENDS[1] + 8 * word).take(8) {
+        *byte = 0;
+    }
+    count(alloc, bytes.as_slice())
+}
+
+// A torn frame with a hole is an end.
+#[test]
+fn holes_are_ends(rt: HostRuntime) {
+    for word in 0..4 {
+        is_same(&rt, (word, hole(&rt, rt.alloc(), word)), (word, Ok(2)));
+    }
 }

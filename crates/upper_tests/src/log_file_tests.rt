@@ -161,6 +161,8 @@ fn each_changed_byte_is_found(rt: HostRuntime) -> Result<(), Fail> {
             0..=87 => 0,
             88..=343 => 1,
             344..=407 => 2,
+            // The number of a frame that is torn can't be another one.
+            408..=415 => 3,
             _ => {
                 says(&rt, alloc, &changed, 192, SiteNote::Up(3))?;
                 continue;
@@ -171,6 +173,52 @@ fn each_changed_byte_is_found(rt: HostRuntime) -> Result<(), Fail> {
         assert_eq!(rt; found, Some(damaged), "at {place}");
     }
     Ok(())
+}
+
+// A file with these bytes is refused, and left as it was.
+fn is_left(
+    rt: &impl Abort,
+    alloc: Global,
+    bytes: &[u8],
+    header: &Header,
+    wanted: OpenFault,
+) -> Result<(), Fail> {
+    let mut file = over(alloc, bytes)?;
+    let fault = file.open(alloc, header).err();
+    let is_same = file.device().bytes() == bytes && file.device().dropped().is_empty();
+    drop(file);
+    assert_eq!(rt; (fault, is_same), (Some(wanted), true));
+    Ok(())
+}
+
+// What no run of this header wrote isn't begun, nor cut.
+#[test]
+fn other_files_are_left(rt: HostRuntime) -> Result<(), Fail> {
+    let alloc = rt.alloc();
+    let bytes = written(&rt, alloc)?;
+    let other = Header {
+        procedures: HEADER.procedures + 1,
+        ..HEADER
+    };
+    is_left(
+        &rt,
+        alloc,
+        b"# A page\n".as_slice(),
+        &HEADER,
+        OpenFault::Other,
+    )?;
+    is_left(&rt, alloc, &[0; 40], &HEADER, OpenFault::Other)?;
+    for len in 80..=bytes.len() {
+        let front = bytes.get(..len).unwrap_or_default();
+        is_left(&rt, alloc, front, &other, OpenFault::Other)?;
+    }
+    let mut twice = Vec::from_slice(alloc, &bytes)?;
+    twice.extend_from_slice(bytes.get(..88).unwrap_or_default())?;
+    let damaged = OpenFault::Frames(FrameFault::Damaged(4));
+    is_left(&rt, alloc, &twice, &HEADER, damaged)?;
+    twice.truncate(bytes.len());
+    twice.extend_from_slice(b"more".as_slice())?;
+    is_left(&rt, alloc, &twice, &HEADER, damaged)
 }
 
 // What is appended to a file that was cut short stands behind what was read.
@@ -295,5 +343,13 @@ fn what_is_nobodys_log(rt: HostRuntime) -> Result<(), Fail> {
     }
     assert_eq!(rt; fault_of(alloc, &header), Some(OpenFault::Other));
     assert_eq!(rt; read_file(alloc, &[]).err(), Some(OpenFault::Empty));
+    assert_eq!(rt;
+        read_file(alloc, bytes.get(..87).unwrap_or_default()).err(),
+        Some(OpenFault::Empty)
+    );
+    assert_eq!(rt;
+        read_file(alloc, b"# A page\n".as_slice()).err(),
+        Some(OpenFault::Other)
+    );
     Ok(())
 }

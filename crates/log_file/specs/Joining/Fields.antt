@@ -12,7 +12,6 @@ use Rattle.log_file.specs.declared.reading.OpenFault.{OpenFault}
 use Rattle.log_file.specs.declared.reading.OpenFault.TheVariants.{Frames, Empty, Other, NoBatch, Row}
 use Rattle.log_file.specs.Bytes.{Batch, batch_bytes, notes_of, rows_of}
 use Rattle.log_file.specs.Reading.{AreBatches, IsFirstNoBatch, last_known}
-use Rattle.log_file.specs.Stored.{IsNoHeader}
 
 abbrev pub header_in : List ℕ → Header
 header_in bytes = record {
@@ -27,14 +26,6 @@ pub record BeginsWith (payloads : List (List ℕ)) (h : Header) : Type 0 where
   pub rest : List (List ℕ)
   pub is : payloads ≡ first ∷ rest
   pub fields : h ≡ header_in first
-
--- so no header is read
-abbrev pub IsHeaderFault : List (List ℕ) → OpenFault → Type 0
-IsHeaderFault payloads (Frames fault) = ⊥
-IsHeaderFault payloads Empty = payloads ≡ []
-IsHeaderFault payloads Other = (first : List ℕ) × (rest : List (List ℕ)) × (payloads ≡ first ∷ rest) × IsNoHeader first
-IsHeaderFault payloads (NoBatch number) = ⊥
-IsHeaderFault payloads (Row place) = ⊥
 
 abbrev pub known_in : ℕ → ℕ → ℕ → SiteNote
 known_in kind n mark = if kind == 0 then Untold else if kind == 1 then Restarted (record { incarnation = n; mark = mark }) else Up n

@@ -1,5 +1,5 @@
 use Rattle.std.proofs.Common.{◌≡◌, ℕ, length, ap, subst, arith, rules, length-append}
-use Rattle.frame_file.specs.Frame.{framed, NoFrame}
+use Rattle.frame_file.specs.Frame.{framed, frames_from, NoFrame, IsEnd}
 use Rattle.frame_file.specs.Reading.{payloads_in}
 use Rattle.frame_file.proofs.Frames.{length-framed}
 use Rattle.frame_file.proofs.Readings.{read_on, fit_on, count_payloads}
@@ -21,8 +21,8 @@ frames-preserved c =
       fit = fit_on c.in-Some.payload.now vecs c.push.new.self.items v c.frames.invariant.fit c.in-Some.ensures.fits (search rules) (search rules);
     }
 
-pub returns-then-has_later-clause-fault : goal.returns-then-has_later-clause-fault
-returns-then-has_later-clause-fault c =
+pub returns-then-not-is_end-clause-fault : goal.returns-then-not-is_end-clause-fault
+returns-then-not-is_end-clause-fault c =
     let vecs = c.frames.payloads.items in
     let many = count_payloads vecs in
     let count : c.len.result ≡ length (payloads_in vecs) = omega (arith, many) in
@@ -35,5 +35,21 @@ returns-then-has_later-clause-fault c =
         ends = subst (λ (k : ℕ). NoFrame k c.frames.rest.now) count c.in_default.ensures.none;
       };
       number_is = omega (arith, many);
-      later = c.has_later.ensures.later c.if-has_later.true;
+      no_end = c.is_end.ensures.none c.if-not-is_end.true;
+    }
+
+pub returns-clause-found : goal.returns-clause-found
+returns-clause-found c =
+    let vecs = c.frames.payloads.items in
+    let many = count_payloads vecs in
+    let count : c.len.result ≡ length (payloads_in vecs) = omega (arith, many) in
+    record {
+      reads = record {
+        rest = c.frames.rest.now;
+        is = c.frames.invariant.so_far;
+        fit = c.frames.invariant.fit;
+        ends = subst (λ (k : ℕ). NoFrame k c.frames.rest.now) count c.in_default.ensures.none;
+      };
+      end = (let long = ap length c.frames.invariant.so_far in omega (arith, long, length-append (frames_from 0 (payloads_in vecs)) c.frames.rest.now));
+      ends = subst (λ (k : ℕ). IsEnd k c.frames.rest.now) (omega (arith, count, many)) (c.is_end.ensures.end c.if-not-is_end.false);
     }

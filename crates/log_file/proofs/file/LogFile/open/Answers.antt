@@ -1,24 +1,71 @@
-use Rattle.std.proofs.Common.{◌≡◌, ℕ, List, [], reverse, refl, sym, ◌∙◌, ap, subst}
-use Rattle.std.proofs.lemmas.Result.{MatchResult-weaker, IfOk-weaker, IfErr-at_err}
-use Rattle.frame_file.specs.Reading.{Reads, IsSettled, payloads_in}
-use Rattle.log_file.specs.Reading.{Says, IsSayFault}
-use Rattle.log_file.proofs.OpeningLemmas.{frames_fault, said_fault}
+use Rattle.std.proofs.Common.{◌≡◌, ℕ, List, [], ◌++◌, length, drop, reverse, refl, sym, ◌∙◌, ap, subst}
+use Rattle.frame_file.specs.Device.{LeavesOnly}
+use Rattle.frame_file.specs.Reading.{Reads, ReadsAs, IsFound, IsSettled, IsReadFault, payloads_in}
+use Rattle.frame_file.proofs.Readings.{same_reads_as}
+use Rattle.frame_file.proofs.Moments.{weaker, joined}
+use Rattle.log_file.specs.Reading.{IsOpenFault}
+use Rattle.log_file.proofs.OpeningLemmas.{read_fault}
 use Rattle.log_file.proofs.file.LogFile.open.Goals as goal
 
-pub returns-clause-says : goal.returns-clause-says
-returns-clause-says g c =
-    let payloads = payloads_in c.in_ok-payloads.payloads.items in
-    let same = ap payloads_in c.deref.ensures.value in
-    IfOk-weaker c.read_log.result _ _ (λ r says. (payloads, c.in_ok-payloads.ensures.reads, c.in_ok-payloads.ensures.settled, subst (λ (ps : List (List ℕ)). Says c.args.header.now ps r.notes.items (reverse r.log.events)) same says)) c.read_log.ensures.says
+pub returns-in_err-bytes-clause-any_moment : goal.returns-in_err-bytes-clause-any_moment
+returns-in_err-bytes-clause-any_moment g c =
+    let moment = g.D.Device.moment in
+    let left_since = g.D.Device.left_since in
+    let old = c.args.self.now.frames.device in
+    let mid = c.bytes.new.self.device in
+    let file = g.D.Device.seen old in
+    let looked = weaker moment left_since old mid (λ f. f ≡ file) (ReadsAs file) (c.bytes.ensures.any_moment c.requires) (λ f is. same_reads_as file f is) in
+    looked
 
-pub returns-clause-fault : goal.returns-clause-fault
-returns-clause-fault g c =
-    let payloads = payloads_in c.in_ok-payloads.payloads.items in
-    let same = ap payloads_in c.deref.ensures.value in
-    MatchResult-weaker c.read_log.result c.read_log.ensures.fault (λ r yes. yes) (λ fault why. said_fault c.args.header.now (g.D.Device.seen c.args.self.now.frames.device) payloads fault c.in_ok-payloads.ensures.reads (subst (λ (ps : List (List ℕ)). IsSayFault c.args.header.now ps fault) same why))
+pub returns-in_err-found-clause-any_moment : goal.returns-in_err-found-clause-any_moment
+returns-in_err-found-clause-any_moment g c =
+    let moment = g.D.Device.moment in
+    let left_since = g.D.Device.left_since in
+    let old = c.args.self.now.frames.device in
+    let mid = c.bytes.new.self.device in
+    let file = g.D.Device.seen old in
+    let looked = weaker moment left_since old mid (λ f. f ≡ file) (ReadsAs file) (c.bytes.ensures.any_moment c.requires) (λ f is. same_reads_as file f is) in
+    looked
 
-pub returns-clause-empty : goal.returns-clause-empty
-returns-clause-empty g c is =
-    let same = ap payloads_in c.deref.ensures.value in
-    let none : payloads_in c.in_ok-payloads.payloads.items ≡ [] = sym same ∙ IfErr-at_err (IsSayFault c.args.header.now (payloads_in c.deref.result.now)) is c.read_log.ensures.fault in
-    subst (IsSettled g.D.Device.seen g.D.Device.may_leave c.recover.new.self) none c.in_ok-payloads.ensures.settled
+pub returns-in_err-recovered-clause-any_moment : goal.returns-in_err-recovered-clause-any_moment
+returns-in_err-recovered-clause-any_moment g c =
+    let moment = g.D.Device.moment in
+    let left_since = g.D.Device.left_since in
+    let old = c.args.self.now.frames.device in
+    let mid = c.bytes.new.self.device in
+    let file = g.D.Device.seen old in
+    let looked = weaker moment left_since old mid (λ f. f ≡ file) (ReadsAs file) (c.bytes.ensures.any_moment c.requires) (λ f is. same_reads_as file f is) in
+    looked
+
+pub returns-in_err-settle-clause-any_moment : goal.returns-in_err-settle-clause-any_moment
+returns-in_err-settle-clause-any_moment g c =
+    let moment = g.D.Device.moment in
+    let left_since = g.D.Device.left_since in
+    let old = c.args.self.now.frames.device in
+    let mid = c.bytes.new.self.device in
+    let file = g.D.Device.seen old in
+    let looked = weaker moment left_since old mid (λ f. f ≡ file) (ReadsAs file) (c.bytes.ensures.any_moment c.requires) (λ f is. same_reads_as file f is) in
+    let settled = subst (λ f. LeavesOnly moment left_since mid c.settle.new.self.device (ReadsAs f)) c.bytes.ensures.seen c.settle.ensures.any_moment in
+    joined moment left_since old mid c.settle.new.self.device (ReadsAs file) looked settled
+
+pub returns-in-Some-clause-any_moment : goal.returns-in-Some-clause-any_moment
+returns-in-Some-clause-any_moment g c =
+    let moment = g.D.Device.moment in
+    let left_since = g.D.Device.left_since in
+    let old = c.args.self.now.frames.device in
+    let mid = c.bytes.new.self.device in
+    let file = g.D.Device.seen old in
+    let looked = weaker moment left_since old mid (λ f. f ≡ file) (ReadsAs file) (c.bytes.ensures.any_moment c.requires) (λ f is. same_reads_as file f is) in
+    let settled = subst (λ f. LeavesOnly moment left_since mid c.settle.new.self.device (ReadsAs f)) c.bytes.ensures.seen c.settle.ensures.any_moment in
+    joined moment left_since old mid c.settle.new.self.device (ReadsAs file) looked settled
+
+pub returns-clause-any_moment : goal.returns-clause-any_moment
+returns-clause-any_moment g c =
+    let moment = g.D.Device.moment in
+    let left_since = g.D.Device.left_since in
+    let old = c.args.self.now.frames.device in
+    let mid = c.bytes.new.self.device in
+    let file = g.D.Device.seen old in
+    let looked = weaker moment left_since old mid (λ f. f ≡ file) (ReadsAs file) (c.bytes.ensures.any_moment c.requires) (λ f is. same_reads_as file f is) in
+    let settled = subst (λ f. LeavesOnly moment left_since mid c.settle.new.self.device (ReadsAs f)) c.bytes.ensures.seen c.settle.ensures.any_moment in
+    joined moment left_since old mid c.settle.new.self.device (ReadsAs file) looked settled

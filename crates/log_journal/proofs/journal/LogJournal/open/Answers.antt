@@ -1,6 +1,6 @@
 use Rattle.std.proofs.Common.{List, ℕ, [], refl, subst}
 use Rattle.frame_file.specs.Reading.{Reads}
-use Rattle.log_file.specs.Reading.{IsUnsaid, IsOpenFault}
+use Rattle.log_file.specs.Reading.{IsBegun, IsOpenFault}
 use Rattle.log_file.specs.declared.reading.OpenFault.TheVariants.{Empty}
 use Rattle.log_journal.specs.Keeping.{Begun, Read}
 use Rattle.log_journal.proofs.journal.LogJournal.open.Goals as goal
@@ -16,7 +16,7 @@ returns-clause-log g c =
       | in-Ok w ↦ let s = w.in-Ok.ensures.says in
           rw w.log-is (Read s.0 _ (subst (λ d. Reads (g.D.Device.seen d) s.0) c.new-file.ensures s.1) s.3)
       | in-Err-Empty+in-Ok-create w ↦
-          let none : IsUnsaid c.args.header (g.D.Device.seen before) Empty =
+          let none : IsBegun c.args.header (g.D.Device.seen before) =
           subst (IsOpenFault c.args.header (g.D.Device.seen before)) w.in-Err-Empty.field-0-is w.in-Err-Empty.ensures.fault in
-          rw (w.log-is, w.new.ensures) (Begun (subst (λ d. Reads (g.D.Device.seen d) []) c.new-file.ensures (subst (Reads (g.D.Device.seen before)) none.why none.reads)) refl)
+          rw (w.log-is, w.new.ensures) (Begun (subst (λ d. Reads (g.D.Device.seen d) []) c.new-file.ensures none.reads) refl)
     ]

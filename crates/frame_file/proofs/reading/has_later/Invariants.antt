@@ -1,6 +1,0 @@
-use Rattle.std.proofs.Common.{ℕ, ◌<◌, drop}
-use Rattle.frame_file.specs.Frame.{NoneBegins}
-use Rattle.frame_file.proofs.reading.has_later.Given as goal
-
-abbrev pub invariant-places : goal.invariant-places
-invariant-places l = (at : ℕ) → at < l.place → NoneBegins l.number (drop at l.bytes)
