@@ -1,9 +1,9 @@
 #!/usr/bin/env python3
-"""How long a machine takes to start, and how the cost of locks, numbers, the log, its check and audit, a data component, transactions and redo grows with what there is.
+"""How long a machine takes to start, and how the cost of locks, refusals, numbers, the log, its check and audit, a data component, transactions and redo grows with what there is.
 
 usage: bench/costs.py [--bench PATH] [WHAT..]
 
-WHAT names some of the measurements (starts locks numbers log store restarts checkpoints steps redo
+WHAT names some of the measurements (starts locks refusals numbers log store restarts checkpoints steps redo
 checks audits); without it all are done. The program `bench` has to be built: `rt run` in crates/bench
 does that, and `tools/unproved.py bench` in a minute or two without the proofs. Each figure is the
 least of several runs, measured from outside: the processor time of a run with the work less that of
@@ -63,9 +63,14 @@ def locks(bench):
         say("locks", held, bench.one("locks", held, times=1_000_000) * 1e6, "us a grant and a release")
 
 
+def refusals(bench):
+    for held in (100, 10_000, 100_000):
+        say("refusal", held, bench.one("busy", held, times=1_000_000) * 1e6, "us a refusal by one of so many holders")
+
+
 def numbers(bench):
     for held in (1, 100, 10_000, 100_000):
-        cost = bench.one("numbers", held, times=20_000_000 // (held + 200))
+        cost = bench.one("numbers", held, times=1_000_000)
         say("numbers", held, cost * 1e6, "us to give out and answer a number")
 
 
@@ -130,6 +135,7 @@ def audits(bench):
 MEASURED = {
     "starts": starts,
     "locks": locks,
+    "refusals": refusals,
     "numbers": numbers,
     "log": log,
     "store": store,

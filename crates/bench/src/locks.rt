@@ -1,6 +1,6 @@
 //! Locks beside many that are held.
 
-ghost use Rattle.std.specs.Prelude.{ℕ, ◌≡◌, ◌==◌, false};
+ghost use Rattle.std.specs.Prelude.{ℕ, ◌≡◌, ◌==◌, ◌≤◌, false};
 ghost use Rattle.access_slots.specs.declared.slot.Record.{Record};
 ghost use Rattle.lock_table.specs.Facts.{held_by, HoldsNothing};
 
@@ -35,19 +35,41 @@ fn take(table: &mut LockTable, txn: u64, set: &LockSet) -> bool
     }
 }
 
+// So many transactions hold a lock each. How many were granted.
+fn hold_all(table: &mut LockTable, held: u64) -> Option<u64>
+    requires { (t : ℕ) → HoldsNothing (held_by table.old) t }
+    ensures { (t : ℕ) → held ≤ t → HoldsNothing (held_by table.new) t }
+{
+    let mut granted: u64 = 0;
+    'held: for txn in 0..held {
+        let set = one_lock(txn)?;
+        granted = granted.wrapping_add(u64::from(take(table, txn, &set)));
+    }
+    Some(granted)
+}
+
 /// So many transactions hold a lock each; one more takes its lock and gives it back so many times.
 /// How many locks were granted.
 pub fn repeat(alloc: Global, held: u64, times: u64) -> Option<u64> {
     let mut table = LockTable::new(alloc);
-    let mut granted: u64 = 0;
-    'held: for txn in 0..held {
-        let set = one_lock(txn)?;
-        granted = granted.wrapping_add(u64::from(take(&mut table, txn, &set)));
-    }
+    let mut granted = hold_all(&mut table, held)?;
     let set = one_lock(held)?;
     'times: for _ in 0..times {
         granted = granted.wrapping_add(u64::from(take(&mut table, held, &set)));
         table.release(held);
     }
     Some(granted)
+}
+
+/// So many transactions hold a lock each; the lock of one in their midst is refused so many times.
+/// The sum of the holders that were named.
+pub fn repeat_busy(alloc: Global, held: u64, times: u64) -> Option<u64> {
+    let mut table = LockTable::new(alloc);
+    hold_all(&mut table, held)?;
+    let set = one_lock(held / 2)?;
+    let mut holders: u64 = 0;
+    for _ in 0..times {
+        holders = holders.wrapping_add(table.busy(&set)?.holder);
+    }
+    Some(holders)
 }

@@ -30,6 +30,7 @@ const USAGE: &str = "usage:
   bench code LOADS RUNS < WORKLOADS    decodes and verifies each workload LOADS times, runs it RUNS times
   bench starts SLOTS TIMES             starts a machine for code of two instructions and SLOTS slots, and runs it, TIMES
   bench locks HELD TIMES               HELD transactions hold a lock; one more takes and gives back TIMES
+  bench busy HELD TIMES                HELD transactions hold a lock; the lock of one in their midst is refused TIMES
   bench numbers OPEN TIMES             OPEN numbers are open; one more is given out and answered TIMES
   bench log EVENTS TIMES               prints and reads a log of EVENTS events TIMES
   bench store ROWS UPDATES RESTARTS    inserts ROWS records, UPDATES them in turn, keeps a checkpoint, and RESTARTS
@@ -103,6 +104,7 @@ fn line_of<R: Threads + Wait + Sync>(
         "audit" => return audits::repeat(alloc, text),
         "starts" => code::repeat_starts(alloc, first, second)?,
         "locks" => locks::repeat(alloc, first, second)?,
+        "busy" => locks::repeat_busy(alloc, first, second)?,
         "numbers" => numbers::repeat(alloc, first, second)?,
         "log" => log::repeat(alloc, first, second)?,
         "store" => store::repeat(alloc, first, second, number(words, 4)?)?,
