@@ -290,7 +290,7 @@ class Runs:
         wanted("coming back", (ran.status, ran.err), (0, b""))
         found = re.sub(r"(?m)^(resumed \d+ .* at) \d+$", r"\1", ran.out.decode()).splitlines()
         lines = [f"recovered {kept.events} events, {len(kept.open)} open"]
-        lines += [f"dropped {kept.unfinished} bytes"] if kept.unfinished else []
+        lines += [f"dropped {kept.unfinished} bytes to {self.copy}.dropped"] if kept.unfinished else []
         lines += [f"resumed {txn} {how} at" for txn, how in sorted(kept.open.items())]
         wanted("coming back", found, [*lines, *rows_behind(kept.moves.values())])
         self.tally["came back"] += len(kept.open)

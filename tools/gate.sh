@@ -47,6 +47,7 @@ tried tools/tampered.py --every 25
 for how in "" --forget --control; do
     tried tools/crashes.py --kills 5 --moves 1000 $how
 done
+tried tools/foreign_files.py --files 200
 # A log's file with one fault is read as a beginning of it, or refused.
 damaged() {
     said=$(crates/bench/out/bench damaged 50 < /dev/null) && echo "damaged: $said" && [ "${said##* }" = 0 ]

@@ -110,15 +110,28 @@ impl Written {
         Some(())
     }
 
-    // A frame with another byte is damaged; the last one is an end that a crash may have left.
+    // Whether the last frame with another byte in this place is an end that a crash may have left: not with
+    // another number, nor with a lower length.
+    fn is_end(&self, changed: &[u8], place: usize) -> Option<bool> {
+        let start = *self.ends.get(self.ends.len().checked_sub(2)?)?;
+        Some(match place.checked_sub(start)? {
+            0..=7 => false,
+            8..=15 => changed.get(place)? > self.bytes.get(place)?,
+            _ => true,
+        })
+    }
+
+    // A frame with another byte is damaged, but for the last one where it is an end.
     fn change(&self, alloc: Global, place: usize, bits: u8, tried: &mut Tried) -> Option<()> {
         let mut changed = Vec::from_slice(alloc, &self.bytes).ok()?;
         let byte = changed.get_mut(place)?;
         *byte ^= bits;
+        let frame = self.whole(place);
+        let is_last = frame.saturating_add(1) == self.ends.len();
+        let is_end = is_last && self.is_end(&changed, place)?;
         let found = self.read(alloc, changed)?;
         tried.changes = tried.changes.wrapping_add(1);
-        let frame = self.whole(place);
-        let wanted = if frame.saturating_add(1) == self.ends.len() {
+        let wanted = if is_end {
             self.rows_of(frame)
         } else {
             Found::Damaged(frame as u64)

@@ -2,6 +2,8 @@
 use Rattle.std.specs.Prelude.{ℕ, ◌==◌, if◌then◌else◌, List, [], ◌++◌, length, Option, Some, None, codes, decimal}
 use Rattle.std.specs.List.{flat_map}
 use Rattle.frame_file.specs.declared.reading.FrameFault.TheVariants.{Device, Full, Damaged}
+use Rattle.disk_file.specs.declared.opening.FileKind.{FileKind}
+use Rattle.disk_file.specs.declared.opening.FileKind.TheVariants.{Directory, Fifo, Socket, CharacterDevice, BlockDevice, Unknown}
 use Rattle.log_file.specs.declared.reading.OpenFault.{OpenFault}
 use Rattle.log_file.specs.declared.reading.OpenFault.TheVariants.{Frames, Empty, Other, NoBatch, Row}
 use Rattle.tc_core.specs.declared.checking.CheckFault.TheVariants as check
@@ -21,6 +23,18 @@ open_refusal Empty = Some (codes "refused log Empty\n")
 open_refusal Other = Some (codes "refused log Other\n")
 open_refusal (NoBatch number) = Some (codes "refused log NoBatch frame " ++ (decimal number ++ codes "\n"))
 open_refusal (Row place) = Some (codes "refused log L2 Kind " ++ (decimal place ++ codes "\n"))
+
+-- what stands in the place of a log's file
+abbrev pub kind_word : FileKind → List ℕ
+kind_word Directory = codes "directory"
+kind_word Fifo = codes "fifo"
+kind_word Socket = codes "socket"
+kind_word CharacterDevice = codes "character device"
+kind_word BlockDevice = codes "block device"
+kind_word Unknown = codes "unknown"
+
+abbrev pub kind_refusal : FileKind → List ℕ
+kind_refusal kind = codes "refused log NotAFile " ++ (kind_word kind ++ codes "\n")
 
 -- why nothing goes on from a log; want of memory has no line
 abbrev pub back_refusal : ComeBackFault → Option (List ℕ)
@@ -47,9 +61,10 @@ abbrev pub recovered_line : ℕ → ℕ → List ℕ
 recovered_line events left =
     if events == 0 then [] else codes "recovered " ++ (decimal events ++ (codes " events, " ++ (decimal left ++ codes " open\n")))
 
-abbrev pub dropped_line : ℕ → List ℕ
-dropped_line bytes = if bytes == 0 then [] else codes "dropped " ++ (decimal bytes ++ codes " bytes\n")
+abbrev pub dropped_line : ℕ → List ℕ → List ℕ
+dropped_line bytes path =
+    if bytes == 0 then [] else codes "dropped " ++ (decimal bytes ++ (codes " bytes to " ++ (path ++ codes ".dropped\n")))
 
 -- how many events the log has, what was cut off, and what came of each transaction that was open
-abbrev pub back_lines : ℕ → ℕ → List Resumed → List ℕ
-back_lines events dropped resumed = (recovered_line events (length resumed) ++ dropped_line dropped) ++ resumed_lines resumed
+abbrev pub back_lines : ℕ → ℕ → List ℕ → List Resumed → List ℕ
+back_lines events dropped path resumed = (recovered_line events (length resumed) ++ dropped_line dropped path) ++ resumed_lines resumed

@@ -6,6 +6,7 @@ use Rattle.history.specs.Places.{Begins}
 use Rattle.transactions.specs.Legal.{Legal}
 use Rattle.data_component.specs.Store.{Store, restarted}
 use Rattle.disk_file.specs.declared.disk.DiskFile.{DiskFile}
+use Rattle.disk_file.specs.declared.opening.FileKind.{FileKind}
 use Rattle.disk_file.specs.Disk.{disk_bytes, left_of}
 use Rattle.log_file.specs.declared.reading.OpenFault.{OpenFault}
 use Rattle.log_file.specs.Reading.{IsOpenFault}
@@ -29,7 +30,7 @@ use Rattle.run_command.specs.declared.answering.Halt.{Halt}
 use Rattle.run_command.specs.declared.answering.Halt.TheVariants.{Unbegun, NotKept}
 use Rattle.run_command.specs.declared.running.Unreported.{Unreported}
 use Rattle.run_command.specs.declared.running.Unreported.TheVariants as unreported
-use Rattle.run_command.specs.LogLines.{open_refusal, back_refusal, back_lines}
+use Rattle.run_command.specs.LogLines.{open_refusal, kind_refusal, back_refusal, back_lines}
 use Rattle.run_command.specs.Running.{Stops, IsCallsRun, begun, empty_stores}
 
 -- ---- what is kept
@@ -80,9 +81,10 @@ pub record GoesOn (start : Core) (empties : List Store) (log : List Event) (back
 
 -- ---- what is printed
 
--- another process has the file open; or it isn't read; or its log isn't gone on from
+-- another process has the file open; or there is no file of bytes; or it isn't read; or its log isn't gone on from
 pub data IsLogRefusal (start : Core) (empties : List Store) (lines : List ℕ) : Type 0 where
   Busy : lines ≡ codes "refused log Busy\n" → IsLogRefusal start empties lines
+  NotAFile : (kind : FileKind) → lines ≡ kind_refusal kind → IsLogRefusal start empties lines
   Unread : (file : List ℕ) (fault : OpenFault) → IsOpenFault (header_of (loaded_in start)) file fault
       → open_refusal fault ≡ Some lines → IsLogRefusal start empties lines
   Unfit : (file : List ℕ) (log : List Event) (after : Core) (dcs : List Store) (fault : ComeBackFault) → IsLogFor start file log
@@ -100,9 +102,10 @@ pub record IsRunBehind (journal : Option FileJournal) (start : Core) (empties : 
   pub came_back : HasComeBack start empties log back dcs resumed
   pub goes_on : GoesOn start empties log back dcs
   pub dropped : ℕ
+  pub path : List ℕ
   pub answers : List ℕ
   pub ran : IsCallsRun (λ last. KeepsLog journal last.events) back dcs first calls workers tries audit status answers
-  pub lines_are : lines ≡ back_lines (length log) dropped resumed ++ answers
+  pub lines_are : lines ≡ back_lines (length log) dropped path resumed ++ answers
 
 -- the log is refused, or the calls are run behind it
 pub data IsLoggedRun (journal : Option FileJournal) (start : Core) (empties : List Store) (first calls : List said.Call)

@@ -1,9 +1,10 @@
 //! The lines that say how a run goes on from a log's file, and why it doesn't.
 
 ghost use Rattle.std.specs.Prelude.{◌≡◌, ◌++◌, IfOk, OnOk, option_map, string_bytes};
-ghost use Rattle.run_command.specs.LogLines.{open_refusal, back_refusal, recovered_line, dropped_line, resumed_line, resumed_lines, back_lines};
+ghost use Rattle.run_command.specs.LogLines.{open_refusal, kind_word, kind_refusal, back_refusal, recovered_line, dropped_line, resumed_line, resumed_lines, back_lines};
 
 use coming_back::{ComeBackFault, Resumed};
+use disk_file::FileKind;
 use frame_file::FrameFault;
 use log_file::OpenFault;
 use state_lines::operation_texts::outcome_text;
@@ -30,6 +31,27 @@ pub fn open_refusal(alloc: Global, fault: &OpenFault) -> Result<Option<String>, 
         }
         OpenFault::Row(place) => Some(format!(in alloc; "refused log L2 Kind {place}\n")?),
     })
+}
+
+fn kind_word(kind: FileKind) -> &'static str
+    ensures { result.now ≡ kind_word kind }
+{
+    match kind {
+        FileKind::Directory => "directory",
+        FileKind::Fifo => "fifo",
+        FileKind::Socket => "socket",
+        FileKind::CharacterDevice => "character device",
+        FileKind::BlockDevice => "block device",
+        FileKind::Unknown => "unknown",
+    }
+}
+
+/// The line that says what stands in the place of a log's file.
+pub fn kind_refusal(alloc: Global, kind: FileKind) -> Result<String, AllocError>
+    ensures { IfOk result (λ line. string_bytes line ≡ kind_refusal kind) }
+{
+    let word = kind_word(kind);
+    format!(in alloc; "refused log NotAFile {word}\n")
 }
 
 /// The line that says why nothing goes on from a log. There is none where memory ran out.
@@ -95,27 +117,29 @@ fn recovered_line(alloc: Global, events: usize, left: usize) -> Result<String, A
     format!(in alloc; "recovered {events} events, {left} open\n")
 }
 
-fn dropped_line(alloc: Global, bytes: usize) -> Result<String, AllocError>
-    ensures { IfOk result (λ s. string_bytes s ≡ dropped_line bytes) }
+fn dropped_line(alloc: Global, bytes: usize, path: &str) -> Result<String, AllocError>
+    ensures { IfOk result (λ s. string_bytes s ≡ dropped_line bytes path.now) }
 {
     if bytes == 0 {
         return Ok(String::new(alloc));
     }
-    format!(in alloc; "dropped {bytes} bytes\n")
+    format!(in alloc; "dropped {bytes} bytes to {path}.dropped\n")
 }
 
-/// The lines of a log that is gone on from: how many events it has, if any, how many bytes at its file's end
-/// were cut off, if any, and what came of each transaction that was open.
+/// The lines of a log that is gone on from: how many events it has, if any, how many bytes at the end of its
+/// file, which has this path, were cut off, if any, and where they are, and what came of each transaction that
+/// was open.
 pub fn back_lines(
     alloc: Global,
     events: usize,
     dropped: usize,
+    path: &str,
     resumed: &[Resumed],
 ) -> Result<String, AllocError>
-    ensures { IfOk result (λ s. string_bytes s ≡ back_lines events dropped resumed.now) }
+    ensures { IfOk result (λ s. string_bytes s ≡ back_lines events dropped path.now resumed.now) }
 {
     let mut lines = recovered_line(alloc, events, resumed.len())?;
-    let dropped = dropped_line(alloc, dropped)?;
+    let dropped = dropped_line(alloc, dropped, path)?;
     lines.push_str(dropped.as_str())?;
     write_resumed(alloc, resumed, &mut lines)?;
     Ok(lines)

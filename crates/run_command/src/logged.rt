@@ -1,6 +1,9 @@
 //! `run --log`: the calls of a script, behind what a log's file has.
 
-ghost use Rattle.std.specs.Prelude.{◌≡◌, ◌++◌, ℕ, List, length, Some, IfOk, OnOk, string_bytes};
+ghost use Rattle.std.specs.Prelude.{◌≡◌, ◌++◌, ℕ, List, length, Some, IfOk, IfSome, OnOk, string_bytes};
+ghost use Rattle.frame_file.specs.Device.{Only};
+ghost use Rattle.disk_file.specs.Disk.{disk_bytes, left_of};
+ghost use Rattle.tc_core.specs.Core.{Core};
 ghost use Rattle.tc_log.specs.declared.event.Event.{Event as EventValue};
 ghost use Rattle.history.specs.Places.{Begins};
 ghost use Rattle.std.specs.List.{All};
@@ -10,11 +13,11 @@ ghost use Rattle.scripts.specs.declared.keyword.Command.TheVariants as command;
 ghost use Rattle.coming_back.specs.Coming.{IsEmpty};
 ghost use Rattle.run_command.specs.LogLines.{open_refusal};
 ghost use Rattle.run_command.specs.Running.{IsCallsRun};
-ghost use Rattle.run_command.specs.Logged.{KeepsLog, IsLogFor, IsLoggedRun, IsLogged};
+ghost use Rattle.run_command.specs.Logged.{KeepsLog, IsLogFor, IsLogRefusal, IsLoggedRun, IsLogged};
 ghost use Rattle.run_command.specs.Joining.Opening.{IsOpened, IsOpening, IsUnfit, IsComing, IsGoingBack, IsBegun};
 
 use crate::answering::FileJournal;
-use crate::log_lines::{back_lines, back_refusal, open_refusal};
+use crate::log_lines::{back_lines, back_refusal, kind_refusal, open_refusal};
 use crate::running::{Calls, Listeners, Manner, Ran, Unreported, run_from};
 use coming_back::{ComeBackFault, come_back};
 use data_component::dc::Dc;
@@ -41,7 +44,8 @@ pub enum Unlogged {
     Memory,
     /// The log's file can't be opened or read.
     Unread,
-    /// The log's file can't be written or synced. What it had stands in it.
+    /// The log's file can't be written or synced, or what would be cut off from it can't be kept. What it had
+    /// stands in it.
     Unwritten,
 }
 
@@ -92,7 +96,80 @@ fn unread(alloc: Global, fault: &OpenFault) -> Result<Report, Unlogged>
     }
 }
 
-// Opens the log's file of a state in which nothing has happened, and begins it where it is empty.
+// Where what is cut off from a log's file is kept.
+#[derive(Clone, Copy)]
+enum Dropped {
+    // Nowhere: the file isn't opened where something is to be cut off.
+    Nowhere,
+    // In the file beside it.
+    Beside,
+}
+
+// Opens a log's file.
+fn open_file<F: Files<File = File>>(
+    rt: &F,
+    alloc: Global,
+    path: &str,
+    place: Dropped,
+) -> Result<DiskFile, OpenError>
+    ensures { IfOk result (λ d. Only (disk_bytes d) (left_of d)) }
+{
+    let mut file = DiskFile::open(rt, alloc, path)?;
+    match place {
+        Dropped::Nowhere => Ok(file),
+        Dropped::Beside => {
+            file.keep_dropped(rt, alloc, path)?;
+            Ok(file)
+        }
+    }
+}
+
+// Why a log's file isn't opened.
+fn unopened(alloc: Global, error: OpenError) -> Result<Report, Unlogged>
+    ensures { (start : Core) (empties : List Store) → IfOk result (λ report.
+        IsLogRefusal start empties (string_bytes report.lines) × (report.status ≡ 1)) }
+{
+    match error {
+        OpenError::Io(_) => Err(Unlogged::Unread),
+        OpenError::ReadOnly => Err(Unlogged::Unwritten),
+        OpenError::Memory => Err(Unlogged::Memory),
+        OpenError::Busy => Ok(refusal(String::from_str(alloc, "refused log Busy\n")?)),
+        OpenError::Kind(kind) => Ok(refusal(kind_refusal(alloc, kind)?)),
+    }
+}
+
+// Opens the log's file of a state in which nothing has happened, and begins it where it is empty; none where
+// something is to be cut off, and there is no place for it.
+fn try_log<F: Files<File = File>>(
+    rt: &F,
+    alloc: Global,
+    path: &str,
+    state: &TcState,
+    place: Dropped,
+) -> Result<Option<Opening>, Unlogged>
+    ensures { (empties : List Store) → IfOk result (λ o. IfSome o (IsOpening state.now empties)) }
+{
+    let header = header_of(alloc, state.procs())?;
+    let file = match open_file(rt, alloc, path, place) {
+        Ok(file) => file,
+        Err(error) => return Ok(Some(Opening::Refused(unopened(alloc, error)?))),
+    };
+    match LogJournal::open(alloc, file, header) {
+        Ok((journal, log)) => {
+            let dropped = journal.device().cut_off();
+            Ok(Some(Opening::Open(Opened {
+                journal,
+                log,
+                dropped,
+            })))
+        }
+        Err(OpenFault::Frames(FrameFault::Device(DeviceError::Unkept))) => Ok(None),
+        Err(fault) => Ok(Some(Opening::Refused(unread(alloc, &fault)?))),
+    }
+}
+
+// Opens the log's file of a state in which nothing has happened, and begins it where it is empty. The file
+// beside it is made only where something is cut off.
 fn open_log<F: Files<File = File>>(
     rt: &F,
     alloc: Global,
@@ -101,27 +178,12 @@ fn open_log<F: Files<File = File>>(
 ) -> Result<Opening, Unlogged>
     ensures { (empties : List Store) → IfOk result (IsOpening state.now empties) }
 {
-    let header = header_of(alloc, state.procs())?;
-    let file = match DiskFile::open(rt, alloc, path) {
-        Ok(file) => file,
-        Err(OpenError::Io(_)) => return Err(Unlogged::Unread),
-        Err(OpenError::Memory) => return Err(Unlogged::Memory),
-        Err(OpenError::Busy) => {
-            let line = String::from_str(alloc, "refused log Busy\n")?;
-            return Ok(Opening::Refused(refusal(line)));
-        }
-    };
-    let found = file.bytes().len();
-    match LogJournal::open(alloc, file, header) {
-        Ok((journal, log)) => {
-            let dropped = found.saturating_sub(journal.device().bytes().len());
-            Ok(Opening::Open(Opened {
-                journal,
-                log,
-                dropped,
-            }))
-        }
-        Err(fault) => Ok(Opening::Refused(unread(alloc, &fault)?)),
+    if let Some(opening) = try_log(rt, alloc, path, state, Dropped::Nowhere)? {
+        return Ok(opening);
+    }
+    match try_log(rt, alloc, path, state, Dropped::Beside)? {
+        Some(opening) => Ok(opening),
+        None => Err(Unlogged::Unwritten),
     }
 }
 
@@ -170,6 +232,7 @@ fn come(
     dcs: &mut [Dc],
     log: &Log,
     dropped: usize,
+    path: &str,
     journal: &mut FileJournal,
 ) -> Result<Coming, Unlogged>
     requires { All IsEmpty dcs.old }
@@ -181,7 +244,7 @@ fn come(
         Err(fault) => return unfit(alloc, &fault),
     };
     keep_behind(journal, state.log(), log.len())?;
-    Ok(Coming::Lines(back_lines(alloc, log.len(), dropped, resumed.as_slice())?))
+    Ok(Coming::Lines(back_lines(alloc, log.len(), dropped, path, resumed.as_slice())?))
 }
 
 // Why a log isn't gone on from.
@@ -201,6 +264,7 @@ fn go_back(
     state: &mut TcState,
     dcs: &mut [Dc],
     opened: Opened,
+    path: &str,
 ) -> Result<GoingBack, Unlogged>
     requires { All IsEmpty dcs.old }
     ensures { IsOpened state.old opened → IfOk result (IsGoingBack state.old dcs.old opened.log.events state.new dcs.new) }
@@ -210,7 +274,7 @@ fn go_back(
         log,
         dropped,
     } = opened;
-    let coming = come(alloc, state, dcs, &log, dropped, &mut journal);
+    let coming = come(alloc, state, dcs, &log, dropped, path, &mut journal);
     drop(log);
     match coming {
         Ok(Coming::Lines(lines)) => Ok(GoingBack::Back(Back { journal, lines })),
@@ -237,7 +301,7 @@ fn begin<F: Files<File = File>>(
     ensures { IfOk result (IsBegun state.old dcs.old state.new dcs.new) }
 {
     match open_log(rt, alloc, path, state)? {
-        Opening::Open(opened) => go_back(alloc, state, dcs, opened),
+        Opening::Open(opened) => go_back(alloc, state, dcs, opened, path),
         Opening::Refused(report) => Ok(GoingBack::Refused(report)),
     }
 }

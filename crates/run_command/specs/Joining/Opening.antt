@@ -33,7 +33,8 @@ pub record IsBack (start : Core) (empties : List Store) (log : List Event) (back
   pub goes_on : GoesOn start empties log back dcs
   pub kept : KeepsLog (Some b.journal) back.events
   pub dropped : ℕ
-  pub lines : string_bytes b.lines ≡ back_lines (length log) dropped resumed
+  pub path : List ℕ
+  pub lines : string_bytes b.lines ≡ back_lines (length log) dropped path resumed
 
 -- why the log isn't gone on from
 abbrev pub IsUnfit : ComeBackFault → Coming → Type 0

@@ -27,6 +27,7 @@ returns-in-Ok-Back g c =
       came_back = b.came_back;
       goes_on = b.goes_on;
       dropped = b.dropped;
+      path = b.path;
       answers = h.0;
       ran = subst (λ (dcs : List Store). IsCallsRun (λ last. KeepsLog r.journal last.events) c.begin.new.state dcs c.args.loaded.first.items c.args.loaded.calls.items c.args.manner.workers c.args.manner.tries c.args.manner.audit r.report.status h.0) whole h.1;
       lines_are = h.2 ∙ ap (λ (l : List ℕ). l ++ h.0) b.lines;

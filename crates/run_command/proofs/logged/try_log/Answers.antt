@@ -4,7 +4,7 @@ use Rattle.log_file.specs.Reading.{IsOpenFault}
 use Rattle.log_file.specs.declared.header.Header.{Header}
 use Rattle.procedure_digest.specs.Header.{header_of}
 use Rattle.run_command.specs.Logged.{Unread}
-use Rattle.run_command.proofs.logged.open_log.Goals as goal
+use Rattle.run_command.proofs.logged.try_log.Goals as goal
 
 pub returns-in_ok-unread-in-Err : goal.returns-in_ok-unread-in-Err
 returns-in_ok-unread-in-Err g c = λ empties.
