@@ -57,9 +57,11 @@ RUNS = 3  # so many whole runs a file may have, about, before the filled one tak
 SCRIPT = f"dc {RECORDS} 1000000\n" + PUT + (MOVE + BACK).replace("move 3", "move 4").replace("back 3", "back 4")
 CALL = re.compile(r"^\d+ admit (\d+) procedure (\d+) ([\d ]+)$", re.MULTILINE)
 END = re.compile(r"^\d+ end (\d+) (.*)$", re.MULTILINE)
+TOLD = re.compile(r"^told (\d+) (.+)$", re.MULTILINE)
 UNDO = re.compile(r"^\d+ undo (\d+) ", re.MULTILINE)
 NAMES = ["put", "move", "back"]
 ENDS = ["committed", "committed", "aborted 5"]  # how a call of each ends
+ENDED = ("committed", "aborted", "noroom")  # answers that name an End
 BACKS = 4  # one of so many calls is of the last
 HEAD, NOTE, EVENT = 24, 32, 96  # bytes
 HEADER = b"mazzulpe" + struct.pack("<3Q", 1, 1, len(NAMES))  # what the first payload begins with
@@ -207,14 +209,17 @@ class Runs:
             return subprocess.Popen(self.words(), stdin=subprocess.DEVNULL, stdout=out, stderr=err, env=env)
 
     def take(self, told):
-        """Takes in the whole lines of what a run told; answers how many calls, and what else it said."""
+        """Takes in the whole lines of what a run told; answers how many calls ended by it, and what else it said."""
         lines = told[: told.rfind(b"\n") + 1].decode().splitlines()
         said = [line for line in lines if not line.startswith("told ")]
-        numbers = {self.first + int(line.removeprefix("told ")) for line in lines if line.startswith("told ")}
-        wanted("calls told", len(numbers), len(lines) - len(said))
-        self.told |= numbers
-        self.tally["told"] += len(numbers)
-        return len(numbers), said
+        answers = {int(call): answer for call, answer in TOLD.findall("\n".join(lines))}
+        wanted("calls told", len(answers), len(lines) - len(said))
+        ended = {call: answer for call, answer in answers.items() if answer.startswith(ENDED)}
+        as_printed = [f"call {call} {answer}" for call, answer in ended.items()]
+        wanted("answers told", as_printed, [self.answers[call] for call in ended])
+        self.told |= {self.first + call for call in ended}
+        self.tally["told"] += len(ended)
+        return len(ended), said
 
     def ended(self, status, out, told):
         """Sees that a run that wasn't killed has told each call, and printed that it ended as it has to."""

@@ -1,6 +1,6 @@
 """`run`: calls by workers, their answers and the rows."""
 from procedures import BAD, FOUR, GET, PUT
-from .row import refused, row
+from .row import Row, refused, row
 
 # Each data component has room for another number of records.
 UNEQUAL = """\
@@ -108,6 +108,21 @@ call 9 in doubt 11
 row 0/0/5 100
 """
 
+# The same calls, each told as it is answered, by a component whose operations are spent.
+EVERY_TOLD = """\
+told 0 noroom
+told 1 aborted 1
+told 2 aborted 1
+told 3 aborted 5
+told 4 refused B5 ArgumentCount
+told 5 committed
+told 6 committed
+told 7 in doubt 10
+told 8 blocked 0/0/5
+told 9 in doubt 11
+full dc 0 9 operations
+"""
+
 # Words, what stands behind the four procedures, and why that is refused.
 REFUSED = [
     ("run --workers 65 -", "call get 1\n", "G1 Workers"),
@@ -134,7 +149,9 @@ def rows(_program):
     # nine calls have ended, and their answers, lists and rows agree
     yield row("run --audit -", FOUR + EIGHT_MOVES, EIGHT_COMMITTED + "audit ok ended 9 open 0\n")
     # one record has room, and nine operations
-    yield row("run --workers 1 -", "dc 1 9\n" + PUT + GET + BAD + EVERY_CALL, EVERY_ANSWERED)
+    every = "dc 1 9\n" + PUT + GET + BAD + EVERY_CALL
+    yield row("run --workers 1 -", every, EVERY_ANSWERED)
+    yield Row("run --tell --workers 1 -".split(), every.encode(), EVERY_ANSWERED.encode(), 0, EVERY_TOLD.encode())
     yield from (refused(words, FOUR + rest, why) for words, rest, why in REFUSED)
     # a script is refused before a call is made
     yield refused("run -", "dc 1 1\nproc a 0\nexit\nend\ncall a\n", "line 4 F7 Verify V5 EmptyRegister slot 0")

@@ -235,7 +235,7 @@ fn tell_arg<'a>(alloc: Global) -> Arg<'a>
         .long("tell")
         .action(ArgAction::SetTrue)
         .help(
-            "Tell on standard error of each `call` line, as `told 5`, as soon as its answer stands and is kept",
+            "Tell on standard error of each `call` line, as `told 5 committed`, as soon as its answer stands and is kept",
         )
 }
 

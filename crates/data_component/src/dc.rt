@@ -1,6 +1,6 @@
 //! The data component.
 
-ghost use Rattle.std.specs.Prelude.{◌≡◌, ◌↔◌, ◌+◌, ◌<◌, ◌≤◌, [], ◌∷◌, ◌++◌, Some, None, true, false, length, reverse, take, IsErr, IfOk, OnOk, OnErr, not, vec_capacity};
+ghost use Rattle.std.specs.Prelude.{◌≡◌, ◌==◌, ◌↔◌, ◌+◌, ◌<◌, ◌≤◌, [], ◌∷◌, ◌++◌, Some, None, true, false, length, reverse, take, IsErr, IfOk, OnOk, OnErr, not, vec_capacity};
 ghost use Rattle.access_slots.specs.Access.{is_no_room};
 ghost use Rattle.data_component.specs.Performed.{value_in, said_under, IsRight};
 ghost use Rattle.data_component.specs.Sorted.{SortedRows};
@@ -309,6 +309,13 @@ impl Dc {
         ensures few { length self.now.list ≤ self.now.ops }
     {
         &self.performed
+    }
+
+    /// Whether there is no room for a further operation. To one under a new number there is no reply then.
+    pub fn is_full(&self) -> bool
+        ensures { result ≡ (length self.now.list == self.now.ops) }
+    {
+        self.performed.len() == self.op_limit
     }
 
     /// The low-water mark: numbers at or under it are answered [`Said::Old`].

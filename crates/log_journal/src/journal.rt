@@ -7,11 +7,20 @@ ghost use Rattle.log_file.specs.declared.header.Header.{Header as HeaderValue};
 ghost use Rattle.log_file.specs.Reading.{IsOpenFault};
 ghost use Rattle.log_journal.specs.Keeping.{HasWritten, IsLogOf};
 
-use frame_file::{Device, FrameFault};
+use frame_file::{Device, DeviceError, FrameFault};
 use log_file::{Header, LogFile, OpenFault, Recovered};
 use std::alloc::Global;
 use tc_log::log::Log;
 use worker_pool::{Journal, NotKept};
+
+// Why events weren't kept.
+fn unkept(fault: FrameFault) -> NotKept {
+    match fault {
+        FrameFault::Device(DeviceError::Memory) => NotKept::Memory,
+        FrameFault::Device(DeviceError::Failed) | FrameFault::Full | FrameFault::Damaged(_) =>
+            NotKept::Failed,
+    }
+}
 
 // Why a file isn't begun.
 fn not_begun(fault: FrameFault) -> OpenFault
@@ -71,11 +80,11 @@ impl<D: Device + Drop> LogJournal<D> {
         ensures header { self.new.header ≡ self.old.header }
     {
         let Ok(rows) = log.print_from(self.alloc, place) else {
-            return Err(NotKept);
+            return Err(NotKept::Memory);
         };
         match self.file.append(self.alloc, &[], &rows) {
             Ok(()) => Ok(()),
-            Err(_) => Err(NotKept),
+            Err(fault) => Err(unkept(fault)),
         }
     }
 

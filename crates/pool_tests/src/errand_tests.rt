@@ -9,7 +9,7 @@ use std::process::Abort;
 use std::sync::Wait;
 use std::sync::atomic::{AtomicU64, Ordering};
 use std::thread::Threads;
-use worker_pool::{Errand, Gate, Link, LockedDcs, OpenGate};
+use worker_pool::{Acknowledgement, Errand, Gate, Link, LockedDcs, Naming, OpenGate};
 
 // A link that knows the most wires that were carried together.
 #[derive(Drop)]
@@ -60,7 +60,7 @@ struct Slow;
 impl Gate for Slow {
     fn begun(&self, _call: usize) {}
 
-    fn answered(&self, _call: usize) {}
+    fn answered<J: Naming>(&self, _acknowledgement: &Acknowledgement<J>) {}
 }
 
 // So many wires are carried together at most, while 64 calls are run that all commit, none in the way of another.

@@ -13,8 +13,8 @@ use std::thread::Threads;
 use tc_core::state::{Call, TcState};
 use tc_log::log::Log;
 use worker_pool::{
-    Answer, Gate, Journal, KeptFault, Link, LockedDcs, MemoryJournal, NotKept, OpenGate, Report,
-    run_kept,
+    Acknowledgement, Answer, Gate, Journal, KeptFault, Link, LockedDcs, MemoryJournal, Naming,
+    NotKept, OpenGate, Report, run_kept,
 };
 
 // What journal, link and gate of one run tell each other.
@@ -104,8 +104,8 @@ impl Board {
 impl Gate for Board {
     fn begun(&self, _call: usize) {}
 
-    fn answered(&self, call: usize) {
-        if let Some(told) = self.told.get(call) {
+    fn answered<J: Naming>(&self, acknowledgement: &Acknowledgement<J>) {
+        if let Some(told) = self.told.get(acknowledgement.call()) {
             let kept = self.kept.load(Ordering::SeqCst);
             told.store(kept.saturating_add(1), Ordering::SeqCst);
         }
@@ -131,12 +131,25 @@ impl Link for Counted<'_> {
     }
 }
 
-// Keeps in memory, tells of it, and fails at the keep with this number.
+// At which keep a journal fails, counted from 1, and why.
+#[derive(Clone, Copy)]
+struct Failure {
+    at: u64,
+    why: NotKept,
+}
+
+// It doesn't fail.
+const NO_FAILURE: Failure = Failure {
+    at: 0,
+    why: NotKept::Failed,
+};
+
+// Keeps in memory, tells of it, and fails.
 #[derive(Drop)]
 struct Watched<'a> {
     memory: MemoryJournal,
     board: &'a Board,
-    fails_at: u64,
+    failure: Failure,
 }
 
 impl Journal for Watched<'_> {
@@ -146,8 +159,8 @@ impl Journal for Watched<'_> {
 
     fn keep(&mut self, events: &Log) -> Result<(), NotKept> {
         let before = self.board.keeps.fetch_add(1, Ordering::SeqCst);
-        if before.wrapping_add(1) == self.fails_at {
-            return Err(NotKept);
+        if before.wrapping_add(1) == self.failure.at {
+            return Err(self.failure.why);
         }
         if before == 0 {
             self.board.wait();
@@ -165,7 +178,7 @@ fn ran_over<R: Threads + Wait + Sync + Abort>(
     rt: &R,
     alloc: Global,
     calls: &[Call],
-    (workers, fails_at): (usize, u64),
+    (workers, failure): (usize, Failure),
     board: &Board,
 ) -> (usize, Result<Report, KeptFault>) {
     let link = Counted {
@@ -176,7 +189,7 @@ fn ran_over<R: Threads + Wait + Sync + Abort>(
     let journal = Watched {
         memory: MemoryJournal::new(alloc),
         board,
-        fails_at,
+        failure,
     };
     let (journal, ran) = run_kept(rt, alloc, state, calls, workers, 3, &link, board, journal);
     let kept = journal.memory.events().len();
@@ -193,7 +206,7 @@ fn reported<R: Threads + Wait + Sync + Abort>(
     workers: usize,
     board: &Board,
 ) -> Vec<Answer> {
-    let (kept, ran) = ran_over(rt, alloc, calls, (workers, 0), board);
+    let (kept, ran) = ran_over(rt, alloc, calls, (workers, NO_FAILURE), board);
     match ran {
         Ok(report) => {
             is_same(rt, kept, report.state.log().len());
@@ -266,11 +279,18 @@ fn events_of(state: TcState) -> usize {
     events
 }
 
+fn word_of(why: NotKept) -> &'static str {
+    match why {
+        NotKept::Memory => "no memory",
+        NotKept::Failed => "failed",
+    }
+}
+
 // How a run ended, and how many events the log of its state has.
 fn ending(ran: Result<Report, KeptFault>) -> (&'static str, usize) {
     match ran {
         Ok(report) => ("a report", events_of(state_of(report))),
-        Err(KeptFault::NotKept(state)) => ("not kept", events_of(state)),
+        Err(KeptFault::NotKept(why, state)) => (word_of(why), events_of(state)),
         Err(KeptFault::Unbegun(fault)) => ("not begun", events_of(fault.into_state())),
     }
 }
@@ -280,30 +300,33 @@ fn stops_at<R: Threads + Wait + Sync + Abort>(
     rt: &R,
     alloc: Global,
     calls: &[Call],
-    (workers, fails_at): (usize, u64),
+    (workers, failure): (usize, Failure),
 ) {
     let board = new_board(rt, alloc, calls.len(), 0);
-    let (kept, ran) = ran_over(rt, alloc, calls, (workers, fails_at), &board);
+    let (kept, ran) = ran_over(rt, alloc, calls, (workers, failure), &board);
     let (ending, events) = ending(ran);
-    is_same(rt, ending, "not kept");
-    is_same(rt, board.keeps.load(Ordering::SeqCst), fails_at);
-    let told = fails_at.saturating_sub(1);
-    if workers == 1 || fails_at == 1 {
+    is_same(rt, ending, word_of(failure.why));
+    is_same(rt, board.keeps.load(Ordering::SeqCst), failure.at);
+    let told = failure.at.saturating_sub(1);
+    if workers == 1 || failure.at == 1 {
         let found = (board.answered() as u64, kept as u64);
         is_same(rt, found, (told, told.saturating_mul(4)));
     }
     if workers == 1 {
-        is_same(rt, events as u64, fails_at.saturating_mul(4));
+        is_same(rt, events as u64, failure.at.saturating_mul(4));
     }
     drop(board);
 }
 
-// A journal that fails isn't asked again, and nobody is told of an answer from then on.
+// A journal that fails isn't asked again, nobody is told of an answer from then on, and the run says why.
 #[test]
 fn stops_where_a_journal_fails(rt: HostRuntime) {
     let calls = new_puts(&rt, rt.alloc());
-    for run in [(1usize, 1u64), (1, 3), (2, 1), (8, 1), (8, 2)] {
-        stops_at(&rt, rt.alloc(), calls.as_slice(), run);
+    for (workers, at) in [(1usize, 1u64), (1, 3), (2, 1), (8, 1), (8, 2)] {
+        for why in [NotKept::Failed, NotKept::Memory] {
+            let failure = Failure { at, why };
+            stops_at(&rt, rt.alloc(), calls.as_slice(), (workers, failure));
+        }
     }
     drop(calls);
 }

@@ -91,7 +91,7 @@ fn left_by(rt: &impl Abort, answer: &Answer) -> Option<Value> {
     }
 }
 
-// Where a call isn't admitted, the others go on.
+// Where a call isn't admitted, those that were go on to their ends.
 fn rows_are_those(rt: &impl Abort, link: &mut LockedDcs, answers: &[Answer]) {
     for (key, answer) in (0..3u64).zip(answers) {
         is_same(rt, value_at(link, key), left_by(rt, answer));

@@ -5,18 +5,20 @@ use crate::test_pool::{
     Hold, answers, answers_behind_put, are_committed, begun, behind_put, first_answers, holds,
     is_same, locked_dc, state_of,
 };
-use crate::test_state::{NO_PROCEDURE, add_call, calls_of, moves, state};
+use crate::test_state::{NO_PROCEDURE, add_call, calls_of, moves, puts, state};
 use access_slots::op::{News, Reply, Wire};
 use lock_table::table::Busy;
 use samples::{BAD, GET, MOVE, PUT, record};
-use std::alloc::Global;
+use std::alloc::{AllocError, Global};
 use std::process::Abort;
 use std::sync::atomic::{AtomicU64, Ordering};
 use std::sync::{Mutex, Wait};
 use std::thread::Threads;
 use tc_core::state::{Call, Refusal, TcState};
 use tc_log::event::Event;
-use worker_pool::{Answer, Gate, Link, LockedDcs, OpenGate, RunFault, run};
+use worker_pool::{
+    Acknowledgement, Answer, Gate, Link, LockedDcs, Naming, OpenGate, RunFault, run,
+};
 
 fn one_moved<R: Threads + Wait + Sync + Abort>(rt: &R, alloc: Global, workers: usize) {
     let mut link = locked_dc(alloc, 4).expect(rt, "no link");
@@ -110,9 +112,80 @@ impl Gate for Counts {
         self.begun.fetch_add(1, Ordering::SeqCst);
     }
 
-    fn answered(&self, _call: usize) {
+    fn answered<J: Naming>(&self, _acknowledgement: &Acknowledgement<J>) {
         self.answered.fetch_add(1, Ordering::SeqCst);
     }
+}
+
+// Notes, of each call, the place of the end that it is told of, and one more.
+#[derive(Drop)]
+struct Told {
+    ends: Vec<AtomicU64>,
+}
+
+fn push_none(ends: &mut Vec<AtomicU64>, calls: usize) -> Result<(), AllocError> {
+    for _ in 0..calls {
+        ends.push(AtomicU64::new(0))?;
+    }
+    Ok(())
+}
+
+impl Told {
+    fn new(alloc: Global, calls: usize) -> Result<Told, AllocError> {
+        let mut ends = Vec::new(alloc);
+        push_none(&mut ends, calls)?;
+        Ok(Told { ends })
+    }
+
+    // Whether the call was told of with this answer, and is committed.
+    fn was_told(&self, call: usize, answer: &Answer) -> bool {
+        match (self.ends.get(call), answer) {
+            (Some(end), Answer::Committed(place)) => {
+                end.load(Ordering::SeqCst) == (*place as u64).saturating_add(1)
+            }
+            _ => false,
+        }
+    }
+
+    // The same of all calls.
+    fn were_told(&self, answers: &[Answer]) -> bool {
+        (0..answers.len()).all(|call| match answers.get(call) {
+            Some(answer) => self.was_told(call, answer),
+            None => false,
+        })
+    }
+}
+
+impl Gate for Told {
+    fn begun(&self, _call: usize) {}
+
+    fn answered<J: Naming>(&self, acknowledgement: &Acknowledgement<J>) {
+        if let (Some(end), Answer::Committed(place)) = (
+            self.ends.get(acknowledgement.call()),
+            acknowledgement.answer(),
+        ) {
+            end.store((place as u64).saturating_add(1), Ordering::SeqCst);
+        }
+    }
+}
+
+fn told_as_reported<R: Threads + Wait + Sync + Abort>(rt: &R, alloc: Global, workers: usize) {
+    let told = Told::new(alloc, 8).expect(rt, "no room");
+    let link = locked_dc(alloc, 8).expect(rt, "no link");
+    let calls = puts(alloc, 8, 1).expect(rt, "no calls");
+    let answers = first_answers(rt, alloc, calls, workers, &link, &told);
+    are_committed(rt, answers.as_slice(), 8);
+    is_same(rt, told.were_told(answers.as_slice()), true);
+    drop(answers);
+    drop(told);
+    drop(link);
+}
+
+// What is told of a call is what is reported of it.
+#[test]
+fn the_answer_told_is_the_one_reported(rt: HostRuntime) {
+    told_as_reported(&rt, rt.alloc(), 1);
+    told_as_reported(&rt, rt.alloc(), 8);
 }
 
 // Holds call 0 in `begun` until call 1 is answered, and counts what it is told.
@@ -130,9 +203,9 @@ impl Gate for HoldsBegun {
         }
     }
 
-    fn answered(&self, call: usize) {
-        self.counts.answered(call);
-        self.hold.answered(call);
+    fn answered<J: Naming>(&self, acknowledgement: &Acknowledgement<J>) {
+        self.counts.answered(acknowledgement);
+        self.hold.answered(acknowledgement.call());
     }
 }
 
@@ -185,8 +258,8 @@ impl Link for HoldsCarry {
 impl Gate for HoldsCarry {
     fn begun(&self, _call: usize) {}
 
-    fn answered(&self, call: usize) {
-        self.hold.answered(call);
+    fn answered<J: Naming>(&self, acknowledgement: &Acknowledgement<J>) {
+        self.hold.answered(acknowledgement.call());
     }
 }
 

@@ -15,7 +15,9 @@ use std::sync::Wait;
 use std::thread;
 use std::thread::Threads;
 use tc_core::state::{Call, TcState};
-use worker_pool::{Answer, Gate, Link, OpenGate, Report, RingLink, RunFault, run};
+use worker_pool::{
+    Acknowledgement, Answer, Gate, Link, Naming, OpenGate, Report, RingLink, RunFault, run,
+};
 
 // How many rows each component has room for.
 const ROWS: usize = 100;
@@ -155,8 +157,8 @@ impl Gate for Holds {
         }
     }
 
-    fn answered(&self, call: usize) {
-        self.hold.answered(call);
+    fn answered<J: Naming>(&self, acknowledgement: &Acknowledgement<J>) {
+        self.hold.answered(acknowledgement.call());
     }
 }
 
@@ -223,7 +225,7 @@ impl Gate for Closes<'_> {
         }
     }
 
-    fn answered(&self, _call: usize) {}
+    fn answered<J: Naming>(&self, _acknowledgement: &Acknowledgement<J>) {}
 }
 
 // What the calls come to over both components, where the link is closed under way.

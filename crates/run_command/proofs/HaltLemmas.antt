@@ -5,7 +5,7 @@ use Rattle.worker_pool.specs.declared.pool.RunFault.{RunFault}
 use Rattle.worker_pool.specs.declared.pool.RunFault.TheVariants as fault
 use Rattle.worker_pool.specs.Faults.{FaultFits, InRange}
 use Rattle.run_command.specs.declared.answering.Halt.{Halt}
-use Rattle.run_command.specs.declared.answering.Halt.TheVariants.{Unbegun, NotKept}
+use Rattle.run_command.specs.declared.answering.Halt.TheVariants.{Unbegun, NotKept, Memory as NoMemory}
 use Rattle.run_command.specs.declared.answering.Unbegun.{Unbegun as Cause}
 use Rattle.run_command.specs.declared.answering.Unbegun.TheVariants.{Workers, Tries, Memory, NoThread}
 use Rattle.run_command.specs.Running.{cause_of}
@@ -38,6 +38,8 @@ first_halts journal workers tries (Unbegun Memory) h = h.1
 first_halts journal workers tries (Unbegun NoThread) h = h.1
 first_halts None workers tries NotKept h = h
 first_halts (Some j) workers tries NotKept h = h.1
+first_halts None workers tries NoMemory h = h
+first_halts (Some j) workers tries NoMemory h = h.1
 
 -- the second one, behind the first
 pub then_halts : (journal then : Option FileJournal) (workers tries : ℕ) (halt : Halt) → InRange 1 tries → is_some then ≡ is_some journal
@@ -49,6 +51,9 @@ then_halts journal then workers tries (Unbegun NoThread) range same h = range.1
 then_halts None None workers tries NotKept range same h = h
 then_halts None (Some j) workers tries NotKept range same h = absurd (let bad : true ≡ false = same in cc)
 then_halts (Some j) then workers tries NotKept range same h = range.1
+then_halts None None workers tries NoMemory range same h = h
+then_halts None (Some j) workers tries NoMemory range same h = absurd (let bad : true ≡ false = same in cc)
+then_halts (Some j) then workers tries NoMemory range same h = range.1
 
 unkept_fits : (journal : Option FileJournal) (workers tries : ℕ) → HaltFits journal workers tries NotKept → UnreportedFits journal unreported.NotKept
 unkept_fits None workers tries h = h

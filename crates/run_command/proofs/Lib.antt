@@ -1,4 +1,5 @@
 pub mod AnswerLemmas
+pub mod FullLemmas
 pub mod HaltLemmas
 pub mod RunLemmas
 pub mod ServerLemmas

@@ -1,5 +1,6 @@
 -- How many calls were answered how, as lines.
-use Rattle.std.specs.Prelude.{ℕ, ◌*◌, ◌/◌, max, Bool, true, false, List, ◌++◌, length, count_by, codes, decimal}
+use Rattle.std.specs.Prelude.{ℕ, ◌+◌, ◌*◌, ◌/◌, ◌==◌, max, Bool, true, false, if◌then◌else◌, List, [], ◌∷◌, ◌++◌, length, count_by, codes, decimal}
+use Rattle.data_component.specs.Store.{Store}
 use Rattle.worker_pool.specs.declared.answer.Answer.{Answer}
 use Rattle.worker_pool.specs.declared.answer.Answer.TheVariants.{Committed, Aborted, NoRoom, InDoubt, Blocked}
 
@@ -38,3 +39,16 @@ rate_line calls nanoseconds = codes "calls a second " ++ (decimal (calls * 1_000
 -- how many microseconds the call took that took longest, of so many nanoseconds
 abbrev pub wait_line : ℕ → List ℕ
 wait_line nanoseconds = codes "longest wait " ++ (decimal (nanoseconds / 1_000) ++ codes " us\n")
+
+-- a data component without room for a further operation: its number, and how many it has performed
+abbrev pub full_line : ℕ → Store → List ℕ
+full_line number dc =
+    if length dc.list == dc.ops then codes "full dc " ++ (decimal number ++ (codes " " ++ (decimal (length dc.list) ++ codes " operations\n"))) else []
+
+-- a line for each that is full; the first has this number
+abbrev pub full_lines_from : ℕ → List Store → List ℕ
+full_lines_from number [] = []
+full_lines_from number (dc ∷ dcs) = full_line number dc ++ full_lines_from (number + 1) dcs
+
+abbrev pub full_lines : List Store → List ℕ
+full_lines dcs = full_lines_from 0 dcs

@@ -27,7 +27,7 @@ use Rattle.coming_back.specs.Faults.{IsFaultOf}
 use Rattle.coming_back.specs.Serving.{AreServed as ArePerformed}
 use Rattle.worker_pool.specs.Faults.{TriesFit}
 use Rattle.run_command.specs.declared.answering.Halt.{Halt}
-use Rattle.run_command.specs.declared.answering.Halt.TheVariants.{Unbegun, NotKept}
+use Rattle.run_command.specs.declared.answering.Halt.TheVariants.{Unbegun, NotKept, Memory}
 use Rattle.run_command.specs.declared.running.Unreported.{Unreported}
 use Rattle.run_command.specs.declared.running.Unreported.TheVariants as unreported
 use Rattle.run_command.specs.LogLines.{open_refusal, kind_refusal, back_refusal, back_lines}
@@ -43,11 +43,13 @@ abbrev pub KeepsLog : Option FileJournal → List Event → Type 0
 KeepsLog None events = Unit {0}
 KeepsLog (Some j) events = HasWritten disk_bytes left_of j.header j.file (reverse events)
 
--- when calls have no answers: as without a journal; or something wasn't kept, where there is one
+-- when calls have no answers: as without a journal; or something wasn't kept, or couldn't be for want of memory, where there is one
 abbrev pub HaltFits : Option FileJournal → ℕ → ℕ → Halt → Type 0
 HaltFits journal workers tries (Unbegun cause) = Stops workers tries cause
 HaltFits None workers tries NotKept = ⊥
 HaltFits (Some j) workers tries NotKept = TriesFit tries
+HaltFits None workers tries Memory = ⊥
+HaltFits (Some j) workers tries Memory = TriesFit tries
 
 -- want of memory is told of any run, and that something wasn't kept where there is a journal
 abbrev pub UnreportedFits : Option FileJournal → Unreported → Type 0

@@ -29,8 +29,8 @@ fn answer_text(alloc: Global, answer: &Answer) -> Result<String, AllocError>
     }
 }
 
-// The line of the call at a place of its list.
-fn answer_line(
+/// The line of the call at a place of its list: a word, the place from 0, and what the call was answered.
+pub fn answer_line(
     alloc: Global,
     word: &str,
     place: usize,

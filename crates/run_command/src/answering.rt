@@ -24,7 +24,8 @@ use std::thread::{PromisedHandle, Scope, Threads};
 use std::time::{Clock, Duration, Instant};
 use tc_core::state::{Call, TcState};
 use worker_pool::{
-    Answer, Gate, KeptFault, OpenGate, Report, RingLink, RunFault, ServedFrom, run, run_kept,
+    Answer, Gate, KeptFault, NotKept, OpenGate, Report, RingLink, RunFault, ServedFrom, run,
+    run_kept,
 };
 
 /// How the calls of a script are run: the second list by so many workers, each request sent so often
@@ -59,8 +60,10 @@ pub enum Unbegun {
 #[derive(Clone, Copy, Debug)]
 pub enum Halt {
     Unbegun(Unbegun),
-    /// The journal didn't keep what was logged. Nothing was told since.
+    /// The journal failed to keep what was logged. Nothing was told since.
     NotKept,
+    /// Memory ran out while what was logged was to be kept. Nothing was told since.
+    Memory,
 }
 
 /// A journal in a file.
@@ -87,9 +90,13 @@ fn halted(fault: KeptFault) -> Halt
 {
     match fault {
         KeptFault::Unbegun(fault) => Halt::Unbegun(cause(fault)),
-        KeptFault::NotKept(state) => {
+        KeptFault::NotKept(NotKept::Failed, state) => {
             drop(state);
             Halt::NotKept
+        }
+        KeptFault::NotKept(NotKept::Memory, state) => {
+            drop(state);
+            Halt::Memory
         }
     }
 }

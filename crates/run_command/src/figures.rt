@@ -1,10 +1,11 @@
-//! The figures of a run: how many calls were answered how, and how many a second.
+//! The figures of a run: how many calls were answered how, how many a second, and which data components are full.
 
 ghost use Rattle.std.specs.Prelude.{◌≡◌, ◌++◌, IfOk, OnOk, count_by, string_bytes};
 ghost use Rattle.std.specs.Duration.{as_nanos};
 ghost use Rattle.run_command.specs.Figures.{is_committed, is_aborted, is_in_doubt, is_blocked};
-ghost use Rattle.run_command.specs.Figures.{figure_line, figure_lines, rate_line, wait_line};
+ghost use Rattle.run_command.specs.Figures.{figure_line, figure_lines, rate_line, wait_line, full_line, full_lines};
 
+use data_component::dc::Dc;
 use std::alloc::{AllocError, Global};
 use std::time::Duration;
 use worker_pool::Answer;
@@ -88,4 +89,28 @@ pub fn longest_wait(alloc: Global, longest: Duration) -> Result<String, AllocErr
 {
     let micros = longest.as_micros();
     format!(in alloc; "longest wait {micros} us\n")
+}
+
+// The line of a data component that is full; nothing of one that has room.
+fn full_line(alloc: Global, number: usize, dc: &Dc) -> Result<String, AllocError>
+    ensures { IfOk result (λ s. string_bytes s ≡ full_line number dc.now) }
+{
+    if !dc.is_full() {
+        return Ok(String::new(alloc));
+    }
+    let operations = dc.performed().len();
+    format!(in alloc; "full dc {number} {operations} operations\n")
+}
+
+/// A line for each data component that has no room for a further operation: its number, and how many it has
+/// performed.
+pub fn full_dcs(alloc: Global, dcs: &[Dc]) -> Result<String, AllocError>
+    ensures { IfOk result (λ s. string_bytes s ≡ full_lines dcs.now) }
+{
+    let mut text = String::new(alloc);
+    for (number, dc) in dcs.iter().enumerate() {
+        let line = full_line(alloc, number, dc)?;
+        text.push_str(line.as_str())?;
+    }
+    Ok(text)
 }

@@ -37,6 +37,7 @@ use std::thread::Threads;
 use std::time::Clock;
 use tc_core::state::TcState;
 use tc_log::log::Log;
+use worker_pool::NotKept;
 
 /// Why a run whose log is kept has no report.
 #[derive(Clone, Copy, Debug)]
@@ -221,7 +222,8 @@ fn keep_behind(journal: &mut FileJournal, log: &Log, place: usize) -> Result<(),
     }
     match journal.keep_from(log, place) {
         Ok(()) => Ok(()),
-        Err(_) => Err(Unlogged::Unwritten),
+        Err(NotKept::Memory) => Err(Unlogged::Memory),
+        Err(NotKept::Failed) => Err(Unlogged::Unwritten),
     }
 }
 

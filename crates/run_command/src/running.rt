@@ -16,7 +16,7 @@ ghost use Rattle.run_command.specs.Running.{said_call, AreCallsOf, is_want_of_me
 use crate::answer_lines::{fault_line, write_answers};
 pub use crate::answering::Manner;
 use crate::answering::{Answered, FileJournal, Halt, Rings, Unbegun, Workload, answer_served};
-use crate::figures::{figures, longest_wait, rate};
+use crate::figures::{figures, full_dcs, longest_wait, rate};
 pub use crate::watching::Listeners;
 use crate::watching::Waits;
 use data_component::dc::Dc;
@@ -78,8 +78,8 @@ fn run_lines(
     Ok(lines)
 }
 
-// The figures of the second list.
-fn notes(alloc: Global, answered: &Answered) -> Result<String, AllocError> {
+// The figures of the second list, and which data components are full.
+fn notes(alloc: Global, answered: &Answered, dcs: &[Dc]) -> Result<String, AllocError> {
     let calls = answered.calls.as_slice();
     let mut notes = figures(alloc, calls)?;
     if let Some(elapsed) = answered.elapsed {
@@ -88,6 +88,8 @@ fn notes(alloc: Global, answered: &Answered) -> Result<String, AllocError> {
         let wait = longest_wait(alloc, answered.longest)?;
         notes.push_str(wait.as_str())?;
     }
+    let full = full_dcs(alloc, dcs)?;
+    notes.push_str(full.as_str())?;
     Ok(notes)
 }
 
@@ -130,7 +132,7 @@ fn reported(
         status: u8::from(!sound),
         lines,
         notes: if manner.stats {
-            Some(notes(alloc, answered)?)
+            Some(notes(alloc, answered, dcs)?)
         } else {
             None
         },
@@ -268,6 +270,14 @@ fn unanswered(alloc: Global, halt: Halt) -> Result<Ran, Unreported>
     match halt {
         Halt::Unbegun(cause) => with_journal(stopped(alloc, cause), None),
         Halt::NotKept => Err(Unreported::NotKept),
+        Halt::Memory => Err(Unreported::Memory),
+    }
+}
+
+// Tells who listens which data components are full, unless that stands among the figures.
+fn tell_full(workload: &Workload, dcs: &Result<Vec<Dc>, AllocError>) {
+    if let (Ok(dcs), false) = (dcs, workload.manner.stats) {
+        workload.waits.tell_full(dcs.as_slice());
     }
 }
 
@@ -291,6 +301,7 @@ fn run_calls<R: Clock + Threads + Wait + Sync>(
     let (answered, dcs) = answer_served(rt, alloc, state, dcs, &workload, rings, journal);
     match answered {
         Ok(answered) => {
+            tell_full(&workload, &dcs);
             let report = reported_over(alloc, &answered, dcs, workload.manner);
             with_journal(report, journal_of(answered))
         }

@@ -1,10 +1,13 @@
 //! How long the calls of a run wait for their answers, and what is told of them meanwhile.
 
+use crate::answer_lines::answer_line;
+use crate::figures::full_dcs;
+use data_component::dc::Dc;
 use std::alloc::{AllocError, Global};
 use std::io::{Stderr, Write};
 use std::sync::atomic::{AtomicU64, Ordering};
 use std::time::{Clock, Duration, Instant};
-use worker_pool::Gate;
+use worker_pool::{Acknowledgement, Answer, Gate, Naming};
 
 // A line of progress a second, in nanoseconds.
 const TOLD_EACH: u64 = 1_000_000_000;
@@ -14,7 +17,7 @@ const TOLD_EACH: u64 = 1_000_000_000;
 pub struct Listeners {
     /// A terminal is told once a second how many are answered.
     pub terminal: Option<Stderr>,
-    /// It is told of each answer as soon as it stands, by a line with the call's place.
+    /// It is told of each answer as soon as it stands, by a line with the call's place and its answer.
     pub each: Option<Stderr>,
 }
 
@@ -60,12 +63,12 @@ impl Waits {
         self.calls.is_empty() && self.listeners.terminal.is_none()
     }
 
-    // Writes a line with the call's place, at once.
-    fn tell_each(&self, call: usize) {
+    // Writes a line with the call's place and its answer, at once.
+    fn tell_each(&self, call: usize, answer: &Answer) {
         let Some(mut each) = self.listeners.each else {
             return;
         };
-        if let Ok(line) = format!(in self.alloc; "told {call}\n") {
+        if let Ok(line) = answer_line(self.alloc, "told", call, answer) {
             let _ = each.write_all(line.as_bytes());
         }
     }
@@ -96,6 +99,16 @@ impl Waits {
         let is_told = self.told.load(Ordering::SeqCst) > 0;
         if let (Some(mut terminal), true) = (self.listeners.terminal, is_told) {
             let _ = terminal.write_all(b"\n");
+        }
+    }
+
+    /// Tells who listens which of these data components are full, by a line for each.
+    pub fn tell_full(&self, dcs: &[Dc]) {
+        let Some(mut listener) = self.listeners.each.or(self.listeners.terminal) else {
+            return;
+        };
+        if let Ok(lines) = full_dcs(self.alloc, dcs) {
+            let _ = listener.write_all(lines.as_bytes());
         }
     }
 
@@ -145,8 +158,9 @@ impl<R: Clock> Gate for Watch<'_, R> {
         }
     }
 
-    fn answered(&self, call: usize) {
-        self.waits.tell_each(call);
+    fn answered<J: Naming>(&self, acknowledgement: &Acknowledgement<J>) {
+        let call = acknowledgement.call();
+        self.waits.tell_each(call, &acknowledgement.answer());
         let Some(now) = self.now() else {
             return;
         };

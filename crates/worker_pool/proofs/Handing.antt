@@ -1,6 +1,7 @@
 -- Batches that are handed over: they are counted, and they stand in the log.
 use Rattle.std.proofs.Common.{◌≡◌, ℕ, ◌+◌, ◌<◌, ◌≤◌, ◌==◌, Bool, true, false, List, [], ◌∷◌, ◌++◌, length, reverse, drop}
-use Rattle.std.proofs.Common.{refl, ap, sym, ◌∙◌, subst, arith, inl, length-append, append_assoc, append-nil, None}
+use Rattle.std.proofs.Common.{refl, ap, sym, ◌∙◌, subst, arith, inl, length-append, append_assoc, append-nil, Option, None, Some}
+use Rattle.std.specs.Prelude.{is_some}
 use Rattle.std.proofs.lemmas.List.{reverse-append, reverse-reverse, length-reverse}
 use Rattle.std.proofs.lemmas.Bool.Decides.{nat_tests}
 use mathlib.Core.List.{IsPrefix}
@@ -8,7 +9,8 @@ use prog.Atomic.{either}
 use Rattle.logbook.specs.Pages.{Cell, cell, keeps, no_nib, step, Moves, Goes}
 use Rattle.tc_log.specs.declared.event.Event.{Event}
 use Rattle.history.specs.Places.{Begins}
-use Rattle.worker_pool.specs.Joining.Handing.{events_of, IsCounted, Adds, IsHanded, HasAll}
+use Rattle.worker_pool.specs.Acknowledged.{IsKept}
+use Rattle.worker_pool.specs.Joining.Handing.{events_of, IsCounted, Adds, IsHanded, HasAll, IsKeptIn, IsKeptSeen}
 
 -- ---- beginnings of one list
 
@@ -178,3 +180,24 @@ handed_stands first h evs after m all evs_is m_is =
 
 pub count_first : (first : List Event) (n : ℕ) (bs : List (List Event)) → n ≡ length first → bs ≡ [] → n ≡ length first + length (events_of bs)
 count_first first n bs a b = (let none : length (events_of bs) ≡ 0 = ap (λ (l : List (List Event)). length (events_of l)) b in omega (arith, a, none))
+
+-- ---- what an acknowledgement says
+
+pub not_some : {A : Type 0} (o : Option A) → false ≡ is_some o → o ≡ None
+not_some None is = refl
+not_some (Some x) is = absurd (let bad : false ≡ true = is in cc)
+
+-- the journal has kept what was handed over, which are enough events
+pub kept_in : {K : Type 0} (has : K → List Event → Type 0) (kept before : List Event → Type 0) (first : List Event) (journal : K)
+    (batches : List (List Event)) (logged events : ℕ) → HasAll has before journal batches
+    → ((later : K) (es : List Event) → has later es → kept es) → events ≡ length first + length (events_of batches) → logged ≤ events
+    → IsKeptIn kept before first logged batches
+kept_in has kept before first journal batches logged events all since count enough = record {
+  enough = omega (arith, count, enough);
+  has = λ es was. since journal (es ++ events_of batches) (all es was);
+}
+
+pub kept_seen : (kept before : List Event → Type 0) (first : List Event) (logged : ℕ) (seen : Option (List (List Event)))
+    → IsKeptSeen kept before first logged seen → IsKept kept before first logged
+kept_seen kept before first logged None it = absurd it
+kept_seen kept before first logged (Some batches) it = record { behind = events_of batches; enough = it.enough; has = it.has }

@@ -23,8 +23,9 @@ use Rattle.tc_core.specs.declared.state.Refusal.{Refusal}
 use Rattle.tc_core.specs.declared.state.Refusal.TheVariants as refusal
 use Rattle.transactions.proofs.StandingLemmas.{eq-true, eq-false, some_same}
 use Rattle.tc_core.specs.Blocked as stranded
-use Rattle.worker_pool.specs.declared.answer.Answer.TheVariants.{Blocked}
+use Rattle.worker_pool.specs.declared.answer.Answer.TheVariants.{Blocked, Refused}
 use Rattle.worker_pool.specs.Answers.{StaysBut, AdmitRefusalFits, AnswerFits}
+use Rattle.worker_pool.specs.Joining.Untried.{IsUntried}
 use Rattle.worker_pool.proofs.GivenUp.{begin_same}
 use Rattle.worker_pool.proofs.Placed.{stands_more, stands_here}
 
@@ -129,3 +130,14 @@ refused start c call refusal.NumbersSpent stays good it =
     let same : c.procs ≡ start.procs = ap (λ (s : Core). s.procs) stays in
     (takes_start start c call same it.0, too_many c it.0.q good (good call.proc it.0.q it.0.is.loaded) it.2)
 refused start c call refusal.Memory stays good it = takes_start start c call (ap (λ (s : Core). s.procs) stays) it.takes
+
+-- a call that isn't tried
+pub untried_fits : (start c : Core) (call : Call) (why : Refusal) → StaysBut start c → IsUntried c.procs call why
+    → AnswerFits start c call (Refused why) None
+untried_fits start c call refusal.NoProcedure stays it = (refl, ap (λ (s : Core). slice_get s.procs call.proc) (sym stays) ∙ it)
+untried_fits start c call refusal.ArgumentCount stays it =
+    (refl, (it.0, ap (λ (s : Core). slice_get s.procs call.proc) (sym stays) ∙ it.1, it.2))
+untried_fits start c call (refusal.Busy b) stays it = absurd it
+untried_fits start c call refusal.NumbersSpent stays it = absurd it
+untried_fits start c call refusal.Memory stays it =
+    (refl, takes_start start c call (ap (λ (s : Core). s.procs) stays) (record { q = it.0; is = it.1 }))

@@ -45,9 +45,9 @@ use Rattle.tc_core.specs.Admission.{call_of}
 use Rattle.worker_pool.specs.Answers.{place_of, is_some, answer_of, StandsBehind, IsAdmitted}
 use Rattle.worker_pool.specs.Answers.{IsEnded, RefusalFits, StaysBut, BeginWith, IsMoment, AnswerFits}
 use Rattle.worker_pool.specs.Kept.{ends, serial_of, txn_of, place_in, is_placed, IsOpen, IsBegun, Fits, IsAdmittedFor, Keeps}
-use Rattle.worker_pool.specs.declared.desk.Due.{Due}
-use Rattle.worker_pool.specs.Joining.Seen.{IsAnswered, AnswersStay, IsDue}
-use Rattle.worker_pool.specs.Joining.Moves.{MovesOn}
+use Rattle.worker_pool.specs.Joining.Seen.{IsAnswered, AnswersStay}
+use Rattle.worker_pool.specs.Joining.Moves.{MovesOn, IsAnsweredBy}
+use Rattle.worker_pool.specs.Acknowledged.{WasAnswered}
 use Rattle.worker_pool.specs.declared.desk.Next.{Next}
 use Rattle.worker_pool.specs.declared.desk.Next.TheVariants as next
 use Rattle.worker_pool.proofs.Lists.{get_set, set_here, set_other, length_set, count_set}
@@ -599,10 +599,20 @@ pub now_answered : (ps : List Progress) (k : ℕ) (p : Progress) (a : Answer) (o
     → slice_get ps k ≡ Some p → IsAnswered (set ps k (Answered a o)) k
 now_answered ps k p a o at = record { answer = a; txn = o; at = set_here ps k p (Answered a o) at }
 
--- what is due then
-pub now_due : (ps : List Progress) (k : ℕ) (p : Progress) (a : Answer) (o : Option TxnId) (due : Due)
-    → slice_get ps k ≡ Some p → due.call ≡ k → due.place ≡ place_of a → IsDue (set ps k (Answered a o)) k due
-now_due ps k p a o due at call place = record { answer = a; txn = o; at = set_here ps k p (Answered a o) at; call = call; place = place }
+-- the answer of a call is true of the state as it is
+pub was_answered : (start : Core) (calls : List Call) (state : Core) (ps : List Progress) (k : ℕ) (a : Answer) (t : Option TxnId) (c : Call)
+    (logged : ℕ) → Keeps start calls state ps → slice_get ps k ≡ Some (Answered a t) → slice_get calls k ≡ Some c
+    → length state.events ≡ logged → WasAnswered start calls k a logged
+was_answered start calls state ps k a t c logged keeps at of count = record {
+  c = c;
+  of = of;
+  then = state;
+  stays = keeps.stays;
+  begins = keeps.begins;
+  count = count;
+  txn = serial_of t;
+  fits = keeps.fits k (Answered a t) c at of;
+}
 
 -- ---- a step, and what came before it
 
@@ -614,14 +624,25 @@ moved_stays old new k next.Begun it = it
 moved_stays old new k next.Carry it = it
 moved_stays old new k next.Unanswered it = it
 moved_stays old new k next.Busy it = it
-moved_stays old new k (next.Over due) it = it.1
+moved_stays old new k next.Over it = it.1
+moved_stays old new k next.LeftOut it = it.1
 
 moves_then : (old mid new : List Progress) (k : ℕ) (n : Next) → AnswersStay old mid → MovesOn mid new k n → MovesOn old new k n
 moves_then old mid new k next.Begun first it = stays_then old mid new first it
 moves_then old mid new k next.Carry first it = stays_then old mid new first it
 moves_then old mid new k next.Unanswered first it = stays_then old mid new first it
 moves_then old mid new k next.Busy first it = stays_then old mid new first it
-moves_then old mid new k (next.Over due) first it = (it.0, stays_then old mid new first it.1, it.2)
+moves_then old mid new k next.Over first it = (it.0, stays_then old mid new first it.1)
+moves_then old mid new k next.LeftOut first it = (it.0, stays_then old mid new first it.1)
 
 pub moves_on : (old mid new : List Progress) (k : ℕ) (m n : Next) → MovesOn old mid k m → MovesOn mid new k n → MovesOn old new k n
 moves_on old mid new k m n first then = moves_then old mid new k n (moved_stays old mid k m first) then
+
+-- what is left to do for a call tells whether it is answered
+pub answered_by : (old new : List Progress) (k : ℕ) (n : Next) → MovesOn old new k n → IsAnsweredBy new k n
+answered_by old new k next.Begun it = tt
+answered_by old new k next.Carry it = tt
+answered_by old new k next.Unanswered it = tt
+answered_by old new k next.Busy it = tt
+answered_by old new k next.Over it = it.0
+answered_by old new k next.LeftOut it = it.0

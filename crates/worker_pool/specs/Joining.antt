@@ -4,4 +4,5 @@ pub mod Moves
 pub mod Ran
 pub mod Seated
 pub mod Seen
+pub mod Untried
 pub mod Ups

@@ -17,6 +17,11 @@ pub record HasKept {K : Type 0} (has : K → List Event → Type 0) (before : Li
   pub log : now ≡ reverse behind ++ first
   pub kept : (events : List Event) → before events → has journal (events ++ behind)
 
+-- at some time a journal has kept these events
+pub record WasKept {K : Type 0} (has : K → List Event → Type 0) (events : List Event) : Type 0 where
+  pub journal : K
+  pub kept : has journal events
+
 -- what happened before is still there, the log is legal, and procedures and all else are those handed in
 pub record HasGoneOn (start now : Core) : Type 0 where
   pub stays : StaysBut start now
@@ -26,9 +31,9 @@ pub record HasGoneOn (start now : Core) : Type 0 where
 -- the state that is handed back
 abbrev pub kept_state_of : KeptFault → Core
 kept_state_of (Unbegun fault) = state_of fault
-kept_state_of (NotKept now) = now
+kept_state_of (NotKept why now) = now
 
 -- when each fault comes, and what is known of the state that is handed back
 abbrev pub KeptFaultFits : Core → ℕ → ℕ → KeptFault → Type 0
 KeptFaultFits start workers tries (Unbegun fault) = (state_of fault ≡ start) × FaultFits workers tries fault
-KeptFaultFits start workers tries (NotKept now) = InRange workers tries × HasGoneOn start now
+KeptFaultFits start workers tries (NotKept why now) = InRange workers tries × HasGoneOn start now

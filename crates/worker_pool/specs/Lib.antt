@@ -1,4 +1,5 @@
 pub mod Answers
+pub mod Acknowledged
 pub mod Kept
 pub mod Doubts
 pub mod Reports

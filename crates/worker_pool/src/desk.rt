@@ -9,9 +9,11 @@ ghost use Rattle.tc_core.specs.Admission.{call_of, IsRefused};
 ghost use Rattle.worker_pool.specs.Answers.{answer_of, place_of, AnswerFits, AdmitRefusalFits};
 ghost use Rattle.worker_pool.specs.Doubts.{IsDoubtful, IsGoing};
 ghost use Rattle.worker_pool.specs.Joining.Ups.{IsUpFor};
+ghost use Rattle.worker_pool.specs.Joining.Untried.{IsUntried};
 ghost use Rattle.worker_pool.specs.Wires.{IsItsOwn, IsToRedo};
 ghost use Rattle.worker_pool.specs.Joining.Seen.{IsAnswered, AreToldBy};
 
+use crate::acknowledgement::Due;
 use crate::answer::{Answer, Progress};
 use crate::batch::Batch;
 use crate::handed::{Count, Handed};
@@ -20,15 +22,17 @@ use crate::report::Report;
 use crate::sending::Sending;
 use access_slots::op::{News, Reply, Wire};
 use lock_table::table::Busy;
+use std::alloc::AllocError;
 use std::marker::{Brand, Model, PhantomData};
+use tc_core::procs::Procs;
 use tc_core::state::{
     Asked, Call, Down, NotOver, Receipt, Redo, Refusal, Request, Stranger, Stranger2, TcState,
     TxnId,
 };
 use tc_log::event::{Event, Outcome};
 
-/// The state that is handed to a run, its calls, whether it has a journal, what that may have kept before, and
-/// the book of what is handed over to it. Each run picks them.
+/// The state that is handed to a run, its calls, whether it has a journal, what that had kept before and what
+/// it has kept at any time since, and the book of what is handed over to it. Each run picks them.
 pub trait Naming {
     ghost use Rattle.std.specs.Prelude.{Bool, List};
     ghost use Rattle.logbook.specs.Pages.{Book};
@@ -44,6 +48,8 @@ pub trait Naming {
 
     ghost before: { List Event → Type 0 };
 
+    ghost kept: { List Event → Type 0 };
+
     ghost book: { Book };
 }
 
@@ -58,30 +64,9 @@ impl Naming for Brand {
 
     ghost before = { λ events. ⊥ };
 
+    ghost kept = { λ events. ⊥ };
+
     ghost book = { record { number = 0; log_name = 0; cells_name = 0 } };
-}
-
-/// An answer that stands and isn't told yet. Desks alone make it.
-pub struct Due {
-    call: usize,
-    place: Option<usize>,
-}
-
-impl Due {
-    /// The place of the event that the answer names, if it names one.
-    pub fn place(&self) -> Option<usize>
-        ensures { result ≡ self.now.place }
-    {
-        self.place
-    }
-
-    /// Its call.
-    pub fn into_call(self) -> usize
-        ensures { result ≡ self.call }
-    {
-        let Due { call, place: _ } = self;
-        call
-    }
 }
 
 /// What is to be done for a call without the lock.
@@ -95,7 +80,9 @@ pub enum Next {
     /// A transaction stands in its way: one that leaves is waited for.
     Busy,
     /// Its answer stands, and is due.
-    Over(Due),
+    Over,
+    /// It isn't admitted, since memory ran out before it. Its answer stands, and nobody is told.
+    LeftOut,
 }
 
 /// The state, how far each call has come, and what of the log was handed over to be kept.
@@ -106,6 +93,8 @@ pub struct Desk<J: Naming> {
     tries: u64,
     taken: usize,
     touched: bool,
+    // Whether a call was refused for want of memory. None is admitted behind it.
+    is_out_of_memory: bool,
     handed: Handed<J>,
     // How many events of the log there were when something was handed over last.
     copied: usize,
@@ -121,7 +110,12 @@ impl<J: Naming> Model for Desk<J> {
     ghost use Rattle.worker_pool.specs.Kept.{Keeps};
     ghost use Rattle.worker_pool.specs.Joining.Handing.{IsHanded};
 
-    ghost view = { λ d. record { state = d.state; progress = d.progress.items; is_touched = d.touched } };
+    ghost view = { λ d. record {
+      state = d.state;
+      progress = d.progress.items;
+      is_touched = d.touched;
+      is_out_of_memory = d.is_out_of_memory;
+    } };
 
     ghost invariant = { λ d. Keeps J.start J.calls d.state d.progress.items × (d.touched ≡ false → d.state ≡ J.start)
         × IsHanded J.start.events d.handed d.copied d.state.events };
@@ -129,7 +123,7 @@ impl<J: Naming> Model for Desk<J> {
 
 impl<J: Naming> Desk<J> {
     ghost use Rattle.worker_pool.specs.Joining.Moves.{MovesOn, IsHeldBy};
-    ghost use Rattle.worker_pool.specs.Joining.Seen.{IsAnswered, AnswersStay, IsDue};
+    ghost use Rattle.worker_pool.specs.Joining.Seen.{IsAnswered, AnswersStay};
     ghost use Rattle.worker_pool.specs.Joining.Handing.{events_of};
     ghost use Rattle.worker_pool.specs.Journals.{HasGoneOn};
     ghost use Rattle.worker_pool.specs.Reports.{Reports};
@@ -148,6 +142,7 @@ impl<J: Naming> Desk<J> {
             tries,
             taken: 0,
             touched: false,
+            is_out_of_memory: false,
             handed,
             copied,
             of: PhantomData,
@@ -169,13 +164,13 @@ impl<J: Naming> Desk<J> {
         ensures same { self.new ≡ self.old }
     {
         if !self.handed.is_same(known) {
-            return Err(NotKept);
+            return Err(NotKept::Failed);
         }
         let events = self.state.log().events();
         fill_behind(batch, events, self.copied)?;
         let mut handed = known.again();
         if !handed.add(count, batch) {
-            return Err(NotKept);
+            return Err(NotKept::Failed);
         }
         self.copied = events.len();
         self.handed = handed.again();
@@ -202,6 +197,7 @@ impl<J: Naming> Desk<J> {
         ensures ok { OnOk result (AnswersStay self.old.progress self.new.progress) }
         ensures err { OnErr result ((self.new.state ≡ self.old.state) × (self.new.progress ≡ self.old.progress)) }
         ensures refused { IfErr result (λ why. AdmitRefusalFits J.start self.old.state (call_of call.now) why) }
+        ensures memory { IfErr result (λ why. why ≡ Refusal.Memory → self.new.is_out_of_memory ≡ true) }
     {
         self.touched = true;
         self.state.known();
@@ -209,6 +205,10 @@ impl<J: Naming> Desk<J> {
             Ok(txn) => {
                 self.progress[k] = Progress::Begun(txn);
                 Ok(())
+            }
+            Err(Refusal::Memory) => {
+                self.is_out_of_memory = true;
+                Err(Refusal::Memory)
             }
             Err(refusal) => Err(refusal),
         }
@@ -224,35 +224,63 @@ impl<J: Naming> Desk<J> {
 
     // Answers a call that waits: no event is its.
     #[inline(always)]
-    fn tell(&mut self, k: usize, call: &Call, answer: Answer) -> Due
+    fn tell(&mut self, k: usize, call: &Call, answer: Answer)
         requires call { slice_get J.calls k ≡ Some call.now }
         requires waits { slice_get self.old.progress k ≡ Some Progress.Waiting }
         requires fits { AnswerFits J.start self.old.state (call_of call.now) answer None }
         requires placeless { place_of answer ≡ None }
-        ensures { IsAnswered self.new.progress k × AnswersStay self.old.progress self.new.progress × IsDue self.new.progress k result }
+        ensures answered { IsAnswered self.new.progress k × AnswersStay self.old.progress self.new.progress }
+        ensures same { (self.new.state ≡ self.old.state) × (self.new.is_out_of_memory ≡ self.old.is_out_of_memory) }
     {
         self.touched = true;
         self.progress[k] = Progress::Answered(answer, None);
-        due_for(k, answer)
     }
 
-    // A call that waits is admitted or refused, or goes on waiting.
+    // Why a call isn't admitted that isn't tried, since memory ran out.
+    fn refusal_untried(&self, call: &Call) -> Refusal
+        ensures { AnswerFits J.start self.now.state (call_of call.now) (Answer.Refused result) None }
+    {
+        untried(self.state.procs(), call)
+    }
+
+    // Answers a call that waits once memory ran out.
+    fn leave_out(&mut self, k: usize, call: &Call) -> Next
+        requires call { slice_get J.calls k ≡ Some call.now }
+        requires waits { slice_get self.old.progress k ≡ Some Progress.Waiting }
+        ensures moves { MovesOn self.old.progress self.new.progress k result }
+        ensures none { IsHeldBy result None }
+        ensures same { (self.new.state ≡ self.old.state) × (self.new.is_out_of_memory ≡ self.old.is_out_of_memory) }
+    {
+        let refusal = self.refusal_untried(call);
+        self.tell(k, call, Answer::Refused(refusal));
+        Next::LeftOut
+    }
+
+    // A call that waits is admitted or refused, or goes on waiting. None is admitted once memory ran out.
     #[inline(always)]
     fn begin(&mut self, k: usize, call: &Call) -> Next
         requires call { slice_get J.calls k ≡ Some call.now }
         requires waits { slice_get self.old.progress k ≡ Some Progress.Waiting }
         ensures moves { MovesOn self.old.progress self.new.progress k result }
         ensures none { IsHeldBy result None }
+        ensures full { self.old.is_out_of_memory ≡ true → (self.new.state ≡ self.old.state) × (self.new.is_out_of_memory ≡ true) }
     {
+        if self.is_out_of_memory {
+            return self.leave_out(k, call);
+        }
         match self.admit(k, call) {
             Ok(()) => Next::Begun,
             Err(Refusal::Busy(busy)) => {
                 if !self.is_blocked(call, busy) {
                     return Next::Busy;
                 }
-                Next::Over(self.tell(k, call, Answer::Blocked(busy)))
+                self.tell(k, call, Answer::Blocked(busy));
+                Next::Over
             }
-            Err(refusal) => Next::Over(self.tell(k, call, Answer::Refused(refusal))),
+            Err(refusal) => {
+                self.tell(k, call, Answer::Refused(refusal));
+                Next::Over
+            }
         }
     }
 
@@ -345,32 +373,29 @@ impl<J: Naming> Desk<J> {
     }
 
     // An operation that nothing more is known of becomes the call's answer.
-    fn doubt(&mut self, k: usize, call: &Call, txn: TxnId, number: u64) -> Due
+    fn doubt(&mut self, k: usize, call: &Call, txn: TxnId, number: u64)
         requires call { slice_get J.calls k ≡ Some call.now }
         requires begun { slice_get self.old.progress k ≡ Some (Progress.Begun txn) }
         requires doubtful { IsDoubtful self.old.state txn.serial number }
-        ensures { IsAnswered self.new.progress k × AnswersStay self.old.progress self.new.progress × IsDue self.new.progress k result }
+        ensures { IsAnswered self.new.progress k × AnswersStay self.old.progress self.new.progress }
     {
         self.touched = true;
-        let answer = Answer::InDoubt(number);
-        self.progress[k] = Progress::Answered(answer, Some(txn));
-        due_for(k, answer)
+        self.progress[k] = Progress::Answered(Answer::InDoubt(number), Some(txn));
     }
 
     // Ends a transaction that is over, and answers its call by the end's place.
     #[inline(always)]
-    fn end(&mut self, k: usize, call: &Call, txn: TxnId) -> Due
+    fn end(&mut self, k: usize, call: &Call, txn: TxnId)
         requires call { slice_get J.calls k ≡ Some call.now }
         requires begun { slice_get self.old.progress k ≡ Some (Progress.Begun txn) }
         requires over { ask_reply self.old.state txn.serial ≡ Asked.Over }
-        ensures { IsAnswered self.new.progress k × AnswersStay self.old.progress self.new.progress × IsDue self.new.progress k result }
+        ensures { IsAnswered self.new.progress k × AnswersStay self.old.progress self.new.progress }
     {
         self.touched = true;
         match self.state.end(txn) {
             Ok(receipt) => {
                 let answer = answer_for(receipt);
                 self.progress[k] = Progress::Answered(answer, Some(txn));
-                due_for(k, answer)
             }
             Err(NotOver) => unreachable!(),
         }
@@ -385,6 +410,25 @@ impl<J: Naming> Desk<J> {
         self.progress[k]
     }
 
+    /// The answer of a call that has one, as it is due: it is true of the log as it is now.
+    #[inline(always)]
+    pub fn due(&self, k: usize, call: &Call) -> Due<J>
+        requires call { slice_get J.calls k ≡ Some call.now }
+        requires answered { IsAnswered self.now.progress k }
+        ensures { result.call ≡ k }
+    {
+        let logged = self.state.log().len();
+        match self.progress_of(k, call) {
+            Progress::Answered(answer, _txn) => Due {
+                call: k,
+                answer,
+                logged,
+                of: PhantomData,
+            },
+            Progress::Waiting | Progress::Begun(_) => unreachable!(),
+        }
+    }
+
     /// The next step of a call, whatever was done for it before. What is to be carried is written into
     /// `sending`, where nothing is on its way.
     pub fn advance(&mut self, k: usize, call: &Call, sending: &mut Sending) -> Next
@@ -395,7 +439,7 @@ impl<J: Naming> Desk<J> {
     {
         let txn = match self.progress_of(k, call) {
             Progress::Waiting => return self.begin(k, call),
-            Progress::Answered(answer, _) => return Next::Over(due_for(k, answer)),
+            Progress::Answered(..) => return Next::Over,
             Progress::Begun(txn) => txn,
         };
         self.touched = true;
@@ -409,9 +453,14 @@ impl<J: Naming> Desk<J> {
                 self.undo(txn, sending);
                 Next::Carry
             }
-            Asked::Over => Next::Over(self.end(k, call, txn)),
-            Asked::Stuck(number) => Next::Over(self.doubt(k, call, txn, number)),
-            Asked::Waits(number) => Next::Over(self.doubt(k, call, txn, number)),
+            Asked::Over => {
+                self.end(k, call, txn);
+                Next::Over
+            }
+            Asked::Stuck(number) | Asked::Waits(number) => {
+                self.doubt(k, call, txn, number);
+                Next::Over
+            }
             Asked::Running | Asked::Unknown => unreachable!(),
         }
     }
@@ -577,6 +626,7 @@ impl<J: Naming> Desk<J> {
             tries: _,
             taken: _,
             touched: _,
+            is_out_of_memory: _,
             handed: _,
             copied: _,
             of: _,
@@ -607,6 +657,7 @@ impl<J: Naming> Desk<J> {
             tries: _,
             taken: _,
             touched: _,
+            is_out_of_memory: _,
             handed: _,
             copied: _,
             of: _,
@@ -615,6 +666,19 @@ impl<J: Naming> Desk<J> {
         let answers = answers_of(&progress, answers);
         Report { state, answers }
     }
+}
+
+// Why a call isn't admitted that isn't tried.
+fn untried(procs: &Procs, call: &Call) -> Refusal
+    ensures { IsUntried procs.now.codes (call_of call.now) result }
+{
+    let Some(code) = procs.get(call.proc) else {
+        return Refusal::NoProcedure;
+    };
+    if call.args.len() != code.decl().args() {
+        return Refusal::ArgumentCount;
+    }
+    Refusal::Memory
 }
 
 // The answers of these calls, in order.
@@ -644,29 +708,6 @@ fn answer_for(receipt: Receipt) -> Answer
     }
 }
 
-// What is due for a call that is answered so.
-#[inline(always)]
-fn due_for(call: usize, answer: Answer) -> Due
-    ensures call { result.call ≡ call }
-    ensures place { result.place ≡ place_of answer }
-{
-    Due {
-        call,
-        place: place_named(answer),
-    }
-}
-
-// The place that an answer names, if it names one.
-#[inline(always)]
-fn place_named(answer: Answer) -> Option<usize>
-    ensures { result ≡ place_of answer }
-{
-    match answer {
-        Answer::Committed(place) | Answer::Aborted(_, place) | Answer::NoRoom(place) => Some(place),
-        Answer::InDoubt(_) | Answer::Blocked(_) | Answer::Refused(_) => None,
-    }
-}
-
 // Copies of the events from this place on.
 fn fill_behind(batch: &mut Batch, events: &[Event], from: usize) -> Result<(), NotKept>
     requires { from ≤ length events.now }
@@ -674,6 +715,6 @@ fn fill_behind(batch: &mut Batch, events: &[Event], from: usize) -> Result<(), N
 {
     match batch.fill(&events[from..]) {
         Ok(()) => Ok(()),
-        Err(_) => Err(NotKept),
+        Err(AllocError) => Err(NotKept::Memory),
     }
 }

@@ -1,8 +1,10 @@
 // The calls that a worker has on their way.
 
 ghost use Rattle.std.specs.Prelude.{◌≡◌, ◌+◌, ◌<◌, ◌≤◌, Some, None, IfSome, slice_get, vec_len, vec_capacity};
+ghost use Rattle.worker_pool.specs.Joining.Moves.{IsAnsweredBy};
 
-use crate::desk::{Desk, Due, Naming, Next};
+use crate::acknowledgement::Due;
+use crate::desk::{Desk, Naming, Next};
 use crate::errand::Errand;
 use crate::pool::{Gate, Link};
 use std::alloc::{AllocError, Global};
@@ -11,17 +13,17 @@ use std::sync::Wait;
 use tc_core::state::Call;
 
 /// The calls that a worker has on their way, so many at most.
-pub struct Errands {
+pub struct Errands<J: Naming> {
     // Those whose wires are carried next, each in its place until it is over.
     away: Vec<Errand>,
     // Answers that stand, and are due.
-    over: Vec<Due>,
+    over: Vec<Due<J>>,
     // A call with another transaction in its way.
     waiting: Option<usize>,
     most: usize,
 }
 
-impl Model for Errands {
+impl<J: Naming> Model for Errands<J> {
     ghost use Rattle.std.specs.Prelude.{◌+◌, ◌≤◌, ℕ, vec_len, vec_capacity};
 
     ghost Value = { ℕ };
@@ -31,11 +33,43 @@ impl Model for Errands {
     ghost invariant = { λ e. (vec_len e.away + vec_len e.over ≤ e.most) × (e.most ≤ vec_capacity e.away) × (e.most ≤ vec_capacity e.over) };
 }
 
-// The first steps of a call: one that is admitted goes on at once.
+// What becomes of an errand behind a step of its call.
+enum Course<J: Naming> {
+    // Its wire is to be carried.
+    Carry,
+    // Something came back that doesn't answer its wire, or nothing did.
+    Unanswered,
+    // Its call has to wait.
+    Waits,
+    // Nothing more is done for its call.
+    Over,
+    // The same, and its answer is due.
+    Answered(Due<J>),
+}
+
+// What a step of a call leads to.
 #[inline(always)]
-fn begin<J: Naming>(desk: &mut Desk<J>, call: &Call, errand: &mut Errand) -> Next
+fn course_of<J: Naming>(desk: &Desk<J>, k: usize, call: &Call, next: Next) -> Course<J>
+    requires call { slice_get J.calls k ≡ Some call.now }
+    requires answered { IsAnsweredBy desk.now.progress k next }
+{
+    match next {
+        Next::Carry => Course::Carry,
+        Next::Unanswered => Course::Unanswered,
+        Next::Begun | Next::Busy => Course::Waits,
+        Next::Over => Course::Answered(desk.due(k, call)),
+        Next::LeftOut => Course::Over,
+    }
+}
+
+// The first step of a call, and the next one where it was admitted.
+#[inline(always)]
+#[tactic(auto, using(crate::proofs::Steps::answered_by))]
+fn first_steps<J: Naming>(desk: &mut Desk<J>, call: &Call, errand: &mut Errand) -> Next
     requires call { slice_get J.calls errand.old.call ≡ Some call.now }
     requires none { errand.old.sending.request ≡ None }
+    ensures answered { IsAnsweredBy desk.new.progress errand.old.call result }
+    ensures call { errand.new.call ≡ errand.old.call }
 {
     match desk.advance(errand.call, call, &mut errand.sending) {
         Next::Begun => {
@@ -46,27 +80,47 @@ fn begin<J: Naming>(desk: &mut Desk<J>, call: &Call, errand: &mut Errand) -> Nex
     }
 }
 
+// The first steps of a call: one that is admitted goes on at once.
+#[inline(always)]
+fn begin<J: Naming>(desk: &mut Desk<J>, call: &Call, errand: &mut Errand) -> Course<J>
+    requires call { slice_get J.calls errand.old.call ≡ Some call.now }
+    requires none { errand.old.sending.request ≡ None }
+{
+    let next = first_steps(desk, call, errand);
+    course_of(desk, errand.call, call, next)
+}
+
 // The step of a call that what came back leads to, or that nothing did.
 #[inline(always)]
-fn go_on<J: Naming>(desk: &mut Desk<J>, call: &Call, errand: &mut Errand) -> Next
+#[tactic(auto, using(crate::proofs::Steps::answered_by))]
+fn next_step<J: Naming>(desk: &mut Desk<J>, call: &Call, errand: &mut Errand) -> Next
     requires { slice_get J.calls errand.old.call ≡ Some call.now }
+    ensures answered { IsAnsweredBy desk.new.progress errand.old.call result }
+    ensures call { errand.new.call ≡ errand.old.call }
 {
-    let next = match &errand.reply {
+    match &errand.reply {
         Some(reply) => desk.hear(errand.call, call, &mut errand.sending, reply),
         None => desk.go_on_unanswered(errand.call, call, &mut errand.sending, errand.news),
-    };
+    }
+}
+
+#[inline(always)]
+fn go_on<J: Naming>(desk: &mut Desk<J>, call: &Call, errand: &mut Errand) -> Course<J>
+    requires { slice_get J.calls errand.old.call ≡ Some call.now }
+{
+    let next = next_step(desk, call, errand);
     errand.reply = None;
-    next
+    course_of(desk, errand.call, call, next)
 }
 
 // The next step of an errand's call, which is one of these.
 #[inline(always)]
-fn step<J: Naming>(desk: &mut Desk<J>, calls: &[Call], errand: &mut Errand) -> Next
+fn step<J: Naming>(desk: &mut Desk<J>, calls: &[Call], errand: &mut Errand) -> Course<J>
     requires { calls.now ≡ J.calls }
 {
     match calls.get(errand.call) {
         Some(call) => go_on(desk, call, errand),
-        None => Next::Busy,
+        None => Course::Waits,
     }
 }
 
@@ -92,9 +146,9 @@ fn abandon_all<J: Naming>(desk: &mut Desk<J>, mut errands: Vec<Errand>) {
 }
 
 // Answers that are told to nobody.
-fn forget_all(mut over: Vec<Due>) {
+fn forget_all<J: Naming>(mut over: Vec<Due<J>>) {
     while let Some(due) = over.pop() {
-        let _call = due.into_call();
+        due.forget();
     }
     over.destroy_empty();
 }
@@ -113,10 +167,10 @@ fn next_call<J: Naming>(waiting: &mut Option<usize>, desk: &mut Desk<J>) -> Opti
 #[inline(always)]
 fn settle<J: Naming>(
     away: &mut Vec<Errand>,
-    over: &mut Vec<Due>,
+    over: &mut Vec<Due<J>>,
     desk: &mut Desk<J>,
     at: usize,
-    next: Next,
+    course: Course<J>,
 ) -> bool
     requires there { at < vec_len away.old }
     requires room { vec_len over.old < vec_capacity over.old }
@@ -125,14 +179,15 @@ fn settle<J: Naming>(
     ensures away { vec_capacity away.new ≡ vec_capacity away.old }
     ensures over { vec_capacity over.new ≡ vec_capacity over.old }
 {
-    match next {
-        Next::Carry => away[at].is_carried = false,
-        Next::Unanswered => away[at].is_carried = true,
-        Next::Over(due) => {
+    match course {
+        Course::Carry => away[at].is_carried = false,
+        Course::Unanswered => away[at].is_carried = true,
+        Course::Answered(due) => {
             over.push_reserved(due);
             abandon(desk, away.swap_remove(at));
         }
-        Next::Begun | Next::Busy => {
+        Course::Over => abandon(desk, away.swap_remove(at)),
+        Course::Waits => {
             abandon(desk, away.swap_remove(at));
             return true;
         }
@@ -140,9 +195,9 @@ fn settle<J: Naming>(
     false
 }
 
-impl Errands {
+impl<J: Naming> Errands<J> {
     /// No call, and no room for one. It takes no memory.
-    pub fn new(alloc: Global) -> Errands
+    pub fn new(alloc: Global) -> Errands<J>
         ensures { result ≡ 0 }
     {
         Errands {
@@ -165,7 +220,7 @@ impl Errands {
 
     /// The desk hears what came of each wire that was carried.
     #[inline(always)]
-    pub fn hear<J: Naming>(&mut self, desk: &mut Desk<J>, calls: &[Call])
+    pub fn hear(&mut self, desk: &mut Desk<J>, calls: &[Call])
         requires { calls.now ≡ J.calls }
     {
         let mut at = self.away.len();
@@ -173,15 +228,15 @@ impl Errands {
             at -= 1;
             let errand = &mut self.away[at];
             let k = errand.call;
-            let next = step(desk, calls, errand);
-            if settle(&mut self.away, &mut self.over, desk, at, next) {
+            let course = step(desk, calls, errand);
+            if settle(&mut self.away, &mut self.over, desk, at, course) {
                 self.waiting = Some(k);
             }
         }
     }
 
     /// Takes calls up while there is room, and none of them waits.
-    pub fn take_up<J: Naming>(&mut self, desk: &mut Desk<J>, calls: &[Call])
+    pub fn take_up(&mut self, desk: &mut Desk<J>, calls: &[Call])
         requires { calls.now ≡ J.calls }
     {
         'taking: for _ in 0..self.most {
@@ -195,10 +250,10 @@ impl Errands {
                 return;
             };
             let mut errand = Errand::new(k);
-            let next = begin(desk, call, &mut errand);
+            let course = begin(desk, call, &mut errand);
             let at = self.away.len();
             self.away.push_reserved(errand);
-            if settle(&mut self.away, &mut self.over, desk, at, next) {
+            if settle(&mut self.away, &mut self.over, desk, at, course) {
                 self.waiting = Some(k);
                 return;
             }
@@ -221,7 +276,7 @@ impl Errands {
     }
 
     /// An answer that is due.
-    pub fn next_due(&mut self) -> Option<Due>
+    pub fn next_due(&mut self) -> Option<Due<J>>
         ensures { IfSome result (λ due. self.new + 1 ≡ self.old) }
     {
         self.over.pop()
@@ -248,7 +303,7 @@ impl Errands {
     }
 
     /// Gives all requests up.
-    pub fn close<J: Naming>(self, desk: &mut Desk<J>) {
+    pub fn close(self, desk: &mut Desk<J>) {
         let Errands {
             away,
             over,

@@ -5,9 +5,14 @@ ghost use Rattle.tc_log.specs.declared.event.Event.{Event as EventValue};
 
 use tc_log::log::Log;
 
-/// Events weren't kept. How many of them were isn't known, and the journal isn't asked again.
+/// Why events weren't kept. How many of them were isn't known, and the journal isn't asked again.
 #[derive(Clone, Copy, Debug, PartialEq, Eq)]
-pub struct NotKept;
+pub enum NotKept {
+    /// There was no memory for them.
+    Memory,
+    /// The journal failed, as a device that is full or gone.
+    Failed,
+}
 
 /// What keeps the events of a log where they outlast the run, as a file does.
 pub trait Journal {
@@ -33,6 +38,6 @@ impl Journal for NoJournal {
     ghost has_kept = { λ journal events. ⊥ };
 
     fn keep(&mut self, _events: &Log) -> Result<(), NotKept> {
-        Err(NotKept)
+        Err(NotKept::Failed)
     }
 }

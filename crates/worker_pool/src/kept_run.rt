@@ -4,12 +4,12 @@ ghost use Rattle.std.specs.Prelude.{◌≡◌, List, true, IfOk, IfErr, OnOk, Ma
 ghost use Rattle.tc_log.specs.declared.event.Event.{Event as EventValue};
 ghost use Rattle.worker_pool.specs.Faults.{InRange};
 ghost use Rattle.worker_pool.specs.Reports.{Reports};
-ghost use Rattle.worker_pool.specs.Journals.{HasKept, KeptFaultFits, kept_state_of};
+ghost use Rattle.worker_pool.specs.Journals.{HasKept, WasKept, KeptFaultFits, kept_state_of};
 
 use crate::batch::Batch;
 use crate::desk::{Desk, Naming};
 use crate::handed::Opened;
-use crate::journal::Journal;
+use crate::journal::{Journal, NotKept};
 use crate::keeper::{Keeper, Keeping};
 use crate::pool::{Gate, Link, Prepared, Ran, RunFault, prepare, run_over};
 use crate::report::Report;
@@ -24,9 +24,9 @@ use tc_core::state::{Call, TcState};
 pub enum KeptFault {
     /// G1 to G4: no call was begun.
     Unbegun(RunFault),
-    /// G5: the journal didn't keep what it was given. The state is as it was then: some calls may have ended,
-    /// and some transactions may be open.
-    NotKept(TcState),
+    /// G5: the journal didn't keep what it was given, and why. The state is as it was then: some calls may have
+    /// ended, and some transactions may be open.
+    NotKept(NotKept, TcState),
 }
 
 impl KeptFault {
@@ -36,7 +36,7 @@ impl KeptFault {
     {
         match self {
             KeptFault::Unbegun(fault) => fault.into_state(),
-            KeptFault::NotKept(state) => state,
+            KeptFault::NotKept(_, state) => state,
         }
     }
 }
@@ -64,6 +64,8 @@ fn run_kept_named<
     requires calls { calls.now ≡ J.calls }
     requires keeps { J.keeps ≡ true }
     requires before { (events : List EventValue) → J.before events → K.has_kept journal events }
+    requires kept { (later : K) (events : List EventValue) → K.has_kept later events → J.kept events }
+    requires since { (events : List EventValue) → J.kept events → WasKept K.has_kept events }
     requires book { opened.seen.book ≡ J.book }
     ensures report { IfOk result.1 (λ r. Reports J.start J.calls r.state r.answers.items) }
     ensures kept { IfOk result.1 (λ r. HasKept K.has_kept J.before result.0 J.start.events r.state.events) }
@@ -91,15 +93,15 @@ fn run_kept_named<
     let ran = match ran {
         Ran::Done(report) => Ok(report),
         Ran::NoThread(state) => Err(KeptFault::Unbegun(RunFault::NoThread(state))),
-        Ran::Stopped(state) => Err(KeptFault::NotKept(state)),
+        Ran::Stopped(why, state) => Err(KeptFault::NotKept(why, state)),
     };
     (journal, ran)
 }
 
 /// Runs the calls as [`run`](crate::run) does, and keeps the log in a journal, which is handed back.
 ///
-/// No answer that names an event is told to the gate before the journal has kept that event, and all before
-/// it; and a report comes once all of the log is kept. Nothing is kept before a wire is carried: that is
+/// No answer is told to the gate before the journal has kept all that the log had when the answer stood, and a
+/// report comes once all of the log is kept. Nothing is kept before a wire is carried: that is
 /// enough where the data components end with the process, and not where they outlive it. Events are
 /// written under the journal's own lock, while the state is free: whoever writes does it for all who wait.
 /// Where the journal fails the run stops: no answer is told from then on, workers give up what they wait

@@ -19,11 +19,13 @@
 //! A [`Link`] of your own carries wires to data components elsewhere. It may lose, repeat, delay and
 //! change what it carries; the report stays true of the log. [`LockedDcs`] is the link to data
 //! components of this process that workers call themselves, and [`RingLink`] the one to components
-//! that have threads of their own. A [`Gate`] is told when a call is admitted and when it is answered.
-//! [`run_kept`] keeps the log in a [`Journal`], and tells no answer before what it names is kept.
+//! that have threads of their own. A [`Gate`] is told when a call is admitted, and of its answer by an
+//! [`Acknowledgement`]. [`run_kept`] keeps the log in a [`Journal`], and tells no answer before the log that it
+//! is true of is kept.
 //! Its tests are those of `pool_tests`.
 #![tactic(auto)]
 
+mod acknowledgement;
 mod answer;
 mod batch;
 mod desk;
@@ -45,7 +47,9 @@ mod sending;
 mod served;
 mod waiting;
 
+pub use acknowledgement::Acknowledgement;
 pub use answer::{Answer, Progress};
+pub use desk::Naming;
 pub use errand::Errand;
 pub use journal::{Journal, NotKept};
 pub use kept_run::{KeptFault, run_kept};

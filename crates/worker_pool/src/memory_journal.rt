@@ -4,7 +4,7 @@ ghost use Rattle.std.specs.Prelude.{◌≡◌, []};
 
 use crate::batch::copy_events;
 use crate::journal::{Journal, NotKept};
-use std::alloc::Global;
+use std::alloc::{AllocError, Global};
 use std::marker::Model;
 use tc_log::event::Event;
 use tc_log::log::Log;
@@ -52,7 +52,7 @@ impl Journal for MemoryJournal {
     fn keep(&mut self, events: &Log) -> Result<(), NotKept> {
         match copy_events(self.alloc, events.events(), &mut self.log) {
             Ok(()) => Ok(()),
-            Err(_) => Err(NotKept),
+            Err(AllocError) => Err(NotKept::Memory),
         }
     }
 }

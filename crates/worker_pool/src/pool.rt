@@ -9,13 +9,14 @@ ghost use Rattle.worker_pool.specs.Journals.{HasGoneOn};
 ghost use Rattle.worker_pool.specs.Faults.{state_of, InRange, WorkersFit, TriesFit, FaultFits};
 ghost use Rattle.worker_pool.specs.Joining.Ran.{RanFits, RanKeeps, KeepsAll};
 
+use crate::acknowledgement::{Acknowledgement, Due};
 use crate::answer::{Answer, Progress};
 use crate::batch::Batch;
-use crate::desk::{Desk, Due, Naming, Next};
+use crate::desk::{Desk, Naming, Next};
 use crate::errand::Errand;
 use crate::errands::Errands;
 use crate::handed::Opened;
-use crate::journal::{Journal, NoJournal};
+use crate::journal::{Journal, NoJournal, NotKept};
 use crate::keeper::{Keeper, Keeping, Stopped};
 use crate::report::Report;
 use crate::sending::Sending;
@@ -70,8 +71,9 @@ pub trait Gate {
     /// The call was admitted. It is called once, without the lock, before anything is sent for it.
     fn begun(&self, call: usize);
 
-    /// The call's answer stands. It is called once, without the lock.
-    fn answered(&self, call: usize);
+    /// A call's answer stands, and in a run with a journal the log that it is true of is kept. It is called
+    /// once, without the lock. A call that isn't tried, since memory ran out before it, is told to nobody.
+    fn answered<J: Naming>(&self, acknowledgement: &Acknowledgement<J>);
 
     /// Whether the gate never keeps a worker for long: then, over a prompt link, each of several workers has
     /// more than one call on their way at a time.
@@ -86,7 +88,7 @@ pub struct OpenGate;
 impl Gate for OpenGate {
     fn begun(&self, _call: usize) {}
 
-    fn answered(&self, _call: usize) {}
+    fn answered<J: Naming>(&self, _acknowledgement: &Acknowledgement<J>) {}
 
     fn is_prompt(&self) -> bool {
         true
@@ -131,7 +133,7 @@ struct Worker<'a, L, G> {
 // Tells an answer as soon as what it names is kept, where no other worker is left.
 fn conclude_alone<J: Naming, K: Journal, G: Gate>(
     desk: &mut Desk<J>,
-    due: Due,
+    due: Due<J>,
     gate: &G,
     keeper: &mut Keeper<J, K>,
 ) -> Result<(), Stopped<J>>
@@ -157,9 +159,14 @@ fn finish<J: Naming, K: Journal, R: Wait, L: Link, G: Gate>(
     let mut next = desk.advance(k, call, &mut sending);
     for _ in rt.forever() {
         next = match next {
-            Next::Over(due) => {
+            Next::Over => {
                 desk.abandon(sending);
+                let due = desk.due(k, call);
                 return conclude_alone(desk, due, worker.gate, keeper);
+            }
+            Next::LeftOut => {
+                desk.abandon(sending);
+                return Ok(());
             }
             Next::Begun => {
                 worker.gate.begun(k);
@@ -248,11 +255,11 @@ struct Pool<J: Naming, K: Journal> {
 fn conclude<J: Naming, K: Journal, R: Wait, G: Gate>(
     rt: &R,
     pool: &Pool<J, K>,
-    due: Due,
+    due: Due<J>,
     gate: &G,
 ) {
     match pool.keeping.conclude(rt, &pool.desk, due) {
-        Some(leave) => leave.tell(gate),
+        Some(acknowledgement) => acknowledgement.tell(gate),
         None => {
             drop(acquire(rt, &pool.desk));
             pool.freed.notify_all();
@@ -267,7 +274,7 @@ fn settle<J: Naming, K: Journal, R: Wait>(
     rt: &R,
     pool: &Pool<J, K>,
     calls: &[Call],
-    errands: &mut Errands,
+    errands: &mut Errands<J>,
 ) -> bool
     requires { calls.now ≡ J.calls }
 {
@@ -297,7 +304,7 @@ fn serve<J: Naming, K: Journal, R: Wait, L: Link, G: Gate>(
     pool: &Pool<J, K>,
     calls: &[Call],
     worker: &Worker<L, G>,
-    errands: &mut Errands,
+    errands: &mut Errands<J>,
 )
     requires { calls.now ≡ J.calls }
 {
@@ -460,7 +467,7 @@ pub(crate) enum Ran {
     // No worker could be started.
     NoThread(TcState),
     // Something wasn't kept.
-    Stopped(TcState),
+    Stopped(NotKept, TcState),
 }
 
 // The run from the desk on, and the journal behind it.
@@ -531,7 +538,7 @@ fn finished<J: Naming, K: Journal, R: Wait, L: Link, G: Gate>(
 {
     match finish_and_keep(rt, &mut desk, calls, worker, keeper) {
         Ok(()) => Ran::Done(desk.close(answers)),
-        Err(stopped) => Ran::Stopped(halted_by(desk, stopped)),
+        Err(stopped) => Ran::Stopped(stopped.why, halted_by(desk, stopped)),
     }
 }
 
@@ -581,7 +588,7 @@ fn run_named<J: Naming + Send + Sync, R: Threads + Wait + Sync, L: Link + Sync, 
     match ran {
         Ran::Done(report) => Ok(report),
         Ran::NoThread(state) => Err(RunFault::NoThread(state)),
-        Ran::Stopped(_) => unreachable!(),
+        Ran::Stopped(..) => unreachable!(),
     }
 }
 

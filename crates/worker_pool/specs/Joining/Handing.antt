@@ -1,8 +1,9 @@
 -- What a desk hands over to be kept: how batches of it are counted, and where they stand in the log.
-use Rattle.std.specs.Prelude.{◌≡◌, ◌==◌, ◌+◌, ◌<◌, ℕ, Bool, true, List, [], ◌∷◌, ◌++◌, length, reverse, Option, Some, None, MatchBool}
+use Rattle.std.specs.Prelude.{◌≡◌, ◌==◌, ◌+◌, ◌≤◌, ℕ, Bool, true, List, [], ◌∷◌, ◌++◌, length, reverse, Option, Some, None, MatchBool}
 use Rattle.logbook.specs.Pages.{Cell, Step, View, Book, Named}
 use Rattle.tc_log.specs.declared.event.Event.{Event}
 use Rattle.history.specs.Places.{Begins}
+use Rattle.worker_pool.specs.declared.journal.NotKept.{NotKept}
 
 -- the events of these batches, in order
 abbrev pub events_of : List (List Event) → List Event
@@ -25,27 +26,23 @@ pub record IsHanded (first : List Event) (batches : List (List Event)) (count : 
   pub begins : Begins (reverse (events_of batches) ++ first) h
   pub count_is : count ≡ length first + length (events_of batches)
 
--- what contracts see of who keeps events: the journal, what was handed over when it kept something last, what was copied last, and whether
--- nothing went wrong
+-- what contracts see of who keeps events: the journal, what was handed over when it kept something last, what was copied last, and why
+-- something wasn't kept, if anything wasn't
 pub record Shelf (K : Type 0) : Type 0 where
   pub journal : K
   pub handed : List (List Event)
   pub batch : List Event
-  pub is_sound : Bool
+  pub fault : Option NotKept
 
--- it is below the number, where there is one
-abbrev pub IsBelow : Option ℕ → ℕ → Type 0
-IsBelow None count = Unit {0}
-IsBelow (Some place) count = place < count
-
--- the place is that of an event of the first log, or of one that was handed over
-abbrev pub IsWithin : List Event → Option ℕ → List (List Event) → Type 0
-IsWithin first place batches = IsBelow place (length first + length (events_of batches))
+-- so many events are those of the first log and of these batches, or fewer, and behind whatever was kept before these batches are kept
+pub record IsKeptIn (kept before : List Event → Type 0) (first : List Event) (logged : ℕ) (batches : List (List Event)) : Type 0 where
+  pub enough : logged ≤ length first + length (events_of batches)
+  pub has : (events : List Event) → before events → kept (events ++ events_of batches)
 
 -- the same of a holder that may have seen nothing
-abbrev pub IsWithinSeen : List Event → Option ℕ → Option (List (List Event)) → Type 0
-IsWithinSeen first place None = ⊥
-IsWithinSeen first place (Some batches) = IsWithin first place batches
+abbrev pub IsKeptSeen : (List Event → Type 0) → (List Event → Type 0) → List Event → ℕ → Option (List (List Event)) → Type 0
+IsKeptSeen kept before first logged None = ⊥
+IsKeptSeen kept before first logged (Some batches) = IsKeptIn kept before first logged batches
 
 -- behind whatever it had kept before, the journal has kept the events of these batches
 abbrev pub HasAll : {K : Type 0} → (K → List Event → Type 0) → (List Event → Type 0) → K → List (List Event) → Type 0

@@ -13,7 +13,7 @@ use Rattle.worker_pool.specs.Joining.Handing.{Shelf, HasAll, events_of}
 abbrev pub RanFits : Core → List Call → Bool → Ran → Type 0
 RanFits start calls keeps (Done report) = Reports start calls report.state report.answers.items
 RanFits start calls keeps (NoThread now) = now ≡ start
-RanFits start calls keeps (Stopped now) = (keeps ≡ true) × HasGoneOn start now
+RanFits start calls keeps (Stopped why now) = (keeps ≡ true) × HasGoneOn start now
 
 -- the journal has kept all that was handed over, and that is all that the log has behind the first one
 pub record KeepsAll {K : Type 0} (has : K → List Event → Type 0) (before : List Event → Type 0) (first now : List Event)
@@ -25,4 +25,4 @@ pub record KeepsAll {K : Type 0} (has : K → List Event → Type 0) (before : L
 abbrev pub RanKeeps : {K : Type 0} → (K → List Event → Type 0) → (List Event → Type 0) → List Event → Bool → Ran → Shelf K → Type 0
 RanKeeps has before first keeps (Done report) shelf = keeps ≡ true → KeepsAll has before first report.state.events shelf
 RanKeeps has before first keeps (NoThread now) shelf = Unit {0}
-RanKeeps has before first keeps (Stopped now) shelf = Unit {0}
+RanKeeps has before first keeps (Stopped why now) shelf = Unit {0}

@@ -5,27 +5,19 @@ use Rattle.tc_core.specs.declared.state.TxnId.{TxnId}
 use Rattle.worker_pool.specs.declared.answer.Answer.{Answer}
 use Rattle.worker_pool.specs.declared.answer.Progress.{Progress}
 use Rattle.worker_pool.specs.declared.answer.Progress.TheVariants.{Waiting, Begun, Answered}
-use Rattle.worker_pool.specs.declared.desk.Due.{Due}
-use Rattle.worker_pool.specs.Answers.{place_of}
 
 pub record Seen : Type 0 where
   pub state : Core
   pub progress : List Progress
   pub is_touched : Bool
+  -- a call was refused for want of memory
+  pub is_out_of_memory : Bool
 
 -- the call's answer stands
 pub record IsAnswered (ps : List Progress) (k : ℕ) : Type 0 where
   pub answer : Answer
   pub txn : Option TxnId
   pub at : slice_get ps k ≡ Some (Answered answer txn)
-
--- this is due for the call: its answer stands, and names this place
-pub record IsDue (ps : List Progress) (k : ℕ) (due : Due) : Type 0 where
-  pub answer : Answer
-  pub txn : Option TxnId
-  pub at : slice_get ps k ≡ Some (Answered answer txn)
-  pub call : due.call ≡ k
-  pub place : due.place ≡ place_of answer
 
 -- answers stay
 abbrev pub AnswersStay : List Progress → List Progress → Type 0

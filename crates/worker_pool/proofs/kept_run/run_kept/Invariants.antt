@@ -1,5 +1,6 @@
 use Rattle.std.proofs.Common.{true}
+use Rattle.worker_pool.specs.Journals.{WasKept}
 use Rattle.worker_pool.proofs.kept_run.run_kept.Given as goal
 
 abbrev pub ghosts-run_kept_named : goal.ghosts-run_kept_named
-ghosts-run_kept_named g a = record { start = a.state; calls = a.calls.now; keeps = true; before = g.K.Journal.has_kept a.journal; book = a.opened.seen.book }
+ghosts-run_kept_named g a = record { start = a.state; calls = a.calls.now; keeps = true; before = g.K.Journal.has_kept a.journal; kept = λ events. WasKept g.K.Journal.has_kept events; book = a.opened.seen.book }

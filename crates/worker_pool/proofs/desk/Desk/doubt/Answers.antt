@@ -3,7 +3,7 @@ use Rattle.worker_pool.specs.Joining.Seen.{Seen}
 use Rattle.worker_pool.specs.Doubts.{IsDoubtful}
 use Rattle.worker_pool.specs.declared.answer.Answer.TheVariants.{InDoubt}
 use Rattle.worker_pool.specs.declared.answer.Progress.TheVariants.{Begun, Answered}
-use Rattle.worker_pool.proofs.Steps.{told, in_doubt_fits, answers_stay, now_answered, now_due}
+use Rattle.worker_pool.proofs.Steps.{told, in_doubt_fits, answers_stay, now_answered}
 use Rattle.worker_pool.proofs.desk.Desk.doubt.Goals as goal
 
 pub invariant_of-self : goal.invariant_of-self
@@ -25,5 +25,4 @@ returns g c =
     let at : slice_get ss c.args.k ≡ Some (Begun c.args.txn) = ap (λ (v : Seen). slice_get v.progress c.args.k) c.self.view_is ∙ c.requires.begun in (
       now_answered ss c.args.k (Begun c.args.txn) (InDoubt c.args.number) (Some c.args.txn) at,
       rw (← c.self.view_is) (answers_stay ss c.args.k (Begun c.args.txn) (Answered (InDoubt c.args.number) (Some c.args.txn)) at refl),
-      now_due ss c.args.k (Begun c.args.txn) (InDoubt c.args.number) (Some c.args.txn) c.due_for.result at c.due_for.ensures.call c.due_for.ensures.place,
     )

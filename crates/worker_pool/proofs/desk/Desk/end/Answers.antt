@@ -2,7 +2,7 @@ use Rattle.std.proofs.Common.{◌≡◌, ◌∙◌, Some, slice_get, refl, ap, s
 use Rattle.tc_core.specs.Replies.{end_of}
 use Rattle.worker_pool.specs.Joining.Seen.{Seen}
 use Rattle.worker_pool.specs.declared.answer.Progress.TheVariants.{Begun, Answered}
-use Rattle.worker_pool.proofs.Steps.{ended_by, answers_stay, now_answered, now_due}
+use Rattle.worker_pool.proofs.Steps.{ended_by, answers_stay, now_answered}
 use Rattle.worker_pool.proofs.Grown.{handed_ended}
 use Rattle.worker_pool.proofs.desk.Desk.end.Goals as goal
 
@@ -23,5 +23,4 @@ returns g c =
     let at : slice_get ss c.args.k ≡ Some (Begun c.args.txn) = ap (λ (v : Seen). slice_get v.progress c.args.k) c.self.view_is ∙ c.requires.begun in (
       now_answered ss c.args.k (Begun c.args.txn) c.answer_for-answer.result (Some c.args.txn) at,
       rw (← c.self.view_is) (answers_stay ss c.args.k (Begun c.args.txn) (Answered c.answer_for-answer.result (Some c.args.txn)) at refl),
-      now_due ss c.args.k (Begun c.args.txn) c.answer_for-answer.result (Some c.args.txn) c.due_for.result at c.due_for.ensures.call c.due_for.ensures.place,
     )

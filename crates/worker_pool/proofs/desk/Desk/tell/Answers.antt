@@ -3,7 +3,7 @@ use Rattle.worker_pool.specs.Joining.Seen.{Seen}
 use Rattle.tc_core.specs.Admission.{call_of}
 use Rattle.worker_pool.specs.Answers.{AnswerFits}
 use Rattle.worker_pool.specs.declared.answer.Progress.TheVariants.{Waiting, Answered}
-use Rattle.worker_pool.proofs.Steps.{told, answers_stay, now_answered, now_due}
+use Rattle.worker_pool.proofs.Steps.{told, answers_stay, now_answered}
 use Rattle.worker_pool.proofs.desk.Desk.tell.Goals as goal
 
 pub invariant_of-self : goal.invariant_of-self
@@ -17,11 +17,10 @@ invariant_of-self g c =
       c.self.invariant.2,
     )
 
-pub returns : goal.returns
-returns g c =
+pub returns-clause-answered : goal.returns-clause-answered
+returns-clause-answered g c =
     let ss = c.self.inside.progress.items in
     let at : slice_get ss c.args.k ≡ Some Waiting = ap (λ (v : Seen). slice_get v.progress c.args.k) c.self.view_is ∙ c.requires.waits in (
       now_answered ss c.args.k Waiting c.args.answer None at,
       rw (← c.self.view_is) (answers_stay ss c.args.k Waiting (Answered c.args.answer None) at refl),
-      now_due ss c.args.k Waiting c.args.answer None c.due_for.result at c.due_for.ensures.call c.due_for.ensures.place,
     )

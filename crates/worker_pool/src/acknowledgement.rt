@@ -1,0 +1,121 @@
+//! What is told of an answer, and when.
+
+ghost use Rattle.std.specs.Prelude.{◌≡◌, true, false};
+ghost use Rattle.worker_pool.specs.Acknowledged.{WasAnswered, IsKept};
+ghost use Rattle.worker_pool.specs.Joining.Handing.{IsKeptIn};
+
+use crate::answer::Answer;
+use crate::desk::Naming;
+use crate::handed::Handed;
+use crate::pool::Gate;
+use std::marker::{Model, PhantomData};
+
+/// An answer that stands and isn't told yet. Desks alone can make it: it is true of a state of the run.
+pub struct Due<J: Naming> {
+    pub call: usize,
+    pub answer: Answer,
+    /// How many events the log had then.
+    pub logged: usize,
+    pub of: PhantomData<J>,
+}
+
+impl<J: Naming> Model for Due<J> {
+    ghost use Rattle.worker_pool.specs.Acknowledged.{Acknowledged, WasAnswered};
+
+    ghost Value = { Acknowledged };
+
+    ghost view = { λ d. record { call = d.call; answer = d.answer; logged = d.logged } };
+
+    ghost invariant = { λ d. WasAnswered J.start J.calls d.call d.answer d.logged };
+}
+
+impl<J: Naming> Due<J> {
+    // What holding it says.
+    fn known(&self)
+        ensures { WasAnswered J.start J.calls self.now.call self.now.answer self.now.logged }
+    {
+        let _ = &self.call;
+    }
+
+    /// Nobody is told of it.
+    pub fn forget(self) {
+        let Due {
+            call: _,
+            answer: _,
+            logged: _,
+            of: _,
+        } = self;
+    }
+}
+
+/// The acknowledgement of a call: its place in the list, and its answer, which stands. In a run with a journal
+/// all that the log had when the call was answered is kept. Runs alone make it, each of one call of its list.
+pub struct Acknowledgement<J: Naming> {
+    due: Due<J>,
+    // Where all of that was handed over to the journal.
+    handed: Option<Handed<J>>,
+}
+
+impl<J: Naming> Model for Acknowledgement<J> {
+    ghost use Rattle.std.specs.Prelude.{◌≡◌, true};
+    ghost use Rattle.worker_pool.specs.Acknowledged.{Acknowledged};
+    ghost use Rattle.worker_pool.specs.Joining.Handing.{IsKeptSeen};
+
+    ghost Value = { Acknowledged };
+
+    ghost view = { λ a. a.due };
+
+    ghost invariant = { λ a. J.keeps ≡ true → IsKeptSeen J.kept J.before J.start.events a.due.logged a.handed };
+}
+
+impl<J: Naming> Acknowledgement<J> {
+    // In a run without a journal.
+    pub(crate) fn free(due: Due<J>) -> Acknowledgement<J>
+        requires { J.keeps ≡ false }
+        ensures { result ≡ due }
+    {
+        Acknowledgement { due, handed: None }
+    }
+
+    // Where the journal has kept what was handed over here.
+    pub(crate) fn within(due: Due<J>, handed: &Handed<J>) -> Acknowledgement<J>
+        requires { IsKeptIn J.kept J.before J.start.events due.logged handed.now }
+        ensures { result ≡ due }
+    {
+        Acknowledgement {
+            due,
+            handed: Some(handed.again()),
+        }
+    }
+
+    /// The call's place in the list.
+    pub fn call(&self) -> usize
+        ensures { result ≡ self.now.call }
+    {
+        self.due.call
+    }
+
+    /// The call's answer.
+    pub fn answer(&self) -> Answer
+        ensures { result ≡ self.now.answer }
+    {
+        self.due.answer
+    }
+
+    /// What holding it says: the answer was true of the run when its log had so many events, and where the run
+    /// keeps its log, the journal has kept all of these.
+    #[tactic(auto, using(crate::proofs::Handing::kept_seen))]
+    pub fn known(&self)
+        ensures answered { WasAnswered J.start J.calls self.now.call self.now.answer self.now.logged }
+        ensures kept { J.keeps ≡ true → IsKept J.kept J.before J.start.events self.now.logged }
+    {
+        self.due.known();
+    }
+
+    // Tells the gate.
+    pub(crate) fn tell<G: Gate>(self, gate: &G) {
+        gate.answered(&self);
+        let Acknowledgement { due, handed: _ } = self;
+        due.forget();
+    }
+}
