@@ -7,7 +7,7 @@ ghost use Rattle.std.specs.List.{All};
 ghost use Rattle.data_component.specs.Store.{Store};
 ghost use Rattle.scripts.specs.Reading.{script_said};
 ghost use Rattle.scripts.specs.declared.keyword.Command.TheVariants as command;
-ghost use Rattle.coming_back.specs.Coming.{IsEmpty};
+ghost use Rattle.coming_back.specs.Coming.{HasOnlyRows};
 ghost use Rattle.run_command.specs.LogLines.{open_refusal};
 ghost use Rattle.run_command.specs.Running.{IsCallsRun};
 ghost use Rattle.run_command.specs.Logged.{KeepsLog, IsLogFor, IsLoggedRun, IsLogged};
@@ -172,7 +172,7 @@ fn come(
     dropped: usize,
     journal: &mut FileJournal,
 ) -> Result<Coming, Unlogged>
-    requires { All IsEmpty dcs.old }
+    requires { All HasOnlyRows dcs.old }
     ensures { (file : List ℕ) → IsLogFor state.old file log.now.events → KeepsLog (Some journal.old) log.now.events
         → IfOk result (IsComing state.old dcs.old log.now.events state.new dcs.new journal.new) }
 {
@@ -202,7 +202,7 @@ fn go_back(
     dcs: &mut [Dc],
     opened: Opened,
 ) -> Result<GoingBack, Unlogged>
-    requires { All IsEmpty dcs.old }
+    requires { All HasOnlyRows dcs.old }
     ensures { IsOpened state.old opened → IfOk result (IsGoingBack state.old dcs.old opened.log.events state.new dcs.new) }
 {
     let Opened {
@@ -233,7 +233,7 @@ fn begin<F: Files<File = File>>(
     state: &mut TcState,
     dcs: &mut [Dc],
 ) -> Result<GoingBack, Unlogged>
-    requires { All IsEmpty dcs.old }
+    requires { All HasOnlyRows dcs.old }
     ensures { IfOk result (IsBegun state.old dcs.old state.new dcs.new) }
 {
     match open_log(rt, alloc, path, state)? {
@@ -312,7 +312,7 @@ fn run_behind<R: Files<File = File> + Clock + Threads + Wait + Sync>(
     manner: Manner,
     listeners: Listeners,
 ) -> Result<Ran, Unlogged>
-    requires { All IsEmpty loaded.dcs.items }
+    requires { All HasOnlyRows loaded.dcs.items }
     ensures { IfOk result (λ r. IsLoggedRun r.journal loaded.state loaded.dcs.items loaded.first.items loaded.calls.items
         manner.workers manner.tries manner.audit r.report.status (string_bytes r.report.lines)) }
 {
