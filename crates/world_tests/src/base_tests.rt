@@ -8,11 +8,12 @@ use crate::checks::is_same;
 use crate::coming_back_tests::{both_end, put_ends};
 use crate::step_tests::{admit, closed, goes, is_carried, new_dcs, opened, stepped, stops, world};
 use audit::auditing::{AuditFault, audit};
-use coming_back::{Resumed, come_back};
+use coming_back::{ComeBackFault, Resumed, come_back};
 use data_component::dc::Dc;
 use samples::{BAD, MOVE, loaded, log_bytes, record, value};
 use std::alloc::Global;
 use std::process::Abort;
+use tc_core::recovery::RecoverFault;
 use tc_core::state::TcState;
 use tc_log::log::Log;
 use tc_world::{Illegal, Outcome, Step, World};
@@ -82,8 +83,18 @@ fn is_audited(rt: &impl Abort, alloc: Global, state: &TcState, dcs: &[Dc]) {
 
 // The move and the write that is undone, at once.
 fn live(rt: &impl Abort, alloc: Global, world: &mut World) {
-    goes(rt, world, admit(rt, alloc, (MOVE, &[5, 6, 10])), Outcome::Admitted(BEFORE + 1));
-    goes(rt, world, admit(rt, alloc, (BAD, &[7])), Outcome::Admitted(BEFORE + 2));
+    goes(
+        rt,
+        world,
+        admit(rt, alloc, (MOVE, &[5, 6, 10])),
+        Outcome::Admitted(BEFORE + 1),
+    );
+    goes(
+        rt,
+        world,
+        admit(rt, alloc, (BAD, &[7])),
+        Outcome::Admitted(BEFORE + 2),
+    );
     both_end(world, BEFORE + 1, BEFORE + 2);
     is_same(rt, world.state().open_count(), 0);
 }
@@ -131,7 +142,12 @@ fn a_crash_keeps_the_checkpoint(rt: HostRuntime) {
     live(&rt, rt.alloc(), &mut world);
     let events = world.state().log().len();
     stops(&rt, &mut world, Step::Crash(0), Illegal::NotWritten);
-    goes(&rt, &mut world, Step::Crash(events), Outcome::Crashed(events, 0));
+    goes(
+        &rt,
+        &mut world,
+        Step::Crash(events),
+        Outcome::Crashed(events, 0),
+    );
     rows_are(&rt, world.dcs(), true);
     is_audited(&rt, rt.alloc(), world.state(), world.dcs());
     closed(world);
@@ -143,7 +159,11 @@ fn a_crash_in_the_midst_goes_on(rt: HostRuntime) {
     let mut world = begins(&rt, rt.alloc());
     let admits = admit(&rt, rt.alloc(), (MOVE, &[5, 6, 10]));
     goes(&rt, &mut world, admits, Outcome::Admitted(BEFORE + 1));
-    is_same(&rt, stepped(&mut world, Step::Ask(BEFORE + 1)).is_ok(), true);
+    is_same(
+        &rt,
+        stepped(&mut world, Step::Ask(BEFORE + 1)).is_ok(),
+        true,
+    );
     goes(&rt, &mut world, Step::Crash(3), Outcome::Crashed(3, 1));
     is_same(&rt, is_carried(&mut world, 0), true);
     both_end(&mut world, BEFORE + 1, BEFORE + 1);
@@ -171,7 +191,11 @@ fn comes_back(rt: &impl Abort, alloc: Global, bytes: &[u8], events: usize) {
     drop(former);
     let mut state = loaded(alloc, 1).expect(rt, "not loaded");
     let resumed = come_back(alloc, &mut state, dcs.as_mut_slice(), &log);
-    is_same(rt, (events, resumed.is_ok(), state.open_count()), (events, true, 0));
+    is_same(
+        rt,
+        (events, resumed.is_ok(), state.open_count()),
+        (events, true, 0),
+    );
     rows_are(rt, &dcs, events > 1);
     is_audited(rt, alloc, &state, &dcs);
     drop(resumed);
@@ -189,16 +213,39 @@ fn each_beginning_comes_back_to_rows(rt: HostRuntime) {
     drop(bytes);
 }
 
+// Data components without the rows that stand for what came before the log.
+#[test]
+fn lost_rows_are_missed(rt: HostRuntime) {
+    let bytes = written(&rt, rt.alloc());
+    let log = Log::read(rt.alloc(), bytes.as_slice()).expect(&rt, "not read");
+    let mut state = loaded(rt.alloc(), 1).expect(&rt, "not loaded");
+    let mut dcs = new_dcs(&rt, rt.alloc(), 100);
+    let resumed = come_back(rt.alloc(), &mut state, dcs.as_mut_slice(), &log);
+    let missed = ComeBackFault::Recover(RecoverFault::Forgotten(0));
+    is_same(&rt, resumed.as_ref().err(), Some(&missed));
+    is_same(&rt, state.log().is_empty(), true);
+    drop(resumed);
+    drop(state);
+    drop(dcs);
+    drop(log);
+    drop(bytes);
+}
+
 // A log behind a thousand million admissions, of which none is open but one: the others aren't gone through.
 #[test]
 fn admissions_before_the_log_cost_nothing(rt: HostRuntime) {
     let before = 1_000_000_000;
-    let records = [(6, 0, before, 0, 0, [0, 0]), (1, 2, before + 1, 0, 0, [5, 100])];
+    let records = [
+        (6, 0, before, 0, 0, [0, 0]),
+        (1, 2, before + 1, 0, 0, [5, 100]),
+    ];
     let bytes = log_bytes(rt.alloc(), &records).expect(&rt, "no bytes");
     let log = Log::read(rt.alloc(), bytes.as_slice()).expect(&rt, "not read");
     let mut state = loaded(rt.alloc(), 1).expect(&rt, "not loaded");
     let mut dcs = new_dcs(&rt, rt.alloc(), 4);
-    let resumed = come_back(rt.alloc(), &mut state, dcs.as_mut_slice(), &log).expect(&rt, "not back");
+    let resumed = come_back(rt.alloc(), &mut state, dcs.as_mut_slice(), &log).expect(
+        &rt, "not back",
+    );
     let ended = match resumed.as_slice() {
         [Resumed::Ended(receipt)] => receipt.txn,
         _ => 0,
