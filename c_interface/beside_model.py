@@ -5,7 +5,8 @@ usage: beside_model.py [--library PATH] [--procd PATH] [--steps N] [--seed N]
 
 From each seed come random steps of a world, as tools/explore.py draws them: calls that overlap, messages that are lost,
 repeated, late and forged, data components that keep checkpoints and restart, news that come late and again, redo, undos that
-fail. Each step is made by the frames of a transaction component and two data components of the shared library, and what it says is
+fail. Between them data components hear a low-water mark and forget, and the log begins anew, at times that fit and at others.
+Each step is made by the frames of a transaction component and two data components of the shared library, and what it says is
 compared with the model's line; behind the steps the rows and the log's bytes are compared. At the first difference it prints
 the seed and the step, with status 1. The procedures are assembled by procd.
 """
@@ -19,17 +20,75 @@ import sys
 
 HERE = pathlib.Path(__file__).resolve().parent
 sys.path.insert(0, str(HERE.parent / "tools"))
-from explore import FORGED, RESTARTED, WORDS, some_step  # noqa: E402
-from plain_model import PROCEDURES, TEXTS, Reply, Wire, World, op_text, record_text, said_text, value_text  # noqa: E402
+from explore import FORGED, RESTARTED, WORDS, next_step, some_step  # noqa: E402
+from plain_model import PROCEDURES, TEXTS, Reply, Wire, World, op_text, record_bytes, record_text, said_text, value_text  # noqa: E402
 
 START_TC, START_DC, BYTES, SLOT, CLEAR, LOAD = 1, 2, 10, 11, 12, 13
 ADMIT, ASK, UNDO, WIRE, ANSWER, END, LOG_LENGTH, LOG_BYTES, TOLD, REDO_NEXT, REDONE = 20, 22, 23, 24, 25, 27, 29, 30, 32, 33, 34
-PERFORM, RESTART, ROWS, ROW, CHECKPOINT = 40, 41, 43, 44, 46
+LOG_ANEW, LOW_WATER = 35, 36
+PERFORM, RESTART, ROWS, ROW, CHECKPOINT, HEAR_MARK, FORGET = 40, 41, 43, 44, 46, 48, 49
 ILLEGAL = {"I2": "NoTxn", "I5": "NotOver", "I6": "NothingOpen", "I9": "Stranger", "I10": "NoDc", "I12": "IncarnationsSpent"}
-ILLEGAL |= {"I15": "OldNews", "I16": "NotDown"}
+ILLEGAL |= {"I15": "OldNews", "I16": "NotDown", "Q3": "Forgotten"}
 OPERATIONS = {1: "read", 2: "insert", 3: "update", 4: "delete"}
 ANSWERS = {1: "value", 2: "absent", 3: "done", 4: "done", 5: "duplicate", 6: "missing", 7: "noroom", 8: "old"}
 EACH = 2000  # steps of a seed
+
+
+class AnewWorld(World):
+    """The model with a log that begins anew, and data components that forget what they performed."""
+
+    def begin(self):
+        super().begin()
+        self.begun = 0
+
+    def hear(self, d, incarnation, mark):
+        dc = self.dcs[d]
+        if dc.incarnation == incarnation:
+            dc.mark = max(dc.mark, mark)
+        return f"heard {d}"
+
+    def forget(self, d):
+        dc = self.dcs[d]
+        rows, saved, mark = dc.saved
+        may = len(saved) == len(dc.list) and len(dc.rows) <= dc.rows_most and all(n <= mark for n in dc.list)
+        if may:
+            dc.list, dc.saved = {}, (rows, {}, mark)
+        return f"forgot {int(may)}"
+
+    def anew(self, kept):
+        """The log is one event, of how many were admitted and given out, or it stays as it is."""
+        if not self.log:
+            return "G1"
+        if self.txns:
+            return "G2"
+        if any(site.is_down() for site in self.sites):
+            return "G4"
+        if kept < self.last:
+            return "G5"
+        self.done, self.events, self.begun = {}, [], self.last
+        self.log = [record_bytes(6, 0, txn=self.serials, word=self.last)]
+        return f"anew behind {self.low()}"
+
+    def tell(self, i):
+        if i < len(self.news):
+            d, incarnation, mark = self.news[i]
+            if incarnation > self.sites[d].incarnation and mark < self.begun:
+                return "illegal Q3 Forgotten"
+        return super().tell(i)
+
+
+def anew_steps(draw, world):
+    """What a caller does before its log begins anew, at whatever time, and some of it left out; at last by the least mark that
+    was kept, or by one that wasn't.
+    """
+    mark = world.low() + draw.choice([0, 0, 0, 0, -1, 1])
+    for d, site in enumerate(world.sites):
+        yield "hear", d, site.incarnation if draw.random() < 0.9 else site.incarnation + 1, max(mark, 0)
+        if draw.random() < 0.9:
+            yield "checkpoint", d
+        if draw.random() < 0.9:
+            yield "forget", d
+    yield "anew", min(dc.saved[2] for dc in world.dcs) if draw.random() < 0.85 else max(mark, 0)
 
 
 class Frame(ctypes.Structure):
@@ -218,6 +277,16 @@ class Frames:
         dc = self.dcs[d]
         return dc(CHECKPOINT) or f"checkpoint {d} mark {dc.frame.low_water}"
 
+    def hear(self, d, incarnation, mark):
+        return self.dcs[d](HEAR_MARK, incarnation=incarnation, low_water=mark) or f"heard {d}"
+
+    def forget(self, d):
+        return self.dcs[d](FORGET) or f"forgot {self.dcs[d].frame.word}"
+
+    def anew(self, kept):
+        code = self.tc(LOG_ANEW, low_water=kept)
+        return code or self.tc(LOW_WATER) or f"anew behind {self.tc.frame.low_water}"
+
     def restart(self, d):
         if d >= len(self.dcs):
             return illegal("I10")
@@ -282,11 +351,16 @@ def difference(library, procedures, seed, count, made):
     dcs = [(draw.choice([1, 2, 3, 20]), draw.choice([50] + 7 * [5000])) for _ in range(2)]
     weights = {**WORDS, "forge": draw.choice(FORGED), "restart": draw.choice(RESTARTED)}
     weights["crash"] = 0  # no frame makes a transaction component come back from a log
-    world, frames = World(dcs, list(PROCEDURES)), Frames(library, dcs, procedures)
+    world, frames = AnewWorld(dcs, list(PROCEDURES)), Frames(library, dcs, procedures)
+    rests, anew = draw.random() < 0.5, iter(())
     for at in range(count):
-        step = some_step(draw, world, weights)
+        if draw.random() < (0.02 if world.txns else 0.2):
+            anew = anew_steps(draw, world)
+        step = next(anew, None) or some_step(draw, world, weights)
+        if rests and at % 100 >= 30 and step[0] == "admit":  # (so that at times nothing is open)
+            step = next_step(draw, world, weights) or step
         wanted, said = world.step(*step), frames.step(*step)
-        made[step[0], said.split()[0]] += 1
+        made[step[0], said if step[0] == "forget" else said.split()[0]] += 1
         if wanted != said:
             return f"step {at} {step}: the frames say `{said}`, the model `{wanted}`"
     wanted, said = world.rows() + world.log, [*frames.rows(), *frames.log()]
@@ -310,7 +384,8 @@ def main():
         if why:
             print(f"seed {seed}: {why}")
             return 1
-    print(f"beside the model: {sum(made.values())} steps, no difference")
+    anew, forgot = made["anew", "anew"], made["forget", "forgot 1"]
+    print(f"beside the model: {sum(made.values())} steps, {anew} logs begun anew, {forgot} lists forgotten, no difference")
     return 0
 
 

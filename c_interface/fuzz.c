@@ -13,16 +13,16 @@ static uint64_t drawn(uint64_t below) {
     return (x >> 11) % below;
 }
 
-static mz_frame *begun(void) {
+static mz_head *begun(void) {
     mz_code c;
     char refused[MZ_NAME + 1];
     if (drawn(4)) {
         mz_tc *tc = mz_tc_new(2, &c);
         if (!tc || mz_load_object_file(tc, "build/bank.o", refused, NULL) != MZ_OK) exit(2);
-        return (mz_frame *)tc;
+        return (mz_head *)(void *)tc;
     }
-    if (drawn(2)) return (mz_frame *)mz_dc_new(50, 200, &c);
-    return (mz_frame *)mz_program_new(&c);
+    if (drawn(2)) return (mz_head *)(void *)mz_dc_new(50, 200, &c);
+    return (mz_head *)(void *)mz_program_new(&c);
 }
 
 static void hand_in(mz_frame *f) {
@@ -40,8 +40,9 @@ static void hand_in(mz_frame *f) {
 
 /* The next frame, which is often like the last. */
 static void changed(mz_frame *f) {
-    static const uint32_t whats[] = {20, 20, 20, 22, 22, 22, 23, 23, 24, 25, 25, 25, 25, 26, 27, 27, 28, 29, 30, 31, 32, 33, 33, 34, 34,
-                                     40, 40, 40, 41, 42, 43, 44, 45, 46, 47, 10, 11, 12, 13, 14, 21, 50, 51, 52, 52, 0, 1, 99};
+    static const uint32_t whats[] = {20, 20, 20, 22, 22, 22, 23, 23, 24, 25, 25, 25, 25, 26, 27, 27, 28, 29,
+                                     30, 31, 32, 33, 33, 34, 34, 35, 36, 40, 40, 40, 41, 42, 43, 44, 45, 46,
+                                     47, 48, 49, 10, 11, 12, 13, 14, 21, 50, 51, 52, 52, 0,  1,  99};
     if (drawn(2)) f->txn = 1 + drawn(6);
     if (drawn(3) == 0) f->kind = (uint32_t)drawn(9);
     if (drawn(3) == 0) f->op = (uint32_t)drawn(6);
@@ -94,18 +95,19 @@ static int broken_object(void) {
 int main(int argc, char **argv) {
     long calls = argc > 1 ? atol(argv[1]) : 100000, done = 0, loaded = 0;
     x = (argc > 2 ? strtoull(argv[2], NULL, 10) : 1) * 2654435761u | 1;
-    mz_frame *f = NULL;
+    mz_head *head = NULL;
     for (long i = 0; i < calls; i++) {
         if (i % 500 == 0) {
-            mz_free(f);
-            f = begun();
-            if (!f) return 2;
+            if (head) mz_free(head, head->kind);
+            head = begun();
+            if (!head) return 2;
         }
+        mz_frame *f = (mz_frame *)(void *)(head + 1);
         if (i % 50 == 0) loaded += broken_object();
         changed(f);
         done += mazzulpe_call(f) == MZ_OK;
     }
-    mz_free(f);
+    if (head) mz_free(head, head->kind);
     printf("%ld calls by random frames, %ld done; %ld broken objects, %ld loaded\n", calls, done, calls / 50, loaded);
     return 0;
 }

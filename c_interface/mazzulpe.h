@@ -20,20 +20,31 @@
  *     mz_told -> mz_redo_next -> carry the wire, mz_redone, mz_redo_next again
  *             -> *up: all is redone, and open requests are sent again
  *
+ * YOUR STORAGE HAS TO KEEP THE MARK THAT IT WAS TOLD BEFORE mz_checkpoint (mz_low_water) WITH ITS OWN
+ * CHECKPOINT, FOR GOOD: the log behind it is gone. News of a lower mark are MZ_FORGOTTEN at every later
+ * restart.
+ *
+ * MZ_FORGOTTEN IS THE LOSS OF THAT STORAGE: what it lost can't be redone. The component stays known in its
+ * old incarnation, replies of the new one are refused, and no call gets on there. Only a copy of the storage
+ * whose mark isn't lower brings it back.
+ *
  * ERRORS. A call answers MZ_OK (0), or why it did nothing: a letter and a number in one word, as
  * MZ_CODE('B', 1) is "B1", a lock in the way. The handle is then as it was before; what was to be written
  * through a pointer is written only where a function says so. Where a code isn't listed at a function,
- * it doesn't come from it. MZ_BAD_ARGUMENT is a number, a count or a kind out of its range, and MZ_MEMORY
- * want of memory; they may come from any function that takes such or takes memory. mz_code_text says a
- * code in a word.
+ * it doesn't come from it, but for three that may come from any: MZ_BAD_ARGUMENT is a number, a count or a
+ * kind out of its range, or NULL where a function doesn't say that a pointer may be NULL; MZ_NO_SUCH_CALL a
+ * handle of another kind, or one that is closed, as long as its memory isn't used again; MZ_MEMORY want of
+ * memory, of a function that takes some. A function that answers a number answers 0 to such a handle.
+ * mz_code_text says a code in a word.
  *
  * THREADS. A handle has no lock: make one call on it at a time, and order calls of different threads by a
  * lock of yours. Different handles have nothing in common. No call blocks, so a lock round a call is held
- * for microseconds; carry a wire to your storage without the lock.
+ * for microseconds; carry a wire to your storage without the lock. With MZ_DEBUG defined before this header
+ * is included, a call that finds another on its way on the same handle says so on standard error and aborts.
  *
- * MEMORY. A handle takes mazzulpe_size() bytes, and its tables more as they grow, all by the three
- * functions of heap.c. The log grows by some 120 bytes an event, until mz_checkpoint. Once mz_admit has answered
- * MZ_OK, no call on that transaction takes memory, but for mz_log_bytes and mz_log_at.
+ * MEMORY. A handle takes mazzulpe_size() bytes by malloc, and its tables more as they grow, by the three
+ * functions of heap.c. The log grows by some 120 bytes an event, until mz_checkpoint. Once mz_admit has
+ * answered MZ_OK, no call on that transaction takes memory, but for mz_log_bytes and mz_log_at.
  *
  * RANGES. Data components are 0 to 65534, tables 0 to 65535, keys, numbers and arguments 64 bits, values
  * 64 bytes; names UTF-8 of at most 256 bytes; code at most 4096 slots of 8 bytes; a procedure takes at
@@ -44,10 +55,17 @@
 #ifndef MAZZULPE_H
 #define MAZZULPE_H
 
+#if !defined(__cplusplus) && (!defined(__STDC_VERSION__) || __STDC_VERSION__ < 199901L)
+#error "mazzulpe.h is written in C99: compile with -std=c99 or later"
+#endif
+
 #include <stddef.h>
 #include <stdint.h>
 #include <stdlib.h>
 #include <string.h>
+#ifdef MZ_DEBUG
+#include <stdio.h>
+#endif
 
 #ifdef __cplusplus
 extern "C" {
@@ -60,13 +78,14 @@ extern "C" {
 typedef uint32_t mz_code;
 #define MZ_CODE(letter, number) ((mz_code)((letter) << 8 | (number)))
 #define MZ_OK 0
-#define MZ_NO_SUCH_CALL MZ_CODE('W', 1)       /* the handle is of another kind */
-#define MZ_BAD_ARGUMENT MZ_CODE('W', 2)       /* a count, a kind or a number out of its range */
+#define MZ_NO_SUCH_CALL MZ_CODE('W', 1)       /* the handle is of another kind, or closed */
+#define MZ_BAD_ARGUMENT MZ_CODE('W', 2)       /* a count, a kind or a number out of its range, or NULL */
 #define MZ_NOT_TEXT MZ_CODE('W', 3)           /* a name isn't UTF-8 */
 #define MZ_BAD_OBJECT MZ_CODE('W', 4)         /* mz_load_object: the file isn't whole, or isn't such a file */
 #define MZ_MEMORY MZ_CODE('W', 5)
 #define MZ_NO_PLACE MZ_CODE('W', 6)           /* nothing has this place */
 #define MZ_SILENT MZ_CODE('W', 7)             /* mz_dc_perform: there is no reply to this wire */
+#define MZ_OTHER_LIBRARY MZ_CODE('W', 8)      /* the library isn't the one that this header is for */
 #define MZ_BUSY MZ_CODE('B', 1)               /* a lock of another transaction stands in the way */
 #define MZ_NUMBERS_SPENT MZ_CODE('B', 2)      /* too few of the 2^62 numbers are left */
 #define MZ_NO_PROCEDURE MZ_CODE('B', 4)       /* there is no such procedure */
@@ -154,8 +173,15 @@ typedef enum { MZ_COMMITTED = 1, MZ_ABORTED, MZ_ENDED_NO_ROOM } mz_outcome;
 /* How a transaction ended, with the value of an abort, and the place of its end in the log, from 0. */
 typedef struct { mz_outcome outcome; uint64_t value; uint64_t place; } mz_receipt;
 
-/* Handles. Each begins with this frame, through which the functions below make their calls. Leave it
- * alone: it is here so that they can be inlined. */
+/* Handles. What they are is the library's: there are pointers to them alone. */
+typedef struct mz_tc mz_tc;
+typedef struct mz_dc mz_dc;
+typedef struct mz_program mz_program;
+
+/* ---- inside: the library, and how the functions below reach it. Leave it alone: it is here so that they
+ * can be inlined. */
+
+/* What a call is made through: the caller fills it, the library reads it, and answers in it. */
 typedef struct {
     uint32_t what, kind, op, count;
     uint16_t dc, table;
@@ -166,12 +192,9 @@ typedef struct {
     uint8_t bytes[256];
 } mz_frame;
 
-typedef struct mz_tc { mz_frame frame; } mz_tc;
-typedef struct mz_dc { mz_frame frame; } mz_dc;
-typedef struct mz_program { mz_frame frame; } mz_program;
-
-/* The five functions of libmazzulpe.a. */
+/* The six functions of libmazzulpe.a. */
 size_t mazzulpe_size(void);
+size_t mazzulpe_frame_size(void);
 void mazzulpe_open(mz_frame *room);    /* room for mazzulpe_size() bytes, aligned to 16 */
 uint32_t mazzulpe_call(mz_frame *handle);
 void mazzulpe_close(mz_frame *handle); /* its memory is room again */
@@ -188,37 +211,93 @@ enum {
     MZ_CALL_VERIFY = 50, MZ_CALL_RUN, MZ_CALL_RESUME
 };
 
-/* ---- inside: from C to the frame and back */
+/* What a handle points to; behind it comes the library's part, which begins with the frame. */
+typedef struct {
+    uint64_t spare[4];   /* here an allocator writes once the handle is closed */
+    uint32_t kind;       /* MZ_KIND_.. */
+    uint32_t busy;       /* with MZ_DEBUG: 1 while a call is on its way */
+    uint64_t object;     /* of a transaction component: the digest of the object file that MZ_MEMORY cut off */
+    uint64_t of_object;  /* and how many of its procedures are loaded */
+    uint64_t spare_too;  /* so that what comes behind is aligned to 16 */
+} mz_head;
+
+enum { MZ_KIND_TC = 0x4d5a5443, MZ_KIND_DC = 0x4d5a4443, MZ_KIND_PROGRAM = 0x4d5a5052, MZ_KIND_CLOSED = 0x4d5a0000 };
 
 static inline mz_code mz_make(mz_frame *f, uint32_t what) {
     f->what = what;
     return mazzulpe_call(f);
 }
 
-static inline mz_frame *mz_new(uint32_t what, uint64_t word, uint64_t place, mz_code *code) {
-    size_t size = (mazzulpe_size() + 15) / 16 * 16;
-    mz_frame *f = (mz_frame *)aligned_alloc(16, size);
-    if (!f) {
-        *code = MZ_MEMORY;
-        return NULL;
+static inline mz_head *mz_head_of(mz_frame *f) { return (mz_head *)(void *)f - 1; }
+
+/* The frame of an open handle of this kind, in *f. given: whether each pointer that has to be there is. */
+static inline mz_code mz_enter(void *handle, uint32_t kind, int given, mz_frame **f) {
+    mz_head *head = (mz_head *)handle;
+    if (!head || !given) return MZ_BAD_ARGUMENT;
+    if (*(volatile uint32_t *)&head->kind != kind) return MZ_NO_SUCH_CALL;
+#ifdef MZ_DEBUG
+    if (__atomic_exchange_n(&head->busy, 1u, __ATOMIC_SEQ_CST)) {
+        fputs("mazzulpe: two calls at once on one handle; order them by a lock\n", stderr);
+        abort();
     }
+#endif
+    *f = (mz_frame *)(void *)(head + 1);
+    return MZ_OK;
+}
+
+/* The end of what mz_enter began. */
+static inline mz_code mz_leave(mz_frame *f, mz_code code) {
+#ifdef MZ_DEBUG
+    __atomic_store_n(&mz_head_of(f)->busy, 0u, __ATOMIC_SEQ_CST);
+#else
+    (void)f;
+#endif
+    return code;
+}
+
+static inline void *mz_new(uint32_t kind, uint32_t what, uint64_t word, uint64_t place, mz_code *code) {
+    if (!code) return NULL;
+    *code = MZ_OTHER_LIBRARY;
+    if (mazzulpe_version() != MZ_VERSION || mazzulpe_frame_size() != sizeof(mz_frame)) return NULL;
+    mz_head *head = (mz_head *)malloc(sizeof *head + mazzulpe_size());
+    *code = MZ_MEMORY;
+    if (!head) return NULL;
+    memset(head, 0, sizeof *head);
+    head->kind = kind;
+    mz_frame *f = (mz_frame *)(void *)(head + 1);
     mazzulpe_open(f);
     f->word = word;
     f->place = place;
     *code = mz_make(f, what);
-    if (*code != MZ_OK) {
-        mazzulpe_close(f);
-        free(f);
-        return NULL;
-    }
-    return f;
+    if (*code == MZ_OK) return head;
+    mazzulpe_close(f);
+    free(head);
+    return NULL;
 }
 
-static inline void mz_free(mz_frame *f) {
-    if (f) {
-        mazzulpe_close(f);
-        free(f);
-    }
+/* Closes an open handle of this kind; anything else is left alone. */
+static inline void mz_free(void *handle, uint32_t kind) {
+    mz_frame *f;
+    if (mz_enter(handle, kind, 1, &f) != MZ_OK) return;
+    mazzulpe_close(f);
+    *(volatile uint32_t *)&mz_head_of(f)->kind = MZ_KIND_CLOSED;
+    free(handle);
+}
+
+/* A call without arguments. */
+static inline mz_code mz_plain(void *handle, uint32_t kind, uint32_t what) {
+    mz_frame *f;
+    mz_code c = mz_enter(handle, kind, 1, &f);
+    return c == MZ_OK ? mz_leave(f, mz_make(f, what)) : c;
+}
+
+/* One that answers a number. */
+static inline uint64_t mz_counted(void *handle, uint32_t kind, uint32_t what) {
+    mz_frame *f;
+    if (mz_enter(handle, kind, 1, &f) != MZ_OK) return 0;
+    uint64_t count = mz_make(f, what) == MZ_OK ? f->word : 0;
+    mz_leave(f, MZ_OK);
+    return count;
 }
 
 static inline void mz_put_record(mz_frame *f, const mz_record *r) {
@@ -276,9 +355,9 @@ static inline mz_code mz_put_text(mz_frame *f, const char *text) {
 }
 
 static inline mz_code mz_put_args(mz_frame *f, const uint64_t *args, size_t count) {
-    if (count > MZ_ARGS) return MZ_BAD_ARGUMENT;
+    if (count > MZ_ARGS || (count && !args)) return MZ_BAD_ARGUMENT;
     f->count = (uint32_t)count;
-    if (count) memcpy(f->args, args, count * sizeof *args);
+    for (size_t i = 0; i < count; i++) f->args[i] = args[i];
     return MZ_OK;
 }
 
@@ -289,6 +368,7 @@ static inline mz_code mz_put_call(mz_frame *f, uint64_t procedure, const uint64_
 
 static inline mz_code mz_hand_in(mz_frame *f, const void *code, size_t bytes, const mz_slot *slots, size_t count) {
     if (bytes > MZ_CODE_BYTES + 8 || count > MZ_SLOTS + 1) return MZ_BAD_ARGUMENT;
+    if ((bytes && !code) || (count && !slots)) return MZ_BAD_ARGUMENT;
     mz_code c = mz_make(f, MZ_CALL_CLEAR);
     const uint8_t *at = (const uint8_t *)code;
     for (; c == MZ_OK && bytes; at += f->count, bytes -= f->count) {
@@ -307,25 +387,30 @@ static inline mz_code mz_hand_in(mz_frame *f, const void *code, size_t bytes, co
     return c;
 }
 
-static inline mz_code mz_asked_by(mz_frame *f, uint32_t what, uint64_t txn, mz_asked *asked) {
-    f->txn = txn;
-    mz_code c = mz_make(f, what);
+static inline mz_code mz_asked_by(mz_tc *tc, uint32_t what, uint64_t txn, mz_asked *asked) {
+    mz_frame *f;
+    mz_code c = mz_enter(tc, MZ_KIND_TC, asked != NULL, &f);
     if (c != MZ_OK) return c;
+    f->txn = txn;
+    c = mz_make(f, what);
+    if (c != MZ_OK) return mz_leave(f, c);
     asked->next = (mz_next)f->kind;
     if (asked->next == MZ_REQUEST || asked->next == MZ_DOWN) mz_get_wire(f, &asked->wire);
     else asked->wire.number = f->number;
-    return c;
+    return mz_leave(f, c);
 }
 
 /* ---- the transaction component: its procedures */
 
-/* A transaction component for data components numbered 0 to dcs - 1. NULL, and why in *code: MZ_MEMORY. */
+/* A transaction component for data components numbered 0 to dcs - 1. NULL, and why in *code: MZ_MEMORY;
+ * MZ_OTHER_LIBRARY where this header and the library aren't of one version. NULL also where code is NULL. */
 static inline mz_tc *mz_tc_new(uint16_t dcs, mz_code *code) {
-    return (mz_tc *)mz_new(MZ_CALL_START_TC, dcs, 0, code);
+    return (mz_tc *)mz_new(MZ_KIND_TC, MZ_CALL_START_TC, dcs, 0, code);
 }
 
-/* Gives it back. Open transactions are left as they stand at their data components. NULL is nothing. */
-static inline void mz_tc_free(mz_tc *tc) { mz_free((mz_frame *)tc); }
+/* Gives it back. Open transactions are left as they stand at their data components. NULL is nothing, and so
+ * is what is closed or of another kind. */
+static inline void mz_tc_free(mz_tc *tc) { mz_free(tc, MZ_KIND_TC); }
 
 /* Verifies and loads a procedure under a name that no other has: BPF code (RFC 9669, little-endian, 8
  * bytes a slot, at most 4096), its access slots (at most 16), and how many arguments it takes (at most
@@ -337,25 +422,29 @@ static inline void mz_tc_free(mz_tc *tc) { mz_free((mz_frame *)tc); }
  * slot ('S', MZ_DC_UNKNOWN) that is refused, from 0, and else nothing; it may be NULL. */
 static inline mz_code mz_load(mz_tc *tc, const char *name, const void *code, size_t bytes, const mz_slot *slots,
                               size_t slot_count, unsigned args, uint64_t *number, uint64_t *place) {
-    mz_frame *f = &tc->frame;
-    mz_code c = mz_hand_in(f, code, bytes, slots, slot_count);
-    if (c == MZ_OK) c = mz_put_text(f, name);
+    mz_frame *f;
+    mz_code c = mz_enter(tc, MZ_KIND_TC, name && number, &f);
     if (c != MZ_OK) return c;
+    c = mz_hand_in(f, code, bytes, slots, slot_count);
+    if (c == MZ_OK) c = mz_put_text(f, name);
+    if (c != MZ_OK) return mz_leave(f, c);
     f->word = args;
     f->place = 0;
     c = mz_make(f, MZ_CALL_LOAD);
     if (c == MZ_OK) *number = f->word;
     else if (place) *place = f->place;
-    return c;
+    return mz_leave(f, c);
 }
 
 /* The number of the procedure with this name, or MZ_NO_PROCEDURE. */
 static inline mz_code mz_find(mz_tc *tc, const char *name, uint64_t *number) {
-    mz_frame *f = &tc->frame;
-    mz_code c = mz_put_text(f, name);
+    mz_frame *f;
+    mz_code c = mz_enter(tc, MZ_KIND_TC, name && number, &f);
+    if (c != MZ_OK) return c;
+    c = mz_put_text(f, name);
     if (c == MZ_OK) c = mz_make(f, MZ_CALL_FIND);
     if (c == MZ_OK) *number = f->word;
-    return c;
+    return mz_leave(f, c);
 }
 
 /* ---- its transactions */
@@ -366,86 +455,97 @@ static inline mz_code mz_find(mz_tc *tc, const char *name, uint64_t *number) {
  * Also MZ_NO_PROCEDURE, MZ_ARGUMENT_COUNT, MZ_NUMBERS_SPENT. */
 static inline mz_code mz_admit(mz_tc *tc, uint64_t procedure, const uint64_t *args, size_t count, uint64_t *txn,
                                mz_record *record, uint64_t *holder) {
-    mz_frame *f = &tc->frame;
-    mz_code c = mz_put_call(f, procedure, args, count);
+    mz_frame *f;
+    mz_code c = mz_enter(tc, MZ_KIND_TC, txn != NULL, &f);
+    if (c != MZ_OK) return c;
+    c = mz_put_call(f, procedure, args, count);
     if (c == MZ_OK) c = mz_make(f, MZ_CALL_ADMIT);
     if (c == MZ_OK) *txn = f->txn;
     if (c == MZ_BUSY) {
         if (record) mz_get_record(f, record);
         if (holder) *holder = f->txn;
     }
-    return c;
+    return mz_leave(f, c);
 }
 
 /* *blocked: whether others stand in the way of this call and each of them is in doubt or stuck, so that
  * waiting for an end is in vain. 0 for a procedure that isn't there, or takes other arguments. */
 static inline mz_code mz_blocked(mz_tc *tc, uint64_t procedure, const uint64_t *args, size_t count, int *blocked) {
-    mz_frame *f = &tc->frame;
-    mz_code c = mz_put_call(f, procedure, args, count);
+    mz_frame *f;
+    mz_code c = mz_enter(tc, MZ_KIND_TC, blocked != NULL, &f);
+    if (c != MZ_OK) return c;
+    c = mz_put_call(f, procedure, args, count);
     if (c == MZ_OK) c = mz_make(f, MZ_CALL_BLOCKED);
     if (c == MZ_OK) *blocked = f->word != 0;
-    return c;
+    return mz_leave(f, c);
 }
 
 /* Runs the transaction to its next operation or its end. A request is logged and numbered here, and open
  * until it is answered. MZ_NO_TXN. */
 static inline mz_code mz_ask(mz_tc *tc, uint64_t txn, mz_asked *asked) {
-    return mz_asked_by(&tc->frame, MZ_CALL_ASK, txn, asked);
+    return mz_asked_by(tc, MZ_CALL_ASK, txn, asked);
 }
 
 /* What undoes the last write that stands, of a transaction that is to be undone; else MZ_RUNNING or
  * MZ_OVER. It is asked again where the undo wasn't done, four times at most. MZ_NO_TXN. */
 static inline mz_code mz_undo(mz_tc *tc, uint64_t txn, mz_asked *asked) {
-    return mz_asked_by(&tc->frame, MZ_CALL_UNDO, txn, asked);
+    return mz_asked_by(tc, MZ_CALL_UNDO, txn, asked);
 }
 
 /* The open request's wire, to be carried again: the same number, the low-water mark and the incarnation
  * of now. MZ_NOTHING_OPEN; MZ_DC_DOWN while its data component is down. */
 static inline mz_code mz_resend(mz_tc *tc, uint64_t txn, mz_wire *wire) {
-    mz_frame *f = &tc->frame;
+    mz_frame *f;
+    mz_code c = mz_enter(tc, MZ_KIND_TC, wire != NULL, &f);
+    if (c != MZ_OK) return c;
     f->txn = txn;
-    mz_code c = mz_make(f, MZ_CALL_WIRE);
+    c = mz_make(f, MZ_CALL_WIRE);
     if (c == MZ_OK) mz_get_wire(f, wire);
-    return c;
+    return mz_leave(f, c);
 }
 
 /* Takes a reply in. MZ_STRANGER: it has another number, is of another incarnation than the known one,
  * its data component is down, or it can't be an answer to the operation; the transaction waits on.
  * MZ_NOTHING_OPEN. */
 static inline mz_code mz_answer(mz_tc *tc, uint64_t txn, const mz_reply *reply) {
-    mz_frame *f = &tc->frame;
+    mz_frame *f;
+    mz_code c = mz_enter(tc, MZ_KIND_TC, reply != NULL, &f);
+    if (c != MZ_OK) return c;
     f->txn = txn;
     mz_put_reply(f, reply);
-    return mz_make(f, MZ_CALL_ANSWER);
+    return mz_leave(f, mz_make(f, MZ_CALL_ANSWER));
 }
 
 /* Gives the open request up, and says its number (which may be NULL): nobody answers it any more. Its
  * transaction is in doubt, and keeps its locks for good. MZ_NOTHING_OPEN. */
 static inline mz_code mz_give_up(mz_tc *tc, uint64_t txn, uint64_t *number) {
-    mz_frame *f = &tc->frame;
+    mz_frame *f;
+    mz_code c = mz_enter(tc, MZ_KIND_TC, 1, &f);
+    if (c != MZ_OK) return c;
     f->txn = txn;
-    mz_code c = mz_make(f, MZ_CALL_GIVE_UP);
+    c = mz_make(f, MZ_CALL_GIVE_UP);
     if (c == MZ_OK && number) *number = f->number;
-    return c;
+    return mz_leave(f, c);
 }
 
 /* Ends a transaction that is over, and frees its locks. MZ_NO_TXN, MZ_NOT_OVER. */
 static inline mz_code mz_end(mz_tc *tc, uint64_t txn, mz_receipt *receipt) {
-    mz_frame *f = &tc->frame;
+    mz_frame *f;
+    mz_code c = mz_enter(tc, MZ_KIND_TC, receipt != NULL, &f);
+    if (c != MZ_OK) return c;
     f->txn = txn;
-    mz_code c = mz_make(f, MZ_CALL_END);
+    c = mz_make(f, MZ_CALL_END);
     if (c == MZ_OK) {
         receipt->outcome = (mz_outcome)f->kind;
         receipt->value = f->word;
         receipt->place = f->place;
     }
-    return c;
+    return mz_leave(f, c);
 }
 
 /* How many transactions are open. */
 static inline uint64_t mz_open_count(mz_tc *tc) {
-    mz_make(&tc->frame, MZ_CALL_OPEN_COUNT);
-    return tc->frame.word;
+    return mz_counted(tc, MZ_KIND_TC, MZ_CALL_OPEN_COUNT);
 }
 
 /* ---- a log that begins anew, so that it doesn't grow for ever */
@@ -453,8 +553,11 @@ static inline uint64_t mz_open_count(mz_tc *tc) {
 /* The low-water mark: each number up to it is answered. Tell it to your storage before its checkpoint: then
  * it needn't know numbers up to it any more. */
 static inline uint64_t mz_low_water(mz_tc *tc) {
-    mz_make(&tc->frame, MZ_CALL_LOW_WATER);
-    return tc->frame.low_water;
+    mz_frame *f;
+    if (mz_enter(tc, MZ_KIND_TC, 1, &f) != MZ_OK) return 0;
+    uint64_t mark = mz_make(f, MZ_CALL_LOW_WATER) == MZ_OK ? f->low_water : 0;
+    mz_leave(f, MZ_OK);
+    return mark;
 }
 
 /* The log begins anew, as one event, and its memory is for further ones; places count from 0 again, numbers
@@ -462,60 +565,70 @@ static inline uint64_t mz_low_water(mz_tc *tc) {
  * admitting first, and end what is open: MZ_TXNS_OPEN. MZ_BEHIND where kept is below mz_low_water,
  * MZ_ONE_DOWN, MZ_NOTHING_YET, MZ_ADMISSIONS_SPENT. */
 static inline mz_code mz_checkpoint(mz_tc *tc, uint64_t kept) {
-    tc->frame.low_water = kept;
-    return mz_make(&tc->frame, MZ_CALL_LOG_ANEW);
+    mz_frame *f;
+    mz_code c = mz_enter(tc, MZ_KIND_TC, 1, &f);
+    if (c != MZ_OK) return c;
+    f->low_water = kept;
+    return mz_leave(f, mz_make(f, MZ_CALL_LOG_ANEW));
 }
 
 /* ---- data components that restart */
 
 /* What is known of a data component: its incarnation, and whether it is down; either may be NULL. MZ_NO_DC. */
 static inline mz_code mz_site(mz_tc *tc, uint16_t dc, uint64_t *incarnation, int *down) {
-    mz_frame *f = &tc->frame;
+    mz_frame *f;
+    mz_code c = mz_enter(tc, MZ_KIND_TC, 1, &f);
+    if (c != MZ_OK) return c;
     f->dc = dc;
-    mz_code c = mz_make(f, MZ_CALL_SITE);
+    c = mz_make(f, MZ_CALL_SITE);
     if (c == MZ_OK && incarnation) *incarnation = f->incarnation;
     if (c == MZ_OK && down) *down = f->kind == 2;
-    return c;
+    return mz_leave(f, c);
 }
 
 /* A data component has restarted: it is down from now on, also where it was down already, and what was
  * done there above the mark is to be redone. MZ_OLD_NEWS, MZ_FORGOTTEN, MZ_NO_DC. */
 static inline mz_code mz_told(mz_tc *tc, uint16_t dc, const mz_news *news) {
-    mz_frame *f = &tc->frame;
+    mz_frame *f;
+    mz_code c = mz_enter(tc, MZ_KIND_TC, news != NULL, &f);
+    if (c != MZ_OK) return c;
     f->dc = dc;
     f->incarnation = news->incarnation;
     f->low_water = news->mark;
-    return mz_make(f, MZ_CALL_TOLD);
+    return mz_leave(f, mz_make(f, MZ_CALL_TOLD));
 }
 
 /* The operation under redo at a data component that is down, the same until mz_redone takes its reply;
  * numbers rise. Where none is left, *up is 1: the data component is up, and open requests are to be sent
  * again. MZ_NOT_DOWN, MZ_NO_DC. */
 static inline mz_code mz_redo_next(mz_tc *tc, uint16_t dc, mz_wire *wire, int *up) {
-    mz_frame *f = &tc->frame;
-    f->dc = dc;
-    mz_code c = mz_make(f, MZ_CALL_REDO_NEXT);
+    mz_frame *f;
+    mz_code c = mz_enter(tc, MZ_KIND_TC, wire && up, &f);
     if (c != MZ_OK) return c;
+    f->dc = dc;
+    c = mz_make(f, MZ_CALL_REDO_NEXT);
+    if (c != MZ_OK) return mz_leave(f, c);
     *up = f->kind == 2;
     if (!*up) mz_get_wire(f, wire);
-    return c;
+    return mz_leave(f, c);
 }
 
 /* Takes the reply to the operation under redo, which has to say what was said to it before. MZ_STRANGER:
  * it doesn't, or is another's. */
 static inline mz_code mz_redone(mz_tc *tc, uint16_t dc, const mz_reply *reply) {
-    mz_frame *f = &tc->frame;
+    mz_frame *f;
+    mz_code c = mz_enter(tc, MZ_KIND_TC, reply != NULL, &f);
+    if (c != MZ_OK) return c;
     f->dc = dc;
     mz_put_reply(f, reply);
-    return mz_make(f, MZ_CALL_REDONE);
+    return mz_leave(f, mz_make(f, MZ_CALL_REDONE));
 }
 
 /* ---- its log */
 
 /* How many events there are. */
 static inline uint64_t mz_log_length(mz_tc *tc) {
-    mz_make(&tc->frame, MZ_CALL_LOG_LENGTH);
-    return tc->frame.word;
+    return mz_counted(tc, MZ_KIND_TC, MZ_CALL_LOG_LENGTH);
 }
 
 /* The 96 bytes of the event at this place, from 0, as docs/FORMATS.md says under "Log records". What
@@ -523,23 +636,32 @@ static inline uint64_t mz_log_length(mz_tc *tc) {
  * events from the old mz_log_length to the new one behind each mz_admit, mz_ask, mz_undo, mz_answer and
  * mz_end, and carry a wire only then. */
 static inline mz_code mz_log_bytes(mz_tc *tc, uint64_t place, uint8_t bytes[MZ_EVENT_BYTES]) {
-    mz_frame *f = &tc->frame;
+    mz_frame *f;
+    mz_code c = mz_enter(tc, MZ_KIND_TC, bytes != NULL, &f);
+    if (c != MZ_OK) return c;
     f->place = place;
-    mz_code c = mz_make(f, MZ_CALL_LOG_BYTES);
+    c = mz_make(f, MZ_CALL_LOG_BYTES);
     if (c == MZ_OK) memcpy(bytes, f->bytes, MZ_EVENT_BYTES);
-    return c;
+    return mz_leave(f, c);
 }
 
-typedef enum { MZ_EVENT_ADMIT = 1, MZ_EVENT_ASK, MZ_EVENT_ANSWER, MZ_EVENT_UNDO, MZ_EVENT_END } mz_event_kind;
+typedef enum {
+    MZ_EVENT_ADMIT = 1,
+    MZ_EVENT_ASK,
+    MZ_EVENT_ANSWER,
+    MZ_EVENT_UNDO,
+    MZ_EVENT_END,
+    MZ_EVENT_CHECKPOINT /* the oldest event of a log that began anew, and no other */
+} mz_event_kind;
 
 /* An event of the log; what its kind doesn't name is nothing. */
 typedef struct {
     mz_event_kind kind;
-    uint64_t txn;
+    uint64_t txn;       /* of a checkpoint: the last that was admitted before it */
     uint64_t procedure; /* admit, with count and args */
     unsigned count;
     uint64_t args[MZ_ARGS];
-    uint64_t number; /* ask, answer, undo */
+    uint64_t number; /* ask, answer, undo; of a checkpoint: the last that was given out before it */
     mz_op op;        /* ask, undo, with record and value */
     mz_record record;
     uint8_t value[MZ_VALUE];
@@ -556,6 +678,7 @@ static inline uint64_t mz_little(const uint8_t *at, int bytes) {
 
 /* What the 96 bytes of an event say. */
 static inline void mz_event_of(const uint8_t bytes[MZ_EVENT_BYTES], mz_event *event) {
+    if (!bytes || !event) return;
     uint64_t word = mz_little(bytes + 16, 8);
     memset(event, 0, sizeof *event);
     event->kind = (mz_event_kind)bytes[0];
@@ -584,13 +707,14 @@ static inline void mz_event_of(const uint8_t bytes[MZ_EVENT_BYTES], mz_event *ev
         event->outcome = (mz_outcome)bytes[1];
         event->aborted = word;
         break;
+    case MZ_EVENT_CHECKPOINT: event->number = word; break;
     }
 }
 
 /* The event at this place, from 0. MZ_NO_PLACE past the end. */
 static inline mz_code mz_log_at(mz_tc *tc, uint64_t place, mz_event *event) {
     uint8_t bytes[MZ_EVENT_BYTES];
-    mz_code c = mz_log_bytes(tc, place, bytes);
+    mz_code c = event ? mz_log_bytes(tc, place, bytes) : MZ_BAD_ARGUMENT;
     if (c == MZ_OK) mz_event_of(bytes, event);
     return c;
 }
@@ -604,59 +728,83 @@ typedef enum {
     MZ_RESTARTED /* *news are the news of the data component, which didn't perform the wire */
 } mz_carried;
 
-/* Carries a wire to its data component. */
+/* Carries a wire to its data component, which is wire->record.dc. */
 typedef mz_carried mz_carry(void *context, const mz_wire *wire, mz_reply *reply, mz_news *news);
 
-/* Redoes what a data component that is down has lost, by one thread, each wire carried `tries` times at
- * most. *up is 1 where it is up behind this; where a wire wasn't answered it is 0, and the data component
- * is still down. */
-static inline mz_code mz_redo(mz_tc *tc, uint16_t dc, mz_carry *carry, void *context, int tries, int *up) {
+/* ---- inside */
+
+/* Hears news of a restart. *on is 1 where the component is down now, and of the restarts that may be heard
+ * of, *restarts, one is left to redo it. News that were known are nothing. */
+static inline mz_code mz_hear(mz_tc *tc, uint16_t dc, const mz_news *news, int *restarts, int *on) {
+    mz_code c = mz_told(tc, dc, news);
+    *on = c == MZ_OK && --*restarts > 0;
+    return c == MZ_OLD_NEWS ? MZ_OK : c;
+}
+
+static inline mz_code mz_redo_within(mz_tc *tc, uint16_t dc, mz_carry *carry, void *context, int tries, int *restarts,
+                                     int *up) {
     for (*up = 0;;) {
         mz_wire wire;
         mz_code c = mz_redo_next(tc, dc, &wire, up);
         if (c != MZ_OK || *up) return c;
-        int done = 0;
-        for (int i = 0; i < tries && !done; i++) {
+        int on = 0;
+        for (int i = 0; i < tries && *restarts > 0 && !on; i++) {
             mz_reply reply;
             mz_news news = {0, 0};
-            switch (carry(context, &wire, &reply, &news)) {
-            case MZ_LOST: break;
-            case MZ_REPLIED: done = mz_redone(tc, dc, &reply) == MZ_OK; break;
-            case MZ_RESTARTED: done = mz_told(tc, dc, &news) == MZ_OK; break;
-            }
+            mz_carried carried = carry(context, &wire, &reply, &news);
+            if (carried == MZ_REPLIED) on = mz_redone(tc, dc, &reply) == MZ_OK;
+            if (carried == MZ_RESTARTED) c = mz_hear(tc, dc, &news, restarts, &on);
+            if (c != MZ_OK) return c;
         }
-        if (!done) return MZ_OK;
+        if (!on) return MZ_OK;
     }
 }
 
-/* Carries the open request of a transaction until it is answered, `tries` times at most. *wire is its wire,
- * where `made` is 1. */
+/* Carries the open request of a transaction until it is answered. *wire is its wire, where `made` is 1. What
+ * isn't answered is MZ_OK, or MZ_DC_DOWN where its data component is down. */
 static inline mz_code mz_carry_open(mz_tc *tc, uint64_t txn, mz_wire *wire, int made, mz_carry *carry, void *context,
                                     int tries, int *answered) {
+    int restarts = tries;
     *answered = 0;
-    for (int i = 0; i < tries && !*answered; i++, made = 0) {
+    for (int i = 0; i < tries; i++, made = 0) {
         mz_reply reply;
         mz_news news = {0, 0};
+        int on = 0, up;
         mz_code c = made ? MZ_OK : mz_resend(tc, txn, wire);
         if (c != MZ_OK) return c;
         mz_carried carried = carry(context, wire, &reply, &news);
         if (carried == MZ_REPLIED) *answered = mz_answer(tc, txn, &reply) == MZ_OK;
-        if (carried == MZ_RESTARTED && mz_told(tc, wire->record.dc, &news) == MZ_OK) {
-            int up;
-            c = mz_redo(tc, wire->record.dc, carry, context, tries, &up);
-            if (c != MZ_OK) return c;
-        }
+        if (*answered) return MZ_OK;
+        if (carried == MZ_RESTARTED) c = mz_hear(tc, wire->record.dc, &news, &restarts, &on);
+        if (c == MZ_OK && on) c = mz_redo_within(tc, wire->record.dc, carry, context, tries, &restarts, &up);
+        if (c != MZ_OK) return c;
     }
-    return MZ_OK;
+    return mz_resend(tc, txn, wire);
+}
+
+/* ---- */
+
+/* Redoes what a data component that is down has lost, by one thread. Each wire is carried `tries` times at
+ * most, and so many restarts are heard of at most. *up is 1 where it is up behind this; else it is still
+ * down: a wire wasn't answered, or it restarted too often. MZ_BAD_ARGUMENT where tries isn't above 0; as
+ * mz_redo_next, and MZ_FORGOTTEN of its news. */
+static inline mz_code mz_redo(mz_tc *tc, uint16_t dc, mz_carry *carry, void *context, int tries, int *up) {
+    int restarts = tries;
+    if (!carry || !up || tries < 1) return MZ_BAD_ARGUMENT;
+    return mz_redo_within(tc, dc, carry, context, tries, &restarts, up);
 }
 
 /* Runs an admitted transaction to its end by one thread. Each wire is carried `tries` times at most; a data
- * component that says that it restarted is redone. *stopped is
+ * component that says that it restarted is redone, and while one request waits so many restarts are heard of
+ * at most. So it ends, whatever is carried. *stopped is
  *   MZ_OVER: it has ended, as *receipt says;
  *   MZ_WAITS: nobody answered, and the request is given up: the transaction is in doubt;
  *   MZ_STUCK: a write couldn't be undone;
- *   MZ_DOWN: its data component is down and wasn't redone; see to that by mz_redo, and call this again. */
-static inline mz_code mz_run(mz_tc *tc, uint64_t txn, mz_carry *carry, void *context, int tries, mz_receipt *receipt, mz_next *stopped) {
+ *   MZ_DOWN: its data component is down and wasn't redone; see to that by mz_redo, and call this again.
+ * MZ_NO_TXN; MZ_FORGOTTEN of news: the request stays open; MZ_BAD_ARGUMENT where tries isn't above 0. */
+static inline mz_code mz_run(mz_tc *tc, uint64_t txn, mz_carry *carry, void *context, int tries, mz_receipt *receipt,
+                             mz_next *stopped) {
+    if (!carry || !receipt || !stopped || tries < 1) return MZ_BAD_ARGUMENT;
     int undoing = 0;
     for (;;) {
         mz_asked asked;
@@ -684,101 +832,119 @@ static inline mz_code mz_run(mz_tc *tc, uint64_t txn, mz_carry *carry, void *con
 /* ---- a data component in memory: performs each number once */
 
 /* With room for so many records (at most 65536) and operations (at most 1048576), all taken here. NULL,
- * and why in *code: MZ_BAD_ARGUMENT, MZ_MEMORY. */
+ * and why in *code: MZ_BAD_ARGUMENT, MZ_MEMORY, MZ_OTHER_LIBRARY. */
 static inline mz_dc *mz_dc_new(uint64_t rows, uint64_t operations, mz_code *code) {
-    return (mz_dc *)mz_new(MZ_CALL_START_DC, rows, operations, code);
+    return (mz_dc *)mz_new(MZ_KIND_DC, MZ_CALL_START_DC, rows, operations, code);
 }
 
-static inline void mz_dc_free(mz_dc *dc) { mz_free((mz_frame *)dc); }
+static inline void mz_dc_free(mz_dc *dc) { mz_free(dc, MZ_KIND_DC); }
 
 /* Performs a wire. MZ_SILENT: it is for another incarnation, or there is no room for a further operation;
  * there is no reply, and nothing but the low-water mark has changed. */
 static inline mz_code mz_dc_perform(mz_dc *dc, const mz_wire *wire, mz_reply *reply) {
-    mz_frame *f = &dc->frame;
+    mz_frame *f;
+    mz_code c = mz_enter(dc, MZ_KIND_DC, wire && reply, &f);
+    if (c != MZ_OK) return c;
     mz_put_wire(f, wire);
-    mz_code c = mz_make(f, MZ_CALL_PERFORM);
+    c = mz_make(f, MZ_CALL_PERFORM);
     if (c == MZ_OK) mz_get_reply(f, reply);
-    return c;
+    return mz_leave(f, c);
 }
 
 /* Keeps what it has: a restart loses what comes after this. */
-static inline mz_code mz_dc_checkpoint(mz_dc *dc) { return mz_make(&dc->frame, MZ_CALL_CHECKPOINT); }
+static inline mz_code mz_dc_checkpoint(mz_dc *dc) { return mz_plain(dc, MZ_KIND_DC, MZ_CALL_CHECKPOINT); }
 
 /* Hears a low-water mark that comes with no wire: the transaction component's, for this incarnation. */
 static inline mz_code mz_dc_hear_mark(mz_dc *dc, uint64_t incarnation, uint64_t low_water) {
-    dc->frame.incarnation = incarnation;
-    dc->frame.low_water = low_water;
-    return mz_make(&dc->frame, MZ_CALL_HEAR_MARK);
+    mz_frame *f;
+    mz_code c = mz_enter(dc, MZ_KIND_DC, 1, &f);
+    if (c != MZ_OK) return c;
+    f->incarnation = incarnation;
+    f->low_water = low_water;
+    return mz_leave(f, mz_make(f, MZ_CALL_HEAR_MARK));
 }
 
 /* Forgets the operations that it performed, and keeps the records: where its last checkpoint has all of them,
  * and all their numbers are at or under the mark that it kept (else *forgotten is 0, and nothing changes).
  * Then there is room again for as many as at first. */
 static inline mz_code mz_dc_forget(mz_dc *dc, int *forgotten) {
-    mz_code c = mz_make(&dc->frame, MZ_CALL_FORGET);
-    if (c == MZ_OK) *forgotten = dc->frame.word == 1;
-    return c;
+    mz_frame *f;
+    mz_code c = mz_enter(dc, MZ_KIND_DC, forgotten != NULL, &f);
+    if (c != MZ_OK) return c;
+    c = mz_make(f, MZ_CALL_FORGET);
+    if (c == MZ_OK) *forgotten = f->word == 1;
+    return mz_leave(f, c);
 }
 
 /* Loses what came after the last checkpoint, and begins the next incarnation, whose news are for mz_told.
  * MZ_INCARNATIONS_SPENT. */
 static inline mz_code mz_dc_restart(mz_dc *dc, mz_news *news) {
-    mz_code c = mz_make(&dc->frame, MZ_CALL_RESTART);
+    mz_frame *f;
+    mz_code c = mz_enter(dc, MZ_KIND_DC, news != NULL, &f);
+    if (c != MZ_OK) return c;
+    c = mz_make(f, MZ_CALL_RESTART);
     if (c == MZ_OK) {
-        news->incarnation = dc->frame.incarnation;
-        news->mark = dc->frame.low_water;
+        news->incarnation = f->incarnation;
+        news->mark = f->low_water;
     }
-    return c;
+    return mz_leave(f, c);
 }
 
 /* The value of a record (*said is MZ_VALUE_IS), or MZ_ABSENT in *said. The record's dc isn't looked at. */
 static inline mz_code mz_dc_get(mz_dc *dc, const mz_record *record, mz_said *said, uint8_t value[MZ_VALUE]) {
-    mz_frame *f = &dc->frame;
+    mz_frame *f;
+    mz_code c = mz_enter(dc, MZ_KIND_DC, record && said && value, &f);
+    if (c != MZ_OK) return c;
     mz_put_record(f, record);
-    mz_code c = mz_make(f, MZ_CALL_GET);
+    c = mz_make(f, MZ_CALL_GET);
     if (c == MZ_OK) {
         *said = (mz_said)f->kind;
         memcpy(value, f->value, MZ_VALUE);
     }
-    return c;
+    return mz_leave(f, c);
 }
 
 /* How many records there are. */
 static inline uint64_t mz_dc_rows(mz_dc *dc) {
-    mz_make(&dc->frame, MZ_CALL_ROWS);
-    return dc->frame.word;
+    return mz_counted(dc, MZ_KIND_DC, MZ_CALL_ROWS);
 }
 
 /* The record at this place, from 0, and its value; records rise. MZ_NO_PLACE past the end. */
 static inline mz_code mz_dc_row(mz_dc *dc, uint64_t place, mz_record *record, uint8_t value[MZ_VALUE]) {
-    mz_frame *f = &dc->frame;
+    mz_frame *f;
+    mz_code c = mz_enter(dc, MZ_KIND_DC, record && value, &f);
+    if (c != MZ_OK) return c;
     f->place = place;
-    mz_code c = mz_make(f, MZ_CALL_ROW);
+    c = mz_make(f, MZ_CALL_ROW);
     if (c == MZ_OK) {
         mz_get_record(f, record);
         memcpy(value, f->value, MZ_VALUE);
     }
-    return c;
+    return mz_leave(f, c);
 }
 
 /* ---- verified code alone */
 
 /* A program: code that is run outside of transactions, whose questions you answer. NULL, and why in *code. */
-static inline mz_program *mz_program_new(mz_code *code) { return (mz_program *)mz_new(MZ_CALL_START_CODE, 0, 0, code); }
+static inline mz_program *mz_program_new(mz_code *code) {
+    return (mz_program *)mz_new(MZ_KIND_PROGRAM, MZ_CALL_START_CODE, 0, 0, code);
+}
 
-static inline void mz_program_free(mz_program *program) { mz_free((mz_frame *)program); }
+static inline void mz_program_free(mz_program *program) { mz_free(program, MZ_KIND_PROGRAM); }
 
 /* As mz_load: the code is kept where it is accepted, in the place of the code before. */
 static inline mz_code mz_program_verify(mz_program *program, const void *code, size_t bytes, const mz_slot *slots,
                                         size_t slot_count, unsigned args, uint64_t *place) {
-    mz_frame *f = &program->frame;
-    mz_code c = mz_hand_in(f, code, bytes, slots, slot_count);
+    mz_frame *f;
+    mz_code c = mz_enter(program, MZ_KIND_PROGRAM, 1, &f);
     if (c != MZ_OK) return c;
+    c = mz_hand_in(f, code, bytes, slots, slot_count);
+    if (c != MZ_OK) return mz_leave(f, c);
     f->word = args;
     f->place = 0;
     c = mz_make(f, MZ_CALL_VERIFY);
     if (c != MZ_OK && place) *place = f->place;
-    return c;
+    return mz_leave(f, c);
 }
 
 /* Where a run stands: at its end (op is 0) with the value of register 0, or at an operation; and how many
@@ -791,6 +957,8 @@ typedef struct {
     uint64_t executed;
 } mz_stop;
 
+/* ---- inside */
+
 static inline void mz_get_stop(const mz_frame *f, mz_stop *stop) {
     stop->op = (int)f->op;
     stop->value = f->op ? 0 : f->word;
@@ -799,24 +967,30 @@ static inline void mz_get_stop(const mz_frame *f, mz_stop *stop) {
     stop->executed = f->place;
 }
 
+/* ---- */
+
 /* Runs it from its beginning to its end or its first operation. MZ_NO_PROCEDURE: no code was accepted yet;
  * MZ_ARGUMENT_COUNT. */
 static inline mz_code mz_program_run(mz_program *program, const uint64_t *args, size_t count, mz_stop *stop) {
-    mz_frame *f = &program->frame;
-    mz_code c = mz_put_args(f, args, count);
+    mz_frame *f;
+    mz_code c = mz_enter(program, MZ_KIND_PROGRAM, stop != NULL, &f);
+    if (c != MZ_OK) return c;
+    c = mz_put_args(f, args, count);
     if (c == MZ_OK) c = mz_make(f, MZ_CALL_RUN);
     if (c == MZ_OK) mz_get_stop(f, stop);
-    return c;
+    return mz_leave(f, c);
 }
 
 /* Goes on from the operation with what is said to it (of *reply its `said` and `value` alone). MZ_STRANGER:
  * that can't be an answer to it, or is MZ_NO_ROOM, with which no run goes on. MZ_NOTHING_OPEN. */
 static inline mz_code mz_program_resume(mz_program *program, const mz_reply *reply, mz_stop *stop) {
-    mz_frame *f = &program->frame;
+    mz_frame *f;
+    mz_code c = mz_enter(program, MZ_KIND_PROGRAM, reply && stop, &f);
+    if (c != MZ_OK) return c;
     mz_put_reply(f, reply);
-    mz_code c = mz_make(f, MZ_CALL_RESUME);
+    c = mz_make(f, MZ_CALL_RESUME);
     if (c == MZ_OK) mz_get_stop(f, stop);
-    return c;
+    return mz_leave(f, c);
 }
 
 /* ---- codes in words */
@@ -826,7 +1000,8 @@ static inline const char *mz_code_text(mz_code code) {
     static const char *const v[] = {
         "Backward", "OutOfCode", "IntoWide", "FallsOff", "EmptyRegister", "WritesR10", "NotAPointer",
         "OutOfBounds", "ReadOnly", "MaybeNull", "UnknownHelper", "SlotUnknown", "ModeTooWeak", "PointerReturned"};
-    static const char *const e[] = {"NoCode", "Length", "TooLong", "WideCut", "UnusedField", "Undefined", "OutsideProfile"};
+    static const char *const e[] = {
+        "NoCode", "Length", "TooLong", "WideCut", "UnusedField", "Undefined", "OutsideProfile"};
     static const char *const s[] = {"TooManyArgs", "TooManySlots", "NoSuchArg"};
     uint32_t n = code & 255;
     switch (code) {
@@ -838,6 +1013,7 @@ static inline const char *mz_code_text(mz_code code) {
     case MZ_MEMORY: return "Memory";
     case MZ_NO_PLACE: return "NoPlace";
     case MZ_SILENT: return "Silent";
+    case MZ_OTHER_LIBRARY: return "OtherLibrary";
     case MZ_BUSY: return "Busy";
     case MZ_NUMBERS_SPENT: return "NumbersSpent";
     case MZ_NO_PROCEDURE: return "NoProcedure";

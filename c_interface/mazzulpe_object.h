@@ -37,7 +37,8 @@ static inline int mz_object_open(mz_object *o, const void *file, size_t size) {
 static inline int mz_object_section(const mz_object *o, uint64_t place, mz_section *section) {
     const uint8_t *header = o->file + o->headers + place * o->each;
     uint64_t name = mz_little(header, 4), where = mz_little(header + 24, 8), bytes = mz_little(header + 32, 8);
-    if (mz_little(header + 4, 4) != 1 || where > o->size || bytes > o->size - where || name >= o->names_size) return 0;
+    if (mz_little(header + 4, 4) != 1 || name >= o->names_size) return 0;
+    if (where > o->size || bytes > o->size - where) return 0;
     const char *text = (const char *)o->file + o->names + name;
     if (!memchr(text, 0, (size_t)(o->names_size - name))) return 0;
     section->name = text;
@@ -48,8 +49,10 @@ static inline int mz_object_section(const mz_object *o, uint64_t place, mz_secti
 
 static inline int mz_object_find(const mz_object *o, const char *kind, const char *name, mz_section *section) {
     size_t length = strlen(kind);
-    for (uint64_t i = 0; i < o->count; i++)
-        if (mz_object_section(o, i, section) && !strncmp(section->name, kind, length) && !strcmp(section->name + length, name)) return 1;
+    for (uint64_t i = 0; i < o->count; i++) {
+        if (!mz_object_section(o, i, section) || strncmp(section->name, kind, length)) continue;
+        if (!strcmp(section->name + length, name)) return 1;
+    }
     return 0;
 }
 
@@ -73,51 +76,127 @@ static inline int mz_object_accesses(const mz_section *section, mz_slot *slots, 
     return 1;
 }
 
+/* A procedure of the file, as mz_load takes it. */
+typedef struct {
+    const char *name;
+    mz_section code;
+    mz_slot slots[MZ_SLOTS + 1];
+    size_t count;
+    unsigned args;
+} mz_object_procedure;
+
+/* The next procedure in the order of the file's sections, from *section on, which is then the one behind it.
+ * MZ_NO_PLACE where none is left; MZ_BAD_OBJECT where its access slots aren't in the file. */
+static inline mz_code mz_object_next(const mz_object *o, uint64_t *section, mz_object_procedure *it) {
+    while (*section < o->count) {
+        mz_section accesses;
+        if (!mz_object_section(o, (*section)++, &it->code) || strncmp(it->code.name, "procedure/", 10)) continue;
+        it->name = it->code.name + 10;
+        if (!mz_object_find(o, "accesses/", it->name, &accesses)) return MZ_BAD_OBJECT;
+        return mz_object_accesses(&accesses, it->slots, &it->count, &it->args) ? MZ_OK : MZ_BAD_OBJECT;
+    }
+    return MZ_NO_PLACE;
+}
+
+/* Whether an earlier section of the file has a procedure of this name too. */
+static inline int mz_object_twice(const mz_object *o, const mz_object_procedure *it) {
+    mz_section section;
+    return mz_object_find(o, "procedure/", it->name, &section) && section.bytes != it->code.bytes;
+}
+
+/* Why mz_load would refuse this procedure, want of memory aside; `loaded`: its name is taken by itself. */
+static inline mz_code mz_object_checked(mz_tc *tc, mz_program *program, const mz_object *o,
+                                        const mz_object_procedure *it, int loaded, uint64_t *place) {
+    uint64_t number;
+    mz_code c = mz_program_verify(program, it->code.bytes, it->code.size, it->slots, it->count, it->args, place);
+    if (c != MZ_OK) return c;
+    c = mz_find(tc, it->name, &number);
+    if (c != MZ_OK && c != MZ_NO_PROCEDURE) return c;
+    if ((c == MZ_OK && !loaded) || mz_object_twice(o, it)) return MZ_NAME_TAKEN;
+    for (size_t i = 0; i < it->count; i++) {
+        if (mz_site(tc, it->slots[i].dc, NULL, NULL) == MZ_OK) continue;
+        *place = i;
+        return MZ_DC_UNKNOWN;
+    }
+    return MZ_OK;
+}
+
+/* A file's digest (FNV-1a), which isn't 0. */
+static inline uint64_t mz_object_digest(const uint8_t *bytes, size_t size) {
+    uint64_t digest = 0xcbf29ce484222325u;
+    for (size_t i = 0; i < size; i++) digest = (digest ^ bytes[i]) * 0x100000001b3u;
+    return digest ? digest : 1;
+}
+
+/* Checks each procedure of the file, and behind that loads each, but for the first `loaded`. */
+static inline mz_code mz_object_load(mz_tc *tc, mz_program *program, const mz_object *o, uint64_t *loaded,
+                                     mz_object_procedure *it, uint64_t *place) {
+    uint64_t section = 0, number, at = 0;
+    mz_code c;
+    while ((c = mz_object_next(o, &section, it)) == MZ_OK) {
+        c = mz_object_checked(tc, program, o, it, at++ < *loaded, place);
+        if (c != MZ_OK) return c;
+    }
+    if (c != MZ_NO_PLACE) return c;
+    for (section = at = 0; mz_object_next(o, &section, it) == MZ_OK; at++) {
+        if (at < *loaded) continue;
+        c = mz_load(tc, it->name, it->code.bytes, it->code.size, it->slots, it->count, it->args, &number, place);
+        if (c != MZ_OK) return c;
+        ++*loaded;
+    }
+    return MZ_OK;
+}
+
 /* ---- */
 
 /* Loads each procedure of an object file that lies in memory, in the order of its sections, under their
  * names; mz_find says their numbers. Procedures whose access slots aren't in the file are refused. Code that
  * refers to variables or other functions is refused by the verifier.
  *
- * At the first that is refused it stops: `refused` (which may be NULL) is its name, cut at 256 bytes, *place
- * (which may be NULL) is as mz_load says, and those before it stay loaded. MZ_BAD_OBJECT: the file isn't whole, isn't such
- * a file, or has no access slots for this procedure; with no procedure in it nothing is loaded, and that is MZ_OK. */
-static inline mz_code mz_load_object(mz_tc *tc, const void *file, size_t size, char refused[MZ_NAME + 1], uint64_t *place) {
+ * All or nothing: where one is refused none is loaded. `refused` (which may be NULL) is its name, cut at 256
+ * bytes, and *place (which may be NULL) is as mz_load says. MZ_BAD_OBJECT: the file isn't whole, isn't such a
+ * file, or has no access slots for this procedure; with no procedure in it nothing is loaded, and that is
+ * MZ_OK. MZ_MEMORY alone may leave some loaded: call it again with the same file, and it goes on. */
+static inline mz_code mz_load_object(mz_tc *tc, const void *file, size_t size, char refused[MZ_NAME + 1],
+                                     uint64_t *place) {
     mz_object object;
+    mz_object_procedure it;
+    mz_frame *f;
+    mz_code c = mz_enter(tc, MZ_KIND_TC, file != NULL, &f);
     if (refused) refused[0] = 0;
     if (place) *place = 0;
+    if (c != MZ_OK) return c;
+    mz_head *head = mz_head_of(f);
+    mz_leave(f, MZ_OK);
     if (!mz_object_open(&object, file, size)) return MZ_BAD_OBJECT;
-    for (uint64_t i = 0; i < object.count; i++) {
-        mz_section code, accesses;
-        mz_slot slots[MZ_SLOTS + 1];
-        size_t count;
-        unsigned args;
-        uint64_t number;
-        if (!mz_object_section(&object, i, &code) || strncmp(code.name, "procedure/", 10)) continue;
-        const char *name = code.name + 10;
-        mz_code c = MZ_BAD_OBJECT;
-        if (mz_object_find(&object, "accesses/", name, &accesses) && mz_object_accesses(&accesses, slots, &count, &args))
-            c = mz_load(tc, name, code.bytes, code.size, slots, count, args, &number, place);
-        if (c != MZ_OK) {
-            if (refused) snprintf(refused, MZ_NAME + 1, "%s", name);
-            return c;
-        }
-    }
-    return MZ_OK;
+    mz_program *program = mz_program_new(&c);
+    if (!program) return c;
+    uint64_t digest = mz_object_digest(object.file, size), at = 0;
+    uint64_t loaded = head->object == digest ? head->of_object : 0;
+    it.name = NULL;
+    c = mz_object_load(tc, program, &object, &loaded, &it, &at);
+    mz_program_free(program);
+    head->object = c == MZ_MEMORY ? digest : 0;
+    head->of_object = c == MZ_MEMORY ? loaded : 0;
+    if (c == MZ_OK) return c;
+    if (refused && it.name) snprintf(refused, MZ_NAME + 1, "%s", it.name);
+    if (place) *place = at;
+    return c;
 }
 
 /* The same of a file on disk. MZ_BAD_OBJECT also where it can't be read, or has more than 16 MiB. */
 static inline mz_code mz_load_object_file(mz_tc *tc, const char *path, char refused[MZ_NAME + 1], uint64_t *place) {
-    enum { MOST = 16 << 20 };
     if (refused) refused[0] = 0;
     if (place) *place = 0;
-    FILE *file = fopen(path, "rb");
-    if (!file) return MZ_BAD_OBJECT;
-    uint8_t *bytes = (uint8_t *)malloc(MOST);
-    size_t size = bytes ? fread(bytes, 1, MOST, file) : 0;
-    int whole = bytes && feof(file);
+    FILE *file = path ? fopen(path, "rb") : NULL;
+    if (!file) return path ? MZ_BAD_OBJECT : MZ_BAD_ARGUMENT;
+    long size = fseek(file, 0, SEEK_END) ? -1 : ftell(file);
+    mz_code c = size >= 0 && size <= 16 << 20 && !fseek(file, 0, SEEK_SET) ? MZ_OK : MZ_BAD_OBJECT;
+    uint8_t *bytes = c == MZ_OK ? (uint8_t *)malloc(size ? (size_t)size : 1) : NULL;
+    if (c == MZ_OK && !bytes) c = MZ_MEMORY;
+    if (c == MZ_OK && fread(bytes, 1, (size_t)size, file) != (size_t)size) c = MZ_BAD_OBJECT;
     fclose(file);
-    mz_code c = !bytes ? MZ_MEMORY : whole ? mz_load_object(tc, bytes, size, refused, place) : MZ_BAD_OBJECT;
+    if (c == MZ_OK) c = mz_load_object(tc, bytes, (size_t)size, refused, place);
     free(bytes);
     return c;
 }

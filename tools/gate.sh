@@ -55,7 +55,7 @@ c_interface() {
     tools/archive.py && make -s -C c_interface check
 }
 missing=
-for tool in make cc ar clang llvm-objcopy; do
+for tool in make cc ar; do
     command -v "$tool" > /dev/null || missing="$missing $tool"
 done
 if [ -z "$missing" ]; then

@@ -1,5 +1,6 @@
 /* A million calls of the bank in rounds: behind each round the log begins anew, and the data components forget
- * what they performed, which have room for one round's operations alone. With an argument they don't. */
+ * what they performed, which have room for two rounds' operations alone. anew OBJECT [grow]: with the word
+ * they don't, and the calls end where the lists are full. */
 #include "mazzulpe_object.h"
 #include <sys/resource.h>
 
@@ -57,14 +58,22 @@ static void begin_anew(mz_tc *tc, world *w) {
     if (c != MZ_OK) die("checkpoint", c);
 }
 
+/* The most memory that the process had so far, in kB. */
+static long resident(void) {
+    struct rusage used;
+    getrusage(RUSAGE_SELF, &used);
+    return used.ru_maxrss;
+}
+
 int main(int count, char **argv) {
     mz_code c;
     char refused[MZ_NAME + 1];
     uint64_t place = 0;
+    long early = 0;
     int anew = count < 3;
     world w = {{mz_dc_new(1000, 4096, &c), mz_dc_new(1000, 4096, &c)}};
     mz_tc *tc = mz_tc_new(2, &c);
-    if (!tc || !w.dc[0] || !w.dc[1]) die("memory", c);
+    if (!tc || !w.dc[0] || !w.dc[1] || count < 2) die("anew OBJECT [grow]", c);
     c = mz_load_object_file(tc, argv[1], refused, &place);
     if (c != MZ_OK) die(refused, c);
     printf("a checkpoint before all: %s\n", mz_code_text(mz_checkpoint(tc, 0)));
@@ -79,20 +88,21 @@ int main(int count, char **argv) {
             call(tc, &w, "deposit_here", args, 2);
         }
         if (anew) begin_anew(tc, &w);
-        if (round == 0 || round == 499 || round == 999) {
-            struct rusage used;
-            getrusage(RUSAGE_SELF, &used);
-            printf("round %d: log %llu events, low water %llu, total %llu, %ld kB\n", round + 1, (unsigned long long)mz_log_length(tc),
-                   (unsigned long long)mz_low_water(tc), (unsigned long long)total(&w), used.ru_maxrss);
-        }
+        if (round == 0 || round == 999)
+            printf("round %d: log %llu events, low water %llu, total %llu\n", round + 1,
+                   (unsigned long long)mz_log_length(tc), (unsigned long long)mz_low_water(tc),
+                   (unsigned long long)total(&w));
+        if (round == 99) early = resident();
     }
+    printf("memory of round 100: %s\n", resident() == early ? "enough to the end" : "not enough");
     mz_news news;
     int up = 0;
     c = mz_dc_restart(w.dc[0], &news);
     if (c == MZ_OK) c = mz_told(tc, 0, &news);
     if (c != MZ_OK) die("restart", c);
     c = mz_redo(tc, 0, carry, &w, 3, &up);
-    printf("restarted at mark %llu: %s, %s, total %llu\n", (unsigned long long)news.mark, mz_code_text(c), up ? "up" : "down", (unsigned long long)total(&w));
+    printf("restarted at mark %llu: %s, %s, total %llu\n", (unsigned long long)news.mark, mz_code_text(c),
+           up ? "up" : "down", (unsigned long long)total(&w));
     news.incarnation++;
     news.mark--;
     printf("news of less than the log has: %s\n", mz_code_text(mz_told(tc, 0, &news)));

@@ -1,5 +1,6 @@
 /* The bank over two data components in memory, made by the same library: a transfer between them, a lost
- * reply, an abort that is undone, a restart that loses and is redone. Prints what comes of each. */
+ * reply, an abort that is undone, a restart that loses and is redone, a log that begins anew. Prints what
+ * comes of each. */
 #include "mazzulpe_object.h"
 
 typedef struct { mz_dc *dc[2]; int lose; } world;
@@ -45,6 +46,21 @@ static void restart(mz_tc *tc, world *w, uint16_t dc) {
     printf("data component %u is %s\n", dc, up ? "up" : "down");
 }
 
+/* Behind the calls: what data components have is kept, and the log begins anew. */
+static void begin_anew(mz_tc *tc, world *w) {
+    uint64_t mark = mz_low_water(tc), incarnation = 0;
+    for (uint16_t dc = 0; dc < 2; dc++) {
+        int forgotten = 0;
+        mz_code c = mz_site(tc, dc, &incarnation, NULL);
+        if (c == MZ_OK) c = mz_dc_hear_mark(w->dc[dc], incarnation, mark);
+        if (c == MZ_OK) c = mz_dc_checkpoint(w->dc[dc]);
+        if (c == MZ_OK) c = mz_dc_forget(w->dc[dc], &forgotten);
+        if (c != MZ_OK || !forgotten) die("forget", c);
+    }
+    mz_code c = mz_checkpoint(tc, mark);
+    if (c != MZ_OK) die("checkpoint", c);
+}
+
 static uint64_t balance(world *w, uint16_t dc, uint64_t account) {
     uint8_t value[MZ_VALUE];
     mz_said said;
@@ -74,11 +90,16 @@ int main(void) {
     restart(tc, &w, 1);
     call(tc, &w, "move_back", (uint64_t[]){2, 1, 5}, 3);
     printf("balances %llu %llu\n", (unsigned long long)balance(&w, 0, 1), (unsigned long long)balance(&w, 1, 2));
-    long kinds[6] = {0};
+    long kinds[MZ_EVENT_CHECKPOINT + 1] = {0};
     mz_event event;
     for (uint64_t at = 0; mz_log_at(tc, at, &event) == MZ_OK; at++) kinds[event.kind]++;
-    printf("log of %llu: %ld admitted, %ld asked, %ld answered, %ld undone, %ld ended; %llu open\n", (unsigned long long)mz_log_length(tc),
-           kinds[1], kinds[2], kinds[3], kinds[4], kinds[5], (unsigned long long)mz_open_count(tc));
+    printf("log of %llu: %ld admitted, %ld asked, %ld answered, %ld undone, %ld ended; %llu open\n",
+           (unsigned long long)mz_log_length(tc), kinds[MZ_EVENT_ADMIT], kinds[MZ_EVENT_ASK], kinds[MZ_EVENT_ANSWER],
+           kinds[MZ_EVENT_UNDO], kinds[MZ_EVENT_END], (unsigned long long)mz_open_count(tc));
+    begin_anew(tc, &w);
+    if (mz_log_at(tc, 0, &event) == MZ_OK && event.kind == MZ_EVENT_CHECKPOINT)
+        printf("log of %llu: begun behind transaction %llu and number %llu\n", (unsigned long long)mz_log_length(tc),
+               (unsigned long long)event.txn, (unsigned long long)event.number);
     mz_tc_free(tc);
     mz_dc_free(w.dc[0]);
     mz_dc_free(w.dc[1]);

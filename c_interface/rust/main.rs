@@ -4,7 +4,10 @@
 #[allow(dead_code)]
 mod mazzulpe;
 
-use mazzulpe::{BUSY, DC_DOWN, Key, News, Next, Op, Outcome, Record, Reply, Said, Slot, Tc, Value, Wire};
+use mazzulpe::{
+    At, Carried, DC_DOWN, Dc, Event, FORGOTTEN, Key, News, Next, NotAdmitted, Op, Outcome, Program, Ran, Record,
+};
+use mazzulpe::{Refusal, Reply, Said, Slot, TXNS_OPEN, Tc, Value, Wire};
 use std::collections::HashMap;
 use std::sync::{Condvar, Mutex, MutexGuard};
 
@@ -75,7 +78,7 @@ impl Bank {
         loop {
             match tc.admit(procedure, args) {
                 Ok(txn) => return txn,
-                Err(BUSY) => tc = self.freed.wait(tc).unwrap(),
+                Err(NotAdmitted::Busy { .. }) => tc = self.freed.wait(tc).unwrap(),
                 Err(refusal) => panic!("{refusal:?}"),
             }
         }
@@ -133,7 +136,7 @@ impl Bank {
                 Next::Undoing => undoing = true,
                 Next::Running => undoing = false,
                 Next::Over => {
-                    let outcome = tc.end(txn).unwrap();
+                    let outcome = tc.end(txn).unwrap().outcome;
                     self.freed.notify_all();
                     return outcome;
                 }
@@ -163,7 +166,83 @@ impl Bank {
     }
 }
 
+/// The bank over two data components of the library, by one thread: the rest of the interface once.
+fn in_memory() -> Result<(), Refusal> {
+    const TRIES: u32 = 3;
+    let mut tc = Tc::new(2)?;
+    let mut dcs = [Dc::new(100, 100)?, Dc::new(100, 100)?];
+    let carry = |dcs: &mut [Dc; 2], wire: &Wire| {
+        dcs[usize::from(wire.op.record().dc)].perform(wire).map_or(Carried::Lost, Carried::Replied)
+    };
+    tc.load_object_file("build/bank.o").map_err(|(refusal, ..)| refusal)?;
+    for (name, args) in [("deposit_here", &[1, 100][..]), ("deposit_there", &[2, 100]), ("move", &[1, 2, 30])] {
+        let procedure = tc.find(name)?;
+        let txn = tc.admit(procedure, args).expect("nothing in the way");
+        println!("{name} blocked {} {:?}", tc.blocked(procedure, args)?, tc.checkpoint(0) == Err(TXNS_OPEN));
+        println!("{name} {:?}", tc.run(txn, TRIES, |wire| carry(&mut dcs, wire))?);
+    }
+    tc.told(1, dcs[1].restart()?)?;
+    println!("down {:?}, up {}", tc.site(1)?, tc.redo(1, TRIES, |wire| carry(&mut dcs, wire))?);
+    let deposit = tc.find("deposit_there")?;
+    let txn = tc.admit(deposit, &[7, 1]).expect("nothing in the way");
+    let always = |_: &Wire| dcs[1].restart().map_or(Carried::Lost, Carried::Restarted);
+    println!("a restart at each wire: {:?}", tc.run(txn, TRIES, always)?);
+    tc.redo(1, TRIES, |wire| carry(&mut dcs, wire))?;
+    assert!(matches!(tc.run(txn, TRIES, |wire| carry(&mut dcs, wire))?, Ran::Over(_)));
+    let (mark, mut before) = (tc.low_water(), dcs[0].restart()?);
+    for dc in 0..2 {
+        tc.told(dc, if dc == 0 { before } else { dcs[1].restart()? })?;
+        tc.redo(dc, TRIES, |wire| carry(&mut dcs, wire))?;
+        let (incarnation, _) = tc.site(dc)?;
+        dcs[usize::from(dc)].hear_mark(incarnation, mark)?;
+        dcs[usize::from(dc)].checkpoint()?;
+        println!("data component {dc} forgot {}", dcs[usize::from(dc)].forget()?);
+    }
+    println!("{} events, {} open", tc.log_length(), tc.open_count());
+    tc.checkpoint(mark)?;
+    let Event::Checkpoint { admitted, given } = tc.log_at(0)? else { panic!("another event") };
+    println!("{} event, behind transaction {admitted} and number {given}", tc.log_length());
+    before.incarnation += 1;
+    println!("news of an older mark: {}", tc.told(0, before).unwrap_err().code_text());
+    assert_eq!(tc.told(0, before), Err(FORGOTTEN));
+    for dc in &mut dcs {
+        for place in 0..dc.rows() {
+            let (record, value) = dc.row(place)?;
+            assert_eq!(dc.get(&record)?, Some(value));
+            println!(
+                "row {}/{}/{} {}",
+                record.dc,
+                record.table,
+                record.key,
+                u64::from_le_bytes(value[..8].try_into().unwrap())
+            );
+        }
+    }
+    Ok(())
+}
+
+/// A procedure by itself, whose reads and writes are answered here.
+fn alone() -> Result<(), Refusal> {
+    let mut program = Program::new()?;
+    let slot = Slot { write: true, dc: 0, table: 0, key: Key::Argument(0) };
+    let code = std::fs::read("build/deposit_here.bin").expect("the code");
+    program.verify(&code, &[slot], 2).map_err(|(refusal, _)| refusal)?;
+    let mut stop = program.run(&[1, 5])?;
+    while let At::Operation(op) = stop.at {
+        let said = match op {
+            Op::Read(_) => Said::Absent,
+            Op::Insert(..) => Said::Done,
+            Op::Update(..) | Op::Delete(_) => Said::Missing,
+        };
+        stop = program.resume(&said)?;
+    }
+    println!("alone {:?}", stop.at);
+    Ok(())
+}
+
 fn main() {
+    in_memory().unwrap();
+    alone().unwrap();
     let slot = |write, argument| Slot { write, dc: 0, table: 0, key: Key::Argument(argument) };
     let read = |name: &str| std::fs::read(format!("build/{name}.bin")).expect("the code");
     let mut tc = Tc::new(1).unwrap();
@@ -176,12 +255,20 @@ fn main() {
     }
     let copy = bank.store.lock().unwrap().clone();
     let committed: usize = std::thread::scope(|scope| {
-        let workers: Vec<_> = (0..THREADS).map(|w| scope.spawn({ let bank = &bank; move || bank.transfers(transfer, w + 1) })).collect();
+        let workers: Vec<_> = (0..THREADS)
+            .map(|w| {
+                scope.spawn({
+                    let bank = &bank;
+                    move || bank.transfers(transfer, w + 1)
+                })
+            })
+            .collect();
         std::thread::sleep(std::time::Duration::from_millis(20));
         bank.put_back(copy);
         workers.into_iter().map(|w| w.join().unwrap()).sum()
     });
     assert!(committed > 0);
-    let sum: u64 = bank.store.lock().unwrap().records.values().map(|v| u64::from_le_bytes(v[..8].try_into().unwrap())).sum();
+    let sum: u64 =
+        bank.store.lock().unwrap().records.values().map(|v| u64::from_le_bytes(v[..8].try_into().unwrap())).sum();
     println!("{} transfers by {THREADS} threads, sum {sum}", THREADS * EACH);
 }

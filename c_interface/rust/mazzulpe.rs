@@ -1,10 +1,15 @@
-//! Safe Rust over `libmazzulpe.a`: the transaction component, as `mazzulpe.h` documents it. The other two
-//! handles are alike.
+//! Safe Rust over `libmazzulpe.a`: each function of `mazzulpe.h` and `mazzulpe_object.h`, as they document them.
+//! `mz_load` is [`Tc::load`], `mz_dc_perform` [`Dc::perform`], `mz_program_run` [`Program::run`]; a handle is closed
+//! where it is dropped. `same_as_header.py` compares functions, codes, the calls' numbers and the frame with the header.
 //!
-//! A `Tc` is `Send` and not `Sync`: put it into a `Mutex` to share it. Nothing checks the declarations
-//! below against the library; `VERSION` is what they were written for.
+//! A handle is `Send` and not `Sync`: put it into a `Mutex` to share it.
 
-use std::alloc::{Layout, alloc, dealloc, handle_alloc_error};
+mod object;
+mod running;
+
+pub use running::{Carried, Ran};
+
+use std::alloc::{Layout, alloc, dealloc};
 use std::ptr::NonNull;
 
 pub const VERSION: u32 = 1;
@@ -33,23 +38,46 @@ struct Frame {
 /// The calls' numbers, as `mazzulpe.h` has them.
 mod call {
     pub const START_TC: u32 = 1;
+    pub const START_DC: u32 = 2;
+    pub const START_CODE: u32 = 3;
     pub const BYTES: u32 = 10;
     pub const SLOT: u32 = 11;
     pub const CLEAR: u32 = 12;
     pub const LOAD: u32 = 13;
+    pub const FIND: u32 = 14;
     pub const ADMIT: u32 = 20;
+    pub const BLOCKED: u32 = 21;
     pub const ASK: u32 = 22;
     pub const UNDO: u32 = 23;
     pub const WIRE: u32 = 24;
     pub const ANSWER: u32 = 25;
+    pub const GIVE_UP: u32 = 26;
     pub const END: u32 = 27;
+    pub const OPEN_COUNT: u32 = 28;
+    pub const LOG_LENGTH: u32 = 29;
+    pub const LOG_BYTES: u32 = 30;
+    pub const SITE: u32 = 31;
     pub const TOLD: u32 = 32;
     pub const REDO_NEXT: u32 = 33;
     pub const REDONE: u32 = 34;
+    pub const LOG_ANEW: u32 = 35;
+    pub const LOW_WATER: u32 = 36;
+    pub const PERFORM: u32 = 40;
+    pub const RESTART: u32 = 41;
+    pub const GET: u32 = 42;
+    pub const ROWS: u32 = 43;
+    pub const ROW: u32 = 44;
+    pub const CHECKPOINT: u32 = 46;
+    pub const HEAR_MARK: u32 = 48;
+    pub const FORGET: u32 = 49;
+    pub const VERIFY: u32 = 50;
+    pub const RUN: u32 = 51;
+    pub const RESUME: u32 = 52;
 }
 
 unsafe extern "C" {
     fn mazzulpe_size() -> usize;
+    fn mazzulpe_frame_size() -> usize;
     fn mazzulpe_version() -> u32;
     fn mazzulpe_open(room: *mut Frame);
     fn mazzulpe_call(handle: *mut Frame) -> u32;
@@ -66,11 +94,106 @@ impl std::fmt::Debug for Refusal {
     }
 }
 
-const BAD_ARGUMENT: Refusal = Refusal(0x5702);
-pub const BUSY: Refusal = Refusal(0x4201);
-pub const STRANGER: Refusal = Refusal(0x4909);
+const fn code(letter: char, number: u32) -> Refusal {
+    Refusal((letter as u32) << 8 | number)
+}
+
+pub const NO_SUCH_CALL: Refusal = code('W', 1);
+pub const BAD_ARGUMENT: Refusal = code('W', 2);
+pub const NOT_TEXT: Refusal = code('W', 3);
+pub const BAD_OBJECT: Refusal = code('W', 4);
+pub const MEMORY: Refusal = code('W', 5);
+pub const NO_PLACE: Refusal = code('W', 6);
+pub const SILENT: Refusal = code('W', 7);
+pub const OTHER_LIBRARY: Refusal = code('W', 8);
+pub const BUSY: Refusal = code('B', 1);
+pub const NUMBERS_SPENT: Refusal = code('B', 2);
+pub const NO_PROCEDURE: Refusal = code('B', 4);
+pub const ARGUMENT_COUNT: Refusal = code('B', 5);
+pub const NO_TXN: Refusal = code('I', 2);
+pub const NOT_OVER: Refusal = code('I', 5);
+pub const NOTHING_OPEN: Refusal = code('I', 6);
+pub const STRANGER: Refusal = code('I', 9);
+pub const NO_DC: Refusal = code('I', 10);
+pub const INCARNATIONS_SPENT: Refusal = code('I', 12);
 /// The data component is down, so nothing is sent there.
-pub const DC_DOWN: Refusal = Refusal(0x490d);
+pub const DC_DOWN: Refusal = code('I', 13);
+pub const OLD_NEWS: Refusal = code('I', 15);
+pub const NOT_DOWN: Refusal = code('I', 16);
+/// The data component lost what the log can't redo any more.
+pub const FORGOTTEN: Refusal = code('Q', 3);
+pub const NOTHING_YET: Refusal = code('G', 1);
+pub const TXNS_OPEN: Refusal = code('G', 2);
+pub const ONE_DOWN: Refusal = code('G', 4);
+pub const BEHIND: Refusal = code('G', 5);
+pub const ADMISSIONS_SPENT: Refusal = code('G', 6);
+pub const NAME_TAKEN: Refusal = code('P', 1);
+pub const DC_UNKNOWN: Refusal = code('P', 2);
+
+const VIOLATIONS: [&str; 14] = [
+    "Backward",
+    "OutOfCode",
+    "IntoWide",
+    "FallsOff",
+    "EmptyRegister",
+    "WritesR10",
+    "NotAPointer",
+    "OutOfBounds",
+    "ReadOnly",
+    "MaybeNull",
+    "UnknownHelper",
+    "SlotUnknown",
+    "ModeTooWeak",
+    "PointerReturned",
+];
+const CODE_FAULTS: [&str; 7] =
+    ["NoCode", "Length", "TooLong", "WideCut", "UnusedField", "Undefined", "OutsideProfile"];
+const SLOT_FAULTS: [&str; 3] = ["TooManyArgs", "TooManySlots", "NoSuchArg"];
+
+impl Refusal {
+    /// What it says, in a word, as `Busy`; `?` of a number that is none.
+    pub fn code_text(self) -> &'static str {
+        let listed =
+            |words: &[&'static str]| words.get(((self.0 & 255) as usize).wrapping_sub(1)).copied().unwrap_or("?");
+        match self {
+            NO_SUCH_CALL => "NoSuchCall",
+            BAD_ARGUMENT => "BadArgument",
+            NOT_TEXT => "NotText",
+            BAD_OBJECT => "BadObject",
+            MEMORY => "Memory",
+            NO_PLACE => "NoPlace",
+            SILENT => "Silent",
+            OTHER_LIBRARY => "OtherLibrary",
+            BUSY => "Busy",
+            NUMBERS_SPENT => "NumbersSpent",
+            NO_PROCEDURE => "NoProcedure",
+            ARGUMENT_COUNT => "ArgumentCount",
+            NO_TXN => "NoTxn",
+            NOT_OVER => "NotOver",
+            NOTHING_OPEN => "NothingOpen",
+            STRANGER => "Stranger",
+            NO_DC => "NoDc",
+            INCARNATIONS_SPENT => "IncarnationsSpent",
+            DC_DOWN => "Down",
+            OLD_NEWS => "OldNews",
+            NOT_DOWN => "NotDown",
+            FORGOTTEN => "Forgotten",
+            NOTHING_YET => "NothingYet",
+            TXNS_OPEN => "TxnsOpen",
+            ONE_DOWN => "OneDown",
+            BEHIND => "Behind",
+            ADMISSIONS_SPENT => "AdmissionsSpent",
+            NAME_TAKEN => "NameTaken",
+            DC_UNKNOWN => "DcUnknown",
+            Refusal(code) => match (code >> 8) as u8 {
+                b'V' => listed(&VIOLATIONS),
+                b'E' => listed(&CODE_FAULTS),
+                b'S' => listed(&SLOT_FAULTS),
+                _ => "?",
+            },
+        }
+    }
+}
 
 pub type Value = [u8; 64];
 
@@ -87,6 +210,23 @@ pub enum Op {
     Insert(Record, Value),
     Update(Record, Value),
     Delete(Record),
+}
+
+impl Op {
+    pub fn record(&self) -> Record {
+        match *self {
+            Op::Read(record) | Op::Insert(record, _) | Op::Update(record, _) | Op::Delete(record) => record,
+        }
+    }
+
+    fn of(op: u32, record: Record, value: Value) -> Op {
+        match op {
+            1 => Op::Read(record),
+            2 => Op::Insert(record, value),
+            3 => Op::Update(record, value),
+            _ => Op::Delete(record),
+        }
+    }
 }
 
 #[derive(Clone, Copy, Debug)]
@@ -110,6 +250,21 @@ pub enum Said {
     Missing,
     NoRoom,
     Old,
+}
+
+impl Said {
+    fn of(kind: u32, value: Value) -> Said {
+        match kind {
+            1 => Said::Value(value),
+            2 => Said::Absent,
+            3 => Said::Done,
+            4 => Said::DoneWas(value),
+            5 => Said::Duplicate,
+            6 => Said::Missing,
+            7 => Said::NoRoom,
+            _ => Said::Old,
+        }
+    }
 }
 
 /// What is said to a wire, by an incarnation of its data component.
@@ -160,33 +315,135 @@ pub enum Outcome {
     NoRoom,
 }
 
-/// A transaction component.
-pub struct Tc {
+impl Outcome {
+    fn of(kind: u32, value: u64) -> Outcome {
+        match kind {
+            1 => Outcome::Committed,
+            2 => Outcome::Aborted(value),
+            _ => Outcome::NoRoom,
+        }
+    }
+}
+
+/// How a transaction ended, and the place of its end in the log, from 0.
+#[derive(Clone, Copy, Debug, PartialEq, Eq)]
+pub struct Receipt {
+    pub outcome: Outcome,
+    pub place: u64,
+}
+
+/// Why a call wasn't admitted.
+#[derive(Clone, Copy, Debug, PartialEq, Eq)]
+pub enum NotAdmitted {
+    /// The least record in the way, and its least holder.
+    Busy {
+        record: Record,
+        holder: u64,
+    },
+    Refused(Refusal),
+}
+
+/// An event of the log.
+#[derive(Clone, Debug)]
+pub enum Event {
+    Admit {
+        txn: u64,
+        procedure: u64,
+        args: Vec<u64>,
+    },
+    Ask {
+        txn: u64,
+        number: u64,
+        op: Op,
+    },
+    Answer {
+        txn: u64,
+        number: u64,
+        said: Said,
+    },
+    Undo {
+        txn: u64,
+        number: u64,
+        op: Op,
+    },
+    End {
+        txn: u64,
+        outcome: Outcome,
+    },
+    /// The oldest of a log that began anew: the last transaction and number before it.
+    Checkpoint {
+        admitted: u64,
+        given: u64,
+    },
+}
+
+impl Event {
+    /// What the 96 bytes of an event say, if they are one's.
+    pub fn event_of(bytes: &[u8; 96]) -> Option<Event> {
+        let number_at = |at: usize| u64::from_le_bytes(bytes[at..at + 8].try_into().expect("8 bytes"));
+        let short_at = |at: usize| u16::from_le_bytes([bytes[at], bytes[at + 1]]);
+        let (sub, txn, word) = (u32::from(bytes[1]), number_at(8), number_at(16));
+        let value: Value = bytes[32..].try_into().expect("64 bytes");
+        let op = || Op::of(sub, Record { dc: short_at(2), table: short_at(4), key: number_at(24) }, value);
+        Some(match bytes[0] {
+            1 => Event::Admit {
+                txn,
+                procedure: word,
+                args: (0..usize::from(bytes[1]).min(8)).map(|i| number_at(32 + 8 * i)).collect(),
+            },
+            2 => Event::Ask { txn, number: word, op: op() },
+            3 => Event::Answer { txn, number: word, said: Said::of(sub, value) },
+            4 => Event::Undo { txn, number: word, op: op() },
+            5 => Event::End { txn, outcome: Outcome::of(sub, word) },
+            6 => Event::Checkpoint { admitted: txn, given: word },
+            _ => return None,
+        })
+    }
+}
+
+/// Where a run of a program stands.
+#[derive(Clone, Copy, Debug)]
+pub enum At {
+    End(u64),
+    Operation(Op),
+}
+
+/// Where it stands, and how many instructions it has executed.
+#[derive(Clone, Copy, Debug)]
+pub struct Stop {
+    pub at: At,
+    pub executed: u64,
+}
+
+/// Room that the library has made a handle of.
+struct Handle {
     frame: NonNull<Frame>,
 }
 
 // SAFETY: a handle has no ties to the thread that made it, and the library proves its state `Send`.
-unsafe impl Send for Tc {}
+unsafe impl Send for Handle {}
 
 fn layout() -> Layout {
     // SAFETY: it takes and touches nothing.
     Layout::from_size_align(unsafe { mazzulpe_size() }, 16).expect("a size")
 }
 
-impl Tc {
-    /// For data components numbered below `dcs`.
-    pub fn new(dcs: u16) -> Result<Tc, Refusal> {
-        // SAFETY: it takes and touches nothing.
-        assert_eq!(unsafe { mazzulpe_version() }, VERSION);
+impl Handle {
+    fn new(what: u32, word: u64, place: u64) -> Result<Handle, Refusal> {
+        // SAFETY: they take and touch nothing.
+        if unsafe { mazzulpe_version() != VERSION || mazzulpe_frame_size() != size_of::<Frame>() } {
+            return Err(OTHER_LIBRARY);
+        }
         // SAFETY: the size isn't 0.
         let room = unsafe { alloc(layout()) };
-        let Some(frame) = NonNull::new(room.cast::<Frame>()) else { handle_alloc_error(layout()) };
+        let frame = NonNull::new(room.cast::<Frame>()).ok_or(MEMORY)?;
         // SAFETY: it is room for an engine, aligned as it has to be, and nobody else's.
         unsafe { mazzulpe_open(frame.as_ptr()) };
-        let mut tc = Tc { frame };
-        tc.frame().word = u64::from(dcs);
-        tc.call(call::START_TC)?;
-        Ok(tc)
+        let mut handle = Handle { frame };
+        handle.frame().word = word;
+        handle.frame().place = place;
+        handle.call(what)?;
+        Ok(handle)
     }
 
     fn frame(&mut self) -> &mut Frame {
@@ -203,15 +460,32 @@ impl Tc {
         }
     }
 
-    /// Verifies and loads a procedure; on a refusal also the slot.
-    pub fn load(&mut self, name: &str, code: &[u8], slots: &[Slot], args: u8) -> Result<u64, (Refusal, u64)> {
-        let at = |tc: &mut Tc, r: Refusal| (r, tc.frame().place);
-        self.call(call::CLEAR).map_err(|r| (r, 0))?;
+    /// A call without arguments, and the number that it answers.
+    fn counted(&mut self, what: u32) -> u64 {
+        self.call(what).expect("a call of this handle that is never refused");
+        self.frame().word
+    }
+
+    fn put_bytes(&mut self, bytes: &[u8]) -> Result<(), Refusal> {
+        let f = self.frame();
+        f.bytes.get_mut(..bytes.len()).ok_or(BAD_ARGUMENT)?.copy_from_slice(bytes);
+        f.count = bytes.len() as u32;
+        Ok(())
+    }
+
+    fn put_args(&mut self, args: &[u64]) -> Result<(), Refusal> {
+        let f = self.frame();
+        f.args.get_mut(..args.len()).ok_or(BAD_ARGUMENT)?.copy_from_slice(args);
+        f.count = args.len() as u32;
+        Ok(())
+    }
+
+    /// Hands in code and its access slots.
+    fn hand_in(&mut self, code: &[u8], slots: &[Slot]) -> Result<(), Refusal> {
+        self.call(call::CLEAR)?;
         for part in code.chunks(256) {
-            let f = self.frame();
-            f.bytes[..part.len()].copy_from_slice(part);
-            f.count = part.len() as u32;
-            self.call(call::BYTES).map_err(|r| (r, 0))?;
+            self.put_bytes(part)?;
+            self.call(call::BYTES)?;
         }
         for slot in slots {
             let f = self.frame();
@@ -222,33 +496,14 @@ impl Tc {
                 Key::Fixed(key) => (0, key),
                 Key::Argument(argument) => (1, u64::from(argument)),
             };
-            self.call(call::SLOT).map_err(|r| (r, 0))?;
+            self.call(call::SLOT)?;
         }
-        let f = self.frame();
-        if name.len() > f.bytes.len() {
-            return Err((BAD_ARGUMENT, 0));
-        }
-        f.bytes[..name.len()].copy_from_slice(name.as_bytes());
-        f.count = name.len() as u32;
-        f.word = u64::from(args);
-        f.place = 0;
-        match self.call(call::LOAD) {
-            Ok(()) => Ok(self.frame().word),
-            Err(r) => Err(at(self, r)),
-        }
+        Ok(())
     }
 
-    /// Admits a call, which holds its locks from now on.
-    pub fn admit(&mut self, procedure: u64, args: &[u64]) -> Result<u64, Refusal> {
+    fn put_record(&mut self, record: &Record) {
         let f = self.frame();
-        if args.len() > 8 {
-            return Err(BAD_ARGUMENT);
-        }
-        f.args[..args.len()].copy_from_slice(args);
-        f.count = args.len() as u32;
-        f.word = procedure;
-        self.call(call::ADMIT)?;
-        Ok(self.frame().txn)
+        (f.dc, f.table, f.key) = (record.dc, record.table, record.key);
     }
 
     fn record(&mut self) -> Record {
@@ -256,28 +511,135 @@ impl Tc {
         Record { dc: f.dc, table: f.table, key: f.key }
     }
 
-    fn wire(&mut self) -> Wire {
+    fn op(&mut self) -> Op {
         let record = self.record();
         let f = self.frame();
-        let op = match f.op {
-            1 => Op::Read(record),
-            2 => Op::Insert(record, f.value),
-            3 => Op::Update(record, f.value),
-            _ => Op::Delete(record),
-        };
+        Op::of(f.op, record, f.value)
+    }
+
+    fn wire(&mut self) -> Wire {
+        let op = self.op();
+        let f = self.frame();
         Wire { number: f.number, low_water: f.low_water, incarnation: f.incarnation, redo: f.redo != 0, op }
+    }
+
+    fn put_wire(&mut self, wire: &Wire) {
+        let (op, record, value) = match wire.op {
+            Op::Read(record) => (1, record, [0; 64]),
+            Op::Insert(record, value) => (2, record, value),
+            Op::Update(record, value) => (3, record, value),
+            Op::Delete(record) => (4, record, [0; 64]),
+        };
+        self.put_record(&record);
+        let f = self.frame();
+        (f.op, f.value, f.number) = (op, value, wire.number);
+        (f.low_water, f.incarnation, f.redo) = (wire.low_water, wire.incarnation, u32::from(wire.redo));
+    }
+
+    fn put_said(&mut self, said: &Said) {
+        let f = self.frame();
+        (f.kind, f.value) = match *said {
+            Said::Value(value) => (1, value),
+            Said::Absent => (2, [0; 64]),
+            Said::Done => (3, [0; 64]),
+            Said::DoneWas(value) => (4, value),
+            Said::Duplicate => (5, [0; 64]),
+            Said::Missing => (6, [0; 64]),
+            Said::NoRoom => (7, [0; 64]),
+            Said::Old => (8, [0; 64]),
+        };
+    }
+
+    fn put_reply(&mut self, reply: &Reply) {
+        self.put_said(&reply.said);
+        let f = self.frame();
+        (f.number, f.incarnation) = (reply.number, reply.incarnation);
+    }
+
+    fn stop(&mut self) -> Stop {
+        let executed = self.frame().place;
+        let at = match self.frame().op {
+            0 => At::End(self.frame().word),
+            _ => At::Operation(self.op()),
+        };
+        Stop { at, executed }
+    }
+}
+
+impl Drop for Handle {
+    fn drop(&mut self) {
+        // SAFETY: the handle is open, and nobody reaches it any more.
+        unsafe {
+            mazzulpe_close(self.frame.as_ptr());
+            dealloc(self.frame.as_ptr().cast(), layout());
+        }
+    }
+}
+
+/// A transaction component.
+pub struct Tc {
+    handle: Handle,
+    /// The digest of the object file that want of memory cut off, and how many of its procedures are loaded.
+    cut_off: Option<(u64, usize)>,
+}
+
+impl Tc {
+    /// For data components numbered below `dcs`.
+    pub fn new(dcs: u16) -> Result<Tc, Refusal> {
+        Ok(Tc { handle: Handle::new(call::START_TC, u64::from(dcs), 0)?, cut_off: None })
+    }
+
+    fn frame(&mut self) -> &mut Frame {
+        self.handle.frame()
+    }
+
+    /// Verifies and loads a procedure; on a refusal also the slot.
+    pub fn load(&mut self, name: &str, code: &[u8], slots: &[Slot], args: u8) -> Result<u64, (Refusal, u64)> {
+        self.handle.hand_in(code, slots).and_then(|()| self.handle.put_bytes(name.as_bytes())).map_err(|r| (r, 0))?;
+        self.frame().word = u64::from(args);
+        self.frame().place = 0;
+        match self.handle.call(call::LOAD) {
+            Ok(()) => Ok(self.frame().word),
+            Err(refusal) => Err((refusal, self.frame().place)),
+        }
+    }
+
+    /// The number of the procedure with this name.
+    pub fn find(&mut self, name: &str) -> Result<u64, Refusal> {
+        self.handle.put_bytes(name.as_bytes())?;
+        self.handle.call(call::FIND)?;
+        Ok(self.frame().word)
+    }
+
+    /// Admits a call, which holds its locks from now on: its serial number.
+    pub fn admit(&mut self, procedure: u64, args: &[u64]) -> Result<u64, NotAdmitted> {
+        self.handle.put_args(args).map_err(NotAdmitted::Refused)?;
+        self.frame().word = procedure;
+        match self.handle.call(call::ADMIT) {
+            Ok(()) => Ok(self.frame().txn),
+            Err(BUSY) => Err(NotAdmitted::Busy { record: self.handle.record(), holder: self.frame().txn }),
+            Err(refusal) => Err(NotAdmitted::Refused(refusal)),
+        }
+    }
+
+    /// Whether others stand in the way of this call and each of them is in doubt or stuck.
+    pub fn blocked(&mut self, procedure: u64, args: &[u64]) -> Result<bool, Refusal> {
+        self.handle.put_args(args)?;
+        self.frame().word = procedure;
+        self.handle.call(call::BLOCKED)?;
+        Ok(self.frame().word != 0)
     }
 
     fn next(&mut self, what: u32, txn: u64) -> Result<Next, Refusal> {
         self.frame().txn = txn;
-        self.call(what)?;
+        self.handle.call(what)?;
         Ok(match self.frame().kind {
-            1 => Next::Request(self.wire()),
+            1 => Next::Request(self.handle.wire()),
             2 => Next::Undoing,
             3 => Next::Over,
             4 => Next::Stuck(self.frame().number),
             5 => Next::Waits(self.frame().number),
-            8 => Next::Down(self.record()),
+            8 => Next::Down(self.handle.record()),
             _ => Next::Running,
         })
     }
@@ -295,78 +657,193 @@ impl Tc {
     /// The open request's wire of now.
     pub fn resend(&mut self, txn: u64) -> Result<Wire, Refusal> {
         self.frame().txn = txn;
-        self.call(call::WIRE)?;
-        Ok(self.wire())
-    }
-
-    fn put_reply(&mut self, reply: &Reply) {
-        let f = self.frame();
-        f.number = reply.number;
-        f.incarnation = reply.incarnation;
-        (f.kind, f.value) = match reply.said {
-            Said::Value(value) => (1, value),
-            Said::Absent => (2, [0; 64]),
-            Said::Done => (3, [0; 64]),
-            Said::DoneWas(value) => (4, value),
-            Said::Duplicate => (5, [0; 64]),
-            Said::Missing => (6, [0; 64]),
-            Said::NoRoom => (7, [0; 64]),
-            Said::Old => (8, [0; 64]),
-        };
+        self.handle.call(call::WIRE)?;
+        Ok(self.handle.wire())
     }
 
     /// Takes a reply in.
     pub fn answer(&mut self, txn: u64, reply: &Reply) -> Result<(), Refusal> {
-        self.put_reply(reply);
+        self.handle.put_reply(reply);
         self.frame().txn = txn;
-        self.call(call::ANSWER)
+        self.handle.call(call::ANSWER)
     }
 
-    /// A data component has restarted: it is down.
+    /// Gives the open request up, and says its number: its transaction is in doubt.
+    pub fn give_up(&mut self, txn: u64) -> Result<u64, Refusal> {
+        self.frame().txn = txn;
+        self.handle.call(call::GIVE_UP)?;
+        Ok(self.frame().number)
+    }
+
+    /// Ends it, and frees its locks.
+    pub fn end(&mut self, txn: u64) -> Result<Receipt, Refusal> {
+        self.frame().txn = txn;
+        self.handle.call(call::END)?;
+        let f = self.frame();
+        Ok(Receipt { outcome: Outcome::of(f.kind, f.word), place: f.place })
+    }
+
+    /// How many transactions are open.
+    pub fn open_count(&mut self) -> u64 {
+        self.handle.counted(call::OPEN_COUNT)
+    }
+
+    /// The low-water mark: each number up to it is answered.
+    pub fn low_water(&mut self) -> u64 {
+        self.handle.counted(call::LOW_WATER);
+        self.frame().low_water
+    }
+
+    /// The log begins anew, as one event. `kept`: the least mark that a checkpoint of your storage has kept for good.
+    pub fn checkpoint(&mut self, kept: u64) -> Result<(), Refusal> {
+        self.frame().low_water = kept;
+        self.handle.call(call::LOG_ANEW)
+    }
+
+    /// What is known of a data component: its incarnation, and whether it is down.
+    pub fn site(&mut self, dc: u16) -> Result<(u64, bool), Refusal> {
+        self.frame().dc = dc;
+        self.handle.call(call::SITE)?;
+        Ok((self.frame().incarnation, self.frame().kind == 2))
+    }
+
+    /// A data component has restarted: it is down. [`FORGOTTEN`] is the loss of that storage.
     pub fn told(&mut self, dc: u16, news: News) -> Result<(), Refusal> {
         let f = self.frame();
-        f.dc = dc;
-        f.incarnation = news.incarnation;
-        f.low_water = news.mark;
-        self.call(call::TOLD)
+        (f.dc, f.incarnation, f.low_water) = (dc, news.incarnation, news.mark);
+        self.handle.call(call::TOLD)
     }
 
     /// What is to be redone next at a data component that is down; `None`: it is up.
     pub fn redo_next(&mut self, dc: u16) -> Result<Option<Wire>, Refusal> {
         self.frame().dc = dc;
-        self.call(call::REDO_NEXT)?;
+        self.handle.call(call::REDO_NEXT)?;
         Ok(match self.frame().kind {
-            1 => Some(self.wire()),
+            1 => Some(self.handle.wire()),
             _ => None,
         })
     }
 
     /// Takes the reply to the operation under redo.
     pub fn redone(&mut self, dc: u16, reply: &Reply) -> Result<(), Refusal> {
-        self.put_reply(reply);
+        self.handle.put_reply(reply);
         self.frame().dc = dc;
-        self.call(call::REDONE)
+        self.handle.call(call::REDONE)
     }
 
-    /// Ends it, and frees its locks.
-    pub fn end(&mut self, txn: u64) -> Result<Outcome, Refusal> {
-        self.frame().txn = txn;
-        self.call(call::END)?;
-        let f = self.frame();
-        Ok(match f.kind {
-            1 => Outcome::Committed,
-            2 => Outcome::Aborted(f.word),
-            _ => Outcome::NoRoom,
-        })
+    /// How many events the log has.
+    pub fn log_length(&mut self) -> u64 {
+        self.handle.counted(call::LOG_LENGTH)
+    }
+
+    /// The 96 bytes of the event at this place, from 0.
+    pub fn log_bytes(&mut self, place: u64) -> Result<[u8; 96], Refusal> {
+        self.frame().place = place;
+        self.handle.call(call::LOG_BYTES)?;
+        Ok(self.frame().bytes[..96].try_into().expect("96 bytes"))
+    }
+
+    /// The event at this place, from 0.
+    pub fn log_at(&mut self, place: u64) -> Result<Event, Refusal> {
+        Event::event_of(&self.log_bytes(place)?).ok_or(NO_PLACE)
     }
 }
 
-impl Drop for Tc {
-    fn drop(&mut self) {
-        // SAFETY: the handle is open, and nobody reaches it any more.
-        unsafe {
-            mazzulpe_close(self.frame.as_ptr());
-            dealloc(self.frame.as_ptr().cast(), layout());
-        }
+/// A data component in memory: it performs each number once.
+pub struct Dc {
+    handle: Handle,
+}
+
+impl Dc {
+    /// With room for so many records (at most 65536) and operations (at most 1048576).
+    pub fn new(rows: u64, operations: u64) -> Result<Dc, Refusal> {
+        Ok(Dc { handle: Handle::new(call::START_DC, rows, operations)? })
+    }
+
+    /// Performs a wire. [`SILENT`]: there is no reply.
+    pub fn perform(&mut self, wire: &Wire) -> Result<Reply, Refusal> {
+        self.handle.put_wire(wire);
+        self.handle.call(call::PERFORM)?;
+        let f = self.handle.frame();
+        Ok(Reply { number: f.number, incarnation: f.incarnation, said: Said::of(f.kind, f.value) })
+    }
+
+    /// Keeps what it has: a restart loses what comes after this.
+    pub fn checkpoint(&mut self) -> Result<(), Refusal> {
+        self.handle.call(call::CHECKPOINT)
+    }
+
+    /// Hears a low-water mark that comes with no wire.
+    pub fn hear_mark(&mut self, incarnation: u64, low_water: u64) -> Result<(), Refusal> {
+        let f = self.handle.frame();
+        (f.incarnation, f.low_water) = (incarnation, low_water);
+        self.handle.call(call::HEAR_MARK)
+    }
+
+    /// Forgets the operations that it performed, and keeps the records, where its last checkpoint has all of them
+    /// under the mark that it kept; whether it did.
+    pub fn forget(&mut self) -> Result<bool, Refusal> {
+        self.handle.call(call::FORGET)?;
+        Ok(self.handle.frame().word == 1)
+    }
+
+    /// Loses what came after the last checkpoint, and begins the next incarnation.
+    pub fn restart(&mut self) -> Result<News, Refusal> {
+        self.handle.call(call::RESTART)?;
+        let f = self.handle.frame();
+        Ok(News { incarnation: f.incarnation, mark: f.low_water })
+    }
+
+    /// The value of a record; its `dc` isn't looked at.
+    pub fn get(&mut self, record: &Record) -> Result<Option<Value>, Refusal> {
+        self.handle.put_record(record);
+        self.handle.call(call::GET)?;
+        let f = self.handle.frame();
+        Ok((f.kind == 1).then_some(f.value))
+    }
+
+    /// How many records there are.
+    pub fn rows(&mut self) -> u64 {
+        self.handle.counted(call::ROWS)
+    }
+
+    /// The record at this place, from 0, and its value; records rise.
+    pub fn row(&mut self, place: u64) -> Result<(Record, Value), Refusal> {
+        self.handle.frame().place = place;
+        self.handle.call(call::ROW)?;
+        Ok((self.handle.record(), self.handle.frame().value))
+    }
+}
+
+/// Code that is run outside of transactions, whose questions you answer.
+pub struct Program {
+    handle: Handle,
+}
+
+impl Program {
+    pub fn new() -> Result<Program, Refusal> {
+        Ok(Program { handle: Handle::new(call::START_CODE, 0, 0)? })
+    }
+
+    /// As [`Tc::load`]: the code is kept where it is accepted, in the place of the code before.
+    pub fn verify(&mut self, code: &[u8], slots: &[Slot], args: u8) -> Result<(), (Refusal, u64)> {
+        self.handle.hand_in(code, slots).map_err(|r| (r, 0))?;
+        self.handle.frame().word = u64::from(args);
+        self.handle.frame().place = 0;
+        self.handle.call(call::VERIFY).map_err(|r| (r, self.handle.frame().place))
+    }
+
+    /// Runs it from its beginning to its end or its first operation.
+    pub fn run(&mut self, args: &[u64]) -> Result<Stop, Refusal> {
+        self.handle.put_args(args)?;
+        self.handle.call(call::RUN)?;
+        Ok(self.handle.stop())
+    }
+
+    /// Goes on from the operation with what is said to it.
+    pub fn resume(&mut self, said: &Said) -> Result<Stop, Refusal> {
+        self.handle.put_said(said);
+        self.handle.call(call::RESUME)?;
+        Ok(self.handle.stop())
     }
 }

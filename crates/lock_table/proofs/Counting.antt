@@ -25,7 +25,7 @@ use Rattle.lock_table.specs.Holds.{hold, reads, writes, readers, writers, hold_o
 abbrev pub total : (List Lock → ℕ) → Sets → ℕ
 total g sets = sum_by (λ e. g e.1) sets
 
-total_first : (g : List Lock → ℕ) (e : ℕ × List Lock) (sets : Sets) → total g (e ∷ sets) ≡ g e.1 + total g sets
+pub total_first : (g : List Lock → ℕ) (e : ℕ × List Lock) (sets : Sets) → total g (e ∷ sets) ≡ g e.1 + total g sets
 total_first g e sets = sum_by-cons (λ (x : ℕ × List Lock). g x.1) e sets
 
 -- what the transaction had counts nothing

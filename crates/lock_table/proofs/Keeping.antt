@@ -2,15 +2,16 @@
 use Rattle.std.proofs.Common.{◌≡◌, ℕ, nat_eq, List, sym, ap, ap₂, subst, ◌∙◌}
 use Rattle.std.specs.Prelude.{Option, Some, None, IfNone, IfSome}
 use Rattle.std.specs.Map.{lookup}
-use Rattle.indexmap.specs.IndexMap.{IndexMap, get, insert_entry, swap_remove_entry, IsUnique}
+use Rattle.indexmap.specs.IndexMap.{IndexMap, insert_entry, swap_remove_entry, IsUnique}
 use Rattle.access_slots.specs.declared.slot.Record.{Record}
 use Rattle.access_slots.specs.declared.lock.Lock.{Lock}
-use Rattle.access_slots.specs.Locks.{record_eq, mode_in}
+use Rattle.access_slots.specs.Locks.{mode_in}
 use Rattle.access_slots.specs.Held.{Compatible}
 use Rattle.lock_table.specs.declared.table.Busy.{Busy}
 use Rattle.lock_table.specs.declared.table.Hold.{Hold}
+use Rattle.lock_table.specs.declared.table.Holding.{Holding}
 use Rattle.lock_table.specs.Facts.{Sets, held_in, HoldsNothing}
-use Rattle.lock_table.specs.Holds.{readers, writers, held_more, held_less, AreExclusive, IsKept}
+use Rattle.lock_table.specs.Holds.{hold_at, readers, writers, held_more, held_less, AreExclusive, IsKept}
 use Rattle.lock_table.proofs.Barring.{free_at}
 use Rattle.lock_table.proofs.Counting.{IsFree, held_at, put_held, put_exclusive, taken_held, taken_exclusive}
 use Rattle.lock_table.proofs.Steps.{AreSingle, single}
@@ -37,12 +38,12 @@ module _ (sets : Sets) (t : ℕ) (set : List Lock) (once : AreSingle sets) (noth
   put_excludes : AreExclusive sets → AreExclusive (insert_entry nat_eq sets t set)
   put_excludes exclusive r some = put_exclusive sets t set r (nothing r) (free r) (exclusive r) some
 
-module _ {S T : Type 0} (sets sets' : IndexMap ℕ (List Lock) S) (records records' : IndexMap Record Hold T) (t : ℕ) (set locks : List Lock) (kept : IsKept sets records) (are : locks ≡ set) where
+module _ {S T : Type 0} (sets sets' : IndexMap ℕ (List Lock) S) (records records' : IndexMap Record Holding T) (t : ℕ) (set locks : List Lock) (kept : IsKept sets records) (are : locks ≡ set) where
   -- a transaction that had nothing has a set
   pub put_kept : (now : Sets) (copy : List Lock) → sets.entries ≡ now → copy ≡ set → HoldsNothing (held_in now) t
       → Compatible (held_in now) (mode_in set)
       → sets'.entries ≡ insert_entry nat_eq sets.entries t copy → IsUnique nat_eq sets'
-      → ((r : Record) → get record_eq records' r ≡ held_more (mode_in locks r) (get record_eq records r)) → IsKept sets' records'
+      → ((r : Record) → hold_at records' r ≡ held_more (mode_in locks r) (hold_at records r)) → IsKept sets' records'
   put_kept now copy is same nothing compatible entries unique more =
       let once = single sets.entries kept.unique in
       let idle = subst (λ (ss : Sets). HoldsNothing (held_in ss) t) (sym is) nothing in
@@ -57,7 +58,7 @@ module _ {S T : Type 0} (sets sets' : IndexMap ℕ (List Lock) S) (records recor
 
   -- its set is taken away
   pub taken_kept : lookup (nat_eq t) sets.entries ≡ Some set → sets'.entries ≡ swap_remove_entry (nat_eq t) sets.entries → IsUnique nat_eq sets'
-      → ((r : Record) → get record_eq records' r ≡ held_less (mode_in locks r) (get record_eq records r)) → IsKept sets' records'
+      → ((r : Record) → hold_at records' r ≡ held_less (mode_in locks r) (hold_at records r)) → IsKept sets' records'
   taken_kept found entries unique less = record {
     unique = unique;
     holds = λ r. less r ∙ ap₂ (λ (ls : List Lock) (h : Option Hold). held_less (mode_in ls r) h) are (kept.holds r)

@@ -1,3 +1,4 @@
+pub mod Alone
 pub mod Barring
 pub mod Counting
 pub mod Keeping

@@ -8,7 +8,7 @@ ghost use Rattle.access_slots.specs.Locks.{record_eq, mode_in, Rising};
 ghost use Rattle.access_slots.specs.Held.{excludes, Compatible, IsFirstInTheWay};
 ghost use Rattle.lock_table.specs.Clashes.{clashes};
 ghost use Rattle.lock_table.specs.Facts.{held_by, held_in, nobody, granted, released, AreHeld, HoldsNothing};
-ghost use Rattle.lock_table.specs.Holds.{hold_mode, held_more, held_less, AreHolds, AreFew};
+ghost use Rattle.lock_table.specs.Holds.{hold_at, hold_mode, held_more, held_less, AreHolds, AreFew};
 ghost use Rattle.lock_table.specs.Joining.Barring.{least, least_holder, first_busy};
 
 use crate::held::HeldLocks;
@@ -33,6 +33,24 @@ struct Hold {
     holders: usize,
 }
 
+// How a record is held, and its holders' numbers in one exclusive or: that of one alone is there to read.
+#[derive(Clone, Copy)]
+struct Holding {
+    hold: Hold,
+    mixed: u64,
+}
+
+impl Holding {
+    fn add(&mut self, txn: u64)
+        requires { self.old.hold.holders < 2 ^ 63 }
+        ensures mode { self.new.hold.mode ≡ self.old.hold.mode }
+        ensures holders { self.new.hold.holders ≡ self.old.hold.holders + 1 }
+    {
+        self.hold.holders += 1;
+        self.mixed ^= txn;
+    }
+}
+
 /// The locks that transactions hold, by their serial numbers (Lomet, Fekete, Weikum, Zwilling,
 /// CIDR 2009: the transaction component locks records). Contracts see who holds which record in
 /// which mode, and the set that is ready to be granted.
@@ -40,7 +58,7 @@ struct Hold {
 #[derive(Drop)]
 pub struct LockTable {
     alloc: Global,
-    records: IndexMap<Record, Hold>,
+    records: IndexMap<Record, Holding>,
     sets: IndexMap<u64, HeldLocks>,
     reserved: Option<HeldLocks>,
     idle: Vec<HeldLocks>,
@@ -158,7 +176,7 @@ impl LockTable {
         ensures spent { self.new.reserved ≡ None }
     {
         few(&self.sets);
-        add_holders(&mut self.records, set.locks());
+        add_holders(&mut self.records, txn, set.locks());
         match self.reserved.take() {
             Some(reserved) => put_set(&mut self.sets, txn, reserved),
             None => unreachable!(),
@@ -173,7 +191,7 @@ impl LockTable {
     {
         put_back(&mut self.idle, self.reserved.take());
         if let Some(set) = self.sets.swap_remove(&txn) {
-            take_holders(&mut self.records, set.locks());
+            take_holders(&mut self.records, txn, set.locks());
             put_back(&mut self.idle, Some(set));
         }
     }
@@ -252,47 +270,52 @@ fn put_set(sets: &mut IndexMap<u64, HeldLocks>, txn: u64, set: HeldLocks)
 
 // The lock's record has one holder more; one that nobody holds takes the lock's mode.
 #[inline(always)]
-fn add_holder(records: &mut IndexMap<Record, Hold>, lock: &Lock)
+fn add_holder(records: &mut IndexMap<Record, Holding>, txn: u64, lock: &Lock)
     requires room { 0 < spare records.old }
-    requires few { IfSome (get record_eq records.old lock.now.«record») (λ h. h.holders < 2 ^ 63) }
-    ensures held { (r : Record) → get record_eq records.new r ≡ (if record_eq lock.now.«record» r then
-        held_more (Some lock.now.mode) (get record_eq records.old lock.now.«record») else get record_eq records.old r) }
+    requires few { IfSome (hold_at records.old lock.now.«record») (λ h. h.holders < 2 ^ 63) }
+    ensures held { (r : Record) → hold_at records.new r ≡ (if record_eq lock.now.«record» r then
+        held_more (Some lock.now.mode) (hold_at records.old lock.now.«record») else hold_at records.old r) }
     ensures room { spare records.old ≤ spare records.new + 1 }
 {
-    let free = Hold {
-        mode: lock.mode,
-        holders: 0,
+    let free = Holding {
+        hold: Hold {
+            mode: lock.mode,
+            holders: 0,
+        },
+        mixed: 0,
     };
     match records.entry(lock.record) {
-        Ok(entry) => entry.or_insert(free).holders += 1,
+        Ok(entry) => entry.or_insert(free).add(txn),
         Err(_) => unreachable!(),
     }
 }
 
 // Each of these records has one holder more. There has to be room for all of them.
 #[inline(always)]
-fn add_holders(records: &mut IndexMap<Record, Hold>, locks: &[Lock])
+fn add_holders(records: &mut IndexMap<Record, Holding>, txn: u64, locks: &[Lock])
     requires room { length locks.now ≤ spare records.old }
     requires rising { Rising locks.now }
     requires few { AreFew records.old }
-    ensures { (r : Record) → get record_eq records.new r ≡ held_more (mode_in locks.now r) (get record_eq records.old r) }
+    ensures { (r : Record) → hold_at records.new r ≡ held_more (mode_in locks.now r) (hold_at records.old r) }
 {
     for lock in locks {
-        add_holder(records, lock);
+        add_holder(records, txn, lock);
     }
 }
 
 // The lock's record has one holder less; one without holders is taken out.
 #[inline(always)]
-fn take_holder(records: &mut IndexMap<Record, Hold>, lock: &Lock)
-    ensures { (r : Record) → get record_eq records.new r ≡ (if record_eq lock.now.«record» r then
-        held_less (Some lock.now.mode) (get record_eq records.old lock.now.«record») else get record_eq records.old r) }
+fn take_holder(records: &mut IndexMap<Record, Holding>, txn: u64, lock: &Lock)
+    ensures { (r : Record) → hold_at records.new r ≡ (if record_eq lock.now.«record» r then
+        held_less (Some lock.now.mode) (hold_at records.old lock.now.«record») else hold_at records.old r) }
 {
     let Some(index) = records.get_index_of(&lock.record) else {
         return;
     };
-    if records[index].holders > 1 {
-        records[index].holders -= 1;
+    if records[index].hold.holders > 1 {
+        let held = &mut records[index];
+        held.hold.holders -= 1;
+        held.mixed ^= txn;
         return;
     }
     records.swap_remove_index(index);
@@ -300,18 +323,18 @@ fn take_holder(records: &mut IndexMap<Record, Hold>, lock: &Lock)
 
 // Each of these records has one holder less.
 #[inline(always)]
-fn take_holders(records: &mut IndexMap<Record, Hold>, locks: &[Lock])
+fn take_holders(records: &mut IndexMap<Record, Holding>, txn: u64, locks: &[Lock])
     requires { Rising locks.now }
-    ensures { (r : Record) → get record_eq records.new r ≡ held_less (mode_in locks.now r) (get record_eq records.old r) }
+    ensures { (r : Record) → hold_at records.new r ≡ held_less (mode_in locks.now r) (hold_at records.old r) }
 {
     for lock in locks {
-        take_holder(records, lock);
+        take_holder(records, txn, lock);
     }
 }
 
 // Whether the record is held.
-fn is_in(records: &IndexMap<Record, Hold>, name: &Record) -> bool
-    ensures { result ≡ is_some (get record_eq records.now name.now) }
+fn is_in(records: &IndexMap<Record, Holding>, name: &Record) -> bool
+    ensures { result ≡ is_some (hold_at records.now name.now) }
 {
     match records.get(name) {
         Some(_) => true,
@@ -321,11 +344,11 @@ fn is_in(records: &IndexMap<Record, Hold>, name: &Record) -> bool
 
 // Whether the lock's record is held in a mode that excludes the lock.
 #[inline(always)]
-fn is_barred(records: &IndexMap<Record, Hold>, lock: &Lock) -> bool
-    ensures { result ≡ excludes (Some lock.now.mode) (hold_mode (get record_eq records.now lock.now.«record»)) }
+fn is_barred(records: &IndexMap<Record, Holding>, lock: &Lock) -> bool
+    ensures { result ≡ excludes (Some lock.now.mode) (hold_mode (hold_at records.now lock.now.«record»)) }
 {
     match records.get(&lock.record) {
-        Some(hold) => lock.mode.excludes(hold.mode),
+        Some(held) => lock.mode.excludes(held.hold.mode),
         None => false,
     }
 }
@@ -339,7 +362,41 @@ fn least(txn: u64, other: Option<u64>) -> u64
     }
 }
 
-// The least transaction with a lock that excludes this one, by a look at all of them.
+// The transaction that alone holds the lock's record, where its lock excludes this one.
+fn sole_holder(
+    records: &IndexMap<Record, Holding>,
+    sets: &IndexMap<u64, HeldLocks>,
+    lock: &Lock,
+) -> Option<u64>
+    requires { AreHolds sets.now.entries records.now }
+    ensures { IfSome result (λ t. least_holder sets.now.entries lock.now ≡ Some t) }
+{
+    let held = *records.get(&lock.record)?;
+    if held.hold.holders != 1 {
+        return None;
+    }
+    match sets.get(&held.mixed) {
+        Some(set) if set.excludes(lock) => Some(held.mixed),
+        _ => None,
+    }
+}
+
+// The least transaction with a lock that excludes this one.
+fn holder_in_the_way(
+    records: &IndexMap<Record, Holding>,
+    sets: &IndexMap<u64, HeldLocks>,
+    lock: &Lock,
+) -> Option<u64>
+    requires { AreHolds sets.now.entries records.now }
+    ensures { result ≡ least_holder sets.now.entries lock.now }
+{
+    match sole_holder(records, sets, lock) {
+        Some(holder) => Some(holder),
+        None => least_holder(sets, lock),
+    }
+}
+
+// The same by a look at all of them.
 fn least_holder(sets: &IndexMap<u64, HeldLocks>, lock: &Lock) -> Option<u64>
     ensures { result ≡ least_holder sets.now.entries lock.now }
 {
@@ -355,7 +412,7 @@ fn least_holder(sets: &IndexMap<u64, HeldLocks>, lock: &Lock) -> Option<u64>
 // The first of these locks that is barred, and its least holder.
 #[inline(always)]
 fn first_busy(
-    records: &IndexMap<Record, Hold>,
+    records: &IndexMap<Record, Holding>,
     sets: &IndexMap<u64, HeldLocks>,
     locks: &[Lock],
 ) -> Option<Busy>
@@ -364,7 +421,7 @@ fn first_busy(
 {
     'locks: for lock in locks {
         if is_barred(records, lock) {
-            let holder = least_holder(sets, lock)?;
+            let holder = holder_in_the_way(records, sets, lock)?;
             return Some(Busy {
                 name: lock.record,
                 holder,

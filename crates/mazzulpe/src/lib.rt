@@ -1,4 +1,4 @@
-//! The engine for C: five functions over a pointer to its frame. `mazzulpe.h` declares them.
+//! The engine for C: six functions over a pointer to its frame. `mazzulpe.h` declares them.
 //!
 //! Between calls the engine is the caller's memory: it begins with the frame, which the caller reads
 //! and writes as it likes, and the rest is left alone.
@@ -23,6 +23,12 @@ const VERSION: u32 = 1;
 #[unsafe(no_mangle)]
 pub extern "C" fn mazzulpe_size() -> usize {
     engine::size()
+}
+
+/// How many bytes of them are the frame, with which they begin.
+#[unsafe(no_mangle)]
+pub extern "C" fn mazzulpe_frame_size() -> usize {
+    size_of::<Frame>()
 }
 
 /// The version of the frame and its calls.

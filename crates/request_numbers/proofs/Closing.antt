@@ -346,3 +346,7 @@ low_there last ps qs i o same at is =
 
 pub low_greatest : (last : ℕ) (ps : List Place) (n : ℕ) → Rising 0 last (numbers_of ps) → n ≡ low_water_of last (open_of ps) → IsLowWater last (open_of ps) n
 low_greatest last ps n rises is = subst (IsLowWater last (open_of ps)) (sym is) (low_water_is last (open_of ps) (open_rising 0 last ps rises))
+
+pub none_open : (ns : List ℕ) → length ns ≡ 0 → [] ≡ ns
+none_open [] none = refl
+none_open (n ∷ ns) none = absurd (omega (arith, none))

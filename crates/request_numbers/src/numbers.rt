@@ -54,6 +54,7 @@ fn twice_and(more: usize, pending: usize) -> Option<usize>
 }
 
 // Where the number is, or would be.
+#[inline(always)]
 fn place_of(places: &[Place], number: u64) -> usize
     requires { (last : ℕ) × Rising 0 last (numbers_of places.now) }
     ensures { result ≡ place_of number places.now }
@@ -61,6 +62,7 @@ fn place_of(places: &[Place], number: u64) -> usize
     places.partition_point(|place| place.number < number)
 }
 
+#[inline(always)]
 fn place_at(places: &[Place], at: usize) -> Option<Place>
     ensures { result ≡ slice_get places.now at }
 {
@@ -68,6 +70,7 @@ fn place_at(places: &[Place], at: usize) -> Option<Place>
 }
 
 // The place of the first open number, which isn't before this one.
+#[inline(always)]
 fn first_open(places: &[Place], from: usize) -> usize
     requires { from ≤ first_open places.now }
     ensures { result ≡ first_open places.now }
@@ -80,6 +83,7 @@ fn first_open(places: &[Place], from: usize) -> usize
 }
 
 // Closes the place of a number, which is open.
+#[inline(always)]
 fn close(places: &mut Vec<Place>, number: u64)
     requires rising { (last : ℕ) × Rising 0 last (numbers_of places.old.items) }
     requires open { holds number (open_of places.old.items) ≡ true }
@@ -102,6 +106,7 @@ fn leave_open(places: &mut Vec<Place>)
 
 // Where the first open place is, which isn't before this one, once the closed places are left out if
 // they are most.
+#[inline(always)]
 fn settled(places: &mut Vec<Place>, from: usize, pending: usize) -> usize
     requires from { from ≤ first_open places.old.items }
     requires pending { pending ≡ length (open_of places.old.items) }
@@ -111,6 +116,10 @@ fn settled(places: &mut Vec<Place>, from: usize, pending: usize) -> usize
     ensures half { length places.new.items ≤ pending + pending }
     ensures capacity { vec_capacity places.new ≡ vec_capacity places.old }
 {
+    if pending == 0 {
+        places.clear();
+        return 0;
+    }
     let closed = places.len() - pending;
     if closed > pending {
         leave_open(places);

@@ -184,7 +184,7 @@ impl TcState {
     }
 
     /// Ends a transaction that is over, and releases its locks.
-    // As `wire`, it stands apart from its caller's step: a move takes fewer machine instructions so (docs/TRIED.md).
+    // As `wire`, it stands apart from its caller's step: a move takes fewer machine instructions so (docs/DESIGN.md).
     #[inline(never)]
     pub fn end(&mut self, txn: TxnId) -> Result<Receipt, NotOver>
         ensures reply { result ≡ end_reply self.old txn.serial (end_of self.old txn.serial) }

@@ -1,7 +1,5 @@
 use Rattle.std.proofs.Common.{arith, refl, ◌∙◌}
-use Rattle.indexmap.specs.IndexMap.{get}
-use Rattle.access_slots.specs.Locks.{record_eq}
-use Rattle.lock_table.specs.Holds.{held_more}
+use Rattle.lock_table.specs.Holds.{hold_at, held_more}
 use Rattle.lock_table.proofs.Steps.{rising_after, left_after, few_after}
 use Rattle.lock_table.proofs.table.add_holders.Goals as goal
 
@@ -9,8 +7,8 @@ pub loop-lock-preserved : goal.loop-lock-preserved
 loop-lock-preserved c =
     let locks = c.args.locks.now in
     let i = c.loop-lock.lock-index in
-    let now = get record_eq c.loop-lock.records in
-    let new = get record_eq c.add_holder.new.records in
+    let now = hold_at c.loop-lock.records in
+    let new = hold_at c.add_holder.new.records in
     let inside = c.loop-lock-test.true in
     let rises = c.loop-lock.invariant.rising in
     let step = c.add_holder.ensures.held in

@@ -2,8 +2,12 @@ use Rattle.std.proofs.Common.{arith, List, length, ap, sym, subst, ◌∙◌}
 use Rattle.request_numbers.specs.declared.numbers.Place.{Place}
 use Rattle.request_numbers.specs.Given.{Rising}
 use Rattle.request_numbers.specs.Places.{numbers_of, open_of, first_open}
-use Rattle.request_numbers.proofs.Closing.{open_few, open_left, numbers_left, first_left, left_length, open_rising}
+use Rattle.request_numbers.proofs.Closing.{none_open, open_few, open_left, numbers_left, first_left, left_length, open_rising}
 use Rattle.request_numbers.proofs.numbers.settled.Goals as goal
+
+pub returns-then-pending-eq0-clause-open : goal.returns-then-pending-eq0-clause-open
+returns-then-pending-eq0-clause-open c =
+    ap open_of c.clear.ensures.items ∙ none_open (open_of c.args.places.now.items) (sym c.requires.pending ∙ c.if-pending-eq0.true)
 
 pub overflow_sub-closed : goal.overflow_sub-closed
 overflow_sub-closed c = omega (arith, open_few c.args.places.now.items, c.requires.pending, c.len.ensures, c.args.places.now.ok.0)
