@@ -1,11 +1,14 @@
 -- A state that has come back, and its data components.
-use Rattle.std.proofs.Common.{◌≡◌, ℕ, zero, suc, ◌<◌, List, [], ◌∷◌, length, map, Option, Some, None, sym, ◌∙◌, ap, subst, arith}
+use Rattle.std.proofs.Common.{◌≡◌, ℕ, zero, suc, ◌<◌, List, [], ◌∷◌, length, map, Option, Some, None, refl, sym, ◌∙◌, ap, subst, arith}
 use Rattle.std.specs.Prelude.{slice_get}
 use Rattle.std.specs.List.{All}
 use Rattle.std.proofs.lemmas.List.{length-map}
 use Rattle.std.proofs.lemmas.List.Elements.{All-cons, All-nil}
 use Rattle.tc_log.specs.declared.event.Event.{Event}
+use Rattle.history.specs.Anew.{begun as begun_in}
 use Rattle.history.specs.Places.{Begins}
+use Rattle.data_component.specs.Sorted.{Rows, row_of}
+use Rattle.serial.specs.Audit.{base_in, IsBegunTogether}
 use Rattle.data_component.specs.Store.{Store, restarted, news_of}
 use Rattle.transactions.specs.declared.Site.{Site}
 use Rattle.transactions.specs.InFlight.{site_at, site_by}
@@ -18,50 +21,62 @@ use Rattle.tc_core.specs.declared.recovery.SiteNote.TheVariants.{Restarted}
 use Rattle.tc_core.proofs.KeptLemmas.{slice_get-short}
 use Rattle.tc_world.specs.Whole.{Whole}
 use Rattle.tc_world.specs.OneAtATime.{IsKnown, EachIsKnown}
-use Rattle.tc_world.specs.Recovery.{IsNew}
+use Rattle.tc_world.specs.Recovery.{IsNew, StandFor}
 use Rattle.tc_world.specs.Lives.{HasLived}
 use Rattle.tc_world.proofs.LivingLemmas.{over_lived}
 use Rattle.coming_back.specs.Serving.{IsFor, IsRedoFor}
-use Rattle.coming_back.specs.Coming.{IsEmpty, at_rest, ComesFrom}
-use Rattle.coming_back.specs.Faults.{HasLog}
+use Rattle.coming_back.specs.Coming.{HasOnlyRows, at_rest, ComesFrom}
+use Rattle.coming_back.specs.Faults.{restart_notes, HasLog}
 use Rattle.coming_back.specs.Joining.Moving.{Goes}
 use Rattle.coming_back.specs.Joining.Redoing.{Redoes}
 use Rattle.coming_back.proofs.ServingLemmas.{served_incarnation}
 use Rattle.coming_back.proofs.RedoLemmas.{there}
 
-abbrev pub notes_for : List Store → List SiteNote
-notes_for ds = map (λ (s : Store). Restarted (news_of s)) ds
-
 -- ---- it begins as a world that starts over
 
-new_one : (s : Store) → IsEmpty s → IsNew (restarted s)
-new_one s is = record {
-  list = ap (λ (x : Store). x.saved) is;
-  saved = ap (λ (x : Store). x.saved) is;
-  mark = ap (λ (x : Store). x.saved_mark) is;
-  saved_mark = ap (λ (x : Store). x.saved_mark) is;
+new_one : (h : List Event) (s : Store) → HasOnlyRows s → s.base_mark ≡ begun_in h → IsNew h (restarted s)
+new_one h s only together = record {
+  base_mark = together;
+  list = only.saved;
+  saved = only.saved;
+  mark = only.saved_mark ∙ together;
+  saved_mark = only.saved_mark ∙ together;
   restarted = omega arith;
 }
 
-all_new : (ds : List Store) → All IsEmpty ds → All IsNew (map restarted ds)
-all_new [] all = All-nil IsNew
-all_new (d ∷ ds) all = All-cons IsNew (restarted d) (map restarted ds) (new_one d (all 0 d (omega arith))) (all_new ds (λ k x low. all (suc k) x (omega (arith, low))))
+all_new : (h : List Event) (ds : List Store) → All HasOnlyRows ds → IsBegunTogether h ds → All (IsNew h) (map restarted ds)
+all_new h [] all together = All-nil (IsNew h)
+all_new h (d ∷ ds) all together =
+    All-cons (IsNew h) (restarted d) (map restarted ds) (new_one h d (all 0 d (omega arith)) (together 0 d refl))
+    (all_new h ds (λ k x low. all (suc k) x (omega (arith, low))) (λ k s at. together (suc k) s at))
+
+-- a restart leaves the rows with which it begins
+rows_restarted : (ds : List Store) (k : ℕ) → base_in (slice_get (map restarted ds) k) ≡ base_in (slice_get ds k)
+rows_restarted [] k = refl
+rows_restarted (d ∷ ds) zero = refl
+rows_restarted (d ∷ ds) (suc k) = rows_restarted ds k
+
+stand_restarted : (ds olds : List Store) → StandFor ds olds → StandFor (map restarted ds) olds
+stand_restarted ds olds is = record {
+  count = length-map ds restarted ∙ is.count;
+  rows = λ r. ap (λ (rows : Rows). row_of rows r) (rows_restarted ds r.dc) ∙ is.rows r;
+}
 
 abbrev begun : Loaded → List Event → List Store → Whole
 begun l h ds = record {
-  core = record { procs = l.codes; names = l.names; dcs = l.dcs; events = h; given_up = []; sites = map site_noted (notes_for ds) };
+  core = record { procs = l.codes; names = l.names; dcs = l.dcs; events = h; given_up = []; sites = map site_noted (restart_notes ds) };
   dcs = ds;
   copies = [];
   replies = [];
   news = [];
 }
 
-pub begun_lived : (old : Core) (h : List Event) (w : Whole) (ds es : List Store) → ComesFrom w h old (length ds)
-    → All IsEmpty ds → es ≡ map restarted ds → HasLived (at_rest (recovered old h (notes_for es)) es)
-begun_lived old h w ds es from new is =
-    let fresh : All IsNew es = subst (All IsNew) (sym is) (all_new ds new) in
-    let count : length es ≡ length w.dcs = ap length is ∙ (length-map ds restarted ∙ sym from.count) in
-    subst (λ (x : Loaded). HasLived (begun x h es)) from.same (over_lived w h es from.begins fresh count from.lived)
+pub begun_lived : (old : Core) (h : List Event) (w : Whole) (ds es : List Store) → ComesFrom w h old ds
+    → All HasOnlyRows ds → es ≡ map restarted ds → HasLived (at_rest (recovered old h (restart_notes es)) es)
+begun_lived old h w ds es from only is =
+    let new : All (IsNew h) es = subst (All (IsNew h)) (sym is) (all_new h ds only from.together) in
+    let olds : StandFor es w.dcs = subst (λ (xs : List Store). StandFor xs w.dcs) (sym is) (stand_restarted ds w.dcs from.olds) in
+    subst (λ (x : Loaded). HasLived (begun x h es)) from.same (over_lived w h es from.begins new olds from.lived)
 
 -- ---- each data component is known
 
@@ -71,12 +86,12 @@ map_get f (y ∷ xs) zero x at = (let same : y ≡ x = cc in ap (λ z. Some (f z
 map_get f (y ∷ xs) (suc k) x at = map_get f xs k x at
 
 -- as the news tell it
-pub site_incarnation : (c : Core) (ds : List Store) (n : ℕ) (s : Store) → c.sites ≡ map site_noted (notes_for ds) → slice_get ds n ≡ Some s → (site_at c.sites n).incarnation ≡ s.incarnation
+pub site_incarnation : (c : Core) (ds : List Store) (n : ℕ) (s : Store) → c.sites ≡ map site_noted (restart_notes ds) → slice_get ds n ≡ Some s → (site_at c.sites n).incarnation ≡ s.incarnation
 site_incarnation c ds n s noted at =
     ap (λ (xs : List Site). (site_at xs n).incarnation) noted
-    ∙ ap (λ (o : Option Site). (site_by o).incarnation) (map_get site_noted (notes_for ds) n (Restarted (news_of s)) (map_get (λ (x : Store). Restarted (news_of x)) ds n s at))
+    ∙ ap (λ (o : Option Site). (site_by o).incarnation) (map_get site_noted (restart_notes ds) n (Restarted (news_of s)) (map_get (λ (x : Store). Restarted (news_of x)) ds n s at))
 
-known_at : (c d : Core) (ds es : List Store) → c.sites ≡ map site_noted (notes_for ds) → Redoes c ds d es
+known_at : (c d : Core) (ds es : List Store) → c.sites ≡ map site_noted (restart_notes ds) → Redoes c ds d es
     → ((n : ℕ) → n < length d.sites → (site_at d.sites n).redo ≡ None) → (n : ℕ) (s : Store) → slice_get es n ≡ Some s → IsKnown (at_rest d es) n s
 known_at c d ds es noted redoes up n s at =
     let short = slice_get-short es n s at in
@@ -85,7 +100,7 @@ known_at c d ds es noted redoes up n s at =
     let now = redoes.redone.each n was.0 was.1 in
     let same : now.now ≡ s = some_same now.now s (sym now.at ∙ at) in
     let incarnation : s.incarnation ≡ was.0.incarnation = ap (λ (x : Store). x.incarnation) (sym same) ∙ served_incarnation (IsRedoFor n) was.0 now.now now.served in
-    let count : length c.sites ≡ length ds = ap length noted ∙ (length-map (notes_for ds) site_noted ∙ length-map ds (λ (x : Store). Restarted (news_of x))) in
+    let count : length c.sites ≡ length ds = ap length noted ∙ (length-map (restart_notes ds) site_noted ∙ length-map ds (λ (x : Store). Restarted (news_of x))) in
     let more = redoes.count in
     record {
       up = up n (omega (arith, short, many, count, more));
@@ -93,7 +108,7 @@ known_at c d ds es noted redoes up n s at =
     }
 
 -- behind a redo
-pub known_redone : (c d : Core) (ds es : List Store) → c.sites ≡ map site_noted (notes_for ds) → Redoes c ds d es
+pub known_redone : (c d : Core) (ds es : List Store) → c.sites ≡ map site_noted (restart_notes ds) → Redoes c ds d es
     → ((n : ℕ) → n < length d.sites → (site_at d.sites n).redo ≡ None) → EachIsKnown (at_rest d es)
 known_redone c d ds es noted redoes up = λ n s at. known_at c d ds es noted redoes up n s at
 

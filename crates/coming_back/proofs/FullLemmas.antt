@@ -20,7 +20,7 @@ use Rattle.serial.proofs.SitesLemmas.{set_same}
 use Rattle.tc_core.specs.Core.{Core}
 use Rattle.tc_core.specs.Redo.{redo_wire, sends_again, redo_by, redo_at, redo_reply}
 use Rattle.tc_core.specs.declared.state.Redo.TheVariants as redo
-use Rattle.coming_back.specs.Faults.{IsFull}
+use Rattle.coming_back.specs.Faults.{restart_notes, IsFull}
 use Rattle.coming_back.specs.Serving.{IsRedoFor}
 use Rattle.coming_back.specs.Joining.Performing.{Performs, There, Nowhere}
 use Rattle.coming_back.specs.Joining.Redoing.{Redoes, IsMatched}
@@ -30,7 +30,7 @@ use Rattle.tc_core.specs.Recovery.{site_noted}
 use Rattle.tc_core.specs.declared.recovery.SiteNote.TheVariants.{Restarted}
 use Rattle.coming_back.proofs.ServingLemmas.{served_incarnation}
 use Rattle.coming_back.proofs.RedoLemmas.{there}
-use Rattle.coming_back.proofs.ComingLemmas.{notes_for, site_incarnation}
+use Rattle.coming_back.proofs.ComingLemmas.{site_incarnation}
 
 -- ---- what is sent to be redone
 
@@ -62,7 +62,7 @@ sent_at c n x (Some s) legal at is = sent_by c n x s s.redo legal at refl is
 no_room : (s : Store) (more : Bool) (o : Op) → fate_of_new s more o ≡ Silent → s.ops ≤ length s.list
 no_room s more o is = by (nat_lt (length s.list) s.ops) refl is
   where
-    by : (b : Bool) → nat_lt (length s.list) s.ops ≡ b → cond b (New (answer (has_room s.rows more s.list) s.list o)) Silent ≡ Silent → s.ops ≤ length s.list
+    by : (b : Bool) → nat_lt (length s.list) s.ops ≡ b → cond b (New (answer (has_room s.rows more s.base s.list) s.base s.list o)) Silent ≡ Silent → s.ops ≤ length s.list
     by true t e = absurd cc
     by false t e = grind (arith, nat_tests)
 
@@ -114,10 +114,10 @@ down_there (s ∷ sites) zero down = omega arith
 down_there (s ∷ sites) (suc n) down = (let low = down_there sites n down in omega (arith, low))
 
 -- a data component that is down is there, and was of the incarnation of which the first news told
-pub matched_new : (c d : Core) (ds es : List Store) (n : ℕ) → c.sites ≡ map site_noted (notes_for ds) → Redoes c ds d es → ((site_at d.sites n).redo ≡ None → ⊥) → IsMatched c ds n
+pub matched_new : (c d : Core) (ds es : List Store) (n : ℕ) → c.sites ≡ map site_noted (restart_notes ds) → Redoes c ds d es → ((site_at d.sites n).redo ≡ None → ⊥) → IsMatched c ds n
 matched_new c d ds es n noted redoes down =
     let low = down_there d.sites n down in
     let same = redoes.count in
-    let count : length c.sites ≡ length ds = ap length noted ∙ (length-map (notes_for ds) site_noted ∙ length-map ds (λ (x : Store). Restarted (news_of x))) in
+    let count : length c.sites ≡ length ds = ap length noted ∙ (length-map (restart_notes ds) site_noted ∙ length-map ds (λ (x : Store). Restarted (news_of x))) in
     let s = there ds n (omega (arith, low, same, count)) in
     record { s = s.0; at = s.1; known = site_incarnation c ds n s.0 noted s.1 }

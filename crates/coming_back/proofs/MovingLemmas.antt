@@ -43,7 +43,9 @@ use Rattle.coming_back.specs.Joining.Moving.{Goes, Moves, IsOpen, IsNextOf, Came
 use Rattle.coming_back.proofs.ServingLemmas.{all_same, all_then}
 use Rattle.coming_back.proofs.LivedLemmas.{ask_lived, undo_lived, end_lived, carried_lived, answered_lived}
 use Rattle.coming_back.specs.Joining.Performing.{There, Nowhere, Sends, Sent, Unsent}
-use Rattle.coming_back.proofs.OpenLemmas.{count_to, count_less, open_same}
+use Rattle.tc_world.specs.Beginning.{admitted_before}
+use Rattle.tc_world.proofs.BeginningLemmas.{none_before}
+use Rattle.coming_back.proofs.OpenLemmas.{count_to, count_less, none_to, open_same}
 use Rattle.coming_back.proofs.NextLemmas.{is_asked, is_undone, asked_open, undone_open, asked_nearer, undone_nearer, ended_nearer, answered_stands, waits_next}
 
 -- ---- one after another
@@ -290,8 +292,17 @@ serials_join : (xs ys : List Resumed) → map serial_of (xs ++ ys) ≡ map seria
 serials_join [] ys = refl
 serials_join (x ∷ xs) ys = ap (λ (l : List ℕ). serial_of x ∷ l) (serials_join xs ys)
 
-pub none_yet : (c : Core) (ds : List Store) → CameOfAll c ds c ds 0 []
-none_yet c ds = record { goes = goes_same c ds; ahead = λ u above. refl; serials = refl; doubts = refl; each = All-nil (IsOneOf c c 0) }
+-- of those that were admitted before the log began none is open
+pub none_yet : (c : Core) (ds : List Store) → Legal c.procs c.events → CameOfAll c ds c ds (admitted_before c.events) []
+none_yet c ds legal =
+    let none : open_to c.events (admitted_before c.events) ≡ [] = none_to c.events (admitted_before c.events) (none_before c.procs c.events legal) in
+    record {
+      goes = goes_same c ds;
+      ahead = λ u above. refl;
+      serials = sym none;
+      doubts = sym none;
+      each = All-nil (IsOneOf c c (admitted_before c.events));
+    }
 
 pub one_more : (c d e : Core) (ds es fs : List Store) (n : ℕ) (xs ys : List Resumed) → CameOfAll c ds d es n xs → Moves (suc n) d es e fs → CameOf d e (suc n) ys
     → CameOfAll c ds e fs (suc n) (xs ++ ys)

@@ -1,5 +1,5 @@
 -- Open transactions, counted by their serial numbers.
-use Rattle.std.proofs.Common.{◌≡◌, ℕ, zero, suc, ◌+◌, ◌≤◌, List, ◌++◌, length, Option, Some, None, refl, ◌∙◌, ap, arith, length-append, add-zero, add-suc}
+use Rattle.std.proofs.Common.{◌≡◌, ℕ, zero, suc, ◌+◌, ◌≤◌, List, [], ◌++◌, length, Option, Some, None, refl, ◌∙◌, ap, arith, length-append, add-zero, add-suc}
 use Rattle.tc_log.specs.declared.event.Event.{Event}
 use Rattle.transactions.specs.Standing.{Standing, standing}
 use Rattle.transactions.specs.Room.{each_one, weighed, total_to}
@@ -23,6 +23,12 @@ count_less h n (suc k) =
     let ih = count_less h n k in
     let next : total_to each_one h (n + suc k) ≡ total_to each_one h (n + k) + weighed each_one (standing h (suc (n + k))) = rw add-suc refl in
     omega (arith, ih, next)
+
+pub none_to : (h : List Event) (n : ℕ) → ((t : ℕ) → t ≤ n → standing h t ≡ None) → open_to h n ≡ []
+none_to h zero none = refl
+none_to h (suc n) none =
+    ap (λ (l : List ℕ). l ++ serial_if (suc n) (standing h (suc n))) (none_to h n (λ t low. none t (omega (arith, low))))
+    ∙ ap (serial_if (suc n)) (none (suc n) (omega arith))
 
 -- those among the first n stand as they did
 pub open_same : (h g : List Event) (n : ℕ) → ((u : ℕ) → u ≤ n → standing g u ≡ standing h u) → open_to g n ≡ open_to h n

@@ -5,20 +5,26 @@ use Rattle.tc_log.specs.declared.event.Event.{Event}
 use Rattle.tc_log.specs.declared.event.Event.TheVariants.{End}
 use Rattle.history.specs.Calls.{admitted}
 use Rattle.history.specs.Places.{StandsAt, Begins}
-use Rattle.data_component.specs.Store.{Store, empty}
+use Rattle.data_component.specs.Store.{Store}
 use Rattle.transactions.specs.declared.Next.TheVariants as next
 use Rattle.transactions.specs.Standing.{Standing, standing}
 use Rattle.tc_core.specs.Core.{Core, loaded_in}
 use Rattle.tc_core.specs.Replies.{next_at}
 use Rattle.tc_core.specs.declared.state.Receipt.{Receipt}
+use Rattle.serial.specs.Audit.{IsBegunTogether}
 use Rattle.tc_world.specs.Whole.{Whole}
+use Rattle.tc_world.specs.Recovery.{StandFor}
 use Rattle.tc_world.specs.Lives.{HasLived}
 use Rattle.coming_back.specs.declared.resumed.Resumed.{Resumed}
 use Rattle.coming_back.specs.declared.resumed.Resumed.TheVariants.{Ended, InDoubt}
 
--- nothing has happened to the data component
-abbrev pub IsEmpty : Store → Type 0
-IsEmpty s = s ≡ empty s.rows s.ops
+-- nothing has happened to the data component since the rows with which it begins, if there are any
+pub record HasOnlyRows (s : Store) : Type 0 where
+  pub list : s.list ≡ []
+  pub saved : s.saved ≡ []
+  pub mark : s.mark ≡ s.base_mark
+  pub saved_mark : s.saved_mark ≡ s.base_mark
+  pub never : s.incarnation ≡ 0
 
 -- ---- open transactions
 
@@ -72,9 +78,11 @@ IsResumed first c (InDoubt t n) = IsLeft c t n
 abbrev pub at_rest : Core → List Store → Whole
 at_rest c dcs = record { core = record c { given_up = [] }; dcs = dcs; copies = []; replies = []; news = [] }
 
--- the log is a beginning of that of a world that has lived, with the same procedures and so many data components
-pub record ComesFrom (w : Whole) (h : List Event) (c : Core) (dcs : ℕ) : Type 0 where
+-- the log is a beginning of that of a world that has lived, with the same procedures, and these data components stand for that world's: they
+-- begin with the same records, behind the number behind which the log begins
+pub record ComesFrom (w : Whole) (h : List Event) (c : Core) (dcs : List Store) : Type 0 where
   pub lived : HasLived w
   pub begins : Begins h w.core.events
   pub same : loaded_in w.core ≡ loaded_in c
-  pub count : length w.dcs ≡ dcs
+  pub olds : StandFor dcs w.dcs
+  pub together : IsBegunTogether h dcs

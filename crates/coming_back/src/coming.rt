@@ -4,17 +4,16 @@ ghost use Rattle.std.specs.Prelude.{◌≡◌, length, map, OnOk, IfOk, IfErr};
 ghost use Rattle.std.specs.List.{All};
 ghost use Rattle.history.specs.Places.{Begins};
 ghost use Rattle.transactions.specs.Legal.{Legal};
-ghost use Rattle.data_component.specs.Store.{Store, restarted, news_of};
+ghost use Rattle.data_component.specs.Store.{restarted};
 ghost use Rattle.tc_core.specs.Core.{loaded_in};
 ghost use Rattle.tc_core.specs.Recovery.{recovered};
-ghost use Rattle.tc_core.specs.declared.recovery.SiteNote.TheVariants.{Restarted};
 ghost use Rattle.tc_world.specs.Whole.{Whole};
 ghost use Rattle.tc_world.specs.OneAtATime.{EachIsKnown, IsOneAtATime};
 ghost use Rattle.serial.specs.Audit.{IsAgreed};
 ghost use Rattle.tc_world.specs.Lives.{HasLived};
 ghost use Rattle.coming_back.specs.Serving.{AreServed, AreRedone};
-ghost use Rattle.coming_back.specs.Coming.{IsEmpty, serial_of, open_txns, in_doubt, IsResumed, at_rest, ComesFrom};
-ghost use Rattle.coming_back.specs.Faults.{HasLog, IsFaultOf};
+ghost use Rattle.coming_back.specs.Coming.{HasOnlyRows, serial_of, open_txns, in_doubt, IsResumed, at_rest, ComesFrom};
+ghost use Rattle.coming_back.specs.Faults.{restart_notes, HasLog, IsFaultOf};
 
 use crate::redoing::{RedoFault, redo_all};
 use crate::renewing::{notes_of, restart_all};
@@ -51,11 +50,11 @@ fn begin_again(
     dcs: &mut [Dc],
     log: &Log,
 ) -> Result<(), ComeBackFault>
-    requires { All IsEmpty dcs.old }
+    requires { All HasOnlyRows dcs.old }
     ensures dcs { dcs.new ≡ map restarted dcs.old }
     ensures legal { OnOk result (Legal state.old.procs log.now.events) }
     ensures ok { OnOk result
-        (state.new ≡ recovered state.old log.now.events (map (λ (s : Store). Restarted (news_of s)) dcs.new)) }
+        (state.new ≡ recovered state.old log.now.events (restart_notes dcs.new)) }
     ensures fault { IfErr result (IsFaultOf state.old log.now.events (length dcs.old) state.new dcs.new) }
 {
     restart_all(dcs);
@@ -69,9 +68,13 @@ fn begin_again(
     }
 }
 
-/// Brings data components to which nothing has happened, and a state in which procedures are loaded and
-/// nothing has happened, to where a log left them: each restarts, and what the log says that it did is
-/// redone, until it is up. Nothing else is sent, and transactions that were open stay so.
+/// Brings data components to which nothing has happened since the rows with which they begin, and a
+/// state in which procedures are loaded and nothing has happened, to where a log left them: each
+/// restarts, and what the log says that it did is redone, until it is up. Nothing else is sent, and
+/// transactions that were open stay so.
+///
+/// Each data component begins behind the number behind which the log begins
+/// (`Dc::base_mark`, `TcState::begun`): where there are no rows and no Checkpoint, both are 0.
 ///
 /// Memory is taken for the state. Where the log isn't refused, but a data component isn't redone, the
 /// state has come back from the log with data components that are down, and is of no use but to be
@@ -82,7 +85,7 @@ pub fn bring_back(
     dcs: &mut [Dc],
     log: &Log,
 ) -> Result<(), ComeBackFault>
-    requires { All IsEmpty dcs.old }
+    requires { All HasOnlyRows dcs.old }
     // The log was legal; the state has it, with procedures, names and the number of data components as before.
     ensures legal { OnOk result (Legal state.old.procs log.now.events) }
     ensures log { OnOk result (HasLog state.old log.now.events state.new) }
@@ -93,11 +96,11 @@ pub fn bring_back(
 
     ensures fault { IfErr result (IsFaultOf state.old log.now.events (length dcs.old) state.new dcs.new) }
 
-    // Where the log is a beginning of that of a world that has lived, what came back has lived too; so the log and the data components
-    // agree in all that an audit compares.
-    ensures lived { (w : Whole) → ComesFrom w log.now.events state.old (length dcs.old)
+    // Where the log is a beginning of that of a world that has lived, and the data components stand for that world's, what came back has
+    // lived too; so the log and the data components agree in all that an audit compares.
+    ensures lived { (w : Whole) → ComesFrom w log.now.events state.old dcs.old
         → OnOk result (HasLived (at_rest state.new dcs.new)) }
-    ensures agreed { (w : Whole) → ComesFrom w log.now.events state.old (length dcs.old)
+    ensures agreed { (w : Whole) → ComesFrom w log.now.events state.old dcs.old
         → OnOk result (IsAgreed state.new.procs state.new.events dcs.new) }
 {
     begin_again(alloc, state, dcs, log)?;
@@ -109,7 +112,8 @@ pub fn bring_back(
 }
 
 /// Comes back from a log, to a state in which procedures are loaded and nothing has happened, and to
-/// data components to which nothing has happened either: they are brought to where the log left them
+/// data components of which only the rows are left with which they begin: they are brought to where
+/// the log left them
 /// ([`bring_back`]); then each transaction that was open is run to its end, in the order of their
 /// serial numbers, and is told of. What a data component doesn't answer is given up, and its
 /// transaction is in doubt.
@@ -122,7 +126,7 @@ pub fn come_back(
     dcs: &mut [Dc],
     log: &Log,
 ) -> Result<Vec<Resumed>, ComeBackFault>
-    requires { All IsEmpty dcs.old }
+    requires { All HasOnlyRows dcs.old }
     // The log goes on, and was legal; procedures, names and the number of data components are as before.
     ensures legal { OnOk result (Legal state.old.procs log.now.events) }
     ensures begins { OnOk result (Begins log.now.events state.new.events) }
@@ -141,11 +145,11 @@ pub fn come_back(
 
     // Where the log is a beginning of that of a world that has lived, what came back has lived too; so each call that ended did so as
     // when calls are run one after another, and the log and the data components agree in all that an audit compares.
-    ensures lived { (w : Whole) → ComesFrom w log.now.events state.old (length dcs.old)
+    ensures lived { (w : Whole) → ComesFrom w log.now.events state.old dcs.old
         → OnOk result (HasLived (at_rest state.new dcs.new)) }
-    ensures one_at_a_time { (w : Whole) → ComesFrom w log.now.events state.old (length dcs.old)
+    ensures one_at_a_time { (w : Whole) → ComesFrom w log.now.events state.old dcs.old
         → OnOk result (IsOneAtATime (at_rest state.new dcs.new)) }
-    ensures agreed { (w : Whole) → ComesFrom w log.now.events state.old (length dcs.old)
+    ensures agreed { (w : Whole) → ComesFrom w log.now.events state.old dcs.old
         → OnOk result (IsAgreed state.new.procs state.new.events dcs.new) }
 {
     bring_back(alloc, state, dcs, log)?;

@@ -4,7 +4,7 @@ ghost use Rattle.std.specs.Prelude.{◌≡◌, map, IfOk};
 ghost use Rattle.std.specs.List.{All};
 ghost use Rattle.data_component.specs.Store.{Store, restarted, news_of};
 ghost use Rattle.tc_core.specs.declared.recovery.SiteNote.TheVariants.{Restarted};
-ghost use Rattle.coming_back.specs.Coming.{IsEmpty};
+ghost use Rattle.coming_back.specs.Coming.{HasOnlyRows};
 
 use access_slots::op::News;
 use data_component::dc::Dc;
@@ -13,7 +13,7 @@ use tc_core::recovery::SiteNote;
 
 /// Each restarts.
 pub fn restart_all(dcs: &mut [Dc])
-    requires { All IsEmpty dcs.old }
+    requires { All HasOnlyRows dcs.old }
     ensures { dcs.new ≡ map restarted dcs.old }
 {
     for dc in dcs.iter_mut() {

@@ -14,6 +14,7 @@ use crate::performing::send;
 use crate::resumed::Resumed;
 use data_component::dc::Dc;
 use tc_core::state::{Asked, NotOver, Receipt, Request, Stranger, TcState, TxnId};
+use tc_world::beginning::admitted_before;
 
 // What is next for an open transaction.
 pub enum Next {
@@ -183,7 +184,8 @@ pub fn resume_all(state: &mut TcState, dcs: &mut [Dc], resumed: &mut Vec<Resumed
     ensures doubts { in_doubt resumed.new.items ≡ open_txns state.new.events }
     ensures each { All (IsResumed state.old.events state.new) resumed.new.items }
 {
-    for done in 0..state.admitted() {
+    state.known();
+    for done in admitted_before(state)..state.admitted() {
         push(resumed, resume(state, dcs, done + 1));
     }
 }

@@ -22,7 +22,7 @@ use Rattle.tc_world.specs.OneAtATime.{EachIsKnown}
 use Rattle.coming_back.specs.declared.coming.ComeBackFault.{ComeBackFault}
 use Rattle.coming_back.specs.declared.coming.ComeBackFault.TheVariants.{Recover, NoRoom, Otherwise, Memory}
 use Rattle.coming_back.specs.Serving.{AreRedone}
-use Rattle.coming_back.specs.Coming.{IsEmpty, at_rest, ComesFrom}
+use Rattle.coming_back.specs.Coming.{HasOnlyRows, at_rest, ComesFrom}
 use Rattle.coming_back.specs.Faults.{HasLog, IsFaultOf}
 use Rattle.procedure_digest.specs.Header.{header_of}
 use Rattle.scripts.specs.Reading.{Contents, Reading}
@@ -51,12 +51,15 @@ own_is file start empties s result is same checked = IfOk-weaker result _ _ (λ 
 
 -- ---- what a script begins with
 
-all_empty : (dcs : List Dc) → All IsEmpty (map empty_store dcs)
-all_empty [] = All-nil IsEmpty
-all_empty (dc ∷ dcs) = All-cons IsEmpty (empty_store dc) (map empty_store dcs) refl (all_empty dcs)
+empty_one : (dc : Dc) → HasOnlyRows (empty_store dc)
+empty_one dc = record { list = refl; saved = refl; mark = refl; saved_mark = refl; never = refl }
 
-pub ready_empty : (contents : Contents) (script : Script) → IsReady contents script → All IsEmpty script.dcs.items
-ready_empty contents script ready = subst (All IsEmpty) (sym ready.dcs) (all_empty contents.dcs)
+all_empty : (dcs : List Dc) → All HasOnlyRows (map empty_store dcs)
+all_empty [] = All-nil HasOnlyRows
+all_empty (dc ∷ dcs) = All-cons HasOnlyRows (empty_store dc) (map empty_store dcs) (empty_one dc) (all_empty dcs)
+
+pub ready_empty : (contents : Contents) (script : Script) → IsReady contents script → All HasOnlyRows script.dcs.items
+ready_empty contents script ready = subst (All HasOnlyRows) (sym ready.dcs) (all_empty contents.dcs)
 
 pub ready_count : (contents : Contents) (script : Script) → IsReady contents script → length script.dcs.items ≡ script.state.dcs
 ready_count contents script ready =
@@ -78,7 +81,7 @@ audit_is file r script result ready beside =
 
 pub brought : (start back : Core) (empties : List Store) (log : List Event) (dcs : List Store) → Legal start.procs log → HasLog start log back
     → EachIsKnown (at_rest back dcs) → AreRedone (map restarted empties) dcs
-    → ((w : Whole) → ComesFrom w log start (length empties) → IsAgreed back.procs back.events dcs) → AreBrought start empties log dcs
+    → ((w : Whole) → ComesFrom w log start empties → IsAgreed back.procs back.events dcs) → AreBrought start empties log dcs
 brought start back empties log dcs legal has known redone agreed = record {
   back = back;
   legal = legal;

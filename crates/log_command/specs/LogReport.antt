@@ -78,7 +78,7 @@ pub record AreBrought (start : Core) (empties : List Store) (log : List Event) (
   pub has_log : HasLog start log back
   pub known : EachIsKnown (at_rest back dcs)
   pub redone : AreRedone (map restarted empties) dcs
-  pub agreed : (w : Whole) → ComesFrom w log start (length empties) → IsAgreed start.procs log dcs
+  pub agreed : (w : Whole) → ComesFrom w log start empties → IsAgreed start.procs log dcs
 
 -- what an audit of the log and of these data components finds, and how many bytes at the end are no whole frame
 pub record AreAuditLines (ps : List Checked) (s : Stored) (dcs : List Store) (status : ℕ) (lines : List ℕ) : Type 0 where

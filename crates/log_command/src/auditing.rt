@@ -5,7 +5,7 @@ ghost use Rattle.std.specs.Prelude.{◌≡◌, [], length, IfOk, string_bytes};
 ghost use Rattle.std.specs.List.{All};
 ghost use Rattle.scripts.specs.Reading.{script_said};
 ghost use Rattle.scripts.specs.declared.keyword.Command.TheVariants as command;
-ghost use Rattle.coming_back.specs.Coming.{IsEmpty};
+ghost use Rattle.coming_back.specs.Coming.{HasOnlyRows};
 ghost use Rattle.log_command.specs.LogReport.{AreAuditLines, IsUnfit, IsChecked, IsBeside, IsAudit};
 ghost use Rattle.log_command.specs.Joining.Beginning.{IsOfLog};
 
@@ -57,7 +57,7 @@ fn checked(
 ) -> Result<Report, AllocError>
     requires begun { state.old.events ≡ [] }
     requires count { length dcs.old ≡ state.old.dcs }
-    requires empty { All IsEmpty dcs.old }
+    requires empty { All HasOnlyRows dcs.old }
     ensures { IfOk result (λ r. IsChecked state.old dcs.old stored.now r.status (string_bytes r.lines)) }
 {
     match bring_back(alloc, state, dcs, &stored.log) {
@@ -75,7 +75,7 @@ fn beside(
 ) -> Result<Report, AllocError>
     requires begun { state.old.events ≡ [] }
     requires count { length dcs.old ≡ state.old.dcs }
-    requires empty { All IsEmpty dcs.old }
+    requires empty { All HasOnlyRows dcs.old }
     ensures { IfOk result (λ r. IsBeside file.now state.old dcs.old r.status (string_bytes r.lines)) }
 {
     let stored = match read_file(alloc, file) {

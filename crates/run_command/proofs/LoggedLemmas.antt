@@ -9,7 +9,7 @@ use Rattle.scripts.specs.declared.script.Dc.{Dc}
 use Rattle.script_loading.specs.Loading.{empty_store}
 use Rattle.tc_core.specs.Core.{Core}
 use Rattle.coming_back.specs.declared.coming.ComeBackFault.{ComeBackFault}
-use Rattle.coming_back.specs.Coming.{IsEmpty}
+use Rattle.coming_back.specs.Coming.{HasOnlyRows}
 use Rattle.coming_back.specs.Faults.{IsFaultOf}
 use Rattle.run_command.specs.declared.logged.Opened.{Opened}
 use Rattle.run_command.specs.declared.logged.Coming.{Coming}
@@ -37,6 +37,9 @@ lent_whole new old len all same =
     ap (λ (l : List Store). take len (new ++ l)) none ∙ (ap (λ (l : List Store). take len l) (append-nil new) ∙ take_all len new (omega (arith, all, same)))
 
 -- the data components that a script begins with are empty
-pub all_empty : (dcs : List Dc) → All IsEmpty (map empty_store dcs)
-all_empty [] = All-nil IsEmpty
-all_empty (dc ∷ dcs) = All-cons IsEmpty (empty_store dc) (map empty_store dcs) refl (all_empty dcs)
+empty_one : (dc : Dc) → HasOnlyRows (empty_store dc)
+empty_one dc = record { list = refl; saved = refl; mark = refl; saved_mark = refl; never = refl }
+
+pub all_empty : (dcs : List Dc) → All HasOnlyRows (map empty_store dcs)
+all_empty [] = All-nil HasOnlyRows
+all_empty (dc ∷ dcs) = All-cons HasOnlyRows (empty_store dc) (map empty_store dcs) (empty_one dc) (all_empty dcs)

@@ -79,7 +79,7 @@ pub record HasComeBack (start : Core) (empties : List Store) (log : List Event) 
 
 -- a world of what came back has lived, where a world has whose log began with this one
 pub record GoesOn (start : Core) (empties : List Store) (log : List Event) (back : Core) (dcs : List Store) : Type 0 where
-  pub lived : (w : Whole) → ComesFrom w log start (length empties) → HasLived (at_rest back dcs)
+  pub lived : (w : Whole) → ComesFrom w log start empties → HasLived (at_rest back dcs)
 
 -- ---- what is printed
 

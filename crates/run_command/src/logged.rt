@@ -10,7 +10,7 @@ ghost use Rattle.std.specs.List.{All};
 ghost use Rattle.data_component.specs.Store.{Store};
 ghost use Rattle.scripts.specs.Reading.{script_said};
 ghost use Rattle.scripts.specs.declared.keyword.Command.TheVariants as command;
-ghost use Rattle.coming_back.specs.Coming.{IsEmpty};
+ghost use Rattle.coming_back.specs.Coming.{HasOnlyRows};
 ghost use Rattle.run_command.specs.LogLines.{open_refusal};
 ghost use Rattle.run_command.specs.Running.{IsCallsRun};
 ghost use Rattle.run_command.specs.Logged.{KeepsLog, IsLogFor, IsLogRefusal, IsLoggedRun, IsLogged};
@@ -237,7 +237,7 @@ fn come(
     path: &str,
     journal: &mut FileJournal,
 ) -> Result<Coming, Unlogged>
-    requires { All IsEmpty dcs.old }
+    requires { All HasOnlyRows dcs.old }
     ensures { (file : List ℕ) → IsLogFor state.old file log.now.events → KeepsLog (Some journal.old) log.now.events
         → IfOk result (IsComing state.old dcs.old log.now.events state.new dcs.new journal.new) }
 {
@@ -268,7 +268,7 @@ fn go_back(
     opened: Opened,
     path: &str,
 ) -> Result<GoingBack, Unlogged>
-    requires { All IsEmpty dcs.old }
+    requires { All HasOnlyRows dcs.old }
     ensures { IsOpened state.old opened → IfOk result (IsGoingBack state.old dcs.old opened.log.events state.new dcs.new) }
 {
     let Opened {
@@ -299,7 +299,7 @@ fn begin<F: Files<File = File>>(
     state: &mut TcState,
     dcs: &mut [Dc],
 ) -> Result<GoingBack, Unlogged>
-    requires { All IsEmpty dcs.old }
+    requires { All HasOnlyRows dcs.old }
     ensures { IfOk result (IsBegun state.old dcs.old state.new dcs.new) }
 {
     match open_log(rt, alloc, path, state)? {
@@ -378,7 +378,7 @@ fn run_behind<R: Files<File = File> + Clock + Threads + Wait + Sync>(
     manner: Manner,
     listeners: Listeners,
 ) -> Result<Ran, Unlogged>
-    requires { All IsEmpty loaded.dcs.items }
+    requires { All HasOnlyRows loaded.dcs.items }
     ensures { IfOk result (λ r. IsLoggedRun r.journal loaded.state loaded.dcs.items loaded.first.items loaded.calls.items
         manner.workers manner.tries manner.audit r.report.status (string_bytes r.report.lines)) }
 {

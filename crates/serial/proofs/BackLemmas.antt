@@ -13,6 +13,7 @@ use Rattle.tc_log.specs.declared.event.Event.{Event}
 use Rattle.tc_log.specs.declared.event.Event.TheVariants.{Admit, Ask, Answer, Undo, End, Checkpoint}
 use Rattle.verifier.specs.Checked.{Checked}
 use Rattle.history.specs.Flight.{Flight, open_op, given}
+use Rattle.history.specs.Anew.{begun}
 use Rattle.history.specs.Redo.{is_done}
 use Rattle.data_component.specs.Performed.{Performed, RecordValue, said_under, value_over}
 use Rattle.transactions.specs.Reached.{AllGood}
@@ -454,22 +455,31 @@ given_more ps (Checkpoint before numbers ∷ later) first legal =
     let none : given first ≡ 0 = ap given (tail_none later first legal.0.oldest) in
     omega (arith, none)
 
--- numbers are given out from 1 on
-pub logged_some : (ps : List Checked) (h : List Event) → Legal ps h → (n : ℕ) (o : Op) → logged h n ≡ Some o → 0 < n
-logged_some ps [] legal n o e = absurd (none_some _ o refl e)
-logged_some ps (Admit t p args ∷ h) legal n o e = logged_some ps h legal.1 n o e
-logged_some ps (Ask t m q ∷ h) legal n o e =
-    let next = legal.0.next in
-    elim (cases_eq m n) [
-      | inl same ↦ omega (arith, same, next)
-      | inr other ↦ logged_some ps h legal.1 n o (sym (if_none m n (Some q) (logged h n) other) ∙ e)
-    ]
-logged_some ps (Answer t m said ∷ h) legal n o e = logged_some ps h legal.1 n o e
-logged_some ps (Undo t m q ∷ h) legal n o e =
-    let next = legal.0.next in
-    elim (cases_eq m n) [
-      | inl same ↦ omega (arith, same, next)
-      | inr other ↦ logged_some ps h legal.1 n o (sym (if_none m n (Some q) (logged h n) other) ∙ e)
-    ]
-logged_some ps (End t ends ∷ h) legal n o e = logged_some ps h legal.1 n o e
-logged_some ps (Checkpoint before numbers ∷ h) legal n o e = logged_some ps h legal.1 n o e
+-- ---- the number behind which a log begins
+
+pub begun_given : (ps : List Checked) (h : List Event) → Legal ps h → begun h ≤ given h
+begun_given ps [] legal = omega arith
+begun_given ps (Admit t p args ∷ h) legal = begun_given ps h legal.1
+begun_given ps (Ask t m q ∷ h) legal = (let few = begun_given ps h legal.1 in omega (arith, few))
+begun_given ps (Answer t m said ∷ h) legal = begun_given ps h legal.1
+begun_given ps (Undo t m q ∷ h) legal = (let few = begun_given ps h legal.1 in omega (arith, few))
+begun_given ps (End t ends ∷ h) legal = begun_given ps h legal.1
+begun_given ps (Checkpoint before numbers ∷ h) legal = omega arith
+
+logged_new : (ps : List Checked) (h : List Event) (m n : ℕ) (q o : Op) → Legal ps h → m ≡ given h + 1 → (logged h n ≡ Some o → begun h < n)
+    → (if m == n then Some q else logged h n) ≡ Some o → begun h < n
+logged_new ps h m n q o legal next old e = elim (cases_eq m n) [
+  | inl same ↦ (let few = begun_given ps h legal in omega (arith, same, next, few))
+  | inr other ↦ old (sym (if_none m n (Some q) (logged h n) other) ∙ e)
+]
+
+-- the log's numbers are above it
+pub logged_above : (ps : List Checked) (h : List Event) → Legal ps h → (n : ℕ) (o : Op) → logged h n ≡ Some o → begun h < n
+logged_above ps [] legal n o e = absurd (none_some _ o refl e)
+logged_above ps (Admit t p args ∷ h) legal n o e = logged_above ps h legal.1 n o e
+logged_above ps (Ask t m q ∷ h) legal n o e = logged_new ps h m n q o legal.1 legal.0.next (logged_above ps h legal.1 n o) e
+logged_above ps (Answer t m said ∷ h) legal n o e = logged_above ps h legal.1 n o e
+logged_above ps (Undo t m q ∷ h) legal n o e = logged_new ps h m n q o legal.1 legal.0.next (logged_above ps h legal.1 n o) e
+logged_above ps (End t ends ∷ h) legal n o e = logged_above ps h legal.1 n o e
+logged_above ps (Checkpoint before numbers ∷ h) legal n o e =
+    absurd (none_some _ o (ap (λ (x : List Event). logged x n) legal.0.oldest) e)

@@ -181,20 +181,25 @@ behind_none base lg fl dn d = record {
   ahead = λ r n f said dc is under same did. absurd (none_some _ said refl under);
 }
 
--- all that was done has a number above 0
-stands_none : (lg : ℕ → Option Op) (dn : List Performed) (d : ℕ) (list : List Performed) → ((n : ℕ) (o : Op) → lg n ≡ Some o → 0 < n) → (p : ℕ) → p ≡ 0 → StandsTo lg dn d p list
-stands_none lg dn d list above p none n o said logs dc was did low = (let some = above n o logs in absurd (omega (arith, some, none, low)))
+-- all that was done has a number above p
+stands_none : (lg : ℕ → Option Op) (dn : List Performed) (d : ℕ) (list : List Performed) (b : ℕ) → ((n : ℕ) (o : Op) → lg n ≡ Some o → b < n)
+    → (p : ℕ) → p ≡ b → StandsTo lg dn d p list
+stands_none lg dn d list b above p is n o said logs dc was did low = (let some = above n o logs in absurd (omega (arith, some, is, low)))
 
-pub site_new : (base : Table) (lg : ℕ → Option Op) (fl : ℕ → Option Flight) (dn : List Performed) (top d : ℕ) (s : Store) → ((n : ℕ) (o : Op) → lg n ≡ Some o → 0 < n) → Over fl top 0
-    → ((r : Record) → r.dc ≡ d → row_of s.base r ≡ base r) → s.list ≡ [] → s.saved ≡ [] → s.mark ≡ 0 → s.saved_mark ≡ 0 → 0 < s.incarnation
+-- its marks are b, and all numbers of the log are above that
+pub site_new : (base : Table) (lg : ℕ → Option Op) (fl : ℕ → Option Flight) (dn : List Performed) (top d : ℕ) (s : Store) (b : ℕ)
+    → ((n : ℕ) (o : Op) → lg n ≡ Some o → b < n) → Over fl top b → ((r : Record) → r.dc ≡ d → row_of s.base r ≡ base r)
+    → s.list ≡ [] → s.saved ≡ [] → s.mark ≡ b → s.saved_mark ≡ b → 0 < s.incarnation
     → SiteOk base lg fl dn top d s (record { incarnation = s.incarnation; redo = Some (record { mark = s.mark; redone = s.mark }) }) []
-site_new base lg fl dn top d s above over based list saved mark saved_mark restarted =
+site_new base lg fl dn top d s b above over based list saved mark saved_mark restarted =
     let at : Redoing = record { mark = s.mark; redone = s.mark } in
-    let over_at : (p : ℕ) → p ≡ 0 → Over fl top p = (λ p none. over_less fl top 0 p over (omega (arith, none))) in
+    let over_at : (p : ℕ) → p ≡ b → Over fl top p = (λ p is. over_less fl top b p over (omega (arith, is))) in
     record {
       up = λ is. absurd (none_some _ at is refl);
       behind = behind_none base lg fl dn d;
-      down = λ r is. subst (RedoneTo base lg fl dn top d []) (some_same at r is) (record { stands = stands_none lg dn d [] above s.mark mark; told_le = omega arith; told_over = over_at s.mark mark });
+      down = λ r is.
+          subst (RedoneTo base lg fl dn top d []) (some_same at r is)
+          (record { stands = stands_none lg dn d [] b above s.mark mark; told_le = omega arith; told_over = over_at s.mark mark });
       ahead = λ less. absurd (omega (arith, less));
       same = λ is. list;
       idle = λ less. absurd (omega (arith, less));
@@ -202,8 +207,8 @@ site_new base lg fl dn top d s above over based list saved mark saved_mark resta
       based = based;
       saved_cut = subst (λ (l : List Performed). IsEnd l s.saved) (sym list) saved;
       whole = λ never. absurd (omega (arith, never, restarted));
-      mark_to = stands_none lg dn d s.list above s.mark mark;
+      mark_to = stands_none lg dn d s.list b above s.mark mark;
       mark_over = over_at s.mark mark;
-      saved_to = stands_none lg dn d s.saved above s.saved_mark saved_mark;
+      saved_to = stands_none lg dn d s.saved b above s.saved_mark saved_mark;
       saved_over = over_at s.saved_mark saved_mark;
     }

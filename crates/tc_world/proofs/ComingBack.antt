@@ -9,7 +9,7 @@ use Rattle.tc_log.specs.declared.event.Event.{Event}
 use Rattle.history.specs.Flight.{Flight, open_op, is_flight, given, low_water}
 use Rattle.data_component.specs.Performed.{Performed}
 use Rattle.history.specs.Anew.{begun}
-use Rattle.tc_world.proofs.Bare.{begun_first}
+use Rattle.tc_world.proofs.Bases.{begun_first}
 use Rattle.data_component.specs.Store.{Store}
 use Rattle.transactions.specs.declared.Redoing.{Redoing}
 use Rattle.transactions.specs.declared.Site.{Site}
@@ -17,7 +17,7 @@ use Rattle.transactions.specs.InFlight.{site_at, site_by, untold}
 use Rattle.transactions.specs.Reached.{AllGood}
 use Rattle.transactions.specs.Legal.{Legal}
 use Rattle.transactions.proofs.StandingLemmas.{some_same, none_some, eq-true, eq-false}
-use Rattle.serial.specs.Serial.{empty_table, done, Honest}
+use Rattle.serial.specs.Serial.{done, HonestFrom}
 use Rattle.serial.specs.Lists.{logged}
 use Rattle.serial.specs.Joining.Site.{Over}
 use Rattle.serial.proofs.RedoneLemmas.{over_low}
@@ -30,7 +30,7 @@ use Rattle.tc_core.proofs.KeptLemmas.{slice_get-index, slice_get-short}
 use Rattle.tc_world.specs.Whole.{Whole}
 use Rattle.tc_world.specs.Marks.{IsLow, AreMarksLow}
 use Rattle.tc_world.specs.Recovery.{IsWrittenFor, IsWrittenAt, IsNotYetUp, IsNoted, Noted, NotYetUp, IsWritten, begun_anew, anew, come_back, note_by, note_of, notes_of}
-use Rattle.tc_world.specs.Joining.Listed.{IsListed}
+use Rattle.tc_world.specs.Joining.Listed.{BeginsBehind, EachBeginsBehind, IsListed}
 
 pub all_at : {X : Type 0} (P : X → Type 0) (xs : List X) (k : ℕ) (x : X) → slice_get xs k ≡ Some x → All P xs → P x
 all_at P xs k x at all = subst P (slice_get-index xs k x x at) (all k x (slice_get-short xs k x at))
@@ -141,20 +141,32 @@ pub come_back_listed : (w : Whole) (first : List Event) (notes : List SiteNote) 
     → IsWritten first notes w → IsListed w → IsListed (come_back first notes w)
 come_back_listed w first notes good legal written s =
     record {
-      honest = honest_first empty_table written.begins.later first (subst Honest written.begins.is s.honest);
-      bare = s.bare;
-      unbegun = begun_first w.core.procs written.begins.later first (subst (Legal w.core.procs) written.begins.is legal) (sym (ap begun written.begins.is) ∙ s.unbegun);
-      ok = ok_back empty_table (logged w.core.events) (open_op w.core.events) (done w.core.events) (given w.core.events) (logged first) (open_op first) (done first) (given first) (low_water first)
+      base = s.base;
+      based = s.based;
+      behind = behind;
+      honest = honest_first s.base written.begins.later first (subst (HonestFrom s.base) written.begins.is s.honest);
+      ok = ok_back s.base (logged w.core.events) (open_op w.core.events) (done w.core.events) (given w.core.events) (logged first) (open_op first) (done first) (given first) (low_water first)
           w.core.sites (map site_noted notes) w.dcs w.copies w.replies w.news before over noted
           (λ d y at. up_to_it first y (all_at (IsWrittenAt first) w.dcs d y at written.stores))
           (λ k x inside. rests first _ (written.copies k x inside))
           written.replies written.news s.ok;
     }
   where
-    before : Earlier empty_table (logged w.core.events) (open_op w.core.events) (done w.core.events) (given w.core.events) (logged first) (open_op first) (done first) (given first)
+    -- each mark is at or under that of what was written, so that this has the Checkpoint, if there is one
+    behind : EachBeginsBehind (begun first) w.dcs
+    behind d x at =
+        let is = s.behind d x at in
+        let there : x.mark ≤ low_water first = (all_at (IsWrittenAt first) w.dcs d x at written.stores).mark in
+        let above : begun w.core.events ≤ x.mark = is.mark in
+        let whole : begun w.core.events ≡ begun (written.begins.later ++ first) = ap begun written.begins.is in
+        let same : begun (written.begins.later ++ first) ≡ begun first =
+        begun_first w.core.procs written.begins.later first (subst (Legal w.core.procs) written.begins.is legal) (omega (arith, there, above, whole)) in
+        subst (λ (n : ℕ). BeginsBehind n x) (whole ∙ same) is
+
+    before : Earlier s.base (logged w.core.events) (open_op w.core.events) (done w.core.events) (given w.core.events) (logged first) (open_op first) (done first) (given first)
     before =
-        subst (λ (h : List Event). Earlier empty_table (logged h) (open_op h) (done h) (given h) (logged first) (open_op first) (done first) (given first)) (sym written.begins.is)
-        (earlier w.core.procs empty_table written.begins.later first good (subst (Legal w.core.procs) written.begins.is legal) (subst Honest written.begins.is s.honest))
+        subst (λ (h : List Event). Earlier s.base (logged h) (open_op h) (done h) (given h) (logged first) (open_op first) (done first) (given first)) (sym written.begins.is)
+        (earlier w.core.procs s.base written.begins.later first good (subst (Legal w.core.procs) written.begins.is legal) (subst (HonestFrom s.base) written.begins.is s.honest))
 
     over : Over (open_op first) (given first) (low_water first)
     over = over_low w.core.procs first (come_back_legal w first notes legal written)

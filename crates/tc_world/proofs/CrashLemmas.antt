@@ -1,6 +1,6 @@
 -- A look at a world tells exactly whether its transaction component may crash.
-use Rattle.std.proofs.Common.{◌≡◌, ℕ, ◌-◌, ◌≤◌, Bool, true, false, not, ◌&&◌, List, ◌++◌, length, take, drop, arith, refl, sym, ◌∙◌, ap, subst}
-use Rattle.std.specs.Prelude.{reverse, nat_le, count_by, IsTrue, ◌↔◌, [], ◌∷◌}
+use Rattle.std.proofs.Common.{◌≡◌, ℕ, ◌+◌, ◌-◌, ◌≤◌, Bool, true, false, not, ◌&&◌, List, ◌++◌, length, take, drop, arith, refl, sym, ◌∙◌, ap, subst}
+use Rattle.std.specs.Prelude.{reverse, nat_le, IsTrue, ◌↔◌}
 use Rattle.std.specs.List.{All, list_all}
 use Rattle.std.proofs.lemmas.Bool.{leb-true, le-leb, and_parts, and_from}
 use Rattle.std.proofs.lemmas.List.{take-append-drop, length-drop}
@@ -12,7 +12,7 @@ use Rattle.tc_log.specs.declared.event.Event.{Event}
 use Rattle.tc_log.specs.declared.event.Event.TheVariants as event
 use Rattle.verifier.specs.Checked.{Checked}
 use Rattle.history.specs.Calls.{admitted}
-use Rattle.history.specs.Flight.{given, low_water, is_open}
+use Rattle.history.specs.Flight.{given, low_water}
 use Rattle.data_component.specs.Performed.{Performed}
 use Rattle.data_component.specs.Store.{Store}
 use Rattle.transactions.specs.declared.Site.{Site}
@@ -26,7 +26,8 @@ use Rattle.tc_world.specs.Waiting.{AreWaiting}
 use Rattle.tc_world.specs.Recovery.{IsWrittenFor, IsWrittenAt, Noted, MayCrash}
 use Rattle.tc_world.specs.Joining.Written.{given_of, is_left, low_left, is_wire_told, are_told, is_store_told}
 use Rattle.tc_world.proofs.ComingBack.{noted_at}
-use Rattle.tc_world.proofs.Bare.{none_behind}
+use Rattle.tc_world.specs.Beginning.{admitted_before}
+use Rattle.tc_world.proofs.BeginningLemmas.{fewer_since}
 use Rattle.history.specs.Anew.{begun as log_begun}
 use Rattle.tc_world.proofs.LookingLemmas.{all_reverse, front, back, given_first, left_is, low_is}
 
@@ -224,17 +225,9 @@ module _ (w : Whole) (n : ℕ) (rs : List Asking) (given' low : ℕ) (es : List 
 
 -- ---- requests made again
 
--- what came later admitted no less
-pub admitted_more : (ps : List Checked) (later first : List Event) → Legal ps (later ++ first) → admitted first ≤ admitted (later ++ first)
-admitted_more ps [] first legal = omega arith
-admitted_more ps (event.Admit t p args ∷ later) first legal = (let ih = admitted_more ps later first legal.1 in omega (arith, ih))
-admitted_more ps (event.Ask t n o ∷ later) first legal = admitted_more ps later first legal.1
-admitted_more ps (event.Answer t n said ∷ later) first legal = admitted_more ps later first legal.1
-admitted_more ps (event.Undo t n o ∷ later) first legal = admitted_more ps later first legal.1
-admitted_more ps (event.End t o ∷ later) first legal = admitted_more ps later first legal.1
-admitted_more ps (event.Checkpoint before numbers ∷ later) first legal =
-    let none : admitted first ≡ 0 = ap admitted (none_behind later first legal.0.oldest) in
-    omega (arith, none)
-
-pub fewer_admitted : (ps : List Checked) (n : ℕ) (h : List Event) → Legal ps h → admitted (first_events n h) ≤ admitted h
-fewer_admitted ps n h legal = subst (λ (x : List Event). admitted (first_events n h) ≤ admitted x) (cut_is n h) (admitted_more ps (later_events n h) (first_events n h) (subst (Legal ps) (sym (cut_is n h)) legal))
+-- the log's first events admitted no more since it began
+pub fewer_admitted : (ps : List Checked) (n : ℕ) (h : List Event) → Legal ps h
+    → admitted (first_events n h) + admitted_before h ≤ admitted h + admitted_before (first_events n h)
+fewer_admitted ps n h legal =
+    subst (λ (x : List Event). admitted (first_events n h) + admitted_before x ≤ admitted x + admitted_before (first_events n h)) (cut_is n h)
+    (fewer_since ps (later_events n h) (first_events n h) (subst (Legal ps) (sym (cut_is n h)) legal))

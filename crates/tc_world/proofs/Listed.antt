@@ -6,6 +6,7 @@ use Rattle.std.proofs.lemmas.Bool.Decides.{nat_tests}
 use Rattle.std.specs.List.{All}
 use Rattle.std.proofs.lemmas.Bool.{cases_lt}
 use Rattle.access_slots.specs.Access.{fits}
+use Rattle.access_slots.specs.declared.slot.Record.{Record}
 use Rattle.access_slots.specs.declared.op.Op.{Op}
 use Rattle.access_slots.specs.declared.op.Op.TheVariants.{Read, Insert, Update, Delete}
 use Rattle.access_slots.specs.declared.op.Said.{Said}
@@ -45,7 +46,7 @@ use Rattle.tc_core.specs.Recovery.{first_events}
 use Rattle.tc_world.specs.Recovery.{notes_of}
 use Rattle.tc_world.proofs.ComingBack.{all_at, come_back_listed}
 use Rattle.tc_world.specs.Whole.{Whole}
-use Rattle.tc_world.specs.Marks.{IsFresh}
+use Rattle.tc_world.specs.Marks.{HasJustBegun, AtFirst, AtCheckpoint, IsFresh}
 use Rattle.tc_world.specs.Steps.{Goes, Stops, Steps, with_core, with_dcs, with_copy, with_reply, told, sends_or_holds, ends_by, resends_wire, resends_sent}
 use Rattle.tc_world.specs.Steps.{resends_by, gets_reply, performs_at, performs_copy, takes_answer, TakesBy, TakesReply}
 use Rattle.tc_world.specs.Steps.{restarts_as, restarts_at, checkpoints_at, tells_unless, tells_news, redoes_by, with_news}
@@ -55,20 +56,20 @@ use Rattle.tc_world.specs.declared.step.Outcome.{Outcome}
 use Rattle.tc_world.specs.declared.step.Illegal.{Illegal}
 use Rattle.tc_world.specs.OneAtATime.{is_forge, NoForge, IsKnown, EachIsKnown, IsOneAtATime}
 use Rattle.tc_world.specs.Joining.Listed.{IsListed}
-use Rattle.serial.specs.Serial.{empty_table, done, HonestTo, Honest}
-use Rattle.serial.specs.Serial.{now as serial_now}
+use Rattle.serial.specs.Values.{Table}
+use Rattle.serial.specs.Serial.{done, now_from, HonestTo, HonestFrom}
 use Rattle.serial.specs.Lists.{logged, dc_of}
-use Rattle.serial.specs.Audit.{IsAgreed, base_of}
+use Rattle.serial.specs.Audit.{IsAgreed, base_in, base_of}
 use Rattle.history.specs.Anew.{begun}
-use Rattle.data_component.specs.Sorted.{Rows, row_of}
-use Rattle.tc_world.proofs.Bare.{bare_set, performed_bare, bare_base, honest_same, beside_same}
+use Rattle.data_component.specs.Sorted.{row_of}
+use Rattle.tc_world.proofs.Bases.{based_set, behind_set, performed_base, performed_behind, checkpointed_behind, restarted_behind, honest_same, beside_same}
 use Rattle.serial.specs.Joining.Beside.{Beside}
 use Rattle.serial.specs.Joining.Behind.{Behind, StandsTo, IsEnd, IsNext}
 use Rattle.serial.specs.Joining.Site.{SiteOk}
 use Rattle.serial.specs.Joining.Sites.{CopyOk, ReplyOk, NewsOk, AreOk}
 use Rattle.serial.proofs.LockLemmas.{both_left, both_right}
-use Rattle.serial.proofs.KeepLemmas.{ends_as_serial}
-use Rattle.serial.proofs.ListLemmas.{beside_none, if_some}
+use Rattle.serial.proofs.KeepLemmas.{ends_as_serial_from}
+use Rattle.serial.proofs.ListLemmas.{beside_none, if_some, over_same}
 use Rattle.serial.proofs.NumberLemmas.{logged_below, flight_logged, done_answer, done_logged, flights, flight_absent}
 use Rattle.serial.proofs.StoreLemmas.{reply_case, ReplyCase, is_old, listed}
 use Rattle.serial.proofs.OrderLemmas.{list_serial, in_step}
@@ -106,44 +107,44 @@ known_behind o p w v known goes = subst (λ (x : Whole). Known x.core) (sym (wen
 
 -- ---- what happens to a world
 
-abbrev Lists : Whole → Core → Type 0
-Lists w c = AreOk empty_table (logged c.events) (open_op c.events) (done c.events) (given c.events) c.sites w.dcs w.copies w.replies w.news
+abbrev Lists : Table → Whole → Core → Type 0
+Lists base w c = AreOk base (logged c.events) (open_op c.events) (done c.events) (given c.events) c.sites w.dcs w.copies w.replies w.news
 
 -- a new number is given out
-asked : (ps : List Checked) (w : Whole) (e : Event) (t n : ℕ) (o : Op) → Legal ps w.core.events → n ≡ given w.core.events + 1
+asked : (ps : List Checked) (base : Table) (w : Whole) (e : Event) (t n : ℕ) (o : Op) → Legal ps w.core.events → n ≡ given w.core.events + 1
     → logged (e ∷ w.core.events) ≡ (λ m. if n == m then Some o else logged w.core.events m)
     → open_op (e ∷ w.core.events) ≡ (λ m. if n == m then Some (flight t o) else open_op w.core.events m)
     → done (e ∷ w.core.events) ≡ done w.core.events → given (e ∷ w.core.events) ≡ n
-    → Lists w w.core → Lists w (with_event w.core e)
-asked ps w e t n o legal next lg fl dn top k =
+    → Lists base w w.core → Lists base w (with_event w.core e)
+asked ps base w e t n o legal next lg fl dn top k =
     let h = w.core.events in
     let new : (m : ℕ) (q : Op) → logged h m ≡ Some q → n ≢ m = (λ m q is. let b = logged_below ps h legal m q is in omega (arith, next, b)) in
-    let now = ok_sent empty_table (logged h) (open_op h) (done h) (given h) w.core.sites w.dcs w.copies w.replies w.news n (flight t o) (omega (arith, next)) new (λ m said is. done_logged ps h legal m said is) k in
-    subst (λ (g : ℕ → Option Op). AreOk empty_table g (open_op (e ∷ h)) (done (e ∷ h)) (given (e ∷ h)) w.core.sites w.dcs w.copies w.replies w.news) (sym lg)
-    (subst (λ (g : ℕ → Option Flight). AreOk empty_table (λ m. if n == m then Some o else logged h m) g (done (e ∷ h)) (given (e ∷ h)) w.core.sites w.dcs w.copies w.replies w.news) (sym fl)
-    (subst (λ (g : List Performed). AreOk empty_table (λ m. if n == m then Some o else logged h m) (λ m. if n == m then Some (flight t o) else open_op h m) g (given (e ∷ h)) w.core.sites w.dcs w.copies w.replies w.news) (sym dn)
-    (subst (λ (g : ℕ). AreOk empty_table (λ m. if n == m then Some o else logged h m) (λ m. if n == m then Some (flight t o) else open_op h m) (done h) g w.core.sites w.dcs w.copies w.replies w.news) (sym top) now)))
+    let now = ok_sent base (logged h) (open_op h) (done h) (given h) w.core.sites w.dcs w.copies w.replies w.news n (flight t o) (omega (arith, next)) new (λ m said is. done_logged ps h legal m said is) k in
+    subst (λ (g : ℕ → Option Op). AreOk base g (open_op (e ∷ h)) (done (e ∷ h)) (given (e ∷ h)) w.core.sites w.dcs w.copies w.replies w.news) (sym lg)
+    (subst (λ (g : ℕ → Option Flight). AreOk base (λ m. if n == m then Some o else logged h m) g (done (e ∷ h)) (given (e ∷ h)) w.core.sites w.dcs w.copies w.replies w.news) (sym fl)
+    (subst (λ (g : List Performed). AreOk base (λ m. if n == m then Some o else logged h m) (λ m. if n == m then Some (flight t o) else open_op h m) g (given (e ∷ h)) w.core.sites w.dcs w.copies w.replies w.news) (sym dn)
+    (subst (λ (g : ℕ). AreOk base (λ m. if n == m then Some o else logged h m) (λ m. if n == m then Some (flight t o) else open_op h m) (done h) g w.core.sites w.dcs w.copies w.replies w.news) (sym top) now)))
 
-abbrev pub IsCopy : Whole → (ℕ → List Performed) → Wire → Type 0
-IsCopy w v x = CopyOk empty_table (logged w.core.events) (open_op w.core.events) (done w.core.events) (given w.core.events) w.core.sites w.dcs v x
+abbrev pub IsCopy : Table → Whole → (ℕ → List Performed) → Wire → Type 0
+IsCopy base w v x = CopyOk base (logged w.core.events) (open_op w.core.events) (done w.core.events) (given w.core.events) w.core.sites w.dcs v x
 
-copied : (w : Whole) (x : Wire) → (s : IsListed w) → IsCopy w s.ok.v x → IsListed (with_copy w x)
+copied : (w : Whole) (x : Wire) → (s : IsListed w) → IsCopy s.base w s.ok.v x → IsListed (with_copy w x)
 copied w x s y =
-    record { honest = s.honest; bare = s.bare; unbegun = s.unbegun; ok = ok_copy empty_table (logged w.core.events) (open_op w.core.events) (done w.core.events) (given w.core.events) w.core.sites w.dcs w.copies w.replies w.news x s.ok y }
+    record { honest = s.honest; base = s.base; based = s.based; behind = s.behind; ok = ok_copy s.base (logged w.core.events) (open_op w.core.events) (done w.core.events) (given w.core.events) w.core.sites w.dcs w.copies w.replies w.news x s.ok y }
 
 -- the wire of an open number
-wire_ok : (w : Whole) (v : ℕ → List Performed) (r : Asking) (f : Flight) (redo : Option Redoing) (x : Wire) → Legal w.core.procs w.core.events → logged w.core.events r.number ≡ Some r.op → open_op w.core.events r.number ≡ Some f
-    → (site_of w.core.sites r.op).redo ≡ redo → Ok x ≡ wire_by w.core r (site_of w.core.sites r.op).incarnation redo → IsCopy w v x
-wire_ok w v r f (Some redo) x legal logs flies up is = absurd cc
-wire_ok w v r f None x legal logs flies up is =
+wire_ok : (base : Table) (w : Whole) (v : ℕ → List Performed) (r : Asking) (f : Flight) (redo : Option Redoing) (x : Wire) → Legal w.core.procs w.core.events → logged w.core.events r.number ≡ Some r.op → open_op w.core.events r.number ≡ Some f
+    → (site_of w.core.sites r.op).redo ≡ redo → Ok x ≡ wire_by w.core r (site_of w.core.sites r.op).incarnation redo → IsCopy base w v x
+wire_ok base w v r f (Some redo) x legal logs flies up is = absurd cc
+wire_ok base w v r f None x legal logs flies up is =
     let y : Wire = wire_for w.core r (site_of w.core.sites r.op).incarnation in
     let same : y ≡ x = cc in
-    subst (IsCopy w v) same (record { logs = logs; known = omega arith; ahead = λ z is less. refl; over = over_low w.core.procs w.core.events legal; now = λ now. inl (record { ordinary = refl; up = up; runs = inl (f, flies) }) })
+    subst (IsCopy base w v) same (record { logs = logs; known = omega arith; ahead = λ z is less. refl; over = over_low w.core.procs w.core.events legal; now = λ now. inl (record { ordinary = refl; up = up; runs = inl (f, flies) }) })
 
 sent_listed : (w v : Whole) (r : Asking) (f : Flight) (x : Result Wire Down) (o : Outcome) → Known v.core → x ≡ wire_of w.core r → logged w.core.events r.number ≡ Some r.op → open_op w.core.events r.number ≡ Some f → IsListed w → sends_or_holds w r x ≡ Goes o v → IsListed v
 sent_listed w v r f (Ok x) o known is logs flies s goes =
     let was = known_behind _ o (with_copy w x) v known goes in
-    behind _ o (with_copy w x) v (copied w x s (wire_ok w s.ok.v r f (site_of w.core.sites r.op).redo x was.legal logs flies refl is)) goes
+    behind _ o (with_copy w x) v (copied w x s (wire_ok s.base w s.ok.v r f (site_of w.core.sites r.op).redo x was.legal logs flies refl is)) goes
 sent_listed w v r f (Err down) o known is logs flies s goes = behind _ o w v s goes
 
 asks_listed : (w v : Whole) (t : ℕ) (a : Asked) (o : Outcome) → Known v.core → IsListed w → told w t (after_ask w.core a) a ≡ Goes o v → IsListed v
@@ -153,7 +154,7 @@ asks_listed w v t (reply.Request r) o known s goes = by (wire_of c r) refl goes
     c = with_event w.core (event.Ask r.txn r.number r.op)
 
     mid : Known c → IsListed (with_core w c)
-    mid now_known = record { honest = (tt, s.honest); bare = s.bare; unbegun = s.unbegun; ok = asked w.core.procs w (event.Ask r.txn r.number r.op) r.txn r.number r.op now_known.legal.1 now_known.legal.0.next refl refl refl (sym now_known.legal.0.next) s.ok }
+    mid now_known = record { honest = (tt, s.honest); base = s.base; based = s.based; behind = s.behind; ok = asked w.core.procs s.base w (event.Ask r.txn r.number r.op) r.txn r.number r.op now_known.legal.1 now_known.legal.0.next refl refl refl (sym now_known.legal.0.next) s.ok }
 
     logs : logged c.events r.number ≡ Some r.op
     logs = if_some r.number r.number (Some r.op) (logged w.core.events r.number) refl
@@ -178,7 +179,7 @@ undoes_listed w v t (reply.Request r) o known s goes = by (wire_of c r) refl goe
     c = with_event w.core (event.Undo r.txn r.number r.op)
 
     mid : Known c → IsListed (with_core w c)
-    mid now_known = record { honest = (tt, s.honest); bare = s.bare; unbegun = s.unbegun; ok = asked w.core.procs w (event.Undo r.txn r.number r.op) r.txn r.number r.op now_known.legal.1 now_known.legal.0.next refl refl refl (sym now_known.legal.0.next) s.ok }
+    mid now_known = record { honest = (tt, s.honest); base = s.base; based = s.based; behind = s.behind; ok = asked w.core.procs s.base w (event.Undo r.txn r.number r.op) r.txn r.number r.op now_known.legal.1 now_known.legal.0.next refl refl refl (sym now_known.legal.0.next) s.ok }
 
     logs : logged c.events r.number ≡ Some r.op
     logs = if_some r.number r.number (Some r.op) (logged w.core.events r.number) refl
@@ -199,7 +200,7 @@ undoes_listed w v t reply.Unknown o known s goes = absurd (stopped _ o v goes)
 ends_listed : (w v : Whole) (t : ℕ) (s : Option Standing) (e : Option Ending) (o : Outcome) → IsListed w → ends_by w t s e ≡ Goes o v → IsListed v
 ends_listed w v t None e o kept goes = absurd (stopped _ o v goes)
 ends_listed w v t (Some s) None o kept goes = absurd (stopped _ o v goes)
-ends_listed w v t (Some s) (Some e) o kept goes = behind _ o (with_core w (with_event w.core (event.End t e))) v (record { honest = (tt, kept.honest); bare = kept.bare; unbegun = kept.unbegun; ok = kept.ok }) goes
+ends_listed w v t (Some s) (Some e) o kept goes = behind _ o (with_core w (with_event w.core (event.End t e))) v (record { honest = (tt, kept.honest); base = kept.base; based = kept.based; behind = kept.behind; ok = kept.ok }) goes
 
 resends_listed : (w v : Whole) (t : ℕ) (s : Option Standing) (o : Outcome) → Known v.core → standing w.core.events t ≡ s → IsListed w → resends_by w t s ≡ Goes o v → IsListed v
 resends_listed w v t None o known is kept goes = absurd (stopped _ o v goes)
@@ -210,7 +211,7 @@ resends_listed w v t (Some s) o known is kept goes = by s.sent refl goes
         let was = known_behind _ o (with_copy w x) v known goes' in
         let flies = (standing_flight w.core.procs w.core.events was.legal t s r is waits).1 in
         let a : Asking = record { txn = t; number = r.number; op = r.op } in
-        behind _ o (with_copy w x) v (copied w x kept (wire_ok w kept.ok.v a (flight t r.op) (site_of w.core.sites r.op).redo x was.legal (flight_logged w.core.events r.number (flight t r.op) flies) flies refl wire)) goes'
+        behind _ o (with_copy w x) v (copied w x kept (wire_ok kept.base w kept.ok.v a (flight t r.op) (site_of w.core.sites r.op).redo x was.legal (flight_logged w.core.events r.number (flight t r.op) flies) flies refl wire)) goes'
     wires r waits (Err down) wire goes' = absurd (stopped _ o v goes')
 
     by : (r : Option Sent) → s.sent ≡ r → resends_sent w t r ≡ Goes o v → IsListed v
@@ -229,11 +230,11 @@ gets_known w v (Some x) o known goes = known_behind _ o (with_reply w x) v known
 gets_listed : (w v : Whole) (x : Option Reply) (o : Outcome) → (s : IsListed w) → ((y : Reply) → x ≡ Some y → ReplyOk (logged w.core.events) w.core.sites w.dcs s.ok.v y) → gets_reply w x ≡ Goes o v → IsListed v
 gets_listed w v None o s said goes = behind _ o w v s goes
 gets_listed w v (Some x) o s said goes =
-    behind _ o (with_reply w x) v (record { honest = s.honest; bare = s.bare; unbegun = s.unbegun; ok = ok_reply empty_table (logged w.core.events) (open_op w.core.events) (done w.core.events) (given w.core.events) w.core.sites w.dcs w.copies w.replies w.news x s.ok (said x refl) }) goes
+    behind _ o (with_reply w x) v (record { honest = s.honest; base = s.base; based = s.based; behind = s.behind; ok = ok_reply s.base (logged w.core.events) (open_op w.core.events) (done w.core.events) (given w.core.events) w.core.sites w.dcs w.copies w.replies w.news x s.ok (said x refl) }) goes
 
-performs_at_listed : (w v : Whole) (x : Wire) (d : Option Store) (o : Outcome) → Known v.core → slice_get w.dcs (dc_of x.op) ≡ d → (s : IsListed w) → IsCopy w s.ok.v x → performs_at w x d ≡ Goes o v → IsListed v
+performs_at_listed : (w v : Whole) (x : Wire) (d : Option Store) (o : Outcome) → Known v.core → slice_get w.dcs (dc_of x.op) ≡ d → (s : IsListed w) → IsCopy s.base w s.ok.v x → performs_at w x d ≡ Goes o v → IsListed v
 performs_at_listed w v x None o known at s y goes = absurd (stopped _ o v goes)
-performs_at_listed w v x (Some d) o known at s y goes = gets_listed (with_store w x d) v (replied d x) o (record { honest = s.honest; bare = bare_set w.dcs (dc_of x.op) d (performed d x) at (performed_bare d x) s.bare; unbegun = s.unbegun; ok = both.0 }) said goes
+performs_at_listed w v x (Some d) o known at s y goes = gets_listed (with_store w x d) v (replied d x) o (record { honest = s.honest; base = s.base; based = based_set s.base w.dcs (dc_of x.op) d (performed d x) at (performed_base d x) s.based; behind = behind_set (begun w.core.events) w.dcs (dc_of x.op) d (performed d x) at (performed_behind (begun w.core.events) d x) s.behind; ok = both.0 }) said goes
   where
     was : Known w.core
     was = gets_known (with_store w x d) v (replied d x) o known goes
@@ -241,14 +242,14 @@ performs_at_listed w v x (Some d) o known at s y goes = gets_listed (with_store 
     j : ℕ
     j = dc_of x.op
 
-    facts : LogFacts empty_table (logged w.core.events) (open_op w.core.events) (done w.core.events)
-    facts = log_facts w.core.procs empty_table w.core.events was.good was.legal s.honest
+    facts : LogFacts s.base (logged w.core.events) (open_op w.core.events) (done w.core.events)
+    facts = log_facts w.core.procs s.base w.core.events was.good was.legal s.honest
 
-    becomes : Becomes empty_table (logged w.core.events) (open_op w.core.events) (done w.core.events) (given w.core.events) (dc_of x.op) d (performed d x) (site_at w.core.sites (dc_of x.op)) (s.ok.v (dc_of x.op))
-    becomes = performs_ok empty_table (logged w.core.events) (open_op w.core.events) (done w.core.events) (given w.core.events) d (site_at w.core.sites j) (s.ok.v j) x facts (λ m g is. flight_logged w.core.events m g is) y.logs y.known (y.ahead d at) y.over y.now (s.ok.stores j d at)
+    becomes : Becomes s.base (logged w.core.events) (open_op w.core.events) (done w.core.events) (given w.core.events) (dc_of x.op) d (performed d x) (site_at w.core.sites (dc_of x.op)) (s.ok.v (dc_of x.op))
+    becomes = performs_ok s.base (logged w.core.events) (open_op w.core.events) (done w.core.events) (given w.core.events) d (site_at w.core.sites j) (s.ok.v j) x facts (λ m g is. flight_logged w.core.events m g is) y.logs y.known (y.ahead d at) y.over y.now (s.ok.stores j d at)
 
-    both : (l : AreOk empty_table (logged w.core.events) (open_op w.core.events) (done w.core.events) (given w.core.events) w.core.sites (slice_set w.dcs (dc_of x.op) (performed d x)) w.copies w.replies w.news) × (l.v ≡ (λ i. if dc_of x.op == i then becomes.u else s.ok.v i))
-    both = ok_stored empty_table (logged w.core.events) (open_op w.core.events) (done w.core.events) (given w.core.events) w.core.sites w.dcs w.copies w.replies w.news j d (performed d x) becomes.u at s.ok
+    both : (l : AreOk s.base (logged w.core.events) (open_op w.core.events) (done w.core.events) (given w.core.events) w.core.sites (slice_set w.dcs (dc_of x.op) (performed d x)) w.copies w.replies w.news) × (l.v ≡ (λ i. if dc_of x.op == i then becomes.u else s.ok.v i))
+    both = ok_stored s.base (logged w.core.events) (open_op w.core.events) (done w.core.events) (given w.core.events) w.core.sites w.dcs w.copies w.replies w.news j d (performed d x) becomes.u at s.ok
         (let same = becomes.incarnation in omega (arith, same)) becomes.grows (λ less p to. subst (StandsTo (logged w.core.events) (done w.core.events) j p) (sym (becomes.lists less)) to) becomes.ok
 
     said : (z : Reply) → replied d x ≡ Some z → ReplyOk (logged w.core.events) w.core.sites (slice_set w.dcs (dc_of x.op) (performed d x)) both.0.v z
@@ -272,7 +273,7 @@ performs_at_listed w v x (Some d) o known at s y goes = gets_listed (with_store 
 
 performs_copy_listed : (w v : Whole) (i : ℕ) (x : Option Wire) (o : Outcome) → Known v.core → slice_get w.copies i ≡ x → IsListed w → performs_copy w x ≡ Goes o v → IsListed v
 performs_copy_listed w v i None o known at s goes = absurd (stopped _ o v goes)
-performs_copy_listed w v i (Some x) o known at s goes = performs_at_listed w v x (slice_get w.dcs (dc_of x.op)) o known refl s (all_at (IsCopy w s.ok.v) w.copies i x at s.ok.copies) goes
+performs_copy_listed w v i (Some x) o known at s goes = performs_at_listed w v x (slice_get w.dcs (dc_of x.op)) o known refl s (all_at (IsCopy s.base w s.ok.v) w.copies i x at s.ok.copies) goes
 
 -- ---- a reply is taken
 
@@ -302,14 +303,15 @@ took w f x known flies heard fit s y =
       | inr under ↦ under
     ] in
     let site = s.ok.stores (dc_of f.op) y.s at in
-    let honest : HonestTo (Some f) x.said (serial_now h) = (site.up up).honest x.number f x.said flies there in
+    let honest : HonestTo (Some f) x.said (now_from s.base h) = (site.up up).honest x.number f x.said flies there in
     let becomes : done (event.Answer f.txn x.number x.said ∷ h) ≡ (x.number, f.op, x.said) ∷ done h = done_answer h f.txn x.number f x.said flies in
     record {
-      honest = (subst (λ (z : Option Flight). HonestTo z x.said (serial_now h)) (sym flies) honest, s.honest);
-      bare = s.bare;
-      unbegun = s.unbegun;
-      ok = subst (λ (z : List Performed). AreOk empty_table (logged h) (λ m. if x.number == m then None else open_op h m) z (given h) w.core.sites w.dcs w.copies w.replies w.news) (sym becomes)
-          (ok_answered empty_table (logged h) (open_op h) (done h) (given h) w.core.sites w.dcs w.copies w.replies w.news x.number f x.said y.s flies logs fit (flights w.core.procs h known.good legal x.number f flies) (flight_absent w.core.procs h legal x.number f flies) at up s.ok there);
+      honest = (subst (λ (z : Option Flight). HonestTo z x.said (now_from s.base h)) (sym flies) honest, s.honest);
+      base = s.base;
+      based = s.based;
+      behind = s.behind;
+      ok = subst (λ (z : List Performed). AreOk s.base (logged h) (λ m. if x.number == m then None else open_op h m) z (given h) w.core.sites w.dcs w.copies w.replies w.news) (sym becomes)
+          (ok_answered s.base (logged h) (open_op h) (done h) (given h) w.core.sites w.dcs w.copies w.replies w.news x.number f x.said y.s flies logs fit (flights w.core.procs h known.good legal x.number f flies) (flight_absent w.core.procs h legal x.number f flies) at up s.ok there);
     }
 
 takes_answer_listed : (w v : Whole) (f : Flight) (x : Reply) (b : Bool) (o : Outcome) → Known v.core → open_op w.core.events x.number ≡ Some f → (is_heard (site_of w.core.sites f.op) x && fits f.op x.said) ≡ b
@@ -326,7 +328,7 @@ not_old said did old = (let bad : true ≡ false = sym did ∙ ap is_done old in
 redone_listed : (w : Whole) (x : Reply) (d : ℕ) → Known w.core → (is : IsRedone w.core d x) → (s : IsListed w) → ReplyOk (logged w.core.events) w.core.sites w.dcs s.ok.v x → IsListed (with_core w (after_redone w.core d x.number))
 redone_listed w x d known is s y =
     subst (λ (z : Option Site). IsListed (with_core w (redone_at w.core d x.number z))) (sym is.there)
-    (subst (λ (z : Option Redoing). IsListed (with_core w (with_site w.core d (record is.site { redo = redone_to x.number z })))) (sym is.down) (record { honest = s.honest; bare = s.bare; unbegun = s.unbegun; ok = now_ok }))
+    (subst (λ (z : Option Redoing). IsListed (with_core w (with_site w.core d (record is.site { redo = redone_to x.number z })))) (sym is.down) (record { honest = s.honest; base = s.base; based = s.based; behind = s.behind; ok = now_ok }))
   where
     h : List Event
     h = w.core.events
@@ -388,10 +390,10 @@ redone_listed w x d known is s y =
           | inr not_below ↦ omega (arith, not_below)
         ]
 
-    now_ok : AreOk empty_table (logged w.core.events) (open_op w.core.events) (done w.core.events) (given w.core.events) (slice_set w.core.sites d (record is.site { redo = Some (record is.r { redone = x.number }) })) w.dcs w.copies w.replies w.news
-    now_ok = ok_resited empty_table (logged h) (open_op h) (done h) (given h) w.core.sites w.dcs w.copies w.replies w.news d is.site t' is.there refl (λ up. absurd (none_some _ is.r up is.down)) s.ok
+    now_ok : AreOk s.base (logged w.core.events) (open_op w.core.events) (done w.core.events) (given w.core.events) (slice_set w.core.sites d (record is.site { redo = Some (record is.r { redone = x.number }) })) w.dcs w.copies w.replies w.news
+    now_ok = ok_resited s.base (logged h) (open_op h) (done h) (given h) w.core.sites w.dcs w.copies w.replies w.news d is.site t' is.there refl (λ up. absurd (none_some _ is.r up is.down)) s.ok
         (λ r down. (y.s, subst (λ (i : ℕ). slice_get w.dcs i ≡ Some y.s) here y.at))
-        (λ z ok. site_redone empty_table (logged h) (open_op h) (done h) (given h) d z is.site (s.ok.v d) is.r x.number is.a.op is.a.said is.down next rises there ok)
+        (λ z ok. site_redone s.base (logged h) (open_op h) (done h) (given h) d z is.site (s.ok.v d) is.r x.number is.a.op is.a.said is.down next rises there ok)
 
 takes_listed : (w v : Whole) (i : ℕ) (x : Option Reply) (o : Outcome) → Known v.core → slice_get w.replies i ≡ x → IsListed w → TakesReply w x o v → IsListed v
 takes_listed w v i None o known at s takes = absurd takes
@@ -416,9 +418,9 @@ checkpoints_listed : (w v : Whole) (d : ℕ) (x : Option Store) (o : Outcome) �
 checkpoints_listed w v d None o at s goes = absurd (stopped _ o v goes)
 checkpoints_listed w v d (Some x) o at s goes =
     let h = w.core.events in
-    let site = site_checkpoint empty_table (logged h) (open_op h) (done h) (given h) d x (site_at w.core.sites d) (s.ok.v d) (s.ok.stores d x at) in
-    let both = ok_stored empty_table (logged h) (open_op h) (done h) (given h) w.core.sites w.dcs w.copies w.replies w.news d x (checkpointed x) (s.ok.v d) at s.ok (omega arith) (same_ghost w s d) (λ less p to. to) site in
-    behind _ o (with_dcs w (slice_set w.dcs d (checkpointed x))) v (record { honest = s.honest; bare = bare_set w.dcs d x (checkpointed x) at (refl, refl) s.bare; unbegun = s.unbegun; ok = both.0 }) goes
+    let site = site_checkpoint s.base (logged h) (open_op h) (done h) (given h) d x (site_at w.core.sites d) (s.ok.v d) (s.ok.stores d x at) in
+    let both = ok_stored s.base (logged h) (open_op h) (done h) (given h) w.core.sites w.dcs w.copies w.replies w.news d x (checkpointed x) (s.ok.v d) at s.ok (omega arith) (same_ghost w s d) (λ less p to. to) site in
+    behind _ o (with_dcs w (slice_set w.dcs d (checkpointed x))) v (record { honest = s.honest; base = s.base; based = based_set s.base w.dcs d x (checkpointed x) at refl s.based; behind = behind_set (begun h) w.dcs d x (checkpointed x) at (checkpointed_behind (begun h) x) s.behind; ok = both.0 }) goes
 
 restarts_listed : (w v : Whole) (d : ℕ) (x : Option Store) (o : Outcome) → slice_get w.dcs d ≡ x → IsListed w → restarts_at w d x ≡ Goes o v → IsListed v
 restarts_listed w v d None o at s goes = absurd (stopped _ o v goes)
@@ -427,13 +429,13 @@ restarts_listed w v d (Some x) o at s goes = by (nat_le (2 ^ 62) x.incarnation) 
     h : List Event
     h = w.core.events
 
-    was : SiteOk empty_table (logged w.core.events) (open_op w.core.events) (done w.core.events) (given w.core.events) d x (site_at w.core.sites d) (s.ok.v d)
+    was : SiteOk s.base (logged w.core.events) (open_op w.core.events) (done w.core.events) (given w.core.events) d x (site_at w.core.sites d) (s.ok.v d)
     was = s.ok.stores d x at
 
-    both : (l : AreOk empty_table (logged w.core.events) (open_op w.core.events) (done w.core.events) (given w.core.events) w.core.sites (slice_set w.dcs d (restarted x)) w.copies w.replies w.news) × (l.v ≡ (λ i. if d == i then s.ok.v d else s.ok.v i))
-    both = ok_stored empty_table (logged h) (open_op h) (done h) (given h) w.core.sites w.dcs w.copies w.replies w.news d x (restarted x) (s.ok.v d) at s.ok (omega arith) (same_ghost w s d)
+    both : (l : AreOk s.base (logged w.core.events) (open_op w.core.events) (done w.core.events) (given w.core.events) w.core.sites (slice_set w.dcs d (restarted x)) w.copies w.replies w.news) × (l.v ≡ (λ i. if d == i then s.ok.v d else s.ok.v i))
+    both = ok_stored s.base (logged h) (open_op h) (done h) (given h) w.core.sites w.dcs w.copies w.replies w.news d x (restarted x) (s.ok.v d) at s.ok (omega arith) (same_ghost w s d)
         (λ less p to. subst (StandsTo (logged h) (done h) d p) (was.idle less) to)
-        (site_restart empty_table (logged h) (open_op h) (done h) (given h) d x (site_at w.core.sites d) (s.ok.v d) was)
+        (site_restart s.base (logged h) (open_op h) (done h) (given h) d x (site_at w.core.sites d) (s.ok.v d) was)
 
     by : (b : Bool) → restarts_as w d x b ≡ Goes o v → IsListed v
     by true goes' = absurd (stopped _ o v goes')
@@ -442,18 +444,20 @@ restarts_listed w v d (Some x) o at s goes = by (nat_le (2 ^ 62) x.incarnation) 
         behind _ o (with_news (with_dcs w (slice_set w.dcs d (restarted x))) d (news_of (restarted x))) v
         (record {
           honest = s.honest;
-          bare = bare_set w.dcs d x (restarted x) at (refl, refl) s.bare;
-          unbegun = s.unbegun;
-          ok = ok_news empty_table (logged h) (open_op h) (done h) (given h) w.core.sites (slice_set w.dcs d (restarted x)) w.copies w.replies w.news n both.0
+          base = s.base;
+          based = based_set s.base w.dcs d x (restarted x) at refl s.based;
+          behind = behind_set (begun h) w.dcs d x (restarted x) at (restarted_behind (begun h) x) s.behind;
+          ok = ok_news s.base (logged h) (open_op h) (done h) (given h) w.core.sites (slice_set w.dcs d (restarted x)) w.copies w.replies w.news n both.0
               (record { s = restarted x; at = set_same w.dcs d x (restarted x) at; over = was.saved_over; made = omega arith; later = λ less. was.saved_to });
         }) goes'
 
 lt_true : (a b : ℕ) → nat_lt a b ≡ true → a < b
 lt_true a b e = grind (arith, nat_tests)
 
-told_by : (w v : Whole) (x : ℕ × News) (t : Option Site) (o : Outcome) → slice_get w.core.sites x.0 ≡ t → NewsOk empty_table (logged w.core.events) (open_op w.core.events) (done w.core.events) (given w.core.events) w.core.sites w.dcs x → IsListed w → tells_unless w x.0 x.1 (news_fault_by (begun w.core.events) t x.1) ≡ Goes o v → IsListed v
-told_by w v x None o at y s goes = absurd (stopped _ o v goes)
-told_by w v x (Some t) o at y s goes = by (nat_lt t.incarnation x.1.incarnation) refl goes
+told_by : (w v : Whole) (x : ℕ × News) (t : Option Site) (o : Outcome) → slice_get w.core.sites x.0 ≡ t → (s : IsListed w)
+    → NewsOk s.base (logged w.core.events) (open_op w.core.events) (done w.core.events) (given w.core.events) w.core.sites w.dcs x → tells_unless w x.0 x.1 (news_fault_by (begun w.core.events) t x.1) ≡ Goes o v → IsListed v
+told_by w v x None o at s y goes = absurd (stopped _ o v goes)
+told_by w v x (Some t) o at s y goes = by (nat_lt t.incarnation x.1.incarnation) refl goes
   where
     h : List Event
     h = w.core.events
@@ -468,12 +472,13 @@ told_by w v x (Some t) o at y s goes = by (nat_lt t.incarnation x.1.incarnation)
             let later : t.incarnation < x.1.incarnation = lt_true t.incarnation x.1.incarnation less in
             let known : (site_at w.core.sites x.0).incarnation ≡ t.incarnation = ap (λ (z : Option Site). (site_by z).incarnation) at in
             behind _ o (with_core w (after_told w.core x.0 x.1)) v
-            (record { honest = s.honest; bare = s.bare; unbegun = s.unbegun; ok = ok_told empty_table (logged h) (open_op h) (done h) (given h) w.core.sites w.dcs w.copies w.replies w.news x.0 x.1.incarnation x.1.mark y.s t at y.at later y.made (y.later (omega (arith, known, later))) y.over s.ok }) goes'
+            (record { honest = s.honest; base = s.base; based = s.based; behind = s.behind; ok = ok_told s.base (logged h) (open_op h) (done h) (given h) w.core.sites w.dcs w.copies w.replies w.news x.0 x.1.incarnation x.1.mark y.s t at y.at later y.made (y.later (omega (arith, known, later))) y.over s.ok }) goes'
 
 tells_listed : (w v : Whole) (i : ℕ) (x : Option (ℕ × News)) (o : Outcome) → slice_get w.news i ≡ x → IsListed w → tells_news w x ≡ Goes o v → IsListed v
 tells_listed w v i None o at s goes = absurd (stopped _ o v goes)
 tells_listed w v i (Some x) o at s goes =
-    told_by w v x (slice_get w.core.sites x.0) o refl (all_at (NewsOk empty_table (logged w.core.events) (open_op w.core.events) (done w.core.events) (given w.core.events) w.core.sites w.dcs) w.news i x at s.ok.news) s goes
+    told_by w v x (slice_get w.core.sites x.0) o refl s
+    (all_at (NewsOk s.base (logged w.core.events) (open_op w.core.events) (done w.core.events) (given w.core.events) w.core.sites w.dcs) w.news i x at s.ok.news) goes
 
 redoes_listed : (w v : Whole) (d : ℕ) (x : Option Site) (o : Outcome) → Known v.core → slice_get w.core.sites d ≡ x → IsListed w → redoes_by w d (redo_at w.core d x) ≡ Goes o v → IsListed v
 redoes_listed w v d None o known at s goes = absurd (stopped _ o v goes)
@@ -492,7 +497,7 @@ redoes_listed w v d (Some x) o known at s goes = by x.redo refl goes
         store : (z : Store) × (slice_get w.dcs d ≡ Some z)
         store = s.ok.there d r down
 
-        site : SiteOk empty_table (logged w.core.events) (open_op w.core.events) (done w.core.events) (given w.core.events) d store.0 (site_at w.core.sites d) (s.ok.v d)
+        site : SiteOk s.base (logged w.core.events) (open_op w.core.events) (done w.core.events) (given w.core.events) d store.0 (site_at w.core.sites d) (s.ok.v d)
         site = s.ok.stores d store.0 store.1
 
         sends : (a : Option Answered) → to_redo w.core.events d r.redone ≡ a → redoes_by w d (sends_again x.incarnation r.mark a) ≡ Goes o v → IsListed v
@@ -528,12 +533,12 @@ redoes_listed w v d (Some x) o known at s goes = by x.redo refl goes
         sends None next goes'' =
             let t' : Site = record x { redo = None } in
             let was : Known w.core = known_up w d (slice_get w.core.sites d) (known_behind _ o (with_core w (after_redo w.core d redo.Finished)) v known goes'') in
-            let facts = log_facts w.core.procs empty_table h was.good was.legal s.honest in
-            let ok = ok_resited empty_table (logged h) (open_op h) (done h) (given h) w.core.sites w.dcs w.copies w.replies w.news d x t' at refl (λ up. refl) s.ok
+            let facts = log_facts w.core.procs s.base h was.good was.legal s.honest in
+            let ok = ok_resited s.base (logged h) (open_op h) (done h) (given h) w.core.sites w.dcs w.copies w.replies w.news d x t' at refl (λ up. refl) s.ok
             (λ q e. absurd (none_some _ q refl e))
-            (λ z k. site_up empty_table (logged h) (open_op h) (done h) (given h) d z x (s.ok.v d) r facts is (λ n q said logs dc was' did. none_left w.core.procs h was.legal d r.redone next n q said logs dc was' did) k) in
+            (λ z k. site_up s.base (logged h) (open_op h) (done h) (given h) d z x (s.ok.v d) r facts is (λ n q said logs dc was' did. none_left w.core.procs h was.legal d r.redone next n q said logs dc was' did) k) in
             behind _ o (with_core w (after_redo w.core d redo.Finished)) v
-            (subst (λ (y : Option Site). IsListed (with_core w (up_again w.core d y))) (sym at) (record { honest = s.honest; bare = s.bare; unbegun = s.unbegun; ok = ok })) goes''
+            (subst (λ (y : Option Site). IsListed (with_core w (up_again w.core d y))) (sym at) (record { honest = s.honest; base = s.base; based = s.based; behind = s.behind; ok = ok })) goes''
           where
             known_up : (w : Whole) (d : ℕ) (z : Option Site) → Known (up_again w.core d z) → Known w.core
             known_up w d None k = k
@@ -541,7 +546,7 @@ redoes_listed w v d (Some x) o known at s goes = by x.redo refl goes
 
 -- whatever the step is, but a forged reply
 pub stay_listed : (w v : Whole) (x : Step) (o : Outcome) → Known w.core → Known v.core → is_forge x ≡ false → Steps w x o v → IsListed w → IsListed v
-stay_listed w v (step.Admit call) o was known honest goes s = subst IsListed (sym goes.next) (record { honest = (tt, s.honest); bare = s.bare; unbegun = s.unbegun; ok = s.ok })
+stay_listed w v (step.Admit call) o was known honest goes s = subst IsListed (sym goes.next) (record { honest = (tt, s.honest); base = s.base; based = s.based; behind = s.behind; ok = s.ok })
 stay_listed w v (step.Ask t) o was known honest goes s = asks_listed w v t (ask_reply w.core t) o known s goes
 stay_listed w v (step.Undo t) o was known honest goes s = undoes_listed w v t (undo_reply w.core t) o known s goes
 stay_listed w v (step.End t) o was known honest goes s = ends_listed w v t (standing w.core.events t) (end_of w.core t) o s goes
@@ -558,12 +563,13 @@ stay_listed w v (step.Crash n) o was known honest goes s =
 
 -- ---- a fresh world
 
-site_fresh : (d : ℕ) (s : Store) (t : Site) → s.base ≡ [] → s.list ≡ [] → s.saved ≡ [] → s.mark ≡ 0 → s.saved_mark ≡ 0 → t.redo ≡ None → SiteOk empty_table (λ n. None) (λ n. None) [] 0 d s t []
-site_fresh d s t base list saved mark saved_mark up =
+site_fresh : (base : Table) (top d : ℕ) (s : Store) (t : Site) → ((r : Record) → r.dc ≡ d → row_of s.base r ≡ base r) → s.list ≡ [] → s.saved ≡ []
+    → s.mark ≡ top → s.saved_mark ≡ top → t.redo ≡ None → SiteOk base (λ n. None) (λ n. None) [] top d s t []
+site_fresh base top d s t based list saved mark saved_mark up =
     record {
-      based = λ r here. ap (λ (rows : Rows). row_of rows r) base;
-      up = λ e. beside_none empty_table d;
-      behind = beside_behind empty_table (λ n. None) (λ n. None) [] d [] (beside_none empty_table d);
+      based = based;
+      up = λ e. beside_none base d;
+      behind = beside_behind base (λ n. None) (λ n. None) [] d [] (beside_none base d);
       down = λ r e. absurd (none_some _ r up e);
       ahead = λ less. record { known = refl; now = list; kept = saved };
       same = λ e. list;
@@ -581,54 +587,88 @@ fresh_up : (w : Whole) (d : ℕ) (t : Option Site) → IsFresh w → slice_get w
 fresh_up w d None fresh at = refl
 fresh_up w d (Some t) fresh at = all_at (λ (s : Site). s.redo ≡ None) w.core.sites d t at fresh.up
 
+-- the rows of a data component are those of its records
+own_rows : (dcs : List Store) (d : ℕ) (s : Store) (r : Record) → slice_get dcs d ≡ Some s → r.dc ≡ d → row_of s.base r ≡ base_of dcs r
+own_rows dcs d s r at here =
+    ap (λ (u : Option Store). row_of (base_in u) r) (sym (subst (λ (k : ℕ). slice_get dcs k ≡ Some s) (sym here) at))
+
+-- where nothing was logged since it began
+nothing_listed : (w : Whole) (top : ℕ) → IsFresh w → begun w.core.events ≡ top
+    → AreOk (base_of w.dcs) (λ n. None) (λ n. None) [] top w.core.sites w.dcs w.copies w.replies w.news
+nothing_listed w top fresh from = record {
+  v = λ d. [];
+  copies = subst (All (CopyOk (base_of w.dcs) (λ n. None) (λ n. None) [] top w.core.sites w.dcs (λ d. []))) (sym fresh.copies) (λ k x inside. absurd (omega (arith, inside)));
+  replies = subst (All (ReplyOk (λ n. None) w.core.sites w.dcs (λ d. []))) (sym fresh.replies) (λ k x inside. absurd (omega (arith, inside)));
+  news = subst (All (NewsOk (base_of w.dcs) (λ n. None) (λ n. None) [] top w.core.sites w.dcs)) (sym fresh.news) (λ k x inside. absurd (omega (arith, inside)));
+  stores = λ d s at.
+      let lists = all_at (λ (x : Store). (x.list ≡ []) × (x.saved ≡ [])) w.dcs d s at fresh.lists in
+      let marks = all_at (λ (x : Store). (x.mark ≡ begun w.core.events) × (x.saved_mark ≡ begun w.core.events)) w.dcs d s at fresh.marks in
+      site_fresh (base_of w.dcs) top d s (site_at w.core.sites d) (λ r here. own_rows w.dcs d s r at here) lists.0 lists.1
+      (marks.0 ∙ from) (marks.1 ∙ from) (fresh_up w d (slice_get w.core.sites d) fresh refl);
+  said = λ n o said logs was. absurd (none_some _ o refl logs);
+  there = λ d r down. absurd (none_some _ r (fresh_up w d (slice_get w.core.sites d) fresh refl) down);
+}
+
+abbrev Began : Whole → List Event → Type 0
+Began w h =
+    HonestFrom (base_of w.dcs) h × AreOk (base_of w.dcs) (logged h) (open_op h) (done h) (given h) w.core.sites w.dcs w.copies w.replies w.news
+
+just_begun : (w : Whole) → IsFresh w → (h : List Event) → w.core.events ≡ h → HasJustBegun h → Began w h
+just_begun w fresh h same (AtFirst is) = subst (Began w) (sym is) (tt, nothing_listed w 0 fresh (ap begun (same ∙ is)))
+just_begun w fresh h same (AtCheckpoint before numbers few_admitted few_given is) =
+    subst (Began w) (sym is) ((tt, tt), nothing_listed w numbers fresh (ap begun (same ∙ is)))
+
 pub fresh_listed : (w : Whole) → IsFresh w → IsListed w
 fresh_listed w fresh =
+    let began = just_begun w fresh w.core.events refl fresh.events in
     record {
-      honest = subst Honest (sym fresh.events) tt;
-      bare = λ d s at. all_at (λ (x : Store). (x.base ≡ []) × (x.base_mark ≡ 0)) w.dcs d s at fresh.bases;
-      unbegun = ap begun fresh.events;
-      ok = subst (λ (h : List Event). AreOk empty_table (logged h) (open_op h) (done h) (given h) w.core.sites w.dcs w.copies w.replies w.news) (sym fresh.events) (record {
-        v = λ d. [];
-        copies = subst (All (CopyOk empty_table (logged []) (open_op []) (done []) 0 w.core.sites w.dcs (λ d. []))) (sym fresh.copies) (λ k x inside. absurd (omega (arith, inside)));
-        replies = subst (All (ReplyOk (logged []) w.core.sites w.dcs (λ d. []))) (sym fresh.replies) (λ k x inside. absurd (omega (arith, inside)));
-        news = subst (All (NewsOk empty_table (logged []) (open_op []) (done []) 0 w.core.sites w.dcs)) (sym fresh.news) (λ k x inside. absurd (omega (arith, inside)));
-        stores = λ d s at.
-            let lists = all_at (λ (x : Store). (x.list ≡ []) × (x.saved ≡ [])) w.dcs d s at fresh.lists in
-            let marks = all_at (λ (x : Store). (x.mark ≡ 0) × (x.saved_mark ≡ 0)) w.dcs d s at fresh.marks in
-            site_fresh d s (site_at w.core.sites d) (all_at (λ (x : Store). (x.base ≡ []) × (x.base_mark ≡ 0)) w.dcs d s at fresh.bases).0 lists.0 lists.1 marks.0 marks.1 (fresh_up w d (slice_get w.core.sites d) fresh refl);
-        said = λ n o said logs was. absurd (none_some _ o refl logs);
-        there = λ d r down. absurd (none_some _ r (fresh_up w d (slice_get w.core.sites d) fresh refl) down);
-      });
+      base = base_of w.dcs;
+      based = λ r. refl;
+      behind = λ d s at.
+          let base_mark = all_at (λ (x : Store). x.base_mark ≡ begun w.core.events) w.dcs d s at fresh.bases in
+          let marks = all_at (λ (x : Store). (x.mark ≡ begun w.core.events) × (x.saved_mark ≡ begun w.core.events)) w.dcs d s at fresh.marks in
+          let mark = marks.0 in
+          let saved = marks.1 in
+          record { base_mark = base_mark; mark = omega (arith, mark); saved_mark = omega (arith, saved) };
+      honest = began.0;
+      ok = began.1;
     }
 
+-- ---- what follows
+
+-- beside the records with which data components begin now
+honest_now : (w : Whole) → (s : IsListed w) → HonestFrom (base_of w.dcs) w.core.events
+honest_now w s = honest_same s.base (base_of w.dcs) s.based w.core.events s.honest
+
 -- the list of a data component that is up, and of the incarnation that is known, stands beside the log
-beside_known : (w : Whole) → IsListed w → (d : ℕ) (x : Store) → slice_get w.dcs d ≡ Some x → IsKnown w d x → Beside empty_table (logged w.core.events) (open_op w.core.events) (done w.core.events) d x.list
+beside_known : (w : Whole) → IsListed w → (d : ℕ) (x : Store) → slice_get w.dcs d ≡ Some x → IsKnown w d x → Beside (base_of w.dcs) (logged w.core.events) (open_op w.core.events) (done w.core.events) d x.list
 beside_known w s d x at is =
     let k = s.ok.stores d x at in
-    subst (Beside empty_table (logged w.core.events) (open_op w.core.events) (done w.core.events) d) (sym (k.same is.now)) (k.up is.up)
+    beside_same s.base (base_of w.dcs) s.based (logged w.core.events) (open_op w.core.events) (done w.core.events) d x.list
+    (subst (Beside s.base (logged w.core.events) (open_op w.core.events) (done w.core.events) d) (sym (k.same is.now)) (k.up is.up))
 
 pub one_at_a_time : (w : Whole) → Known w.core → IsListed w → IsOneAtATime w
 one_at_a_time w known s =
     record {
-      answers = ends_as_serial w.core.procs w.core.events known.good known.legal s.honest;
-      values = λ d x r at is dc un. list_serial w.core.procs w.core.events d x.list known.good known.legal s.honest (beside_known w s d x at is) r dc un;
+      answers = ends_as_serial_from w.core.procs (base_of w.dcs) w.core.events known.good known.legal (honest_now w s);
+      values = λ d x r at is dc un.
+          over_same (row_of x.base) (base_of w.dcs) x.list r (own_rows w.dcs d x r at dc)
+          ∙ list_serial w.core.procs (base_of w.dcs) w.core.events d x.list known.good known.legal (honest_now w s) (beside_known w s d x at is) r dc un;
       there = λ n o said logs was. s.ok.said n o said logs was;
       stands = λ d x n o said at is dc logs was did. (beside_known w s d x at is).answers n o said logs dc was did;
       once = λ d x at. (cut d x at).once;
       asked = λ d x k e at is. (cut d x at).entries k e is;
-      between = λ d x r at is dc. in_step w.core.procs empty_table w.core.events d x.list known.good known.legal (beside_known w s d x at is) r dc;
+      between = λ d x r at is dc. in_step w.core.procs (base_of w.dcs) w.core.events d x.list known.good known.legal (beside_known w s d x at is) r dc;
     }
   where
-    cut : (d : ℕ) (x : Store) → slice_get w.dcs d ≡ Some x → Behind empty_table (logged w.core.events) (open_op w.core.events) (done w.core.events) d x.list
-    cut d x at = (let k = s.ok.stores d x at in behind_end empty_table (logged w.core.events) (open_op w.core.events) (done w.core.events) d (s.ok.v d) x.list k.cut k.behind)
+    cut : (d : ℕ) (x : Store) → slice_get w.dcs d ≡ Some x → Behind s.base (logged w.core.events) (open_op w.core.events) (done w.core.events) d x.list
+    cut d x at = (let k = s.ok.stores d x at in behind_end s.base (logged w.core.events) (open_op w.core.events) (done w.core.events) d (s.ok.v d) x.list k.cut k.behind)
 
 -- and where each is, an audit finds nothing
 pub agrees : (w : Whole) → Known w.core → IsListed w → EachIsKnown w → IsAgreed w.core.procs w.core.events w.dcs
 agrees w known s each =
-    let same = bare_base w.dcs s.bare in
-    agreed w.core.procs w.core.events w.dcs known.good known.legal (honest_same empty_table (base_of w.dcs) same w.core.events s.honest)
-    (λ d x at. (beside_same empty_table (base_of w.dcs) same (logged w.core.events) (open_op w.core.events) (done w.core.events) d x.list (beside_known w s d x at (each d x at)), (s.ok.stores d x at).whole))
-    s.ok.said (λ d x at. (s.bare d x at).1 ∙ sym s.unbegun)
+    agreed w.core.procs w.core.events w.dcs known.good known.legal (honest_now w s)
+    (λ d x at. (beside_known w s d x at (each d x at), (s.ok.stores d x at).whole)) s.ok.said (λ d x at. (s.behind d x at).base_mark)
 
 pub honest_at : (xs : List Step) (k : ℕ) (x : Step) → NoForge xs → k < length xs → x ≡ slice_index_or xs k x → is_forge x ≡ false
 honest_at xs k x none inside is = ap is_forge is ∙ none k x inside

@@ -1,5 +1,5 @@
 -- Whatever happens to a world, crashes among it, it stays one in which calls run one at a time.
-use Rattle.std.proofs.Common.{◌≡◌, ℕ, false, List, [], ◌∷◌, ◌++◌, length, refl, sym, subst}
+use Rattle.std.proofs.Common.{◌≡◌, ℕ, false, List, [], ◌∷◌, ◌++◌, refl, sym, subst}
 use Rattle.std.specs.List.{All}
 use Rattle.access_slots.specs.declared.op.Wire.{Wire}
 use Rattle.access_slots.specs.declared.op.Reply.{Reply}
@@ -16,11 +16,12 @@ use Rattle.tc_world.specs.Whole.{Whole}
 use Rattle.tc_world.specs.Marks.{AreMarksLow, IsFresh}
 use Rattle.tc_world.specs.Steps.{Steps}
 use Rattle.tc_world.specs.OneAtATime.{is_forge, EachIsKnown, IsOneAtATime}
-use Rattle.tc_world.specs.Recovery.{IsWritten, come_back, IsNew, start_over}
+use Rattle.tc_world.specs.Recovery.{IsWritten, come_back, IsNew, StandFor, start_over}
 use Rattle.tc_world.specs.Lives.{AreAmong, left_with, Move, Takes, Loses, Crashes, StartsOver, Lives, HasLived}
 use Rattle.tc_world.specs.Joining.Listed.{IsListed}
 use Rattle.tc_world.specs.declared.step.Step.{Step}
 use Rattle.tc_world.specs.declared.step.Outcome.{Outcome}
+use Rattle.tc_world.proofs.Bases.{just_legal}
 use Rattle.tc_world.proofs.Marks.{stay_low, fresh_low}
 use Rattle.tc_world.proofs.Listed.{Known, stay_listed, fresh_listed, one_at_a_time, agrees}
 use Rattle.tc_world.proofs.ComingBack.{come_back_legal, come_back_low, come_back_listed}
@@ -53,17 +54,22 @@ lives (Crashes first notes ∷ moves) w v s (written, rest) =
       listed = come_back_listed w first notes s.known.good s.known.legal written s.listed;
     })
     rest
-lives (StartsOver first dcs ∷ moves) w v s (begins, new, many, rest) =
+lives (StartsOver first dcs ∷ moves) w v s (begins, new, olds, rest) =
+    let legal : Legal w.core.procs first = legal_first w.core.procs begins.later first (subst (Legal w.core.procs) begins.is s.known.legal) in
     lives moves (start_over first dcs w) v
     (record {
-      known = record { legal = legal_first w.core.procs begins.later first (subst (Legal w.core.procs) begins.is s.known.legal); good = s.known.good };
-      low = start_over_low w first dcs new;
-      listed = start_over_listed w first dcs s.known.good s.known.legal begins new many s.listed;
+      known = record { legal = legal; good = s.known.good };
+      low = start_over_low w first dcs legal new;
+      listed = start_over_listed w first dcs s.known.good s.known.legal begins new olds s.listed;
     })
     rest
 
 fresh_sound : (w : Whole) → IsFresh w → AllGood w.core.procs → Sound w
-fresh_sound w fresh good = record { known = record { legal = subst (Legal w.core.procs) (sym fresh.events) tt; good = good }; low = fresh_low w fresh; listed = fresh_listed w fresh }
+fresh_sound w fresh good = record {
+  known = record { legal = just_legal w.core.procs w.core.events fresh.events; good = good };
+  low = fresh_low w fresh;
+  listed = fresh_listed w fresh;
+}
 
 sound : (w : Whole) → HasLived w → Sound w
 sound w l = lives l.moves l.first w (fresh_sound l.first l.fresh l.good) l.lives
@@ -87,7 +93,7 @@ on [] more u w v is next = subst (λ (z : Whole). Lives more z v) is next
 on (Takes x ∷ moves) more u w v (o, mid, steps, honest, legal, good, rest) next = (o, mid, steps, honest, legal, good, on moves more mid w v rest next)
 on (Loses xs rs ns ∷ moves) more u w v (wires, replies, news, rest) next = (wires, replies, news, on moves more (left_with xs rs ns u) w v rest next)
 on (Crashes first notes ∷ moves) more u w v (written, rest) next = (written, on moves more (come_back first notes u) w v rest next)
-on (StartsOver first dcs ∷ moves) more u w v (begins, new, many, rest) next = (begins, new, many, on moves more (start_over first dcs u) w v rest next)
+on (StartsOver first dcs ∷ moves) more u w v (begins, new, olds, rest) next = (begins, new, olds, on moves more (start_over first dcs u) w v rest next)
 
 lived_on : (w v : Whole) (m : Move) → HasLived w → Lives (m ∷ []) w v → HasLived v
 lived_on w v m l next = record { first = l.first; fresh = l.fresh; good = l.good; moves = l.moves ++ m ∷ []; lives = on l.moves (m ∷ []) l.first w v l.lives next }
@@ -104,5 +110,5 @@ loss_lived w xs rs ns wires replies news l = lived_on w (left_with xs rs ns w) (
 pub crash_lived : (w : Whole) (first : List Event) (notes : List SiteNote) → IsWritten first notes w → HasLived w → HasLived (come_back first notes w)
 crash_lived w first notes written l = lived_on w (come_back first notes w) (Crashes first notes) l (written, refl)
 
-pub over_lived : (w : Whole) (first : List Event) (dcs : List Store) → Begins first w.core.events → All IsNew dcs → length dcs ≡ length w.dcs → HasLived w → HasLived (start_over first dcs w)
-over_lived w first dcs begins new many l = lived_on w (start_over first dcs w) (StartsOver first dcs) l (begins, new, many, refl)
+pub over_lived : (w : Whole) (first : List Event) (dcs : List Store) → Begins first w.core.events → All (IsNew first) dcs → StandFor dcs w.dcs → HasLived w → HasLived (start_over first dcs w)
+over_lived w first dcs begins new olds l = lived_on w (start_over first dcs w) (StartsOver first dcs) l (begins, new, olds, refl)

@@ -1,11 +1,11 @@
 -- What a look at a world compares with is what the first events of its log say of numbers.
-use Rattle.std.proofs.Common.{◌≡◌, ◌≢◌, ℕ, ◌+◌, ◌-◌, ◌≤◌, ◌<◌, Bool, true, false, ◌&&◌, ◌||◌, ◌==◌, List, [], ◌∷◌, ◌++◌, length, take, drop, Option, Some, None, arith, refl, sym, ◌∙◌, ap, subst, inl, inr, if◌then◌else◌}
+use Rattle.std.proofs.Common.{◌≡◌, ℕ, ◌+◌, ◌-◌, ◌≤◌, ◌<◌, Bool, true, false, ◌&&◌, ◌||◌, ◌==◌, List, [], ◌∷◌, ◌++◌, length, take, drop, Option, Some, None, arith, refl, sym, ◌∙◌, ap, inl, inr, if◌then◌else◌}
 use Rattle.std.specs.Prelude.{count_by, fold, reverse}
 use Rattle.std.specs.List.{list_all, list_any}
 use Rattle.std.proofs.Math.Bool.{or-false}
 use Rattle.std.proofs.Math.Nat.{min-le_left, min-le_right, le-min}
 use Rattle.std.proofs.Math.Seq.{take-append_seam, drop-append_seam}
-use Rattle.std.proofs.lemmas.Bool.{cases_eq, cases_lt, cond-true}
+use Rattle.std.proofs.lemmas.Bool.{cases_eq, cases_lt}
 use Rattle.std.proofs.lemmas.List.{reverse-append, length-reverse}
 use Rattle.std.proofs.lemmas.List.Folds.{list_all-append, list_any-append}
 use Rattle.std.proofs.lemmas.List.Sums.{sum_by-append}
@@ -23,7 +23,7 @@ use Rattle.serial.proofs.BackLemmas.{given_more}
 use Rattle.tc_core.specs.Core.{Asking}
 use Rattle.tc_world.specs.Waiting.{asking_by, request_of, AreWaiting}
 use Rattle.history.specs.Anew.{begun}
-use Rattle.tc_world.proofs.Bare.{none_behind}
+use Rattle.tc_world.proofs.Bases.{none_behind}
 use Rattle.serial.proofs.BackLemmas.{legal_first}
 use Rattle.tc_world.specs.Joining.Written.{gives, given_of, answers, is_left, below, below_event, below_request, low_left}
 

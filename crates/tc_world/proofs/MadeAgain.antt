@@ -17,7 +17,9 @@ use Rattle.transactions.proofs.Headline.{awaited}
 use Rattle.tc_core.specs.Core.{Asking}
 use Rattle.tc_core.specs.Recovery.{asking_in}
 use Rattle.tc_core.specs.Recovery.{asking_by as sent_by}
+use Rattle.tc_world.specs.Beginning.{admitted_before}
 use Rattle.tc_world.specs.Waiting.{asking, asking_by, request_of, Distinct, AreWaiting}
+use Rattle.tc_world.proofs.BeginningLemmas.{none_before}
 use Rattle.tc_world.proofs.Requests.{push_other, push_new, distinct_push}
 
 -- the request under a number, where it is of one of the first k transactions
@@ -29,7 +31,7 @@ asking_up_to k n (Some f) = if nat_lt k f.txn then None else Some (asking n f)
 pub record AreMade (rs : List Asking) (h : List Event) (k : ℕ) : Type 0 where
   pub each : (n : ℕ) → request_of rs n ≡ asking_up_to k n (open_op h n)
   pub once : Distinct rs
-  pub few : length rs ≤ k
+  pub few : length rs + admitted_before h ≤ k
 
 lt_is : (a b : ℕ) → a < b → nat_lt a b ≡ true
 lt_is a b less = grind (arith, nat_tests)
@@ -47,12 +49,22 @@ made k n f le = cond-false (nat_lt k f.txn) None (Some (asking n f)) (lt_not k f
 of_admitted : (ps : List Checked) (h : List Event) → Legal ps h → (n : ℕ) (f : Flight) → open_op h n ≡ Some f → (0 < f.txn) × (f.txn ≤ admitted h)
 of_admitted ps h legal n f is = (let a = awaited ps h legal n f is in open-serial ps h legal f.txn a.s a.is)
 
-pub none_made : (ps : List Checked) (h : List Event) (rs : List Asking) → Legal ps h → rs ≡ [] → AreMade rs h 0
-none_made ps h rs legal none = subst (λ (xs : List Asking). AreMade xs h 0) (sym none) (record { each = λ n. by n (open_op h n) refl; once = tt; few = omega arith })
+-- of those that were admitted before the log began there are none
+pub none_made : (ps : List Checked) (h : List Event) (rs : List Asking) → Legal ps h → rs ≡ [] → AreMade rs h (admitted_before h)
+none_made ps h rs legal none =
+    subst (λ (xs : List Asking). AreMade xs h (admitted_before h)) (sym none) (record { each = λ n. by n (open_op h n) refl; once = tt; few = omega arith })
   where
-    by : (n : ℕ) (o : Option Flight) → open_op h n ≡ o → request_of [] n ≡ asking_up_to 0 n o
+    since : (n : ℕ) (f : Flight) → open_op h n ≡ Some f → admitted_before h < f.txn
+    since n f is =
+        let a = awaited ps h legal n f is in
+        elim (cases_lt (admitted_before h) f.txn) [
+          | inl above ↦ above
+          | inr under ↦ absurd (none_some (standing h f.txn) a.s (none_before ps h legal f.txn (omega (arith, under))) a.is)
+        ]
+
+    by : (n : ℕ) (o : Option Flight) → open_op h n ≡ o → request_of [] n ≡ asking_up_to (admitted_before h) n o
     by n None is = refl
-    by n (Some f) is = sym (later 0 n f (of_admitted ps h legal n f is).0)
+    by n (Some f) is = sym (later (admitted_before h) n f (since n f is))
 
 pub all_made : (ps : List Checked) (h : List Event) (rs : List Asking) (k : ℕ) → Legal ps h → admitted h ≤ k → AreMade rs h k → AreWaiting rs h
 all_made ps h rs k legal all m = record { each = λ n. m.each n ∙ by n (open_op h n) refl; once = m.once }

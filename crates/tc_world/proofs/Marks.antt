@@ -1,5 +1,5 @@
 -- Each step keeps the marks at or under the history's.
-use Rattle.std.proofs.Common.{◌≡◌, ℕ, ◌+◌, ◌≤◌, ◌<◌, Bool, true, false, ◌&&◌, ◌==◌, List, Option, Some, None, arith, refl, sym, subst, ap, if◌then◌else◌}
+use Rattle.std.proofs.Common.{◌≡◌, ℕ, ◌+◌, ◌≤◌, ◌<◌, Bool, true, false, ◌&&◌, ◌==◌, [], Option, Some, None, arith, refl, sym, subst, ap, if◌then◌else◌}
 use Rattle.std.specs.Prelude.{◌^◌, slice_get, slice_set, nat_le, Result, Ok, Err}
 use Rattle.std.specs.List.{All}
 use Rattle.std.proofs.lemmas.List.Elements.{All-push, All-set}
@@ -45,6 +45,7 @@ use Rattle.tc_world.specs.declared.step.Outcome.{Outcome}
 use Rattle.tc_world.specs.declared.step.Illegal.{Illegal}
 use Rattle.tc_core.specs.Recovery.{first_events}
 use Rattle.tc_world.specs.Recovery.{notes_of}
+use Rattle.tc_world.proofs.Bases.{begun_low, just_legal}
 use Rattle.tc_world.proofs.ComingBack.{all_at, come_back_low}
 
 pub went : (o p : Outcome) (w v : Whole) → Goes o w ≡ Goes p v → w ≡ v
@@ -373,13 +374,13 @@ stay_low w v (step.Crash n) o legal goes low = subst AreMarksLow (sym goes.next)
 -- ---- a fresh world
 
 pub fresh_low : (w : Whole) → IsFresh w → AreMarksLow w
-fresh_low w fresh = record {
+fresh_low w fresh = (let few = begun_low [] w.core.events (just_legal [] w.core.events fresh.events) in record {
   copies = subst (All (λ (x : Wire). x.low_water ≤ low_water w.core.events)) (sym fresh.copies) (λ k x inside. absurd (omega (arith, inside)));
-  dcs = λ k d inside. (let zero = (fresh.marks k d inside).0 in omega (arith, zero));
-  saved = λ k d inside. (let zero = (fresh.marks k d inside).1 in omega (arith, zero));
+  dcs = λ k d inside. (let is = (fresh.marks k d inside).0 in omega (arith, is, few));
+  saved = λ k d inside. (let is = (fresh.marks k d inside).1 in omega (arith, is, few));
   news = subst (All (λ (x : ℕ × News). x.1.mark ≤ low_water w.core.events)) (sym fresh.news) (λ k x inside. absurd (omega (arith, inside)));
   redo = λ k s inside. subst (IsLow (low_water w.core.events)) (sym (fresh.up k s inside)) tt;
-}
+})
 
 above_by : (n m : ℕ) (o : Option Flight) → ((f : Flight) → o ≡ Some f → m < n) → is_flight o ≡ true → m < n
 above_by n m None above is = absurd cc

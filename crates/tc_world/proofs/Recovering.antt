@@ -8,8 +8,9 @@ use Rattle.access_slots.specs.declared.op.News.{News}
 use Rattle.tc_log.specs.declared.event.Event.{Event}
 use Rattle.history.specs.Flight.{open_op, given, low_water}
 use Rattle.history.specs.Anew.{begun}
-use Rattle.data_component.specs.Sorted.{Rows, row_of}
-use Rattle.tc_world.proofs.Bare.{begun_first}
+use Rattle.access_slots.specs.declared.slot.Record.{Record}
+use Rattle.data_component.specs.Sorted.{row_of}
+use Rattle.tc_world.proofs.Bases.{begun_low}
 use Rattle.data_component.specs.Store.{Store, news_of}
 use Rattle.transactions.specs.declared.Redoing.{Redoing}
 use Rattle.transactions.specs.declared.Site.{Site}
@@ -17,19 +18,20 @@ use Rattle.transactions.specs.InFlight.{site_at}
 use Rattle.transactions.specs.Reached.{AllGood}
 use Rattle.transactions.specs.Legal.{Legal}
 use Rattle.transactions.proofs.StandingLemmas.{some_same, none_some}
-use Rattle.serial.specs.Serial.{empty_table, done, Honest}
+use Rattle.serial.specs.Serial.{done, HonestFrom}
+use Rattle.serial.specs.Audit.{base_in, base_of}
 use Rattle.history.specs.Places.{Begins}
 use Rattle.serial.specs.Lists.{logged, dc_of}
 use Rattle.serial.specs.Joining.Site.{Over, SiteOk}
 use Rattle.serial.specs.Joining.Sites.{ReplyOk, NewsOk}
 use Rattle.serial.proofs.RedoneLemmas.{over_low}
-use Rattle.serial.proofs.BackLemmas.{Earlier, earlier, legal_first, honest_first, logged_some}
+use Rattle.serial.proofs.BackLemmas.{Earlier, earlier, legal_first, honest_first, logged_above}
 use Rattle.serial.proofs.BackSites.{over_less, site_new}
 use Rattle.tc_core.specs.declared.recovery.SiteNote.TheVariants.{Restarted}
 use Rattle.tc_core.specs.Recovery.{site_noted}
 use Rattle.tc_world.specs.Whole.{Whole}
 use Rattle.tc_world.specs.Marks.{IsLow, AreMarksLow}
-use Rattle.tc_world.specs.Recovery.{IsNew, start_over}
+use Rattle.tc_world.specs.Recovery.{IsNew, StandFor, start_over}
 use Rattle.tc_world.specs.Lives.{AreAmong, left_with}
 use Rattle.tc_world.specs.Joining.Listed.{IsListed}
 use Rattle.tc_world.proofs.Listed.{IsCopy}
@@ -52,13 +54,14 @@ lost_low w xs rs ns wires news low = record {
 pub lost_listed : (w : Whole) (xs : List Wire) (rs : List Reply) (ns : List (ℕ × News)) → AreAmong xs w.copies → AreAmong rs w.replies → AreAmong ns w.news → IsListed w → IsListed (left_with xs rs ns w)
 lost_listed w xs rs ns wires replies news s = record {
   honest = s.honest;
-  bare = s.bare;
-  unbegun = s.unbegun;
+  base = s.base;
+  based = s.based;
+  behind = s.behind;
   ok = record {
     v = s.ok.v;
-    copies = among_all (IsCopy w s.ok.v) xs w.copies wires s.ok.copies;
+    copies = among_all (IsCopy s.base w s.ok.v) xs w.copies wires s.ok.copies;
     replies = among_all (ReplyOk (logged w.core.events) w.core.sites w.dcs s.ok.v) rs w.replies replies s.ok.replies;
-    news = among_all (NewsOk empty_table (logged w.core.events) (open_op w.core.events) (done w.core.events) (given w.core.events) w.core.sites w.dcs) ns w.news news s.ok.news;
+    news = among_all (NewsOk s.base (logged w.core.events) (open_op w.core.events) (done w.core.events) (given w.core.events) w.core.sites w.dcs) ns w.news news s.ok.news;
     stores = s.ok.stores;
     said = s.ok.said;
     there = s.ok.there;
@@ -88,39 +91,48 @@ as_many [] (y ∷ ys) k x same at = absurd (omega (arith, same))
 as_many (z ∷ xs) (y ∷ ys) zero x same at = (z, refl)
 as_many (z ∷ xs) (y ∷ ys) (suc k) x same at = as_many xs ys k x (omega (arith, same)) at
 
-pub start_over_low : (w : Whole) (first : List Event) (dcs : List Store) → All IsNew dcs → AreMarksLow (start_over first dcs w)
-start_over_low w first dcs new = record {
+pub start_over_low : (w : Whole) (first : List Event) (dcs : List Store) → Legal w.core.procs first → All (IsNew first) dcs → AreMarksLow (start_over first dcs w)
+start_over_low w first dcs legal new = record {
   copies = λ k x inside. absurd (omega (arith, inside));
-  dcs = λ k s inside. (let none = (new k s inside).mark in omega (arith, none));
-  saved = λ k s inside. (let none = (new k s inside).saved_mark in omega (arith, none));
+  dcs = λ k s inside. (let is = (new k s inside).mark in omega (arith, is, low));
+  saved = λ k s inside. (let is = (new k s inside).saved_mark in omega (arith, is, low));
   news = λ k x inside. absurd (omega (arith, inside));
   redo = all_sites (λ (t : Site). IsLow (low_water first) t.redo) (map site_noted (map (λ (x : Store). Restarted (news_of x)) dcs)) (λ d. by d (slice_get dcs d) refl);
 }
   where
+    low : begun first ≤ low_water first
+    low = begun_low w.core.procs first legal
+
     by : (d : ℕ) (o : Option Store) → slice_get dcs d ≡ o → IsLow (low_water first) (site_at (map site_noted (map (λ (x : Store). Restarted (news_of x)) dcs)) d).redo
     by d None at = subst (IsLow (low_water first)) (sym (none_at dcs d at)) tt
     by d (Some s) at =
-        let none = (all_at IsNew dcs d s at new).mark in
-        let low : s.mark ≤ low_water first = omega (arith, none) in
-        subst (λ (t : Site). IsLow (low_water first) t.redo) (sym (new_at dcs d s at)) low
+        let is = (all_at (IsNew first) dcs d s at new).mark in
+        let few : s.mark ≤ low_water first = omega (arith, is, low) in
+        subst (λ (t : Site). IsLow (low_water first) t.redo) (sym (new_at dcs d s at)) few
 
 pub start_over_listed : (w : Whole) (first : List Event) (dcs : List Store) → AllGood w.core.procs → Legal w.core.procs w.core.events
-    → Begins first w.core.events → All IsNew dcs → length dcs ≡ length w.dcs → IsListed w → IsListed (start_over first dcs w)
-start_over_listed w first dcs good legal begins new many s =
+    → Begins first w.core.events → All (IsNew first) dcs → StandFor dcs w.dcs → IsListed w → IsListed (start_over first dcs w)
+start_over_listed w first dcs good legal begins new olds s =
     record {
-      honest = honest_first empty_table begins.later first (subst Honest begins.is s.honest);
-      bare = λ d x at. (let is = all_at IsNew dcs d x at new in (is.base, is.base_mark));
-      unbegun = begun_first w.core.procs begins.later first (subst (Legal w.core.procs) begins.is legal) (sym (ap begun begins.is) ∙ s.unbegun);
+      base = s.base;
+      based = based;
+      behind = λ d x at.
+          let is = all_at (IsNew first) dcs d x at new in
+          let mark = is.mark in
+          let saved = is.saved_mark in
+          record { base_mark = is.base_mark; mark = omega (arith, mark); saved_mark = omega (arith, saved) };
+      honest = honest_first s.base begins.later first (subst (HonestFrom s.base) begins.is s.honest);
       ok = record {
         v = λ d. [];
         copies = λ k x inside. absurd (omega (arith, inside));
         replies = λ k x inside. absurd (omega (arith, inside));
         news = λ k x inside. absurd (omega (arith, inside));
         stores = λ d x at.
-            let is = all_at IsNew dcs d x at new in
-            subst (λ (t : Site). SiteOk empty_table (logged first) (open_op first) (done first) (given first) d x t []) (sym (new_at dcs d x at))
-            (site_new empty_table (logged first) (open_op first) (done first) (given first) d x (logged_some w.core.procs first legal_now) over (λ r here. ap (λ (rows : Rows). row_of rows r) is.base) is.list is.saved is.mark is.saved_mark is.restarted);
-        said = λ n o said logs was. (let there = s.ok.said n o said (before.logs_on n o logs) (before.says_on n said was) in as_many dcs w.dcs (dc_of o) there.0 many there.1);
+            let is = all_at (IsNew first) dcs d x at new in
+            subst (λ (t : Site). SiteOk s.base (logged first) (open_op first) (done first) (given first) d x t []) (sym (new_at dcs d x at))
+            (site_new s.base (logged first) (open_op first) (done first) (given first) d x (begun first) (logged_above w.core.procs first legal_now) over
+            (λ r here. own d x r at here) is.list is.saved is.mark is.saved_mark is.restarted);
+        said = λ n o said logs was. (let there = s.ok.said n o said (before.logs_on n o logs) (before.says_on n said was) in as_many dcs w.dcs (dc_of o) there.0 olds.count there.1);
         there = λ d r down. there d r down (slice_get dcs d) refl;
       };
     }
@@ -128,13 +140,20 @@ start_over_listed w first dcs good legal begins new many s =
     legal_now : Legal w.core.procs first
     legal_now = legal_first w.core.procs begins.later first (subst (Legal w.core.procs) begins.is legal)
 
-    over : Over (open_op first) (given first) 0
-    over = over_less (open_op first) (given first) (low_water first) 0 (over_low w.core.procs first legal_now) (omega arith)
+    over : Over (open_op first) (given first) (begun first)
+    over = over_less (open_op first) (given first) (low_water first) (begun first) (over_low w.core.procs first legal_now) (begun_low w.core.procs first legal_now)
 
-    before : Earlier empty_table (logged w.core.events) (open_op w.core.events) (done w.core.events) (given w.core.events) (logged first) (open_op first) (done first) (given first)
+    based : (r : Record) → s.base r ≡ base_of dcs r
+    based r = s.based r ∙ sym (olds.rows r)
+
+    own : (d : ℕ) (x : Store) (r : Record) → slice_get dcs d ≡ Some x → r.dc ≡ d → row_of x.base r ≡ s.base r
+    own d x r at here =
+        ap (λ (u : Option Store). row_of (base_in u) r) (sym (subst (λ (k : ℕ). slice_get dcs k ≡ Some x) (sym here) at)) ∙ sym (based r)
+
+    before : Earlier s.base (logged w.core.events) (open_op w.core.events) (done w.core.events) (given w.core.events) (logged first) (open_op first) (done first) (given first)
     before =
-        subst (λ (h : List Event). Earlier empty_table (logged h) (open_op h) (done h) (given h) (logged first) (open_op first) (done first) (given first)) (sym begins.is)
-        (earlier w.core.procs empty_table begins.later first good (subst (Legal w.core.procs) begins.is legal) (subst Honest begins.is s.honest))
+        subst (λ (h : List Event). Earlier s.base (logged h) (open_op h) (done h) (given h) (logged first) (open_op first) (done first) (given first)) (sym begins.is)
+        (earlier w.core.procs s.base begins.later first good (subst (Legal w.core.procs) begins.is legal) (subst (HonestFrom s.base) begins.is s.honest))
 
     there : (d : ℕ) (r : Redoing) → (site_at (map site_noted (map (λ (x : Store). Restarted (news_of x)) dcs)) d).redo ≡ Some r → (o : Option Store) → slice_get dcs d ≡ o
         → (x : Store) × (slice_get dcs d ≡ Some x)

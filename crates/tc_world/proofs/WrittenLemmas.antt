@@ -56,6 +56,7 @@ use Rattle.tc_world.specs.Steps.{tells_unless, tells_news, redoes_by}
 use Rattle.tc_world.specs.declared.step.Step.{Step}
 use Rattle.tc_world.specs.declared.step.Step.TheVariants as step
 use Rattle.tc_world.specs.declared.step.Outcome.{Outcome}
+use Rattle.tc_world.proofs.Bases.{begun_low, just_legal}
 use Rattle.tc_world.proofs.ComingBack.{all_at, sites_low, notes_low}
 use Rattle.tc_world.proofs.Marks.{went, stopped, IsStoreLow, performed_low, redone_low, ask_sites, undo_sites}
 
@@ -388,10 +389,10 @@ more_written w first more notes legal on in_log s =
 
 -- ---- nothing was carried, and a second crash
 
-pub fresh_written : (w : Whole) (notes : List SiteNote) → IsFresh w → AreNoted 0 w notes → IsWritten w.core.events notes w
+pub fresh_written : (w : Whole) (notes : List SiteNote) → IsFresh w → AreNoted (low_water w.core.events) w notes → IsWritten w.core.events notes w
 fresh_written w notes fresh noted = record {
   begins = record { later = []; is = refl };
-  sites = λ d. noted_more 0 (low_water w.core.events) d w _ _ (omega arith) (noted d);
+  sites = noted;
   copies = subst (All (IsWrittenFor w.core.events)) (sym fresh.copies) (λ k x inside. absurd (omega (arith, inside)));
   replies = subst (All (λ (x : Reply). x.number ≤ given w.core.events)) (sym fresh.replies) (λ k x inside. absurd (omega (arith, inside)));
   stores = λ k s inside.
@@ -399,11 +400,12 @@ fresh_written w notes fresh noted = record {
       let marks = fresh.marks k s inside in
       let mark = marks.0 in
       let saved = marks.1 in
+      let low = begun_low [] w.core.events (just_legal [] w.core.events fresh.events) in
       record {
         list = subst (All (λ (e : Performed). e.0 ≤ given w.core.events)) (sym lists.0) (λ j e at. absurd (omega (arith, at)));
         saved = subst (All (λ (e : Performed). e.0 ≤ given w.core.events)) (sym lists.1) (λ j e at. absurd (omega (arith, at)));
-        mark = omega (arith, mark);
-        saved_mark = omega (arith, saved);
+        mark = omega (arith, mark, low);
+        saved_mark = omega (arith, saved, low);
       };
   news = subst (All (λ (x : ℕ × News). x.1.mark ≤ low_water w.core.events)) (sym fresh.news) (λ k x inside. absurd (omega (arith, inside)));
   redo = λ k t inside. subst (IsLow (low_water w.core.events)) (sym (fresh.up k t inside)) tt;

@@ -1,5 +1,5 @@
 -- What happens to a world whose transaction component crashes now and then.
-use Rattle.std.specs.Prelude.{◌≡◌, ℕ, false, List, [], ◌∷◌, length, Some, slice_get}
+use Rattle.std.specs.Prelude.{◌≡◌, ℕ, false, List, [], ◌∷◌, Some, slice_get}
 use Rattle.std.specs.List.{All}
 use Rattle.access_slots.specs.declared.op.Wire.{Wire}
 use Rattle.access_slots.specs.declared.op.Reply.{Reply}
@@ -14,7 +14,7 @@ use Rattle.tc_world.specs.Whole.{Whole}
 use Rattle.tc_world.specs.Steps.{Steps}
 use Rattle.tc_world.specs.Marks.{IsFresh}
 use Rattle.tc_world.specs.OneAtATime.{is_forge}
-use Rattle.tc_world.specs.Recovery.{IsWritten, come_back, IsNew, start_over}
+use Rattle.tc_world.specs.Recovery.{IsWritten, come_back, IsNew, StandFor, start_over}
 use Rattle.tc_world.specs.declared.step.Step.{Step}
 use Rattle.tc_world.specs.declared.step.Outcome.{Outcome}
 
@@ -28,7 +28,7 @@ left_with xs rs ns w = record w { copies = xs; replies = rs; news = ns }
 
 -- what happens: a step; or all messages but these are lost for ever, or were made and never carried; or the transaction component
 -- crashes, when so much of its log and these notes were written, and comes back; or its data components die with it, when so much of
--- its log was written, and it comes back to new ones
+-- its log was written, and it comes back to new ones, of which only the rows are left with which they begin
 pub data Move : Type 0 where
   Takes : Step → Move
   Loses : List Wire → List Reply → List (ℕ × News) → Move
@@ -46,7 +46,7 @@ Lives (Loses xs rs ns ∷ moves) w v =
     AreAmong xs w.copies × AreAmong rs w.replies × AreAmong ns w.news × Lives moves (left_with xs rs ns w) v
 Lives (Crashes first notes ∷ moves) w v = IsWritten first notes w × Lives moves (come_back first notes w) v
 Lives (StartsOver first dcs ∷ moves) w v =
-    Begins first w.core.events × All IsNew dcs × (length dcs ≡ length w.dcs) × Lives moves (start_over first dcs w) v
+    Begins first w.core.events × All (IsNew first) dcs × StandFor dcs w.dcs × Lives moves (start_over first dcs w) v
 
 -- a fresh world, of procedures that were verified, has become this one
 pub record HasLived (w : Whole) : Type 0 where

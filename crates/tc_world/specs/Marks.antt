@@ -1,24 +1,32 @@
 -- Low-water marks in a world (Lomet, Fekete, Weikum, Zwilling, CIDR 2009: LWM).
-use Rattle.std.specs.Prelude.{◌≡◌, ℕ, ◌≤◌, ◌<◌, true, [], Option, Some, None}
+use Rattle.std.specs.Prelude.{◌≡◌, ℕ, ◌≤◌, ◌<◌, ◌^◌, true, List, [], ◌∷◌, Option, Some, None}
 use Rattle.std.specs.List.{All}
 use Rattle.access_slots.specs.declared.op.Wire.{Wire}
 use Rattle.access_slots.specs.declared.op.News.{News}
+use Rattle.tc_log.specs.declared.event.Event.{Event}
+use Rattle.tc_log.specs.declared.event.Event.TheVariants.{Checkpoint}
 use Rattle.transactions.specs.declared.Redoing.{Redoing}
 use Rattle.transactions.specs.declared.Site.{Site}
+use Rattle.history.specs.Anew.{begun}
 use Rattle.history.specs.Flight.{low_water, is_open}
 use Rattle.data_component.specs.Store.{Store}
 use Rattle.tc_world.specs.Whole.{Whole}
 
--- nothing has happened: no event, nothing sent, nothing performed, forgotten or kept by a checkpoint, no news, each mark is 0, and no
--- data component is down
+-- nothing was logged since the log began: it is empty, or a Checkpoint is all of it
+pub data HasJustBegun (h : List Event) : Type 0 where
+  AtFirst : h ≡ [] → HasJustBegun h
+  AtCheckpoint : (before numbers : ℕ) → before ≤ 2 ^ 62 → numbers ≤ 2 ^ 62 → h ≡ Checkpoint before numbers ∷ [] → HasJustBegun h
+
+-- nothing has happened since the log began: nothing sent, nothing performed or kept by a checkpoint, no news; each data component begins behind
+-- the number behind which the log does, with whatever rows, and none is down
 pub record IsFresh (w : Whole) : Type 0 where
-  pub events : w.core.events ≡ []
+  pub events : HasJustBegun w.core.events
   pub copies : w.copies ≡ []
   pub replies : w.replies ≡ []
   pub news : w.news ≡ []
   pub lists : All (λ (d : Store). (d.list ≡ []) × (d.saved ≡ [])) w.dcs
-  pub bases : All (λ (d : Store). (d.base ≡ []) × (d.base_mark ≡ 0)) w.dcs
-  pub marks : All (λ (d : Store). (d.mark ≡ 0) × (d.saved_mark ≡ 0)) w.dcs
+  pub bases : All (λ (d : Store). d.base_mark ≡ begun w.core.events) w.dcs
+  pub marks : All (λ (d : Store). (d.mark ≡ begun w.core.events) × (d.saved_mark ≡ begun w.core.events)) w.dcs
   pub up : All (λ (s : Site). s.redo ≡ None) w.core.sites
 
 abbrev pub IsLow : ℕ → Option Redoing → Type 0

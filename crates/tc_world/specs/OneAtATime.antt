@@ -4,11 +4,12 @@ use Rattle.std.specs.List.{All}
 use Rattle.access_slots.specs.declared.slot.Record.{Record}
 use Rattle.access_slots.specs.declared.op.Op.{Op}
 use Rattle.access_slots.specs.declared.op.Said.{Said}
-use Rattle.data_component.specs.Performed.{Performed, value_of, said_under}
+use Rattle.data_component.specs.Performed.{Performed, value_in, said_under}
 use Rattle.data_component.specs.Store.{Store}
 use Rattle.transactions.specs.InFlight.{site_at}
 use Rattle.history.specs.Redo.{is_done}
-use Rattle.serial.specs.Serial.{serial, done, EndsAsSerial, IsUnwritten}
+use Rattle.serial.specs.Serial.{serial_from, done, EndsAsSerialFrom, IsUnwritten}
+use Rattle.serial.specs.Audit.{base_of}
 use Rattle.serial.specs.Lists.{logged, dc_of, NoTwice, InStep}
 use Rattle.tc_world.specs.Whole.{Whole}
 use Rattle.tc_world.specs.declared.step.Step.{Step}
@@ -43,11 +44,12 @@ abbrev pub EachIsKnown : Whole → Type 0
 EachIsKnown w = (d : ℕ) (s : Store) → slice_get w.dcs d ≡ Some s → IsKnown w d s
 
 pub record IsOneAtATime (w : Whole) : Type 0 where
-  -- each call that was committed or aborted ended as it does when calls are run one after another
-  pub answers : EndsAsSerial w.core.procs w.core.events
+  -- each call that was committed or aborted ended as it does when calls are run one after another, from the records with which data
+  -- components begin
+  pub answers : EndsAsSerialFrom w.core.procs (base_of w.dcs) w.core.events
   -- each record that no open transaction may write has the value at its data component that these calls leave
   pub values : (d : ℕ) (s : Store) (r : Record) → slice_get w.dcs d ≡ Some s → IsKnown w d s → r.dc ≡ d
-      → IsUnwritten w.core.procs w.core.events r → value_of s.list r ≡ serial w.core.procs w.core.events r
+      → IsUnwritten w.core.procs w.core.events r → value_in s.base s.list r ≡ serial_from w.core.procs (base_of w.dcs) w.core.events r
   -- each operation that was answered is one of a data component that is there
   pub there : (n : ℕ) (o : Op) (said : Said) → logged w.core.events n ≡ Some o → said_under (done w.core.events) n ≡ Some said
       → (s : Store) × (slice_get w.dcs (dc_of o) ≡ Some s)

@@ -3,17 +3,20 @@
 use Rattle.std.specs.Prelude.{◌≡◌, ℕ, ◌≤◌, ◌<◌, ◌==◌, if◌then◌else◌, true, false, List, [], length, map, Option, Some, None, slice_get}
 use Rattle.std.specs.List.{All}
 use Rattle.access_slots.specs.Locks.{target}
+use Rattle.access_slots.specs.declared.slot.Record.{Record}
 use Rattle.access_slots.specs.declared.op.Wire.{Wire}
 use Rattle.access_slots.specs.declared.op.Reply.{Reply}
 use Rattle.access_slots.specs.declared.op.News.{News}
 use Rattle.tc_log.specs.declared.event.Event.{Event}
 use Rattle.history.specs.Flight.{given, low_water, is_open}
 use Rattle.history.specs.Places.{Begins}
+use Rattle.history.specs.Anew.{begun}
 use Rattle.transactions.specs.declared.Redoing.{Redoing}
 use Rattle.transactions.specs.declared.Site.{Site}
 use Rattle.transactions.specs.InFlight.{site_at}
 use Rattle.data_component.specs.Performed.{Performed}
 use Rattle.data_component.specs.Store.{Store, news_of}
+use Rattle.serial.specs.Audit.{base_of}
 use Rattle.tc_core.specs.declared.recovery.SiteNote.{SiteNote}
 use Rattle.tc_core.specs.declared.recovery.SiteNote.TheVariants.{Untold, Restarted, Up}
 use Rattle.tc_core.specs.Recovery.{first_events, recovered, site_noted}
@@ -100,15 +103,19 @@ abbrev pub LosesNone : ℕ → Step → Type 0
 LosesNone n (step.Crash events) = n ≤ events
 LosesNone n other = Unit {0}
 
--- a data component that has restarted, before which nothing is left
-pub record IsNew (s : Store) : Type 0 where
-  pub base : s.base ≡ []
-  pub base_mark : s.base_mark ≡ 0
+-- a data component that has restarted, before which nothing is left but the rows with which it begins, as this log does
+pub record IsNew (first : List Event) (s : Store) : Type 0 where
+  pub base_mark : s.base_mark ≡ begun first
   pub list : s.list ≡ []
   pub saved : s.saved ≡ []
-  pub mark : s.mark ≡ 0
-  pub saved_mark : s.saved_mark ≡ 0
+  pub mark : s.mark ≡ begun first
+  pub saved_mark : s.saved_mark ≡ begun first
   pub restarted : 0 < s.incarnation
+
+-- there are as many as those, and they begin with the same records
+pub record StandFor (dcs olds : List Store) : Type 0 where
+  pub count : length dcs ≡ length olds
+  pub rows : (r : Record) → base_of dcs r ≡ base_of olds r
 
 -- the transaction component came back from what was written of its log, and is told of the restarts of these data components; nothing
 -- that was carried is left

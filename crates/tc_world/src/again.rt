@@ -1,10 +1,12 @@
 // The requests of a state that came back, made again.
 
-ghost use Rattle.std.specs.Prelude.{◌≡◌, ◌<◌, ◌≤◌, ◌++◌, [], option_to_list, vec_len, vec_capacity};
+ghost use Rattle.std.specs.Prelude.{◌≡◌, ◌+◌, ◌<◌, ◌≤◌, ◌++◌, [], option_to_list, vec_len, vec_capacity};
 ghost use Rattle.history.specs.Calls.{admitted};
 ghost use Rattle.tc_core.specs.Recovery.{open_request};
+ghost use Rattle.tc_world.specs.Beginning.{admitted_before};
 ghost use Rattle.tc_world.specs.Waiting.{AreWaiting};
 
+use crate::beginning::admitted_before;
 use tc_core::state::{Request, TcState};
 
 // What this transaction waits for.
@@ -28,14 +30,15 @@ fn push(requests: &mut Vec<Request>, request: Option<Request>)
     }
 }
 
-/// Makes each open request, where there is room for one of each transaction that was admitted.
+/// Makes each open request, where there is room for one of each transaction that was admitted since the
+/// log began.
 pub fn make_again(state: &TcState, requests: &mut Vec<Request>)
     requires none { requests.old.items ≡ [] }
-    requires room { admitted state.now.events ≤ vec_capacity requests.old }
+    requires room { admitted state.now.events ≤ admitted_before state.now.events + vec_capacity requests.old }
     ensures { AreWaiting requests.new.items state.now.events }
 {
     state.known();
-    for done in 0..state.admitted() {
+    for done in admitted_before(state)..state.admitted() {
         push(requests, request_of(state, done + 1));
     }
 }

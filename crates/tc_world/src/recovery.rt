@@ -30,7 +30,7 @@ ghost use Rattle.tc_world.specs.Whole.{Whole};
 ghost use Rattle.tc_world.specs.Steps.{Steps};
 ghost use Rattle.tc_world.specs.Marks.{AreMarksLow, IsFresh};
 ghost use Rattle.tc_world.specs.OneAtATime.{is_forge, EachIsKnown, IsOneAtATime};
-ghost use Rattle.tc_world.specs.Recovery.{IsWrittenFor, AreNoted, IsWritten, come_back, LosesNone, IsNew, start_over};
+ghost use Rattle.tc_world.specs.Recovery.{IsWrittenFor, AreNoted, IsWritten, come_back, LosesNone, IsNew, StandFor, start_over};
 ghost use Rattle.tc_world.specs.Lives.{AreAmong, left_with, HasLived};
 ghost use Rattle.tc_world.specs.declared.step.Step.{Step as StepValue};
 ghost use Rattle.tc_world.specs.declared.step.Outcome.{Outcome as OutcomeValue};
@@ -55,8 +55,8 @@ pub fn lives_on()
         → AreAmong rs w.replies → AreAmong ns w.news → HasLived w → HasLived (left_with xs rs ns w) }
     ensures back { (w : Whole) (first : List EventValue) (notes : List SiteNote) → IsWritten first notes w → HasLived w
         → HasLived (come_back first notes w) }
-    ensures over { (w : Whole) (first : List EventValue) (dcs : List Store) → Begins first w.core.events → All IsNew dcs
-        → length dcs ≡ length w.dcs → HasLived w → HasLived (start_over first dcs w) }
+    ensures over { (w : Whole) (first : List EventValue) (dcs : List Store) → Begins first w.core.events → All (IsNew first) dcs
+        → StandFor dcs w.dcs → HasLived w → HasLived (start_over first dcs w) }
 {}
 
 /// A beginning of a legal log is legal; a world whose transaction component comes back from what was
@@ -73,7 +73,7 @@ pub fn comes_back()
 /// written for, what it makes known of data components was noted, and a crash comes back from no less
 /// than was written, all that was carried is written; and so it stays when more is written.
 pub fn written_ahead()
-    ensures fresh { (w : Whole) (notes : List SiteNote) → IsFresh w → AreNoted 0 w notes
+    ensures fresh { (w : Whole) (notes : List SiteNote) → IsFresh w → AreNoted (low_water w.core.events) w notes
         → IsWritten w.core.events notes w }
     ensures step { (w v : Whole) (x : StepValue) (o : OutcomeValue) (first : List EventValue) (notes noted : List SiteNote)
         → Steps w x o v → is_forge x ≡ false → LosesNone (length first) x → IsWritten first notes w → All (IsWrittenFor first) v.copies

@@ -24,6 +24,7 @@ ghost use Rattle.tc_world.specs.declared.step.Step.TheVariants as step;
 
 use crate::again::make_again;
 use crate::asking::{find_number, find_txn};
+use crate::beginning::admitted_since;
 use crate::noting::notes_of;
 use crate::parts::{at, checkpoint_at, is_spent_at, perform_at, restart_at};
 use crate::step::{Illegal, Outcome, Step};
@@ -88,7 +89,7 @@ impl World {
         ensures { IfOk result (λ w. w ≡ record { core = state; dcs = dcs.items; copies = []; replies = []; news = [] }) }
     {
         state.known();
-        let mut requests = Vec::with_capacity(alloc, state.admitted() as usize)?;
+        let mut requests = Vec::with_capacity(alloc, admitted_since(&state) as usize)?;
         make_again(&state, &mut requests);
         Ok(World {
             alloc,
@@ -382,7 +383,7 @@ impl World {
         }
         self.state.known();
         let notes = notes_of(self.alloc, &self.state)?;
-        self.requests.reserve(self.state.admitted() as usize)?;
+        self.requests.reserve(admitted_since(&self.state) as usize)?;
         self.state
             .crash(events, notes.as_slice(), &mut self.requests)?;
         make_again(&self.state, &mut self.requests);

@@ -38,15 +38,16 @@ fn moves(world: &mut World, txn: u64) {
     }
 }
 
-// One operation of each of both transactions, as long as they have one; then their ends.
-fn both_end(world: &mut World, one: u64, other: u64) {
+/// One operation of each of both transactions, as long as they have one; then their ends.
+pub(crate) fn both_end(world: &mut World, one: u64, other: u64) {
     for _ in 0..20 {
         moves(world, one);
         moves(world, other);
     }
 }
 
-fn put_ends(rt: &impl Abort, alloc: Global, world: &mut World, txn: u64, args: &[u64]) {
+/// A put, to its end.
+pub(crate) fn put_ends(rt: &impl Abort, alloc: Global, world: &mut World, txn: u64, args: &[u64]) {
     let _ = stepped(world, admit(rt, alloc, (PUT, args)));
     both_end(world, txn, txn);
 }

@@ -7,6 +7,7 @@
 //! | `redo_tests` | `tc_world`: what a redo leaves out |
 //! | `crash_tests` | `tc_world`: a transaction component that comes back from its log |
 //! | `coming_back_tests` | `coming_back`: a state and new data components from each beginning of a log |
+//! | `base_tests` | both: worlds that begin with rows, behind a Checkpoint |
 //! | `memory_tests` | `tc_world`: steps that are refused memory |
 //! | `audit_tests` | `audit`: short logs and what it says of them |
 //!
@@ -17,6 +18,8 @@
 
 #[cfg(test)]
 mod audit_tests;
+#[cfg(test)]
+mod base_tests;
 #[cfg(test)]
 mod checks;
 #[cfg(test)]

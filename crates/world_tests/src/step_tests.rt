@@ -1,7 +1,7 @@
 // Each call once, where it succeeds.
 
 ghost use Rattle.std.specs.List.{All};
-ghost use Rattle.coming_back.specs.Coming.{IsEmpty};
+ghost use Rattle.coming_back.specs.Coming.{HasOnlyRows};
 
 use crate::checks::is_same;
 use access_slots::op::{Reply, Said};
@@ -15,7 +15,7 @@ use tc_world::{Illegal, Outcome, Step, World};
 
 /// One data component for so many operations, to which nothing has happened.
 pub(crate) fn new_dcs(rt: &impl Abort, alloc: Global, ops: usize) -> Vec<Dc>
-    ensures { All IsEmpty result.items }
+    ensures { All HasOnlyRows result.items }
 {
     let mut dcs = Vec::with_capacity(alloc, 1).expect(rt, "no room");
     dcs.push_reserved(Dc::new(alloc, 4, ops).expect(rt, "no data component"));

@@ -2,10 +2,11 @@ use Rattle.std.proofs.Common.{sym, ap, subst, List}
 use Rattle.data_component.specs.Store.{Store}
 use Rattle.tc_core.specs.Core.{Core}
 use Rattle.tc_world.specs.Lives.{HasLived}
+use Rattle.coming_back.specs.Faults.{restart_notes}
 use Rattle.coming_back.specs.Serving.{AreRedone}
 use Rattle.coming_back.specs.Coming.{at_rest}
 use Rattle.tc_world.proofs.LivingLemmas.{living_agreed}
-use Rattle.coming_back.proofs.ComingLemmas.{notes_for, begun_lived, known_redone, has_log, redone_log}
+use Rattle.coming_back.proofs.ComingLemmas.{begun_lived, known_redone, has_log, redone_log}
 use Rattle.coming_back.proofs.FullLemmas.{matched_new}
 use Rattle.coming_back.proofs.coming.bring_back.Goals as goal
 
@@ -14,7 +15,7 @@ returns-in-Ok-clause-log c =
     let back = c.begin_again.new in
     let h = c.args.log.now.events in
     redone_log c.args.state.now back.state c.redo_all.new.state h back.dcs c.redo_all.new.dcs
-    (has_log c.args.state.now back.state h (notes_for back.dcs) c.in_ok-begin_again.ensures.ok) c.redo_all.ensures.redoes
+    (has_log c.args.state.now back.state h (restart_notes back.dcs) c.in_ok-begin_again.ensures.ok) c.redo_all.ensures.redoes
 
 pub returns-in-Ok-clause-known : goal.returns-in-Ok-clause-known
 returns-in-Ok-clause-known c =
@@ -43,7 +44,7 @@ returns-in-Err-default-Silent-clause-fault c =
     let redoes = c.redo_all.ensures.redoes in (
       record {
         log = redone_log c.args.state.now back.state c.redo_all.new.state c.args.log.now.events back.dcs c.redo_all.new.dcs
-            (has_log c.args.state.now back.state c.args.log.now.events (notes_for back.dcs) ok) redoes;
+            (has_log c.args.state.now back.state c.args.log.now.events (restart_notes back.dcs) ok) redoes;
         down = it.ensures.down;
       },
       it.ensures.full it.field-0-1-is

@@ -3,7 +3,7 @@ use Rattle.std.specs.Prelude.{slice_get, slice_set}
 use Rattle.std.proofs.lemmas.Option.{slice_get_read}
 use Rattle.data_component.specs.Store.{Store, restarted}
 use Rattle.tc_core.proofs.KeptLemmas.{slice_get-index}
-use Rattle.coming_back.specs.Coming.{IsEmpty}
+use Rattle.coming_back.specs.Coming.{HasOnlyRows}
 use Rattle.coming_back.proofs.RenewLemmas.{mapped, mapped_none, mapped_all, mapped_get, mapped_next}
 use Rattle.coming_back.proofs.renewing.restart_all.Goals as goal
 
@@ -30,8 +30,8 @@ unreachable-requires c =
     let d : Store = c.dc-item.result in
     let here : slice_get ys i ≡ Some d = slice_get_read ys (length ys) i d refl (omega arith) c.dc-item.is in
     let was : slice_get xs i ≡ Some d = sym (mapped_get restarted xs i) ∙ (ap (λ (zs : List Store). slice_get zs i) (sym c.loop-dc.invariant) ∙ here) in
-    let fresh : IsEmpty d = subst IsEmpty (slice_get-index xs i d d was) (c.requires i d c.loop-dc-test.true) in
-    let zero : d.incarnation ≡ 0 = ap (λ (s : Store). s.incarnation) fresh in
+    let only : HasOnlyRows d = subst HasOnlyRows (slice_get-index xs i d d was) (c.requires i d c.loop-dc-test.true) in
+    let zero : d.incarnation ≡ 0 = only.never in
     let spent : 2 ^ 62 ≤ d.incarnation = subst (λ (s : Store). 2 ^ 62 ≤ s.incarnation) (sym c.dc-item.is) (c.in-Err.ensures.spent.0 refl) in
     let bad : 2 ^ 62 ≤ 0 = subst (λ (n : ℕ). 2 ^ 62 ≤ n) zero spent in
     omega (arith, bad)

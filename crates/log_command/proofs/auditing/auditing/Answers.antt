@@ -6,7 +6,7 @@ use Rattle.scripts.specs.Reading.{script_said}
 use Rattle.scripts.specs.declared.keyword.Command.TheVariants as command
 use Rattle.script_loading.specs.Loading.{IsLoading}
 use Rattle.script_loading.specs.declared.loading.Loading.TheVariants.{Ready}
-use Rattle.coming_back.specs.Coming.{IsEmpty}
+use Rattle.coming_back.specs.Coming.{HasOnlyRows}
 use Rattle.log_command.specs.LogReport.{IsBeside}
 use Rattle.log_command.proofs.ReportLemmas.{ready_empty, ready_count, ready_begun, audit_is}
 use Rattle.log_command.proofs.auditing.auditing.Goals as goal
@@ -27,7 +27,7 @@ pub beside-report-requires-clause-empty : goal.beside-report-requires-clause-emp
 beside-report-requires-clause-empty c =
     let ready : IsLoading (script_said command.Run c.args.script.now) (Ready c.in-Ready.loaded) = rw c.in-Ready.is at c.in_ok-loaded.ensures in
     let same : c.as_mut_slice.result.now ≡ c.in-Ready.loaded.dcs.items = search rules in
-    subst (All IsEmpty) (sym same) (ready_empty (script_said command.Run c.args.script.now).contents c.in-Ready.loaded ready.1)
+    subst (All HasOnlyRows) (sym same) (ready_empty (script_said command.Run c.args.script.now).contents c.in-Ready.loaded ready.1)
 
 pub returns-in-Ready : goal.returns-in-Ready
 returns-in-Ready c =

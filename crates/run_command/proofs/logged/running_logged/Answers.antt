@@ -4,11 +4,11 @@ use Rattle.scripts.specs.Reading.{script_said}
 use Rattle.scripts.specs.declared.keyword.Command.TheVariants.{Run}
 use Rattle.script_loading.specs.Loading.{IsLoading}
 use Rattle.script_loading.specs.declared.loading.Loading.TheVariants.{Ready}
-use Rattle.coming_back.specs.Coming.{IsEmpty}
+use Rattle.coming_back.specs.Coming.{HasOnlyRows}
 use Rattle.run_command.proofs.LoggedLemmas.{all_empty}
 use Rattle.run_command.proofs.logged.running_logged.Goals as goal
 
 pub run_behind-requires-after_bounds : goal.run_behind-requires-after_bounds
 run_behind-requires-after_bounds g c = λ _ _.
     let ready : IsLoading (script_said Run c.args.text.now) (Ready c.in-Ready.loaded) = rw c.in-Ready.is at c.in_ok-loaded.ensures in
-    subst (All IsEmpty) (sym ready.1.dcs) (all_empty (script_said Run c.args.text.now).contents.dcs)
+    subst (All HasOnlyRows) (sym ready.1.dcs) (all_empty (script_said Run c.args.text.now).contents.dcs)

@@ -1,10 +1,14 @@
-use Rattle.std.proofs.Common.{◌+◌, List, arith, refl, sym, ◌∙◌, subst}
+use Rattle.std.proofs.Common.{ℕ, ◌+◌, List, arith, refl, sym, ◌∙◌, subst}
 use Rattle.tc_core.specs.Core.{Asking}
 use Rattle.tc_world.proofs.MadeAgain.{AreMade, none_made, all_made, one_made}
 use Rattle.tc_world.proofs.again.make_again.Goals as goal
 
 pub loop-done-init : goal.loop-done-init
-loop-done-init c = (none_made c.args.state.now.procs c.args.state.now.events c.args.requests.now.items c.known.ensures.legal c.requires.none, refl)
+loop-done-init c = (
+  subst (λ (k : ℕ). AreMade c.args.requests.now.items c.args.state.now.events k) (sym c.admitted_before-done.ensures)
+      (none_made c.args.state.now.procs c.args.state.now.events c.args.requests.now.items c.known.ensures.legal c.requires.none),
+  refl,
+)
 
 pub loop-done-preserved : goal.loop-done-preserved
 loop-done-preserved c = (

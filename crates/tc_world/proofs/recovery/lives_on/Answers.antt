@@ -11,4 +11,4 @@ pub returns-clause-back : goal.returns-clause-back
 returns-clause-back c w first notes written lived = crash_lived w first notes written lived
 
 pub returns-clause-over : goal.returns-clause-over
-returns-clause-over c w first dcs begins new many lived = over_lived w first dcs begins new many lived
+returns-clause-over c w first dcs begins new olds lived = over_lived w first dcs begins new olds lived
