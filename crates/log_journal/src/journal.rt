@@ -17,8 +17,9 @@ use worker_pool::{Journal, NotKept};
 fn unkept(fault: FrameFault) -> NotKept {
     match fault {
         FrameFault::Device(DeviceError::Memory) => NotKept::Memory,
-        FrameFault::Device(DeviceError::Failed) | FrameFault::Full | FrameFault::Damaged(_) =>
-            NotKept::Failed,
+        FrameFault::Device(DeviceError::Failed | DeviceError::Unkept)
+        | FrameFault::Full
+        | FrameFault::Damaged(_) => NotKept::Failed,
     }
 }
 
