@@ -1,7 +1,7 @@
 // A log that begins anew, and what bars it.
 
 use crate::checks::is_same;
-use crate::state_tests::{admitted, ask_is, asks, ends, put_commits, with_state, wire};
+use crate::state_tests::{admitted, ask_is, asks, ends, put_commits, wire, with_state};
 use access_slots::op::{News, Op, Said};
 use samples::{PUT, record, value};
 use std::alloc::Global;

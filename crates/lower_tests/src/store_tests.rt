@@ -239,8 +239,18 @@ fn rows_rise(rt: HostRuntime) {
 // Two rows, the numbers up to 2 answered; the mark of another incarnation isn't heard.
 fn two_rows(rt: &impl Abort, dc: &mut Dc) {
     let asked = [
-        (1, 0, Op::Insert(record(5), value(1)), Some(Said::Done(None))),
-        (2, 0, Op::Insert(record(3), value(2)), Some(Said::Done(None))),
+        (
+            1,
+            0,
+            Op::Insert(record(5), value(1)),
+            Some(Said::Done(None)),
+        ),
+        (
+            2,
+            0,
+            Op::Insert(record(3), value(2)),
+            Some(Said::Done(None)),
+        ),
     ];
     each_is_said(rt, dc, &asked);
     dc.hear_mark(1, 9);
@@ -248,19 +258,32 @@ fn two_rows(rt: &impl Abort, dc: &mut Dc) {
     is_same(rt, unheard, (0, 0, false));
     dc.hear_mark(0, 2);
     is_same(rt, (dc.mark(), dc.forget()), (2, false));
-    is_same(rt, (dc.checkpoint(), dc.base_mark(), dc.performed().len()), (2, 0, 2));
+    is_same(
+        rt,
+        (dc.checkpoint(), dc.base_mark(), dc.performed().len()),
+        (2, 0, 2),
+    );
 }
 
 // What was performed is forgotten, and there is room for as many operations again.
 fn two_rows_stay(rt: &impl Abort, dc: &mut Dc) {
     let want = [(record(3), value(2)), (record(5), value(1))];
-    is_same(rt, (dc.forget(), dc.base_mark(), dc.performed().len()), (true, 2, 0));
+    is_same(
+        rt,
+        (dc.forget(), dc.base_mark(), dc.performed().len()),
+        (true, 2, 0),
+    );
     is_same(rt, dc.base(), want.as_slice());
     is_same(rt, dc.rows(), want.as_slice());
     let asked = [
         (2, 2, Op::Insert(record(3), value(2)), Some(Said::Old)),
         (3, 2, Op::Insert(record(5), value(7)), Some(Said::Duplicate)),
-        (4, 2, Op::Delete(record(5)), Some(Said::Done(Some(value(1))))),
+        (
+            4,
+            2,
+            Op::Delete(record(5)),
+            Some(Said::Done(Some(value(1)))),
+        ),
         (5, 2, Op::Read(record(3)), None),
     ];
     each_is_said(rt, dc, &asked);
@@ -273,7 +296,11 @@ fn two_rows_are_back(rt: &impl Abort, dc: &mut Dc) {
         mark: 2,
     };
     is_same(rt, (dc.rows().len(), dc.restart()), (1, Ok(news)));
-    is_same(rt, (dc.rows().len(), dc.get(&record(5))), (2, Some(value(1))));
+    is_same(
+        rt,
+        (dc.rows().len(), dc.get(&record(5))),
+        (2, Some(value(1))),
+    );
 }
 
 #[test]

@@ -29,11 +29,10 @@ returns-in-None-clause-reaches c =
     c.in-None.ensures.none
 
 pub returns-in-Some-clause-fault : goal.returns-in-Some-clause-fault
-returns-in-Some-clause-fault c =
-    (
-      subst (λ (h : List Event). Legal c.args.self.now.procs h) (c.in-Ok.ensures.events ∙ all-first _ _ c.len.ensures)
+returns-in-Some-clause-fault c = (
+  subst (λ (h : List Event). Legal c.args.self.now.procs h) (c.in-Ok.ensures.events ∙ all-first _ _ c.len.ensures)
       c.in-Ok.ensures.kept.kept.legal,
-      subst (λ (n : ℕ). IsForgotten n c.args.notes.now c.in-Some.dc)
+  subst (λ (n : ℕ). IsForgotten n c.args.notes.now c.in-Some.dc)
       (c.from-begun.ensures ∙ (c.in-Ok.ensures.kept.from ∙ ap begun (c.in-Ok.ensures.events ∙ all-first _ _ c.len.ensures)))
       c.in-Some.ensures.some,
-    )
+)
