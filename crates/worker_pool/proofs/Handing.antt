@@ -10,7 +10,7 @@ use Rattle.logbook.specs.Pages.{Cell, cell, keeps, no_nib, step, Moves, Goes}
 use Rattle.tc_log.specs.declared.event.Event.{Event}
 use Rattle.history.specs.Places.{Begins}
 use Rattle.worker_pool.specs.Acknowledged.{IsKept}
-use Rattle.worker_pool.specs.Joining.Handing.{events_of, IsCounted, Adds, IsHanded, HasAll, IsKeptIn, IsKeptSeen}
+use Rattle.worker_pool.specs.Joining.Handing.{events_of, IsCounted, Adds, IsHanded, HasAll, IsKeptIn}
 
 -- ---- beginnings of one list
 
@@ -197,7 +197,6 @@ kept_in has kept before first journal batches logged events all since count enou
   has = λ es was. since journal (es ++ events_of batches) (all es was);
 }
 
-pub kept_seen : (kept before : List Event → Type 0) (first : List Event) (logged : ℕ) (seen : Option (List (List Event)))
-    → IsKeptSeen kept before first logged seen → IsKept kept before first logged
-kept_seen kept before first logged None it = absurd it
-kept_seen kept before first logged (Some batches) it = record { behind = events_of batches; enough = it.enough; has = it.has }
+pub kept_behind : (kept before : List Event → Type 0) (first : List Event) (logged : ℕ) (batches : List (List Event))
+    → IsKeptIn kept before first logged batches → IsKept kept before first logged
+kept_behind kept before first logged batches it = record { behind = events_of batches; enough = it.enough; has = it.has }

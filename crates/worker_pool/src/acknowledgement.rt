@@ -2,11 +2,9 @@
 
 ghost use Rattle.std.specs.Prelude.{◌≡◌, true, false};
 ghost use Rattle.worker_pool.specs.Acknowledged.{WasAnswered, IsKept};
-ghost use Rattle.worker_pool.specs.Joining.Handing.{IsKeptIn};
 
 use crate::answer::Answer;
 use crate::desk::Naming;
-use crate::handed::Handed;
 use crate::pool::Gate;
 use std::marker::{Model, PhantomData};
 
@@ -52,20 +50,17 @@ impl<J: Naming> Due<J> {
 /// all that the log had when the call was answered is kept. Runs alone make it, each of one call of its list.
 pub struct Acknowledgement<J: Naming> {
     due: Due<J>,
-    // Where all of that was handed over to the journal.
-    handed: Option<Handed<J>>,
 }
 
 impl<J: Naming> Model for Acknowledgement<J> {
     ghost use Rattle.std.specs.Prelude.{◌≡◌, true};
-    ghost use Rattle.worker_pool.specs.Acknowledged.{Acknowledged};
-    ghost use Rattle.worker_pool.specs.Joining.Handing.{IsKeptSeen};
+    ghost use Rattle.worker_pool.specs.Acknowledged.{Acknowledged, IsKept};
 
     ghost Value = { Acknowledged };
 
     ghost view = { λ a. a.due };
 
-    ghost invariant = { λ a. J.keeps ≡ true → IsKeptSeen J.kept J.before J.start.events a.due.logged a.handed };
+    ghost invariant = { λ a. J.keeps ≡ true → IsKept J.kept J.before J.start.events a.due.logged };
 }
 
 impl<J: Naming> Acknowledgement<J> {
@@ -74,18 +69,15 @@ impl<J: Naming> Acknowledgement<J> {
         requires { J.keeps ≡ false }
         ensures { result ≡ due }
     {
-        Acknowledgement { due, handed: None }
+        Acknowledgement { due }
     }
 
-    // Where the journal has kept what was handed over here.
-    pub(crate) fn within(due: Due<J>, handed: &Handed<J>) -> Acknowledgement<J>
-        requires { IsKeptIn J.kept J.before J.start.events due.logged handed.now }
+    // Where the journal has kept as many events as the log had then.
+    pub(crate) fn kept(due: Due<J>) -> Acknowledgement<J>
+        requires { IsKept J.kept J.before J.start.events due.logged }
         ensures { result ≡ due }
     {
-        Acknowledgement {
-            due,
-            handed: Some(handed.again()),
-        }
+        Acknowledgement { due }
     }
 
     /// The call's place in the list.
@@ -104,7 +96,6 @@ impl<J: Naming> Acknowledgement<J> {
 
     /// What holding it says: the answer was true of the run when its log had so many events, and where the run
     /// keeps its log, the journal has kept all of these.
-    #[tactic(auto, using(crate::proofs::Handing::kept_seen))]
     pub fn known(&self)
         ensures answered { WasAnswered J.start J.calls self.now.call self.now.answer self.now.logged }
         ensures kept { J.keeps ≡ true → IsKept J.kept J.before J.start.events self.now.logged }
@@ -115,7 +106,7 @@ impl<J: Naming> Acknowledgement<J> {
     // Tells the gate.
     pub(crate) fn tell<G: Gate>(self, gate: &G) {
         gate.answered(&self);
-        let Acknowledgement { due, handed: _ } = self;
+        let Acknowledgement { due } = self;
         due.forget();
     }
 }

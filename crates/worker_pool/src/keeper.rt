@@ -100,6 +100,7 @@ impl<J: Naming, K: Journal> Keeper<J, K> {
     // The acknowledgement of an answer, where the log that it is true of is kept.
     fn acknowledge(&self, due: Due<J>) -> Result<Acknowledgement<J>, Due<J>>
         ensures same { IfOk result (λ acknowledgement. acknowledgement ≡ due) }
+        ensures back { IfErr result (λ back. back ≡ due) }
         ensures keeps { IfErr result (λ same. J.keeps ≡ true) }
     {
         if !self.keeps {
@@ -111,7 +112,7 @@ impl<J: Naming, K: Journal> Keeper<J, K> {
         if due.logged > self.events {
             return Err(due);
         }
-        Ok(Acknowledgement::within(due, &self.handed))
+        Ok(Acknowledgement::kept(due))
     }
 
     // Keeps the batch, behind which all of this is handed over and the log has so many events.

@@ -1,5 +1,5 @@
 -- What a desk hands over to be kept: how batches of it are counted, and where they stand in the log.
-use Rattle.std.specs.Prelude.{◌≡◌, ◌==◌, ◌+◌, ◌≤◌, ℕ, Bool, true, List, [], ◌∷◌, ◌++◌, length, reverse, Option, Some, None, MatchBool}
+use Rattle.std.specs.Prelude.{◌≡◌, ◌==◌, ◌+◌, ◌≤◌, ℕ, Bool, true, List, [], ◌∷◌, ◌++◌, length, reverse, Option, MatchBool}
 use Rattle.logbook.specs.Pages.{Cell, Step, View, Book, Named}
 use Rattle.tc_log.specs.declared.event.Event.{Event}
 use Rattle.history.specs.Places.{Begins}
@@ -38,11 +38,6 @@ pub record Shelf (K : Type 0) : Type 0 where
 pub record IsKeptIn (kept before : List Event → Type 0) (first : List Event) (logged : ℕ) (batches : List (List Event)) : Type 0 where
   pub enough : logged ≤ length first + length (events_of batches)
   pub has : (events : List Event) → before events → kept (events ++ events_of batches)
-
--- the same of a holder that may have seen nothing
-abbrev pub IsKeptSeen : (List Event → Type 0) → (List Event → Type 0) → List Event → ℕ → Option (List (List Event)) → Type 0
-IsKeptSeen kept before first logged None = ⊥
-IsKeptSeen kept before first logged (Some batches) = IsKeptIn kept before first logged batches
 
 -- behind whatever it had kept before, the journal has kept the events of these batches
 abbrev pub HasAll : {K : Type 0} → (K → List Event → Type 0) → (List Event → Type 0) → K → List (List Event) → Type 0
