@@ -223,6 +223,7 @@ fn a_log_begins_anew(rt: HostRuntime) {
     let alloc = rt.alloc();
     let mut log = Log::new(alloc);
     three_events(&rt, alloc, &mut log);
+    log.reserve(1).expect(&rt, "not reserved");
     log.begin_anew(Event::Checkpoint {
         admitted: 2,
         given: 513,

@@ -195,10 +195,11 @@ fn other_ends_are_damaged(rt: HostRuntime) {
     );
 }
 
-// The third frame with this word of it in a hole.
-fn hole(rt: &impl Abort, alloc: Global, word: usize) -> Result<usize, FrameFault> {
+// The third frame with the word at this place of it in a hole.
+fn hole(rt: &impl Abort, alloc: Global, place: usize) -> Result<usize, FrameFault> {
     let mut bytes = three(rt, alloc);
-    for byte in bytes.iter_mut().skip(ENDS[1] + 8 * word).take(8) {
+    let start = ENDS[1].saturating_add(place);
+    for byte in bytes.iter_mut().skip(start).take(8) {
         *byte = 0;
     }
     count(alloc, bytes.as_slice())
@@ -207,7 +208,7 @@ fn hole(rt: &impl Abort, alloc: Global, word: usize) -> Result<usize, FrameFault
 // A torn frame with a hole is an end.
 #[test]
 fn holes_are_ends(rt: HostRuntime) {
-    for word in 0..4 {
-        is_same(&rt, (word, hole(&rt, rt.alloc(), word)), (word, Ok(2)));
+    for place in [0, 8, 16, 24] {
+        is_same(&rt, (place, hole(&rt, rt.alloc(), place)), (place, Ok(2)));
     }
 }
