@@ -17,7 +17,7 @@ row_lines rows = flat_map row_line rows
 abbrev pub AreRowLines : List Store → List ℕ → Type 0
 AreRowLines [] lines = lines ≡ []
 AreRowLines (d ∷ ds) lines =
-    (rows : Rows) × (rest : List ℕ) × AreRowsOf rows d.list × (lines ≡ row_lines rows ++ rest) × AreRowLines ds rest
+    (rows : Rows) × (rest : List ℕ) × AreRowsOf rows d.base d.list × (lines ≡ row_lines rows ++ rest) × AreRowLines ds rest
 
 pub record AddsRowLines (ds : List Store) (old new : List ℕ) : Type 0 where
   pub lines : List ℕ
