@@ -103,7 +103,7 @@ audited_is start back empties s dcs result are has found =
 pub of_log : (start : Core) (log : List Event) (count : ℕ) (back : Core) (dcs : List Store) (fault : ComeBackFault) → IsFaultOf start log count back dcs fault
     → start.events ≡ [] → count ≡ start.dcs → IsOfLog fault
 of_log start log count back dcs (Recover Begun) why none same = why.0 none
-of_log start log count back dcs (Recover DcCount) why none same = why.0 (length-map (λ (s : Store). Restarted (news_of s)) dcs ∙ (why.1.0 ∙ same))
+of_log start log count back dcs (Recover DcCount) why none same = why.0 (length-map dcs (λ (s : Store). Restarted (news_of s)) ∙ (why.1 ∙ same))
 of_log start log count back dcs (Recover (Unfit fault)) why none same = tt
 of_log start log count back dcs (Recover (Forgotten d)) why none same = tt
 of_log start log count back dcs (NoRoom d) why none same = tt
