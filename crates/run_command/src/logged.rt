@@ -11,6 +11,9 @@ ghost use Rattle.data_component.specs.Store.{Store};
 ghost use Rattle.scripts.specs.Reading.{script_said};
 ghost use Rattle.scripts.specs.declared.keyword.Command.TheVariants as command;
 ghost use Rattle.coming_back.specs.Coming.{HasOnlyRows};
+ghost use Rattle.log_file.specs.Reading.{IsOpenFault};
+ghost use Rattle.procedure_digest.specs.Header.{header_of};
+ghost use Rattle.tc_core.specs.Core.{loaded_in};
 ghost use Rattle.run_command.specs.LogLines.{open_refusal};
 ghost use Rattle.run_command.specs.Running.{IsCallsRun};
 ghost use Rattle.run_command.specs.Logged.{KeepsLog, IsLogFor, IsLogRefusal, IsLoggedRun, IsLogged};
@@ -84,16 +87,30 @@ fn refusal(lines: String) -> Report
     }
 }
 
-// Why a log's file that was opened isn't read.
-fn unread(alloc: Global, fault: &OpenFault) -> Result<Report, Unlogged>
-    ensures { IfOk result (λ report. (open_refusal fault.now ≡ Some (string_bytes report.lines)) × (report.status ≡ 1)) }
+// Why a log's file that was opened isn't read; none where something is to be cut off, and there is no place
+// for it.
+fn unread(alloc: Global, fault: &OpenFault) -> Result<Option<Report>, Unlogged>
+    ensures { IfOk result (λ o. IfSome o (λ report.
+        (open_refusal fault.now ≡ Some (string_bytes report.lines)) × (report.status ≡ 1))) }
 {
     match open_refusal(alloc, fault)? {
-        Some(line) => Ok(refusal(line)),
+        Some(line) => Ok(Some(refusal(line))),
         None => match fault {
+            OpenFault::Frames(FrameFault::Device(DeviceError::Unkept)) => Ok(None),
             OpenFault::Frames(FrameFault::Device(DeviceError::Memory)) => Err(Unlogged::Memory),
             _ => Err(Unlogged::Unwritten),
         },
+    }
+}
+
+// What comes of opening it then.
+fn refused(alloc: Global, fault: &OpenFault) -> Result<Option<Opening>, Unlogged>
+    ensures { (start : Core) (file : List ℕ) → IsOpenFault (header_of (loaded_in start)) file fault.now
+        → IfOk result (λ o. IfSome o (λ x. (empties : List Store) → IsOpening start empties x)) }
+{
+    match unread(alloc, fault)? {
+        Some(report) => Ok(Some(Opening::Refused(report))),
+        None => Ok(None),
     }
 }
 
@@ -148,7 +165,7 @@ fn try_log<F: Files<File = File>>(
     state: &TcState,
     place: Dropped,
 ) -> Result<Option<Opening>, Unlogged>
-    ensures { (empties : List Store) → IfOk result (λ o. IfSome o (IsOpening state.now empties)) }
+    ensures { IfOk result (λ o. IfSome o (λ x. (empties : List Store) → IsOpening state.now empties x)) }
 {
     let header = header_of(alloc, state.procs())?;
     let file = match open_file(rt, alloc, path, place) {
@@ -164,8 +181,7 @@ fn try_log<F: Files<File = File>>(
                 dropped,
             })))
         }
-        Err(OpenFault::Frames(FrameFault::Device(DeviceError::Unkept))) => Ok(None),
-        Err(fault) => Ok(Some(Opening::Refused(unread(alloc, &fault)?))),
+        Err(fault) => refused(alloc, &fault),
     }
 }
 
