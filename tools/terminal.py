@@ -23,7 +23,7 @@ TOP = pathlib.Path(__file__).resolve().parent.parent
 BUILT = TOP / "crates" / "procd" / "out" / "procd"
 PUT = "dc 65536 1048576\nproc put 2\nslot write 0 0 $0\nldxdw r6, [r1+8]\nmov r1, 0\ncall 5\nstxdw [r0+0], r6\n"
 PUT += "mov r1, 0\ncall 2\nmov r0, 0\nexit\nend\n"
-CALLS = 400_000
+CALLS = 1_000_000
 BEGINS = "is no word that a line outside of procedures begins with"
 # A command, a script, its line on standard output, and what the terminal is told.
 REFUSED = [

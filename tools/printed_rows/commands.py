@@ -9,7 +9,7 @@ WRONG = [
     (["exec"], b"error: "),
     (["exec", "-", "18446744073709551616"], NUMBER),
     (["run", "--workers", "x", "-"], NUMBER),
-    (["world", "--stats", "-"], b"error: unexpected argument '--stats' found\n\nUsage: procd world [OPTIONS] <FILE>\n"),
+    (["world", "--stats", "-"], b"error: unexpected argument '--stats' found\n\nUsage: procd"),
 ]
 
 # A byte order mark, U+FEFF in UTF-8.
