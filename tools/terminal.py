@@ -139,6 +139,12 @@ def progress(procd):
             yield f"progress: {line!r}"
 
 
+def heeds_signals():
+    """A shell has what it runs in the background ignore SIGINT, which a program inherits."""
+    for number in (signal.SIGINT, signal.SIGTERM):
+        signal.signal(number, signal.SIG_DFL)
+
+
 def signals(procd):
     """A run that a signal meets, where it doesn't end at once and in silence."""
     calls = "".join(f"call put {call % 60000} 1\n" for call in range(CALLS))
@@ -147,7 +153,7 @@ def signals(procd):
         with tempfile.TemporaryFile() as script, tempfile.TemporaryFile() as out:
             script.write((PUT + calls).encode())
             script.seek(0)
-            with subprocess.Popen(words, stdin=script, stdout=out, stderr=subprocess.PIPE) as process:
+            with subprocess.Popen(words, stdin=script, stdout=out, stderr=subprocess.PIPE, preexec_fn=heeds_signals) as process:
                 process.stderr.readline()
                 process.send_signal(number)
                 began = time.time()
