@@ -1,20 +1,21 @@
 -- What the table keeps, as sets come and go.
-use Rattle.std.proofs.Common.{◌≡◌, ℕ, nat_eq, List, sym, ap, ap₂, subst, ◌∙◌}
+use Rattle.std.proofs.Common.{arith, ◌≡◌, ℕ, nat_eq, ◌==◌, Bool, true, false, is_some, List, [], ◌∷◌, refl, sym, ap, subst, ◌∙◌, true≢false}
 use Rattle.std.specs.Prelude.{Option, Some, None, IfNone, IfSome}
-use Rattle.std.specs.Map.{lookup}
-use Rattle.indexmap.specs.IndexMap.{IndexMap, insert_entry, swap_remove_entry, IsUnique}
+use Rattle.std.proofs.lemmas.Bool.{cond-true, cond-false, eq-eqb, eqb-true}
+use Rattle.std.proofs.lemmas.Bool.Decides.{nat_tests}
+use Rattle.indexmap.specs.IndexMap.{IndexMap, IsUnique, Updates, get}
 use Rattle.access_slots.specs.declared.slot.Record.{Record}
+use Rattle.access_slots.specs.declared.slot.Mode.{Mode}
 use Rattle.access_slots.specs.declared.lock.Lock.{Lock}
 use Rattle.access_slots.specs.Locks.{mode_in}
-use Rattle.access_slots.specs.Held.{Compatible}
+use Rattle.access_slots.specs.Held.{Held}
+use Rattle.lock_table.specs.declared.row.Holder.{Holder}
+use Rattle.lock_table.specs.declared.row.Neighbours.{Neighbours}
 use Rattle.lock_table.specs.declared.table.Busy.{Busy}
-use Rattle.lock_table.specs.declared.table.Hold.{Hold}
 use Rattle.lock_table.specs.declared.table.Holding.{Holding}
-use Rattle.lock_table.specs.Facts.{Sets, held_in, HoldsNothing}
-use Rattle.lock_table.specs.Holds.{hold_at, readers, writers, held_more, held_less, AreExclusive, IsKept}
-use Rattle.lock_table.proofs.Barring.{free_at}
-use Rattle.lock_table.proofs.Counting.{IsFree, held_at, put_held, put_exclusive, taken_held, taken_exclusive}
-use Rattle.lock_table.proofs.Steps.{AreSingle, single}
+use Rattle.lock_table.specs.Clashes.{clashes}
+use Rattle.lock_table.specs.Facts.{held_in, mode_among, granted, released}
+use Rattle.lock_table.specs.Holds.{IsHeld, IsHeldAs, AreHeldAs, IsKept}
 
 -- nothing in the way is what a table that names nothing says
 pub not_busy : (o : Option Busy) (free : Type 0) → o ≡ None → IfNone o free → free
@@ -28,40 +29,69 @@ not_ready o P none = subst (λ (x : Option (List Lock)). IfSome x P) (sym none) 
 pub ready_is : (o : Option (List Lock)) (set kept : List Lock) → o ≡ Some set → o ≡ Some kept → kept ≡ set
 ready_is o set kept wanted is = let both : Some kept ≡ Some set = sym is ∙ wanted in cc
 
-module _ (sets : Sets) (t : ℕ) (set : List Lock) (once : AreSingle sets) (nothing : HoldsNothing (held_in sets) t) (compatible : Compatible (held_in sets) (mode_in set)) where
-  free : (r : Record) → IsFree (mode_in set r) (readers sets r) (writers sets r)
-  free r = free_at (mode_in set r) sets r once (compatible r)
+-- what is said where there is one
+pub if_some : {A : Type 0} (o : Option A) (P Q : A → Type 0) → ((x : A) → P x → Q x) → IfSome o P → IfSome o Q
+if_some None P Q f h = tt
+if_some (Some x) P Q f h = f x h
 
-  put_holds : (r : Record) → held_more (mode_in set r) (held_at sets r) ≡ held_at (insert_entry nat_eq sets t set) r
-  put_holds r = put_held sets t set r (nothing r) (free r)
+pub if_none : {A : Type 0} (o : Option A) (P Q : Type 0) → (P → Q) → IfNone o P → IfNone o Q
+if_none None P Q f h = f h
+if_none (Some x) P Q f h = tt
 
-  put_excludes : AreExclusive sets → AreExclusive (insert_entry nat_eq sets t set)
-  put_excludes exclusive r some = put_exclusive sets t set r (nothing r) (free r) (exclusive r) some
+-- the same holders
+pub are_held : {S T : Type 0} (records : IndexMap Record Holding S) (links : IndexMap Holder Neighbours T) (held held' : Held)
+    → ((t : ℕ) (r : Record) → held t r ≡ held' t r) → AreHeldAs held records links → AreHeldAs held' records links
+are_held records links held held' same are r = subst (λ (h : ℕ → Option Mode). IsHeldAs h records links r) (λ i. λ (t : ℕ). same t r i) (are r)
 
-module _ {S T : Type 0} (sets sets' : IndexMap ℕ (List Lock) S) (records records' : IndexMap Record Holding T) (t : ℕ) (set locks : List Lock) (kept : IsKept sets records) (are : locks ≡ set) where
+module _ {S T U : Type 0} (sets sets' : IndexMap ℕ (List Lock) S) (records' : IndexMap Record Holding T) (links' : IndexMap Holder Neighbours U) (t : ℕ)
+    (set : List Lock) where
+  one_more : (b : Bool) (u : ℕ) (r : Record) → (u == t) ≡ b → Updates nat_eq sets sets' t (Some set)
+      → granted (held_in sets.entries) t (mode_in set) u r ≡ held_in sets'.entries u r
+  one_more true u r is up =
+      cond-true _ (mode_in set r) (held_in sets.entries u r) is
+      ∙ sym (ap (λ (o : Option (List Lock)). mode_among o r) (up.0 u ∙ cond-true _ (Some set) (get nat_eq sets u) (eq-eqb t u (sym (eqb-true u t is)))))
+  one_more false u r is up =
+      let other : nat_eq t u ≡ false = grind (arith, nat_tests) in
+      cond-false _ (mode_in set r) (held_in sets.entries u r) is
+      ∙ sym (ap (λ (o : Option (List Lock)). mode_among o r) (up.0 u ∙ cond-false _ (Some set) (get nat_eq sets u) other))
+
+  one_less : (b : Bool) (u : ℕ) (r : Record) → (u == t) ≡ b → Updates nat_eq sets sets' t None
+      → released (held_in sets.entries) t u r ≡ held_in sets'.entries u r
+  one_less true u r is up =
+      cond-true _ None (held_in sets.entries u r) is
+      ∙ sym (ap (λ (o : Option (List Lock)). mode_among o r) (up.0 u ∙ cond-true _ None (get nat_eq sets u) (eq-eqb t u (sym (eqb-true u t is)))))
+  one_less false u r is up =
+      let other : nat_eq t u ≡ false = grind (arith, nat_tests) in
+      cond-false _ None (held_in sets.entries u r) is
+      ∙ sym (ap (λ (o : Option (List Lock)). mode_among o r) (up.0 u ∙ cond-false _ None (get nat_eq sets u) other))
+
   -- a transaction that had nothing has a set
-  pub put_kept : (now : Sets) (copy : List Lock) → sets.entries ≡ now → copy ≡ set → HoldsNothing (held_in now) t
-      → Compatible (held_in now) (mode_in set)
-      → sets'.entries ≡ insert_entry nat_eq sets.entries t copy → IsUnique nat_eq sets'
-      → ((r : Record) → hold_at records' r ≡ held_more (mode_in locks r) (hold_at records r)) → IsKept sets' records'
-  put_kept now copy is same nothing compatible entries unique more =
-      let once = single sets.entries kept.unique in
-      let idle = subst (λ (ss : Sets). HoldsNothing (held_in ss) t) (sym is) nothing in
-      let fits = subst (λ (ss : Sets). Compatible (held_in ss) (mode_in set)) (sym is) compatible in
-      let new : sets'.entries ≡ insert_entry nat_eq sets.entries t set = entries ∙ ap (insert_entry nat_eq sets.entries t) same in
-      record {
-        unique = unique;
-        holds = λ r. more r ∙ ap₂ (λ (ls : List Lock) (h : Option Hold). held_more (mode_in ls r) h) are (kept.holds r)
-            ∙ put_holds sets.entries t set once idle fits r ∙ ap (λ (ss : Sets). held_at ss r) (sym new);
-        exclusive = subst AreExclusive (sym new) (put_excludes sets.entries t set once idle fits kept.exclusive);
-      }
+  pub put_kept : Updates nat_eq sets sets' t (Some set) → IsUnique nat_eq sets' → AreHeldAs (granted (held_in sets.entries) t (mode_in set)) records' links'
+      → IsKept sets' records' links'
+  put_kept up unique are = record {
+    unique = unique;
+    holds = are_held records' links' (granted (held_in sets.entries) t (mode_in set)) (held_in sets'.entries) (λ u r. one_more (u == t) u r refl up) are;
+  }
 
   -- its set is taken away
-  pub taken_kept : lookup (nat_eq t) sets.entries ≡ Some set → sets'.entries ≡ swap_remove_entry (nat_eq t) sets.entries → IsUnique nat_eq sets'
-      → ((r : Record) → hold_at records' r ≡ held_less (mode_in locks r) (hold_at records r)) → IsKept sets' records'
-  taken_kept found entries unique less = record {
+  pub taken_kept : Updates nat_eq sets sets' t None → IsUnique nat_eq sets' → AreHeldAs (released (held_in sets.entries) t) records' links' → IsKept sets' records' links'
+  taken_kept up unique are = record {
     unique = unique;
-    holds = λ r. less r ∙ ap₂ (λ (ls : List Lock) (h : Option Hold). held_less (mode_in ls r) h) are (kept.holds r)
-        ∙ taken_held sets.entries t set r found (kept.exclusive r) ∙ ap (λ (ss : Sets). held_at ss r) (sym entries);
-    exclusive = subst AreExclusive (sym entries) (λ r some. taken_exclusive sets.entries t set r found (kept.exclusive r) some);
+    holds = are_held records' links' (released (held_in sets.entries) t) (held_in sets'.entries) (λ u r. one_less (u == t) u r refl up) are;
   }
+
+-- ---- whether a record is held
+
+pub nobody_holds : (h : ℕ → Option Mode) (o : Option Holding) (before behind : ℕ → Option ℕ) → IsHeld h o before behind → is_some o ≡ false → (t : ℕ) → h t ≡ None
+nobody_holds h None before behind is e t = (is t).0
+nobody_holds h (Some g) before behind is e t = absurd (true≢false e)
+
+pub somebody_holds : (h : ℕ → Option Mode) (o : Option Holding) (before behind : ℕ → Option ℕ) → IsHeld h o before behind → is_some o ≡ true
+    → (t : ℕ) × (m : Mode) × (h t ≡ Some m)
+somebody_holds h None before behind is e = absurd (true≢false (sym e))
+somebody_holds h (Some g) before behind is e = (g.ends.first, g.mode, is.modes g.ends.first is.row.first_in)
+
+-- where nothing is held nothing clashes
+pub clashes_nothing : (wanted : List Lock) → clashes wanted (mode_among None) ≡ false
+clashes_nothing [] = refl
+clashes_nothing (l ∷ wanted) = clashes_nothing wanted

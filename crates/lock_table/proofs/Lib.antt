@@ -1,7 +1,8 @@
-pub mod Alone
 pub mod Barring
-pub mod Counting
+pub mod Granting
+pub mod HoldLemmas
 pub mod Keeping
+pub mod RowLemmas
+pub mod Standing
 pub mod Steps
 pub mod Taking
-pub mod Holding

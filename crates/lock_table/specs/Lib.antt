@@ -1,4 +1,4 @@
 pub mod Clashes
 pub mod Facts
 pub mod Holds
-pub mod Joining
+pub mod Rows

@@ -13,6 +13,7 @@
 #![tactic(auto)]
 
 mod held;
+mod row;
 pub mod table;
 
 pub use table::{Busy, LockTable};

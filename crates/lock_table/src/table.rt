@@ -1,17 +1,18 @@
 //! The table of locks.
 
-ghost use Rattle.std.specs.Prelude.{ℕ, if◌then◌else◌, ◌≡◌, ◌==◌, nat_eq, false, ◌↔◌, ◌+◌, ◌≤◌, ◌<◌, ◌^◌, Some, None, true, length, vec_len, vec_capacity, ◌++◌, option_to_list, IfOk, IfErr, IfSome, IfNone, OnErr, OnOk, IsTrue, IsFalse, is_some};
-ghost use Rattle.indexmap.specs.IndexMap.{get, spare, index_map_len, insert_entry, Updates, IsUnique};
+ghost use Rattle.std.specs.Prelude.{ℕ, Bool, ◌≡◌, ◌≢◌, ◌==◌, nat_eq, false, ◌↔◌, ◌+◌, ◌*◌, ◌≤◌, ◌<◌, Option, Some, None, true, length, vec_len, vec_capacity, ◌++◌, option_to_list, IfOk, IfErr, IfSome, IfNone, OnErr, OnOk, IsTrue, IsFalse, is_some};
+ghost use Rattle.indexmap.specs.IndexMap.{get, spare, insert_entry, Updates, IsUnique};
 ghost use Rattle.access_slots.specs.declared.slot.Record.{Record};
 ghost use Rattle.access_slots.specs.declared.slot.Mode.{Mode as ModeValue};
 ghost use Rattle.access_slots.specs.Locks.{record_eq, mode_in, Rising};
-ghost use Rattle.access_slots.specs.Held.{excludes, Compatible, IsFirstInTheWay};
-ghost use Rattle.lock_table.specs.Clashes.{clashes};
+ghost use Rattle.access_slots.specs.Held.{Held, Compatible, IsFirstInTheWay};
+ghost use Rattle.lock_table.specs.Clashes.{clashes, keeps_out};
 ghost use Rattle.lock_table.specs.Facts.{held_by, held_in, nobody, granted, released, AreHeld, HoldsNothing};
-ghost use Rattle.lock_table.specs.Holds.{hold_at, hold_mode, held_more, held_less, AreHolds, AreFew};
-ghost use Rattle.lock_table.specs.Joining.Barring.{least, least_holder, first_busy};
+ghost use Rattle.lock_table.specs.Rows.{IsLeast, IsNext, IsRowOf, with_txn, before_at, behind_at};
+ghost use Rattle.lock_table.specs.Holds.{IsHeld, IsHeldAs, AreHeldAs, AreHeldBy, IsFreeFor, with_mode, IsLeastInTheWay};
 
 use crate::held::HeldLocks;
+use crate::row::{Ends, Links, beside, enter, leave};
 use access_slots::lock::{Lock, LockSet};
 use access_slots::slot::{Mode, Record};
 use indexmap::IndexMap;
@@ -26,29 +27,11 @@ pub struct Busy {
     pub holder: u64,
 }
 
-// How a record is held: by so many readers, or by one writer.
-#[derive(Clone, Copy)]
-struct Hold {
-    mode: Mode,
-    holders: usize,
-}
-
-// How a record is held, and its holders' numbers in one exclusive or: that of one alone is there to read.
+// How a record is held, by the transactions of a row with these ends.
 #[derive(Clone, Copy)]
 struct Holding {
-    hold: Hold,
-    mixed: u64,
-}
-
-impl Holding {
-    fn add(&mut self, txn: u64)
-        requires { self.old.hold.holders < 2 ^ 63 }
-        ensures mode { self.new.hold.mode ≡ self.old.hold.mode }
-        ensures holders { self.new.hold.holders ≡ self.old.hold.holders + 1 }
-    {
-        self.hold.holders += 1;
-        self.mixed ^= txn;
-    }
+    mode: Mode,
+    ends: Ends,
 }
 
 /// The locks that transactions hold, by their serial numbers (Lomet, Fekete, Weikum, Zwilling,
@@ -59,6 +42,7 @@ impl Holding {
 pub struct LockTable {
     alloc: Global,
     records: IndexMap<Record, Holding>,
+    links: Links,
     sets: IndexMap<u64, HeldLocks>,
     reserved: Option<HeldLocks>,
     idle: Vec<HeldLocks>,
@@ -73,7 +57,7 @@ impl Model for LockTable {
 
     ghost view = { λ t. record { sets = t.sets.entries; reserved = t.reserved } };
 
-    ghost invariant = { λ t. IsKept t.sets t.records × IfSome t.reserved (HasRoom t.sets t.records) };
+    ghost invariant = { λ t. IsKept t.sets t.records t.links × IfSome t.reserved (HasRoom t.sets t.records t.links) };
 }
 
 impl LockTable {
@@ -85,6 +69,7 @@ impl LockTable {
         LockTable {
             alloc,
             records: IndexMap::new(alloc),
+            links: IndexMap::new(alloc),
             sets: IndexMap::new(alloc),
             reserved: None,
             idle: Vec::new(alloc),
@@ -98,7 +83,7 @@ impl LockTable {
         ensures none { IfNone result (Compatible (held_by self.now) (mode_in set.now)) }
         ensures some { IfSome result (λ b. IsFirstInTheWay (held_by self.now) (mode_in set.now) b.name b.holder) }
     {
-        first_busy(&self.records, &self.sets, set.locks())
+        first_busy(&self.records, set.locks())
     }
 
     /// Whether anybody holds the record: one look, however many transactions there are.
@@ -117,6 +102,20 @@ impl LockTable {
         excludes_in(&self.sets, txn, set)
     }
 
+    /// The least transaction with a lock that keeps this one out: one look, however many there are.
+    pub fn least_in_the_way(&self, lock: &Lock) -> Option<u64>
+        ensures { IsLeast (keeps_out (held_by self.now) lock.now) result }
+    {
+        least_in_the_way(&self.records, lock)
+    }
+
+    /// The next one above this transaction, where that has such a lock too: one look again.
+    pub fn next_in_the_way(&self, lock: &Lock, txn: u64) -> Option<u64>
+        ensures { keeps_out (held_by self.now) lock.now txn ≡ true → IsNext (keeps_out (held_by self.now) lock.now) txn result }
+    {
+        beside(&self.links, &lock.record, txn).behind
+    }
+
     /// Makes the set ready until the next grant or release. No lock is changed; a refusal leaves
     /// the table as it was.
     #[inline(always)]
@@ -126,6 +125,7 @@ impl LockTable {
         ensures err { OnErr result (self.new.reserved ≡ self.old.reserved) }
     {
         self.records.reserve(set.locks().len())?;
+        self.links.reserve(3 * set.locks().len())?;
         self.sets.reserve(1)?;
         let most = self.sets.len() + 2;
         let copy = copied(self.alloc, &mut self.idle, most, set)?;
@@ -175,8 +175,7 @@ impl LockTable {
         ensures others { (t : ℕ) (r : Record) → (t == txn) ≡ false → held_by self.new t r ≡ held_by self.old t r }
         ensures spent { self.new.reserved ≡ None }
     {
-        few(&self.sets);
-        add_holders(&mut self.records, txn, set.locks());
+        add_holders(&mut self.records, &mut self.links, txn, set.locks());
         match self.reserved.take() {
             Some(reserved) => put_set(&mut self.sets, txn, reserved),
             None => unreachable!(),
@@ -191,7 +190,7 @@ impl LockTable {
     {
         put_back(&mut self.idle, self.reserved.take());
         if let Some(set) = self.sets.swap_remove(&txn) {
-            take_holders(&mut self.records, txn, set.locks());
+            take_holders(&mut self.records, &mut self.links, txn, set.locks());
             put_back(&mut self.idle, Some(set));
         }
     }
@@ -246,14 +245,6 @@ fn excludes_in(sets: &IndexMap<u64, HeldLocks>, txn: u64, wanted: &LockSet) -> b
     }
 }
 
-// What a map says of how many entries it has.
-#[inline(always)]
-fn few(sets: &IndexMap<u64, HeldLocks>)
-    ensures { index_map_len sets.now < 2 ^ 63 }
-{
-    let _transactions = sets.len();
-}
-
 // The transaction has this set. There has to be room.
 #[inline(always)]
 fn put_set(sets: &mut IndexMap<u64, HeldLocks>, txn: u64, set: HeldLocks)
@@ -268,73 +259,105 @@ fn put_set(sets: &mut IndexMap<u64, HeldLocks>, txn: u64, set: HeldLocks)
     }
 }
 
-// The lock's record has one holder more; one that nobody holds takes the lock's mode.
+// A record that was free is held by the transaction alone; in the row of another it stands from now on.
 #[inline(always)]
-fn add_holder(records: &mut IndexMap<Record, Holding>, txn: u64, lock: &Lock)
-    requires room { 0 < spare records.old }
-    requires few { IfSome (hold_at records.old lock.now.«record») (λ h. h.holders < 2 ^ 63) }
-    ensures held { (r : Record) → hold_at records.new r ≡ (if record_eq lock.now.«record» r then
-        held_more (Some lock.now.mode) (hold_at records.old lock.now.«record») else hold_at records.old r) }
-    ensures room { spare records.old ≤ spare records.new + 1 }
+fn join(held: &mut Holding, links: &mut Links, name: &Record, txn: u64)
+    requires row { held.old.ends.first ≢ txn → (p : ℕ → Bool) ×
+        IsRowOf p held.old.ends.first held.old.ends.last links.old name.now × (p txn ≡ false) }
+    requires room { 3 ≤ spare links.old }
+    ensures mode { held.new.mode ≡ held.old.mode }
+    ensures alone { held.old.ends.first ≡ txn → (held.new.ends ≡ held.old.ends) × (links.new ≡ links.old) }
+    ensures row { held.old.ends.first ≢ txn → (p : ℕ → Bool) → IsRowOf p held.old.ends.first held.old.ends.last links.old name.now →
+        p txn ≡ false → IsRowOf (with_txn p txn) held.new.ends.first held.new.ends.last links.new name.now }
+    ensures before { (r : Record) → record_eq name.now r ≡ false → before_at links.new r ≡ before_at links.old r }
+    ensures behind { (r : Record) → record_eq name.now r ≡ false → behind_at links.new r ≡ behind_at links.old r }
+    ensures room { spare links.old ≤ spare links.new + 3 }
 {
-    let free = Holding {
-        hold: Hold {
-            mode: lock.mode,
-            holders: 0,
+    if held.ends.first != txn {
+        held.ends = enter(links, name, held.ends, txn);
+    }
+}
+
+// The transaction holds this lock too, which nobody keeps out. There has to be room.
+#[inline(always)]
+fn add_holder(records: &mut IndexMap<Record, Holding>, links: &mut Links, txn: u64, lock: &Lock)
+    requires room { (0 < spare records.old) × (3 ≤ spare links.old) }
+    requires held { (h : ℕ → Option ModeValue) × IsHeldAs h records.old links.old lock.now.«record» × (h txn ≡ None) }
+    ensures held { (h : ℕ → Option ModeValue) → IsHeldAs h records.old links.old lock.now.«record» → h txn ≡ None →
+        IsFreeFor h lock.now.mode → IsHeldAs (with_mode h txn (Some lock.now.mode)) records.new links.new lock.now.«record» }
+    ensures others { (h : ℕ → Option ModeValue) (r : Record) → record_eq lock.now.«record» r ≡ false →
+        IsHeldAs h records.old links.old r → IsHeldAs h records.new links.new r }
+    ensures room { (spare records.old ≤ spare records.new + 1) × (spare links.old ≤ spare links.new + 3) }
+{
+    let alone = Holding {
+        mode: lock.mode,
+        ends: Ends {
+            first: txn,
+            last: txn,
         },
-        mixed: 0,
     };
     match records.entry(lock.record) {
-        Ok(entry) => entry.or_insert(free).add(txn),
+        Ok(entry) => join(entry.or_insert(alone), links, &lock.record, txn),
         Err(_) => unreachable!(),
     }
 }
 
-// Each of these records has one holder more. There has to be room for all of them.
+// The transaction, which holds nothing, holds these locks, which nobody keeps out. There has to be room.
 #[inline(always)]
-fn add_holders(records: &mut IndexMap<Record, Holding>, txn: u64, locks: &[Lock])
-    requires room { length locks.now ≤ spare records.old }
+fn add_holders(records: &mut IndexMap<Record, Holding>, links: &mut Links, txn: u64, locks: &[Lock])
+    requires room { (length locks.now ≤ spare records.old) × (3 * length locks.now ≤ spare links.old) }
     requires rising { Rising locks.now }
-    requires few { AreFew records.old }
-    ensures { (r : Record) → hold_at records.new r ≡ held_more (mode_in locks.now r) (hold_at records.old r) }
+    requires held { (held : Held) × AreHeldAs held records.old links.old × HoldsNothing held txn × Compatible held (mode_in locks.now) }
+    ensures { (held : Held) → AreHeldAs held records.old links.old → HoldsNothing held txn → Compatible held (mode_in locks.now) →
+        AreHeldAs (granted held txn (mode_in locks.now)) records.new links.new }
 {
     for lock in locks {
-        add_holder(records, txn, lock);
+        add_holder(records, links, txn, lock);
     }
 }
 
-// The lock's record has one holder less; one without holders is taken out.
+// The transaction, which holds this lock, holds it no longer.
 #[inline(always)]
-fn take_holder(records: &mut IndexMap<Record, Holding>, txn: u64, lock: &Lock)
-    ensures { (r : Record) → hold_at records.new r ≡ (if record_eq lock.now.«record» r then
-        held_less (Some lock.now.mode) (hold_at records.old lock.now.«record») else hold_at records.old r) }
+fn take_holder(records: &mut IndexMap<Record, Holding>, links: &mut Links, txn: u64, lock: &Lock)
+    requires held { (h : ℕ → Option ModeValue) × IsHeldAs h records.old links.old lock.now.«record» × (is_some (h txn) ≡ true) }
+    ensures held { (h : ℕ → Option ModeValue) → IsHeldAs h records.old links.old lock.now.«record» → is_some (h txn) ≡ true →
+        IsHeldAs (with_mode h txn None) records.new links.new lock.now.«record» }
+    ensures others { (h : ℕ → Option ModeValue) (r : Record) → record_eq lock.now.«record» r ≡ false →
+        IsHeldAs h records.old links.old r → IsHeldAs h records.new links.new r }
 {
     let Some(index) = records.get_index_of(&lock.record) else {
         return;
     };
-    if records[index].hold.holders > 1 {
-        let held = &mut records[index];
-        held.hold.holders -= 1;
-        held.mixed ^= txn;
+    let ends = records[index].ends;
+    if ends.first == ends.last {
+        records.swap_remove_index(index);
         return;
     }
-    records.swap_remove_index(index);
+    let held = &mut records[index];
+    held.ends = leave(links, &lock.record, ends, txn);
 }
 
-// Each of these records has one holder less.
+// The transaction, which holds these locks and no others, holds none.
 #[inline(always)]
-fn take_holders(records: &mut IndexMap<Record, Holding>, txn: u64, locks: &[Lock])
-    requires { Rising locks.now }
-    ensures { (r : Record) → hold_at records.new r ≡ held_less (mode_in locks.now r) (hold_at records.old r) }
+fn take_holders(
+    records: &mut IndexMap<Record, Holding>,
+    links: &mut Links,
+    txn: u64,
+    locks: &[Lock],
+)
+    requires rising { Rising locks.now }
+    requires held { (held : Held) × AreHeldAs held records.old links.old × ((r : Record) → held txn r ≡ mode_in locks.now r) }
+    ensures { (held : Held) → AreHeldAs held records.old links.old → ((r : Record) → held txn r ≡ mode_in locks.now r) →
+        AreHeldAs (released held txn) records.new links.new }
 {
     for lock in locks {
-        take_holder(records, txn, lock);
+        take_holder(records, links, txn, lock);
     }
 }
 
 // Whether the record is held.
 fn is_in(records: &IndexMap<Record, Holding>, name: &Record) -> bool
-    ensures { result ≡ is_some (hold_at records.now name.now) }
+    ensures { result ≡ is_some (get record_eq records.now name.now) }
 {
     match records.get(name) {
         Some(_) => true,
@@ -342,86 +365,32 @@ fn is_in(records: &IndexMap<Record, Holding>, name: &Record) -> bool
     }
 }
 
-// Whether the lock's record is held in a mode that excludes the lock.
+// The least holder of the lock's record, where one keeps the lock out.
 #[inline(always)]
-fn is_barred(records: &IndexMap<Record, Holding>, lock: &Lock) -> bool
-    ensures { result ≡ excludes (Some lock.now.mode) (hold_mode (hold_at records.now lock.now.«record»)) }
+fn least_in_the_way(records: &IndexMap<Record, Holding>, lock: &Lock) -> Option<u64>
+    ensures { (h : ℕ → Option ModeValue) (before behind : ℕ → Option ℕ) →
+        IsHeld h (get record_eq records.now lock.now.«record») before behind → IsLeastInTheWay h lock.now.mode result }
 {
-    match records.get(&lock.record) {
-        Some(held) => lock.mode.excludes(held.hold.mode),
-        None => false,
-    }
-}
-
-fn least(txn: u64, other: Option<u64>) -> u64
-    ensures { result ≡ least txn other }
-{
-    match other {
-        Some(other) => txn.min(other),
-        None => txn,
-    }
-}
-
-// The transaction that alone holds the lock's record, where its lock excludes this one.
-fn sole_holder(
-    records: &IndexMap<Record, Holding>,
-    sets: &IndexMap<u64, HeldLocks>,
-    lock: &Lock,
-) -> Option<u64>
-    requires { AreHolds sets.now.entries records.now }
-    ensures { IfSome result (λ t. least_holder sets.now.entries lock.now ≡ Some t) }
-{
-    let held = *records.get(&lock.record)?;
-    if held.hold.holders != 1 {
+    let Some(held) = records.get(&lock.record) else {
+        return None;
+    };
+    if !lock.mode.excludes(held.mode) {
         return None;
     }
-    match sets.get(&held.mixed) {
-        Some(set) if set.excludes(lock) => Some(held.mixed),
-        _ => None,
-    }
-}
-
-// The least transaction with a lock that excludes this one.
-fn holder_in_the_way(
-    records: &IndexMap<Record, Holding>,
-    sets: &IndexMap<u64, HeldLocks>,
-    lock: &Lock,
-) -> Option<u64>
-    requires { AreHolds sets.now.entries records.now }
-    ensures { result ≡ least_holder sets.now.entries lock.now }
-{
-    match sole_holder(records, sets, lock) {
-        Some(holder) => Some(holder),
-        None => least_holder(sets, lock),
-    }
-}
-
-// The same by a look at all of them.
-fn least_holder(sets: &IndexMap<u64, HeldLocks>, lock: &Lock) -> Option<u64>
-    ensures { result ≡ least_holder sets.now.entries lock.now }
-{
-    let mut holder = None;
-    for (txn, set) in sets.iter() {
-        if set.excludes(lock) {
-            holder = Some(least(*txn, holder));
-        }
-    }
-    holder
+    Some(held.ends.first)
 }
 
 // The first of these locks that is barred, and its least holder.
 #[inline(always)]
-fn first_busy(
-    records: &IndexMap<Record, Holding>,
-    sets: &IndexMap<u64, HeldLocks>,
-    locks: &[Lock],
-) -> Option<Busy>
-    requires { AreHolds sets.now.entries records.now }
-    ensures { result ≡ first_busy sets.now.entries locks.now }
+fn first_busy(records: &IndexMap<Record, Holding>, locks: &[Lock]) -> Option<Busy>
+    requires rising { Rising locks.now }
+    ensures none { IfNone result ((held : Held) (before behind : Record → ℕ → Option ℕ) →
+        AreHeldBy held records.now before behind → Compatible held (mode_in locks.now)) }
+    ensures some { IfSome result (λ b. (held : Held) (before behind : Record → ℕ → Option ℕ) →
+        AreHeldBy held records.now before behind → IsFirstInTheWay held (mode_in locks.now) b.name b.holder) }
 {
-    'locks: for lock in locks {
-        if is_barred(records, lock) {
-            let holder = holder_in_the_way(records, sets, lock)?;
+    for lock in locks {
+        if let Some(holder) = least_in_the_way(records, lock) {
             return Some(Busy {
                 name: lock.record,
                 holder,

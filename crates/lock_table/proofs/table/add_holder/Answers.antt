@@ -1,34 +1,45 @@
-use Rattle.std.proofs.Common.{rules, ◌≡◌, ◌+◌, refl, ap, ap₂, ◌∙◌}
-use Rattle.std.specs.Prelude.{Option, Some, None, unwrap_or}
-use Rattle.std.specs.Option.{option_map}
+use Rattle.std.proofs.Common.{rules, ℕ, ap, sym, subst, ◌∙◌, is_some}
+use Rattle.std.specs.Prelude.{Option, Some, unwrap_or}
 use Rattle.indexmap.specs.IndexMap.{get}
 use Rattle.access_slots.specs.declared.slot.Mode.{Mode}
 use Rattle.access_slots.specs.Locks.{record_eq}
-use Rattle.lock_table.specs.declared.table.Hold.{Hold}
 use Rattle.lock_table.specs.declared.table.Holding.{Holding}
-use Rattle.lock_table.specs.Holds.{hold, hold_at, held_more}
-use Rattle.lock_table.proofs.Taking.{written}
+use Rattle.lock_table.specs.Rows.{before_at, behind_at}
+use Rattle.lock_table.specs.Holds.{IsHeld, with_mode}
+use Rattle.lock_table.proofs.HoldLemmas.{holding, row_if, added, placed}
 use Rattle.lock_table.proofs.table.add_holder.Goals as goal
 
-abbrev one_more : Hold → Hold
-one_more h = hold h.mode (h.holders + 1)
-
-abbrev none_yet : Mode → Holding
-none_yet m = record { hold = hold m 0; mixed = 0 }
-
--- where nobody holds it, there are none yet
-one_held : (m : Mode) (o : Option Holding) → Some (one_more (unwrap_or o (none_yet m)).hold) ≡ held_more (Some m) (option_map (λ h. h.hold) o)
-one_held m None = refl
-one_held m (Some h) = refl
+pub join-requires-clause-row : goal.join-requires-clause-row
+join-requires-clause-row c = λ other.
+    let k = c.args.lock.now.«record» in
+    let mode = c.args.lock.now.mode in
+    let given = c.requires.held in
+    let was = c.or_insert.ensures.value ∙ ap (λ (o : Option Holding). unwrap_or o (holding mode c.args.txn c.args.txn)) c.in-Ok.ensures.value in (
+      λ t. is_some (given.0 t),
+      row_if given.0 c.args.txn mode (before_at c.args.links.now k) (behind_at c.args.links.now k) (get record_eq c.args.records.now k) c.or_insert.result.now given.1 was other,
+      ap (λ (o : Option Mode). is_some o) given.2,
+    )
 
 pub returns-clause-held : goal.returns-clause-held
-returns-clause-held c =
-    let mode = c.args.lock.now.mode in
-    let old = c.args.records.now in
+returns-clause-held c = λ h is out free.
     let k = c.args.lock.now.«record» in
-    let was = c.or_insert.ensures.value ∙ ap (λ (o : Option Holding). unwrap_or o (none_yet mode)) c.in-Ok.ensures.value in
-    let more : c.add.new.self.hold ≡ one_more c.or_insert.result.now.hold = ap₂ hold c.add.ensures.mode c.add.ensures.holders in
-    let same : Some c.add.new.self.hold ≡ held_more (Some mode) (hold_at old k) =
-    ap (λ (h : Hold). Some h) more ∙ ap (λ (h : Holding). Some (one_more h.hold)) was ∙ one_held mode (get record_eq old k) in
-    λ q.
-    written (record_eq k q) _ _ (get record_eq old q) c.add.new.self _ q (search rules) ((c.in-Ok.ensures.update.0 c.add.new.self).0 q) same
+    let mode = c.args.lock.now.mode in
+    let txn = c.args.txn in
+    let old = get record_eq c.args.records.now k in
+    let bf = before_at c.args.links.now k in
+    let bh = behind_at c.args.links.now k in
+    let was = c.or_insert.ensures.value ∙ ap (λ (o : Option Holding). unwrap_or o (holding mode txn txn)) c.in-Ok.ensures.value in
+    placed (with_mode h txn (Some mode)) _ _ k (Some c.join.new.held) _ _
+    (added h txn mode bf bh old c.or_insert.result.now c.join.new.held (before_at c.join.new.links k) (behind_at c.join.new.links k) is out free was c.join.ensures.mode
+    (λ first. (let kept = c.join.ensures.alone first in
+    (kept.0, ap (λ l. before_at l k) kept.1, ap (λ l. behind_at l k) kept.1)))
+    (λ other. c.join.ensures.row other (λ t. is_some (h t)) (row_if h txn mode bf bh old c.or_insert.result.now is was other) (ap (λ (o : Option Mode). is_some o) out)))
+    (search rules) (c.in-Ok.ensures.update.0 c.join.new.held).1
+
+pub returns-clause-others : goal.returns-clause-others
+returns-clause-others c = λ h r other is.
+    let bf = before_at c.args.links.now r in
+    placed h _ _ r (get record_eq c.args.records.now r) _ _
+    (subst (λ (f : ℕ → Option ℕ). IsHeld h (get record_eq c.args.records.now r) f (behind_at c.join.new.links r)) (sym (c.join.ensures.before r other))
+    (subst (λ (f : ℕ → Option ℕ). IsHeld h (get record_eq c.args.records.now r) bf f) (sym (c.join.ensures.behind r other)) is))
+    (search rules) ((c.in-Ok.ensures.update.0 c.join.new.held).2 r other)

@@ -2,7 +2,7 @@ use Rattle.std.proofs.Common.{List, Option, sym, ap, ◌∙◌}
 use Rattle.access_slots.specs.declared.lock.Lock.{Lock}
 use Rattle.lock_table.specs.Clashes.{clashes}
 use Rattle.lock_table.specs.Facts.{mode_among}
-use Rattle.lock_table.proofs.Holding.{clashes_nothing}
+use Rattle.lock_table.proofs.Keeping.{clashes_nothing}
 use Rattle.lock_table.proofs.table.excludes_in.Goals as goal
 
 pub returns-in-None : goal.returns-in-None

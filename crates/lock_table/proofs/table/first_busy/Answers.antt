@@ -1,15 +1,43 @@
-use Rattle.std.proofs.Common.{◌∙◌}
-use Rattle.lock_table.specs.Holds.{hold_at}
-use Rattle.lock_table.proofs.Barring.{busy_after, has_holder}
+use Rattle.std.proofs.Common.{ℕ, ◌+◌, List, Option, drop, get_or, sym, ap, subst, ◌∙◌}
+use Rattle.std.proofs.lemmas.List.{drop_all}
+use Rattle.access_slots.specs.declared.lock.Lock.{Lock}
+use Rattle.access_slots.specs.Locks.{mode_in}
+use Rattle.access_slots.specs.Held.{in_the_way, IsFirstInTheWay}
+use Rattle.lock_table.specs.Holds.{IsLeastInTheWay}
+use Rattle.lock_table.proofs.Barring.{way_later, way_first, first_of}
+use Rattle.lock_table.proofs.Steps.{any_lock, opened, above, rising_after}
 use Rattle.lock_table.proofs.table.first_busy.Goals as goal
 
-pub returns-in_err-holder : goal.returns-in_err-holder
-returns-in_err-holder c =
-    let at = hold_at c.args.records.now in
-    absurd (has_holder c.args.sets.now.entries at c.requires c.is_barred.result _ c.holder_in_the_way.result c.is_barred.ensures c.if-is_barred.true c.holder_in_the_way.ensures c.in_err-holder.was)
+pub loop-lock-preserved : goal.loop-lock-preserved
+loop-lock-preserved c =
+    let locks = c.args.locks.now in
+    let i = c.loop-lock.lock-index in
+    let inside = c.loop-lock-test.true in
+    let rises = c.loop-lock.invariant.rising in
+    let l : Lock = get_or locks i any_lock in
+    record {
+      rising = rising_after locks i inside rises;
+      left = λ held before behind are r t.
+          c.loop-lock.invariant.left held before behind are r t
+          ∙ ap (λ (ls : List Lock). in_the_way held (mode_in ls) r t) (opened locks i any_lock inside)
+          ∙ way_later l (drop (i + 1) locks) (above locks i inside rises any_lock) held
+          (subst (λ (o : Option ℕ). IsLeastInTheWay (λ u. held u l.«record») l.mode o) c.in_default.is
+          (c.least_in_the_way.ensures (λ u. held u l.«record») (before l.«record») (behind l.«record») (are l.«record»))) r t;
+    }
 
-pub locks-preserved : goal.locks-preserved
-locks-preserved c =
-    let at = hold_at c.args.records.now in
-    busy_after c.args.sets.now.entries at c.requires c.is_barred.result c.args.locks.now c.locks.lock-index _ c.locks-test.true c.is_barred.ensures c.if-is_barred.false
-    ∙ c.locks.invariant
+pub returns-in-Some-clause-some : goal.returns-in-Some-clause-some
+returns-in-Some-clause-some c = λ held before behind are.
+    let locks = c.args.locks.now in
+    let i = c.loop-lock.lock-index in
+    let inside = c.loop-lock-test.true in
+    let rises = c.loop-lock.invariant.rising in
+    let l : Lock = get_or locks i any_lock in
+    first_of held (mode_in locks) (mode_in (drop i locks)) l.«record» c.in-Some.holder (c.loop-lock.invariant.left held before behind are)
+    (subst (λ (ls : List Lock). IsFirstInTheWay held (mode_in ls) l.«record» c.in-Some.holder) (sym (opened locks i any_lock inside))
+    (way_first l (drop (i + 1) locks) (above locks i inside rises any_lock) held c.in-Some.holder
+    (c.in-Some.ensures (λ u. held u l.«record») (before l.«record») (behind l.«record») (are l.«record»))))
+
+pub returns-clause-none : goal.returns-clause-none
+returns-clause-none c = λ held before behind are r t.
+    c.loop-lock.invariant.left held before behind are r t
+    ∙ ap (λ (ls : List Lock). in_the_way held (mode_in ls) r t) (drop_all c.loop-lock.lock-index c.args.locks.now c.loop-lock-test.false)
