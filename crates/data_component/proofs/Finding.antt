@@ -50,7 +50,7 @@ module _ {K V : Type 0} (eq less : K → K → Bool) (order : IsOrder eq less) w
   abbrev pub no_value : Option V
   no_value = None
 
-  lower : (a b : K) (xs : List (K × V)) → less a b ≡ true → AllAbove less b xs → AllAbove less a xs
+  pub lower : (a b : K) (xs : List (K × V)) → less a b ≡ true → AllAbove less b xs → AllAbove less a xs
   lower a b [] is all = tt
   lower a b (x ∷ xs) is all = (order.trans a b x.0 is all.0, lower a b xs is all.1)
 

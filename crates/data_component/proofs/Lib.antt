@@ -7,3 +7,5 @@ pub mod Serving
 pub mod Worked
 pub mod Forgetting
 pub mod Shortening
+pub mod Rising
+pub mod BeginLemmas

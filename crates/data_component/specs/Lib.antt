@@ -5,3 +5,4 @@ pub mod Keeping
 pub mod Listed
 pub mod Joining
 pub mod Shortened
+pub mod Beginning

@@ -29,6 +29,10 @@ pub record Store : Type 0 where
 abbrev pub empty : ℕ → ℕ → Store
 empty rows ops = record { base = []; base_mark = 0; list = []; mark = 0; saved = []; saved_mark = 0; incarnation = 0; rows = rows; ops = ops }
 
+-- more records are present than there is room for
+abbrev pub is_overfull : Store → Bool
+is_overfull s = nat_lt s.rows (count s.base s.list)
+
 -- ---- wires
 
 -- the greater of two marks
@@ -112,6 +116,17 @@ heard s incarnation low_water = if s.incarnation == incarnation then marked s lo
 -- than there may be
 abbrev pub may_forget : Store → Bool
 may_forget s = (length s.saved == length s.list) && nat_le (count s.base s.list) s.rows && all_at_most s.saved_mark s.list
+
+-- nothing has been performed since these rows, with which the list begins behind this mark
+abbrev pub begun_with : Rows → ℕ → Store → Store
+begun_with rows mark s = record s { base = rows; base_mark = mark; mark = mark; saved_mark = mark }
+
+-- nothing has been performed here, no higher mark was told, and the rows rise and are no more than there may be
+pub record MayBeginWith (rows : Rows) (mark : ℕ) (s : Store) : Type 0 where
+  pub none : s.list ≡ []
+  pub low : s.mark ≤ mark
+  pub fits : length rows ≤ s.rows
+  pub sorted : SortedRows rows
 
 -- the list is empty, and begins with the rows that it left, behind the mark of the checkpoint, which had all of it
 pub record HasForgotten (s t : Store) : Type 0 where

@@ -4,8 +4,8 @@ ghost use Rattle.std.specs.Prelude.{◌≡◌, ◌==◌, ◌↔◌, ◌+◌, ◌
 ghost use Rattle.access_slots.specs.Access.{is_no_room};
 ghost use Rattle.data_component.specs.Performed.{value_in, said_under, IsRight};
 ghost use Rattle.data_component.specs.Sorted.{SortedRows};
-ghost use Rattle.data_component.specs.Store.{empty, marked, fate, fate_of_new, reply_by, store_by, replied, performed};
-ghost use Rattle.data_component.specs.Store.{checkpointed, IsSpent, restarted, news_of, heard, may_forget, HasForgotten};
+ghost use Rattle.data_component.specs.Store.{is_overfull, empty, marked, fate, fate_of_new, reply_by, store_by, replied, performed};
+ghost use Rattle.data_component.specs.Store.{checkpointed, IsSpent, restarted, news_of, heard, may_forget, HasForgotten, begun_with, MayBeginWith};
 ghost use Rattle.data_component.specs.Keeping.{AreRowsOf, AreKept};
 
 use crate::entries::Entries;
@@ -229,6 +229,29 @@ impl Dc {
         true
     }
 
+    /// Begins with these rows, behind a mark up to which all was performed before: for a store in which nothing
+    /// was performed, where the rows rise, as those that [`Dc::rows`] gives, and are no more than there may be, and
+    /// no higher mark was told. Else it says no, and nothing changes. It takes no memory.
+    pub fn begin_with(&mut self, rows: &[Row], mark: u64) -> bool
+        ensures begun { result ≡ true → MayBeginWith rows.now mark self.old × (self.new ≡ begun_with rows.now mark self.old) }
+        ensures refused { result ≡ false → (MayBeginWith rows.now mark self.old → ⊥) }
+        ensures stays { result ≡ false → self.new ≡ self.old }
+    {
+        if self.performed.len() > 0 || mark < self.mark {
+            return false;
+        }
+        if self.row_limit < rows.len() || !rows::rise(rows) {
+            return false;
+        }
+        put_all(&mut self.base, rows);
+        put_all(&mut self.rows, rows);
+        self.kept.clear();
+        self.base_mark = mark;
+        self.mark = mark;
+        self.saved_mark = mark;
+        true
+    }
+
     /// Which incarnation it is: 0 at first, and one more at each restart.
     pub fn incarnation(&self) -> u64
         ensures { result ≡ self.now.incarnation }
@@ -316,6 +339,20 @@ impl Dc {
         ensures { result ≡ (length self.now.list == self.now.ops) }
     {
         self.performed.len() == self.op_limit
+    }
+
+    /// Whether more records are present than there is room for: an insert that is redone finds room for its own.
+    pub fn is_overfull(&self) -> bool
+        ensures { result ≡ is_overfull self.now }
+    {
+        self.row_limit < self.rows.len()
+    }
+
+    /// So many records there may be, beside those of inserts that are redone.
+    pub fn row_limit(&self) -> usize
+        ensures { result ≡ self.now.rows }
+    {
+        self.row_limit
     }
 
     /// The low-water mark: numbers at or under it are answered [`Said::Old`].

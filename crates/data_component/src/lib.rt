@@ -10,10 +10,12 @@
 //! (`store_tests` of `lower_tests` has its tests.)
 #![tactic(auto)]
 
+mod beginning;
 pub mod dc;
 pub mod entries;
 mod kept;
 pub mod laws;
 mod rows;
 
+pub use beginning::begin_all;
 pub use dc::{Dc, IncarnationsSpent};

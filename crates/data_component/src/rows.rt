@@ -1,11 +1,11 @@
 //! Rows, sorted by record.
 
-ghost use Rattle.std.specs.Prelude.{Bool, ◌≡◌, ◌+◌, ◌*◌, ◌^◌, ◌<◌, ◌≤◌, true, length, option_copied, IfErr, IfOk, vec_capacity};
+ghost use Rattle.std.specs.Prelude.{Bool, ◌≡◌, ◌↔◌, ◌+◌, ◌*◌, ◌^◌, ◌<◌, ◌≤◌, true, length, option_copied, IsTrue, IfErr, IfOk, vec_capacity};
 ghost use Rattle.std.specs.List.{insert};
 ghost use Rattle.access_slots.specs.Locks.{record_less};
 ghost use Rattle.access_slots.specs.declared.op.Op.TheVariants.{Read, Insert, Update, Delete};
 ghost use Rattle.data_component.specs.Joining.Performing.{Performs};
-ghost use Rattle.data_component.specs.Sorted.{row_of, row_place, SortedRows, IsFoundAt, IsMissingAt};
+ghost use Rattle.data_component.specs.Sorted.{row_of, row_place, AllAbove, SortedRows, IsFoundAt, IsMissingAt};
 
 use access_slots::op::{Op, Said};
 use access_slots::slot::{Record, Value};
@@ -30,6 +30,30 @@ fn is_less(a: &Record, b: &Record) -> bool
     ensures { result ≡ record_less a.now b.now }
 {
     rank(a) < rank(b)
+}
+
+// Whether the row's record is less than the first one's, if there is one.
+fn is_below(row: &Row, rows: &[Row]) -> bool
+    ensures { SortedRows rows.now → IsTrue result ↔ AllAbove record_less row.now.0 rows.now }
+{
+    match rows.first() {
+        Some(next) => is_less(&row.0, &next.0),
+        None => true,
+    }
+}
+
+/// Whether each row is of a greater record than the one before it.
+pub(crate) fn rise(rows: &[Row]) -> bool
+    ensures { IsTrue result ↔ SortedRows rows.now }
+{
+    let mut rest = rows;
+    'rows: while let Some((row, behind)) = rest.split_first() {
+        if !is_below(row, behind) {
+            return false;
+        }
+        rest = behind;
+    }
+    true
 }
 
 // How many rows are of lesser records.
