@@ -5,11 +5,14 @@ ghost use Rattle.frame_file.specs.Device.{Only, HasCause};
 ghost use Rattle.disk_file.specs.Disk.{disk_bytes, left_of, kept_of};
 ghost use Rattle.disk_file.specs.Events.{MayLeave, LeftSince, pieces_in, fault_count, counted, alone};
 
+use crate::fault::FileFault;
 use crate::record::Record;
 use frame_file::{Device, DeviceError};
 use std::alloc::Global;
-use std::fs::File;
-use std::io::Write;
+use std::fs::{self, File};
+use std::io::{self, ErrorKind, Write};
+use std::os::unix::fs::MetadataExt;
+use std::rt::Files;
 
 // Kinds of calls.
 const OPENED: u64 = 0;
@@ -23,7 +26,8 @@ const SYNCED: u64 = 3;
 const UNSYNCED: u64 = 4;
 
 /// An open file of the operating system. Each method makes the call of the system that it notes; what a
-/// crash leaves behind these calls is what a device says.
+/// crash leaves behind these calls is what a device says. Behind each sync it is looked at whether the file
+/// still has a name, and the length of what was read and written: else the sync has failed.
 #[derive(Drop)]
 pub struct DiskFile {
     file: File,
@@ -34,6 +38,14 @@ pub struct DiskFile {
     dropped: Option<File>,
     cut_off: usize,
     kept: Record,
+    // why the last call failed that did
+    failure: Option<FileFault>,
+}
+
+// Writes behind the last byte, and syncs.
+fn write_synced(file: &mut File, bytes: &[u8]) -> io::Result<()> {
+    file.write_all(bytes)?;
+    file.sync_data()
 }
 
 impl DiskFile {
@@ -51,6 +63,7 @@ impl DiskFile {
             dropped: None,
             cut_off: 0,
             kept: Record::new(),
+            failure: None,
         }
     }
 
@@ -77,8 +90,9 @@ impl DiskFile {
         let Some(dropped) = &mut self.dropped else {
             return Err(DeviceError::Unkept);
         };
-        if dropped.write_all(end).is_err() || dropped.sync_data().is_err() {
+        if let Err(error) = write_synced(dropped, end) {
             self.kept.note(&[UNSYNCED, 1, 0], &[]);
+            self.failure = Some(FileFault::Io(error));
             return Err(DeviceError::Failed);
         }
         self.kept.note(&[SYNCED, 0, 0], end);
@@ -89,6 +103,38 @@ impl DiskFile {
     /// How many bytes were cut off since it was opened.
     pub fn cut_off(&self) -> usize {
         self.cut_off
+    }
+
+    /// Why the last call of the device that failed has: none did, or of want of memory and of a place for
+    /// what is cut off the device's own fault says it.
+    pub fn failure(&self) -> Option<FileFault>
+        ensures { result ≡ self.now.failure }
+    {
+        self.failure
+    }
+
+    /// Whether this name is still the file's: `Gone` where there is none of this name, or another.
+    pub fn check_name<F: Files<File = File>>(&self, rt: &F, path: &str) -> Result<(), FileFault> {
+        let own = self.file.metadata()?;
+        match fs::metadata(rt, path) {
+            Ok(named) if (named.dev(), named.ino()) == (own.dev(), own.ino()) => Ok(()),
+            Ok(_) => Err(FileFault::Gone),
+            Err(error) if error.kind() == ErrorKind::NotFound => Err(FileFault::Gone),
+            Err(error) => Err(FileFault::Io(error)),
+        }
+    }
+
+    // Syncs the file, and looks whether it is there as it was written.
+    fn put_on_disk(&self) -> Result<(), FileFault> {
+        self.file.sync_data()?;
+        let known = self.file.metadata()?;
+        if known.nlink() == 0 {
+            return Err(FileFault::Gone);
+        }
+        if known.len() != self.bytes.len() as u64 {
+            return Err(FileFault::Resized);
+        }
+        Ok(())
     }
 
     /// What a read returns.
@@ -123,8 +169,9 @@ impl Device for DiskFile {
     fn append(&mut self, bytes: &[u8]) -> Result<(), DeviceError> {
         // Memory first: what is written has to be known.
         self.bytes.reserve(bytes.len())?;
-        if self.file.write_all(bytes).is_err() {
+        if let Err(error) = self.file.write_all(bytes) {
             self.calls.note(&[APPENDED, 1, 0], bytes);
+            self.failure = Some(FileFault::Io(error));
             return Err(DeviceError::Failed);
         }
         self.calls.note(&[APPENDED, 0, 0], bytes);
@@ -133,8 +180,9 @@ impl Device for DiskFile {
 
     fn cut(&mut self, len: usize) -> Result<(), DeviceError> {
         self.keep(len)?;
-        if self.file.set_len(len as u64).is_err() {
+        if let Err(error) = self.file.set_len(len as u64) {
             self.calls.note(&[CUT, 1, len as u64], &[]);
+            self.failure = Some(FileFault::Io(error));
             return Err(DeviceError::Failed);
         }
         self.calls.note(&[CUT, 0, len as u64], &[]);
@@ -143,8 +191,9 @@ impl Device for DiskFile {
     }
 
     fn sync(&mut self) -> Result<(), DeviceError> {
-        if self.file.sync_data().is_err() {
+        if let Err(fault) = self.put_on_disk() {
             self.calls.note(&[UNSYNCED, 1, 0], &[]);
+            self.failure = Some(fault);
             return Err(DeviceError::Failed);
         }
         self.calls.note(&[SYNCED, 0, 0], &self.bytes);

@@ -1,10 +1,11 @@
 // How a file is opened.
 
-ghost use Rattle.std.specs.Prelude.{◌≡◌, IfOk};
+ghost use Rattle.std.specs.Prelude.{◌≡◌, [], IfOk};
 ghost use Rattle.frame_file.specs.Device.{Only};
 ghost use Rattle.disk_file.specs.Disk.{disk_bytes, left_of};
 
 use crate::disk::DiskFile;
+use crate::fault::FileFault;
 use std::alloc::{AllocError, Global};
 use std::fs::{self, File, FileType, OpenOptions, TryLockError};
 use std::io::{self, ErrorKind, Read};
@@ -14,14 +15,23 @@ use std::rt::Files;
 /// Why a file isn't opened.
 #[derive(Clone, Copy, Debug)]
 pub enum OpenError {
-    Io(io::Error),
+    /// It isn't read, and why.
+    Unread(FileFault),
+    /// It may be read and not written, or can't be made or synced, and why.
+    Unwritten(io::Error),
     Memory,
     /// Another process, or another handle of this one, has it open.
     Busy,
-    /// It may be read and not written.
-    ReadOnly,
     /// What has this name is no file of bytes.
     Kind(FileKind),
+}
+
+/// Why no file is opened that is to take another's place.
+#[derive(Clone, Copy, Debug)]
+pub enum BesideError {
+    Open(OpenError),
+    /// What stands in the file with its name isn't what was cut short of a replacement.
+    Foreign,
 }
 
 /// What isn't a file of bytes.
@@ -61,7 +71,16 @@ impl FileKind {
 
 impl From<io::Error> for OpenError {
     fn from(error: io::Error) -> OpenError {
-        OpenError::Io(error)
+        match error.kind() {
+            ErrorKind::OutOfMemory => OpenError::Memory,
+            _ => OpenError::Unread(FileFault::Io(error)),
+        }
+    }
+}
+
+impl From<FileFault> for OpenError {
+    fn from(fault: FileFault) -> OpenError {
+        OpenError::Unread(fault)
     }
 }
 
@@ -74,17 +93,24 @@ impl From<AllocError> for OpenError {
 impl From<TryLockError> for OpenError {
     fn from(error: TryLockError) -> OpenError {
         match error {
-            TryLockError::Error(error) => OpenError::Io(error),
+            TryLockError::Error(error) => OpenError::from(error),
             TryLockError::WouldBlock => OpenError::Busy,
         }
     }
 }
 
+impl From<OpenError> for BesideError {
+    fn from(error: OpenError) -> BesideError {
+        BesideError::Open(error)
+    }
+}
+
 impl DiskFile {
     /// Opens the file with this name, and makes it where there is none. It is locked as long as it is open
-    /// (an advisory lock, which not every network file system keeps), read whole, and synced with its
-    /// folder. What isn't a file of bytes is refused before it is opened. Nothing is cut off from the file
-    /// before it is told where that is kept ([`DiskFile::keep_dropped`]).
+    /// (an advisory lock, which not every network file system keeps), read up to the length that it has then,
+    /// and synced with its folder. What isn't a file of bytes is refused before it is opened; so is a
+    /// file that has more bytes than its length, or lost its name before it was locked. Nothing is cut
+    /// off from the file before it is told where that is kept ([`DiskFile::keep_dropped`]).
     pub fn open<F: Files<File = File>>(
         rt: &F,
         alloc: Global,
@@ -93,14 +119,51 @@ impl DiskFile {
         // What is read is what is on the disk.
         ensures { IfOk result (λ d. Only (disk_bytes d) (left_of d)) }
     {
-        is_of_bytes(rt, path)?;
-        let mut file = writable(rt, path)?;
-        file.try_lock()?;
-        let mut bytes = Vec::new(alloc);
-        file.read_to_end(&mut bytes)?;
-        file.sync_all()?;
-        folder_of(rt, alloc, path)?.sync_all()?;
-        Ok(DiskFile::settled(file, bytes))
+        let (file, bytes) = locked(rt, alloc, path)?;
+        sync_with_folder(rt, alloc, path, &file)?;
+        let file = DiskFile::settled(file, bytes);
+        file.check_name(rt, path)?;
+        Ok(file)
+    }
+
+    /// Opens the file of this name with `.new` behind it, which is to take the place of the one of this name
+    /// ([`DiskFile::take_place`]): made where there is none, locked, emptied, and synced with its folder. What
+    /// stands in it is thrown away only where a crash may have left it of a file that was to begin with this
+    /// front: each word of 8 bytes, as far as it is there, is the front's, or zeros. Anything else is refused,
+    /// and left as it is.
+    pub fn open_beside<F: Files<File = File>>(
+        rt: &F,
+        alloc: Global,
+        path: &str,
+        front: &[u8],
+    ) -> Result<DiskFile, BesideError>
+        ensures empty { IfOk result (λ d. disk_bytes d ≡ []) }
+        ensures settled { IfOk result (λ d. Only (disk_bytes d) (left_of d)) }
+    {
+        let name = beside(alloc, path)?;
+        let (file, bytes) = locked(rt, alloc, name.as_str())?;
+        if !may_be_left(&bytes, front) {
+            return Err(BesideError::Foreign);
+        }
+        file.set_len(0).map_err(OpenError::Unwritten)?;
+        sync_with_folder(rt, alloc, name.as_str(), &file)?;
+        Ok(DiskFile::settled(file, Vec::new(alloc)))
+    }
+
+    /// Puts this file, which was opened beside the one of this name, in its place, and syncs their folder. A
+    /// crash leaves the one or the other. The one that had the name is to be open, and so locked, until then;
+    /// where this fails, either may have the name: it has to be opened again.
+    pub fn take_place<F: Files<File = File>>(
+        &self,
+        rt: &F,
+        alloc: Global,
+        path: &str,
+    ) -> Result<(), OpenError> {
+        let name = beside(alloc, path)?;
+        let placed = fs::rename(rt, name.as_str(), path).and_then(|()| folder_of(
+            rt, alloc, path,
+        )?.sync_all());
+        placed.map_err(OpenError::Unwritten)
     }
 
     /// From now on, what is cut off is kept behind the last byte of the file of this name with `.dropped`
@@ -117,11 +180,34 @@ impl DiskFile {
         let name = format!(in alloc; "{path}.dropped")?;
         is_of_bytes(rt, name.as_str())?;
         let dropped = writable(rt, name.as_str())?;
-        dropped.sync_all()?;
-        folder_of(rt, alloc, name.as_str())?.sync_all()?;
+        sync_with_folder(rt, alloc, name.as_str(), &dropped)?;
         self.keep_in(dropped);
         Ok(())
     }
+}
+
+// The name of the file that is to take the place of the one of this name.
+fn beside(alloc: Global, path: &str) -> Result<String, OpenError> {
+    Ok(format!(in alloc; "{path}.new")?)
+}
+
+// Opens and locks the file of this name, and reads it whole.
+fn locked<F: Files<File = File>>(
+    rt: &F,
+    alloc: Global,
+    path: &str,
+) -> Result<(File, Vec<u8>), OpenError> {
+    is_of_bytes(rt, path)?;
+    let file = writable(rt, path)?;
+    file.try_lock()?;
+    let bytes = read_whole(alloc, &file)?;
+    Ok((file, bytes))
+}
+
+// Whether a crash may have left these bytes of a file that was to begin with this front.
+fn may_be_left(bytes: &[u8], front: &[u8]) -> bool {
+    bytes.chunks(8).zip(front.chunks(8)).all(|(there, word)| word.starts_with(there)
+        || there.iter().all(|byte| *byte == 0))
 }
 
 // Refuses what isn't a file of bytes, if there is anything.
@@ -130,7 +216,7 @@ fn is_of_bytes<F: Files<File = File>>(rt: &F, path: &str) -> Result<(), OpenErro
         Ok(metadata) => FileKind::of(&metadata.file_type()),
         Err(error) => match error.kind() {
             ErrorKind::NotFound => None,
-            _ => return Err(OpenError::Io(error)),
+            _ => return Err(OpenError::from(error)),
         },
     };
     match kind {
@@ -149,10 +235,34 @@ fn writable<F: Files<File = File>>(rt: &F, path: &str) -> Result<File, OpenError
     match opened {
         Ok(file) => Ok(file),
         Err(error) => match File::open(rt, path) {
-            Ok(_readable) => Err(OpenError::ReadOnly),
-            Err(_) => Err(OpenError::Io(error)),
+            Err(unread) if unread.kind() != ErrorKind::NotFound => Err(OpenError::from(unread)),
+            _ => Err(OpenError::Unwritten(error)),
         },
     }
+}
+
+// All that a file has, which is as long as it says.
+fn read_whole(alloc: Global, file: &File) -> Result<Vec<u8>, OpenError> {
+    let length = file.metadata()?.len();
+    let mut bytes = Vec::new(alloc);
+    file.take(length.saturating_add(1)).read_to_end(&mut bytes)?;
+    if bytes.len() as u64 > length {
+        return Err(OpenError::Unread(FileFault::Longer));
+    }
+    Ok(bytes)
+}
+
+// Syncs a file with its folder.
+fn sync_with_folder<F: Files<File = File>>(
+    rt: &F,
+    alloc: Global,
+    path: &str,
+    file: &File,
+) -> Result<(), OpenError> {
+    let synced = file
+        .sync_all()
+        .and_then(|()| folder_of(rt, alloc, path)?.sync_all());
+    synced.map_err(OpenError::Unwritten)
 }
 
 // The folder in which a file lies that there is.

@@ -97,6 +97,7 @@ impl<D: Device> FrameFile<D> {
             → LeavesOnly D.moment D.left_since self.old.device self.new.device (IsBeforeOrAfter payloads payload.now) }
         // It doesn't give up by itself.
         ensures failed { IsErrOf result (DeviceFault Failed) → D.faults self.old.device < D.faults self.new.device }
+        ensures later { D.faults self.old.device ≤ D.faults self.new.device }
         ensures full { IsErrOf result Full → 2 ^ 64 ≤ self.old.count + 1 }
     {
         let Some(next) = self.count.checked_add(1) else {

@@ -77,11 +77,9 @@ each_before dcs vecs place known rows inside g k d below =
     = sym (get_or-take place all k d below) ∙ ap (λ (ps : List (List ℕ)). get_or ps k d) front in
     subst (IsSync dcs) (sym here) (sync_at dcs g.batches g.are k d (omega (arith, below, count, length-map g.batches batch_bytes)))
 
-pub first_none : (dcs : ℕ) (vecs : Vecs) (place number : ℕ) (v : Vec ℕ Global) (p : List ℕ) (known : List SiteNote) (rows : List ℕ) → place < length vecs → v ≡ get_or vecs place v → p ≡ v.items → number ≡ place + 1
-    → AreGathered dcs (payloads_in (take place vecs)) known rows → (IsSync dcs p → ⊥) → IsFirstNoBatch dcs (payloads_in vecs) number
-first_none dcs vecs place number v p known rows inside at same is g never = record {
-  place = place;
-  number_is = is;
+pub first_none : (dcs : ℕ) (vecs : Vecs) (place : ℕ) (v : Vec ℕ Global) (p : List ℕ) (known : List SiteNote) (rows : List ℕ) → place < length vecs → v ≡ get_or vecs place v → p ≡ v.items
+    → AreGathered dcs (payloads_in (take place vecs)) known rows → (IsSync dcs p → ⊥) → IsFirstNoBatch dcs (payloads_in vecs) place
+first_none dcs vecs place v p known rows inside at same g never = record {
   inside = omega (arith, inside, length-map vecs items);
   before = each_before dcs vecs place known rows inside g;
   none = λ d sync. never (subst (IsSync dcs) (get_or-map items vecs place v d inside ∙ (ap items (sym at) ∙ sym same)) sync);

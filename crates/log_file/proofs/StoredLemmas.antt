@@ -1,6 +1,5 @@
 -- A file that is read by itself.
-use Rattle.std.proofs.Common.{arith, ◌≡◌, ◌⊎◌, inl, inr, ℕ, ◌+◌, ◌-◌, ◌<◌, ◌≤◌, ◌^◌, List, [], ◌∷◌, ◌++◌, length, take, drop, refl, sym, ◌∙◌, ap, subst, length-append}
-use Rattle.std.specs.Int.{w64, to_le_bytes, from_le_bytes}
+use Rattle.std.proofs.Common.{arith, ◌≡◌, inl, ℕ, ◌+◌, ◌-◌, ◌≤◌, List, [], ◌∷◌, length, refl, sym, ◌∙◌, ap, subst, length-append}
 use Rattle.frame_file.specs.Frame.{frames_from}
 use Rattle.frame_file.specs.Reading.{Reads, IsReadFault}
 use Rattle.frame_file.specs.declared.device.DeviceError.TheVariants.{Memory}
@@ -8,37 +7,11 @@ use Rattle.frame_file.specs.declared.reading.FrameFault.{FrameFault}
 use Rattle.frame_file.specs.declared.reading.FrameFault.TheVariants.{Device}
 use Rattle.log_file.specs.declared.header.Header.{Header}
 use Rattle.log_file.specs.declared.reading.OpenFault.{OpenFault}
-use Rattle.log_file.specs.declared.reading.OpenFault.TheVariants.{Frames, Empty, Other, NoBatch, Row}
-use Rattle.log_file.specs.Bytes.{header_bytes}
-use Rattle.log_file.specs.Reading.{IsHeader, IsSayFault}
-use Rattle.log_file.specs.Stored.{IsNoHeader, IsFileFault}
-use Rattle.log_file.specs.Joining.Fields.{header_in, BeginsWith}
-use Rattle.log_file.proofs.LawLemmas.{dcs_back, procedures_back, digest_back, same_header}
-
--- ---- headers
-
-header_back : (h : Header) → IsHeader h → header_in (header_bytes h) ≡ h
-header_back h is =
-    same_header (from_le_bytes w64 (take 8 (drop 16 (header_bytes h)))) h.dcs (from_le_bytes w64 (take 8 (drop 24 (header_bytes h)))) h.procedures
-    (drop 32 (header_bytes h)) h.digest (dcs_back h is) (procedures_back h is) (digest_back h)
-
-length_header : (h : Header) → length (header_bytes h) ≡ 32 + length h.digest
-unfolding header_bytes
-length_header h = omega arith
-
-pub short_none : (bytes : List ℕ) → (length bytes ≡ 64 → ⊥) → IsNoHeader bytes
-short_none bytes short h is few whole same = short (ap length same ∙ (length_header h ∙ ap (λ (n : ℕ). 32 + n) whole))
-
-pub many_none : (bytes : List ℕ) (dcs : ℕ) → dcs ≡ from_le_bytes w64 (take 8 (drop 16 bytes)) → (dcs < 2 ^ 16 → ⊥) → IsNoHeader bytes
-many_none bytes dcs said many h is few whole same =
-    let back : dcs ≡ h.dcs = said ∙ (ap (λ (l : List ℕ). from_le_bytes w64 (take 8 (drop 16 l))) same ∙ dcs_back h is) in
-    many (subst (λ (n : ℕ). n < 2 ^ 16) (sym back) few)
-
--- what isn't the header that its fields say is none
-other_none : (h : Header) (first : List ℕ) → h ≡ header_in first → (first ≡ header_bytes h → ⊥) → IsNoHeader first
-other_none h first fields differs g is few whole same =
-    let here : h ≡ g = fields ∙ (ap header_in same ∙ header_back g is) in
-    differs (same ∙ ap header_bytes (sym here))
+use Rattle.log_file.specs.declared.reading.OpenFault.TheVariants.{Frames, Empty, Other, NoBase, NoBatch, Row}
+use Rattle.log_file.specs.Reading.{IsHead, IsSayFault}
+use Rattle.log_file.specs.Stored.{IsFileFault}
+use Rattle.log_file.specs.Joining.Fields.{BeginsWith}
+use Rattle.log_file.proofs.HeaderLemmas.{other_none}
 
 -- ---- why a file isn't read
 
@@ -58,8 +31,10 @@ say_fault h file payloads Other reads begins why =
       first = begins.first;
       rest = begins.rest;
       reads = subst (Reads file) begins.is reads;
-      none = other_none h begins.first begins.fields (λ e. why.differs (same ∙ e));
+      none = other_none h begins.first begins.fields (λ head. why.differs (subst (IsHead h) (sym same) head));
     })
+say_fault h file payloads (NoBase number) reads begins why =
+    record { header = h; unsaid = record { payloads = payloads; reads = reads; why = why } }
 say_fault h file payloads (NoBatch number) reads begins why =
     record { header = h; unsaid = record { payloads = payloads; reads = reads; why = why } }
 say_fault h file payloads (Row place) reads begins why =

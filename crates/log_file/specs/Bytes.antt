@@ -1,16 +1,47 @@
 -- The payloads of a log's file as bytes. Numbers have 8, little-endian.
-use Rattle.std.specs.Prelude.{ℕ, List, ◌∷◌, ◌++◌, length, map}
+use Rattle.std.specs.Prelude.{ℕ, zero, suc, ◌+◌, ◌*◌, ◌/◌, ◌^◌, List, [], ◌∷◌, ◌++◌, length, take, drop, map, Option, Some, None}
 use Rattle.std.specs.List.{flat_map}
 use Rattle.std.specs.Int.{w64, to_le_bytes}
+use Rattle.access_slots.specs.declared.slot.Record.{Record}
 use Rattle.tc_core.specs.declared.recovery.SiteNote.{SiteNote}
 use Rattle.tc_core.specs.declared.recovery.SiteNote.TheVariants.{Untold, Restarted, Up}
 use Rattle.log_file.specs.declared.header.Header.{Header}
 use Rattle.log_file.specs.declared.note.Note.{Note}
 
--- "mazzulpe", the version of the layout, how many data components and procedures there are, and the procedures' digest
+-- "mazzulpe", the version of the layout, and how many data components and procedures there are
+unfoldable pub front_bytes : ℕ → Header → List ℕ
+front_bytes version h =
+    ((to_le_bytes w64 0x6570_6c75_7a7a_616d ++ to_le_bytes w64 version) ++ to_le_bytes w64 h.dcs) ++ to_le_bytes w64 h.procedures
+
+-- and then the procedures' digest
 unfoldable pub header_bytes : Header → List ℕ
-header_bytes h =
-    (((to_le_bytes w64 0x6570_6c75_7a7a_616d ++ to_le_bytes w64 1) ++ to_le_bytes w64 h.dcs) ++ to_le_bytes w64 h.procedures) ++ h.digest
+header_bytes h = front_bytes 1 h ++ h.digest
+
+-- and in layout 2 how many base records there are
+unfoldable pub based_header_bytes : Header → ℕ → List ℕ
+based_header_bytes h rows = (front_bytes 2 h ++ h.digest) ++ to_le_bytes w64 rows
+
+-- ---- base records: what data components begin with, where the log begins behind an earlier one
+
+-- records and their values
+abbrev pub Rows : Type 0
+Rows = List (Record × List ℕ)
+
+-- 80 bytes: the data component and the table, of 2 bytes each, 4 zeros, the key, and the value
+unfoldable pub row_bytes : Record × List ℕ → List ℕ
+row_bytes row = (to_le_bytes w64 (row.0.dc + 65536 * row.0.table) ++ to_le_bytes w64 row.0.key) ++ row.1
+
+abbrev pub part_bytes : Rows → List ℕ
+part_bytes rows = flat_map row_bytes rows
+
+-- so many parts, of 4,096 records each, as far as they are there
+abbrev pub first_parts : ℕ → Rows → List Rows
+first_parts zero rows = []
+first_parts (suc n) rows = take 4096 rows ∷ first_parts n (drop 4096 rows)
+
+-- all of them in parts
+abbrev pub parts_of : Rows → List Rows
+parts_of rows = first_parts ((length rows + 4095) / 4096) rows
 
 -- ---- a note
 
@@ -48,9 +79,14 @@ batch_bytes b = (to_le_bytes w64 (length b.notes) ++ flat_map note_bytes b.notes
 
 -- ---- a file
 
--- the header's, and then each batch's
-abbrev pub payloads_of : Header → List Batch → List (List ℕ)
-payloads_of h batches = header_bytes h ∷ map batch_bytes batches
+-- the header's, of layout 2 where there is a base, and then the base's
+abbrev pub front_of : Header → Option Rows → List (List ℕ)
+front_of h None = header_bytes h ∷ []
+front_of h (Some base) = based_header_bytes h (length base) ∷ map part_bytes (parts_of base)
+
+-- and then each batch's
+abbrev pub payloads_of : Header → Option Rows → List Batch → List (List ℕ)
+payloads_of h base batches = front_of h base ++ map batch_bytes batches
 
 abbrev pub notes_of : List Batch → List Note
 notes_of batches = flat_map (λ (b : Batch). b.notes) batches

@@ -1,4 +1,5 @@
 pub mod Bytes
 pub mod Reading
+pub mod Found
 pub mod Stored
 pub mod Joining

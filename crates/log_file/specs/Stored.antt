@@ -5,23 +5,23 @@ use Rattle.frame_file.specs.Frame.{frames_from}
 use Rattle.frame_file.specs.Reading.{Reads, IsReadFault}
 use Rattle.log_file.specs.declared.header.Header.{Header}
 use Rattle.log_file.specs.declared.reading.OpenFault.{OpenFault}
-use Rattle.log_file.specs.declared.reading.OpenFault.TheVariants.{Frames, Empty, Other, NoBatch, Row}
+use Rattle.log_file.specs.declared.reading.OpenFault.TheVariants.{Frames, Empty, Other, NoBase, NoBatch, Row}
 use Rattle.log_file.specs.declared.stored.Stored.{Stored}
-use Rattle.log_file.specs.Bytes.{header_bytes}
-use Rattle.log_file.specs.Reading.{IsHeader, IsUnsaid, Says}
+use Rattle.log_file.specs.Reading.{IsHeader, IsHead, IsUnsaid, Says}
+use Rattle.log_file.specs.Found.{base_in}
 
 -- its payloads are this header's log, and so many bytes stand behind the last frame
 pub record IsStored (file : List ℕ) (s : Stored) : Type 0 where
   pub payloads : List (List ℕ)
   pub reads : Reads file payloads
-  pub says : Says s.header payloads s.notes.items (reverse s.log.events)
+  pub says : Says s.header payloads (base_in s.base) s.notes.items (reverse s.log.events)
   pub unfinished : length file ≡ length (frames_from 0 payloads) + s.unfinished
 
 -- ---- why it isn't read
 
--- no header of this layout is written so
+-- no header of these layouts is written so
 abbrev pub IsNoHeader : List ℕ → Type 0
-IsNoHeader bytes = (h : Header) → IsHeader h → h.dcs < 2 ^ 16 → length h.digest ≡ 32 → bytes ≡ header_bytes h → ⊥
+IsNoHeader bytes = (h : Header) → IsHeader h → h.dcs < 2 ^ 16 → length h.digest ≡ 32 → IsHead h bytes → ⊥
 
 -- as far as there, it begins as a header's frame does: the number 0, and the length 64
 pub record MayBegin (file : List ℕ) : Type 0 where
@@ -45,5 +45,6 @@ abbrev pub IsFileFault : List ℕ → OpenFault → Type 0
 IsFileFault file (Frames fault) = IsReadFault file fault
 IsFileFault file Empty = MayBegin file
 IsFileFault file Other = IsNobodys file ⊎ (Reads file [] × (MayBegin file → ⊥))
+IsFileFault file (NoBase number) = IsAnybodys file (NoBase number)
 IsFileFault file (NoBatch number) = IsAnybodys file (NoBatch number)
 IsFileFault file (Row place) = IsAnybodys file (Row place)

@@ -1,6 +1,6 @@
 // The notes and the rows of all batches.
 
-ghost use Rattle.std.specs.Prelude.{◌≡◌, ◌<◌, ◌%◌, length, IfOk, IfErr};
+ghost use Rattle.std.specs.Prelude.{◌≡◌, ◌<◌, ◌+◌, ◌%◌, ◌^◌, length, IfOk, IfErr};
 ghost use Rattle.std.specs.List.{All, fold};
 ghost use Rattle.frame_file.specs.Reading.{payloads_in};
 ghost use Rattle.log_file.specs.declared.note.Note.{Note as NoteValue};
@@ -33,17 +33,23 @@ fn take_notes(known: &mut Vec<SiteNote>, notes: &[Note])
     }
 }
 
-/// The notes and the rows of batches for so many data components.
-pub(crate) fn gather(alloc: Global, dcs: u16, payloads: &[Vec<u8>]) -> Result<Gathered, OpenFault>
+/// The notes and the rows of batches for so many data components, with so many frames in front of them.
+pub(crate) fn gather(
+    alloc: Global,
+    dcs: u16,
+    front: usize,
+    payloads: &[Vec<u8>],
+) -> Result<Gathered, OpenFault>
+    requires { front + length payloads.now < 2 ^ 64 }
     ensures gathered { IfOk result (λ g. AreGathered dcs (payloads_in payloads.now) g.known.items g.rows.items) }
     ensures whole { IfOk result (λ g. length g.rows.items % 96 ≡ 0) }
-    ensures fault { IfErr result (IsGatherFault dcs (payloads_in payloads.now)) }
+    ensures fault { IfErr result (IsGatherFault dcs front (payloads_in payloads.now)) }
 {
     let mut known = vec![in alloc; SiteNote::Untold; usize::from(dcs)]?;
     let mut rows = Vec::new(alloc);
     'batches: for (place, payload) in payloads.iter().enumerate() {
         let Some((notes, more)) = read_batch(alloc, usize::from(dcs), payload)? else {
-            return Err(OpenFault::NoBatch(place + 1));
+            return Err(OpenFault::NoBatch(front + place));
         };
         take_notes(&mut known, &notes);
         rows.extend_from_slice(more)?;

@@ -1,9 +1,9 @@
 // The first payload.
 
-ghost use Rattle.std.specs.Prelude.{◌≡◌, ◌↔◌, ◌<◌, ◌++◌, length, take, IsTrue, IfOk, IfSome, IfNone};
+ghost use Rattle.std.specs.Prelude.{◌≡◌, ◌↔◌, ◌<◌, ◌^◌, ◌++◌, ℕ, length, take, IsTrue, IfOk, IfSome, IfNone, OnOk};
 ghost use Rattle.std.specs.Int.{w64, to_le_bytes};
 ghost use Rattle.frame_file.specs.Frame.{framed};
-ghost use Rattle.log_file.specs.Bytes.{header_bytes};
+ghost use Rattle.log_file.specs.Bytes.{front_bytes, header_bytes, based_header_bytes};
 ghost use Rattle.log_file.specs.Stored.{IsNoHeader};
 ghost use Rattle.log_file.specs.Joining.Fields.{header_in};
 
@@ -14,10 +14,17 @@ use std::alloc::{AllocError, Global};
 // "mazzulpe", the lowest byte first.
 const MAGIC: u64 = 0x6570_6c75_7a7a_616d;
 
-const VERSION: u64 = 1;
+// The layouts' versions: of a log that begins at the beginning, and of one that begins behind an earlier one.
+const PLAIN: u64 = 1;
 
-// The bytes of a header's frame, and the first 16 of them: its number and its length.
+const BASED: u64 = 2;
+
+// The bytes of a header's frame, of layout 1, and the first 16 of them: its number and its length.
 const FRAME: usize = 88;
+
+/// The first bytes of a file that [`crate::LogFile::begin_anew`] writes: the number of its first frame, and the
+/// length.
+pub const BASED_FRONT: [u8; 16] = [0, 0, 0, 0, 0, 0, 0, 0, 72, 0, 0, 0, 0, 0, 0, 0];
 
 const HEAD_FRONT: [u8; 16] = [0, 0, 0, 0, 0, 0, 0, 0, 64, 0, 0, 0, 0, 0, 0, 0];
 
@@ -32,34 +39,85 @@ pub struct Header {
     pub digest: [u8; 32],
 }
 
-/// The header's 64 bytes.
-#[tactic(auto, unfolding(crate::specs::Bytes::header_bytes))]
-pub(crate) fn header_bytes(alloc: Global, header: &Header) -> Result<Vec<u8>, AllocError>
-    ensures { IfOk result (λ bytes. bytes.items ≡ header_bytes header.now) }
+// What both layouts begin with.
+#[tactic(auto, unfolding(crate::specs::Bytes::front_bytes))]
+fn laid_out(alloc: Global, version: u64, header: &Header) -> Result<Vec<u8>, AllocError>
+    ensures { IfOk result (λ bytes. bytes.items ≡ front_bytes version header.now ++ header.now.digest) }
 {
-    let mut out = Vec::with_capacity(alloc, 64)?;
+    let mut out = Vec::with_capacity(alloc, 72)?;
     write_long(&mut out, MAGIC)?;
-    write_long(&mut out, VERSION)?;
+    write_long(&mut out, version)?;
     write_long(&mut out, u64::from(header.dcs))?;
     write_long(&mut out, header.procedures)?;
     out.extend_from_slice(&header.digest)?;
     Ok(out)
 }
 
-/// The header that these bytes may be, by their fields: none where they aren't 64, or say more data
+/// The header's 64 bytes, of layout 1.
+#[tactic(auto, unfolding(crate::specs::Bytes::header_bytes))]
+pub(crate) fn header_bytes(alloc: Global, header: &Header) -> Result<Vec<u8>, AllocError>
+    ensures { IfOk result (λ bytes. bytes.items ≡ header_bytes header.now) }
+{
+    laid_out(alloc, PLAIN, header)
+}
+
+/// The header's 72 bytes, of layout 2, with so many base records.
+#[tactic(auto, unfolding(crate::specs::Bytes::based_header_bytes))]
+pub(crate) fn based_header_bytes(
+    alloc: Global,
+    header: &Header,
+    rows: u64,
+) -> Result<Vec<u8>, AllocError>
+    ensures { IfOk result (λ bytes. bytes.items ≡ based_header_bytes header.now rows) }
+{
+    let mut out = laid_out(alloc, BASED, header)?;
+    write_long(&mut out, rows)?;
+    Ok(out)
+}
+
+/// Whether the payload is this header's, of layout 1.
+pub(crate) fn is_header(alloc: Global, header: &Header, payload: &[u8]) -> Result<bool, AllocError>
+    ensures { IfOk result (λ is. IsTrue is ↔ (payload.now ≡ header_bytes header.now)) }
+{
+    let wanted = header_bytes(alloc, header)?;
+    Ok(is_same(payload, &wanted))
+}
+
+/// How many base records the payload says, if it is this header's of layout 2.
+pub(crate) fn base_count(
+    alloc: Global,
+    header: &Header,
+    payload: &[u8],
+) -> Result<Option<u64>, AllocError>
+    ensures some { IfOk result (λ o. IfSome o (λ rows. payload.now ≡ based_header_bytes header.now rows)) }
+    ensures none { IfOk result (λ o. IfNone o ((rows : ℕ) → rows < 2 ^ 64 → payload.now ≡ based_header_bytes header.now rows → ⊥)) }
+{
+    if payload.len() < 8 {
+        return Ok(None);
+    }
+    let rows = long(&payload[payload.len() - 8..]);
+    let wanted = based_header_bytes(alloc, header, rows)?;
+    if is_same(payload, &wanted) {
+        Ok(Some(rows))
+    } else {
+        Ok(None)
+    }
+}
+
+/// The header that these bytes may be, by their fields: none where they are fewer than 64, or say more data
 /// components than there can be.
 pub(crate) fn header_in(bytes: &[u8]) -> Option<Header>
     ensures fields { IfSome result (λ h. h ≡ header_in bytes.now) }
     ensures none { IfNone result (IsNoHeader bytes.now) }
 {
-    if bytes.len() != 64 {
+    if bytes.len() < 64 {
         return None;
     }
     let Ok(dcs) = u16::try_from(long(&bytes[16..24])) else {
         return None;
     };
     let mut digest = [0; 32];
-    digest.copy_from_slice(&bytes[32..]);
+    digest.copy_from_slice(&bytes[32..64]);
     Some(Header {
         dcs,
         procedures: long(&bytes[24..32]),

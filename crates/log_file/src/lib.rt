@@ -3,8 +3,9 @@
 //!
 //! ```text
 //! let mut file = LogFile::new(device);
-//! let found = file.open(alloc, &header)?;          // its log and its notes, for `TcState::recover`
+//! let found = file.open(alloc, &header)?;          // its base, log and notes, for `TcState::recover`
 //! file.create(alloc, &header)?;                    // instead, where `open` answered that it is empty
+//! file.begin_anew(alloc, &header, &base, &row)?;   // or this, for a log that goes on behind an earlier one
 //! let rows = log.print_from(alloc, written)?;      // the events that aren't in the file yet
 //! file.append(alloc, &notes, &rows)?;              // acknowledged: each crash from now on leaves them
 //!
@@ -15,6 +16,7 @@
 //! `upper_tests` has the tests.)
 #![tactic(auto)]
 
+mod base;
 mod batch;
 mod file;
 mod gathering;
@@ -24,8 +26,9 @@ mod note;
 mod reading;
 mod stored;
 
+pub use base::BaseRow;
 pub use file::LogFile;
-pub use header::Header;
+pub use header::{BASED_FRONT, Header};
 pub use laws::{
     acknowledged_are_read, crashes_are_read, headers_tell, legal_logs_are_read, read_as_written,
 };

@@ -1,19 +1,23 @@
 // The log that payloads say.
 
-ghost use Rattle.std.specs.Prelude.{◌≡◌, ◌≢◌, ◌%◌, [], length, reverse, IfOk, IfErr, IfSome, IfNone};
+ghost use Rattle.std.specs.Prelude.{◌≡◌, ◌≢◌, ◌%◌, ◌++◌, ◌∷◌, [], length, reverse, IsTrue, IsFalse, IfOk, IfErr, IfSome, IfNone};
 ghost use Rattle.frame_file.specs.Reading.{IsFound, payloads_in};
 ghost use Rattle.frame_file.specs.declared.device.DeviceError.TheVariants.{Memory};
 ghost use Rattle.frame_file.specs.declared.reading.FrameFault.TheVariants.{Device as DeviceFault};
 ghost use Rattle.tc_log.specs.Reading.{ArePrinted, AreOnlyOnes};
 ghost use Rattle.log_file.specs.declared.reading.OpenFault.TheVariants.{Frames as FramesFault, Empty as EmptyFault};
-ghost use Rattle.log_file.specs.Reading.{Says, IsSayFault, IsBegun, IsOpenFault};
-ghost use Rattle.log_file.specs.Joining.Fields.{IsRowsFault};
+ghost use Rattle.log_file.specs.Bytes.{front_of};
+ghost use Rattle.log_file.specs.Found.{base_in};
+ghost use Rattle.log_file.specs.Reading.{IsStart, is_checkpoint, begins_anew, IsBehind, Says, IsSayFault, IsBegun, IsOpenFault};
+ghost use Rattle.log_file.specs.Joining.Fields.{IsNotBehind, IsRowsFault};
 
+use crate::base::{BaseRow, read_base};
 use crate::gathering::gather;
-use crate::header::{Header, header_bytes, is_begun};
+use crate::header::{Header, base_count, is_begun, is_header};
 use frame_file::{DeviceError, Found, FrameFault};
 use std::alloc::{AllocError, AllocFailed, Global};
 use tc_core::SiteNote;
+use tc_log::event::Event;
 use tc_log::log::Log;
 use tc_log::read::LogFault;
 
@@ -27,6 +31,10 @@ pub enum OpenFault {
     /// The first frame isn't this header's: another format, number of data components, or other
     /// procedures. Or there is no frame, and the file is no beginning of this header's.
     Other,
+    /// The base of a log that begins behind an earlier one isn't whole: the frame of this number, the
+    /// header's being 0, isn't there, or is the first that is no part of the base, or in which its records
+    /// don't rise. Or it is whole, this is the frame behind it, and the log doesn't begin with a checkpoint.
+    NoBase(usize),
     /// The frame of this number, the header's being 0, is the first that isn't a batch: its notes are cut
     /// short or of no kind, one is of a data component that there isn't, or its rows are no whole number.
     NoBatch(usize),
@@ -69,6 +77,8 @@ impl<T: Drop> From<AllocFailed<T>> for OpenFault {
 /// What a log's file says, for a state to come back with.
 #[derive(Drop)]
 pub struct Recovered {
+    /// The records with which data components begin, rising, where the log begins behind an earlier one.
+    pub base: Option<Vec<BaseRow>>,
     pub log: Log,
     /// Of each data component what its last note says.
     pub notes: Vec<SiteNote>,
@@ -89,32 +99,80 @@ fn log_of(alloc: Global, rows: &[u8]) -> Result<Log, OpenFault>
     }
 }
 
-/// The log and the notes that payloads say which begin with this header's.
-pub(crate) fn read_log(
+fn is_checkpoint(event: &Event) -> bool
+    ensures { result ≡ is_checkpoint event.now }
+{
+    matches!(event, Event::Checkpoint { .. })
+}
+
+// Whether the oldest event is a checkpoint.
+fn begins_anew(log: &Log) -> bool
+    ensures { result ≡ begins_anew (reverse log.now.events) }
+{
+    match log.at(0) {
+        Some(event) => is_checkpoint(event),
+        None => false,
+    }
+}
+
+// Whether a log with this base may have these events.
+fn may_follow(base: &Option<Vec<BaseRow>>, log: &Log) -> bool
+    ensures yes { IsTrue result → IsBehind (base_in base.now) (reverse log.now.events) }
+    ensures no { IsFalse result → IsNotBehind (base_in base.now) (reverse log.now.events) }
+{
+    match base {
+        Some(_rows) => begins_anew(log),
+        None => true,
+    }
+}
+
+// The base that payloads begin with, and the payloads behind it, unless the first isn't this header's.
+fn read_front<'a>(
     alloc: Global,
     header: &Header,
-    payloads: &[Vec<u8>],
-) -> Result<Recovered, OpenFault>
-    ensures says { IfOk result (λ r. Says header.now (payloads_in payloads.now) r.notes.items (reverse r.log.events)) }
+    payloads: &'a [Vec<u8>],
+) -> Result<(Option<Vec<BaseRow>>, &'a [Vec<u8>]), OpenFault>
+    ensures starts { IfOk result (λ r. IsStart (base_in r.0)) }
+    ensures is { IfOk result (λ r. payloads_in payloads.now ≡ front_of header.now (base_in r.0) ++ payloads_in r.1.now) }
     ensures fault { IfErr result (IsSayFault header.now (payloads_in payloads.now)) }
 {
     let Some((first, rest)) = payloads.split_first() else {
         return Err(OpenFault::Empty);
     };
-    let wanted = header_bytes(alloc, header)?;
-    let is_same = first.as_slice() == wanted.as_slice();
-    if !is_same {
-        return Err(OpenFault::Other);
+    if is_header(alloc, header, first)? {
+        return Ok((None, rest));
     }
-    let gathered = gather(alloc, header.dcs, rest)?;
+    let Some(count) = base_count(alloc, header, first)? else {
+        return Err(OpenFault::Other);
+    };
+    let (base, rest) = read_base(alloc, count, rest)?;
+    Ok((Some(base), rest))
+}
+
+/// What payloads say which begin with this header's.
+pub(crate) fn read_log(
+    alloc: Global,
+    header: &Header,
+    payloads: &[Vec<u8>],
+) -> Result<Recovered, OpenFault>
+    ensures says { IfOk result (λ r. Says header.now (payloads_in payloads.now) (base_in r.base) r.notes.items (reverse r.log.events)) }
+    ensures fault { IfErr result (IsSayFault header.now (payloads_in payloads.now)) }
+{
+    let (base, batches) = read_front(alloc, header, payloads)?;
+    let front = payloads.len() - batches.len();
+    let gathered = gather(alloc, header.dcs, front, batches)?;
     let log = log_of(alloc, &gathered.rows)?;
+    if !may_follow(&base, &log) {
+        return Err(OpenFault::NoBase(front));
+    }
     Ok(Recovered {
+        base,
         log,
         notes: gathered.known,
     })
 }
 
-/// The log and the notes that a file's frames say; none where it is empty, or the beginning of this header's
+/// What a file's frames say; none where it is empty, or the beginning of this header's
 /// frame.
 pub(crate) fn read_own(
     alloc: Global,
@@ -123,7 +181,8 @@ pub(crate) fn read_own(
     found: &Found,
 ) -> Result<Option<Recovered>, OpenFault>
     requires { IsFound bytes.now found.now }
-    ensures says { IfOk result (λ o. IfSome o (λ r. Says header.now (payloads_in found.now.payloads.items) r.notes.items (reverse r.log.events))) }
+    ensures says { IfOk result (λ o. IfSome o (λ r.
+        Says header.now (payloads_in found.now.payloads.items) (base_in r.base) r.notes.items (reverse r.log.events))) }
     ensures none { IfOk result (λ o. IfNone o ((payloads_in found.now.payloads.items ≡ []) × IsBegun header.now bytes.now)) }
     ensures fault { IfErr result (IsOpenFault header.now bytes.now) }
     ensures refused { IfErr result (λ fault. fault ≢ EmptyFault) }

@@ -5,6 +5,7 @@ ghost use Rattle.frame_file.specs.Reading.{Reads, payloads_in};
 ghost use Rattle.log_file.specs.Stored.{IsStored, IsFileFault};
 ghost use Rattle.log_file.specs.Joining.Fields.{BeginsWith};
 
+use crate::base::BaseRow;
 use crate::header::{Header, header_in, may_begin};
 use crate::reading::{OpenFault, Recovered, read_log};
 use frame_file::read_frames;
@@ -16,6 +17,8 @@ use tc_log::log::Log;
 #[derive(Drop)]
 pub struct Stored {
     pub header: Header,
+    /// The records with which data components begin, rising, where the log begins behind an earlier one.
+    pub base: Option<Vec<BaseRow>>,
     pub log: Log,
     /// Of each data component what its last note says.
     pub notes: Vec<SiteNote>,
@@ -50,9 +53,10 @@ pub fn read_file(alloc: Global, bytes: &[u8]) -> Result<Stored, OpenFault>
 {
     let found = read_frames(alloc, bytes)?;
     let header = first_header(bytes, &found.payloads)?;
-    let Recovered { log, notes } = read_log(alloc, &header, &found.payloads)?;
+    let Recovered { base, log, notes } = read_log(alloc, &header, &found.payloads)?;
     Ok(Stored {
         header,
+        base,
         log,
         notes,
         unfinished: bytes.len() - found.end,

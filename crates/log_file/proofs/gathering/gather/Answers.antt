@@ -8,8 +8,10 @@ use Rattle.log_file.proofs.gathering.gather.Goals as goal
 pub returns-in_default-clause-fault : goal.returns-in_default-clause-fault
 returns-in_default-clause-fault c =
     let never : IsSync c.args.dcs c.deref.result.now → ⊥ = search rules in
-    first_none c.args.dcs c.args.payloads.now c.batches.place (c.batches.place + 1) c.index-payloads-place.result c.deref.result.now c.batches.known.items c.batches.rows.items c.batches-test.true
-    c.index-payloads-place.is c.deref.ensures.value refl c.batches.invariant.gathered never
+    let first =
+    first_none c.args.dcs c.args.payloads.now c.batches.place c.index-payloads-place.result c.deref.result.now c.batches.known.items c.batches.rows.items
+    c.batches-test.true c.index-payloads-place.is c.deref.ensures.value c.batches.invariant.gathered never in
+    (c.batches.place, refl, first)
 
 pub batches-preserved : goal.batches-preserved
 batches-preserved c =

@@ -1,12 +1,10 @@
 use Rattle.std.proofs.Common.{◌≡◌, ◌∙◌, ◌<◌, ◌^◌, take, drop, rules}
-use Rattle.std.proofs.lemmas.List.{take_rest}
 use Rattle.std.specs.Int.{w64, from_le_bytes}
-use Rattle.log_file.proofs.LawLemmas.{same_header}
-use Rattle.log_file.proofs.StoredLemmas.{short_none, many_none}
+use Rattle.log_file.proofs.HeaderLemmas.{same_header, short_none, many_none}
 use Rattle.log_file.proofs.header.header_in.Goals as goal
 
-pub returns-then-bytes-ne64-clause-none : goal.returns-then-bytes-ne64-clause-none
-returns-then-bytes-ne64-clause-none c = short_none c.args.bytes.now c.if-bytes-ne64.true
+pub returns-then-bytes-lt64-clause-none : goal.returns-then-bytes-lt64-clause-none
+returns-then-bytes-lt64-clause-none c = short_none c.args.bytes.now c.if-bytes-lt64.true
 
 pub returns-in_default-clause-none : goal.returns-in_default-clause-none
 returns-in_default-clause-none c =
@@ -19,6 +17,6 @@ returns-clause-fields c =
     let bytes = c.args.bytes.now in
     let dcs : c.in-Ok.dcs ≡ from_le_bytes w64 (take 8 (drop 16 c.args.bytes.now)) = search rules in
     let procedures : c.long-2.result ≡ from_le_bytes w64 (take 8 (drop 24 c.args.bytes.now)) = c.long-2.ensures in
-    let digest : c.copy_from_slice.new.self ≡ drop 32 c.args.bytes.now = c.copy_from_slice.ensures.after ∙ take_rest bytes 32 in
+    let digest : c.copy_from_slice.new.self ≡ take 32 (drop 32 c.args.bytes.now) = search rules in
     same_header c.in-Ok.dcs (from_le_bytes w64 (take 8 (drop 16 bytes))) c.long-2.result (from_le_bytes w64 (take 8 (drop 24 bytes))) c.copy_from_slice.new.self
-    (drop 32 bytes) dcs procedures digest
+    (take 32 (drop 32 bytes)) dcs procedures digest

@@ -1,4 +1,4 @@
-use Rattle.log_file.proofs.LawLemmas.{headers_tell}
+use Rattle.log_file.proofs.HeaderLemmas.{headers_tell}
 use Rattle.log_file.proofs.laws.headers_tell.Goals as goal
 
 pub returns : goal.returns

@@ -6,10 +6,10 @@ use Rattle.log_file.specs.Joining.Fields.{BeginsWith}
 use Rattle.log_file.proofs.StoredLemmas.{say_fault}
 use Rattle.log_file.proofs.stored.read_file.Goals as goal
 
-pub returns-in_err-log-clause-fault : goal.returns-in_err-log-clause-fault
-returns-in_err-log-clause-fault c =
+pub returns-in_err-base-clause-fault : goal.returns-in_err-base-clause-fault
+returns-in_err-base-clause-fault c =
     let begins : BeginsWith (payloads_in c.in_ok-found.found.payloads.items) c.in_ok-header.header = search rules in
-    let why : IsSayFault c.in_ok-header.header (payloads_in c.in_ok-found.found.payloads.items) c.in_err-log.field-0.0 = search rules in
-    let unread : IsFileFault c.args.bytes.now c.in_err-log.field-0.0
-    = say_fault c.in_ok-header.header c.args.bytes.now (payloads_in c.in_ok-found.found.payloads.items) c.in_err-log.field-0.0 c.in_ok-found.ensures.found.reads begins why in
+    let why : IsSayFault c.in_ok-header.header (payloads_in c.in_ok-found.found.payloads.items) c.in_err-base.field-0.0 = search rules in
+    let unread : IsFileFault c.args.bytes.now c.in_err-base.field-0.0
+    = say_fault c.in_ok-header.header c.args.bytes.now (payloads_in c.in_ok-found.found.payloads.items) c.in_err-base.field-0.0 c.in_ok-found.ensures.found.reads begins why in
     search rules
