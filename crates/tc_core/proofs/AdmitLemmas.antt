@@ -57,7 +57,16 @@ book-room ps b b' is o =
     let given_same : given b'.log.events ≡ given b.log.events = ap given o.events in
     let places : Places ps b.log.events txns' = record {
       stands = λ key tx at. k.places.stands key tx (sym (same key) ∙ at);
-      each = λ t s is. (let has = k.places.each t s is in record { key = has.key; at = record { tx = has.at.tx; found = same has.key ∙ has.at.found; serial = has.at.serial } });
+      each = λ t s is. (let has = k.places.each t s is in
+          record {
+            key = has.key;
+            at = record {
+              tx = has.at.tx;
+              found = same has.key
+                  ∙ has.at.found;
+              serial = has.at.serial;
+            };
+          });
       once = λ key other tx ty at at' e. k.places.once key other tx ty (sym (same key) ∙ at) (sym (same other) ∙ at') e;
     } in
     record {
@@ -98,15 +107,19 @@ total-few h = total_to-few h (admitted h)
 
 -- a new transaction
 pub places-admitted : (ps : List Checked) (h : List Event) (txns txns' : Slab Tx) (key t p : ℕ) (args : List ℕ) (tx : Tx)
-    → Places ps h txns → get txns key ≡ None → Updates txns txns' key (Some tx) → standing h t ≡ None → tx.serial ≡ t → Matches ps tx (fresh (record { proc = p; args = args }))
+    → Places ps h txns → get txns key ≡ None → Updates txns txns' key (Some tx) → standing h t ≡ None → tx.serial ≡ t
+    → Matches ps tx (fresh (record { proc = p; args = args }))
     → Places ps (Admit t p args ∷ h) txns'
 places-admitted ps h txns txns' key t p args tx old vacant up none serial matches =
     let e : Event = Admit t p args in
     let new : Standing = fresh (record { proc = p; args = args }) in
     let now : standing (e ∷ h) tx.serial ≡ Some new = standing-same e h tx.serial (sym serial) in
     let before : (k : ℕ) (ty : Tx) → k ≢ key → get txns' k ≡ Some ty → get txns k ≡ Some ty = (λ k ty other at. sym (up.others k other) ∙ at) in
-    let mine : (k : ℕ) (ty : Tx) → k ≡ key → get txns' k ≡ Some ty → tx ≡ ty = (λ k ty same at. sym (some_same ty tx (sym at ∙ (ap (get txns') same ∙ up.changed)))) in
-    let apart : (k : ℕ) (ty : Tx) → get txns k ≡ Some ty → t ≢ ty.serial = (λ k ty at same. let o = old.stands k ty at in none_some _ o.s none (ap (standing h) same ∙ o.is)) in
+    let mine : (k : ℕ) (ty : Tx) → k ≡ key → get txns' k ≡ Some ty
+    → tx ≡ ty = (λ k ty same at. sym (some_same ty tx (sym at ∙ (ap (get txns') same ∙ up.changed)))) in
+    let apart : (k : ℕ) (ty : Tx) → get txns k ≡ Some ty
+    → t ≢ ty.serial = (λ k ty at same. let o = old.stands k ty at in
+    none_some _ o.s none (ap (standing h) same ∙ o.is)) in
     record {
       stands = λ k ty at. elim (cases_eq k key) [
         | inl same ↦ subst (λ (x : Tx). IsOpen ps (e ∷ h) x) (mine k ty same at) (record { s = new; is = now; matches = matches })
@@ -135,7 +148,8 @@ places-admitted ps h txns txns' key t p args tx old vacant up none serial matche
           ];
     }
 
-pub kept-admit : (ps : List Checked) (log log' : History) (table table' : Table) (numbers : Given) (txns txns' : Slab Tx) (serials owed promised key p : ℕ) (args : List ℕ) (wanted : Wanted) (q : Checked) (tx : Tx)
+pub kept-admit : (ps : List Checked) (log log' : History) (table table' : Table) (numbers : Given)
+    (txns txns' : Slab Tx) (serials owed promised key p : ℕ) (args : List ℕ) (wanted : Wanted) (q : Checked) (tx : Tx)
     → Kept ps log table numbers txns serials owed promised
     → slice_get ps p ≡ Some q → AreArguments q.decl args → Compatible (held (decls ps) log.events) (locks_of (decls ps) (record { proc = p; args = args }))
     → given log.events + 5 * calls_in q + promised ≤ 2 ^ 62 → owed + (2 * (5 * calls_in q) + 2) ≤ log.room → slab_len txns + 1 ≤ numbers.room
@@ -150,7 +164,9 @@ kept-admit ps log log' table table' numbers txns txns' serials owed promised key
     let next : t ≡ admitted h + 1 = ap (λ (n : ℕ). n + 1) k.serials_are in
     let none : standing h t ≡ None = standing-above ps h k.legal t (omega (arith, next)) in
     let legal : Legal ps (Admit t p args ∷ h) = (record { next = next; q = q; loaded = loaded; takes = takes; free = free }, k.legal) in
-    let places : Places ps (Admit t p args ∷ h) txns' = places-admitted ps h txns txns' key t p args tx k.places vacant up none serial (record { q = q; loaded = loaded; keeps = keeps }) in
+    let places : Places ps (Admit t p args ∷ h) txns' =
+    places-admitted ps h txns txns' key t p args tx k.places vacant up none serial
+    (record { q = q; loaded = loaded; keeps = keeps }) in
     let add = λ (w : Standing → ℕ). total-admit w h t p args next in
     let calls_are : calls ps p ≡ calls_in q = calls_kept ps p q loaded in
     record {
@@ -190,7 +206,8 @@ keeps_fresh q tx p args proc sent full undo tries last left room runs = record {
 -- ---- the conditions
 
 -- the locks that this declaration's slots name are those of the procedure that has it
-pub named_locks : (q : Checked) (d : Declaration) (args : List ℕ) (set : List Lock) → d ≡ q.decl → AreLocksOf args d.slots set → AreLocksOf args q.decl.slots set
+pub named_locks : (q : Checked) (d : Declaration) (args : List ℕ) (set : List Lock) → d ≡ q.decl
+    → AreLocksOf args d.slots set → AreLocksOf args q.decl.slots set
 named_locks q d args set same are = subst (λ (x : Declaration). AreLocksOf args x.slots set) same are
 
 way_same : (held held' : Held) (wanted wanted' : Wanted) → ((t : ℕ) (r : Record) → held t r ≡ held' t r)
@@ -241,35 +258,44 @@ pub wanted_locks : (ps : List Checked) (call : Call) (q : Checked) (args : List 
     → IsCalled ps call q → args ≡ call.args → ((r : Record) → mode_in set r ≡ mode_named args q.decl.slots r)
     → (r : Record) → mode_in set r ≡ locks_of (decls ps) call r
 wanted_locks ps call q args set called same are r =
-    are r ∙ (ap (λ (xs : List ℕ). mode_named xs q.decl.slots r) same ∙ ap (λ (d : Option Declaration). locks_by d call.args r) (sym (get_decl ps call.proc q called.loaded)))
+    are r ∙ (ap (λ (xs : List ℕ). mode_named xs q.decl.slots r) same
+    ∙ ap (λ (d : Option Declaration). locks_by d call.args r) (sym (get_decl ps call.proc q called.loaded)))
 
 pub free-call : (ps : List Checked) (b : Book) (call : Call) (q : Checked) (args : List ℕ) (set : List Lock)
     → IsBook ps b → IsCalled ps call q → args ≡ call.args
-    → ((r : Record) → mode_in set r ≡ mode_named args q.decl.slots r) → Compatible (held_by b.locks) (mode_in set) → Compatible (held (decls ps) b.log.events) (locks_of (decls ps) call)
+    → ((r : Record) → mode_in set r ≡ mode_named args q.decl.slots r) → Compatible (held_by b.locks) (mode_in set)
+    → Compatible (held (decls ps) b.log.events) (locks_of (decls ps) call)
 free-call ps b call q args set is called same are free =
-    free_same (held_by b.locks) (held (decls ps) b.log.events) (mode_in set) (locks_of (decls ps) call) is.kept.locks_are (wanted_locks ps call q args set called same are) free
+    free_same (held_by b.locks) (held (decls ps) b.log.events) (mode_in set)
+    (locks_of (decls ps) call) is.kept.locks_are (wanted_locks ps call q args set called same are) free
 
 pub busy-call : (ps : List Checked) (b : Book) (call : Call) (q : Checked) (args : List ℕ) (set : List Lock) (r : Record) (t : ℕ)
     → IsBook ps b → IsCalled ps call q → args ≡ call.args
-    → ((r : Record) → mode_in set r ≡ mode_named args q.decl.slots r) → IsFirstInTheWay (held_by b.locks) (mode_in set) r t → IsFirstInTheWay (held (decls ps) b.log.events) (locks_of (decls ps) call) r t
+    → ((r : Record) → mode_in set r ≡ mode_named args q.decl.slots r)
+    → IsFirstInTheWay (held_by b.locks) (mode_in set) r t
+    → IsFirstInTheWay (held (decls ps) b.log.events) (locks_of (decls ps) call) r t
 busy-call ps b call q args set r t is called same are first =
-    busy_same (held_by b.locks) (held (decls ps) b.log.events) (mode_in set) (locks_of (decls ps) call) r t is.kept.locks_are (wanted_locks ps call q args set called same are) first
+    busy_same (held_by b.locks) (held (decls ps) b.log.events) (mode_in set)
+    (locks_of (decls ps) call) r t is.kept.locks_are (wanted_locks ps call q args set called same are) first
 
 pub needs : (l : Loaded) (b : Book) (q : Checked) (last calls : ℕ) → IsBook l.codes b → last ≡ b.numbers.last
     → calls ≡ calls_in q → last + 5 * calls + b.promised ≡ needed (core_of l b) q
-needs l b q last calls is same count = (let last_is = is.kept.last_is in let promised_is = is.kept.rooms.promised_is in omega (arith, same, count, last_is, promised_is))
+needs l b q last calls is same count = (let last_is = is.kept.last_is in
+    let promised_is = is.kept.rooms.promised_is in omega (arith, same, count, last_is, promised_is))
 
 pub few-needed : (l : Loaded) (b : Book) (q : Checked) (last calls : ℕ) (spent : Bool) → IsBook l.codes b
     → last ≡ b.numbers.last → calls ≡ calls_in q → spent ≡ nat_lt (2 ^ 62) (last + 5 * calls + b.promised)
     → spent ≡ false
     → needed (core_of l b) q ≤ 2 ^ 62
-few-needed l b q last calls spent is same count e f = few-from (needed (core_of l b) q) (ap (nat_lt (2 ^ 62)) (sym (needs l b q last calls is same count)) ∙ (sym e ∙ f))
+few-needed l b q last calls spent is same count e f =
+    few-from (needed (core_of l b) q) (ap (nat_lt (2 ^ 62)) (sym (needs l b q last calls is same count)) ∙ (sym e ∙ f))
 
 pub many-needed : (l : Loaded) (b : Book) (q : Checked) (last calls : ℕ) (spent : Bool) → IsBook l.codes b
     → last ≡ b.numbers.last → calls ≡ calls_in q → spent ≡ nat_lt (2 ^ 62) (last + 5 * calls + b.promised)
     → spent ≡ true
     → 2 ^ 62 < needed (core_of l b) q
-many-needed l b q last calls spent is same count e f = many-from (needed (core_of l b) q) (ap (nat_lt (2 ^ 62)) (sym (needs l b q last calls is same count)) ∙ (sym e ∙ f))
+many-needed l b q last calls spent is same count e f =
+    many-from (needed (core_of l b) q) (ap (nat_lt (2 ^ 62)) (sym (needs l b q last calls is same count)) ∙ (sym e ∙ f))
 
 -- a call that nothing stands in the way of, and that enough numbers are left for
 pub admissible : (l : Loaded) (b : Book) (call : Call) (q : Checked) (args : List ℕ) (set : List Lock) (last calls : ℕ) (spent : Bool)

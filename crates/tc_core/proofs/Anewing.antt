@@ -1,5 +1,6 @@
 -- What is kept of a log that begins anew.
-use Rattle.std.proofs.Common.{◌≡◌, ◌≢◌, ℕ, zero, suc, ◌≤◌, ◌^◌, Bool, true, false, List, [], ◌∷◌, length, replicate, Option, Some, None, arith, refl, sym, ◌∙◌, ap}
+use Rattle.std.proofs.Common.{◌≡◌, ◌≢◌, ℕ, zero, suc, ◌≤◌, ◌^◌, Bool, true, false, List, [], ◌∷◌, length, replicate}
+use Rattle.std.proofs.Common.{Option, Some, None, arith, refl, sym, ◌∙◌, ap}
 use Rattle.std.specs.Prelude.{◌==◌}
 use Rattle.verifier.specs.Checked.{Checked}
 use Rattle.lock_table.specs.Facts.{AreHeld}
@@ -32,7 +33,8 @@ at_rest ps h legal none t = by (standing h t) refl
 
 total_to_rest : (w : Standing → ℕ) (h : List Event) → IsAtRest h → (n : ℕ) → total_to w h n ≡ 0
 total_to_rest w h rest zero = refl
-total_to_rest w h rest (suc n) = (let none : weighed w (standing h (suc n)) ≡ 0 = ap (weighed w) (rest (suc n)) in omega (arith, total_to_rest w h rest n, none))
+total_to_rest w h rest (suc n) = (let none : weighed w (standing h (suc n)) ≡ 0 = ap (weighed w) (rest (suc n)) in
+    omega (arith, total_to_rest w h rest n, none))
 
 pub total_rest : (w : Standing → ℕ) (h : List Event) → IsAtRest h → total w h ≡ 0
 unfolding total
@@ -60,8 +62,10 @@ book-anew ps b b' before numbers is none few_admitted few_given events txns lock
     let now = λ (w : Standing → ℕ). total_rest w new rests in
     let unowed : b'.owed ≡ 0 = owed ∙ k.rooms.owed_is ∙ was (events_left ps) in
     let unpromised : b'.promised ≡ 0 = promised ∙ k.rooms.promised_is ∙ was (numbers_left ps) in
-    let open_ones = λ (key : ℕ) (tx : Tx) (at : get b.txns key ≡ Some tx). none_some _ (k.places.stands key tx at).s (rest tx.serial) (k.places.stands key tx at).is in
-    let unlocked : AreHeld b.locks (held (decls ps) new) = (λ t r. k.locks_are t r ∙ ap (λ (c : Option Call). held_for (decls ps) c r) (no_call ps h t (rest t))) in
+    let open_ones = λ (key : ℕ) (tx : Tx) (at : get b.txns key ≡ Some tx).
+    none_some _ (k.places.stands key tx at).s (rest tx.serial) (k.places.stands key tx at).is in
+    let unlocked : AreHeld b.locks (held (decls ps) new) =
+    (λ t r. k.locks_are t r ∙ ap (λ (c : Option Call). held_for (decls ps) c r) (no_call ps h t (rest t))) in
     let given_now : given b'.log.events ≡ numbers = ap given events in
     let begun_now : begun b'.log.events ≡ numbers = ap begun events in
     record {

@@ -1,5 +1,5 @@
 -- Sets of locks that exclude each other, and who stands in the way.
-use Rattle.std.proofs.Common.{◌≡◌, ◌≢◌, ℕ, Bool, true, false, ◌||◌, List, [], ◌∷◌, Option, Some, None, refl, sym, ◌∙◌, ap, subst}
+use Rattle.std.proofs.Common.{◌≡◌, ℕ, Bool, true, false, not, ◌||◌, List, [], ◌∷◌, Option, Some, None, refl, sym, ◌∙◌, ap, inl, inr}
 use Rattle.std.specs.Prelude.{◌==◌, nat_lt, if◌then◌else◌}
 use Rattle.std.proofs.lemmas.Bool.{cond-true, cond-false}
 use Rattle.access_slots.specs.declared.slot.Record.{Record}
@@ -25,12 +25,13 @@ use Rattle.transactions.specs.Reached.{Reached, Asks, Ends, Nowhere, decls}
 use Rattle.transactions.specs.Standing.{Standing, standing}
 use Rattle.transactions.proofs.Headline.{no_call}
 use Rattle.slab.specs.Slab.{Slab, get}
+use Rattle.tc_core.specs.AtKey.{StandsAt}
 use Rattle.tc_core.specs.Core.{Core}
 use Rattle.tc_core.specs.Running.{as_reached}
 use Rattle.tc_core.specs.Replies.{next_at}
 use Rattle.tc_core.specs.Admission.{IsCalled, IsUncallable, Takes}
 use Rattle.tc_core.specs.Blocked.{IsBlocked, stranded_by, is_stranded, stands_in_the_way}
-use Rattle.tc_core.specs.Joining.Holders.{stuck_by, stands_still, AllStandStill, HoldsUp}
+use Rattle.tc_core.specs.Joining.Holders.{stuck_by, stands_still, IsStill, AllStandStill, HoldsUp}
 use Rattle.tc_core.specs.Kept.{IsBook, core_of, is_doubted}
 use Rattle.tc_core.specs.Loaded.{Loaded}
 use Rattle.tc_core.specs.declared.book.Book.{Book}
@@ -99,7 +100,11 @@ clash_at (l ∷ locks) kept rising e = by (excludes (Some l.mode) (kept l.«reco
     by false is further =
         let later = further (sym (ap (λ (b : Bool). b || clashes locks kept) is) ∙ e) in
         let differ : record_eq l.«record» later.name ≡ false = apart_above l locks kept rising later (record_eq l.«record» later.name) refl in
-        record { name = later.name; excluded = ap (λ (m : Option Mode). excludes m (kept later.name)) (cond-false _ (Some l.mode) (mode_in locks later.name) differ) ∙ later.excluded }
+        record {
+          name = later.name;
+          excluded = ap (λ (m : Option Mode). excludes m (kept later.name))
+              (cond-false _ (Some l.mode) (mode_in locks later.name) differ) ∙ later.excluded;
+        }
 
 -- ---- a transaction in doubt or stuck, as it is kept and by the log
 
@@ -107,7 +112,8 @@ stuck_ends : (ns : List ℕ) (left : Option Op) (tries last : ℕ) (o : Outcome)
     → stranded_by ns (Some (ends_or_undoes left tries last o)) ≡ stuck_by (Some (ends_or_undoes left tries last o))
 stuck_ends ns None tries last o = refl
 stuck_ends ns (Some w) tries last o =
-    elim (nat_lt tries 4) as (λ b. stranded_by ns (Some (if b then next.Undoes w else next.Stuck last)) ≡ stuck_by (Some (if b then next.Undoes w else next.Stuck last))) [
+    elim (nat_lt tries 4) as (λ b. stranded_by ns (Some (if b then next.Undoes w else next.Stuck last))
+    ≡ stuck_by (Some (if b then next.Undoes w else next.Stuck last))) [
       | true ↦ refl
       | false ↦ refl
     ]
@@ -132,7 +138,8 @@ pub stranded_kept : (c : Core) (t : ℕ) (tx : Tx) (w : Seen c.procs c.events t 
     → tx.in_doubt ≡ is_doubted c.given_up tx.sent → is_stranded c t ≡ stands_still tx
 unfolding next_at
 stranded_kept c t tx w marked =
-    let does : next_at c t ≡ next_by tx.sent tx.full (first_undo tx.undo.ops) tx.tries tx.last (as_reached tx.pause) = ap (next_in c.procs) w.is ∙ next_kept c.procs c.events t tx w in
+    let does : next_at c t ≡ next_by tx.sent tx.full (first_undo tx.undo.ops) tx.tries tx.last
+    (as_reached tx.pause) = ap (next_in c.procs) w.is ∙ next_kept c.procs c.events t tx w in
     ap (stranded_by c.given_up) does
     ∙ (stranded_next c.given_up tx.sent tx.full (first_undo tx.undo.ops) tx.tries tx.last (as_reached tx.pause)
     ∙ ap (λ (b : Bool). b || stuck_by (next_by tx.sent tx.full (first_undo tx.undo.ops) tx.tries tx.last (as_reached tx.pause))) (sym marked))
@@ -153,12 +160,20 @@ holder_at l b call r t k stands = by (standing b.log.events t) refl
   where
     by : (o : Option Standing) → standing b.log.events t ≡ o → Holder l.codes b.log.events b.txns t
     by None none =
-        let nothing : held (decls l.codes) b.log.events t r ≡ None = ap (λ (c : Option Call). held_for (decls l.codes) c r) (no_call l.codes b.log.events t none) in
+        let nothing : held (decls l.codes) b.log.events t r ≡ None =
+        ap (λ (c : Option Call). held_for (decls l.codes) c r) (no_call l.codes b.log.events t none) in
         let never : false ≡ true = sym (ap (excludes (locks_of (decls l.codes) call r)) nothing ∙ excludes_none (locks_of (decls l.codes) call r)) ∙ stands in
         absurd (cc)
     by (Some s) is =
         let has = k.kept.places.each t s is in
-        record { key = has.key; tx = has.at.tx; found = has.at.found; serial = has.at.serial; sees = seen _ _ _ _ _ _ _ _ has.key t has.at.tx k.kept has.at.found has.at.serial }
+        record {
+          key = has.key;
+          tx = has.at.tx;
+          found = has.at.found;
+          serial = has.at.serial;
+          sees =
+              seen _ _ _ _ _ _ _ _ has.key t has.at.tx k.kept has.at.found has.at.serial;
+        }
 
 -- a call that can't be made isn't called
 pub uncallable : (ps : List Checked) (call : Call) (q : Checked) (e : Refusal) → IsUncallable ps call e → IsCalled ps call q → ⊥
@@ -197,11 +212,34 @@ holder_of_clash ps h t locks set call so are rising clash =
           ∙ (ap (excludes (mode_in set at.name)) (sym (so t at.name)) ∙ at.excluded);
     }
 
-not_false : (b : Bool) → b ≢ false → b ≡ true
-not_false true n = refl
-not_false false n = absurd (n refl)
+pub not_true : (b : Bool) → not b ≡ true → b ≡ false
+not_true true e = sym e
+not_true false e = refl
 
--- what the walk over the open transactions tells
+pub not_false : (b : Bool) → not b ≡ false → b ≡ true
+not_false true e = refl
+not_false false e = sym e
+
+-- what stands at a key that was found has the number
+pub serial_at : (txns : Slab Tx) (key t : ℕ) (tx : Tx) → StandsAt txns key t → get txns key ≡ Some tx → tx.serial ≡ t
+serial_at txns key t tx stands found = ap (λ (x : Tx). x.serial) (some_is tx stands.tx (sym found ∙ stands.found)) ∙ stands.serial
+  where
+    some_is : (x y : Tx) → Some x ≡ Some y → x ≡ y
+    some_is x y e = cc
+
+-- one that stands still is in doubt or stuck, at the key that it has
+still_at : (l : Loaded) (b : Book) (t : ℕ) → IsBook l.codes b → (at : Holder l.codes b.log.events b.txns t) → IsStill b.txns t → stands_still at.tx ≡ true
+still_at l b t k at (inr none) = absurd (none at.key at.tx at.found at.serial)
+still_at l b t k at (inl still) =
+    let here = still.0 in
+    let key : here.key ≡ at.key = k.kept.places.once here.key at.key here.tx at.tx here.found at.found (here.serial ∙ sym at.serial) in
+    let same : here.tx ≡ at.tx = some_tx here.tx at.tx (sym here.found ∙ (ap (get b.txns) key ∙ at.found)) in
+    ap stands_still (sym same) ∙ still.1
+  where
+    some_tx : (x y : Tx) → Some x ≡ Some y → x ≡ y
+    some_tx x y e = cc
+
+-- what the look at who stands in the way tells
 pub blocked_if : (l : Loaded) (b : Book) (call : Call) (set : List Lock) (walk : Bool) → IsBook l.codes b
     → Takes (core_of l b) call → ((q : Record) → mode_in set q ≡ locks_of (decls l.codes) call q) → Rising set
     → (name : Record) (holder : ℕ) → stands_in_the_way (core_of l b) call name holder ≡ true
@@ -215,9 +253,8 @@ blocked_if l b call set walk k takes are rising name holder stands all some = (
     stands = stands;
     stranded = λ r t here.
         let at = holder_at l b call r t k here in
-        let clash = subst (λ (n : ℕ). clashes set (held_by b.locks n) ≡ true) (sym at.serial)
-        (clash_of_holder l.codes b.log.events t b.locks set call r k.kept.locks_are are here) in
-        stranded_kept (core_of l b) t at.tx at.sees (k.marked.marks at.key at.tx at.found) ∙ not_false (stands_still at.tx) (all e at.key at.tx at.found clash);
+        let clash = clash_of_holder l.codes b.log.events t b.locks set call r k.kept.locks_are are here in
+        stranded_kept (core_of l b) t at.tx at.sees (k.marked.marks at.key at.tx at.found) ∙ still_at l b t k at (all e t clash);
   },
   λ blocked. by walk refl blocked,
 )
@@ -226,7 +263,9 @@ blocked_if l b call set walk k takes are rising name holder stands all some = (
     by true e blocked = refl
     by false e blocked =
         let up = some e in
-        let w = seen _ _ _ _ _ _ _ _ up.key up.tx.serial up.tx k.kept up.found refl in
-        let way = holder_of_clash l.codes b.log.events up.tx.serial b.locks set call k.kept.locks_are are rising up.clash in
-        let still : true ≡ false = sym (blocked.stranded way.name up.tx.serial way.stands) ∙ (stranded_kept (core_of l b) up.tx.serial up.tx w (k.marked.marks up.key up.tx up.found) ∙ up.moves) in
+        let at = up.moves.at in
+        let w = seen _ _ _ _ _ _ _ _ at.key up.txn at.tx k.kept at.found at.serial in
+        let way = holder_of_clash l.codes b.log.events up.txn b.locks set call k.kept.locks_are are rising up.clash in
+        let still : true ≡ false = sym (blocked.stranded way.name up.txn way.stands)
+        ∙ (stranded_kept (core_of l b) up.txn at.tx w (k.marked.marks at.key at.tx at.found) ∙ up.moves.moves) in
         absurd (cc)

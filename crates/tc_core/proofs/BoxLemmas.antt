@@ -39,9 +39,21 @@ module _ {A : Type 0} where
   count_in_box : (slots : List (Option (Box Tx A))) → count_by is_some (map in_box slots) ≡ count_by is_some slots
   count_in_box [] = refl
   count_in_box (None ∷ slots) =
-      omega (arith, count_in_box slots, sum_by-cons (λ (o : Option Tx). cond (is_some o) 1 0) None (map in_box slots), sum_by-cons (λ (o : Option (Box Tx A)). cond (is_some o) 1 0) None slots)
+      omega (
+        arith,
+        count_in_box slots,
+        sum_by-cons (λ (o : Option Tx). cond (is_some o) 1 0) None
+            (map in_box slots),
+        sum_by-cons (λ (o : Option (Box Tx A)). cond (is_some o) 1 0) None slots,
+      )
   count_in_box (Some b ∷ slots) =
-      omega (arith, count_in_box slots, sum_by-cons (λ (o : Option Tx). cond (is_some o) 1 0) (Some b.value) (map in_box slots), sum_by-cons (λ (o : Option (Box Tx A)). cond (is_some o) 1 0) (Some b) slots)
+      omega (
+        arith,
+        count_in_box slots,
+        sum_by-cons (λ (o : Option Tx). cond (is_some o) 1 0) (Some b.value)
+            (map in_box slots),
+        sum_by-cons (λ (o : Option (Box Tx A)). cond (is_some o) 1 0) (Some b) slots,
+      )
 
   some_in_box : (slot : Option (Box Tx A)) → IsSome (in_box slot) → IsSome slot
   some_in_box None some = some
@@ -87,13 +99,16 @@ module _ {A : Type 0} where
     seen-some key b at = ap (λ (s : Slab Tx). get s key) (sym view) ∙ unboxed-some n txns key b at
 
     pub has-box : (key : ℕ) → ContainsKey seen key → ContainsKey txns key
-    has-box key there = some_in_box (get txns key) (subst (λ (o : Option Tx). IsSome o) (ap (λ (s : Slab Tx). get s key) (sym view) ∙ unboxed-at n txns key) there)
+    has-box key there = some_in_box (get txns key) (subst (λ (o : Option Tx). IsSome o)
+        (ap (λ (s : Slab Tx). get s key) (sym view) ∙ unboxed-at n txns key) there)
 
     pub seen-vacant : (key : ℕ) → get txns key ≡ None → get seen key ≡ None
     seen-vacant key vacant = ap (λ (s : Slab Tx). get s key) (sym view) ∙ (unboxed-at n txns key ∙ ap in_box vacant)
 
-    pub seen-updates : (n' : ℕ) (txns' : Slab (Box Tx A)) (key : ℕ) (slot : Option (Box Tx A)) → Updates txns txns' key slot → Updates seen (unboxed n' txns') key (in_box slot)
-    seen-updates n' txns' key slot up = subst (λ (s : Slab Tx). Updates s (unboxed n' txns') key (in_box slot)) view (unboxed-updates n n' txns txns' key slot up)
+    pub seen-updates : (n' : ℕ) (txns' : Slab (Box Tx A)) (key : ℕ) (slot : Option (Box Tx A))
+        → Updates txns txns' key slot → Updates seen (unboxed n' txns') key (in_box slot)
+    seen-updates n' txns' key slot up = subst (λ (s : Slab Tx). Updates s (unboxed n' txns') key (in_box slot)) view
+        (unboxed-updates n n' txns txns' key slot up)
 
     -- the transaction in the box at a key goes on
     pub goes-on : (key : ℕ) (b b' : Box Tx A) (tx : Tx) (f : Tx → Tx) → get txns key ≡ Some b → get seen key ≡ Some tx → b'.value ≡ f b.value
@@ -123,7 +138,8 @@ module _ {A : Type 0} where
       keys-moved keys (unboxed n txns) (unboxed n (with_value txns key b')) key b.value b'.value are (unboxed-some n txns key b at)
       (unboxed-updates n n txns (with_value txns key b') key (Some b') (Updates-with_value txns key b' (ap is_some at))) same
 
-  pub written-boxed : {Z : Type 0} (txns : Slab (Box Tx A)) (boxes : Vec (Box Tx A) Z) (key : ℕ) (b b' : Box Tx A) → get txns key ≡ Some b → AreBoxed txns boxes → AreBoxed (with_value txns key b') boxes
+  pub written-boxed : {Z : Type 0} (txns : Slab (Box Tx A)) (boxes : Vec (Box Tx A) Z) (key : ℕ) (b b' : Box Tx A)
+      → get txns key ≡ Some b → AreBoxed txns boxes → AreBoxed (with_value txns key b') boxes
   written-boxed txns boxes key b b' at are =
       let len = written_len txns key b' (ap is_some at) in
       let begin = are.begin in
@@ -131,7 +147,8 @@ module _ {A : Type 0} where
       record { begin = omega (arith, len, begin); end = omega (arith, len, end) }
 
   -- there is a box, and room for a key
-  pub room-some : (txns : Slab (Box Tx A)) (seen : Slab Tx) (boxes room : ℕ) → unboxed (ready boxes room) txns ≡ seen → HasRoomFor seen 1 → (1 ≤ boxes) × (1 ≤ room)
+  pub room-some : (txns : Slab (Box Tx A)) (seen : Slab Tx) (boxes room : ℕ) → unboxed (ready boxes room) txns ≡ seen
+      → HasRoomFor seen 1 → (1 ≤ boxes) × (1 ≤ room)
   room-some txns seen boxes room view has =
       let has' : slab_len (unboxed (ready boxes room) txns) + 1 ≤ slab_len txns + ready boxes room = subst (λ (s : Slab Tx). HasRoomFor s 1) (sym view) has in
       let len = unboxed-len (ready boxes room) txns in

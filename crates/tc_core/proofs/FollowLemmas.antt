@@ -1,5 +1,6 @@
 -- What a book takes in is what may come next.
-use Rattle.std.proofs.Common.{◌≡◌, ◌≢◌, ℕ, ◌+◌, true, false, List, [], ◌∷◌, ◌++◌, length, replicate, zero, suc, Option, Some, None, Ok, Err, arith, refl, sym, ◌∙◌, ap, subst}
+use Rattle.std.proofs.Common.{◌≡◌, ◌≢◌, ℕ, ◌+◌, true, false, List, [], ◌∷◌, ◌++◌, length, replicate, zero, suc, Option}
+use Rattle.std.proofs.Common.{Some, None, Ok, Err, arith, refl, sym, ◌∙◌, ap, subst}
 use Rattle.std.proofs.Common.{append_assoc, length-append}
 use Rattle.std.proofs.lemmas.List.{append-nil}
 use Rattle.std.specs.Prelude.{slice_get}
@@ -29,7 +30,8 @@ use Rattle.transactions.proofs.Allowing.{asks_allowed, undoes_allowed, ends_allo
 use Rattle.transactions.specs.declared.Site.{Site}
 use Rattle.transactions.specs.InFlight.{untold, site_of}
 use Rattle.tc_core.specs.Core.{Core, Asking}
-use Rattle.tc_core.specs.Replies.{next_at, asked_by, undo_by, undone, ask_reply, undo_reply, after_ask, after_undo, over_in, end_of, end_reply, after_end, is_heard, IsAnswer}
+use Rattle.tc_core.specs.Replies.{next_at, asked_by, undo_by, undone, ask_reply, undo_reply, after_ask, after_undo}
+use Rattle.tc_core.specs.Replies.{over_in, end_of, end_reply, after_end, is_heard, IsAnswer}
 use Rattle.tc_core.specs.Checking.{IsFirstIllegal}
 use Rattle.tc_core.specs.Joining.Follows.{AreUntold, IsAsked, IsFurther, awaited_by, awaited_in}
 use Rattle.tc_core.specs.declared.state.Receipt.{Receipt}
@@ -48,7 +50,8 @@ same_request a b r q e f g = cc
 ask_txn : (t last : ℕ) (n : Option Next) (r : Asking) → asked_by t last n ≡ reply.Request r → r.txn ≡ t
 ask_txn t last None r e = absurd cc
 ask_txn t last (Some (next.Waits n)) r e = absurd cc
-ask_txn t last (Some (next.Asks o)) r e = (let this : Asking = record { txn = t; number = last + 1; op = o } in let same : this ≡ r = cc in sym (ap (λ (x : Asking). x.txn) same))
+ask_txn t last (Some (next.Asks o)) r e = (let this : Asking = record { txn = t; number = last + 1; op = o } in
+    let same : this ≡ r = cc in sym (ap (λ (x : Asking). x.txn) same))
 ask_txn t last (Some (next.Undoes o)) r e = absurd cc
 ask_txn t last (Some (next.Stuck n)) r e = absurd cc
 ask_txn t last (Some (next.Over o)) r e = absurd cc
@@ -59,8 +62,10 @@ same_ask t u n m o q h e f g = cc
 same_undo : (t u n m : ℕ) (o q : Op) (h : List Event) → t ≡ u → n ≡ m → o ≡ q → Undo t n o ∷ h ≡ Undo u m q ∷ h
 same_undo t u n m o q h e f g = cc
 
-pub ask_follows : (c : Core) (t n : ℕ) (o : Op) (a : Asked) (h : List Event) → a ≡ ask_reply c t → h ≡ (after_ask c a).events → IsAsked a n o → h ≡ Ask t n o ∷ c.events
-ask_follows c t n o (reply.Request r) h is after asked = after ∙ same_ask r.txn t r.number n r.op o c.events (ask_txn t (given c.events) (next_at c t) r (sym is)) asked.number asked.op
+pub ask_follows : (c : Core) (t n : ℕ) (o : Op) (a : Asked) (h : List Event) → a ≡ ask_reply c t
+    → h ≡ (after_ask c a).events → IsAsked a n o → h ≡ Ask t n o ∷ c.events
+ask_follows c t n o (reply.Request r) h is after asked = after
+    ∙ same_ask r.txn t r.number n r.op o c.events (ask_txn t (given c.events) (next_at c t) r (sym is)) asked.number asked.op
 ask_follows c t n o reply.Undoing h is after asked = absurd asked
 ask_follows c t n o reply.Over h is after asked = absurd asked
 ask_follows c t n o (reply.Stuck m) h is after asked = absurd asked
@@ -87,12 +92,16 @@ undo_txn : (t last : ℕ) (n : Option Next) (r : Asking) → undo_by t last n �
 undo_txn t last None r e = absurd cc
 undo_txn t last (Some (next.Waits n)) r e = absurd cc
 undo_txn t last (Some (next.Asks o)) r e = absurd cc
-undo_txn t last (Some (next.Undoes o)) r e = (let this : Asking = record { txn = t; number = last + 1; op = o } in let same : this ≡ r = cc in sym (ap (λ (x : Asking). x.txn) same))
+undo_txn t last (Some (next.Undoes o)) r e = (let this : Asking = record { txn = t; number = last + 1; op = o } in
+    let same : this ≡ r = cc in sym (ap (λ (x : Asking). x.txn) same))
 undo_txn t last (Some (next.Stuck n)) r e = absurd cc
 undo_txn t last (Some (next.Over o)) r e = absurd (never_asks o r e)
 
-pub undo_follows : (c : Core) (t n : ℕ) (o : Op) (a : Asked) (h : List Event) → a ≡ undo_reply c t → h ≡ (after_undo c a).events → IsAsked a n o → h ≡ Undo t n o ∷ c.events
-undo_follows c t n o (reply.Request r) h is after asked = after ∙ same_undo r.txn t r.number n r.op o c.events (undo_txn t (given c.events) (next_at c t) r (sym is)) asked.number asked.op
+pub undo_follows : (c : Core) (t n : ℕ) (o : Op) (a : Asked) (h : List Event) → a ≡ undo_reply c t
+    → h ≡ (after_undo c a).events → IsAsked a n o → h ≡ Undo t n o ∷ c.events
+undo_follows c t n o (reply.Request r) h is after asked = after
+    ∙ same_undo r.txn t r.number n r.op o c.events (undo_txn t (given c.events) (next_at c t) r
+    (sym is)) asked.number asked.op
 undo_follows c t n o reply.Undoing h is after asked = absurd asked
 undo_follows c t n o reply.Over h is after asked = absurd asked
 undo_follows c t n o (reply.Stuck m) h is after asked = absurd asked
@@ -127,17 +136,33 @@ are_untold (suc n) zero = refl
 are_untold (suc n) (suc d) = are_untold n d
 
 -- where nothing is told of data components each is up, and of incarnation 0
-heard_untold : (sites : List Site) (o : Op) (n : ℕ) (said : Said) → AreUntold sites → is_heard (site_of sites o) (record { number = n; incarnation = 0; said = said }) ≡ true
+heard_untold : (sites : List Site) (o : Op) (n : ℕ) (said : Said) → AreUntold sites
+    → is_heard (site_of sites o) (record { number = n; incarnation = 0; said = said }) ≡ true
 heard_untold sites o n said untold = rw (untold (target o).dc) refl
 
-pub answer_else : (c : Core) (t n : ℕ) (o : Op) (said : Said) → AreUntold c.sites → Some o ≡ awaited_in (standing c.events t) n → (IsAnswer c (request t n o) (record { number = n; incarnation = 0; said = said }) → ⊥) → CanAnswer c.procs c.events t n said → ⊥
+pub answer_else : (c : Core) (t n : ℕ) (o : Op) (said : Said) → AreUntold c.sites
+    → Some o ≡ awaited_in (standing c.events t) n → (IsAnswer c (request t n o)
+    (record { number = n; incarnation = 0; said = said }) → ⊥) → CanAnswer c.procs c.events t n said → ⊥
 answer_else c t n o said none some not can =
     let same : can.r.op ≡ o = some_same can.r.op o (sym (awaited_if c t n said can) ∙ sym some) in
-    not (record { s = can.s; is = can.is; sent = can.r; waits = can.waits; same_number = can.number; same_op = same; heard = heard_untold c.sites o n said none; agree = refl; fit = subst (λ (x : Op). fits x said ≡ true) same can.fit })
+    not (record {
+      s = can.s;
+      is = can.is;
+      sent = can.r;
+      waits = can.waits;
+      same_number = can.number;
+      same_op =
+          same;
+      heard = heard_untold c.sites o n said none;
+      agree = refl;
+      fit =
+          subst (λ (x : Op). fits x said ≡ true) same can.fit;
+    })
 
 -- ---- ends
 
-pub end_follows : (c : Core) (t : ℕ) (o : Outcome) (r : Receipt) (e : Option Outcome) (h : List Event) → Ok r ≡ end_reply c t e → h ≡ (after_end c t e).events → r.outcome ≡ o → h ≡ End t o ∷ c.events
+pub end_follows : (c : Core) (t : ℕ) (o : Outcome) (r : Receipt) (e : Option Outcome) (h : List Event)
+    → Ok r ≡ end_reply c t e → h ≡ (after_end c t e).events → r.outcome ≡ o → h ≡ End t o ∷ c.events
 end_follows c t o r None h is after same = absurd cc
 end_follows c t o r (Some q) h is after same =
     let receipt : Receipt = record { place = length c.events; txn = t; outcome = q } in
@@ -187,12 +212,15 @@ end_further c t (Some o) = refl
 pub none_there : (c : Core) (t : ℕ) (call : Call) → slice_get c.procs call.proc ≡ None → CanAdmit c.procs c.events t call → ⊥
 none_there c t call none can = none_some _ can.q none can.loaded
 
-pub other_count : (c : Core) (t : ℕ) (call : Call) → (q : Checked) × (slice_get c.procs call.proc ≡ Some q) × (length call.args ≢ q.decl.args) → CanAdmit c.procs c.events t call → ⊥
+pub other_count : (c : Core) (t : ℕ) (call : Call) → (q : Checked) × (slice_get c.procs call.proc ≡ Some q)
+    × (length call.args ≢ q.decl.args) → CanAdmit c.procs c.events t call → ⊥
 other_count c t call w can =
     let same : can.q ≡ w.0 = some_same can.q w.0 (sym can.loaded ∙ w.1) in
     w.2 (can.takes.count ∙ ap (λ (q : Checked). q.decl.args) same)
 
-pub in_its_way : (c : Core) (t : ℕ) (call : Call) (r : Record) (u : ℕ) → in_the_way (held (decls c.procs) c.events) (locks_of (decls c.procs) call) r u ≡ true → CanAdmit c.procs c.events t call → ⊥
+pub in_its_way : (c : Core) (t : ℕ) (call : Call) (r : Record) (u : ℕ)
+    → in_the_way (held (decls c.procs) c.events) (locks_of (decls c.procs) call) r u ≡ true
+    → CanAdmit c.procs c.events t call → ⊥
 in_its_way c t call r u stands can = (let bad : true ≡ false = sym stands ∙ can.free r u in cc)
 
 pub other_serial : (c : Core) (t serials : ℕ) (call : Call) → serials ≡ admitted c.events → (serials + 1 ≡ t → ⊥) → CanAdmit c.procs c.events t call → ⊥
@@ -216,7 +244,11 @@ rest_is whole h k e begins count at =
     same_rest (at.later ++ e ∷ []) begins.later at.earlier h one (at.count ∙ sym count)
 
 pub begins_more : (whole h : List Event) (k : ℕ) (e : Event) → Begins h whole → length h ≡ k → StandsAt whole k e → Begins (e ∷ h) whole
-begins_more whole h k e begins count at = record { later = at.later; is = at.is ∙ ap (λ (x : List Event). at.later ++ e ∷ x) (rest_is whole h k e begins count at) }
+begins_more whole h k e begins count at = record {
+  later = at.later;
+  is = at.is
+      ∙ ap (λ (x : List Event). at.later ++ e ∷ x) (rest_is whole h k e begins count at);
+}
 
 pub begins_none : (whole : List Event) → Begins [] whole
 begins_none whole = record { later = whole; is = sym (append-nil whole) }
@@ -224,7 +256,8 @@ begins_none whole = record { later = whole; is = sym (append-nil whole) }
 pub begins_all : (whole h : List Event) → Begins h whole → length h ≡ length whole → h ≡ whole
 begins_all whole h begins count = same_rest begins.later [] h whole (sym begins.is) count
 
-pub first_illegal : (ps : List Checked) (whole h : List Event) (k : ℕ) (e : Event) → Begins h whole → length h ≡ k → StandsAt whole k e → Legal ps h → (Allowed ps h e → ⊥) → IsFirstIllegal ps whole k
+pub first_illegal : (ps : List Checked) (whole h : List Event) (k : ℕ) (e : Event) → Begins h whole → length h ≡ k
+    → StandsAt whole k e → Legal ps h → (Allowed ps h e → ⊥) → IsFirstIllegal ps whole k
 first_illegal ps whole h k e begins count at legal illegal =
     let same = rest_is whole h k e begins count at in
     record {

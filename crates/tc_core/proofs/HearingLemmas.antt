@@ -18,12 +18,34 @@ use Rattle.tc_core.specs.declared.transaction.Tx.{Tx}
 -- the standing behind an answer to an undo (true) or a question (false)
 abbrev answered_as : Bool → Op → Said → Standing → Standing
 answered_as b o said s =
-    record { call = s.call; answers = told_to b said s.answers; sent = None; full = s.full || found_full b said; undo = undo_done b o said s.undo; tries = tries_done b said s.tries; used = s.used; last = s.last }
+    record {
+      call = s.call;
+      answers = told_to b said s.answers;
+      sent = None;
+      full =
+          s.full || found_full b said;
+      undo = undo_done b o said s.undo;
+      tries = tries_done b said s.tries;
+      used =
+          s.used;
+      last = s.last;
+    }
 
 -- the same, where what it waits for is given
 abbrev answered_to : Option Sent → Said → Standing → Standing
 answered_to r said s =
-    record { call = s.call; answers = answers_after r said s.answers; sent = None; full = full_after r said s.full; undo = undo_after r said s.undo; tries = tries_after r said s.tries; used = s.used; last = s.last }
+    record {
+      call = s.call;
+      answers = answers_after r said s.answers;
+      sent = None;
+      full =
+          full_after r said s.full;
+      undo = undo_after r said s.undo;
+      tries = tries_after r said s.tries;
+      used =
+          s.used;
+      last = s.last;
+    }
 
 or_none : (x : Bool) → (x || false) ≡ x
 or_none true = refl
@@ -39,7 +61,8 @@ waits_for q tx s said r m e = some_same m.r r (sym m.waits ∙ (sym m.keeps.sent
 
 pub keeps_undone : (q : Checked) (tx tx1 : Tx) (s : Standing) (said : Said) (r : Sent) → MayHear q tx s said → tx.sent ≡ Some r → r.undoing ≡ true
     → tx1 ≡ record tx { sent = None; undo = tx1.undo; tries = tx1.tries; in_doubt = false }
-    → tx1.undo.ops ≡ undo_done true r.op said tx.undo.ops → tx1.tries ≡ tries_done true said tx.tries → length tx1.undo.ops + tx1.undo.room ≡ length tx.undo.ops + tx.undo.room
+    → tx1.undo.ops ≡ undo_done true r.op said tx.undo.ops → tx1.tries ≡ tries_done true said tx.tries
+    → length tx1.undo.ops + tx1.undo.room ≡ length tx.undo.ops + tx.undo.room
     → Keeps q tx1 (answered said s)
 keeps_undone q tx tx1 s said r m e u rest ops tries room =
     let k = m.keeps in
@@ -54,7 +77,8 @@ keeps_undone q tx tx1 s said r m e u rest ops tries room =
       last = ap (λ (x : Tx). x.last) rest ∙ k.last;
       left = ap (λ (x : Tx). x.left) rest ∙ k.left;
       room = omega (arith, room, kept_room);
-      runs = subst (λ (x : Tx). Runs q x s.call.args s.answers) (sym rest) (record { started = k.runs.started; call = k.runs.call; layout = k.runs.layout; pauses = k.runs.pauses });
+      runs = subst (λ (x : Tx). Runs q x s.call.args s.answers) (sym rest)
+          (record { started = k.runs.started; call = k.runs.call; layout = k.runs.layout; pauses = k.runs.pauses });
     })
 
 -- it waits for the answer to its question
@@ -96,7 +120,18 @@ pub resumes : (q : Checked) (tx tx1 : Tx) (args : List ℕ) (answers : List Said
     → tx1 ≡ record tx { undo = tx1.undo; in_doubt = tx1.in_doubt } → MayResume q tx args answers o said → MayResume q tx1 args answers o said
 resumes q tx tx1 args answers o said rest m =
     subst (λ (x : Tx). MayResume q x args answers o said) (sym rest)
-    (record { runs = record { started = m.runs.started; call = m.runs.call; layout = m.runs.layout; pauses = m.runs.pauses }; fit = m.fit; asks = m.asks; fits = m.fits })
+    (record {
+      runs = record {
+        started = m.runs.started;
+        call = m.runs.call;
+        layout = m.runs.layout;
+        pauses =
+            m.runs.pauses;
+      };
+      fit = m.fit;
+      asks = m.asks;
+      fits = m.fits;
+    })
 
 -- the run stands where it does, whatever is waited for
 pub runs_on : (q : Checked) (tx : Tx) (args : List ℕ) (answers : List Said) → Runs q tx args answers → Runs q (record tx { sent = None }) args answers

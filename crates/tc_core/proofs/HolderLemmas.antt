@@ -1,73 +1,103 @@
--- A look among the open transactions for one that stands in the way.
-use Rattle.std.proofs.Common.{ap, inl, inr, ◌∙◌, ◌≡◌, ◌≢◌, ℕ, Bool, not, ◌&&◌, List, [], ◌∷◌, Some, true, false, subst, sym, refl, arith, Contains}
-use Rattle.std.specs.Prelude.{Box}
-use Rattle.slab.specs.Slab.{Slab, get, entries}
-use Rattle.slab.proofs.SlabLemmas.{Contains-cons, Contains-cons_cases, Contains-entries}
+-- A look at the transactions that keep a lock out, one after another.
+use Rattle.std.proofs.Common.{◌≡◌, ◌⊎◌, ℕ, zero, suc, ◌-◌, ◌^◌, ◌<◌, Bool, true, false, ◌||◌, List, [], ◌∷◌, length, get_or, Option, Some, None}
+use Rattle.std.proofs.Common.{arith, refl, sym, ◌∙◌, ap, subst, inl, inr, true≢false}
+use Rattle.std.proofs.lemmas.Bool.{cases_eq, cases_lt}
 use Rattle.access_slots.specs.declared.lock.Lock.{Lock}
-use Rattle.lock_table.specs.Clashes.{clashes}
+use Rattle.lock_table.specs.Clashes.{clashes, keeps_out}
 use Rattle.lock_table.specs.Facts.{Table, held_by}
-use Rattle.tc_core.specs.Joining.Holders.{stands_still, HoldsUp}
-use Rattle.tc_core.specs.Joining.Boxes.{unboxed}
+use Rattle.lock_table.specs.Rows.{IsLeast, IsNext}
+use Rattle.lock_table.proofs.Steps.{any_lock}
+use Rattle.slab.specs.Slab.{Slab}
+use Rattle.tc_core.specs.Joining.Holders.{IsStill}
 use Rattle.tc_core.specs.declared.transaction.Tx.{Tx}
-use Rattle.tc_core.proofs.BoxLemmas.{boxed, unboxed-some}
 
-both_if : (a b : Bool) → (not a && b) ≡ false → b ≡ true → a ≡ false → ⊥
-both_if true b e f g = absurd (let bad : true ≡ false = g in cc)
-both_if false b e f g = absurd (let bad : false ≡ true = sym e ∙ f in cc)
+never : {A : Type 0} (b : Bool) → b ≡ true → b ≡ false → A
+never b yes_it no_it = absurd (true≢false (sym yes_it ∙ no_it))
 
-moves_if : (a b : Bool) → (not a && b) ≡ true → a ≡ false
-moves_if true b e = absurd (let bad : false ≡ true = e in cc)
-moves_if false b e = refl
+-- below the one that is looked at; all, where there is none
+abbrev pub IsPassed : Option ℕ → ℕ → Type 0
+IsPassed None t = Unit {0}
+IsPassed (Some u) t = t < u
 
-clash_if : (a b : Bool) → (not a && b) ≡ true → b ≡ true
-clash_if true b e = absurd (let bad : false ≡ true = e in cc)
-clash_if false b e = e
+-- each of those that pass the test stands still, as far as they were looked at
+abbrev pub AreStill : (ℕ → Bool) → Slab Tx → Option ℕ → Type 0
+AreStill p txns holder = (t : ℕ) → p t ≡ true → IsPassed holder t → IsStill txns t
 
-module _ {A : Type 0} where
-  -- whether it stands in the way of these locks, and is neither in doubt nor stuck
-  abbrev pub stands_in_way : Table → List Lock → Box Tx A → Bool
-  stands_in_way locks wanted b = not (stands_still b.value) && clashes wanted (held_by locks b.value.serial)
+abbrev pub IsIn : (ℕ → Bool) → Option ℕ → Type 0
+IsIn p None = Unit {0}
+IsIn p (Some t) = p t ≡ true
 
-  -- each that is so is among the entries that are left, and those are the slab's
-  pub record AreLeft (txns : Slab (Box Tx A)) (locks : Table) (wanted : List Lock) (left : List (ℕ × Box Tx A)) : Type 0 where
-    pub among : (key : ℕ) (b : Box Tx A) → get txns key ≡ Some b → clashes wanted (held_by locks b.value.serial) ≡ true → stands_still b.value ≡ false → Contains left (key, b)
-    pub there : (key : ℕ) (b : Box Tx A) → Contains left (key, b) → get txns key ≡ Some b
+pub still_first : (p : ℕ → Bool) (txns : Slab Tx) (o : Option ℕ) → IsLeast p o → AreStill p txns o
+still_first p txns None least = λ t here passed. never (p t) here (least t)
+still_first p txns (Some u) least = λ t here passed. never (p t) here (least.1 t passed)
 
-  pub left-all : (txns : Slab (Box Tx A)) (locks : Table) (wanted : List Lock) (left : List (ℕ × Box Tx A)) → left ≡ entries txns → AreLeft txns locks wanted left
-  left-all txns locks wanted left is = record {
-    among = λ key b found clash moves. rw is ((Contains-entries txns key b).1 found);
-    there = λ key b there. (Contains-entries txns key b).0 (rw is at there);
-  }
+pub in_first : (p : ℕ → Bool) (o : Option ℕ) → IsLeast p o → IsIn p o
+in_first p None least = tt
+in_first p (Some u) least = least.0
 
-  pub left-more : (txns : Slab (Box Tx A)) (locks : Table) (wanted : List Lock) (left left' : List (ℕ × Box Tx A)) (key : ℕ) (b : Box Tx A) → left ≡ (key, b) ∷ left'
-      → AreLeft txns locks wanted left → stands_in_way locks wanted b ≡ false → AreLeft txns locks wanted left'
-  left-more txns locks wanted left left' key b at are out = record {
-    among = λ k x found clash moves. elim (Contains-cons_cases _ _ _ (rw at at (are.among k x found clash moves))) [
-      | inl same ↦
-          let it : b ≡ x = ap (λ (e : ℕ × Box Tx A). e.1) same in
-          absurd (both_if (stands_still b.value) (clashes wanted (held_by locks b.value.serial)) out
-          (subst (λ (y : Box Tx A). clashes wanted (held_by locks y.value.serial) ≡ true) (sym it) clash) (subst (λ (y : Box Tx A). stands_still y.value ≡ false) (sym it) moves))
-      | inr rest ↦ rest
-    ];
-    there = λ k x there. are.there k x (rw at (Contains-cons _ _ _ there));
-  }
+pub still_next : (p : ℕ → Bool) (txns : Slab Tx) (u : ℕ) (o : Option ℕ) → AreStill p txns (Some u) → IsStill txns u → IsNext p u o → AreStill p txns o
+still_next p txns u o are still next = λ t here passed. elim (cases_lt t u) [
+  | inl below ↦ are t here below
+  | inr above ↦ elim (cases_eq u t) [
+    | inl same ↦ subst (IsStill txns) same still
+    | inr ne ↦ by o next t (omega (arith, above, ne)) here passed
+  ]
+]
+  where
+    by : (o : Option ℕ) → IsNext p u o → (t : ℕ) → u < t → p t ≡ true → IsPassed o t → IsStill txns t
+    by None s t above here passed = never (p t) here (s t above)
+    by (Some n) s t above here passed = never (p t) here (s.2 t above passed)
 
-  pub holds-up : (n : ℕ) (txns : Slab (Box Tx A)) (locks : Table) (wanted : List Lock) (left left' : List (ℕ × Box Tx A)) (key : ℕ) (b : Box Tx A) → left ≡ (key, b) ∷ left'
-      → AreLeft txns locks wanted left → stands_in_way locks wanted b ≡ true → HoldsUp locks (unboxed n txns) wanted
-  holds-up n txns locks wanted left left' key b at are yes_it =
-      let head : Contains left (key, b) = rw at (0, omega arith, refl) in
-      record {
-        key = key;
-        tx = b.value;
-        found = unboxed-some n txns key b (are.there key b head);
-        clash = clash_if (stands_still b.value) (clashes wanted (held_by locks b.value.serial)) yes_it;
-        moves = moves_if (stands_still b.value) (clashes wanted (held_by locks b.value.serial)) yes_it;
-      }
+pub in_next : (p : ℕ → Bool) (u : ℕ) (o : Option ℕ) → IsNext p u o → IsIn p o
+in_next p u None next = tt
+in_next p u (Some n) next = next.1
 
-  -- none is left, so each in the way stands still
-  pub left-none : (n : ℕ) (txns : Slab (Box Tx A)) (locks : Table) (wanted : List Lock) → AreLeft txns locks wanted []
-      → (key : ℕ) (tx : Tx) → get (unboxed n txns) key ≡ Some tx → clashes wanted (held_by locks tx.serial) ≡ true → stands_still tx ≢ false
-  left-none n txns locks wanted are key tx found clash moves =
-      let b = boxed n txns key tx found in
-      let there = are.among key b.0 b.1 (subst (λ (y : Tx). clashes wanted (held_by locks y.serial) ≡ true) (sym b.2) clash) (subst (λ (y : Tx). stands_still y ≡ false) (sym b.2) moves) in
-      omega (arith, there.1)
+-- how many numbers are left to look at
+abbrev pub left_above : Option ℕ → ℕ
+left_above None = 0
+left_above (Some t) = 2 ^ 64 - t
+
+pub left_less : (p : ℕ → Bool) (u : ℕ) (o x : Option ℕ) → x ≡ Some u → u < 2 ^ 64 → IsNext p u o → left_above o < left_above x
+left_less p u o x is small next = subst (λ (y : Option ℕ). left_above o < left_above y) (sym is) (by o next)
+  where
+    by : (o : Option ℕ) → IsNext p u o → left_above o < 2 ^ 64 - u
+    by None s = omega (arith, small)
+    by (Some n) s = omega (arith, small, s.0)
+
+-- ---- locks one after another
+
+-- each whose locks clash stands still, or they do so at a lock that is left
+abbrev pub AreStillBut : Table → Slab Tx → List Lock → List Lock → Type 0
+AreStillBut held txns all left = (t : ℕ) → clashes all (held_by held t) ≡ true → IsStill txns t ⊎ (clashes left (held_by held t) ≡ true)
+
+pub still_after : (held : Table) (txns : Slab Tx) (all : List Lock) (l : Lock) (rest : List Lock) → AreStillBut held txns all (l ∷ rest)
+    → ((t : ℕ) → keeps_out (held_by held) l t ≡ true → IsStill txns t) → AreStillBut held txns all rest
+still_after held txns all l rest are still t clash = by (are t clash)
+  where
+    out : (b : Bool) → keeps_out (held_by held) l t ≡ b → clashes (l ∷ rest) (held_by held t) ≡ true → IsStill txns t ⊎ (clashes rest (held_by held t) ≡ true)
+    out true e here = inl (still t e)
+    out false e here = inr (sym (ap (λ (b : Bool). b || clashes rest (held_by held t)) e) ∙ here)
+
+    by : IsStill txns t ⊎ (clashes (l ∷ rest) (held_by held t) ≡ true) → IsStill txns t ⊎ (clashes rest (held_by held t) ≡ true)
+    by (inl s) = inl s
+    by (inr here) = out (keeps_out (held_by held) l t) refl here
+
+pub still_all : (held : Table) (txns : Slab Tx) (all left : List Lock) → left ≡ [] → AreStillBut held txns all left
+    → (t : ℕ) → clashes all (held_by held t) ≡ true → IsStill txns t
+still_all held txns all left none are t clash = by (subst (λ (ls : List Lock). IsStill txns t ⊎ (clashes ls (held_by held t) ≡ true)) none (are t clash))
+  where
+    by : IsStill txns t ⊎ (clashes [] (held_by held t) ≡ true) → IsStill txns t
+    by (inl s) = s
+    by (inr bad) = absurd (true≢false (sym bad))
+
+-- a set with a lock that is kept out clashes
+or_true : (b : Bool) → (b || true) ≡ true
+or_true true = refl
+or_true false = refl
+
+pub clash_here : (held : Table) (t : ℕ) (locks : List Lock) (i : ℕ) → i < length locks → keeps_out (held_by held) (get_or locks i any_lock) t ≡ true
+    → clashes locks (held_by held t) ≡ true
+clash_here held t [] i inside out = absurd (omega (arith, inside))
+clash_here held t (l ∷ locks) zero inside out = ap (λ (b : Bool). b || clashes locks (held_by held t)) out
+clash_here held t (l ∷ locks) (suc i) inside out =
+    ap (λ (b : Bool). keeps_out (held_by held) l t || b) (clash_here held t locks i (omega (arith, inside)) out) ∙ or_true (keeps_out (held_by held) l t)

@@ -80,7 +80,9 @@ places-moved ps h txns txns' key tx tx' e s s' p found up serial own is goes mat
         | inl same ↦ record { key = key; at = record { tx = tx'; found = up.changed; serial = serial ∙ (sym own ∙ same) } }
         | inr other ↦
             let k = p.each t r (sym (standing-other e h t other) ∙ at) in
-            let apart : k.key ≢ key = (λ same. other (own ∙ (sym (ap (λ (x : Tx). x.serial) (some_same k.at.tx tx (sym k.at.found ∙ (ap (get txns) same ∙ found)))) ∙ k.at.serial))) in
+            let apart : k.key ≢ key = (λ same. other (own ∙ (sym
+            (ap (λ (x : Tx). x.serial) (some_same k.at.tx tx (sym k.at.found ∙ (ap (get txns) same ∙ found))))
+            ∙ k.at.serial))) in
             record { key = k.key; at = record { tx = k.at.tx; found = up.others k.key apart ∙ k.at.found; serial = k.at.serial } }
       ];
       once = λ k l ty tz at at' same.
@@ -104,7 +106,8 @@ pub record Seen (ps : List Checked) (h : List Event) (t : ℕ) (tx : Tx) : Type 
   pub sound : Sound ps s
 
 reached_kept : (ps : List Checked) (tx : Tx) (s : Standing) → (m : Matches ps tx s) → reached ps s ≡ as_reached tx.pause
-reached_kept ps tx s m = ap (λ (x : Option Checked). reached_by x s.call.args s.answers) m.loaded ∙ paused_reached tx.pause tx.machine.config (stop_at m.q s.call.args s.answers) m.keeps.runs.pauses
+reached_kept ps tx s m = ap (λ (x : Option Checked). reached_by x s.call.args s.answers) m.loaded
+    ∙ paused_reached tx.pause tx.machine.config (stop_at m.q s.call.args s.answers) m.keeps.runs.pauses
 
 pub seen : (ps : List Checked) (log : History) (table : Table) (numbers : Given) (txns : Slab Tx) (serials owed promised key t : ℕ) (tx : Tx)
     → Kept ps log table numbers txns serials owed promised → get txns key ≡ Some tx → tx.serial ≡ t → Seen ps log.events t tx
@@ -122,7 +125,9 @@ seen ps log table numbers txns serials owed promised key t tx k found own =
 -- and what stands in a book at the key of this one
 pub seen-at : (ps : List Checked) (b : Book) (key t : ℕ) (tx : Tx) → IsBook ps b → StandsAt b.txns key t → get b.txns key ≡ Some tx
     → Seen ps b.log.events t tx
-seen-at ps b key t tx is stands at = seen ps b.log b.locks b.numbers b.txns b.serials b.owed b.promised key t tx is.kept at (serial-at b.txns key t tx stands at)
+seen-at ps b key t tx is stands at =
+    seen ps b.log b.locks b.numbers b.txns b.serials b.owed b.promised key t tx is.kept at
+    (serial-at b.txns key t tx stands at)
 
 -- what it does next is what the log says
 pub next_kept : (ps : List Checked) (h : List Event) (t : ℕ) (tx : Tx) → (w : Seen ps h t tx)
@@ -143,7 +148,8 @@ pub record Ready (ps : List Checked) (h : List Event) (s : Standing) (owed promi
   pub promised' : 0 < promised
 
 pub ask-ready : (ps : List Checked) (log : History) (table : Table) (numbers : Given) (txns : Slab Tx) (serials owed promised t : ℕ) (s : Standing) (o : Op)
-    → Kept ps log table numbers txns serials owed promised → standing log.events t ≡ Some s → next_of ps s ≡ Some (next.Asks o) → Ready ps log.events s owed promised
+    → Kept ps log table numbers txns serials owed promised → standing log.events t ≡ Some s
+    → next_of ps s ≡ Some (next.Asks o) → Ready ps log.events s owed promised
 ask-ready ps log table numbers txns serials owed promised t s o k is does =
     let sound = standing_sound ps k.good log.events k.legal t s is in
     let may = may_ask s.sent s.full (first_undo s.undo) s.tries s.last (reached ps s) o does in
@@ -174,7 +180,8 @@ pub record MaySend (log : History) (numbers : Given) (tx : Tx) (owed promised : 
   pub promised_left : 1 ≤ promised
 
 pub may-send : (ps : List Checked) (log : History) (table : Table) (numbers : Given) (txns : Slab Tx) (serials owed promised t : ℕ) (tx : Tx) (o : Op)
-    → Kept ps log table numbers txns serials owed promised → (w : Seen ps log.events t tx) → next_by tx.sent tx.full (first_undo tx.undo.ops) tx.tries tx.last (as_reached tx.pause) ≡ Some (next.Asks o)
+    → Kept ps log table numbers txns serials owed promised → (w : Seen ps log.events t tx)
+    → next_by tx.sent tx.full (first_undo tx.undo.ops) tx.tries tx.last (as_reached tx.pause) ≡ Some (next.Asks o)
     → MaySend log numbers tx owed promised
 may-send ps log table numbers txns serials owed promised t tx o k w does =
     let r = ask-ready ps log table numbers txns serials owed promised t w.s o k w.is (next_kept ps log.events t tx w ∙ does) in
@@ -187,12 +194,15 @@ may-send ps log table numbers txns serials owed promised t tx o k w does =
       promised_left = omega (arith, r.promised');
     }
 
-pub kept-ask : (ps : List Checked) (log log' : History) (table : Table) (numbers numbers' : Given) (txns txns' : Slab Tx) (serials owed promised key n : ℕ) (tx tx' : Tx) (o : Op)
+pub kept-ask : (ps : List Checked) (log log' : History) (table : Table) (numbers numbers' : Given)
+    (txns txns' : Slab Tx) (serials owed promised key n : ℕ) (tx tx' : Tx) (o : Op)
     → Kept ps log table numbers txns serials owed promised
-    → get txns key ≡ Some tx → (w : Seen ps log.events tx.serial tx) → next_by tx.sent tx.full (first_undo tx.undo.ops) tx.tries tx.last (as_reached tx.pause) ≡ Some (next.Asks o)
+    → get txns key ≡ Some tx → (w : Seen ps log.events tx.serial tx)
+    → next_by tx.sent tx.full (first_undo tx.undo.ops) tx.tries tx.last (as_reached tx.pause) ≡ Some (next.Asks o)
     → n ≡ numbers.last + 1 → log'.events ≡ Ask tx.serial n o ∷ log.events → log'.room + 1 ≡ log.room
     → numbers'.last ≡ n → numbers'.pending ≡ numbers.pending ++ n ∷ [] → numbers'.room + 1 ≡ numbers.room
-    → Updates txns txns' key (Some tx') → slab_len txns' ≡ slab_len txns → tx' ≡ record tx { sent = sent_as n o false; last = n; left = tx.left - 1; in_doubt = false }
+    → Updates txns txns' key (Some tx') → slab_len txns' ≡ slab_len txns
+    → tx' ≡ record tx { sent = sent_as n o false; last = n; left = tx.left - 1; in_doubt = false }
     → Kept ps log' table numbers' txns' serials (owed - 1) (promised - 1)
 kept-ask ps log log' table numbers numbers' txns txns' serials owed promised key n tx tx' o k found w does num events room last pend places up len made =
     let s = w.s in
@@ -225,7 +235,18 @@ kept-ask ps log log' table numbers numbers' txns txns' serials owed promised key
     } in
     let matches : Matches ps tx' s' = rw made (record { q = m.q; loaded = m.loaded; keeps = keeps }) in
     let p : Places ps (e ∷ h) txns' = places-moved ps h txns txns' key tx tx' e s s' k.places found up (rw made refl) refl is refl matches in
-    let legal : Legal ps (e ∷ h) = (record { s = s; is = is; idle = ready.idle; not_full = ready.room; asks = ready.asks o does'; next = omega (arith, num, k.last_is) }, k.legal) in
+    let legal : Legal ps (e ∷ h) = (
+      record {
+        s = s;
+        is = is;
+        idle = ready.idle;
+        not_full = ready.room;
+        asks =
+            ready.asks o does';
+        next = omega (arith, num, k.last_is);
+      },
+      k.legal,
+    ) in
     record {
       legal = rw events legal;
       good = k.good;
@@ -259,7 +280,8 @@ pub record UndoReady (ps : List Checked) (h : List Event) (s : Standing) (o : Op
   pub promised' : 0 < promised
 
 pub undo-ready : (ps : List Checked) (log : History) (table : Table) (numbers : Given) (txns : Slab Tx) (serials owed promised t : ℕ) (s : Standing) (o : Op)
-    → Kept ps log table numbers txns serials owed promised → standing log.events t ≡ Some s → next_of ps s ≡ Some (next.Undoes o) → UndoReady ps log.events s o owed promised
+    → Kept ps log table numbers txns serials owed promised → standing log.events t ≡ Some s
+    → next_of ps s ≡ Some (next.Undoes o) → UndoReady ps log.events s o owed promised
 undo-ready ps log table numbers txns serials owed promised t s o k is does =
     let sound = standing_sound ps k.good log.events k.legal t s is in
     let may = may_undo s.sent s.full (first_undo s.undo) s.tries s.last (reached ps s) o does in
@@ -289,7 +311,8 @@ pub record MaySendUndo (log : History) (numbers : Given) (tx : Tx) (owed promise
   pub tries : tx.tries < 4
 
 pub may-send-undo : (ps : List Checked) (log : History) (table : Table) (numbers : Given) (txns : Slab Tx) (serials owed promised t : ℕ) (tx : Tx) (o : Op)
-    → Kept ps log table numbers txns serials owed promised → (w : Seen ps log.events t tx) → next_by tx.sent tx.full (first_undo tx.undo.ops) tx.tries tx.last (as_reached tx.pause) ≡ Some (next.Undoes o)
+    → Kept ps log table numbers txns serials owed promised → (w : Seen ps log.events t tx)
+    → next_by tx.sent tx.full (first_undo tx.undo.ops) tx.tries tx.last (as_reached tx.pause) ≡ Some (next.Undoes o)
     → MaySendUndo log numbers tx owed promised
 may-send-undo ps log table numbers txns serials owed promised t tx o k w does =
     let r = undo-ready ps log table numbers txns serials owed promised t w.s o k w.is (next_kept ps log.events t tx w ∙ does) in
@@ -303,12 +326,15 @@ may-send-undo ps log table numbers txns serials owed promised t tx o k w does =
       tries = omega (arith, w.matches.keeps.tries, r.few);
     }
 
-pub kept-undo : (ps : List Checked) (log log' : History) (table : Table) (numbers numbers' : Given) (txns txns' : Slab Tx) (serials owed promised key n : ℕ) (tx tx' : Tx) (o : Op)
+pub kept-undo : (ps : List Checked) (log log' : History) (table : Table) (numbers numbers' : Given)
+    (txns txns' : Slab Tx) (serials owed promised key n : ℕ) (tx tx' : Tx) (o : Op)
     → Kept ps log table numbers txns serials owed promised
-    → get txns key ≡ Some tx → (w : Seen ps log.events tx.serial tx) → next_by tx.sent tx.full (first_undo tx.undo.ops) tx.tries tx.last (as_reached tx.pause) ≡ Some (next.Undoes o)
+    → get txns key ≡ Some tx → (w : Seen ps log.events tx.serial tx)
+    → next_by tx.sent tx.full (first_undo tx.undo.ops) tx.tries tx.last (as_reached tx.pause) ≡ Some (next.Undoes o)
     → n ≡ numbers.last + 1 → log'.events ≡ Undo tx.serial n o ∷ log.events → log'.room + 1 ≡ log.room
     → numbers'.last ≡ n → numbers'.pending ≡ numbers.pending ++ n ∷ [] → numbers'.room + 1 ≡ numbers.room
-    → Updates txns txns' key (Some tx') → slab_len txns' ≡ slab_len txns → tx' ≡ record tx { sent = sent_as n o true; tries = tx.tries + 1; last = n; left = tx.left - 1; in_doubt = false }
+    → Updates txns txns' key (Some tx') → slab_len txns' ≡ slab_len txns
+    → tx' ≡ record tx { sent = sent_as n o true; tries = tx.tries + 1; last = n; left = tx.left - 1; in_doubt = false }
     → Kept ps log' table numbers' txns' serials (owed - 1) (promised - 1)
 kept-undo ps log log' table numbers numbers' txns txns' serials owed promised key n tx tx' o k found w does num events room last pend places up len made =
     let s = w.s in
@@ -340,7 +366,19 @@ kept-undo ps log log' table numbers numbers' txns txns' serials owed promised ke
     } in
     let matches : Matches ps tx' s' = rw made (record { q = m.q; loaded = m.loaded; keeps = keeps }) in
     let p : Places ps (e ∷ h) txns' = places-moved ps h txns txns' key tx tx' e s s' k.places found up (rw made refl) refl is refl matches in
-    let legal : Legal ps (e ∷ h) = (record { s = s; is = is; idle = ready.idle; stopped = ready.stopped; top = ready.top; few = ready.few; next = omega (arith, num, k.last_is) }, k.legal) in
+    let legal : Legal ps (e ∷ h) = (
+      record {
+        s = s;
+        is = is;
+        idle = ready.idle;
+        stopped = ready.stopped;
+        top =
+            ready.top;
+        few = ready.few;
+        next = omega (arith, num, k.last_is);
+      },
+      k.legal,
+    ) in
     record {
       legal = rw events legal;
       good = k.good;
@@ -384,8 +422,10 @@ pub record MayAnswer (ps : List Checked) (log : History) (numbers : Given) (tx :
   pub room : 0 < log.room
   pub owed_left : 1 ≤ owed
 
-pub may-answer : (ps : List Checked) (log : History) (table : Table) (numbers : Given) (txns : Slab Tx) (serials owed promised t : ℕ) (tx : Tx) (n replied : ℕ) (o : Op) (said : Said)
-    → Kept ps log table numbers txns serials owed promised → (w : Seen ps log.events t tx) → (a : Accepts tx n o replied said) → MayAnswer ps log numbers tx w.s said n owed
+pub may-answer : (ps : List Checked) (log : History) (table : Table) (numbers : Given) (txns : Slab Tx)
+    (serials owed promised t : ℕ) (tx : Tx) (n replied : ℕ) (o : Op) (said : Said)
+    → Kept ps log table numbers txns serials owed promised → (w : Seen ps log.events t tx)
+    → (a : Accepts tx n o replied said) → MayAnswer ps log numbers tx w.s said n owed
 may-answer ps log table numbers txns serials owed promised t tx n replied o said k w a =
     let s = w.s in
     let m = w.matches in
@@ -415,7 +455,8 @@ may-answer ps log table numbers txns serials owed promised t tx n replied o said
       owed_left = omega (arith, k.rooms.owed_is, owed_is);
     }
 
-pub kept-answer : (ps : List Checked) (log log' : History) (table : Table) (numbers numbers' : Given) (txns txns' : Slab Tx) (serials owed promised key n replied : ℕ) (tx : Tx) (o : Op) (q : Checked) (said : Said)
+pub kept-answer : (ps : List Checked) (log log' : History) (table : Table) (numbers numbers' : Given)
+    (txns txns' : Slab Tx) (serials owed promised key n replied : ℕ) (tx : Tx) (o : Op) (q : Checked) (said : Said)
     → Kept ps log table numbers txns serials owed promised
     → get txns key ≡ Some tx → (w : Seen ps log.events tx.serial tx) → Accepts tx n o replied said
     → slice_get ps tx.proc ≡ Some q → MayHear q tx w.s said → Heard q txns txns' key tx said → slab_len txns' ≡ slab_len txns
@@ -441,7 +482,18 @@ kept-answer ps log log' table numbers numbers' txns txns' serials owed promised 
     let loaded' : slice_get ps s.call.proc ≡ Some q = ap (slice_get ps) (sym m.keeps.proc) ∙ loaded in
     let matches : Matches ps heard.after s' = record { q = q; loaded = loaded'; keeps = heard.keeps s hears } in
     let p : Places ps (e ∷ h) txns' = places-moved ps h txns txns' key tx heard.after e s s' k.places found heard.updates heard.serial refl is refl matches in
-    let legal : Legal ps (e ∷ h) = (record { s = s; is = is; r = a.r; waits = waits; number = a.same_number; fit = ap (λ (x : Op). fits x said) a.same_op ∙ a.fit }, k.legal) in
+    let legal : Legal ps (e ∷ h) = (
+      record {
+        s = s;
+        is = is;
+        r = a.r;
+        waits = waits;
+        number = a.same_number;
+        fit =
+            ap (λ (x : Op). fits x said) a.same_op ∙ a.fit;
+      },
+      k.legal,
+    ) in
     record {
       legal = rw events legal;
       good = k.good;
@@ -464,13 +516,33 @@ kept-answer ps log log' table numbers numbers' txns txns' serials owed promised 
 pub is-answer : (c : Core) (r : Asking) (x : Reply) (tx : Tx) (w : Seen c.procs c.events r.txn tx)
     → is_heard (site_of c.sites r.op) x ≡ true → Accepts tx r.number r.op x.number x.said → IsAnswer c r x
 is-answer c r x tx w heard a =
-    record { s = w.s; is = w.is; sent = a.r; waits = sym w.matches.keeps.sent ∙ a.waits; same_number = a.same_number; same_op = a.same_op; heard = heard; agree = a.agree; fit = a.fit }
+    record {
+      s = w.s;
+      is = w.is;
+      sent = a.r;
+      waits = sym w.matches.keeps.sent
+          ∙ a.waits;
+      same_number = a.same_number;
+      same_op = a.same_op;
+      heard = heard;
+      agree = a.agree;
+      fit = a.fit;
+    }
 
 pub answer-accepts : (c : Core) (r : Asking) (x : Reply) (tx : Tx) (w : Seen c.procs c.events r.txn tx)
     → IsAnswer c r x → Accepts tx r.number r.op x.number x.said
 answer-accepts c r x tx w a =
     let same : a.s ≡ w.s = some_same a.s w.s (sym a.is ∙ w.is) in
-    record { r = a.sent; waits = w.matches.keeps.sent ∙ (sym (ap (λ (x : Standing). x.sent) same) ∙ a.waits); same_number = a.same_number; same_op = a.same_op; agree = a.agree; fit = a.fit }
+    record {
+      r = a.sent;
+      waits = w.matches.keeps.sent
+          ∙ (sym (ap (λ (x : Standing). x.sent) same) ∙ a.waits);
+      same_number = a.same_number;
+      same_op =
+          a.same_op;
+      agree = a.agree;
+      fit = a.fit;
+    }
 
 pub code-is : (ps : List Checked) (p q : ℕ) (d v : Checked) → p ≡ q → slice_get ps q ≡ Some v → d ≡ slice_index_or ps p d → d ≡ v
 code-is ps p q d v same at e = e ∙ (ap (λ (k : ℕ). slice_index_or ps k d) same ∙ slice_get-index ps q v d at)
@@ -494,7 +566,8 @@ places-ended ps h txns txns' key tx outcome p found up =
         | inl same ↦ absurd (none_some _ r (standing-same (End tx.serial outcome) h t same) at)
         | inr other ↦
             let k = p.each t r (sym (standing-other (End tx.serial outcome) h t other) ∙ at) in
-            let apart : k.key ≢ key = (λ same. other (sym (ap (λ (x : Tx). x.serial) (some_same k.at.tx tx (sym k.at.found ∙ (ap (get txns) same ∙ found)))) ∙ k.at.serial)) in
+            let apart : k.key ≢ key = (λ same. other (sym (ap (λ (x : Tx). x.serial)
+            (some_same k.at.tx tx (sym k.at.found ∙ (ap (get txns) same ∙ found)))) ∙ k.at.serial)) in
             record { key = k.key; at = record { tx = k.at.tx; found = up.others k.key apart ∙ k.at.found; serial = k.at.serial } }
       ];
       once = λ k l ty tz at at' same. p.once k l ty tz (before k ty at).1 (before l tz at').1 same;
@@ -542,9 +615,11 @@ held-ended ps h t outcome claims claims' was now = λ u r.
           now u r ∙ (stays ∙ (was u r ∙ sym (ap (λ (c : Option Call). held_for (decls ps) c r) open_yet)))
     ]
 
-pub kept-end : (ps : List Checked) (log log' : History) (table table' : Table) (numbers : Given) (txns txns' : Slab Tx) (serials owed promised key : ℕ) (tx : Tx) (outcome : Outcome)
+pub kept-end : (ps : List Checked) (log log' : History) (table table' : Table) (numbers : Given)
+    (txns txns' : Slab Tx) (serials owed promised key : ℕ) (tx : Tx) (outcome : Outcome)
     → Kept ps log table numbers txns serials owed promised
-    → get txns key ≡ Some tx → (w : Seen ps log.events tx.serial tx) → over_in (next_by tx.sent tx.full (first_undo tx.undo.ops) tx.tries tx.last (as_reached tx.pause)) ≡ Some outcome
+    → get txns key ≡ Some tx → (w : Seen ps log.events tx.serial tx)
+    → over_in (next_by tx.sent tx.full (first_undo tx.undo.ops) tx.tries tx.last (as_reached tx.pause)) ≡ Some outcome
     → log'.events ≡ End tx.serial outcome ∷ log.events → log'.room + 1 ≡ log.room
     → AreHeld table' (released (held_by table) tx.serial)
     → Updates txns txns' key None → slab_len txns' + 1 ≡ slab_len txns
@@ -617,7 +692,9 @@ kept-none ps log table numbers txns e l n p s good =
 
 -- who held what before, and this transaction its call's locks
 pub held-admitted : (ps : List Checked) (h : List Event) (t p : ℕ) (args : List ℕ) (wanted : Wanted) (claims claims' : Table)
-    → AreHeld claims (held (decls ps) h) → ((r : Record) → wanted r ≡ locks_of (decls ps) (record { proc = p; args = args }) r) → AreHeld claims' (granted (held_by claims) t wanted) → AreHeld claims' (held (decls ps) (Admit t p args ∷ h))
+    → AreHeld claims (held (decls ps) h) → ((r : Record)
+    → wanted r ≡ locks_of (decls ps) (record { proc = p; args = args }) r)
+    → AreHeld claims' (granted (held_by claims) t wanted) → AreHeld claims' (held (decls ps) (Admit t p args ∷ h))
 held-admitted ps h t p args wanted claims claims' was are now = λ u r.
     let call : Call = record { proc = p; args = args } in
     elim (cases_eq u t) [

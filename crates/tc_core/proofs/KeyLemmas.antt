@@ -35,7 +35,8 @@ module _ {S : Type 0} where
   pub keys-ended : (keys keys' : IndexMap ℕ ℕ S) (txns txns' : Slab Tx) (key : ℕ) (tx : Tx)
       → AreKeys keys txns → get txns key ≡ Some tx → Updates txns txns' key None → Keys nat_eq keys keys' tx.serial None → AreKeys keys' txns'
   keys-ended keys keys' txns txns' key tx a found up gone =
-      let apart : (t : ℕ) → t ≢ tx.serial → key_of nat_eq keys' t ≡ key_of nat_eq keys t = (λ t other. gone.0 t ∙ cond-false _ None (key_of nat_eq keys t) (eq-false tx.serial t (λ e. other (sym e)))) in
+      let apart : (t : ℕ) → t ≢ tx.serial → key_of nat_eq keys' t ≡ key_of nat_eq keys t =
+      (λ t other. gone.0 t ∙ cond-false _ None (key_of nat_eq keys t) (eq-false tx.serial t (λ e. other (sym e)))) in
       record {
         keyed = λ k ty at.
             let differ : k ≢ key = (λ e. none_some _ ty up.changed (ap (get txns') (sym e) ∙ at)) in
@@ -53,9 +54,12 @@ module _ {S : Type 0} where
 
   -- one more, under a new serial number
   pub keys-entered : (keys keys' : IndexMap ℕ ℕ S) (txns txns' : Slab Tx) (key : ℕ) (tx : Tx)
-      → AreKeys keys txns → get txns key ≡ None → Updates txns txns' key (Some tx) → Keys nat_eq keys keys' tx.serial (Some key) → ((k : ℕ) (ty : Tx) → get txns k ≡ Some ty → ty.serial ≢ tx.serial) → AreKeys keys' txns'
+      → AreKeys keys txns → get txns key ≡ None → Updates txns txns' key (Some tx)
+      → Keys nat_eq keys keys' tx.serial (Some key) → ((k : ℕ) (ty : Tx) → get txns k ≡ Some ty
+      → ty.serial ≢ tx.serial) → AreKeys keys' txns'
   keys-entered keys keys' txns txns' key tx a vacant up new fresh =
-      let apart : (t : ℕ) → t ≢ tx.serial → key_of nat_eq keys' t ≡ key_of nat_eq keys t = (λ t other. new.0 t ∙ cond-false _ (Some key) (key_of nat_eq keys t) (eq-false tx.serial t (λ e. other (sym e)))) in
+      let apart : (t : ℕ) → t ≢ tx.serial → key_of nat_eq keys' t ≡ key_of nat_eq keys t =
+      (λ t other. new.0 t ∙ cond-false _ (Some key) (key_of nat_eq keys t) (eq-false tx.serial t (λ e. other (sym e)))) in
       record {
         keyed = λ k ty at. elim (cases_eq k key) [
           | inl is_key ↦

@@ -8,7 +8,8 @@ map-push f [] x = refl
 map-push f (y ∷ xs) x = ap (λ l. f y ∷ l) (map-push f xs x)
 
 -- lists of which each place is mapped to the same are mapped to the same
-pub zip-mapped : {X Y Z : Type 0} (R : X → X → Type 0) (g : X → Y) (f : Y → Z) → ((x y : X) → R x y → f (g y) ≡ f (g x)) → (xs ys : List X) → AllZip R xs ys → map f (map g ys) ≡ map f (map g xs)
+pub zip-mapped : {X Y Z : Type 0} (R : X → X → Type 0) (g : X → Y) (f : Y → Z)
+    → ((x y : X) → R x y → f (g y) ≡ f (g x)) → (xs ys : List X) → AllZip R xs ys → map f (map g ys) ≡ map f (map g xs)
 zip-mapped R g f same [] [] all = refl
 zip-mapped R g f same [] (y ∷ ys) all = absurd all
 zip-mapped R g f same (x ∷ xs) [] all = absurd all
@@ -26,4 +27,5 @@ pub position-map : {X Y : Type 0} (f : X → Y) (p : Y → Bool) (xs : List X) �
 position-map f p xs =
     let first : position_or_len p (map f xs) ≡ position_or_len (λ x. p (f x)) xs = prefix-map f (λ y. not (p y)) xs in
     let long = length-map' f xs in
-    ap (λ n. cond (nat_lt n (length (map f xs))) (Some n) None) first ∙ ap (λ n. cond (nat_lt (position_or_len (λ x. p (f x)) xs) n) (Some (position_or_len (λ x. p (f x)) xs)) None) long
+    ap (λ n. cond (nat_lt n (length (map f xs))) (Some n) None) first
+    ∙ ap (λ n. cond (nat_lt (position_or_len (λ x. p (f x)) xs) n) (Some (position_or_len (λ x. p (f x)) xs)) None) long

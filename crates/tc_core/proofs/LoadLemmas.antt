@@ -18,8 +18,12 @@ pub kept-load : (ps : List Checked) (q : Checked) (log : History) (table : Table
     → Kept ps log table numbers txns serials owed promised → IsGood q → Kept (ps ++ q ∷ []) log table numbers txns serials owed promised
 kept-load ps q log table numbers txns serials owed promised k one =
     let h = log.events in
-    let left : (t : ℕ) (s : Standing) → standing h t ≡ Some s → numbers_left (ps ++ q ∷ []) s ≡ numbers_left ps s = (λ t s is. ap (λ (n : ℕ). 5 * n - s.used) (calls_grow ps q k.good h k.legal t s is)) in
-    let room : (t : ℕ) (s : Standing) → standing h t ≡ Some s → events_left (ps ++ q ∷ []) s ≡ events_left ps s = (λ t s is. ap (λ (n : ℕ). 2 * n + one_sent s.sent + 1) (left t s is)) in
+    let left : (t : ℕ) (s : Standing) → standing h t ≡ Some s
+    → numbers_left (ps ++ q ∷ []) s ≡ numbers_left ps s =
+    (λ t s is. ap (λ (n : ℕ). 5 * n - s.used) (calls_grow ps q k.good h k.legal t s is)) in
+    let room : (t : ℕ) (s : Standing) → standing h t ≡ Some s
+    → events_left (ps ++ q ∷ []) s ≡ events_left ps s =
+    (λ t s is. ap (λ (n : ℕ). 2 * n + one_sent s.sent + 1) (left t s is)) in
     record {
       legal = legal_grows ps q k.good h k.legal;
       good = good_grows ps q k.good one;
@@ -46,4 +50,12 @@ kept-load ps q log table numbers txns serials owed promised k one =
     }
 
 pub book-load : (ps ps' : List Checked) (q : Checked) (b : Book) → IsBook ps b → IsGood q → ps' ≡ ps ++ q ∷ [] → IsBook ps' b
-book-load ps ps' q b is good more = subst (λ (xs : List Checked). IsBook xs b) (sym more) (record { kept = kept-load ps q _ _ _ _ _ _ _ is.kept good; from = is.from; most = is.most; marked = is.marked; starts = is.starts })
+book-load ps ps' q b is good more = subst (λ (xs : List Checked). IsBook xs b) (sym more)
+    (record {
+      kept = kept-load ps q _ _ _ _ _ _ _ is.kept good;
+      from = is.from;
+      most = is.most;
+      marked =
+          is.marked;
+      starts = is.starts;
+    })

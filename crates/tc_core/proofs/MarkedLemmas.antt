@@ -93,7 +93,8 @@ marked-doubt ps ns h txns txns' key n tx r legal p m found waits number few up =
         let mine = p.stands key tx found in
         let differ : (q : Sent) → ty.sent ≡ Some q → n ≢ q.number = (λ q sent same.
         other (p.once k key ty tx was found
-        (apart ps h legal ty.serial tx.serial o.s mine.s q r o.is mine.is (sym o.matches.keeps.sent ∙ sent) (sym mine.matches.keeps.sent ∙ waits) (sym (number ∙ same))))) in
+        (apart ps h legal ty.serial tx.serial o.s mine.s q r o.is mine.is (sym o.matches.keeps.sent
+        ∙ sent) (sym mine.matches.keeps.sent ∙ waits) (sym (number ∙ same))))) in
         m.marks k ty was ∙ sym (beside n (holds n ns) ns ty.sent differ)
   ];
   early = λ k late. holds_beside (holds n ns) n k ns (omega (arith, late, few)) ∙ m.early k late;
@@ -101,7 +102,8 @@ marked-doubt ps ns h txns txns' key n tx r legal p m found waits number few up =
 
 -- a transaction that is marked stands where it stood
 pub kept-doubt : (ps : List Checked) (log : History) (table : Table) (numbers : Given) (txns txns' : Slab Tx) (serials owed promised key : ℕ) (tx : Tx)
-    → Kept ps log table numbers txns serials owed promised → get txns key ≡ Some tx → Updates txns txns' key (Some (record tx { in_doubt = true })) → slab_len txns' ≡ slab_len txns
+    → Kept ps log table numbers txns serials owed promised → get txns key ≡ Some tx
+    → Updates txns txns' key (Some (record tx { in_doubt = true })) → slab_len txns' ≡ slab_len txns
     → Kept ps log table numbers txns' serials owed promised
 kept-doubt ps log table numbers txns txns' serials owed promised key tx k found up len =
     let p = k.places in
@@ -120,7 +122,8 @@ kept-doubt ps log table numbers txns txns' serials owed promised key tx k found 
       room = keeps.room;
       runs = record { started = keeps.runs.started; call = keeps.runs.call; layout = keeps.runs.layout; pauses = keeps.runs.pauses };
     } in
-    let here : (j : ℕ) (ty : Tx) → j ≡ key → get txns' j ≡ Some ty → marked ≡ ty = (λ j ty same at. some_same marked ty (sym up.changed ∙ (ap (get txns') (sym same) ∙ at))) in
+    let here : (j : ℕ) (ty : Tx) → j ≡ key → get txns' j ≡ Some ty
+    → marked ≡ ty = (λ j ty same at. some_same marked ty (sym up.changed ∙ (ap (get txns') (sym same) ∙ at))) in
     let before : (j : ℕ) (ty : Tx) → get txns' j ≡ Some ty → (tz : Tx) × (get txns j ≡ Some tz) × (tz.serial ≡ ty.serial) = (λ j ty at. elim (cases_eq j key) [
       | inl same ↦ (tx, ap (get txns) same ∙ found, ap (λ (x : Tx). x.serial) (here j ty same at))
       | inr other ↦ (ty, sym (up.others j other) ∙ at, refl)
@@ -130,7 +133,17 @@ kept-doubt ps log table numbers txns txns' serials owed promised key tx k found 
       good = k.good;
       places = record {
         stands = λ j ty at. elim (cases_eq j key) [
-          | inl same ↦ subst (λ (x : Tx). IsOpen ps h x) (here j ty same at) (record { s = mine.s; is = mine.is; matches = record { q = mine.matches.q; loaded = mine.matches.loaded; keeps = kept } })
+          | inl same ↦ subst (λ (x : Tx). IsOpen ps h x) (here j ty same at)
+              (record {
+                s = mine.s;
+                is = mine.is;
+                matches = record {
+                  q = mine.matches.q;
+                  loaded =
+                      mine.matches.loaded;
+                  keeps = kept;
+                };
+              })
           | inr other ↦ p.stands j ty (sym (up.others j other) ∙ at)
         ];
         each = λ t s is.

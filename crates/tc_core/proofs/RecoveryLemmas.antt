@@ -1,5 +1,6 @@
 -- A request that is made again, and a log's first events.
-use Rattle.std.proofs.Common.{◌≡◌, ℕ, ◌-◌, true, false, List, [], ◌∷◌, ◌++◌, length, drop, map, length-append, ◌==◌, arith, Option, Some, None, refl, sym, ◌∙◌, ap, subst}
+use Rattle.std.proofs.Common.{◌≡◌, ℕ, ◌-◌, true, false, List, [], ◌∷◌, ◌++◌, length, drop, map, length-append, ◌==◌}
+use Rattle.std.proofs.Common.{arith, Option, Some, None, refl, sym, ◌∙◌, ap, subst}
 use Rattle.std.proofs.Math.Seq.{drop-append_seam}
 use Rattle.std.specs.Prelude.{IfSome}
 use Rattle.tc_log.specs.declared.event.Event.{Event}

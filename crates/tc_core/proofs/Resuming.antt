@@ -30,19 +30,22 @@ paused (pause.Ask p) c st o h e =
 paused (pause.Exit v) c st o h e = absurd (let f : Ends v ≡ Asks o = sym (ap reached_of h) ∙ e in cc)
 
 continues : (q : Checked) (m : Standing) (p : Pause) (args : List ℕ) (answers : List Said) (o : Op) (said : Said)
-    → m.args ≡ args → m.bases ≡ plain_bases → Pauses p m.config (stop_at q args answers) → Fitting q args answers → reached_of (stop_at q args answers) ≡ Asks o → fits o said ≡ true → is_no_room said ≡ false
+    → m.args ≡ args → m.bases ≡ plain_bases → Pauses p m.config (stop_at q args answers) → Fitting q args answers
+    → reached_of (stop_at q args answers) ≡ Asks o → fits o said ≡ true → is_no_room said ≡ false
     → Continues (setting_of q m.args m.bases) m.config (Some said) (answers ++ said ∷ [])
 unfolding stop_at Fitting
 continues q m p args answers o said same_args same_bases pauses fit asks f room =
     let at = paused p m.config (stop_at q args answers) o pauses asks in
-    let it : Continues (setting_of q args plain_bases) m.config (Some said) (answers ++ said ∷ []) = ((answers, at.0, o, refl, at.1), fitting_snoc q args answers said o fit asks f room) in
+    let it : Continues (setting_of q args plain_bases) m.config (Some said) (answers ++ said ∷ []) =
+    ((answers, at.0, o, refl, at.1), fitting_snoc q args answers said o fit asks f room) in
     subst (λ (xs : List ℕ). Continues (setting_of q xs m.bases) m.config (Some said) (answers ++ said ∷ [])) (sym same_args)
     (subst (λ (b : Bases). Continues (setting_of q args b) m.config (Some said) (answers ++ said ∷ [])) (sym same_bases) it)
 
 pub may_continue : (q : Checked) (tx : Tx) (args : List ℕ) (answers : List Said) (o : Op) (said : Said)
     → MayResume q tx args answers o said → is_no_room said ≡ false
     → Continues (setting_of q tx.machine.args tx.machine.bases) tx.machine.config (Some said) (answers ++ said ∷ [])
-may_continue q tx args answers o said m room = continues q tx.machine tx.pause args answers o said m.runs.call m.runs.layout m.runs.pauses m.fit m.asks m.fits room
+may_continue q tx args answers o said m room =
+    continues q tx.machine tx.pause args answers o said m.runs.call m.runs.layout m.runs.pauses m.fit m.asks m.fits room
 
 -- what was promised of the run on the machine's own arguments, of the plain one
 pub pauses_plain : (q : Checked) (m : Standing) (p : Pause) (c : Config) (args : List ℕ) (answers : List Said)
@@ -50,7 +53,8 @@ pub pauses_plain : (q : Checked) (m : Standing) (p : Pause) (c : Config) (args :
     → Pauses p c (stop_at q args answers)
 unfolding stop_at
 pauses_plain q m p c args answers same_args same_bases h =
-    subst (λ (b : Bases). Pauses p c (reach (setting_of q args b) answers)) same_bases (subst (λ (xs : List ℕ). Pauses p c (reach (setting_of q xs m.bases) answers)) same_args h)
+    subst (λ (b : Bases). Pauses p c (reach (setting_of q args b) answers)) same_bases
+    (subst (λ (xs : List ℕ). Pauses p c (reach (setting_of q xs m.bases) answers)) same_args h)
 
 -- a machine that was started goes on from the entry
 pub starts : (q : Checked) (m : Standing) (args : List ℕ) (b : Bases) → m.config ≡ entry (setting_of q args b)

@@ -56,7 +56,8 @@ sent_more [] e n = refl
 sent_more (Admit t p args ∷ es) e n = sent_more es e n
 sent_more (Ask t m o ∷ es) e n = ap (cond (m == n) (Some (flight t o))) (sent_more es e n) ∙ pick_more (m == n) (flight t o) (sent_in es n) (sent_in (e ∷ []) n)
 sent_more (Answer t m said ∷ es) e n = sent_more es e n
-sent_more (Undo t m o ∷ es) e n = ap (cond (m == n) (Some (flight t o))) (sent_more es e n) ∙ pick_more (m == n) (flight t o) (sent_in es n) (sent_in (e ∷ []) n)
+sent_more (Undo t m o ∷ es) e n = ap (cond (m == n) (Some (flight t o))) (sent_more es e n)
+    ∙ pick_more (m == n) (flight t o) (sent_in es n) (sent_in (e ∷ []) n)
 sent_more (End t o ∷ es) e n = sent_more es e n
 sent_more (Checkpoint before numbers ∷ es) e n = sent_more es e n
 
@@ -89,7 +90,8 @@ answered_few ps h t n said legal a =
     let few = (standing_flight ps h legal t a.s a.r a.is a.waits).0 in
     omega (arith, few, a.number)
 
-last_fits : (ps : List Checked) (h : List Event) (e : Event) → Legal ps h → Allowed ps h e → AreNumbered (given h) (e ∷ []) × (sent_by (given h) (e ∷ []) ≡ given (e ∷ h))
+last_fits : (ps : List Checked) (h : List Event) (e : Event) → Legal ps h → Allowed ps h e
+    → AreNumbered (given h) (e ∷ []) × (sent_by (given h) (e ∷ []) ≡ given (e ∷ h))
 last_fits ps h (Admit t p args) legal a = (tt, refl)
 last_fits ps h (Ask t n o) legal a = ((a.next, tt), refl)
 last_fits ps h (Answer t n said) legal a = ((answered_few ps h t n said legal a, tt), refl)
@@ -154,7 +156,8 @@ answers_it : (h es : List Event) (e : Event) (n : ℕ) (f : Flight) (said : Said
     → sent_in (e ∷ []) n ≡ None → said_in (e ∷ []) n ≡ Some said
     → open_op (e ∷ h) n ≡ None → answered (e ∷ h) n ≡ with_answer n said (open_op h n) → Agrees (e ∷ h) (es ++ e ∷ []) n
 answers_it h es e n f said a is few sends says flight_is answer_is =
-    let sent : sent_in (es ++ e ∷ []) n ≡ open_op h n = sent_more es e n ∙ ap (orelse (sent_in es n)) sends ∙ or_none (sent_in es n) ∙ a.open_sent f is ∙ sym is in
+    let sent : sent_in (es ++ e ∷ []) n ≡ open_op h n = sent_more es e n ∙ ap (orelse (sent_in es n)) sends
+    ∙ or_none (sent_in es n) ∙ a.open_sent f is ∙ sym is in
     let now : said_in (es ++ e ∷ []) n ≡ Some said = said_more es e n ∙ ap (λ (o : Option Said). orelse o (said_in (e ∷ []) n)) (a.open_unsaid f is) ∙ says in
     record {
       open_sent = λ g bad. absurd (none_some _ g flight_is bad);
@@ -183,7 +186,8 @@ agrees_more ps h es (Answer t m said) n legal allowed a = elim (cases_eq m n) [
       let number : allowed.r.number ≡ n = allowed.number ∙ same in
       let is : open_op h n ≡ Some (flight t allowed.r.op) = ap (open_op h) (sym number) ∙ waits.1 in
       let few = waits.0 in
-      answers_it h es (Answer t m said) n (flight t allowed.r.op) said a is (omega (arith, few, number)) refl (cond-true _ _ _ e) (cond-true _ _ _ e) (cond-true _ _ _ e)
+      answers_it h es (Answer t m said) n (flight t allowed.r.op) said a is (omega (arith, few, number)) refl
+      (cond-true _ _ _ e) (cond-true _ _ _ e) (cond-true _ _ _ e)
   | inr differ ↦
       let e = eq-false m n differ in
       still h es (Answer t m said) n a refl (cond-false _ _ _ e) (cond-false _ _ _ e) (cond-false _ _ _ e) (omega arith)
@@ -205,7 +209,8 @@ agrees_more ps h es (Checkpoint before numbers) n legal allowed a =
 
 agrees : (ps : List Checked) (h : List Event) → Legal ps h → (n : ℕ) → Agrees h (reverse h) n
 agrees ps [] legal n = record { open_sent = λ f is. absurd cc; open_unsaid = λ f is. refl; same = refl; late_unsent = λ late. refl; late_unsaid = λ late. refl }
-agrees ps (e ∷ h) legal n = subst (λ (es : List Event). Agrees (e ∷ h) es n) (sym (reversed e h)) (agrees_more ps h (reverse h) e n legal.1 legal.0 (agrees ps h legal.1 n))
+agrees ps (e ∷ h) legal n = subst (λ (es : List Event). Agrees (e ∷ h) es n) (sym (reversed e h))
+    (agrees_more ps h (reverse h) e n legal.1 legal.0 (agrees ps h legal.1 n))
 
 done_same : (ps : List Checked) (h : List Event) → Legal ps h → (d n : ℕ) → done_at h d n ≡ done_in (reverse h) d n
 done_same ps h legal d n = ap (if_done_at d) (agrees ps h legal n).same
@@ -359,17 +364,23 @@ said_apart k d m said es few are n = elim (cases_eq m n) [
 scan_least : (d after k : ℕ) (es : List Event) → AreNumbered k es → IsLeast (λ n. done_in es d n) after (scan d after es)
 scan_least d after k [] are = λ m above. refl
 scan_least d after k (Admit t p args ∷ es) are = scan_least d after k es are
-scan_least d after k (Ask t n o ∷ es) are = least_here d after k t n o es are.0 are.1 (done_behind d after t n o es) refl (scan d after es) (scan_least d after (k + 1) es are.1)
-scan_least d after k (Answer t n said ∷ es) are = least_same _ (λ m. done_in es d m) after (scan d after es) (said_apart k d n said es are.0 are.1) (scan_least d after k es are.1)
-scan_least d after k (Undo t n o ∷ es) are = least_here d after k t n o es are.0 are.1 (done_behind d after t n o es) refl (scan d after es) (scan_least d after (k + 1) es are.1)
+scan_least d after k (Ask t n o ∷ es) are = least_here d after k t n o es are.0 are.1
+    (done_behind d after t n o es) refl (scan d after es) (scan_least d after (k + 1) es are.1)
+scan_least d after k (Answer t n said ∷ es) are =
+    least_same _ (λ m. done_in es d m) after (scan d after es) (said_apart k d n said es are.0 are.1)
+    (scan_least d after k es are.1)
+scan_least d after k (Undo t n o ∷ es) are = least_here d after k t n o es are.0 are.1
+    (done_behind d after t n o es) refl (scan d after es) (scan_least d after (k + 1) es are.1)
 scan_least d after k (End t o ∷ es) are = scan_least d after k es are
 scan_least d after k (Checkpoint before numbers ∷ es) are = scan_least d after numbers es are.1
 
 -- a look through the whole log finds what is to be redone
 pub scan_is : (ps : List Checked) (h : List Event) → Legal ps h → (d redone : ℕ) → scan d redone (reverse h) ≡ to_redo h d redone
 scan_is ps h legal d redone =
-    let found = least_same (λ n. done_at h d n) (λ n. done_in (reverse h) d n) redone (scan d redone (reverse h)) (done_same ps h legal d) (scan_least d redone 0 (reverse h) (numbered ps h legal)) in
-    to_redo_only h d redone (scan d redone (reverse h)) (to_redo h d redone) (done_number h d) (as_redo (scan d redone (reverse h)) found) (to_redo_is ps h legal d redone)
+    let found = least_same (λ n. done_at h d n) (λ n. done_in (reverse h) d n) redone (scan d redone (reverse h))
+    (done_same ps h legal d) (scan_least d redone 0 (reverse h) (numbered ps h legal)) in
+    to_redo_only h d redone (scan d redone (reverse h)) (to_redo h d redone) (done_number h d)
+    (as_redo (scan d redone (reverse h)) found) (to_redo_is ps h legal d redone)
   where
     as_redo : (o : Option Answered) → IsLeast (λ n. done_at h d n) redone o → IsToRedo h d redone o
     as_redo None is = is
@@ -422,7 +433,8 @@ up_to d after k (suc place) (Ask t n o ∷ es) a are is =
     let next = are.0 in
     let low = rest.below in
     record { below = omega (arith, low); sent = (omega (arith, low, next), rest.sent) }
-up_to d after k (suc place) (Answer t n said ∷ es) a are is = (let rest = up_to d after k place es a are.1 is in record { below = rest.below; sent = rest.sent })
+up_to d after k (suc place) (Answer t n said ∷ es) a are is =
+    (let rest = up_to d after k place es a are.1 is in record { below = rest.below; sent = rest.sent })
 up_to d after k (suc place) (Undo t n o ∷ es) a are is =
     let rest = up_to d after (k + 1) place es a are.1 is in
     let next = are.0 in

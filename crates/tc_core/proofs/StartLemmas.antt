@@ -1,10 +1,11 @@
 -- The places of the log before which the redo of a data component needs not look.
 use Rattle.std.proofs.Common.{◌≡◌, ◌≢◌, ℕ, zero, suc, ◌≤◌, List, [], ◌∷◌, length, take, drop, Option}
 use Rattle.std.proofs.Common.{Some, None, arith, refl, sym, ◌∙◌, ap, subst, inl, inr}
-use Rattle.std.specs.Prelude.{reverse, replicate, slice_get, slice_set}
+use Rattle.std.specs.Prelude.{max, reverse, replicate, slice_get, slice_set}
 use Rattle.std.proofs.lemmas.Bool.{cases_eq}
 use Rattle.std.proofs.lemmas.List.{length-replicate, length-reverse, length-set, take-append-le}
 use Rattle.tc_log.specs.declared.event.Event.{Event}
+use Rattle.tc_log.specs.declared.event.Event.TheVariants.{Admit, Ask, Answer, Undo, End, Checkpoint}
 use Rattle.transactions.specs.declared.Redoing.{Redoing}
 use Rattle.transactions.specs.declared.Site.{Site}
 use Rattle.transactions.specs.InFlight.{untold}
@@ -15,7 +16,7 @@ use Rattle.transactions.specs.Legal.{Legal}
 use Rattle.access_slots.specs.declared.op.Reply.{Reply}
 use Rattle.history.specs.declared.Answered.{Answered}
 use Rattle.tc_core.specs.Core.{Core}
-use Rattle.tc_core.specs.Redo.{with_site, sends_again, redo_by, redo_at, redo_reply, redone_to, redone_at, after_redone, IsRedone}
+use Rattle.tc_core.specs.Redo.{with_site, sends_again, redo_by, redo_at, redo_reply, behind_by, behind_at, redo_behind, redone_to, redone_at, after_redone, IsRedone}
 use Rattle.tc_core.specs.Kept.{AreSentUpTo, MayBegin, AreStarts}
 use Rattle.tc_core.specs.Joining.Scanning.{scan}
 use Rattle.tc_core.proofs.ScanLemmas.{reversed, scan_is, scan_from}
@@ -158,3 +159,26 @@ redone_said c d x s r o there down next is =
       incarnation = is.same_incarnation ∙ ap (λ (y : Site). y.incarnation) site;
       said = is.same_answer;
     }
+
+-- ---- and behind a number
+
+sent_up_to_more : (m n : ℕ) (es : List Event) → m ≤ n → AreSentUpTo m es → AreSentUpTo n es
+sent_up_to_more m n [] few are = tt
+sent_up_to_more m n (Admit t p args ∷ es) few are = sent_up_to_more m n es few are
+sent_up_to_more m n (Ask t k o ∷ es) few are = (omega (arith, few, are.0), sent_up_to_more m n es few are.1)
+sent_up_to_more m n (Answer t k said ∷ es) few are = sent_up_to_more m n es few are
+sent_up_to_more m n (Undo t k o ∷ es) few are = (omega (arith, few, are.0), sent_up_to_more m n es few are.1)
+sent_up_to_more m n (End t o ∷ es) few are = sent_up_to_more m n es few are
+sent_up_to_more m n (Checkpoint before numbers ∷ es) few are = sent_up_to_more m n es few are
+
+pub looks_behind : (ps : List Checked) (sites : List Site) (starts : List ℕ) (h : List Event) → Legal ps h → AreStarts sites starts h
+    → (d place : ℕ) (s : Site) (r : Redoing) → slice_get starts d ≡ Some place → slice_get sites d ≡ Some s → s.redo ≡ Some r
+    → (n : ℕ) → scan d (max r.redone n) (drop place (reverse h)) ≡ to_redo h d (max r.redone n)
+looks_behind ps sites starts h legal are d place s r at there down n =
+    let begun : AreSentUpTo r.redone (take place (reverse h)) = subst (MayBegin h place) down (are.begin d place s at there) in
+    scan_from d (max r.redone n) place (reverse h) (sent_up_to_more r.redone (max r.redone n) (take place (reverse h)) (omega arith) begun)
+    ∙ scan_is ps h legal d (max r.redone n)
+
+pub behind_is : (c : Core) (d n : ℕ) (s : Site) (r : Redoing) (o : Option Answered) → slice_get c.sites d ≡ Some s → s.redo ≡ Some r
+    → to_redo c.events d (max r.redone n) ≡ o → redo_behind c d n ≡ sends_again s.incarnation r.mark o
+behind_is c d n s r o there down next = ap (behind_at c d n) there ∙ (ap (behind_by c d n s.incarnation) down ∙ ap (sends_again s.incarnation r.mark) next)

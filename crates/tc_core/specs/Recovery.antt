@@ -54,6 +54,11 @@ IsRecoverFault c h notes DcCount = length notes ≢ c.dcs
 IsRecoverFault c h notes (Unfit fault) = IsFault c.procs h fault
 IsRecoverFault c h notes (Forgotten d) = Legal c.procs h × IsForgotten (begun h) notes d
 
+-- what a transaction waits for, where it is open and waits
+abbrev pub sent_in : Option Standing → Option Sent
+sent_in None = None
+sent_in (Some s) = s.sent
+
 abbrev pub asking_by : ℕ → Option Sent → Option Asking
 asking_by t None = None
 asking_by t (Some r) = Some (record { txn = t; number = r.number; op = r.op })

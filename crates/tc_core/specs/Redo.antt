@@ -1,6 +1,6 @@
 -- Restarts of data components, as the transaction component is told of them, and the redo behind each (Lomet, Fekete, Weikum,
 -- Zwilling, CIDR 2009).
-use Rattle.std.specs.Prelude.{◌≡◌, ℕ, true, nat_lt, if◌then◌else◌, Option, Some, None, slice_get, slice_set}
+use Rattle.std.specs.Prelude.{◌≡◌, ℕ, true, max, nat_lt, if◌then◌else◌, Option, Some, None, slice_get, slice_set}
 use Rattle.access_slots.specs.declared.op.Wire.{Wire}
 use Rattle.access_slots.specs.declared.op.Reply.{Reply}
 use Rattle.access_slots.specs.declared.op.News.{News}
@@ -59,6 +59,20 @@ redo_at c d (Some s) = redo_by c d s.incarnation s.redo
 -- what `redo_next` answers
 abbrev pub redo_reply : Core → ℕ → Redo
 redo_reply c d = redo_at c d (slice_get c.sites d)
+
+-- ---- and behind a number
+
+abbrev pub behind_by : Core → ℕ → ℕ → ℕ → Option Redoing → Redo
+behind_by c d n incarnation None = redo.NotDown
+behind_by c d n incarnation (Some r) = sends_again incarnation r.mark (to_redo c.events d (max r.redone n))
+
+abbrev pub behind_at : Core → ℕ → ℕ → Option Site → Redo
+behind_at c d n None = redo.NoDc
+behind_at c d n (Some s) = behind_by c d n s.incarnation s.redo
+
+-- what `redo_next` will answer once all up to this number is redone
+abbrev pub redo_behind : Core → ℕ → ℕ → Redo
+redo_behind c d n = behind_at c d n (slice_get c.sites d)
 
 abbrev pub up_again : Core → ℕ → Option Site → Core
 up_again c d None = c

@@ -10,7 +10,7 @@ ghost use Rattle.tc_core.specs.Kept.{IsBook};
 ghost use Rattle.tc_core.specs.Replies.{with_event};
 ghost use Rattle.tc_core.specs.Admission.{call_of, IsCalled, IsUncallable, IsAdmissible, IsRefused};
 ghost use Rattle.tc_core.specs.Joining.Rooms.{OnlyRoom, HasRoom, MayEnter};
-ghost use Rattle.tc_core.specs.Blocked.{IsBlocked};
+ghost use Rattle.tc_core.specs.Blocked.{is_stranded, IsBlocked};
 
 use crate::book::Book;
 use crate::procs::Procs;
@@ -144,5 +144,16 @@ impl TcState {
             return false;
         };
         self.book.txns.all_stranded(&self.book.locks, &set)
+    }
+
+    /// Whether a transaction is in doubt or stuck: it waits for a number that was given up, or a write of
+    /// it can't be undone. No for one that isn't open.
+    pub fn is_stranded(&self, txn: TxnId) -> bool
+        ensures { result ≡ is_stranded self.now txn.serial }
+    {
+        match self.book.txns.find(txn.serial) {
+            Some(key) => self.book.txns.at(key).is_stranded(),
+            None => false,
+        }
     }
 }

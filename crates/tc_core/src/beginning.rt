@@ -5,7 +5,7 @@ ghost use Rattle.std.specs.List.{list_all};
 ghost use Rattle.tc_log.specs.declared.event.Event.TheVariants.{Checkpoint};
 ghost use Rattle.verifier.specs.Checked.{Checked};
 ghost use Rattle.slab.specs.Slab.{slab_len};
-ghost use Rattle.history.specs.Flight.{low_water};
+ghost use Rattle.history.specs.Flight.{given, low_water};
 ghost use Rattle.history.specs.Anew.{begun};
 ghost use Rattle.tc_core.specs.Kept.{IsBook};
 ghost use Rattle.tc_core.specs.Checkpointing.{are_up, have_kept, MayCheckpoint, checkpointed, IsCheckpointFault};
@@ -112,6 +112,13 @@ impl TcState {
         ensures { result ≡ begun self.now.events }
     {
         self.book.given_up.from()
+    }
+
+    /// The last number that was given out, also before the log's first event.
+    pub fn last_number(&self) -> u64
+        ensures { result ≡ given self.now.events }
+    {
+        self.book.numbers.last()
     }
 
     /// The low-water mark: each number up to it is answered. Told to data components, it lets their

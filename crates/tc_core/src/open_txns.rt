@@ -2,6 +2,8 @@
 
 ghost use Rattle.std.specs.Prelude.{◌≡◌, ◌≢◌, ◌↔◌, ◌+◌, ◌<◌, ◌≤◌, ℕ, [], length, Some, None, true, false, nat_eq};
 ghost use Rattle.std.specs.Prelude.{IsTrue, IfSome, IfNone, IfOk, OnOk, vec_len, vec_capacity};
+ghost use Rattle.lock_table.specs.Clashes.{keeps_out};
+ghost use Rattle.lock_table.specs.Facts.{held_by};
 ghost use Rattle.slab.specs.Slab.{get, slab_len, Updates, ContainsKey, HasRoomFor};
 ghost use Rattle.indexmap.specs.IndexMap.{spare, Updates as KeyUpdates};
 ghost use Rattle.transactions.specs.Standing.{Standing};
@@ -13,12 +15,12 @@ ghost use Rattle.tc_core.specs.Joining.Boxes.{AreBoxed, unboxed};
 ghost use Rattle.tc_core.specs.Joining.Beginning.{Entered};
 ghost use Rattle.tc_core.specs.Joining.Sends.{asking_under, undoing_under, doubted};
 ghost use Rattle.tc_core.specs.Joining.Hearing.{MayHear, Accepts, Heard};
-ghost use Rattle.tc_core.specs.Joining.Holders.{AllStandStill, HoldsUp};
+ghost use Rattle.tc_core.specs.Joining.Holders.{AllStandStill, HoldsUp, Moves, IsStill};
 ghost use Rattle.tc_core.specs.declared.transaction.Tx.{Tx as TxValue};
 
 use crate::transaction::Tx;
 use crate::undos::Undos;
-use access_slots::lock::LockSet;
+use access_slots::lock::{Lock, LockSet};
 use access_slots::op::{Op, Reply, Said};
 use indexmap::IndexMap;
 use lock_table::table::LockTable;
@@ -123,19 +125,6 @@ fn hinted(hints: &[usize], txns: &Slab<Box<Tx>>, serial: u64) -> Option<usize>
     let key = *hints.get(serial as usize % HINTS)?;
     let tx = txns.get(key)?;
     if tx.serial == serial { Some(key) } else { None }
-}
-
-// Whether each transaction that holds locks which exclude these is in doubt or stuck.
-fn none_holds_up(txns: &Slab<Box<Tx>>, held: &LockTable, wanted: &LockSet) -> bool
-    ensures all { IsTrue result → (n : ℕ) → AllStandStill held.now (unboxed n txns.now) wanted.now }
-    ensures some { result ≡ false → (n : ℕ) → HoldsUp held.now (unboxed n txns.now) wanted.now }
-{
-    for (_key, tx) in txns.iter() {
-        if tx.holds_up(held, wanted) {
-            return false;
-        }
-    }
-    true
 }
 
 impl OpenTxns {
@@ -259,12 +248,45 @@ impl OpenTxns {
         self.txns[key].as_ref()
     }
 
-    /// Whether each transaction that holds locks which exclude these is in doubt or stuck.
+    // Whether the transaction with this serial number is open, and neither in doubt nor stuck.
+    fn moves(&self, serial: u64) -> bool
+        ensures moves { IsTrue result → Moves self.now serial }
+        ensures still { result ≡ false → IsStill self.now serial }
+    {
+        match self.find(serial) {
+            Some(key) => !self.at(key).is_stranded(),
+            None => false,
+        }
+    }
+
+    // Whether a transaction that keeps this lock out is neither in doubt nor stuck.
+    fn holds_up(&self, held: &LockTable, lock: &Lock) -> bool
+        ensures some { IsTrue result → (t : ℕ) × (keeps_out (held_by held.now) lock.now t ≡ true) × Moves self.now t }
+        ensures none { result ≡ false → (t : ℕ) → keeps_out (held_by held.now) lock.now t ≡ true → IsStill self.now t }
+    {
+        let mut holder = held.least_in_the_way(lock);
+        'holders: while let Some(txn) = holder {
+            if self.moves(txn) {
+                return true;
+            }
+            holder = held.next_in_the_way(lock, txn);
+        }
+        false
+    }
+
+    /// Whether each transaction that holds locks which exclude these is in doubt or stuck. It looks at
+    /// those alone, up to one that is neither.
     pub fn all_stranded(&self, held: &LockTable, wanted: &LockSet) -> bool
         ensures all { IsTrue result → AllStandStill held.now self.now wanted.now }
         ensures some { result ≡ false → HoldsUp held.now self.now wanted.now }
     {
-        none_holds_up(&self.txns, held, wanted)
+        let locks = wanted.locks();
+        for lock in locks {
+            if self.holds_up(held, lock) {
+                return false;
+            }
+        }
+        true
     }
 
     /// The transaction at a key waits for the answer to its question.

@@ -175,7 +175,11 @@ impl TcState {
         let Some(key) = self.book.txns.find(txn) else {
             return number;
         };
-        if !self.book.txns.at(key).awaits(number, &op) {
+        let tx = self.book.txns.at(key);
+        if !tx.awaits(number, &op) {
+            return number;
+        }
+        if tx.in_doubt {
             return number;
         }
         self.book.given_up.add(number);

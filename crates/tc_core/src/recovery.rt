@@ -3,10 +3,11 @@
 ghost use Rattle.std.specs.Prelude.{◌≡◌, ◌≤◌, [], length, map, vec_capacity, IfOk, OnOk, IfErr, OnErr, IfSome, IfNone};
 ghost use Rattle.history.specs.Anew.{begun};
 ghost use Rattle.transactions.specs.Legal.{Legal};
+ghost use Rattle.transactions.specs.Standing.{standing};
 ghost use Rattle.tc_core.specs.Checking.{IsFault};
 ghost use Rattle.tc_core.specs.GivingUp.{IsOpenHere};
 ghost use Rattle.tc_core.specs.Kept.{IsBook};
-ghost use Rattle.tc_core.specs.Recovery.{asking_by, first_events, open_request, recovered, site_noted, AllReach, IsForgotten, IsRecoverFault, reaches};
+ghost use Rattle.tc_core.specs.Recovery.{asking_by, first_events, open_request, recovered, sent_in, site_noted, AllReach, IsForgotten, IsRecoverFault, reaches};
 
 use crate::book::Book;
 use crate::checking::{CheckFault, first_book};
@@ -210,6 +211,14 @@ impl TcState {
         }
         spend(requests);
         Ok(())
+    }
+
+    /// The operation that an open transaction waits for, and its number.
+    pub fn waits_for(&self, txn: TxnId) -> Option<Sent>
+        ensures { result ≡ sent_in (standing self.now.events txn.serial) }
+    {
+        let key = self.book.txns.find(txn.serial)?;
+        self.book.txns.at(key).sent
     }
 
     /// The request of the operation that an open transaction waits for, made again: for a state that

@@ -3,7 +3,7 @@
 ghost use Rattle.std.specs.Prelude.{◌≡◌, ◌↔◌, ◌<◌, ◌≤◌, length, drop, Some, None, IfSome, IfNone};
 ghost use Rattle.std.specs.Prelude.{IsTrue, IsOk, OnOk, IfErr, OnErr};
 ghost use Rattle.history.specs.Redo.{is_done};
-ghost use Rattle.tc_core.specs.Redo.{news_fault, after_told, redo_reply, after_redo, IsRedone, after_redone};
+ghost use Rattle.tc_core.specs.Redo.{news_fault, after_told, redo_wire, redo_reply, redo_behind, after_redo, IsRedone, after_redone};
 ghost use Rattle.tc_core.specs.Joining.Scanning.{said_in, first_in, scan};
 
 use crate::sites::known;
@@ -78,6 +78,20 @@ fn find_done(events: &[Event], from: usize, dc: u16, after: u64) -> Option<(usiz
     None
 }
 
+// What is sent to redo an operation.
+#[inline(always)]
+fn wire_of(answered: &Answered, incarnation: u64, mark: u64) -> Wire
+    ensures { result ≡ redo_wire incarnation mark answered.now }
+{
+    Wire {
+        number: answered.number,
+        low_water: mark,
+        incarnation,
+        redo: true,
+        op: answered.op,
+    }
+}
+
 // Whether the reply is what was said to the operation, of this incarnation.
 #[inline(always)]
 fn is_said(answered: &Answered, incarnation: u64, reply: &Reply) -> bool
@@ -134,13 +148,7 @@ impl TcState {
             return Redo::NotDown;
         };
         match find_done(self.book.log.events(), start, dc, redo.redone) {
-            Some((_, answered)) => Redo::Send(Wire {
-                number: answered.number,
-                low_water: redo.mark,
-                incarnation: site.incarnation,
-                redo: true,
-                op: answered.op,
-            }),
+            Some((_, answered)) => Redo::Send(wire_of(&answered, site.incarnation, redo.mark)),
             None => {
                 let at = usize::from(dc);
                 self.book.sites[at] = Site {
@@ -149,6 +157,25 @@ impl TcState {
                 };
                 Redo::Finished
             }
+        }
+    }
+
+    /// What will be sent to redo the next operation once all up to this number is redone, where the data
+    /// component stays down so long: for several at once. It changes nothing.
+    pub fn redo_behind(&self, dc: u16, number: u64) -> Redo
+        ensures { result ≡ redo_behind self.now dc number }
+    {
+        let Some((site, start)) = known(self.book.sites.as_slice(), self.book.starts.as_slice(), dc)
+        else {
+            return Redo::NoDc;
+        };
+        let Some(redo) = site.redo else {
+            return Redo::NotDown;
+        };
+        let after = redo.redone.max(number);
+        match find_done(self.book.log.events(), start, dc, after) {
+            Some((_, answered)) => Redo::Send(wire_of(&answered, site.incarnation, redo.mark)),
+            None => Redo::Finished,
         }
     }
 

@@ -24,7 +24,9 @@ overflow_add-serial c =
 pub claim-requires-clause-nothing : goal.claim-requires-clause-nothing
 claim-requires-clause-nothing c =
     let k = c.requires.1.book.kept in
-    nothing_new c.requires.0 c.args.self.now.log.events (c.args.self.now.serials + 1) c.args.self.now.locks c.args.self.now.locks k.legal (ap (λ (n : ℕ). n + 1) k.serials_are) k.locks_are (λ t r. refl)
+    nothing_new c.requires.0 c.args.self.now.log.events
+    (c.args.self.now.serials + 1) c.args.self.now.locks c.args.self.now.locks k.legal
+    (ap (λ (n : ℕ). n + 1) k.serials_are) k.locks_are (λ t r. refl)
 
 pub claim-requires-clause-free : goal.claim-requires-clause-free
 claim-requires-clause-free c =
@@ -58,8 +60,10 @@ returns-clause-kept c = λ ps m.
     let undo_room : calls_in q ≤ g.tx.undo.room = (let u = ap (λ (u : Writes). u.room) begins.room.0 in let r = m.undo_room in omega (arith, u, r)) in
     let keeps = keeps_fresh q g.tx p args begins.names.1 begins.fresh.0 begins.fresh.1 ops begins.fresh.2 begins.fresh.3 begins.room.1 undo_room runs in
     let room : b.owed + (2 * (5 * calls_in q) + 2) ≤ b.log.room = (let r = m.room.events in omega (arith, r)) in
-    let it = kept-admit ps b.log c.push.new.self b.locks c.claim.new.self b.numbers b.txns c.enter.new.self b.serials b.owed b.promised _ p args (mode_in c.args.set.now) q g.tx
-    m.book.kept m.called.loaded takes m.free m.few room m.room.numbers_fit keeps begins.names.0 (wanted_locks ps call q args c.args.set.now m.called refl m.locks) c.claim.ensures.held
+    let it = kept-admit ps b.log c.push.new.self b.locks c.claim.new.self b.numbers b.txns c.enter.new.self b.serials b.owed b.promised _ p args
+    (mode_in c.args.set.now) q g.tx
+    m.book.kept m.called.loaded takes m.free m.few room m.room.numbers_fit keeps begins.names.0
+    (wanted_locks ps call q args c.args.set.now m.called refl m.locks) c.claim.ensures.held
     g.vacant g.updates c.enter.ensures.len c.push.ensures.events c.push.ensures.room in
     let one : b.owed + (10 * c.calls_of-calls.result + 1) ≡ b.owed + (2 * (5 * calls_in q) + 1) = omega (arith, n) in
     let two : b.promised + 5 * c.calls_of-calls.result ≡ b.promised + 5 * calls_in q = omega (arith, n) in
@@ -70,6 +74,7 @@ returns-clause-kept c = λ ps m.
       kept = rw (one, two) it;
       most = omega (arith, most, last, same, n);
       marked = marked-moved _ b.log.events _ _ _ _ _ m.book.marked (omega (arith, same)) g.updates (begins.certain ∙ sym (ap (is_doubted _) begins.fresh.0));
-      from = (let still : begun c.push.new.self.events ≡ begun b.log.events = ap begun c.push.ensures.events in let was = m.book.from in omega (arith, still, was));
+      from = (let still : begun c.push.new.self.events ≡ begun b.log.events = ap begun c.push.ensures.events in
+          let was = m.book.from in omega (arith, still, was));
       starts = starts_event _ _ _ _ _ c.push.ensures.events m.book.starts;
     }

@@ -7,4 +7,5 @@ pub index-requires : goal.index-requires
 index-requires c = has-box _ c.self.inside.txns c.args.self.now c.self.view_is c.args.key c.requires
 
 pub returns : goal.returns
-returns c = seen-some _ c.self.inside.txns c.args.self.now c.self.view_is c.args.key c.index.result.now c.index.ensures ∙ ap (λ (x : Tx). Some x) (sym c.as_ref.ensures)
+returns c = seen-some _ c.self.inside.txns c.args.self.now c.self.view_is c.args.key c.index.result.now c.index.ensures
+    ∙ ap (λ (x : Tx). Some x) (sym c.as_ref.ensures)

@@ -10,7 +10,8 @@ use Rattle.tc_core.proofs.open_txns.OpenTxns.capacity.Goals as goal
 pub returns : goal.returns
 returns c =
     let few = ready-few (vec_len c.self.inside.boxes) (spare c.self.inside.keys) in
-    let seen : c.args.self.now.capacity ≡ slab_len c.self.inside.txns + ready (vec_len c.self.inside.boxes) (spare c.self.inside.keys) = ap (λ (s : Slab Tx). s.capacity) (sym c.self.view_is) in
+    let seen : c.args.self.now.capacity ≡ slab_len c.self.inside.txns + ready (vec_len c.self.inside.boxes)
+    (spare c.self.inside.keys) = ap (λ (s : Slab Tx). s.capacity) (sym c.self.view_is) in
     let begin = c.self.invariant.1.begin in
     let value = c.capacity.ensures.value in
     omega (arith, few, seen, begin, value)

@@ -34,8 +34,12 @@ invariant_of-self c =
     let capacity = c.insert_reserved-key.ensures.capacity in
     let key = c.insert_reserved-key.result in (
       keys-entered c.self.inside.keys c.list_key.new.keys _ _ key c.begin.new.self c.self.invariant.0
-          (unboxed-at (ready (vec_len c.self.inside.boxes) (spare c.self.inside.keys)) c.self.inside.txns key ∙ ap in_box c.insert_reserved-key.ensures.was_vacant)
-          (unboxed-updates (ready (vec_len c.self.inside.boxes) (spare c.self.inside.keys)) (ready (vec_len c.take_box-tx.new.boxes) (spare c.list_key.new.keys)) c.self.inside.txns c.insert_reserved-key.new.self key (Some _) c.insert_reserved-key.ensures.updates)
+          (unboxed-at (ready (vec_len c.self.inside.boxes) (spare c.self.inside.keys)) c.self.inside.txns key
+          ∙ ap in_box c.insert_reserved-key.ensures.was_vacant)
+          (unboxed-updates (ready (vec_len c.self.inside.boxes) (spare c.self.inside.keys))
+          (ready (vec_len c.take_box-tx.new.boxes)
+          (spare c.list_key.new.keys)) c.self.inside.txns c.insert_reserved-key.new.self key
+          (Some _) c.insert_reserved-key.ensures.updates)
           (rw (← c.begin.ensures.names.0) at c.list_key.ensures)
           (λ k ty at same'. c.requires.other k ty (ap (λ (s : Slab Tx). get s k) (sym c.self.view_is) ∙ at) (same' ∙ c.begin.ensures.names.0)),
       record { begin = omega (arith, begin, fewer, len, capacity); end = omega (arith, end, fewer, len, same) },
@@ -48,7 +52,8 @@ returns-clause-entered c =
       tx = c.begin.new.self;
       begins = record { runs = begun.runs; takes = begun.takes; names = begun.names; fresh = begun.fresh; room = begun.room; certain = begun.certain };
       vacant = seen-vacant _ c.self.inside.txns c.args.self.now c.self.view_is c.insert_reserved-key.result c.insert_reserved-key.ensures.was_vacant;
-      updates = seen-updates _ c.self.inside.txns c.args.self.now c.self.view_is _ c.insert_reserved-key.new.self c.insert_reserved-key.result (Some _) c.insert_reserved-key.ensures.updates;
+      updates = seen-updates _ c.self.inside.txns c.args.self.now c.self.view_is _ c.insert_reserved-key.new.self c.insert_reserved-key.result
+          (Some _) c.insert_reserved-key.ensures.updates;
     }
 
 pub returns-clause-len : goal.returns-clause-len

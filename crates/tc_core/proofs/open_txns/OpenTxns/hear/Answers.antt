@@ -12,21 +12,26 @@ index_mut-requires c = has-box _ c.self.inside.txns c.args.self.now c.self.view_
 
 pub hear-requires : goal.hear-requires
 hear-requires c =
-    c.requires.hears _ (seen-some _ c.self.inside.txns c.args.self.now c.self.view_is c.args.key c.index_mut.result.now c.index_mut.ensures.value ∙ ap (λ (x : Tx). Some x) (sym c.deref_mut.ensures.value))
+    c.requires.hears _ (seen-some _ c.self.inside.txns c.args.self.now c.self.view_is c.args.key c.index_mut.result.now c.index_mut.ensures.value
+    ∙ ap (λ (x : Tx). Some x) (sym c.deref_mut.ensures.value))
 
 pub invariant_of-self : goal.invariant_of-self
 invariant_of-self c = (
-  written-keys c.self.inside.keys _ c.self.inside.txns c.args.key c.index_mut.result.now _ c.self.invariant.0 c.index_mut.ensures.value (c.hear.ensures.serial ∙ ap (λ (x : Tx). x.serial) c.deref_mut.ensures.value),
+  written-keys c.self.inside.keys _ c.self.inside.txns c.args.key c.index_mut.result.now _ c.self.invariant.0 c.index_mut.ensures.value
+      (c.hear.ensures.serial ∙ ap (λ (x : Tx). x.serial) c.deref_mut.ensures.value),
   written-boxed c.self.inside.txns c.self.inside.boxes c.args.key c.index_mut.result.now _ c.index_mut.ensures.value c.self.invariant.1,
 )
 
 pub returns-clause-updates : goal.returns-clause-updates
 returns-clause-updates c = λ tx found.
     let b = c.index_mut.result.now in
-    let same : c.deref_mut.result.now ≡ tx = c.deref_mut.ensures.value ∙ some_same b.value tx (sym (seen-some _ c.self.inside.txns c.args.self.now c.self.view_is c.args.key b c.index_mut.ensures.value) ∙ found) in
+    let same : c.deref_mut.result.now ≡ tx = c.deref_mut.ensures.value
+    ∙ some_same b.value tx (sym (seen-some _ c.self.inside.txns c.args.self.now c.self.view_is c.args.key b c.index_mut.ensures.value)
+    ∙ found) in
     record {
       after = c.hear.new.self;
-      updates = seen-updates _ c.self.inside.txns c.args.self.now c.self.view_is _ _ c.args.key (Some _) (Updates-with_value c.self.inside.txns c.args.key _ (ap is_some c.index_mut.ensures.value));
+      updates = seen-updates _ c.self.inside.txns c.args.self.now c.self.view_is _ _ c.args.key (Some _)
+          (Updates-with_value c.self.inside.txns c.args.key _ (ap is_some c.index_mut.ensures.value));
       serial = c.hear.ensures.serial ∙ ap (λ (x : Tx). x.serial) same;
       certain = c.hear.ensures.certain;
       keeps = λ s m. c.hear.ensures.keeps s (subst (λ (x : Tx). MayHear c.args.code.now x s c.args.said.now) (sym same) m);

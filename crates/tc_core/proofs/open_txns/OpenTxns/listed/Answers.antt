@@ -16,12 +16,17 @@ found_by keys txns serial (Some key) a e = a.listed serial key (sym e)
 absent_by : {S : Type 0} (keys : IndexMap ℕ ℕ S) (txns : Slab Tx) (serial : ℕ) (o : Option ℕ) → AreKeys keys txns
     → o ≡ key_of nat_eq keys serial → IfNone o ((key : ℕ) (tx : Tx) → get txns key ≡ Some tx → tx.serial ≢ serial)
 absent_by keys txns serial (Some key) a e = tt
-absent_by keys txns serial None a e = λ key tx at same. none_some (key_of nat_eq keys serial) key (sym e) (ap (key_of nat_eq keys) (sym same) ∙ a.keyed key tx at)
+absent_by keys txns serial None a e = λ key tx at same.
+    none_some (key_of nat_eq keys serial) key (sym e) (ap (key_of nat_eq keys) (sym same) ∙ a.keyed key tx at)
 
 pub returns-clause-found : goal.returns-clause-found
 returns-clause-found c =
-    found_by c.self.inside.keys c.args.self.now c.args.serial _ (subst (λ (s : Slab Tx). AreKeys c.self.inside.keys s) c.self.view_is c.self.invariant.0) (c.copied.ensures ∙ c.get.ensures.value)
+    found_by c.self.inside.keys c.args.self.now c.args.serial _
+    (subst (λ (s : Slab Tx). AreKeys c.self.inside.keys s) c.self.view_is c.self.invariant.0) (c.copied.ensures
+    ∙ c.get.ensures.value)
 
 pub returns-clause-absent : goal.returns-clause-absent
 returns-clause-absent c =
-    absent_by c.self.inside.keys c.args.self.now c.args.serial _ (subst (λ (s : Slab Tx). AreKeys c.self.inside.keys s) c.self.view_is c.self.invariant.0) (c.copied.ensures ∙ c.get.ensures.value)
+    absent_by c.self.inside.keys c.args.self.now c.args.serial _
+    (subst (λ (s : Slab Tx). AreKeys c.self.inside.keys s) c.self.view_is c.self.invariant.0) (c.copied.ensures
+    ∙ c.get.ensures.value)

@@ -25,8 +25,11 @@ invariant_of-self c =
     let more = c.push_reserved.ensures.len in
     let same = c.push_reserved.ensures.capacity in (
       keys-ended c.self.inside.keys c.swap_remove.new.self _ _ c.args.key c.remove-tx.result.value c.self.invariant.0
-          (unboxed-some (ready (vec_len c.self.inside.boxes) (spare c.self.inside.keys)) c.self.inside.txns c.args.key c.remove-tx.result c.remove-tx.ensures.value)
-          (unboxed-updates (ready (vec_len c.self.inside.boxes) (spare c.self.inside.keys)) (ready (vec_len c.push_reserved.new.self) (spare c.swap_remove.new.self)) c.self.inside.txns c.remove-tx.new.self c.args.key None c.remove-tx.ensures.updates)
+          (unboxed-some (ready (vec_len c.self.inside.boxes)
+          (spare c.self.inside.keys)) c.self.inside.txns c.args.key c.remove-tx.result c.remove-tx.ensures.value)
+          (unboxed-updates (ready (vec_len c.self.inside.boxes) (spare c.self.inside.keys))
+          (ready (vec_len c.push_reserved.new.self)
+          (spare c.swap_remove.new.self)) c.self.inside.txns c.remove-tx.new.self c.args.key None c.remove-tx.ensures.updates)
           (subst (λ (x : Tx). Keys nat_eq c.self.inside.keys c.swap_remove.new.self x.serial None) c.deref.ensures c.swap_remove.ensures.updates),
       record { begin = omega (arith, begin, len, capacity, more); end = omega (arith, end, len, more, same) },
     )

@@ -29,7 +29,8 @@ returns-clause-room c =
     let room = spare c.reserve.new.self in
     let txns = c.add_box.new.txns in
     (elim c.add_box.result as (λ r. OnOk r (0 < boxes) → OnOk r (HasRoomFor (unboxed (ready boxes room) txns) 1)) [
-      | Ok _ ↦ λ some. (let one = ready-one boxes room (omega (arith, some)) c.in_ok-reserve.ensures.ok in let len = unboxed-len (ready boxes room) txns in omega (arith, one, len))
+      | Ok _ ↦ λ some. (let one = ready-one boxes room (omega (arith, some)) c.in_ok-reserve.ensures.ok in
+          let len = unboxed-len (ready boxes room) txns in omega (arith, one, len))
       | Err e ↦ λ some. tt
     ])
     c.add_box.ensures.some

@@ -8,20 +8,28 @@ pub index_mut-requires : goal.index_mut-requires
 index_mut-requires c = has-box _ c.self.inside.txns c.args.self.now c.self.view_is c.args.key c.requires.key
 
 pub send_undo-requires-clause-left : goal.send_undo-requires-clause-left
-send_undo-requires-clause-left c = c.requires.left _ (seen-some _ c.self.inside.txns c.args.self.now c.self.view_is c.args.key c.index_mut.result.now c.index_mut.ensures.value ∙ ap (λ (x : Tx). Some x) (sym c.deref_mut.ensures.value))
+send_undo-requires-clause-left c = c.requires.left _
+    (seen-some _ c.self.inside.txns c.args.self.now c.self.view_is c.args.key c.index_mut.result.now c.index_mut.ensures.value
+    ∙ ap (λ (x : Tx). Some x) (sym c.deref_mut.ensures.value))
 
 pub send_undo-requires-clause-tries : goal.send_undo-requires-clause-tries
-send_undo-requires-clause-tries c = c.requires.tries _ (seen-some _ c.self.inside.txns c.args.self.now c.self.view_is c.args.key c.index_mut.result.now c.index_mut.ensures.value ∙ ap (λ (x : Tx). Some x) (sym c.deref_mut.ensures.value))
+send_undo-requires-clause-tries c = c.requires.tries _
+    (seen-some _ c.self.inside.txns c.args.self.now c.self.view_is c.args.key c.index_mut.result.now c.index_mut.ensures.value
+    ∙ ap (λ (x : Tx). Some x) (sym c.deref_mut.ensures.value))
 
 pub invariant_of-self : goal.invariant_of-self
 invariant_of-self c = (
-  written-keys c.self.inside.keys _ c.self.inside.txns c.args.key c.index_mut.result.now _ c.self.invariant.0 c.index_mut.ensures.value (ap (λ (x : Tx). x.serial) (c.send_undo.ensures ∙ ap (undoing_under c.args.number c.args.op.now) c.deref_mut.ensures.value)),
+  written-keys c.self.inside.keys _ c.self.inside.txns c.args.key c.index_mut.result.now _ c.self.invariant.0 c.index_mut.ensures.value
+      (ap (λ (x : Tx). x.serial) (c.send_undo.ensures ∙ ap
+      (undoing_under c.args.number c.args.op.now) c.deref_mut.ensures.value)),
   written-boxed c.self.inside.txns c.self.inside.boxes c.args.key c.index_mut.result.now _ c.index_mut.ensures.value c.self.invariant.1,
 )
 
 pub returns-clause-updates : goal.returns-clause-updates
 returns-clause-updates c = λ tx found.
-    goes-on _ c.self.inside.txns c.args.self.now c.self.view_is c.args.key c.index_mut.result.now _ tx (undoing_under c.args.number c.args.op.now) c.index_mut.ensures.value found (c.send_undo.ensures ∙ ap (undoing_under c.args.number c.args.op.now) c.deref_mut.ensures.value)
+    goes-on _ c.self.inside.txns c.args.self.now c.self.view_is c.args.key c.index_mut.result.now _ tx
+    (undoing_under c.args.number c.args.op.now) c.index_mut.ensures.value found (c.send_undo.ensures
+    ∙ ap (undoing_under c.args.number c.args.op.now) c.deref_mut.ensures.value)
 
 pub returns-clause-len : goal.returns-clause-len
 returns-clause-len c = written-len _ c.self.inside.txns c.args.self.now c.args.key _ c.self.view_is c.requires.key

@@ -17,7 +17,10 @@ invariant_of-self c =
     let slots = c.slots.ensures.value ∙ ap (λ (d : Declaration). d.slots) c.decl.ensures in
     let here : unknown_dc dcs q.decl.slots ≡ None = sym (ap (unknown_dc dcs) slots) ∙ (sym c.unknown_dc.ensures ∙ c.in_default.is) in
     elim c.match-add.branch [
-      | in-Ok w ↦ (now_good old _ q w.in-Ok.ensures.codes c.self.invariant.0 c.good.ensures, now_reach dcs old _ q w.in-Ok.ensures.codes c.self.invariant.1 here)
+      | in-Ok w ↦ (
+        now_good old _ q w.in-Ok.ensures.codes c.self.invariant.0 c.good.ensures,
+        now_reach dcs old _ q w.in-Ok.ensures.codes c.self.invariant.1 here,
+      )
       | in-Err w ↦
           let same = ap (λ es. map arc_value (map (λ e. e.1) es)) w.in-Err.ensures.err in (
             subst (λ (xs : List Checked). AllGood xs) (sym same) c.self.invariant.0,

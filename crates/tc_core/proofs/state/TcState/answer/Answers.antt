@@ -47,8 +47,11 @@ hear-requires-clause-hears c = λ ty found.
     let a = c.accepts.ensures.0 c.if-not-accepts.false in
     let may = may-answer _ _ _ _ _ _ _ _ _ tx _ _ _ _ c.self.invariant.0.kept w a in
     let code : may.q ≡ c.at-code.result.now = some_same _ _ (sym may.loaded ∙ c.at-code.ensures) in
-    let same : c.at-tx.result.now ≡ ty = some_same c.at-tx.result.now ty (sym c.at-tx.ensures ∙ found) in
-    (w.s, subst (λ (x : Tx). MayHear c.at-code.result.now x w.s c.args.reply.said) same (subst (λ (x : Checked). MayHear x tx w.s c.args.reply.said) code may.hears))
+    let same : c.at-tx.result.now ≡ ty = some_same c.at-tx.result.now ty (sym c.at-tx.ensures ∙ found) in (
+      w.s,
+      subst (λ (x : Tx). MayHear c.at-code.result.now x w.s c.args.reply.said) same
+          (subst (λ (x : Checked). MayHear x tx w.s c.args.reply.said) code may.hears),
+    )
 
 pub answered-requires : goal.answered-requires
 answered-requires c =
@@ -89,8 +92,10 @@ invariant_of-self c =
             kept-answer _ _ _ _ _ _ _ _ _ _ _ _ c.request.inside.number c.args.reply.number tx c.request.inside.op c.at-code.result.now c.args.reply.said c.self.invariant.0.kept c.at-tx.ensures w a loaded hears
             heard c.hear.ensures.len (rw (← serial) at c.push.ensures.events) c.push.ensures.room c.answered.ensures.last c.answered.ensures.pending c.answered.ensures.room;
         most = rw more c.self.invariant.0.most;
-        marked = marked-moved _ c.self.inside.book.log.events _ _ _ _ _ c.self.invariant.0.marked (omega (arith, more)) heard.updates (heard.certain ∙ sym (ap (is_doubted _) silent));
-        from = (let same : begun c.push.new.self.events ≡ begun c.self.inside.book.log.events = ap begun c.push.ensures.events in omega (arith, same, c.self.invariant.0.from));
+        marked = marked-moved _ c.self.inside.book.log.events _ _ _ _ _ c.self.invariant.0.marked
+            (omega (arith, more)) heard.updates (heard.certain ∙ sym (ap (is_doubted _) silent));
+        from = (let same : begun c.push.new.self.events ≡ begun c.self.inside.book.log.events =
+            ap begun c.push.ensures.events in omega (arith, same, c.self.invariant.0.from));
         starts = starts_event _ _ _ _ _ c.push.ensures.events c.self.invariant.0.starts;
       },
       c.self.invariant.1,

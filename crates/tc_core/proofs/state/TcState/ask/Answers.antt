@@ -21,7 +21,8 @@ returns-in_default-clause-reply c =
 pub next_number-number-requires-clause-room : goal.next_number-number-requires-clause-room
 next_number-number-requires-clause-room c =
     let tx = c.at.result.now in
-    (may-send _ _ _ _ _ _ _ _ _ tx _ c.self.invariant.0.kept (seen-at _ _ _ _ tx c.self.invariant.0 c.in-Some.ensures.found c.at.ensures) c.in-Asks.ensures).place
+    (may-send _ _ _ _ _ _ _ _ _ tx _ c.self.invariant.0.kept
+    (seen-at _ _ _ _ tx c.self.invariant.0 c.in-Some.ensures.found c.at.ensures) c.in-Asks.ensures).place
 
 pub next_number-number-requires-clause-few : goal.next_number-number-requires-clause-few
 next_number-number-requires-clause-few c =
@@ -31,24 +32,28 @@ next_number-number-requires-clause-few c =
 pub push-requires : goal.push-requires
 push-requires c =
     let tx = c.at.result.now in
-    (may-send _ _ _ _ _ _ _ _ _ tx _ c.self.invariant.0.kept (seen-at _ _ _ _ tx c.self.invariant.0 c.in-Some.ensures.found c.at.ensures) c.in-Asks.ensures).room
+    (may-send _ _ _ _ _ _ _ _ _ tx _ c.self.invariant.0.kept
+    (seen-at _ _ _ _ tx c.self.invariant.0 c.in-Some.ensures.found c.at.ensures) c.in-Asks.ensures).room
 
 pub send-requires-clause-left : goal.send-requires-clause-left
 send-requires-clause-left c = λ ty found.
     let tx = c.at.result.now in
     let same : c.at.result.now ≡ ty = some_same c.at.result.now ty (sym c.at.ensures ∙ found) in
     subst (λ (x : Tx). 1 ≤ x.left) same
-    (may-send _ _ _ _ _ _ _ _ _ tx _ c.self.invariant.0.kept (seen-at _ _ _ _ tx c.self.invariant.0 c.in-Some.ensures.found c.at.ensures) c.in-Asks.ensures).left
+    (may-send _ _ _ _ _ _ _ _ _ tx _ c.self.invariant.0.kept
+    (seen-at _ _ _ _ tx c.self.invariant.0 c.in-Some.ensures.found c.at.ensures) c.in-Asks.ensures).left
 
 pub overflow_sub-self : goal.overflow_sub-self
 overflow_sub-self c =
     let tx = c.at.result.now in
-    (may-send _ _ _ _ _ _ _ _ _ tx _ c.self.invariant.0.kept (seen-at _ _ _ _ tx c.self.invariant.0 c.in-Some.ensures.found c.at.ensures) c.in-Asks.ensures).owed_left
+    (may-send _ _ _ _ _ _ _ _ _ tx _ c.self.invariant.0.kept
+    (seen-at _ _ _ _ tx c.self.invariant.0 c.in-Some.ensures.found c.at.ensures) c.in-Asks.ensures).owed_left
 
 pub overflow_sub-self-in-Asks : goal.overflow_sub-self-in-Asks
 overflow_sub-self-in-Asks c =
     let tx = c.at.result.now in
-    (may-send _ _ _ _ _ _ _ _ _ tx _ c.self.invariant.0.kept (seen-at _ _ _ _ tx c.self.invariant.0 c.in-Some.ensures.found c.at.ensures) c.in-Asks.ensures).promised_left
+    (may-send _ _ _ _ _ _ _ _ _ tx _ c.self.invariant.0.kept
+    (seen-at _ _ _ _ tx c.self.invariant.0 c.in-Some.ensures.found c.at.ensures) c.in-Asks.ensures).promised_left
 
 pub invariant_of-self : goal.invariant_of-self
 invariant_of-self c =
@@ -56,17 +61,22 @@ invariant_of-self c =
     let serial = serial-at _ _ _ tx c.in-Some.ensures.found c.at.ensures in
     let h = c.self.inside.book.log.events in
     let more : given c.push.new.self.events ≡ given h + 1 = ap given c.push.ensures.events in
-    let may = may-send _ _ _ _ _ _ _ _ _ tx _ c.self.invariant.0.kept (seen-at _ _ _ _ tx c.self.invariant.0 c.in-Some.ensures.found c.at.ensures) c.in-Asks.ensures in
+    let may = may-send _ _ _ _ _ _ _ _ _ tx _ c.self.invariant.0.kept
+    (seen-at _ _ _ _ tx c.self.invariant.0 c.in-Some.ensures.found c.at.ensures) c.in-Asks.ensures in
     let promised = may.promised_left in
     let late : given h < c.next_number-number.result = omega (arith, c.next_number-number.ensures.number, c.self.invariant.0.kept.last_is) in (
       record {
         kept =
-            kept-ask _ _ _ _ _ _ _ _ _ _ _ _ c.next_number-number.result tx _ c.in-Asks.op.now c.self.invariant.0.kept c.at.ensures (seen _ _ _ _ _ _ _ _ _ _ tx c.self.invariant.0.kept c.at.ensures refl) c.in-Asks.ensures
-            c.next_number-number.ensures.number (rw (← serial) at c.push.ensures.events) c.push.ensures.room c.next_number-number.ensures.last c.next_number-number.ensures.pending c.next_number-number.ensures.room
+            kept-ask _ _ _ _ _ _ _ _ _ _ _ _ c.next_number-number.result tx _ c.in-Asks.op.now c.self.invariant.0.kept c.at.ensures
+            (seen _ _ _ _ _ _ _ _ _ _ tx c.self.invariant.0.kept c.at.ensures refl) c.in-Asks.ensures
+            c.next_number-number.ensures.number (rw
+            (← serial) at c.push.ensures.events) c.push.ensures.room c.next_number-number.ensures.last c.next_number-number.ensures.pending c.next_number-number.ensures.room
             (c.send.ensures.updates tx c.at.ensures) c.send.ensures.len refl;
         most = omega (arith, c.self.invariant.0.most, more, promised);
-        marked = marked-moved _ h _ _ _ _ _ c.self.invariant.0.marked (omega (arith, more)) (c.send.ensures.updates tx c.at.ensures) (sym (c.self.invariant.0.marked.early _ late));
-        from = (let same : begun c.push.new.self.events ≡ begun c.self.inside.book.log.events = ap begun c.push.ensures.events in omega (arith, same, c.self.invariant.0.from));
+        marked = marked-moved _ h _ _ _ _ _ c.self.invariant.0.marked (omega (arith, more))
+            (c.send.ensures.updates tx c.at.ensures) (sym (c.self.invariant.0.marked.early _ late));
+        from = (let same : begun c.push.new.self.events ≡ begun c.self.inside.book.log.events =
+            ap begun c.push.ensures.events in omega (arith, same, c.self.invariant.0.from));
         starts = starts_event _ _ _ _ _ c.push.ensures.events c.self.invariant.0.starts;
       },
       c.self.invariant.1,

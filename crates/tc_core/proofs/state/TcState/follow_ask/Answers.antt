@@ -7,4 +7,5 @@ returns-clause-rest c = rw (c.ask-asked.ensures.state) (ask_further c.args.self.
 
 pub returns-clause-illegal : goal.returns-clause-illegal
 returns-clause-illegal c not can =
-    ask_else c.args.self.now c.args.txn c.args.number c.args.op.now c.ask-asked.result c.ask-asked.ensures.reply (λ it. (let bad : true ≡ false = sym (c.is_asked.ensures.1 it) ∙ not in cc)) can
+    ask_else c.args.self.now c.args.txn c.args.number c.args.op.now c.ask-asked.result c.ask-asked.ensures.reply
+    (λ it. (let bad : true ≡ false = sym (c.is_asked.ensures.1 it) ∙ not in cc)) can

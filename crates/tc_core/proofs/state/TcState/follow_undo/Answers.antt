@@ -7,4 +7,5 @@ returns-clause-rest c = rw (c.undo_next-asked.ensures.state) (undo_further c.arg
 
 pub returns-clause-illegal : goal.returns-clause-illegal
 returns-clause-illegal c not can =
-    undo_else c.args.self.now c.args.txn c.args.number c.args.op.now c.undo_next-asked.result c.undo_next-asked.ensures.reply (λ it. (let bad : true ≡ false = sym (c.is_asked.ensures.1 it) ∙ not in cc)) can
+    undo_else c.args.self.now c.args.txn c.args.number c.args.op.now c.undo_next-asked.result c.undo_next-asked.ensures.reply
+    (λ it. (let bad : true ≡ false = sym (c.is_asked.ensures.1 it) ∙ not in cc)) can

@@ -1,4 +1,4 @@
-use Rattle.std.proofs.Common.{◌≡◌, ℕ, List, sym, ◌∙◌, ap, subst}
+use Rattle.std.proofs.Common.{ℕ, List, sym, ◌∙◌, ap, subst}
 use Rattle.tc_log.specs.declared.event.Event.{Event}
 use Rattle.history.specs.Anew.{begun}
 use Rattle.transactions.specs.Legal.{Legal}

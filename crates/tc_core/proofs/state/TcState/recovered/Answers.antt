@@ -12,7 +12,9 @@ returns-clause-kept c =
     let is = c.in_ok-book.ensures.kept in
     let sites = c.in-Ok.sites.items in
     let h = c.in_ok-book.book.log.events in
-    let many : length sites ≡ c.dcs.result = ap (length {A = Site}) c.in-Ok.ensures ∙ (length-map c.args.notes.now site_noted ∙ (c.requires.notes ∙ (ap (λ (x : Core). x.dcs) (sym c.self.view_is) ∙ sym c.dcs.ensures))) in
+    let many : length sites ≡ c.dcs.result = ap (length {A = Site}) c.in-Ok.ensures
+    ∙ (length-map c.args.notes.now site_noted ∙ (c.requires.notes
+    ∙ (ap (λ (x : Core). x.dcs) (sym c.self.view_is) ∙ sym c.dcs.ensures))) in
     rw (← c.self.view_is) (record {
       kept = is.kept;
       from = is.from;

@@ -21,11 +21,20 @@ returns-in_default-find_done-clause-accepted c =
     let site = c.in-Some.site in
     let start = c.in-Some.start in
     let r = c.in-Some-redo.redo in
-    let there : slice_get core.sites c.args.dc ≡ Some site = ap (λ (xs : List Site). slice_get xs c.args.dc) (sym c.as_slice.ensures.value) ∙ c.in-Some.ensures.site in
-    let begin : slice_get c.self.inside.book.starts.items c.args.dc ≡ Some start = ap (λ (xs : List ℕ). slice_get xs c.args.dc) (sym c.as_slice-2.ensures.value) ∙ c.in-Some.ensures.start in
+    let there : slice_get core.sites c.args.dc ≡ Some site =
+    ap (λ (xs : List Site). slice_get xs c.args.dc) (sym c.as_slice.ensures.value) ∙ c.in-Some.ensures.site in
+    let begin : slice_get c.self.inside.book.starts.items c.args.dc ≡ Some start =
+    ap (λ (xs : List ℕ). slice_get xs c.args.dc) (sym c.as_slice-2.ensures.value) ∙ c.in-Some.ensures.start in
     let whole = looks c.self.inside.procs.codes core.sites c.self.inside.book.starts.items h c.self.invariant.0.kept.legal c.self.invariant.0.starts c.args.dc start site r begin there c.in-Some-redo.is in
-    let next : to_redo h c.args.dc r.redone ≡ None = sym whole ∙ (ap (λ (es : List Event). scan c.args.dc r.redone (drop start es)) (sym c.events.ensures) ∙ c.in_default-find_done.ensures.none) in
-    (λ e. absurd cc, λ here. absurd (let is = subst (λ (x : Core). IsRedone x c.args.dc c.args.reply.now) (sym c.self.view_is) here in let said = redone_said core c.args.dc c.args.reply.now site r None there c.in-Some-redo.is next is in none_some _ said.a refl said.is))
+    let next : to_redo h c.args.dc r.redone ≡ None = sym whole
+    ∙ (ap (λ (es : List Event). scan c.args.dc r.redone (drop start es)) (sym c.events.ensures)
+    ∙ c.in_default-find_done.ensures.none) in (
+      λ e. absurd cc,
+      λ here. absurd (let is = subst (λ (x : Core). IsRedone x c.args.dc c.args.reply.now)
+          (sym c.self.view_is) here in let said =
+          redone_said core c.args.dc c.args.reply.now site r None there c.in-Some-redo.is next is in
+          none_some _ said.a refl said.is),
+    )
 
 pub returns-then-not-is_said-clause-accepted : goal.returns-then-not-is_said-clause-accepted
 returns-then-not-is_said-clause-accepted c =
@@ -34,10 +43,14 @@ returns-then-not-is_said-clause-accepted c =
     let site = c.in-Some.site in
     let start = c.in-Some.start in
     let r = c.in-Some-redo.redo in
-    let there : slice_get core.sites c.args.dc ≡ Some site = ap (λ (xs : List Site). slice_get xs c.args.dc) (sym c.as_slice.ensures.value) ∙ c.in-Some.ensures.site in
-    let begin : slice_get c.self.inside.book.starts.items c.args.dc ≡ Some start = ap (λ (xs : List ℕ). slice_get xs c.args.dc) (sym c.as_slice-2.ensures.value) ∙ c.in-Some.ensures.start in
+    let there : slice_get core.sites c.args.dc ≡ Some site =
+    ap (λ (xs : List Site). slice_get xs c.args.dc) (sym c.as_slice.ensures.value) ∙ c.in-Some.ensures.site in
+    let begin : slice_get c.self.inside.book.starts.items c.args.dc ≡ Some start =
+    ap (λ (xs : List ℕ). slice_get xs c.args.dc) (sym c.as_slice-2.ensures.value) ∙ c.in-Some.ensures.start in
     let whole = looks c.self.inside.procs.codes core.sites c.self.inside.book.starts.items h c.self.invariant.0.kept.legal c.self.invariant.0.starts c.args.dc start site r begin there c.in-Some-redo.is in
-    let next : to_redo h c.args.dc r.redone ≡ Some c.in-Some-find_done.answered = sym whole ∙ (ap (λ (es : List Event). scan c.args.dc r.redone (drop start es)) (sym c.events.ensures) ∙ c.in-Some-find_done.ensures.found) in (
+    let next : to_redo h c.args.dc r.redone ≡ Some c.in-Some-find_done.answered = sym whole
+    ∙ (ap (λ (es : List Event). scan c.args.dc r.redone (drop start es)) (sym c.events.ensures)
+    ∙ c.in-Some-find_done.ensures.found) in (
       λ e. absurd cc,
       λ here.
           let is = subst (λ (x : Core). IsRedone x c.args.dc c.args.reply.now) (sym c.self.view_is) here in
@@ -58,7 +71,8 @@ invariant_of-self c =
     let inside = c.in-Some-find_done.ensures.inside in
     let many = ap length c.events.ensures in
     let first : first_in c.args.dc c.in-Some-redo.redo.redone (drop c.in-Some-find_done.place (reverse h)) ≡ Some c.in-Some-find_done.answered
-    = ap (λ (es : List Event). first_in c.args.dc c.in-Some-redo.redo.redone (drop c.in-Some-find_done.place es)) (sym c.events.ensures) ∙ c.in-Some-find_done.ensures.there in (
+    = ap (λ (es : List Event). first_in c.args.dc c.in-Some-redo.redo.redone (drop c.in-Some-find_done.place es))
+    (sym c.events.ensures) ∙ c.in-Some-find_done.ensures.there in (
       record {
         kept = c.self.invariant.0.kept;
         from = c.self.invariant.0.from;
@@ -77,10 +91,14 @@ returns-clause-accepted c =
     let site = c.in-Some.site in
     let start = c.in-Some.start in
     let r = c.in-Some-redo.redo in
-    let there : slice_get core.sites c.args.dc ≡ Some site = ap (λ (xs : List Site). slice_get xs c.args.dc) (sym c.as_slice.ensures.value) ∙ c.in-Some.ensures.site in
-    let begin : slice_get c.self.inside.book.starts.items c.args.dc ≡ Some start = ap (λ (xs : List ℕ). slice_get xs c.args.dc) (sym c.as_slice-2.ensures.value) ∙ c.in-Some.ensures.start in
+    let there : slice_get core.sites c.args.dc ≡ Some site =
+    ap (λ (xs : List Site). slice_get xs c.args.dc) (sym c.as_slice.ensures.value) ∙ c.in-Some.ensures.site in
+    let begin : slice_get c.self.inside.book.starts.items c.args.dc ≡ Some start =
+    ap (λ (xs : List ℕ). slice_get xs c.args.dc) (sym c.as_slice-2.ensures.value) ∙ c.in-Some.ensures.start in
     let whole = looks c.self.inside.procs.codes core.sites c.self.inside.book.starts.items h c.self.invariant.0.kept.legal c.self.invariant.0.starts c.args.dc start site r begin there c.in-Some-redo.is in
-    let next : to_redo h c.args.dc r.redone ≡ Some c.in-Some-find_done.answered = sym whole ∙ (ap (λ (es : List Event). scan c.args.dc r.redone (drop start es)) (sym c.events.ensures) ∙ c.in-Some-find_done.ensures.found) in
+    let next : to_redo h c.args.dc r.redone ≡ Some c.in-Some-find_done.answered = sym whole
+    ∙ (ap (λ (es : List Event). scan c.args.dc r.redone (drop start es)) (sym c.events.ensures)
+    ∙ c.in-Some-find_done.ensures.found) in
     let said = c.is_said.ensures.0 c.if-not-is_said.false in (
       λ e. subst (λ (x : Core). IsRedone x c.args.dc c.args.reply.now) c.self.view_is (record {
         site = site;
