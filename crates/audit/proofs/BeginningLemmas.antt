@@ -1,5 +1,6 @@
 -- Where a log begins, and the rows with which data components begin.
-use Rattle.std.proofs.Common.{◌≡◌, ◌≢◌, ℕ, ◌+◌, ◌<◌, ◌≤◌, Bool, true, false, ◌&&◌, ◌==◌, List, [], ◌∷◌, ◌++◌, length, take, get_or, Option, Some, None, inl, inr, arith, refl, sym, ◌∙◌, ap, if◌then◌else◌}
+use Rattle.std.proofs.Common.{◌≡◌, ◌≢◌, ℕ, ◌+◌, ◌<◌, ◌≤◌, Bool, true, false, ◌&&◌, ◌==◌, List, [], ◌∷◌, ◌++◌, length}
+use Rattle.std.proofs.Common.{take, get_or, Option, Some, None, inl, inr, arith, refl, sym, ◌∙◌, ap, if◌then◌else◌}
 use Rattle.std.specs.Prelude.{slice_get}
 use Rattle.std.proofs.lemmas.List.{take_more}
 use Rattle.std.proofs.lemmas.Bool.{cases_eq, cases_lt, cond-true, cond-false}
@@ -63,7 +64,8 @@ here_by d x r = by (record_eq x.0 r) refl
     never false true = refl
     never false false = refl
 
-    by : (b : Bool) → record_eq x.0 r ≡ b → (if (x.0.dc == d) && record_eq x.0 r then Some x.1 else None) ≡ (if r.dc == d then (if record_eq x.0 r then Some x.1 else None) else None)
+    by : (b : Bool) → record_eq x.0 r ≡ b → (if (x.0.dc == d) && record_eq x.0 r then Some x.1 else None)
+        ≡ (if r.dc == d then (if record_eq x.0 r then Some x.1 else None) else None)
     by true is =
         ap (λ (c : Bool). if (x.0.dc == d) && c then Some x.1 else None) is
         ∙ (same (eq_is x.0 r is) ∙ ap (λ (c : Bool). if r.dc == d then (if c then Some x.1 else None) else None) (sym is))
@@ -72,7 +74,8 @@ here_by d x r = by (record_eq x.0 r) refl
         ∙ (never (x.0.dc == d) (r.dc == d) ∙ ap (λ (c : Bool). if r.dc == d then (if c then Some x.1 else None) else None) (sym is))
 
 rows_push : (d : ℕ) (xs : Rows) (x : Record × List ℕ) (r : Record) → or_value (rows_here d xs r) (row_here d x r) ≡ rows_here d (xs ++ x ∷ []) r
-rows_push d xs x r = ap (or_value (rows_here d xs r)) (here_by d x r) ∙ (by (r.dc == d) ∙ ap (λ (v : RecordValue). if r.dc == d then v else None) (sym (find_push xs x r)))
+rows_push d xs x r = ap (or_value (rows_here d xs r)) (here_by d x r)
+    ∙ (by (r.dc == d) ∙ ap (λ (v : RecordValue). if r.dc == d then v else None) (sym (find_push xs x r)))
   where
     by : (b : Bool) → or_value (if b then row_of xs r else None) (if b then (if record_eq x.0 r then Some x.1 else None) else None)
         ≡ (if b then or_value (row_of xs r) (if record_eq x.0 r then Some x.1 else None) else None)
@@ -112,9 +115,11 @@ there_already d x m v r is = by (record_eq x.0 r) refl
 
     by : (b : Bool) → record_eq x.0 r ≡ b → m r ≡ or_value (m r) (row_here d x r)
     by true same = some_stays (row_here d x r) (sym (ap m (eq_is x.0 r same)) ∙ is)
-    by false same = sym (or_none (m r)) ∙ ap (or_value (m r)) (sym (ap (λ (c : Bool). if (x.0.dc == d) && c then Some x.1 else None) same ∙ none_by (x.0.dc == d)))
+    by false same = sym (or_none (m r)) ∙ ap (or_value (m r))
+        (sym (ap (λ (c : Bool). if (x.0.dc == d) && c then Some x.1 else None) same ∙ none_by (x.0.dc == d)))
 
-pub put_here : (d : ℕ) (x : Record × List ℕ) (m w : Record → RecordValue) (r : Record) → x.0.dc ≡ d → m x.0 ≡ None → w r ≡ (if record_eq x.0 r then Some x.1 else m r) → w r ≡ or_value (m r) (row_here d x r)
+pub put_here : (d : ℕ) (x : Record × List ℕ) (m w : Record → RecordValue) (r : Record) → x.0.dc ≡ d → m x.0 ≡ None
+    → w r ≡ (if record_eq x.0 r then Some x.1 else m r) → w r ≡ or_value (m r) (row_here d x r)
 put_here d x m w r here none now = now ∙ by (record_eq x.0 r) refl
   where
     open_here : row_here d x r ≡ (if record_eq x.0 r then Some x.1 else None)
@@ -131,7 +136,8 @@ put_here d x m w r here none now = now ∙ by (record_eq x.0 r) refl
 -- ---- one data component more
 
 pub based_more : (dcs : List Store) (k : ℕ) (s : Store) (cur new : Record → RecordValue) → slice_get dcs k ≡ Some s
-    → ((r : Record) → r.dc < k → cur r ≡ base_of dcs r) × ((r : Record) → k ≤ r.dc → cur r ≡ None) → ((r : Record) → new r ≡ or_value (cur r) (rows_here k s.base r))
+    → ((r : Record) → r.dc < k → cur r ≡ base_of dcs r) × ((r : Record) → k ≤ r.dc → cur r ≡ None)
+    → ((r : Record) → new r ≡ or_value (cur r) (rows_here k s.base r))
     → ((r : Record) → r.dc < k + 1 → new r ≡ base_of dcs r) × ((r : Record) → k + 1 ≤ r.dc → new r ≡ None)
 based_more dcs k s cur new at before now = (
   λ r below. elim (cases_eq r.dc k) [
@@ -146,7 +152,9 @@ based_more dcs k s cur new at before now = (
     apart : (r : Record) → r.dc ≢ k → new r ≡ cur r
     apart r other = now r ∙ (ap (or_value (cur r)) (cond-false _ (row_of s.base r) None (eq-false r.dc k other)) ∙ or_none (cur r))
 
-pub based_all : (dcs : List Store) (k : ℕ) (m : Record → RecordValue) → length dcs ≤ k → ((r : Record) → r.dc < k → m r ≡ base_of dcs r) × ((r : Record) → k ≤ r.dc → m r ≡ None) → (r : Record) → m r ≡ base_of dcs r
+pub based_all : (dcs : List Store) (k : ℕ) (m : Record → RecordValue) → length dcs ≤ k
+    → ((r : Record) → r.dc < k → m r ≡ base_of dcs r) × ((r : Record) → k ≤ r.dc → m r ≡ None) → (r : Record)
+    → m r ≡ base_of dcs r
 based_all dcs k m past so r = by (slice_get dcs r.dc) refl
   where
     by : (u : Option Store) → slice_get dcs r.dc ≡ u → m r ≡ base_of dcs r

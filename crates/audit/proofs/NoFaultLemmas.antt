@@ -20,7 +20,8 @@ each_allowed ps h place legal f = f.illegal (legal_tail ps f.stands.later (f.e �
 
 each_asked : (ps : List Checked) (h : List Event) (dcs : List Store) (d place : ℕ) → IsAgreed ps h dcs → IsFirstNotAsked h dcs d place → ⊥
 each_asked ps h dcs d place agreed f =
-    let w : Somewhere f.s.list f.e = subst (λ (list : List Performed). Somewhere list f.e) (reverse-reverse f.s.list) (turned (reverse f.s.list) place f.e f.at) in
+    let w : Somewhere f.s.list f.e = subst (λ (list : List Performed). Somewhere list f.e) (reverse-reverse f.s.list)
+    (turned (reverse f.s.list) place f.e f.at) in
     f.not (agreed.asked d f.s w.place f.e f.there w.at)
 
 pub no_fault : (ps : List Checked) (h : List Event) (dcs : List Store) (f : AuditFault) → Legal ps h → IsAgreed ps h dcs → IsAuditFault ps h dcs f → f ≡ Memory

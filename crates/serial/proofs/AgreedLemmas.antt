@@ -1,5 +1,6 @@
 -- Beside lists that stand beside a legal log with honest answers, an audit finds nothing.
-use Rattle.std.proofs.Common.{◌≡◌, ◌⊎◌, ℕ, zero, suc, true, false, List, [], ◌∷◌, ◌++◌, Option, Some, None, arith, refl, sym, ◌∙◌, ap, subst, inl, inr, append_assoc}
+use Rattle.std.proofs.Common.{◌≡◌, ◌⊎◌, ℕ, zero, suc, true, false, List, [], ◌∷◌, ◌++◌, Option, Some, None, arith, refl}
+use Rattle.std.proofs.Common.{sym, ◌∙◌, ap, subst, inl, inr, append_assoc}
 use Rattle.std.specs.Prelude.{slice_get, pred}
 use Rattle.std.proofs.lemmas.Bool.{cases_eq}
 use Rattle.access_slots.specs.declared.slot.Record.{Record}
@@ -39,48 +40,60 @@ use Rattle.serial.proofs.AuditLemmas.{legal_tail, logged_stays, value_before, va
 abbrev Tells : Table → List Event → ℕ → Op → Said → Type 0
 Tells base h n o said = (said ≡ told (value_to base h (pred n)) o) ⊎ (said ≡ NoRoom)
 
-tells_one : (ps : List Checked) (base : Table) (later h : List Event) (t m : ℕ) (s : Said) (n : ℕ) (o : Op) (said : Said) → AllGood ps → Legal ps (later ++ Answer t m s ∷ h) → HonestTo (open_op h m) s (now_from base h)
-    → logged (later ++ Answer t m s ∷ h) n ≡ Some o → said_under (done (Answer t m s ∷ h)) n ≡ Some said → (said_under (done h) n ≡ Some said → Tells base (later ++ Answer t m s ∷ h) n o said) → Tells base (later ++ Answer t m s ∷ h) n o said
+tells_one : (ps : List Checked) (base : Table) (later h : List Event) (t m : ℕ) (s : Said) (n : ℕ) (o : Op)
+    (said : Said) → AllGood ps → Legal ps (later ++ Answer t m s ∷ h) → HonestTo (open_op h m) s (now_from base h)
+    → logged (later ++ Answer t m s ∷ h) n ≡ Some o → said_under (done (Answer t m s ∷ h)) n ≡ Some said
+    → (said_under (done h) n ≡ Some said → Tells base (later ++ Answer t m s ∷ h) n o said)
+    → Tells base (later ++ Answer t m s ∷ h) n o said
 tells_one ps base later h t m s n o said good legal honest logs under before =
     let H = later ++ Answer t m s ∷ h in
     let all = legal_tail ps later (Answer t m s ∷ h) legal in
     let f : Flight = flight t all.0.r.op in
     let flies : open_op h m ≡ Some f = answered_flight ps h t m s all.1 all.0 in
-    let under' : said_under ((m, f.op, s) ∷ done h) n ≡ Some said = subst (λ (x : List Performed). said_under x n ≡ Some said) (done_answer h t m f s flies) under in
+    let under' : said_under ((m, f.op, s) ∷ done h) n ≡ Some said =
+    subst (λ (x : List Performed). said_under x n ≡ Some said) (done_answer h t m f s flies) under in
     elim (cases_eq m n) [
       | inl same ↦
           let one : s ≡ said = some_same s said (sym (under_same m n f.op s (done h) same) ∙ under') in
           let logged_so : logged H m ≡ Some f.op = logged_stays ps later (Answer t m s ∷ h) m f.op legal (flight_logged h m f flies) in
           let op : f.op ≡ o = some_same f.op o (sym logged_so ∙ (ap (logged H) same ∙ logs)) in
-          let value : told (value_to base H (pred m)) f.op ≡ told (now_from base h) f.op = ap (λ (v : RecordValue). said_freely v f.op) (value_before ps base later h t m s f good legal flies) in
+          let value : told (value_to base H (pred m)) f.op ≡ told (now_from base h) f.op =
+          ap (λ (v : RecordValue). said_freely v f.op) (value_before ps base later h t m s f good legal flies) in
           let honest' : HonestTo (Some f) s (now_from base h) = subst (λ (x : Option Flight). HonestTo x s (now_from base h)) flies honest in
           let tells : Tells base H m f.op s = elim honest' [ inl is ↦ inl (is ∙ sym value) | inr is ↦ inr is ] in
           subst (λ (k : ℕ). Tells base H k o said) same (subst (λ (q : Op). Tells base H m q said) op (subst (λ (u : Said). Tells base H m f.op u) one tells))
       | inr other ↦ before (sym (under_other m n f.op s (done h) other) ∙ under')
     ]
 
-tells_event : (ps : List Checked) (base : Table) (later h : List Event) (e : Event) (n : ℕ) (o : Op) (said : Said) → AllGood ps → Legal ps (later ++ e ∷ h) → IsHonestFrom base h e
-    → logged (later ++ e ∷ h) n ≡ Some o → said_under (done (e ∷ h)) n ≡ Some said → (said_under (done h) n ≡ Some said → Tells base (later ++ e ∷ h) n o said) → Tells base (later ++ e ∷ h) n o said
+tells_event : (ps : List Checked) (base : Table) (later h : List Event) (e : Event) (n : ℕ) (o : Op) (said : Said)
+    → AllGood ps → Legal ps (later ++ e ∷ h) → IsHonestFrom base h e
+    → logged (later ++ e ∷ h) n ≡ Some o → said_under (done (e ∷ h)) n ≡ Some said
+    → (said_under (done h) n ≡ Some said → Tells base (later ++ e ∷ h) n o said) → Tells base (later ++ e ∷ h) n o said
 tells_event ps base later h (Admit t p args) n o said good legal honest logs under before = before under
 tells_event ps base later h (Ask t m q) n o said good legal honest logs under before = before under
-tells_event ps base later h (Answer t m s) n o said good legal honest logs under before = tells_one ps base later h t m s n o said good legal honest logs under before
+tells_event ps base later h (Answer t m s) n o said good legal honest logs under before =
+    tells_one ps base later h t m s n o said good legal honest logs under before
 tells_event ps base later h (Undo t m q) n o said good legal honest logs under before = before under
 tells_event ps base later h (End t ends) n o said good legal honest logs under before = before under
 tells_event ps base later h (Checkpoint admissions numbers) n o said good legal honest logs under before = before under
 
 -- where answers are honest, each is what the operations under lower numbers left
-tells_all : (ps : List Checked) (base : Table) (later h : List Event) (n : ℕ) (o : Op) (said : Said) → AllGood ps → Legal ps (later ++ h) → HonestFrom base h → logged (later ++ h) n ≡ Some o → said_under (done h) n ≡ Some said → Tells base (later ++ h) n o said
+tells_all : (ps : List Checked) (base : Table) (later h : List Event) (n : ℕ) (o : Op) (said : Said) → AllGood ps
+    → Legal ps (later ++ h) → HonestFrom base h → logged (later ++ h) n ≡ Some o → said_under (done h) n ≡ Some said
+    → Tells base (later ++ h) n o said
 tells_all ps base later [] n o said good legal honest logs under = absurd (none_some _ said refl under)
 tells_all ps base later (e ∷ h) n o said good legal honest logs under =
     let same : (later ++ e ∷ []) ++ h ≡ later ++ e ∷ h = append_assoc later (e ∷ []) h in
     tells_event ps base later h e n o said good legal honest.0 logs under (λ before.
     subst (λ (x : List Event). Tells base x n o said) same
-    (tells_all ps base (later ++ e ∷ []) h n o said good (subst (Legal ps) (sym same) legal) honest.1 (subst (λ (x : List Event). logged x n ≡ Some o) (sym same) logs) before))
+    (tells_all ps base (later ++ e ∷ []) h n o said good (subst (Legal ps) (sym same) legal) honest.1
+    (subst (λ (x : List Event). logged x n ≡ Some o) (sym same) logs) before))
 
 -- ---- records
 
 -- no operation on the record, no write of it
-no_writes : (r : Record) (list : List Performed) → ((k : ℕ) (e : Performed) → slice_get list k ≡ Some e → record_eq (target e.1) r ≡ true → ⊥) → writes_on r list ≡ []
+no_writes : (r : Record) (list : List Performed) → ((k : ℕ) (e : Performed) → slice_get list k ≡ Some e
+    → record_eq (target e.1) r ≡ true → ⊥) → writes_on r list ≡ []
 no_writes r [] none = refl
 no_writes r (x ∷ list) none = writes_none r x list (λ same. absurd (none zero x refl same)) ∙ no_writes r list (λ k e is. none (suc k) e is)
 
@@ -89,13 +102,16 @@ no_writes r (x ∷ list) none = writes_none r x list (λ same. absurd (none zero
 module _ (ps : List Checked) (h : List Event) (dcs : List Store) (good : AllGood ps) (legal : Legal ps h) (honest : HonestFrom (base_of dcs) h) where
   -- a data component's list stands beside the log, and where it never restarted, all that was answered is there
   abbrev pub Stands : Type 0
-  Stands = (d : ℕ) (s : Store) → slice_get dcs d ≡ Some s → Beside (base_of dcs) (logged h) (open_op h) (done h) d s.list × (s.incarnation ≡ 0 → StandsWhole (logged h) (done h) d s.list)
+  Stands = (d : ℕ) (s : Store) → slice_get dcs d ≡ Some s
+      → Beside (base_of dcs) (logged h) (open_op h) (done h) d s.list
+      × (s.incarnation ≡ 0 → StandsWhole (logged h) (done h) d s.list)
 
   -- what was answered was said by a data component that is there
   abbrev pub WasThere : Type 0
   WasThere = (n : ℕ) (o : Op) (said : Said) → logged h n ≡ Some o → said_under (done h) n ≡ Some said → (s : Store) × (slice_get dcs (dc_of o) ≡ Some s)
 
-  stands_there : Stands → (n : ℕ) (o : Op) (said : Said) (s : Store) → slice_get dcs (dc_of o) ≡ Some s → logged h n ≡ Some o → said_under (done h) n ≡ Some said → StandsThere dcs n o said
+  stands_there : Stands → (n : ℕ) (o : Op) (said : Said) (s : Store) → slice_get dcs (dc_of o) ≡ Some s
+      → logged h n ≡ Some o → said_under (done h) n ≡ Some said → StandsThere dcs n o said
   stands_there stands n o said s at logs was =
       subst (λ (x : Option Store). StandsSo (said_under (list_of x) n) said (incarnation_of x)) (sym at) (by (said_under s.list n) refl)
     where
@@ -116,7 +132,8 @@ module _ (ps : List Checked) (h : List Event) (dcs : List Store) (good : AllGood
   over_value : (r : Record) → value_at dcs r ≡ value_over (base_of dcs) (list_at dcs r.dc) r
   over_value r = over_same (row_of (base_at dcs r.dc)) (base_of dcs) (list_at dcs r.dc) r refl
 
-  kept_by : Stands → WasThere → (r : Record) → IsFree ps h r → (u : Option Store) → slice_get dcs r.dc ≡ u → value_over (base_of dcs) (list_at dcs r.dc) r ≡ value_to (base_of dcs) h (given h) r
+  kept_by : Stands → WasThere → (r : Record) → IsFree ps h r → (u : Option Store) → slice_get dcs r.dc ≡ u
+      → value_over (base_of dcs) (list_at dcs r.dc) r ≡ value_to (base_of dcs) h (given h) r
   kept_by stands there r free (Some s) at =
       let un = unwritten ps h r free in
       ap (λ (x : Option Store). value_over (base_of dcs) (list_of x) r) at
@@ -126,7 +143,8 @@ module _ (ps : List Checked) (h : List Event) (dcs : List Store) (good : AllGood
       let s = there e.0 e.1 e.2 (done_logs ps h legal k e is) (once_under (done h) (done_once ps h legal) k e is) in
       none_some _ s.0 (ap (λ (x : Record). slice_get dcs x.dc) (eq_is (target e.1) r same) ∙ at) s.1) in
       ap (λ (x : Option Store). value_over (base_of dcs) (list_of x) r) at
-      ∙ sym (value_all ps (base_of dcs) h r good legal ∙ (value_over_writes (base_of dcs) (done h) r ∙ ap (λ (x : List Performed). value_over (base_of dcs) x r) none))
+      ∙ sym (value_all ps (base_of dcs) h r good legal ∙ (value_over_writes (base_of dcs) (done h) r
+      ∙ ap (λ (x : List Performed). value_over (base_of dcs) x r) none))
 
   pub agreed : Stands → WasThere → IsBegunTogether h dcs → IsAgreed ps h dcs
   agreed stands there together =

@@ -1,5 +1,6 @@
 -- What stands beside a log stands beside the same log without its last events, once it lacks the entries of numbers that these gave out.
-use Rattle.std.proofs.Common.{◌≡◌, ◌≢◌, ◌⊎◌, ℕ, ◌+◌, ◌<◌, ◌≤◌, Bool, true, false, ◌&&◌, List, [], ◌∷◌, ◌++◌, Option, Some, None, arith, refl, sym, ◌∙◌, ap, subst, inl, inr, ◌==◌, if◌then◌else◌}
+use Rattle.std.proofs.Common.{◌≡◌, ◌≢◌, ◌⊎◌, ℕ, ◌+◌, ◌<◌, ◌≤◌, Bool, true, false, ◌&&◌, List, [], ◌∷◌, ◌++◌, Option}
+use Rattle.std.proofs.Common.{Some, None, arith, refl, sym, ◌∙◌, ap, subst, inl, inr, ◌==◌, if◌then◌else◌}
 use Rattle.std.specs.Prelude.{slice_get}
 use Rattle.std.proofs.lemmas.Bool.{cases_eq, cond-false}
 use Rattle.access_slots.specs.declared.slot.Record.{Record}
@@ -27,7 +28,8 @@ use Rattle.serial.specs.Joining.Beside.{Beside, added}
 use Rattle.serial.specs.Joining.Behind.{Behind, IsEnd, NoneDone}
 use Rattle.serial.proofs.LockLemmas.{by_test, both_left, both_right}
 use Rattle.serial.proofs.KeepLemmas.{answered_flight}
-use Rattle.serial.proofs.ListLemmas.{entry_of, under_other, under_same, if_none, if_some, writes_none, writes_added, clash_first, clash_last, applied_apart, same_added}
+use Rattle.serial.proofs.ListLemmas.{entry_of, under_other, under_same, if_none, if_some, writes_none, writes_added}
+use Rattle.serial.proofs.ListLemmas.{clash_first, clash_last, applied_apart, same_added}
 use Rattle.serial.proofs.NumberLemmas.{logged_below, flight_logged, flight_absent, done_answer, flights}
 use Rattle.serial.proofs.OrderLemmas.{look, below_writes, done_below, not_read}
 use Rattle.serial.proofs.RedoLemmas.{end_self, writes_absent, writes_stand, honest_write}
@@ -48,13 +50,18 @@ module _ (base : Table) (lg : ℕ → Option Op) (fl : ℕ → Option Flight) (d
   whole new r = cut_all top (writes_on r dn) (below_writes (top + 1) r dn new.2)
 
   -- the entries of other numbers stay
-  stays : Ungiven → ((k : ℕ) (e : Performed) → slice_get v k ≡ Some e → ((if n == e.0 then Some g.op else lg e.0) ≡ Some e.1) × (dc_of e.1 ≡ d)) → (m : ℕ) (said : Said) → said_under v m ≡ Some said → n ≢ m → m ≤ top
+  stays : Ungiven → ((k : ℕ) (e : Performed) → slice_get v k ≡ Some e
+      → ((if n == e.0 then Some g.op else lg e.0) ≡ Some e.1) × (dc_of e.1 ≡ d)) → (m : ℕ) (said : Said)
+      → said_under v m ≡ Some said → n ≢ m → m ≤ top
   stays new entries m said under other =
       let w = entry_of v m said under in
-      let l : (if n == m then Some g.op else lg m) ≡ Some w.entry.1 = subst (λ (k : ℕ). (if n == k then Some g.op else lg k) ≡ Some w.entry.1) w.number (entries w.place w.entry w.at).0 in
+      let l : (if n == m then Some g.op else lg m) ≡ Some w.entry.1 =
+      subst (λ (k : ℕ). (if n == k then Some g.op else lg k) ≡ Some w.entry.1) w.number
+      (entries w.place w.entry w.at).0 in
       new.1 m w.entry.1 (sym (if_none n m (Some g.op) (lg m) other) ∙ l)
 
-  pub beside_unsent : Ungiven → Beside base (λ m. if n == m then Some g.op else lg m) (λ m. if n == m then Some g else fl m) dn d v → Beside base lg fl dn d (up_to top v)
+  pub beside_unsent : Ungiven → Beside base (λ m. if n == m then Some g.op else lg m)
+      (λ m. if n == m then Some g else fl m) dn d v → Beside base lg fl dn d (up_to top v)
   beside_unsent new b =
       record {
         entries = λ k e is.
@@ -92,7 +99,8 @@ module _ (base : Table) (lg : ℕ → Option Op) (fl : ℕ → Option Flight) (d
             ∙ (kept_if (is_done said) top (m, f.op, said) (writes_on r dn) u.0 ∙ ap (added (m, f.op, said)) (whole new r)));
       }
 
-  pub behind_unsent : Ungiven → Behind base (λ m. if n == m then Some g.op else lg m) (λ m. if n == m then Some g else fl m) dn d v → Behind base lg fl dn d (up_to top v)
+  pub behind_unsent : Ungiven → Behind base (λ m. if n == m then Some g.op else lg m)
+      (λ m. if n == m then Some g else fl m) dn d v → Behind base lg fl dn d (up_to top v)
   behind_unsent new b =
       record {
         entries = λ k e is.
@@ -119,20 +127,25 @@ module _ (base : Table) (lg : ℕ → Option Op) (fl : ℕ → Option Flight) (d
           subst (λ (l : List Performed). IsEnd l (writes_on r (up_to top v))) (whole new r)
           (subst (IsEnd (up_to top (writes_on r dn))) (sym (writes_cut r top v)) (end_cut top (writes_on r dn) (writes_on r v) e))
 
-      others : (r : Record) → NoneDone fl (up_to top v) r → ((f : Flight) (said : Said) → g ≡ f → said_under v n ≡ Some said → record_eq (target f.op) r ≡ true → is_done said ≡ true → ⊥) → NoneDone (λ m. if n == m then Some g else fl m) v r
+      others : (r : Record) → NoneDone fl (up_to top v) r
+          → ((f : Flight) (said : Said) → g ≡ f → said_under v n ≡ Some said → record_eq (target f.op) r ≡ true
+          → is_done said ≡ true → ⊥) → NoneDone (λ m. if n == m then Some g else fl m) v r
       others r none this m f said is under same did = elim (cases_eq n m) [
-        | inl eq ↦ this f said (some_same g f (sym (if_some n m (Some g) (fl m) eq) ∙ is)) (subst (λ (k : ℕ). said_under v k ≡ Some said) (sym eq) under) same did
+        | inl eq ↦ this f said (some_same g f (sym (if_some n m (Some g) (fl m) eq) ∙ is))
+            (subst (λ (k : ℕ). said_under v k ≡ Some said) (sym eq) under) same did
         | inr other ↦
             let low = stays new b.entries m said under other in
             none m f said (sym (if_none n m _ _ other) ∙ is) (under_cut top m v low ∙ under) same did
       ]
 
-      oldest : (r : Record) → r.dc ≡ d → NoneDone fl (up_to top v) r → (o : Option Said) → said_under v n ≡ o → IsEnd (writes_on r dn) (writes_on r (up_to top v))
+      oldest : (r : Record) → r.dc ≡ d → NoneDone fl (up_to top v) r → (o : Option Said) → said_under v n ≡ o
+          → IsEnd (writes_on r dn) (writes_on r (up_to top v))
       oldest r dc none None absent = cut_end r (b.oldest r dc (others r none (λ f said one under same did. none_some _ said absent under)))
       oldest r dc none (Some s) there =
           by_test (record_eq (target g.op) r && is_done s) (IsEnd (writes_on r dn) (writes_on r (up_to top v)))
           (λ both.
-          let all = b.ahead r n g s dc (if_some n n (Some g) (fl n) refl) there (both_left (record_eq (target g.op) r) _ both) (both_right (record_eq (target g.op) r) _ both) in
+          let all = b.ahead r n g s dc (if_some n n (Some g) (fl n) refl) there
+          (both_left (record_eq (target g.op) r) _ both) (both_right (record_eq (target g.op) r) _ both) in
           let gone : writes_on r (up_to top v) ≡ writes_on r dn =
           writes_cut r top v ∙ (ap (up_to top) all ∙ (off_if true top (n, g.op, s) (writes_on r dn) new.0 ∙ whole new r)) in
           subst (IsEnd (writes_on r dn)) (sym gone) (end_self (writes_on r dn)))
@@ -172,7 +185,8 @@ pub record IsNextAnswer (base : Table) (lg : ℕ → Option Op) (fl : ℕ → Op
   pub absent : said_under dn n ≡ None
   pub honest : HonestTo (Some f) said (value_over base dn)
 
-module _ (base : Table) (lg : ℕ → Option Op) (fl : ℕ → Option Flight) (dn : List Performed) (d : ℕ) (v : List Performed) (n : ℕ) (f : Flight) (said : Said) where
+module _ (base : Table) (lg : ℕ → Option Op) (fl : ℕ
+    → Option Flight) (dn : List Performed) (d : ℕ) (v : List Performed) (n : ℕ) (f : Flight) (said : Said) where
   still : (m : ℕ) (g : Flight) → (if n == m then None else fl m) ≡ Some g → (n ≢ m) × (fl m ≡ Some g)
   still m g e = elim (cases_eq n m) [
     | inl same ↦ absurd (none_some _ g (if_some n m None (fl m) same) e)
@@ -189,7 +203,8 @@ module _ (base : Table) (lg : ℕ → Option Op) (fl : ℕ → Option Flight) (d
   here r dc same = ap (λ (x : Record). x.dc) (eq_is (target f.op) r same) ∙ dc
 
   -- of one data component
-  one_dc : IsNextAnswer base lg fl dn n f said → ((k : ℕ) (e : Performed) → slice_get v k ≡ Some e → (lg e.0 ≡ Some e.1) × (dc_of e.1 ≡ d)) → (s : Said) → said_under v n ≡ Some s → dc_of f.op ≡ d
+  one_dc : IsNextAnswer base lg fl dn n f said → ((k : ℕ) (e : Performed) → slice_get v k ≡ Some e
+      → (lg e.0 ≡ Some e.1) × (dc_of e.1 ≡ d)) → (s : Said) → said_under v n ≡ Some s → dc_of f.op ≡ d
   one_dc a entries s under =
       let w = entry_of v n s under in
       let l = entries w.place w.entry w.at in
@@ -198,7 +213,8 @@ module _ (base : Table) (lg : ℕ → Option Op) (fl : ℕ → Option Flight) (d
 
   -- what is honest to the answers with this one is honest to those without
   honest_one : IsNextAnswer base lg fl dn n f said → ((s : Said) → said_under v n ≡ Some s → said ≡ s)
-      → ((m : ℕ) (g : Flight) (s : Said) → (if n == m then None else fl m) ≡ Some g → said_under v m ≡ Some s → HonestTo (Some g) s (value_over base ((n, f.op, said) ∷ dn)))
+      → ((m : ℕ) (g : Flight) (s : Said) → (if n == m then None else fl m) ≡ Some g → said_under v m ≡ Some s
+      → HonestTo (Some g) s (value_over base ((n, f.op, said) ∷ dn)))
       → (m : ℕ) (g : Flight) (s : Said) → fl m ≡ Some g → said_under v m ≡ Some s → HonestTo (Some g) s (value_over base dn)
   honest_one a so was m g s is under = elim (cases_eq n m) [
     | inl eq ↦
@@ -207,9 +223,12 @@ module _ (base : Table) (lg : ℕ → Option Op) (fl : ℕ → Option Flight) (d
     | inr other ↦ honest_back g.op f.op s said (value_over base dn) (a.apart m g is other) (was m g s (if_none n m None (fl m) other ∙ is) under)
   ]
 
-  pub beside_unanswered : IsNextAnswer base lg fl dn n f said → Beside base lg (λ m. if n == m then None else fl m) ((n, f.op, said) ∷ dn) d v → Beside base lg fl dn d v
+  pub beside_unanswered : IsNextAnswer base lg fl dn n f said
+      → Beside base lg (λ m. if n == m then None else fl m) ((n, f.op, said) ∷ dn) d v → Beside base lg fl dn d v
   beside_unanswered a b =
-      let so : (s : Said) → said_under v n ≡ Some s → said ≡ s = (λ s under. sym (b.agrees n f.op s said a.logs (one_dc a b.entries s under) under (under_same n n f.op said dn refl))) in
+      let so : (s : Said) → said_under v n ≡ Some s → said ≡ s =
+      (λ s under. sym (b.agrees n f.op s said a.logs (one_dc a b.entries s under) under
+      (under_same n n f.op said dn refl))) in
       record {
         entries = b.entries;
         once = b.once;
@@ -219,14 +238,16 @@ module _ (base : Table) (lg : ℕ → Option Op) (fl : ℕ → Option Flight) (d
         idle = λ r dc none.
             b.idle r dc (λ m g s is under same write. none m g s (still m g is).1 under same write)
             ∙ writes_none r (n, f.op, said) dn (λ same. by_test (is_done said) (is_done said ≡ false)
-            (λ did. absurd (none n f said a.flies (b.answers n f.op said a.logs (here r dc same) (under_same n n f.op said dn refl) did) same (not_read f.op said a.fit did)))
+            (λ did. absurd (none n f said a.flies (b.answers n f.op said a.logs (here r dc same)
+            (under_same n n f.op said dn refl) did) same (not_read f.op said a.fit did)))
             (λ undone. undone));
         ahead = λ r m g s dc is under same write. elim (cases_eq n m) [
           | inl eq ↦
               let one : f ≡ g = one_op a m g is eq in
               let mine : record_eq (target f.op) r ≡ true = subst (λ (x : Flight). record_eq (target x.op) r ≡ true) (sym one) same in
               let two : said ≡ s = so s (ap (said_under v) eq ∙ under) in
-              b.idle r dc (λ m' g' s' is' under' same' write'. clash_first g'.op f.op r (a.apart m' g' (still m' g' is').1 (still m' g' is').0) same' mine write')
+              b.idle r dc (λ m' g' s' is' under' same' write'. clash_first g'.op f.op r
+              (a.apart m' g' (still m' g' is').1 (still m' g' is').0) same' mine write')
               ∙ (writes_added r (n, f.op, said) dn mine
               ∙ same_added n m f.op g.op said s (writes_on r dn) eq (ap (λ (x : Flight). x.op) one) two)
           | inr other ↦
@@ -235,7 +256,8 @@ module _ (base : Table) (lg : ℕ → Option Op) (fl : ℕ → Option Flight) (d
         ];
       }
 
-  pub behind_unanswered : IsNextAnswer base lg fl dn n f said → Behind base lg (λ m. if n == m then None else fl m) ((n, f.op, said) ∷ dn) d v → Behind base lg fl dn d v
+  pub behind_unanswered : IsNextAnswer base lg fl dn n f said
+      → Behind base lg (λ m. if n == m then None else fl m) ((n, f.op, said) ∷ dn) d v → Behind base lg fl dn d v
   behind_unanswered a b =
       record {
         entries = b.entries;
@@ -254,7 +276,8 @@ module _ (base : Table) (lg : ℕ → Option Op) (fl : ℕ → Option Flight) (d
           | inr other ↦
               let write : is_read g.op ≡ false = honest_write g s (value_over base dn) (honest m g s is under) did in
               b.ahead r m g s dc (if_none n m None (fl m) other ∙ is) under same did
-              ∙ ap (λ (l : List Performed). (m, g.op, s) ∷ l) (writes_none r (n, f.op, said) dn (λ x. absurd (clash_first g.op f.op r (a.apart m g is other) same x write)))
+              ∙ ap (λ (l : List Performed). (m, g.op, s) ∷ l) (writes_none r (n, f.op, said) dn
+              (λ x. absurd (clash_first g.op f.op r (a.apart m g is other) same x write)))
         ];
       }
     where
@@ -268,9 +291,12 @@ module _ (base : Table) (lg : ℕ → Option Op) (fl : ℕ → Option Flight) (d
       done_here r same did = writes_added r (n, f.op, said) dn same ∙ ap (λ (b : Bool). if b then (n, f.op, said) ∷ writes_on r dn else writes_on r dn) did
 
       -- it was done, and stands: it is the last of the record
-      mine_first : (r : Record) → r.dc ≡ d → record_eq (target f.op) r ≡ true → is_done said ≡ true → said_under v n ≡ Some said → writes_on r v ≡ (n, f.op, said) ∷ writes_on r dn
+      mine_first : (r : Record) → r.dc ≡ d → record_eq (target f.op) r ≡ true → is_done said ≡ true
+          → said_under v n ≡ Some said → writes_on r v ≡ (n, f.op, said) ∷ writes_on r dn
       mine_first r dc mine did there =
-          let none : NoneDone (λ m. if n == m then None else fl m) v r = (λ m g s is under same did'. clash_last g.op f.op r (a.apart m g (still m g is).1 (still m g is).0) same mine (not_read f.op said a.fit did)) in
+          let none : NoneDone (λ m. if n == m then None else fl m) v r =
+          (λ m g s is under same did'. clash_last g.op f.op r
+          (a.apart m g (still m g is).1 (still m g is).0) same mine (not_read f.op said a.fit did)) in
           by (subst (λ (l : List Performed). IsEnd l (writes_on r v)) (done_here r mine did) (b.oldest r dc none))
         where
           stands : said_under (writes_on r v) n ≡ Some said
@@ -284,7 +310,8 @@ module _ (base : Table) (lg : ℕ → Option Op) (fl : ℕ → Option Flight) (d
       shorter : (r : Record) → r.dc ≡ d → NoneDone fl v r → record_eq (target f.op) r ≡ true → is_done said ≡ true → (o : Option Said) → said_under v n ≡ o
           → (writes_on r v ≡ (n, f.op, said) ∷ writes_on r dn) ⊎ IsEnd (writes_on r dn) (writes_on r v) → IsEnd (writes_on r dn) (writes_on r v)
       shorter r dc none same did None absent e = elim e [
-        | inl first ↦ absurd (none_some _ said (writes_absent r v n absent) (ap (λ (l : List Performed). said_under l n) first ∙ under_same n n f.op said (writes_on r dn) refl))
+        | inl first ↦ absurd (none_some _ said (writes_absent r v n absent)
+            (ap (λ (l : List Performed). said_under l n) first ∙ under_same n n f.op said (writes_on r dn) refl))
         | inr rest ↦ rest
       ]
       shorter r dc none same did (Some s) there e = elim e [
@@ -299,11 +326,15 @@ module _ (base : Table) (lg : ℕ → Option Op) (fl : ℕ → Option Flight) (d
           let same = both_left (record_eq (target f.op) r) _ both in
           let did = both_right (record_eq (target f.op) r) _ both in
           shorter r dc none same did (said_under v n) refl (subst (λ (l : List Performed). IsEnd l (writes_on r v)) (done_here r same did) old))
-          (λ differ. subst (λ (l : List Performed). IsEnd l (writes_on r v)) (cond-false (record_eq (target f.op) r && is_done said) ((n, f.op, said) ∷ writes_on r dn) (writes_on r dn) differ) old)
+          (λ differ. subst (λ (l : List Performed). IsEnd l (writes_on r v))
+          (cond-false (record_eq (target f.op) r && is_done said) ((n, f.op, said) ∷ writes_on r dn)
+          (writes_on r dn) differ) old)
 
 -- ---- a log, and the same without its last events
 
-pub record Earlier (base : Table) (lg : ℕ → Option Op) (fl : ℕ → Option Flight) (dn : List Performed) (top : ℕ) (lg' : ℕ → Option Op) (fl' : ℕ → Option Flight) (dn' : List Performed) (top' : ℕ) : Type 0 where
+pub record Earlier (base : Table) (lg : ℕ → Option Op) (fl : ℕ
+    → Option Flight) (dn : List Performed) (top : ℕ) (lg' : ℕ → Option Op) (fl' : ℕ
+    → Option Flight) (dn' : List Performed) (top' : ℕ) : Type 0 where
   pub fewer : top' ≤ top
   pub below : (n : ℕ) (o : Op) → lg' n ≡ Some o → n ≤ top'
   pub logs_on : (n : ℕ) (o : Op) → lg' n ≡ Some o → lg n ≡ Some o
@@ -314,7 +345,8 @@ pub record Earlier (base : Table) (lg : ℕ → Option Op) (fl : ℕ → Option 
   pub beside : (d : ℕ) (v : List Performed) → Beside base lg fl dn d v → Beside base lg' fl' dn' d (up_to top' v)
   pub behind : (d : ℕ) (v : List Performed) → Behind base lg fl dn d v → Behind base lg' fl' dn' d (up_to top' v)
 
-earlier_same : (base : Table) (lg : ℕ → Option Op) (fl : ℕ → Option Flight) (dn : List Performed) (top : ℕ) → ((n : ℕ) (o : Op) → lg n ≡ Some o → n ≤ top) → Earlier base lg fl dn top lg fl dn top
+earlier_same : (base : Table) (lg : ℕ → Option Op) (fl : ℕ → Option Flight) (dn : List Performed) (top : ℕ)
+    → ((n : ℕ) (o : Op) → lg n ≡ Some o → n ≤ top) → Earlier base lg fl dn top lg fl dn top
 earlier_same base lg fl dn top below = record {
   fewer = omega arith;
   below = below;
@@ -339,12 +371,16 @@ earlier_still base lg lg' lg'' fl fl' fl'' dn dn' dn'' top top' top'' x y =
       logs_back = λ n o is low. y.logs_back n o (x.logs_back n o is (omega (arith, low, fewer'))) low;
       flies_back = λ n f is low. y.flies_back n f (x.flies_back n f is (omega (arith, low, fewer'))) low;
       says_on = λ n said is. x.says_on n said (y.says_on n said is);
-      says_back = λ n said is low none. y.says_back n said (x.says_back n said is (omega (arith, low, fewer')) (none_by (fl' n) (λ f flies. none_some _ f none (y.flies_back n f flies low)))) low none;
+      says_back = λ n said is low none. y.says_back n said
+          (x.says_back n said is (omega (arith, low, fewer'))
+          (none_by (fl' n) (λ f flies. none_some _ f none (y.flies_back n f flies low)))) low none;
       beside = λ d v b. subst (Beside base lg'' fl'' dn'' d) (cut_cut top' top'' v fewer') (y.beside d (up_to top' v) (x.beside d v b));
       behind = λ d v b. subst (Behind base lg'' fl'' dn'' d) (cut_cut top' top'' v fewer') (y.behind d (up_to top' v) (x.behind d v b));
     }
 
-before_sent : (base : Table) (lg : ℕ → Option Op) (fl : ℕ → Option Flight) (dn : List Performed) (top more n : ℕ) (g : Flight) → n ≡ top + 1 → top ≤ more → ((m : ℕ) (q : Op) → lg m ≡ Some q → m ≤ top) → AllBelow (top + 1) dn
+before_sent : (base : Table) (lg : ℕ → Option Op) (fl : ℕ
+    → Option Flight) (dn : List Performed) (top more n : ℕ) (g : Flight) → n ≡ top + 1 → top ≤ more
+    → ((m : ℕ) (q : Op) → lg m ≡ Some q → m ≤ top) → AllBelow (top + 1) dn
     → Earlier base (λ m. if n == m then Some g.op else lg m) (λ m. if n == m then Some g else fl m) dn more lg fl dn top
 before_sent base lg fl dn top more n g next fewer below few =
     let above : top < n = omega (arith, next) in
@@ -361,10 +397,13 @@ before_sent base lg fl dn top more n g next fewer below few =
       behind = λ d v b. behind_unsent base lg fl dn d top v n g (above, below, few) b;
     }
 
-before_answered : (base : Table) (lg : ℕ → Option Op) (fl : ℕ → Option Flight) (dn : List Performed) (top n : ℕ) (f : Flight) (said : Said) → ((m : ℕ) (q : Op) → lg m ≡ Some q → m ≤ top) → IsNextAnswer base lg fl dn n f said
+before_answered : (base : Table) (lg : ℕ → Option Op) (fl : ℕ
+    → Option Flight) (dn : List Performed) (top n : ℕ) (f : Flight) (said : Said)
+    → ((m : ℕ) (q : Op) → lg m ≡ Some q → m ≤ top) → IsNextAnswer base lg fl dn n f said
     → Earlier base lg (λ m. if n == m then None else fl m) ((n, f.op, said) ∷ dn) top lg fl dn top
 before_answered base lg fl dn top n f said below a =
-    let same : (v : List Performed) → ((k : ℕ) (e : Performed) → slice_get v k ≡ Some e → lg e.0 ≡ Some e.1) → v ≡ up_to top v = (λ v logs. sym (cut_all top v (all_below top v (λ k e is. below e.0 e.1 (logs k e is))))) in
+    let same : (v : List Performed) → ((k : ℕ) (e : Performed) → slice_get v k ≡ Some e → lg e.0 ≡ Some e.1)
+    → v ≡ up_to top v = (λ v logs. sym (cut_all top v (all_below top v (λ k e is. below e.0 e.1 (logs k e is))))) in
     record {
       fewer = omega arith;
       below = below;
@@ -383,7 +422,9 @@ before_answered base lg fl dn top n f said below a =
 abbrev pub Before : Table → List Event → List Event → Type 0
 Before base h first = Earlier base (logged h) (open_op h) (done h) (given h) (logged first) (open_op first) (done first) (given first)
 
-answer_back : (ps : List Checked) (base : Table) (h first : List Event) (t n : ℕ) (said : Said) → AllGood ps → Legal ps h → CanAnswer ps h t n said → HonestTo (open_op h n) said (now_from base h) → Before base h first → Before base (Answer t n said ∷ h) first
+answer_back : (ps : List Checked) (base : Table) (h first : List Event) (t n : ℕ) (said : Said) → AllGood ps
+    → Legal ps h → CanAnswer ps h t n said → HonestTo (open_op h n) said (now_from base h) → Before base h first
+    → Before base (Answer t n said ∷ h) first
 answer_back ps base h first t n said good legal can honest before =
     let f : Flight = flight t can.r.op in
     let flies : open_op h n ≡ Some f = answered_flight ps h t n said legal can in
@@ -397,15 +438,19 @@ answer_back ps base h first t n said good legal can honest before =
       honest = subst (λ (y : Option Flight). HonestTo y said (now_from base h)) flies honest;
     } in
     earlier_still base _ _ _ _ _ _ _ _ _ _ _ _
-    (subst (λ (z : List Performed). Earlier base (logged h) (λ m. if n == m then None else open_op h m) z (given h) (logged h) (open_op h) (done h) (given h)) (sym becomes)
+    (subst (λ (z : List Performed). Earlier base (logged h) (λ m. if n == m then None else open_op h m) z (given h)
+    (logged h) (open_op h) (done h) (given h)) (sym becomes)
     (before_answered base (logged h) (open_op h) (done h) (given h) n f said (logged_below ps h legal) a))
     before
 
 sent_back : (ps : List Checked) (base : Table) (h first : List Event) (t n : ℕ) (o : Op) → Legal ps h → n ≡ given h + 1 → Before base h first
-    → Earlier base (λ m. if n == m then Some o else logged h m) (λ m. if n == m then Some (flight t o) else open_op h m) (done h) (given h + 1) (logged first) (open_op first) (done first) (given first)
+    → Earlier base (λ m. if n == m then Some o else logged h m)
+    (λ m. if n == m then Some (flight t o) else open_op h m) (done h) (given h + 1) (logged first)
+    (open_op first) (done first) (given first)
 sent_back ps base h first t n o legal next before =
     earlier_still base _ _ _ _ _ _ _ _ _ _ _ _
-    (before_sent base (logged h) (open_op h) (done h) (given h) (given h + 1) n (flight t o) next (omega arith) (logged_below ps h legal) (done_below ps h legal))
+    (before_sent base (logged h) (open_op h) (done h) (given h) (given h + 1) n (flight t o) next (omega arith)
+    (logged_below ps h legal) (done_below ps h legal))
     before
 
 -- a log begins with its checkpoint
@@ -413,12 +458,17 @@ tail_none : (later first : List Event) → later ++ first ≡ [] → first ≡ [
 tail_none [] first is = is
 tail_none (e ∷ later) first is = absurd cc
 
-pub earlier : (ps : List Checked) (base : Table) (later first : List Event) → AllGood ps → Legal ps (later ++ first) → HonestFrom base (later ++ first) → Before base (later ++ first) first
+pub earlier : (ps : List Checked) (base : Table) (later first : List Event) → AllGood ps → Legal ps (later ++ first)
+    → HonestFrom base (later ++ first) → Before base (later ++ first) first
 earlier ps base [] first good legal honest = earlier_same base (logged first) (open_op first) (done first) (given first) (logged_below ps first legal)
 earlier ps base (Admit t p args ∷ later) first good legal honest = earlier ps base later first good legal.1 honest.1
-earlier ps base (Ask t n o ∷ later) first good legal honest = sent_back ps base (later ++ first) first t n o legal.1 legal.0.next (earlier ps base later first good legal.1 honest.1)
-earlier ps base (Answer t n said ∷ later) first good legal honest = answer_back ps base (later ++ first) first t n said good legal.1 legal.0 honest.0 (earlier ps base later first good legal.1 honest.1)
-earlier ps base (Undo t n o ∷ later) first good legal honest = sent_back ps base (later ++ first) first t n o legal.1 legal.0.next (earlier ps base later first good legal.1 honest.1)
+earlier ps base (Ask t n o ∷ later) first good legal honest =
+    sent_back ps base (later ++ first) first t n o legal.1 legal.0.next (earlier ps base later first good legal.1 honest.1)
+earlier ps base (Answer t n said ∷ later) first good legal honest =
+    answer_back ps base (later ++ first) first t n said good legal.1 legal.0 honest.0
+    (earlier ps base later first good legal.1 honest.1)
+earlier ps base (Undo t n o ∷ later) first good legal honest =
+    sent_back ps base (later ++ first) first t n o legal.1 legal.0.next (earlier ps base later first good legal.1 honest.1)
 earlier ps base (End t ends ∷ later) first good legal honest = earlier ps base later first good legal.1 honest.1
 earlier ps base (Checkpoint before numbers ∷ later) first good legal honest =
     let x = earlier ps base later first good legal.1 honest.1 in

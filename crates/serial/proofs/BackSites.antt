@@ -53,14 +53,17 @@ over_less fl top low p x le =
     let l = x.given_out in
     record { given_out = omega (arith, l, le); answered = λ m less. x.answered m (omega (arith, less, le)) }
 
-module _ (base : Table) (lg : ℕ → Option Op) (fl : ℕ → Option Flight) (dn : List Performed) (top : ℕ) (lg' : ℕ → Option Op) (fl' : ℕ → Option Flight) (dn' : List Performed) (top' low : ℕ) where
+module _ (base : Table) (lg : ℕ → Option Op) (fl : ℕ → Option Flight) (dn : List Performed) (top : ℕ) (lg' : ℕ
+    → Option Op) (fl' : ℕ → Option Flight) (dn' : List Performed) (top' low : ℕ) where
   stands_back : Earlier base lg fl dn top lg' fl' dn' top' → (d p : ℕ) (list : List Performed) → StandsTo lg dn d p list → StandsTo lg' dn' d p list
   stands_back e d p list to n o said logs dc was did le = to n o said (e.logs_on n o logs) dc (e.says_on n said was) did le
 
   stands_cut : Earlier base lg fl dn top lg' fl' dn' top' → (d p : ℕ) (v : List Performed) → StandsTo lg dn d p v → StandsTo lg' dn' d p (up_to top' v)
   stands_cut e d p v to n o said logs dc was did le = under_cut top' n v (e.below n o logs) ∙ to n o said (e.logs_on n o logs) dc (e.says_on n said was) did le
 
-  site_back : Earlier base lg fl dn top lg' fl' dn' top' → Over fl' top' low → (d : ℕ) (dcs : List Store) (copies : List Wire) (s : Store) (t t' : Site) (v : List Performed) → IsNotedOf low d dcs copies t t' → IsUpTo top' low s
+  site_back : Earlier base lg fl dn top lg' fl' dn' top' → Over fl' top' low
+      → (d : ℕ) (dcs : List Store) (copies : List Wire) (s : Store) (t t' : Site) (v : List Performed)
+      → IsNotedOf low d dcs copies t t' → IsUpTo top' low s
       → SiteOk base lg fl dn top d s t v → SiteOk base lg' fl' dn' top' d s t' (up_to top' v)
   site_back e over d dcs copies s t t' v noted few k =
       record {
@@ -80,7 +83,8 @@ module _ (base : Table) (lg : ℕ → Option Op) (fl : ℕ → Option Flight) (d
               told_le = omega (arith, anew);
               told_over = over_less fl' top' low r'.mark over begun.low;
             };
-        ahead = λ less. (let u = k.ahead (subst (λ (n : ℕ). s.incarnation < n) noted.same less) in record { known = ap (up_to top') u.known; now = u.now; kept = u.kept });
+        ahead = λ less. (let u = k.ahead (subst (λ (n : ℕ). s.incarnation < n) noted.same less) in
+            record { known = ap (up_to top') u.known; now = u.now; kept = u.kept });
         same = λ is. sym whole ∙ ap (up_to top') (k.same (sym noted.same ∙ is));
         idle = λ less. k.idle (subst (λ (n : ℕ). n < s.incarnation) noted.same less);
         cut = subst (IsEnd (up_to top' v)) whole (end_cut top' v s.list k.cut);
@@ -97,7 +101,9 @@ module _ (base : Table) (lg : ℕ → Option Op) (fl : ℕ → Option Flight) (d
       whole = cut_all top' s.list (all_below top' s.list few.list)
 
   pub ok_back : (sites sites' : List Site) (dcs : List Store) (copies : List Wire) (replies : List Reply) (news : List (ℕ × News))
-      → Earlier base lg fl dn top lg' fl' dn' top' → Over fl' top' low → ((d : ℕ) → IsNotedOf low d dcs copies (site_at sites d) (site_at sites' d)) → ((d : ℕ) (s : Store) → slice_get dcs d ≡ Some s → IsUpTo top' low s)
+      → Earlier base lg fl dn top lg' fl' dn' top' → Over fl' top' low
+      → ((d : ℕ) → IsNotedOf low d dcs copies (site_at sites d) (site_at sites' d))
+      → ((d : ℕ) (s : Store) → slice_get dcs d ≡ Some s → IsUpTo top' low s)
       → All (RestsOn fl' top' low) copies → All (λ (x : Reply). x.number ≤ top') replies → All (λ (x : ℕ × News). x.1.mark ≤ low) news
       → AreOk base lg fl dn top sites dcs copies replies news → AreOk base lg' fl' dn' top' sites' dcs copies replies news
   ok_back sites sites' dcs copies replies news e over noted few rests given_out low_news k =
@@ -113,7 +119,9 @@ module _ (base : Table) (lg : ℕ → Option Op) (fl : ℕ → Option Flight) (d
             redo_cases (site_at sites d).redo ((s : Store) × (slice_get dcs d ≡ Some s)) (λ isup. begun.there isup) (λ r isdown. k.there d r isdown);
       }
     where
-      copy : (x : Wire) → ((d : ℕ) → dc_of x.op ≡ d → x.incarnation ≡ (site_at sites d).incarnation → x.redo ≡ false → (site_at sites d).redo ≡ None → (site_at sites' d).redo ≡ None) → RestsOn fl' top' low x → CopyOk base lg fl dn top sites dcs k.v x → CopyOk base lg' fl' dn' top' sites' dcs (λ d. up_to top' (k.v d)) x
+      copy : (x : Wire) → ((d : ℕ) → dc_of x.op ≡ d → x.incarnation ≡ (site_at sites d).incarnation → x.redo ≡ false
+          → (site_at sites d).redo ≡ None → (site_at sites' d).redo ≡ None) → RestsOn fl' top' low x
+          → CopyOk base lg fl dn top sites dcs k.v x → CopyOk base lg' fl' dn' top' sites' dcs (λ d. up_to top' (k.v d)) x
       copy x ordinary rest y =
           let t = noted (dc_of x.op) in
           record {

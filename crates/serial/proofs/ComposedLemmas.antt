@@ -58,6 +58,7 @@ module _ (ps : List Checked) (base : Table) (h : List Event) (legal : Legal ps h
   short_ends (e ∷ later) ends = (same_end later e ends.0, short_ends later ends.1)
 
   -- and what both parts say, the long log says
-  pub long_ends : (later : List Event) → EndsAsSerialFrom ps base h → EndsAsSerialFrom ps (serial_from ps base h) (later ++ anew h) → EndsAsSerialFrom ps base (later ++ h)
+  pub long_ends : (later : List Event) → EndsAsSerialFrom ps base h
+      → EndsAsSerialFrom ps (serial_from ps base h) (later ++ anew h) → EndsAsSerialFrom ps base (later ++ h)
   long_ends [] before ends = before
   long_ends (e ∷ later) before ends = (long_end later e ends.0, long_ends later before ends.1)

@@ -1,5 +1,6 @@
 -- A list without the entries of later numbers.
-use Rattle.std.proofs.Common.{◌≡◌, ℕ, zero, suc, ◌+◌, ◌<◌, ◌≤◌, Bool, true, false, ◌&&◌, List, [], ◌∷◌, Some, None, arith, refl, sym, ◌∙◌, ap, subst, inl, inr, if◌then◌else◌}
+use Rattle.std.proofs.Common.{◌≡◌, ℕ, zero, suc, ◌+◌, ◌<◌, ◌≤◌, Bool, true, false, ◌&&◌, List, [], ◌∷◌, Some, None}
+use Rattle.std.proofs.Common.{arith, refl, sym, ◌∙◌, ap, subst, inl, inr, if◌then◌else◌}
 use Rattle.std.specs.Prelude.{slice_get, nat_lt}
 use Rattle.std.proofs.lemmas.Bool.{cases_eq, cases_lt, cond-true, cond-false}
 use Rattle.std.proofs.lemmas.Bool.Decides.{nat_tests}
@@ -38,10 +39,13 @@ under_cut n m [] low = refl
 under_cut n m (e ∷ list) low =
     let ih = under_cut n m list low in
     elim (cases_lt n e.0) [
-      | inl above ↦ ap (λ (l : List Performed). said_under l m) (dropped n e list above) ∙ (ih ∙ sym (under_other e.0 m e.1 e.2 list (omega (arith, above, low))))
+      | inl above ↦ ap (λ (l : List Performed). said_under l m) (dropped n e list above)
+          ∙ (ih ∙ sym (under_other e.0 m e.1 e.2 list (omega (arith, above, low))))
       | inr below ↦ elim (cases_eq e.0 m) [
-        | inl same ↦ ap (λ (l : List Performed). said_under l m) (kept n e list below) ∙ (under_same e.0 m e.1 e.2 (up_to n list) same ∙ sym (under_same e.0 m e.1 e.2 list same))
-        | inr other ↦ ap (λ (l : List Performed). said_under l m) (kept n e list below) ∙ (under_other e.0 m e.1 e.2 (up_to n list) other ∙ (ih ∙ sym (under_other e.0 m e.1 e.2 list other)))
+        | inl same ↦ ap (λ (l : List Performed). said_under l m) (kept n e list below)
+            ∙ (under_same e.0 m e.1 e.2 (up_to n list) same ∙ sym (under_same e.0 m e.1 e.2 list same))
+        | inr other ↦ ap (λ (l : List Performed). said_under l m) (kept n e list below)
+            ∙ (under_other e.0 m e.1 e.2 (up_to n list) other ∙ (ih ∙ sym (under_other e.0 m e.1 e.2 list other)))
       ]
     ]
 
@@ -51,7 +55,8 @@ under_none n m (e ∷ list) above =
     let ih = under_none n m list above in
     elim (cases_lt n e.0) [
       | inl off ↦ ap (λ (l : List Performed). said_under l m) (dropped n e list off) ∙ ih
-      | inr below ↦ ap (λ (l : List Performed). said_under l m) (kept n e list below) ∙ (under_other e.0 m e.1 e.2 (up_to n list) (omega (arith, below, above)) ∙ ih)
+      | inr below ↦ ap (λ (l : List Performed). said_under l m) (kept n e list below)
+          ∙ (under_other e.0 m e.1 e.2 (up_to n list) (omega (arith, below, above)) ∙ ih)
     ]
 
 pub under_back : (n m : ℕ) (list : List Performed) (said : Said) → said_under (up_to n list) m ≡ Some said → (m ≤ n) × (said_under list m ≡ Some said)
@@ -76,7 +81,8 @@ entry_back n (x ∷ list) k e is =
     elim (cases_lt n x.0) [
       | inl off ↦ kept_more n x list e (entry_back n list k e (ap (λ (l : List Performed). slice_get l k) (sym (dropped n x list off)) ∙ is))
       | inr below ↦
-          slice_more x (up_to n list) (Kept n (x ∷ list)) (record { place = zero; at = refl; low = below }) (λ j y at. kept_more n x list y (entry_back n list j y at)) k e
+          slice_more x (up_to n list) (Kept n (x ∷ list)) (record { place = zero; at = refl; low = below })
+          (λ j y at. kept_more n x list y (entry_back n list j y at)) k e
           (ap (λ (l : List Performed). slice_get l k) (sym (kept n x list below)) ∙ is)
     ]
 
@@ -95,7 +101,8 @@ pub off_if : (b : Bool) (n : ℕ) (e : Performed) (list : List Performed) → n 
 off_if true n e list above = dropped n e list above
 off_if false n e list above = refl
 
-pub kept_if : (b : Bool) (n : ℕ) (e : Performed) (list : List Performed) → e.0 ≤ n → up_to n (if b then e ∷ list else list) ≡ (if b then e ∷ up_to n list else up_to n list)
+pub kept_if : (b : Bool) (n : ℕ) (e : Performed) (list : List Performed) → e.0 ≤ n
+    → up_to n (if b then e ∷ list else list) ≡ (if b then e ∷ up_to n list else up_to n list)
 kept_if true n e list low = kept n e list low
 kept_if false n e list low = refl
 
