@@ -8,7 +8,10 @@ use Rattle.tc_log.specs.declared.event.Event.{Event}
 use Rattle.history.specs.Anew.{begun as begun_in}
 use Rattle.history.specs.Places.{Begins}
 use Rattle.data_component.specs.Sorted.{Rows, row_of}
-use Rattle.serial.specs.Audit.{base_in, IsBegunTogether}
+use Rattle.serial.specs.Audit.{base_in, base_of, IsBegunTogether}
+use Rattle.serial.specs.Lists.{dc_of}
+use Rattle.transactions.specs.Legal.{Legal}
+use Rattle.transactions.specs.Reached.{AllGood}
 use Rattle.data_component.specs.Store.{Store, restarted, news_of}
 use Rattle.transactions.specs.declared.Site.{Site}
 use Rattle.transactions.specs.InFlight.{site_at, site_by}
@@ -22,10 +25,12 @@ use Rattle.tc_core.proofs.KeptLemmas.{slice_get-short}
 use Rattle.tc_world.specs.Whole.{Whole}
 use Rattle.tc_world.specs.OneAtATime.{IsKnown, EachIsKnown}
 use Rattle.tc_world.specs.Recovery.{IsNew, StandFor}
+use Rattle.tc_world.specs.Marks.{AreMarksLow}
+use Rattle.tc_world.proofs.Recovering.{start_over_low}
 use Rattle.tc_world.specs.Lives.{HasLived}
-use Rattle.tc_world.proofs.LivingLemmas.{over_lived}
+use Rattle.tc_world.proofs.LivingLemmas.{Sound, new_sound, over_lived}
 use Rattle.coming_back.specs.Serving.{IsFor, IsRedoFor}
-use Rattle.coming_back.specs.Coming.{HasOnlyRows, at_rest, ComesFrom}
+use Rattle.coming_back.specs.Coming.{HasOnlyRows, at_rest, ComesFrom, begins_again, IsOfRows}
 use Rattle.coming_back.specs.Faults.{restart_notes, HasLog}
 use Rattle.coming_back.specs.Joining.Moving.{Goes}
 use Rattle.coming_back.specs.Joining.Redoing.{Redoes}
@@ -33,6 +38,11 @@ use Rattle.coming_back.proofs.ServingLemmas.{served_incarnation}
 use Rattle.coming_back.proofs.RedoLemmas.{there}
 
 -- ---- it begins as a world that starts over
+
+map_get : {X Y : Type 0} (f : X → Y) (xs : List X) (k : ℕ) (x : X) → slice_get xs k ≡ Some x → slice_get (map f xs) k ≡ Some (f x)
+map_get f [] k x at = absurd cc
+map_get f (y ∷ xs) zero x at = (let same : y ≡ x = cc in ap (λ z. Some (f z)) same)
+map_get f (y ∷ xs) (suc k) x at = map_get f xs k x at
 
 new_one : (h : List Event) (s : Store) → HasOnlyRows s → s.base_mark ≡ begun_in h → IsNew h (restarted s)
 new_one h s only together = record {
@@ -78,18 +88,40 @@ begun_lived old h w ds es from only is =
     let olds : StandFor es w.dcs = subst (λ (xs : List Store). StandFor xs w.dcs) (sym is) (stand_restarted ds w.dcs from.olds) in
     subst (λ (x : Loaded). HasLived (begun x h es)) from.same (over_lived w h es from.begins new olds from.lived)
 
--- ---- each data component is known
+-- where the log is one of these rows, the world that begins again is one in which calls run one at a time
+pub begun_sound : (old : Core) (h : List Event) (ds : List Store) → AllGood old.procs → Legal old.procs h → IsOfRows h ds → All HasOnlyRows ds
+    → Sound (begins_again old h ds)
+begun_sound old h ds good legal of_rows only =
+    new_sound (at_rest old ds) (base_of ds) h (map restarted ds) good legal of_rows.honest
+    (λ r. ap (λ (rows : Rows). row_of rows r) (sym (rows_restarted ds r.dc)))
+    (λ n o said logs was. (let s = of_rows.there n o said logs was in (restarted s.0, map_get restarted ds (dc_of o) s.0 s.1)))
+    (all_new h ds only of_rows.together)
 
-map_get : {X Y : Type 0} (f : X → Y) (xs : List X) (k : ℕ) (x : X) → slice_get xs k ≡ Some x → slice_get (map f xs) k ≡ Some (f x)
-map_get f [] k x at = absurd cc
-map_get f (y ∷ xs) zero x at = (let same : y ≡ x = cc in ap (λ z. Some (f z)) same)
-map_get f (y ∷ xs) (suc k) x at = map_get f xs k x at
+-- no mark is above that of the log
+pub begun_marks : (old : Core) (h : List Event) (ds : List Store) → Legal old.procs h → IsBegunTogether h ds → All HasOnlyRows ds → AreMarksLow (begins_again old h ds)
+begun_marks old h ds legal together only = start_over_low (at_rest old ds) h (map restarted ds) legal (all_new h ds only together)
+
+-- each has nothing but its rows yet
+pub all_begun : (ds : List Store) → All HasOnlyRows ds → All (λ (s : Store). (s.list ≡ []) × (s.mark ≡ s.base_mark)) (map restarted ds)
+all_begun [] all = All-nil (λ (s : Store). (s.list ≡ []) × (s.mark ≡ s.base_mark))
+all_begun (d ∷ ds) all =
+    let only = all 0 d (omega arith) in
+    All-cons (λ (s : Store). (s.list ≡ []) × (s.mark ≡ s.base_mark)) (restarted d) (map restarted ds) (only.saved, only.saved_mark) (all_begun ds (λ k x low. all (suc k) x (omega (arith, low))))
+
+-- ---- each data component is known
 
 -- as the news tell it
 pub site_incarnation : (c : Core) (ds : List Store) (n : ℕ) (s : Store) → c.sites ≡ map site_noted (restart_notes ds) → slice_get ds n ≡ Some s → (site_at c.sites n).incarnation ≡ s.incarnation
 site_incarnation c ds n s noted at =
     ap (λ (xs : List Site). (site_at xs n).incarnation) noted
     ∙ ap (λ (o : Option Site). (site_by o).incarnation) (map_get site_noted (restart_notes ds) n (Restarted (news_of s)) (map_get (λ (x : Store). Restarted (news_of x)) ds n s at))
+
+-- and down, with its redo from the mark on
+pub site_down : (c : Core) (ds : List Store) (n : ℕ) (s : Store) → c.sites ≡ map site_noted (restart_notes ds) → slice_get ds n ≡ Some s
+    → (site_at c.sites n).redo ≡ Some (record { mark = s.mark; redone = s.mark })
+site_down c ds n s noted at =
+    ap (λ (xs : List Site). (site_at xs n).redo) noted
+    ∙ ap (λ (o : Option Site). (site_by o).redo) (map_get site_noted (restart_notes ds) n (Restarted (news_of s)) (map_get (λ (x : Store). Restarted (news_of x)) ds n s at))
 
 known_at : (c d : Core) (ds es : List Store) → c.sites ≡ map site_noted (restart_notes ds) → Redoes c ds d es
     → ((n : ℕ) → n < length d.sites → (site_at d.sites n).redo ≡ None) → (n : ℕ) (s : Store) → slice_get es n ≡ Some s → IsKnown (at_rest d es) n s

@@ -5,5 +5,9 @@ pub mod NextLemmas
 pub mod MovingLemmas
 pub mod ComingLemmas
 pub mod FullLemmas
+pub mod SentLemmas
+pub mod SilentLemmas
+pub mod QuietLemmas
 pub mod RedoLemmas
+pub mod DoneLemmas
 pub mod LivedLemmas

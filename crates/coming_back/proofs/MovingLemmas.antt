@@ -37,10 +37,13 @@ use Rattle.coming_back.specs.declared.resumed.Resumed.{Resumed}
 use Rattle.coming_back.specs.declared.resumed.Resumed.TheVariants as came
 use Rattle.coming_back.specs.declared.resuming.Next.TheVariants as then
 use Rattle.coming_back.specs.Serving.{IsFor, AreServed}
-use Rattle.tc_world.specs.Lives.{HasLived}
+use Rattle.tc_world.specs.Lives.{Becomes}
 use Rattle.coming_back.specs.Coming.{at_rest, serial_if, open_to, open_txns, serial_of, doubt_in, in_doubt, IsLeft, GivenUp, Stuck as IsStuck, IsResumed}
+use Rattle.coming_back.specs.Joining.LivingOn.{LivesOn}
 use Rattle.coming_back.specs.Joining.Moving.{Goes, Moves, IsOpen, IsNextOf, CameOf, CameOfAll, left_of}
 use Rattle.coming_back.proofs.ServingLemmas.{all_same, all_then}
+use Rattle.coming_back.specs.Joining.Quiet.{IsQuiet}
+use Rattle.coming_back.proofs.QuietLemmas.{quiet_later, asked_later, undone_later, ended_later, answered_quiet, left_quiet}
 use Rattle.coming_back.proofs.LivedLemmas.{ask_lived, undo_lived, end_lived, carried_lived, answered_lived}
 use Rattle.coming_back.specs.Joining.Performing.{There, Nowhere, Sends, Sent, Unsent}
 use Rattle.tc_world.specs.Beginning.{admitted_before}
@@ -51,7 +54,7 @@ use Rattle.coming_back.proofs.NextLemmas.{is_asked, is_undone, asked_open, undon
 -- ---- one after another
 
 pub goes_same : (c : Core) (ds : List Store) → Goes c ds c ds
-goes_same c ds = record { core = refl; begins = record { later = []; is = refl }; count = refl; given_up = λ n is. is; served = all_same IsFor ds; lived = λ l. l }
+goes_same c ds = record { core = refl; begins = record { later = []; is = refl }; count = refl; given_up = λ n is. is; served = all_same IsFor ds; lived = λ start l. l; quiet = λ q. q }
 
 begins_then : (h g f : List Event) → Begins h g → Begins g f → Begins h f
 begins_then h g f a b = record { later = b.later ++ a.later; is = b.is ∙ (ap (λ (l : List Event). b.later ++ l) a.is ∙ sym (append_assoc b.later a.later h)) }
@@ -66,7 +69,8 @@ goes_then c d e ds es fs a b = record {
   count = b.count ∙ a.count;
   given_up = λ n is. b.given_up n (a.given_up n is);
   served = all_then IsFor ds es fs a.served b.served;
-  lived = λ l. b.lived (a.lived l);
+  lived = λ start l. b.lived start (a.lived start l);
+  quiet = λ q. b.quiet (a.quiet q);
 }
 
 pub moves_same : (t : ℕ) (c : Core) (ds : List Store) → Moves t c ds c ds
@@ -78,15 +82,16 @@ moves_then t c d e ds es fs a b = record { goes = goes_then c d e ds es fs a.goe
 -- ---- one event
 
 pub one_event : (t : ℕ) (c : Core) (e : Event) (ds es : List Store) → txn_of e ≡ t → admitted (e ∷ c.events) ≡ admitted c.events → AreServed ds es
-    → (HasLived (at_rest c ds) → HasLived (at_rest (with_event c e) es)) → Moves t c ds (with_event c e) es
-one_event t c e ds es own count served lived = record {
-  goes = record { core = refl; begins = record { later = e ∷ []; is = refl }; count = count; given_up = λ n is. is; served = served; lived = lived };
+    → LivesOn (at_rest c ds) (at_rest (with_event c e) es) → (IsQuiet c ds → IsQuiet (with_event c e) es) → Moves t c ds (with_event c e) es
+one_event t c e ds es own count served lived quiet = record {
+  goes = record { core = refl; begins = record { later = e ∷ []; is = refl }; count = count; given_up = λ n is. is; served = served; lived = lived; quiet = quiet };
   others = λ u other. standing-other e c.events u (λ is. other (sym is ∙ own));
 }
 
 pub ask_moves : (t : ℕ) (c : Core) (a : Asked) (ds : List Store) → a ≡ ask_reply c t → Legal (after_ask c a).procs (after_ask c a).events → AllGood c.procs → Moves t c ds (after_ask c a) ds
 ask_moves t c (Request r) ds is legal good =
     one_event t c (Ask r.txn r.number r.op) ds ds (is_asked c t r (sym is)).own refl (all_same IsFor ds) (ask_lived t c (Request r) ds is legal good)
+    (quiet_later c (Ask r.txn r.number r.op) ds (asked_later c.procs c.events r.txn r.number r.op legal))
 ask_moves t c Undoing ds is legal good = moves_same t c ds
 ask_moves t c Over ds is legal good = moves_same t c ds
 ask_moves t c (Stuck n) ds is legal good = moves_same t c ds
@@ -97,6 +102,7 @@ ask_moves t c Unknown ds is legal good = moves_same t c ds
 pub undo_moves : (t : ℕ) (c : Core) (a : Asked) (ds : List Store) → a ≡ undo_reply c t → Legal (after_undo c a).procs (after_undo c a).events → AllGood c.procs → Moves t c ds (after_undo c a) ds
 undo_moves t c (Request r) ds is legal good =
     one_event t c (Undo r.txn r.number r.op) ds ds (is_undone c t r (sym is)).own refl (all_same IsFor ds) (undo_lived t c (Request r) ds is legal good)
+    (quiet_later c (Undo r.txn r.number r.op) ds (undone_later c.procs c.events r.txn r.number r.op legal))
 undo_moves t c Undoing ds is legal good = moves_same t c ds
 undo_moves t c Over ds is legal good = moves_same t c ds
 undo_moves t c (Stuck n) ds is legal good = moves_same t c ds
@@ -107,7 +113,8 @@ undo_moves t c Unknown ds is legal good = moves_same t c ds
 pub end_moves : (t : ℕ) (c : Core) (o : Option Outcome) (ds : List Store) → o ≡ end_of c t
     → Legal (after_end c t o).procs (after_end c t o).events → AllGood c.procs → Moves t c ds (after_end c t o) ds
 end_moves t c None ds is legal good = moves_same t c ds
-end_moves t c (Some o) ds is legal good = one_event t c (End t o) ds ds refl refl (all_same IsFor ds) (end_lived t c (Some o) ds is legal good)
+end_moves t c (Some o) ds is legal good =
+    one_event t c (End t o) ds ds refl refl (all_same IsFor ds) (end_lived t c (Some o) ds is legal good) (quiet_later c (End t o) ds (ended_later c.procs c.events t o legal))
 
 -- ---- what is next
 
@@ -156,28 +163,29 @@ end_tells t c (Some o) receipt is =
 send_served : (c : Core) (r : Asking) (y : Option Reply) (ds es : List Store) → Sends c r ds y es → AreServed ds es
 send_served c r y ds es (Sent x is (There it)) = subst (AreServed ds) (sym it.then_is) (all_once IsFor ds x it.s refl it.at)
 send_served c r y ds es (Sent x is (Nowhere past none same)) = subst (AreServed ds) (sym same) (all_same IsFor ds)
-send_served c r y ds es (Unsent none same) = subst (AreServed ds) (sym same) (all_same IsFor ds)
+send_served c r y ds es (Unsent down is none same) = subst (AreServed ds) (sym same) (all_same IsFor ds)
 
-stays_lived : (c : Core) (ds es : List Store) → es ≡ ds → HasLived (at_rest c ds) → HasLived (at_rest c es)
-stays_lived c ds es same l = subst (λ (fs : List Store). HasLived (at_rest c fs)) (sym same) l
+stays_lived : (c : Core) (ds es : List Store) → es ≡ ds → LivesOn (at_rest c ds) (at_rest c es)
+stays_lived c ds es same start l = subst (λ (fs : List Store). Becomes start (at_rest c fs)) (sym same) l
 
 send_lived : (c : Core) (r : Asking) (y : Option Reply) (ds es : List Store) → Legal c.procs c.events → AllGood c.procs → IsOpenHere c r → Sends c r ds y es
-    → HasLived (at_rest c ds) → HasLived (at_rest c es)
-send_lived c r y ds es legal good here (Sent x is (There it)) l = carried_lived c r x y ds es legal good here is it l
-send_lived c r y ds es legal good here (Sent x is (Nowhere past none same)) l = stays_lived c ds es same l
-send_lived c r y ds es legal good here (Unsent none same) l = stays_lived c ds es same l
+    → LivesOn (at_rest c ds) (at_rest c es)
+send_lived c r y ds es legal good here (Sent x is (There it)) start l = carried_lived c r x y ds es legal good here is it start l
+send_lived c r y ds es legal good here (Sent x is (Nowhere past none same)) start l = stays_lived c ds es same start l
+send_lived c r y ds es legal good here (Unsent down is none same) start l = stays_lived c ds es same start l
 
 answer_lived : (c : Core) (r : Asking) (z : Reply) (ds es : List Store) → Legal c.procs c.events → AllGood c.procs → IsAnswer c r z → Legal c.procs (after_answer c r z.said).events
-    → Sends c r ds (Some z) es → HasLived (at_rest c ds) → HasLived (at_rest (after_answer c r z.said) es)
-answer_lived c r z ds es legal good a legal' (Sent x is (There it)) l = answered_lived c r x z ds es legal good is it a legal' l
-answer_lived c r z ds es legal good a legal' (Sent x is (Nowhere past none same)) l = absurd (let bad : Some z ≡ None = none in cc)
-answer_lived c r z ds es legal good a legal' (Unsent none same) l = absurd (let bad : Some z ≡ None = none in cc)
+    → Sends c r ds (Some z) es → LivesOn (at_rest c ds) (at_rest (after_answer c r z.said) es)
+answer_lived c r z ds es legal good a legal' (Sent x is (There it)) start l = answered_lived c r x z ds es legal good is it a legal' start l
+answer_lived c r z ds es legal good a legal' (Sent x is (Nowhere past none same)) start l = absurd (let bad : Some z ≡ None = none in cc)
+answer_lived c r z ds es legal good a legal' (Unsent down is none same) start l = absurd (let bad : Some z ≡ None = none in cc)
 
 -- it is answered
 pub answer_moves : (c : Core) (r : Asking) (z : Reply) (ds es : List Store) → Legal c.procs c.events → AllGood c.procs → IsAnswer c r z → Legal c.procs (after_answer c r z.said).events
     → Sends c r ds (Some z) es → Moves r.txn c ds (after_answer c r z.said) es
 answer_moves c r z ds es legal good a legal' sends =
     one_event r.txn c (Answer r.txn r.number z.said) ds es refl refl (send_served c r (Some z) ds es sends) (answer_lived c r z ds es legal good a legal' sends)
+    (answered_quiet c r z ds es legal a legal' sends)
 
 pub answer_open : (c : Core) (r : Asking) (said : Said) → IsOpenHere c r → IsOpen (after_answer c r said) r.txn
 answer_open c r said here = record { s = answered said here.s; is = answered_stands c r said here }
@@ -200,15 +208,17 @@ there_by : (there : Bool) (n : ℕ) (ns : List ℕ) → holds n ns ≡ there →
 there_by true n ns is = is
 there_by false n ns is = holds_same ns n
 
-pub give_up_moves : (t : ℕ) (c : Core) (n : ℕ) (ds es : List Store) → AreServed ds es → (HasLived (at_rest c ds) → HasLived (at_rest c es)) → Moves t c ds (with_given_up c n) es
-give_up_moves t c n ds es served lived = record {
-  goes = record { core = refl; begins = record { later = []; is = refl }; count = refl; given_up = λ m is. kept_by (holds n c.given_up) n m c.given_up is; served = served; lived = lived };
+pub give_up_moves : (t : ℕ) (c : Core) (n : ℕ) (ds es : List Store) → AreServed ds es → LivesOn (at_rest c ds) (at_rest c es)
+    → (IsQuiet c ds → IsQuiet (with_given_up c n) es) → Moves t c ds (with_given_up c n) es
+give_up_moves t c n ds es served lived quiet = record {
+  goes = record { core = refl; begins = record { later = []; is = refl }; count = refl; given_up = λ m is. kept_by (holds n c.given_up) n m c.given_up is; served = served; lived = lived; quiet = quiet };
   others = λ u other. refl;
 }
 
 pub given_up_moves : (c : Core) (r : Asking) (y : Option Reply) (ds es : List Store) → Legal c.procs c.events → AllGood c.procs → IsOpenHere c r → Sends c r ds y es
-    → Moves r.txn c ds (with_given_up c r.number) es
-given_up_moves c r y ds es legal good here sends = give_up_moves r.txn c r.number ds es (send_served c r y ds es sends) (send_lived c r y ds es legal good here sends)
+    → ((z : Reply) → y ≡ Some z → IsAnswer c r z → ⊥) → Moves r.txn c ds (with_given_up c r.number) es
+given_up_moves c r y ds es legal good here sends refused =
+    give_up_moves r.txn c r.number ds es (send_served c r y ds es sends) (send_lived c r y ds es legal good here sends) (left_quiet c r y ds es legal here sends refused)
 
 same_next : (c d : Core) (t : ℕ) → d.procs ≡ c.procs → standing d.events t ≡ standing c.events t → next_at d t ≡ next_at c t
 unfolding next_at

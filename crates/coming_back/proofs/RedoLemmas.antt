@@ -9,7 +9,8 @@ use Rattle.tc_log.specs.declared.event.Event.{Event}
 use Rattle.history.specs.Flight.{given}
 use Rattle.history.specs.Redo.{to_redo, IsToRedo}
 use Rattle.history.specs.declared.Answered.{Answered}
-use Rattle.data_component.specs.Store.{Store}
+use Rattle.access_slots.specs.Locks.{target}
+use Rattle.data_component.specs.Store.{Store, performed}
 use Rattle.transactions.specs.declared.Redoing.{Redoing}
 use Rattle.transactions.specs.declared.Site.{Site}
 use Rattle.transactions.specs.InFlight.{site_at, site_by}
@@ -21,18 +22,20 @@ use Rattle.tc_core.specs.Core.{Core}
 use Rattle.tc_core.specs.Redo.{with_site, redo_wire, redo_reply, redo_at, redo_by, sends_again, after_redo, up_again, IsRedone, redone_to, redone_at, after_redone}
 use Rattle.tc_core.specs.declared.state.Redo.{Redo}
 use Rattle.tc_core.specs.declared.state.Redo.TheVariants as redo
-use Rattle.tc_world.specs.Lives.{HasLived}
+use Rattle.tc_world.specs.Lives.{Becomes}
 use Rattle.coming_back.specs.Serving.{IsRedoFor, AreRedone}
 use Rattle.coming_back.specs.Coming.{at_rest}
+use Rattle.coming_back.specs.Joining.LivingOn.{LivesOn}
 use Rattle.coming_back.specs.Joining.Performing.{Performs, There, Nowhere}
 use Rattle.coming_back.specs.Joining.Redoing.{Redoes, RedoesAt, numbers_above, left_to_redo}
+use Rattle.coming_back.proofs.SentLemmas.{sent_at}
 use Rattle.coming_back.proofs.ServingLemmas.{all_same, all_then, all_once}
 use Rattle.coming_back.proofs.LivedLemmas.{answered_done, next_lived, resent_lived, redone_lived}
 
 -- ---- one after another
 
 pub redoes_same : (c : Core) (ds : List Store) → Redoes c ds c ds
-redoes_same c ds = record { core = refl; count = refl; incarnations = λ d. refl; redone = all_same IsRedoFor ds; lived = λ l. l }
+redoes_same c ds = record { core = refl; count = refl; incarnations = λ d. refl; redone = all_same IsRedoFor ds; lived = λ start l. l }
 
 pub redoes_then : (c d e : Core) (ds es fs : List Store) → Redoes c ds d es → Redoes d es e fs → Redoes c ds e fs
 redoes_then c d e ds es fs a b = record {
@@ -40,26 +43,34 @@ redoes_then c d e ds es fs a b = record {
   count = b.count ∙ a.count;
   incarnations = λ n. b.incarnations n ∙ a.incarnations n;
   redone = all_then IsRedoFor ds es fs a.redone b.redone;
-  lived = λ l. b.lived (a.lived l);
+  lived = λ start l. b.lived start (a.lived start l);
 }
 
 pub redoes_at_same : (n : ℕ) (c : Core) (ds : List Store) → RedoesAt n c ds c ds
-redoes_at_same n c ds = record { redoes = redoes_same c ds; others = λ e other. refl }
+redoes_at_same n c ds = record { redoes = redoes_same c ds; others = λ e other. refl; stores = λ e other. refl }
 
 pub redoes_at_then : (n : ℕ) (c d e : Core) (ds es fs : List Store) → RedoesAt n c ds d es → RedoesAt n d es e fs → RedoesAt n c ds e fs
-redoes_at_then n c d e ds es fs a b = record { redoes = redoes_then c d e ds es fs a.redoes b.redoes; others = λ m other. b.others m other ∙ a.others m other }
+redoes_at_then n c d e ds es fs a b = record {
+  redoes = redoes_then c d e ds es fs a.redoes b.redoes;
+  others = λ m other. b.others m other ∙ a.others m other;
+  stores = λ m other. b.stores m other ∙ a.stores m other;
+}
 
 -- ---- what is known of a data component changes
 
-site_here : (sites : List Site) (n : ℕ) (s t : Site) → slice_get sites n ≡ Some s → site_at (slice_set sites n t) n ≡ t
+pub site_here : (sites : List Site) (n : ℕ) (s t : Site) → slice_get sites n ≡ Some s → site_at (slice_set sites n t) n ≡ t
 site_here sites n s t at = ap site_by (set_same sites n s t at)
 
 site_there : (sites : List Site) (n m : ℕ) (t : Site) → m ≢ n → site_at (slice_set sites n t) m ≡ site_at sites m
 site_there sites n m t other = ap site_by (set_other sites n m t (λ same. other (sym same)))
 
-resited : (n : ℕ) (c : Core) (ds es : List Store) (s t : Site) → slice_get c.sites n ≡ Some s → t.incarnation ≡ s.incarnation → AreRedone ds es
-    → (HasLived (at_rest c ds) → HasLived (at_rest (with_site c n t) es)) → RedoesAt n c ds (with_site c n t) es
-resited n c ds es s t at same redone lived = record {
+-- the other data components stay as they are
+abbrev AreStill : ℕ → List Store → List Store → Type 0
+AreStill n ds es = (m : ℕ) → m ≢ n → slice_get es m ≡ slice_get ds m
+
+resited : (n : ℕ) (c : Core) (ds es : List Store) (s t : Site) → slice_get c.sites n ≡ Some s → t.incarnation ≡ s.incarnation → AreRedone ds es → AreStill n ds es
+    → LivesOn (at_rest c ds) (at_rest (with_site c n t) es) → RedoesAt n c ds (with_site c n t) es
+resited n c ds es s t at same redone stores lived = record {
   redoes = record {
     core = refl;
     count = length-set c.sites n t;
@@ -73,10 +84,15 @@ resited n c ds es s t at same redone lived = record {
     lived = lived;
   };
   others = λ m other. site_there c.sites n m t other;
+  stores = stores;
 }
 
-redone_here : (n : ℕ) (c : Core) (ds es : List Store) → AreRedone ds es → (HasLived (at_rest c ds) → HasLived (at_rest c es)) → RedoesAt n c ds c es
-redone_here n c ds es redone lived = record { redoes = record { core = refl; count = refl; incarnations = λ m. refl; redone = redone; lived = lived }; others = λ m other. refl }
+redone_here : (n : ℕ) (c : Core) (ds es : List Store) → AreRedone ds es → AreStill n ds es → LivesOn (at_rest c ds) (at_rest c es) → RedoesAt n c ds c es
+redone_here n c ds es redone stores lived = record {
+  redoes = record { core = refl; count = refl; incarnations = λ m. refl; redone = redone; lived = lived };
+  others = λ m other. refl;
+  stores = stores;
+}
 
 -- ---- `redo_next`
 
@@ -86,10 +102,10 @@ NoSend redo.Finished = Unit {0}
 NoSend redo.NotDown = Unit {0}
 NoSend redo.NoDc = Unit {0}
 
-up_again_redoes : (n : ℕ) (c : Core) (ds : List Store) (o : Option Site) → slice_get c.sites n ≡ o → (HasLived (at_rest c ds) → HasLived (at_rest (up_again c n o) ds))
+up_again_redoes : (n : ℕ) (c : Core) (ds : List Store) (o : Option Site) → slice_get c.sites n ≡ o → (LivesOn (at_rest c ds) (at_rest (up_again c n o) ds))
     → RedoesAt n c ds (up_again c n o) ds
 up_again_redoes n c ds None at lived = redoes_at_same n c ds
-up_again_redoes n c ds (Some s) at lived = resited n c ds ds s (record s { redo = None }) at refl (all_same IsRedoFor ds) lived
+up_again_redoes n c ds (Some s) at lived = resited n c ds ds s (record s { redo = None }) at refl (all_same IsRedoFor ds) (λ m other. refl) lived
 
 pub next_redoes : (n : ℕ) (c : Core) (ds : List Store) (a : Redo) → a ≡ redo_reply c n → Legal c.procs c.events → AllGood c.procs → RedoesAt n c ds (after_redo c n a) ds
 next_redoes n c ds (redo.Send x) is legal good = redoes_at_same n c ds
@@ -156,21 +172,27 @@ performs_redone : (ds es : List Store) (x : Wire) (y : Option Reply) → x.redo 
 performs_redone ds es x y is (There it) = subst (AreRedone ds) (sym it.then_is) (all_once IsRedoFor ds x it.s (refl, is) it.at)
 performs_redone ds es x y is (Nowhere past none same) = subst (AreRedone ds) (sym same) (all_same IsRedoFor ds)
 
+performs_still : (n : ℕ) (c : Core) (x : Wire) (y : Option Reply) (ds es : List Store) → Legal c.procs c.events → redo.Send x ≡ redo_reply c n → Performs ds x y es → AreStill n ds es
+performs_still n c x y ds es legal is (There it) m other =
+    let dc = (sent_at c n x (slice_get c.sites n) legal refl is).dc in
+    ap (λ (fs : List Store). slice_get fs m) it.then_is ∙ set_other ds (target x.op).dc m (performed it.s x) (λ same. other (sym same ∙ dc))
+performs_still n c x y ds es legal is (Nowhere past none same) m other = ap (λ (fs : List Store). slice_get fs m) same
+
 performs_lived : (n : ℕ) (c : Core) (x : Wire) (y : Option Reply) (ds es : List Store) → Legal c.procs c.events → AllGood c.procs → redo.Send x ≡ redo_reply c n → Performs ds x y es
-    → HasLived (at_rest c ds) → HasLived (at_rest c es)
-performs_lived n c x y ds es legal good is (There it) l = resent_lived n c x y ds es legal good is it l
-performs_lived n c x y ds es legal good is (Nowhere past none same) l = subst (λ (fs : List Store). HasLived (at_rest c fs)) (sym same) l
+    → LivesOn (at_rest c ds) (at_rest c es)
+performs_lived n c x y ds es legal good is (There it) start l = resent_lived n c x y ds es legal good is it start l
+performs_lived n c x y ds es legal good is (Nowhere past none same) start l = subst (λ (fs : List Store). Becomes start (at_rest c fs)) (sym same) l
 
 -- what is redone is performed, and nothing is taken in
 pub performed_redoes : (n : ℕ) (c : Core) (x : Wire) (y : Option Reply) (ds es : List Store) → Legal c.procs c.events → AllGood c.procs → redo.Send x ≡ redo_reply c n → Performs ds x y es
     → RedoesAt n c ds c es
 performed_redoes n c x y ds es legal good is performs =
-    redone_here n c ds es (performs_redone ds es x y (sent_is_redo c n x (slice_get c.sites n) is) performs) (performs_lived n c x y ds es legal good is performs)
+    redone_here n c ds es (performs_redone ds es x y (sent_is_redo c n x (slice_get c.sites n) is) performs) (performs_still n c x y ds es legal is performs) (performs_lived n c x y ds es legal good is performs)
 
 taken_lived : (n : ℕ) (c : Core) (x : Wire) (z : Reply) (ds es : List Store) → Legal c.procs c.events → AllGood c.procs → redo.Send x ≡ redo_reply c n → Performs ds x (Some z) es
-    → IsRedone c n z → HasLived (at_rest c ds) → HasLived (at_rest (after_redone c n z.number) es)
-taken_lived n c x z ds es legal good is (There it) redone l = redone_lived n c x z ds es legal good is it redone l
-taken_lived n c x z ds es legal good is (Nowhere past none same) redone l = absurd (let bad : Some z ≡ None = none in cc)
+    → IsRedone c n z → LivesOn (at_rest c ds) (at_rest (after_redone c n z.number) es)
+taken_lived n c x z ds es legal good is (There it) redone start l = redone_lived n c x z ds es legal good is it redone start l
+taken_lived n c x z ds es legal good is (Nowhere past none same) redone start l = absurd (let bad : Some z ≡ None = none in cc)
 
 -- and its reply is taken in
 pub redone_redoes : (n : ℕ) (c : Core) (x : Wire) (z : Reply) (ds es : List Store) → Legal c.procs c.events → AllGood c.procs → redo.Send x ≡ redo_reply c n → Performs ds x (Some z) es
@@ -179,7 +201,8 @@ redone_redoes n c x z ds es legal good is performs it =
     let lived = taken_lived n c x z ds es legal good is performs it in
     subst (λ (o : Option Site). RedoesAt n c ds (redone_at c n z.number o) es) (sym it.there)
     (resited n c ds es it.site (record it.site { redo = redone_to z.number it.site.redo }) it.there refl (performs_redone ds es x (Some z) (sent_is_redo c n x (slice_get c.sites n) is) performs)
-    (subst (λ (o : Option Site). HasLived (at_rest c ds) → HasLived (at_rest (redone_at c n z.number o) es)) it.there lived))
+    (performs_still n c x (Some z) ds es legal is performs)
+    (subst (λ (o : Option Site). LivesOn (at_rest c ds) (at_rest (redone_at c n z.number o) es)) it.there lived))
 
 -- one number less is left
 pub redone_nearer : (n : ℕ) (c : Core) (x : Reply) → Legal c.procs c.events → IsRedone c n x → left_to_redo (after_redone c n x.number) n < left_to_redo c n

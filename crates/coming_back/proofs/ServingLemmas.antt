@@ -78,7 +78,7 @@ if_heard : (b : Bool) (s t : Store) → t.incarnation ≡ s.incarnation → (con
 if_heard true s t same = same
 if_heard false s t same = refl
 
-performed_by : (s : Store) (x : Wire) → (performed s x).incarnation ≡ s.incarnation
+pub performed_by : (s : Store) (x : Wire) → (performed s x).incarnation ≡ s.incarnation
 performed_by s x = if_heard (s.incarnation == x.incarnation) s (store_by (marked s x.low_water) x.number x.op (fate_of s x)) (by_fate (marked s x.low_water) x.number x.op (fate_of s x))
 
 fold_by : (s : Store) (xs : List Wire) → (fold performed s xs).incarnation ≡ s.incarnation

@@ -1,20 +1,29 @@
 -- A transaction component that comes back from its log alone, with new data components.
-use Rattle.std.specs.Prelude.{◌≡◌, ℕ, zero, suc, ◌≤◌, true, List, [], ◌∷◌, ◌++◌, length, Option, Some, None}
+use Rattle.std.specs.Prelude.{◌≡◌, ℕ, zero, suc, ◌≤◌, true, List, [], ◌∷◌, ◌++◌, length, map, Option, Some, None, slice_get}
 use Rattle.request_numbers.specs.Given.{holds}
 use Rattle.tc_log.specs.declared.event.Event.{Event}
 use Rattle.tc_log.specs.declared.event.Event.TheVariants.{End}
 use Rattle.history.specs.Calls.{admitted}
+use Rattle.access_slots.specs.Locks.{target}
+use Rattle.history.specs.Flight.{Flight, open_op}
 use Rattle.history.specs.Places.{StandsAt, Begins}
-use Rattle.data_component.specs.Store.{Store}
+use Rattle.access_slots.specs.declared.op.Op.{Op}
+use Rattle.access_slots.specs.declared.op.Said.{Said}
+use Rattle.data_component.specs.Performed.{said_under}
+use Rattle.data_component.specs.Store.{Store, restarted}
 use Rattle.transactions.specs.declared.Next.TheVariants as next
 use Rattle.transactions.specs.Standing.{Standing, standing}
 use Rattle.tc_core.specs.Core.{Core, loaded_in}
 use Rattle.tc_core.specs.Replies.{next_at}
 use Rattle.tc_core.specs.declared.state.Receipt.{Receipt}
-use Rattle.serial.specs.Audit.{IsBegunTogether}
+use Rattle.tc_core.specs.Recovery.{recovered}
+use Rattle.serial.specs.Audit.{IsBegunTogether, base_of}
+use Rattle.serial.specs.Serial.{done, HonestFrom}
+use Rattle.serial.specs.Lists.{logged, dc_of}
 use Rattle.tc_world.specs.Whole.{Whole}
 use Rattle.tc_world.specs.Recovery.{StandFor}
 use Rattle.tc_world.specs.Lives.{HasLived}
+use Rattle.coming_back.specs.Faults.{restart_notes}
 use Rattle.coming_back.specs.declared.resumed.Resumed.{Resumed}
 use Rattle.coming_back.specs.declared.resumed.Resumed.TheVariants.{Ended, InDoubt}
 
@@ -71,6 +80,11 @@ abbrev pub IsResumed : List Event → Core → Resumed → Type 0
 IsResumed first c (Ended receipt) = IsEnded first c receipt
 IsResumed first c (InDoubt t n) = IsLeft c t n
 
+-- the data component of each number that is open and was given up is full, if it is there
+abbrev pub AreFullWhereGivenUp : Core → List Store → Type 0
+AreFullWhereGivenUp c dcs = (n : ℕ) (f : Flight) (s : Store) → holds n c.given_up ≡ true → open_op c.events n ≡ Some f
+    → slice_get dcs (target f.op).dc ≡ Some s → s.ops ≤ length s.list
+
 -- ---- as a world
 
 -- a world of this transaction component and these data components, in which nothing is on its way. What was given up tells which
@@ -86,3 +100,15 @@ pub record ComesFrom (w : Whole) (h : List Event) (c : Core) (dcs : List Store) 
   pub same : loaded_in w.core ≡ loaded_in c
   pub olds : StandFor dcs w.dcs
   pub together : IsBegunTogether h dcs
+
+-- the world that begins again: the state has the log, and each data component has restarted
+abbrev pub begins_again : Core → List Event → List Store → Whole
+begins_again c h dcs = at_rest (recovered c h (restart_notes (map restarted dcs))) (map restarted dcs)
+
+-- the log is one of data components that begin with these rows, behind the number behind which it begins: each answer is what the operations
+-- answered before it left of them, or want of room, and came from a data component that is there
+pub record IsOfRows (h : List Event) (dcs : List Store) : Type 0 where
+  pub together : IsBegunTogether h dcs
+  pub honest : HonestFrom (base_of dcs) h
+  pub there : (n : ℕ) (o : Op) (said : Said) → logged h n ≡ Some o → said_under (done h) n ≡ Some said
+      → (s : Store) × (slice_get dcs (dc_of o) ≡ Some s)

@@ -1,4 +1,5 @@
 pub mod Serving
 pub mod Coming
+pub mod Done
 pub mod Faults
 pub mod Joining

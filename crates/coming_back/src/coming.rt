@@ -9,10 +9,12 @@ ghost use Rattle.tc_core.specs.Core.{loaded_in};
 ghost use Rattle.tc_core.specs.Recovery.{recovered};
 ghost use Rattle.tc_world.specs.Whole.{Whole};
 ghost use Rattle.tc_world.specs.OneAtATime.{EachIsKnown, IsOneAtATime};
-ghost use Rattle.serial.specs.Audit.{IsAgreed};
-ghost use Rattle.tc_world.specs.Lives.{HasLived};
+ghost use Rattle.serial.specs.Audit.{IsBegunTogether, IsAgreed};
+ghost use Rattle.tc_world.specs.Lives.{Becomes, HasLived};
 ghost use Rattle.coming_back.specs.Serving.{AreServed, AreRedone};
-ghost use Rattle.coming_back.specs.Coming.{HasOnlyRows, serial_of, open_txns, in_doubt, IsResumed, at_rest, ComesFrom};
+ghost use Rattle.coming_back.specs.Coming.{HasOnlyRows, serial_of, open_txns, in_doubt, IsResumed, AreFullWhereGivenUp};
+ghost use Rattle.coming_back.specs.Coming.{at_rest, ComesFrom, begins_again, IsOfRows};
+ghost use Rattle.coming_back.specs.Done.{EachHasWhatWasDone};
 ghost use Rattle.coming_back.specs.Faults.{restart_notes, HasLog, IsFaultOf};
 
 use crate::redoing::{RedoFault, redo_all};
@@ -93,6 +95,14 @@ pub fn bring_back(
     // Each data component is up, and performed wires of its redo alone since it restarted.
     ensures known { OnOk result (EachIsKnown (at_rest state.new dcs.new)) }
     ensures redone { OnOk result (AreRedone (map restarted dcs.old) dcs.new) }
+    // Its list is what the log says was done there, by number.
+    ensures done { OnOk result (EachHasWhatWasDone log.now.events dcs.new) }
+
+    // By steps of a world alone, what began again has become what came back. So calls run one at a time, and the log and the data
+    // components agree in all that an audit compares, where the log is one of these rows.
+    ensures becomes { OnOk result (Becomes (begins_again state.old log.now.events dcs.old) (at_rest state.new dcs.new)) }
+    ensures serial { IsOfRows log.now.events dcs.old → OnOk result (IsOneAtATime (at_rest state.new dcs.new)) }
+    ensures audited { IsOfRows log.now.events dcs.old → OnOk result (IsAgreed state.new.procs state.new.events dcs.new) }
 
     ensures fault { IfErr result (IsFaultOf state.old log.now.events (length dcs.old) state.new dcs.new) }
 
@@ -103,6 +113,7 @@ pub fn bring_back(
     ensures agreed { (w : Whole) → ComesFrom w log.now.events state.old dcs.old
         → OnOk result (IsAgreed state.new.procs state.new.events dcs.new) }
 {
+    state.known();
     begin_again(alloc, state, dcs, log)?;
     match redo_all(state, dcs) {
         Ok(()) => Ok(()),
@@ -136,10 +147,18 @@ pub fn come_back(
     ensures known { OnOk result (EachIsKnown (at_rest state.new dcs.new)) }
     ensures served { OnOk result (AreServed (map restarted dcs.old) dcs.new) }
 
+    // By steps of a world alone, what began again has become what came back. So calls run one at a time, and the log and the data
+    // components agree in all that an audit compares, where the log is one of these rows.
+    ensures becomes { OnOk result (Becomes (begins_again state.old log.now.events dcs.old) (at_rest state.new dcs.new)) }
+    ensures serial { IsOfRows log.now.events dcs.old → OnOk result (IsOneAtATime (at_rest state.new dcs.new)) }
+    ensures audited { IsOfRows log.now.events dcs.old → OnOk result (IsAgreed state.new.procs state.new.events dcs.new) }
+
     // Each transaction that was open is told of, once, and those that are open are those in doubt.
     ensures resumed { IfOk result (λ them. map serial_of them.items ≡ open_txns log.now.events) }
     ensures doubts { IfOk result (λ them. in_doubt them.items ≡ open_txns state.new.events) }
     ensures each { IfOk result (λ them. All (IsResumed log.now.events state.new) them.items) }
+    // Log and rows begin together: then no number was given up but where its data component is full.
+    ensures full { IsBegunTogether log.now.events dcs.old → OnOk result (AreFullWhereGivenUp state.new dcs.new) }
 
     ensures fault { IfErr result (IsFaultOf state.old log.now.events (length dcs.old) state.new dcs.new) }
 
@@ -152,6 +171,7 @@ pub fn come_back(
     ensures agreed { (w : Whole) → ComesFrom w log.now.events state.old dcs.old
         → OnOk result (IsAgreed state.new.procs state.new.events dcs.new) }
 {
+    state.known();
     bring_back(alloc, state, dcs, log)?;
     let mut resumed = match Vec::with_capacity(alloc, state.open_count()) {
         Ok(resumed) => resumed,

@@ -17,6 +17,7 @@
 #![tactic(auto)]
 
 pub mod coming;
+pub mod examples;
 mod performing;
 mod redoing;
 mod renewing;

@@ -2,7 +2,7 @@
 
 ghost use Rattle.std.specs.Prelude.{◌≡◌, ◌≢◌, ℕ, ◌<◌, None, true, false, length, OnOk, OnErr, IfOk, IfErr};
 ghost use Rattle.transactions.specs.InFlight.{site_at};
-ghost use Rattle.coming_back.specs.Joining.Redoing.{Redoes, RedoesAt, IsMatched, left_to_redo};
+ghost use Rattle.coming_back.specs.Joining.Redoing.{Redoes, RedoesAt, IsMatched, IsRedoneTo, left_to_redo};
 ghost use Rattle.coming_back.specs.Faults.{IsFull};
 
 use crate::performing::perform;
@@ -24,6 +24,7 @@ fn redo_one(state: &mut TcState, dcs: &mut [Dc], dc: u16) -> Result<bool, RedoFa
     ensures up { IfOk result (λ done. done ≡ true → (site_at state.new.sites dc).redo ≡ None) }
     ensures down { OnErr result ((site_at state.new.sites dc).redo ≢ None) }
     ensures full { IfErr result (λ fault. fault ≡ RedoFault.Silent → IsMatched state.old dcs.old dc → IsFull dcs.new dc) }
+    ensures done { OnOk result (IsRedoneTo state.old dcs.old dc → IsRedoneTo state.new dcs.new dc) }
     ensures nearer { IfOk result (λ done. done ≡ false → left_to_redo state.new dc < left_to_redo state.old dc) }
 {
     state.known();
@@ -47,6 +48,7 @@ pub fn redo(state: &mut TcState, dcs: &mut [Dc], dc: u16) -> Result<(), RedoFaul
     requires { dc < length state.old.sites }
     ensures redoes { RedoesAt dc state.old dcs.old state.new dcs.new }
     ensures up { OnOk result ((site_at state.new.sites dc).redo ≡ None) }
+    ensures done { OnOk result (IsRedoneTo state.old dcs.old dc → IsRedoneTo state.new dcs.new dc) }
     ensures down { OnErr result ((site_at state.new.sites dc).redo ≢ None) }
     ensures full { IfErr result (λ fault. fault ≡ RedoFault.Silent → IsMatched state.old dcs.old dc → IsFull dcs.new dc) }
 {
@@ -63,6 +65,7 @@ pub fn redo(state: &mut TcState, dcs: &mut [Dc], dc: u16) -> Result<(), RedoFaul
 pub fn redo_all(state: &mut TcState, dcs: &mut [Dc]) -> Result<(), (u16, RedoFault)>
     ensures redoes { Redoes state.old dcs.old state.new dcs.new }
     ensures up { OnOk result ((d : ℕ) → d < length state.new.sites → (site_at state.new.sites d).redo ≡ None) }
+    ensures done { OnOk result ((d : ℕ) → IsRedoneTo state.old dcs.old d → IsRedoneTo state.new dcs.new d) }
     ensures full { IfErr result
         (λ fault. fault.1 ≡ RedoFault.Silent → IsMatched state.old dcs.old fault.0 → IsFull dcs.new fault.0) }
     ensures down { IfErr result (λ fault. (site_at state.new.sites fault.0).redo ≢ None) }

@@ -1,5 +1,5 @@
 -- The rows with which data components begin, and the number behind which they and the log do.
-use Rattle.std.proofs.Common.{◌≡◌, ℕ, ◌+◌, ◌≤◌, ◌<◌, Bool, true, false, List, [], ◌∷◌, ◌++◌, Option, Some, None, arith, refl, sym, ◌∙◌, ap, subst, inl, inr, ◌==◌, if◌then◌else◌}
+use Rattle.std.proofs.Common.{◌≡◌, ◌⊎◌, ℕ, ◌≤◌, ◌<◌, Bool, true, false, List, [], ◌∷◌, ◌++◌, Option, Some, None, arith, refl, sym, ◌∙◌, ap, subst, inl, inr, ◌==◌, if◌then◌else◌}
 use Rattle.std.specs.Prelude.{slice_get, slice_set, nat_le}
 use Rattle.std.proofs.lemmas.Bool.{cases_eq, leb-true}
 use Rattle.access_slots.specs.declared.slot.Record.{Record}
@@ -118,6 +118,16 @@ begun_low ps h legal = (computed_is h).greatest (begun h) (record {
 pub none_behind : (later first : List Event) → later ++ first ≡ [] → first ≡ []
 none_behind [] first is = is
 none_behind (e ∷ later) first is = absurd cc
+
+-- a log's first events begin behind the same number, or there are none
+pub begun_either : (ps : List Checked) (later first : List Event) → Legal ps (later ++ first) → (begun (later ++ first) ≡ begun first) ⊎ (first ≡ [])
+begun_either ps [] first legal = inl refl
+begun_either ps (Admit t p args ∷ later) first legal = begun_either ps later first legal.1
+begun_either ps (Ask t n o ∷ later) first legal = begun_either ps later first legal.1
+begun_either ps (Answer t n said ∷ later) first legal = begun_either ps later first legal.1
+begun_either ps (Undo t n o ∷ later) first legal = begun_either ps later first legal.1
+begun_either ps (End t ends ∷ later) first legal = begun_either ps later first legal.1
+begun_either ps (Checkpoint before numbers ∷ later) first legal = inr (none_behind later first legal.0.oldest)
 
 -- a log's first events begin behind the same number, where their mark isn't below it: they have the Checkpoint, or
 -- there is none

@@ -1,15 +1,16 @@
 -- A world whose transaction component comes back from what was written: its marks are low, and its lists stand beside the log.
-use Rattle.std.proofs.Common.{◌≡◌, ℕ, zero, suc, ◌≤◌, ◌<◌, true, false, List, [], ◌∷◌, ◌++◌, ◌+◌, length, take, map, Option, Some, None, arith, refl, sym, ◌∙◌, ap, subst, inl, inr, ◌==◌, if◌then◌else◌}
+use Rattle.std.proofs.Common.{◌≡◌, ◌⊎◌, ℕ, zero, suc, ◌≤◌, ◌<◌, true, false, List, [], ◌∷◌, ◌++◌, ◌+◌, length, take, map, Option, Some, None, arith, refl, sym, ◌∙◌, ap, subst, inl, inr, ◌==◌, if◌then◌else◌}
 use Rattle.std.specs.Prelude.{slice_get, slice_index_or}
 use Rattle.std.specs.List.{All}
-use Rattle.std.proofs.lemmas.Bool.{cases_eq, cond-true, cond-false}
+use Rattle.std.proofs.lemmas.Bool.{cases_eq, cases_lt, cond-true, cond-false}
 use Rattle.std.proofs.lemmas.List.{take_more, map-append}
 use Rattle.access_slots.specs.declared.op.Wire.{Wire}
+use Rattle.access_slots.specs.declared.op.Reply.{Reply}
 use Rattle.tc_log.specs.declared.event.Event.{Event}
 use Rattle.history.specs.Flight.{Flight, open_op, is_flight, given, low_water}
 use Rattle.data_component.specs.Performed.{Performed}
 use Rattle.history.specs.Anew.{begun}
-use Rattle.tc_world.proofs.Bases.{begun_first}
+use Rattle.tc_world.proofs.Bases.{begun_first, begun_either}
 use Rattle.data_component.specs.Store.{Store}
 use Rattle.transactions.specs.declared.Redoing.{Redoing}
 use Rattle.transactions.specs.declared.Site.{Site}
@@ -18,7 +19,7 @@ use Rattle.transactions.specs.Reached.{AllGood}
 use Rattle.transactions.specs.Legal.{Legal}
 use Rattle.transactions.proofs.StandingLemmas.{some_same, none_some, eq-true, eq-false}
 use Rattle.serial.specs.Serial.{done, HonestFrom}
-use Rattle.serial.specs.Lists.{logged}
+use Rattle.serial.specs.Lists.{logged, dc_of}
 use Rattle.serial.specs.Joining.Site.{Over}
 use Rattle.serial.proofs.RedoneLemmas.{over_low}
 use Rattle.serial.proofs.BackLemmas.{Earlier, earlier, legal_first, honest_first}
@@ -30,7 +31,9 @@ use Rattle.tc_core.proofs.KeptLemmas.{slice_get-index, slice_get-short}
 use Rattle.tc_world.specs.Whole.{Whole}
 use Rattle.tc_world.specs.Marks.{IsLow, AreMarksLow}
 use Rattle.tc_world.specs.Recovery.{IsWrittenFor, IsWrittenAt, IsNotYetUp, IsNoted, Noted, NotYetUp, IsWritten, begun_anew, anew, come_back, note_by, note_of, notes_of}
-use Rattle.tc_world.specs.Joining.Listed.{BeginsBehind, EachBeginsBehind, IsListed}
+use Rattle.tc_world.specs.Joining.Listed.{BeginsBehind, EachBeginsBehind, ArePast, above, wires_since, replies_since, IsListed}
+use Rattle.serial.specs.Joining.Sites.{CopyOk, ReplyOk, AreOk}
+use Rattle.tc_world.proofs.Passing.{above_in, above_from}
 
 pub all_at : {X : Type 0} (P : X → Type 0) (xs : List X) (k : ℕ) (x : X) → slice_get xs k ≡ Some x → All P xs → P x
 all_at P xs k x at all = subst P (slice_get-index xs k x x at) (all k x (slice_get-short xs k x at))
@@ -41,6 +44,25 @@ pub read_in : {X : Type 0} (xs : List X) (k : ℕ) (x : X) → k < length xs →
 read_in [] k x inside = absurd (omega (arith, inside))
 read_in (y ∷ xs) zero x inside = refl
 read_in (y ∷ xs) (suc k) x inside = read_in xs k x (omega (arith, inside))
+
+-- what holds of all holds of those with later numbers
+pub all_above : {X : Type 0} (number : X → ℕ) (n : ℕ) (P : X → Type 0) (xs : List X) → All P xs → All P (above number n xs)
+all_above number n P xs all k x inside =
+    let is = above_from number n xs k _ (read_in (above number n xs) k x inside) in
+    all_at P xs is.place _ is.at all
+
+-- what holds of those with numbers above a holds of those with numbers above b, where none lies between
+fewer : {X : Type 0} (number : X → ℕ) (a b : ℕ) (P : X → Type 0) (xs : List X)
+    → ((k : ℕ) (x : X) → slice_get xs k ≡ Some x → number x ≤ a → number x ≤ b) → All P (above number a xs) → All P (above number b xs)
+fewer number a b P xs none all k x inside =
+    let is = above_from number b xs k _ (read_in (above number b xs) k x inside) in
+    let over = is.above in
+    let up : a < number (slice_index_or (above number b xs) k x) = elim (cases_lt a (number (slice_index_or (above number b xs) k x))) [
+      | inl more ↦ more
+      | inr old ↦ (let low = none is.place _ is.at old in absurd (omega (arith, low, over)))
+    ] in
+    let here = above_in number a xs is.place _ is.at up in
+    all_at P (above number a xs) here.0 _ here.1 all
 
 begun_none : (r : Option Redoing) → begun_anew r ≡ None → r ≡ None
 begun_none None is = refl
@@ -144,14 +166,66 @@ come_back_listed w first notes good legal written s =
       base = s.base;
       based = s.based;
       behind = behind;
+      past = past_back;
       honest = honest_first s.base written.begins.later first (subst (HonestFrom s.base) written.begins.is s.honest);
-      ok = ok_back s.base (logged w.core.events) (open_op w.core.events) (done w.core.events) (given w.core.events) (logged first) (open_op first) (done first) (given first) (low_water first)
-          w.core.sites (map site_noted notes) w.dcs w.copies w.replies w.news before over noted
+      ok = since_back (ok_back s.base (logged w.core.events) (open_op w.core.events) (done w.core.events) (given w.core.events) (logged first) (open_op first) (done first) (given first) (low_water first)
+          w.core.sites (map site_noted notes) w.dcs (wires_since w) (replies_since w) w.news before over (λ d. noted_since d (noted d))
           (λ d y at. up_to_it first y (all_at (IsWrittenAt first) w.dcs d y at written.stores))
-          (λ k x inside. rests first _ (written.copies k x inside))
-          written.replies written.news s.ok;
+          (λ k x inside. rests first _ (all_above (λ (y : Wire). y.number) (begun w.core.events) (IsWrittenFor first) w.copies written.copies k x inside))
+          (all_above (λ (y : Reply). y.number) (begun w.core.events) (λ (y : Reply). y.number ≤ given first) w.replies written.replies)
+          written.news s.ok);
     }
   where
+    either : (begun w.core.events ≡ begun first) ⊎ (first ≡ [])
+    either = elim (begun_either w.core.procs written.begins.later first (subst (Legal w.core.procs) written.begins.is legal)) [
+      | inl same ↦ inl (ap begun written.begins.is ∙ same)
+      | inr none ↦ inr none
+    ]
+
+    -- what was written, and is from before the whole log began, is from before this one did
+    older : (n : ℕ) → n ≤ given first → n ≤ begun w.core.events → n ≤ begun first
+    older n few old = elim either [
+      | inl same ↦ omega (arith, old, same)
+      | inr none ↦ (let zero : given first ≡ 0 = ap given none in omega (arith, few, zero))
+    ]
+
+    past_back : ArePast (begun first) w.copies
+    past_back k x at old = elim either [
+      | inl same ↦ (let few = s.past k x at (omega (arith, old, same)) in omega (arith, few, same))
+      | inr none ↦
+          let few = (all_at (IsWrittenFor first) w.copies k x at written.copies).mark in
+          let zero : low_water first ≡ 0 = ap low_water none in
+          omega (arith, few, zero)
+    ]
+
+    since_back : AreOk s.base (logged first) (open_op first) (done first) (given first) (map site_noted notes) w.dcs (wires_since w) (replies_since w) w.news
+        → AreOk s.base (logged first) (open_op first) (done first) (given first) (map site_noted notes) w.dcs
+        (wires_since (come_back first notes w)) (replies_since (come_back first notes w)) w.news
+    since_back k = record {
+      v = k.v;
+      copies = fewer (λ (x : Wire). x.number) (begun w.core.events) (begun first)
+          (CopyOk s.base (logged first) (open_op first) (done first) (given first) (map site_noted notes) w.dcs k.v) w.copies
+          (λ i x at old. older x.number (all_at (IsWrittenFor first) w.copies i x at written.copies).number old) k.copies;
+      replies = fewer (λ (x : Reply). x.number) (begun w.core.events) (begun first)
+          (ReplyOk (logged first) (map site_noted notes) w.dcs k.v) w.replies
+          (λ i x at old. older x.number (all_at (λ (y : Reply). y.number ≤ given first) w.replies i x at written.replies) old) k.replies;
+      news = k.news;
+      stores = k.stores;
+      said = k.said;
+      there = k.there;
+    }
+
+    noted_since : (d : ℕ) → IsNotedOf (low_water first) d w.dcs w.copies (site_at w.core.sites d) (site_at (map site_noted notes) d)
+        → IsNotedOf (low_water first) d w.dcs (wires_since w) (site_at w.core.sites d) (site_at (map site_noted notes) d)
+    noted_since d is = record {
+      same = is.same;
+      up = is.up;
+      down = is.down;
+      ordinary = all_above (λ (y : Wire). y.number) (begun w.core.events)
+          (λ (x : Wire). dc_of x.op ≡ d → x.incarnation ≡ (site_at w.core.sites d).incarnation → x.redo ≡ false → (site_at w.core.sites d).redo ≡ None
+          → (site_at (map site_noted notes) d).redo ≡ None) w.copies is.ordinary;
+    }
+
     -- each mark is at or under that of what was written, so that this has the Checkpoint, if there is one
     behind : EachBeginsBehind (begun first) w.dcs
     behind d x at =

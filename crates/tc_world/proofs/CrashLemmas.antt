@@ -9,7 +9,6 @@ use Rattle.access_slots.specs.declared.op.Wire.{Wire}
 use Rattle.access_slots.specs.declared.op.Reply.{Reply}
 use Rattle.access_slots.specs.declared.op.News.{News}
 use Rattle.tc_log.specs.declared.event.Event.{Event}
-use Rattle.tc_log.specs.declared.event.Event.TheVariants as event
 use Rattle.verifier.specs.Checked.{Checked}
 use Rattle.history.specs.Calls.{admitted}
 use Rattle.history.specs.Flight.{given, low_water}

@@ -1,12 +1,10 @@
 -- Each step but a forged reply keeps the lists beside the log, and then calls run one after another.
-use Rattle.std.proofs.Common.{◌≡◌, ◌≢◌, ◌⊎◌, ℕ, ◌+◌, ◌<◌, ◌≤◌, Bool, true, false, List, [], ◌∷◌, length, Option, Some, None, arith, refl, sym, ◌∙◌, ap, subst}
+use Rattle.std.proofs.Common.{◌≡◌, ◌≢◌, ◌⊎◌, ℕ, ◌+◌, ◌<◌, ◌≤◌, Bool, true, false, List, [], ◌∷◌, ◌++◌, length, Option, Some, None, arith, refl, sym, ◌∙◌, ap, subst}
 use Rattle.std.proofs.Common.{inl, inr, ◌==◌, ◌&&◌, if◌then◌else◌}
 use Rattle.std.specs.Prelude.{slice_get, slice_set, slice_index_or, nat_lt, nat_le, ◌^◌, Result, Ok, Err}
 use Rattle.std.proofs.lemmas.Bool.Decides.{nat_tests}
-use Rattle.std.specs.List.{All}
 use Rattle.std.proofs.lemmas.Bool.{cases_lt}
 use Rattle.access_slots.specs.Access.{fits}
-use Rattle.access_slots.specs.declared.slot.Record.{Record}
 use Rattle.access_slots.specs.declared.op.Op.{Op}
 use Rattle.access_slots.specs.declared.op.Op.TheVariants.{Read, Insert, Update, Delete}
 use Rattle.access_slots.specs.declared.op.Said.{Said}
@@ -45,8 +43,9 @@ use Rattle.tc_core.specs.declared.state.Asked.TheVariants as reply
 use Rattle.tc_core.specs.Recovery.{first_events}
 use Rattle.tc_world.specs.Recovery.{notes_of}
 use Rattle.tc_world.proofs.ComingBack.{all_at, come_back_listed}
+use Rattle.tc_world.proofs.JustBegun.{own_rows}
+use Rattle.tc_world.proofs.CutListed.{cuts_listed}
 use Rattle.tc_world.specs.Whole.{Whole}
-use Rattle.tc_world.specs.Marks.{HasJustBegun, AtFirst, AtCheckpoint, IsFresh}
 use Rattle.tc_world.specs.Steps.{Goes, Stops, Steps, with_core, with_dcs, with_copy, with_reply, told, sends_or_holds, ends_by, resends_wire, resends_sent}
 use Rattle.tc_world.specs.Steps.{resends_by, gets_reply, performs_at, performs_copy, takes_answer, TakesBy, TakesReply}
 use Rattle.tc_world.specs.Steps.{restarts_as, restarts_at, checkpoints_at, tells_unless, tells_news, redoes_by, with_news}
@@ -55,27 +54,29 @@ use Rattle.tc_world.specs.declared.step.Step.TheVariants as step
 use Rattle.tc_world.specs.declared.step.Outcome.{Outcome}
 use Rattle.tc_world.specs.declared.step.Illegal.{Illegal}
 use Rattle.tc_world.specs.OneAtATime.{is_forge, NoForge, IsKnown, EachIsKnown, IsOneAtATime}
-use Rattle.tc_world.specs.Joining.Listed.{IsListed}
+use Rattle.tc_world.specs.Joining.Listed.{IsListed, wires_since, replies_since}
 use Rattle.serial.specs.Values.{Table}
 use Rattle.serial.specs.Serial.{done, now_from, HonestTo, HonestFrom}
 use Rattle.serial.specs.Lists.{logged, dc_of}
-use Rattle.serial.specs.Audit.{IsAgreed, base_in, base_of}
+use Rattle.serial.specs.Audit.{IsAgreed, base_of}
 use Rattle.history.specs.Anew.{begun}
 use Rattle.data_component.specs.Sorted.{row_of}
+use Rattle.tc_world.proofs.Passing.{pushed, above_in, above_more, above_same, past_performed, set_back}
+use Rattle.serial.proofs.BackLemmas.{logged_above}
 use Rattle.tc_world.proofs.Bases.{based_set, behind_set, performed_base, performed_behind, checkpointed_behind, restarted_behind, honest_same, beside_same}
 use Rattle.serial.specs.Joining.Beside.{Beside}
-use Rattle.serial.specs.Joining.Behind.{Behind, StandsTo, IsEnd, IsNext}
+use Rattle.serial.specs.Joining.Behind.{Behind, StandsTo, IsNext}
 use Rattle.serial.specs.Joining.Site.{SiteOk}
 use Rattle.serial.specs.Joining.Sites.{CopyOk, ReplyOk, NewsOk, AreOk}
 use Rattle.serial.proofs.LockLemmas.{both_left, both_right}
 use Rattle.serial.proofs.KeepLemmas.{ends_as_serial_from}
-use Rattle.serial.proofs.ListLemmas.{beside_none, if_some, over_same}
+use Rattle.serial.proofs.ListLemmas.{if_some, over_same}
 use Rattle.serial.proofs.NumberLemmas.{logged_below, flight_logged, done_answer, done_logged, flights, flight_absent}
 use Rattle.serial.proofs.StoreLemmas.{reply_case, ReplyCase, is_old, listed}
 use Rattle.serial.proofs.OrderLemmas.{list_serial, in_step}
 use Rattle.serial.proofs.AgreedLemmas.{agreed}
 use Rattle.serial.proofs.AnsweredLemmas.{IsSo, answered_so}
-use Rattle.serial.proofs.RedoLemmas.{LogFacts, beside_behind}
+use Rattle.serial.proofs.RedoLemmas.{LogFacts}
 use Rattle.serial.proofs.LogLemmas.{log_facts}
 use Rattle.serial.proofs.SiteLemmas.{behind_end, stands_less, site_checkpoint, site_restart, site_redone, site_up}
 use Rattle.serial.proofs.SitesLemmas.{set_same, ok_sent, ok_copy, ok_reply, ok_news, ok_stored, ok_resited, ok_told, ok_answered}
@@ -108,7 +109,7 @@ known_behind o p w v known goes = subst (λ (x : Whole). Known x.core) (sym (wen
 -- ---- what happens to a world
 
 abbrev Lists : Table → Whole → Core → Type 0
-Lists base w c = AreOk base (logged c.events) (open_op c.events) (done c.events) (given c.events) c.sites w.dcs w.copies w.replies w.news
+Lists base w c = AreOk base (logged c.events) (open_op c.events) (done c.events) (given c.events) c.sites w.dcs (wires_since w) (replies_since w) w.news
 
 -- a new number is given out
 asked : (ps : List Checked) (base : Table) (w : Whole) (e : Event) (t n : ℕ) (o : Op) → Legal ps w.core.events → n ≡ given w.core.events + 1
@@ -119,18 +120,32 @@ asked : (ps : List Checked) (base : Table) (w : Whole) (e : Event) (t n : ℕ) (
 asked ps base w e t n o legal next lg fl dn top k =
     let h = w.core.events in
     let new : (m : ℕ) (q : Op) → logged h m ≡ Some q → n ≢ m = (λ m q is. let b = logged_below ps h legal m q is in omega (arith, next, b)) in
-    let now = ok_sent base (logged h) (open_op h) (done h) (given h) w.core.sites w.dcs w.copies w.replies w.news n (flight t o) (omega (arith, next)) new (λ m said is. done_logged ps h legal m said is) k in
-    subst (λ (g : ℕ → Option Op). AreOk base g (open_op (e ∷ h)) (done (e ∷ h)) (given (e ∷ h)) w.core.sites w.dcs w.copies w.replies w.news) (sym lg)
-    (subst (λ (g : ℕ → Option Flight). AreOk base (λ m. if n == m then Some o else logged h m) g (done (e ∷ h)) (given (e ∷ h)) w.core.sites w.dcs w.copies w.replies w.news) (sym fl)
-    (subst (λ (g : List Performed). AreOk base (λ m. if n == m then Some o else logged h m) (λ m. if n == m then Some (flight t o) else open_op h m) g (given (e ∷ h)) w.core.sites w.dcs w.copies w.replies w.news) (sym dn)
-    (subst (λ (g : ℕ). AreOk base (λ m. if n == m then Some o else logged h m) (λ m. if n == m then Some (flight t o) else open_op h m) (done h) g w.core.sites w.dcs w.copies w.replies w.news) (sym top) now)))
+    let now = ok_sent base (logged h) (open_op h) (done h) (given h) w.core.sites w.dcs (wires_since w) (replies_since w) w.news n (flight t o) (omega (arith, next)) new (λ m said is. done_logged ps h legal m said is) k in
+    subst (λ (g : ℕ → Option Op). AreOk base g (open_op (e ∷ h)) (done (e ∷ h)) (given (e ∷ h)) w.core.sites w.dcs (wires_since w) (replies_since w) w.news) (sym lg)
+    (subst (λ (g : ℕ → Option Flight). AreOk base (λ m. if n == m then Some o else logged h m) g (done (e ∷ h)) (given (e ∷ h)) w.core.sites w.dcs (wires_since w) (replies_since w) w.news) (sym fl)
+    (subst (λ (g : List Performed). AreOk base (λ m. if n == m then Some o else logged h m) (λ m. if n == m then Some (flight t o) else open_op h m) g (given (e ∷ h)) w.core.sites w.dcs (wires_since w) (replies_since w) w.news) (sym dn)
+    (subst (λ (g : ℕ). AreOk base (λ m. if n == m then Some o else logged h m) (λ m. if n == m then Some (flight t o) else open_op h m) (done h) g w.core.sites w.dcs (wires_since w) (replies_since w) w.news) (sym top) now)))
 
 abbrev pub IsCopy : Table → Whole → (ℕ → List Performed) → Wire → Type 0
 IsCopy base w v x = CopyOk base (logged w.core.events) (open_op w.core.events) (done w.core.events) (given w.core.events) w.core.sites w.dcs v x
 
-copied : (w : Whole) (x : Wire) → (s : IsListed w) → IsCopy s.base w s.ok.v x → IsListed (with_copy w x)
-copied w x s y =
-    record { honest = s.honest; base = s.base; based = s.based; behind = s.behind; ok = ok_copy s.base (logged w.core.events) (open_op w.core.events) (done w.core.events) (given w.core.events) w.core.sites w.dcs w.copies w.replies w.news x s.ok y }
+copied : (w : Whole) (x : Wire) → Legal w.core.procs w.core.events → (s : IsListed w) → IsCopy s.base w s.ok.v x → IsListed (with_copy w x)
+copied w x legal s y =
+    record {
+      honest = s.honest;
+      base = s.base;
+      based = s.based;
+      behind = s.behind;
+      past = pushed (λ (z : Wire). z.number ≤ begun w.core.events → z.low_water ≤ begun w.core.events) w.copies x s.past (λ old. absurd (omega (arith, up, old)));
+      ok = subst (λ (xs : List Wire). AreOk s.base (logged w.core.events) (open_op w.core.events) (done w.core.events) (given w.core.events) w.core.sites w.dcs xs (replies_since w) w.news) (sym more)
+          (ok_copy s.base (logged w.core.events) (open_op w.core.events) (done w.core.events) (given w.core.events) w.core.sites w.dcs (wires_since w) (replies_since w) w.news x s.ok y);
+    }
+  where
+    up : begun w.core.events < x.number
+    up = logged_above w.core.procs w.core.events legal x.number x.op y.logs
+
+    more : wires_since (with_copy w x) ≡ wires_since w ++ x ∷ []
+    more = above_more (λ (z : Wire). z.number) (begun w.core.events) w.copies x up
 
 -- the wire of an open number
 wire_ok : (base : Table) (w : Whole) (v : ℕ → List Performed) (r : Asking) (f : Flight) (redo : Option Redoing) (x : Wire) → Legal w.core.procs w.core.events → logged w.core.events r.number ≡ Some r.op → open_op w.core.events r.number ≡ Some f
@@ -144,7 +159,7 @@ wire_ok base w v r f None x legal logs flies up is =
 sent_listed : (w v : Whole) (r : Asking) (f : Flight) (x : Result Wire Down) (o : Outcome) → Known v.core → x ≡ wire_of w.core r → logged w.core.events r.number ≡ Some r.op → open_op w.core.events r.number ≡ Some f → IsListed w → sends_or_holds w r x ≡ Goes o v → IsListed v
 sent_listed w v r f (Ok x) o known is logs flies s goes =
     let was = known_behind _ o (with_copy w x) v known goes in
-    behind _ o (with_copy w x) v (copied w x s (wire_ok s.base w s.ok.v r f (site_of w.core.sites r.op).redo x was.legal logs flies refl is)) goes
+    behind _ o (with_copy w x) v (copied w x was.legal s (wire_ok s.base w s.ok.v r f (site_of w.core.sites r.op).redo x was.legal logs flies refl is)) goes
 sent_listed w v r f (Err down) o known is logs flies s goes = behind _ o w v s goes
 
 asks_listed : (w v : Whole) (t : ℕ) (a : Asked) (o : Outcome) → Known v.core → IsListed w → told w t (after_ask w.core a) a ≡ Goes o v → IsListed v
@@ -154,7 +169,7 @@ asks_listed w v t (reply.Request r) o known s goes = by (wire_of c r) refl goes
     c = with_event w.core (event.Ask r.txn r.number r.op)
 
     mid : Known c → IsListed (with_core w c)
-    mid now_known = record { honest = (tt, s.honest); base = s.base; based = s.based; behind = s.behind; ok = asked w.core.procs s.base w (event.Ask r.txn r.number r.op) r.txn r.number r.op now_known.legal.1 now_known.legal.0.next refl refl refl (sym now_known.legal.0.next) s.ok }
+    mid now_known = record { honest = (tt, s.honest); base = s.base; based = s.based; behind = s.behind; past = s.past; ok = asked w.core.procs s.base w (event.Ask r.txn r.number r.op) r.txn r.number r.op now_known.legal.1 now_known.legal.0.next refl refl refl (sym now_known.legal.0.next) s.ok }
 
     logs : logged c.events r.number ≡ Some r.op
     logs = if_some r.number r.number (Some r.op) (logged w.core.events r.number) refl
@@ -179,7 +194,7 @@ undoes_listed w v t (reply.Request r) o known s goes = by (wire_of c r) refl goe
     c = with_event w.core (event.Undo r.txn r.number r.op)
 
     mid : Known c → IsListed (with_core w c)
-    mid now_known = record { honest = (tt, s.honest); base = s.base; based = s.based; behind = s.behind; ok = asked w.core.procs s.base w (event.Undo r.txn r.number r.op) r.txn r.number r.op now_known.legal.1 now_known.legal.0.next refl refl refl (sym now_known.legal.0.next) s.ok }
+    mid now_known = record { honest = (tt, s.honest); base = s.base; based = s.based; behind = s.behind; past = s.past; ok = asked w.core.procs s.base w (event.Undo r.txn r.number r.op) r.txn r.number r.op now_known.legal.1 now_known.legal.0.next refl refl refl (sym now_known.legal.0.next) s.ok }
 
     logs : logged c.events r.number ≡ Some r.op
     logs = if_some r.number r.number (Some r.op) (logged w.core.events r.number) refl
@@ -200,7 +215,7 @@ undoes_listed w v t reply.Unknown o known s goes = absurd (stopped _ o v goes)
 ends_listed : (w v : Whole) (t : ℕ) (s : Option Standing) (e : Option Ending) (o : Outcome) → IsListed w → ends_by w t s e ≡ Goes o v → IsListed v
 ends_listed w v t None e o kept goes = absurd (stopped _ o v goes)
 ends_listed w v t (Some s) None o kept goes = absurd (stopped _ o v goes)
-ends_listed w v t (Some s) (Some e) o kept goes = behind _ o (with_core w (with_event w.core (event.End t e))) v (record { honest = (tt, kept.honest); base = kept.base; based = kept.based; behind = kept.behind; ok = kept.ok }) goes
+ends_listed w v t (Some s) (Some e) o kept goes = behind _ o (with_core w (with_event w.core (event.End t e))) v (record { honest = (tt, kept.honest); base = kept.base; based = kept.based; behind = kept.behind; past = kept.past; ok = kept.ok }) goes
 
 resends_listed : (w v : Whole) (t : ℕ) (s : Option Standing) (o : Outcome) → Known v.core → standing w.core.events t ≡ s → IsListed w → resends_by w t s ≡ Goes o v → IsListed v
 resends_listed w v t None o known is kept goes = absurd (stopped _ o v goes)
@@ -211,7 +226,7 @@ resends_listed w v t (Some s) o known is kept goes = by s.sent refl goes
         let was = known_behind _ o (with_copy w x) v known goes' in
         let flies = (standing_flight w.core.procs w.core.events was.legal t s r is waits).1 in
         let a : Asking = record { txn = t; number = r.number; op = r.op } in
-        behind _ o (with_copy w x) v (copied w x kept (wire_ok kept.base w kept.ok.v a (flight t r.op) (site_of w.core.sites r.op).redo x was.legal (flight_logged w.core.events r.number (flight t r.op) flies) flies refl wire)) goes'
+        behind _ o (with_copy w x) v (copied w x was.legal kept (wire_ok kept.base w kept.ok.v a (flight t r.op) (site_of w.core.sites r.op).redo x was.legal (flight_logged w.core.events r.number (flight t r.op) flies) flies refl wire)) goes'
     wires r waits (Err down) wire goes' = absurd (stopped _ o v goes')
 
     by : (r : Option Sent) → s.sent ≡ r → resends_sent w t r ≡ Goes o v → IsListed v
@@ -227,14 +242,45 @@ gets_known : (w v : Whole) (x : Option Reply) (o : Outcome) → Known v.core →
 gets_known w v None o known goes = known_behind _ o w v known goes
 gets_known w v (Some x) o known goes = known_behind _ o (with_reply w x) v known goes
 
-gets_listed : (w v : Whole) (x : Option Reply) (o : Outcome) → (s : IsListed w) → ((y : Reply) → x ≡ Some y → ReplyOk (logged w.core.events) w.core.sites w.dcs s.ok.v y) → gets_reply w x ≡ Goes o v → IsListed v
-gets_listed w v None o s said goes = behind _ o w v s goes
-gets_listed w v (Some x) o s said goes =
-    behind _ o (with_reply w x) v (record { honest = s.honest; base = s.base; based = s.based; behind = s.behind; ok = ok_reply s.base (logged w.core.events) (open_op w.core.events) (done w.core.events) (given w.core.events) w.core.sites w.dcs w.copies w.replies w.news x s.ok (said x refl) }) goes
+replied_listed : (w : Whole) (x : Reply) → Legal w.core.procs w.core.events → (s : IsListed w) → ReplyOk (logged w.core.events) w.core.sites w.dcs s.ok.v x → IsListed (with_reply w x)
+replied_listed w x legal s y =
+    record {
+      honest = s.honest;
+      base = s.base;
+      based = s.based;
+      behind = s.behind;
+      past = s.past;
+      ok = subst (λ (xs : List Reply). AreOk s.base (logged w.core.events) (open_op w.core.events) (done w.core.events) (given w.core.events) w.core.sites w.dcs (wires_since w) xs w.news) (sym more)
+          (ok_reply s.base (logged w.core.events) (open_op w.core.events) (done w.core.events) (given w.core.events) w.core.sites w.dcs (wires_since w) (replies_since w) w.news x s.ok y);
+    }
+  where
+    more : replies_since (with_reply w x) ≡ replies_since w ++ x ∷ []
+    more = above_more (λ (z : Reply). z.number) (begun w.core.events) w.replies x (logged_above w.core.procs w.core.events legal x.number y.o y.logs)
+
+-- one to a number from before the log began
+old_reply : (w : Whole) (x : Reply) → x.number ≤ begun w.core.events → IsListed w → IsListed (with_reply w x)
+old_reply w x old s =
+    record {
+      honest = s.honest;
+      base = s.base;
+      based = s.based;
+      behind = s.behind;
+      past = s.past;
+      ok = subst (λ (xs : List Reply). AreOk s.base (logged w.core.events) (open_op w.core.events) (done w.core.events) (given w.core.events) w.core.sites w.dcs (wires_since w) xs w.news)
+          (sym (above_same (λ (z : Reply). z.number) (begun w.core.events) w.replies x old)) s.ok;
+    }
+
+gets_listed : (w v : Whole) (x : Option Reply) (o : Outcome) → Known w.core → (s : IsListed w) → ((y : Reply) → x ≡ Some y → ReplyOk (logged w.core.events) w.core.sites w.dcs s.ok.v y) → gets_reply w x ≡ Goes o v → IsListed v
+gets_listed w v None o known s said goes = behind _ o w v s goes
+gets_listed w v (Some x) o known s said goes = behind _ o (with_reply w x) v (replied_listed w x known.legal s (said x refl)) goes
+
+gets_old : (w v : Whole) (x : Option Reply) (o : Outcome) → ((y : Reply) → x ≡ Some y → y.number ≤ begun w.core.events) → IsListed w → gets_reply w x ≡ Goes o v → IsListed v
+gets_old w v None o old s goes = behind _ o w v s goes
+gets_old w v (Some x) o old s goes = behind _ o (with_reply w x) v (old_reply w x (old x refl) s) goes
 
 performs_at_listed : (w v : Whole) (x : Wire) (d : Option Store) (o : Outcome) → Known v.core → slice_get w.dcs (dc_of x.op) ≡ d → (s : IsListed w) → IsCopy s.base w s.ok.v x → performs_at w x d ≡ Goes o v → IsListed v
 performs_at_listed w v x None o known at s y goes = absurd (stopped _ o v goes)
-performs_at_listed w v x (Some d) o known at s y goes = gets_listed (with_store w x d) v (replied d x) o (record { honest = s.honest; base = s.base; based = based_set s.base w.dcs (dc_of x.op) d (performed d x) at (performed_base d x) s.based; behind = behind_set (begun w.core.events) w.dcs (dc_of x.op) d (performed d x) at (performed_behind (begun w.core.events) d x) s.behind; ok = both.0 }) said goes
+performs_at_listed w v x (Some d) o known at s y goes = gets_listed (with_store w x d) v (replied d x) o was (record { honest = s.honest; base = s.base; based = based_set s.base w.dcs (dc_of x.op) d (performed d x) at (performed_base d x) s.based; behind = behind_set (begun w.core.events) w.dcs (dc_of x.op) d (performed d x) at (performed_behind (begun w.core.events) d x) s.behind; past = s.past; ok = both.0 }) said goes
   where
     was : Known w.core
     was = gets_known (with_store w x d) v (replied d x) o known goes
@@ -248,8 +294,8 @@ performs_at_listed w v x (Some d) o known at s y goes = gets_listed (with_store 
     becomes : Becomes s.base (logged w.core.events) (open_op w.core.events) (done w.core.events) (given w.core.events) (dc_of x.op) d (performed d x) (site_at w.core.sites (dc_of x.op)) (s.ok.v (dc_of x.op))
     becomes = performs_ok s.base (logged w.core.events) (open_op w.core.events) (done w.core.events) (given w.core.events) d (site_at w.core.sites j) (s.ok.v j) x facts (λ m g is. flight_logged w.core.events m g is) y.logs y.known (y.ahead d at) y.over y.now (s.ok.stores j d at)
 
-    both : (l : AreOk s.base (logged w.core.events) (open_op w.core.events) (done w.core.events) (given w.core.events) w.core.sites (slice_set w.dcs (dc_of x.op) (performed d x)) w.copies w.replies w.news) × (l.v ≡ (λ i. if dc_of x.op == i then becomes.u else s.ok.v i))
-    both = ok_stored s.base (logged w.core.events) (open_op w.core.events) (done w.core.events) (given w.core.events) w.core.sites w.dcs w.copies w.replies w.news j d (performed d x) becomes.u at s.ok
+    both : (l : AreOk s.base (logged w.core.events) (open_op w.core.events) (done w.core.events) (given w.core.events) w.core.sites (slice_set w.dcs (dc_of x.op) (performed d x)) (wires_since w) (replies_since w) w.news) × (l.v ≡ (λ i. if dc_of x.op == i then becomes.u else s.ok.v i))
+    both = ok_stored s.base (logged w.core.events) (open_op w.core.events) (done w.core.events) (given w.core.events) w.core.sites w.dcs (wires_since w) (replies_since w) w.news j d (performed d x) becomes.u at s.ok
         (let same = becomes.incarnation in omega (arith, same)) becomes.grows (λ less p to. subst (StandsTo (logged w.core.events) (done w.core.events) j p) (sym (becomes.lists less)) to) becomes.ok
 
     said : (z : Reply) → replied d x ≡ Some z → ReplyOk (logged w.core.events) w.core.sites (slice_set w.dcs (dc_of x.op) (performed d x)) both.0.v z
@@ -271,9 +317,23 @@ performs_at_listed w v x (Some d) o known at s y goes = gets_listed (with_store 
             let ghost_is : both.0.v j ≡ becomes.u = ap (λ (g : ℕ → List Performed). g j) both.1 ∙ if_some j j becomes.u (s.ok.v j) refl in
             inr (ap (λ (l : List Performed). said_under l z.number) (ghost_is ∙ sym list) ∙ under)
 
+-- one of a number from before the log began changes nothing
+performs_old : (w v : Whole) (x : Wire) (d : Option Store) (o : Outcome) → slice_get w.dcs (dc_of x.op) ≡ d → x.number ≤ begun w.core.events → x.low_water ≤ begun w.core.events → IsListed w → performs_at w x d ≡ Goes o v → IsListed v
+performs_old w v x None o at old low s goes = absurd (stopped _ o v goes)
+performs_old w v x (Some d) o at old low s goes =
+    let same : performed d x ≡ d = past_performed (begun w.core.events) d x (s.behind (dc_of x.op) d at) old low in
+    let stays : slice_set w.dcs (dc_of x.op) (performed d x) ≡ w.dcs = ap (slice_set w.dcs (dc_of x.op)) same ∙ set_back w.dcs (dc_of x.op) d at in
+    gets_old w v (replied d x) o (λ y is. (let number = (reply_facts d x y is).number in omega (arith, number, old))) s
+    (subst (λ (xs : List Store). gets_reply (with_dcs w xs) (replied d x) ≡ Goes o v) stays goes)
+
 performs_copy_listed : (w v : Whole) (i : ℕ) (x : Option Wire) (o : Outcome) → Known v.core → slice_get w.copies i ≡ x → IsListed w → performs_copy w x ≡ Goes o v → IsListed v
 performs_copy_listed w v i None o known at s goes = absurd (stopped _ o v goes)
-performs_copy_listed w v i (Some x) o known at s goes = performs_at_listed w v x (slice_get w.dcs (dc_of x.op)) o known refl s (all_at (IsCopy s.base w s.ok.v) w.copies i x at s.ok.copies) goes
+performs_copy_listed w v i (Some x) o known at s goes = elim (cases_lt (begun w.core.events) x.number) [
+  | inl up ↦
+      let here = above_in (λ (z : Wire). z.number) (begun w.core.events) w.copies i x at up in
+      performs_at_listed w v x (slice_get w.dcs (dc_of x.op)) o known refl s (all_at (IsCopy s.base w s.ok.v) (wires_since w) here.0 x here.1 s.ok.copies) goes
+  | inr old ↦ performs_old w v x (slice_get w.dcs (dc_of x.op)) o refl old (s.past i x at old) s goes
+]
 
 -- ---- a reply is taken
 
@@ -310,8 +370,9 @@ took w f x known flies heard fit s y =
       base = s.base;
       based = s.based;
       behind = s.behind;
-      ok = subst (λ (z : List Performed). AreOk s.base (logged h) (λ m. if x.number == m then None else open_op h m) z (given h) w.core.sites w.dcs w.copies w.replies w.news) (sym becomes)
-          (ok_answered s.base (logged h) (open_op h) (done h) (given h) w.core.sites w.dcs w.copies w.replies w.news x.number f x.said y.s flies logs fit (flights w.core.procs h known.good legal x.number f flies) (flight_absent w.core.procs h legal x.number f flies) at up s.ok there);
+      past = s.past;
+      ok = subst (λ (z : List Performed). AreOk s.base (logged h) (λ m. if x.number == m then None else open_op h m) z (given h) w.core.sites w.dcs (wires_since w) (replies_since w) w.news) (sym becomes)
+          (ok_answered s.base (logged h) (open_op h) (done h) (given h) w.core.sites w.dcs (wires_since w) (replies_since w) w.news x.number f x.said y.s flies logs fit (flights w.core.procs h known.good legal x.number f flies) (flight_absent w.core.procs h legal x.number f flies) at up s.ok there);
     }
 
 takes_answer_listed : (w v : Whole) (f : Flight) (x : Reply) (b : Bool) (o : Outcome) → Known v.core → open_op w.core.events x.number ≡ Some f → (is_heard (site_of w.core.sites f.op) x && fits f.op x.said) ≡ b
@@ -328,7 +389,7 @@ not_old said did old = (let bad : true ≡ false = sym did ∙ ap is_done old in
 redone_listed : (w : Whole) (x : Reply) (d : ℕ) → Known w.core → (is : IsRedone w.core d x) → (s : IsListed w) → ReplyOk (logged w.core.events) w.core.sites w.dcs s.ok.v x → IsListed (with_core w (after_redone w.core d x.number))
 redone_listed w x d known is s y =
     subst (λ (z : Option Site). IsListed (with_core w (redone_at w.core d x.number z))) (sym is.there)
-    (subst (λ (z : Option Redoing). IsListed (with_core w (with_site w.core d (record is.site { redo = redone_to x.number z })))) (sym is.down) (record { honest = s.honest; base = s.base; based = s.based; behind = s.behind; ok = now_ok }))
+    (subst (λ (z : Option Redoing). IsListed (with_core w (with_site w.core d (record is.site { redo = redone_to x.number z })))) (sym is.down) (record { honest = s.honest; base = s.base; based = s.based; behind = s.behind; past = s.past; ok = now_ok }))
   where
     h : List Event
     h = w.core.events
@@ -390,10 +451,23 @@ redone_listed w x d known is s y =
           | inr not_below ↦ omega (arith, not_below)
         ]
 
-    now_ok : AreOk s.base (logged w.core.events) (open_op w.core.events) (done w.core.events) (given w.core.events) (slice_set w.core.sites d (record is.site { redo = Some (record is.r { redone = x.number }) })) w.dcs w.copies w.replies w.news
-    now_ok = ok_resited s.base (logged h) (open_op h) (done h) (given h) w.core.sites w.dcs w.copies w.replies w.news d is.site t' is.there refl (λ up. absurd (none_some _ is.r up is.down)) s.ok
+    now_ok : AreOk s.base (logged w.core.events) (open_op w.core.events) (done w.core.events) (given w.core.events) (slice_set w.core.sites d (record is.site { redo = Some (record is.r { redone = x.number }) })) w.dcs (wires_since w) (replies_since w) w.news
+    now_ok = ok_resited s.base (logged h) (open_op h) (done h) (given h) w.core.sites w.dcs (wires_since w) (replies_since w) w.news d is.site t' is.there refl (λ up. absurd (none_some _ is.r up is.down)) s.ok
         (λ r down. (y.s, subst (λ (i : ℕ). slice_get w.dcs i ≡ Some y.s) here y.at))
         (λ z ok. site_redone s.base (logged h) (open_op h) (done h) (given h) d z is.site (s.ok.v d) is.r x.number is.a.op is.a.said is.down next rises there ok)
+
+redone_above : (w : Whole) (x : Reply) (d : ℕ) → Known w.core → IsRedone w.core d x → begun w.core.events < x.number
+redone_above w x d known is =
+    let h = w.core.events in
+    let site : site_at w.core.sites d ≡ is.site = ap site_by is.there in
+    let under : under_redo h w.core.sites d ≡ Some is.a = ap (λ (z : Site). to_redo_by h d z.redo) site ∙ (ap (to_redo_by h d) is.down ∙ is.next) in
+    let so = answered_so w.core.procs h known.legal is.a.number is.a (redo_is w.core.procs h known.legal w.core.sites d is.a under).answered_so in
+    logged_above w.core.procs h known.legal x.number is.a.op (ap (logged h) is.same_number ∙ so.0)
+
+heard : (w : Whole) (i : ℕ) (x : Reply) → slice_get w.replies i ≡ Some x → (s : IsListed w) → begun w.core.events < x.number → ReplyOk (logged w.core.events) w.core.sites w.dcs s.ok.v x
+heard w i x at s up =
+    let here = above_in (λ (z : Reply). z.number) (begun w.core.events) w.replies i x at up in
+    all_at (ReplyOk (logged w.core.events) w.core.sites w.dcs s.ok.v) (replies_since w) here.0 x here.1 s.ok.replies
 
 takes_listed : (w v : Whole) (i : ℕ) (x : Option Reply) (o : Outcome) → Known v.core → slice_get w.replies i ≡ x → IsListed w → TakesReply w x o v → IsListed v
 takes_listed w v i None o known at s takes = absurd takes
@@ -402,12 +476,19 @@ takes_listed w v i (Some x) o known at s takes = by (open_op w.core.events x.num
     by : (f : Option Flight) → open_op w.core.events x.number ≡ f → TakesBy w x f o v → IsListed v
     by None flies takes' =
         let was : Known w.core = known_redone w x.number takes'.dc (slice_get w.core.sites takes'.dc) (subst (λ (z : Whole). Known z.core) takes'.next known) in
-        subst IsListed (sym takes'.next) (redone_listed w x takes'.dc was takes'.is s (all_at (λ (z : Reply). ReplyOk (logged w.core.events) w.core.sites w.dcs s.ok.v z) w.replies i x at s.ok.replies))
+        subst IsListed (sym takes'.next) (redone_listed w x takes'.dc was takes'.is s (heard w i x at s (redone_above w x takes'.dc was takes'.is)))
       where
         known_redone : (w : Whole) (n d : ℕ) (z : Option Site) → Known (redone_at w.core d n z) → Known w.core
         known_redone w n d None k = k
         known_redone w n d (Some z) k = record { legal = k.legal; good = k.good }
-    by (Some f) flies takes' = takes_answer_listed w v f x (is_heard (site_of w.core.sites f.op) x && fits f.op x.said) o known flies refl s (all_at (λ (z : Reply). ReplyOk (logged w.core.events) w.core.sites w.dcs s.ok.v z) w.replies i x at s.ok.replies) takes'
+    by (Some f) flies takes' = answers (is_heard (site_of w.core.sites f.op) x && fits f.op x.said) refl takes'
+      where
+        answers : (b : Bool) → (is_heard (site_of w.core.sites f.op) x && fits f.op x.said) ≡ b → takes_answer w f x b ≡ Goes o v → IsListed v
+        answers false fit goes = absurd (stopped _ o v goes)
+        answers true fit goes =
+            let now : Known (with_event w.core (event.Answer f.txn x.number x.said)) = known_behind _ o (with_core w (with_event w.core (event.Answer f.txn x.number x.said))) v known goes in
+            let up = logged_above w.core.procs w.core.events now.legal.1 x.number f.op (flight_logged w.core.events x.number f flies) in
+            takes_answer_listed w v f x true o known flies fit s (heard w i x at s up) goes
 
 -- ---- restarts
 
@@ -419,8 +500,8 @@ checkpoints_listed w v d None o at s goes = absurd (stopped _ o v goes)
 checkpoints_listed w v d (Some x) o at s goes =
     let h = w.core.events in
     let site = site_checkpoint s.base (logged h) (open_op h) (done h) (given h) d x (site_at w.core.sites d) (s.ok.v d) (s.ok.stores d x at) in
-    let both = ok_stored s.base (logged h) (open_op h) (done h) (given h) w.core.sites w.dcs w.copies w.replies w.news d x (checkpointed x) (s.ok.v d) at s.ok (omega arith) (same_ghost w s d) (λ less p to. to) site in
-    behind _ o (with_dcs w (slice_set w.dcs d (checkpointed x))) v (record { honest = s.honest; base = s.base; based = based_set s.base w.dcs d x (checkpointed x) at refl s.based; behind = behind_set (begun h) w.dcs d x (checkpointed x) at (checkpointed_behind (begun h) x) s.behind; ok = both.0 }) goes
+    let both = ok_stored s.base (logged h) (open_op h) (done h) (given h) w.core.sites w.dcs (wires_since w) (replies_since w) w.news d x (checkpointed x) (s.ok.v d) at s.ok (omega arith) (same_ghost w s d) (λ less p to. to) site in
+    behind _ o (with_dcs w (slice_set w.dcs d (checkpointed x))) v (record { honest = s.honest; base = s.base; based = based_set s.base w.dcs d x (checkpointed x) at refl s.based; behind = behind_set (begun h) w.dcs d x (checkpointed x) at (checkpointed_behind (begun h) x) s.behind; past = s.past; ok = both.0 }) goes
 
 restarts_listed : (w v : Whole) (d : ℕ) (x : Option Store) (o : Outcome) → slice_get w.dcs d ≡ x → IsListed w → restarts_at w d x ≡ Goes o v → IsListed v
 restarts_listed w v d None o at s goes = absurd (stopped _ o v goes)
@@ -432,8 +513,8 @@ restarts_listed w v d (Some x) o at s goes = by (nat_le (2 ^ 62) x.incarnation) 
     was : SiteOk s.base (logged w.core.events) (open_op w.core.events) (done w.core.events) (given w.core.events) d x (site_at w.core.sites d) (s.ok.v d)
     was = s.ok.stores d x at
 
-    both : (l : AreOk s.base (logged w.core.events) (open_op w.core.events) (done w.core.events) (given w.core.events) w.core.sites (slice_set w.dcs d (restarted x)) w.copies w.replies w.news) × (l.v ≡ (λ i. if d == i then s.ok.v d else s.ok.v i))
-    both = ok_stored s.base (logged h) (open_op h) (done h) (given h) w.core.sites w.dcs w.copies w.replies w.news d x (restarted x) (s.ok.v d) at s.ok (omega arith) (same_ghost w s d)
+    both : (l : AreOk s.base (logged w.core.events) (open_op w.core.events) (done w.core.events) (given w.core.events) w.core.sites (slice_set w.dcs d (restarted x)) (wires_since w) (replies_since w) w.news) × (l.v ≡ (λ i. if d == i then s.ok.v d else s.ok.v i))
+    both = ok_stored s.base (logged h) (open_op h) (done h) (given h) w.core.sites w.dcs (wires_since w) (replies_since w) w.news d x (restarted x) (s.ok.v d) at s.ok (omega arith) (same_ghost w s d)
         (λ less p to. subst (StandsTo (logged h) (done h) d p) (was.idle less) to)
         (site_restart s.base (logged h) (open_op h) (done h) (given h) d x (site_at w.core.sites d) (s.ok.v d) was)
 
@@ -447,7 +528,8 @@ restarts_listed w v d (Some x) o at s goes = by (nat_le (2 ^ 62) x.incarnation) 
           base = s.base;
           based = based_set s.base w.dcs d x (restarted x) at refl s.based;
           behind = behind_set (begun h) w.dcs d x (restarted x) at (restarted_behind (begun h) x) s.behind;
-          ok = ok_news s.base (logged h) (open_op h) (done h) (given h) w.core.sites (slice_set w.dcs d (restarted x)) w.copies w.replies w.news n both.0
+          past = s.past;
+          ok = ok_news s.base (logged h) (open_op h) (done h) (given h) w.core.sites (slice_set w.dcs d (restarted x)) (wires_since w) (replies_since w) w.news n both.0
               (record { s = restarted x; at = set_same w.dcs d x (restarted x) at; over = was.saved_over; made = omega arith; later = λ less. was.saved_to });
         }) goes'
 
@@ -472,7 +554,7 @@ told_by w v x (Some t) o at s y goes = by (nat_lt t.incarnation x.1.incarnation)
             let later : t.incarnation < x.1.incarnation = lt_true t.incarnation x.1.incarnation less in
             let known : (site_at w.core.sites x.0).incarnation ≡ t.incarnation = ap (λ (z : Option Site). (site_by z).incarnation) at in
             behind _ o (with_core w (after_told w.core x.0 x.1)) v
-            (record { honest = s.honest; base = s.base; based = s.based; behind = s.behind; ok = ok_told s.base (logged h) (open_op h) (done h) (given h) w.core.sites w.dcs w.copies w.replies w.news x.0 x.1.incarnation x.1.mark y.s t at y.at later y.made (y.later (omega (arith, known, later))) y.over s.ok }) goes'
+            (record { honest = s.honest; base = s.base; based = s.based; behind = s.behind; past = s.past; ok = ok_told s.base (logged h) (open_op h) (done h) (given h) w.core.sites w.dcs (wires_since w) (replies_since w) w.news x.0 x.1.incarnation x.1.mark y.s t at y.at later y.made (y.later (omega (arith, known, later))) y.over s.ok }) goes'
 
 tells_listed : (w v : Whole) (i : ℕ) (x : Option (ℕ × News)) (o : Outcome) → slice_get w.news i ≡ x → IsListed w → tells_news w x ≡ Goes o v → IsListed v
 tells_listed w v i None o at s goes = absurd (stopped _ o v goes)
@@ -513,7 +595,7 @@ redoes_listed w v d (Some x) o known at s goes = by x.redo refl goes
             let p = one_less a.number r.redone above in
             let before = before_next w.core.procs h was.legal d r.redone p.0 a (s.ok.v d) next p.1 redone.stands in
             let low = stands_less (logged h) (done h) d r.mark r.redone (s.ok.v d) redone.told_le redone.stands in
-            behind _ o (with_copy w y) v (copied w y s (record {
+            behind _ o (with_copy w y) v (copied w y was.legal s (record {
               logs = so.0;
               known = subst (λ (i : ℕ). x.incarnation ≤ (site_at w.core.sites i).incarnation) (sym dc) (let e = ap (λ (z : Option Site). (site_by z).incarnation) at in omega (arith, e));
               ahead = λ z is less. subst (λ (i : ℕ). x.incarnation ≡ (site_at w.core.sites i).incarnation) (sym dc) (sym (ap (λ (z : Option Site). (site_by z).incarnation) at));
@@ -534,11 +616,11 @@ redoes_listed w v d (Some x) o known at s goes = by x.redo refl goes
             let t' : Site = record x { redo = None } in
             let was : Known w.core = known_up w d (slice_get w.core.sites d) (known_behind _ o (with_core w (after_redo w.core d redo.Finished)) v known goes'') in
             let facts = log_facts w.core.procs s.base h was.good was.legal s.honest in
-            let ok = ok_resited s.base (logged h) (open_op h) (done h) (given h) w.core.sites w.dcs w.copies w.replies w.news d x t' at refl (λ up. refl) s.ok
+            let ok = ok_resited s.base (logged h) (open_op h) (done h) (given h) w.core.sites w.dcs (wires_since w) (replies_since w) w.news d x t' at refl (λ up. refl) s.ok
             (λ q e. absurd (none_some _ q refl e))
             (λ z k. site_up s.base (logged h) (open_op h) (done h) (given h) d z x (s.ok.v d) r facts is (λ n q said logs dc was' did. none_left w.core.procs h was.legal d r.redone next n q said logs dc was' did) k) in
             behind _ o (with_core w (after_redo w.core d redo.Finished)) v
-            (subst (λ (y : Option Site). IsListed (with_core w (up_again w.core d y))) (sym at) (record { honest = s.honest; base = s.base; based = s.based; behind = s.behind; ok = ok })) goes''
+            (subst (λ (y : Option Site). IsListed (with_core w (up_again w.core d y))) (sym at) (record { honest = s.honest; base = s.base; based = s.based; behind = s.behind; past = s.past; ok = ok })) goes''
           where
             known_up : (w : Whole) (d : ℕ) (z : Option Site) → Known (up_again w.core d z) → Known w.core
             known_up w d None k = k
@@ -546,7 +628,7 @@ redoes_listed w v d (Some x) o known at s goes = by x.redo refl goes
 
 -- whatever the step is, but a forged reply
 pub stay_listed : (w v : Whole) (x : Step) (o : Outcome) → Known w.core → Known v.core → is_forge x ≡ false → Steps w x o v → IsListed w → IsListed v
-stay_listed w v (step.Admit call) o was known honest goes s = subst IsListed (sym goes.next) (record { honest = (tt, s.honest); base = s.base; based = s.based; behind = s.behind; ok = s.ok })
+stay_listed w v (step.Admit call) o was known honest goes s = subst IsListed (sym goes.next) (record { honest = (tt, s.honest); base = s.base; based = s.based; behind = s.behind; past = s.past; ok = s.ok })
 stay_listed w v (step.Ask t) o was known honest goes s = asks_listed w v t (ask_reply w.core t) o known s goes
 stay_listed w v (step.Undo t) o was known honest goes s = undoes_listed w v t (undo_reply w.core t) o known s goes
 stay_listed w v (step.End t) o was known honest goes s = ends_listed w v t (standing w.core.events t) (end_of w.core t) o s goes
@@ -560,79 +642,7 @@ stay_listed w v (step.Tell i) o was known honest goes s = tells_listed w v i (sl
 stay_listed w v (step.Redo d) o was known honest goes s = redoes_listed w v d (slice_get w.core.sites d) o known refl s goes
 stay_listed w v (step.Crash n) o was known honest goes s =
     subst IsListed (sym goes.next) (come_back_listed w (first_events n w.core.events) (notes_of w) was.good was.legal goes.may.written s)
-
--- ---- a fresh world
-
-site_fresh : (base : Table) (top d : ℕ) (s : Store) (t : Site) → ((r : Record) → r.dc ≡ d → row_of s.base r ≡ base r) → s.list ≡ [] → s.saved ≡ []
-    → s.mark ≡ top → s.saved_mark ≡ top → t.redo ≡ None → SiteOk base (λ n. None) (λ n. None) [] top d s t []
-site_fresh base top d s t based list saved mark saved_mark up =
-    record {
-      based = based;
-      up = λ e. beside_none base d;
-      behind = beside_behind base (λ n. None) (λ n. None) [] d [] (beside_none base d);
-      down = λ r e. absurd (none_some _ r up e);
-      ahead = λ less. record { known = refl; now = list; kept = saved };
-      same = λ e. list;
-      idle = λ less. list ∙ sym saved;
-      cut = list;
-      saved_cut = subst (λ (l : List Performed). IsEnd l s.saved) (sym list) saved;
-      mark_to = λ n o said logs dc was did low. absurd (none_some _ o refl logs);
-      mark_over = record { given_out = omega (arith, mark); answered = λ m low. refl };
-      whole = λ never n o said logs dc was. absurd (none_some _ o refl logs);
-      saved_to = λ n o said logs dc was did low. absurd (none_some _ o refl logs);
-      saved_over = record { given_out = omega (arith, saved_mark); answered = λ m low. refl };
-    }
-
-fresh_up : (w : Whole) (d : ℕ) (t : Option Site) → IsFresh w → slice_get w.core.sites d ≡ t → (site_by t).redo ≡ None
-fresh_up w d None fresh at = refl
-fresh_up w d (Some t) fresh at = all_at (λ (s : Site). s.redo ≡ None) w.core.sites d t at fresh.up
-
--- the rows of a data component are those of its records
-own_rows : (dcs : List Store) (d : ℕ) (s : Store) (r : Record) → slice_get dcs d ≡ Some s → r.dc ≡ d → row_of s.base r ≡ base_of dcs r
-own_rows dcs d s r at here =
-    ap (λ (u : Option Store). row_of (base_in u) r) (sym (subst (λ (k : ℕ). slice_get dcs k ≡ Some s) (sym here) at))
-
--- where nothing was logged since it began
-nothing_listed : (w : Whole) (top : ℕ) → IsFresh w → begun w.core.events ≡ top
-    → AreOk (base_of w.dcs) (λ n. None) (λ n. None) [] top w.core.sites w.dcs w.copies w.replies w.news
-nothing_listed w top fresh from = record {
-  v = λ d. [];
-  copies = subst (All (CopyOk (base_of w.dcs) (λ n. None) (λ n. None) [] top w.core.sites w.dcs (λ d. []))) (sym fresh.copies) (λ k x inside. absurd (omega (arith, inside)));
-  replies = subst (All (ReplyOk (λ n. None) w.core.sites w.dcs (λ d. []))) (sym fresh.replies) (λ k x inside. absurd (omega (arith, inside)));
-  news = subst (All (NewsOk (base_of w.dcs) (λ n. None) (λ n. None) [] top w.core.sites w.dcs)) (sym fresh.news) (λ k x inside. absurd (omega (arith, inside)));
-  stores = λ d s at.
-      let lists = all_at (λ (x : Store). (x.list ≡ []) × (x.saved ≡ [])) w.dcs d s at fresh.lists in
-      let marks = all_at (λ (x : Store). (x.mark ≡ begun w.core.events) × (x.saved_mark ≡ begun w.core.events)) w.dcs d s at fresh.marks in
-      site_fresh (base_of w.dcs) top d s (site_at w.core.sites d) (λ r here. own_rows w.dcs d s r at here) lists.0 lists.1
-      (marks.0 ∙ from) (marks.1 ∙ from) (fresh_up w d (slice_get w.core.sites d) fresh refl);
-  said = λ n o said logs was. absurd (none_some _ o refl logs);
-  there = λ d r down. absurd (none_some _ r (fresh_up w d (slice_get w.core.sites d) fresh refl) down);
-}
-
-abbrev Began : Whole → List Event → Type 0
-Began w h =
-    HonestFrom (base_of w.dcs) h × AreOk (base_of w.dcs) (logged h) (open_op h) (done h) (given h) w.core.sites w.dcs w.copies w.replies w.news
-
-just_begun : (w : Whole) → IsFresh w → (h : List Event) → w.core.events ≡ h → HasJustBegun h → Began w h
-just_begun w fresh h same (AtFirst is) = subst (Began w) (sym is) (tt, nothing_listed w 0 fresh (ap begun (same ∙ is)))
-just_begun w fresh h same (AtCheckpoint before numbers few_admitted few_given is) =
-    subst (Began w) (sym is) ((tt, tt), nothing_listed w numbers fresh (ap begun (same ∙ is)))
-
-pub fresh_listed : (w : Whole) → IsFresh w → IsListed w
-fresh_listed w fresh =
-    let began = just_begun w fresh w.core.events refl fresh.events in
-    record {
-      base = base_of w.dcs;
-      based = λ r. refl;
-      behind = λ d s at.
-          let base_mark = all_at (λ (x : Store). x.base_mark ≡ begun w.core.events) w.dcs d s at fresh.bases in
-          let marks = all_at (λ (x : Store). (x.mark ≡ begun w.core.events) × (x.saved_mark ≡ begun w.core.events)) w.dcs d s at fresh.marks in
-          let mark = marks.0 in
-          let saved = marks.1 in
-          record { base_mark = base_mark; mark = omega (arith, mark); saved_mark = omega (arith, saved) };
-      honest = began.0;
-      ok = began.1;
-    }
+stay_listed w v step.Cut o was known honest goes s = cuts_listed w v o was.legal known.legal goes s
 
 -- ---- what follows
 

@@ -1,5 +1,5 @@
 -- Each step keeps the marks at or under the history's.
-use Rattle.std.proofs.Common.{◌≡◌, ℕ, ◌+◌, ◌≤◌, ◌<◌, Bool, true, false, ◌&&◌, ◌==◌, [], Option, Some, None, arith, refl, sym, subst, ap, if◌then◌else◌}
+use Rattle.std.proofs.Common.{◌≡◌, ℕ, ◌+◌, ◌≤◌, ◌<◌, Bool, true, false, ◌&&◌, ◌==◌, List, [], Option, Some, None, arith, refl, sym, subst, ap, if◌then◌else◌}
 use Rattle.std.specs.Prelude.{◌^◌, slice_get, slice_set, nat_le, Result, Ok, Err}
 use Rattle.std.specs.List.{All}
 use Rattle.std.proofs.lemmas.List.Elements.{All-push, All-set}
@@ -46,7 +46,13 @@ use Rattle.tc_world.specs.declared.step.Illegal.{Illegal}
 use Rattle.tc_core.specs.Recovery.{first_events}
 use Rattle.tc_world.specs.Recovery.{notes_of}
 use Rattle.tc_world.proofs.Bases.{begun_low, just_legal}
-use Rattle.tc_world.proofs.ComingBack.{all_at, come_back_low}
+use Rattle.tc_world.proofs.ComingBack.{all_at, read_in, come_back_low}
+use Rattle.tc_world.proofs.CutLemmas.{heard_low, forgotten_to, was_kept, same_low}
+use Rattle.tc_world.specs.Cutting.{AreForgotten}
+use Rattle.history.specs.Anew.{anew}
+use Rattle.transactions.specs.Alike.{IsAtRest}
+use Rattle.transactions.specs.InFlight.{site_at}
+use Rattle.tc_core.specs.Checkpointing.{checkpointed as cut_core}
 
 pub went : (o p : Outcome) (w v : Whole) → Goes o w ≡ Goes p v → w ≡ v
 went o p w v goes = cc
@@ -348,28 +354,52 @@ redoes_low w v d (Some s) o at low goes = by s.redo refl goes
             low_behind _ o (with_core w (after_redo w.core d redo.Finished)) v
             (subst (λ (y : Option Site). AreMarksLow (with_core w (up_again w.core d y))) (sym at) (known_low w d (record s { redo = None }) tt low)) goes''
 
+-- the mark is the same where the log begins anew
+cut_low : (w : Whole) (ds : List Store) → LegalCore w.core → IsAtRest w.core.events → AreForgotten (low_water w.core.events) w.core.sites w.dcs ds
+    → AreMarksLow w → AreMarksLow (record w { core = cut_core w.core; dcs = ds })
+cut_low w ds legal rest are low = record {
+  copies = λ k x inside. (let few = low.copies k x inside in omega (arith, few, same));
+  dcs = λ k t inside. (let few = (marks k _ (read_in ds k t inside)).0 in omega (arith, few, same));
+  saved = λ k t inside. (let few = (marks k _ (read_in ds k t inside)).1 in omega (arith, few, same));
+  news = λ k x inside. (let few = low.news k x inside in omega (arith, few, same));
+  redo = λ k t inside. low_rises _ _ _ (omega (arith, same)) (low.redo k t inside);
+}
+  where
+    same : low_water w.core.events ≡ low_water (anew w.core.events)
+    same = same_low w.core.procs w.core.events legal rest
+
+    marks : (d : ℕ) (t : Store) → slice_get ds d ≡ Some t → IsStoreLow (low_water w.core.events) t
+    marks d t at =
+        let is = was_kept (low_water w.core.events) w.core.sites w.dcs ds d t are at in
+        let to = forgotten_to (low_water w.core.events) (site_at w.core.sites d).incarnation is.s t is.forgotten in
+        let few = heard_low is.s (site_at w.core.sites d).incarnation (low_water w.core.events) (low_water w.core.events) (store_at w d is.s is.at low).0 (omega arith) in
+        let mark = to.mark_is in
+        let saved = to.saved_mark in
+        (omega (arith, mark, few), omega (arith, saved, few))
+
 -- whatever the step is
-pub stay_low : (w v : Whole) (x : Step) (o : Outcome) → LegalCore v.core → Steps w x o v → AreMarksLow w → AreMarksLow v
-stay_low w v (step.Admit call) o legal goes low =
+pub stay_low : (w v : Whole) (x : Step) (o : Outcome) → LegalCore w.core → LegalCore v.core → Steps w x o v → AreMarksLow w → AreMarksLow v
+stay_low w v (step.Admit call) o was legal goes low =
     let e = event.Admit (admitted w.core.events + 1) call.proc call.args.items in
     let was : LegalCore (with_event w.core e) = subst (λ (y : Whole). LegalCore y.core) goes.next legal in
     subst AreMarksLow (sym goes.next) (risen w (with_event w.core e) (mark_rises w.core.procs w.core.events e was.0) refl low)
-stay_low w v (step.Ask t) o legal goes low =
+stay_low w v (step.Ask t) o was legal goes low =
     let a = ask_reply w.core t in
     told_low w v t (after_ask w.core a) a o (ask_rises w.core a) (ask_sites w.core a) legal low goes
-stay_low w v (step.Undo t) o legal goes low =
+stay_low w v (step.Undo t) o was legal goes low =
     let a = undo_reply w.core t in
     told_low w v t (after_undo w.core a) a o (undo_rises w.core a) (undo_sites w.core a) legal low goes
-stay_low w v (step.End t) o legal goes low = ends_low w v t (standing w.core.events t) (end_of w.core t) o legal low goes
-stay_low w v (step.Resend t) o legal goes low = resends_low w v t (standing w.core.events t) o low goes
-stay_low w v (step.Perform i) o legal goes low = performs_copy_low w v i (slice_get w.copies i) o refl low goes
-stay_low w v (step.Take i) o legal goes low = takes_low w v (slice_get w.replies i) o legal low goes
-stay_low w v (step.Restart d) o legal goes low = restarts_low w v d (slice_get w.dcs d) o refl low goes
-stay_low w v (step.Forge x) o legal goes low = low_behind _ o (with_reply w x) v (replied_more w x low) goes
-stay_low w v (step.Checkpoint d) o legal goes low = checkpoints_low w v d (slice_get w.dcs d) o refl low goes
-stay_low w v (step.Tell i) o legal goes low = tells_low w v i (slice_get w.news i) o refl low goes
-stay_low w v (step.Redo d) o legal goes low = redoes_low w v d (slice_get w.core.sites d) o refl low goes
-stay_low w v (step.Crash n) o legal goes low = subst AreMarksLow (sym goes.next) (come_back_low w (first_events n w.core.events) (notes_of w) goes.may.written)
+stay_low w v (step.End t) o was legal goes low = ends_low w v t (standing w.core.events t) (end_of w.core t) o legal low goes
+stay_low w v (step.Resend t) o was legal goes low = resends_low w v t (standing w.core.events t) o low goes
+stay_low w v (step.Perform i) o was legal goes low = performs_copy_low w v i (slice_get w.copies i) o refl low goes
+stay_low w v (step.Take i) o was legal goes low = takes_low w v (slice_get w.replies i) o legal low goes
+stay_low w v (step.Restart d) o was legal goes low = restarts_low w v d (slice_get w.dcs d) o refl low goes
+stay_low w v (step.Forge x) o was legal goes low = low_behind _ o (with_reply w x) v (replied_more w x low) goes
+stay_low w v (step.Checkpoint d) o was legal goes low = checkpoints_low w v d (slice_get w.dcs d) o refl low goes
+stay_low w v (step.Tell i) o was legal goes low = tells_low w v i (slice_get w.news i) o refl low goes
+stay_low w v (step.Redo d) o was legal goes low = redoes_low w v d (slice_get w.core.sites d) o refl low goes
+stay_low w v step.Cut o was legal goes low = subst AreMarksLow (sym goes.next) (cut_low w v.dcs was goes.may.rest goes.forgotten low)
+stay_low w v (step.Crash n) o was legal goes low = subst AreMarksLow (sym goes.next) (come_back_low w (first_events n w.core.events) (notes_of w) goes.may.written)
 
 -- ---- a fresh world
 

@@ -1,10 +1,9 @@
 -- The rule of writing ahead: where each wire that a step sends was written for, and what it makes known of a data component was noted, what
 -- was written tells of all that was carried, step after step.
-use Rattle.std.proofs.Common.{◌≡◌, ℕ, ◌+◌, ◌≤◌, Bool, true, false, ◌&&◌, ◌==◌, ◌-◌, List, [], ◌∷◌, ◌++◌, length, drop, length-append, Option, Some, None, arith, refl, sym, ◌∙◌, subst, ap, if◌then◌else◌, inl, inr}
+use Rattle.std.proofs.Common.{◌≡◌, ℕ, ◌+◌, ◌≤◌, Bool, true, false, ◌&&◌, ◌==◌, List, [], ◌∷◌, ◌++◌, append_assoc, Option, Some, None, arith, refl, sym, ◌∙◌, subst, ap, if◌then◌else◌, inl, inr}
 use Rattle.std.specs.Prelude.{◌^◌, slice_get, slice_set, nat_le, Result, Ok, Err}
 use Rattle.std.specs.List.{All}
 use Rattle.std.proofs.lemmas.Bool.{cases_eq}
-use Rattle.std.proofs.lemmas.List.{drop-append-le}
 use Rattle.std.proofs.lemmas.List.Elements.{All-push, All-set, All-cons}
 use Rattle.access_slots.specs.Access.{fits}
 use Rattle.access_slots.specs.declared.op.Op.{Op}
@@ -48,8 +47,9 @@ use Rattle.tc_core.specs.declared.state.Redo.TheVariants as redo
 use Rattle.tc_world.specs.Whole.{Whole}
 use Rattle.tc_world.specs.Marks.{IsLow, IsFresh}
 use Rattle.tc_world.specs.OneAtATime.{is_forge}
-use Rattle.tc_world.specs.Recovery.{IsWrittenFor, IsWrittenAt, IsNoted, Noted, NotYetUp, AreNoted, IsWritten, begun_anew, anew, come_back, notes_of, LosesNone}
-use Rattle.tc_world.specs.Steps.{Goes, Steps, with_core, with_dcs, with_copy, with_reply, with_news, told, sends_or_holds, ends_by}
+use Rattle.tc_world.specs.Recovery.{IsWrittenFor, IsWrittenAt, IsNoted, Noted, NotYetUp, AreNoted, IsWritten, begun_anew, anew, come_back, notes_of}
+use Rattle.tc_world.specs.Ahead.{Grows}
+use Rattle.tc_world.specs.Steps.{Goes, Steps, Cuts, with_core, with_dcs, with_copy, with_reply, with_news, told, sends_or_holds, ends_by}
 use Rattle.tc_world.specs.Steps.{resends_wire, resends_sent, resends_by, dc_of, gets_reply, performs_at, performs_copy}
 use Rattle.tc_world.specs.Steps.{takes_answer, TakesRedo, TakesBy, TakesReply, restarts_as, restarts_at, checkpoints_at}
 use Rattle.tc_world.specs.Steps.{tells_unless, tells_news, redoes_by}
@@ -57,17 +57,25 @@ use Rattle.tc_world.specs.declared.step.Step.{Step}
 use Rattle.tc_world.specs.declared.step.Step.TheVariants as step
 use Rattle.tc_world.specs.declared.step.Outcome.{Outcome}
 use Rattle.tc_world.proofs.Bases.{begun_low, just_legal}
-use Rattle.tc_world.proofs.ComingBack.{all_at, sites_low, notes_low}
+use Rattle.tc_world.proofs.ComingBack.{all_at, read_in, sites_low, notes_low}
+use Rattle.tc_world.proofs.CutLemmas.{heard_low, forgotten_to, was_kept, same_low, same_given, none_open}
+use Rattle.history.specs.Anew.{anew as log_anew}
+use Rattle.transactions.specs.Alike.{IsAtRest}
+use Rattle.transactions.specs.InFlight.{site_at}
+use Rattle.tc_core.specs.Checkpointing.{checkpointed as cut_core}
 use Rattle.tc_world.proofs.Marks.{went, stopped, IsStoreLow, performed_low, redone_low, ask_sites, undo_sites}
 
 -- ---- all but wires and notes
 
-record Rest (first : List Event) (w : Whole) : Type 0 where
-  begins : Begins first w.core.events
-  replies : All (λ (x : Reply). x.number ≤ given first) w.replies
-  stores : All (IsWrittenAt first) w.dcs
-  news : All (λ (x : ℕ × News). x.1.mark ≤ low_water first) w.news
-  redo : All (λ (t : Site). IsLow (low_water first) t.redo) w.core.sites
+pub record Rest (first : List Event) (w : Whole) : Type 0 where
+  pub begins : Begins first w.core.events
+  pub replies : All (λ (x : Reply). x.number ≤ given first) w.replies
+  pub stores : All (IsWrittenAt first) w.dcs
+  pub news : All (λ (x : ℕ × News). x.1.mark ≤ low_water first) w.news
+  pub redo : All (λ (t : Site). IsLow (low_water first) t.redo) w.core.sites
+
+pub rest_of : (first : List Event) (notes : List SiteNote) (w : Whole) → IsWritten first notes w → Rest first w
+rest_of first notes w s = record { begins = s.begins; replies = s.replies; stores = s.stores; news = s.news; redo = s.redo }
 
 one_more : (first h : List Event) (e : Event) → Begins first h → Begins first (e ∷ h)
 one_more first h e b = record { later = e ∷ b.later; is = ap (λ (x : List Event). e ∷ x) b.is }
@@ -272,47 +280,40 @@ module _ (first : List Event) where
       by None goes' = absurd (stopped _ o v goes')
       by (Some r) goes' = sends r.mark (to_redo w.core.events d r.redone) goes'
 
-  -- so many of a log's events begin with fewer of them
-  between : (h : List Event) (n : ℕ) → n ≤ length h → length first ≤ n → Begins first h → Begins first (first_events n h)
-  between h n inside few b =
-      subst (λ (whole : List Event). n ≤ length whole → Begins first (first_events n whole)) (sym b.is) (λ inside'.
-      let more : length (b.later ++ first) - n ≤ length b.later = omega (arith, length-append b.later first, few) in
-      record { later = drop (length (b.later ++ first) - n) b.later; is = drop-append-le (length (b.later ++ first) - n) b.later first more }) inside
-
-  crash_rest : (w : Whole) (n : ℕ) → n ≤ length w.core.events → length first ≤ n → Rest first w → Rest first (come_back (first_events n w.core.events) (notes_of w) w)
-  crash_rest w n inside few r = record {
-    begins = between w.core.events n inside few r.begins;
+  crash_rest : (w : Whole) (n : ℕ) → Begins first (first_events n w.core.events) → Rest first w → Rest first (come_back (first_events n w.core.events) (notes_of w) w)
+  crash_rest w n begins r = record {
+    begins = begins;
     replies = r.replies;
     stores = r.stores;
     news = r.news;
     redo = notes_low (low_water first) w r.redo;
   }
 
-  stay_rest : (w v : Whole) (x : Step) (o : Outcome) → is_forge x ≡ false → LosesNone (length first) x → All (IsWrittenFor first) w.copies → Steps w x o v → Rest first w → Rest first v
-  stay_rest w v (step.Admit call) o honest none_lost ready goes rest = subst (Rest first) (sym goes.next) (logs w (event.Admit (admitted w.core.events + 1) call.proc call.args.items) rest)
-  stay_rest w v (step.Ask t) o honest none_lost ready goes rest =
+  -- a crash keeps it, and it isn't cut
+  abbrev pub Stays : Step → Whole → Type 0
+  Stays (step.Crash n) v = Begins first v.core.events
+  Stays step.Cut v = ⊥
+  Stays other v = Unit {0}
+
+  pub stay_rest : (w v : Whole) (x : Step) (o : Outcome) → is_forge x ≡ false → Stays x v → All (IsWrittenFor first) w.copies → Steps w x o v → Rest first w → Rest first v
+  stay_rest w v (step.Admit call) o honest stays ready goes rest = subst (Rest first) (sym goes.next) (logs w (event.Admit (admitted w.core.events + 1) call.proc call.args.items) rest)
+  stay_rest w v (step.Ask t) o honest stays ready goes rest =
       let a = ask_reply w.core t in
       told_rest w v t (after_ask w.core a) a o (ask_begins w.core a rest.begins) (ask_sites w.core a) rest goes
-  stay_rest w v (step.Undo t) o honest none_lost ready goes rest =
+  stay_rest w v (step.Undo t) o honest stays ready goes rest =
       let a = undo_reply w.core t in
       told_rest w v t (after_undo w.core a) a o (undo_begins w.core a rest.begins) (undo_sites w.core a) rest goes
-  stay_rest w v (step.End t) o honest none_lost ready goes rest = ends_rest w v t (standing w.core.events t) (end_of w.core t) o rest goes
-  stay_rest w v (step.Resend t) o honest none_lost ready goes rest = resends_rest w v t (standing w.core.events t) o rest goes
-  stay_rest w v (step.Perform i) o honest none_lost ready goes rest = performs_copy_rest w v i (slice_get w.copies i) o refl ready rest goes
-  stay_rest w v (step.Take i) o honest none_lost ready goes rest = takes_rest w v (slice_get w.replies i) o rest goes
-  stay_rest w v (step.Restart d) o honest none_lost ready goes rest = restarts_rest w v d (slice_get w.dcs d) o refl rest goes
-  stay_rest w v (step.Forge x) o honest none_lost ready goes rest = absurd (let bad : true ≡ false = honest in cc)
-  stay_rest w v (step.Checkpoint d) o honest none_lost ready goes rest = checkpoints_rest w v d (slice_get w.dcs d) o refl rest goes
-  stay_rest w v (step.Tell i) o honest none_lost ready goes rest = tells_rest w v i (slice_get w.news i) o refl rest goes
-  stay_rest w v (step.Redo d) o honest none_lost ready goes rest = redoes_rest w v d (slice_get w.core.sites d) o refl rest goes
-  stay_rest w v (step.Crash n) o honest none_lost ready goes rest = subst (Rest first) (sym goes.next) (crash_rest w n goes.may.inside none_lost rest)
-
--- whatever the step is, but a forged reply
-pub stay_written : (w v : Whole) (x : Step) (o : Outcome) (first : List Event) (notes notes' : List SiteNote) → Steps w x o v → is_forge x ≡ false → LosesNone (length first) x → IsWritten first notes w
-    → All (IsWrittenFor first) v.copies → AreNoted (low_water first) v notes' → IsWritten first notes' v
-stay_written w v x o first notes notes' goes honest none_lost s ready noted =
-    let rest = stay_rest first w v x o honest none_lost s.copies goes (record { begins = s.begins; replies = s.replies; stores = s.stores; news = s.news; redo = s.redo }) in
-    record { begins = rest.begins; sites = noted; copies = ready; replies = rest.replies; stores = rest.stores; news = rest.news; redo = rest.redo }
+  stay_rest w v (step.End t) o honest stays ready goes rest = ends_rest w v t (standing w.core.events t) (end_of w.core t) o rest goes
+  stay_rest w v (step.Resend t) o honest stays ready goes rest = resends_rest w v t (standing w.core.events t) o rest goes
+  stay_rest w v (step.Perform i) o honest stays ready goes rest = performs_copy_rest w v i (slice_get w.copies i) o refl ready rest goes
+  stay_rest w v (step.Take i) o honest stays ready goes rest = takes_rest w v (slice_get w.replies i) o rest goes
+  stay_rest w v (step.Restart d) o honest stays ready goes rest = restarts_rest w v d (slice_get w.dcs d) o refl rest goes
+  stay_rest w v (step.Forge x) o honest stays ready goes rest = absurd (let bad : true ≡ false = honest in cc)
+  stay_rest w v (step.Checkpoint d) o honest stays ready goes rest = checkpoints_rest w v d (slice_get w.dcs d) o refl rest goes
+  stay_rest w v (step.Tell i) o honest stays ready goes rest = tells_rest w v i (slice_get w.news i) o refl rest goes
+  stay_rest w v (step.Redo d) o honest stays ready goes rest = redoes_rest w v d (slice_get w.core.sites d) o refl rest goes
+  stay_rest w v step.Cut o honest stays ready goes rest = absurd stays
+  stay_rest w v (step.Crash n) o honest stays ready goes rest = subst (Rest first) (sym goes.next) (crash_rest w n (subst (λ (u : Whole). Begins first u.core.events) goes.next stays) rest)
 
 -- ---- more is written
 
@@ -322,10 +323,10 @@ mark_more ps [] first legal = omega arith
 mark_more ps (e ∷ later) first legal = (let ih = mark_more ps later first legal.1 in let one = mark_rises ps (later ++ first) e legal.0 in omega (arith, ih, one))
 
 -- nor does a number that was answered open again
-closed_sent : (top n m : ℕ) (f : Flight) (o : Option Flight) → n ≤ top → m ≡ top + 1 → is_flight o ≡ false → is_flight (if m == n then Some f else o) ≡ false
+pub closed_sent : (top n m : ℕ) (f : Flight) (o : Option Flight) → n ≤ top → m ≡ top + 1 → is_flight o ≡ false → is_flight (if m == n then Some f else o) ≡ false
 closed_sent top n m f o low next closed = ap is_flight (if_none m n (Some f) o (omega (arith, low, next))) ∙ closed
 
-closed_answered : (n m : ℕ) (o : Option Flight) → is_flight o ≡ false → is_flight (if m == n then None else o) ≡ false
+pub closed_answered : (n m : ℕ) (o : Option Flight) → is_flight o ≡ false → is_flight (if m == n then None else o) ≡ false
 closed_answered n m o closed = elim (cases_eq m n) [
   | inl same ↦ ap is_flight (if_some m n None o same)
   | inr other ↦ ap is_flight (if_none m n None o other) ∙ closed
@@ -362,19 +363,16 @@ noted_more : (a b d : ℕ) (w : Whole) (t t' : Site) → a ≤ b → IsNoted a w
 noted_more a b d w t t' le (Noted is) = Noted is
 noted_more a b d w t t' le (NotYetUp x) = (let low = x.low in NotYetUp (record { up = x.up; mark = x.mark; noted = x.noted; low = omega (arith, low, le); there = x.there; again = x.again }))
 
-pub more_written : (w : Whole) (first more : List Event) (notes : List SiteNote) → Legal w.core.procs w.core.events → Begins first more → Begins more w.core.events
-    → IsWritten first notes w → IsWritten more notes w
-more_written w first more notes legal on in_log s =
-    let legal' : Legal w.core.procs more = legal_first w.core.procs in_log.later more (subst (Legal w.core.procs) in_log.is legal) in
-    let a : given first ≤ given more = subst (λ (h : List Event). given first ≤ given h) (sym on.is) (given_more w.core.procs on.later first (subst (Legal w.core.procs) on.is legal')) in
-    let b : low_water first ≤ low_water more = subst (λ (h : List Event). low_water first ≤ low_water h) (sym on.is) (mark_more w.core.procs on.later first (subst (Legal w.core.procs) on.is legal')) in
+rest_more : (ps : List Checked) (first more : List Event) (v : Whole) → Legal ps more → Begins first more → Begins more v.core.events → Rest first v → Rest more v
+rest_more ps first more v legal on in_log r =
+    let legal' : Legal ps (on.later ++ first) = subst (Legal ps) on.is legal in
+    let a : given first ≤ given more = subst (λ (h : List Event). given first ≤ given h) (sym on.is) (given_more ps on.later first legal') in
+    let b : low_water first ≤ low_water more = subst (λ (h : List Event). low_water first ≤ low_water h) (sym on.is) (mark_more ps on.later first legal') in
     record {
       begins = in_log;
-      sites = λ d. noted_more (low_water first) (low_water more) d w _ _ b (s.sites d);
-      copies = λ k x inside. wire_more w.core.procs first more _ legal' on (s.copies k x inside);
-      replies = λ k x inside. (let few = s.replies k x inside in omega (arith, few, a));
+      replies = λ k x inside. (let few = r.replies k x inside in omega (arith, few, a));
       stores = λ k x inside.
-          let y = s.stores k x inside in
+          let y = r.stores k x inside in
           let mark = y.mark in
           let saved = y.saved_mark in
           record {
@@ -383,9 +381,115 @@ more_written w first more notes legal on in_log s =
             mark = omega (arith, mark, b);
             saved_mark = omega (arith, saved, b);
           };
-      news = λ k x inside. (let few = s.news k x inside in omega (arith, few, b));
-      redo = λ k x inside. low_more _ _ _ b (s.redo k x inside);
+      news = λ k x inside. (let few = r.news k x inside in omega (arith, few, b));
+      redo = λ k x inside. low_more _ _ _ b (r.redo k x inside);
     }
+
+grown_rest : (ps : List Checked) (first more : List Event) (v : Whole) → Legal ps v.core.events → Begins first more → Begins more v.core.events → Rest first v → Rest more v
+grown_rest ps first more v legal on in_log r = rest_more ps first more v (legal_first ps in_log.later more (subst (Legal ps) in_log.is legal)) on in_log r
+
+pub more_written : (w : Whole) (first more : List Event) (notes : List SiteNote) → Legal w.core.procs w.core.events → Begins first more → Begins more w.core.events
+    → IsWritten first notes w → IsWritten more notes w
+more_written w first more notes legal on in_log s =
+    let legal' : Legal w.core.procs more = legal_first w.core.procs in_log.later more (subst (Legal w.core.procs) in_log.is legal) in
+    let b : low_water first ≤ low_water more = subst (λ (h : List Event). low_water first ≤ low_water h) (sym on.is) (mark_more w.core.procs on.later first (subst (Legal w.core.procs) on.is legal')) in
+    let r = rest_more w.core.procs first more w legal' on in_log (rest_of first notes w s) in
+    record {
+      begins = in_log;
+      sites = λ d. noted_more (low_water first) (low_water more) d w _ _ b (s.sites d);
+      copies = λ k x inside. wire_more w.core.procs first more _ legal' on (s.copies k x inside);
+      replies = r.replies;
+      stores = r.stores;
+      news = r.news;
+      redo = r.redo;
+    }
+
+-- ---- a log that begins anew
+
+wire_anew : (ps : List Checked) (h : List Event) (x : Wire) → Legal ps h → IsAtRest h → IsWrittenFor h x → IsWrittenFor (log_anew h) x
+wire_anew ps h x legal rest is =
+    let number = is.number in
+    let mark = is.mark in
+    let given_same = same_given h in
+    let low_same = same_low ps h legal rest in
+    record { number = omega (arith, number, given_same); mark = omega (arith, mark, low_same); redone = λ again. ap is_flight (none_open h x.number) }
+
+-- where it is written, all that was carried is, since it tells of all that the log before it did
+cut_rest : (w v : Whole) (o : Outcome) (first : List Event) (notes : List SiteNote) → Legal w.core.procs w.core.events → Cuts w o v
+    → IsWritten first notes w → Rest v.core.events v × All (IsWrittenFor v.core.events) v.copies
+cut_rest w v o first notes legal cut s =
+    let whole = more_written w first w.core.events notes legal s.begins (record { later = []; is = refl }) s in (
+      record {
+        begins = record { later = []; is = refl };
+        replies = by (λ (u : Whole). All (λ (x : Reply). x.number ≤ given u.core.events) u.replies)
+            (λ k x inside. (let few = whole.replies k x inside in let same = same_given h in omega (arith, few, same)));
+        stores = by (λ (u : Whole). All (IsWrittenAt u.core.events) u.dcs) (λ d t inside. stored d _ (read_in v.dcs d t inside) (λ e x at. (all_at (IsWrittenAt h) w.dcs e x at whole.stores).mark));
+        news = by (λ (u : Whole). All (λ (x : ℕ × News). x.1.mark ≤ low_water u.core.events) u.news) (λ k x inside. (let few = whole.news k x inside in omega (arith, few, low)));
+        redo = by (λ (u : Whole). All (λ (t : Site). IsLow (low_water u.core.events) t.redo) u.core.sites) (λ d t inside. low_more _ _ _ (omega (arith, low)) (whole.redo d t inside));
+      },
+      by (λ (u : Whole). All (IsWrittenFor u.core.events) u.copies) (λ k x inside. wire_anew w.core.procs h _ legal cut.may.rest (whole.copies k x inside)),
+    )
+  where
+    h : List Event
+    h = w.core.events
+
+    low : low_water w.core.events ≡ low_water (log_anew w.core.events)
+    low = same_low w.core.procs w.core.events legal cut.may.rest
+
+    by : (P : Whole → Type 0) → P (record w { core = cut_core w.core; dcs = v.dcs }) → P v
+    by P is = subst P (sym cut.next) is
+
+    stored : (d : ℕ) (t : Store) → slice_get v.dcs d ≡ Some t → ((e : ℕ) (x : Store) → slice_get w.dcs e ≡ Some x → x.mark ≤ low_water w.core.events)
+        → IsWrittenAt (log_anew w.core.events) t
+    stored d t at few =
+        let is = was_kept (low_water h) w.core.sites w.dcs v.dcs d t cut.forgotten at in
+        let to = forgotten_to (low_water h) (site_at w.core.sites d).incarnation is.s t is.forgotten in
+        let most = heard_low is.s (site_at w.core.sites d).incarnation (low_water h) (low_water h) (few d is.s is.at) (omega arith) in
+        let mark = to.mark_is in
+        let saved_mark = to.saved_mark in
+        record {
+          list = subst (All (λ (e : Performed). e.0 ≤ given (log_anew h))) (sym to.list) (λ k e inside. absurd (omega (arith, inside)));
+          saved = subst (All (λ (e : Performed). e.0 ≤ given (log_anew h))) (sym to.saved) (λ k e inside. absurd (omega (arith, inside)));
+          mark = omega (arith, mark, most, low);
+          saved_mark = omega (arith, saved_mark, most, low);
+        }
+
+pub cut_written : (w v : Whole) (o : Outcome) (first : List Event) (notes notes' : List SiteNote) → Legal w.core.procs w.core.events → Cuts w o v
+    → IsWritten first notes w → AreNoted (low_water v.core.events) v notes' → IsWritten v.core.events notes' v
+cut_written w v o first notes notes' legal cut s noted =
+    let is = cut_rest w v o first notes legal cut s in
+    record { begins = is.0.begins; sites = noted; copies = is.1; replies = is.0.replies; stores = is.0.stores; news = is.0.news; redo = is.0.redo }
+
+-- ---- whatever the step is, but a forged reply
+
+begins_on : (a b c : List Event) → Begins a b → Begins b c → Begins a c
+begins_on a b c ab bc = record {
+  later = bc.later ++ ab.later;
+  is = bc.is ∙ (ap (λ (h : List Event). bc.later ++ h) ab.is ∙ sym (append_assoc bc.later ab.later a));
+}
+
+pub acted : (w v : Whole) (x : Step) (o : Outcome) (first more : List Event) (notes : List SiteNote) → Legal w.core.procs w.core.events → Legal v.core.procs v.core.events
+    → Steps w x o v → is_forge x ≡ false → Grows x first more v.core.events → IsWritten first notes w → Rest more v
+acted w v step.Cut o first more notes was legal goes honest grows s = subst (λ (h : List Event). Rest h v) (sym grows) (cut_rest w v o first notes was goes s).0
+acted w v (step.Crash n) o first more notes was legal goes honest grows s =
+    grown_rest v.core.procs first more v legal grows.0 grows.1
+    (stay_rest first w v (step.Crash n) o honest (begins_on first more v.core.events grows.0 grows.1) s.copies goes (rest_of first notes w s))
+acted w v x o first more notes was legal goes honest grows s =
+    grown_rest v.core.procs first more v legal grows.0 grows.1 (stay_rest first w v x o honest tt s.copies goes (rest_of first notes w s))
+
+pub stay_written : (w v : Whole) (x : Step) (o : Outcome) (first more : List Event) (notes noted : List SiteNote)
+    → Legal w.core.procs w.core.events → Legal v.core.procs v.core.events → Steps w x o v → is_forge x ≡ false → Grows x first more v.core.events
+    → IsWritten first notes w → All (IsWrittenFor more) v.copies → AreNoted (low_water more) v noted → IsWritten more noted v
+stay_written w v x o first more notes noted was legal goes honest grows s ready known =
+    let r = acted w v x o first more notes was legal goes honest grows s in
+    record { begins = r.begins; sites = known; copies = ready; replies = r.replies; stores = r.stores; news = r.news; redo = r.redo }
+
+-- a step that isn't a crash or a cut leaves a longer log, which tells of all but the wires
+pub whole_rest : (w v : Whole) (x : Step) (o : Outcome) (notes : List SiteNote) → Legal v.core.procs v.core.events → Steps w x o v → is_forge x ≡ false
+    → Stays w.core.events x v → IsWritten w.core.events notes w → Begins w.core.events v.core.events × Rest v.core.events v
+whole_rest w v x o notes legal goes honest stays s =
+    let r = stay_rest w.core.events w v x o honest stays s.copies goes (rest_of w.core.events notes w s) in
+    (r.begins, rest_more v.core.procs w.core.events v.core.events v legal r.begins (record { later = []; is = refl }) r)
 
 -- ---- nothing was carried, and a second crash
 

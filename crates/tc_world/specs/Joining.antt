@@ -1,4 +1,5 @@
 -- Definitions that only join bodies to those beside this folder: no contract that others see speaks of them.
 pub mod Telling
+pub mod Forgetting
 pub mod Listed
 pub mod Written

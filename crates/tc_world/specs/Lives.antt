@@ -48,6 +48,11 @@ Lives (Crashes first notes ∷ moves) w v = IsWritten first notes w × Lives mov
 Lives (StartsOver first dcs ∷ moves) w v =
     Begins first w.core.events × All (IsNew first) dcs × StandFor dcs w.dcs × Lives moves (start_over first dcs w) v
 
+-- by such moves the first world has become the second one
+pub record Becomes (w v : Whole) : Type 0 where
+  pub moves : List Move
+  pub lives : Lives moves w v
+
 -- a fresh world, of procedures that were verified, has become this one
 pub record HasLived (w : Whole) : Type 0 where
   pub first : Whole

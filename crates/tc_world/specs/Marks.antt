@@ -17,6 +17,18 @@ pub data HasJustBegun (h : List Event) : Type 0 where
   AtFirst : h ≡ [] → HasJustBegun h
   AtCheckpoint : (before numbers : ℕ) → before ≤ 2 ^ 62 → numbers ≤ 2 ^ 62 → h ≡ Checkpoint before numbers ∷ [] → HasJustBegun h
 
+-- the data component has nothing but the rows with which it begins, behind this number
+pub record HasRowsAlone (number : ℕ) (s : Store) : Type 0 where
+  pub base_mark : s.base_mark ≡ number
+  pub list : s.list ≡ []
+  pub saved : s.saved ≡ []
+  pub mark : s.mark ≡ number
+  pub saved_mark : s.saved_mark ≡ number
+
+-- it isn't down
+abbrev pub IsUp : Site → Type 0
+IsUp t = t.redo ≡ None
+
 -- nothing has happened since the log began: nothing sent, nothing performed or kept by a checkpoint, no news; each data component begins behind
 -- the number behind which the log does, with whatever rows, and none is down
 pub record IsFresh (w : Whole) : Type 0 where

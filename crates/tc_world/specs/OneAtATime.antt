@@ -29,6 +29,7 @@ is_forge (step.Checkpoint d) = false
 is_forge (step.Tell i) = false
 is_forge (step.Redo d) = false
 is_forge (step.Crash events) = false
+is_forge step.Cut = false
 
 -- no reply is forged
 abbrev pub NoForge : List Step → Type 0

@@ -22,8 +22,6 @@ use Rattle.tc_core.specs.declared.recovery.SiteNote.TheVariants.{Untold, Restart
 use Rattle.tc_core.specs.Recovery.{first_events, recovered, site_noted}
 use Rattle.tc_world.specs.Whole.{Whole}
 use Rattle.tc_world.specs.Marks.{IsLow}
-use Rattle.tc_world.specs.declared.step.Step.{Step}
-use Rattle.tc_world.specs.declared.step.Step.TheVariants as step
 
 -- what was written of the log, first, gave out the wire's number, answered each number that its mark says was answered, and answered
 -- the wire's own where the wire redoes
@@ -97,11 +95,6 @@ notes_of w = map note_of w.core.sites
 pub record MayCrash (events : ℕ) (w : Whole) : Type 0 where
   pub inside : events ≤ length w.core.events
   pub written : IsWritten (first_events events w.core.events) (notes_of w) w
-
--- a crash comes back from no fewer events than so many
-abbrev pub LosesNone : ℕ → Step → Type 0
-LosesNone n (step.Crash events) = n ≤ events
-LosesNone n other = Unit {0}
 
 -- a data component that has restarted, before which nothing is left but the rows with which it begins, as this log does
 pub record IsNew (first : List Event) (s : Store) : Type 0 where

@@ -9,12 +9,13 @@ use Rattle.access_slots.specs.declared.op.News.{News}
 use Rattle.tc_log.specs.declared.event.Outcome.{Outcome as Ending}
 use Rattle.tc_log.specs.declared.event.Event.TheVariants as event
 use Rattle.history.specs.Calls.{admitted}
-use Rattle.history.specs.Flight.{Flight, open_op}
+use Rattle.history.specs.Flight.{Flight, open_op, given, low_water}
 use Rattle.transactions.specs.declared.Sent.{Sent}
 use Rattle.transactions.specs.Standing.{Standing, standing}
 use Rattle.transactions.specs.InFlight.{site_of}
 use Rattle.transactions.specs.Room.{each_one, total}
 use Rattle.data_component.specs.Store.{Store, replied, performed, checkpointed, restarted, news_of}
+use Rattle.tc_core.specs.Checkpointing.{MayCheckpoint, IsCheckpointFault, checkpointed as cut_core}
 use Rattle.tc_core.specs.Core.{Core, Asking}
 use Rattle.tc_core.specs.Replies.{with_event, ask_reply, after_ask, undo_reply, after_undo, end_of, is_heard}
 use Rattle.tc_core.specs.Lent.{wire_of}
@@ -30,6 +31,7 @@ use Rattle.tc_core.specs.declared.state.Redo.{Redo}
 use Rattle.tc_core.specs.declared.state.Redo.TheVariants as redo
 use Rattle.tc_core.specs.Recovery.{first_events}
 use Rattle.tc_world.specs.Whole.{Whole}
+use Rattle.tc_world.specs.Cutting.{kept_marks, IsUnforgettable, AreForgotten}
 use Rattle.tc_world.specs.Recovery.{come_back, notes_of, MayCrash}
 use Rattle.tc_world.specs.declared.step.Step.{Step}
 use Rattle.tc_world.specs.declared.step.Step.TheVariants as step
@@ -222,6 +224,21 @@ IsNotCrashed w events illegal.NotWritten = MayCrash events w → ⊥
 IsNotCrashed w events illegal.Memory = MayCrash events w
 IsNotCrashed w events why = ⊥
 
+-- the log begins anew, behind data components that have forgotten what they performed, and kept their rows; what was sent before may
+-- come still
+pub record Cuts (w : Whole) (o : Outcome) (w' : Whole) : Type 0 where
+  pub may : MayCheckpoint w.core (kept_marks w)
+  pub outcome : o ≡ outcome.Cut (admitted w.core.events) (given w.core.events)
+  pub forgotten : AreForgotten (low_water w.core.events) w.core.sites w.dcs w'.dcs
+  pub next : w' ≡ record w { core = cut_core w.core; dcs = w'.dcs }
+
+-- open transactions are looked for first, and what can't forget second; want of memory comes behind both, since the marks are listed then
+abbrev pub IsNotCut : Whole → Illegal → Type 0
+IsNotCut w (illegal.NotCut fault) = IsCheckpointFault w.core (kept_marks w) fault
+IsNotCut w (illegal.Unforgettable d) = (total each_one w.core.events ≡ 0) × IsUnforgettable (low_water w.core.events) w.dcs d
+IsNotCut w illegal.Memory = total each_one w.core.events ≡ 0
+IsNotCut w why = ⊥
+
 -- it stops so; want of memory comes only where it may
 abbrev pub StopsOr : Type 0 → Fate → Illegal → Type 0
 StopsOr lacks fate illegal.Memory = lacks
@@ -255,9 +272,10 @@ Steps w (step.Checkpoint d) o w' = checkpoints w d ≡ Goes o w'
 Steps w (step.Tell i) o w' = tells w i ≡ Goes o w'
 Steps w (step.Redo d) o w' = redoes w d ≡ Goes o w'
 Steps w (step.Crash events) o w' = Crashes w events o w'
+Steps w step.Cut o w' = Cuts w o w'
 
 -- the step isn't possible, and this is why; want of memory comes at a step that is possible and makes a list longer, at a crash that
--- is possible, and at an ask or undo of any open transaction, since its lists grow first
+-- is possible, at an ask or undo of any open transaction, since its lists grow first, and at a cut at rest
 abbrev pub IsIllegal : Whole → Step → Illegal → Type 0
 IsIllegal w (step.Admit call) why = IsNotAdmitted w call why
 IsIllegal w (step.Ask t) why = StopsOr (standing w.core.events t ≢ None) (asks w t) why
@@ -272,6 +290,7 @@ IsIllegal w (step.Checkpoint d) why = checkpoints w d ≡ Stops why
 IsIllegal w (step.Tell i) why = tells w i ≡ Stops why
 IsIllegal w (step.Redo d) why = StopsOr (MayGo (redoes w d)) (redoes w d) why
 IsIllegal w (step.Crash events) why = IsNotCrashed w events why
+IsIllegal w step.Cut why = IsNotCut w why
 
 -- one step after another
 abbrev pub Runs : Whole → List Step → Whole → Type 0

@@ -12,7 +12,7 @@
 //! use Rattle.tc_world.proofs.ComingBack.{come_back_low}
 //! ```
 
-ghost use Rattle.std.specs.Prelude.{◌≡◌, ℕ, false, List, length};
+ghost use Rattle.std.specs.Prelude.{◌≡◌, ◌≢◌, ℕ, false, List, [], ◌∷◌, length};
 ghost use Rattle.std.specs.List.{All};
 ghost use Rattle.access_slots.specs.declared.op.Wire.{Wire as WireValue};
 ghost use Rattle.access_slots.specs.declared.op.Reply.{Reply as ReplyValue};
@@ -30,9 +30,11 @@ ghost use Rattle.tc_world.specs.Whole.{Whole};
 ghost use Rattle.tc_world.specs.Steps.{Steps};
 ghost use Rattle.tc_world.specs.Marks.{AreMarksLow, IsFresh};
 ghost use Rattle.tc_world.specs.OneAtATime.{is_forge, EachIsKnown, IsOneAtATime};
-ghost use Rattle.tc_world.specs.Recovery.{IsWrittenFor, AreNoted, IsWritten, come_back, LosesNone, IsNew, StandFor, start_over};
+ghost use Rattle.tc_world.specs.Recovery.{IsWrittenFor, AreNoted, IsWritten, come_back, MayCrash, IsNew, StandFor, start_over};
+ghost use Rattle.tc_world.specs.Ahead.{Written, all_written, Tells, Grows, Turn, Goes, WritesAhead};
 ghost use Rattle.tc_world.specs.Lives.{AreAmong, left_with, HasLived};
 ghost use Rattle.tc_world.specs.declared.step.Step.{Step as StepValue};
+ghost use Rattle.tc_world.specs.declared.step.Step.TheVariants as step;
 ghost use Rattle.tc_world.specs.declared.step.Outcome.{Outcome as OutcomeValue};
 
 /// Whatever happened to a world since it was fresh, and however often its transaction component crashed
@@ -69,17 +71,43 @@ pub fn comes_back()
         → IsWritten first notes (come_back first notes w) }
 {}
 
-/// What the rule of writing ahead keeps. Whatever step is taken, where each wire that it sends was
-/// written for, what it makes known of data components was noted, and a crash comes back from no less
-/// than was written, all that was carried is written; and so it stays when more is written.
+/// What the rule of writing ahead keeps, step by step. Whatever step is taken: where what was written is written on, up to somewhere in
+/// the log behind the step, and then each wire is written for and what is known of data components is noted, all that was carried is
+/// written; so it is behind a cut where the log that began anew is written in place of the other; and so it stays when more is written.
 pub fn written_ahead()
     ensures fresh { (w : Whole) (notes : List SiteNote) → IsFresh w → AreNoted (low_water w.core.events) w notes
         → IsWritten w.core.events notes w }
-    ensures step { (w v : Whole) (x : StepValue) (o : OutcomeValue) (first : List EventValue) (notes noted : List SiteNote)
-        → Steps w x o v → is_forge x ≡ false → LosesNone (length first) x → IsWritten first notes w → All (IsWrittenFor first) v.copies
-        → AreNoted (low_water first) v noted → IsWritten first noted v }
+    ensures step { (w v : Whole) (x : StepValue) (o : OutcomeValue) (first more : List EventValue) (notes noted : List SiteNote)
+        → Legal w.core.procs w.core.events → Legal v.core.procs v.core.events → Steps w x o v → is_forge x ≡ false
+        → Grows x first more v.core.events → IsWritten first notes w → All (IsWrittenFor more) v.copies
+        → AreNoted (low_water more) v noted → IsWritten more noted v }
+    ensures cut { (w v : Whole) (o : OutcomeValue) (first : List EventValue) (notes noted : List SiteNote) → Legal w.core.procs w.core.events
+        → Steps w step.Cut o v → IsWritten first notes w → AreNoted (low_water v.core.events) v noted → IsWritten v.core.events noted v }
     ensures wire { (ps : List Checked) (first more : List EventValue) (x : WireValue) → Legal ps more → Begins first more
         → IsWrittenFor first x → IsWrittenFor more x }
     ensures more { (w : Whole) (first more : List EventValue) (notes : List SiteNote) → Legal w.core.procs w.core.events
         → Begins first more → Begins more w.core.events → IsWritten first notes w → IsWritten more notes w }
+{}
+
+/// An engine that writes ahead, turn by turn, and is killed anywhere. What it had written tells of all that was carried, so that a crash
+/// that finds just this is possible, and the engine comes back from it to a world that has lived. Whatever step is taken but a crash, an
+/// engine writes ahead that writes the whole log and all that it knows before it carries what the step sent.
+pub fn killed_anywhere()
+    // In each world that has lived, the whole log and notes of all that is known tell of all that was carried.
+    ensures whole { (w : Whole) → HasLived w → Tells (all_written w) w }
+    ensures told { (turns : List Turn) (p q : Written) (w v : Whole) → HasLived w → Tells p w → WritesAhead turns p w q v → Tells q v }
+    ensures may { (turns : List Turn) (p q : Written) (w v : Whole) → HasLived w → Tells p w → WritesAhead turns p w q v
+        → MayCrash (length q.events) v }
+    ensures lived { (turns : List Turn) (p q : Written) (w v : Whole) → HasLived w → Tells p w → WritesAhead turns p w q v → HasLived v }
+    ensures back { (turns : List Turn) (p q : Written) (w v : Whole) → HasLived w → Tells p w → WritesAhead turns p w q v
+        → HasLived (come_back q.events q.notes v) }
+    // So the premises can be met by each step, those that send among them.
+    ensures met { (w v : Whole) (x : StepValue) (o : OutcomeValue) → HasLived w → Steps w x o v → is_forge x ≡ false
+        → ((events : ℕ) → x ≢ step.Crash events) → Legal v.core.procs v.core.events → AllGood v.core.procs
+        → WritesAhead (Goes x (all_written v) v.copies v.replies v.news ∷ []) (all_written w) w (all_written v) v }
+    // And by one that is killed behind it, with nothing more written, and nothing carried that the step made.
+    ensures unwritten { (w v : Whole) (x : StepValue) (o : OutcomeValue) (p : Written) → Tells p w → Steps w x o v → is_forge x ≡ false
+        → ((events : ℕ) → x ≢ step.Crash events) → x ≢ step.Cut → Legal v.core.procs v.core.events → AllGood v.core.procs
+        → AreNoted (low_water p.events) (left_with w.copies v.replies v.news v) p.notes
+        → WritesAhead (Goes x p w.copies v.replies v.news ∷ []) p w p (left_with w.copies v.replies v.news v) }
 {}

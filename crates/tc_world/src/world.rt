@@ -10,7 +10,9 @@ ghost use Rattle.request_numbers.specs.Given.{holds};
 ghost use Rattle.transactions.specs.Legal.{Legal};
 ghost use Rattle.transactions.specs.Reached.{decls};
 ghost use Rattle.transactions.specs.Room.{each_one, total};
-ghost use Rattle.tc_world.specs.Marks.{AreMarksLow, IsFresh, IsOpenAboveMarks};
+ghost use Rattle.std.specs.List.{All};
+ghost use Rattle.history.specs.Anew.{begun};
+ghost use Rattle.tc_world.specs.Marks.{HasJustBegun, HasRowsAlone, IsUp, AreMarksLow, IsFresh, IsOpenAboveMarks};
 ghost use Rattle.serial.specs.Audit.{IsAgreed};
 ghost use Rattle.tc_world.specs.OneAtATime.{is_forge, NoForge, EachIsKnown, IsOneAtATime};
 ghost use Rattle.tc_world.specs.Lives.{HasLived};
@@ -25,6 +27,7 @@ ghost use Rattle.tc_world.specs.declared.step.Step.TheVariants as step;
 use crate::again::make_again;
 use crate::asking::{find_number, find_txn};
 use crate::beginning::admitted_since;
+use crate::cutting::{first_unforgettable, forget_all, kept_marks};
 use crate::noting::notes_of;
 use crate::parts::{at, checkpoint_at, is_spent_at, perform_at, restart_at};
 use crate::step::{Illegal, Outcome, Step};
@@ -35,6 +38,7 @@ use access_slots::op::{News, Reply, Wire};
 use data_component::dc::Dc;
 use std::alloc::{AllocError, Global};
 use std::marker::Model;
+use tc_core::beginning::CheckpointFault;
 use tc_core::state::{Call, NewsFault, Redo, Request, TcState};
 
 /// A transaction component, its data components, and every wire and reply that was ever sent.
@@ -66,10 +70,14 @@ impl Model for World {
 }
 
 impl World {
-    /// A world in which nothing was sent. No transaction may be open. It takes no memory.
+    /// A world in which nothing was sent. No transaction may be open. Where nothing has happened since the
+    /// log began, as in a state and data components that are empty, it is fresh. It takes no memory.
     pub fn new(alloc: Global, state: TcState, dcs: Vec<Dc>) -> World
         requires { total each_one state.events ≡ 0 }
-        ensures { result ≡ record { core = state; dcs = dcs.items; copies = []; replies = []; news = [] } }
+        ensures whole { result ≡ record { core = state; dcs = dcs.items; copies = []; replies = []; news = [] } }
+        ensures fresh { HasJustBegun state.events → All IsUp state.sites → All (HasRowsAlone (begun state.events)) dcs.items
+            → IsFresh result }
+        ensures lived { IsFresh result → HasLived result }
     {
         state.known();
         World {
@@ -390,6 +398,30 @@ impl World {
         Ok(Outcome::Crashed(events, self.state.open_count()))
     }
 
+    // The log begins anew, where nothing is open and each data component can forget what it has performed.
+    fn cut(&mut self) -> Result<Outcome, Illegal>
+        ensures ok { IfOk result (λ o. Steps.Cuts self.old o self.new) }
+        ensures err { OnErr result (self.new ≡ self.old) }
+        ensures why { IfErr result (Steps.IsNotCut self.old) }
+    {
+        self.state.known();
+        let open = self.state.open_count();
+        if open > 0 {
+            return Err(Illegal::NotCut(CheckpointFault::Open(open)));
+        }
+        let low_water = self.state.low_water();
+        if let Some(dc) = first_unforgettable(self.dcs.as_slice(), low_water) {
+            return Err(Illegal::Unforgettable(dc));
+        }
+        let marks = kept_marks(self.alloc, &self.state, self.dcs.as_slice())?;
+        match self.state.checkpoint(marks.as_slice()) {
+            Ok(()) => {}
+            Err(fault) => return Err(Illegal::NotCut(fault)),
+        }
+        forget_all(&mut self.dcs, &self.state, low_water);
+        Ok(Outcome::Cut(self.state.admitted(), self.state.begun()))
+    }
+
     fn try_step(&mut self, step: &Step) -> Result<Outcome, Illegal>
         ensures ok { IfOk result (λ o. Steps self.old step.now o self.new) }
         ensures err { OnErr result (self.new ≡ self.old) }
@@ -409,6 +441,7 @@ impl World {
             Step::Tell(news) => self.tell(*news),
             Step::Redo(dc) => self.redo(*dc),
             Step::Crash(events) => self.crash(*events),
+            Step::Cut => self.cut(),
         }
     }
 
@@ -427,14 +460,30 @@ impl World {
         Ok(outcome)
     }
 
-    /// Takes one step. An illegal one changes nothing.
+    /// Takes one step. An illegal one changes nothing. Behind it holds what [`World::run`] says of a world
+    /// behind a list of steps.
     pub fn step(&mut self, step: &Step) -> Result<Outcome, Illegal>
         ensures ok { IfOk result (λ o. Steps self.old step.now o self.new) }
         ensures err { OnErr result (self.new ≡ self.old) }
         ensures why { IfErr result (λ i. IsIllegal self.old step.now i) }
+        ensures legal { Legal self.new.core.procs self.new.core.events }
+        ensures covered { (n : ℕ) (f : Flight) → InFlight self.new.core.events self.new.core.sites n f
+            → allows (held_for (decls self.new.core.procs) (call_of self.new.core.events f.txn) (target f.op)) (is_read f.op) ≡ true }
+        ensures held { (n : ℕ) (f : Flight) → open_op self.new.core.events n ≡ Some f
+            → allows (held (decls self.new.core.procs) self.new.core.events f.txn (target f.op)) (is_read f.op) ≡ true }
+        ensures apart { (m n : ℕ) (f g : Flight) → InFlight self.new.core.events self.new.core.sites m f
+            → InFlight self.new.core.events self.new.core.sites n g
+            → m ≢ n → conflict f.op g.op ≡ false }
         ensures marks { AreMarksLow self.old → AreMarksLow self.new }
+        ensures open_above { AreMarksLow self.old → IsOpenAboveMarks self.new }
+        ensures one_at_a_time { is_forge step.now ≡ false → HasLived self.old → IsOneAtATime self.new }
+        ensures agreed { is_forge step.now ≡ false → HasLived self.old → EachIsKnown self.new
+            → IsAgreed self.new.core.procs self.new.core.events self.new.dcs }
+        ensures lived { is_forge step.now ≡ false → HasLived self.old → HasLived self.new }
     {
-        self.keep_step(step)
+        let told = self.keep_step(step);
+        self.state.known();
+        told
     }
 
     /// Takes steps up to the first illegal one, and says its place. Whatever the steps were, the

@@ -1,5 +1,5 @@
 use embedding::call;
-use embedding::codes::{DONE, DOWN, NO_SUCH_CALL, NOTHING_OPEN, STRANGER};
+use embedding::codes::{BEGUN, DONE, DOWN, NO_PLACE, NO_SUCH_CALL, NOTHING_OPEN, STRANGER};
 use embedding::engine::{self, Engine};
 use std::test::Fail;
 
@@ -25,19 +25,23 @@ fn hand_in(engine: &mut Engine) -> bool {
     made(engine, call::BYTES) == DONE && made(engine, call::SLOT) == DONE
 }
 
-// A transaction component with one data component and this procedure as `r`, whose call for record 7 has
-// come to its question.
-fn asked(engine: &mut Engine) -> bool {
+// A transaction component with one data component and this procedure as `r`.
+fn loaded(engine: &mut Engine) -> bool {
     engine.frame.word = 1;
     let begun = made(engine, call::START_TC) == DONE && hand_in(engine);
     engine.frame.word = 1;
     engine.frame.bytes[0] = b'r';
     engine.frame.count = 1;
-    let loaded = made(engine, call::LOAD) == DONE;
+    begun && made(engine, call::LOAD) == DONE
+}
+
+// The same, whose call for record 7 has come to its question.
+fn asked(engine: &mut Engine) -> bool {
+    let loaded = loaded(engine);
     engine.frame.word = 0;
     engine.frame.count = 1;
     engine.frame.args[0] = 7;
-    begun && loaded && made(engine, call::ADMIT) == DONE && made(engine, call::ASK) == DONE
+    loaded && made(engine, call::ADMIT) == DONE && made(engine, call::ASK) == DONE
 }
 
 // A value that is no answer to a read, an answer, and the answer again.
@@ -92,12 +96,15 @@ fn told(engine: &mut Engine) -> [u32; 2] {
     [made(engine, call::TOLD), made(engine, call::WIRE)]
 }
 
-// It is up, and the request is sent.
-fn sent(engine: &mut Engine) -> ([u32; 3], u64) {
+// Nothing is redone behind any number, it is up, and the request is sent.
+fn sent(engine: &mut Engine) -> ([u32; 5], u64) {
+    engine.frame.number = 0;
+    let behind = made(engine, call::REDO_BEHIND);
+    let none = engine.frame.kind;
     let redone = made(engine, call::REDO_NEXT);
     let up = engine.frame.kind;
     let sent = made(engine, call::WIRE);
-    ([redone, up, sent], engine.frame.incarnation)
+    ([behind, none, redone, up, sent], engine.frame.incarnation)
 }
 
 // A request is held back while its data component is down, and sent again once that is up.
@@ -109,7 +116,106 @@ fn a_restart_is_told(rt: HostRuntime) -> Result<(), Fail> {
     let sent = sent(&mut engine);
     engine::finish(engine);
     assert_eq!(rt; (asked, told), (true, [DONE, DOWN]));
-    assert_eq!(rt; sent, ([DONE, 2, DONE], 1));
+    assert_eq!(rt; sent, ([DONE, 2, DONE, 2, DONE], 1));
+    Ok(())
+}
+
+// The row at this place of one log is handed in elsewhere.
+fn handed_over(from: &mut Engine, place: u64, to: &mut Engine) -> bool {
+    from.frame.place = place;
+    let shown = made(from, call::LOG_BYTES);
+    to.frame.bytes = from.frame.bytes;
+    to.frame.count = from.frame.count;
+    shown == DONE && made(to, call::BYTES) == DONE
+}
+
+// Both rows, and a note that the data component is up.
+fn has_all(from: &mut Engine, to: &mut Engine) -> bool {
+    let cleared = made(to, call::CLEAR) == DONE;
+    let rows = handed_over(from, 0, to) && handed_over(from, 1, to);
+    to.frame.kind = 1;
+    to.frame.incarnation = 0;
+    cleared && rows && made(to, call::NOTE) == DONE
+}
+
+// Once more is refused, and what was handed in is gone.
+fn recovered(engine: &mut Engine) -> [u32; 2] {
+    [made(engine, call::RECOVER), made(engine, call::RECOVER)]
+}
+
+// The open transaction: its kind, number and key.
+fn found(engine: &mut Engine) -> (u32, u32, u64, u64) {
+    engine.frame.place = 0;
+    let found = made(engine, call::OPEN_FROM);
+    (
+        found,
+        engine.frame.kind,
+        engine.frame.number,
+        engine.frame.key,
+    )
+}
+
+// Its request is made again and told as kept, and there is no further one.
+fn retaken(engine: &mut Engine) -> ([u32; 3], u64) {
+    let none = made(engine, call::WIRE);
+    let retaken = made(engine, call::RETAKE);
+    let number = engine.frame.number;
+    engine.frame.place = 1;
+    ([none, retaken, made(engine, call::OPEN_FROM)], number)
+}
+
+// Another comes back from the rows of a log, and has the same request open.
+#[test]
+fn a_log_is_recovered(rt: HostRuntime) -> Result<(), Fail> {
+    let mut engine = engine::made(rt.alloc());
+    let mut other = engine::made(rt.alloc());
+    let asked = asked(&mut engine) && loaded(&mut other) && has_all(&mut engine, &mut other);
+    let recovered = recovered(&mut other);
+    let found = found(&mut other);
+    let retaken = retaken(&mut other);
+    let ended = answered(&mut other);
+    engine::finish(engine);
+    engine::finish(other);
+    assert_eq!(rt; (asked, recovered), (true, [DONE, BEGUN]));
+    assert_eq!(rt; found, (DONE, 2, 1, 7));
+    assert_eq!(rt; retaken, ([NOTHING_OPEN, DONE, NO_PLACE], 1));
+    assert_eq!(rt; ended, [STRANGER, DONE, NOTHING_OPEN]);
+    Ok(())
+}
+
+// The lock of this number: its mode and key.
+fn lock_at(engine: &mut Engine, number: u64) -> (u32, u32, u64) {
+    engine.frame.place = 0;
+    engine.frame.word = number;
+    let told = made(engine, call::LOCK_AT);
+    (told, engine.frame.kind, engine.frame.key)
+}
+
+// Who waits for this data component: its kind, transaction and number.
+fn waiting_for(engine: &mut Engine, dc: u16) -> (u32, u32, u64, u64) {
+    engine.frame.place = 0;
+    engine.frame.dc = dc;
+    let told = made(engine, call::WAITING_FROM);
+    (
+        told,
+        engine.frame.kind,
+        engine.frame.txn,
+        engine.frame.number,
+    )
+}
+
+// What is seen of an open transaction from outside.
+#[test]
+fn locks_and_waits_are_seen(rt: HostRuntime) -> Result<(), Fail> {
+    let mut engine = engine::made(rt.alloc());
+    let asked = asked(&mut engine);
+    let lock = lock_at(&mut engine, 0);
+    let (further, _, _) = lock_at(&mut engine, 1);
+    let waiting = waiting_for(&mut engine, 0);
+    let (elsewhere, _, _, _) = waiting_for(&mut engine, 1);
+    engine::finish(engine);
+    assert_eq!(rt; (asked, lock, further), (true, (DONE, 1, 7), NO_PLACE));
+    assert_eq!(rt; (waiting, elsewhere), ((DONE, 1, 1, 1), NO_PLACE));
     Ok(())
 }
 

@@ -1,7 +1,7 @@
 use access_slots::op::{News, Op, Said};
 use access_slots::slot::Record;
 use frame_file::{FrameFault, FrameFile, Memory};
-use log_file::{Header, LogFile, Note, OpenFault, Recovered, Stored, read_file};
+use log_file::{BaseRow, Header, LogFile, Note, OpenFault, Recovered, Stored, read_file};
 use std::alloc::{AllocError, Global};
 use std::process::Abort;
 use std::test::Fail;
@@ -308,11 +308,15 @@ fn it_is_read_by_itself(rt: HostRuntime) -> Result<(), Fail> {
     };
     let Stored {
         header,
+        base,
         log,
         notes,
         unfinished,
     } = found;
-    assert_eq!(rt; (header, log.len(), unfinished), (HEADER, 2, 223));
+    assert_eq!(rt;
+        (header, base.is_none(), log.len(), unfinished),
+        (HEADER, true, 2, 223)
+    );
     assert_eq!(rt;
         notes.as_slice(),
         [SiteNote::Untold, SiteNote::Up(3)].as_slice()
@@ -351,5 +355,121 @@ fn what_is_nobodys_log(rt: HostRuntime) -> Result<(), Fail> {
         read_file(alloc, b"# A page\n".as_slice()).err(),
         Some(OpenFault::Other)
     );
+    Ok(())
+}
+
+const BASE: [BaseRow; 2] = [
+    (
+        Record {
+            dc: 0,
+            table: 1,
+            key: 2,
+        },
+        [3; 64],
+    ),
+    (
+        Record {
+            dc: 1,
+            table: 0,
+            key: 0,
+        },
+        [4; 64],
+    ),
+];
+
+// A file of a log that begins anew, behind this base.
+fn begun_anew(alloc: Global, base: &[BaseRow]) -> Result<Vec<u8>, Fail> {
+    let mut log = Log::new(alloc);
+    log.reserve(1)?;
+    log.push(Event::Checkpoint {
+        admitted: 5,
+        given: 9,
+    });
+    let row = log.print(alloc)?;
+    let mut file = over(alloc, &[])?;
+    let _empty = file.open(alloc, &HEADER);
+    let _begun = file.begin_anew(alloc, &HEADER, base, &row);
+    Ok(Vec::from_slice(alloc, file.device().bytes())?)
+}
+
+#[test]
+fn a_log_begins_anew(rt: HostRuntime) -> Result<(), Fail> {
+    let alloc = rt.alloc();
+    let bytes = begun_anew(alloc, &BASE)?;
+    let Ok(
+        Recovered {
+            base,
+            log: _log,
+            notes: _notes,
+        },
+    ) = opened(alloc, &bytes, &HEADER)
+    else {
+        panic!(rt; "refused");
+    };
+    let Some(base) = base else {
+        panic!(rt; "no base");
+    };
+    assert_eq!(rt; (bytes.len(), base.as_slice()), (408, BASE.as_slice()));
+    Ok(())
+}
+
+// Cut short, it says no log, but where it has fewer bytes than tell the two layouts apart.
+#[test]
+fn a_beginning_anew_is_whole(rt: HostRuntime) -> Result<(), Fail> {
+    let alloc = rt.alloc();
+    let bytes = begun_anew(alloc, &BASE)?;
+    for len in 0..bytes.len() {
+        let front = bytes.get(..len).unwrap_or_default();
+        let fault = match len {
+            0..=8 => OpenFault::Empty,
+            9..=95 => OpenFault::Other,
+            96..=279 => OpenFault::NoBase(1),
+            _ => OpenFault::NoBase(2),
+        };
+        assert_eq!(rt;
+            opened(alloc, front, &HEADER).err(),
+            Some(fault),
+            "at {len}"
+        );
+    }
+    Ok(())
+}
+
+#[test]
+fn each_changed_byte_of_a_base_is_found(rt: HostRuntime) -> Result<(), Fail> {
+    let alloc = rt.alloc();
+    let bytes = begun_anew(alloc, &BASE)?;
+    for place in 0..bytes.len() {
+        let mut changed = Vec::from_slice(alloc, &bytes)?;
+        if let Some(byte) = changed.get_mut(place) {
+            *byte ^= 0x10;
+        }
+        let fault = match place {
+            0..=95 => OpenFault::Frames(FrameFault::Damaged(0)),
+            96..=279 => OpenFault::Frames(FrameFault::Damaged(1)),
+            280..=287 => OpenFault::Frames(FrameFault::Damaged(2)),
+            _ => OpenFault::NoBase(2),
+        };
+        assert_eq!(rt;
+            opened(alloc, &changed, &HEADER).err(),
+            Some(fault),
+            "at {place}"
+        );
+    }
+    Ok(())
+}
+
+// Records that don't rise are no base.
+#[test]
+fn a_base_rises(rt: HostRuntime) -> Result<(), Fail> {
+    let alloc = rt.alloc();
+    let [first, second] = BASE;
+    for base in [[second, first], [first, first]] {
+        let bytes = begun_anew(alloc, &base)?;
+        assert_eq!(rt;
+            opened(alloc, &bytes, &HEADER).err(),
+            Some(OpenFault::NoBase(1))
+        );
+    }
     Ok(())
 }

@@ -8,6 +8,7 @@
 //! | `crash_tests` | `tc_world`: a transaction component that comes back from its log |
 //! | `coming_back_tests` | `coming_back`: a state and new data components from each beginning of a log |
 //! | `base_tests` | both: worlds that begin with rows, behind a Checkpoint |
+//! | `cut_tests` | `tc_world`: a log that is truncated |
 //! | `memory_tests` | `tc_world`: steps that are refused memory |
 //! | `audit_tests` | `audit`: short logs and what it says of them |
 //!
@@ -26,6 +27,8 @@ mod checks;
 mod coming_back_tests;
 #[cfg(test)]
 mod crash_tests;
+#[cfg(test)]
+mod cut_tests;
 #[cfg(test)]
 mod memory_tests;
 #[cfg(test)]

@@ -16,7 +16,8 @@ use Rattle.coming_back.specs.declared.resumed.Resumed.{Resumed}
 use Rattle.coming_back.specs.declared.resuming.Next.{Next}
 use Rattle.coming_back.specs.declared.resuming.Next.TheVariants.{Send, Ended, Stuck}
 use Rattle.coming_back.specs.Serving.{AreServed}
-use Rattle.tc_world.specs.Lives.{HasLived}
+use Rattle.coming_back.specs.Joining.LivingOn.{LivesOn}
+use Rattle.coming_back.specs.Joining.Quiet.{IsQuiet}
 use Rattle.coming_back.specs.Coming.{at_rest, serial_if, open_to, serial_of, in_doubt, IsEnded, IsResumed}
 
 -- of the state nothing changes but the log, which grows by events of transactions that were admitted, and the numbers given up, which
@@ -27,7 +28,8 @@ pub record Goes (c : Core) (dcs : List Store) (c' : Core) (dcs' : List Store) : 
   pub count : admitted c'.events ≡ admitted c.events
   pub given_up : (n : ℕ) → holds n c.given_up ≡ true → holds n c'.given_up ≡ true
   pub served : AreServed dcs dcs'
-  pub lived : HasLived (at_rest c dcs) → HasLived (at_rest c' dcs')
+  pub lived : LivesOn (at_rest c dcs) (at_rest c' dcs')
+  pub quiet : IsQuiet c dcs → IsQuiet c' dcs'
 
 -- the same for one transaction: all others stand as before
 pub record Moves (t : ℕ) (c : Core) (dcs : List Store) (c' : Core) (dcs' : List Store) : Type 0 where

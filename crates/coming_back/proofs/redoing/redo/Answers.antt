@@ -12,8 +12,12 @@ returns-in-Err-clause-full c = λ is matched. c.in-Err.ensures.full is (matched_
 pub loop-fault-preserved : goal.loop-fault-preserved
 loop-fault-preserved c = record {
   redoes = redoes_at_then _ _ _ _ _ _ _ c.loop-fault.invariant.redoes c.redo_one.ensures.redoes;
+  done = λ so. c.in-Ok-false.ensures.done (c.loop-fault.invariant.done so);
   low = (let many = c.redo_one.ensures.redoes.redoes.count in let low = c.loop-fault.invariant.low in omega (arith, many, low));
 }
 
 pub returns-in-Ok-true-clause-redoes : goal.returns-in-Ok-true-clause-redoes
 returns-in-Ok-true-clause-redoes c = redoes_at_then _ _ _ _ _ _ _ c.loop-fault.invariant.redoes c.redo_one.ensures.redoes
+
+pub returns-in-Ok-true-clause-done : goal.returns-in-Ok-true-clause-done
+returns-in-Ok-true-clause-done c = λ so. c.in-Ok-true.ensures.done (c.loop-fault.invariant.done so)

@@ -2,9 +2,10 @@ use Rattle.std.proofs.Common.{◌≡◌, ◌<◌, refl, sym, ◌∙◌, ap, subs
 use Rattle.tc_core.specs.Core.{Core}
 use Rattle.tc_core.specs.Redo.{IsRedone, after_redone}
 use Rattle.transactions.specs.InFlight.{site_at}
-use Rattle.coming_back.specs.Joining.Redoing.{RedoesAt, left_to_redo}
+use Rattle.coming_back.specs.Joining.Redoing.{RedoesAt, IsRedoneTo, left_to_redo}
 use Rattle.coming_back.proofs.RedoLemmas.{NoSend, next_redoes, up_where_no_send, never_unknown, performed_redoes, redone_redoes, redone_nearer, sends_down}
 use Rattle.coming_back.proofs.FullLemmas.{silent_full}
+use Rattle.coming_back.proofs.DoneLemmas.{next_done, redone_done}
 use Rattle.coming_back.proofs.redoing.redo_one.Goals as goal
 
 pub returns-in-Finished-clause-redoes : goal.returns-in-Finished-clause-redoes
@@ -22,6 +23,15 @@ returns-in-Finished-clause-up c = λ done.
       | inl is ↦ subst NoSend (sym is) tt
       | inr is ↦ subst NoSend (sym is) tt
     ])
+
+pub returns-in-Finished-clause-done : goal.returns-in-Finished-clause-done
+returns-in-Finished-clause-done c = λ so.
+    let e = c.redo_next.ensures in
+    next_done c.args.state.now c.redo_next.new.self c.args.dc c.args.dcs.now c.redo_next.result e.reply e.state
+    (elim c.in-Finished.is [
+      | inl is ↦ subst NoSend (sym is) tt
+      | inr is ↦ subst NoSend (sym is) tt
+    ]) c.known.ensures.legal so
 
 pub unreachable-requires : goal.unreachable-requires
 unreachable-requires c = never_unknown c.args.state.now c.args.dc c.redo_next.result c.requires c.redo_next.ensures.reply c.in-NoDc.is
@@ -49,6 +59,15 @@ returns-in-Ok-clause-redoes c =
     let after : c.redone.new.self ≡ after_redone c.args.state.now c.args.dc c.in-Some.reply.number = c.in-Ok.ensures.ok ∙ ap (λ (x : Core). after_redone x c.args.dc c.in-Some.reply.number) same in
     subst (λ (x : Core). RedoesAt c.args.dc c.args.state.now c.args.dcs.now x c.perform.new.dcs) (sym after)
     (redone_redoes c.args.dc c.args.state.now c.in-Send.wire c.in-Some.reply c.args.dcs.now c.perform.new.dcs k.legal k.good c.in-Send.ensures.reply c.in-Some.ensures it)
+
+pub returns-in-Ok-clause-done : goal.returns-in-Ok-clause-done
+returns-in-Ok-clause-done c = λ so.
+    let k = c.known.ensures in
+    let same : c.redo_next.new.self ≡ c.args.state.now = c.in-Send.ensures.state in
+    let it : IsRedone c.args.state.now c.args.dc c.in-Some.reply = subst (λ (x : Core). IsRedone x c.args.dc c.in-Some.reply) same (c.in-Ok.ensures.accepted.0 refl) in
+    let after : c.redone.new.self ≡ after_redone c.args.state.now c.args.dc c.in-Some.reply.number = c.in-Ok.ensures.ok ∙ ap (λ (x : Core). after_redone x c.args.dc c.in-Some.reply.number) same in
+    subst (λ (x : Core). IsRedoneTo x c.perform.new.dcs c.args.dc) (sym after)
+    (redone_done c.args.dc c.args.state.now c.in-Send.wire c.in-Some.reply c.args.dcs.now c.perform.new.dcs k.legal c.in-Send.ensures.reply c.in-Some.ensures it so)
 
 pub returns-in-Ok-clause-nearer : goal.returns-in-Ok-clause-nearer
 returns-in-Ok-clause-nearer c = λ done.

@@ -1,5 +1,6 @@
-use Rattle.std.proofs.Common.{◌≡◌, ◌<◌, ℕ, refl, sym, ◌∙◌, ap, subst}
+use Rattle.std.proofs.Common.{◌≡◌, ◌<◌, ℕ, true, false, refl, sym, ◌∙◌, ap, subst}
 use Rattle.transactions.specs.Legal.{Legal}
+use Rattle.transactions.proofs.StandingLemmas.{some_same}
 use Rattle.tc_core.specs.Core.{Core, Asking}
 use Rattle.tc_core.specs.Replies.{after_answer, IsAnswer}
 use Rattle.tc_core.specs.GivingUp.{IsOpenHere, with_given_up}
@@ -14,7 +15,8 @@ returns-in_default-clause-moves c =
     let k = c.known.ensures in
     let r = c.args.request in
     subst (λ (x : Core). Moves r.txn c.args.state.now c.args.dcs.now x c.send.new.dcs) (sym (c.give_up.ensures.open_here c.requires))
-    (given_up_moves c.args.state.now r c.send.result c.args.dcs.now c.send.new.dcs k.legal k.good c.requires c.send.ensures)
+    (given_up_moves c.args.state.now r c.send.result c.args.dcs.now c.send.new.dcs k.legal k.good c.requires c.send.ensures
+    (λ z some a. c.in_default.not-Some z some))
 
 pub returns-in_default-clause-left : goal.returns-in_default-clause-left
 returns-in_default-clause-left c =
@@ -55,7 +57,11 @@ returns-in-Err-clause-moves c =
     c.give_up-in-Err.ensures.open_here here
     ∙ (ap (λ (x : Core). with_given_up x q.number) same ∙ ap (λ (x : Asking). with_given_up c.args.state.now x.number) own) in
     subst (λ (x : Core). Moves r.txn c.args.state.now c.args.dcs.now x c.send.new.dcs) (sym e)
-    (given_up_moves c.args.state.now r c.send.result c.args.dcs.now c.send.new.dcs k.legal k.good c.requires c.send.ensures)
+    (given_up_moves c.args.state.now r c.send.result c.args.dcs.now c.send.new.dcs k.legal k.good c.requires c.send.ensures
+    (λ z some a.
+    let mine : z ≡ c.in-Some.reply = some_same z c.in-Some.reply (sym some ∙ c.in-Some.is) in
+    let ok : false ≡ true = c.in-Err.ensures.accepted.1 (subst (IsAnswer c.args.state.now r) mine a) in
+    cc))
 
 pub returns-in-Err-clause-left : goal.returns-in-Err-clause-left
 returns-in-Err-clause-left c =

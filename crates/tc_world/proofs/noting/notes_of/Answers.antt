@@ -1,6 +1,5 @@
-use Rattle.std.proofs.Common.{◌≡◌, ◌+◌, ◌<◌, ◌++◌, ◌∷◌, [], List, length, map, take, arith, sym, ◌∙◌, ap}
+use Rattle.std.proofs.Common.{◌≡◌, ◌<◌, ◌++◌, ◌∷◌, [], List, length, map, take, arith, sym, ◌∙◌, ap}
 use Rattle.transactions.specs.InFlight.{site_at}
-use Rattle.transactions.specs.declared.Site.{Site}
 use Rattle.tc_core.specs.declared.recovery.SiteNote.{SiteNote}
 use Rattle.tc_world.specs.Recovery.{note_of}
 use Rattle.tc_world.proofs.ComingBack.{noted_more}

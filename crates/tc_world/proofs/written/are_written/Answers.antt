@@ -1,4 +1,4 @@
-use Rattle.std.proofs.Common.{◌≡◌, ℕ, ◌≤◌, true, false, List, length, arith, sym, ◌∙◌, ap, subst}
+use Rattle.std.proofs.Common.{◌≡◌, ℕ, ◌≤◌, true, false, length, arith, sym, ◌∙◌, ap}
 use Rattle.std.specs.Prelude.{IsTrue, ◌↔◌, reverse, take, drop}
 use Rattle.std.specs.List.{All}
 use Rattle.std.proofs.lemmas.List.{length-reverse}
@@ -6,11 +6,9 @@ use Rattle.access_slots.specs.declared.op.Reply.{Reply}
 use Rattle.access_slots.specs.declared.op.News.{News}
 use Rattle.tc_log.specs.declared.event.Event.{Event}
 use Rattle.history.specs.Flight.{given, low_water}
-use Rattle.transactions.specs.declared.Site.{Site}
 use Rattle.tc_core.specs.Recovery.{first_events}
 use Rattle.tc_world.specs.Whole.{Whole}
-use Rattle.tc_world.specs.Marks.{IsLow}
-use Rattle.tc_world.specs.Recovery.{IsWrittenFor, IsWrittenAt, MayCrash}
+use Rattle.tc_world.specs.Recovery.{IsWrittenFor, IsWrittenAt}
 use Rattle.tc_world.specs.Joining.Written.{given_of}
 use Rattle.audit.proofs.GivenLemmas.{begun_few}
 use Rattle.tc_world.proofs.CrashLemmas.{looks, copies_so, replies_so, stores_so, news_so, sites_so, both_so, not_so, lacking, may_crash}

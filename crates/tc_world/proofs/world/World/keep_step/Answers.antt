@@ -8,8 +8,9 @@ use Rattle.tc_world.proofs.world.World.keep_step.Goals as goal
 
 pub returns-clause-marks : goal.returns-clause-marks
 returns-clause-marks c low =
+    let was = is_legal _ _ (ap (λ (w : Whole). w.core) c.self.view_is) c.known.ensures.legal in
     let legal = is_legal _ _ (ap (λ (w : Whole). w.core) c.self-2.view_is) c.known-2.ensures.legal in
-    stay_low c.args.self.now c.try_step.new.self c.args.step.now c.in_ok-outcome.outcome legal c.in_ok-outcome.ensures.ok low
+    stay_low c.args.self.now c.try_step.new.self c.args.step.now c.in_ok-outcome.outcome was legal c.in_ok-outcome.ensures.ok low
 
 pub returns-clause-listed : goal.returns-clause-listed
 returns-clause-listed c honest listed =
