@@ -11,17 +11,15 @@ use Rattle.frame_file.specs.Reading.{IsSettled}
 use Rattle.log_file.specs.declared.note.Note.{Note}
 use Rattle.log_file.specs.declared.file.LogFile.{LogFile}
 use Rattle.log_file.specs.declared.header.Header.{Header}
-use Rattle.log_file.specs.Bytes.{Batch, header_bytes, batch_bytes, payloads_of, rows_of}
+use Rattle.log_file.specs.Bytes.{Batch, batch_bytes, payloads_of, rows_of}
 use Rattle.log_file.specs.Reading.{IsBatch}
 use Rattle.log_file.proofs.GatheringLemmas.{batches_push}
+use Rattle.log_file.proofs.LawLemmas.{payloads_push}
 use Rattle.log_journal.specs.Keeping.{HasWritten}
 
 -- rows, and nothing that is noted
 abbrev pub of_rows : List ℕ → Batch
 of_rows rows = record { notes = []; rows = rows }
-
-payloads_push : (h : Header) (batches : List Batch) (b : Batch) → payloads_of h (batches ++ b ∷ []) ≡ payloads_of h batches ++ batch_bytes b ∷ []
-payloads_push h batches b = ap (λ (ps : List (List ℕ)). header_bytes h ∷ ps) (map-append batch_bytes batches (b ∷ []))
 
 is_batch : (dcs : ℕ) (rows : List ℕ) → length rows % 96 ≡ 0 → IsBatch dcs (of_rows rows)
 is_batch dcs rows whole = record { notes = tt; count = omega arith; there = All-nil (λ (n : Note). n.dc < dcs); whole = whole }
@@ -35,9 +33,11 @@ pub written_push : {D : Type 0} (seen : D → List ℕ) (may_leave : D → List 
 written_push seen may_leave h file new before more rows was rows_are whole appended =
     let b = of_rows rows in
     record {
+      base = was.base;
+      starts = was.starts;
       batches = was.batches ++ b ∷ [];
       are = batches_push h.dcs was.batches b was.are (is_batch h.dcs rows whole);
-      settled = subst (IsSettled seen may_leave new.frames) (sym (payloads_push h was.batches b)) (appended (payloads_of h was.batches) was.settled);
+      settled = subst (IsSettled seen may_leave new.frames) (sym (payloads_push h was.base was.batches b)) (appended (payloads_of h was.base was.batches) was.settled);
       rows = flat_map-append (λ (x : Batch). x.rows) was.batches (b ∷ []) ∙ (ap₂ (λ (l m : List ℕ). l ++ m) was.rows (append-one rows ∙ rows_are) ∙ sym (flat_map-append printed before more));
     }
   where

@@ -4,7 +4,7 @@ ghost use Rattle.std.specs.Prelude.{◌≡◌, ◌++◌, ℕ, List, drop, revers
 ghost use Rattle.tc_log.specs.declared.event.Event.{Event as EventValue};
 ghost use Rattle.frame_file.specs.Device.{Only};
 ghost use Rattle.log_file.specs.declared.header.Header.{Header as HeaderValue};
-ghost use Rattle.log_file.specs.Reading.{IsOpenFault};
+ghost use Rattle.log_file.specs.Reading.{IsOpenFault, IsRefusal, IsAsItWas};
 ghost use Rattle.log_journal.specs.Keeping.{HasWritten, IsLogOf};
 
 use frame_file::{Device, DeviceError, FrameFault};
@@ -25,7 +25,8 @@ fn unkept(fault: FrameFault) -> NotKept {
 
 // Why a file isn't begun.
 fn not_begun(fault: FrameFault) -> OpenFault
-    ensures { (header : HeaderValue) (file : List ℕ) → IsOpenFault header file result }
+    ensures fault { (header : HeaderValue) (file : List ℕ) → IsOpenFault header file result }
+    ensures refused { IsRefusal result → ⊥ }
 {
     match fault {
         FrameFault::Device(error) => OpenFault::Frames(FrameFault::Device(error)),
@@ -52,25 +53,44 @@ impl<D: Device + Drop> LogJournal<D> {
         ensures fault { IfErr result (IsOpenFault header (D.seen device)) }
     {
         let mut file = LogFile::new(device);
-        let log = match file.open(alloc, &header) {
-            Ok(Recovered { log, notes }) => {
+        let log = LogJournal::begin(alloc, &mut file, &header)?;
+        Ok((LogJournal::over(alloc, file, header), log))
+    }
+
+    /// The log that a file has, which is begun where it has no frame.
+    pub fn begin(alloc: Global, file: &mut LogFile<D>, header: &Header) -> Result<Log, OpenFault>
+        // After a restart, what is read is what is on the disk.
+        requires { Only (D.seen file.old.frames.device) (D.may_leave file.old.frames.device) }
+        ensures kept { IfOk result (λ log. HasWritten D.seen D.may_leave header.now file.new (reverse log.events)) }
+        ensures log { IfOk result (λ log. IsLogOf header.now (D.seen file.old.frames.device) (reverse log.events)) }
+        ensures fault { IfErr result (IsOpenFault header.now (D.seen file.old.frames.device)) }
+        ensures refused { IfErr result (λ fault. IsRefusal fault
+            → IsAsItWas D.seen D.may_leave D.kept file.old.frames.device file.new.frames.device) }
+    {
+        match file.open(alloc, header) {
+            Ok(Recovered { base, log, notes }) => {
+                drop(base);
                 drop(notes);
-                log
+                Ok(log)
             }
-            Err(OpenFault::Empty) => match file.create(alloc, &header) {
-                Ok(()) => Log::new(alloc),
-                Err(fault) => return Err(not_begun(fault)),
+            Err(OpenFault::Empty) => match file.create(alloc, header) {
+                Ok(()) => Ok(Log::new(alloc)),
+                Err(fault) => Err(not_begun(fault)),
             },
-            Err(fault) => return Err(fault),
-        };
-        Ok((
-            LogJournal {
-                alloc,
-                header,
-                file,
-            },
-            log,
-        ))
+            Err(fault) => Err(fault),
+        }
+    }
+
+    /// The journal of a file that has the log.
+    pub fn over(alloc: Global, file: LogFile<D>, header: Header) -> LogJournal<D>
+        ensures file { result.file ≡ file }
+        ensures header { result.header ≡ header }
+    {
+        LogJournal {
+            alloc,
+            header,
+            file,
+        }
     }
 
     /// Keeps the events of a log from this place on, the oldest at 0, behind those that it has kept.

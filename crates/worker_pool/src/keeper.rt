@@ -66,10 +66,11 @@ impl<J: Naming, K: Journal> Model for Keeper<J, K> {
 }
 
 impl<J: Naming, K: Journal> Keeper<J, K> {
-    ghost use Rattle.std.specs.Prelude.{◌≡◌, ◌+◌, ◌++◌, ◌∷◌, List, [], None, true, length, reverse, OnOk, IfOk, IfErr};
+    ghost use Rattle.std.specs.Prelude.{◌≡◌, ◌+◌, ◌++◌, ◌∷◌, List, [], None, Some, true, length, reverse, OnOk, IfOk, IfErr, IsErrOf};
     ghost use Rattle.tc_log.specs.declared.event.Event.{Event as EventValue};
     ghost use Rattle.worker_pool.specs.Joining.Handing.{HasAll, events_of};
     ghost use Rattle.worker_pool.specs.Joining.Ran.{KeepsAll};
+    ghost use Rattle.worker_pool.specs.declared.journal.NotKept.{NotKept as NotKeptValue};
 
     /// The journal of a run, or none, before anything is handed over. The log has so many events.
     pub fn new(
@@ -115,12 +116,24 @@ impl<J: Naming, K: Journal> Keeper<J, K> {
         Ok(Acknowledgement::kept(due))
     }
 
+    // Whether the journal may be asked: not behind a keep that failed.
+    fn may_ask(&self) -> Result<(), NotKept>
+        ensures sound { OnOk result (self.now.fault ≡ None) }
+        ensures failed { IfErr result (λ why. self.now.fault ≡ Some why) }
+    {
+        match self.fault {
+            None => Ok(()),
+            Some(fault) => Err(fault),
+        }
+    }
+
     // Keeps the batch, behind which all of this is handed over and the log has so many events.
     fn write(&mut self, handed: Handed<J>, events: usize) -> Result<(), NotKept>
         requires sound { self.old.fault ≡ None }
         requires handed { handed ≡ self.old.handed ++ self.old.batch ∷ [] }
         requires events { events ≡ length J.start.events + length (events_of handed) }
-        ensures { OnOk result ((self.new.handed ≡ handed) × HasAll K.has_kept J.before self.new.journal handed) }
+        ensures all { OnOk result ((self.new.handed ≡ handed) × HasAll K.has_kept J.before self.new.journal handed) }
+        ensures failed { IfErr result (λ why. (self.new.handed ≡ self.old.handed) × (self.new.fault ≡ Some why)) }
     {
         match self.journal.keep(self.batch.log()) {
             Ok(()) => {
@@ -128,18 +141,18 @@ impl<J: Naming, K: Journal> Keeper<J, K> {
                 self.events = events;
                 Ok(())
             }
-            Err(fault) => {
-                self.fault = Some(fault);
-                Err(fault)
+            Err(why) => {
+                self.fault = Some(why);
+                Err(why)
             }
         }
     }
 
     // Keeps all that the log has. The desk's lock is held while that is copied, and free while it is written.
-    fn keep<R: Wait>(&mut self, rt: &R, desk: &Mutex<Desk<J>>) -> Result<(), NotKept> {
-        if let Some(fault) = self.fault {
-            return Err(fault);
-        }
+    fn keep<R: Wait>(&mut self, rt: &R, desk: &Mutex<Desk<J>>) -> Result<(), NotKept>
+        ensures never_again { (why : NotKeptValue) → self.old.fault ≡ Some why → (self.new ≡ self.old) × IsErrOf result why }
+    {
+        self.may_ask()?;
         let (handed, events) = acquire(rt, desk).hand_over(
             &self.count,
             &self.handed,
@@ -152,10 +165,9 @@ impl<J: Naming, K: Journal> Keeper<J, K> {
     fn keep_alone(&mut self, desk: &mut Desk<J>) -> Result<(), NotKept>
         ensures same { desk.new ≡ desk.old }
         ensures all { OnOk result (KeepsAll K.has_kept J.before J.start.events desk.new.state.events self.new) }
+        ensures never_again { (why : NotKeptValue) → self.old.fault ≡ Some why → (self.new ≡ self.old) × IsErrOf result why }
     {
-        if let Some(fault) = self.fault {
-            return Err(fault);
-        }
+        self.may_ask()?;
         let (handed, events) = desk.hand_over(&self.count, &self.handed, &mut self.batch)?;
         self.write(handed, events)
     }
@@ -167,7 +179,8 @@ impl<J: Naming, K: Journal> Keeper<J, K> {
         kept: Result<(), NotKept>,
     ) -> Result<Acknowledgement<J>, Stopped<J>>
         requires { J.keeps ≡ true }
-        ensures { IfOk result (λ acknowledgement. acknowledgement ≡ due) }
+        ensures due { IfOk result (λ acknowledgement. acknowledgement ≡ due) }
+        ensures same { self.new.journal ≡ self.old.journal }
     {
         let (due, fault) = match kept {
             Ok(()) => match self.acknowledge(due) {
@@ -188,7 +201,8 @@ impl<J: Naming, K: Journal> Keeper<J, K> {
         desk: &Mutex<Desk<J>>,
         due: Due<J>,
     ) -> Result<Acknowledgement<J>, Stopped<J>>
-        ensures { IfOk result (λ acknowledgement. acknowledgement ≡ due) }
+        ensures due { IfOk result (λ acknowledgement. acknowledgement ≡ due) }
+        ensures never_again { (why : NotKeptValue) → self.old.fault ≡ Some why → self.new.journal ≡ self.old.journal }
     {
         match self.acknowledge(due) {
             Ok(acknowledgement) => Ok(acknowledgement),
@@ -207,6 +221,7 @@ impl<J: Naming, K: Journal> Keeper<J, K> {
     ) -> Result<Acknowledgement<J>, Stopped<J>>
         ensures due { IfOk result (λ acknowledgement. acknowledgement ≡ due) }
         ensures same { desk.new ≡ desk.old }
+        ensures never_again { (why : NotKeptValue) → self.old.fault ≡ Some why → self.new.journal ≡ self.old.journal }
     {
         match self.acknowledge(due) {
             Ok(acknowledgement) => Ok(acknowledgement),
@@ -232,6 +247,7 @@ impl<J: Naming, K: Journal> Keeper<J, K> {
     pub fn keep_rest(&mut self, desk: &mut Desk<J>) -> Result<(), Stopped<J>>
         ensures same { desk.new ≡ desk.old }
         ensures all { OnOk result (J.keeps ≡ true → KeepsAll K.has_kept J.before J.start.events desk.new.state.events self.new) }
+        ensures never_again { (why : NotKeptValue) → self.old.fault ≡ Some why → self.new.journal ≡ self.old.journal }
     {
         if !self.keeps {
             return Ok(());

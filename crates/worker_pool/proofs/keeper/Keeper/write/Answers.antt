@@ -13,8 +13,8 @@ invariant_of-self g c =
     ((c.self.invariant.1 sound).0) c.in-Ok.ensures handed in
     (c.self.invariant.0, (λ _. (kept, c.requires.events)), c.self.invariant.2)
 
-pub returns-in-Ok : goal.returns-in-Ok
-returns-in-Ok g c =
+pub returns-in-Ok-clause-all : goal.returns-in-Ok-clause-all
+returns-in-Ok-clause-all g c =
     let sound : c.self.inside.fault ≡ None = ap (λ (v : Shelf _). v.fault) c.self.view_is ∙ c.requires.sound in
     let handed : c.args.handed ≡ c.self.inside.handed ++ reverse c.log.result.now.events ∷ [] =
     c.requires.handed ∙ (sym (ap (λ (v : Shelf _). v.handed ++ v.batch ∷ []) c.self.view_is) ∙ ap (λ (b : List Event). c.self.inside.handed ++ b ∷ []) (sym c.log.ensures)) in (
