@@ -14,7 +14,7 @@ use Rattle.embedding.specs.Gathering.{GatheredBy, IsAsGathered}
 use Rattle.embedding.specs.declared.gathered.Gathered.{Gathered}
 
 pub same_gathered : (g : Gathered) → IsAsGathered g g
-same_gathered g = record { bytes = refl; slots = refl }
+same_gathered g = record { bytes = refl; slots = refl; notes = refl }
 
 -- a call of this number, whose facts are known by the number
 pub served_as : (p : TcPart) (f : Frame) (code : ℕ) (p' : TcPart) (f' : Frame) (what : ℕ) → f.what ≡ what → (code ≢ 0 → p'.state ≡ p.state)

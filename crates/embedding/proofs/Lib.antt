@@ -1,3 +1,4 @@
 pub mod ByNumber
 pub mod Parts
 pub mod RunningLemmas
+pub mod AdmittedLemmas

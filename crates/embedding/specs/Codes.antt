@@ -8,8 +8,13 @@ use Rattle.register_kinds.specs.declared.kind.Violation.{Violation}
 use Rattle.register_kinds.specs.declared.kind.Violation.TheVariants as violation
 use Rattle.tc_core.specs.declared.beginning.CheckpointFault.{CheckpointFault}
 use Rattle.tc_core.specs.declared.beginning.CheckpointFault.TheVariants as anew
+use Rattle.tc_core.specs.declared.checking.CheckFault.TheVariants as check
+use Rattle.tc_core.specs.declared.recovery.RecoverFault.{RecoverFault}
+use Rattle.tc_core.specs.declared.recovery.RecoverFault.TheVariants as recover
 use Rattle.tc_core.specs.declared.state.NewsFault.{NewsFault}
 use Rattle.tc_core.specs.declared.state.NewsFault.TheVariants as news
+use Rattle.tc_log.specs.declared.read.LogFault.{LogFault}
+use Rattle.tc_log.specs.declared.read.LogFault.TheVariants as read
 
 -- E1 to E7; W5 where memory ran out
 abbrev pub decode_number : DecodeFault → ℕ
@@ -76,3 +81,31 @@ checkpoint_number anew.DcCount = 0x4703
 checkpoint_number anew.Down = 0x4704
 checkpoint_number anew.Behind = 0x4705
 checkpoint_number anew.Spent = 0x4706
+
+-- L1, L2; W5
+abbrev pub read_number : LogFault → ℕ
+read_number read.Length = 0x4c01
+read_number (read.Kind row) = 0x4c02
+read_number read.Memory = 0x5705
+
+-- the row
+abbrev pub read_place : LogFault → ℕ
+read_place read.Length = 0
+read_place (read.Kind row) = row
+read_place read.Memory = 0
+
+-- R1, R2, U1, Q3; W5
+abbrev pub recover_number : RecoverFault → ℕ
+recover_number recover.Begun = 0x5201
+recover_number recover.DcCount = 0x5202
+recover_number (recover.Unfit (check.LogIllegal place)) = 0x5501
+recover_number (recover.Unfit check.Memory) = 0x5705
+recover_number (recover.Forgotten dc) = 0x5103
+
+-- the place in the log, or the data component
+abbrev pub recover_place : RecoverFault → ℕ
+recover_place recover.Begun = 0
+recover_place recover.DcCount = 0
+recover_place (recover.Unfit (check.LogIllegal place)) = place
+recover_place (recover.Unfit check.Memory) = 0
+recover_place (recover.Forgotten dc) = dc

@@ -1,4 +1,4 @@
--- Code and slots that were handed in: what they are as a procedure, and why they are none.
+-- What was handed in. Code and slots: what they are as a procedure, and why they are none.
 use Rattle.std.specs.Prelude.{◌≡◌, ℕ, ◌==◌, ◌<◌, ⊤, MatchBool, List, [], ◌∷◌, ◌++◌, Some, None}
 use Rattle.access_slots.specs.Declaration.{Declaration, decl_fault}
 use Rattle.access_slots.specs.declared.slot.Key.{Key}
@@ -8,11 +8,13 @@ use Rattle.access_slots.specs.declared.slot.Mode.TheVariants.{Read, Write}
 use Rattle.access_slots.specs.declared.slot.Slot.{Slot}
 use Rattle.bpf_encoding.specs.Named.{code_named}
 use Rattle.bpf_encoding.specs.Spells.{Spells, fault_in, IsFirstFault}
+use Rattle.tc_core.specs.declared.recovery.SiteNote.{SiteNote}
+use Rattle.tc_core.specs.declared.recovery.SiteNote.TheVariants.{Untold, Restarted, Up}
 use Rattle.verifier.specs.Checked.{Checked}
 use Rattle.verifier.specs.Verdict.{verdict}
 use Rattle.embedding.specs.Codes.{decl_number, decl_place, decode_number, decode_place, violation_number}
-use Rattle.embedding.specs.Frames.{text_in}
-use Rattle.embedding.specs.declared.call.TheConstants.{BYTES, SLOT, CLEAR}
+use Rattle.embedding.specs.Frames.{text_in, news_in}
+use Rattle.embedding.specs.declared.call.TheConstants.{BYTES, SLOT, CLEAR, NOTE, RECOVER}
 use Rattle.embedding.specs.declared.frame.Frame.{Frame}
 use Rattle.embedding.specs.declared.gathered.Gathered.{Gathered}
 use Rattle.embedding.specs.declared.gathered.Wrong.{Wrong}
@@ -28,6 +30,12 @@ abbrev pub IsKey : Frame → Key → Type 0
 IsKey f (Fixed key) = (f.op ≡ 0) × (f.key ≡ key)
 IsKey f (Arg argument) = (f.op ≡ 1) × (f.key ≡ argument)
 
+-- the frame says this of a data component: that it is up (1), or has restarted (2)
+abbrev pub IsNote : Frame → SiteNote → Type 0
+IsNote f Untold = ⊥
+IsNote f (Up incarnation) = (f.kind ≡ 1) × (f.incarnation ≡ incarnation)
+IsNote f (Restarted news) = (f.kind ≡ 2) × (news_in f ≡ news)
+
 -- the frame says this slot
 pub record SaysSlot (f : Frame) (slot : Slot) : Type 0 where
   pub mode : IsMode f.kind slot.mode
@@ -38,16 +46,19 @@ pub record SaysSlot (f : Frame) (slot : Slot) : Type 0 where
 pub record HasNothing (g : Gathered) : Type 0 where
   pub bytes : g.bytes.items ≡ []
   pub slots : g.slots.items ≡ []
+  pub notes : g.notes.items ≡ []
 
--- byte by byte and slot by slot what it was
+-- byte by byte, slot by slot and note by note what it was
 pub record IsAsGathered (g : Gathered) (g' : Gathered) : Type 0 where
   pub bytes : g'.bytes.items ≡ g.bytes.items
   pub slots : g'.slots.items ≡ g.slots.items
+  pub notes : g'.notes.items ≡ g.notes.items
 
 -- the frame's bytes are behind those that there were
 pub record TakesBytes (g : Gathered) (f : Frame) (g' : Gathered) : Type 0 where
   pub bytes : g'.bytes.items ≡ g.bytes.items ++ text_in f
   pub slots : g'.slots.items ≡ g.slots.items
+  pub notes : g'.notes.items ≡ g.notes.items
 
 -- the frame's slot is behind those that there were
 pub record TakesSlot (g : Gathered) (f : Frame) (g' : Gathered) : Type 0 where
@@ -55,6 +66,15 @@ pub record TakesSlot (g : Gathered) (f : Frame) (g' : Gathered) : Type 0 where
   pub said : SaysSlot f slot
   pub slots : g'.slots.items ≡ g.slots.items ++ slot ∷ []
   pub bytes : g'.bytes.items ≡ g.bytes.items
+  pub notes : g'.notes.items ≡ g.notes.items
+
+-- the frame's note is behind those that there were
+pub record TakesNote (g : Gathered) (f : Frame) (g' : Gathered) : Type 0 where
+  pub note : SiteNote
+  pub said : IsNote f note
+  pub notes : g'.notes.items ≡ g.notes.items ++ note ∷ []
+  pub bytes : g'.bytes.items ≡ g.bytes.items
+  pub slots : g'.slots.items ≡ g.slots.items
 
 -- what a call that answered 0 makes of what was handed in, by its number; one that isn't named here leaves it as it was
 abbrev pub GatheredBy : ℕ → Gathered → Frame → Gathered → Type 0
@@ -62,7 +82,9 @@ GatheredBy what g f g' =
     MatchBool (what == BYTES) (TakesBytes g f g')
     (MatchBool (what == SLOT) (TakesSlot g f g')
     (MatchBool (what == CLEAR) (HasNothing g')
-    (IsAsGathered g g')))
+    (MatchBool (what == NOTE) (TakesNote g f g')
+    (MatchBool (what == RECOVER) (HasNothing g')
+    (IsAsGathered g g')))))
 
 -- ---- what it is
 

@@ -1,35 +1,49 @@
 -- What one call makes of a transaction component, by the frame that it was made with, the code that it answered and the frame
 -- behind it.
-use Rattle.std.specs.Prelude.{◌≡◌, ◌≢◌, ◌+◌, ℕ, Bool, ◌==◌, ◌<◌, ⊤, MatchBool, IsTrue, ◌↔◌, List, [], ◌∷◌, ◌++◌, length, min, replicate, reverse, take, slice_get, swap_remove, Some, None, Ok}
+use Rattle.std.specs.Prelude.{◌≡◌, ◌≢◌, ◌+◌, ℕ, Bool, ◌==◌, ◌<◌, ⊤, MatchBool, IsTrue, IsSome, ◌↔◌, ◌≤◌, List, [], ◌∷◌, ◌++◌, length, min, replicate, reverse, take, slice_get, swap_remove, Option, Some, None, Ok}
+use Rattle.access_slots.specs.Locks.{mode_in, target, Rising}
+use Rattle.access_slots.specs.declared.lock.Lock.{Lock}
 use Rattle.access_slots.specs.declared.op.Reply.{Reply}
 use Rattle.access_slots.specs.declared.op.Wire.{Wire}
-use Rattle.history.specs.Calls.{admitted}
-use Rattle.history.specs.Flight.{low_water}
+use Rattle.access_slots.specs.declared.slot.Mode.{Mode}
+use Rattle.access_slots.specs.declared.slot.Mode.TheVariants.{Read, Write}
+use Rattle.access_slots.specs.declared.slot.Record.{Record}
+use Rattle.history.specs.Calls.{admitted, held}
+use Rattle.history.specs.Anew.{begun}
+use Rattle.history.specs.Flight.{given, low_water}
 use Rattle.tc_log.specs.declared.event.Event.{Event}
 use Rattle.tc_log.specs.declared.event.Event.TheVariants.{Admit}
 use Rattle.tc_log.specs.Printed.{printed}
+use Rattle.tc_log.specs.Reading.{ArePrinted, AreOnlyOnes, IsReadFault}
+use Rattle.tc_log.specs.declared.read.LogFault.{LogFault}
 use Rattle.transactions.specs.InFlight.{site_at}
+use Rattle.transactions.specs.declared.Sent.{Sent}
+use Rattle.transactions.specs.Legal.{Legal}
+use Rattle.transactions.specs.Reached.{decls}
 use Rattle.transactions.specs.Room.{each_one, total}
 use Rattle.transactions.specs.Standing.{standing}
-use Rattle.tc_core.specs.Core.{Asking}
+use Rattle.tc_core.specs.Core.{Core, Asking}
 use Rattle.tc_core.specs.Admission.{IsAdmissible, IsRefused}
-use Rattle.tc_core.specs.Blocked.{IsBlocked}
+use Rattle.tc_core.specs.Blocked.{is_stranded, IsBlocked}
 use Rattle.tc_core.specs.GivingUp.{IsOpenHere, with_given_up}
 use Rattle.tc_core.specs.Lent.{wire_of}
 use Rattle.tc_core.specs.Loaded.{number_of}
 use Rattle.tc_core.specs.Loading.{load_refusal, IsFirstRefusal}
-use Rattle.tc_core.specs.Redo.{news_fault, after_told, redo_reply, after_redo, IsRedone, after_redone}
+use Rattle.tc_core.specs.Recovery.{open_request, recovered, sent_in, AllReach, IsRecoverFault}
+use Rattle.tc_core.specs.Redo.{news_fault, after_told, redo_reply, redo_behind, after_redo, IsRedone, after_redone}
 use Rattle.tc_core.specs.Replies.{ask_reply, after_ask, undo_reply, after_undo, IsAnswer, after_answer, end_of, after_end, with_event}
 use Rattle.tc_core.specs.declared.procs.LoadRefusal.{LoadRefusal}
 use Rattle.tc_core.specs.Checkpointing.{MayCheckpoint, checkpointed, IsCheckpointFault}
 use Rattle.tc_core.specs.declared.beginning.CheckpointFault.{CheckpointFault}
+use Rattle.tc_core.specs.declared.recovery.RecoverFault.{RecoverFault}
 use Rattle.tc_core.specs.declared.state.NewsFault.{NewsFault}
 use Rattle.tc_core.specs.declared.state.Refusal.{Refusal}
-use Rattle.embedding.specs.Codes.{news_number, checkpoint_number}
-use Rattle.embedding.specs.Frames.{bit, Carries, Brings, news_in, args_in, text_in, call_in}
+use Rattle.embedding.specs.Codes.{news_number, checkpoint_number, read_number, read_place, recover_number, recover_place}
+use Rattle.embedding.specs.Frames.{bit, IsOf, Names, Carries, Brings, news_in, args_in, text_in, call_in}
 use Rattle.embedding.specs.Gathering.{GatheredBy, IsAsGathered, checked_of, IsProcedure, IsWrong, wrong_number, wrong_place}
-use Rattle.embedding.specs.Telling.{Tells, requests_of, EndsAs, TellsRefusal, TellsLoading, TellsRedo, TellsSite}
+use Rattle.embedding.specs.Telling.{Sends, Tells, requests_of, EndsAs, TellsRefusal, TellsLoading, TellsRedo, TellsSite}
 use Rattle.embedding.specs.declared.call.TheConstants.{LOAD, FIND, ADMIT, BLOCKED, ASK, UNDO, WIRE, ANSWER, GIVE_UP, END, OPEN_COUNT, LOG_LENGTH, LOG_BYTES, SITE, TOLD, REDO_NEXT, REDONE, LOG_ANEW, LOW_WATER}
+use Rattle.embedding.specs.declared.call.TheConstants.{RECOVER, OPEN_FROM, RETAKE, WAITING_FROM, LOCK_AT, REDO_BEHIND}
 use Rattle.embedding.specs.declared.codes.TheConstants.{BAD_FRAME, MEMORY, NOT_TEXT, NO_TXN, NOT_OVER, NOTHING_OPEN, STRANGER}
 use Rattle.embedding.specs.declared.frame.Frame.{Frame}
 use Rattle.embedding.specs.declared.gathered.Wrong.{Wrong}
@@ -65,6 +79,47 @@ pub data WhyNotLoaded (p : TcPart) (f : Frame) (code : ℕ) (f' : Frame) : Type 
   Unnamed : code ≡ BAD_FRAME → WhyNotLoaded p f code f'
   Untold : code ≡ NOT_TEXT → WhyNotLoaded p f code f'
   Refused : IsNotLoaded p f code f' → WhyNotLoaded p f code f'
+
+-- ---- the way back from a log
+
+-- the bytes that were handed in are this log's rows, and no other's
+pub record AreRowsOf (p : TcPart) (log : List Event) : Type 0 where
+  pub printed : ArePrinted (reverse log) p.gathered.bytes.items
+  pub only : AreOnlyOnes (reverse log) p.gathered.bytes.items
+
+-- what happened is the log that was handed in, and of data components is known what was noted; then nothing is handed in any more
+pub record Recovers (p : TcPart) (p' : TcPart) : Type 0 where
+  pub log : List Event
+  pub rows : AreRowsOf p log
+  pub nothing_yet : p.state.events ≡ []
+  pub count : length p.gathered.notes.items ≡ p.state.dcs
+  pub legal : Legal p.state.procs log
+  pub reaches : AllReach (begun log) p.gathered.notes.items
+  pub is : p'.state ≡ recovered p.state log p.gathered.notes.items
+
+-- the bytes are no log's
+pub record IsNoLog (p : TcPart) (code : ℕ) (f' : Frame) : Type 0 where
+  pub why : LogFault
+  pub is : IsReadFault p.gathered.bytes.items why
+  pub number : code ≡ read_number why
+  pub place : f'.place ≡ read_place why
+
+-- it doesn't come back from the log
+pub record IsNotRecovered (p : TcPart) (code : ℕ) (f' : Frame) : Type 0 where
+  pub log : List Event
+  pub rows : AreRowsOf p log
+  pub why : RecoverFault
+  pub is : IsRecoverFault p.state log p.gathered.notes.items why
+  pub number : code ≡ recover_number why
+  pub place : f'.place ≡ recover_place why
+
+-- want of memory aside
+pub data IsLogRefused (p : TcPart) (code : ℕ) (f' : Frame) : Type 0 where
+  Unread : IsNoLog p code f' → IsLogRefused p code f'
+  Unfit : IsNotRecovered p code f' → IsLogRefused p code f'
+
+abbrev pub WhyNotRecovered : TcPart → ℕ → Frame → Type 0
+WhyNotRecovered p code f' = code ≢ MEMORY → IsLogRefused p code f'
 
 -- ---- transactions
 
@@ -110,6 +165,31 @@ pub record Resends (p : TcPart) (f : Frame) (f' : Frame) : Type 0 where
   pub wire : Wire
   pub is : wire_of p.state request ≡ Ok wire
   pub told : Carries f' wire
+
+-- the open request, which nobody held, is made again, and kept
+pub record IsRetaken (p : TcPart) (f : Frame) (p' : TcPart) (f' : Frame) : Type 0 where
+  pub unheld : HasNoRequest p.requests.items f.txn
+  pub request : Asking
+  pub is : open_request p.state f.txn ≡ Some request
+  pub told : Sends request f' (wire_of p.state request)
+  pub kept : p'.requests.items ≡ p.requests.items ++ request ∷ []
+
+-- the request that is kept is told
+pub record IsHeld (p : TcPart) (f : Frame) (p' : TcPart) (f' : Frame) : Type 0 where
+  pub place : ℕ
+  pub request : Asking
+  pub at : slice_get p.requests.items place ≡ Some request
+  pub of : request.txn ≡ f.txn
+  pub told : Sends request f' (wire_of p.state request)
+  pub kept : p'.requests.items ≡ p.requests.items
+
+pub data Retakes (p : TcPart) (f : Frame) (p' : TcPart) (f' : Frame) : Type 0 where
+  Again : p'.state ≡ p.state → IsRetaken p f p' f' → Retakes p f p' f'
+  Held : p'.state ≡ p.state → IsHeld p f p' f' → Retakes p f p' f'
+
+pub record WhyNotRetaken (p : TcPart) (f : Frame) (code : ℕ) : Type 0 where
+  pub closed : code ≡ NO_TXN → standing p.state.events f.txn ≡ None
+  pub none : code ≡ NOTHING_OPEN → open_request p.state f.txn ≡ None
 
 pub record Answers (p : TcPart) (f : Frame) (p' : TcPart) : Type 0 where
   pub place : ℕ
@@ -211,6 +291,88 @@ pub record SaysBlocked (p : TcPart) (f : Frame) (f' : Frame) : Type 0 where
   pub is : IsTrue blocked ↔ IsBlocked p.state (call_in f)
   pub told : f'.word ≡ bit blocked
 
+-- this transaction was admitted at this place of the log, by a call of this procedure, and is open
+pub record IsOpenAt (c : Core) (place : ℕ) (txn : ℕ) (proc : ℕ) : Type 0 where
+  pub args : List ℕ
+  pub at : slice_get (reverse c.events) place ≡ Some (Admit txn proc args)
+  pub stands : IsSome (standing c.events txn)
+
+-- none that is open was admitted from this place on up to that one
+abbrev pub NoneIsOpen : Core → ℕ → ℕ → Type 0
+NoneIsOpen c from to = (place txn proc : ℕ) → from ≤ place → place < to → IsOpenAt c place txn proc → ⊥
+
+pub record HasRequest (rs : List Asking) (txn : ℕ) : Type 0 where
+  pub place : ℕ
+  pub is : IsRequestOf rs txn place
+
+-- whether the transaction's request is kept (1) or nobody holds it (2)
+pub data SaysHeld (rs : List Asking) (txn : ℕ) (kind : ℕ) : Type 0 where
+  Held : kind ≡ 1 → HasRequest rs txn → SaysHeld rs txn kind
+  Unheld : kind ≡ 2 → HasNoRequest rs txn → SaysHeld rs txn kind
+
+pub record ShowsAwaited (rs : List Asking) (txn : ℕ) (sent : Sent) (f : Frame) : Type 0 where
+  pub number : f.number ≡ sent.number
+  pub op : Names f sent.op
+  pub held : SaysHeld rs txn f.kind
+
+-- the frame says what the transaction waits for, or that it waits for nothing (3)
+abbrev pub SaysAwaited : List Asking → ℕ → Option Sent → Frame → Type 0
+SaysAwaited rs txn None f = f.kind ≡ 3
+SaysAwaited rs txn (Some sent) f = ShowsAwaited rs txn sent f
+
+-- the first open transaction from a place of the log on, what it waits for, and whether it is in doubt or stuck
+pub record ShowsOpen (p : TcPart) (f : Frame) (f' : Frame) : Type 0 where
+  pub behind : f.place ≤ f'.place
+  pub is_open : IsOpenAt p.state f'.place f'.txn f'.word
+  pub first : NoneIsOpen p.state f.place f'.place
+  pub awaited : SaysAwaited p.requests.items f'.txn (sent_in (standing p.state.events f'.txn)) f'
+  pub stranded : f'.count ≡ bit (is_stranded p.state f'.txn)
+
+-- the transaction is open, was admitted at this place of the log, and waits for this operation, at this data component
+pub record WaitsAt (c : Core) (dc place txn proc : ℕ) (sent : Sent) : Type 0 where
+  pub is_open : IsOpenAt c place txn proc
+  pub waits : sent_in (standing c.events txn) ≡ Some sent
+  pub here : (target sent.op).dc ≡ dc
+
+-- none waits there that was admitted from this place on up to that one
+abbrev pub NoneWaits : Core → ℕ → ℕ → ℕ → Type 0
+NoneWaits c dc from to = (place txn proc : ℕ) (sent : Sent) → from ≤ place → place < to → WaitsAt c dc place txn proc sent → ⊥
+
+-- the first transaction from a place of the log on that waits for the frame's data component, for what, and whether it is in doubt
+pub record ShowsWaiting (p : TcPart) (f : Frame) (f' : Frame) : Type 0 where
+  pub behind : f.place ≤ f'.place
+  pub sent : Sent
+  pub waits : WaitsAt p.state f.dc f'.place f'.txn f'.word sent
+  pub first : NoneWaits p.state f.dc f.place f'.place
+  pub awaited : ShowsAwaited p.requests.items f'.txn sent f'
+  pub stranded : f'.count ≡ bit (is_stranded p.state f'.txn)
+
+-- these are the locks that the transaction holds, by rising record
+pub record AreItsLocks (c : Core) (txn : ℕ) (locks : List Lock) : Type 0 where
+  pub rising : Rising locks
+  pub all : (r : Record) → mode_in locks r ≡ held (decls c.procs) c.events txn r
+
+abbrev pub mode_number : Mode → ℕ
+mode_number Read = 1
+mode_number Write = 2
+
+-- of the open transaction that was admitted at a place of the log the lock of this number, from 0: its record, and whether it is for
+-- reading alone (1) or for both (2)
+pub record ShowsLock (p : TcPart) (f : Frame) (f' : Frame) : Type 0 where
+  pub proc : ℕ
+  pub is_open : IsOpenAt p.state f.place f'.txn proc
+  pub locks : List Lock
+  pub its : AreItsLocks p.state f'.txn locks
+  pub lock : Lock
+  pub at : slice_get locks f.word ≡ Some lock
+  pub named : IsOf f' lock.«record»
+  pub mode : f'.kind ≡ mode_number lock.mode
+
+-- none is open that was admitted at this place, or it holds no more locks than that
+pub data HasNoLock (c : Core) (place number : ℕ) : Type 0 where
+  Closed : ((txn proc : ℕ) → IsOpenAt c place txn proc → ⊥) → HasNoLock c place number
+  Past : (txn proc : ℕ) (locks : List Lock) → IsOpenAt c place txn proc → AreItsLocks c txn locks → length locks ≤ number → HasNoLock c place number
+
 -- what a call has done that answered 0, by its number; one that isn't named here leaves the transaction component as it was
 abbrev pub DoneBy : ℕ → TcPart → Frame → TcPart → Frame → Type 0
 DoneBy what p f p' f' =
@@ -225,20 +387,23 @@ DoneBy what p f p' f' =
     (MatchBool (what == REDO_NEXT) (Redoes p f 0 p' f')
     (MatchBool (what == REDONE) (HasRedone p f p')
     (MatchBool (what == LOG_ANEW) (BeginsAnew p f p')
-    (p'.state ≡ p.state)))))))))))
+    (MatchBool (what == RECOVER) (Recovers p p')
+    (MatchBool (what == RETAKE) (Retakes p f p' f')
+    (p'.state ≡ p.state)))))))))))))
 
 abbrev pub KeepsRequests : TcPart → TcPart → Type 0
 KeepsRequests p p' = p'.requests.items ≡ p.requests.items
 
--- what a call that answered 0 leaves of the requests that are kept, by its number: all, but for those that keep one more (Asks, Undoes)
--- or one less (Answers, GivesUp)
+-- what a call that answered 0 leaves of the requests that are kept, by its number: all, but for those that keep one more (Asks, Undoes,
+-- Retakes) or one less (Answers, GivesUp)
 abbrev pub RequestsBy : ℕ → TcPart → TcPart → Type 0
 RequestsBy what p p' =
     MatchBool (what == ASK) ⊤
     (MatchBool (what == UNDO) ⊤
     (MatchBool (what == ANSWER) ⊤
     (MatchBool (what == GIVE_UP) ⊤
-    (KeepsRequests p p'))))
+    (MatchBool (what == RETAKE) ⊤
+    (KeepsRequests p p')))))
 
 -- what such a call says, that has changed nothing
 abbrev pub ShownBy : ℕ → TcPart → Frame → Frame → Type 0
@@ -250,8 +415,12 @@ ShownBy what p f f' =
     (MatchBool (what == LOG_LENGTH) (f'.word ≡ length p.state.events)
     (MatchBool (what == LOG_BYTES) (ShowsEvent p f f')
     (MatchBool (what == SITE) (TellsSite (site_at p.state.sites f.dc) f')
-    (MatchBool (what == LOW_WATER) (f'.low_water ≡ low_water p.state.events)
-    ⊤)))))))
+    (MatchBool (what == LOW_WATER) ((f'.low_water ≡ low_water p.state.events) × (f'.number ≡ given p.state.events))
+    (MatchBool (what == OPEN_FROM) (ShowsOpen p f f')
+    (MatchBool (what == WAITING_FROM) (ShowsWaiting p f f')
+    (MatchBool (what == LOCK_AT) (ShowsLock p f f')
+    (MatchBool (what == REDO_BEHIND) (TellsRedo (redo_behind p.state f.dc f.number) 0 f')
+    ⊤)))))))))))
 
 -- why a call did nothing, by its number
 abbrev pub RefusedBy : ℕ → TcPart → Frame → ℕ → TcPart → Frame → Type 0
@@ -268,7 +437,13 @@ RefusedBy what p f code p' f' =
     (MatchBool (what == REDO_NEXT) (TellsRedo (redo_reply p.state f.dc) code f')
     (MatchBool (what == REDONE) (code ≡ STRANGER → IsNotRedone p f)
     (MatchBool (what == LOG_ANEW) (WhyNotBegun p f code)
-    ⊤)))))))))))
+    (MatchBool (what == RECOVER) (WhyNotRecovered p code f')
+    (MatchBool (what == RETAKE) (WhyNotRetaken p f code)
+    (MatchBool (what == OPEN_FROM) (NoneIsOpen p.state f.place (length p.state.events))
+    (MatchBool (what == WAITING_FROM) (NoneWaits p.state f.dc f.place (length p.state.events))
+    (MatchBool (what == LOCK_AT) (HasNoLock p.state f.place f.word)
+    (MatchBool (what == REDO_BEHIND) (TellsRedo (redo_behind p.state f.dc f.number) code f')
+    ⊤)))))))))))))))))
 
 -- refused means unchanged; the reply of a stranger aside, whose request is kept in another place (IsStranger)
 pub record IsServed (p : TcPart) (f : Frame) (code : ℕ) (p' : TcPart) (f' : Frame) : Type 0 where

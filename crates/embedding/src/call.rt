@@ -19,6 +19,12 @@ pub const LOAD: u32 = 13;
 
 pub const FIND: u32 = 14;
 
+/// What was noted of each data component, one by one, and the way back from a log: its rows come in as code
+/// does.
+pub const NOTE: u32 = 15;
+
+pub const RECOVER: u32 = 16;
+
 /// Its transactions.
 pub const ADMIT: u32 = 20;
 
@@ -57,6 +63,14 @@ pub const LOG_ANEW: u32 = 35;
 
 pub const LOW_WATER: u32 = 36;
 
+/// Who is open, one by one, and a request that nobody holds.
+pub const OPEN_FROM: u32 = 37;
+
+pub const RETAKE: u32 = 38;
+
+/// The locks that an open transaction holds, one by one.
+pub const LOCK_AT: u32 = 39;
+
 /// Of a data component.
 pub const PERFORM: u32 = 40;
 
@@ -84,3 +98,9 @@ pub const VERIFY: u32 = 50;
 pub const RUN: u32 = 51;
 
 pub const RESUME: u32 = 52;
+
+/// Of a transaction component again: who waits for a data component, one by one.
+pub const WAITING_FROM: u32 = 60;
+
+/// And what is redone behind a number, for several at once.
+pub const REDO_BEHIND: u32 = 61;

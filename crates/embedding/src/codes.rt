@@ -2,12 +2,16 @@
 
 ghost use Rattle.std.specs.Prelude.{◌≡◌, ◌≢◌};
 ghost use Rattle.embedding.specs.Codes.{decode_number, decode_place, violation_number, decl_number, decl_place, news_number, checkpoint_number};
+ghost use Rattle.embedding.specs.Codes.{read_number, read_place, recover_number, recover_place};
 
 use access_slots::decl::DeclFault;
 use bpf_encoding::decode::DecodeFault;
 use register_kinds::kind::Violation;
 use tc_core::beginning::CheckpointFault;
+use tc_core::checking::CheckFault;
+use tc_core::recovery::RecoverFault;
 use tc_core::state::NewsFault;
+use tc_log::read::LogFault;
 
 /// It was done.
 pub const DONE: u32 = 0;
@@ -51,6 +55,16 @@ pub const OLD_NEWS: u32 = 0x490f;
 pub const NOT_DOWN: u32 = 0x4910;
 /// Q3: the news' mark is below the numbers behind which the log begins.
 pub const FORGOTTEN: u32 = 0x5103;
+/// R1: something has happened here already.
+pub const BEGUN: u32 = 0x5201;
+/// R2: there isn't one note for each data component.
+pub const NOTE_COUNT: u32 = 0x5202;
+/// L1: the rows aren't 96 bytes each.
+pub const ROW_LENGTH: u32 = 0x4c01;
+/// L2: a row is no event's.
+pub const NO_EVENT: u32 = 0x4c02;
+/// U1: an event may not stand behind the ones before it.
+pub const LOG_ILLEGAL: u32 = 0x5501;
 /// P1: the name is taken.
 pub const NAME_TAKEN: u32 = 0x5001;
 /// P2: a slot names a data component that isn't there.
@@ -134,5 +148,33 @@ pub fn checkpoint_code(fault: CheckpointFault) -> u32
         CheckpointFault::Down => 0x4704,
         CheckpointFault::Behind => 0x4705,
         CheckpointFault::Spent => 0x4706,
+    }
+}
+
+/// L1, L2 or W5, and the row.
+pub fn read_code(fault: LogFault) -> (u32, u64)
+    ensures refused { result.0 ≢ 0 }
+    ensures number { result.0 ≡ read_number fault }
+    ensures place { result.1 ≡ read_place fault }
+{
+    match fault {
+        LogFault::Length => (ROW_LENGTH, 0),
+        LogFault::Kind(row) => (NO_EVENT, row as u64),
+        LogFault::Memory => (MEMORY, 0),
+    }
+}
+
+/// R1, R2, U1, W5 or Q3, and the place in the log or the data component.
+pub fn recover_code(fault: RecoverFault) -> (u32, u64)
+    ensures refused { result.0 ≢ 0 }
+    ensures number { result.0 ≡ recover_number fault }
+    ensures place { result.1 ≡ recover_place fault }
+{
+    match fault {
+        RecoverFault::Begun => (BEGUN, 0),
+        RecoverFault::DcCount => (NOTE_COUNT, 0),
+        RecoverFault::Unfit(CheckFault::LogIllegal(place)) => (LOG_ILLEGAL, place as u64),
+        RecoverFault::Unfit(CheckFault::Memory) => (MEMORY, 0),
+        RecoverFault::Forgotten(dc) => (FORGOTTEN, dc as u64),
     }
 }

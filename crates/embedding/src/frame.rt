@@ -16,7 +16,7 @@ pub struct Frame {
     pub kind: u32,
     /// Which operation: 1 read, 2 insert, 3 update, 4 delete.
     pub op: u32,
-    /// How many arguments or bytes.
+    /// How many arguments or bytes, or 1 where an open transaction is in doubt or stuck.
     pub count: u32,
     pub dc: u16,
     pub table: u16,

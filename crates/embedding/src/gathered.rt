@@ -1,8 +1,10 @@
-// Code and access slots, as they are handed in piece by piece.
+// Code and access slots, or a log's rows and what was noted of data components, as they are handed in piece by piece.
 
-ghost use Rattle.std.specs.Prelude.{◌≡◌, ◌≢◌, IfOk, IfErr, IfSome};
+ghost use Rattle.std.specs.Prelude.{◌≡◌, ◌≢◌, reverse, IfOk, IfErr, IfSome};
+ghost use Rattle.tc_log.specs.Reading.{ArePrinted, AreOnlyOnes, IsReadFault};
 ghost use Rattle.embedding.specs.Codes.{decl_number, decl_place, decode_number, decode_place};
-ghost use Rattle.embedding.specs.Gathering.{IsMode, IsKey, HasNothing, IsAsGathered, TakesBytes, TakesSlot, checked_of, IsProcedure, IsWrong, wrong_number, wrong_place};
+ghost use Rattle.embedding.specs.Gathering.{IsMode, IsKey, IsNote, HasNothing, IsAsGathered, TakesBytes, TakesSlot, TakesNote};
+ghost use Rattle.embedding.specs.Gathering.{checked_of, IsProcedure, IsWrong, wrong_number, wrong_place};
 
 use crate::codes::{self, BAD_FRAME, DONE, MEMORY};
 use crate::frame::Frame;
@@ -11,6 +13,9 @@ use access_slots::slot::{Key, Mode, Slot};
 use bpf_encoding::decode::{DecodeFault, decode};
 use register_kinds::kind::Violation;
 use std::alloc::Global;
+use tc_core::recovery::SiteNote;
+use tc_log::log::Log;
+use tc_log::read::LogFault;
 use verifier::verify::{Verified, VerifyFault, verify};
 
 /// What was handed in so far.
@@ -19,6 +24,7 @@ pub struct Gathered {
     alloc: Global,
     bytes: Vec<u8>,
     slots: Vec<Slot>,
+    notes: Vec<SiteNote>,
 }
 
 /// Why what was handed in is no procedure, in the order in which it is looked for.
@@ -78,6 +84,17 @@ fn key_of(frame: &Frame) -> Option<Key>
     }
 }
 
+// That a data component is up, or has restarted.
+fn note_of(frame: &Frame) -> Option<SiteNote>
+    ensures { IfSome result (IsNote frame.now) }
+{
+    match frame.kind {
+        1 => Some(SiteNote::Up(frame.incarnation)),
+        2 => Some(SiteNote::Restarted(frame.news())),
+        _ => None,
+    }
+}
+
 impl Gathered {
     /// Nothing yet. It takes no memory.
     pub fn new(alloc: Global) -> Gathered
@@ -87,16 +104,16 @@ impl Gathered {
             alloc,
             bytes: Vec::new(alloc),
             slots: Vec::new(alloc),
+            notes: Vec::new(alloc),
         }
     }
 
-    /// Forgets all.
+    /// Forgets all, and gives its memory back.
     pub fn clear(&mut self) -> u32
         ensures code { result ≡ DONE }
         ensures done { HasNothing self.new }
     {
-        self.bytes.clear();
-        self.slots.clear();
+        *self = Gathered::new(self.alloc);
         DONE
     }
 
@@ -135,6 +152,36 @@ impl Gathered {
             Ok(()) => DONE,
             Err(_) => MEMORY,
         }
+    }
+
+    /// The frame's note behind those that there are.
+    pub fn more_notes(&mut self, frame: &Frame) -> u32
+        ensures refused { result ≢ 0 → IsAsGathered self.old self.new }
+        ensures done { result ≡ 0 → TakesNote self.old frame.now self.new }
+    {
+        let Some(note) = note_of(frame) else {
+            return BAD_FRAME;
+        };
+        match self.notes.push(note) {
+            Ok(()) => DONE,
+            Err(_) => MEMORY,
+        }
+    }
+
+    /// The log whose rows the bytes are.
+    pub fn log(&self) -> Result<Log, LogFault>
+        ensures ok { IfOk result (λ log. ArePrinted (reverse log.events) self.now.bytes.items) }
+        ensures only { IfOk result (λ log. AreOnlyOnes (reverse log.events) self.now.bytes.items) }
+        ensures err { IfErr result (IsReadFault self.now.bytes.items) }
+    {
+        Log::read(self.alloc, self.bytes.as_slice())
+    }
+
+    /// The notes.
+    pub fn notes(&self) -> &[SiteNote]
+        ensures { result.now ≡ self.now.notes.items }
+    {
+        self.notes.as_slice()
     }
 
     // What was handed in, as a declaration for so many arguments.

@@ -23,6 +23,7 @@ mod dc_part;
 pub mod engine;
 pub mod frame;
 mod gathered;
+mod opened;
 mod program;
 mod tc_part;
 mod telling;

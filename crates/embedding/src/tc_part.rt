@@ -5,7 +5,8 @@ ghost use Rattle.transactions.specs.InFlight.{site_at};
 ghost use Rattle.transactions.specs.Room.{each_one, total};
 ghost use Rattle.transactions.specs.Standing.{standing};
 ghost use Rattle.tc_core.specs.Loaded.{number_of};
-ghost use Rattle.tc_core.specs.Redo.{redo_reply};
+ghost use Rattle.tc_core.specs.Recovery.{open_request, sent_in};
+ghost use Rattle.tc_core.specs.Redo.{redo_reply, redo_behind};
 ghost use Rattle.tc_core.specs.Replies.{end_of};
 ghost use Rattle.embedding.specs.Frames.{args_in, text_in};
 ghost use Rattle.embedding.specs.Gathering.{HasNothing, IsAsGathered};
@@ -13,6 +14,8 @@ ghost use Rattle.embedding.specs.Sound.{IsSoundCore};
 ghost use Rattle.embedding.specs.Telling.{TellsRedo, TellsSite};
 ghost use Rattle.embedding.specs.Serving.{Loads, WhyNotLoaded, Admits, WhyNotAdmitted, Asks, Undoes, Resends, Answers, IsStranger, GivesUp, Ends};
 ghost use Rattle.embedding.specs.Serving.{KeepsRequests, Hears, WhyNotHeard, Redoes, HasRedone, IsNotRedone, BeginsAnew, WhyNotBegun, SaysBlocked, ShowsEvent, IsServed, IsRequestOf, HasNoRequest};
+ghost use Rattle.embedding.specs.Serving.{Recovers, WhyNotRecovered, Retakes, WhyNotRetaken, NoneIsOpen, ShowsOpen, SaysHeld, SaysAwaited};
+ghost use Rattle.embedding.specs.Serving.{NoneWaits, ShowsWaiting, HasNoLock, ShowsLock};
 
 use crate::codes::{
     self, BAD_FRAME, DONE, DOWN, MEMORY, NO_DC, NO_PLACE, NO_SUCH_CALL, NO_TXN, NOT_OVER,
@@ -20,11 +23,12 @@ use crate::codes::{
 };
 use crate::frame::{Frame, bit_of};
 use crate::gathered::Gathered;
+use crate::opened::{first_open, first_waiting, locks_at, open_in};
 use crate::{call, telling};
 use std::alloc::{AllocError, Global};
 use std::str::from_utf8;
 use tc_core::state::{Call, Request, Stranger, TcState};
-use transactions::{all_covered, all_in_flight_covered, none_in_flight_conflict};
+use transactions::{Sent, all_covered, all_in_flight_covered, none_in_flight_conflict};
 
 /// A transaction component, the requests that wait for a reply, and what is handed in for the next
 /// procedure.
@@ -139,6 +143,35 @@ impl TcPart {
         }
     }
 
+    fn recover(&mut self, frame: &mut Frame) -> u32
+        ensures refused { result ≢ 0 → self.new.state ≡ self.old.state }
+        ensures why { result ≢ 0 → WhyNotRecovered self.old result frame.new }
+        ensures done { result ≡ 0 → Recovers self.old self.new }
+        ensures taken { result ≡ 0 → HasNothing self.new.gathered }
+        ensures gathered { result ≢ 0 → IsAsGathered self.old.gathered self.new.gathered }
+        ensures kept { KeepsRequests self.old self.new }
+    {
+        let log = match self.gathered.log() {
+            Ok(log) => log,
+            Err(fault) => {
+                let (code, place) = codes::read_code(fault);
+                frame.place = place;
+                return code;
+            }
+        };
+        if telling::make_room_for(&mut self.requests, open_in(&log)).is_err() {
+            return MEMORY;
+        }
+        match self.state.recover(&log, self.gathered.notes()) {
+            Ok(()) => self.gathered.clear(),
+            Err(fault) => {
+                let (code, place) = codes::recover_code(fault);
+                frame.place = place;
+                code
+            }
+        }
+    }
+
     fn call_of(&self, frame: &Frame) -> Result<Call, u32>
         ensures call { IfOk result (λ call. (call.proc ≡ frame.now.word) × (call.args.items ≡ args_in frame.now)) }
         ensures refused { IfErr result (λ code. code ≢ 0) }
@@ -167,8 +200,8 @@ impl TcPart {
             Ok(call) => call,
             Err(code) => return code,
         };
-        let room = self.state.open_count().saturating_add(1);
-        if self.requests.reserve(room).is_err() {
+        let open = self.state.open_count().saturating_add(1);
+        if telling::make_room_for(&mut self.requests, open).is_err() {
             return MEMORY;
         }
         match self.state.admit(&call) {
@@ -243,6 +276,31 @@ impl TcPart {
         }
     }
 
+    fn retake(&mut self, frame: &mut Frame) -> u32
+        ensures refused { result ≢ 0 → self.new.state ≡ self.old.state }
+        ensures why { result ≢ 0 → WhyNotRetaken self.old frame.old result }
+        ensures done { result ≡ 0 → Retakes self.old frame.old self.new frame.new }
+        ensures gathered { IsAsGathered self.old.gathered self.new.gathered }
+        ensures kept { result ≢ 0 → KeepsRequests self.old self.new }
+    {
+        let Some(txn) = self.state.find_txn(frame.txn) else {
+            return NO_TXN;
+        };
+        if let Some(place) = find(self.requests.as_slice(), frame.txn) {
+            telling::put_request(&self.state, &self.requests[place], frame);
+            return DONE;
+        }
+        if telling::make_room(&mut self.requests).is_err() {
+            return MEMORY;
+        }
+        let Some(request) = self.state.request(txn) else {
+            return NOTHING_OPEN;
+        };
+        telling::put_request(&self.state, &request, frame);
+        self.requests.push_reserved(request);
+        DONE
+    }
+
     fn answer(&mut self, frame: &mut Frame) -> u32
         ensures refused { result ≢ 0 → self.new.state ≡ self.old.state }
         ensures none { result ≡ NOTHING_OPEN → HasNoRequest self.old.requests.items frame.old.txn }
@@ -305,6 +363,78 @@ impl TcPart {
         }
     }
 
+    // Whether the transaction's request is kept, as the frame says it.
+    fn held(&self, txn: u64) -> u32
+        ensures { SaysHeld self.now.requests.items txn result }
+    {
+        match find(self.requests.as_slice(), txn) {
+            Some(_) => 1,
+            None => 2,
+        }
+    }
+
+    fn put_awaited(&self, txn: u64, sent: Option<Sent>, frame: &mut Frame)
+        ensures says { SaysAwaited self.now.requests.items txn sent frame.new }
+        ensures place { frame.new.place ≡ frame.old.place }
+        ensures txn { frame.new.txn ≡ frame.old.txn }
+        ensures word { frame.new.word ≡ frame.old.word }
+        ensures count { frame.new.count ≡ frame.old.count }
+    {
+        match sent {
+            None => frame.kind = 3,
+            Some(sent) => telling::put_sent(&sent, self.held(txn), frame),
+        }
+    }
+
+    fn open_from(&self, frame: &mut Frame) -> u32
+        ensures none { result ≢ 0 → NoneIsOpen self.now.state frame.old.place (length self.now.state.events) }
+        ensures done { result ≡ 0 → ShowsOpen self.now frame.old frame.new }
+    {
+        let Some(opened) = first_open(&self.state, frame.place as usize) else {
+            return NO_PLACE;
+        };
+        let serial = opened.txn.serial();
+        frame.place = opened.place as u64;
+        frame.txn = serial;
+        frame.word = opened.proc as u64;
+        let stranded = self.state.is_stranded(opened.txn);
+        frame.count = bit_of(stranded);
+        self.put_awaited(serial, self.state.waits_for(opened.txn), frame);
+        DONE
+    }
+
+    fn waiting_from(&self, frame: &mut Frame) -> u32
+        ensures none { result ≢ 0 → NoneWaits self.now.state frame.old.dc frame.old.place (length self.now.state.events) }
+        ensures done { result ≡ 0 → ShowsWaiting self.now frame.old frame.new }
+    {
+        let Some((opened, sent)) = first_waiting(&self.state, frame.place as usize, frame.dc) else {
+            return NO_PLACE;
+        };
+        let serial = opened.txn.serial();
+        frame.place = opened.place as u64;
+        frame.txn = serial;
+        frame.word = opened.proc as u64;
+        let stranded = self.state.is_stranded(opened.txn);
+        frame.count = bit_of(stranded);
+        telling::put_sent(&sent, self.held(serial), frame);
+        DONE
+    }
+
+    fn lock_at(&self, frame: &mut Frame) -> u32
+        ensures none { result ≢ 0 → HasNoLock self.now.state frame.old.place frame.old.word }
+        ensures done { result ≡ 0 → ShowsLock self.now frame.old frame.new }
+    {
+        let Some((opened, set)) = locks_at(&self.state, frame.place as usize) else {
+            return NO_PLACE;
+        };
+        let Some(lock) = set.locks().get(frame.word as usize) else {
+            return NO_PLACE;
+        };
+        frame.txn = opened.txn.serial();
+        telling::put_lock(lock, frame);
+        DONE
+    }
+
     fn log_bytes(&self, frame: &mut Frame) -> u32
         ensures { result ≡ 0 → ShowsEvent self.now frame.old frame.new }
     {
@@ -355,6 +485,13 @@ impl TcPart {
         telling::put_redo(redo, frame)
     }
 
+    fn redo_behind(&self, frame: &mut Frame) -> u32
+        ensures { TellsRedo (redo_behind self.now.state frame.old.dc frame.old.number) result frame.new }
+    {
+        let redo = self.state.redo_behind(frame.dc, frame.number);
+        telling::put_redo(redo, frame)
+    }
+
     fn redone(&mut self, frame: &Frame) -> u32
         ensures refused { result ≢ 0 → self.new.state ≡ self.old.state }
         ensures why { result ≡ STRANGER → IsNotRedone self.old frame.now }
@@ -398,6 +535,8 @@ impl TcPart {
             call::CLEAR => self.gathered.clear(),
             call::LOAD => self.load(frame),
             call::FIND => self.find(frame),
+            call::NOTE => self.gathered.more_notes(frame),
+            call::RECOVER => self.recover(frame),
             call::ADMIT => self.admit(frame),
             call::BLOCKED => self.blocked(frame),
             call::ASK => self.ask(frame),
@@ -422,8 +561,14 @@ impl TcPart {
             call::LOG_ANEW => self.begin_anew(frame),
             call::LOW_WATER => {
                 frame.low_water = self.state.low_water();
+                frame.number = self.state.last_number();
                 DONE
             }
+            call::OPEN_FROM => self.open_from(frame),
+            call::RETAKE => self.retake(frame),
+            call::LOCK_AT => self.lock_at(frame),
+            call::WAITING_FROM => self.waiting_from(frame),
+            call::REDO_BEHIND => self.redo_behind(frame),
             _ => NO_SUCH_CALL,
         }
     }

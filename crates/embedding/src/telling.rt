@@ -3,16 +3,20 @@
 ghost use Rattle.std.specs.Prelude.{◌≡◌, ◌≢◌, ◌<◌, ◌++◌, [], ◌∷◌, length, min, take, vec_len, vec_capacity, Some, IfOk, OnOk};
 ghost use Rattle.tc_core.specs.Lent.{wire_of};
 ghost use Rattle.tc_log.specs.Printed.{printed};
+ghost use Rattle.embedding.specs.Frames.{IsOf, Names};
+ghost use Rattle.embedding.specs.Serving.{mode_number};
 ghost use Rattle.embedding.specs.Telling.{Sends, Tells, requests_of, EndsAs, TellsRedo, TellsSite, TellsRefusal, TellsLoading};
 
 use crate::codes::{self, DONE, MEMORY};
 use crate::frame::Frame;
+use access_slots::lock::Lock;
+use access_slots::slot::Mode;
 use std::alloc::{AllocError, Global};
 use tc_core::procs::LoadRefusal;
 use tc_core::state::{Asked, Redo, Refusal, Request, TcState};
 use tc_log::event::{Event, Outcome};
 use tc_log::log::Log;
-use transactions::Site;
+use transactions::{Sent, Site};
 
 /// Makes room for one more request.
 pub fn make_room(requests: &mut Vec<Request>) -> Result<(), AllocError>
@@ -20,6 +24,14 @@ pub fn make_room(requests: &mut Vec<Request>) -> Result<(), AllocError>
     ensures items { requests.new.items ≡ requests.old.items }
 {
     requests.reserve(1)
+}
+
+/// Makes room for the requests of so many open transactions, so that no later call on these takes memory;
+/// and for one more, since a call makes room before it is known whether it asks.
+pub fn make_room_for(requests: &mut Vec<Request>, open: usize) -> Result<(), AllocError>
+    ensures { requests.new.items ≡ requests.old.items }
+{
+    requests.reserve(open.saturating_add(1))
 }
 
 /// What goes to the data component for a request now, or that nothing goes while that is down.
@@ -37,6 +49,34 @@ pub fn put_request(state: &TcState, request: &Request, frame: &mut Frame)
             frame.number = request.number();
         }
     }
+}
+
+/// What a transaction waits for, and whether its request is held.
+pub fn put_sent(sent: &Sent, held: u32, frame: &mut Frame)
+    ensures number { frame.new.number ≡ sent.now.number }
+    ensures op { Names frame.new sent.now.op }
+    ensures kind { frame.new.kind ≡ held }
+    ensures place { frame.new.place ≡ frame.old.place }
+    ensures txn { frame.new.txn ≡ frame.old.txn }
+    ensures word { frame.new.word ≡ frame.old.word }
+    ensures count { frame.new.count ≡ frame.old.count }
+{
+    frame.kind = held;
+    frame.number = sent.number;
+    frame.put_operation(&sent.op);
+}
+
+/// A lock: 1 for reading alone, 2 for both.
+pub fn put_lock(lock: &Lock, frame: &mut Frame)
+    ensures named { IsOf frame.new lock.now.«record» }
+    ensures mode { frame.new.kind ≡ mode_number lock.now.mode }
+    ensures txn { frame.new.txn ≡ frame.old.txn }
+{
+    frame.put_record(&lock.record);
+    frame.kind = match lock.mode {
+        Mode::Read => 1,
+        Mode::Write => 2,
+    };
 }
 
 /// Tells what a transaction does next. A request is kept until it is answered or given up.

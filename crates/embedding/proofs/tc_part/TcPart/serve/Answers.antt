@@ -1,5 +1,7 @@
 use Rattle.std.proofs.Common.{ℕ, length, ap, refl, subst, ◌∙◌}
+use Rattle.tc_core.specs.Redo.{redo_behind}
 use Rattle.embedding.specs.Serving.{Redoes}
+use Rattle.embedding.specs.Telling.{TellsRedo}
 use Rattle.embedding.proofs.ByNumber.{served_as, same_gathered}
 use Rattle.embedding.proofs.tc_part.TcPart.serve.Goals as goal
 
@@ -22,6 +24,14 @@ returns-in-13 c = served_as _ _ _ _ _ _ c.in-13.is (c.load.ensures.refused) (c.l
 pub returns-in-14 : goal.returns-in-14
 returns-in-14 c = served_as _ _ _ _ _ _ c.in-14.is (λ _. refl) (λ _. tt) (λ _. refl) (c.find.ensures)
     (λ _. same_gathered _) (λ _. same_gathered _) (λ _. refl) (λ _ _. refl)
+
+pub returns-in-15 : goal.returns-in-15
+returns-in-15 c = served_as _ _ _ _ _ _ c.in-15.is (λ _. refl) (λ _. tt) (λ _. refl) (λ _. tt)
+    (c.more_notes.ensures.done) (c.more_notes.ensures.refused) (λ _. refl) (λ _ _. refl)
+
+pub returns-in-16 : goal.returns-in-16
+returns-in-16 c = served_as _ _ _ _ _ _ c.in-16.is (c.recover.ensures.refused) (c.recover.ensures.why) (c.recover.ensures.done) (λ _. tt)
+    (c.recover.ensures.taken) (c.recover.ensures.gathered) (λ _. c.recover.ensures.kept) (λ _ _. c.recover.ensures.kept)
 
 pub returns-in-20 : goal.returns-in-20
 returns-in-20 c = served_as _ _ _ _ _ _ c.in-20.is (c.admit.ensures.refused) (c.admit.ensures.why) (c.admit.ensures.done) (λ _. tt)
@@ -88,5 +98,26 @@ returns-in-35 c = served_as _ _ _ _ _ _ c.in-35.is (c.begin_anew.ensures.refused
     (λ _. c.begin_anew.ensures.gathered) (λ _. c.begin_anew.ensures.gathered) (λ _. c.begin_anew.ensures.kept) (λ _ _. c.begin_anew.ensures.kept)
 
 pub returns-in-36 : goal.returns-in-36
-returns-in-36 c = served_as _ _ _ _ _ _ c.in-36.is (λ _. refl) (λ _. tt) (λ _. refl) (λ _. c.low_water-frame.ensures)
+returns-in-36 c = served_as _ _ _ _ _ _ c.in-36.is (λ _. refl) (λ _. tt) (λ _. refl) (λ _. (c.low_water-frame.ensures, c.last_number-frame.ensures))
+    (λ _. same_gathered _) (λ _. same_gathered _) (λ _. refl) (λ _ _. refl)
+
+pub returns-in-37 : goal.returns-in-37
+returns-in-37 c = served_as _ _ _ _ _ _ c.in-37.is (λ _. refl) (c.open_from.ensures.none) (λ _. refl) (c.open_from.ensures.done)
+    (λ _. same_gathered _) (λ _. same_gathered _) (λ _. refl) (λ _ _. refl)
+
+pub returns-in-38 : goal.returns-in-38
+returns-in-38 c = served_as _ _ _ _ _ _ c.in-38.is (c.retake.ensures.refused) (c.retake.ensures.why) (c.retake.ensures.done) (λ _. tt)
+    (λ _. c.retake.ensures.gathered) (λ _. c.retake.ensures.gathered) (λ _. tt) (λ wrong _. c.retake.ensures.kept wrong)
+
+pub returns-in-39 : goal.returns-in-39
+returns-in-39 c = served_as _ _ _ _ _ _ c.in-39.is (λ _. refl) (c.lock_at.ensures.none) (λ _. refl) (c.lock_at.ensures.done)
+    (λ _. same_gathered _) (λ _. same_gathered _) (λ _. refl) (λ _ _. refl)
+
+pub returns-in-60 : goal.returns-in-60
+returns-in-60 c = served_as _ _ _ _ _ _ c.in-60.is (λ _. refl) (c.waiting_from.ensures.none) (λ _. refl) (c.waiting_from.ensures.done)
+    (λ _. same_gathered _) (λ _. same_gathered _) (λ _. refl) (λ _ _. refl)
+
+pub returns-in-61 : goal.returns-in-61
+returns-in-61 c = served_as _ _ _ _ _ _ c.in-61.is (λ _. refl) (λ _. c.redo_behind.ensures) (λ _. refl)
+    (λ z. subst (λ (n : ℕ). TellsRedo (redo_behind c.args.self.now.state c.args.frame.now.dc c.args.frame.now.number) n c.redo_behind.new.frame) z c.redo_behind.ensures)
     (λ _. same_gathered _) (λ _. same_gathered _) (λ _. refl) (λ _ _. refl)
