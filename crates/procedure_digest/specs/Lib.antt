@@ -1,2 +1,3 @@
 pub mod Bytes
+pub mod Difference
 pub mod Header

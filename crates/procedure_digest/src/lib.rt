@@ -10,8 +10,10 @@
 #![tactic(auto)]
 
 mod bytes;
+mod difference;
 mod header;
 mod laws;
 
+pub use difference::other_line;
 pub use header::header_of;
 pub use laws::procedures_tell;

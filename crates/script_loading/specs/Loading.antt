@@ -1,10 +1,15 @@
 -- What a script's steps or calls begin with, or why the script is refused before them.
-use Rattle.std.specs.Prelude.{◌≡◌, ℕ, List, [], ◌∷◌, ◌++◌, length, map, replicate, Option, Some, None, codes, decimal, string_bytes}
+use Rattle.std.specs.Prelude.{◌≡◌, ℕ, nat_le, Bool, List, [], ◌∷◌, ◌++◌, length, map, replicate, Option, Some, None, Result, Ok, Err}
+use Rattle.std.specs.Prelude.{option_map, codes, decimal, string_bytes}
+use Rattle.std.specs.List.{find, list_any}
+use Rattle.access_slots.specs.declared.slot.Slot.{Slot}
 use Rattle.register_kinds.specs.declared.kind.Violation.{Violation}
 use Rattle.verifier.specs.Checked.{Checked}
 use Rattle.verifier.specs.Verdict.{verdict}
 use Rattle.data_component.specs.Store.{Store, empty}
-use Rattle.scripts.specs.Reading.{Contents, Reading}
+use Rattle.object_procedures.specs.Given.{given_in}
+use Rattle.scripts.specs.Reading.{Contents, Reading, only_procedures, said_behind, script_said}
+use Rattle.scripts.specs.declared.keyword.Command.{Command}
 use Rattle.scripts.specs.declared.reading.Fault.{Fault}
 use Rattle.scripts.specs.declared.script.Dc.{Dc}
 use Rattle.scripts.specs.declared.script.Procedure.{Procedure}
@@ -12,52 +17,101 @@ use Rattle.tc_core.specs.Core.{Core}
 use Rattle.transactions.specs.InFlight.{untold}
 use Rattle.report_texts.specs.FaultNames.{violation_name}
 use Rattle.report_texts.specs.ScriptRefusal.{script_refusal}
-use Rattle.script_loading.specs.declared.loading.Unverified.{Unverified}
+use Rattle.script_loading.specs.declared.loading.Source.{Source}
 use Rattle.script_loading.specs.declared.loading.Unloaded.{Unloaded}
 use Rattle.script_loading.specs.declared.loading.Unloaded.TheVariants as unloaded
 use Rattle.script_loading.specs.declared.loading.Loaded.{Loaded}
 use Rattle.script_loading.specs.declared.loading.Loading.{Loading}
 use Rattle.script_loading.specs.declared.loading.Loading.TheVariants.{Ready, Refused}
 
--- ---- procedures that the verifier refuses
+-- ---- procedures that are refused
 
-abbrev pub refused_at : ℕ → Option (ℕ × Violation) → Option Unverified
-refused_at line None = None
-refused_at line (Some (slot, violation)) = Some (record { line = line; slot = slot; violation = violation })
+-- where a procedure stands: at the line of its `end`, or in an object file, which has it under its name
+abbrev pub place_name : Option ℕ → List ℕ → List ℕ
+place_name (Some line) name = codes "line " ++ decimal line
+place_name None name = codes "object " ++ name
 
--- what the verifier finds first, at the line of the procedure's `end`
-abbrev pub unverified : Procedure → Option Unverified
-unverified p = refused_at p.line (verdict p.decl p.code)
+abbrev pub unverified_line : Procedure → ℕ → Violation → List ℕ
+unverified_line p slot violation =
+    codes "refused " ++ (place_name p.line p.name ++ (codes " F7 Verify " ++ (violation_name violation
+    ++ (codes " slot " ++ (decimal slot ++ codes "\n")))))
 
-abbrev pub or_later : Option Unverified → Option Unverified → Option Unverified
-or_later (Some u) later = Some u
+abbrev pub unverified_by : Procedure → Option (ℕ × Violation) → Option (List ℕ)
+unverified_by p None = None
+unverified_by p (Some (slot, violation)) = Some (unverified_line p slot violation)
+
+-- the line of what the verifier finds first
+abbrev pub unverified : Procedure → Option (List ℕ)
+unverified p = unverified_by p (verdict p.decl p.code)
+
+abbrev pub or_later : Option (List ℕ) → Option (List ℕ) → Option (List ℕ)
+or_later (Some line) later = Some line
 or_later None later = later
 
 -- of the first procedure that is refused
-abbrev pub first_unverified : List Procedure → Option Unverified
+abbrev pub first_unverified : List Procedure → Option (List ℕ)
 first_unverified [] = None
 first_unverified (p ∷ ps) = or_later (unverified p) (first_unverified ps)
 
 -- it is the one that is refused; want of memory may come at any
-abbrev pub IsUnloaded : Option Unverified → Unloaded → Type 0
-IsUnloaded found (unloaded.Refused u) = found ≡ Some u
+abbrev pub IsUnloaded : Option (List ℕ) → Unloaded → Type 0
+IsUnloaded found (unloaded.Refused report) = (found ≡ Some (string_bytes report.lines)) × (report.status ≡ 1)
 IsUnloaded found unloaded.Memory = Unit {0}
 
 -- ---- why a script is refused
 
-abbrev pub unverified_line : Unverified → List ℕ
-unverified_line u =
-    codes "refused line " ++ (decimal u.line ++ (codes " F7 Verify " ++ (violation_name u.violation
-    ++ (codes " slot " ++ (decimal u.slot ++ codes "\n")))))
-
-abbrev pub refusal_by : Option Unverified → Option Fault → Option (List ℕ)
-refusal_by (Some u) fault = Some (unverified_line u)
+abbrev pub refusal_by : Option (List ℕ) → Option Fault → Option (List ℕ)
+refusal_by (Some line) fault = Some line
 refusal_by None (Some fault) = Some (script_refusal fault)
 refusal_by None None = None
 
 -- the first procedure that is refused goes before the text's fault, which stands behind it
 abbrev pub refusal_of : Reading → Option (List ℕ)
 refusal_of r = refusal_by (first_unverified r.contents.procedures) r.fault
+
+-- ---- an object file with a script
+
+-- a slot of the procedure is of a data component that there isn't, where there are so many
+abbrev pub reaches_past : ℕ → Procedure → Bool
+reaches_past dcs p = list_any (λ (s : Slot). nat_le dcs s.dc) p.decl.slots
+
+abbrev pub unknown_dc_line : List ℕ → List ℕ
+unknown_dc_line name = (codes "refused object " ++ name) ++ codes " F8 DcUnknown\n"
+
+abbrev pub fault_or_line : Option Fault → List ℕ → List ℕ
+fault_or_line (Some fault) line = script_refusal fault
+fault_or_line None line = line
+
+abbrev pub refusal_after : Option Procedure → Reading → Option (List ℕ)
+refusal_after None r = refusal_of r
+refusal_after (Some p) r = Some (fault_or_line r.fault (unknown_dc_line p.name))
+
+-- the first procedure with such a slot, unless the script has a fault of its own; else as without an object file
+abbrev pub refusal_behind : Reading → Option (List ℕ)
+refusal_behind r = refusal_after (find (reaches_past (length r.contents.dcs)) r.contents.procedures) r
+
+-- what a command begins with, or why it isn't begun
+pub record Beginning : Type 0 where
+  pub refusal : Option (List ℕ)
+  pub contents : Contents
+
+abbrev pub of_script : Reading → Beginning
+of_script r = record { refusal = refusal_of r; contents = r.contents }
+
+abbrev pub of_both : Reading → Beginning
+of_both r = record { refusal = refusal_behind r; contents = r.contents }
+
+abbrev pub beginning_by : Command → Result (List Procedure) (List ℕ) → List ℕ → Beginning
+beginning_by command (Ok given) text = of_both (said_behind command given text)
+beginning_by command (Err line) text = record { refusal = Some line; contents = only_procedures [] }
+
+-- of a script alone, or of one with an object file, whose procedures are there as if they stood behind its data components
+abbrev pub beginning : Command → Option (List ℕ) → List ℕ → Beginning
+beginning command None text = of_script (script_said command text)
+beginning command (Some file) text = beginning_by command (given_in file) text
+
+abbrev pub beginning_of : Command → Source → Beginning
+beginning_of command source = beginning command (option_map (λ file. file.now) source.object) source.text.now
 
 -- ---- what the first step or call finds
 
@@ -86,6 +140,13 @@ pub record IsReady (contents : Contents) (loaded : Loaded) : Type 0 where
   pub first : loaded.first.items ≡ contents.first
   pub calls : loaded.calls.items ≡ contents.calls
 
+abbrev pub IsLoadingBy : Option (List ℕ) → Contents → Loading → Type 0
+IsLoadingBy refusal contents (Ready loaded) = (refusal ≡ None) × IsReady contents loaded
+IsLoadingBy refusal contents (Refused report) = (refusal ≡ Some (string_bytes report.lines)) × (report.status ≡ 1)
+
 abbrev pub IsLoading : Reading → Loading → Type 0
-IsLoading r (Ready loaded) = (refusal_of r ≡ None) × IsReady r.contents loaded
-IsLoading r (Refused report) = (refusal_of r ≡ Some (string_bytes report.lines)) × (report.status ≡ 1)
+IsLoading r loading = IsLoadingBy (refusal_of r) r.contents loading
+
+-- the same of a script that may come with an object file
+abbrev pub IsLoadingOf : Beginning → Loading → Type 0
+IsLoadingOf b loading = IsLoadingBy b.refusal b.contents loading

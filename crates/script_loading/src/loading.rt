@@ -1,38 +1,39 @@
 //! From a script's text to what its steps or calls begin with.
 
-ghost use Rattle.std.specs.Prelude.{◌≡◌, [], ◌∷◌, length, map, None, IfOk, IfErr, OnOk, string_bytes};
-ghost use Rattle.scripts.specs.Reading.{script_said};
+ghost use Rattle.std.specs.Prelude.{◌≡◌, [], ◌∷◌, ◌++◌, length, map, option_map, None, IfOk, IfErr, OnOk, codes, decimal, string_bytes};
+ghost use Rattle.std.specs.List.{find};
+ghost use Rattle.scripts.specs.Reading.{parsed_of, said_behind, script_said};
+ghost use Rattle.report_texts.specs.FaultNames.{violation_name};
 ghost use Rattle.report_texts.specs.ScriptRefusal.{script_refusal};
 ghost use Rattle.script_loading.specs.Joining.Loads.{IsReadied, IsRefusal};
-ghost use Rattle.script_loading.specs.Loading.{unverified, first_unverified, unverified_line, IsUnloaded};
-ghost use Rattle.script_loading.specs.Loading.{with_procedures, empty_core, empty_store, IsLoading};
+ghost use Rattle.script_loading.specs.Loading.{place_name, unverified, first_unverified, IsUnloaded};
+ghost use Rattle.script_loading.specs.Loading.{name_of, with_procedures, empty_core, empty_store, IsLoading, IsLoadingOf};
+ghost use Rattle.script_loading.specs.Loading.{reaches_past, unknown_dc_line, fault_or_line, of_both, beginning_of};
 
 use data_component::dc::Dc;
+use object_procedures::given::{Ungiven, given};
 use register_kinds::kind::Violation;
 use report_texts::fault_names::violation_name;
 use report_texts::report::Report;
 use report_texts::script_refusal::refusal;
 use scripts::keyword::Command;
-use scripts::reading::{Fault, Parsed, parse};
+use scripts::reading::{Fault, Parsed, parse, parse_behind};
 use scripts::script::{self, Call, Procedure, Script, Step};
 use std::alloc::{AllocError, Global};
 use tc_core::state::TcState;
 use verifier::verify::{VerifyFault, verify};
 
-/// A procedure that the verifier refuses.
-#[derive(Clone, Copy, Debug)]
-pub struct Unverified {
-    /// The line of its `end`, from 1.
-    pub line: usize,
-    /// The slot of its code, from 0.
-    pub slot: usize,
-    pub violation: Violation,
+/// A script's text, and an object file whose procedures are there as well, if there is one.
+#[derive(Clone, Copy)]
+pub struct Source<'a> {
+    pub object: Option<&'a [u8]>,
+    pub text: &'a str,
 }
 
-/// Why procedures aren't loaded.
-#[derive(Clone, Copy, Debug)]
+/// Why procedures aren't loaded: the report of the first that the verifier refuses, or want of memory.
+#[derive(Drop)]
 pub enum Unloaded {
-    Refused(Unverified),
+    Refused(Report),
     Memory,
 }
 
@@ -66,6 +67,35 @@ pub enum Loading {
     Refused(Report),
 }
 
+// Where a procedure stands.
+fn place_name(alloc: Global, line: Option<usize>, name: &str) -> Result<String, AllocError>
+    ensures { IfOk result (λ s. string_bytes s ≡ place_name line name.now) }
+{
+    match line {
+        Some(line) => format!(in alloc; "line {line}"),
+        None => format!(in alloc; "object {name}"),
+    }
+}
+
+// The report of a procedure that the verifier refuses.
+fn unverified_report(
+    alloc: Global,
+    place: &str,
+    slot: usize,
+    violation: Violation,
+) -> Result<Report, AllocError>
+    ensures lines { IfOk result (λ r. string_bytes r.lines ≡ codes "refused " ++ (place.now ++ (codes " F7 Verify "
+        ++ (violation_name violation ++ (codes " slot " ++ (decimal slot ++ codes "\n")))))) }
+    ensures status { IfOk result (λ r. r.status ≡ 1) }
+{
+    let violation = violation_name(violation);
+    Ok(Report {
+        status: 1,
+        lines: format!(in alloc; "refused {place} F7 Verify {violation} slot {slot}\n")?,
+        notes: None,
+    })
+}
+
 // Verifies one procedure more, and loads it.
 fn load_one(alloc: Global, state: &mut TcState, procedure: Procedure) -> Result<(), Unloaded>
     ensures verified { OnOk result (unverified procedure.entry ≡ None) }
@@ -83,11 +113,11 @@ fn load_one(alloc: Global, state: &mut TcState, procedure: Procedure) -> Result<
             Ok(_) => Ok(()),
             Err(_) => Err(Unloaded::Memory),
         },
-        Err(VerifyFault::At(slot, violation)) => Err(Unloaded::Refused(Unverified {
-            line,
-            slot,
-            violation,
-        })),
+        Err(VerifyFault::At(slot, violation)) => {
+            let place = place_name(alloc, line, name.as_str())?;
+            let report = unverified_report(alloc, place.as_str(), slot, violation)?;
+            Err(Unloaded::Refused(report))
+        }
         Err(VerifyFault::Memory) => Err(Unloaded::Memory),
     }
 }
@@ -134,20 +164,6 @@ fn empty_dcs(alloc: Global, dcs: &[script::Dc]) -> Result<Vec<Dc>, AllocError>
     Ok(made)
 }
 
-// Nothing is loaded, since the verifier refuses this procedure.
-fn refused_procedure(alloc: Global, unverified: Unverified) -> Result<Loading, AllocError>
-    ensures { IfOk result (IsRefusal (unverified_line unverified)) }
-{
-    let line = unverified.line;
-    let slot = unverified.slot;
-    let violation = violation_name(unverified.violation);
-    Ok(Loading::Refused(Report {
-        status: 1,
-        lines: format!(in alloc; "refused line {line} F7 Verify {violation} slot {slot}\n")?,
-        notes: None,
-    }))
-}
-
 // Nothing is loaded, since the text has this fault.
 fn refused_text(alloc: Global, fault: Fault) -> Result<Loading, AllocError>
     ensures { IfOk result (IsRefusal (script_refusal fault)) }
@@ -181,12 +197,11 @@ fn ready(
     }
 }
 
-/// Reads a text as a script of this command, verifies and loads its procedures, and makes its
-/// data components.
-pub fn load(alloc: Global, command: Command, text: &str) -> Result<Loading, AllocError>
-    ensures { IfOk result (IsLoading (script_said command text.now)) }
+// Verifies and loads what was read, and makes its data components.
+fn load_read(alloc: Global, parsed: Parsed) -> Result<Loading, AllocError>
+    ensures { IfOk result (IsLoading (parsed_of parsed.entry)) }
 {
-    let Parsed { script, fault } = parse(alloc, command, text)?;
+    let Parsed { script, fault } = parsed;
     let Script {
         dcs,
         procedures,
@@ -202,7 +217,85 @@ pub fn load(alloc: Global, command: Command, text: &str) -> Result<Loading, Allo
                 refused_text(alloc, fault)
             }
         },
-        Err(Unloaded::Refused(unverified)) => refused_procedure(alloc, unverified),
+        Err(Unloaded::Refused(report)) => Ok(Loading::Refused(report)),
         Err(Unloaded::Memory) => Err(AllocError),
+    }
+}
+
+/// Reads a text as a script of this command, verifies and loads its procedures, and makes its
+/// data components.
+pub fn load(alloc: Global, command: Command, text: &str) -> Result<Loading, AllocError>
+    ensures { IfOk result (IsLoading (script_said command text.now)) }
+{
+    load_read(alloc, parse(alloc, command, text)?)
+}
+
+// Whether a slot of the procedure is of a data component that there isn't.
+fn reaches_past(dcs: usize, procedure: &Procedure) -> bool
+    ensures { result ≡ reaches_past dcs procedure.now }
+{
+    procedure
+        .decl
+        .slots()
+        .iter()
+        .any(|slot| usize::from(slot.dc) >= dcs)
+}
+
+// The name of the first procedure with such a slot.
+fn first_past<'a>(dcs: usize, procedures: &[Procedure<'a>]) -> Option<&'a str>
+    ensures { option_map (λ name. name.now) result ≡ option_map name_of (find (reaches_past dcs) procedures.now) }
+{
+    'procedures: for procedure in procedures {
+        if reaches_past(dcs, procedure) {
+            return Some(procedure.name.as_str());
+        }
+    }
+    None
+}
+
+// Nothing is loaded: the text has this fault, or else the procedure of this name of the object file such a slot.
+fn refused_access(alloc: Global, fault: Option<Fault>, name: &str) -> Result<Loading, AllocError>
+    ensures { IfOk result (IsRefusal (fault_or_line fault (unknown_dc_line name.now))) }
+{
+    match fault {
+        Some(fault) => refused_text(alloc, fault),
+        None => Ok(Loading::Refused(Report {
+            status: 1,
+            lines: format!(in alloc; "refused object {name} F8 DcUnknown\n")?,
+            notes: None,
+        })),
+    }
+}
+
+// Reads, verifies and loads a script with these procedures.
+fn load_behind<'a>(
+    alloc: Global,
+    command: Command,
+    given: Vec<Procedure<'a>>,
+    text: &'a str,
+) -> Result<Loading, AllocError>
+    ensures { IfOk result (IsLoadingOf (of_both (said_behind command given.entry.items text.now))) }
+{
+    let parsed = parse_behind(alloc, command, given, text)?;
+    let dcs = parsed.script.dcs.len();
+    match first_past(dcs, parsed.script.procedures.as_slice()) {
+        Some(name) => refused_access(alloc, parsed.fault, name),
+        None => load_read(alloc, parsed),
+    }
+}
+
+/// The same of a script that may come with an object file, whose procedures are then there as if they stood behind the
+/// script's data components. Refused with the object file's fault; else, where a procedure has a slot of a data component
+/// that there isn't, with the script's own fault or with that; else as a script is.
+pub fn load_source(alloc: Global, command: Command, source: Source) -> Result<Loading, AllocError>
+    ensures { IfOk result (IsLoadingOf (beginning_of command source.entry)) }
+{
+    let Some(file) = source.object else {
+        return load(alloc, command, source.text);
+    };
+    match given(alloc, file) {
+        Ok(given) => load_behind(alloc, command, given, source.text),
+        Err(Ungiven::Refused(report)) => Ok(Loading::Refused(report)),
+        Err(Ungiven::Memory) => Err(AllocError),
     }
 }

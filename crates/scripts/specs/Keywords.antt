@@ -5,7 +5,7 @@ use Rattle.scripts.specs.declared.keyword.Command.{Command}
 use Rattle.scripts.specs.declared.keyword.Command.TheVariants.{Verify, World, Run}
 use Rattle.scripts.specs.declared.keyword.Keyword.{Keyword}
 use Rattle.scripts.specs.declared.keyword.Keyword.TheVariants.{Dc, Proc, Slot, End, Admit, Ask, Undo, Resend, Perform}
-use Rattle.scripts.specs.declared.keyword.Keyword.TheVariants.{Take, Restart, Checkpoint, Tell, Redo, Crash, Forge, First, Call}
+use Rattle.scripts.specs.declared.keyword.Keyword.TheVariants.{Take, Restart, Checkpoint, Tell, Redo, Crash, Cut, Forge, First, Call}
 
 abbrev pub keyword_name : Keyword → List ℕ
 keyword_name Dc = codes "dc"
@@ -23,6 +23,7 @@ keyword_name Checkpoint = codes "checkpoint"
 keyword_name Tell = codes "tell"
 keyword_name Redo = codes "redo"
 keyword_name Crash = codes "crash"
+keyword_name Cut = codes "cut"
 keyword_name Forge = codes "forge"
 keyword_name First = codes "first"
 keyword_name Call = codes "call"
@@ -34,8 +35,8 @@ first_named (keyword ∷ others) word = if bytes_eq word (keyword_name keyword) 
 
 abbrev pub keywords : List Keyword
 keywords =
-    Dc ∷ Proc ∷ Slot ∷ End ∷ Admit ∷ Ask ∷ Undo ∷ Resend ∷ Perform ∷ Take ∷ Restart ∷ Checkpoint ∷ Tell ∷ Redo ∷ Crash ∷ Forge ∷ First
-    ∷ Call ∷ []
+    Dc ∷ Proc ∷ Slot ∷ End ∷ Admit ∷ Ask ∷ Undo ∷ Resend ∷ Perform ∷ Take ∷ Restart ∷ Checkpoint ∷ Tell ∷ Redo ∷ Crash ∷ Cut ∷ Forge
+    ∷ First ∷ Call ∷ []
 
 abbrev pub keyword_said : List ℕ → Option Keyword
 keyword_said word = first_named keywords word
@@ -67,6 +68,7 @@ knows command Checkpoint = is_world command
 knows command Tell = is_world command
 knows command Redo = is_world command
 knows command Crash = is_world command
+knows command Cut = is_world command
 knows command Forge = is_world command
 knows command First = is_run command
 knows command Call = is_run command

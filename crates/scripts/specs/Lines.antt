@@ -20,7 +20,7 @@ use Rattle.scripts.specs.declared.fault.ScriptFault.TheVariants.{BadLine, Order,
 use Rattle.scripts.specs.declared.keyword.Command.{Command}
 use Rattle.scripts.specs.declared.keyword.Keyword.{Keyword}
 use Rattle.scripts.specs.declared.keyword.Keyword.TheVariants.{Dc, Proc, Slot, End, Admit, Ask, Undo, Resend, Perform}
-use Rattle.scripts.specs.declared.keyword.Keyword.TheVariants.{Take, Restart, Checkpoint, Tell, Redo, Crash, Forge, First, Call}
+use Rattle.scripts.specs.declared.keyword.Keyword.TheVariants.{Take, Restart, Checkpoint, Tell, Redo, Crash, Cut, Forge, First, Call}
 use Rattle.scripts.specs.declared.line.Line.{Line}
 use Rattle.scripts.specs.declared.line.Line.TheVariants as line
 use Rattle.scripts.specs.declared.script.Step.{Step}
@@ -82,6 +82,10 @@ in_step make number = and_then number (λ n. Ok (line.Step (make n)))
 abbrev pub one_dc : ℕ → List ℕ → Result ℕ ScriptFault
 one_dc count dc = with_words 1 count (number_to 65535 dc)
 
+-- a step whose word stands alone
+abbrev pub alone_said : ℕ → Step → Result Line ScriptFault
+alone_said count s = with_words 0 count (Ok (line.Step s))
+
 -- what is said in one word
 abbrev pub plain_answer : List ℕ → Result Said ScriptFault
 plain_answer word =
@@ -127,6 +131,7 @@ fixed_by Checkpoint is_step count a b c d = in_step step.Checkpoint (one_dc coun
 fixed_by Tell is_step count a b c d = in_step step.Tell (one_number count a)
 fixed_by Redo is_step count a b c d = in_step step.Redo (one_dc count a)
 fixed_by Crash is_step count a b c d = in_step step.Crash (one_number count a)
+fixed_by Cut is_step count a b c d = alone_said count step.Cut
 fixed_by Forge is_step count a b c d = as_step (forge_said count a b c d)
 fixed_by First is_step count a b c d = Err BadLine
 fixed_by Call is_step count a b c d = Err BadLine
@@ -160,6 +165,7 @@ known_said Checkpoint is_step words = fixed_said Checkpoint is_step words
 known_said Tell is_step words = fixed_said Tell is_step words
 known_said Redo is_step words = fixed_said Redo is_step words
 known_said Crash is_step words = fixed_said Crash is_step words
+known_said Cut is_step words = fixed_said Cut is_step words
 known_said Forge is_step words = fixed_said Forge is_step words
 known_said First is_step words = called_by line.First words
 known_said Call is_step words = called_by line.Call words

@@ -37,4 +37,4 @@ abbrev pub finished : Open → ℕ → Result Procedure ScriptFault
 finished o line =
     unless_declared (decl_fault o.args o.slots)
     (if length o.insns == 0 then Err NoCode else
-    Ok (record { name = o.name; decl = record { args = o.args; slots = o.slots }; code = places_of o.insns; line = line }))
+    Ok (record { name = o.name; decl = record { args = o.args; slots = o.slots }; code = places_of o.insns; line = Some line }))

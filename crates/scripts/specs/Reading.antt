@@ -39,14 +39,19 @@ contents_of s = record {
   calls = s.calls.items;
 }
 
--- what was read so far: the names are those of the procedures and of the open one
+-- what was read so far: the names are those of the procedures and of the open one, so many of which were there to begin with
 pub record State : Type 0 where
   pub contents : Contents
   pub names : List (List ℕ)
+  pub given : ℕ
   pub current : Option Open
 
-abbrev pub no_lines : State
-no_lines = record { contents = record { dcs = []; procedures = []; steps = []; first = []; calls = [] }; names = []; current = None }
+-- before all lines, with these procedures
+abbrev pub only_procedures : List Procedure → Contents
+only_procedures given = record { dcs = []; procedures = given; steps = []; first = []; calls = [] }
+
+abbrev pub no_lines : List Procedure → List (List ℕ) → State
+no_lines given names = record { contents = only_procedures given; names = names; given = length names; current = None }
 
 -- ---- what a line adds
 
@@ -57,10 +62,10 @@ has_no_further c = (length c.steps == 0) && ((length c.first == 0) && (length c.
 abbrev pub may_go_on : State → Bool
 may_go_on s = is_none s.current && nat_lt 0 (length s.contents.dcs)
 
--- at most 16 data components, before all else
+-- at most 16 data components, before all else that the text has
 abbrev pub dc_added : State → Dc → Result State ScriptFault
 dc_added s dc =
-    if is_none s.current && ((length s.names == 0) && (has_no_further s.contents && nat_lt (length s.contents.dcs) 16))
+    if is_none s.current && ((length s.names == s.given) && (has_no_further s.contents && nat_lt (length s.contents.dcs) 16))
     then Ok (record s { contents = record s.contents { dcs = s.contents.dcs ++ dc ∷ [] } }) else Err Order
 
 abbrev pub is_taken : List (List ℕ) → List ℕ → Bool
@@ -162,5 +167,18 @@ read_from command number s [] = stopped s.contents number (end_fault s)
 read_from command number s (text ∷ texts) =
     go_on (taken command s (number + 1) text) s.contents (number + 1) (λ t. read_from command (number + 1) t texts)
 
+-- the names of procedures, no two of which are one, behind those that there are
+abbrev pub names_given : List (List ℕ) → List Procedure → Result (List (List ℕ)) ScriptFault
+names_given names [] = Ok names
+names_given names (p ∷ ps) = if is_taken names p.name then Err NameTaken else names_given (names ++ p.name ∷ []) ps
+
+abbrev pub said_by : Result (List (List ℕ)) ScriptFault → Command → List Procedure → List ℕ → Reading
+said_by (Ok names) command given text = read_from command 0 (no_lines given names) (lines text)
+said_by (Err fault) command given text = stopped (only_procedures []) 0 (Some fault)
+
+-- what a text says where these procedures are there to begin with, as if they stood behind its data components
+abbrev pub said_behind : Command → List Procedure → List ℕ → Reading
+said_behind command given text = said_by (names_given [] given) command given text
+
 abbrev pub script_said : Command → List ℕ → Reading
-script_said command text = read_from command 0 no_lines (lines text)
+script_said command text = said_behind command [] text

@@ -32,12 +32,13 @@ pub enum Keyword {
     Tell,
     Redo,
     Crash,
+    Cut,
     Forge,
     First,
     Call,
 }
 
-const KEYWORDS: [Keyword; 18] = [
+const KEYWORDS: [Keyword; 19] = [
     Keyword::Dc,
     Keyword::Proc,
     Keyword::Slot,
@@ -53,6 +54,7 @@ const KEYWORDS: [Keyword; 18] = [
     Keyword::Tell,
     Keyword::Redo,
     Keyword::Crash,
+    Keyword::Cut,
     Keyword::Forge,
     Keyword::First,
     Keyword::Call,
@@ -91,6 +93,7 @@ impl Keyword {
             Keyword::Tell => "tell",
             Keyword::Redo => "redo",
             Keyword::Crash => "crash",
+            Keyword::Cut => "cut",
             Keyword::Forge => "forge",
             Keyword::First => "first",
             Keyword::Call => "call",

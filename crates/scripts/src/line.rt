@@ -4,7 +4,7 @@ ghost use Rattle.std.specs.Prelude.{◌≡◌};
 ghost use Rattle.scripts.specs.Words.{words_of};
 ghost use Rattle.scripts.specs.Numbers.{Gives, number_to};
 ghost use Rattle.scripts.specs.Lines.{value_of, dc_said, proc_said, mode_said, key_said, slot_said, end_said};
-ghost use Rattle.scripts.specs.Lines.{one_number, one_dc, plain_answer, answer_said, forge_said};
+ghost use Rattle.scripts.specs.Lines.{one_number, one_dc, alone_said, plain_answer, answer_said, forge_said};
 ghost use Rattle.scripts.specs.Lines.{fixed_by, named_said, known_said, foreign_fault, assembly_said, inside_said, outside_said, line_said};
 ghost use Rattle.scripts.specs.Keywords.{keyword_said};
 
@@ -200,6 +200,16 @@ fn end<'a>(words: &Words) -> Result<Line<'a>, ScriptFault>
     Ok(Line::End)
 }
 
+// A step whose word stands alone.
+fn alone<'a>(words: &Words, step: Step) -> Result<Line<'a>, ScriptFault>
+    ensures { result ≡ alone_said words.now.count step }
+{
+    if words.count != 0 {
+        return Err(ScriptFault::BadLine);
+    }
+    Ok(Line::Step(step))
+}
+
 // A line of a fixed number of words, which begins with this keyword.
 fn fixed<'a>(keyword: Keyword, is_step: bool, words: &Words<'a>) -> Result<Line<'a>, ScriptFault>
     ensures { result ≡ fixed_by keyword is_step words.now.count words.now.first.now words.now.second.now
@@ -221,6 +231,7 @@ fn fixed<'a>(keyword: Keyword, is_step: bool, words: &Words<'a>) -> Result<Line<
         Keyword::Tell => Ok(Line::Step(Step::Tell(one_number(words)?))),
         Keyword::Redo => Ok(Line::Step(Step::Redo(one_dc(words)?))),
         Keyword::Crash => Ok(Line::Step(Step::Crash(one_number(words)?))),
+        Keyword::Cut => alone(words, Step::Cut),
         Keyword::Forge => Ok(Line::Step(forge(words)?)),
         Keyword::Admit | Keyword::First | Keyword::Call => Err(ScriptFault::BadLine),
     }

@@ -97,7 +97,7 @@ impl<'a> Open<'a> {
             name: self.name,
             decl,
             code,
-            line,
+            line: Some(line),
         })
     }
 }

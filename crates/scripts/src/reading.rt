@@ -1,8 +1,9 @@
 //! A script's text read line by line, up to its first fault.
 
-ghost use Rattle.std.specs.Prelude.{◌≡◌, [], ◌∷◌, ◌++◌, false, map, IfOk, IfErr, OnOk, OnErr, Ok};
+ghost use Rattle.std.specs.Prelude.{◌≡◌, [], ◌∷◌, ◌++◌, false, map, length, IfOk, IfErr, OnOk, OnErr, Ok};
+ghost use Rattle.std.specs.Str.Lines.{lines};
 ghost use Rattle.scripts.specs.Numbers.{IsStop};
-ghost use Rattle.scripts.specs.Reading.{no_lines, parsed_of, script_said, is_taken, may_go_on};
+ghost use Rattle.scripts.specs.Reading.{no_lines, parsed_of, read_from, said_behind, script_said, names_given, is_taken, may_go_on};
 ghost use Rattle.scripts.specs.Reading.{has_no_further, call_of, next, stopped, taken};
 ghost use Rattle.scripts.specs.Reading.{dc_added, proc_added, slot_declared, insn_written, procedure_ended};
 ghost use Rattle.scripts.specs.Reading.{step_added, first_added, call_added, end_fault};
@@ -12,7 +13,7 @@ use crate::keyword::Command;
 use crate::line::Line;
 use crate::name::Name;
 use crate::open::Open;
-use crate::script::{Call, Dc, MOST_DCS, Script, Step};
+use crate::script::{Call, Dc, MOST_DCS, Procedure, Script, Step};
 use access_slots::slot::Slot;
 use bpf_encoding::insn::Insn;
 use indexmap::IndexSet;
@@ -43,6 +44,8 @@ struct Reading<'a> {
     script: Script<'a>,
     // Of the procedures so far, and of the open one.
     names: IndexSet<&'a str>,
+    // How many of them were there to begin with.
+    given: usize,
     current: Option<Open<'a>>,
 }
 
@@ -52,7 +55,7 @@ impl<'a> Model for Reading<'a> {
 
     ghost Value = { State };
 
-    ghost view = { λ r. record { contents = contents_of r.script; names = map (λ k. k.now) r.names.keys; current = r.current } };
+    ghost view = { λ r. record { contents = contents_of r.script; names = map (λ k. k.now) r.names.keys; given = r.given; current = r.current } };
 }
 
 // A name more, which isn't taken.
@@ -65,20 +68,44 @@ fn take_name<'a>(names: &mut IndexSet<&'a str>, name: &Name<'a>) -> Result<(), L
     Ok(())
 }
 
+// Whether there is a procedure of this name.
+fn is_taken<'a>(names: &IndexSet<&'a str>, name: &Name<'a>) -> bool
+    ensures { result ≡ is_taken (map (λ k. k.now) names.now.keys) name.now }
+{
+    names.contains(name.as_str())
+}
+
+// The names of procedures, no two of which are one.
+fn names_given<'a>(alloc: Global, given: &[Procedure<'a>]) -> Result<IndexSet<&'a str>, LineError>
+    ensures ok { IfOk result (λ names. names_given [] given.now ≡ Ok (map (λ k. k.now) names.keys)) }
+    ensures err { IfErr result (IsStop (names_given [] given.now)) }
+{
+    let mut names = IndexSet::new(alloc);
+    'given: for procedure in given {
+        if is_taken(&names, &procedure.name) {
+            return Err(LineError::Fault(ScriptFault::NameTaken));
+        }
+        take_name(&mut names, &procedure.name)?;
+    }
+    Ok(names)
+}
+
 impl<'a> Reading<'a> {
-    fn new(alloc: Global) -> Reading<'a>
-        ensures { result ≡ no_lines }
+    fn new(alloc: Global, given: Vec<Procedure<'a>>, names: IndexSet<&'a str>) -> Reading<'a>
+        ensures { result ≡ no_lines given.entry.items (map (λ k. k.now) names.entry.keys) }
     {
+        let count = names.len();
         Reading {
             alloc,
             script: Script {
                 dcs: Vec::new(alloc),
-                procedures: Vec::new(alloc),
+                procedures: given,
                 steps: Vec::new(alloc),
                 first: Vec::new(alloc),
                 calls: Vec::new(alloc),
             },
-            names: IndexSet::new(alloc),
+            names,
+            given: count,
             current: None,
         }
     }
@@ -86,7 +113,7 @@ impl<'a> Reading<'a> {
     fn is_taken(&self, name: &Name<'a>) -> bool
         ensures { result ≡ is_taken self.now.names name.now }
     {
-        self.names.contains(name.as_str())
+        is_taken(&self.names, name)
     }
 
     // Whether no line of the last part was read.
@@ -108,7 +135,9 @@ impl<'a> Reading<'a> {
         ensures err { IfErr result (IsStop (dc_added self.old dc)) }
         ensures kept { OnErr result (self.new.contents ≡ self.old.contents) }
     {
-        let is_first = self.current.is_none() && self.names.is_empty() && self.has_no_further();
+        let is_first = self.current.is_none()
+            && self.names.len() == self.given
+            && self.has_no_further();
         if !is_first || self.script.dcs.len() >= MOST_DCS {
             return Err(LineError::Fault(ScriptFault::Order));
         }
@@ -278,12 +307,14 @@ impl<'a> Reading<'a> {
     }
 }
 
-/// What a text says as a script of this command: its data components, its procedures, not yet
-/// verified, and the further lines, up to its first fault.
-pub fn parse<'a>(alloc: Global, command: Command, text: &'a str) -> Result<Parsed<'a>, AllocError>
-    ensures { IfOk result (λ p. parsed_of p ≡ script_said command text.entry.now) }
+// All lines of a text, up to its first fault.
+fn read_lines<'a>(
+    mut reading: Reading<'a>,
+    command: Command,
+    text: &'a str,
+) -> Result<Parsed<'a>, AllocError>
+    ensures { IfOk result (λ p. parsed_of p ≡ read_from command 0 reading.entry (lines text.entry.now)) }
 {
-    let mut reading = Reading::new(alloc);
     let mut number = 0;
     'lines: for line in text.lines() {
         number += 1;
@@ -295,4 +326,33 @@ pub fn parse<'a>(alloc: Global, command: Command, text: &'a str) -> Result<Parse
     }
     let fault = reading.end_fault();
     Ok(reading.parsed(number, fault))
+}
+
+/// What a text says as a script of this command, where these procedures are there to begin with: as if they stood
+/// behind its `dc` lines, but that nobody looks whether their slots are of its data components. Where two of them
+/// have one name, that is the fault, of line 0.
+pub fn parse_behind<'a>(
+    alloc: Global,
+    command: Command,
+    given: Vec<Procedure<'a>>,
+    text: &'a str,
+) -> Result<Parsed<'a>, AllocError>
+    ensures { IfOk result (λ p. parsed_of p ≡ said_behind command given.entry.items text.entry.now) }
+{
+    match names_given(alloc, given.as_slice()) {
+        Ok(names) => read_lines(Reading::new(alloc, given, names), command, text),
+        Err(LineError::Fault(fault)) => {
+            let nothing = Reading::new(alloc, Vec::new(alloc), IndexSet::new(alloc));
+            Ok(nothing.parsed(0, Some(fault)))
+        }
+        Err(LineError::Memory) => Err(AllocError),
+    }
+}
+
+/// What a text says as a script of this command: its data components, its procedures, not yet
+/// verified, and the further lines, up to its first fault.
+pub fn parse<'a>(alloc: Global, command: Command, text: &'a str) -> Result<Parsed<'a>, AllocError>
+    ensures { IfOk result (λ p. parsed_of p ≡ script_said command text.entry.now) }
+{
+    parse_behind(alloc, command, Vec::new(alloc), text)
 }

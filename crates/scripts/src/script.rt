@@ -29,8 +29,8 @@ pub struct Procedure<'a> {
     pub name: Name<'a>,
     pub decl: Decl,
     pub code: Code,
-    /// The line of its `end`, from 1.
-    pub line: usize,
+    /// The line of its `end`, from 1, if it stands in the text.
+    pub line: Option<usize>,
 }
 
 /// A call of a procedure of the script.
@@ -65,6 +65,7 @@ pub enum Step {
     Redo(u16),
     /// When so many events of the log were written.
     Crash(u64),
+    Cut,
     Forge(Reply),
 }
 

@@ -5,7 +5,7 @@ use Rattle.std.proofs.lemmas.Iterator.Consumers.{YieldsList-turn, YieldsList-end
 use Rattle.std.proofs.lemmas.Iterator.Splits.{YieldsList-from_lines}
 use Rattle.scripts.specs.Reading.{taken, stopped}
 use Rattle.scripts.proofs.ReadingLemmas.{going, stopping, ending}
-use Rattle.scripts.proofs.reading.parse.Goals as goal
+use Rattle.scripts.proofs.reading.read_lines.Goals as goal
 
 pub lines-preserved : goal.lines-preserved
 lines-preserved c =

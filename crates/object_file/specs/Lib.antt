@@ -1,0 +1,4 @@
+pub mod Elf
+pub mod Gathering
+pub mod Accesses
+pub mod Object

@@ -1,0 +1,193 @@
+//! The procedures of an object file.
+
+ghost use Rattle.std.specs.Prelude.{◌≡◌, ◌++◌, OnOk, Some, None, Ok, Err, map, IfSome, IfNone, IfOk, IfErr};
+ghost use Rattle.std.specs.Option.{option_map};
+ghost use Rattle.object_file.specs.declared.fault.ReadError.{ReadError};
+ghost use Rattle.object_file.specs.Gathering.{IsStop, listed};
+ghost use Rattle.object_file.specs.Object.{kind_of, named, first_of, section_said, sections_said, procedure_said, procedures_said, object_said, declared_of};
+
+use crate::accesses::declaration_in;
+use crate::elf::{Header, headers_in, is_relocated, names_of, table_of};
+use crate::fault::{ObjectFault, ReadError};
+use access_slots::decl::Decl;
+use std::alloc::Global;
+
+/// What a section of a procedure has.
+#[derive(Clone, Copy, PartialEq, Eq)]
+enum Kind {
+    Code,
+    Accesses,
+}
+
+// A section of a procedure.
+#[derive(Clone, Copy)]
+struct Section<'a> {
+    number: usize,
+    kind: Kind,
+    name: &'a [u8],
+    bytes: &'a [u8],
+}
+
+/// A procedure of an object file.
+#[derive(Drop)]
+pub struct Procedure<'a> {
+    /// Of any bytes but 0, at most 256.
+    pub name: &'a [u8],
+    /// Not yet decoded.
+    pub code: &'a [u8],
+    pub decl: Decl,
+    /// The number of the section with its code.
+    pub section: usize,
+}
+
+// Keeps what was found, if something was.
+fn push_found<T: Drop>(all: &mut Vec<T>, found: Option<T>) -> Result<(), ReadError>
+    ensures ok { OnOk result (all.new.items ≡ all.old.items ++ listed found) }
+    ensures err { IfErr result (λ e. e ≡ ReadError.Memory) }
+{
+    if let Some(found) = found {
+        all.push(found)?;
+    }
+    Ok(())
+}
+
+// What a section of this name has, and of which procedure.
+fn kind_of(name: &[u8]) -> Option<(Kind, &[u8])>
+    ensures some { IfSome result (λ r. kind_of name.now ≡ Some (r.0, r.1.now)) }
+    ensures none { IfNone result (kind_of name.now ≡ None) }
+{
+    if let Some(procedure) = name.strip_prefix(b"procedure/") {
+        return Some((Kind::Code, procedure));
+    }
+    match name.strip_prefix(b"accesses/") {
+        Some(procedure) => Some((Kind::Accesses, procedure)),
+        None => None,
+    }
+}
+
+// The section of this number, if it is one of a procedure.
+fn section_of<'a>(
+    file: &'a [u8],
+    names: &'a [u8],
+    headers: &[Header],
+    number: usize,
+    header: &Header,
+) -> Result<Option<Section<'a>>, ObjectFault>
+    ensures ok { IfOk result (λ s. section_said file.entry.now names.entry.now headers.now number header.now ≡ Ok (option_map named s)) }
+    ensures err { IfErr result (λ fault. section_said file.entry.now names.entry.now headers.now number header.now ≡ Err fault) }
+{
+    if !header.has_bits() {
+        return Ok(None);
+    }
+    let name = header.name(names).ok_or(ObjectFault::NoName(number))?;
+    let Some((kind, name)) = kind_of(name) else {
+        return Ok(None);
+    };
+    let bytes = header.bytes(file).ok_or(ObjectFault::Outside(number))?;
+    if is_relocated(headers, number) {
+        return Err(ObjectFault::Relocated(number));
+    }
+    Ok(Some(Section {
+        number,
+        kind,
+        name,
+        bytes,
+    }))
+}
+
+// The sections of procedures.
+fn sections_of<'a>(
+    alloc: Global,
+    file: &'a [u8],
+    names: &'a [u8],
+    headers: &[Header],
+) -> Result<Vec<Section<'a>>, ReadError>
+    ensures ok { IfOk result (λ ss. sections_said file.entry.now names.entry.now headers.now ≡ Ok (map named ss.items)) }
+    ensures err { IfErr result (IsStop (sections_said file.entry.now names.entry.now headers.now)) }
+{
+    let mut sections = Vec::new(alloc);
+    'headers: for number in 0..headers.len() {
+        let found = section_of(file, names, headers, number, &headers[number])?;
+        push_found(&mut sections, found)?;
+    }
+    Ok(sections)
+}
+
+// The first section of this kind and name.
+fn first_of<'a>(sections: &[Section<'a>], kind: Kind, name: &[u8]) -> Option<Section<'a>>
+    ensures { option_map named result ≡ first_of kind name.now (map named sections.now) }
+{
+    'sections: for section in sections {
+        if section.kind == kind && section.name == name {
+            return Some(*section);
+        }
+    }
+    None
+}
+
+// The procedure with its code in this section, if it has code.
+fn procedure_of<'a>(
+    alloc: Global,
+    sections: &[Section<'a>],
+    section: &Section<'a>,
+) -> Result<Option<Procedure<'a>>, ReadError>
+    ensures ok { IfOk result (λ p. procedure_said (map named sections.now) (named section.now) ≡ Ok (option_map declared_of p)) }
+    ensures err { IfErr result (IsStop (procedure_said (map named sections.now) (named section.now))) }
+{
+    let Section {
+        number,
+        name,
+        bytes,
+        ..
+    } = *section;
+    if section.kind != Kind::Code {
+        return Ok(None);
+    }
+    match first_of(sections, Kind::Code, name) {
+        Some(first) if first.number == number => {}
+        _ => return Err(ReadError::Fault(ObjectFault::Twice(number))),
+    }
+    let Some(accesses) = first_of(sections, Kind::Accesses, name) else {
+        return Err(ReadError::Fault(ObjectFault::NoAccesses(number)));
+    };
+    let decl = declaration_in(alloc, accesses.number, accesses.bytes)?;
+    Ok(Some(Procedure {
+        name,
+        code: bytes,
+        decl,
+        section: number,
+    }))
+}
+
+// The procedures that have their code in these sections.
+fn procedures_of<'a>(
+    alloc: Global,
+    sections: &[Section<'a>],
+) -> Result<Vec<Procedure<'a>>, ReadError>
+    ensures ok { IfOk result (λ ps. procedures_said (map named sections.now) ≡ Ok (map declared_of ps.items)) }
+    ensures err { IfErr result (IsStop (procedures_said (map named sections.now))) }
+{
+    let mut procedures = Vec::new(alloc);
+    'sections: for section in sections {
+        let found = procedure_of(alloc, sections, section)?;
+        push_found(&mut procedures, found)?;
+    }
+    Ok(procedures)
+}
+
+/// The procedures of an object file, in the order of its sections.
+///
+/// Refused with the first fault: of the header, of the section header table, of the names of sections, then of
+/// the sections of procedures in their order, and then of the procedures in theirs.
+pub fn read<'a>(alloc: Global, file: &'a [u8]) -> Result<Vec<Procedure<'a>>, ReadError>
+    // What is read is what the file says.
+    ensures ok { IfOk result (λ ps. object_said file.entry.now ≡ Ok (map declared_of ps.items)) }
+    // A fault is the first one; what the file says is read, unless memory runs out.
+    ensures err { IfErr result (IsStop (object_said file.entry.now)) }
+{
+    let table = table_of(file)?;
+    let headers = headers_in(alloc, table)?;
+    let names = names_of(file, headers.as_slice())?;
+    let sections = sections_of(alloc, file, names, headers.as_slice())?;
+    procedures_of(alloc, sections.as_slice())
+}

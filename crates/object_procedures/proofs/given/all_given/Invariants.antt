@@ -1,0 +1,10 @@
+use Rattle.std.proofs.Common.{◌≡◌, map, length}
+use Rattle.object_procedures.specs.Each.{each}
+use Rattle.object_procedures.specs.Given.{given_of, all_given}
+use Rattle.object_procedures.proofs.Each.{behind}
+use Rattle.object_procedures.proofs.given.all_given.Given as goal
+
+abbrev pub invariant-found : goal.invariant-found
+invariant-found l =
+    (l.one-iterator.rest.len ≡ length l.one-iterator.rest.items)
+    × (all_given l.fn.found.items ≡ behind l.given.items (each given_of l.one-iterator.rest.items))

@@ -1,0 +1,4 @@
+pub mod Each
+pub mod Finding
+pub mod Refusal
+pub mod Given

@@ -1,0 +1,23 @@
+// In what a log of others differs.
+
+ghost use Rattle.std.specs.Prelude.{◌≡◌, IfOk, string_bytes};
+ghost use Rattle.procedure_digest.specs.Difference.{other_line};
+
+use log_file::Header;
+use std::alloc::{AllocError, Global};
+
+/// The line that refuses a log that has another header than a script's procedures: the first in which they
+/// differ of the number of data components, that of procedures, and the digest, with both numbers.
+pub fn other_line(alloc: Global, log: &Header, script: &Header) -> Result<String, AllocError>
+    ensures { IfOk result (λ line. string_bytes line ≡ other_line log.now script.now) }
+{
+    if log.dcs != script.dcs {
+        let (has, wanted) = (log.dcs, script.dcs);
+        return format!(in alloc; "refused log Other dcs {has} script {wanted}\n");
+    }
+    if log.procedures != script.procedures {
+        let (has, wanted) = (log.procedures, script.procedures);
+        return format!(in alloc; "refused log Other procedures {has} script {wanted}\n");
+    }
+    String::from_str(alloc, "refused log Other digest\n")
+}

@@ -1,6 +1,0 @@
-use Rattle.std.proofs.Common.{rules}
-use Rattle.scripts.proofs.Names.{any_text}
-use Rattle.scripts.proofs.reading.Reading.is_taken.Goals as goal
-
-pub returns : goal.returns
-returns c = let any = any_text c.args.name.now c.self.inside.names.keys in search (rules, any)
