@@ -7,6 +7,9 @@ use Rattle.command_line.specs.Said.{IsFlag}
 pub some_some : {X : Type 0} (x y : X) → Some x ≡ Some y → x ≡ y
 some_some x y e = cc
 
+pub none_some : {X : Type 0} (x : X) → None ≡ Some x → ⊥
+none_some x e = cc
+
 -- the texts behind an optional list, or none
 pub texts_or_none : (o : Option (Bor (List (Bor (List ℕ))))) (d : Bor (List (Bor (List ℕ)))) → d.now ≡ []
     → map (λ s. s.now) (unwrap_or o d).now ≡ unwrap_or (option_map (λ s. map (λ v. v.now) s.now) o) []

@@ -1,6 +1,6 @@
 -- What the command of a name wants.
-use Rattle.std.proofs.Common.{arith, slice_index, ◌≡◌, ℕ, Bool, List, [], Option, Some, None, option_map, unwrap_or, codes, refl, sym}
-use Rattle.std.proofs.Common.{subst, ap, ap₂, ◌∙◌, ◌+◌, ◌∷◌, false, inl, inr, eq-or-lt_of_le}
+use Rattle.std.proofs.Common.{arith, slice_index, ◌≡◌, ℕ, Bool, List, [], Option, Some, None, option_map, unwrap_or, codes, is_some, refl, sym}
+use Rattle.std.proofs.Common.{subst, ap, ap₂, ◌∙◌, ◌+◌, ◌∷◌, true, false, inl, inr, eq-or-lt_of_le}
 use Rattle.std.specs.Prelude.{◌<◌, ◌≤◌, Result, slice_get}
 use Rattle.std.proofs.lemmas.Bool.{or_parts}
 use Rattle.command_line.proofs.Options.{some_some}
@@ -11,8 +11,9 @@ use Rattle.std.specs.List.{list_any}
 use Rattle.clap.specs.Matches.{subcommand_name_of}
 use Rattle.clap.specs.declared.parser.matches.ArgMatches.{ArgMatches}
 use Rattle.clap.specs.declared.parser.matches.ArgMatches.TheViews.{out-ArgMatches}
-use Rattle.command_line.specs.Said.{AllNumbers, IsNoCount, IsUnfit, Argument, Workers, Tries, Alone, IsWrong, Refused, NoCommand, Unfit, procd_app, shows}
+use Rattle.command_line.specs.Said.{AllNumbers, IsNoCount, IsUnfit, Argument, Workers, Tries, Alone, Both, IsWrong, Refused, NoCommand, Unfit, procd_app, shows}
 use Rattle.command_line.specs.Said.{IsFlag, SaysCount, SaysLog, SaysNumber, SaysNumbers, SaysRun, SaysWish, value_of}
+use Rattle.command_line.specs.Task.{LogWish, Events, EventsAndRows, Audit}
 use Rattle.command_line.specs.Task.{Wish, Exec, Asm, Dis, Verify, World, Run, Log, command_name}
 use Rattle.command_line.specs.Wanted.{IsTaskOrNoMemory}
 use Rattle.command_line.specs.declared.words.Task.{Task}
@@ -91,8 +92,8 @@ wants_exec name rows raw numbers is flag all (Exec r ns) named says = ap₂ Exec
 wants_exec name rows raw numbers is flag all Asm named says = absurd (exec_not_asm (sym is ∙ named))
 wants_exec name rows raw numbers is flag all (Dis r) named says = absurd (exec_not_dis (sym is ∙ named))
 wants_exec name rows raw numbers is flag all Verify named says = absurd (exec_not_verify (sym is ∙ named))
-wants_exec name rows raw numbers is flag all (World log audit) named says = absurd (exec_not_world (sym is ∙ named))
-wants_exec name rows raw numbers is flag all (Run workers tries stats audit tell log) named says = absurd (exec_not_run (sym is ∙ named))
+wants_exec name rows raw numbers is flag all (World log audit script) named says = absurd (exec_not_world (sym is ∙ named))
+wants_exec name rows raw numbers is flag all (Run workers tries stats audit tell log script) named says = absurd (exec_not_run (sym is ∙ named))
 wants_exec name rows raw numbers is flag all (Log script) named says = absurd (exec_not_log (sym is ∙ named))
 
 pub wants_dis : (name : List ℕ) (rows : List Row) (raw : Bool) → name ≡ codes "dis" → ((r : Bool) → IsFlag r (one_of (codes "raw") rows) → raw ≡ r)
@@ -101,44 +102,74 @@ wants_dis name rows raw is flag (Exec r ns) named says = absurd (exec_not_dis (s
 wants_dis name rows raw is flag Asm named says = absurd (asm_not_dis (sym named ∙ is))
 wants_dis name rows raw is flag (Dis r) named says = ap Dis (flag r says)
 wants_dis name rows raw is flag Verify named says = absurd (dis_not_verify (sym is ∙ named))
-wants_dis name rows raw is flag (World log audit) named says = absurd (dis_not_world (sym is ∙ named))
-wants_dis name rows raw is flag (Run workers tries stats audit tell log) named says = absurd (dis_not_run (sym is ∙ named))
+wants_dis name rows raw is flag (World log audit script) named says = absurd (dis_not_world (sym is ∙ named))
+wants_dis name rows raw is flag (Run workers tries stats audit tell log script) named says = absurd (dis_not_run (sym is ∙ named))
 wants_dis name rows raw is flag (Log script) named says = absurd (dis_not_log (sym is ∙ named))
 
-pub wants_world : (name : List ℕ) (rows : List Row) (log audit : Bool) → name ≡ codes "world"
+pub wants_world : (name : List ℕ) (rows : List Row) (log audit : Bool) (script : Option (List ℕ)) → name ≡ codes "world"
     → ((l : Bool) → IsFlag l (one_of (codes "log") rows) → log ≡ l)
     → ((a : Bool) → IsFlag a (one_of (codes "audit") rows) → audit ≡ a)
-    → (wish : Wish) → name ≡ command_name wish → SaysWish rows wish → World log audit ≡ wish
-wants_world name rows log audit is flag other (Exec r ns) named says = absurd (exec_not_world (sym named ∙ is))
-wants_world name rows log audit is flag other Asm named says = absurd (asm_not_world (sym named ∙ is))
-wants_world name rows log audit is flag other (Dis r) named says = absurd (dis_not_world (sym named ∙ is))
-wants_world name rows log audit is flag other Verify named says = absurd (verify_not_world (sym named ∙ is))
-wants_world name rows log audit is flag other (World l a) named says = ap₂ World (flag l says.0) (other a says.1)
-wants_world name rows log audit is flag other (Run workers tries stats a tell path) named says = absurd (world_not_run (sym is ∙ named))
-wants_world name rows log audit is flag other (Log script) named says = absurd (world_not_log (sym is ∙ named))
+    → script ≡ first_of (codes "script") rows
+    → (wish : Wish) → name ≡ command_name wish → SaysWish rows wish → World log audit script ≡ wish
+wants_world name rows log audit script is flag other path (Exec r ns) named says = absurd (exec_not_world (sym named ∙ is))
+wants_world name rows log audit script is flag other path Asm named says = absurd (asm_not_world (sym named ∙ is))
+wants_world name rows log audit script is flag other path (Dis r) named says = absurd (dis_not_world (sym named ∙ is))
+wants_world name rows log audit script is flag other path Verify named says = absurd (verify_not_world (sym named ∙ is))
+wants_world name rows log audit script is flag other path (World l a s) named says =
+    ap₂ (λ (x y : Bool). World x y script) (flag l says.0) (other a says.1) ∙ ap (λ (o : Option (List ℕ)). World l a o) (path ∙ says.2)
+wants_world name rows log audit script is flag other path (Run workers tries stats a tell kept beside) named says = absurd (world_not_run (sym is ∙ named))
+wants_world name rows log audit script is flag other path (Log beside) named says = absurd (world_not_log (sym is ∙ named))
 
 pub wants_run : (name : List ℕ) (rows : List Row) (result : Result Task WordFault) → name ≡ codes "run"
-    → ((workers tries : ℕ) (stats audit tell : Bool) (log : Option (List ℕ)) → SaysRun rows workers tries stats audit tell log
-    → IsTaskOrNoMemory (Run workers tries stats audit tell log) result)
+    → ((workers tries : ℕ) (stats audit tell : Bool) (log script : Option (List ℕ)) → SaysRun rows workers tries stats audit tell log script
+    → IsTaskOrNoMemory (Run workers tries stats audit tell log script) result)
     → (wish : Wish) → name ≡ command_name wish → SaysWish rows wish → IsTaskOrNoMemory wish result
 wants_run name rows result is all (Exec r ns) named says = absurd (exec_not_run (sym named ∙ is))
 wants_run name rows result is all Asm named says = absurd (asm_not_run (sym named ∙ is))
 wants_run name rows result is all (Dis r) named says = absurd (dis_not_run (sym named ∙ is))
 wants_run name rows result is all Verify named says = absurd (verify_not_run (sym named ∙ is))
-wants_run name rows result is all (World log audit) named says = absurd (world_not_run (sym named ∙ is))
-wants_run name rows result is all (Run workers tries stats audit tell log) named says = all workers tries stats audit tell log says
+wants_run name rows result is all (World log audit script) named says = absurd (world_not_run (sym named ∙ is))
+wants_run name rows result is all (Run workers tries stats audit tell log script) named says = all workers tries stats audit tell log script says
 wants_run name rows result is all (Log script) named says = absurd (log_not_run (sym named ∙ is))
 
 pub wants_log : (name : List ℕ) (rows : List Row) (result : Result Task WordFault) → name ≡ codes "log"
-    → ((script : Option (List ℕ)) → SaysLog rows script → IsTaskOrNoMemory (Log script) result)
+    → ((wanted : LogWish) → SaysLog rows wanted → IsTaskOrNoMemory (Log wanted) result)
     → (wish : Wish) → name ≡ command_name wish → SaysWish rows wish → IsTaskOrNoMemory wish result
 wants_log name rows result is all (Exec r ns) named says = absurd (exec_not_log (sym named ∙ is))
 wants_log name rows result is all Asm named says = absurd (asm_not_log (sym named ∙ is))
 wants_log name rows result is all (Dis r) named says = absurd (dis_not_log (sym named ∙ is))
 wants_log name rows result is all Verify named says = absurd (verify_not_log (sym named ∙ is))
-wants_log name rows result is all (World log audit) named says = absurd (world_not_log (sym named ∙ is))
-wants_log name rows result is all (Run workers tries stats audit tell log) named says = absurd (log_not_run (sym is ∙ named))
-wants_log name rows result is all (Log script) named says = all script says
+wants_log name rows result is all (World log audit script) named says = absurd (world_not_log (sym named ∙ is))
+wants_log name rows result is all (Run workers tries stats audit tell log script) named says = absurd (log_not_run (sym is ∙ named))
+wants_log name rows result is all (Log wanted) named says = all wanted says
+
+-- ---- a log's file
+
+-- what a script's path, and the flags of an audit and of rows, ask for
+abbrev pub log_wanted : Option Text → Bool → Bool → Option LogWish
+log_wanted None true base = None
+log_wanted None false true = Some EventsAndRows
+log_wanted None false false = Some Events
+log_wanted (Some script) false base = None
+log_wanted (Some script) true true = None
+log_wanted (Some script) true false = Some (Audit script)
+
+module _ (rows : List Row) (base audit : Bool) (script : Option Text) (asks : (b : Bool) → IsFlag b (one_of (codes "rows") rows) → base ≡ b)
+    (audits : (a : Bool) → IsFlag a (one_of (codes "audit") rows) → audit ≡ a) (is : script ≡ first_of (codes "script") rows) where
+  pub log_said : (wanted : LogWish) → SaysLog rows wanted → log_wanted script audit base ≡ Some wanted
+  log_said Events says = rw (is ∙ says.2, audits false says.1, asks false says.0) refl
+  log_said EventsAndRows says = rw (is ∙ says.2, audits false says.1, asks true says.0) refl
+  log_said (Audit path) says = rw (is ∙ says.2, audits true says.1, asks false says.0) refl
+
+  pub log_fits : is_some script ≡ audit → (audit ≡ true → base ≡ false) → ¬ IsUnfit (codes "log") rows
+  log_fits same one (Argument exec none) = exec_not_log (sym exec)
+  log_fits same one (Workers run none) = log_not_run run
+  log_fits same one (Tries run none) = log_not_run run
+  log_fits same one (Alone log a flag unequal) = unequal (ap is_some (sym is) ∙ (same ∙ audits a flag))
+  log_fits same one (Both log asked audited) =
+      let yes = asks true asked in
+      let no = one (audits true audited) in
+      absurd (cc)
 
 composed : {A B C : Type 0} (g : A → B) (f : B → C) (o : Option A) → option_map (λ a. f (g a)) o ≡ option_map f (option_map g o)
 composed g f None = refl
@@ -175,6 +206,7 @@ lacks_nothing name rows not_exec not_run not_log (Argument exec none) = not_exec
 lacks_nothing name rows not_exec not_run not_log (Workers run none) = not_run run
 lacks_nothing name rows not_exec not_run not_log (Tries run none) = not_run run
 lacks_nothing name rows not_exec not_run not_log (Alone log audit flag unequal) = not_log log
+lacks_nothing name rows not_exec not_run not_log (Both log asked audit) = not_log log
 
 pub lacks_no_argument : (name : Text) (rows : List Row) → name ≡ codes "exec" → AllNumbers (unwrap_or (all_of (codes "arg") rows) [])
     → ¬ IsUnfit name rows
@@ -182,6 +214,7 @@ lacks_no_argument name rows is all (Argument exec none) = none all
 lacks_no_argument name rows is all (Workers run none) = exec_not_run (sym is ∙ run)
 lacks_no_argument name rows is all (Tries run none) = exec_not_run (sym is ∙ run)
 lacks_no_argument name rows is all (Alone log audit flag unequal) = exec_not_log (sym is ∙ log)
+lacks_no_argument name rows is all (Both log asked audit) = exec_not_log (sym is ∙ log)
 
 pub lacks_no_count : (rows : List Row) → ¬ IsNoCount (first_of (codes "workers") rows) → ¬ IsNoCount (first_of (codes "tries") rows)
     → ¬ IsUnfit (codes "run") rows
@@ -189,6 +222,7 @@ lacks_no_count rows workers tries (Argument exec none) = exec_not_run (sym exec)
 lacks_no_count rows workers tries (Workers run none) = workers none
 lacks_no_count rows workers tries (Tries run none) = tries none
 lacks_no_count rows workers tries (Alone log audit flag unequal) = log_not_run (sym log)
+lacks_no_count rows workers tries (Both log asked audit) = log_not_run (sym log)
 
 pub asm_lacks_nothing : (name : Text) (rows : List Row) → name ≡ codes "asm" → ¬ IsUnfit name rows
 asm_lacks_nothing name rows is = lacks_nothing name rows (λ e. exec_not_asm (sym e ∙ is)) (λ e. asm_not_run (sym is ∙ e)) (λ e. asm_not_log (sym is ∙ e))

@@ -8,6 +8,7 @@ use Rattle.clap.specs.declared.error.kind.ErrorKind.TheVariants as kind
 use Rattle.clap.specs.declared.builder.ArgAction.TheVariants.{Set, SetTrue, Append}
 use Rattle.std.specs.Str.Parse.{IsNumeral, digits_value, without_leading_plus}
 use Rattle.command_line.specs.Task.{Wish, Exec, Asm, Dis, Verify, World, Run, Log, command_name}
+use Rattle.command_line.specs.Task.{LogWish, Events, EventsAndRows, Audit}
 
 abbrev pub raw_rule : Rule
 raw_rule = record (new_rule (codes "raw")) { long = Some (codes "raw"); action = Some SetTrue }
@@ -17,6 +18,9 @@ log_rule = record (new_rule (codes "log")) { long = Some (codes "log"); action =
 
 abbrev pub audit_rule : Rule
 audit_rule = record (new_rule (codes "audit")) { long = Some (codes "audit"); action = Some SetTrue }
+
+abbrev pub rows_rule : Rule
+rows_rule = record (new_rule (codes "rows")) { long = Some (codes "rows"); action = Some SetTrue }
 
 abbrev pub file_rule : Rule
 file_rule = record (new_rule (codes "file")) { required = true; action = Some Set; value_names = 1 }
@@ -53,9 +57,9 @@ dis_app = with_rule (with_rule (new_app (codes "dis")) raw_rule) file_rule
 abbrev pub verify_app : App
 verify_app = with_rule (new_app (codes "verify")) file_rule
 
--- world [--log] [--audit] FILE
+-- world [--log] [--audit] FILE [SCRIPT]
 abbrev pub world_app : App
-world_app = with_rule (with_rule (with_rule (new_app (codes "world")) log_rule) audit_rule) file_rule
+world_app = with_rule (with_rule (with_rule (with_rule (new_app (codes "world")) log_rule) audit_rule) file_rule) script_rule
 
 -- run [--workers N] [--tries N]
 abbrev pub counted_app : App
@@ -65,13 +69,13 @@ counted_app = with_rule (with_rule (new_app (codes "run")) (option_rule (codes "
 abbrev pub told_app : App
 told_app = with_rule (with_rule (with_rule counted_app stats_rule) audit_rule) tell_rule
 
--- run [--workers N] [--tries N] [--stats] [--audit] [--tell] [--log LOG] FILE
+-- run [--workers N] [--tries N] [--stats] [--audit] [--tell] [--log LOG] FILE [SCRIPT]
 abbrev pub run_app : App
-run_app = with_rule (with_rule told_app (option_rule (codes "log"))) file_rule
+run_app = with_rule (with_rule (with_rule told_app (option_rule (codes "log"))) file_rule) script_rule
 
--- log [--audit] FILE [SCRIPT]
+-- log [--rows] [--audit] FILE [SCRIPT]
 abbrev pub log_app : App
-log_app = with_rule (with_rule (with_rule (new_app (codes "log")) audit_rule) file_rule) script_rule
+log_app = with_rule (with_rule (with_rule (with_rule (new_app (codes "log")) rows_rule) audit_rule) file_rule) script_rule
 
 -- the commands that take code
 abbrev pub code_app : App
@@ -107,15 +111,22 @@ SaysCount None default n = n ≡ default
 SaysCount (Some text) default n = SaysNumber text × (n ≡ value_of text)
 
 -- 4 workers and 3 tries, where nothing is said of them
-abbrev pub SaysRun : List Row → ℕ → ℕ → Bool → Bool → Bool → Option Text → Type 0
-SaysRun rows workers tries stats audit tell log =
+abbrev pub SaysRun : List Row → ℕ → ℕ → Bool → Bool → Bool → Option Text → Option Text → Type 0
+SaysRun rows workers tries stats audit tell log script =
     SaysCount (first_of (codes "workers") rows) 4 workers × SaysCount (first_of (codes "tries") rows) 3 tries
     × IsFlag stats (one_of (codes "stats") rows) × IsFlag audit (one_of (codes "audit") rows) × IsFlag tell (one_of (codes "tell") rows)
-    × (first_of (codes "log") rows ≡ log)
+    × (first_of (codes "log") rows ≡ log) × (first_of (codes "script") rows ≡ script)
 
--- a script where an audit is asked for, and else none
-abbrev pub SaysLog : List Row → Option Text → Type 0
-SaysLog rows script = IsFlag (is_some script) (one_of (codes "audit") rows) × (first_of (codes "script") rows ≡ script)
+-- whether the rows with which it begins are asked for, whether an audit is, and the script
+abbrev pub SaysOfLog : List Row → Bool → Bool → Option Text → Type 0
+SaysOfLog rows base audit script =
+    IsFlag base (one_of (codes "rows") rows) × IsFlag audit (one_of (codes "audit") rows) × (first_of (codes "script") rows ≡ script)
+
+-- a script where an audit is asked for, and else none; rows without an audit alone
+abbrev pub SaysLog : List Row → LogWish → Type 0
+SaysLog rows Events = SaysOfLog rows false false None
+SaysLog rows EventsAndRows = SaysOfLog rows true false None
+SaysLog rows (Audit script) = SaysOfLog rows false true (Some script)
 
 -- what a command's rows say
 abbrev pub SaysWish : List Row → Wish → Type 0
@@ -123,9 +134,10 @@ SaysWish rows (Exec raw numbers) = IsFlag raw (one_of (codes "raw") rows) × Say
 SaysWish rows Asm = Unit {0}
 SaysWish rows (Dis raw) = IsFlag raw (one_of (codes "raw") rows)
 SaysWish rows Verify = Unit {0}
-SaysWish rows (World log audit) = IsFlag log (one_of (codes "log") rows) × IsFlag audit (one_of (codes "audit") rows)
-SaysWish rows (Run workers tries stats audit tell log) = SaysRun rows workers tries stats audit tell log
-SaysWish rows (Log script) = SaysLog rows script
+SaysWish rows (World log audit script) =
+    IsFlag log (one_of (codes "log") rows) × IsFlag audit (one_of (codes "audit") rows) × (first_of (codes "script") rows ≡ script)
+SaysWish rows (Run workers tries stats audit tell log script) = SaysRun rows workers tries stats audit tell log script
+SaysWish rows (Log wanted) = SaysLog rows wanted
 
 -- the words are a command line of the program, and say this command with this file
 pub record Says (words : List Text) (file : Text) (wish : Wish) : Type 0 where
@@ -152,13 +164,14 @@ abbrev pub IsNoCount : Option Text → Type 0
 IsNoCount None = ⊥
 IsNoCount (Some text) = ¬ SaysNumber text
 
--- what is to be a number isn't one, an audit has no script, or a script no audit
+-- what is to be a number isn't one, an audit has no script, or a script no audit; or rows are asked for beside an audit
 pub data IsUnfit (name : Text) (rows : List Row) : Type 0 where
   Argument : name ≡ codes "exec" → ¬ AllNumbers (unwrap_or (all_of (codes "arg") rows) []) → IsUnfit name rows
   Workers : name ≡ codes "run" → IsNoCount (first_of (codes "workers") rows) → IsUnfit name rows
   Tries : name ≡ codes "run" → IsNoCount (first_of (codes "tries") rows) → IsUnfit name rows
   Alone : name ≡ codes "log" → (audit : Bool) → IsFlag audit (one_of (codes "audit") rows)
       → is_some (first_of (codes "script") rows) ≢ audit → IsUnfit name rows
+  Both : name ≡ codes "log" → IsFlag true (one_of (codes "rows") rows) → IsFlag true (one_of (codes "audit") rows) → IsUnfit name rows
 
 -- the words are refused by the command line's rules, name no command, or don't fit together
 pub data IsWrong (words : List Text) : Type 0 where

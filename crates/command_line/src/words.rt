@@ -5,9 +5,9 @@ ghost use Rattle.clap.specs.Words.{App, Row, app_of, with_subcommand, rule_of, k
 ghost use Rattle.clap.specs.Words.{subcommand_rows_of, takes, rows_of, found_of, first_of, one_of, all_of, fault_of, FailsBy};
 ghost use Rattle.clap.specs.declared.builder.command.Command.TheViews.{out-Command};
 ghost use Rattle.command_line.specs.Wanted.{WantsOrNoMemory, IsTaskOrNoMemory, IsNumbersOrNoMemory, IsWordFault, IsWrongOrNoMemory};
-ghost use Rattle.command_line.specs.Task.{Wish, Run, Log, command_name};
+ghost use Rattle.command_line.specs.Task.{Wish, LogWish, Run, Log, command_name};
 ghost use Rattle.command_line.specs.Said.{procd_app, exec_app, asm_app, dis_app, verify_app, world_app, run_app, log_app};
-ghost use Rattle.command_line.specs.Said.{file_rule, raw_rule, log_rule, audit_rule, script_rule, option_rule, stats_rule, tell_rule};
+ghost use Rattle.command_line.specs.Said.{file_rule, raw_rule, log_rule, audit_rule, rows_rule, script_rule, option_rule, stats_rule, tell_rule};
 ghost use Rattle.command_line.specs.Said.{Says, SaysWish, SaysRun, SaysLog, SaysCount, SaysNumbers, AllNumbers, IsFlag, value_of};
 ghost use Rattle.command_line.specs.Said.{IsWrong, IsNoCount, IsUnfit};
 
@@ -33,15 +33,16 @@ pub enum Task<'a> {
     /// Verify the procedures of a script.
     Verify,
     /// Take the steps of a script; behind the rows, with `audit`, print what an audit finds, and with
-    /// `log` each event of the log.
+    /// `log` each event of the log. With `script`, its path, the file is an object file with procedures for it.
     World {
         log: bool,
         audit: bool,
+        script: Option<&'a str>,
     },
     /// Run the calls of a script by so many workers, and send each request so often at most. With
     /// `stats` the figures of the run are told on standard error; with `audit` what an audit finds is
     /// printed behind the rows; with `tell` standard error is told of each answer as soon as it stands;
-    /// `log` is the path of the file that keeps the log, if one does.
+    /// `log` is the path of the file that keeps the log, if one does. `script` is as of `World`.
     Run {
         workers: u64,
         tries: u64,
@@ -49,12 +50,21 @@ pub enum Task<'a> {
         audit: bool,
         tell: bool,
         log: Option<&'a str>,
-    },
-    /// Print the events of a log's file; or audit it, with the script of this path, whose procedures it
-    /// was written for.
-    Log {
         script: Option<&'a str>,
     },
+    /// Read a log's file.
+    Log(LogTask<'a>),
+}
+
+/// What is wanted of a log's file.
+#[derive(Clone, Copy)]
+pub enum LogTask<'a> {
+    /// Print its events.
+    Events,
+    /// Print its events, and behind them the records with which data components begin.
+    EventsAndRows,
+    /// Audit it, with the script of this path, whose procedures it was written for.
+    Audit(&'a str),
 }
 
 impl Task<'_> {
@@ -96,6 +106,8 @@ pub enum WordFault {
     AuditAlone,
     /// `log` with a script, but without `--audit`.
     ScriptAlone,
+    /// `log` with `--audit` and with `--rows`.
+    RowsBesideAudit,
     NoCommand,
     Memory,
 }
@@ -158,14 +170,31 @@ fn dis_command<'a>(alloc: Global) -> Result<Command<'a>, AllocError>
         .arg(file_arg(alloc, CODE_HELP))
 }
 
-const SCRIPT_HELP: &str = "The script: a path, or - for standard input";
+const VERIFY_HELP: &str =
+    "The script, or an object file for BPF with procedures: a path, or - for standard input";
+
+const SCRIPT_HELP: &str =
+    "The script, or with SCRIPT an object file for BPF with procedures: a path, or - for standard input";
+
+// [SCRIPT]
+fn script_arg<'a>(alloc: Global, help: &'a str) -> Arg<'a>
+    ensures rule { rule_of result ≡ script_rule }
+    ensures local { result.global ≡ false }
+{
+    Arg::new(alloc, "script")
+        .action(ArgAction::Set)
+        .value_name("SCRIPT")
+        .help(help)
+}
+
+const BESIDE_HELP: &str = "The script that an object file's procedures are for: a path";
 
 // `verify FILE`
 fn verify_command<'a>(alloc: Global) -> Result<Command<'a>, AllocError>
     ensures app { IfOk result (λ c. app_of c ≡ verify_app) }
     ensures local { IfOk result (λ c. (out-Command c).has_globals ≡ false) }
 {
-    Command::new(alloc, "verify").arg(file_arg(alloc, SCRIPT_HELP))
+    Command::new(alloc, "verify").arg(file_arg(alloc, VERIFY_HELP))
 }
 
 // --log
@@ -192,7 +221,7 @@ fn audit_arg<'a>(alloc: Global) -> Arg<'a>
         )
 }
 
-// `world [--log] [--audit] FILE`
+// `world [--log] [--audit] FILE [SCRIPT]`
 fn world_command<'a>(alloc: Global) -> Result<Command<'a>, AllocError>
     ensures app { IfOk result (λ c. app_of c ≡ world_app) }
     ensures local { IfOk result (λ c. (out-Command c).has_globals ≡ false) }
@@ -200,7 +229,8 @@ fn world_command<'a>(alloc: Global) -> Result<Command<'a>, AllocError>
     Command::new(alloc, "world")
         .arg(log_arg(alloc))?
         .arg(audit_arg(alloc))?
-        .arg(file_arg(alloc, SCRIPT_HELP))
+        .arg(file_arg(alloc, SCRIPT_HELP))?
+        .arg(script_arg(alloc, BESIDE_HELP))
 }
 
 // An option with a value.
@@ -239,7 +269,7 @@ fn tell_arg<'a>(alloc: Global) -> Arg<'a>
         )
 }
 
-// `run [--workers N] [--tries N] [--stats] [--audit] [--tell] [--log LOG] FILE`
+// `run [--workers N] [--tries N] [--stats] [--audit] [--tell] [--log LOG] FILE [SCRIPT]`
 fn run_command<'a>(alloc: Global) -> Result<Command<'a>, AllocError>
     ensures app { IfOk result (λ c. app_of c ≡ run_app) }
     ensures local { IfOk result (λ c. (out-Command c).has_globals ≡ false) }
@@ -269,19 +299,32 @@ fn run_command<'a>(alloc: Global) -> Result<Command<'a>, AllocError>
         .arg(audit_arg(alloc))?
         .arg(tell_arg(alloc))?
         .arg(log)?
-        .arg(file_arg(alloc, SCRIPT_HELP))
+        .arg(file_arg(alloc, SCRIPT_HELP))?
+        .arg(script_arg(alloc, BESIDE_HELP))
 }
 
-// `log [--audit] FILE [SCRIPT]`
+// --rows
+fn rows_arg<'a>(alloc: Global) -> Arg<'a>
+    ensures rule { rule_of result ≡ rows_rule }
+    ensures local { result.global ≡ false }
+{
+    Arg::new(alloc, "rows")
+        .long("rows")
+        .action(ArgAction::SetTrue)
+        .help("Print the rows as well with which a log begins that was cut, behind its events")
+}
+
+// `log [--rows] [--audit] FILE [SCRIPT]`
 fn log_command<'a>(alloc: Global) -> Result<Command<'a>, AllocError>
     ensures app { IfOk result (λ c. app_of c ≡ log_app) }
     ensures local { IfOk result (λ c. (out-Command c).has_globals ≡ false) }
 {
-    let script = Arg::new(alloc, "script")
-        .action(ArgAction::Set)
-        .value_name("SCRIPT")
-        .help("With --audit, the script whose procedures the log was written for: a path");
+    let script = script_arg(
+        alloc,
+        "With --audit, the script whose procedures the log was written for: a path",
+    );
     Command::new(alloc, "log")
+        .arg(rows_arg(alloc))?
         .arg(audit_arg(alloc))?
         .arg(file_arg(alloc, "The log's file: a path, or - for standard input"))?
         .arg(script)
@@ -328,7 +371,7 @@ fn procd_command<'a>(alloc: Global) -> Result<Command<'a>, AllocError>
     let with_verify = with_command(
         with_dis,
         verify_command(alloc),
-        "Verify the procedures of a script: prints `NAME accepted SLOTS` or `NAME V.. slot N` for each",
+        "Verify the procedures of a script or of an object file: prints `NAME accepted SLOTS` or `NAME V.. slot N` for each",
     )?;
     let with_world = with_command(
         with_verify,
@@ -418,9 +461,9 @@ fn text_of<'a>(matches: &ArgMatches<'a>, name: &str) -> Option<&'a str>
 
 // How calls are to be run.
 fn run_task<'a>(matches: &ArgMatches<'a>) -> Result<Task<'a>, WordFault>
-    ensures task { (workers tries : ℕ) (stats audit tell : Bool) (log : Option (List ℕ))
-        → SaysRun (rows_of (found_of matches.now)) workers tries stats audit tell log
-        → IsTaskOrNoMemory (Run workers tries stats audit tell log) result }
+    ensures task { (workers tries : ℕ) (stats audit tell : Bool) (log script : Option (List ℕ))
+        → SaysRun (rows_of (found_of matches.now)) workers tries stats audit tell log script
+        → IsTaskOrNoMemory (Run workers tries stats audit tell log script) result }
     ensures wrong { IfOk result (λ task. ¬ IsUnfit (codes "run") (rows_of (found_of matches.now))) }
     ensures err { IfErr result IsWordFault }
 {
@@ -433,24 +476,26 @@ fn run_task<'a>(matches: &ArgMatches<'a>) -> Result<Task<'a>, WordFault>
         audit: flag_of(matches, "audit"),
         tell: flag_of(matches, "tell"),
         log: text_of(matches, "log"),
+        script: text_of(matches, "script"),
     })
 }
 
 // What is to be done with a log's file.
 fn log_task<'a>(matches: &ArgMatches<'a>) -> Result<Task<'a>, WordFault>
-    ensures task { (script : Option (List ℕ)) → SaysLog (rows_of (found_of matches.now)) script → IsTaskOrNoMemory (Log script) result }
+    ensures task { (wanted : LogWish) → SaysLog (rows_of (found_of matches.now)) wanted → IsTaskOrNoMemory (Log wanted) result }
     ensures wrong { IfOk result (λ task. ¬ IsUnfit (codes "log") (rows_of (found_of matches.now))) }
     ensures err { IfErr result IsWordFault }
 {
+    let rows = flag_of(matches, "rows");
     let audit = flag_of(matches, "audit");
-    let script = text_of(matches, "script");
-    if audit && script.is_none() {
-        return Err(WordFault::AuditAlone);
+    match text_of(matches, "script") {
+        None if audit => Err(WordFault::AuditAlone),
+        None if rows => Ok(Task::Log(LogTask::EventsAndRows)),
+        None => Ok(Task::Log(LogTask::Events)),
+        Some(_) if !audit => Err(WordFault::ScriptAlone),
+        Some(_) if rows => Err(WordFault::RowsBesideAudit),
+        Some(script) => Ok(Task::Log(LogTask::Audit(script))),
     }
-    if !audit && script.is_some() {
-        return Err(WordFault::ScriptAlone);
-    }
-    Ok(Task::Log { script })
 }
 
 // The task of the command of this name.
@@ -473,6 +518,7 @@ fn task_of<'a>(alloc: Global, name: &str, matches: &ArgMatches<'a>) -> Result<Ta
         "world" => Ok(Task::World {
             log: flag_of(matches, "log"),
             audit: flag_of(matches, "audit"),
+            script: text_of(matches, "script"),
         }),
         "run" => run_task(matches),
         "log" => log_task(matches),

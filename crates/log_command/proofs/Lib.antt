@@ -1,2 +1,3 @@
 pub mod EventLemmas
 pub mod ReportLemmas
+pub mod BaseLemmas

@@ -1,5 +1,5 @@
 -- What a report says, from what its parts say.
-use Rattle.std.proofs.Common.{◌≡◌, ◌∙◌, ℕ, List, [], ◌∷◌, length, map, Some, None, Option, refl, sym, ap, subst}
+use Rattle.std.proofs.Common.{◌≡◌, ◌∙◌, ℕ, Bool, List, [], ◌∷◌, length, map, reverse, Some, None, Option, refl, sym, ap, subst}
 use Rattle.std.specs.Prelude.{IfOk, Result, Ok, Err, string_bytes}
 use Rattle.std.specs.List.{All}
 use Rattle.std.proofs.lemmas.Result.{IfOk-weaker}
@@ -7,9 +7,9 @@ use Rattle.std.proofs.lemmas.List.{length-map}
 use Rattle.std.proofs.lemmas.List.Elements.{All-cons, All-nil}
 use Rattle.tc_log.specs.declared.event.Event.{Event}
 use Rattle.report_texts.specs.declared.report.Report.{Report}
-use Rattle.log_file.specs.declared.reading.OpenFault.TheVariants.{Other}
 use Rattle.log_file.specs.declared.stored.Stored.{Stored}
 use Rattle.log_file.specs.Stored.{IsStored}
+use Rattle.log_file.specs.Found.{base_in}
 use Rattle.verifier.specs.Checked.{Checked}
 use Rattle.transactions.specs.Legal.{Legal}
 use Rattle.data_component.specs.Store.{Store, restarted, news_of}
@@ -25,21 +25,27 @@ use Rattle.coming_back.specs.Serving.{AreRedone}
 use Rattle.coming_back.specs.Coming.{HasOnlyRows, at_rest, ComesFrom}
 use Rattle.coming_back.specs.Faults.{HasLog, IsFaultOf}
 use Rattle.procedure_digest.specs.Header.{header_of}
+use Rattle.procedure_digest.specs.Difference.{other_line}
 use Rattle.scripts.specs.Reading.{Contents, Reading}
 use Rattle.scripts.specs.declared.script.Dc.{Dc}
 use Rattle.script_loading.specs.Loading.{refusal_of, with_procedures, empty_core, empty_store, IsReady}
 use Rattle.script_loading.specs.declared.loading.Loaded.{Loaded as Script}
+use Rattle.log_command.specs.declared.beginning.BaseFault.{BaseFault}
+use Rattle.log_command.specs.Beginning.{HaveBegun, IsUnbegun}
 use Rattle.log_command.specs.Joining.Beginning.{IsOfLog}
-use Rattle.log_command.specs.LogReport.{stored_lines, refusal_line, IsListing, Listed, AreBrought, AreAuditLines, IsUnfit, IsChecked, NotBrought, Audited}
+use Rattle.log_command.specs.LogReport.{stored_lines, base_fault_line, IsListing, Listed, AreBrought, AreAuditLines, IsUnfit}
+use Rattle.log_command.specs.LogReport.{IsChecked, NotBegun, NotBrought, Audited}
 use Rattle.log_command.specs.LogReport.{IsBeside, Anothers, Own, IsAudit, IsAuditBy}
 
-pub listed_is : {E : Type 0} (file : List ℕ) (s : Stored) (result : Result Report E) → IsStored file s → IfOk result (λ r. string_bytes r.lines ≡ stored_lines s)
-    → IfOk result (λ r. r.status ≡ 0) → IfOk result (λ r. IsListing file r.status (string_bytes r.lines))
-listed_is file s (Ok r) is lines status = Listed s is lines status
-listed_is file s (Err e) is lines status = tt
+pub listed_is : {E : Type 0} (rows : Bool) (file : List ℕ) (s : Stored) (result : Result Report E) → IsStored file s
+    → IfOk result (λ r. string_bytes r.lines ≡ stored_lines rows s) → IfOk result (λ r. r.status ≡ 0)
+    → IfOk result (λ r. IsListing rows file r.status (string_bytes r.lines))
+listed_is rows file s (Ok r) is lines status = Listed s is lines status
+listed_is rows file s (Err e) is lines status = tt
 
 pub anothers_is : {E : Type 0} (file : List ℕ) (start : Core) (empties : List Store) (s : Stored) (result : Result Report E) → IsStored file s
-    → ¬ (s.header ≡ header_of (loaded_in start)) → IfOk result (λ r. refusal_line Other ≡ Some (string_bytes r.lines)) → IfOk result (λ r. r.status ≡ 1)
+    → ¬ (s.header ≡ header_of (loaded_in start)) → IfOk result (λ r. string_bytes r.lines ≡ other_line s.header (header_of (loaded_in start)))
+    → IfOk result (λ r. r.status ≡ 1)
     → IfOk result (λ r. IsBeside file start empties r.status (string_bytes r.lines))
 anothers_is file start empties s (Ok r) is differs line status = Anothers s is differs line status
 anothers_is file start empties s (Err e) is differs line status = tt
@@ -77,7 +83,13 @@ audit_is file r script result ready beside =
     (subst (λ (c : Core). IsBeside file c script.dcs.items x.status (string_bytes x.lines)) ready.1.state b)))
     beside
 
--- ---- data components that are brought to where the log left them
+-- ---- data components that begin with the rows with which the log begins, and are brought to where it left them
+
+pub unbegun_is : {E : Type 0} (start : Core) (empties : List Store) (s : Stored) (fault : BaseFault) (result : Result Report E)
+    → IsUnbegun (base_in s.base) empties fault → IfOk result (λ r. string_bytes r.lines ≡ base_fault_line fault) → IfOk result (λ r. r.status ≡ 1)
+    → IfOk result (λ r. IsChecked start empties s r.status (string_bytes r.lines))
+unbegun_is start empties s fault (Ok r) why line status = NotBegun fault why line status
+unbegun_is start empties s fault (Err e) why line status = tt
 
 pub brought : (start back : Core) (empties : List Store) (log : List Event) (dcs : List Store) → Legal start.procs log → HasLog start log back
     → EachIsKnown (at_rest back dcs) → AreRedone (map restarted empties) dcs
@@ -93,12 +105,12 @@ brought start back empties log dcs legal has known redone agreed = record {
       (subst (λ (es : List Event). IsAgreed back.procs es dcs) (ap (λ (x : Core). x.events) has) (agreed w from));
 }
 
-pub audited_is : {E : Type 0} (start back : Core) (empties : List Store) (s : Stored) (dcs : List Store) (result : Result Report E)
-    → AreBrought start empties s.log.events dcs → HasLog start s.log.events back → IfOk result (λ r. AreAuditLines back.procs s dcs r.status (string_bytes r.lines))
+pub audited_is : {E : Type 0} (start back : Core) (empties begun : List Store) (s : Stored) (dcs : List Store) (result : Result Report E)
+    → HaveBegun (base_in s.base) (reverse s.log.events) empties begun → AreBrought start begun s.log.events dcs → HasLog start s.log.events back → IfOk result (λ r. AreAuditLines back.procs s dcs r.status (string_bytes r.lines))
     → IfOk result (λ r. IsChecked start empties s r.status (string_bytes r.lines))
-audited_is start back empties s dcs result are has found =
+audited_is start back empties begun s dcs result from are has found =
     IfOk-weaker result _ _
-    (λ r f. Audited dcs are (subst (λ (ps : List Checked). AreAuditLines ps s dcs r.status (string_bytes r.lines)) (ap (λ (x : Core). x.procs) has) f)) found
+    (λ r f. Audited begun dcs from are (subst (λ (ps : List Checked). AreAuditLines ps s dcs r.status (string_bytes r.lines)) (ap (λ (x : Core). x.procs) has) f)) found
 
 pub of_log : (start : Core) (log : List Event) (count : ℕ) (back : Core) (dcs : List Store) (fault : ComeBackFault) → IsFaultOf start log count back dcs fault
     → start.events ≡ [] → count ≡ start.dcs → IsOfLog fault
@@ -110,7 +122,8 @@ of_log start log count back dcs (NoRoom d) why none same = tt
 of_log start log count back dcs (Otherwise d) why none same = tt
 of_log start log count back dcs Memory why none same = tt
 
-pub unfit_is : {E : Type 0} (start back : Core) (empties : List Store) (s : Stored) (dcs : List Store) (fault : ComeBackFault) (result : Result Report E)
-    → IsFaultOf start s.log.events (length empties) back dcs fault → IfOk result (λ r. IsUnfit fault r.status (string_bytes r.lines))
+pub unfit_is : {E : Type 0} (start back : Core) (empties begun : List Store) (s : Stored) (dcs : List Store) (fault : ComeBackFault)
+    (result : Result Report E) → HaveBegun (base_in s.base) (reverse s.log.events) empties begun
+    → IsFaultOf start s.log.events (length begun) back dcs fault → IfOk result (λ r. IsUnfit fault r.status (string_bytes r.lines))
     → IfOk result (λ r. IsChecked start empties s r.status (string_bytes r.lines))
-unfit_is start back empties s dcs fault result why told = IfOk-weaker result _ _ (λ r u. NotBrought back dcs fault why u) told
+unfit_is start back empties begun s dcs fault result from why told = IfOk-weaker result _ _ (λ r u. NotBrought begun from back dcs fault why u) told

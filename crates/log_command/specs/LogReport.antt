@@ -1,13 +1,15 @@
 -- What `log` prints of a log's file, and the exit status.
-use Rattle.std.specs.Prelude.{◌≡◌, ℕ, ◌==◌, Bool, if◌then◌else◌, List, [], ◌++◌, length, map, reverse, Option, Some, None, codes, decimal}
+use Rattle.std.specs.Prelude.{◌≡◌, ℕ, ◌==◌, Bool, true, false, if◌then◌else◌, List, [], ◌++◌, length, map, reverse, Option, Some, None, codes, decimal}
 use Rattle.tc_log.specs.declared.event.Event.{Event}
 use Rattle.frame_file.specs.declared.reading.FrameFault.TheVariants.{Damaged}
 use Rattle.log_file.specs.declared.reading.OpenFault.{OpenFault}
-use Rattle.log_file.specs.declared.reading.OpenFault.TheVariants.{Frames, Empty, Other, NoBatch, Row}
+use Rattle.log_file.specs.declared.reading.OpenFault.TheVariants.{Frames, Empty, Other, NoBase, NoBatch, Row}
 use Rattle.log_file.specs.declared.stored.Stored.{Stored}
 use Rattle.log_file.specs.Stored.{IsStored, IsFileFault}
+use Rattle.log_file.specs.Found.{base_in}
 use Rattle.verifier.specs.Checked.{Checked}
 use Rattle.transactions.specs.Legal.{Legal}
+use Rattle.data_component.specs.Sorted.{Rows}
 use Rattle.data_component.specs.Store.{Store, restarted}
 use Rattle.tc_core.specs.declared.checking.CheckFault.TheVariants.{LogIllegal}
 use Rattle.tc_core.specs.declared.recovery.RecoverFault.TheVariants.{Unfit, Forgotten}
@@ -21,10 +23,15 @@ use Rattle.coming_back.specs.Serving.{AreRedone}
 use Rattle.coming_back.specs.Coming.{at_rest, ComesFrom}
 use Rattle.coming_back.specs.Faults.{HasLog, IsFaultOf}
 use Rattle.procedure_digest.specs.Header.{header_of}
+use Rattle.procedure_digest.specs.Difference.{other_line}
 use Rattle.scripts.specs.Reading.{Contents, Reading}
 use Rattle.script_loading.specs.Loading.{refusal_of, with_procedures, empty_core, empty_store}
 use Rattle.state_lines.specs.AuditLines.{AddsAudit}
+use Rattle.state_lines.specs.RowLines.{row_lines}
+use Rattle.log_command.specs.declared.beginning.BaseFault.{BaseFault}
+use Rattle.log_command.specs.declared.beginning.BaseFault.TheVariants.{NoDc, NoRoom as NoBaseRoom}
 use Rattle.log_command.specs.EventLines.{event_lines}
+use Rattle.log_command.specs.Beginning.{HaveBegun, IsUnbegun}
 
 -- ---- lines
 
@@ -34,6 +41,7 @@ refusal_line (Frames (Damaged number)) = Some (codes "refused log Damaged frame 
 refusal_line (Frames other) = None
 refusal_line Empty = Some (codes "refused log Empty\n")
 refusal_line Other = Some (codes "refused log Other\n")
+refusal_line (NoBase number) = Some (codes "refused log NoBase frame " ++ (decimal number ++ codes "\n"))
 refusal_line (NoBatch number) = Some (codes "refused log NoBatch frame " ++ (decimal number ++ codes "\n"))
 refusal_line (Row place) = Some (codes "refused log L2 Kind " ++ (decimal place ++ codes "\n"))
 
@@ -41,9 +49,20 @@ refusal_line (Row place) = Some (codes "refused log L2 Kind " ++ (decimal place 
 abbrev pub unfinished_line : ℕ → List ℕ
 unfinished_line bytes = if bytes == 0 then [] else codes "unfinished " ++ (decimal bytes ++ codes " bytes\n")
 
--- the events, the oldest first
-abbrev pub stored_lines : Stored → List ℕ
-stored_lines s = event_lines 0 (reverse s.log.events) ++ unfinished_line s.unfinished
+-- the rows with which the log begins, where they are wanted
+abbrev pub base_lines : Bool → Option Rows → List ℕ
+base_lines true (Some rows) = row_lines rows
+base_lines true None = []
+base_lines false base = []
+
+-- the events, the oldest first, and the rows with which the log begins
+abbrev pub stored_lines : Bool → Stored → List ℕ
+stored_lines rows s = event_lines 0 (reverse s.log.events) ++ (base_lines rows (base_in s.base) ++ unfinished_line s.unfinished)
+
+-- why data components don't begin with these rows
+abbrev pub base_fault_line : BaseFault → List ℕ
+base_fault_line (NoDc dc) = codes "refused log NoDc dc " ++ (decimal dc ++ codes "\n")
+base_fault_line (NoBaseRoom dc) = codes "refused log NoRoom dc " ++ (decimal dc ++ codes "\n")
 
 -- why data components aren't brought to where the log left them: its first event that isn't allowed, or one that lost what the log has no
 -- more, has no room for what the log says that it did, or does otherwise
@@ -64,21 +83,21 @@ pub record IsUnread (file : List ℕ) (status : ℕ) (lines : List ℕ) : Type 0
   pub line : refusal_line fault ≡ Some lines
   pub status_is : status ≡ 1
 
-pub data IsListing (file : List ℕ) (status : ℕ) (lines : List ℕ) : Type 0 where
-  Listed : (s : Stored) → IsStored file s → lines ≡ stored_lines s → status ≡ 0 → IsListing file status lines
-  Unread : IsUnread file status lines → IsListing file status lines
+pub data IsListing (rows : Bool) (file : List ℕ) (status : ℕ) (lines : List ℕ) : Type 0 where
+  Listed : (s : Stored) → IsStored file s → lines ≡ stored_lines rows s → status ≡ 0 → IsListing rows file status lines
+  Unread : IsUnread file status lines → IsListing rows file status lines
 
 -- ---- beside procedures and data components
 
--- from data components to which nothing had happened came these: each is up, and performed wires of its redo alone since it restarted. The
+-- from data components to which nothing had happened since their rows came these: each is up, and performed wires of its redo alone since it restarted. The
 -- state has the log, and nothing else has changed of it; where a world that has lived began with this log, they agree
-pub record AreBrought (start : Core) (empties : List Store) (log : List Event) (dcs : List Store) : Type 0 where
+pub record AreBrought (start : Core) (begun : List Store) (log : List Event) (dcs : List Store) : Type 0 where
   pub back : Core
   pub legal : Legal start.procs log
   pub has_log : HasLog start log back
   pub known : EachIsKnown (at_rest back dcs)
-  pub redone : AreRedone (map restarted empties) dcs
-  pub agreed : (w : Whole) → ComesFrom w log start empties → IsAgreed start.procs log dcs
+  pub redone : AreRedone (map restarted begun) dcs
+  pub agreed : (w : Whole) → ComesFrom w log start begun → IsAgreed start.procs log dcs
 
 -- what an audit of the log and of these data components finds, and how many bytes at the end are no whole frame
 pub record AreAuditLines (ps : List Checked) (s : Stored) (dcs : List Store) (status : ℕ) (lines : List ℕ) : Type 0 where
@@ -91,18 +110,22 @@ pub record AreAuditLines (ps : List Checked) (s : Stored) (dcs : List Store) (st
 abbrev pub IsUnfit : ComeBackFault → ℕ → List ℕ → Type 0
 IsUnfit fault status lines = (unfit_line fault ≡ Some lines) × (status ≡ 1)
 
--- why the data components aren't brought to where the log left them, or what an audit finds of those that were
+-- why the empty data components don't begin with the rows with which the log begins, or why those that did aren't brought to where it left
+-- them; or what an audit finds of those that were
 pub data IsChecked (start : Core) (empties : List Store) (s : Stored) (status : ℕ) (lines : List ℕ) : Type 0 where
-  NotBrought : (back : Core) (dcs : List Store) (fault : ComeBackFault) → IsFaultOf start s.log.events (length empties) back dcs fault
-      → IsUnfit fault status lines → IsChecked start empties s status lines
-  Audited : (dcs : List Store) → AreBrought start empties s.log.events dcs → AreAuditLines start.procs s dcs status lines
+  NotBegun : (fault : BaseFault) → IsUnbegun (base_in s.base) empties fault → lines ≡ base_fault_line fault → status ≡ 1
       → IsChecked start empties s status lines
+  NotBrought : (begun : List Store) → HaveBegun (base_in s.base) (reverse s.log.events) empties begun
+      → (back : Core) (dcs : List Store) (fault : ComeBackFault) → IsFaultOf start s.log.events (length begun) back dcs fault
+      → IsUnfit fault status lines → IsChecked start empties s status lines
+  Audited : (begun dcs : List Store) → HaveBegun (base_in s.base) (reverse s.log.events) empties begun
+      → AreBrought start begun s.log.events dcs → AreAuditLines start.procs s dcs status lines → IsChecked start empties s status lines
 
 -- the file isn't read, it is another's log, or a log of these procedures
 pub data IsBeside (file : List ℕ) (start : Core) (empties : List Store) (status : ℕ) (lines : List ℕ) : Type 0 where
   NotRead : IsUnread file status lines → IsBeside file start empties status lines
-  Anothers : (s : Stored) → IsStored file s → ¬ (s.header ≡ header_of (loaded_in start)) → refusal_line Other ≡ Some lines → status ≡ 1
-      → IsBeside file start empties status lines
+  Anothers : (s : Stored) → IsStored file s → ¬ (s.header ≡ header_of (loaded_in start))
+      → lines ≡ other_line s.header (header_of (loaded_in start)) → status ≡ 1 → IsBeside file start empties status lines
   Own : (s : Stored) → IsStored file s → s.header ≡ header_of (loaded_in start) → IsChecked start empties s status lines
       → IsBeside file start empties status lines
 

@@ -9,10 +9,11 @@ ghost use Rattle.coming_back.specs.Coming.{HasOnlyRows};
 ghost use Rattle.log_command.specs.LogReport.{AreAuditLines, IsUnfit, IsChecked, IsBeside, IsAudit};
 ghost use Rattle.log_command.specs.Joining.Beginning.{IsOfLog};
 
-use crate::refusing::{refused, unfit_line, write_unfinished};
+use crate::beginning::begin;
+use crate::refusing::{anothers, refused, unbegun, unfit_line, write_unfinished};
 use coming_back::{ComeBackFault, bring_back};
 use data_component::dc::Dc;
-use log_file::{OpenFault, Stored, read_file};
+use log_file::{Stored, read_file};
 use procedure_digest::header_of;
 use report_texts::report::Report;
 use script_loading::loading::{Loading, load};
@@ -48,7 +49,8 @@ fn audited(alloc: Global, procs: &Procs, stored: &Stored, dcs: &[Dc]) -> Result<
     })
 }
 
-// A log whose header is that of the state's procedures, and the data components that it left.
+// A log whose header is that of the state's procedures, and the data components that it left: they begin with
+// the rows with which it does.
 fn checked(
     alloc: Global,
     state: &mut TcState,
@@ -60,6 +62,9 @@ fn checked(
     requires empty { All HasOnlyRows dcs.old }
     ensures { IfOk result (λ r. IsChecked state.old dcs.old stored.now r.status (string_bytes r.lines)) }
 {
+    if let Some(fault) = begin(dcs, stored)? {
+        return unbegun(alloc, fault);
+    }
     match bring_back(alloc, state, dcs, &stored.log) {
         Ok(()) => audited(alloc, state.procs(), stored, dcs),
         Err(fault) => unfit(alloc, &fault),
@@ -86,13 +91,13 @@ fn beside(
     if stored.header == header {
         checked(alloc, state, dcs, &stored)
     } else {
-        refused(alloc, OpenFault::Other)
+        anothers(alloc, &stored.header, &header)
     }
 }
 
 /// Whether a file is a log of this script's procedures, each event allowed behind the ones before it,
-/// and what an audit finds of it and of the script's data components, which are redone from it: nothing
-/// is sent for transactions that are open.
+/// and what an audit finds of it and of the script's data components, which begin with the rows with which
+/// it does, and are redone from it: nothing is sent for transactions that are open.
 pub fn auditing(alloc: Global, file: &[u8], script: &str) -> Result<Report, AllocError>
     ensures { IfOk result (λ r. IsAudit file.now (script_said command.Run script.now) r.status (string_bytes r.lines)) }
 {

@@ -2,12 +2,15 @@
 
 ghost use Rattle.std.specs.Prelude.{◌≡◌, Some, IfOk, OnOk, string_bytes};
 ghost use Rattle.std.specs.Prelude.{◌++◌};
-ghost use Rattle.log_command.specs.LogReport.{refusal_line, unfit_line, unfinished_line};
+ghost use Rattle.procedure_digest.specs.Difference.{other_line};
+ghost use Rattle.log_command.specs.LogReport.{refusal_line, unfit_line, base_fault_line, unfinished_line};
 ghost use Rattle.log_command.specs.Joining.Beginning.{IsOfLog};
 
+use crate::beginning::BaseFault;
 use coming_back::ComeBackFault;
 use frame_file::FrameFault;
-use log_file::OpenFault;
+use log_file::{Header, OpenFault};
+use procedure_digest::other_line;
 use report_texts::report::Report;
 use std::alloc::{AllocError, Global};
 use tc_core::checking::CheckFault;
@@ -24,8 +27,20 @@ fn refusal_line(alloc: Global, fault: OpenFault) -> Result<String, AllocError>
         OpenFault::Frames(_) => Err(AllocError),
         OpenFault::Empty => String::from_str(alloc, "refused log Empty\n"),
         OpenFault::Other => String::from_str(alloc, "refused log Other\n"),
+        OpenFault::NoBase(number) => format!(in alloc; "refused log NoBase frame {number}\n"),
         OpenFault::NoBatch(number) => format!(in alloc; "refused log NoBatch frame {number}\n"),
         OpenFault::Row(place) => format!(in alloc; "refused log L2 Kind {place}\n"),
+    }
+}
+
+// The report of a refusal with this line.
+fn refusal(lines: String) -> Report
+    ensures { (result.status ≡ 1) × (result.lines ≡ lines) }
+{
+    Report {
+        status: 1,
+        lines,
+        notes: None,
     }
 }
 
@@ -34,11 +49,15 @@ pub(crate) fn refused(alloc: Global, fault: OpenFault) -> Result<Report, AllocEr
     ensures line { IfOk result (λ r. refusal_line fault ≡ Some (string_bytes r.lines)) }
     ensures status { IfOk result (λ r. r.status ≡ 1) }
 {
-    Ok(Report {
-        status: 1,
-        lines: refusal_line(alloc, fault)?,
-        notes: None,
-    })
+    Ok(refusal(refusal_line(alloc, fault)?))
+}
+
+/// The report of a log that has another header than the script's.
+pub(crate) fn anothers(alloc: Global, log: &Header, script: &Header) -> Result<Report, AllocError>
+    ensures line { IfOk result (λ r. string_bytes r.lines ≡ other_line log.now script.now) }
+    ensures status { IfOk result (λ r. r.status ≡ 1) }
+{
+    Ok(refusal(other_line(alloc, log, script)?))
 }
 
 /// The line that says why data components aren't brought to where the log left them; want of memory has
@@ -61,6 +80,17 @@ pub(crate) fn unfit_line(alloc: Global, fault: &ComeBackFault) -> Result<String,
         ComeBackFault::Otherwise(dc) => format!(in alloc; "refused log Otherwise dc {dc}\n"),
         ComeBackFault::Memory => Err(AllocError),
     }
+}
+
+/// The report of data components that don't begin with the rows with which the log begins.
+pub(crate) fn unbegun(alloc: Global, fault: BaseFault) -> Result<Report, AllocError>
+    ensures line { IfOk result (λ r. string_bytes r.lines ≡ base_fault_line fault) }
+    ensures status { IfOk result (λ r. r.status ≡ 1) }
+{
+    Ok(refusal(match fault {
+        BaseFault::NoDc(dc) => format!(in alloc; "refused log NoDc dc {dc}\n")?,
+        BaseFault::NoRoom(dc) => format!(in alloc; "refused log NoRoom dc {dc}\n")?,
+    }))
 }
 
 /// Adds how many bytes at the end are no whole frame, where there are such.

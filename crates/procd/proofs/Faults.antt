@@ -1,11 +1,13 @@
 -- A fault is always among what a run may give.
 use Rattle.std.proofs.Common.{arith, ◌≡◌, ℕ, List, Option, Some, None, Bool, [], refl, sym, subst, inl, inr, codes}
-use Rattle.std.specs.Prelude.{IfSome, ◌≤◌}
-use Rattle.procd.specs.Streams.{Stream, IsKept, Begins, Ends, EndsOn, Runs, FurtherFails, TellsUnread, TellsUnwritten, IsToldOrNoMemory}
-use Rattle.procd.specs.Joining.Further.{Reads, Writes, IsTaskFault, IsScriptFault, IsLogFault}
-use Rattle.procd.specs.declared.report.ReportFault.{ReportFault}
-use Rattle.procd.specs.declared.report.ReportFault.TheVariants.{NotText, Unread, Unwritten, Memory}
+use Rattle.std.specs.Prelude.{IfSome, ◌≤◌, ◌⊎◌}
+use Rattle.disk_file.specs.declared.opening.FileKind.{FileKind}
+use Rattle.run_command.specs.LogLines.{kind_refusal}
+use Rattle.procd.specs.Streams.{Stream, IsKept, Begins, Ends, EndsOn, Runs, IsLog, IsRefusedBy, FurtherFails, ScriptFails, LogFails}
+use Rattle.procd.specs.Streams.{TellsUnread, TellsUnwritten, IsToldOrNoMemory}
+use Rattle.procd.specs.Joining.Further.{Reads, Writes}
 use Rattle.command_line.specs.Task.{Wish, Exec, Asm, Dis, Verify, World, Run, Log}
+use Rattle.command_line.specs.Task.{Events, EventsAndRows, Audit}
 use Rattle.procd.proofs.Statuses.{report_low}
 
 -- some text that is there to be read
@@ -29,28 +31,46 @@ module _ (file : List ℕ) (wish : Wish) (input : Option (List ℕ)) (out err : 
       ]
 
   pub no_memory_runs : status ≡ 4 → IsKept out → Begins err (codes "memory\n") → Runs file wish input out err status
-  no_memory_runs is kept told = (known input, (λ e. known_is input), inr (inl (is, kept, told)))
+  no_memory_runs is kept told = inl (known input, (λ e. known_is input), inr (inl (is, kept, told)))
+
+  -- what is read is standard input, or a file; or it isn't a file of bytes
+  pub read_runs : EndsOn file wish input out err status → Runs file wish input out err status
+  read_runs h = inl (h.0, (λ _. h.1), h.2)
+
+  pub opened_runs : ¬ (file ≡ codes "-") → EndsOn file wish None out err status → Runs file wish input out err status
+  opened_runs differs h = inl (h.0, (λ is. absurd (differs is)), h.2)
+
+  pub kind_runs : ¬ (file ≡ codes "-") → IsLog wish → (kind : FileKind) → IsRefusedBy (kind_refusal kind) out err status
+      → Runs file wish input out err status
+  kind_runs differs log kind refused = inr (differs, (log, (kind, refused)))
 
 -- a further file that isn't read is told, and so is one that isn't written
+script_fails : (script : Option (List ℕ)) (path : List ℕ) (err : Stream) → script ≡ Some path → TellsUnread path err → ScriptFails script err
+script_fails script path err is told = subst (λ (s : Option (List ℕ)). ScriptFails s err) (sym is) told
+
+log_fails : (log : Option (List ℕ)) (path : List ℕ) (err : Stream) → log ≡ Some path → TellsUnread path err ⊎ TellsUnwritten path err → LogFails log err
+log_fails log path err is told = subst (λ (l : Option (List ℕ)). LogFails l err) (sym is) told
+
 read_fails : (wish : Wish) (path : List ℕ) (err : Stream) → Reads wish path → TellsUnread path err → FurtherFails wish err
 read_fails (Exec raw numbers) path err is told = absurd is
 read_fails Asm path err is told = absurd is
 read_fails (Dis raw) path err is told = absurd is
 read_fails Verify path err is told = absurd is
-read_fails (World log audit) path err is told = absurd is
-read_fails (Run workers tries stats audit tell log) path err is told =
-    subst (λ (l : Option (List ℕ)). FurtherFails (Run workers tries stats audit tell l) err) (sym is) (inl told)
-read_fails (Log script) path err is told = subst (λ (s : Option (List ℕ)). FurtherFails (Log s) err) (sym is) told
+read_fails (World log audit script) path err is told = script_fails script path err is told
+read_fails (Run workers tries stats audit tell log script) path err is told =
+    elim is [ inl keeps ↦ inl (log_fails log path err keeps (inl told)) | inr beside ↦ inr (script_fails script path err beside told) ]
+read_fails (Log Events) path err is told = absurd is
+read_fails (Log EventsAndRows) path err is told = absurd is
+read_fails (Log (Audit script)) path err is told = subst (λ (s : List ℕ). FurtherFails (Log (Audit s)) err) (sym is) told
 
 write_fails : (wish : Wish) (path : List ℕ) (err : Stream) → Writes wish path → TellsUnwritten path err → FurtherFails wish err
 write_fails (Exec raw numbers) path err is told = absurd is
 write_fails Asm path err is told = absurd is
 write_fails (Dis raw) path err is told = absurd is
 write_fails Verify path err is told = absurd is
-write_fails (World log audit) path err is told = absurd is
-write_fails (Run workers tries stats audit tell log) path err is told =
-    subst (λ (l : Option (List ℕ)). FurtherFails (Run workers tries stats audit tell l) err) (sym is) (inr told)
-write_fails (Log script) path err is told = absurd is
+write_fails (World log audit script) path err is told = absurd is
+write_fails (Run workers tries stats audit tell log script) path err is told = inl (log_fails log path err is (inr told))
+write_fails (Log wanted) path err is told = absurd is
 
 module _ (file : List ℕ) (wish : Wish) (text : List ℕ) (out err : Stream) (status : ℕ) where
   no_memory_ends : status ≡ 4 → IsKept out → Begins err (codes "memory\n") → Ends file wish text out err status
@@ -75,20 +95,6 @@ module _ (file : List ℕ) (wish : Wish) (text : List ℕ) (out err : Stream) (s
         | inl told ↦ inr (inr (inl (told.0, kept, write_fails wish path err of told.1)))
         | inr memory ↦ no_memory_ends memory.0 kept memory.1
       ]
-
--- the script of an audit, and the log of a run, are further files
-pub script_fault : (path : List ℕ) (fault : ReportFault) → IsScriptFault path fault → IsTaskFault (Log (Some path)) fault
-script_fault path (NotText fault) is = absurd is
-script_fault path (Unread other why) is = is
-script_fault path (Unwritten other why) is = absurd is
-script_fault path Memory is = tt
-
-pub log_fault : (workers tries : ℕ) (stats audit tell : Bool) (log : Option (List ℕ)) (fault : ReportFault) → IsLogFault log fault
-    → IsTaskFault (Run workers tries stats audit tell log) fault
-log_fault workers tries stats audit tell log (NotText fault) is = tt
-log_fault workers tries stats audit tell log (Unread other why) is = is
-log_fault workers tries stats audit tell log (Unwritten other why) is = is
-log_fault workers tries stats audit tell log Memory is = tt
 
 not_three : (result : ℕ) → result ≡ 3 → result ≡ 2 → ⊥
 not_three result three two = omega (arith, three, two)
@@ -116,7 +122,24 @@ ends_otherwise file wish text out err status h is =
       ]
     ]
 
+not_one : (result : ℕ) → result ≡ 1 → result ≡ 2 → ⊥
+not_one result one two = omega (arith, one, two)
+
+refused_otherwise : (line : List ℕ) (out err : Stream) (status : ℕ) → IsRefusedBy line out err status → status ≡ 2 → ⊥
+refused_otherwise line out err status h is =
+    elim h [
+      | inl memory ↦ not_four status memory.0 is
+      | inr others ↦ elim others [
+        | inl write ↦ not_three status write.0 is
+        | inr done ↦ not_one status done.0 is
+      ]
+    ]
+
 -- a command never ends as a wrong command line does
 pub never_wrong : (file : List ℕ) (wish : Wish) (input : Option (List ℕ)) (out err : Stream) (status : ℕ)
     → Runs file wish input out err status → status ≡ 2 → ⊥
-never_wrong file wish input out err status h is = ends_otherwise file wish h.0 out err status h.2 is
+never_wrong file wish input out err status h is =
+    elim h [
+      | inl read ↦ ends_otherwise file wish read.0 out err status read.2 is
+      | inr kind ↦ refused_otherwise (kind_refusal kind.1.1.0) out err status kind.1.1.1 is
+    ]

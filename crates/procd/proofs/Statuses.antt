@@ -5,11 +5,17 @@ use Rattle.std.specs.Prelude.{Result, Ok, Err, ◌≤◌, ◌&&◌, if◌then◌
 use Rattle.text_commands.specs.Execution.{status_of}
 use Rattle.report_texts.specs.Hex.{Hex, hex_of}
 use Rattle.command_line.specs.Task.{Wish, Exec, Asm, Dis, Verify, World, Run, Log}
+use Rattle.command_line.specs.Task.{Events, EventsAndRows, Audit}
 use Rattle.std.specs.List.{list_any}
 use Rattle.scripts.specs.Reading.{Contents, Reading, script_said}
-use Rattle.script_loading.specs.Loading.{refusal_of, with_procedures, empty_core, empty_store}
+use Rattle.script_loading.specs.Loading.{Beginning, beginning, refusal_of, with_procedures, empty_core, empty_store}
+use Rattle.object_file.specs.Elf.{is_elf}
+use Rattle.object_procedures.specs.Finding.{found_in}
+use Rattle.object_procedures.specs.declared.finding.Found.{Found}
+use Rattle.object_procedures.specs.declared.finding.ObjectRefusal.{ObjectRefusal}
+use Rattle.text_commands.specs.ObjectVerification.{IsVerification, is_found_refused, status_of_found}
 use Rattle.log_file.specs.declared.stored.Stored.{Stored}
-use Rattle.log_command.specs.LogReport.{IsUnread, IsListing, Listed, Unread, IsChecked, NotBrought, Audited}
+use Rattle.log_command.specs.LogReport.{IsUnread, IsListing, Listed, Unread, IsChecked, NotBegun, NotBrought, Audited}
 use Rattle.log_command.specs.LogReport.{IsBeside, NotRead, Anothers, Own, IsAuditBy}
 use Rattle.run_command.specs.Running.{IsRunBy, IsCallsRun, Ran, Stopped, begun, empty_stores}
 use Rattle.run_command.specs.Logged.{FileJournal, KeepsLog, IsLoggedRun, Refused, Behind as GoneOn, IsLoggedBy}
@@ -22,7 +28,7 @@ use Rattle.scripts.specs.declared.script.Procedure.{Procedure}
 use Rattle.data_component.specs.Store.{Store}
 use Rattle.tc_core.specs.Core.{Core}
 use Rattle.text_commands.specs.Verification.{is_refused, status_by_fault, status_of_reading}
-use Rattle.procd.specs.Report.{IsReport}
+use Rattle.procd.specs.Report.{IsReport, IsRunReport, IsRunOf, IsWorldOf}
 use Rattle.text_commands.specs.CodeReport.{IsAssembly, IsDisassembly, IsDisassemblyOf, IsHexDisassembly}
 use Rattle.bpf_asm.specs.Lines.{assembled}
 use Rattle.bpf_asm.specs.declared.assemble.AsmFault.{AsmFault}
@@ -104,13 +110,14 @@ world_low None contents behind status lines h = omega (arith, h.left.status_is, 
 unread_low : (file : List ℕ) (status : ℕ) (lines : List ℕ) → IsUnread file status lines → status ≤ 1
 unread_low file status lines h = omega (arith, h.status_is)
 
-listing_low : (file : List ℕ) (status : ℕ) (lines : List ℕ) → IsListing file status lines → status ≤ 1
-listing_low file status lines (Listed s is printed zero) = omega (arith, zero)
-listing_low file status lines (Unread h) = unread_low file status lines h
+listing_low : (rows : Bool) (file : List ℕ) (status : ℕ) (lines : List ℕ) → IsListing rows file status lines → status ≤ 1
+listing_low rows file status lines (Listed s is printed zero) = omega (arith, zero)
+listing_low rows file status lines (Unread h) = unread_low file status lines h
 
 checked_low : (start : Core) (empties : List Store) (s : Stored) (status : ℕ) (lines : List ℕ) → IsChecked start empties s status lines → status ≤ 1
-checked_low start empties s status lines (NotBrought back dcs fault why told) = omega (arith, told.1)
-checked_low start empties s status lines (Audited dcs are found) = (let is = found.status_is in omega (arith, is, sound_low found.sound))
+checked_low start empties s status lines (NotBegun fault why told one) = omega (arith, one)
+checked_low start empties s status lines (NotBrought begun from back dcs fault why told) = omega (arith, told.1)
+checked_low start empties s status lines (Audited begun dcs from are found) = (let is = found.status_is in omega (arith, is, sound_low found.sound))
 
 beside_low : (file : List ℕ) (start : Core) (empties : List Store) (status : ℕ) (lines : List ℕ) → IsBeside file start empties status lines → status ≤ 1
 beside_low file start empties status lines (NotRead h) = unread_low file status lines h
@@ -123,17 +130,41 @@ audit_low (Some refusal) contents file status lines h = omega (arith, h.0)
 audit_low None contents file status lines h =
     beside_low file (with_procedures (empty_core (length contents.dcs)) contents.procedures) (map empty_store contents.dcs) status lines h
 
+found_low : (found : Result (List Found) ObjectRefusal) → status_of_found found ≤ 1
+found_low (Ok found) =
+    elim (list_any is_found_refused found) as (λ b. (if b then 1 else 0) ≤ 1) [ true ↦ omega arith | false ↦ omega arith ]
+found_low (Err why) = omega arith
+
+verification_low : (is_object : Bool) (file : List ℕ) (status : ℕ) (lines : List ℕ) → IsVerification is_object file status lines → status ≤ 1
+verification_low true file status lines h = omega (arith, h.0, found_low (found_in file))
+verification_low false text status lines h = omega (arith, h.0, reading_low (script_said command.Verify text))
+
+world_of_low : (behind : Behind) (script : Option (List ℕ)) (file : List ℕ) (status : ℕ) (lines : List ℕ)
+    → IsWorldOf behind script file status lines → status ≤ 1
+world_of_low behind None text status lines h =
+    let b = beginning command.World None text in world_low b.refusal b.contents behind status lines h
+world_of_low behind (Some path) file status lines h =
+    let b = beginning command.World (Some file) h.0 in world_low b.refusal b.contents behind status lines h.1
+
+run_report_low : (workers tries : ℕ) (audit : Bool) (log : Option (List ℕ)) (b : Beginning) (status : ℕ) (lines : List ℕ)
+    → IsRunReport workers tries audit log b status lines → status ≤ 1
+run_report_low workers tries audit None b status lines h = run_low b.refusal b.contents workers tries audit status lines h
+run_report_low workers tries audit (Some path) b status lines h = logged_low h.0 b.refusal b.contents workers tries audit status lines h.1
+
+run_of_low : (workers tries : ℕ) (audit : Bool) (log script : Option (List ℕ)) (file : List ℕ) (status : ℕ) (lines : List ℕ)
+    → IsRunOf workers tries audit log script file status lines → status ≤ 1
+run_of_low workers tries audit log None text status lines h = run_report_low workers tries audit log (beginning command.Run None text) status lines h
+run_of_low workers tries audit log (Some path) file status lines h =
+    run_report_low workers tries audit log (beginning command.Run (Some file) h.0) status lines h.1
+
 pub report_low : (wish : Wish) (text : List ℕ) (status : ℕ) (lines : List ℕ) → IsReport wish text status lines → status ≤ 1
 report_low (Exec raw numbers) text status lines h = omega (arith, h.2, execution_low h.0)
 report_low Asm text status lines h = assembly_low (assembled text) status lines h
 report_low (Dis raw) text status lines h = disassembly_low raw text status lines h
-report_low Verify text status lines h = omega (arith, h.0, reading_low (script_said command.Verify text))
-report_low (World log audit) text status lines h =
-    let r = script_said command.World text in world_low (refusal_of r) r.contents (record { audit = audit; log = log }) status lines h
-report_low (Run workers tries stats audit tell None) text status lines h =
-    let r = script_said command.Run text in run_low (refusal_of r) r.contents workers tries audit status lines h
-report_low (Run workers tries stats audit tell (Some path)) text status lines h =
-    let r = script_said command.Run text in logged_low h.0 (refusal_of r) r.contents workers tries audit status lines h.1
-report_low (Log None) text status lines h = listing_low text status lines h
-report_low (Log (Some path)) text status lines h =
+report_low Verify file status lines h = verification_low (is_elf file) file status lines h
+report_low (World log audit script) file status lines h = world_of_low (record { audit = audit; log = log }) script file status lines h
+report_low (Run workers tries stats audit tell log script) file status lines h = run_of_low workers tries audit log script file status lines h
+report_low (Log Events) text status lines h = listing_low false text status lines h
+report_low (Log EventsAndRows) text status lines h = listing_low true text status lines h
+report_low (Log (Audit path)) text status lines h =
     let r = script_said command.Run h.0 in audit_low (refusal_of r) r.contents text status lines h.1

@@ -1,16 +1,20 @@
 -- What is printed, and the exit status.
-use Rattle.std.specs.Prelude.{◌≡◌, ℕ, Bool, List, [], ◌∷◌, take, Option, Some, None}
+use Rattle.std.specs.Prelude.{◌≡◌, ℕ, Bool, true, false, List, [], ◌∷◌, take, Option, Some, None}
 use Rattle.std.specs.Str.{IsUtf8}
 use Rattle.procd.specs.declared.reading.TextFault.{TextFault}
 use Rattle.procd.specs.declared.reading.TextFault.TheVariants.{NotUtf8, Marked}
 use Rattle.bpf_asm.specs.Lines.{assembled}
 use Rattle.command_line.specs.Task.{Wish, Exec, Asm, Dis, Verify, World, Run, Log}
+use Rattle.command_line.specs.Task.{LogWish, Events, EventsAndRows, Audit}
 use Rattle.scripts.specs.Reading.{script_said}
+use Rattle.script_loading.specs.Loading.{Beginning, beginning}
 use Rattle.scripts.specs.declared.keyword.Command.TheVariants as command
 use Rattle.text_commands.specs.CodeReport.{IsExecution, IsAssembly, IsDisassembly}
 use Rattle.text_commands.specs.Execution.{text_execution}
-use Rattle.text_commands.specs.Verification.{verification_lines, verification_status}
+use Rattle.text_commands.specs.ObjectVerification.{IsVerification}
+use Rattle.object_file.specs.Elf.{is_elf}
 use Rattle.world_command.specs.WorldReport.{IsWorld}
+use Rattle.world_command.specs.declared.world.Behind.{Behind}
 use Rattle.run_command.specs.Running.{IsRun}
 use Rattle.run_command.specs.Logged.{FileJournal, IsLogged}
 use Rattle.log_command.specs.LogReport.{IsListing, IsAudit}
@@ -25,25 +29,35 @@ IsTextFault bytes NotUtf8 = ¬ (IsUtf8 bytes)
 IsTextFault bytes Marked = take 3 bytes ≡ byte_order_mark
 
 -- a run whose log is kept, by some journal
-abbrev pub IsKeptRun : ℕ → ℕ → Bool → List ℕ → ℕ → List ℕ → Type 0
-IsKeptRun workers tries audit text status lines =
-    (journal : Option FileJournal) × IsLogged journal workers tries audit (script_said command.Run text) status lines
+abbrev pub IsKeptRun : ℕ → ℕ → Bool → Beginning → ℕ → List ℕ → Type 0
+IsKeptRun workers tries audit b status lines = (journal : Option FileJournal) × IsLogged journal workers tries audit b status lines
 
-abbrev pub IsRunReport : ℕ → ℕ → Bool → Option (List ℕ) → List ℕ → ℕ → List ℕ → Type 0
-IsRunReport workers tries audit None text status lines = IsRun workers tries audit (script_said command.Run text) status lines
-IsRunReport workers tries audit (Some path) text status lines = IsKeptRun workers tries audit text status lines
+abbrev pub IsRunReport : ℕ → ℕ → Bool → (log : Option (List ℕ)) → Beginning → ℕ → List ℕ → Type 0
+IsRunReport workers tries audit None b status lines = IsRun workers tries audit b status lines
+IsRunReport workers tries audit (Some path) b status lines = IsKeptRun workers tries audit b status lines
+
+-- of a script; or of an object file, with what the script's file has
+abbrev pub IsRunOf : ℕ → ℕ → Bool → (log script : Option (List ℕ)) → List ℕ → ℕ → List ℕ → Type 0
+IsRunOf workers tries audit log None text status lines = IsRunReport workers tries audit log (beginning command.Run None text) status lines
+IsRunOf workers tries audit log (Some path) file status lines =
+    (text : List ℕ) × IsRunReport workers tries audit log (beginning command.Run (Some file) text) status lines
+
+abbrev pub IsWorldOf : Behind → (script : Option (List ℕ)) → List ℕ → ℕ → List ℕ → Type 0
+IsWorldOf behind None text status lines = IsWorld behind (beginning command.World None text) status lines
+IsWorldOf behind (Some path) file status lines = (text : List ℕ) × IsWorld behind (beginning command.World (Some file) text) status lines
 
 -- what is printed of a log's file, or of an audit beside what the script's file has
-abbrev pub IsLogReport : Option (List ℕ) → List ℕ → ℕ → List ℕ → Type 0
-IsLogReport None file status lines = IsListing file status lines
-IsLogReport (Some path) file status lines = (script : List ℕ) × IsAudit file (script_said command.Run script) status lines
+abbrev pub IsLogReport : LogWish → List ℕ → ℕ → List ℕ → Type 0
+IsLogReport Events file status lines = IsListing false file status lines
+IsLogReport EventsAndRows file status lines = IsListing true file status lines
+IsLogReport (Audit path) file status lines = (script : List ℕ) × IsAudit file (script_said command.Run script) status lines
 
 -- what a command prints of a text, and its exit status
 abbrev pub IsReport : Wish → List ℕ → ℕ → List ℕ → Type 0
 IsReport (Exec raw numbers) text status lines = IsExecution (text_execution raw text numbers) status lines
 IsReport Asm text status lines = IsAssembly (assembled text) status lines
 IsReport (Dis raw) text status lines = IsDisassembly raw text status lines
-IsReport Verify text status lines = (status ≡ verification_status text) × (lines ≡ verification_lines text)
-IsReport (World log audit) text status lines = IsWorld (record { audit = audit; log = log }) (script_said command.World text) status lines
-IsReport (Run workers tries stats audit tell log) text status lines = IsRunReport workers tries audit log text status lines
-IsReport (Log script) file status lines = IsLogReport script file status lines
+IsReport Verify file status lines = IsVerification (is_elf file) file status lines
+IsReport (World log audit script) file status lines = IsWorldOf (record { audit = audit; log = log }) script file status lines
+IsReport (Run workers tries stats audit tell log script) file status lines = IsRunOf workers tries audit log script file status lines
+IsReport (Log wanted) file status lines = IsLogReport wanted file status lines

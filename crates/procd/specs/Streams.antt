@@ -1,8 +1,10 @@
 -- What a run gives for a command line: the exit status, and what stands on standard output and standard error.
-use Rattle.std.specs.Prelude.{◌≡◌, ◌⊎◌, ℕ, Bool, true, false, List, ◌++◌, take, Option, Some, IfSome, Result, Ok, Err, codes}
+use Rattle.std.specs.Prelude.{◌≡◌, ◌⊎◌, ℕ, Bool, true, false, List, ◌++◌, take, Option, Some, None, IfSome, Result, Ok, Err, codes}
 use Rattle.std.specs.Io.KnownBytes.{Appends}
+use Rattle.disk_file.specs.declared.opening.FileKind.{FileKind}
+use Rattle.run_command.specs.LogLines.{kind_refusal}
 use Rattle.procd.specs.Report.{IsReport}
-use Rattle.command_line.specs.Task.{Wish, Run, Log, may_tell}
+use Rattle.command_line.specs.Task.{Wish, World, Run, Log, Audit, may_tell}
 
 -- what a stream held before and holds afterwards, where that is known
 pub record Stream : Type 0 where
@@ -63,10 +65,21 @@ IsReadFault file out err status = (status ≡ 3) × IsKept out × TellsUnread fi
 abbrev pub IsMemoryFault : Stream → Stream → ℕ → Type 0
 IsMemoryFault out err status = (status ≡ 4) × IsKept out × Begins err (codes "memory\n")
 
--- a further file can't be read or written: the one that keeps a run's log, or the script beside a log
+-- the script beside a log or an object file can't be read
+abbrev pub ScriptFails : Option (List ℕ) → Stream → Type 0
+ScriptFails None err = ⊥
+ScriptFails (Some path) err = TellsUnread path err
+
+-- the file that keeps a run's log can't be read or written
+abbrev pub LogFails : Option (List ℕ) → Stream → Type 0
+LogFails None err = ⊥
+LogFails (Some path) err = TellsUnread path err ⊎ TellsUnwritten path err
+
+-- a further file can't be read or written
 abbrev pub FurtherFails : Wish → Stream → Type 0
-FurtherFails (Run workers tries stats audit tell (Some path)) err = TellsUnread path err ⊎ TellsUnwritten path err
-FurtherFails (Log (Some path)) err = TellsUnread path err
+FurtherFails (World log audit script) err = ScriptFails script err
+FurtherFails (Run workers tries stats audit tell log script) err = LogFails log err ⊎ ScriptFails script err
+FurtherFails (Log (Audit path)) err = TellsUnread path err
 FurtherFails other err = ⊥
 
 abbrev pub IsFurtherFault : Wish → Stream → Stream → ℕ → Type 0
@@ -97,10 +110,26 @@ Ends file wish text out err status =
 abbrev pub EndsOn : List ℕ → Wish → Option (List ℕ) → Stream → Stream → ℕ → Type 0
 EndsOn file wish input out err status = (text : List ℕ) × IfSome input (λ known. text ≡ known) × Ends file wish text out err status
 
--- the same of a file, which may be standard input
+-- the events of a log's file, or an audit of it
+abbrev pub IsLog : Wish → Type 0
+IsLog (Log wanted) = Unit {0}
+IsLog other = ⊥
+
+-- it is refused by this line; memory ran out, or standard output takes no more than the line's first bytes
+abbrev pub IsRefusedBy : List ℕ → Stream → Stream → ℕ → Type 0
+IsRefusedBy line out err status =
+    IsMemoryFault out err status
+    ⊎ (((status ≡ 3) × Begins out line × TellsNotPrinted err) ⊎ ((status ≡ 1) × Gets out line × IsKept err))
+
+-- no file of bytes stands in a log's place
+abbrev pub IsNotAFile : Wish → Stream → Stream → ℕ → Type 0
+IsNotAFile wish out err status = IsLog wish × ((kind : FileKind) × IsRefusedBy (kind_refusal kind) out err status)
+
+-- the same of a file, which may be standard input; or it isn't one
 abbrev pub Runs : List ℕ → Wish → Option (List ℕ) → Stream → Stream → ℕ → Type 0
 Runs file wish input out err status =
-    (text : List ℕ) × (file ≡ codes "-" → IfSome input (λ known. text ≡ known)) × Ends file wish text out err status
+    ((text : List ℕ) × (file ≡ codes "-" → IfSome input (λ known. text ≡ known)) × Ends file wish text out err status)
+    ⊎ ((¬ (file ≡ codes "-")) × IsNotAFile wish out err status)
 
 -- nothing is written to standard output, and the status says that the command line is wrong, or that memory ran out
 abbrev pub IsMisuse : Stream → ℕ → Type 0

@@ -1,11 +1,12 @@
 //! The program, over readers and writers that are handed in.
 
-ghost use Rattle.std.specs.Prelude.{◌≡◌, ◌≤◌, ◌++◌, ℕ, List, IfOk, OnOk, None, Some, Ok, true, false};
+ghost use Rattle.std.specs.Prelude.{◌≡◌, ◌≤◌, ◌++◌, ℕ, List, IfOk, IfSome, OnOk, None, Some, Ok, true, false};
 ghost use Rattle.std.specs.Prelude.{codes, length, map, take, string_bytes};
 ghost use Rattle.std.specs.Io.KnownBytes.{Appends};
 ghost use Rattle.command_line.specs.Said.{Says, IsWrong, shows};
 ghost use Rattle.procd.specs.Streams.{stream, written, TellsIf, IsKept, Gets, Begins, Ends, EndsOn, Runs, IsMisuse};
-ghost use Rattle.procd.specs.Streams.{IsFaultLine, TellsUnread, TellsUnwritten, TellsNotPrinted, IsToldOrNoMemory};
+ghost use Rattle.run_command.specs.LogLines.{kind_refusal};
+ghost use Rattle.procd.specs.Streams.{IsLog, IsRefusedBy, IsFaultLine, TellsUnread, TellsUnwritten, TellsNotPrinted, IsToldOrNoMemory};
 ghost use Rattle.command_line.specs.Task.{Wish, wish_of};
 ghost use Rattle.clap.specs.Words.{kind_of};
 
@@ -13,16 +14,21 @@ use crate::reading::{MOST_BYTES, ReadFault, Reason, most_of, read_all};
 use crate::report::{Meanwhile, ReportFault, explain, report_on};
 use clap::Error;
 use clap::error::ErrorKind;
-use command_line::words::{Wanted, WordFault, wanted_of};
+use command_line::words::{Task, Wanted, WordFault, wanted_of};
+use disk_file::FileKind;
 use report_texts::report::Report;
+use run_command::logged::kind_refusal;
 use std::alloc::{AllocError, Global};
 use std::convert::AsStr;
-use std::fs::File;
+use std::fs::{self, File};
 use std::io::{self, Read, Write};
 use std::rt::Files;
 use std::sync::Wait;
 use std::thread::Threads;
 use std::time::Clock;
+
+/// What was read, or what stands in its place, is refused.
+const REFUSED: u8 = 1;
 
 /// The command line is wrong.
 const MISUSE: u8 = 2;
@@ -248,6 +254,33 @@ fn run_file<F: Files<File = File> + Clock + Threads + Wait + Sync, W: Write, E: 
     }
 }
 
+// What stands in the place of a log's file that isn't a file of bytes, if anything does.
+fn kind_of_log<F: Files<File = File>>(rt: &F, wanted: &Wanted) -> Option<FileKind>
+    ensures { IfSome result (λ _. IsLog (wish_of wanted.now.task)) }
+{
+    let Task::Log(_) = wanted.task else {
+        return None;
+    };
+    match fs::metadata(rt, wanted.file) {
+        Ok(known) => FileKind::of(&known.file_type()),
+        Err(_) => None,
+    }
+}
+
+// Refuses what isn't a file of bytes.
+fn refuse_kind<W: Write, E: Write>(alloc: Global, kind: FileKind, out: &mut W, err: &mut E) -> u8
+    ensures { IsRefusedBy (kind_refusal kind) (stream (W.contents out.old) (W.contents out.new))
+        (stream (E.contents err.old) (E.contents err.new)) result }
+{
+    match kind_refusal(alloc, kind) {
+        Ok(line) => match tell(out, line.as_str()) {
+            Ok(()) => REFUSED,
+            Err(error) => cannot_write(alloc, err, error),
+        },
+        Err(AllocError) => no_memory(err),
+    }
+}
+
 // Does what the words want.
 fn run_wanted<F: Files<File = File> + Clock + Threads + Wait + Sync, R: Read, W: Write, E: Write>(
     rt: &F,
@@ -265,7 +298,10 @@ fn run_wanted<F: Files<File = File> + Clock + Threads + Wait + Sync, R: Read, W:
     if wanted.file == "-" {
         return run_input(rt, alloc, wanted, input, MOST_BYTES, out, err, meanwhile);
     }
-    run_file(rt, alloc, wanted, out, err, meanwhile)
+    match kind_of_log(rt, wanted) {
+        Some(kind) => refuse_kind(alloc, kind, out, err),
+        None => run_file(rt, alloc, wanted, out, err, meanwhile),
+    }
 }
 
 // What a wrong command line is told, in two parts: clap's text but for its tip to pass a word as a value, since no
@@ -374,6 +410,9 @@ pub fn program<
         ),
         Err(WordFault::ScriptAlone) => {
             wrong_words(err, "error: log takes a SCRIPT with --audit alone")
+        }
+        Err(WordFault::RowsBesideAudit) => {
+            wrong_words(err, "error: log takes --rows without --audit alone")
         }
         Err(WordFault::NoCommand) => wrong_words(
             err,

@@ -1,18 +1,26 @@
 //! What a command says of the text that was read.
 
-ghost use Rattle.std.specs.Prelude.{◌≡◌, Some, option_map, IfOk, IfErr, string_bytes};
-ghost use Rattle.procd.specs.Report.{IsReport, IsKeptRun, IsRunReport, IsLogReport};
-ghost use Rattle.procd.specs.Joining.Further.{IsScriptFault, IsLogFault, IsTaskFault, IsNoText, IsNoTextOf, IsOfText};
-ghost use Rattle.command_line.specs.Task.{Log, wish_of, reads_text};
+ghost use Rattle.std.specs.Prelude.{◌≡◌, true, Some, None, not, is_none, option_map, IfOk, IfErr, string_bytes};
+ghost use Rattle.object_file.specs.Elf.{is_elf};
+ghost use Rattle.text_commands.specs.ObjectVerification.{IsVerification};
+ghost use Rattle.script_loading.specs.Loading.{beginning, beginning_of};
+ghost use Rattle.world_command.specs.WorldReport.{IsWorld};
+ghost use Rattle.scripts.specs.declared.keyword.Command.TheVariants as command;
+ghost use Rattle.procd.specs.Report.{IsReport, IsKeptRun, IsRunReport, IsRunOf, IsWorldOf, IsLogReport};
+ghost use Rattle.procd.specs.Joining.Further.{IsScriptFault, IsLogFault, IsTaskFault, IsNoTextOf, IsOfText, IsOfFile, wants_text};
+ghost use Rattle.procd.specs.Joining.Further.{IsBesideFault, IsRunFault};
+ghost use Rattle.command_line.specs.Task.{Log, Audit, log_wish, wish_of};
 
 use crate::reading::{ReadFault, Reason, TextFault, most_of, read_all, text_of};
-use command_line::words::Task;
+use command_line::words::{LogTask, Task};
 use log_command::auditing::auditing;
 use log_command::listing::listing;
+use object_file::is_elf;
 use report_texts::explanation::explanation;
 use report_texts::report::Report;
 use run_command::logged::{Unlogged, running_logged};
 use run_command::running::{Listeners, Manner, running};
+use script_loading::loading::Source;
 use scripts::keyword::Command;
 use std::alloc::{AllocError, Global};
 use std::fs::File;
@@ -23,6 +31,7 @@ use std::thread::Threads;
 use std::time::Clock;
 use text_commands::assembly::{assembly, disassembly};
 use text_commands::lines::execution;
+use text_commands::object_verification::object_verification;
 use text_commands::verification::verification;
 use world_command::world::{Behind, world};
 
@@ -39,7 +48,7 @@ pub struct Meanwhile {
 pub enum ReportFault<'a> {
     /// What was read is no text.
     NotText(TextFault),
-    /// The further file with this path can't be read, and why: a run's log, or the script beside a log.
+    /// The further file with this path can't be read, and why: a run's log, or the script beside a log or an object file.
     Unread(&'a str, Option<Reason>),
     /// The file with this path, which is to keep a run's log, can't be written.
     Unwritten(&'a str, Option<Reason>),
@@ -88,24 +97,40 @@ fn read_script<'a, R: Files>(
     }
 }
 
+// What the verifier says of an object file's procedures, or of a script's.
+fn verify_report<'a>(alloc: Global, file: &[u8]) -> Result<Report, ReportFault<'a>>
+    ensures ok { IfOk result (λ r. IsVerification (is_elf file.now) file.now r.status (string_bytes r.lines)) }
+    ensures not_text { IfErr result (IsNoTextOf (not (is_elf file.now)) file.now) }
+    ensures further { IfErr result IsOfFile }
+{
+    if is_elf(file) {
+        return Ok(object_verification(alloc, file)?);
+    }
+    Ok(verification(alloc, text_of(file)?)?)
+}
+
 // The report of a run whose log is kept.
 fn logged<'a, R: Files<File = File> + Clock + Threads + Wait + Sync>(
     rt: &R,
     alloc: Global,
     path: &'a str,
-    text: &str,
+    source: Source,
     manner: Manner,
     listeners: Listeners,
 ) -> Result<Report, ReportFault<'a>>
-    ensures ok { IfOk result (λ r. IsKeptRun manner.workers manner.tries manner.audit text.now r.status (string_bytes r.lines)) }
+    ensures ok { IfOk result (λ r. IsKeptRun manner.workers manner.tries manner.audit (beginning_of command.Run source.entry) r.status
+        (string_bytes r.lines)) }
     ensures fault { IfErr result (IsLogFault (Some path.entry.now)) }
     ensures text { IfErr result IsOfText }
 {
-    match running_logged(rt, alloc, path, text, manner, listeners) {
+    match running_logged(rt, alloc, path, source, manner, listeners) {
         Ok(ran) => Ok(ran.report),
         Err(Unlogged::Memory) => Err(ReportFault::Memory),
-        Err(Unlogged::Unread) => Err(ReportFault::Unread(path, None)),
-        Err(Unlogged::Unwritten) => Err(ReportFault::Unwritten(path, None)),
+        Err(Unlogged::Unread(fault)) => Err(ReportFault::Unread(path, Some(Reason::File(fault)))),
+        Err(Unlogged::Unwritten(fault)) => Err(ReportFault::Unwritten(
+            path,
+            fault.map(Reason::File),
+        )),
     }
 }
 
@@ -113,40 +138,172 @@ fn logged<'a, R: Files<File = File> + Clock + Threads + Wait + Sync>(
 fn run_report<'a, R: Files<File = File> + Clock + Threads + Wait + Sync>(
     rt: &R,
     alloc: Global,
-    text: &[u8],
+    source: Source,
     manner: Manner,
     listeners: Listeners,
     log: Option<&'a str>,
 ) -> Result<Report, ReportFault<'a>>
-    ensures ok { IfOk result (λ r. IsRunReport manner.workers manner.tries manner.audit (option_map (λ path. path.now) log.entry) text.now
-        r.status (string_bytes r.lines)) }
-    ensures not_text { IfErr result (IsNoText text.now) }
+    ensures ok { IfOk result (λ r. IsRunReport manner.workers manner.tries manner.audit (option_map (λ path. path.now) log.entry)
+        (beginning_of command.Run source.entry) r.status (string_bytes r.lines)) }
     ensures log { IfErr result (IsLogFault (option_map (λ path. path.now) log.entry)) }
+    ensures text { IfErr result IsOfText }
 {
-    let text = text_of(text)?;
     match log {
-        Some(path) => logged(rt, alloc, path, text, manner, listeners),
-        None => match running(rt, alloc, text, manner, listeners) {
+        Some(path) => logged(rt, alloc, path, source, manner, listeners),
+        None => match running(rt, alloc, source, manner, listeners) {
             Ok(report) => Ok(report),
             Err(AllocError) => Err(ReportFault::Memory),
         },
     }
 }
 
-// What is printed of a log's file, or of an audit beside a script.
-fn log_report<'a, R: Files>(
+// The report of a run of a script with the procedures of an object file.
+fn run_both<'a, R: Files<File = File> + Clock + Threads + Wait + Sync>(
+    rt: &R,
+    alloc: Global,
+    file: &[u8],
+    text: &str,
+    manner: Manner,
+    listeners: Listeners,
+    log: Option<&'a str>,
+) -> Result<Report, ReportFault<'a>>
+    ensures ok { IfOk result (λ r. IsRunReport manner.workers manner.tries manner.audit (option_map (λ path. path.now) log.entry)
+        (beginning command.Run (Some file.now) text.now) r.status (string_bytes r.lines)) }
+    ensures log { IfErr result (IsLogFault (option_map (λ path. path.now) log.entry)) }
+    ensures text { IfErr result IsOfText }
+{
+    let object = Some(file);
+    run_report(rt, alloc, Source { object, text }, manner, listeners, log)
+}
+
+// The same of the script that the file with this path has.
+fn run_beside<'a, R: Files<File = File> + Clock + Threads + Wait + Sync>(
+    rt: &R,
+    alloc: Global,
+    file: &[u8],
+    path: &'a str,
+    manner: Manner,
+    listeners: Listeners,
+    log: Option<&'a str>,
+) -> Result<Report, ReportFault<'a>>
+    ensures ok { IfOk result (λ r. IsRunOf manner.workers manner.tries manner.audit (option_map (λ path. path.now) log.entry)
+        (Some path.entry.now) file.now r.status (string_bytes r.lines)) }
+    ensures text { IfErr result IsOfText }
+    ensures further { IfErr result (IsRunFault (option_map (λ path. path.now) log.entry) (Some path.entry.now)) }
+{
+    let script = read_script(rt, alloc, path)?;
+    match text_of(script.as_slice()) {
+        Ok(text) => run_both(rt, alloc, file, text, manner, listeners, log),
+        Err(fault) => Err(ReportFault::Unread(path, Some(Reason::Text(fault)))),
+    }
+}
+
+// The report of a run of the script that the file has.
+fn run_script<'a, R: Files<File = File> + Clock + Threads + Wait + Sync>(
+    rt: &R,
+    alloc: Global,
+    file: &[u8],
+    manner: Manner,
+    listeners: Listeners,
+    log: Option<&'a str>,
+) -> Result<Report, ReportFault<'a>>
+    ensures ok { IfOk result (λ r. IsRunReport manner.workers manner.tries manner.audit (option_map (λ path. path.now) log.entry)
+        (beginning command.Run None file.now) r.status (string_bytes r.lines)) }
+    ensures log { IfErr result (IsLogFault (option_map (λ path. path.now) log.entry)) }
+    ensures text { IfErr result (IsNoTextOf true file.now) }
+{
+    let text = text_of(file)?;
+    let source = Source { object: None, text };
+    run_report(rt, alloc, source, manner, listeners, log)
+}
+
+// The report of a run of either.
+fn run_of<'a, R: Files<File = File> + Clock + Threads + Wait + Sync>(
     rt: &R,
     alloc: Global,
     file: &[u8],
     script: Option<&'a str>,
+    manner: Manner,
+    listeners: Listeners,
+    log: Option<&'a str>,
 ) -> Result<Report, ReportFault<'a>>
-    ensures ok { IfOk result (λ r. IsLogReport (option_map (λ path. path.now) script.entry) file.now r.status (string_bytes r.lines)) }
-    ensures text { IfErr result IsOfText }
-    ensures script { IfErr result (IsTaskFault (Log (option_map (λ path. path.now) script.entry))) }
+    ensures ok { IfOk result (λ r. IsRunOf manner.workers manner.tries manner.audit (option_map (λ path. path.now) log.entry)
+        (option_map (λ path. path.now) script.entry) file.now r.status (string_bytes r.lines)) }
+    ensures not_text { IfErr result (IsNoTextOf (is_none script.entry) file.now) }
+    ensures further { IfErr result (IsRunFault (option_map (λ path. path.now) log.entry) (option_map (λ path. path.now) script.entry)) }
 {
-    let Some(path) = script else {
-        return Ok(listing(alloc, file)?);
-    };
+    match script {
+        Some(path) => run_beside(rt, alloc, file, path, manner, listeners, log),
+        None => run_script(rt, alloc, file, manner, listeners, log),
+    }
+}
+
+// The report of the steps of a script with the procedures of an object file.
+fn world_both(alloc: Global, file: &[u8], text: &str, behind: Behind) -> Result<Report, AllocError>
+    ensures { IfOk result (λ r. IsWorld behind (beginning command.World (Some file.now) text.now) r.status (string_bytes r.lines)) }
+{
+    let object = Some(file);
+    world(alloc, behind, Source { object, text })
+}
+
+// The same of the script that the file with this path has.
+fn world_beside<'a, R: Files>(
+    rt: &R,
+    alloc: Global,
+    file: &[u8],
+    path: &'a str,
+    behind: Behind,
+) -> Result<Report, ReportFault<'a>>
+    ensures ok { IfOk result (λ r. IsWorldOf behind (Some path.entry.now) file.now r.status (string_bytes r.lines)) }
+    ensures text { IfErr result IsOfText }
+    ensures script { IfErr result (IsScriptFault path.entry.now) }
+{
+    let script = read_script(rt, alloc, path)?;
+    match text_of(script.as_slice()) {
+        Ok(text) => Ok(world_both(alloc, file, text, behind)?),
+        Err(fault) => Err(ReportFault::Unread(path, Some(Reason::Text(fault)))),
+    }
+}
+
+// The report of the steps of the script that the file has.
+fn world_script<'a>(alloc: Global, file: &[u8], behind: Behind) -> Result<Report, ReportFault<'a>>
+    ensures ok { IfOk result (λ r. IsWorld behind (beginning command.World None file.now) r.status (string_bytes r.lines)) }
+    ensures not_text { IfErr result (IsNoTextOf true file.now) }
+    ensures further { IfErr result IsOfFile }
+{
+    let text = text_of(file)?;
+    Ok(world(alloc, behind, Source { object: None, text })?)
+}
+
+// The report of the steps of either.
+fn world_of<'a, R: Files>(
+    rt: &R,
+    alloc: Global,
+    file: &[u8],
+    script: Option<&'a str>,
+    behind: Behind,
+) -> Result<Report, ReportFault<'a>>
+    ensures ok { IfOk result (λ r. IsWorldOf behind (option_map (λ path. path.now) script.entry) file.now r.status (string_bytes r.lines)) }
+    ensures not_text { IfErr result (IsNoTextOf (is_none script.entry) file.now) }
+    ensures further { IfErr result (IsBesideFault (option_map (λ path. path.now) script.entry)) }
+{
+    match script {
+        Some(path) => world_beside(rt, alloc, file, path, behind),
+        None => world_script(alloc, file, behind),
+    }
+}
+
+// What an audit finds of a log's file beside the script of this path.
+fn audit_report<'a, R: Files>(
+    rt: &R,
+    alloc: Global,
+    file: &[u8],
+    path: &'a str,
+) -> Result<Report, ReportFault<'a>>
+    ensures ok { IfOk result (λ r. IsLogReport (Audit path.entry.now) file.now r.status (string_bytes r.lines)) }
+    ensures text { IfErr result IsOfText }
+    ensures script { IfErr result (IsScriptFault path.entry.now) }
+{
     let script = read_script(rt, alloc, path)?;
     match text_of(script.as_slice()) {
         Ok(script) => Ok(auditing(alloc, file, script)?),
@@ -154,12 +311,30 @@ fn log_report<'a, R: Files>(
     }
 }
 
-// The command of a task that reads a script.
+// What is printed of a log's file.
+fn log_report<'a, R: Files>(
+    rt: &R,
+    alloc: Global,
+    file: &[u8],
+    wanted: LogTask<'a>,
+) -> Result<Report, ReportFault<'a>>
+    ensures ok { IfOk result (λ r. IsLogReport (log_wish wanted.entry) file.now r.status (string_bytes r.lines)) }
+    ensures text { IfErr result IsOfText }
+    ensures script { IfErr result (IsTaskFault (Log (log_wish wanted.entry))) }
+{
+    match wanted {
+        LogTask::Events => Ok(listing(alloc, file, false)?),
+        LogTask::EventsAndRows => Ok(listing(alloc, file, true)?),
+        LogTask::Audit(script) => audit_report(rt, alloc, file, script),
+    }
+}
+
+// The command of a task whose file is a script.
 fn script_command(task: &Task) -> Option<Command> {
     match task {
         Task::Verify => Some(Command::Verify),
-        Task::World { .. } => Some(Command::World),
-        Task::Run { .. } => Some(Command::Run),
+        Task::World { script: None, .. } => Some(Command::World),
+        Task::Run { script: None, .. } => Some(Command::Run),
         _ => None,
     }
 }
@@ -172,7 +347,7 @@ pub fn explain(alloc: Global, terminal: Option<Stderr>, task: &Task, text: &[u8]
     let Ok(text) = text_of(text) else {
         return;
     };
-    if report.status == 0 {
+    if report.status == 0 || is_elf(text.as_bytes()) {
         return;
     }
     if let Ok(Some(line)) = explanation(alloc, command, text) {
@@ -189,21 +364,21 @@ pub fn report_on<'a, R: Files<File = File> + Clock + Threads + Wait + Sync>(
     meanwhile: Meanwhile,
 ) -> Result<Report, ReportFault<'a>>
     ensures ok { IfOk result (λ r. IsReport (wish_of task.now) text.now r.status (string_bytes r.lines)) }
-    // Only assembly text and scripts have to be UTF-8, and without a byte order mark.
-    ensures not_text { IfErr result (IsNoTextOf (reads_text (wish_of task.now)) text.now) }
+    // Only assembly text and scripts have to be UTF-8, and without a byte order mark; an object file is no script.
+    ensures not_text { IfErr result (IsNoTextOf (wants_text (wish_of task.now) text.now) text.now) }
     // A further file that can't be read or written is the one that is wanted.
     ensures further { IfErr result (IsTaskFault (wish_of task.now)) }
 {
     match task {
         Task::Exec { raw, numbers } => Ok(execution(alloc, *raw, text, numbers.as_slice())?),
         Task::Asm => Ok(assembly(alloc, text_of(text)?)?),
-        Task::Verify => Ok(verification(alloc, text_of(text)?)?),
-        Task::World { log, audit } => {
+        Task::Verify => verify_report(alloc, text),
+        Task::World { log, audit, script } => {
             let behind = Behind {
                 audit: *audit,
                 log: *log,
             };
-            Ok(world(alloc, behind, text_of(text)?)?)
+            world_of(rt, alloc, text, *script, behind)
         }
         Task::Run {
             workers,
@@ -212,6 +387,7 @@ pub fn report_on<'a, R: Files<File = File> + Clock + Threads + Wait + Sync>(
             audit,
             tell,
             log,
+            script,
         } => {
             let manner = Manner {
                 workers: *workers,
@@ -223,9 +399,9 @@ pub fn report_on<'a, R: Files<File = File> + Clock + Threads + Wait + Sync>(
                 terminal: meanwhile.terminal,
                 each: tell.then_some(meanwhile.error),
             };
-            run_report(rt, alloc, text, manner, listeners, *log)
+            run_of(rt, alloc, text, *script, manner, listeners, *log)
         }
         Task::Dis { raw } => Ok(disassembly(alloc, *raw, text)?),
-        Task::Log { script } => log_report(rt, alloc, text, *script),
+        Task::Log(wanted) => log_report(rt, alloc, text, *wanted),
     }
 }

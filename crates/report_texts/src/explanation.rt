@@ -23,6 +23,7 @@ fn form_of(keyword: Keyword) -> &'static str {
         Keyword::Tell => "tell I",
         Keyword::Redo => "redo D",
         Keyword::Crash => "crash P",
+        Keyword::Cut => "cut",
         Keyword::Forge => "forge NUMBER SAID",
         Keyword::First => "first NAME ARG..",
         Keyword::Call => "call NAME ARG..",

@@ -94,7 +94,8 @@ pub fn asm_fault_name(alloc: Global, fault: AsmFault) -> Result<String, AllocErr
     }
 }
 
-fn decl_fault_name(alloc: Global, fault: DeclFault) -> Result<String, AllocError>
+/// What is wrong with a declaration, by its code, its name and the slot.
+pub fn decl_fault_name(alloc: Global, fault: DeclFault) -> Result<String, AllocError>
     ensures { IfOk result (λ s. string_bytes s ≡ decl_fault_name fault) }
 {
     match fault {

@@ -1,6 +1,7 @@
 -- Why one list of calls has no answers, and so why both lists haven't.
 use Rattle.std.proofs.Common.{◌≡◌, ℕ, true, false, Option, Some, None, refl, sym, subst, inl, inr, arith}
 use Rattle.std.specs.Prelude.{is_some}
+use Rattle.disk_file.specs.declared.fault.FileFault.{FileFault}
 use Rattle.worker_pool.specs.declared.pool.RunFault.{RunFault}
 use Rattle.worker_pool.specs.declared.pool.RunFault.TheVariants as fault
 use Rattle.worker_pool.specs.Faults.{FaultFits, InRange}
@@ -36,8 +37,8 @@ first_halts journal workers tries (Unbegun Workers) (inr many) = absurd (omega (
 first_halts journal workers tries (Unbegun Tries) h = h.1
 first_halts journal workers tries (Unbegun Memory) h = h.1
 first_halts journal workers tries (Unbegun NoThread) h = h.1
-first_halts None workers tries NotKept h = h
-first_halts (Some j) workers tries NotKept h = h.1
+first_halts None workers tries (NotKept failure) h = h
+first_halts (Some j) workers tries (NotKept failure) h = h.1
 first_halts None workers tries NoMemory h = h
 first_halts (Some j) workers tries NoMemory h = h.1
 
@@ -48,20 +49,21 @@ then_halts journal then workers tries (Unbegun Workers) range same h = (range.1,
 then_halts journal then workers tries (Unbegun Tries) range same h = h.1
 then_halts journal then workers tries (Unbegun Memory) range same h = range.1
 then_halts journal then workers tries (Unbegun NoThread) range same h = range.1
-then_halts None None workers tries NotKept range same h = h
-then_halts None (Some j) workers tries NotKept range same h = absurd (let bad : true ≡ false = same in cc)
-then_halts (Some j) then workers tries NotKept range same h = range.1
+then_halts None None workers tries (NotKept failure) range same h = h
+then_halts None (Some j) workers tries (NotKept failure) range same h = absurd (let bad : true ≡ false = same in cc)
+then_halts (Some j) then workers tries (NotKept failure) range same h = range.1
 then_halts None None workers tries NoMemory range same h = h
 then_halts None (Some j) workers tries NoMemory range same h = absurd (let bad : true ≡ false = same in cc)
 then_halts (Some j) then workers tries NoMemory range same h = range.1
 
-unkept_fits : (journal : Option FileJournal) (workers tries : ℕ) → HaltFits journal workers tries NotKept → UnreportedFits journal unreported.NotKept
-unkept_fits None workers tries h = h
-unkept_fits (Some j) workers tries h = tt
+unkept_fits : (journal : Option FileJournal) (workers tries : ℕ) (failure : Option FileFault) → HaltFits journal workers tries (NotKept failure)
+    → UnreportedFits journal (unreported.NotKept failure)
+unkept_fits None workers tries failure h = h
+unkept_fits (Some j) workers tries failure h = tt
 
 -- where it is told that something wasn't kept, there is a journal
 pub fault_fits : (journal : Option FileJournal) (workers tries : ℕ) (halt : Halt) (e : Unreported) → HaltFits journal workers tries halt
-    → (e ≡ unreported.NotKept → halt ≡ NotKept) → UnreportedFits journal e
+    → ((failure : Option FileFault) → e ≡ unreported.NotKept failure → halt ≡ NotKept failure) → UnreportedFits journal e
 fault_fits journal workers tries halt unreported.Memory fits is = tt
-fault_fits journal workers tries halt unreported.NotKept fits is =
-    unkept_fits journal workers tries (subst (λ (h : Halt). HaltFits journal workers tries h) (is refl) fits)
+fault_fits journal workers tries halt (unreported.NotKept failure) fits is =
+    unkept_fits journal workers tries failure (subst (λ (h : Halt). HaltFits journal workers tries h) (is failure refl) fits)

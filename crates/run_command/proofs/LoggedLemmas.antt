@@ -1,5 +1,6 @@
 -- What opening a log's file and coming back from its log come to.
-use Rattle.std.proofs.Common.{◌≡◌, ◌∙◌, ◌++◌, List, ℕ, [], ◌∷◌, length, map, take, drop, refl, ap, arith}
+use Rattle.std.specs.Prelude.{string_bytes}
+use Rattle.std.proofs.Common.{◌≡◌, ◌∙◌, ◌++◌, List, ℕ, Some, [], ◌∷◌, length, map, take, drop, refl, sym, ap, subst, inl, inr, arith}
 use Rattle.std.specs.List.{All}
 use Rattle.std.proofs.lemmas.List.{drop_all, take_all, append-nil}
 use Rattle.std.proofs.lemmas.List.Elements.{All-cons, All-nil}
@@ -16,7 +17,13 @@ use Rattle.run_command.specs.declared.logged.Coming.{Coming}
 use Rattle.run_command.specs.declared.logged.Coming.TheVariants as coming
 use Rattle.run_command.specs.declared.logged.GoingBack.{GoingBack}
 use Rattle.run_command.specs.declared.logged.GoingBack.TheVariants as going
-use Rattle.run_command.specs.Logged.{FileJournal, IsLogFor, Unfit}
+use Rattle.log_file.specs.declared.header.Header.{Header}
+use Rattle.log_file.specs.declared.reading.OpenFault.{OpenFault}
+use Rattle.log_file.specs.Reading.{IsRefusal}
+use Rattle.coming_back.specs.declared.resumed.Resumed.{Resumed}
+use Rattle.report_texts.specs.declared.report.Report.{Report}
+use Rattle.run_command.specs.LogLines.{IsOtherRefusal, IsOpenRefusal, overfull_refusal}
+use Rattle.run_command.specs.Logged.{FileJournal, IsLogFor, HasComeBack, overfull, Unfit, Overfull}
 use Rattle.run_command.specs.Joining.Opening.{IsOpened, IsUnfit, IsComing, IsGoingBack, IsBegun}
 
 pub unfit_comes : (start : Core) (empties : List Store) (file : List ℕ) (log : List Event) (after : Core) (dcs : List Store) (journal : FileJournal)
@@ -24,6 +31,13 @@ pub unfit_comes : (start : Core) (empties : List Store) (file : List ℕ) (log :
     → IsComing start empties log after dcs journal x
 unfit_comes start empties file log after dcs journal fault (coming.Lines lines) is_log why h = absurd h
 unfit_comes start empties file log after dcs journal fault (coming.Refused report) is_log why h = (Unfit file log after dcs fault is_log why h.0, h.1)
+
+pub overfull_comes : (start : Core) (empties : List Store) (file : List ℕ) (log : List Event) (back : Core) (dcs : List Store) (resumed : List Resumed)
+    (journal : FileJournal) (report : Report) (d : ℕ) → IsLogFor start file log → HasComeBack start empties log back dcs resumed
+    → overfull dcs resumed ≡ Some d → string_bytes report.lines ≡ overfull_refusal d → report.status ≡ 1
+    → IsComing start empties log back dcs journal (coming.Refused report)
+overfull_comes start empties file log back dcs resumed journal report d is_log came over line status =
+    (Overfull file log back dcs resumed is_log came d over line, status)
 
 pub begun_by : (start : Core) (empties : List Store) (back : Core) (dcs : List Store) (opened : Opened) (x : GoingBack) → IsOpened start opened
     → IsGoingBack start empties opened.log.events back dcs x → IsBegun start empties back dcs x
@@ -43,3 +57,12 @@ empty_one dc = record { list = refl; saved = refl; mark = refl; saved_mark = ref
 pub all_empty : (dcs : List Dc) → All HasOnlyRows (map empty_store dcs)
 all_empty [] = All-nil HasOnlyRows
 all_empty (dc ∷ dcs) = All-cons HasOnlyRows (empty_store dc) (map empty_store dcs) (empty_one dc) (all_empty dcs)
+
+-- a file that is refused is as it was
+pub refusal_of_file : (script : Header) (now file : List ℕ) (fault : OpenFault) (lines : List ℕ) → (IsRefusal fault → now ≡ file)
+    → IsOpenRefusal script now fault lines → IsOpenRefusal script file fault lines
+refusal_of_file script now file fault lines same h =
+    elim h [
+      | inl line ↦ inl line
+      | inr other ↦ inr (other.0, subst (λ (f : List ℕ). IsOtherRefusal script f lines) (same (subst IsRefusal (sym other.0) tt)) other.1)
+    ]

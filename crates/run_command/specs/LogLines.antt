@@ -1,11 +1,15 @@
 -- The lines that say how a run goes on from a log's file, and why it doesn't.
-use Rattle.std.specs.Prelude.{ℕ, ◌==◌, if◌then◌else◌, List, [], ◌++◌, length, Option, Some, None, codes, decimal}
+use Rattle.std.specs.Prelude.{◌≡◌, ◌⊎◌, ℕ, ◌==◌, if◌then◌else◌, List, [], ◌++◌, length, Option, Some, None, codes, decimal}
 use Rattle.std.specs.List.{flat_map}
 use Rattle.frame_file.specs.declared.reading.FrameFault.TheVariants.{Device, Full, Damaged}
 use Rattle.disk_file.specs.declared.opening.FileKind.{FileKind}
 use Rattle.disk_file.specs.declared.opening.FileKind.TheVariants.{Directory, Fifo, Socket, CharacterDevice, BlockDevice, Unknown}
 use Rattle.log_file.specs.declared.reading.OpenFault.{OpenFault}
-use Rattle.log_file.specs.declared.reading.OpenFault.TheVariants.{Frames, Empty, Other, NoBatch, Row}
+use Rattle.log_file.specs.declared.reading.OpenFault.TheVariants.{Frames, Empty, Other, NoBase, NoBatch, Row}
+use Rattle.log_file.specs.declared.header.Header.{Header}
+use Rattle.log_file.specs.declared.stored.Stored.{Stored}
+use Rattle.log_file.specs.Stored.{IsStored, IsFileFault}
+use Rattle.procedure_digest.specs.Difference.{other_line}
 use Rattle.tc_core.specs.declared.checking.CheckFault.TheVariants as check
 use Rattle.tc_core.specs.declared.recovery.RecoverFault.TheVariants.{Begun, DcCount, Unfit, Forgotten}
 use Rattle.coming_back.specs.declared.coming.ComeBackFault.{ComeBackFault}
@@ -14,15 +18,25 @@ use Rattle.coming_back.specs.declared.resumed.Resumed.{Resumed}
 use Rattle.coming_back.specs.declared.resumed.Resumed.TheVariants.{Ended, InDoubt}
 use Rattle.state_lines.specs.OperationTexts.{outcome_text}
 
--- why a log's file isn't read; the disk's faults and want of memory have no line
+-- why a log's file isn't read, what is no log of the script aside; the disk's faults and want of memory have no line
 abbrev pub open_refusal : OpenFault → Option (List ℕ)
 open_refusal (Frames (Device e)) = None
 open_refusal (Frames Full) = Some (codes "refused log Full\n")
 open_refusal (Frames (Damaged number)) = Some (codes "refused log Damaged frame " ++ (decimal number ++ codes "\n"))
 open_refusal Empty = Some (codes "refused log Empty\n")
-open_refusal Other = Some (codes "refused log Other\n")
+open_refusal Other = None
+open_refusal (NoBase number) = Some (codes "refused log NoBase frame " ++ (decimal number ++ codes "\n"))
 open_refusal (NoBatch number) = Some (codes "refused log NoBatch frame " ++ (decimal number ++ codes "\n"))
 open_refusal (Row place) = Some (codes "refused log L2 Kind " ++ (decimal place ++ codes "\n"))
+
+-- a file that is no log of the script with this header: a log of others, by what differs in its header; or what isn't read by itself
+pub data IsOtherRefusal (script : Header) (file : List ℕ) (lines : List ℕ) : Type 0 where
+  Anothers : (s : Stored) → IsStored file s → lines ≡ other_line s.header script → IsOtherRefusal script file lines
+  Nobodys : (fault : OpenFault) → IsFileFault file fault → lines ≡ codes "refused log Other\n" → IsOtherRefusal script file lines
+
+-- the line of a fault, which of a log of others, and of no log, depends on the file
+abbrev pub IsOpenRefusal : Header → List ℕ → OpenFault → List ℕ → Type 0
+IsOpenRefusal script file fault lines = (open_refusal fault ≡ Some lines) ⊎ ((fault ≡ Other) × IsOtherRefusal script file lines)
 
 -- what stands in the place of a log's file
 abbrev pub kind_word : FileKind → List ℕ
@@ -46,6 +60,9 @@ back_refusal (Recover (Forgotten dc)) = Some (codes "refused log Forgotten dc " 
 back_refusal (NoRoom dc) = Some (codes "refused log NoRoom dc " ++ (decimal dc ++ codes "\n"))
 back_refusal (Otherwise dc) = Some (codes "refused log Otherwise dc " ++ (decimal dc ++ codes "\n"))
 back_refusal Memory = None
+
+abbrev pub overfull_refusal : ℕ → List ℕ
+overfull_refusal dc = codes "refused log NoRoom dc " ++ (decimal dc ++ codes "\n")
 
 -- what came of a transaction that was open
 abbrev pub resumed_line : Resumed → List ℕ

@@ -1,10 +1,10 @@
 -- The calls of a script whose log is kept in a file.
-use Rattle.std.specs.Prelude.{◌≡◌, ◌++◌, ℕ, Bool, List, length, map, reverse, Option, Some, None, codes}
-use Rattle.std.specs.List.{All}
+use Rattle.std.specs.Prelude.{◌≡◌, ◌++◌, ℕ, Bool, true, false, if◌then◌else◌, List, length, map, reverse, position, Option, Some, None, codes}
+use Rattle.std.specs.List.{All, list_any}
 use Rattle.tc_log.specs.declared.event.Event.{Event}
 use Rattle.history.specs.Places.{Begins}
 use Rattle.transactions.specs.Legal.{Legal}
-use Rattle.data_component.specs.Store.{Store, restarted}
+use Rattle.data_component.specs.Store.{Store, restarted, is_overfull}
 use Rattle.disk_file.specs.declared.disk.DiskFile.{DiskFile}
 use Rattle.disk_file.specs.declared.opening.FileKind.{FileKind}
 use Rattle.disk_file.specs.Disk.{disk_bytes, left_of}
@@ -13,15 +13,16 @@ use Rattle.log_file.specs.Reading.{IsOpenFault}
 use Rattle.log_journal.specs.declared.journal.LogJournal.{LogJournal}
 use Rattle.log_journal.specs.Keeping.{HasWritten, IsLogOf}
 use Rattle.procedure_digest.specs.Header.{header_of}
-use Rattle.scripts.specs.Reading.{Contents, Reading}
+use Rattle.scripts.specs.Reading.{Contents}
 use Rattle.scripts.specs.declared.script.Call as said
-use Rattle.script_loading.specs.Loading.{refusal_of}
+use Rattle.script_loading.specs.Loading.{Beginning}
 use Rattle.tc_core.specs.Core.{Core, loaded_in}
 use Rattle.tc_world.specs.Whole.{Whole}
 use Rattle.tc_world.specs.OneAtATime.{EachIsKnown}
 use Rattle.tc_world.specs.Lives.{HasLived}
 use Rattle.coming_back.specs.declared.coming.ComeBackFault.{ComeBackFault}
 use Rattle.coming_back.specs.declared.resumed.Resumed.{Resumed}
+use Rattle.coming_back.specs.declared.resumed.Resumed.TheVariants as resumed
 use Rattle.coming_back.specs.Coming.{serial_of, open_txns, in_doubt, IsResumed, at_rest, ComesFrom}
 use Rattle.coming_back.specs.Faults.{IsFaultOf}
 use Rattle.coming_back.specs.Serving.{AreServed as ArePerformed}
@@ -30,7 +31,7 @@ use Rattle.run_command.specs.declared.answering.Halt.{Halt}
 use Rattle.run_command.specs.declared.answering.Halt.TheVariants.{Unbegun, NotKept, Memory}
 use Rattle.run_command.specs.declared.running.Unreported.{Unreported}
 use Rattle.run_command.specs.declared.running.Unreported.TheVariants as unreported
-use Rattle.run_command.specs.LogLines.{open_refusal, kind_refusal, back_refusal, back_lines}
+use Rattle.run_command.specs.LogLines.{IsOpenRefusal, kind_refusal, back_refusal, overfull_refusal, back_lines}
 use Rattle.run_command.specs.Running.{Stops, IsCallsRun, begun, empty_stores}
 
 -- ---- what is kept
@@ -46,16 +47,16 @@ KeepsLog (Some j) events = HasWritten disk_bytes left_of j.header j.file (revers
 -- when calls have no answers: as without a journal; or something wasn't kept, or couldn't be for want of memory, where there is one
 abbrev pub HaltFits : Option FileJournal → ℕ → ℕ → Halt → Type 0
 HaltFits journal workers tries (Unbegun cause) = Stops workers tries cause
-HaltFits None workers tries NotKept = ⊥
-HaltFits (Some j) workers tries NotKept = TriesFit tries
+HaltFits None workers tries (NotKept failure) = ⊥
+HaltFits (Some j) workers tries (NotKept failure) = TriesFit tries
 HaltFits None workers tries Memory = ⊥
 HaltFits (Some j) workers tries Memory = TriesFit tries
 
 -- want of memory is told of any run, and that something wasn't kept where there is a journal
 abbrev pub UnreportedFits : Option FileJournal → Unreported → Type 0
 UnreportedFits journal unreported.Memory = Unit {0}
-UnreportedFits None unreported.NotKept = ⊥
-UnreportedFits (Some j) unreported.NotKept = Unit {0}
+UnreportedFits None (unreported.NotKept failure) = ⊥
+UnreportedFits (Some j) (unreported.NotKept failure) = Unit {0}
 
 -- ---- what is gone on from
 
@@ -81,16 +82,29 @@ pub record HasComeBack (start : Core) (empties : List Store) (log : List Event) 
 pub record GoesOn (start : Core) (empties : List Store) (log : List Event) (back : Core) (dcs : List Store) : Type 0 where
   pub lived : (w : Whole) → ComesFrom w log start empties → HasLived (at_rest back dcs)
 
+-- it stays open
+abbrev pub is_in_doubt : Resumed → Bool
+is_in_doubt (resumed.Ended receipt) = false
+is_in_doubt (resumed.InDoubt txn number) = true
+
+-- the first data component that has more records than it has room for, unless a transaction is in doubt
+abbrev pub overfull : List Store → List Resumed → Option ℕ
+overfull dcs resumed = if list_any is_in_doubt resumed then None else position is_overfull dcs
+
 -- ---- what is printed
 
--- another process has the file open; or there is no file of bytes; or it isn't read; or its log isn't gone on from
+-- another process has the file open; or there is no file of bytes; or it isn't read; or its log isn't gone on from, or leaves a data
+-- component with more records than it has room for
 pub data IsLogRefusal (start : Core) (empties : List Store) (lines : List ℕ) : Type 0 where
   Busy : lines ≡ codes "refused log Busy\n" → IsLogRefusal start empties lines
   NotAFile : (kind : FileKind) → lines ≡ kind_refusal kind → IsLogRefusal start empties lines
   Unread : (file : List ℕ) (fault : OpenFault) → IsOpenFault (header_of (loaded_in start)) file fault
-      → open_refusal fault ≡ Some lines → IsLogRefusal start empties lines
+      → IsOpenRefusal (header_of (loaded_in start)) file fault lines → IsLogRefusal start empties lines
   Unfit : (file : List ℕ) (log : List Event) (after : Core) (dcs : List Store) (fault : ComeBackFault) → IsLogFor start file log
       → IsFaultOf start log (length empties) after dcs fault → back_refusal fault ≡ Some lines → IsLogRefusal start empties lines
+  Overfull : (file : List ℕ) (log : List Event) (back : Core) (dcs : List Store) (resumed : List Resumed) → IsLogFor start file log
+      → HasComeBack start empties log back dcs resumed → (d : ℕ) → overfull dcs resumed ≡ Some d → lines ≡ overfull_refusal d
+      → IsLogRefusal start empties lines
 
 -- the lines of what came back, and behind them those of the calls, which are run from there, with the log of the last state on the disk
 pub record IsRunBehind (journal : Option FileJournal) (start : Core) (empties : List Store) (first calls : List said.Call)
@@ -122,5 +136,5 @@ IsLoggedBy journal None contents workers tries audit status lines =
     IsLoggedRun journal (begun contents) (empty_stores contents) contents.first contents.calls workers tries audit status lines
 
 -- of a script that is refused no file is opened
-abbrev pub IsLogged : Option FileJournal → ℕ → ℕ → Bool → Reading → ℕ → List ℕ → Type 0
-IsLogged journal workers tries audit r status lines = IsLoggedBy journal (refusal_of r) r.contents workers tries audit status lines
+abbrev pub IsLogged : Option FileJournal → ℕ → ℕ → Bool → Beginning → ℕ → List ℕ → Type 0
+IsLogged journal workers tries audit b status lines = IsLoggedBy journal b.refusal b.contents workers tries audit status lines

@@ -4,7 +4,7 @@ use Rattle.std.specs.Prelude.{Option, Some, None, codes}
 use Rattle.std.specs.List.{list_any}
 use Rattle.history.specs.Calls as named
 use Rattle.data_component.specs.Store.{Store}
-use Rattle.scripts.specs.Reading.{Contents, Reading}
+use Rattle.scripts.specs.Reading.{Contents}
 use Rattle.scripts.specs.declared.script.Call as said
 use Rattle.tc_core.specs.Admission.{call_of}
 use Rattle.tc_core.specs.Core.{Core}
@@ -21,7 +21,7 @@ use Rattle.run_command.specs.declared.answering.Unbegun.{Unbegun}
 use Rattle.run_command.specs.declared.answering.Unbegun.TheVariants.{Workers, Tries, Memory, NoThread}
 use Rattle.run_command.specs.AnswerLines.{answer_lines, fault_line}
 use Rattle.state_lines.specs.AuditLines.{AddsIf, AddsAudit}
-use Rattle.script_loading.specs.Loading.{refusal_of, with_procedures, empty_core, empty_store}
+use Rattle.script_loading.specs.Loading.{Beginning, with_procedures, empty_core, empty_store}
 use Rattle.state_lines.specs.RowLines.{AddsRowLines}
 
 -- ---- calls
@@ -121,5 +121,5 @@ IsRunBy None contents workers tries audit status lines =
     IsCallsRun (λ _. Unit {0}) (begun contents) (empty_stores contents) contents.first contents.calls workers tries audit status lines
 
 -- of a script that is refused no call is made
-abbrev pub IsRun : ℕ → ℕ → Bool → Reading → ℕ → List ℕ → Type 0
-IsRun workers tries audit r status lines = IsRunBy (refusal_of r) r.contents workers tries audit status lines
+abbrev pub IsRun : ℕ → ℕ → Bool → Beginning → ℕ → List ℕ → Type 0
+IsRun workers tries audit b status lines = IsRunBy b.refusal b.contents workers tries audit status lines

@@ -14,7 +14,7 @@ ghost use Rattle.run_command.specs.Joining.Servers.{ArePromised};
 
 use crate::watching::{Waits, Watch};
 use data_component::dc::Dc;
-use disk_file::DiskFile;
+use disk_file::{DiskFile, FileFault};
 use log_journal::LogJournal;
 use std::alloc::{AllocError, Global};
 use std::snapshot::Snapshot;
@@ -60,8 +60,8 @@ pub enum Unbegun {
 #[derive(Clone, Copy, Debug)]
 pub enum Halt {
     Unbegun(Unbegun),
-    /// The journal failed to keep what was logged. Nothing was told since.
-    NotKept,
+    /// The journal failed to keep what was logged, and what its file says of that. Nothing was told since.
+    NotKept(Option<FileFault>),
     /// Memory ran out while what was logged was to be kept. Nothing was told since.
     Memory,
 }
@@ -83,8 +83,8 @@ fn cause(fault: RunFault) -> Unbegun
     cause
 }
 
-// Why a run whose log is kept has no report; the state that it hands back goes.
-fn halted(fault: KeptFault) -> Halt
+// Why a run whose log is kept has no report, where its file says this of it; the state that it hands back goes.
+fn halted(fault: KeptFault, failure: Option<FileFault>) -> Halt
     ensures { (journal : FileJournalValue) (start : Core) (workers tries : ℕ) → KeptFaultFits start workers tries fault
         → ListHalts (Some journal) workers tries result }
 {
@@ -92,7 +92,7 @@ fn halted(fault: KeptFault) -> Halt
         KeptFault::Unbegun(fault) => Halt::Unbegun(cause(fault)),
         KeptFault::NotKept(NotKept::Failed, state) => {
             drop(state);
-            Halt::NotKept
+            Halt::NotKept(failure)
         }
         KeptFault::NotKept(NotKept::Memory, state) => {
             drop(state);
@@ -189,8 +189,9 @@ fn answer_kept<R: Threads + Wait + Sync, G: Gate + Sync>(
     match ran {
         Ok(report) => Ok(listed_in(report, Some(journal))),
         Err(fault) => {
+            let failure = journal.device().failure();
             drop(journal);
-            Err(halted(fault))
+            Err(halted(fault, failure))
         }
     }
 }

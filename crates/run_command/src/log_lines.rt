@@ -1,23 +1,36 @@
 //! The lines that say how a run goes on from a log's file, and why it doesn't.
 
 ghost use Rattle.std.specs.Prelude.{◌≡◌, ◌++◌, IfOk, OnOk, option_map, string_bytes};
-ghost use Rattle.run_command.specs.LogLines.{open_refusal, kind_word, kind_refusal, back_refusal, recovered_line, dropped_line, resumed_line, resumed_lines, back_lines};
+ghost use Rattle.run_command.specs.LogLines.{open_refusal, IsOtherRefusal, overfull_refusal, kind_word, kind_refusal, back_refusal, recovered_line, dropped_line, resumed_line, resumed_lines, back_lines};
 
 use coming_back::{ComeBackFault, Resumed};
 use disk_file::FileKind;
 use frame_file::FrameFault;
-use log_file::OpenFault;
+use log_file::{Header, OpenFault, read_file};
+use procedure_digest::other_line;
 use state_lines::operation_texts::outcome_text;
 use std::alloc::{AllocError, Global};
 use tc_core::checking::CheckFault;
 use tc_core::recovery::RecoverFault;
 
-/// The line that says why a log's file isn't read. There is none where the disk failed or memory ran out.
+/// The line that refuses a file that is no log of the script with this header: in what the log's header
+/// differs, where the file is a log.
+pub fn other_refusal(alloc: Global, header: &Header, file: &[u8]) -> Result<String, AllocError>
+    ensures { IfOk result (λ line. IsOtherRefusal header.now file.now (string_bytes line)) }
+{
+    match read_file(alloc, file) {
+        Ok(stored) => other_line(alloc, &stored.header, header),
+        Err(_) => String::from_str(alloc, "refused log Other\n"),
+    }
+}
+
+/// The line that says why a log's file isn't read. There is none of what is no log of the script, whose line is
+/// [`other_refusal`]'s, nor where the disk failed or memory ran out.
 pub fn open_refusal(alloc: Global, fault: &OpenFault) -> Result<Option<String>, AllocError>
     ensures { IfOk result (λ line. option_map string_bytes line ≡ open_refusal fault.now) }
 {
     Ok(match fault {
-        OpenFault::Frames(FrameFault::Device(_)) => None,
+        OpenFault::Frames(FrameFault::Device(_)) | OpenFault::Other => None,
         OpenFault::Frames(FrameFault::Full) => {
             Some(String::from_str(alloc, "refused log Full\n")?)
         }
@@ -25,7 +38,9 @@ pub fn open_refusal(alloc: Global, fault: &OpenFault) -> Result<Option<String>, 
             Some(format!(in alloc; "refused log Damaged frame {number}\n")?)
         }
         OpenFault::Empty => Some(String::from_str(alloc, "refused log Empty\n")?),
-        OpenFault::Other => Some(String::from_str(alloc, "refused log Other\n")?),
+        OpenFault::NoBase(number) => {
+            Some(format!(in alloc; "refused log NoBase frame {number}\n")?)
+        }
         OpenFault::NoBatch(number) => {
             Some(format!(in alloc; "refused log NoBatch frame {number}\n")?)
         }
@@ -78,6 +93,13 @@ pub fn back_refusal(alloc: Global, fault: &ComeBackFault) -> Result<Option<Strin
         }
         ComeBackFault::Memory => None,
     })
+}
+
+/// The line that refuses a log that leaves this data component with more records than it has room for.
+pub fn overfull_refusal(alloc: Global, dc: usize) -> Result<String, AllocError>
+    ensures { IfOk result (λ line. string_bytes line ≡ overfull_refusal dc) }
+{
+    format!(in alloc; "refused log NoRoom dc {dc}\n")
 }
 
 // What came of a transaction that was open.

@@ -6,31 +6,32 @@ ghost use Rattle.disk_file.specs.Disk.{disk_bytes, left_of};
 ghost use Rattle.tc_core.specs.Core.{Core};
 ghost use Rattle.tc_log.specs.declared.event.Event.{Event as EventValue};
 ghost use Rattle.history.specs.Places.{Begins};
-ghost use Rattle.std.specs.List.{All};
-ghost use Rattle.data_component.specs.Store.{Store};
-ghost use Rattle.scripts.specs.Reading.{script_said};
+ghost use Rattle.std.specs.List.{All, list_any, position};
+ghost use Rattle.data_component.specs.Store.{Store, is_overfull};
+ghost use Rattle.script_loading.specs.Loading.{beginning_of};
 ghost use Rattle.scripts.specs.declared.keyword.Command.TheVariants as command;
 ghost use Rattle.coming_back.specs.Coming.{HasOnlyRows};
-ghost use Rattle.log_file.specs.Reading.{IsOpenFault};
+ghost use Rattle.log_file.specs.Reading.{IsOpenFault, IsRefusal};
 ghost use Rattle.procedure_digest.specs.Header.{header_of};
 ghost use Rattle.tc_core.specs.Core.{loaded_in};
-ghost use Rattle.run_command.specs.LogLines.{open_refusal};
+ghost use Rattle.run_command.specs.LogLines.{IsOpenRefusal};
 ghost use Rattle.run_command.specs.Running.{IsCallsRun};
-ghost use Rattle.run_command.specs.Logged.{KeepsLog, IsLogFor, IsLogRefusal, IsLoggedRun, IsLogged};
+ghost use Rattle.run_command.specs.Logged.{is_in_doubt, overfull, KeepsLog, IsLogFor, IsLogRefusal, IsLoggedRun, IsLogged};
 ghost use Rattle.run_command.specs.Joining.Opening.{IsOpened, IsOpening, IsUnfit, IsComing, IsGoingBack, IsBegun};
 
 use crate::answering::FileJournal;
-use crate::log_lines::{back_lines, back_refusal, kind_refusal, open_refusal};
+pub use crate::log_lines::kind_refusal;
+use crate::log_lines::{back_lines, back_refusal, open_refusal, other_refusal, overfull_refusal};
 use crate::running::{Calls, Listeners, Manner, Ran, Unreported, run_from};
-use coming_back::{ComeBackFault, come_back};
+use coming_back::{ComeBackFault, Resumed, come_back};
 use data_component::dc::Dc;
-use disk_file::{DiskFile, OpenError};
+use disk_file::{DiskFile, FileFault, OpenError};
 use frame_file::{DeviceError, FrameFault};
-use log_file::OpenFault;
+use log_file::{Header, LogFile, OpenFault};
 use log_journal::LogJournal;
 use procedure_digest::header_of;
 use report_texts::report::Report;
-use script_loading::loading::{Loaded, Loading, load};
+use script_loading::loading::{Loaded, Loading, Source, load_source};
 use scripts::keyword::Command;
 use std::alloc::{AllocError, Global};
 use std::fs::File;
@@ -46,11 +47,11 @@ use worker_pool::NotKept;
 #[derive(Clone, Copy, Debug)]
 pub enum Unlogged {
     Memory,
-    /// The log's file can't be opened or read.
-    Unread,
-    /// The log's file can't be written or synced, or what would be cut off from it can't be kept. What it had
-    /// stands in it.
-    Unwritten,
+    /// The log's file can't be opened or read, and why.
+    Unread(FileFault),
+    /// The log's file can't be written or synced, or what would be cut off from it can't be kept, or its name
+    /// isn't its own when the run ends; and why, where the file says it. What it had stands in it.
+    Unwritten(Option<FileFault>),
 }
 
 impl From<AllocError> for Unlogged {
@@ -89,26 +90,41 @@ fn refusal(lines: String) -> Report
 
 // Why a log's file that was opened isn't read; none where something is to be cut off, and there is no place
 // for it.
-fn unread(alloc: Global, fault: &OpenFault) -> Result<Option<Report>, Unlogged>
+fn unread(
+    alloc: Global,
+    fault: &OpenFault,
+    header: &Header,
+    device: &DiskFile,
+) -> Result<Option<Report>, Unlogged>
     ensures { IfOk result (λ o. IfSome o (λ report.
-        (open_refusal fault.now ≡ Some (string_bytes report.lines)) × (report.status ≡ 1))) }
+        IsOpenRefusal header.now (disk_bytes device.now) fault.now (string_bytes report.lines) × (report.status ≡ 1))) }
 {
-    match open_refusal(alloc, fault)? {
-        Some(line) => Ok(Some(refusal(line))),
-        None => match fault {
-            OpenFault::Frames(FrameFault::Device(DeviceError::Unkept)) => Ok(None),
-            OpenFault::Frames(FrameFault::Device(DeviceError::Memory)) => Err(Unlogged::Memory),
-            _ => Err(Unlogged::Unwritten),
-        },
+    if let Some(line) = open_refusal(alloc, fault)? {
+        return Ok(Some(refusal(line)));
+    }
+    match fault {
+        OpenFault::Other => {
+            let line = other_refusal(alloc, header, device.bytes())?;
+            Ok(Some(refusal(line)))
+        }
+        OpenFault::Frames(FrameFault::Device(DeviceError::Unkept)) => Ok(None),
+        OpenFault::Frames(FrameFault::Device(DeviceError::Memory)) => Err(Unlogged::Memory),
+        _ => Err(Unlogged::Unwritten(device.failure())),
     }
 }
 
-// What comes of opening it then.
-fn refused(alloc: Global, fault: &OpenFault) -> Result<Option<Opening>, Unlogged>
-    ensures { (start : Core) (file : List ℕ) → IsOpenFault (header_of (loaded_in start)) file fault.now
+// What comes of opening it then: a file that is refused is as it was.
+fn refused(
+    alloc: Global,
+    fault: &OpenFault,
+    header: &Header,
+    device: &DiskFile,
+) -> Result<Option<Opening>, Unlogged>
+    ensures { (start : Core) (file : List ℕ) → header.now ≡ header_of (loaded_in start) → IsOpenFault header.now file fault.now
+        → (IsRefusal fault.now → disk_bytes device.now ≡ file)
         → IfOk result (λ o. IfSome o (λ x. (empties : List Store) → IsOpening start empties x)) }
 {
-    match unread(alloc, fault)? {
+    match unread(alloc, fault, header, device)? {
         Some(report) => Ok(Some(Opening::Refused(report))),
         None => Ok(None),
     }
@@ -148,8 +164,8 @@ fn unopened(alloc: Global, error: OpenError) -> Result<Report, Unlogged>
         IsLogRefusal start empties (string_bytes report.lines) × (report.status ≡ 1)) }
 {
     match error {
-        OpenError::Io(_) => Err(Unlogged::Unread),
-        OpenError::ReadOnly => Err(Unlogged::Unwritten),
+        OpenError::Unread(fault) => Err(Unlogged::Unread(fault)),
+        OpenError::Unwritten(error) => Err(Unlogged::Unwritten(Some(FileFault::Io(error)))),
         OpenError::Memory => Err(Unlogged::Memory),
         OpenError::Busy => Ok(refusal(String::from_str(alloc, "refused log Busy\n")?)),
         OpenError::Kind(kind) => Ok(refusal(kind_refusal(alloc, kind)?)),
@@ -172,16 +188,17 @@ fn try_log<F: Files<File = File>>(
         Ok(file) => file,
         Err(error) => return Ok(Some(Opening::Refused(unopened(alloc, error)?))),
     };
-    match LogJournal::open(alloc, file, header) {
-        Ok((journal, log)) => {
-            let dropped = journal.device().cut_off();
+    let mut file = LogFile::new(file);
+    match LogJournal::begin(alloc, &mut file, &header) {
+        Ok(log) => {
+            let dropped = file.device().cut_off();
             Ok(Some(Opening::Open(Opened {
-                journal,
+                journal: LogJournal::over(alloc, file, header),
                 log,
                 dropped,
             })))
         }
-        Err(fault) => refused(alloc, &fault),
+        Err(fault) => refused(alloc, &fault, &header, file.device()),
     }
 }
 
@@ -200,7 +217,7 @@ fn open_log<F: Files<File = File>>(
     }
     match try_log(rt, alloc, path, state, Dropped::Beside)? {
         Some(opening) => Ok(opening),
-        None => Err(Unlogged::Unwritten),
+        None => Err(Unlogged::Unwritten(None)),
     }
 }
 
@@ -239,8 +256,33 @@ fn keep_behind(journal: &mut FileJournal, log: &Log, place: usize) -> Result<(),
     match journal.keep_from(log, place) {
         Ok(()) => Ok(()),
         Err(NotKept::Memory) => Err(Unlogged::Memory),
-        Err(NotKept::Failed) => Err(Unlogged::Unwritten),
+        Err(NotKept::Failed) => Err(Unlogged::Unwritten(journal.device().failure())),
     }
+}
+
+fn has_doubt(resumed: &[Resumed]) -> bool
+    ensures { result ≡ list_any is_in_doubt resumed.now }
+{
+    resumed
+        .iter()
+        .any(|one| matches!(one, Resumed::InDoubt { .. }))
+}
+
+fn first_overfull(dcs: &[Dc]) -> Option<usize>
+    ensures { result ≡ position is_overfull dcs.now }
+{
+    dcs.iter().position(|dc| dc.is_overfull())
+}
+
+// The first data component that has more records than it has room for, unless a transaction is in doubt: that
+// may have been about to delete some.
+fn overfull(dcs: &[Dc], resumed: &[Resumed]) -> Option<usize>
+    ensures { result ≡ overfull dcs.now resumed.now }
+{
+    if has_doubt(resumed) {
+        return None;
+    }
+    first_overfull(dcs)
 }
 
 // Comes back from a log, and keeps what that adds to it.
@@ -261,6 +303,9 @@ fn come(
         Ok(resumed) => resumed,
         Err(fault) => return unfit(alloc, &fault),
     };
+    if let Some(dc) = overfull(dcs, resumed.as_slice()) {
+        return Ok(Coming::Refused(refusal(overfull_refusal(alloc, dc)?)));
+    }
     keep_behind(journal, state.log(), log.len())?;
     Ok(Coming::Lines(back_lines(alloc, log.len(), dropped, path, resumed.as_slice())?))
 }
@@ -350,10 +395,22 @@ fn behind(lines: String, ran: Ran) -> Result<Ran, Unlogged>
     }
 }
 
+// Whether the log's file of this run still has its name.
+fn check_name<F: Files<File = File>>(rt: &F, path: &str, ran: &Ran) -> Result<(), Unlogged> {
+    let Some(journal) = &ran.journal else {
+        return Ok(());
+    };
+    match journal.device().check_name(rt, path) {
+        Ok(()) => Ok(()),
+        Err(fault) => Err(Unlogged::Unwritten(Some(fault))),
+    }
+}
+
 // Runs the calls from what came back.
-fn run_back<R: Clock + Threads + Wait + Sync>(
+fn run_back<R: Files<File = File> + Clock + Threads + Wait + Sync>(
     rt: &R,
     alloc: Global,
+    path: &str,
     loaded: Loaded,
     back: Back,
     manner: Manner,
@@ -379,9 +436,12 @@ fn run_back<R: Clock + Threads + Wait + Sync>(
         listeners,
     };
     match run_from(rt, alloc, state, dcs, calls, Some(journal)) {
-        Ok(ran) => behind(lines, ran),
+        Ok(ran) => {
+            check_name(rt, path, &ran)?;
+            behind(lines, ran)
+        }
         Err(Unreported::Memory) => Err(Unlogged::Memory),
-        Err(Unreported::NotKept) => Err(Unlogged::Unwritten),
+        Err(Unreported::NotKept(failure)) => Err(Unlogged::Unwritten(failure)),
     }
 }
 
@@ -406,7 +466,7 @@ fn run_behind<R: Files<File = File> + Clock + Threads + Wait + Sync>(
         &mut loaded.state,
         loaded.dcs.as_mut_slice(),
     ) {
-        Ok(GoingBack::Back(back)) => run_back(rt, alloc, loaded, back, manner, listeners),
+        Ok(GoingBack::Back(back)) => run_back(rt, alloc, path, loaded, back, manner, listeners),
         Ok(GoingBack::Refused(report)) => {
             drop(loaded);
             Ok(Ran {
@@ -424,19 +484,20 @@ fn run_behind<R: Files<File = File> + Clock + Threads + Wait + Sync>(
 /// Runs the calls of a script as [`running`](crate::running::running) does, and keeps the log in the file
 /// with this path, which is begun where it is missing or empty. Where it has a log, that is gone on from: the
 /// data components are redone, transactions that were open are run to their ends, and each is told by a line
-/// before those of the calls, which are new ones. No answer is told before what it names is on the disk.
+/// before those of the calls, which are new ones. No answer is told before what it names is on the disk, in a
+/// file that has a name. There is no report where this path isn't the file's own behind the last call.
 pub fn running_logged<R: Files<File = File> + Clock + Threads + Wait + Sync>(
     rt: &R,
     alloc: Global,
     path: &str,
-    text: &str,
+    source: Source,
     manner: Manner,
     listeners: Listeners,
 ) -> Result<Ran, Unlogged>
-    ensures { IfOk result (λ r. IsLogged r.journal manner.workers manner.tries manner.audit (script_said command.Run text.now)
+    ensures { IfOk result (λ r. IsLogged r.journal manner.workers manner.tries manner.audit (beginning_of command.Run source.entry)
         r.report.status (string_bytes r.report.lines)) }
 {
-    match load(alloc, Command::Run, text)? {
+    match load_source(alloc, Command::Run, source)? {
         Loading::Ready(loaded) => run_behind(rt, alloc, path, loaded, manner, listeners),
         Loading::Refused(report) => Ok(Ran {
             report,

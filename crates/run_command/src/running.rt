@@ -1,8 +1,9 @@
 //! `run`: the calls of a script by workers, a line for each, and then what the data components keep.
 
-ghost use Rattle.std.specs.Prelude.{◌≡◌, ◌++◌, List, Ok, IfOk, IfErr, IsOkAnd, Some, codes, string_bytes};
+ghost use Rattle.std.specs.Prelude.{◌≡◌, ◌++◌, List, Ok, IfOk, IfErr, IsOkAnd, Option, Some, codes, string_bytes};
+ghost use Rattle.disk_file.specs.declared.fault.FileFault.{FileFault as FileFaultValue};
 ghost use Rattle.std.specs.List.{list_any};
-ghost use Rattle.scripts.specs.Reading.{script_said};
+ghost use Rattle.script_loading.specs.Loading.{beginning_of};
 ghost use Rattle.scripts.specs.declared.keyword.Command.TheVariants as command;
 ghost use Rattle.scripts.specs.declared.script.Call.{Call as ScriptCall};
 ghost use Rattle.tc_core.specs.Admission.{call_of};
@@ -20,8 +21,9 @@ use crate::figures::{figures, full_dcs, longest_wait, rate};
 pub use crate::watching::Listeners;
 use crate::watching::Waits;
 use data_component::dc::Dc;
+use disk_file::FileFault;
 use report_texts::report::Report;
-use script_loading::loading::{Loaded, Loading, load};
+use script_loading::loading::{Loaded, Loading, Source, load_source};
 use scripts::keyword::Command;
 use scripts::script;
 use state_lines::audit_lines::write_audit;
@@ -198,8 +200,8 @@ pub struct Ran {
 #[derive(Clone, Copy, Debug)]
 pub enum Unreported {
     Memory,
-    /// The journal didn't keep what was logged.
-    NotKept,
+    /// The journal didn't keep what was logged, and what its file says of that.
+    NotKept(Option<FileFault>),
 }
 
 impl From<AllocError> for Unreported {
@@ -265,11 +267,11 @@ fn with_journal(
 // What is told of calls that have no answers.
 fn unanswered(alloc: Global, halt: Halt) -> Result<Ran, Unreported>
     ensures ok { IfOk result (λ r. StopsAt halt r.report.status (string_bytes r.report.lines)) }
-    ensures err { IfErr result (λ e. e ≡ Unreported.NotKept → halt ≡ Halt.NotKept) }
+    ensures err { IfErr result (λ e. (failure : Option FileFaultValue) → e ≡ Unreported.NotKept failure → halt ≡ Halt.NotKept failure) }
 {
     match halt {
         Halt::Unbegun(cause) => with_journal(stopped(alloc, cause), None),
-        Halt::NotKept => Err(Unreported::NotKept),
+        Halt::NotKept(failure) => Err(Unreported::NotKept(failure)),
         Halt::Memory => Err(Unreported::Memory),
     }
 }
@@ -378,7 +380,7 @@ fn run_loaded<R: Clock + Threads + Wait + Sync>(
     match run_from(rt, alloc, state, dcs, calls, None) {
         Ok(Ran { report, journal: _ }) => Ok(report),
         Err(Unreported::Memory) => Err(AllocError),
-        Err(Unreported::NotKept) => unreachable!(),
+        Err(Unreported::NotKept(_)) => unreachable!(),
     }
 }
 
@@ -388,14 +390,14 @@ fn run_loaded<R: Clock + Threads + Wait + Sync>(
 pub fn running<R: Clock + Threads + Wait + Sync>(
     rt: &R,
     alloc: Global,
-    text: &str,
+    source: Source,
     manner: Manner,
     listeners: Listeners,
 ) -> Result<Report, AllocError>
-    ensures { IfOk result (λ r. IsRun manner.workers manner.tries manner.audit (script_said command.Run text.now)
+    ensures { IfOk result (λ r. IsRun manner.workers manner.tries manner.audit (beginning_of command.Run source.entry)
         r.status (string_bytes r.lines)) }
 {
-    match load(alloc, Command::Run, text)? {
+    match load_source(alloc, Command::Run, source)? {
         Loading::Ready(loaded) => run_loaded(rt, alloc, loaded, manner, listeners),
         Loading::Refused(report) => Ok(report),
     }

@@ -1,6 +1,8 @@
--- Why a call isn't admitted, as text.
+-- Why a call isn't admitted, and why a log can't begin anew, as text.
 use Rattle.std.specs.Prelude.{ℕ, List, ◌++◌, codes, decimal}
 use Rattle.lock_table.specs.declared.table.Busy.{Busy}
+use Rattle.tc_core.specs.declared.beginning.CheckpointFault.{CheckpointFault}
+use Rattle.tc_core.specs.declared.beginning.CheckpointFault.TheVariants as fault
 use Rattle.tc_core.specs.declared.state.Refusal.{Refusal}
 use Rattle.tc_core.specs.declared.state.Refusal.TheVariants as refusal
 use Rattle.state_lines.specs.RecordTexts.{record_text}
@@ -15,3 +17,11 @@ refusal_text refusal.ArgumentCount = codes "B5 ArgumentCount"
 refusal_text (refusal.Busy b) = busy_text b
 refusal_text refusal.NumbersSpent = codes "B2 NumbersSpent"
 refusal_text refusal.Memory = codes "B3 Memory"
+
+abbrev pub checkpoint_fault_text : CheckpointFault → List ℕ
+checkpoint_fault_text fault.Nothing = codes "G1 Nothing"
+checkpoint_fault_text (fault.Open n) = codes "G2 Open " ++ decimal n
+checkpoint_fault_text fault.DcCount = codes "G3 DcCount"
+checkpoint_fault_text fault.Down = codes "G4 Down"
+checkpoint_fault_text fault.Behind = codes "G5 Behind"
+checkpoint_fault_text fault.Spent = codes "G6 Spent"

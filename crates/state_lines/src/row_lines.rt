@@ -17,8 +17,12 @@ fn row_line(alloc: Global, row: &(Record, Value)) -> Result<String, AllocError>
     format!(in alloc; "row {name} {value}\n")
 }
 
-// A line for each of one data component's rows.
-fn write_rows(alloc: Global, rows: &[(Record, Value)], lines: &mut String) -> Result<(), AllocError>
+/// Adds a line for each of these rows, in their order.
+pub fn write_rows(
+    alloc: Global,
+    rows: &[(Record, Value)],
+    lines: &mut String,
+) -> Result<(), AllocError>
     ensures { OnOk result (string_bytes lines.new ≡ string_bytes lines.old ++ row_lines rows.now) }
 {
     for row in rows {

@@ -1,3 +1,4 @@
 pub mod Execution
 pub mod CodeReport
 pub mod Verification
+pub mod ObjectVerification

@@ -1,5 +1,5 @@
 //! The commands that need no transaction component: `exec`, `asm`, `dis` and `verify`. Each makes of
-//! the text that was read the lines to print and the exit status.
+//! what was read the lines to print and the exit status.
 //!
 //! ```
 //! let report = assembly(alloc, "mov r0, 7\nexit\n")?; // status 0, and eight bytes of hex a line
@@ -7,10 +7,12 @@
 //! let report = disassembly(alloc, false, code)?; // `mov r0, 7` and `exit`
 //! let report = execution(alloc, false, code, &[])?; // `answer 7` and `executed 2`
 //! let report = verification(alloc, script)?; // a line for each procedure: `seven accepted 2`
+//! let report = object_verification(alloc, file)?; // the same of an object file's
 //! ```
 #![tactic(auto)]
 
 pub mod assembly;
 pub mod execute;
 pub mod lines;
+pub mod object_verification;
 pub mod verification;

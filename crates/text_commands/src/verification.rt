@@ -1,9 +1,12 @@
 //! `verify`: a line for each procedure of a script.
 
-ghost use Rattle.std.specs.Prelude.{◌≡◌, IfOk, if◌then◌else◌, string_bytes};
+ghost use Rattle.std.specs.Prelude.{◌≡◌, IfOk, if◌then◌else◌, is_some, string_bytes};
 ghost use Rattle.std.specs.List.{flat_map, list_any};
-ghost use Rattle.text_commands.specs.Verification.{procedure_line, is_refused, verification_lines, verification_status};
+ghost use Rattle.verifier.specs.Verdict.{verdict};
+ghost use Rattle.text_commands.specs.Verification.{verdict_line, procedure_line, is_refused, verification_lines, verification_status};
 
+use access_slots::decl::Decl;
+use bpf_encoding::code::Code;
 use report_texts::fault_names::violation_name;
 use report_texts::report::Report;
 use report_texts::script_refusal::refusal;
@@ -13,14 +16,18 @@ use scripts::script::Procedure;
 use std::alloc::{AllocError, Global};
 use verifier::verify::{VerifyFault, verify};
 
-// What the verifier says of a procedure, and whether it is refused.
-fn procedure_line(alloc: Global, procedure: Procedure) -> Result<(String, bool), AllocError>
-    ensures line { IfOk result (λ r. string_bytes r.0 ≡ procedure_line procedure.entry) }
-    ensures refused { IfOk result (λ r. r.1 ≡ is_refused procedure.entry) }
+// What the verifier says of code under this name, and whether it refuses it.
+pub(crate) fn verdict_line(
+    alloc: Global,
+    name: &str,
+    code: Code,
+    decl: Decl,
+) -> Result<(String, bool), AllocError>
+    ensures line { IfOk result (λ r. string_bytes r.0 ≡ verdict_line (verdict decl code) name.now code) }
+    ensures refused { IfOk result (λ r. r.1 ≡ is_some (verdict decl code)) }
 {
-    let slots = procedure.code.len();
-    let name = procedure.name.as_str();
-    match verify(alloc, procedure.code, procedure.decl) {
+    let slots = code.len();
+    match verify(alloc, code, decl) {
         Ok(_) => Ok((format!(in alloc; "{name} accepted {slots}\n")?, false)),
         Err(VerifyFault::At(slot, violation)) => {
             let violation = violation_name(violation);
@@ -28,6 +35,18 @@ fn procedure_line(alloc: Global, procedure: Procedure) -> Result<(String, bool),
         }
         Err(VerifyFault::Memory) => Err(AllocError),
     }
+}
+
+fn procedure_line(alloc: Global, procedure: Procedure) -> Result<(String, bool), AllocError>
+    ensures line { IfOk result (λ r. string_bytes r.0 ≡ procedure_line procedure.entry) }
+    ensures refused { IfOk result (λ r. r.1 ≡ is_refused procedure.entry) }
+{
+    verdict_line(
+        alloc,
+        procedure.name.as_str(),
+        procedure.code,
+        procedure.decl,
+    )
 }
 
 // A line for each procedure, and 1 where one is refused.

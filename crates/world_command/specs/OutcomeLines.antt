@@ -9,7 +9,7 @@ use Rattle.tc_world.specs.declared.step.Outcome.TheVariants as outcome
 use Rattle.tc_world.specs.declared.step.Illegal.{Illegal}
 use Rattle.tc_world.specs.declared.step.Illegal.TheVariants as illegal
 use Rattle.state_lines.specs.OperationTexts.{op_text, said_text, outcome_text}
-use Rattle.state_lines.specs.RefusalTexts.{refusal_text}
+use Rattle.state_lines.specs.RefusalTexts.{checkpoint_fault_text, refusal_text}
 
 -- ---- steps that were taken
 
@@ -55,6 +55,7 @@ outcome_line (outcome.Redoing place x) = redo_line place x
 outcome_line (outcome.Redone n) = codes "redone number " ++ (decimal n ++ codes "\n")
 outcome_line (outcome.Up d) = codes "up " ++ (decimal d ++ codes "\n")
 outcome_line (outcome.Crashed events left) = codes "crashed " ++ (decimal events ++ (codes " open " ++ (decimal left ++ codes "\n")))
+outcome_line (outcome.Cut admissions number) = codes "cut " ++ (decimal admissions ++ (codes " " ++ (decimal number ++ codes "\n")))
 
 -- ---- steps that weren't possible
 
@@ -77,6 +78,8 @@ illegal_line illegal.OldNews = codes "illegal I15 OldNews\n"
 illegal_line illegal.NotDown = codes "illegal I16 NotDown\n"
 illegal_line illegal.NotWritten = codes "illegal I17 NotWritten\n"
 illegal_line illegal.Forgotten = codes "illegal I18 Forgotten\n"
+illegal_line (illegal.NotCut fault) = codes "illegal I19 NotCut " ++ (checkpoint_fault_text fault ++ codes "\n")
+illegal_line (illegal.Unforgettable d) = codes "illegal I20 Unforgettable " ++ (decimal d ++ codes "\n")
 
 abbrev pub step_line : Result Outcome Illegal → List ℕ
 step_line (Ok o) = outcome_line o

@@ -39,6 +39,7 @@ IsStepOf (script.Checkpoint d) s = s ≡ step.Checkpoint d
 IsStepOf (script.Tell i) s = s ≡ step.Tell i
 IsStepOf (script.Redo d) s = s ≡ step.Redo d
 IsStepOf (script.Crash events) s = s ≡ step.Crash events
+IsStepOf script.Cut s = s ≡ step.Cut
 IsStepOf (script.Forge x) s = s ≡ step.Forge x
 
 abbrev pub Told : Type 0

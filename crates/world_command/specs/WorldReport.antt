@@ -3,12 +3,12 @@ use Rattle.std.specs.Prelude.{◌≡◌, ℕ, Bool, true, false, ◌&&◌, List,
 use Rattle.std.specs.List.{flat_map}
 use Rattle.tc_log.specs.Printed.{printed}
 use Rattle.tc_log.specs.declared.event.Event.{Event}
-use Rattle.scripts.specs.Reading.{Contents, Reading}
+use Rattle.scripts.specs.Reading.{Contents}
 use Rattle.data_component.specs.Store.{Store}
 use Rattle.tc_core.specs.Core.{Core}
 use Rattle.tc_world.specs.Whole.{Whole}
 use Rattle.state_lines.specs.AuditLines.{AddsIf, AddsStateAudit}
-use Rattle.script_loading.specs.Loading.{refusal_of, with_procedures, empty_core, empty_store}
+use Rattle.script_loading.specs.Loading.{Beginning, with_procedures, empty_core, empty_store}
 use Rattle.state_lines.specs.RowLines.{AddsRowLines}
 use Rattle.world_command.specs.Stepping.{AreTaken, log_lines}
 use Rattle.world_command.specs.declared.world.Behind.{Behind}
@@ -57,5 +57,5 @@ IsWorldBy (Some refusal) contents behind status lines = (status ≡ 1) × (lines
 IsWorldBy None contents behind status lines = IsStepped contents behind status lines
 
 -- a script that is refused is not begun
-abbrev pub IsWorld : Behind → Reading → ℕ → List ℕ → Type 0
-IsWorld behind r status lines = IsWorldBy (refusal_of r) r.contents behind status lines
+abbrev pub IsWorld : Behind → Beginning → ℕ → List ℕ → Type 0
+IsWorld behind b status lines = IsWorldBy b.refusal b.contents behind status lines

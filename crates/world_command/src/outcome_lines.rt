@@ -6,7 +6,7 @@ ghost use Rattle.world_command.specs.OutcomeLines.{ended_line, outcome_line, ill
 
 use access_slots::op::{News, Op, Wire};
 use state_lines::operation_texts::{op_text, outcome_text, said_text};
-use state_lines::refusal_texts::refusal_text;
+use state_lines::refusal_texts::{checkpoint_fault_text, refusal_text};
 use std::alloc::{AllocError, Global};
 use tc_core::state::Receipt;
 use tc_world::step::{Illegal, Outcome};
@@ -79,6 +79,7 @@ fn outcome_line(alloc: Global, outcome: &Outcome) -> Result<String, AllocError>
         Outcome::Redone(number) => format!(in alloc; "redone number {number}\n"),
         Outcome::Up(dc) => format!(in alloc; "up {dc}\n"),
         Outcome::Crashed(events, open) => format!(in alloc; "crashed {events} open {open}\n"),
+        Outcome::Cut(admitted, given) => format!(in alloc; "cut {admitted} {given}\n"),
     }
 }
 
@@ -108,6 +109,11 @@ fn illegal_line(alloc: Global, why: &Illegal) -> Result<String, AllocError>
         Illegal::NotDown => String::from_str(alloc, "illegal I16 NotDown\n"),
         Illegal::NotWritten => String::from_str(alloc, "illegal I17 NotWritten\n"),
         Illegal::Forgotten => String::from_str(alloc, "illegal I18 Forgotten\n"),
+        Illegal::NotCut(fault) => {
+            let fault = checkpoint_fault_text(alloc, fault)?;
+            format!(in alloc; "illegal I19 NotCut {fault}\n")
+        }
+        Illegal::Unforgettable(dc) => format!(in alloc; "illegal I20 Unforgettable {dc}\n"),
     }
 }
 

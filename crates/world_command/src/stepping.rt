@@ -31,6 +31,7 @@ fn step_of(alloc: Global, line: &script::Step) -> Result<Step, AllocError>
         script::Step::Tell(news) => Step::Tell(*news as usize),
         script::Step::Redo(dc) => Step::Redo(*dc),
         script::Step::Crash(events) => Step::Crash(*events as usize),
+        script::Step::Cut => Step::Cut,
         script::Step::Forge(reply) => Step::Forge(*reply),
     })
 }

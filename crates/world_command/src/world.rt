@@ -1,16 +1,16 @@
 //! `world`: a script's steps, a line for each, and then what the data components keep.
 
 ghost use Rattle.std.specs.Prelude.{◌≡◌, ◌++◌, [], IfOk, OnOk, string_bytes};
-ghost use Rattle.scripts.specs.Reading.{Contents, script_said};
+ghost use Rattle.scripts.specs.Reading.{Contents};
 ghost use Rattle.scripts.specs.declared.keyword.Command.TheVariants as command;
-ghost use Rattle.script_loading.specs.Loading.{IsReady};
+ghost use Rattle.script_loading.specs.Loading.{IsReady, beginning_of};
 ghost use Rattle.state_lines.specs.AuditLines.{AddsIf, AddsStateAudit};
 ghost use Rattle.world_command.specs.WorldReport.{logged, IsLeft, IsStepped, IsWorld};
 
 use crate::stepping::{take_steps, write_log};
 use data_component::dc::Dc;
 use report_texts::report::Report;
-use script_loading::loading::{Loaded, Loading, load};
+use script_loading::loading::{Loaded, Loading, Source, load_source};
 use scripts::keyword::Command;
 use state_lines::audit_lines::write_state_audit;
 use state_lines::row_lines::write_all_rows;
@@ -107,10 +107,10 @@ fn stepped(alloc: Global, behind: Behind, loaded: Loaded) -> Result<Report, Allo
 
 /// Takes the steps of a script one after another, also behind one that isn't possible: a line for
 /// each, then a line for each record that is kept, and then what is wanted behind these.
-pub fn world(alloc: Global, behind: Behind, text: &str) -> Result<Report, AllocError>
-    ensures { IfOk result (λ r. IsWorld behind (script_said command.World text.now) r.status (string_bytes r.lines)) }
+pub fn world(alloc: Global, behind: Behind, source: Source) -> Result<Report, AllocError>
+    ensures { IfOk result (λ r. IsWorld behind (beginning_of command.World source.entry) r.status (string_bytes r.lines)) }
 {
-    match load(alloc, Command::World, text)? {
+    match load_source(alloc, Command::World, source)? {
         Loading::Ready(loaded) => stepped(alloc, behind, loaded),
         Loading::Refused(report) => Ok(report),
     }

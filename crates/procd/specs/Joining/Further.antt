@@ -1,19 +1,21 @@
--- Why there is no report: no text was read, or a further file isn't read or written, which keeps a run's log or is the script beside a log.
-use Rattle.std.specs.Prelude.{◌≡◌, true, Bool, List, ℕ, Option, Some}
+-- Why there is no report: no text was read, or a further file isn't read or written, which keeps a run's log or is a script beside FILE.
+use Rattle.std.specs.Prelude.{◌≡◌, ◌⊎◌, true, Bool, not, List, ℕ, Option, Some}
 use Rattle.procd.specs.Report.{IsTextFault}
-use Rattle.command_line.specs.Task.{Wish, Run, Log}
+use Rattle.command_line.specs.Task.{Wish, Verify, World, Run, Log, Audit, reads_text}
+use Rattle.object_file.specs.Elf.{is_elf}
 use Rattle.procd.specs.declared.report.ReportFault.{ReportFault}
 use Rattle.procd.specs.declared.report.ReportFault.TheVariants.{NotText, Unread, Unwritten, Memory}
 
 -- the command reads the further file with this path
 abbrev pub Reads : Wish → List ℕ → Type 0
-Reads (Run workers tries stats audit tell log) path = log ≡ Some path
-Reads (Log script) path = script ≡ Some path
+Reads (World log audit script) path = script ≡ Some path
+Reads (Run workers tries stats audit tell log script) path = (log ≡ Some path) ⊎ (script ≡ Some path)
+Reads (Log (Audit script)) path = script ≡ path
 Reads other path = ⊥
 
 -- it writes it
 abbrev pub Writes : Wish → List ℕ → Type 0
-Writes (Run workers tries stats audit tell log) path = log ≡ Some path
+Writes (Run workers tries stats audit tell log script) path = log ≡ Some path
 Writes other path = ⊥
 
 -- where a further file isn't read or written, it is the command's
@@ -30,6 +32,20 @@ IsScriptFault path (Unwritten other reason) = ⊥
 IsScriptFault path (NotText fault) = ⊥
 IsScriptFault path Memory = Unit {0}
 
+-- FILE is no text, or the script beside it isn't read
+abbrev pub IsBesideFault : Option (List ℕ) → ReportFault → Type 0
+IsBesideFault script (Unread path reason) = script ≡ Some path.now
+IsBesideFault script (Unwritten path reason) = ⊥
+IsBesideFault script (NotText fault) = Unit {0}
+IsBesideFault script Memory = Unit {0}
+
+-- the same, or the log of the other path isn't read or kept
+abbrev pub IsRunFault : (log script : Option (List ℕ)) → ReportFault → Type 0
+IsRunFault log script (Unread path reason) = (log ≡ Some path.now) ⊎ (script ≡ Some path.now)
+IsRunFault log script (Unwritten path reason) = log ≡ Some path.now
+IsRunFault log script (NotText fault) = Unit {0}
+IsRunFault log script Memory = Unit {0}
+
 -- the log of this path isn't read or kept
 abbrev pub IsLogFault : Option (List ℕ) → ReportFault → Type 0
 IsLogFault log (Unread path reason) = log ≡ Some path.now
@@ -37,12 +53,12 @@ IsLogFault log (Unwritten path reason) = log ≡ Some path.now
 IsLogFault log (NotText fault) = Unit {0}
 IsLogFault log Memory = Unit {0}
 
--- no text was read only of bytes that aren't one
-abbrev pub IsNoText : List ℕ → ReportFault → Type 0
-IsNoText bytes (NotText fault) = IsTextFault bytes fault
-IsNoText bytes other = Unit {0}
+-- whether what was read has to be a text: a script that is verified, and no object file
+abbrev pub wants_text : Wish → List ℕ → Bool
+wants_text Verify file = not (is_elf file)
+wants_text other file = reads_text other
 
--- and only where a text is wanted
+-- no text was read only of bytes that aren't one, where a text is wanted
 abbrev pub IsNoTextOf : Bool → List ℕ → ReportFault → Type 0
 IsNoTextOf wanted bytes (NotText fault) = (wanted ≡ true) × IsTextFault bytes fault
 IsNoTextOf wanted bytes other = Unit {0}
@@ -51,3 +67,9 @@ IsNoTextOf wanted bytes other = Unit {0}
 abbrev pub IsOfText : ReportFault → Type 0
 IsOfText (NotText fault) = ⊥
 IsOfText other = Unit {0}
+
+-- no further file is read or written
+abbrev pub IsOfFile : ReportFault → Type 0
+IsOfFile (Unread path reason) = ⊥
+IsOfFile (Unwritten path reason) = ⊥
+IsOfFile other = Unit {0}

@@ -1,19 +1,19 @@
-use Rattle.std.proofs.Common.{◌≡◌, ◌∙◌, ap₂, rules}
+use Rattle.std.proofs.Common.{◌∙◌, ap₂}
 use Rattle.std.proofs.lemmas.Result.{IfOk-weaker}
-use Rattle.clap.specs.Words.{rule_of, with_rule}
+use Rattle.clap.specs.Words.{with_rule}
 use Rattle.command_line.proofs.Options.{still_local}
-use Rattle.command_line.specs.Said.{script_rule}
 use Rattle.command_line.proofs.words.log_command.Goals as goal
 
 pub returns-clause-app : goal.returns-clause-app
 returns-clause-app c =
-    let script_is : rule_of c.help-script.result ≡ script_rule = search rules in
-    let first = c.in_ok-arg.ensures.shape c.audit_arg.ensures.local ∙ ap₂ with_rule c.new-2.ensures.app c.audit_arg.ensures.rule in
-    let second = c.in_ok-arg-2.ensures.shape c.file_arg.ensures.local ∙ ap₂ with_rule first c.file_arg.ensures.rule in
-    IfOk-weaker c.arg-3.result _ _ (λ r h. h.shape (search rules) ∙ ap₂ with_rule second script_is) c.arg-3.ensures
+    let first = c.in_ok-arg.ensures.shape c.rows_arg.ensures.local ∙ ap₂ with_rule c.new.ensures.app c.rows_arg.ensures.rule in
+    let second = c.in_ok-arg-2.ensures.shape c.audit_arg.ensures.local ∙ ap₂ with_rule first c.audit_arg.ensures.rule in
+    let third = c.in_ok-arg-3.ensures.shape c.file_arg.ensures.local ∙ ap₂ with_rule second c.file_arg.ensures.rule in
+    IfOk-weaker c.arg-4.result _ _ (λ r h. h.shape c.script_arg-script.ensures.local ∙ ap₂ with_rule third c.script_arg-script.ensures.rule) c.arg-4.ensures
 
 pub returns-clause-local : goal.returns-clause-local
 returns-clause-local c =
-    let first = still_local _ _ _ c.in_ok-arg.ensures.globals c.new-2.ensures.local c.audit_arg.ensures.local in
-    let second = still_local _ _ _ c.in_ok-arg-2.ensures.globals first c.file_arg.ensures.local in
-    IfOk-weaker c.arg-3.result _ _ (λ r h. still_local _ _ _ h.globals second (search rules)) c.arg-3.ensures
+    let first = still_local _ _ _ c.in_ok-arg.ensures.globals c.new.ensures.local c.rows_arg.ensures.local in
+    let second = still_local _ _ _ c.in_ok-arg-2.ensures.globals first c.audit_arg.ensures.local in
+    let third = still_local _ _ _ c.in_ok-arg-3.ensures.globals second c.file_arg.ensures.local in
+    IfOk-weaker c.arg-4.result _ _ (λ r h. still_local _ _ _ h.globals third c.script_arg-script.ensures.local) c.arg-4.ensures

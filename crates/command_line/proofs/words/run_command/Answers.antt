@@ -12,7 +12,8 @@ returns-clause-app c =
     let fourth = c.in_ok-arg-4.ensures.shape c.audit_arg.ensures.local ∙ ap₂ with_rule third c.audit_arg.ensures.rule in
     let fifth = c.in_ok-arg-5.ensures.shape c.tell_arg.ensures.local ∙ ap₂ with_rule fourth c.tell_arg.ensures.rule in
     let sixth = c.in_ok-arg-6.ensures.shape c.option_arg-log.ensures.local ∙ ap₂ with_rule fifth c.option_arg-log.ensures.rule in
-    IfOk-weaker c.arg-7.result _ _ (λ r h. h.shape c.file_arg.ensures.local ∙ ap₂ with_rule sixth c.file_arg.ensures.rule) c.arg-7.ensures
+    let seventh = c.in_ok-arg-7.ensures.shape c.file_arg.ensures.local ∙ ap₂ with_rule sixth c.file_arg.ensures.rule in
+    IfOk-weaker c.arg-8.result _ _ (λ r h. h.shape c.script_arg.ensures.local ∙ ap₂ with_rule seventh c.script_arg.ensures.rule) c.arg-8.ensures
 
 pub returns-clause-local : goal.returns-clause-local
 returns-clause-local c =
@@ -22,4 +23,5 @@ returns-clause-local c =
     let fourth = still_local _ _ _ c.in_ok-arg-4.ensures.globals third c.audit_arg.ensures.local in
     let fifth = still_local _ _ _ c.in_ok-arg-5.ensures.globals fourth c.tell_arg.ensures.local in
     let sixth = still_local _ _ _ c.in_ok-arg-6.ensures.globals fifth c.option_arg-log.ensures.local in
-    IfOk-weaker c.arg-7.result _ _ (λ r h. still_local _ _ _ h.globals sixth c.file_arg.ensures.local) c.arg-7.ensures
+    let seventh = still_local _ _ _ c.in_ok-arg-7.ensures.globals sixth c.file_arg.ensures.local in
+    IfOk-weaker c.arg-8.result _ _ (λ r h. still_local _ _ _ h.globals seventh c.script_arg.ensures.local) c.arg-8.ensures

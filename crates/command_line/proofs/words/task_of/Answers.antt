@@ -17,8 +17,8 @@ returns-in-dis-clause-task c =
 
 pub returns-in-world-clause-task : goal.returns-in-world-clause-task
 returns-in-world-clause-task c =
-    wants_world c.args.name.now (rows_of (found_of c.args.matches.now)) c.flag_of-in-world.result c.flag_of-in-world-2.result c.in-world.is
-    c.flag_of-in-world.ensures c.flag_of-in-world-2.ensures
+    wants_world c.args.name.now (rows_of (found_of c.args.matches.now)) c.flag_of-in-world.result c.flag_of-in-world-2.result _ c.in-world.is
+    c.flag_of-in-world.ensures c.flag_of-in-world-2.ensures c.text_of.ensures
 
 pub returns-in-run-clause-task : goal.returns-in-run-clause-task
 returns-in-run-clause-task c = wants_run c.args.name.now (rows_of (found_of c.args.matches.now)) c.run_task.result c.in-run.is c.run_task.ensures.task

@@ -3,12 +3,9 @@ use Rattle.clap.specs.Words.{Row, Text, first_of, found_of, rows_of}
 use Rattle.clap.proofs.WalkLemmas.{first_value-rows}
 use Rattle.command_line.specs.Said.{SaysWish, IsUnfit, Refused, NoCommand, Unfit}
 use Rattle.command_line.specs.Task.{command_name}
-use Rattle.command_line.proofs.Options.{some_some}
+use Rattle.command_line.proofs.Options.{some_some, none_some}
 use Rattle.command_line.proofs.Wishes.{name_of_rows, wrong_shows_nothing}
 use Rattle.command_line.proofs.words.wanted_of.Goals as goal
-
-none_some : {X : Type 0} (x : X) → None ≡ Some x → ⊥
-none_some x e = cc
 
 pub returns-in_default-get_str-clause-wanted : goal.returns-in_default-get_str-clause-wanted
 returns-in_default-get_str-clause-wanted g c = λ file wish says.

@@ -12,5 +12,5 @@ returns-then-eq c =
 pub returns : goal.returns
 returns c =
     let differs : ¬ (c.in-Ok.stored.header ≡ header_of (loaded_in c.args.state.now)) = search rules in
-    anothers_is c.args.file.now c.args.state.now c.args.dcs.now c.in-Ok.stored c.refused-else-eq.result c.in-Ok.ensures.says differs c.refused-else-eq.ensures.line
-    c.refused-else-eq.ensures.status
+    let line = rw (c.in_ok-header.ensures, c.procs.ensures) at c.anothers.ensures.line in
+    anothers_is c.args.file.now c.args.state.now c.args.dcs.now c.in-Ok.stored c.anothers.result c.in-Ok.ensures.says differs line c.anothers.ensures.status

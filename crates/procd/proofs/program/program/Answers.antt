@@ -37,3 +37,7 @@ returns-in-Err-AuditAlone-clause-runs g c = λ file wish says. absurd (rw c.in-E
 
 pub returns-in-Err-ScriptAlone-clause-runs : goal.returns-in-Err-ScriptAlone-clause-runs
 returns-in-Err-ScriptAlone-clause-runs g c = λ file wish says. absurd (rw c.in-Err-ScriptAlone.field-0-is at (c.in-Err-ScriptAlone.ensures.wanted file wish says))
+
+pub returns-in-Err-RowsBesideAudit-clause-runs : goal.returns-in-Err-RowsBesideAudit-clause-runs
+returns-in-Err-RowsBesideAudit-clause-runs g c = λ file wish says.
+    absurd (rw c.in-Err-RowsBesideAudit.field-0-is at (c.in-Err-RowsBesideAudit.ensures.wanted file wish says))

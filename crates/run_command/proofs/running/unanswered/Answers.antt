@@ -1,10 +1,11 @@
-use Rattle.std.proofs.Common.{◌≡◌, ◌∙◌, sym}
+use Rattle.std.proofs.Common.{◌≡◌, ◌∙◌, Option, sym}
 use Rattle.std.proofs.lemmas.Result.{IfOk-weaker, IfErr-weaker}
+use Rattle.disk_file.specs.declared.fault.FileFault.{FileFault}
 use Rattle.run_command.specs.declared.running.Unreported.TheVariants.{Memory, NotKept}
 use Rattle.run_command.proofs.running.unanswered.Goals as goal
 
-other : Memory ≡ NotKept → ⊥
-other is = cc
+other : (failure : Option FileFault) → Memory ≡ NotKept failure → ⊥
+other failure is = cc
 
 pub returns-in-Unbegun-clause-ok : goal.returns-in-Unbegun-clause-ok
 returns-in-Unbegun-clause-ok c =
@@ -17,4 +18,4 @@ returns-in-Unbegun-clause-ok c =
 
 pub returns-in-Unbegun-clause-err : goal.returns-in-Unbegun-clause-err
 returns-in-Unbegun-clause-err c =
-    IfErr-weaker c.with_journal.result _ _ (λ e is bad. absurd (other (sym is ∙ bad))) c.with_journal.ensures.err
+    IfErr-weaker c.with_journal.result _ _ (λ e is failure bad. absurd (other failure (sym is ∙ bad))) c.with_journal.ensures.err

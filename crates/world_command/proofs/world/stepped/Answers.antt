@@ -26,6 +26,6 @@ returns c = elim c.match-taken.branch [
       let taken = subst (λ (old : List ℕ). AreTaken start c.args.loaded.steps.items end old stepped w.in-Ok.all) c.new-lines.ensures.bytes by_slice in
       let dcs = w.as_slice-in-Ok.ensures.value ∙ c.close-state.ensures.dcs in
       stepped_report c.match-taken.report w.report_of-report.result c.args.loaded c.args.behind w.in-Ok.all start end stepped
-      c.close-state.result.0 w.as_slice-in-Ok.result.now w.report-is dcs c.close-state.ensures.kept c.new-world.ensures taken w.report_of-report.ensures
+      c.close-state.result.0 w.as_slice-in-Ok.result.now w.report-is dcs c.close-state.ensures.kept c.new-world.ensures.whole taken w.report_of-report.ensures
   | in-Err w ↦ none_reported c.match-taken.report c.args.loaded c.args.behind _ w.report-is
 ]

@@ -1,0 +1,9 @@
+use Rattle.std.proofs.Common.{◌≡◌, ◌≤◌, take}
+use Rattle.log_command.specs.Beginning.{own_count}
+use Rattle.log_command.proofs.beginning.own_count.Given as goal
+
+abbrev pub invariant-rows : goal.invariant-rows
+invariant-rows l = record {
+  count : l.count ≡ own_count l.dc (take l.row-index l.base);
+  few : l.count ≤ l.row-index;
+}

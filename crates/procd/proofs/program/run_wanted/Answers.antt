@@ -1,0 +1,18 @@
+use Rattle.std.proofs.Common.{◌≡◌, codes, rules}
+use Rattle.command_line.specs.Task.{wish_of}
+use Rattle.procd.proofs.Faults.{read_runs, opened_runs, kind_runs}
+use Rattle.procd.proofs.program.run_wanted.Goals as goal
+
+pub returns-then-eq : goal.returns-then-eq
+returns-then-eq g c = read_runs c.args.wanted.now.file.now (wish_of c.args.wanted.now.task) _ _ _ _ c.run_input.ensures
+
+pub returns-in-Some : goal.returns-in-Some
+returns-in-Some g c =
+    let differs : ¬ (c.args.wanted.now.file.now ≡ codes "-") = search rules in
+    kind_runs c.args.wanted.now.file.now (wish_of c.args.wanted.now.task) _ _ _ _ differs (rw c.in-Some.is at c.kind_of_log.ensures) c.in-Some.kind
+    c.refuse_kind.ensures
+
+pub returns-in-None : goal.returns-in-None
+returns-in-None g c =
+    let differs : ¬ (c.args.wanted.now.file.now ≡ codes "-") = search rules in
+    opened_runs c.args.wanted.now.file.now (wish_of c.args.wanted.now.task) _ _ _ _ differs c.run_file.ensures

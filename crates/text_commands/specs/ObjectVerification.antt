@@ -1,0 +1,42 @@
+-- What `verify` prints of an object file, and its exit status.
+use Rattle.std.specs.Prelude.{◌≡◌, ℕ, Bool, true, false, if◌then◌else◌, List, ◌++◌, is_some, Result, Ok, Err, codes}
+use Rattle.std.specs.List.{flat_map, list_any}
+use Rattle.bpf_encoding.specs.declared.decode.DecodeFault.{DecodeFault}
+use Rattle.bpf_encoding.specs.declared.insn.Place.{Place}
+use Rattle.object_procedures.specs.Finding.{found_in}
+use Rattle.object_procedures.specs.Refusal.{object_refusal}
+use Rattle.object_procedures.specs.declared.finding.Found.{Found}
+use Rattle.object_procedures.specs.declared.finding.ObjectRefusal.{ObjectRefusal}
+use Rattle.report_texts.specs.FaultNames.{fault_name}
+use Rattle.verifier.specs.Verdict.{verdict}
+use Rattle.text_commands.specs.Verification.{verdict_line, verification_lines, verification_status}
+
+abbrev pub line_by_code : Result (List Place) DecodeFault → Found → List ℕ
+line_by_code (Ok code) f = verdict_line (verdict f.decl code) f.name code
+line_by_code (Err fault) f = ((f.name ++ codes " ") ++ fault_name fault) ++ codes "\n"
+
+-- its line: as of a procedure of a script, or the first fault of its code
+abbrev pub found_line : Found → List ℕ
+found_line f = line_by_code f.code f
+
+abbrev pub refused_by_code : Result (List Place) DecodeFault → Found → Bool
+refused_by_code (Ok code) f = is_some (verdict f.decl code)
+refused_by_code (Err fault) f = true
+
+abbrev pub is_found_refused : Found → Bool
+is_found_refused f = refused_by_code f.code f
+
+-- a line for each procedure, or why the file is refused
+abbrev pub lines_of_found : Result (List Found) ObjectRefusal → List ℕ
+lines_of_found (Ok found) = flat_map found_line found
+lines_of_found (Err why) = object_refusal why
+
+-- 1 where the file or a procedure is refused, else 0
+abbrev pub status_of_found : Result (List Found) ObjectRefusal → ℕ
+status_of_found (Ok found) = if list_any is_found_refused found then 1 else 0
+status_of_found (Err why) = 1
+
+-- of an object file, or of a script
+abbrev pub IsVerification : (is_object : Bool) → List ℕ → ℕ → List ℕ → Type 0
+IsVerification true file status lines = (status ≡ status_of_found (found_in file)) × (lines ≡ lines_of_found (found_in file))
+IsVerification false text status lines = (status ≡ verification_status text) × (lines ≡ verification_lines text)
