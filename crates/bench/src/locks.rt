@@ -10,10 +10,10 @@ use access_slots::slot::{Key, Mode, Slot};
 use lock_table::table::LockTable;
 use std::alloc::Global;
 
-// The lock on one record, for writing.
-fn one_lock(key: u64) -> Option<LockSet> {
+// The lock on one record.
+fn one_lock(mode: Mode, key: u64) -> Option<LockSet> {
     let slot = Slot {
-        mode: Mode::Write,
+        mode,
         dc: 0,
         table: 0,
         key: Key::Arg(0),
@@ -35,41 +35,74 @@ fn take(table: &mut LockTable, txn: u64, set: &LockSet) -> bool
     }
 }
 
-// So many transactions hold a lock each. How many were granted.
-fn hold_all(table: &mut LockTable, held: u64) -> Option<u64>
+// So many transactions hold a lock each, for writing on a record of its own, for reading on the first. How
+// many were granted.
+fn hold_all(table: &mut LockTable, mode: Mode, held: u64) -> Option<u64>
     requires { (t : ℕ) → HoldsNothing (held_by table.old) t }
     ensures { (t : ℕ) → held ≤ t → HoldsNothing (held_by table.new) t }
 {
     let mut granted: u64 = 0;
     'held: for txn in 0..held {
-        let set = one_lock(txn)?;
+        let key = match mode {
+            Mode::Write => txn,
+            Mode::Read => 0,
+        };
+        let set = one_lock(mode, key)?;
         granted = granted.wrapping_add(u64::from(take(table, txn, &set)));
     }
     Some(granted)
+}
+
+// One more transaction takes this lock and gives it back so many times, beside so many that hold theirs.
+fn take_and_release(table: &mut LockTable, held: u64, set: &LockSet, times: u64) -> u64
+    requires { (t : ℕ) → held ≤ t → HoldsNothing (held_by table.old) t }
+{
+    let mut granted: u64 = 0;
+    'times: for _ in 0..times {
+        granted = granted.wrapping_add(u64::from(take(table, held, set)));
+        table.release(held);
+    }
+    granted
 }
 
 /// So many transactions hold a lock each; one more takes its lock and gives it back so many times.
 /// How many locks were granted.
 pub fn repeat(alloc: Global, held: u64, times: u64) -> Option<u64> {
     let mut table = LockTable::new(alloc);
-    let mut granted = hold_all(&mut table, held)?;
-    let set = one_lock(held)?;
-    'times: for _ in 0..times {
-        granted = granted.wrapping_add(u64::from(take(&mut table, held, &set)));
-        table.release(held);
+    let granted = hold_all(&mut table, Mode::Write, held)?;
+    let set = one_lock(Mode::Write, held)?;
+    Some(granted.wrapping_add(take_and_release(&mut table, held, &set, times)))
+}
+
+/// The same where all of them read one record.
+pub fn repeat_reads(alloc: Global, held: u64, times: u64) -> Option<u64> {
+    let mut table = LockTable::new(alloc);
+    let granted = hold_all(&mut table, Mode::Read, held)?;
+    let set = one_lock(Mode::Read, 0)?;
+    Some(granted.wrapping_add(take_and_release(&mut table, held, &set, times)))
+}
+
+// The lock is refused so many times. The sum of the holders that were named.
+fn refuse(table: &LockTable, set: &LockSet, times: u64) -> Option<u64> {
+    let mut holders: u64 = 0;
+    for _ in 0..times {
+        holders = holders.wrapping_add(table.busy(set)?.holder);
     }
-    Some(granted)
+    Some(holders)
 }
 
 /// So many transactions hold a lock each; the lock of one in their midst is refused so many times.
 /// The sum of the holders that were named.
 pub fn repeat_busy(alloc: Global, held: u64, times: u64) -> Option<u64> {
     let mut table = LockTable::new(alloc);
-    hold_all(&mut table, held)?;
-    let set = one_lock(held / 2)?;
-    let mut holders: u64 = 0;
-    for _ in 0..times {
-        holders = holders.wrapping_add(table.busy(&set)?.holder);
-    }
-    Some(holders)
+    hold_all(&mut table, Mode::Write, held)?;
+    refuse(&table, &one_lock(Mode::Write, held / 2)?, times)
+}
+
+/// So many transactions read a record; a lock on it for writing is refused so many times. The sum of
+/// the holders that were named.
+pub fn repeat_read(alloc: Global, held: u64, times: u64) -> Option<u64> {
+    let mut table = LockTable::new(alloc);
+    hold_all(&mut table, Mode::Read, held)?;
+    refuse(&table, &one_lock(Mode::Write, 0)?, times)
 }

@@ -7,6 +7,7 @@ mod calls;
 mod checks;
 mod code;
 mod damaged;
+mod doubts;
 mod locks;
 mod log;
 mod numbers;
@@ -31,6 +32,11 @@ const USAGE: &str = "usage:
   bench starts SLOTS TIMES             starts a machine for code of two instructions and SLOTS slots, and runs it, TIMES
   bench locks HELD TIMES               HELD transactions hold a lock; one more takes and gives back TIMES
   bench busy HELD TIMES                HELD transactions hold a lock; the lock of one in their midst is refused TIMES
+  bench reads HELD TIMES               HELD transactions read a record; one more reads it and lets it go TIMES
+  bench read HELD TIMES                HELD transactions read a record; a lock for writing it is refused TIMES
+  bench doubts OPEN TIMES              OPEN transactions are in doubt; whether the call of one in their midst is blocked
+                                       is asked TIMES
+  bench give-ups OPEN TIMES            OPEN transactions are admitted, asked and given up, in a new component, TIMES
   bench numbers OPEN TIMES             OPEN numbers are open; one more is given out and answered TIMES
   bench log EVENTS TIMES               prints and reads a log of EVENTS events TIMES
   bench store ROWS UPDATES RESTARTS    inserts ROWS records, UPDATES them in turn, keeps a checkpoint, and RESTARTS
@@ -105,6 +111,10 @@ fn line_of<R: Threads + Wait + Sync>(
         "starts" => code::repeat_starts(alloc, first, second)?,
         "locks" => locks::repeat(alloc, first, second)?,
         "busy" => locks::repeat_busy(alloc, first, second)?,
+        "reads" => locks::repeat_reads(alloc, first, second)?,
+        "read" => locks::repeat_read(alloc, first, second)?,
+        "give-ups" => doubts::repeat_give_ups(alloc, first, second)?,
+        "doubts" => doubts::repeat(alloc, first, second)?,
         "numbers" => numbers::repeat(alloc, first, second)?,
         "log" => log::repeat(alloc, first, second)?,
         "store" => store::repeat(alloc, first, second, number(words, 4)?)?,

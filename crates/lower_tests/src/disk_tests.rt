@@ -3,8 +3,8 @@ ghost use Rattle.frame_file.specs.Device.{Only};
 ghost use Rattle.disk_file.specs.Disk.{disk_bytes, left_of};
 
 use crate::checks::is_same;
-use disk_file::{DiskFile, FileKind, OpenError};
-use frame_file::{DeviceError, FrameFault, FrameFile};
+use disk_file::{BesideError, DiskFile, FileKind, OpenError};
+use frame_file::{Device, DeviceError, FrameFault, FrameFile};
 use std::alloc::Global;
 use std::fs;
 use std::fs::File;
@@ -86,7 +86,7 @@ fn frames_in_a_file(rt: HostRuntime) {
 #[test]
 fn no_file_there(rt: HostRuntime) {
     let opened = DiskFile::open(&rt, rt.alloc(), "no/such/folder");
-    is_same(&rt, matches!(opened, Err(OpenError::Io(_))), true);
+    is_same(&rt, matches!(opened, Err(OpenError::Unwritten(_))), true);
 }
 
 // Nothing is cut off where there is no place for it.
@@ -119,4 +119,46 @@ fn no_file_of_bytes(rt: HostRuntime) {
         matches!(folder, Err(OpenError::Kind(FileKind::Directory))),
         true,
     );
+}
+
+const PLACE: &str = "disk_file_place";
+
+const BESIDE: &str = "disk_file_place.new";
+
+const FRONT: [u8; 8] = [7; 8];
+
+// What a replacement that was cut short has left is thrown away, and the next one takes the file's place, which
+// nobody else opens meanwhile.
+#[test]
+fn a_file_takes_the_place(rt: HostRuntime) {
+    let alloc = rt.alloc();
+    fs::write(&rt, PLACE, [1].as_slice()).expect(&rt, "not written");
+    fs::write(&rt, BESIDE, [7, 7, 7].as_slice()).expect(&rt, "not written");
+    let old = DiskFile::open(&rt, alloc, PLACE).expect(&rt, "not opened");
+    let mut new = DiskFile::open_beside(&rt, alloc, PLACE, &FRONT).expect(&rt, "not beside");
+    let written = (new.append(&[2, 3]), new.sync());
+    is_same(&rt, written, (Ok(()), Ok(())));
+    new.take_place(&rt, alloc, PLACE)
+        .expect(&rt, "not in its place");
+    drop(old);
+    let again = DiskFile::open(&rt, alloc, PLACE);
+    is_same(&rt, matches!(again, Err(OpenError::Busy)), true);
+    drop(new);
+    let bytes = fs::read(&rt, PLACE).expect(&rt, "not read");
+    is_same(&rt, bytes.as_slice(), [2, 3].as_slice());
+    fs::remove_file(&rt, PLACE).expect(&rt, "not removed");
+}
+
+// What another program wrote beside it is left.
+#[test]
+fn another_file_stands_beside(rt: HostRuntime) {
+    const PAGE: &str = "disk_file_page";
+    const OTHER: &str = "disk_file_page.new";
+    let page = b"# A page".as_slice();
+    fs::write(&rt, OTHER, page).expect(&rt, "not written");
+    let refused = DiskFile::open_beside(&rt, rt.alloc(), PAGE, &FRONT);
+    is_same(&rt, matches!(refused, Err(BesideError::Foreign)), true);
+    let bytes = fs::read(&rt, OTHER).expect(&rt, "not read");
+    is_same(&rt, bytes.as_slice(), page);
+    fs::remove_file(&rt, OTHER).expect(&rt, "not removed");
 }

@@ -12,6 +12,7 @@
 //! | `refusal_tests` | `verifier`: what is refused, at which slot and why, and what lies beside it |
 //! | `frame_tests` | `frame_file`: each truncation and each changed byte of a file |
 //! | `disk_tests` | `disk_file`: a file of the system |
+//! | `object_tests` | `object_file`: an object of clang's, each fault, and each changed byte |
 //!
 //! What they compare stands in `checks`.
 //!
@@ -30,6 +31,8 @@ mod frame_tests;
 mod lock_tests;
 #[cfg(test)]
 mod number_tests;
+#[cfg(test)]
+mod object_tests;
 #[cfg(test)]
 mod plain_table;
 #[cfg(test)]
