@@ -5,7 +5,7 @@ usage: beside_model.py [--library PATH] [--procd PATH] [--steps N] [--seed N]
 
 From each seed come random steps of a world, as tools/explore.py draws them: calls that overlap, messages that are lost,
 repeated, late and forged, data components that keep checkpoints and restart, news that come late and again, redo, undos that
-fail. Between them data components hear a low-water mark and forget, and the log begins anew, at times that fit and at others.
+fail, crashes of the transaction component. Between them data components hear a low-water mark and forget, and the log begins anew, at times that fit and at others.
 Each step is made by the frames of a transaction component and two data components of the shared library, and what it says is
 compared with the model's line; behind the steps the rows and the log's bytes are compared. At the first difference it prints
 the seed and the step, with status 1. The procedures are assembled by procd.
@@ -20,12 +20,12 @@ import sys
 
 HERE = pathlib.Path(__file__).resolve().parent
 sys.path.insert(0, str(HERE.parent / "tools"))
-from explore import FORGED, RESTARTED, WORDS, next_step, some_step  # noqa: E402
+from explore import CRASHED, FORGED, RESTARTED, WORDS, next_step, some_step  # noqa: E402
 from plain_model import PROCEDURES, TEXTS, Reply, Wire, World, op_text, record_bytes, record_text, said_text, value_text  # noqa: E402
 
-START_TC, START_DC, BYTES, SLOT, CLEAR, LOAD = 1, 2, 10, 11, 12, 13
+START_TC, START_DC, BYTES, SLOT, CLEAR, LOAD, NOTE, RECOVER = 1, 2, 10, 11, 12, 13, 15, 16
 ADMIT, ASK, UNDO, WIRE, ANSWER, END, LOG_LENGTH, LOG_BYTES, TOLD, REDO_NEXT, REDONE = 20, 22, 23, 24, 25, 27, 29, 30, 32, 33, 34
-LOG_ANEW, LOW_WATER = 35, 36
+SITE, LOG_ANEW, LOW_WATER, OPEN_FROM, RETAKE = 31, 35, 36, 37, 38
 PERFORM, RESTART, ROWS, ROW, CHECKPOINT, HEAR_MARK, FORGET = 40, 41, 43, 44, 46, 48, 49
 ILLEGAL = {"I2": "NoTxn", "I5": "NotOver", "I6": "NothingOpen", "I9": "Stranger", "I10": "NoDc", "I12": "IncarnationsSpent"}
 ILLEGAL |= {"I15": "OldNews", "I16": "NotDown", "Q3": "Forgotten"}
@@ -65,9 +65,16 @@ class AnewWorld(World):
             return "G4"
         if kept < self.last:
             return "G5"
-        self.done, self.events, self.begun = {}, [], self.last
-        self.log = [record_bytes(6, 0, txn=self.serials, word=self.last)]
+        self.done, self.events, self.log = {}, [], []
+        self.began(self.serials, self.last)
         return f"anew behind {self.low()}"
+
+    def began(self, serials, last):
+        self.serials, self.last, self.begun = serials, last, last
+        self.event(record_bytes(6, 0, txn=serials, word=last), self.began, serials, last)
+
+    def is_written(self, p):
+        return (p > 0 or not self.begun) and super().is_written(p, self.begun)
 
     def tell(self, i):
         if i < len(self.news):
@@ -165,23 +172,30 @@ class Frames:
     """A world made of the library's handles, whose steps say what the model's do."""
 
     def __init__(self, library, dcs, procedures):
-        self.tc = Handle(library, START_TC, len(dcs))
         self.dcs = [Handle(library, START_DC, *it) for it in dcs]
-        self.names, self.txns = list(procedures), set()
-        self.open = {}  # numbers that wait for an answer, with their transaction and operation
+        self.library, self.procedures, self.names = library, procedures, list(procedures)
         self.wires, self.replies, self.news = [], [], []
-        for name, (code, slots, args) in procedures.items():
+        self.begin()
+
+    def begin(self):
+        """A transaction component to which nothing has happened."""
+        self.tc, self.txns = Handle(self.library, START_TC, len(self.dcs)), set()
+        self.open = {}  # numbers that wait for an answer, with their transaction and operation
+        for name, (code, slots, args) in self.procedures.items():
             self.load(name, code, slots, args)
 
     def close(self):
         for handle in [self.tc, *self.dcs]:
             handle.close()
 
-    def load(self, name, code, slots, args):
+    def hand_in(self, data):
         assert not self.tc(CLEAR)
-        for at in range(0, len(code), 256):
-            self.tc.put_bytes(code[at : at + 256])
+        for at in range(0, len(data), 256):
+            self.tc.put_bytes(data[at : at + 256])
             assert not self.tc(BYTES)
+
+    def load(self, name, code, slots, args):
+        self.hand_in(code)
         for write, dc, table, by_argument, key in slots:
             assert not self.tc(SLOT, kind=write, dc=dc, table=table, op=by_argument, key=key)
         self.tc.put_bytes(name.encode())
@@ -314,6 +328,28 @@ class Frames:
         self.wires.append(wire)
         return f"redo {len(self.wires) - 1} number {wire.number} {op_text(wire.op)}"
 
+    def noted(self, d):
+        """What is known of a data component, as NOTE has it."""
+        assert not self.tc(SITE, dc=d)
+        return {name: getattr(self.tc.frame, name) for name in ("kind", "incarnation", "low_water")}
+
+    def crash(self, p):
+        rows, notes = [*self.log()][:p], [self.noted(d) for d in range(len(self.dcs))]
+        self.tc.close()
+        self.begin()
+        self.hand_in(b"".join(rows))
+        for note in notes:
+            assert not self.tc(NOTE, **note)
+        code, f = self.tc(RECOVER), self.tc.frame
+        place = 0
+        while not code and not self.tc(OPEN_FROM, place=place):
+            t, place = f.txn, f.place + 1
+            self.txns.add(t)
+            if f.kind == 2:
+                self.open[f.number] = t, self.tc.operation()
+                assert not self.tc(RETAKE) and self.open[f.number] == (t, self.tc.operation())
+        return code or f"crashed {p} open {len(self.txns)}"
+
     def forge(self, n, said):
         self.replies.append(Reply(n, 0, said))
         return f"forged {len(self.replies) - 1}"
@@ -350,7 +386,7 @@ def difference(library, procedures, seed, count, made):
     draw = random.Random(seed)
     dcs = [(draw.choice([1, 2, 3, 20]), draw.choice([50] + 7 * [5000])) for _ in range(2)]
     weights = {**WORDS, "forge": draw.choice(FORGED), "restart": draw.choice(RESTARTED)}
-    weights["crash"] = 0  # no frame makes a transaction component come back from a log
+    weights["crash"], weights["cut"] = draw.choice(CRASHED), 0  # (a cut is the frames' `anew`, with data components told by hand)
     world, frames = AnewWorld(dcs, list(PROCEDURES)), Frames(library, dcs, procedures)
     rests, anew = draw.random() < 0.5, iter(())
     for at in range(count):
@@ -359,7 +395,8 @@ def difference(library, procedures, seed, count, made):
         step = next(anew, None) or some_step(draw, world, weights)
         if rests and at % 100 >= 30 and step[0] == "admit":  # (so that at times nothing is open)
             step = next_step(draw, world, weights) or step
-        wanted, said = world.step(*step), frames.step(*step)
+        wanted = world.step(*step)
+        said = wanted if "NotWritten" in wanted else frames.step(*step)  # (of that no frame can tell)
         made[step[0], said if step[0] == "forget" else said.split()[0]] += 1
         if wanted != said:
             return f"step {at} {step}: the frames say `{said}`, the model `{wanted}`"
@@ -384,8 +421,8 @@ def main():
         if why:
             print(f"seed {seed}: {why}")
             return 1
-    anew, forgot = made["anew", "anew"], made["forget", "forgot 1"]
-    print(f"beside the model: {sum(made.values())} steps, {anew} logs begun anew, {forgot} lists forgotten, no difference")
+    counts = f"{made['anew', 'anew']} logs begun anew, {made['forget', 'forgot 1']} lists forgotten, {made['crash', 'crashed']} crashes"
+    print(f"beside the model: {sum(made.values())} steps, {counts}, no difference")
     return 0
 
 

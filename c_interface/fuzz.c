@@ -13,12 +13,29 @@ static uint64_t drawn(uint64_t below) {
     return (x >> 11) % below;
 }
 
+/* The log of an earlier transaction component, and how often one came back from it. */
+static uint8_t rows[64][MZ_EVENT_BYTES];
+static uint64_t row_count;
+static long back;
+
+static void keep_rows(mz_tc *tc) {
+    for (row_count = 0; row_count < 64 && mz_log_bytes(tc, row_count, rows[row_count]) == MZ_OK;) row_count++;
+}
+
+/* From a beginning of these rows, or from some that are changed. */
+static void come_back(mz_tc *tc) {
+    static const mz_note notes[2];
+    if (row_count && drawn(4) == 0) rows[drawn(row_count)][drawn(MZ_EVENT_BYTES)] ^= (uint8_t)(1 + drawn(255));
+    back += mz_recover(tc, rows, (size_t)drawn(row_count + 1), notes, 2, NULL) == MZ_OK;
+}
+
 static mz_head *begun(void) {
     mz_code c;
     char refused[MZ_NAME + 1];
     if (drawn(4)) {
         mz_tc *tc = mz_tc_new(2, &c);
         if (!tc || mz_load_object_file(tc, "build/bank.o", refused, NULL) != MZ_OK) exit(2);
+        if (drawn(2)) come_back(tc);
         return (mz_head *)(void *)tc;
     }
     if (drawn(2)) return (mz_head *)(void *)mz_dc_new(50, 200, &c);
@@ -42,7 +59,8 @@ static void hand_in(mz_frame *f) {
 static void changed(mz_frame *f) {
     static const uint32_t whats[] = {20, 20, 20, 22, 22, 22, 23, 23, 24, 25, 25, 25, 25, 26, 27, 27, 28, 29,
                                      30, 31, 32, 33, 33, 34, 34, 35, 36, 40, 40, 40, 41, 42, 43, 44, 45, 46,
-                                     47, 48, 49, 10, 11, 12, 13, 14, 21, 50, 51, 52, 52, 0,  1,  99};
+                                     47, 48, 49, 10, 11, 12, 13, 14, 21, 50, 51, 52, 52, 0,  1,  99, 15, 16, 37, 37,
+                                     38, 38, 38, 39, 39, 60, 60, 61, 61};
     if (drawn(2)) f->txn = 1 + drawn(6);
     if (drawn(3) == 0) f->kind = (uint32_t)drawn(9);
     if (drawn(3) == 0) f->op = (uint32_t)drawn(6);
@@ -98,6 +116,7 @@ int main(int argc, char **argv) {
     mz_head *head = NULL;
     for (long i = 0; i < calls; i++) {
         if (i % 500 == 0) {
+            if (head && head->kind == MZ_KIND_TC) keep_rows((mz_tc *)(void *)head);
             if (head) mz_free(head, head->kind);
             head = begun();
             if (!head) return 2;
@@ -108,6 +127,7 @@ int main(int argc, char **argv) {
         done += mazzulpe_call(f) == MZ_OK;
     }
     if (head) mz_free(head, head->kind);
-    printf("%ld calls by random frames, %ld done; %ld broken objects, %ld loaded\n", calls, done, calls / 50, loaded);
+    printf("%ld calls by random frames, %ld done; %ld broken objects, %ld loaded; %ld logs came back\n", calls, done,
+           calls / 50, loaded, back);
     return 0;
 }

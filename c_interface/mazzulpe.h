@@ -12,7 +12,8 @@
  *                        -> MZ_UNDOING: mz_undo instead of mz_ask, until it says MZ_OVER
  *                        -> MZ_OVER: mz_end
  *
- * mz_run does that with a function of yours that carries.
+ * mz_run does that with a function of yours that carries. Where nobody answers it stops, and goes on where it is
+ * called again.
  *
  * A DATA COMPONENT THAT RESTARTED and may have lost what came after its last checkpoint tells its new
  * incarnation and the low-water mark that it kept:
@@ -27,6 +28,11 @@
  * MZ_FORGOTTEN IS THE LOSS OF THAT STORAGE: what it lost can't be redone. The component stays known in its
  * old incarnation, replies of the new one are refused, and no call gets on there. Only a copy of the storage
  * whose mark isn't lower brings it back.
+ *
+ * AN ENGINE THAT DIED COMES BACK from the rows of its log and from what it noted of its data components:
+ *
+ *     mz_recover -> each data component that is down: mz_redo
+ *                -> each mz_open_from: mz_retake where it waits, and mz_run
  *
  * ERRORS. A call answers MZ_OK (0), or why it did nothing: a letter and a number in one word, as
  * MZ_CODE('B', 1) is "B1", a lock in the way. The handle is then as it was before; what was to be written
@@ -44,7 +50,8 @@
  *
  * MEMORY. A handle takes mazzulpe_size() bytes by malloc, and its tables more as they grow, by the three
  * functions of heap.c. The log grows by some 120 bytes an event, until mz_checkpoint. Once mz_admit has
- * answered MZ_OK, no call on that transaction takes memory, but for mz_log_bytes and mz_log_at.
+ * answered MZ_OK, no call on that transaction takes memory, but for mz_log_bytes and mz_log_at. mz_recover takes
+ * memory as mz_admit does, and as much again as the rows have while it runs.
  *
  * RANGES. Data components are 0 to 65534, tables 0 to 65535, keys, numbers and arguments 64 bits, values
  * 64 bytes; names UTF-8 of at most 256 bytes; code at most 4096 slots of 8 bytes; a procedure takes at
@@ -105,6 +112,11 @@ typedef uint32_t mz_code;
 #define MZ_ONE_DOWN MZ_CODE('G', 4)           /* a data component is down */
 #define MZ_BEHIND MZ_CODE('G', 5)             /* a checkpoint hasn't kept all that was answered */
 #define MZ_ADMISSIONS_SPENT MZ_CODE('G', 6)   /* more than 2^62 transactions were admitted */
+#define MZ_BEGUN MZ_CODE('R', 1)              /* something has happened here already */
+#define MZ_NOTE_COUNT MZ_CODE('R', 2)         /* there isn't one note for each data component */
+#define MZ_ROW_LENGTH MZ_CODE('L', 1)         /* the rows aren't 96 bytes each; mz_recover never says it */
+#define MZ_NO_EVENT MZ_CODE('L', 2)           /* a row is no event's */
+#define MZ_LOG_ILLEGAL MZ_CODE('U', 1)        /* an event may not stand behind the ones before it */
 #define MZ_NAME_TAKEN MZ_CODE('P', 1)
 #define MZ_DC_UNKNOWN MZ_CODE('P', 2)         /* an access slot names a data component that isn't there */
 /* 'E' 1 to 7: the bytes are no code; 'S' 1 to 3: the access slots are no declaration; 'V' 1 to 14: the
@@ -202,13 +214,16 @@ uint32_t mazzulpe_version(void);
 
 enum {
     MZ_CALL_START_TC = 1, MZ_CALL_START_DC, MZ_CALL_START_CODE,
-    MZ_CALL_BYTES = 10, MZ_CALL_SLOT, MZ_CALL_CLEAR, MZ_CALL_LOAD, MZ_CALL_FIND,
+    MZ_CALL_BYTES = 10, MZ_CALL_SLOT, MZ_CALL_CLEAR, MZ_CALL_LOAD, MZ_CALL_FIND, MZ_CALL_NOTE,
+    MZ_CALL_RECOVER,
     MZ_CALL_ADMIT = 20, MZ_CALL_BLOCKED, MZ_CALL_ASK, MZ_CALL_UNDO, MZ_CALL_WIRE, MZ_CALL_ANSWER,
     MZ_CALL_GIVE_UP, MZ_CALL_END, MZ_CALL_OPEN_COUNT, MZ_CALL_LOG_LENGTH, MZ_CALL_LOG_BYTES,
     MZ_CALL_SITE, MZ_CALL_TOLD, MZ_CALL_REDO_NEXT, MZ_CALL_REDONE, MZ_CALL_LOG_ANEW, MZ_CALL_LOW_WATER,
+    MZ_CALL_OPEN_FROM, MZ_CALL_RETAKE, MZ_CALL_LOCK_AT,
     MZ_CALL_PERFORM = 40, MZ_CALL_RESTART, MZ_CALL_GET, MZ_CALL_ROWS, MZ_CALL_ROW, MZ_CALL_MARK,
     MZ_CALL_CHECKPOINT, MZ_CALL_INCARNATION, MZ_CALL_HEAR_MARK, MZ_CALL_FORGET,
-    MZ_CALL_VERIFY = 50, MZ_CALL_RUN, MZ_CALL_RESUME
+    MZ_CALL_VERIFY = 50, MZ_CALL_RUN, MZ_CALL_RESUME,
+    MZ_CALL_WAITING_FROM = 60, MZ_CALL_REDO_BEHIND
 };
 
 /* What a handle points to; behind it comes the library's part, which begins with the frame. */
@@ -366,16 +381,22 @@ static inline mz_code mz_put_call(mz_frame *f, uint64_t procedure, const uint64_
     return mz_put_args(f, args, count);
 }
 
-static inline mz_code mz_hand_in(mz_frame *f, const void *code, size_t bytes, const mz_slot *slots, size_t count) {
-    if (bytes > MZ_CODE_BYTES + 8 || count > MZ_SLOTS + 1) return MZ_BAD_ARGUMENT;
-    if ((bytes && !code) || (count && !slots)) return MZ_BAD_ARGUMENT;
+/* These bytes in place of all that was handed in. */
+static inline mz_code mz_hand_in_bytes(mz_frame *f, const void *from, size_t bytes) {
     mz_code c = mz_make(f, MZ_CALL_CLEAR);
-    const uint8_t *at = (const uint8_t *)code;
+    const uint8_t *at = (const uint8_t *)from;
     for (; c == MZ_OK && bytes; at += f->count, bytes -= f->count) {
         f->count = bytes < 256 ? (uint32_t)bytes : 256;
         memcpy(f->bytes, at, f->count);
         c = mz_make(f, MZ_CALL_BYTES);
     }
+    return c;
+}
+
+static inline mz_code mz_hand_in(mz_frame *f, const void *code, size_t bytes, const mz_slot *slots, size_t count) {
+    if (bytes > MZ_CODE_BYTES + 8 || count > MZ_SLOTS + 1) return MZ_BAD_ARGUMENT;
+    if ((bytes && !code) || (count && !slots)) return MZ_BAD_ARGUMENT;
+    mz_code c = mz_hand_in_bytes(f, code, bytes);
     for (size_t i = 0; c == MZ_OK && i < count; i++) {
         f->kind = slots[i].write ? 1 : 0;
         f->dc = slots[i].dc;
@@ -517,7 +538,7 @@ static inline mz_code mz_answer(mz_tc *tc, uint64_t txn, const mz_reply *reply) 
 }
 
 /* Gives the open request up, and says its number (which may be NULL): nobody answers it any more. Its
- * transaction is in doubt, and keeps its locks for good. MZ_NOTHING_OPEN. */
+ * transaction is in doubt, and keeps its locks, unless mz_retake takes it up again. MZ_NOTHING_OPEN. */
 static inline mz_code mz_give_up(mz_tc *tc, uint64_t txn, uint64_t *number) {
     mz_frame *f;
     mz_code c = mz_enter(tc, MZ_KIND_TC, 1, &f);
@@ -548,6 +569,85 @@ static inline uint64_t mz_open_count(mz_tc *tc) {
     return mz_counted(tc, MZ_KIND_TC, MZ_CALL_OPEN_COUNT);
 }
 
+/* An open transaction. */
+typedef struct {
+    uint64_t txn, procedure;
+    uint64_t place;   /* in the log, from 0, where it was admitted */
+    int waits;        /* 1: for the answer to `number`, an operation `op` on `record` */
+    int held;         /* 1: that request is held, and mz_resend makes its wire; 0: mz_retake takes it up */
+    int stranded;     /* 1: in doubt, since that number was given up, or stuck: who waits for its locks waits in vain */
+    uint64_t number;
+    mz_op op;
+    mz_record record;
+} mz_open;
+
+/* ---- inside */
+
+static inline mz_code mz_opened_by(mz_tc *tc, uint32_t what, uint16_t dc, uint64_t place, mz_open *open) {
+    mz_frame *f;
+    mz_code c = mz_enter(tc, MZ_KIND_TC, open != NULL, &f);
+    if (c != MZ_OK) return c;
+    f->dc = dc;
+    f->place = place;
+    c = mz_make(f, what);
+    if (c != MZ_OK) return mz_leave(f, c);
+    memset(open, 0, sizeof *open);
+    open->txn = f->txn;
+    open->procedure = f->word;
+    open->place = f->place;
+    open->waits = f->kind != 3;
+    open->held = f->kind == 1;
+    open->stranded = f->count == 1;
+    if (!open->waits) return mz_leave(f, c);
+    open->number = f->number;
+    open->op = (mz_op)f->op;
+    mz_get_record(f, &open->record);
+    return mz_leave(f, c);
+}
+
+/* ---- what is seen of them: nothing is copied, and nothing changed */
+
+/* The first open transaction that was admitted at this place of the log or behind it; for each of them, from 0
+ * and then from open->place + 1, whatever ends in between. MZ_NO_PLACE: there is no further one. */
+static inline mz_code mz_open_from(mz_tc *tc, uint64_t place, mz_open *open) {
+    return mz_opened_by(tc, MZ_CALL_OPEN_FROM, 0, place, open);
+}
+
+/* The first of them that waits for this data component: so each number that is open there is told. */
+static inline mz_code mz_waiting_from(mz_tc *tc, uint16_t dc, uint64_t place, mz_open *open) {
+    return mz_opened_by(tc, MZ_CALL_WAITING_FROM, dc, place, open);
+}
+
+/* A lock that a transaction holds. write 0: for reading alone; 1: for reading and writing. */
+typedef struct { uint64_t txn; mz_record record; int write; } mz_lock;
+
+/* The lock of this number, from 0, by rising record, of the open transaction that was admitted at this place of the
+ * log: open->place of the two above. It holds each of them from mz_admit to mz_end. MZ_NO_PLACE: it has no further one,
+ * or none is open that was admitted there. */
+static inline mz_code mz_lock_at(mz_tc *tc, uint64_t place, uint64_t number, mz_lock *lock) {
+    mz_frame *f;
+    mz_code c = mz_enter(tc, MZ_KIND_TC, lock != NULL, &f);
+    if (c != MZ_OK) return c;
+    f->place = place;
+    f->word = number;
+    c = mz_make(f, MZ_CALL_LOCK_AT);
+    if (c != MZ_OK) return mz_leave(f, c);
+    lock->txn = f->txn;
+    lock->write = f->kind == 2;
+    mz_get_record(f, &lock->record);
+    return mz_leave(f, c);
+}
+
+/* ---- a request that nobody holds */
+
+/* The open request of a transaction, the same as it was, also where nobody holds it: behind mz_recover, or behind
+ * mz_give_up, where a data component is back that nobody hoped for. *asked is MZ_REQUEST with the wire to carry, or
+ * MZ_DOWN; mz_resend and mz_run go on with it. One that was given up counts as in doubt for mz_blocked until it is
+ * answered. MZ_NO_TXN; MZ_NOTHING_OPEN: it waits for no answer, and mz_ask goes on. */
+static inline mz_code mz_retake(mz_tc *tc, uint64_t txn, mz_asked *asked) {
+    return mz_asked_by(tc, MZ_CALL_RETAKE, txn, asked);
+}
+
 /* ---- a log that begins anew, so that it doesn't grow for ever */
 
 /* The low-water mark: each number up to it is answered. Tell it to your storage before its checkpoint: then
@@ -558,6 +658,15 @@ static inline uint64_t mz_low_water(mz_tc *tc) {
     uint64_t mark = mz_make(f, MZ_CALL_LOW_WATER) == MZ_OK ? f->low_water : 0;
     mz_leave(f, MZ_OK);
     return mark;
+}
+
+/* The last number that was given out, or 0. */
+static inline uint64_t mz_last_number(mz_tc *tc) {
+    mz_frame *f;
+    if (mz_enter(tc, MZ_KIND_TC, 1, &f) != MZ_OK) return 0;
+    uint64_t number = mz_make(f, MZ_CALL_LOW_WATER) == MZ_OK ? f->number : 0;
+    mz_leave(f, MZ_OK);
+    return number;
 }
 
 /* The log begins anew, as one event, and its memory is for further ones; places count from 0 again, numbers
@@ -610,6 +719,27 @@ static inline mz_code mz_redo_next(mz_tc *tc, uint16_t dc, mz_wire *wire, int *u
     if (c != MZ_OK) return mz_leave(f, c);
     *up = f->kind == 2;
     if (!*up) mz_get_wire(f, wire);
+    return mz_leave(f, c);
+}
+
+/* So that several are carried at once: the operation of mz_redo_next and those behind it, by rising number, at most
+ * `most` of them (1 at least). *count says how many; 0: the data component is up. Those on one record are to be performed
+ * in this order, others may overlap. Give the replies to mz_redone in this order: each counts at once. As mz_redo_next. */
+static inline mz_code mz_redo_some(mz_tc *tc, uint16_t dc, mz_wire *wires, size_t most, size_t *count) {
+    mz_frame *f;
+    int up = 0;
+    if (!count || !most) return MZ_BAD_ARGUMENT;
+    mz_code c = mz_redo_next(tc, dc, wires, &up);
+    if (c == MZ_OK) *count = up ? 0 : 1;
+    if (c == MZ_OK) c = mz_enter(tc, MZ_KIND_TC, 1, &f);
+    if (c != MZ_OK) return c;
+    for (f->kind = 1; c == MZ_OK && !up && *count < most; *count += !up) {
+        f->dc = dc;
+        f->number = wires[*count - 1].number;
+        c = mz_make(f, MZ_CALL_REDO_BEHIND);
+        up = f->kind == 2; /* once those before it are redone */
+        if (c == MZ_OK && !up) mz_get_wire(f, &wires[*count]);
+    }
     return mz_leave(f, c);
 }
 
@@ -719,6 +849,66 @@ static inline mz_code mz_log_at(mz_tc *tc, uint64_t place, mz_event *event) {
     return c;
 }
 
+/* ---- the way back from a log */
+
+/* What is known of a data component, to be kept with the log: that it is up in this incarnation, or has restarted
+ * with this mark. Zeros are what is known at first. */
+typedef struct { uint64_t incarnation, mark; int down; } mz_note;
+
+/* What is to be kept of a data component now. Write it before a wire is carried that rests on it: behind mz_told
+ * before the first wire of the redo, and behind mz_redo_next that said *up before the next wire. MZ_NO_DC. */
+static inline mz_code mz_noted(mz_tc *tc, uint16_t dc, mz_note *note) {
+    mz_frame *f;
+    mz_code c = mz_enter(tc, MZ_KIND_TC, note != NULL, &f);
+    if (c != MZ_OK) return c;
+    f->dc = dc;
+    c = mz_make(f, MZ_CALL_SITE);
+    if (c != MZ_OK) return mz_leave(f, c);
+    note->incarnation = f->incarnation;
+    note->down = f->kind == 2;
+    note->mark = note->down ? f->low_water : 0;
+    return mz_leave(f, c);
+}
+
+/* ---- inside */
+
+static inline mz_code mz_hand_in_notes(mz_frame *f, const mz_note *notes, size_t count) {
+    mz_code c = MZ_OK;
+    for (size_t i = 0; c == MZ_OK && i < count; i++) {
+        f->kind = notes[i].down ? 2 : 1;
+        f->incarnation = notes[i].incarnation;
+        f->low_water = notes[i].mark;
+        c = mz_make(f, MZ_CALL_NOTE);
+    }
+    return c;
+}
+
+/* ---- */
+
+/* Comes back from `count` rows of 96 bytes, the log from its beginning as mz_log_bytes gave it, and from what was
+ * noted last of each data component, in order. The same procedures have to be loaded, in the same order. Then what
+ * was open is open, with its locks: mz_open_from, and mz_retake. A redo that was on its way begins anew.
+ *
+ * Refused, in this order: MZ_NO_EVENT, a row is no event's; MZ_BEGUN, something has happened here, a mz_recover
+ * perhaps; MZ_NOTE_COUNT, there isn't one note for each data component; MZ_LOG_ILLEGAL, an event may not stand
+ * behind the ones before it; MZ_FORGOTTEN, the log begins behind the mark of a data component that is down. *place
+ * is then the row, from 0, of MZ_FORGOTTEN the data component, and else 0; it may be NULL. */
+static inline mz_code mz_recover(mz_tc *tc, const void *rows, size_t count, const mz_note *notes, size_t note_count,
+                                 uint64_t *place) {
+    mz_frame *f;
+    int given = (rows || !count) && (notes || !note_count) && count <= SIZE_MAX / MZ_EVENT_BYTES;
+    mz_code c = mz_enter(tc, MZ_KIND_TC, given, &f);
+    if (c != MZ_OK) return c;
+    f->place = 0;
+    c = mz_hand_in_bytes(f, rows, count * MZ_EVENT_BYTES);
+    if (c == MZ_OK) c = mz_hand_in_notes(f, notes, note_count);
+    if (c == MZ_OK) c = mz_make(f, MZ_CALL_RECOVER);
+    if (c == MZ_OK) return mz_leave(f, c);
+    if (place) *place = f->place;
+    mz_make(f, MZ_CALL_CLEAR);
+    return mz_leave(f, c);
+}
+
 /* ---- whole calls */
 
 /* What became of a wire that a function of yours carried. */
@@ -733,53 +923,72 @@ typedef mz_carried mz_carry(void *context, const mz_wire *wire, mz_reply *reply,
 
 /* ---- inside */
 
-/* Hears news of a restart. *on is 1 where the component is down now, and of the restarts that may be heard
- * of, *restarts, one is left to redo it. News that were known are nothing. */
-static inline mz_code mz_hear(mz_tc *tc, uint16_t dc, const mz_news *news, int *restarts, int *on) {
+/* Hears news of a restart, one of the *restarts that may be heard of. News that were known are nothing. */
+static inline mz_code mz_hear(mz_tc *tc, uint16_t dc, const mz_news *news, int *restarts) {
     mz_code c = mz_told(tc, dc, news);
-    *on = c == MZ_OK && --*restarts > 0;
+    if (c == MZ_OK) --*restarts;
     return c == MZ_OLD_NEWS ? MZ_OK : c;
 }
 
+/* Redoes while wires are answered, and while restarts may be heard of. A wire is the same until it is redone, by whomever. */
 static inline mz_code mz_redo_within(mz_tc *tc, uint16_t dc, mz_carry *carry, void *context, int tries, int *restarts,
                                      int *up) {
-    for (*up = 0;;) {
+    uint64_t number = 0, incarnation = 0;
+    for (int left = tries;; left--) {
         mz_wire wire;
+        mz_reply reply;
+        mz_news news = {0, 0};
         mz_code c = mz_redo_next(tc, dc, &wire, up);
         if (c != MZ_OK || *up) return c;
-        int on = 0;
-        for (int i = 0; i < tries && *restarts > 0 && !on; i++) {
-            mz_reply reply;
-            mz_news news = {0, 0};
-            mz_carried carried = carry(context, &wire, &reply, &news);
-            if (carried == MZ_REPLIED) on = mz_redone(tc, dc, &reply) == MZ_OK;
-            if (carried == MZ_RESTARTED) c = mz_hear(tc, dc, &news, restarts, &on);
-            if (c != MZ_OK) return c;
-        }
-        if (!on) return MZ_OK;
+        if (wire.number != number || wire.incarnation != incarnation) left = tries;
+        if (left == 0 || *restarts <= 0) return MZ_OK;
+        number = wire.number;
+        incarnation = wire.incarnation;
+        mz_carried carried = carry(context, &wire, &reply, &news);
+        if (carried == MZ_REPLIED) (void)mz_redone(tc, dc, &reply);
+        if (carried == MZ_RESTARTED) c = mz_hear(tc, dc, &news, restarts);
+        if (c != MZ_OK) return c;
     }
 }
 
-/* Carries the open request of a transaction until it is answered. *wire is its wire, where `made` is 1. What
- * isn't answered is MZ_OK, or MZ_DC_DOWN where its data component is down. */
-static inline mz_code mz_carry_open(mz_tc *tc, uint64_t txn, mz_wire *wire, int made, mz_carry *carry, void *context,
-                                    int tries, int *answered) {
+/* The request that is kept of a transaction, as it is now: MZ_REQUEST with its wire, or MZ_DOWN. */
+static inline mz_code mz_held(mz_tc *tc, uint64_t txn, mz_asked *asked) {
+    mz_code c = mz_resend(tc, txn, &asked->wire);
+    if (c == MZ_DC_DOWN) return mz_retake(tc, txn, asked);
+    asked->next = MZ_REQUEST;
+    return c;
+}
+
+/* The same, behind the redo of its data component where that is down. */
+static inline mz_code mz_renew(mz_tc *tc, uint64_t txn, mz_asked *asked, mz_carry *carry, void *context, int tries,
+                               int *restarts) {
+    int up;
+    mz_code c = mz_held(tc, txn, asked);
+    if (c != MZ_OK || asked->next != MZ_DOWN || *restarts <= 0) return c;
+    c = mz_redo_within(tc, asked->wire.record.dc, carry, context, tries, restarts, &up);
+    return c == MZ_OK || c == MZ_NOT_DOWN ? mz_held(tc, txn, asked) : c;
+}
+
+/* Carries the open request of a transaction until it is answered. *asked is MZ_REQUEST, MZ_DOWN or MZ_WAITS; behind it
+ * MZ_RUNNING, with what was said, or as mz_held where it isn't answered. It gives nothing up. */
+static inline mz_code mz_carry_open(mz_tc *tc, uint64_t txn, mz_asked *asked, mz_carry *carry, void *context, int tries,
+                                    mz_said *said) {
     int restarts = tries;
-    *answered = 0;
-    for (int i = 0; i < tries; i++, made = 0) {
+    mz_code c = MZ_OK;
+    if (asked->next != MZ_REQUEST) c = mz_renew(tc, txn, asked, carry, context, tries, &restarts);
+    for (int i = 0; c == MZ_OK && asked->next == MZ_REQUEST && i < tries; i++) {
         mz_reply reply;
         mz_news news = {0, 0};
-        int on = 0, up;
-        mz_code c = made ? MZ_OK : mz_resend(tc, txn, wire);
-        if (c != MZ_OK) return c;
-        mz_carried carried = carry(context, wire, &reply, &news);
-        if (carried == MZ_REPLIED) *answered = mz_answer(tc, txn, &reply) == MZ_OK;
-        if (*answered) return MZ_OK;
-        if (carried == MZ_RESTARTED) c = mz_hear(tc, wire->record.dc, &news, &restarts, &on);
-        if (c == MZ_OK && on) c = mz_redo_within(tc, wire->record.dc, carry, context, tries, &restarts, &up);
-        if (c != MZ_OK) return c;
+        mz_carried carried = carry(context, &asked->wire, &reply, &news);
+        if (carried == MZ_REPLIED && mz_answer(tc, txn, &reply) == MZ_OK) {
+            asked->next = MZ_RUNNING;
+            *said = reply.said;
+            return MZ_OK;
+        }
+        if (carried == MZ_RESTARTED) c = mz_hear(tc, asked->wire.record.dc, &news, &restarts);
+        if (c == MZ_OK) c = mz_renew(tc, txn, asked, carry, context, tries, &restarts);
     }
-    return mz_resend(tc, txn, wire);
+    return c;
 }
 
 /* ---- */
@@ -794,21 +1003,26 @@ static inline mz_code mz_redo(mz_tc *tc, uint16_t dc, mz_carry *carry, void *con
     return mz_redo_within(tc, dc, carry, context, tries, &restarts, up);
 }
 
-/* Runs an admitted transaction to its end by one thread. Each wire is carried `tries` times at most; a data
- * component that says that it restarted is redone, and while one request waits so many restarts are heard of
- * at most. So it ends, whatever is carried. *stopped is
+/* Runs an admitted transaction by one thread, until it ends or nobody answers. Each wire is carried `tries` times at
+ * most; a data component that is down, or says that it restarted, is redone, and while one request waits so many
+ * restarts are heard of at most. So it returns, whatever is carried. *stopped is
  *   MZ_OVER: it has ended, as *receipt says;
- *   MZ_WAITS: nobody answered, and the request is given up: the transaction is in doubt;
- *   MZ_STUCK: a write couldn't be undone;
- *   MZ_DOWN: its data component is down and wasn't redone; see to that by mz_redo, and call this again.
- * MZ_NO_TXN; MZ_FORGOTTEN of news: the request stays open; MZ_BAD_ARGUMENT where tries isn't above 0. */
+ *   MZ_WAITS: nobody answered;
+ *   MZ_DOWN: its data component is down, and a wire of its redo wasn't answered;
+ *   MZ_UNDOING: what undoes a write found no room;
+ *   MZ_STUCK: so it was under four numbers, which are all that it has.
+ * Nothing is given up: behind MZ_WAITS, MZ_DOWN and MZ_UNDOING wait a while, and call this again; it keeps its locks. Or
+ * mz_give_up, behind which this answers MZ_WAITS, and carries nothing, until mz_retake. If a lock of yours is held round
+ * this call, `carry` may let it go while it carries, for calls on other transactions. MZ_NO_TXN; MZ_FORGOTTEN of news:
+ * the request stays open; MZ_BAD_ARGUMENT where tries isn't above 0. */
 static inline mz_code mz_run(mz_tc *tc, uint64_t txn, mz_carry *carry, void *context, int tries, mz_receipt *receipt,
                              mz_next *stopped) {
     if (!carry || !receipt || !stopped || tries < 1) return MZ_BAD_ARGUMENT;
-    int undoing = 0;
+    int undoing = 0, full = 0;
+    mz_asked asked;
+    memset(&asked, 0, sizeof asked);
     for (;;) {
-        mz_asked asked;
-        int answered;
+        mz_said said = MZ_DONE;
         mz_code c = undoing ? mz_undo(tc, txn, &asked) : mz_ask(tc, txn, &asked);
         if (c != MZ_OK) return c;
         *stopped = asked.next;
@@ -816,12 +1030,17 @@ static inline mz_code mz_run(mz_tc *tc, uint64_t txn, mz_carry *carry, void *con
         case MZ_REQUEST:
         case MZ_DOWN:
         case MZ_WAITS:
-            c = mz_carry_open(tc, txn, &asked.wire, asked.next == MZ_REQUEST, carry, context, tries, &answered);
-            if (c == MZ_OK && answered) break;
-            *stopped = c == MZ_DC_DOWN ? MZ_DOWN : MZ_WAITS;
-            if (c == MZ_DC_DOWN || c == MZ_NOTHING_OPEN) return MZ_OK;
-            return c == MZ_OK ? mz_give_up(tc, txn, NULL) : c;
-        case MZ_UNDOING: undoing = 1; break;
+            c = mz_carry_open(tc, txn, &asked, carry, context, tries, &said);
+            *stopped = asked.next == MZ_DOWN ? MZ_DOWN : MZ_WAITS;
+            if (c == MZ_NOTHING_OPEN) return MZ_OK;
+            if (c != MZ_OK || asked.next != MZ_RUNNING) return c;
+            full = undoing && said == MZ_NO_ROOM;
+            if (full) undoing = 0;
+            break;
+        case MZ_UNDOING:
+            if (full) return MZ_OK;
+            undoing = 1;
+            break;
         case MZ_RUNNING: undoing = 0; break;
         case MZ_OVER: return mz_end(tc, txn, receipt);
         case MZ_STUCK: return MZ_OK;
@@ -1033,6 +1252,11 @@ static inline const char *mz_code_text(mz_code code) {
     case MZ_ONE_DOWN: return "OneDown";
     case MZ_BEHIND: return "Behind";
     case MZ_ADMISSIONS_SPENT: return "AdmissionsSpent";
+    case MZ_BEGUN: return "Begun";
+    case MZ_NOTE_COUNT: return "NoteCount";
+    case MZ_ROW_LENGTH: return "RowLength";
+    case MZ_NO_EVENT: return "NoEvent";
+    case MZ_LOG_ILLEGAL: return "LogIllegal";
     case MZ_NAME_TAKEN: return "NameTaken";
     case MZ_DC_UNKNOWN: return "DcUnknown";
     }

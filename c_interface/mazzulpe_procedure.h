@@ -1,20 +1,21 @@
-/* mazzulpe_procedure.h: for procedures in C that are compiled for BPF, and loaded by mz_load_object.
+/* mazzulpe_procedure.h: for procedures in C that are compiled for BPF, and loaded by procd or mz_load_object.
  *
  *     #include "mazzulpe_procedure.h"
  *
- *     ACCESSES(move, TAKES(3), WRITES(0, 0, ARGUMENT(0)), WRITES(1, 0, ARGUMENT(1)))
+ *     ACCESSES(move, TAKES(3), WRITES(0, 0, ARGUMENT(0)), WRITES(0, 0, ARGUMENT(1)))
  *     PROCEDURE(move) { .. return 0; }
  *
- *     clang -target bpf -O2 -mcpu=v2 -c bank.c -o bank.o
+ *     clang -target bpf -O2 -mcpu=v2 -g -c bank.c -o bank.o
  *
  * docs/PROCEDURES.md says what a procedure may do, and what the verifier refuses. */
 #ifndef MAZZULPE_PROCEDURE_H
 #define MAZZULPE_PROCEDURE_H
 
-#include "procedure.h"
+typedef unsigned long long u64;
 
-/* What mz_load_object reads: 16 bytes an entry. */
-struct mazzulpe_access { unsigned short dc, table, flags, spare; u64 key; };
+/* A procedure: a function of its arguments, eight bytes each. It answers 0 to commit, and anything else to abort,
+ * which undoes what it wrote. It stands in a section of its own, from which its code is taken. */
+#define PROCEDURE(name) __attribute__((section("procedure/" #name))) u64 name(const u64 *args)
 
 /* The access slots of a procedure, in the order of their numbers, behind how many arguments it takes (at
  * most 8). READS is a slot for reading alone, WRITES one for both: data component, table, and KEY(k) or
@@ -26,5 +27,22 @@ struct mazzulpe_access { unsigned short dc, table, flags, spare; u64 key; };
 #define WRITES(dc, table, ...) {dc, table, 1 + __VA_ARGS__}
 #define KEY(k) 0, 0, k
 #define ARGUMENT(i) 2, 0, i
+
+/* An entry of a section of accesses: 16 bytes. */
+struct mazzulpe_access { unsigned short dc, table, flags, spare; u64 key; };
+
+/* What a procedure may call. `slot` is the number of an access slot, from 0, and has to be a constant; each slot has a
+ * buffer of 64 bytes. */
+
+/* Reads the slot's record into its buffer: the buffer's address, or 0 where there is no such record. */
+static u64 *(*record_read)(u64 slot) = (void *)1;
+/* Inserts the buffer as the record: 0, or 1 where there is one already. */
+static u64 (*record_insert)(u64 slot) = (void *)2;
+/* Writes the buffer over the record: 0, or 1 where there is none. */
+static u64 (*record_update)(u64 slot) = (void *)3;
+/* Deletes the record: 0, or 1 where there is none. */
+static u64 (*record_delete)(u64 slot) = (void *)4;
+/* The buffer's address; nothing is sent. */
+static u64 *(*record_buffer)(u64 slot) = (void *)5;
 
 #endif

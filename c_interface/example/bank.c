@@ -63,3 +63,23 @@ PROCEDURE(touch) {
     record_update(0);
     return LEFT_AGAIN;
 }
+
+/* move_here FROM TO AMOUNT: between two accounts at data component 0, of which the second may be opened by it. */
+ACCESSES(move_here, TAKES(3), WRITES(0, 0, ARGUMENT(0)), WRITES(0, 0, ARGUMENT(1)))
+PROCEDURE(move_here) {
+    u64 *from = record_read(0);
+    if (!from)
+        return UNKNOWN_ACCOUNT;
+    if (from[0] < args[2])
+        return TOO_LITTLE;
+    from[0] -= args[2];
+    record_update(0);
+    u64 *to = record_read(1);
+    if (to) {
+        to[0] += args[2];
+        return record_update(1);
+    }
+    to = record_buffer(1);
+    to[0] = args[2];
+    return record_insert(1);
+}

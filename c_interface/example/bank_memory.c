@@ -29,7 +29,7 @@ static void call(mz_tc *tc, world *w, const char *name, const uint64_t *args, si
     if (c == MZ_OK) c = mz_admit(tc, procedure, args, count, &txn, NULL, NULL);
     if (c == MZ_OK) c = mz_run(tc, txn, carry, w, 3, &r, &stopped);
     if (c != MZ_OK) die(name, c);
-    if (stopped != MZ_OVER) printf("%s in doubt\n", name);
+    if (stopped != MZ_OVER) printf("%s stopped\n", name);
     else if (r.outcome == MZ_COMMITTED) printf("%s committed\n", name);
     else printf("%s aborted %llu\n", name, (unsigned long long)r.value);
 }

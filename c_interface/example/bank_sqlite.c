@@ -111,6 +111,7 @@ static void call(mz_tc *tc, uint64_t procedure, const uint64_t *args, size_t cou
     }
     if (c != MZ_OK) die("admit", c);
     c = mz_run(tc, txn, carry, NULL, TRIES, &r, &stopped);
+    if (c == MZ_OK && stopped == MZ_WAITS) c = mz_give_up(tc, txn, NULL);
     if (c != MZ_OK) die("run", c);
     ended[stopped == MZ_OVER ? r.outcome : 0]++;
 }

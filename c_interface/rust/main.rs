@@ -5,7 +5,7 @@
 mod mazzulpe;
 
 use mazzulpe::{
-    At, Carried, DC_DOWN, Dc, Event, FORGOTTEN, Key, News, Next, NotAdmitted, Op, Outcome, Program, Ran, Record,
+    At, Carried, DC_DOWN, Dc, Event, FORGOTTEN, Key, News, Next, NotAdmitted, Op, Open, Outcome, Program, Ran, Record,
 };
 use mazzulpe::{Refusal, Reply, Said, Slot, TXNS_OPEN, Tc, Value, Wire};
 use std::collections::HashMap;
@@ -166,6 +166,26 @@ impl Bank {
     }
 }
 
+/// From each beginning of its log another component comes back, with the same requests open.
+fn come_back(tc: &mut Tc) -> Result<(), Refusal> {
+    let rows = (0..tc.log_length()).map(|place| tc.log_bytes(place)).collect::<Result<Vec<_>, _>>()?;
+    let notes = [tc.noted(0)?, tc.noted(1)?];
+    let mut open = 0;
+    for count in 0..=rows.len() {
+        let mut other = Tc::new(2)?;
+        other.load_object_file("build/bank.o").map_err(|(refusal, ..)| refusal)?;
+        other.recover(&rows[..count], &notes).map_err(|(refusal, _)| refusal)?;
+        assert_eq!(other.log_length(), count as u64);
+        if let Ok(Open { txn, waits: Some((number, op)), held: false, .. }) = other.open_from(0) {
+            assert_eq!(number, other.last_number());
+            assert!(matches!(other.retake(txn)?, Next::Request(wire) if wire.op.record() == op.record()));
+            open += 1;
+        }
+    }
+    println!("came back with a request open {open} times");
+    Ok(())
+}
+
 /// The bank over two data components of the library, by one thread: the rest of the interface once.
 fn in_memory() -> Result<(), Refusal> {
     const TRIES: u32 = 3;
@@ -187,7 +207,14 @@ fn in_memory() -> Result<(), Refusal> {
     let txn = tc.admit(deposit, &[7, 1]).expect("nothing in the way");
     let always = |_: &Wire| dcs[1].restart().map_or(Carried::Lost, Carried::Restarted);
     println!("a restart at each wire: {:?}", tc.run(txn, TRIES, always)?);
+    println!("an outage: {:?}", tc.run(txn, TRIES, |_| Carried::Lost)?);
     tc.redo(1, TRIES, |wire| carry(&mut dcs, wire))?;
+    println!("a longer one: {:?}", tc.run(txn, TRIES, |_| Carried::Lost)?);
+    let waiting = tc.waiting_from(1, 0)?;
+    println!("{} waits for data component 1, and holds {:?}", waiting.txn, tc.lock_at(waiting.place, 0)?);
+    tc.give_up(txn)?;
+    assert_eq!(tc.run(txn, TRIES, |wire| carry(&mut dcs, wire))?, Ran::Waits);
+    assert!(matches!(tc.retake(txn)?, Next::Request(_)));
     assert!(matches!(tc.run(txn, TRIES, |wire| carry(&mut dcs, wire))?, Ran::Over(_)));
     let (mark, mut before) = (tc.low_water(), dcs[0].restart()?);
     for dc in 0..2 {
@@ -199,6 +226,7 @@ fn in_memory() -> Result<(), Refusal> {
         println!("data component {dc} forgot {}", dcs[usize::from(dc)].forget()?);
     }
     println!("{} events, {} open", tc.log_length(), tc.open_count());
+    come_back(&mut tc)?;
     tc.checkpoint(mark)?;
     let Event::Checkpoint { admitted, given } = tc.log_at(0)? else { panic!("another event") };
     println!("{} event, behind transaction {admitted} and number {given}", tc.log_length());

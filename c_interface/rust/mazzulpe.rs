@@ -45,6 +45,8 @@ mod call {
     pub const CLEAR: u32 = 12;
     pub const LOAD: u32 = 13;
     pub const FIND: u32 = 14;
+    pub const NOTE: u32 = 15;
+    pub const RECOVER: u32 = 16;
     pub const ADMIT: u32 = 20;
     pub const BLOCKED: u32 = 21;
     pub const ASK: u32 = 22;
@@ -62,6 +64,9 @@ mod call {
     pub const REDONE: u32 = 34;
     pub const LOG_ANEW: u32 = 35;
     pub const LOW_WATER: u32 = 36;
+    pub const OPEN_FROM: u32 = 37;
+    pub const RETAKE: u32 = 38;
+    pub const LOCK_AT: u32 = 39;
     pub const PERFORM: u32 = 40;
     pub const RESTART: u32 = 41;
     pub const GET: u32 = 42;
@@ -73,6 +78,8 @@ mod call {
     pub const VERIFY: u32 = 50;
     pub const RUN: u32 = 51;
     pub const RESUME: u32 = 52;
+    pub const WAITING_FROM: u32 = 60;
+    pub const REDO_BEHIND: u32 = 61;
 }
 
 unsafe extern "C" {
@@ -127,6 +134,11 @@ pub const TXNS_OPEN: Refusal = code('G', 2);
 pub const ONE_DOWN: Refusal = code('G', 4);
 pub const BEHIND: Refusal = code('G', 5);
 pub const ADMISSIONS_SPENT: Refusal = code('G', 6);
+pub const BEGUN: Refusal = code('R', 1);
+pub const NOTE_COUNT: Refusal = code('R', 2);
+pub const ROW_LENGTH: Refusal = code('L', 1);
+pub const NO_EVENT: Refusal = code('L', 2);
+pub const LOG_ILLEGAL: Refusal = code('U', 1);
 pub const NAME_TAKEN: Refusal = code('P', 1);
 pub const DC_UNKNOWN: Refusal = code('P', 2);
 
@@ -183,6 +195,11 @@ impl Refusal {
             ONE_DOWN => "OneDown",
             BEHIND => "Behind",
             ADMISSIONS_SPENT => "AdmissionsSpent",
+            BEGUN => "Begun",
+            NOTE_COUNT => "NoteCount",
+            ROW_LENGTH => "RowLength",
+            NO_EVENT => "NoEvent",
+            LOG_ILLEGAL => "LogIllegal",
             NAME_TAKEN => "NameTaken",
             DC_UNKNOWN => "DcUnknown",
             Refusal(code) => match (code >> 8) as u8 {
@@ -282,6 +299,13 @@ pub struct News {
     pub mark: u64,
 }
 
+/// What is kept of a data component with the log: that it is up in an incarnation, or has restarted.
+#[derive(Clone, Copy, Debug)]
+pub enum Note {
+    Up(u64),
+    Restarted(News),
+}
+
 #[derive(Clone, Copy, Debug)]
 pub enum Key {
     Fixed(u64),
@@ -323,6 +347,28 @@ impl Outcome {
             _ => Outcome::NoRoom,
         }
     }
+}
+
+/// An open transaction, with the place of its admission in the log, from 0.
+#[derive(Clone, Copy, Debug)]
+pub struct Open {
+    pub txn: u64,
+    pub procedure: u64,
+    pub place: u64,
+    /// The number and the operation that it waits for, if it does.
+    pub waits: Option<(u64, Op)>,
+    /// That request is held; else [`Tc::retake`] takes it up.
+    pub held: bool,
+    /// It is in doubt, since that number was given up, or stuck.
+    pub stranded: bool,
+}
+
+/// A lock that a transaction holds: for writing too, or for reading alone.
+#[derive(Clone, Copy, Debug, PartialEq, Eq)]
+pub struct Lock {
+    pub txn: u64,
+    pub record: Record,
+    pub write: bool,
 }
 
 /// How a transaction ended, and the place of its end in the log, from 0.
@@ -480,13 +526,19 @@ impl Handle {
         Ok(())
     }
 
-    /// Hands in code and its access slots.
-    fn hand_in(&mut self, code: &[u8], slots: &[Slot]) -> Result<(), Refusal> {
+    /// Hands these bytes in, in place of all that was.
+    fn hand_in_bytes(&mut self, bytes: &[u8]) -> Result<(), Refusal> {
         self.call(call::CLEAR)?;
-        for part in code.chunks(256) {
+        for part in bytes.chunks(256) {
             self.put_bytes(part)?;
             self.call(call::BYTES)?;
         }
+        Ok(())
+    }
+
+    /// Hands in code and its access slots.
+    fn hand_in(&mut self, code: &[u8], slots: &[Slot]) -> Result<(), Refusal> {
+        self.hand_in_bytes(code)?;
         for slot in slots {
             let f = self.frame();
             f.kind = u32::from(slot.write);
@@ -499,6 +551,19 @@ impl Handle {
             self.call(call::SLOT)?;
         }
         Ok(())
+    }
+
+    fn recover(&mut self, rows: &[[u8; 96]], notes: &[Note]) -> Result<(), Refusal> {
+        self.hand_in_bytes(rows.as_flattened())?;
+        for note in notes {
+            let f = self.frame();
+            (f.kind, f.incarnation, f.low_water) = match *note {
+                Note::Up(incarnation) => (1, incarnation, 0),
+                Note::Restarted(news) => (2, news.incarnation, news.mark),
+            };
+            self.call(call::NOTE)?;
+        }
+        self.call(call::RECOVER)
     }
 
     fn put_record(&mut self, record: &Record) {
@@ -661,6 +726,11 @@ impl Tc {
         Ok(self.handle.wire())
     }
 
+    /// The open request of a transaction, also where nobody holds it.
+    pub fn retake(&mut self, txn: u64) -> Result<Next, Refusal> {
+        self.next(call::RETAKE, txn)
+    }
+
     /// Takes a reply in.
     pub fn answer(&mut self, txn: u64, reply: &Reply) -> Result<(), Refusal> {
         self.handle.put_reply(reply);
@@ -686,6 +756,47 @@ impl Tc {
     /// How many transactions are open.
     pub fn open_count(&mut self) -> u64 {
         self.handle.counted(call::OPEN_COUNT)
+    }
+
+    fn opened(&mut self, what: u32, dc: u16, place: u64) -> Result<Open, Refusal> {
+        (self.frame().dc, self.frame().place) = (dc, place);
+        self.handle.call(what)?;
+        let op = self.handle.op();
+        let f = self.frame();
+        let waits = (f.kind != 3).then_some((f.number, op));
+        Ok(Open {
+            txn: f.txn,
+            procedure: f.word,
+            place: f.place,
+            waits,
+            held: f.kind == 1,
+            stranded: f.count == 1,
+        })
+    }
+
+    /// The first open transaction that was admitted at this place of the log or behind it.
+    pub fn open_from(&mut self, place: u64) -> Result<Open, Refusal> {
+        self.opened(call::OPEN_FROM, 0, place)
+    }
+
+    /// The first of them that waits for this data component.
+    pub fn waiting_from(&mut self, dc: u16, place: u64) -> Result<Open, Refusal> {
+        self.opened(call::WAITING_FROM, dc, place)
+    }
+
+    /// The lock of this number, from 0, of the open transaction that was admitted at this place of the log.
+    pub fn lock_at(&mut self, place: u64, number: u64) -> Result<Lock, Refusal> {
+        (self.frame().place, self.frame().word) = (place, number);
+        self.handle.call(call::LOCK_AT)?;
+        let record = self.handle.record();
+        let f = self.frame();
+        Ok(Lock { txn: f.txn, record, write: f.kind == 2 })
+    }
+
+    /// The last number that was given out, or 0.
+    pub fn last_number(&mut self) -> u64 {
+        self.handle.counted(call::LOW_WATER);
+        self.frame().number
     }
 
     /// The low-water mark: each number up to it is answered.
@@ -724,11 +835,51 @@ impl Tc {
         })
     }
 
+    /// The operation of [`Tc::redo_next`] and those behind it, at most so many, to be carried at once; none: it is up.
+    pub fn redo_some(&mut self, dc: u16, most: usize) -> Result<Vec<Wire>, Refusal> {
+        if most == 0 {
+            return Err(BAD_ARGUMENT);
+        }
+        let mut wires: Vec<Wire> = self.redo_next(dc)?.into_iter().collect();
+        while let Some(last) = wires.last().filter(|_| wires.len() < most) {
+            (self.frame().dc, self.frame().number) = (dc, last.number);
+            self.handle.call(call::REDO_BEHIND)?;
+            if self.frame().kind == 2 {
+                break;
+            }
+            wires.push(self.handle.wire());
+        }
+        Ok(wires)
+    }
+
     /// Takes the reply to the operation under redo.
     pub fn redone(&mut self, dc: u16, reply: &Reply) -> Result<(), Refusal> {
         self.handle.put_reply(reply);
         self.frame().dc = dc;
         self.handle.call(call::REDONE)
+    }
+
+    /// What is to be kept of a data component now.
+    pub fn noted(&mut self, dc: u16) -> Result<Note, Refusal> {
+        self.frame().dc = dc;
+        self.handle.call(call::SITE)?;
+        let f = self.frame();
+        Ok(match f.kind {
+            2 => Note::Restarted(News { incarnation: f.incarnation, mark: f.low_water }),
+            _ => Note::Up(f.incarnation),
+        })
+    }
+
+    /// Comes back from a log's rows and from what was noted of each data component; on a refusal also the row, or
+    /// the data component of [`FORGOTTEN`].
+    pub fn recover(&mut self, rows: &[[u8; 96]], notes: &[Note]) -> Result<(), (Refusal, u64)> {
+        self.frame().place = 0;
+        let recovered = self.handle.recover(rows, notes);
+        recovered.map_err(|refusal| {
+            let place = self.frame().place;
+            self.handle.call(call::CLEAR).expect("a call that is never refused");
+            (refusal, place)
+        })
     }
 
     /// How many events the log has.

@@ -1,5 +1,6 @@
 /* Each growth refused in turn: an object file is loaded whole, or the same call goes on once there is memory;
- * and a file with one procedure that is refused loads none. */
+ * a file with one procedure that is refused loads none; a log is recovered from whole or not at all, and what it
+ * left open then goes on without any memory. */
 #include "mazzulpe_object.h"
 #include "seen.h"
 #include <stdbool.h>
@@ -56,6 +57,57 @@ static int cut_off_at(long n) {
     return cut_off ? 1 + (some > 0) : 0;
 }
 
+static mz_carried carry(void *context, const mz_wire *wire, mz_reply *reply, mz_news *news) {
+    (void)news;
+    return mz_dc_perform((mz_dc *)context, wire, reply) == MZ_OK ? MZ_REPLIED : MZ_LOST;
+}
+
+enum { OPEN = 5 };
+
+/* The log of five deposits, each with its first request open. */
+static size_t left_open(uint8_t rows[][MZ_EVENT_BYTES]) {
+    mz_code code;
+    mz_asked asked;
+    size_t count = 0;
+    uint64_t txn = 0;
+    mz_tc *tc = mz_tc_new(2, &code);
+    SEEN(mz_load_object_file(tc, "build/bank.o", NULL, NULL) == MZ_OK);
+    for (uint64_t i = 0; i < OPEN; i++) {
+        const uint64_t args[] = {i, 10};
+        SEEN(mz_admit(tc, 0, args, 2, &txn, NULL, NULL) == MZ_OK && mz_ask(tc, txn, &asked) == MZ_OK);
+    }
+    while (mz_log_bytes(tc, count, rows[count]) == MZ_OK) count++;
+    mz_tc_free(tc);
+    return count;
+}
+
+/* Comes back with each growth from the n-th on refused; 0 where none was. */
+static int back_at(long n, const void *rows, size_t count) {
+    static const mz_note notes[2];
+    mz_code code;
+    mz_asked asked;
+    mz_receipt receipt = {MZ_ABORTED, 0, 0};
+    mz_next stopped;
+    mz_tc *tc = mz_tc_new(2, &code);
+    mz_dc *dc = mz_dc_new(10, 100, &code);
+    SEEN(mz_load_object_file(tc, "build/bank.o", NULL, NULL) == MZ_OK);
+    left = n;
+    code = mz_recover(tc, rows, count, notes, 2, NULL);
+    left = -1;
+    int cut_off = code != MZ_OK;
+    if (cut_off) SEEN(code == MZ_MEMORY && mz_log_length(tc) == 0 && mz_open_count(tc) == 0);
+    if (cut_off) SEEN(mz_recover(tc, rows, count, notes, 2, NULL) == MZ_OK);
+    SEEN(mz_log_length(tc) == count && mz_open_count(tc) == OPEN);
+    left = 0;
+    for (uint64_t txn = 1; txn <= OPEN; txn++) SEEN(mz_retake(tc, txn, &asked) == MZ_OK && asked.wire.number == txn);
+    for (uint64_t txn = 1; txn <= OPEN; txn++)
+        SEEN(mz_run(tc, txn, carry, dc, 1, &receipt, &stopped) == MZ_OK && receipt.outcome == MZ_COMMITTED);
+    left = -1;
+    mz_dc_free(dc);
+    mz_tc_free(tc);
+    return cut_off;
+}
+
 int main(void) {
     mz_code code;
     uint64_t place;
@@ -68,6 +120,11 @@ int main(void) {
     SEEN(mz_load_object_file(tc, "build/bank.o", name, &place) == MZ_DC_UNKNOWN && !strcmp(name, "deposit_there"));
     SEEN(how_many(tc) == 0);
     mz_tc_free(tc);
-    printf("memory: %s\n", failures ? "NOT as it has to be" : "loaded whole, or goes on");
+    uint8_t rows[4 * OPEN][MZ_EVENT_BYTES];
+    size_t count = left_open(rows);
+    long refusals = 0;
+    while (back_at(refusals, rows, count)) refusals++;
+    SEEN(count == 2 * OPEN && refusals > 10);
+    printf("memory: %s\n", failures ? "NOT as it has to be" : "whole, or goes on");
     return failures != 0;
 }

@@ -15,12 +15,16 @@ static mz_carried lost(void *context, const mz_wire *wire, mz_reply *reply, mz_n
 static void tc_refuses(mz_tc *tc, mz_code code) {
     uint64_t number = 7;
     int flag = 7;
+    size_t count;
     mz_asked asked;
     mz_wire wire;
     mz_receipt receipt;
     mz_next stopped;
     mz_event event;
     uint8_t bytes[MZ_EVENT_BYTES];
+    mz_open open;
+    mz_lock lock;
+    mz_note note = {0, 0, 0};
     const mz_reply reply = {1, 0, MZ_DONE, {0}};
     const mz_news news = {1, 0};
     SEEN(mz_load(tc, "p", answers_0, sizeof answers_0, NULL, 0, 0, &number, NULL) == code);
@@ -31,15 +35,22 @@ static void tc_refuses(mz_tc *tc, mz_code code) {
     SEEN(mz_ask(tc, 1, &asked) == code);
     SEEN(mz_undo(tc, 1, &asked) == code);
     SEEN(mz_resend(tc, 1, &wire) == code);
+    SEEN(mz_retake(tc, 1, &asked) == code);
     SEEN(mz_answer(tc, 1, &reply) == code);
     SEEN(mz_give_up(tc, 1, &number) == code);
     SEEN(mz_end(tc, 1, &receipt) == code);
     SEEN(mz_open_count(tc) == 0);
+    SEEN(mz_open_from(tc, 0, &open) == code && mz_waiting_from(tc, 0, 0, &open) == code);
+    SEEN(mz_lock_at(tc, 0, 0, &lock) == code);
     SEEN(mz_low_water(tc) == 0);
+    SEEN(mz_last_number(tc) == 0);
+    SEEN(mz_noted(tc, 0, &note) == code);
+    SEEN(mz_recover(tc, NULL, 0, &note, 1, &number) == code);
     SEEN(mz_checkpoint(tc, 0) == code);
     SEEN(mz_site(tc, 0, &number, &flag) == code);
     SEEN(mz_told(tc, 0, &news) == code);
     SEEN(mz_redo_next(tc, 0, &wire, &flag) == code);
+    SEEN(mz_redo_some(tc, 0, &wire, 1, &count) == code);
     SEEN(mz_redone(tc, 0, &reply) == code);
     SEEN(mz_redo(tc, 0, lost, NULL, 1, &flag) == code);
     SEEN(mz_run(tc, 1, lost, NULL, 1, &receipt, &stopped) == code);
@@ -82,6 +93,7 @@ static void program_refuses(mz_program *program, mz_code code) {
 static void pointers(mz_tc *tc, mz_dc *dc, mz_program *program) {
     const mz_code bad = MZ_BAD_ARGUMENT;
     uint64_t number, txn;
+    size_t count;
     int flag;
     mz_receipt receipt;
     mz_next stopped;
@@ -99,6 +111,12 @@ static void pointers(mz_tc *tc, mz_dc *dc, mz_program *program) {
     SEEN(mz_blocked(tc, 0, NULL, 0, NULL) == bad && mz_ask(tc, 1, NULL) == bad && mz_undo(tc, 1, NULL) == bad);
     SEEN(mz_resend(tc, 1, NULL) == bad && mz_answer(tc, 1, NULL) == bad && mz_end(tc, 1, NULL) == bad);
     SEEN(mz_redo_next(tc, 0, NULL, &flag) == bad && mz_redo_next(tc, 0, &wire, NULL) == bad);
+    SEEN(mz_redo_some(tc, 0, NULL, 1, &count) == bad && mz_redo_some(tc, 0, &wire, 1, NULL) == bad);
+    SEEN(mz_redo_some(tc, 0, &wire, 0, &count) == bad);
+    SEEN(mz_retake(tc, 1, NULL) == bad && mz_open_from(tc, 0, NULL) == bad && mz_waiting_from(tc, 0, 0, NULL) == bad);
+    SEEN(mz_lock_at(tc, 0, 0, NULL) == bad && mz_noted(tc, 0, NULL) == bad);
+    SEEN(mz_recover(tc, NULL, 1, NULL, 0, NULL) == bad && mz_recover(tc, answers_0, 0, NULL, 1, NULL) == bad);
+    SEEN(mz_recover(tc, answers_0, SIZE_MAX, NULL, 0, NULL) == bad);
     SEEN(mz_told(tc, 0, NULL) == bad && mz_redone(tc, 0, NULL) == bad);
     SEEN(mz_log_bytes(tc, 0, NULL) == bad && mz_log_at(tc, 0, NULL) == bad);
     SEEN(mz_run(tc, 1, NULL, NULL, 1, &receipt, &stopped) == bad);

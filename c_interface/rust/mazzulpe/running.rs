@@ -1,6 +1,8 @@
 //! Whole calls: a transaction to its end, and a redo, over a function that carries wires.
 
-use super::{BAD_ARGUMENT, DC_DOWN, NOTHING_OPEN, News, Next, OLD_NEWS, Receipt, Refusal, Reply, Tc, Wire};
+use super::{
+    BAD_ARGUMENT, DC_DOWN, NOT_DOWN, NOTHING_OPEN, News, Next, OLD_NEWS, Receipt, Refusal, Reply, Said, Tc, Wire,
+};
 
 /// What became of a wire.
 #[derive(Clone, Copy, Debug)]
@@ -12,28 +14,29 @@ pub enum Carried {
     Restarted(News),
 }
 
-/// Where [`Tc::run`] stopped.
+/// Where [`Tc::run`] stopped. Nothing is given up: behind `Waits`, `Down` and `Undoing` wait a while, and run it again.
 #[derive(Clone, Copy, Debug, PartialEq, Eq)]
 pub enum Ran {
     Over(Receipt),
-    /// Nobody answered, and the request is given up.
-    InDoubt,
-    /// The write under this number couldn't be undone.
-    Stuck(u64),
-    /// Its data component is down and wasn't redone: see to that by [`Tc::redo`], and run it again.
+    /// Nobody answered; or the request was given up, and [`Tc::retake`] takes it up.
+    Waits,
+    /// Its data component is down, and a wire of its redo wasn't answered.
     Down,
+    /// What undoes a write found no room.
+    Undoing,
+    /// So it was under four numbers, of which this is the last.
+    Stuck(u64),
 }
 
 impl Tc {
-    /// Hears news of a restart. Whether the component is down now, and of the restarts that may be heard of one is
-    /// left to redo it.
-    fn hear(&mut self, dc: u16, news: News, restarts: &mut u32) -> Result<bool, Refusal> {
+    /// Hears news of a restart, one of those that may be heard of. News that were known are nothing.
+    fn hear(&mut self, dc: u16, news: News, restarts: &mut u32) -> Result<(), Refusal> {
         match self.told(dc, news) {
             Ok(()) => {
                 *restarts -= 1;
-                Ok(*restarts > 0)
+                Ok(())
             }
-            Err(OLD_NEWS) => Ok(false),
+            Err(OLD_NEWS) => Ok(()),
             Err(refusal) => Err(refusal),
         }
     }
@@ -45,18 +48,22 @@ impl Tc {
         restarts: &mut u32,
         carry: &mut impl FnMut(&Wire) -> Carried,
     ) -> Result<bool, Refusal> {
+        let (mut left, mut before) = (tries, None);
         while let Some(wire) = self.redo_next(dc)? {
-            let (mut left, mut on) = (tries, false);
-            while left > 0 && *restarts > 0 && !on {
-                left -= 1;
-                on = match carry(&wire) {
-                    Carried::Lost => false,
-                    Carried::Replied(reply) => self.redone(dc, &reply).is_ok(),
-                    Carried::Restarted(news) => self.hear(dc, news, restarts)?,
-                };
+            if before != Some((wire.number, wire.incarnation)) {
+                left = tries;
             }
-            if !on {
+            if left == 0 || *restarts == 0 {
                 return Ok(false);
+            }
+            left -= 1;
+            before = Some((wire.number, wire.incarnation));
+            match carry(&wire) {
+                Carried::Lost => {}
+                Carried::Replied(reply) => {
+                    let _the_same_comes_again = self.redone(dc, &reply);
+                }
+                Carried::Restarted(news) => self.hear(dc, news, restarts)?,
             }
         }
         Ok(true)
@@ -71,45 +78,64 @@ impl Tc {
         self.redo_within(dc, tries, &mut { tries }, &mut carry)
     }
 
-    /// Carries the open request until it is answered; whether it is. [`DC_DOWN`]: its data component is down.
+    /// The wire of the request that is kept, behind the redo of its data component where that is down.
+    fn renew(
+        &mut self,
+        txn: u64,
+        tries: u32,
+        restarts: &mut u32,
+        carry: &mut impl FnMut(&Wire) -> Carried,
+    ) -> Result<Wire, Refusal> {
+        match self.resend(txn) {
+            Err(DC_DOWN) if *restarts > 0 => {}
+            wire => return wire,
+        }
+        if let Next::Down(record) = self.retake(txn)? {
+            match self.redo_within(record.dc, tries, restarts, carry) {
+                Ok(_) | Err(NOT_DOWN) => {}
+                Err(refusal) => return Err(refusal),
+            }
+        }
+        self.resend(txn)
+    }
+
+    /// Carries the open request, and what is said to it, if it is answered. [`DC_DOWN`]: its data component is down.
     fn carry_open(
         &mut self,
         txn: u64,
-        mut made: Option<Wire>,
+        made: Option<Wire>,
         tries: u32,
         carry: &mut impl FnMut(&Wire) -> Carried,
-    ) -> Result<bool, Refusal> {
+    ) -> Result<Option<Said>, Refusal> {
         let mut restarts = tries;
+        let mut wire = match made {
+            Some(wire) => wire,
+            None => self.renew(txn, tries, &mut restarts, carry)?,
+        };
         for _ in 0..tries {
-            let wire = match made.take() {
-                Some(wire) => wire,
-                None => self.resend(txn)?,
-            };
             match carry(&wire) {
-                Carried::Replied(reply) if self.answer(txn, &reply).is_ok() => return Ok(true),
-                Carried::Restarted(news) => {
-                    let dc = wire.op.record().dc;
-                    if self.hear(dc, news, &mut restarts)? {
-                        self.redo_within(dc, tries, &mut restarts, carry)?;
-                    }
-                }
+                Carried::Replied(reply) if self.answer(txn, &reply).is_ok() => return Ok(Some(reply.said)),
+                Carried::Restarted(news) => self.hear(wire.op.record().dc, news, &mut restarts)?,
                 Carried::Replied(_) | Carried::Lost => {}
             }
+            wire = self.renew(txn, tries, &mut restarts, carry)?;
         }
-        self.resend(txn).map(|_| false)
+        Ok(None)
     }
 
-    /// Runs an admitted transaction to its end. Each wire is carried `tries` times at most; a data component that says
-    /// that it restarted is redone, and while one request waits so many restarts are heard of at most.
+    /// Runs an admitted transaction until it ends or nobody answers. Each wire is carried `tries` times at most; a data
+    /// component that is down, or says that it restarted, is redone, and while one request waits so many restarts are
+    /// heard of at most.
     pub fn run(&mut self, txn: u64, tries: u32, mut carry: impl FnMut(&Wire) -> Carried) -> Result<Ran, Refusal> {
         if tries == 0 {
             return Err(BAD_ARGUMENT);
         }
-        let mut undoing = false;
+        let (mut undoing, mut full) = (false, false);
         loop {
             let made = match if undoing { self.undo(txn)? } else { self.ask(txn)? } {
                 Next::Request(wire) => Some(wire),
                 Next::Down(_) | Next::Waits(_) => None,
+                Next::Undoing if full => return Ok(Ran::Undoing),
                 Next::Undoing | Next::Running => {
                     undoing = !undoing;
                     continue;
@@ -118,12 +144,12 @@ impl Tc {
                 Next::Stuck(number) => return Ok(Ran::Stuck(number)),
             };
             match self.carry_open(txn, made, tries, &mut carry) {
-                Ok(true) => {}
-                Ok(false) => return self.give_up(txn).map(|_| Ran::InDoubt),
-                Err(NOTHING_OPEN) => return Ok(Ran::InDoubt),
+                Ok(Some(said)) => full = undoing && matches!(said, Said::NoRoom),
+                Ok(None) | Err(NOTHING_OPEN) => return Ok(Ran::Waits),
                 Err(DC_DOWN) => return Ok(Ran::Down),
                 Err(refusal) => return Err(refusal),
             }
+            undoing &= !full;
         }
     }
 }

@@ -1,0 +1,161 @@
+/* A data component in memory, which keeps the seven rules of docs/COMPONENTS.md. Compiled with WRONG it breaks
+ * one of them, so that `make try_component` can be seen to tell. */
+#include "component.h"
+#include <pthread.h>
+
+#ifndef WRONG
+#define WRONG 0
+#endif
+enum {
+    PERFORMS_AGAIN = 1,      /* it keeps no number */
+    ANSWERS_BY_NOW,          /* a number that comes again is answered by what the record is now */
+    FORGETS_TOO_MUCH,        /* it forgets numbers above the low-water mark */
+    ANSWERS_FIRST,           /* a write is answered before it is done */
+    KEEPS_APART,             /* a number isn't kept in one step with its record: SIGKILL comes between */
+    TELLS_NOBODY,            /* what it lost it lost without a new incarnation */
+    COUNTS_WHAT_IT_LOST,     /* its new incarnation is one more than the kept one, which is lost as well */
+    TELLS_THE_LOST_MARK,     /* its news have the mark that it had, not the one that it kept */
+    HEARS_OTHER_INCARNATION, /* a wire of another incarnation raises its mark */
+    DOES_OTHER_INCARNATION,  /* a wire of another incarnation is performed */
+    FULL_ANSWERS,            /* where it is full it answers that the record isn't there */
+    FULL_KEEPS_NOT           /* where it is full it performs, and doesn't keep the number */
+};
+
+enum { RECORDS = 256, NUMBERS = 1 << 18 };
+
+typedef struct { int there; mz_record record; uint8_t value[MZ_VALUE]; } row;
+typedef struct { int kept; mz_reply reply; } answer;
+typedef struct {
+    row rows[RECORDS];
+    answer answers[NUMBERS];
+    uint64_t mark, last[4]; /* the numbers that were performed last */
+} store;
+
+struct component {
+    pthread_mutex_t lock;
+    store now, kept;
+    uint64_t incarnation; /* durable at once, and apart from what can be lost */
+    uint64_t at_checkpoint;
+    int full, waits;
+    mz_wire waiting;
+};
+
+component *component_open(const char *folder) {
+    component *c = (component *)calloc(1, sizeof *c);
+    (void)folder;
+    if (c) pthread_mutex_init(&c->lock, NULL);
+    return c;
+}
+
+void component_close(component *c) { free(c); }
+
+static row *row_of(store *s, const mz_record *record, int wanted) {
+    row *free_row = NULL;
+    for (row *r = s->rows; r < s->rows + RECORDS; r++) {
+        if (r->there && r->record.table == record->table && r->record.key == record->key) return r;
+        if (!r->there) free_row = r;
+    }
+    if (wanted && free_row) free_row->record = *record;
+    return wanted ? free_row : NULL;
+}
+
+static mz_said operate(store *s, const mz_wire *w, uint8_t *was) {
+    row *r = row_of(s, &w->record, 0);
+    if (w->op == MZ_INSERT && r) return MZ_DUPLICATE;
+    if (w->op == MZ_INSERT) {
+        if (!(r = row_of(s, &w->record, 1))) return MZ_NO_ROOM;
+        r->there = 1;
+        memcpy(r->value, w->value, MZ_VALUE);
+        return MZ_DONE;
+    }
+    if (!r) return w->op == MZ_READ ? MZ_ABSENT : MZ_MISSING;
+    memcpy(was, r->value, MZ_VALUE);
+    if (w->op == MZ_READ) return MZ_VALUE_IS;
+    if (w->op == MZ_UPDATE) memcpy(r->value, w->value, MZ_VALUE);
+    if (w->op == MZ_DELETE) r->there = 0;
+    return MZ_DONE_WAS;
+}
+
+/* What a number that comes again is answered by a component that looks at the record, and keeps no answer. */
+static mz_said by_now(store *s, const mz_wire *w, uint8_t *was) {
+    row *r = row_of(s, &w->record, 0);
+    if (r && w->op != MZ_INSERT) memcpy(was, r->value, MZ_VALUE);
+    if (w->op == MZ_INSERT) return r ? MZ_DUPLICATE : MZ_DONE;
+    if (w->op == MZ_READ) return r ? MZ_VALUE_IS : MZ_ABSENT;
+    return r ? MZ_DONE_WAS : MZ_MISSING;
+}
+
+static int is_wrong(int way) { return WRONG == way; }
+
+static mz_carried performed(component *c, const mz_wire *w, mz_reply *reply) {
+    store *s = &c->now;
+    answer *a = &s->answers[w->number % NUMBERS];
+    if (c->waits) operate(s, &c->waiting, (uint8_t[MZ_VALUE]){0});
+    c->waits = 0;
+    if (w->low_water > s->mark) s->mark = w->low_water;
+    if (is_wrong(FORGETS_TOO_MUCH) && w->number > 3 && w->number - 3 > s->mark) s->answers[(w->number - 3) % NUMBERS].kept = 0;
+    memset(reply, 0, sizeof *reply);
+    reply->number = w->number;
+    reply->incarnation = w->incarnation;
+    reply->said = MZ_OLD;
+    if (w->number <= s->mark) return MZ_REPLIED;
+    if (a->kept && is_wrong(ANSWERS_BY_NOW)) {
+        reply->said = by_now(s, w, reply->value);
+        return MZ_REPLIED;
+    }
+    if (a->kept && !is_wrong(PERFORMS_AGAIN)) {
+        *reply = a->reply;
+        reply->incarnation = w->incarnation;
+        return MZ_REPLIED;
+    }
+    int is_full = c->full && !w->redo;
+    if (is_full && is_wrong(FULL_ANSWERS)) reply->said = w->op == MZ_READ ? MZ_ABSENT : MZ_MISSING;
+    if (is_full && !is_wrong(FULL_KEEPS_NOT)) return is_wrong(FULL_ANSWERS) ? MZ_REPLIED : MZ_LOST;
+    if (is_wrong(ANSWERS_FIRST) && w->op == MZ_UPDATE && row_of(s, &w->record, 0)) {
+        reply->said = by_now(s, w, reply->value);
+        c->waiting = *w;
+        c->waits = 1;
+    } else {
+        reply->said = operate(s, w, reply->value);
+    }
+    a->kept = !(is_full && is_wrong(FULL_KEEPS_NOT));
+    a->reply = *reply;
+    memmove(s->last + 1, s->last, 3 * sizeof *s->last);
+    s->last[0] = w->number;
+    return MZ_REPLIED;
+}
+
+mz_carried component_carry(component *c, const mz_wire *wire, mz_reply *reply, mz_news *news) {
+    mz_carried carried = MZ_RESTARTED;
+    pthread_mutex_lock(&c->lock);
+    if (wire->incarnation == c->incarnation || is_wrong(DOES_OTHER_INCARNATION)) {
+        carried = performed(c, wire, reply);
+    } else {
+        news->incarnation = c->incarnation;
+        news->mark = c->now.mark;
+        if (is_wrong(HEARS_OTHER_INCARNATION) && wire->low_water > c->now.mark) c->now.mark = wire->low_water;
+    }
+    pthread_mutex_unlock(&c->lock);
+    return carried;
+}
+
+int component_checkpoint(component *c) {
+    c->kept = c->now;
+    c->at_checkpoint = c->incarnation;
+    return 1;
+}
+
+int component_kill(component *c, int loses) {
+    uint64_t mark = c->now.mark;
+    c->waits = 0;
+    if (is_wrong(KEEPS_APART))
+        for (int i = 0; i < 4; i++) c->now.answers[c->now.last[i] % NUMBERS].kept = 0;
+    if (!loses) return 1;
+    c->now = c->kept;
+    if (is_wrong(TELLS_THE_LOST_MARK)) c->now.mark = mark;
+    if (is_wrong(COUNTS_WHAT_IT_LOST)) c->incarnation = c->at_checkpoint;
+    if (!is_wrong(TELLS_NOBODY)) c->incarnation++;
+    return 1;
+}
+
+void component_fill(component *c, int full) { c->full = full; }
