@@ -1,7 +1,7 @@
 #!/bin/sh
 # example.sh FOLDER: runs procd, as it is built, with the words in the file `words` of the example's
 # folder, a word a line, and compares what it prints with the file `printed` and its status with `status`.
-# Where the folder has a file `calls`, the folder's script with these lines behind it is standard input.
+# An object file NAME.o is what clang 14 makes of NAME.c with -target bpf -O2 -mcpu=v2 -c (tally: -mcpu=v3).
 procd=$(cd "$(dirname "$0")/.." && pwd)/crates/procd/out/procd
 cd "$1"
 set --
@@ -10,7 +10,7 @@ out=$(mktemp)
 trap 'rm -f "$out"' EXIT
 name=$(basename "$PWD")
 status=0
-{ [ ! -f calls ] || cat "$name.txt" calls; } | "$procd" "$@" > "$out" || status=$?
+"$procd" "$@" > "$out" < /dev/null || status=$?
 if [ "$status" -eq "$(cat status)" ] && cmp -s "$out" printed; then
     echo "example $name: as stored"
 else

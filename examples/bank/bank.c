@@ -1,9 +1,10 @@
 /* Accounts: a record of table 0 has the balance in its first eight bytes. */
-#include "../procedure.h"
+#include "../../c_interface/mazzulpe_procedure.h"
 
 enum { UNKNOWN_ACCOUNT = 1, TOO_LITTLE = 2, SAME_ACCOUNT = 3 };
 
 /* deposit ACCOUNT AMOUNT: opens the account where there is none. */
+ACCESSES(deposit, TAKES(2), WRITES(0, 0, ARGUMENT(0)))
 PROCEDURE(deposit) {
     u64 *account = record_read(0);
     if (account) {
@@ -17,6 +18,7 @@ PROCEDURE(deposit) {
 
 /* move FROM TO AMOUNT: aborts with 1 where an account is unknown, with 2 where the balance is too small, with 3
  * where both are one account: its two buffers would each hold the balance of before, and the second would stay. */
+ACCESSES(move, TAKES(3), WRITES(0, 0, ARGUMENT(0)), WRITES(0, 0, ARGUMENT(1)))
 PROCEDURE(move) {
     u64 amount = args[2];
     if (args[0] == args[1])
@@ -36,6 +38,7 @@ PROCEDURE(move) {
 }
 
 /* balance ACCOUNT: only reads, and ends with the balance, so that `aborted V` tells it; there is nothing to undo. */
+ACCESSES(balance, TAKES(1), READS(0, 0, ARGUMENT(0)))
 PROCEDURE(balance) {
     u64 *account = record_read(0);
     if (!account)

@@ -1,11 +1,12 @@
 /* Orders against stock. Table 0, an item: how many are there, how many were sold, its price.
  * Table 1, a customer: credit left, orders so far. Table 2, an order: item, customer, count, price paid. */
-#include "../procedure.h"
+#include "../../c_interface/mazzulpe_procedure.h"
 
 enum { ITEM, CUSTOMER, ORDER };
 enum { UNKNOWN = 1, SOLD_OUT = 2, NO_CREDIT = 3, ORDER_TAKEN = 4 };
 
 /* supply ITEM COUNT PRICE */
+ACCESSES(supply, TAKES(3), WRITES(0, 0, ARGUMENT(0)))
 PROCEDURE(supply) {
     u64 *item = record_read(0);
     if (item) {
@@ -21,6 +22,7 @@ PROCEDURE(supply) {
 }
 
 /* welcome CUSTOMER CREDIT */
+ACCESSES(welcome, TAKES(2), WRITES(1, 1, ARGUMENT(0)))
 PROCEDURE(welcome) {
     u64 *customer = record_buffer(0);
     customer[0] = args[1];
@@ -30,6 +32,7 @@ PROCEDURE(welcome) {
 
 /* order ITEM CUSTOMER ORDER COUNT: takes the items first and looks at the credit then, so that a customer
  * without credit makes it abort with writes that are undone. */
+ACCESSES(order, TAKES(4), WRITES(0, 0, ARGUMENT(0)), WRITES(1, 1, ARGUMENT(1)), WRITES(1, 2, ARGUMENT(2)))
 PROCEDURE(order) {
     u64 count = args[3];
     u64 *item = record_read(ITEM);

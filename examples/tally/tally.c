@@ -1,12 +1,14 @@
 /* Tallies: counted by atomic instructions (RFC 9669, section 5.3). */
-#include "../procedure.h"
+#include "../../c_interface/mazzulpe_procedure.h"
 
 /* create TALLY */
+ACCESSES(create, TAKES(1), WRITES(0, 0, ARGUMENT(0)))
 PROCEDURE(create) {
     return record_insert(0);
 }
 
 /* add TALLY AMOUNT: adds to the first number of the record, and counts in the second how often. */
+ACCESSES(add, TAKES(2), WRITES(0, 0, ARGUMENT(0)))
 PROCEDURE(add) {
     u64 *tally = record_read(0);
     if (!tally)
@@ -17,6 +19,7 @@ PROCEDURE(add) {
 }
 
 /* largest TALLY AMOUNT: keeps the greater of the record's third number and the amount. */
+ACCESSES(largest, TAKES(2), WRITES(0, 0, ARGUMENT(0)))
 PROCEDURE(largest) {
     u64 *tally = record_read(0);
     if (!tally)
@@ -28,6 +31,7 @@ PROCEDURE(largest) {
 }
 
 /* sum A B: answers A + B, added up on the stack; the record isn't touched. */
+ACCESSES(sum, TAKES(2))
 PROCEDURE(sum) {
     volatile u64 total = 0;
     __sync_fetch_and_add(&total, args[0]);
