@@ -3,8 +3,8 @@
 
 usage: bench/costs.py [--bench PATH] [WHAT..]
 
-WHAT names some of the measurements (starts locks refusals numbers log store restarts checkpoints steps redo
-checks audits); without it all are done. The program `bench` has to be built: `rt run` in crates/bench
+WHAT names some of the measurements (starts locks refusals reads doubts numbers log store restarts checkpoints
+steps redo checks audits); without it all are done. The program `bench` has to be built: `rt run` in crates/bench
 does that, and `tools/unproved.py bench` in a minute or two without the proofs. Each figure is the
 least of several runs, measured from outside: the processor time of a run with the work less that of
 one without it, and the peaks of resident memory of both, each told as 14 MB or so at least, which this
@@ -66,6 +66,22 @@ def locks(bench):
 def refusals(bench):
     for held in (100, 10_000, 100_000):
         say("refusal", held, bench.one("busy", held, times=1_000_000) * 1e6, "us a refusal by one of so many holders")
+
+
+def reads(bench):
+    for held in (1, 100, 10_000, 100_000):
+        say("reads", held, bench.one("reads", held, times=1_000_000) * 1e6, "us a grant and a release beside so many readers")
+    for held in (100, 10_000, 100_000):
+        say("read", held, bench.one("read", held, times=1_000_000) * 1e6, "us a refusal by a record that so many read")
+
+
+def doubts(bench):
+    for opened in (100, 10_000, 100_000):
+        cost = bench.one("give-ups", opened, times=1_000_000 // opened) / opened
+        say("give up", opened, cost * 1e6, "us a transaction admitted, asked and given up")
+    for opened in (100, 10_000, 100_000):
+        cost = bench.one("doubts", opened, times=1_000_000)
+        say("blocked", opened, cost * 1e6, "us whether a call is blocked, so many in doubt")
 
 
 def numbers(bench):
@@ -136,6 +152,8 @@ MEASURED = {
     "starts": starts,
     "locks": locks,
     "refusals": refusals,
+    "reads": reads,
+    "doubts": doubts,
     "numbers": numbers,
     "log": log,
     "store": store,

@@ -1,24 +1,73 @@
 #!/usr/bin/env python3
-"""believed.py [--write] [--of CRATE[.NAME]]: looks whether docs/PROVED.md names, each with its lines, exactly the
-definitions that a reader has to believe: those of specs/ that a public item's contract speaks of (a function's
-clauses, what contracts see of a type and what the type keeps), and all that these are made of. None of them may
-stand in specs/Joining, whose definitions only join bodies to others. Of the headline alone it looks whether the page
-lists exactly the definitions that its table names and what these are made of. With --write the counts of lines, and
-that list, are written anew. With --of it says instead which public items lead to that crate's definitions, or to the one of that name.
+"""believed.py [--write] [--of CRATE[.NAME]]: looks whether docs/BELIEVED.md is as this program writes it. The page lists,
+each with its lines, the definitions that a reader has to believe: those of specs/ that a public item's contract speaks
+of (a function's clauses, what contracts see of a type and what the type keeps), and all that these are made of. None of
+them may stand in specs/Joining, whose definitions only join bodies to others. Of the headline alone it lists the
+definitions that the table in docs/PROVED.md names, and what these are made of. With --write the page is written anew.
+With --of it says instead which public items lead to that crate's definitions, or to the one of that name.
 The status is 1 where something differs."""
+import difflib
 import pathlib
 import re
 import sys
 
 TOP = pathlib.Path(__file__).resolve().parent.parent
-PAGE = TOP / "docs" / "PROVED.md"
-ROW = re.compile(r"^(\|[^|]*\| )(`\w+`: [^|]*?)( \|)$", re.M)
-TOTAL = re.compile(r"^That is (\d+) lines", re.M)
+PAGE = TOP / "docs" / "BELIEVED.md"
+HEADLINE = TOP / "docs" / "PROVED.md"
 CLAUSES = re.compile(r"^## The headline, clause by clause\n.*?^## ", re.M | re.S)
 NAMED = re.compile(r"`(\w+)` in `(\w+)/specs/(\w+)\.antt`")
-ALONE = re.compile(r"^For the headline alone .*?(?=\n\n(?!- ))", re.M | re.S)
 WORD = re.compile(r"[^\s(){}\[\],;.λ→×⊎≡≢≤<+*&|∷∙=\"'`@:]+(?:\.[^\s(){}\[\],;.]+)*")
 USE = re.compile(r"use Rattle\.(\w+)\.specs\.((?:Joining\.)?\w+)(?:\.\{([^}]*)\}|\.(\w+))?(?: as (\w+))?;?")
+
+# What a reader has to believe, in reading order, with the crates that have it. A file of a crate that stands twice is named by itself.
+GROUPS = [
+    ("a slot's fields, how instructions are spelled, which code bytes name, the first fault", "bpf_encoding"),
+    ("what a line of assembly text says", "bpf_asm"),
+    ("arithmetic, memory, one step by fields and by instruction, whole runs, safety", "semantics"),
+    ("records, declarations, operations and answers, locks, conflict", "access_slots"),
+    ("the table of register states, and what each says of a register's value", "register_kinds"),
+    ("the verdict on code, what an accepted one promises, its flat form", "verifier"),
+    ("where a machine stands, what it keeps and gives", "interpreter"),
+    ("which locks are held, and what is in the way", "lock_table"),
+    ("request numbers, the low-water mark", "request_numbers"),
+    ("events and their bytes", "tc_log"),
+    ("what a log says: locks, operations, redo; one that begins anew", "history"),
+    ("a data component's list, its rules, checkpoints and restarts", "data_component"),
+    ("transactions, legal histories, what is in flight", "transactions"),
+    ("the transaction component's calls, and what its state keeps", "tc_core"),
+    ("the procedures of an object file", "object_file"),
+    ("a file that a crash may cut short", "frame_file"),
+    ("a log's file, a file of the system, whose log it is, a journal over it", "log_file disk_file procedure_digest log_journal"),
+    ("the steps of a world", "tc_world"),
+    ("crashes of the transaction component", "tc_world.Recovery tc_world.Lives tc_world.Ahead"),
+    ("recovery from a log alone", "coming_back"),
+    ("one at a time, audits", "serial audit tc_world.OneAtATime"),
+    ("what a script says, and an object file's procedures for one", "scripts object_procedures"),
+    ("what workers report, acknowledgements, journals, data components that are served", "worker_pool"),
+    ("a call through a frame of plain numbers", "embedding"),
+    (
+        "what the program prints, on both streams, and for which words",
+        "command_line report_texts text_commands script_loading state_lines world_command run_command log_command procd",
+    ),
+]
+
+PAGE_TEXT = """# Definitions to believe
+
+`tools/believed.py --write` writes this page. A proof is worth as much as the definitions that it speaks of. These are
+all that the contracts of public functions speak of, and what they are made of, each file with its lines, in reading
+order; [DEFINITIONS.md](DEFINITIONS.md) goes through them in words. Files in `specs/Joining` only join bodies to these,
+and a mistake there can't make a claim of [PROVED.md](PROVED.md) false.
+
+| Definitions of | Files, with their lines |
+|---|---|
+{rows}
+
+That is {total} lines without imports and blank ones.
+
+For the headline alone {needed} lines of {files} files are enough, those that its table names and what they are made of:
+
+{crates}
+"""
 
 
 def imported(line):
@@ -209,47 +258,56 @@ def counted(found, all_modules):
     return lines
 
 
-def recounted(page, lines, faults):
-    """The page with the lines as they are; faults get what isn't as the page says."""
-    left = set(lines)
-
-    def cell(match):
-        parts = []
-        for part in re.split(r"; ", match[2]):
-            crate, names = re.fullmatch(r"`(\w+)`: (.*)", part).groups()
-            kept = []
-            for word in names.split(", "):
-                name, was = word.split(" ")
-                if (crate, name) not in left:
-                    faults.append(f"{crate} {name} is named, and no public contract speaks of it (or it is named twice)")
-                    continue
-                left.discard((crate, name))
-                if int(was) != lines[crate, name]:
-                    faults.append(f"{crate} {name} has {lines[crate, name]} lines to believe, and not {was}")
-                kept.append(f"{name} {lines[crate, name]}")
-            parts += [f"`{crate}`: " + ", ".join(kept)] if kept else []
-        return match[1] + "; ".join(parts) + match[3]
-
-    page = ROW.sub(cell, page)
-    faults += [f"{crate} {name} isn't named ({lines[crate, name]} lines)" for crate, name in sorted(left)]
-    total = sum(lines.values())
-    if TOTAL.search(page)[1] != str(total):
-        faults.append(f"there are {total} lines in all")
-    return TOTAL.sub(f"That is {total} lines", page)
+def files_of(crate, lines):
+    """A crate's files, as the page has them."""
+    return f"`{crate}`: " + ", ".join(f"{module} {count}" for module, count in sorted(lines.items()))
 
 
-def alone(page, all_modules):
-    """What the page is to say of the definitions that the headline needs."""
-    named = [((crate, file, name), "the headline") for name, crate, file in NAMED.findall(CLAUSES.search(page)[0])]
+def by_crate(lines):
+    """The lines to believe of each crate's modules."""
+    crates = {}
+    for (crate, module), count in lines.items():
+        crates.setdefault(crate, {})[module] = count
+    return sorted(crates.items())
+
+
+def group_of(crate, module):
+    """The place of the group that has this file: the one that names it, else the one that names its crate."""
+    for name in (f"{crate}.{module}", crate):
+        for place, (_, members) in enumerate(GROUPS):
+            if name in members.split():
+                return place
+    sys.exit(f"believed: {crate} stands in no group of this program")
+
+
+def rows(lines):
+    """The table of all files to believe, in the order of GROUPS."""
+    grouped = [{} for _ in GROUPS]
+    for (crate, module), count in lines.items():
+        grouped[group_of(crate, module)][crate, module] = count
+    for (what, _), members in zip(GROUPS, grouped):
+        yield f"| {what} | {'; '.join(files_of(crate, modules) for crate, modules in by_crate(members))} |"
+
+
+def alone(all_modules):
+    """The lines of the definitions that the headline needs."""
+    named = [((crate, file, name), "the headline") for name, crate, file in NAMED.findall(CLAUSES.search(HEADLINE.read_text())[0])]
     unknown = [f"{crate}.{file}.{name}" for (crate, file, name), _ in named if name not in all_modules[crate, file].lines]
     if unknown:
         sys.exit(f"believed: the headline's table names {', '.join(unknown)}, which isn't there")
-    lines = counted(made_of(named, all_modules), all_modules)
-    crates = {}
-    for (crate, module), count in lines.items():
-        crates.setdefault(crate, []).append(f"{module} {count}")
-    rows = [f"- `{crate}`: {', '.join(sorted(files))}" for crate, files in sorted(crates.items())]
-    return f"For the headline alone {sum(lines.values())} lines of {len(lines)} files are enough, those that its table names and what they are made of:\n\n" + "\n".join(rows)
+    return counted(made_of(named, all_modules), all_modules)
+
+
+def page(found, all_modules):
+    """The page as it is to be."""
+    lines, needed = counted(found, all_modules), alone(all_modules)
+    return PAGE_TEXT.format(
+        total=sum(lines.values()),
+        rows="\n".join(rows(lines)),
+        needed=sum(needed.values()),
+        files=len(needed),
+        crates="\n".join(f"- {files_of(crate, modules)}" for crate, modules in by_crate(needed)),
+    )
 
 
 def told_of(wanted, found):
@@ -265,19 +323,17 @@ def main():
     if "--of" in sys.argv[1:]:
         told_of(sys.argv[sys.argv.index("--of") + 1], found)
         return 0
-    faults = []
-    page = recounted(PAGE.read_text(), counted(found, all_modules), faults)
-    needed = alone(page, all_modules)
-    if ALONE.search(page)[0] != needed:
-        faults.append("of the headline alone it isn't as the page says")
-    page = ALONE.sub(lambda match: needed, page)
-    faults += [f"{crate} {module} {name} stands in Joining, and {item} speaks of it" for (crate, module, name), item in sorted(found.items()) if module.startswith("Joining.")]
+    wanted = page(found, all_modules)
+    faults = [f"{crate} {module} {name} stands in Joining, and {item} speaks of it" for (crate, module, name), item in sorted(found.items()) if module.startswith("Joining.")]
     if "--write" in sys.argv[1:]:
-        PAGE.write_text(page)
+        PAGE.write_text(wanted)
+    there = PAGE.read_text().split("\n") if PAGE.exists() else []
+    differing = (line for line in difflib.ndiff(there, wanted.split("\n")) if line[:1] in "-+")
+    faults += [f"docs/BELIEVED.md {'lacks' if line[0] == '+' else 'has'}: {line[2:]}" for line in differing]
     for fault in faults:
         print(f"believed: {fault}")
     if not faults:
-        print(f"believed: {len(counted(found, all_modules))} files of definitions, as docs/PROVED.md has them")
+        print(f"believed: {len(counted(found, all_modules))} files of definitions, as docs/BELIEVED.md has them")
     return 1 if faults else 0
 
 

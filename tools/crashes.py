@@ -322,7 +322,7 @@ def no_room(runs, words, limit):
     env = {**os.environ, **runs.faults()}
     ran = subprocess.run(words, capture_output=True, env=env, preexec_fn=lambda: limited_to(limit))
     _, said = runs.take(ran.stderr)
-    wanted("a full disk", (ran.returncode, ran.stdout, said), (3, b"", [f"cannot write {runs.path}"]))
+    wanted("a full disk", (ran.returncode, ran.stdout, said), (3, b"", [f"cannot write {runs.path}: file too large"]))
 
 
 def full_disk_at_the_beginning(runs, room):

@@ -5,9 +5,9 @@
   tools/edits.py NAME/EDIT [..]      these alone, as tc_core/sent-while-down
 
 They are like the edits of must-fail/, which `rt ci` tries; these stand apart to keep it short, since each takes a processor
-for 20 to 40 seconds. Here they take the place of the others in a copy of the repository, for `rt ci NAME..`, which says of
-each what became of it. It takes over what an earlier `rt ci` proved on this machine, and proves what that hasn't, with the
-crates below. The last line is `N refused, M not`; M counts those that can't be applied too.
+for 20 to 40 seconds. Here they take the place of the others in a copy of the repository, for `rt must-fail NAME..`, or
+`rt ci NAME..` where the kit has it, which say of each what became of it. The libraries that `rt check` built here are taken
+over, those that it didn't are proved. The last line is `N refused, M not`; M counts those that can't be applied too.
 """
 import os
 import re
@@ -19,6 +19,7 @@ import tempfile
 from build import PARTS, TOP
 
 MORE = "more-edits"
+BUILT = "out/rlib"
 TRIED = re.compile(r"must-fail (\S+/\S+)\.edit: (.*)")
 
 
@@ -49,13 +50,19 @@ def copied(place, edits):
         shutil.copyfile(f"{TOP}/{name}", f"{place}/{name}")
     os.mkdir(f"{place}/.git")  # (the copy is the top of a repository)
     for crate in os.listdir(f"{TOP}/crates"):
-        for part in PARTS:
+        for part in [*PARTS, BUILT]:
             if os.path.isdir(f"{TOP}/crates/{crate}/{part}"):
                 shutil.copytree(f"{TOP}/crates/{crate}/{part}", f"{place}/crates/{crate}/{part}")
     for it in edits:
         crate, name = it.split("/")
         os.makedirs(f"{place}/crates/{crate}/must-fail", exist_ok=True)
         shutil.copyfile(f"{TOP}/crates/{crate}/{MORE}/{name}.edit", f"{place}/crates/{crate}/must-fail/{name}.edit")
+
+
+def command(names):
+    """What tries the edits of these crates: some kits have `rt ci NAME..`, which takes over what it proved before."""
+    usage = subprocess.run(["rt", "--help"], stdout=subprocess.PIPE, stderr=subprocess.STDOUT, text=True).stdout
+    return ["rt", "ci" if re.search(r"rt ci \[?[A-Z]", usage) else "must-fail", *names]
 
 
 def main():
@@ -67,7 +74,7 @@ def main():
     with tempfile.TemporaryDirectory(prefix="out-edits-", dir=TOP) as place:
         copied(place, edits)
         names = sorted({it.split("/")[0] for it in edits})
-        with subprocess.Popen(["rt", "ci", *names], cwd=place, stdout=subprocess.PIPE, stderr=subprocess.STDOUT, text=True) as ran:
+        with subprocess.Popen(command(names), cwd=place, stdout=subprocess.PIPE, stderr=subprocess.STDOUT, text=True) as ran:
             for line in ran.stdout:
                 tried = TRIED.search(line)
                 if tried:

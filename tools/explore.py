@@ -6,7 +6,7 @@ usage: tools/explore.py [--procd PATH] [--audit] [--seconds N] [--seed N] [--see
 From each seed come a world and some runs. The script of a world has random steps: calls that overlap,
 operations asked for in any order, messages that are lost, repeated, late and forged, data components that
 keep checkpoints and restart, news of that which come late and again, redo, undos that fail, crashes of the
-transaction component. The model says what each step prints, which rows are left and what is logged; and the log that procd prints is replayed by
+transaction component, cuts of its log. The model says what each step prints, which rows are left and what is logged; and the log that procd prints is replayed by
 itself: no two operations in flight conflict, each is covered by its transaction's locks, numbers rise one by
 one. Where no message was forged, the calls one after another have to give the same answers and rows. With
 `--audit` procd's audit has to say what the model's does. The script of a run has random calls, made by up to
@@ -34,8 +34,9 @@ AMPLE = [(20, 5000)] * 2  # rows and operations of the data components, where th
 HUNTED = 300  # how many further scripts are looked through for a shorter one
 AGAIN = 10  # how often a script of calls is run before it is said to show nothing
 WORDS = {"admit": 3, "ask": 2, "undo": 2, "end": 2, "resend": 3, "perform": 5, "take": 5}
-WORDS |= {"checkpoint": 1, "restart": 1, "tell": 2, "redo": 2, "forge": 1, "crash": 1}
+WORDS |= {"checkpoint": 1, "restart": 1, "tell": 2, "redo": 2, "forge": 1, "crash": 1, "cut": 1}
 FORGED, RESTARTED, CRASHED = [0, 0, 1, 5], [0, 1, 3], [0, 1, 4]  # weights of these words, of which a script has one
+CUT = [0, 1, 1, 4]  # the same of cuts; at rest there is one now and then besides
 FAILURES = [0, 3, 3, 1, 3, 4]  # of the undos of a write in a script with forged replies, how many are to fail
 
 
@@ -171,12 +172,24 @@ def any_step(draw, world, weights):
         return word, draw.randrange(len(places[word]) + 1)
     if word == "crash":
         return word, some_beginning(draw, len(world.log))
+    if word == "cut":
+        return (word,)
     return word, draw.choice(list(world.txns) + [0, world.serials + 1])
 
 
 def some_beginning(draw, events):
     """How many events a crash is to find written: mostly nearly all, and now and then more than there are."""
     return max(events - draw.randrange(-1, 8), 0) if draw.random() < 0.9 else draw.randrange(events + 2)
+
+
+def resting_step(draw, world, weights):
+    """A step with which the world comes nearer to being at rest, and at rest a cut."""
+    for d, why in world.unheard():
+        if why == "down":
+            return redoing_step(draw, world, d)
+        if draw.random() < 0.9:
+            return "tell", max(i for i, news in enumerate(world.news) if news.dc == d)
+    return next_step(draw, world, weights) or ("cut",)
 
 
 def some_step(draw, world, weights):
@@ -200,11 +213,14 @@ class Steps:
     def drawn(draw, count):
         dcs = [(draw.choice([1, 2, 3, 20]), draw.choice([50] + 7 * [5000])) for _ in range(2)]
         weights = {**WORDS, "forge": draw.choice(FORGED), "restart": draw.choice(RESTARTED)}
-        weights["crash"] = draw.choice(CRASHED)
-        world, steps = World(dcs, list(PROCEDURES)), []
+        weights["crash"], weights["cut"] = draw.choice(CRASHED), draw.choice(CUT)
+        world, steps, is_resting = World(dcs, list(PROCEDURES)), [], False
         for _ in range(count):
-            steps.append(some_step(draw, world, weights))
+            is_resting = is_resting or bool(weights["cut"]) and draw.random() < 0.02
+            choose = resting_step if is_resting and draw.random() < 0.9 else some_step
+            steps.append(choose(draw, world, weights))
             world.step(*steps[-1])
+            is_resting = is_resting and steps[-1] != ("cut",)
         return Steps(dcs, list(PROCEDURES), steps)
 
     def text(self):
@@ -238,7 +254,7 @@ class Steps:
             return None
         lost = dict(world.unheard())
         rows = {d: dc.rows for d, dc in enumerate(world.dcs) if d not in lost}
-        return serial(read_log(world.log), self.names, rows)
+        return serial(read_log(world.log), self.names, rows, world.base())
 
     def audited(self, procd, world):
         """The line of the audit, where it is asked for: a data component that is down or not known isn't audited."""

@@ -1,7 +1,7 @@
 #!/usr/bin/env python3
 """Gives `procd run --log` and `procd log` files that are no log of its script, and looks whether any is changed.
 
-  tools/foreign_files.py [--files N] [--seed N] [--program PROGRAM]
+  tools/foreign_files.py [--files N] [--seed N] [--procd PROCD]
 
 Texts, binaries, zeros, beginnings of SQLite files, logs of other procedures and layouts, logs with something behind
 their last frame, one log behind another, and beginnings of logs. Each is refused as the formats' page says, and left as
@@ -12,51 +12,32 @@ import argparse
 import collections
 import os
 import pathlib
+import pty
 import random
 import subprocess
 import sys
 import tempfile
 
-from log_files import batch, event, fnv, frame, frames, header, numbers, procedure
+from log_files import batch, event, frame, frames, header, procedure
+from plain_file import is_end, stands_whole, whole
 from trying import Program
 
 TOP = pathlib.Path(__file__).resolve().parent.parent
 SCRIPT = "dc 1 100\nproc nothing 0\nmov r0, 5\nexit\nend\n"
 NOTHING = procedure(0, [], bytes.fromhex("b700000005000000 9500000000000000"))
 OWN = header(1, NOTHING)
-OTHERS = [header(2, NOTHING), header(1), header(1, NOTHING, version=2), OWN[:-1], OWN + b"?"]
+# Other headers, and how their logs are refused.
+OTHERS = {
+    header(2, NOTHING): "Other dcs 2 script 1",
+    header(1): "Other procedures 0 script 1",
+    header(1, procedure(0, [], bytes.fromhex("b700000006000000 9500000000000000"))): "Other digest",
+    header(1, NOTHING, version=2): "Other",
+    OWN[:-1]: "Other",
+    OWN + b"?": "Other",
+}
 ENDED = [event(1, 0, 1), event(5, 2, 1, 5)]
 SQLITE = b"SQLite format 3\0" + bytes([16, 0, 1, 1, 0, 64, 32, 32])
 DEVICES = {"/dev/zero": "character device", "/dev/full": "character device"}
-
-
-def whole(data):
-    """How many frames stand whole at the front, and where they end."""
-    place = number = 0
-    while len(data) - place >= 24:
-        length = int.from_bytes(data[place + 8 : place + 16], "little")
-        payload = data[place + 24 : place + 24 + length]
-        if len(payload) < length or data[place : place + 24 + length] != frame(number, payload):
-            break
-        place, number = place + 24 + length, number + 1
-    return number, place
-
-
-def stands_whole(data):
-    """Whether a whole frame stands anywhere."""
-    for place in range(len(data) - 23):
-        number, length, said = (int.from_bytes(data[place + at : place + at + 8], "little") for at in (0, 8, 16))
-        if length <= len(data) - place - 24:
-            if said == fnv(numbers(number, length) + data[place + 24 : place + 24 + length]):
-                return True
-    return False
-
-
-def is_end(number, end):
-    """Whether a crash can have left this of the frame of this number."""
-    first, length = end[:8], int.from_bytes(end[8:16], "little")
-    numbered = first in (numbers(number)[: len(first)], bytes(len(first)))
-    return numbered and (len(end) < 16 or length == 0 or len(end) <= 24 + length) and not stands_whole(end)
 
 
 def wanted_of(data):
@@ -69,7 +50,9 @@ def wanted_of(data):
         return None if frames(OWN).startswith(data) else "Other"
     if not is_end(number, end):
         return f"Damaged frame {number}"
-    return None if data.startswith(frames(OWN)) else "Other"
+    if data.startswith(frames(OWN)):
+        return None
+    return next((said for first, said in OTHERS.items() if data.startswith(frames(first))), "Other")
 
 
 def some_log(draw, first=OWN):
@@ -100,7 +83,7 @@ KINDS = {
     "binaries": binary,
     "zeros": lambda draw: bytes(draw.randrange(1, 300)),
     "SQLite": lambda draw: SQLITE + draw.randbytes(draw.randrange(4096)),
-    "logs of others": lambda draw: some_log(draw, draw.choice(OTHERS)),
+    "logs of others": lambda draw: some_log(draw, draw.choice(list(OTHERS))),
     "logs with texts": lambda draw: some_log(draw) + text(draw),
     "logs with binaries": lambda draw: some_log(draw) + binary(draw),
     "logs behind logs": lambda draw: some_log(draw) + some_log(draw),
@@ -121,7 +104,7 @@ def fault_of(program, script, path, data):
     if refusal:
         if (ran.status, ran.out) != (1, f"refused log {refusal}\n".encode()):
             return f"{ran} where {refusal} is wanted", True
-        if refusal != "Other" and listed.out != ran.out:
+        if not refusal.startswith("Other") and listed.out != ran.out:
             return f"log: {listed}", True
         return (None if (left, cut) == (data, b"") else "the file was changed"), True
     end = data[whole(data)[1] :]
@@ -132,14 +115,17 @@ def fault_of(program, script, path, data):
 
 
 def devices_are_refused(program, script, folder):
-    """What isn't a file is refused by its kind."""
+    """What isn't a file is refused by its kind, at once; a terminal too."""
     fifo, place = folder / "fifo", folder / "folder"
     os.mkfifo(fifo)
     place.mkdir()
-    for path, kind in {**DEVICES, fifo: "fifo", place: "directory"}.items():
-        ran = subprocess.run([program.path, "run", "--log", path, script], capture_output=True, timeout=20)
-        if (ran.returncode, ran.stdout) != (1, f"refused log NotAFile {kind}\n".encode()):
-            return f"{path}: {ran}"
+    _, terminal = pty.openpty()
+    kinds = {**DEVICES, os.ttyname(terminal): "character device", fifo: "fifo", place: "directory"}
+    for path, kind in kinds.items():
+        for words in ["run", "--log", path, script], ["log", path], ["log", "--audit", path, script]:
+            ran = subprocess.run([program.path, *words], capture_output=True, timeout=20)
+            if (ran.returncode, ran.stdout) != (1, f"refused log NotAFile {kind}\n".encode()):
+                return f"{words}: {ran}"
     return None
 
 
@@ -147,12 +133,12 @@ def main():
     options = argparse.ArgumentParser(usage=__doc__)
     options.add_argument("--files", type=int, default=2000)
     options.add_argument("--seed", type=int, default=1)
-    options.add_argument("--program", default=TOP / "crates/procd/out/procd")
+    options.add_argument("--procd", default=TOP / "crates/procd/out/procd")
     options = options.parse_args()
     draw, tally = random.Random(options.seed), collections.Counter()
     with tempfile.TemporaryDirectory() as name:
         folder = pathlib.Path(name)
-        program = Program(options.program, folder)
+        program = Program(options.procd, folder)
         script = program.file(SCRIPT.encode())
         wrong = devices_are_refused(program, script, folder)
         for turn in range(options.files):

@@ -115,6 +115,18 @@ int ftruncate(int file, off_t size) {
     return failed;
 }
 
+/* The file's length is what the program has written, also where that isn't handed on. */
+int statx(int folder, const char *restrict path, int flags, unsigned int mask, struct statx *restrict known) {
+    static int (*real)(int, const char *, int, unsigned int, struct statx *);
+    if (!real) real = dlsym(RTLD_NEXT, "statx");
+    int failed = real(folder, path, flags, mask, known);
+    if (failed || folder != kept.program || *path) return failed;
+    pthread_mutex_lock(&kept.lock);
+    known->stx_size = (uint64_t)(kept.synced + (off_t)kept.count);
+    pthread_mutex_unlock(&kept.lock);
+    return 0;
+}
+
 /* Hands on all that waits; -1 with errno set where the system doesn't take it. */
 static int hand_on(int (*sync)(int)) {
     off_t end = kept.synced + (off_t)kept.count;

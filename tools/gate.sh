@@ -40,14 +40,17 @@ tried tools/printed.py
 tried tools/without_kit.py
 tried tools/terminal.py
 tried tools/hostile.py files
-tried tools/hostile.py --every 25 code texts worlds memory
+tried tools/hostile.py --every 25 code texts objects worlds memory
 tried tools/explore.py --audit --seconds 20
 tried tools/storms.py --runs 5 --calls 1000
 tried tools/tampered.py --every 25
 for how in "" --forget --control; do
     tried tools/crashes.py --kills 5 --moves 1000 $how
 done
-tried tools/foreign_files.py --files 200
+tried tools/foreign_files.py --files 500
+tried tools/cut_logs.py --files 500
+tried tools/moved_files.py
+tried tools/full_component.py
 # A log's file with one fault is read as a beginning of it, or refused.
 damaged() {
     said=$(crates/bench/out/bench damaged 50 < /dev/null) && echo "damaged: $said" && [ "${said##* }" = 0 ]

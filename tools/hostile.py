@@ -1,5 +1,5 @@
 #!/usr/bin/env python3
-"""Hostile use of the program: code, texts, worlds, memory and files that are against it.
+"""Hostile use of the program: code, texts, object files, worlds, memory and files that are against it.
 
 usage: tools/hostile.py [--procd PATH] [--every N] [SECTION..]
 
@@ -13,6 +13,7 @@ import tempfile
 
 from hostile_code import hostile_code
 from hostile_faults import hostile_files, hostile_memory
+from hostile_objects import hostile_objects
 from hostile_texts import hostile_texts
 from hostile_worlds import hostile_worlds
 from trying import Program, Tally
@@ -21,6 +22,7 @@ TOP = pathlib.Path(__file__).resolve().parent.parent
 SECTIONS = {
     "code": hostile_code,
     "texts": hostile_texts,
+    "objects": hostile_objects,
     "worlds": hostile_worlds,
     "memory": hostile_memory,
     "files": hostile_files,

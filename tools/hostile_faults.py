@@ -10,7 +10,8 @@ import signal
 import subprocess
 
 from hostile_worlds import SCRIPT, recovered
-from log_files import batch, event, frames, header, numbers
+from log_files import base_row, batch, cut, event, frames, header, numbers
+from objects import OBJECT
 from trying import Ran, preloaded, undocumented
 
 HEX = b"b7 00 00 00 07 00 00 00\nb7 01 00 00 05 00 00 00\n0f 10 00 00 00 00 00 00\n95 00 00 00 00 00 00 00\n"
@@ -23,6 +24,7 @@ LOG = frames(
     batch(event(1, 1, 1, body=numbers(5)), event(2, 2, 1, 1, (0, 0, 5), numbers(9)), notes=[(0, 2, 1, 0)]),
     batch(event(3, 3, 1, 1), event(5, 1, 1)),
 )
+CUT = cut(header(1, version=2), [base_row((0, 0, 5), numbers(9))], batch(event(6, 0, 3, 4)))
 NO_MEMORY = Ran(4, b"", b"memory\n")
 NO_THREAD = Ran(1, b"refused G4 NoThread\n", b"")
 
@@ -38,6 +40,8 @@ COMMANDS = [
     Command(["dis", "--raw"], [], RAW),
     Command(["verify"], [], SCRIPT.encode()),
     Command(["verify"], [], SCRIPT.replace("r1+8", "r1+16").encode()),
+    Command(["verify"], [], OBJECT),
+    Command(["verify"], [], OBJECT[:-1]),
     Command(["world", "--log", "--audit"], [], WORLD),
     Command(["world"], [], WORLD.replace(b"ask 1", b"ask 3")),
     Command(["run", "--workers", 1], [], RUN),
@@ -45,6 +49,7 @@ COMMANDS = [
     Command(["run", "--workers", 65], [], RUN),
     Command(["log"], [], LOG),
     Command(["log"], [], LOG[:-1]),
+    Command(["log", "--rows"], [], CUT),
 ]
 NO_FILE = [["--help"], ["exec", "--help"], ["exec"], ["fly"], [], ["exec", "-", "x"], ["run", "--tries", "-1", "-"]]
 
@@ -189,6 +194,8 @@ UNREADABLE = [
     ("\u00e9/\u00e9", "no such file or directory"),
     ("/dev/zero", "no end within 268435456 bytes"),
 ]
+# In a log's place these are refused instead.
+NO_FILES = {".": "directory", "/dev/zero": "character device"}
 
 
 def from_system(faulty):
@@ -196,9 +203,12 @@ def from_system(faulty):
     program, folder = faulty.program, str(faulty.program.folder)
     for command in COMMANDS:
         for name, why in UNREADABLE:
+            kind = NO_FILES.get(name) if command.before[0] == "log" else None
             name = folder + name[1:] if name.startswith(".") else name
             words = [*map(str, command.before), name, *map(str, command.behind)]
             end = Ran(3, b"", f"cannot read {name}: {why}\n".encode())
+            if kind:
+                end = Ran(1, f"refused log NotAFile {kind}\n".encode(), b"")
             faulty.wanted(words, b"", program.run(words), [end])
     words = ["world", "--log", program.file(WORLD)]
     whole, limit = program.run(words).out, 100

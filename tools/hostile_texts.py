@@ -21,11 +21,11 @@ CODE = rf"(H1 NotHex at \d+|S1 TooManyArgs|{VIOLATION})"
 ENDED = rf"(committed|aborted {NUMBER}|noroom)"
 ILLEGAL = rf"(I1 Refused {REFUSAL}|I2 NoTxn|I3 Waits {NUMBER}|I4 Running|I5 NotOver|I6 NothingOpen|I7 NoCopy"
 ILLEGAL += r"|I8 NoReply|I9 Stranger|I10 NoDc|I12 IncarnationsSpent|I13 Down \d+|I14 NoNews|I15 OldNews|I16 NotDown"
-ILLEGAL += "|I17 NotWritten)"
+ILLEGAL += r"|I17 NotWritten|I18 Forgotten|I19 NotCut (G1 Nothing|G2 Open \d+|G4 Down|G5 Behind|G6 Spent)|I20 Unforgettable \d+)"
 STEP = rf"(admitted \d+|sent \d+ number \d+ {OPERATION} low \d+|held number \d+ {OPERATION}|undoing \d+|over \d+"
 STEP += rf"|stuck \d+ number \d+|reply \d+ number \d+ {SAID}|silent|forged \d+|took number \d+"
 STEP += rf"|ended \d+ {ENDED} at \d+|checkpoint \d+ mark \d+|restarted \d+|told \d+ incarnation \d+ mark \d+"
-STEP += rf"|redo \d+ number \d+ {OPERATION}|redone number \d+|up \d+|crashed \d+ open \d+|illegal {ILLEGAL})"
+STEP += rf"|redo \d+ number \d+ {OPERATION}|redone number \d+|up \d+|crashed \d+ open \d+|cut \d+ \d+|illegal {ILLEGAL})"
 AUDIT = r"audit (ok ended \d+ open \d+|skipped dc \d+ (down|restarted))\n"
 ROW, EVENT = rf"row {RECORD} {VALUE}", "[0-9a-f]{192}"
 LOGGED = rf"\d+ (admit \d+ procedure \d+( \d+)*|(ask|undo) \d+ number \d+ {OPERATION}|answer \d+ number \d+ {SAID}|end \d+ {ENDED}|checkpoint \d+ \d+)"
@@ -39,14 +39,14 @@ DONE = {
     "verify": rf"([a-z0-9_]{{1,32}} (accepted \d+|{VIOLATION})\n)*",
     "world": rf"({STEP}\n)*({ROW}\n)*({AUDIT})?({EVENT}\n)*",
     "run": rf"({CALL}\n)*({ROW}\n)*({AUDIT})?",
-    "log": rf"({LOGGED}\n)*(unfinished \d+ bytes\n)?",
+    "log": rf"({LOGGED}\n)*({ROW}\n)*(unfinished \d+ bytes\n)?",
 }
 REFUSALS = {
     "exec": rf"refused {CODE}\n|{REFUSED.decode()}",
     "asm": rf"refused {ASSEMBLY} line \d+\n",
     "dis": rf"refused {CODE}\n|{REFUSED.decode()}",
     "run": rf"refused (line \d+ {SCRIPT}|G1 Workers)\n",
-    "log": r"refused log (Empty|Other|Damaged frame \d+|NoBatch frame \d+|L2 Kind \d+)\n",
+    "log": r"refused log (Empty|Other|Damaged frame \d+|NoBase frame \d+|NoBatch frame \d+|L2 Kind \d+)\n",
 }
 SCRIPT_REFUSED = rf"refused line \d+ {SCRIPT}\n"
 REFUSALS |= dict.fromkeys(("verify", "world"), SCRIPT_REFUSED)
@@ -85,6 +85,8 @@ def wrong(command, data, ran):
 def hostile_texts(program, tally, every):
     """Each command on its changed texts."""
     for command in COMMANDS:
+        if command.data.startswith(b"\x7fELF"):
+            continue  # hostile_objects.py changes those
         for data in some_of(changed(command.data), every):
             ran = program.run([*command.before, "-", *command.behind], data)
             tally.add("texts")

@@ -1,11 +1,12 @@
 """Hostile worlds: a transaction that commits and one that is undone, whose lines are known, and behind
-each step in turn a reply that nobody sent, a repeated operation, a repeated request, a restart or a crash of the
-transaction component.
+each step in turn a reply that nobody sent, a repeated operation, a repeated request, a restart, a crash of the
+transaction component or a cut of its log.
 
 What is printed stays but for the lines that are added, and places of later wires and replies, greater by as
 many as were added. A restart that nobody is told of leaves no row, and the first wire behind it is not heard;
 one that is told of, with a checkpoint before it or none, and whose redo is gone through, leaves all as it was. So
-does a crash that finds the whole log written; and one that is to find more of it isn't possible.
+does a crash that finds the whole log written; and one that is to find more of it isn't possible. A cut is possible
+where no transaction is open, and makes later places in the log less.
 """
 import re
 from collections import namedtuple
@@ -181,6 +182,28 @@ def crashed():
         yield Tried([*STEPS[:at], more, *STEPS[at:]], ROWS, 1)
 
 
+# ---- cuts of the log
+
+
+def earlier(line, by):
+    """The line with its place in the log less."""
+    return re.sub(r"(?<= at )\d+$", lambda place: str(int(place[0]) - by), line)
+
+
+def cut():
+    """Each script with a cut more."""
+    for at in range(len(STEPS) + 1):
+        words = [line.split()[0] for _, line in STEPS[:at]]
+        admitted, events = words.count("admitted"), sum(word in ("admitted", "sent", "took", "ended") for word in words)
+        left = admitted - words.count("ended")
+        if left or not events:
+            why = f"G2 Open {left}" if left else "G1 Nothing"
+            yield Tried([*STEPS[:at], ("cut", f"illegal I19 NotCut {why}"), *STEPS[at:]], ROWS, 1)
+        else:
+            later = [(step, earlier(line, events - 1)) for step, line in STEPS[at:]]
+            yield as_ever([*STEPS[:at], ("cut", f"cut {admitted} {words.count('sent')}"), *later])
+
+
 # ---- messages
 
 
@@ -205,7 +228,7 @@ def repeated(at):
 def hostile_worlds(program, tally, every):
     """Runs each of them; of those with a forged reply one of so many."""
     again = [script for at in range(len(STEPS)) for script in repeated(at)]
-    for steps, rows, status in [as_ever(STEPS), *restarted(), *crashed(), *again, *some_of(forged(), every)]:
+    for steps, rows, status in [as_ever(STEPS), *restarted(), *crashed(), *cut(), *again, *some_of(forged(), every)]:
         text = SCRIPT + "".join(step + "\n" for step, _ in steps)
         ran = program.run(["world", "-"], text.encode())
         lines = ran.out.decode().splitlines()

@@ -1,8 +1,9 @@
-"""A log's file, written by the formats' page alone: frames, a header, batches, and the rows of events."""
+"""A log's file, written by the formats' page alone: frames, a header, a base, batches, and the rows of events."""
 import hashlib
 import struct
 
 MAGIC = b"mazzulpe"
+PART = 4096  # so many base records a frame has, but for the last one
 
 
 def numbers(*them):
@@ -38,6 +39,21 @@ def header(dcs, *procedures, version=1):
     """The payload of a log's first frame."""
     digest = hashlib.sha256(b"".join(procedures)).digest()
     return MAGIC + numbers(version, dcs, len(procedures)) + digest
+
+
+def base_row(record, value):
+    """A record with which its data component begins."""
+    return struct.pack("<HHxxxxQ", *record) + value.ljust(64, b"\0")
+
+
+def parts(base):
+    """The payloads of a base's records."""
+    return [b"".join(base[place : place + PART]) for place in range(0, len(base), PART)]
+
+
+def cut(head, base, *batches):
+    """The frames of a log that begins behind an earlier one: `head` is a header of version 2."""
+    return frames(head + numbers(len(base)), *parts(base), *batches)
 
 
 def batch(*rows, notes=()):

@@ -225,12 +225,13 @@ def alone(rows, name, args):
     return " ".join(map(str, txn.outcome)), store.rows
 
 
-def serial(log, names, dcs):
+def serial(log, names, dcs, base=()):
     """Why the calls one after another, in the order of their Ends, don't explain this log and these rows, or None.
 
-    `dcs` has the rows of those data components that are up, by number. A call that got no room leaves nothing.
+    `dcs` has the rows of those data components that are up, by number, `base` the rows that were there at first. A call
+    that got no room leaves nothing.
     """
-    rows, calls = {}, {}
+    rows, calls = dict(base), {}
     for event in log:
         if event.kind == ADMIT:
             calls[event.txn] = (names[event.word], event.args)
@@ -279,6 +280,7 @@ class Numbers:
     def mismatch(self, dcs):
         """U3: the first number whose answer isn't kept, or isn't what those before it leave; and what is left."""
         store = DataComponent(AMPLE, AMPLE)
+        store.rows = {record: value for dc in dcs for record, value in dc.base.items()}
         for n in sorted(self.said):
             op, said = self.asked[n], self.said[n]
             if not self.is_kept(n, dcs[op[1][0]]):

@@ -189,6 +189,10 @@ def answer_bytes(txn, n, said):
     return record_bytes(3, subs[said[0]], txn=txn, word=n, value=said[1] if said[0] == "value" else b"")
 
 
+def checkpoint_bytes(admitted, given):
+    return record_bytes(6, 0, txn=admitted, word=given)
+
+
 def end_bytes(txn, outcome):
     sub = {"committed": 1, "aborted": 2, "noroom": 3}[outcome[0]]
     return record_bytes(5, sub, txn=txn, word=outcome[1] if len(outcome) > 1 else 0)
@@ -211,10 +215,18 @@ class DataComponent:
     def __init__(self, rows, ops):
         self.rows_most, self.ops_most, self.incarnation = rows, ops, 0
         self.rows, self.list, self.mark = {}, {}, 0
-        self.checkpoint()
+        self.forget()
 
     def checkpoint(self):
         self.saved = dict(self.rows), dict(self.list), self.mark
+
+    def forget(self):
+        """Keeps what it has, and only its rows are left of that."""
+        self.base, self.list = dict(self.rows), {}
+        self.checkpoint()
+
+    def can_forget(self, low):
+        return len(self.rows) <= self.rows_most and max(self.list, default=0) <= low
 
     def restart(self):
         """Its new incarnation and the mark that it kept."""
@@ -340,7 +352,7 @@ class World:
     def begin(self):
         """Nothing is logged."""
         self.log, self.events, self.txns, self.unanswered, self.done = [], [], {}, {}, {}
-        self.serials, self.last = 0, 0
+        self.serials, self.last, self.begun = 0, 0, 0
 
     def event(self, data, *method):
         self.log.append(data)
@@ -380,6 +392,10 @@ class World:
         self.serials += 1
         self.txns[self.serials] = Transaction(PROCEDURES[name], args)
         self.event(admit_bytes(self.serials, self.names.index(name), args), self.admitted, name, args)
+
+    def began(self, admitted, given):
+        self.serials, self.last, self.begun = admitted, given, given
+        self.event(checkpoint_bytes(admitted, given), self.began, admitted, given)
 
     def given(self, kind, t, op):
         self.last += 1
@@ -512,6 +528,8 @@ class World:
         news = self.news[i]
         if news.incarnation <= self.sites[news.dc].incarnation:
             return "illegal I15 OldNews"
+        if news.mark < self.begun:
+            return "illegal I18 Forgotten"
         self.sites[news.dc].told(news)
         self.note("told", news.dc, news.mark)
         return f"told {news.dc} incarnation {news.incarnation} mark {news.mark}"
@@ -535,17 +553,18 @@ class World:
         self.replies.append(Reply(n, 0, said))
         return f"forged {len(self.replies) - 1}"
 
-    def is_written(self, p):
-        """Whether the first p events of the log tell of all that was carried."""
+    def is_written(self, p, behind=None):
+        """Whether the first p events of the log tell of all that was carried: it begins behind this number, or its own."""
         methods = [(method.__name__, *of) for method, *of in self.events[:p]]
-        given = sum(name == "given" for name, *_ in methods)
+        begun = behind if behind is not None else self.begun if methods else 0
+        given = begun + sum(name == "given" for name, *_ in methods)
         answered = {of[0] for name, *of in methods if name == "answered"}
-        low = min(set(range(1, given + 1)) - answered, default=given + 1) - 1
+        low = min(set(range(begun + 1, given + 1)) - answered, default=given + 1) - 1
         numbers = [it.number for it in self.copies + self.replies]
         numbers += [n for dc in self.dcs for n in (*dc.list, *dc.saved[1])]
         marks = [wire.low for wire in self.copies] + [mark for dc in self.dcs for mark in (dc.mark, dc.saved[2])]
         marks += [it.mark for it in self.news] + [site.mark for site in self.sites if site.is_down()]
-        is_redone = answered.issuperset(wire.number for wire in self.copies if wire.redo)
+        is_redone = answered.issuperset(wire.number for wire in self.copies if wire.redo and wire.number > begun)
         return is_redone and max(numbers, default=0) <= given and max(marks, default=0) <= low
 
     def crash(self, p):
@@ -562,6 +581,43 @@ class World:
                 site.redone = site.mark
                 self.note("told", d, site.mark)
         return f"crashed {p} open {len(self.txns)}"
+
+    def kept_mark(self, d):
+        """The mark that this data component keeps, once it has heard the low-water mark."""
+        is_heard = self.dcs[d].incarnation == self.sites[d].incarnation
+        return max(self.dcs[d].mark, self.low()) if is_heard else self.dcs[d].mark
+
+    def why_not_cut(self):
+        if self.txns:
+            return f"I19 NotCut G2 Open {len(self.txns)}"
+        for d, dc in enumerate(self.dcs):
+            if not dc.can_forget(self.low()):
+                return f"I20 Unforgettable {d}"
+        if not self.log:
+            return "I19 NotCut G1 Nothing"
+        if any(site.is_down() for site in self.sites):
+            return "I19 NotCut G4 Down"
+        if any(self.kept_mark(d) < self.last for d in range(len(self.dcs))):
+            return "I19 NotCut G5 Behind"
+        return None
+
+    def cut(self):
+        """Data components keep their rows, and forget the rest; the log begins anew behind all that was logged."""
+        why = self.why_not_cut()
+        if why:
+            return f"illegal {why}"
+        for d, dc in enumerate(self.dcs):
+            dc.mark = self.kept_mark(d)
+            dc.forget()
+        admitted, given = self.serials, self.last
+        self.begin()
+        self.notes = []
+        self.began(admitted, given)
+        return f"cut {admitted} {given}"
+
+    def base(self):
+        """The rows with which data components begin."""
+        return {record: value for dc in self.dcs for record, value in dc.base.items()}
 
     def unheard(self):
         """The data components that are down or of another incarnation than the one known, and which of it."""

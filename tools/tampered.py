@@ -4,7 +4,7 @@
 usage: tools/tampered.py [--bench PATH] [--steps N] [--seed N] [--every N]
 
 The log and the lists are those of a random script of explore.py, whose data components restart and are redone, and
-no reply of which is forged. One place after another is changed in each of some ways: an event is left out, comes
+no reply of which is forged and whose log isn't cut. One place after another is changed in each of some ways: an event is left out, comes
 twice, changes places with the next, or says another transaction, number, operation, record, value, answer or
 outcome; an entry of a list is left out, comes later, is of another component, or has another number, operation,
 record or value. `bench audit` is handed each, and has to say what the model's audit says: the same fault at the same
@@ -21,7 +21,7 @@ import subprocess
 import sys
 
 from explore import Steps, script_of
-from plain_log import ADMIT, ANSWER, ASK, END, UNDO, audit, outcome_of, read_log
+from plain_log import ADMIT, ANSWER, ASK, CHECKPOINT, END, UNDO, audit, outcome_of, read_log
 from plain_model import ZEROS, DataComponent, Wire, admit_bytes, answer_bytes, end_bytes, put_at, sent_bytes
 from trying import some_of
 
@@ -50,11 +50,12 @@ def given_by(script):
 
 
 def drawn(seed, steps):
-    """What stands behind the first script from this seed on in which nothing is forged and all restarted."""
+    """What stands behind the first script from this seed on in which nothing is forged or cut and all restarted."""
     while True:
         script = Steps.drawn(random.Random(seed), steps)
         given, is_heard = given_by(script)
-        if is_heard and all(given.restarts) and not any(step[0] == "forge" for step in script.parts):
+        is_whole = all(event.kind != CHECKPOINT for event in given.log)
+        if is_heard and is_whole and all(given.restarts) and not any(step[0] == "forge" for step in script.parts):
             return seed, given
         seed += 1
 

@@ -237,6 +237,53 @@ row 0/0/5 100
     1,
 )]
 
+# Cuts of the log behind a put, what is printed for them, and the status: wires and replies from before say nothing
+# more, a restart leaves the rows of then, and a component that is behind or down bars a cut.
+CUTS_BEHIND_A_PUT = [(
+    """\
+cut
+cut
+perform 0
+take 1
+crash 0
+crash 1
+admit get 5
+cut
+ask 2
+perform 1
+take 2
+end 2
+restart 0
+cut
+tell 0
+cut
+redo 0
+cut
+""",
+    """\
+cut 1 1
+cut 1 1
+reply 1 number 1 old
+illegal I9 Stranger
+illegal I17 NotWritten
+crashed 1 open 0
+admitted 2
+illegal I19 NotCut G2 Open 1
+sent 1 number 2 read 0/0/5 low 1
+reply 2 number 2 value 100
+took number 2
+ended 2 committed at 4
+restarted 0
+illegal I19 NotCut G5 Behind
+told 0 incarnation 1 mark 1
+illegal I19 NotCut G4 Down
+up 0
+cut 2 2
+row 0/0/5 100
+""",
+    1,
+)]
+
 # Steps and what is printed with an audit: of an answer that nobody gave.
 AUDITS = [(
     """\
@@ -333,6 +380,7 @@ def rows(_program):
     yield from (row("world -", four(dc) + steps, out, status) for steps, out, status in RESTARTS)
     yield from (behind_a_put("world -", dc, *it) for it in RESTARTS_BEHIND_A_PUT)
     yield from (row("world -", four(dc) + steps, out, status) for steps, out, status in CRASHES)
+    yield from (behind_a_put("world -", dc, *it) for it in CUTS_BEHIND_A_PUT)
     yield from (row("world --audit -", four(dc) + steps, out, status) for steps, out, status in AUDITS)
     yield from (behind_a_put("world --audit -", dc, *it) for it in AUDITS_BEHIND_A_PUT)
     # the audit stands before the log

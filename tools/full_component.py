@@ -1,0 +1,57 @@
+#!/usr/bin/env python3
+"""Runs reads over a data component that is full, ten times as many the second time: each call beyond its room is in doubt
+by the rule, `--stats` names the component and its count, and the run takes its time in proportion.
+
+usage: tools/full_component.py [--procd PATH] [--reads N]
+
+Where the time grew with the square of the calls, the second run would take a hundred times as long. The status is 1
+where something was wrong.
+"""
+import argparse
+import pathlib
+import sys
+import time
+
+from trying import Program
+
+TOP = pathlib.Path(__file__).resolve().parent.parent
+PROCD = TOP / "crates" / "procd" / "out" / "procd"
+ROOM = 1000  # operations that it has room for
+MOST = 40  # times as long at most: four times what proportion asks for, on a machine that does other work too
+SCRIPT = f"dc 10 {ROOM}\nproc look 1\nslot read 0 0 $0\n mov r1, 0\n call 1\n mov r0, 0\n exit\nend\n"
+
+
+def seconds_of(program, reads, faults):
+    """How long so many reads took, the least of two runs."""
+    script = (SCRIPT + "".join(f"call look {i % 7}\n" for i in range(reads))).encode()
+    least = float("inf")
+    for _ in range(2):
+        began = time.monotonic()
+        ran = program.run(["run", "--stats", "--workers", "4", "-"], script)
+        least = min(least, time.monotonic() - began)
+        full = b"full dc 0 %d operations\n" % ROOM
+        if ran.status != 0 or not ran.err.endswith(full):
+            faults.append(f"{reads} reads: status {ran.status}, and {ran.err!r} doesn't end with {full!r}")
+        committed, doubted = ran.out.count(b" committed\n"), ran.out.count(b" in doubt ")
+        if (committed, doubted) != (ROOM, reads - ROOM):
+            faults.append(f"{reads} reads: {committed} committed and {doubted} in doubt")
+    return least
+
+
+def main():
+    words = argparse.ArgumentParser()
+    words.add_argument("--procd", default=str(PROCD))
+    words.add_argument("--reads", type=int, default=20_000)
+    asked = words.parse_args()
+    faults, program = [], Program(asked.procd, None)
+    few, many = (seconds_of(program, n, faults) for n in (asked.reads, 10 * asked.reads))
+    if many > MOST * few:
+        faults.append(f"{asked.reads} reads took {few:.2f} s and {10 * asked.reads} took {many:.2f} s")
+    for fault in faults:
+        print(fault)
+    print(f"full_component: {asked.reads} reads in {few:.2f} s, ten times as many in {many:.2f} s, {'nothing' if not faults else len(faults)} wrong")
+    return bool(faults)
+
+
+if __name__ == "__main__":
+    sys.exit(main())

@@ -1,0 +1,82 @@
+"""Hostile object files: each prefix, and the file with each byte changed, for `verify` to each other one.
+
+Each ends with documented lines and status: a line for each procedure, why the file is refused, or, where it
+doesn't begin with ELF's magic number any more, as any script does. `run` makes calls of its procedures.
+"""
+import re
+
+from hostile_code import VIOLATION
+from hostile_texts import CALL, DECLARATION, SCRIPT_REFUSED, is_text
+from objects import OBJECT
+from trying import Ran, some_of, undocumented
+
+SECTION = "NoName|Outside|Relocated|Twice|NoAccesses|AccessesSize|NoArguments|BadName"
+FAULT = rf"(NotElf|NotLittle64|(NotRelocatable|NotBpf|EntrySize|TooManySections) \d+|NoTable|NoNames|({SECTION}) section \d+"
+FAULT += rf"|NoSlot section \d+ entry \d+|Declared section \d+ {DECLARATION})"
+CODE = r"E(1 NoCode|2 Length|3 TooLong|[456] (WideCut|UnusedField|Undefined) slot \d+"
+CODE += r"|7 OutsideProfile slot \d+ (Packet|WideSubtype|LocalCall|BtfCall))"
+LINES = rf"([a-z0-9_]{{1,32}} (accepted \d+|{VIOLATION}|{CODE})\n)*"
+
+
+# A script beside it, what `run` prints then, and its refusals.
+SCRIPT = "dc 8 100\ndc 8 100\ncall seven\ncall get 5\n"
+RUN = rf"({CALL}\n)*"
+RUN_REFUSED = rf"refused (object ({FAULT}|[a-z0-9_]{{1,32}} ({CODE}|F7 Verify {VIOLATION}|F8 DcUnknown))|line [34] F4 NameUnknown)\n"
+
+
+def changed(data, values):
+    """Each prefix, and the whole with each byte set to others, which these are."""
+    for at, byte in enumerate(data):
+        yield data[:at]
+        for other in values(byte):
+            if other != byte:
+                yield data[:at] + bytes([other]) + data[at + 1 :]
+
+
+def all_values(_byte):
+    return range(256)
+
+
+def some_values(byte):
+    """Zero, all bits, its top bit turned, its lowest bit turned."""
+    return 0, 255, byte ^ 128, byte ^ 1
+
+
+def wrong(data, ran):
+    """What is wrong with this end of `verify`, or None."""
+    printed = ran.out.decode()
+    if not data.startswith(b"\x7fELF"):
+        if not is_text(data):
+            return None if ran == Ran(3, b"", b"cannot read -: it isn't UTF-8\n") else "no text"
+        return undocumented(ran) if ran.status == 1 and re.fullmatch(SCRIPT_REFUSED, printed) else "no script's line"
+    if ran.status == 1 and re.fullmatch(rf"refused object {FAULT}\n", printed):
+        return undocumented(ran)
+    is_refused = bool(re.search(r"(?m)^\w+ [VE]\d", printed))
+    if ran.status != int(is_refused) or not re.fullmatch(LINES, printed):
+        return "not a documented end"
+    return undocumented(ran)
+
+
+def wrong_run(ran):
+    """What is wrong with this end of `run`, or None."""
+    if not re.fullmatch(RUN_REFUSED if ran.status == 1 else RUN, ran.out.decode()):
+        return "not a documented end"
+    return undocumented(ran)
+
+
+def hostile_objects(program, tally, every):
+    """`verify` and `run` on each changed object file."""
+    for data in some_of(changed(OBJECT, all_values), every):
+        ran = program.run(["verify", "-"], data)
+        tally.add("objects")
+        tally.add("refused", ran.out.startswith(b"refused object"))
+        why = wrong(data, ran)
+        if why:
+            tally.fault(f"{why}: {ran}, procd verify - on {data.hex()}")
+    script = program.file(SCRIPT.encode())
+    for data in some_of(changed(OBJECT, some_values), every):
+        ran = program.run(["run", "--workers", 1, "-", script], data)
+        tally.add("runs")
+        why = wrong_run(ran)
+        if why:
+            tally.fault(f"{why}: {ran}, procd run - SCRIPT on {data.hex()}")
