@@ -1,5 +1,5 @@
 -- ELF-64 files, little-endian (System V ABI, gABI 4.1: "ELF Header", "Sections", "String Table").
-use Rattle.std.specs.Prelude.{ℕ, zero, suc, ◌+◌, ◌*◌, ◌/◌, Bool, ◌==◌, ◌&&◌, ◌||◌, not, nat_lt, if◌then◌else◌}
+use Rattle.std.specs.Prelude.{ℕ, zero, suc, ◌+◌, ◌*◌, ◌/◌, Bool, false, ◌==◌, ◌&&◌, ◌||◌, not, nat_lt, if◌then◌else◌}
 use Rattle.std.specs.Prelude.{List, [], ◌∷◌, length, take, drop, map, slice_get, Option, Some, None, Result, Err}
 use Rattle.std.specs.List.{position}
 use Rattle.std.specs.Str.{bytes_eq}
@@ -46,13 +46,14 @@ rows_in width (suc n) bytes = take width bytes ∷ rows_in width n (drop width b
 abbrev pub is_elf : List ℕ → Bool
 is_elf file = bytes_eq (take 4 file) (127 ∷ 69 ∷ 76 ∷ 70 ∷ [])
 
--- sh_name, sh_type, sh_offset, sh_size and sh_info of an Elf64_Shdr
+-- sh_name, sh_type, sh_offset, sh_size, sh_link and sh_info of an Elf64_Shdr
 abbrev pub header_in : List ℕ → Header
 header_in entry = record {
   name = word_at 0 entry;
   kind = word_at 4 entry;
   offset = long_at 24 entry;
   size = long_at 32 entry;
+  link = word_at 40 entry;
   info = word_at 44 entry;
 }
 
@@ -88,3 +89,14 @@ has_bits h = h.kind == 1
 -- SHT_REL (9) or SHT_RELA (4), for the section of this number
 abbrev pub relocates : ℕ → Header → Bool
 relocates number h = ((h.kind == 9) || (h.kind == 4)) && (h.info == number)
+
+-- SHT_REL (9): entries say no addends, which stand in that section
+abbrev pub relocates_in_place : ℕ → Header → Bool
+relocates_in_place number h = (h.kind == 9) && (h.info == number)
+
+abbrev pub is_name : List ℕ → Option (List ℕ) → Bool
+is_name name None = false
+is_name name (Some own) = bytes_eq own name
+
+abbrev pub is_named : List ℕ → List ℕ → Header → Bool
+is_named names name h = has_bits h && is_name name (string_at h.name names)

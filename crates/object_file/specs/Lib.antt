@@ -2,3 +2,4 @@ pub mod Elf
 pub mod Gathering
 pub mod Accesses
 pub mod Object
+pub mod LineSections

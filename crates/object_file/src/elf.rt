@@ -2,7 +2,7 @@
 
 ghost use Rattle.std.specs.Prelude.{◌≡◌, ◌==◌, ◌+◌, ◌*◌, ◌≤◌, None, Some, Ok, Err, length, map, IfOk, IfErr, IfSome, IfNone};
 ghost use Rattle.std.specs.List.{list_any, position};
-ghost use Rattle.object_file.specs.Elf.{half_at, word_at, long_at, part_of, string_at, header_in, headers_in, table_said, names_said, relocates, has_bits, is_elf};
+ghost use Rattle.object_file.specs.Elf.{half_at, word_at, long_at, part_of, string_at, header_in, headers_in, table_said, names_said, relocates, relocates_in_place, has_bits, is_elf, is_named};
 
 use crate::fault::ObjectFault;
 use byteorder::{ByteOrder, LittleEndian};
@@ -33,6 +33,7 @@ pub(crate) struct Header {
     kind: u32,
     offset: u64,
     size: u64,
+    link: u32,
     info: u32,
 }
 
@@ -45,15 +46,16 @@ pub fn is_elf(bytes: &[u8]) -> bool
 
 /// The number of two bytes at this place.
 #[tactic(auto, using(crate::proofs::Numbers::half_is))]
-pub(crate) fn half_at(place: usize, bytes: &[u8]) -> u16
+pub fn half_at(place: usize, bytes: &[u8]) -> u16
     requires { place + 2 ≤ length bytes.now }
     ensures { result ≡ half_at place bytes.now }
 {
     LittleEndian::read_u16(&bytes[place..place + 2])
 }
 
+/// The number of four bytes at this place.
 #[tactic(auto, using(crate::proofs::Numbers::word_is))]
-fn word_at(place: usize, bytes: &[u8]) -> u32
+pub fn word_at(place: usize, bytes: &[u8]) -> u32
     requires { place + 4 ≤ length bytes.now }
     ensures { result ≡ word_at place bytes.now }
 {
@@ -62,7 +64,7 @@ fn word_at(place: usize, bytes: &[u8]) -> u32
 
 /// The number of eight bytes at this place.
 #[tactic(auto, using(crate::proofs::Numbers::long_is))]
-pub(crate) fn long_at(place: usize, bytes: &[u8]) -> u64
+pub fn long_at(place: usize, bytes: &[u8]) -> u64
     requires { place + 8 ≤ length bytes.now }
     ensures { result ≡ long_at place bytes.now }
 {
@@ -115,6 +117,7 @@ fn header_in(entry: &[u8]) -> Header
         kind: word_at(4, entry),
         offset: long_at(24, entry),
         size: long_at(32, entry),
+        link: word_at(40, entry),
         info: word_at(44, entry),
     }
 }
@@ -202,6 +205,27 @@ impl Header {
         ensures none { IfNone result (part_of file.entry.now self.now.offset self.now.size ≡ None) }
     {
         part_of(file, self.offset, self.size)
+    }
+
+    /// Whether it has bytes and this name.
+    pub(crate) fn is_named(&self, names: &[u8], name: &[u8]) -> bool
+        ensures { result ≡ is_named names.now name.now self.now }
+    {
+        self.has_bits() && self.name(names) == Some(name)
+    }
+
+    /// The number of the section that it refers to.
+    pub(crate) fn link(&self) -> usize
+        ensures { result ≡ self.now.link }
+    {
+        self.link as usize
+    }
+
+    /// Whether it says how to relocate the section of this number, and what to add stands in that section.
+    pub(crate) fn relocates_in_place(&self, number: usize) -> bool
+        ensures { result ≡ relocates_in_place number self.now }
+    {
+        self.kind == RELOCATIONS && self.info as usize == number
     }
 
     // Whether it says how to relocate the section of this number.

@@ -7,6 +7,8 @@
 //! }
 //! ```
 //!
+//! ([`line_sections`] gives what says of which lines of a source the code is.)
+//!
 //! A procedure NAME is the section `procedure/NAME` with its code, and `accesses/NAME` with its declaration.
 //! (`object_tests` of `lower_tests` has the tests.)
 #![tactic(auto)]
@@ -14,8 +16,10 @@
 mod accesses;
 mod elf;
 mod fault;
+mod lines;
 mod procedures;
 
-pub use elf::{MOST_NAME, MOST_SECTIONS, is_elf};
+pub use elf::{MOST_NAME, MOST_SECTIONS, half_at, is_elf, long_at, word_at};
 pub use fault::{ObjectFault, ReadError};
+pub use lines::{LineSections, line_sections};
 pub use procedures::{Procedure, read};
