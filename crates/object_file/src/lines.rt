@@ -66,12 +66,7 @@ fn bytes_at<'a>(file: &'a [u8], headers: &[Header], number: Option<usize>) -> &'
 }
 
 // The sections around the line table of this number.
-fn lines_at<'a>(
-    file: &'a [u8],
-    names: &[u8],
-    headers: &[Header],
-    number: usize,
-) -> LineSections<'a>
+fn lines_at<'a>(file: &'a [u8], names: &[u8], headers: &[Header], number: usize) -> LineSections<'a>
     ensures { line_bytes result ≡ lines_at file.entry.now names.now headers.now number }
 {
     let relocations = relocations_of(headers, number);

@@ -1,0 +1,5 @@
+pub mod Counts
+pub mod FileLoops
+pub mod Relocations
+pub mod Searching
+pub mod Units
