@@ -37,6 +37,7 @@ for example in examples/*/; do
 done
 tried tools/believed.py
 tried tools/printed.py
+tried tools/line_tables.py
 tried tools/without_kit.py
 tried tools/terminal.py
 tried tools/hostile.py files

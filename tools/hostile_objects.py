@@ -1,13 +1,15 @@
-"""Hostile object files: each prefix, and the file with each byte changed, for `verify` to each other one.
+"""Hostile object files: each prefix, and the file with each byte changed, for `verify` to each other one; and others with each
+byte changed of what says lines of the source.
 
 Each ends with documented lines and status: a line for each procedure, why the file is refused, or, where it
-doesn't begin with ELF's magic number any more, as any script does. `run` makes calls of its procedures.
+doesn't begin with ELF's magic number any more, as any script does. `run` makes calls of its procedures. Whatever says lines,
+the verdicts stay.
 """
 import re
 
 from hostile_code import VIOLATION
 from hostile_texts import CALL, DECLARATION, SCRIPT_REFUSED, is_text
-from objects import OBJECT
+from objects import OBJECT, UNKNOWN, code_of, patched, sections, with_lines
 from trying import Ran, some_of, undocumented
 
 SECTION = "NoName|Outside|Relocated|Twice|NoAccesses|AccessesSize|NoArguments|BadName"
@@ -15,7 +17,9 @@ FAULT = rf"(NotElf|NotLittle64|(NotRelocatable|NotBpf|EntrySize|TooManySections)
 FAULT += rf"|NoSlot section \d+ entry \d+|Declared section \d+ {DECLARATION})"
 CODE = r"E(1 NoCode|2 Length|3 TooLong|[456] (WideCut|UnusedField|Undefined) slot \d+"
 CODE += r"|7 OutsideProfile slot \d+ (Packet|WideSubtype|LocalCall|BtfCall))"
-LINES = rf"([a-z0-9_]{{1,32}} (accepted \d+|{VIOLATION}|{CODE})\n)*"
+PLACE = r" [!-~]{1,255}:[1-9]\d*"
+LINES = rf"([a-z0-9_]{{1,32}} (accepted \d+|({VIOLATION}|{CODE})({PLACE})?)\n)*"
+SAYING_LINES = [".debug_line", ".debug_line_str", ".rel.debug_line", ".symtab"]
 
 
 # A script beside it, what `run` prints then, and its refusals.
@@ -64,8 +68,35 @@ def wrong_run(ran):
     return undocumented(ran)
 
 
+def refused_with_lines():
+    """Object files that say lines, each with a procedure that is refused."""
+    for _, data, _ in with_lines():
+        place, size = list(code_of(data).values())[-1]
+        yield patched(data, (place + size - 8, UNKNOWN))
+
+
+def saying_otherwise(data):
+    """The file with each byte changed of what says lines."""
+    for name, place, size in sections(data):
+        for at in range(place, place + size) if name in SAYING_LINES else ():
+            for byte in some_values(data[at]):
+                yield patched(data, (at, bytes([byte])))
+
+
+def hostile_lines(program, tally, every):
+    """`verify` on files whose lines are said otherwise: the same verdicts."""
+    for whole in refused_with_lines():
+        verdicts = re.sub(PLACE, "", program.run(["verify", "-"], whole).out.decode())
+        for data in some_of(saying_otherwise(whole), every):
+            ran = program.run(["verify", "-"], data)
+            tally.add("with lines")
+            if ran.status != 1 or ran.err or re.sub(PLACE, "", ran.out.decode()) != verdicts:
+                tally.fault(f"other verdicts: {ran}, procd verify - on {data.hex()}")
+
+
 def hostile_objects(program, tally, every):
     """`verify` and `run` on each changed object file."""
+    hostile_lines(program, tally, every)
     for data in some_of(changed(OBJECT, all_values), every):
         ran = program.run(["verify", "-"], data)
         tally.add("objects")

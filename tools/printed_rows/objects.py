@@ -4,7 +4,7 @@ import pathlib
 import struct
 import tempfile
 
-from objects import EXIT, MOV_7, SEVEN, named, object_of, patched, taking
+from objects import EXIT, MOV_7, SEVEN, named, object_of, patched, taking, unit
 from procedures import PUT
 from .row import Row
 
@@ -76,6 +76,52 @@ FILES = [
     (object_of(named(b"seven", SEVEN, taking(1, (0, 0, 2, 0), (0, 0, 4, 0)))), "refused object NoSlot section 2 entry 1\n", 1),
     (object_of(named(b"seven", SEVEN, taking(9))), "refused object Declared section 2 S1 TooManyArgs\n", 1),
     (object_of(named(b"seven", SEVEN, taking(1, (0, 0, 2, 0), (0, 0, 2, 1)))), "refused object Declared section 2 S3 NoSuchArg slot 1\n", 1),
+]
+
+
+GET = named(b"get", UNTESTED, READS)
+THREE_ROWS = (0, 3), (8, 4), (16, 5)
+TOLD = unit(*THREE_ROWS)
+
+
+def with_lines(*units):
+    """`get`, which is refused at slot 2, with these units of a line table, each of its code."""
+    return object_of(GET, units=[(it, 1, 0) for it in units])
+
+
+# Object files with lines, what is printed behind `get V10 MaybeNull slot 2`.
+LINES = [
+    (with_lines(TOLD), " bad.c:5"),
+    (with_lines(unit((0, 3), (24, 5))), " bad.c:3"),
+    (with_lines(unit((0, 3), (16, 70000))), " bad.c:70000"),
+    # behind the last slash; what is no visible character of ASCII is a question mark
+    (with_lines(unit(*THREE_ROWS, name=b"./src.c/bad.c")), " bad.c:5"),
+    (with_lines(unit(*THREE_ROWS, name=b"a b\xc3\xa4~!.c")), " a?b??~!.c:5"),
+    (with_lines(unit(*THREE_ROWS, name=b"c" * 255)), " " + "c" * 255 + ":5"),
+    (with_lines(unit(*THREE_ROWS, name=b"c" * 256)), ""),
+    (with_lines(unit(*THREE_ROWS, name=b"src/")), ""),
+    # no row covers it; line 0; another section's; a place further on
+    (with_lines(unit((24, 3))), ""),
+    (with_lines(unit((0, 3), end=16)), ""),
+    (with_lines(unit((0, 3), (16, 0))), ""),
+    (object_of(GET, units=[(TOLD, 2, 0)]), ""),
+    (object_of(GET, units=[(TOLD, 1, 8)]), " bad.c:4"),
+    # a unit of another version is passed; of those that say one the first counts
+    (with_lines(unit((16, 9), version=3), TOLD), " bad.c:5"),
+    (with_lines(unit((0, 9), end=16), TOLD, unit((16, 6))), " bad.c:5"),
+    # a table that is cut
+    (with_lines((TOLD[0][:-1], TOLD[1])), ""),
+    (object_of(GET + [(b".debug_line", TOLD[0])]), ""),
+    (object_of(GET + [(b".debug_line", b"")]), ""),
+]
+FILES += [(file, f"get V10 MaybeNull slot 2{place}\n", 1) for file, place in LINES]
+WITH_FIELD, LOCAL_CALL = MOV_7 + bytes.fromhex("9500000001000000"), MOV_7 + bytes.fromhex("8510000001000000")
+BOTH_TOLD = [(TOLD, 1, 0), (unit((0, 7)), 3, 0)]
+FILES += [
+    (object_of(named(b"used", WITH_FIELD), units=[(TOLD, 1, 0)]), "used E5 UnusedField slot 1 bad.c:4\n", 1),
+    (object_of(named(b"far", LOCAL_CALL), units=[(TOLD, 1, 0)]), "far E7 OutsideProfile slot 1 LocalCall bad.c:4\n", 1),
+    (object_of(named(b"cut", SEVEN[:-1]), units=[(TOLD, 1, 0)]), "cut E2 Length\n", 1),
+    (object_of(named(b"seven") + GET, units=BOTH_TOLD), "seven accepted 2\nget V10 MaybeNull slot 2 bad.c:7\n", 1),
 ]
 
 

@@ -18,6 +18,8 @@ pub struct Found<'a> {
     pub decl: Decl,
     /// Or the first fault of its section's bytes, which isn't want of memory.
     pub code: Result<Code, DecodeFault>,
+    /// The number of the section with its code.
+    pub section: usize,
 }
 
 /// Why the procedures of an object file aren't taken.
@@ -86,6 +88,7 @@ fn found_of<'a>(alloc: Global, procedure: Procedure<'a>) -> Result<Found<'a>, Fi
         name,
         decl,
         code: code_in(alloc, code)?,
+        section,
     })
 }
 

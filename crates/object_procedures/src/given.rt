@@ -57,7 +57,9 @@ fn code_refusal(alloc: Global, name: &str, fault: &DecodeFault) -> Result<Report
 fn given_of<'a>(alloc: Global, found: Found<'a>) -> Result<Procedure<'a>, Ungiven>
     ensures { Gives (given_of found.entry) result }
 {
-    let Found { name, decl, code } = found;
+    let Found {
+        name, decl, code, ..
+    } = found;
     match code {
         Ok(code) => Ok(Procedure {
             name,

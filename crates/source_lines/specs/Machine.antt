@@ -1,5 +1,5 @@
 -- The state machine of line number programs (DWARF 5, section 6.2): its registers as far as a line needs them, and each opcode's step.
-use Rattle.std.specs.Prelude.{ℕ, zero, suc, ◌+◌, ◌-◌, ◌*◌, ◌/◌, ◌%◌, true, false, ◌==◌, not, nat_lt, nat_le, if◌then◌else◌}
+use Rattle.std.specs.Prelude.{ℕ, zero, suc, ◌+◌, ◌-◌, ◌*◌, ◌/◌, ◌%◌, Bool, true, false, ◌==◌, ◌||◌, not, nat_lt, nat_le, if◌then◌else◌}
 use Rattle.std.specs.Prelude.{List, [], ◌∷◌, length, take, drop, slice_index, Option, Some, None}
 use Rattle.object_file.specs.Elf.{half_at, word_at, long_at}
 use Rattle.source_lines.specs.Numbers.{◌>>=◌, wrapped, leb, behind, behind_lebs}
@@ -32,12 +32,16 @@ abbrev pub symbol_at : ℕ → List ℕ → Option (List ℕ)
 symbol_at number symbols =
     behind (number * 24) symbols >>= λ symbol. if nat_lt (length symbol) 24 then None else Some symbol
 
--- the section and the place in it that an operand at this place stands for: R_BPF_64_ABS64 (2) adds the symbol's value to what is there
+-- R_BPF_64_ABS64 (2), which is R_BPF_DATA_64 (12) of binutils before 2.41
+abbrev pub is_absolute : ℕ → Bool
+is_absolute kind = (kind == 2) || (kind == 12)
+
+-- the section and the place in it that an operand at this place stands for: the symbol's value is added to what is there
 abbrev pub target_of : ℕ → Around → List ℕ → Option (ℕ × ℕ)
 target_of place a operand =
     if nat_lt (length a.relocations) 16 then None else
     if not (long_at 0 a.relocations == place) then None else
-    if not (word_at 8 a.relocations == 2) then None else
+    if not (is_absolute (word_at 8 a.relocations)) then None else
     symbol_at (word_at 12 a.relocations) a.symbols >>= λ symbol. Some (half_at 6 symbol, wrapped (long_at 0 operand + long_at 8 symbol))
 
 -- ---- steps

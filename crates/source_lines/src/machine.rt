@@ -15,8 +15,10 @@ const RELOCATION: usize = 16;
 
 const SYMBOL: usize = 24;
 
-// R_BPF_64_ABS64, of eight bytes.
+// R_BPF_64_ABS64, of eight bytes, and R_BPF_DATA_64, as binutils before 2.41 calls it.
 const ABSOLUTE: u32 = 2;
+
+const EARLIER_ABSOLUTE: u32 = 12;
 
 /// The registers, as far as a line needs them.
 #[derive(Clone, Copy)]
@@ -93,7 +95,7 @@ fn target_of(place: usize, context: &Context<'_>, operand: &[u8]) -> Option<(u16
     if relocations.len() < RELOCATION || long_at(0, relocations) != place as u64 {
         return None;
     }
-    if word_at(8, relocations) != ABSOLUTE {
+    if !matches!(word_at(8, relocations), ABSOLUTE | EARLIER_ABSOLUTE) {
         return None;
     }
     let symbol = symbol_at(word_at(12, relocations), context.symbols)?;

@@ -1,4 +1,5 @@
 pub mod Execution
 pub mod CodeReport
+pub mod SourcePlaces
 pub mod Verification
 pub mod ObjectVerification

@@ -1,23 +1,40 @@
 -- What `verify` prints of an object file, and its exit status.
-use Rattle.std.specs.Prelude.{◌≡◌, ℕ, Bool, true, false, if◌then◌else◌, List, ◌++◌, is_some, Result, Ok, Err, codes}
+use Rattle.std.specs.Prelude.{◌≡◌, ℕ, Bool, true, false, if◌then◌else◌, List, [], ◌++◌, is_some}
+use Rattle.std.specs.Prelude.{Option, Some, None, Result, Ok, Err, codes}
 use Rattle.std.specs.List.{flat_map, list_any}
 use Rattle.bpf_encoding.specs.declared.decode.DecodeFault.{DecodeFault}
+use Rattle.bpf_encoding.specs.declared.decode.DecodeFault.TheVariants.{WideCut, UnusedField, Undefined, OutsideProfile}
 use Rattle.bpf_encoding.specs.declared.insn.Place.{Place}
+use Rattle.object_file.specs.LineSections.{LineBytes, line_sections_said}
 use Rattle.object_procedures.specs.Finding.{found_in}
 use Rattle.object_procedures.specs.Refusal.{object_refusal}
 use Rattle.object_procedures.specs.declared.finding.Found.{Found}
 use Rattle.object_procedures.specs.declared.finding.ObjectRefusal.{ObjectRefusal}
 use Rattle.report_texts.specs.FaultNames.{fault_name}
 use Rattle.verifier.specs.Verdict.{verdict}
+use Rattle.text_commands.specs.SourcePlaces.{slot_text}
 use Rattle.text_commands.specs.Verification.{verdict_line, verification_lines, verification_status}
 
-abbrev pub line_by_code : Result (List Place) DecodeFault → Found → List ℕ
-line_by_code (Ok code) f = verdict_line (verdict f.decl code) f.name code
-line_by_code (Err fault) f = ((f.name ++ codes " ") ++ fault_name fault) ++ codes "\n"
+-- the slot that a fault of decoding names
+abbrev pub fault_slot : DecodeFault → Option ℕ
+fault_slot (WideCut slot) = Some slot
+fault_slot (UnusedField slot) = Some slot
+fault_slot (Undefined slot) = Some slot
+fault_slot (OutsideProfile slot which) = Some slot
+fault_slot _ = None
 
--- its line: as of a procedure of a script, or the first fault of its code
-abbrev pub found_line : Found → List ℕ
-found_line f = line_by_code f.code f
+abbrev pub said_of : (ℕ → List ℕ) → Option ℕ → List ℕ
+said_of said None = []
+said_of said (Some slot) = said slot
+
+abbrev pub line_by_code : Result (List Place) DecodeFault → (ℕ → List ℕ) → Found → List ℕ
+line_by_code (Ok code) said f = verdict_line (verdict f.decl code) said f.name code
+line_by_code (Err fault) said f = (((f.name ++ codes " ") ++ fault_name fault) ++ said_of said (fault_slot fault)) ++ codes "\n"
+
+-- its line: as of a procedure of a script, or the first fault of its code; a slot's line of the source, where the file says it, stands at
+-- its end
+abbrev pub found_line : Option LineBytes → Found → List ℕ
+found_line lines f = line_by_code f.code (slot_text lines f.section) f
 
 abbrev pub refused_by_code : Result (List Place) DecodeFault → Found → Bool
 refused_by_code (Ok code) f = is_some (verdict f.decl code)
@@ -27,9 +44,9 @@ abbrev pub is_found_refused : Found → Bool
 is_found_refused f = refused_by_code f.code f
 
 -- a line for each procedure, or why the file is refused
-abbrev pub lines_of_found : Result (List Found) ObjectRefusal → List ℕ
-lines_of_found (Ok found) = flat_map found_line found
-lines_of_found (Err why) = object_refusal why
+abbrev pub lines_of_found : Option LineBytes → Result (List Found) ObjectRefusal → List ℕ
+lines_of_found lines (Ok found) = flat_map (found_line lines) found
+lines_of_found lines (Err why) = object_refusal why
 
 -- 1 where the file or a procedure is refused, else 0
 abbrev pub status_of_found : Result (List Found) ObjectRefusal → ℕ
@@ -38,5 +55,5 @@ status_of_found (Err why) = 1
 
 -- of an object file, or of a script
 abbrev pub IsVerification : (is_object : Bool) → List ℕ → ℕ → List ℕ → Type 0
-IsVerification true file status lines = (status ≡ status_of_found (found_in file)) × (lines ≡ lines_of_found (found_in file))
+IsVerification true file status lines = (status ≡ status_of_found (found_in file)) × (lines ≡ lines_of_found (line_sections_said file) (found_in file))
 IsVerification false text status lines = (status ≡ verification_status text) × (lines ≡ verification_lines text)

@@ -1,5 +1,5 @@
 -- What `verify` prints of a script, and its exit status.
-use Rattle.std.specs.Prelude.{ℕ, Bool, if◌then◌else◌, List, ◌++◌, length, is_some, Option, Some, None, codes, decimal}
+use Rattle.std.specs.Prelude.{ℕ, Bool, if◌then◌else◌, List, [], ◌++◌, length, is_some, Option, Some, None, codes, decimal}
 use Rattle.std.specs.List.{flat_map, list_any}
 use Rattle.bpf_encoding.specs.declared.insn.Place.{Place}
 use Rattle.register_kinds.specs.declared.kind.Violation.{Violation}
@@ -11,14 +11,14 @@ use Rattle.verifier.specs.Verdict.{verdict}
 use Rattle.report_texts.specs.FaultNames.{violation_name}
 use Rattle.report_texts.specs.ScriptRefusal.{script_refusal}
 
--- a procedure's line: how many slots its code has, or what the verifier finds first
-abbrev pub verdict_line : Option (ℕ × Violation) → List ℕ → List Place → List ℕ
-verdict_line None name code = ((name ++ codes " accepted ") ++ decimal (length code)) ++ codes "\n"
-verdict_line (Some (slot, violation)) name code =
-    ((((name ++ codes " ") ++ violation_name violation) ++ codes " slot ") ++ decimal slot) ++ codes "\n"
+-- a procedure's line: how many slots its code has, or what the verifier finds first, with what is said of that slot
+abbrev pub verdict_line : Option (ℕ × Violation) → (ℕ → List ℕ) → List ℕ → List Place → List ℕ
+verdict_line None said name code = ((name ++ codes " accepted ") ++ decimal (length code)) ++ codes "\n"
+verdict_line (Some (slot, violation)) said name code =
+    (((((name ++ codes " ") ++ violation_name violation) ++ codes " slot ") ++ decimal slot) ++ said slot) ++ codes "\n"
 
 abbrev pub procedure_line : Procedure → List ℕ
-procedure_line p = verdict_line (verdict p.decl p.code) p.name p.code
+procedure_line p = verdict_line (verdict p.decl p.code) (λ _. []) p.name p.code
 
 abbrev pub is_refused : Procedure → Bool
 is_refused p = is_some (verdict p.decl p.code)

@@ -15,4 +15,5 @@ pub mod assembly;
 pub mod execute;
 pub mod lines;
 pub mod object_verification;
+mod source_place;
 pub mod verification;

@@ -2,9 +2,13 @@
 
 ghost use Rattle.std.specs.Prelude.{◌≡◌, IfOk, if◌then◌else◌, is_some, string_bytes};
 ghost use Rattle.std.specs.List.{flat_map, list_any};
+ghost use Rattle.std.specs.Option.{option_map};
+ghost use Rattle.object_file.specs.LineSections.{line_bytes};
 ghost use Rattle.verifier.specs.Verdict.{verdict};
+ghost use Rattle.text_commands.specs.SourcePlaces.{slot_text};
 ghost use Rattle.text_commands.specs.Verification.{verdict_line, procedure_line, is_refused, verification_lines, verification_status};
 
+use crate::source_place::Origin;
 use access_slots::decl::Decl;
 use bpf_encoding::code::Code;
 use report_texts::fault_names::violation_name;
@@ -22,8 +26,10 @@ pub(crate) fn verdict_line(
     name: &str,
     code: Code,
     decl: Decl,
+    origin: &Origin<'_>,
 ) -> Result<(String, bool), AllocError>
-    ensures line { IfOk result (λ r. string_bytes r.0 ≡ verdict_line (verdict decl code) name.now code) }
+    ensures line { IfOk result (λ r. string_bytes r.0
+        ≡ verdict_line (verdict decl code) (slot_text (option_map line_bytes origin.now.lines) origin.now.section) name.now code) }
     ensures refused { IfOk result (λ r. r.1 ≡ is_some (verdict decl code)) }
 {
     let slots = code.len();
@@ -31,7 +37,9 @@ pub(crate) fn verdict_line(
         Ok(_) => Ok((format!(in alloc; "{name} accepted {slots}\n")?, false)),
         Err(VerifyFault::At(slot, violation)) => {
             let violation = violation_name(violation);
-            Ok((format!(in alloc; "{name} {violation} slot {slot}\n")?, true))
+            let place = origin.slot_text(alloc, slot)?;
+            let line = format!(in alloc; "{name} {violation} slot {slot}{place}\n")?;
+            Ok((line, true))
         }
         Err(VerifyFault::Memory) => Err(AllocError),
     }
@@ -46,6 +54,7 @@ fn procedure_line(alloc: Global, procedure: Procedure) -> Result<(String, bool),
         procedure.name.as_str(),
         procedure.code,
         procedure.decl,
+        &Origin::none(),
     )
 }
 
