@@ -35,7 +35,7 @@ GROUPS = [
     ("a data component's list, its rules, checkpoints and restarts", "data_component"),
     ("transactions, legal histories, what is in flight", "transactions"),
     ("the transaction component's calls, and what its state keeps", "tc_core"),
-    ("the procedures of an object file", "object_file"),
+    ("the procedures of an object file, the lines of its source", "object_file source_lines"),
     ("a file that a crash may cut short", "frame_file"),
     ("a log's file, a file of the system, whose log it is, a journal over it", "log_file disk_file procedure_digest log_journal"),
     ("the steps of a world", "tc_world"),

@@ -13,6 +13,7 @@
 //! | `frame_tests` | `frame_file`: each truncation and each changed byte of a file |
 //! | `disk_tests` | `disk_file`: a file of the system |
 //! | `object_tests` | `object_file`: an object of clang's, each fault, and each changed byte |
+//! | `line_tests` | `source_lines`: the lines of an object of clang's, and each changed byte |
 //!
 //! What they compare stands in `checks`.
 //!
@@ -27,6 +28,8 @@ mod disk_tests;
 mod event_tests;
 #[cfg(test)]
 mod frame_tests;
+#[cfg(test)]
+mod line_tests;
 #[cfg(test)]
 mod lock_tests;
 #[cfg(test)]
