@@ -3,9 +3,10 @@
 
 usage: tools/terminal.py [--procd PATH]
 
-Of a script that is refused, the word that is at fault; of a long run, how many calls are answered, of how many, and how
-many a second; SIGINT and SIGTERM end a run at once, with nothing on standard output. The expected lines are written by
-hand. A line for each that is otherwise, and one with the count; the status is 1 where one was.
+Of a script that is refused, the word that is at fault; of an object file's procedures, how they are mended; of a long run,
+how many calls are answered, of how many, and how many a second; SIGINT and SIGTERM end a run at once, with nothing on
+standard output. The expected lines are written by hand. A line for each that is otherwise, and one with the count; the
+status is 1 where one was.
 """
 import argparse
 import errno
@@ -18,6 +19,9 @@ import subprocess
 import sys
 import tempfile
 import time
+
+from objects import named, object_of, unit
+from printed_rows.objects import GET, WITH_FIELD, with_lines
 
 TOP = pathlib.Path(__file__).resolve().parent.parent
 BUILT = TOP / "crates" / "procd" / "out" / "procd"
@@ -87,13 +91,20 @@ REFUSED = [
     ),
     ("run", "proc a 0\n", "line 1 F9 Order", ""),
 ]
+TESTED = "test what record_read returned against 0 before its use"
+# Object files, what `verify` prints, and what the terminal is told.
+CURED = [
+    (object_of(GET), "get V10 MaybeNull slot 2\n", f"get: {TESTED}\n"),
+    (with_lines(unit((0, 3))), "get V10 MaybeNull slot 2 bad.c:3\n", f"get: {TESTED}\n"),
+    (object_of(named(b"seven") + named(b"used", WITH_FIELD)), "seven accepted 2\nused E5 UnusedField slot 1\n", ""),
+]
 
 
 def on_terminal(words, given):
     """Runs it with a terminal as standard error: the status, standard output, and what the terminal got."""
     reader, terminal = pty.openpty()
     with tempfile.TemporaryFile() as script, tempfile.TemporaryFile() as out:
-        script.write(given.encode())
+        script.write(given)
         script.seek(0)
         with subprocess.Popen(words, stdin=script, stdout=out, stderr=terminal) as process:
             os.close(terminal)
@@ -120,15 +131,23 @@ def refusals(procd):
     """Each script that is refused, where that went otherwise."""
     for command, script, why, told in REFUSED:
         wanted = (1, f"refused {why}\n", f"{told}\n" if told else "")
-        ended = on_terminal([procd, command, "-"], script)
+        ended = on_terminal([procd, command, "-"], script.encode())
         if ended != wanted:
             yield f"{command} of {script!r}: {ended}, not {wanted}"
+
+
+def cures(procd):
+    """Each object file with a procedure that is refused, where that went otherwise."""
+    for file, *wanted in CURED:
+        ended = on_terminal([procd, "verify", "-"], file)
+        if ended != (1, *wanted):
+            yield f"verify of {wanted[0]!r}: {ended}"
 
 
 def progress(procd):
     """A long run, where it told no progress or told it otherwise."""
     calls = "".join(f"call put {call % 60000} 1\n" for call in range(CALLS))
-    status, _, told = on_terminal([procd, "run", "--workers", "1", "-"], PUT + calls)
+    status, _, told = on_terminal([procd, "run", "--workers", "1", "-"], (PUT + calls).encode())
     lines = told.rstrip("\n").split("\r")[1:]
     form = re.compile(rf"(\d+) of {CALLS} calls answered, (\d+) a second\x1b\[K")
     if status or not lines or not told.endswith("\n"):
@@ -168,11 +187,11 @@ def main():
     parser = argparse.ArgumentParser(description=__doc__, formatter_class=argparse.RawDescriptionHelpFormatter)
     parser.add_argument("--procd", default=str(BUILT), help="the program (that of crates/procd/out)")
     procd = parser.parse_args().procd
-    wrong = [*refusals(procd), *progress(procd), *signals(procd)]
+    wrong = [*refusals(procd), *cures(procd), *progress(procd), *signals(procd)]
     for line in wrong:
         print(f"terminal: {line}")
     ended = "wrong" if wrong else "nothing wrong"
-    print(f"terminal: {len(REFUSED)} refusals, progress of {CALLS:,} calls, 2 signals, {ended}")
+    print(f"terminal: {len(REFUSED)} refusals, {len(CURED)} cures, progress of {CALLS:,} calls, 2 signals, {ended}")
     sys.exit(1 if wrong else 0)
 
 

@@ -339,11 +339,16 @@ fn script_command(task: &Task) -> Option<Command> {
     }
 }
 
-/// Says on a terminal, behind this report, what is wrong with a script that was refused for a bad line or a bad number.
+/// Says on a terminal, behind this report, what is wrong with a script that was refused for a bad line or a bad number,
+/// and how refused procedures of an object file are mended.
 pub fn explain(alloc: Global, terminal: Option<Stderr>, task: &Task, text: &[u8], report: &Report) {
     let (Some(mut terminal), Some(command)) = (terminal, script_command(task)) else {
         return;
     };
+    if let (Task::Verify, Some(cures)) = (task, &report.notes) {
+        let _ = terminal.write_all(cures.as_bytes());
+        return;
+    }
     let Ok(text) = text_of(text) else {
         return;
     };

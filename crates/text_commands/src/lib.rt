@@ -12,6 +12,7 @@
 #![tactic(auto)]
 
 pub mod assembly;
+mod cure;
 pub mod execute;
 pub mod lines;
 pub mod object_verification;

@@ -8,7 +8,7 @@ ghost use Rattle.text_commands.specs.ObjectVerification.{fault_slot, said_of, fo
 ghost use Rattle.text_commands.specs.SourcePlaces.{slot_text};
 
 use crate::source_place::Origin;
-use crate::verification::verdict_line;
+use crate::verification::{Said, verdict_line};
 use bpf_encoding::decode::DecodeFault;
 use object_file::{LineSections, line_sections};
 use object_procedures::finding::{FindError, Found, find};
@@ -53,9 +53,9 @@ fn found_line<'a>(
     alloc: Global,
     lines: Option<LineSections<'a>>,
     found: Found<'a>,
-) -> Result<(String, bool), AllocError>
-    ensures line { IfOk result (λ r. string_bytes r.0 ≡ found_line (option_map line_bytes lines.entry) found.entry) }
-    ensures refused { IfOk result (λ r. r.1 ≡ is_found_refused found.entry) }
+) -> Result<Said, AllocError>
+    ensures line { IfOk result (λ r. string_bytes r.line ≡ found_line (option_map line_bytes lines.entry) found.entry) }
+    ensures refused { IfOk result (λ r. r.is_refused ≡ is_found_refused found.entry) }
 {
     let Found {
         name,
@@ -70,7 +70,11 @@ fn found_line<'a>(
             let name = name.as_str();
             let place = fault_place(alloc, &fault, &origin)?;
             let fault = fault_name(alloc, &fault)?;
-            Ok((format!(in alloc; "{name} {fault}{place}\n")?, true))
+            Ok(Said {
+                line: format!(in alloc; "{name} {fault}{place}\n")?,
+                is_refused: true,
+                cure: String::new(alloc),
+            })
         }
     }
 }
@@ -85,21 +89,23 @@ fn all_verified<'a>(
     ensures status { IfOk result (λ r. r.status ≡ (if list_any is_found_refused found.entry.items then 1 else 0)) }
 {
     let mut lines = String::new(alloc);
+    let mut cures = String::new(alloc);
     let mut has_refused = false;
     'found: for procedure in found {
-        let (line, is_refused) = found_line(alloc, table, procedure)?;
-        lines.push_str(line.as_str())?;
-        has_refused = has_refused || is_refused;
+        let said = found_line(alloc, table, procedure)?;
+        lines.push_str(said.line.as_str())?;
+        cures.push_str(said.cure.as_str())?;
+        has_refused = has_refused || said.is_refused;
     }
     Ok(Report {
         status: u8::from(has_refused),
         lines,
-        notes: None,
+        notes: Some(cures),
     })
 }
 
 /// Verifies the procedures of an object file: a line for each, or why the file is refused. Where the file has a line
-/// table, the line of a slot stands behind it.
+/// table, the line of a slot stands behind it. The notes say how refused procedures are mended.
 pub fn object_verification(alloc: Global, file: &[u8]) -> Result<Report, AllocError>
     ensures { IfOk result (λ r. IsVerification true file.now r.status (string_bytes r.lines)) }
 {

@@ -8,6 +8,7 @@ ghost use Rattle.verifier.specs.Verdict.{verdict};
 ghost use Rattle.text_commands.specs.SourcePlaces.{slot_text};
 ghost use Rattle.text_commands.specs.Verification.{verdict_line, procedure_line, is_refused, verification_lines, verification_status};
 
+use crate::cure::cure_line;
 use crate::source_place::Origin;
 use access_slots::decl::Decl;
 use bpf_encoding::code::Code;
@@ -20,34 +21,50 @@ use scripts::script::Procedure;
 use std::alloc::{AllocError, Global};
 use verifier::verify::{VerifyFault, verify};
 
-// What the verifier says of code under this name, and whether it refuses it.
+/// What is said of a procedure.
+#[derive(Drop)]
+pub(crate) struct Said {
+    pub line: String,
+    pub is_refused: bool,
+    /// How C is mended that the verifier refuses, in a line; else nothing.
+    pub cure: String,
+}
+
+/// What the verifier says of code under this name.
 pub(crate) fn verdict_line(
     alloc: Global,
     name: &str,
     code: Code,
     decl: Decl,
     origin: &Origin<'_>,
-) -> Result<(String, bool), AllocError>
-    ensures line { IfOk result (λ r. string_bytes r.0
+) -> Result<Said, AllocError>
+    ensures line { IfOk result (λ r. string_bytes r.line
         ≡ verdict_line (verdict decl code) (slot_text (option_map line_bytes origin.now.lines) origin.now.section) name.now code) }
-    ensures refused { IfOk result (λ r. r.1 ≡ is_some (verdict decl code)) }
+    ensures refused { IfOk result (λ r. r.is_refused ≡ is_some (verdict decl code)) }
 {
     let slots = code.len();
     match verify(alloc, code, decl) {
-        Ok(_) => Ok((format!(in alloc; "{name} accepted {slots}\n")?, false)),
+        Ok(_) => Ok(Said {
+            line: format!(in alloc; "{name} accepted {slots}\n")?,
+            is_refused: false,
+            cure: String::new(alloc),
+        }),
         Err(VerifyFault::At(slot, violation)) => {
-            let violation = violation_name(violation);
+            let why = violation_name(violation);
             let place = origin.slot_text(alloc, slot)?;
-            let line = format!(in alloc; "{name} {violation} slot {slot}{place}\n")?;
-            Ok((line, true))
+            Ok(Said {
+                line: format!(in alloc; "{name} {why} slot {slot}{place}\n")?,
+                is_refused: true,
+                cure: cure_line(alloc, name, violation)?,
+            })
         }
         Err(VerifyFault::Memory) => Err(AllocError),
     }
 }
 
-fn procedure_line(alloc: Global, procedure: Procedure) -> Result<(String, bool), AllocError>
-    ensures line { IfOk result (λ r. string_bytes r.0 ≡ procedure_line procedure.entry) }
-    ensures refused { IfOk result (λ r. r.1 ≡ is_refused procedure.entry) }
+fn procedure_line(alloc: Global, procedure: Procedure) -> Result<Said, AllocError>
+    ensures line { IfOk result (λ r. string_bytes r.line ≡ procedure_line procedure.entry) }
+    ensures refused { IfOk result (λ r. r.is_refused ≡ is_refused procedure.entry) }
 {
     verdict_line(
         alloc,
@@ -66,9 +83,9 @@ fn verified(alloc: Global, procedures: Vec<Procedure>) -> Result<Report, AllocEr
     let mut lines = String::new(alloc);
     let mut has_refused = false;
     'procedures: for procedure in procedures {
-        let (line, is_refused) = procedure_line(alloc, procedure)?;
-        lines.push_str(line.as_str())?;
-        has_refused = has_refused || is_refused;
+        let said = procedure_line(alloc, procedure)?;
+        lines.push_str(said.line.as_str())?;
+        has_refused = has_refused || said.is_refused;
     }
     Ok(Report {
         status: u8::from(has_refused),
