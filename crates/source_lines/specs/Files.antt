@@ -1,8 +1,10 @@
 -- The names of files (DWARF 5, section 6.2.4.1; DWARF 4, section 6.2.4).
-use Rattle.std.specs.Prelude.{ℕ, zero, suc, false, ◌==◌, nat_lt, nat_le, if◌then◌else◌, List, [], ◌∷◌, length, Option, Some, None}
+use Rattle.std.specs.Prelude.{ℕ, zero, suc, false, ◌==◌, nat_lt, nat_le, if◌then◌else◌, List, [], ◌∷◌, length, take}
+use Rattle.std.specs.Prelude.{Option, Some, None}
 use Rattle.object_file.specs.Elf.{word_at}
 use Rattle.source_lines.specs.Numbers.{◌>>=◌, leb, behind, behind_lebs, text}
 use Rattle.source_lines.specs.Unit.{Fields}
+use Rattle.source_lines.specs.declared.files.TheConstants.{MOST_PATH}
 use Rattle.source_lines.specs.declared.files.Form.{Form}
 use Rattle.source_lines.specs.declared.files.Form.TheVariants.{String, LineString, Number, Block, Bytes}
 use Rattle.source_lines.specs.declared.files.Table.{Table}
@@ -44,8 +46,9 @@ behind_field Number bytes = leb false bytes >>= λ (_, rest). Some rest
 behind_field Block bytes = leb false bytes >>= λ (size, rest). behind size rest
 behind_field (Bytes size) bytes = behind size bytes
 
+-- a string of fewer than MOST_PATH bytes
 abbrev pub text_at : ℕ → List ℕ → Option (List ℕ)
-text_at place strings = behind place strings >>= λ at. text at >>= λ (name, _). Some name
+text_at place strings = behind place strings >>= λ at. text (take MOST_PATH at) >>= λ (name, _). Some name
 
 -- DW_FORM_string has the string itself, DW_FORM_line_strp its place in .debug_line_str
 abbrev pub string_field : List ℕ → Form → List ℕ → Option (List ℕ)

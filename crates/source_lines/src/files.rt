@@ -1,6 +1,6 @@
 //! The names of a unit's files.
 
-ghost use Rattle.std.specs.Prelude.{◌≡◌, ◌-◌, ◌≤◌, Some, None, IfSome, IfNone, length};
+ghost use Rattle.std.specs.Prelude.{◌≡◌, ◌-◌, ◌≤◌, Some, None, IfSome, IfNone, length, take};
 ghost use Rattle.source_lines.specs.Files.{behind_directories, path_four, form_of, behind_field, text_at, string_field, field_in, behind_formats};
 ghost use Rattle.source_lines.specs.Files.{behind_entry, behind_entries, path_in, shown, table_in, path_of, path_five, path_said, base_name};
 ghost use Rattle.source_lines.specs.Unit.{shown as shown_program};
@@ -8,6 +8,9 @@ ghost use Rattle.source_lines.specs.Unit.{shown as shown_program};
 use crate::numbers::{behind, behind_lebs, text, unsigned};
 use crate::unit::Program;
 use object_file::word_at;
+
+/// Bytes of a path, with the zero behind it, at most: many units may name one string.
+const MOST_PATH: usize = 4096;
 
 /// What a field that has a path says that it has.
 const PATH: u64 = 1;
@@ -119,12 +122,23 @@ fn behind_field(form: Form, bytes: &[u8]) -> Option<&[u8]>
     }
 }
 
-// The string at this place.
+// At most so many bytes.
+fn front_of(bytes: &[u8]) -> &[u8]
+    ensures { result.now ≡ take MOST_PATH bytes.now }
+{
+    if bytes.len() <= MOST_PATH {
+        return bytes;
+    }
+    let (front, _) = bytes.split_at(MOST_PATH);
+    front
+}
+
+// The string at this place, if it is no longer than a path.
 fn text_at(place: u64, strings: &[u8]) -> Option<&[u8]>
     ensures some { IfSome result (λ name. text_at place strings.now ≡ Some name.now) }
     ensures none { IfNone result (text_at place strings.now ≡ None) }
 {
-    let (name, _) = text(behind(place, strings)?)?;
+    let (name, _) = text(front_of(behind(place, strings)?))?;
     Some(name)
 }
 
