@@ -4,8 +4,8 @@
 usage: tools/line_tables.py [--procd PATH] [--store NAME OBJECT]
 
 Of each object file each slot in turn gets an opcode that there isn't, which `verify` then names with its line. Object files
-are those of outside/lines/cases.jsonl, with the lines that llvm-dwarfdump and llvm-objdump say; and, where clang and these
-are there, what clang makes of each C file of examples/. `--store` adds an object file under a name to the cases instead.
+are those of outside/lines/objects.jsonl, with the lines that llvm-dwarfdump and llvm-objdump say; and, where clang and these
+are there, what clang makes of each C file of examples/. `--store` adds an object file under a name to the stored ones instead.
 A line for each slot whose line is another, and one with the count. The status is 1 where one is.
 """
 import argparse
@@ -23,7 +23,7 @@ from objects import CODE, UNKNOWN, code_of, patched, with_lines
 from trying import Program
 
 TOP = pathlib.Path(__file__).resolve().parent.parent
-CASES = TOP / "tools" / "outside" / "lines" / "cases.jsonl"
+OBJECTS = TOP / "tools" / "outside" / "lines" / "objects.jsonl"
 TOOLS = ["clang", "llvm-dwarfdump", "llvm-objdump"]
 OPTIONS = [[f"-gdwarf-{version}", *further] for version in (4, 5) for further in (["-O1", "-mcpu=v1"], ["-O2", "-mcpu=v3"])]
 NONE = "-"
@@ -99,7 +99,7 @@ def differences(program, case, data, lines):
 def store(name, path):
     data = pathlib.Path(path).read_bytes()
     case = {"name": name, "lines": lines_by_llvm(path, data), "object": data.hex()}
-    with CASES.open("a") as cases:
+    with OBJECTS.open("a") as cases:
         cases.write(json.dumps(case) + "\n")
 
 

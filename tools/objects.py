@@ -88,7 +88,7 @@ def code_of(data):
 
 def with_lines():
     """The object files of outside/lines/: name, bytes, and of each procedure the line of each slot."""
-    for line in (pathlib.Path(__file__).parent / "outside" / "lines" / "cases.jsonl").read_text().splitlines():
+    for line in (pathlib.Path(__file__).parent / "outside" / "lines" / "objects.jsonl").read_text().splitlines():
         case = json.loads(line)
         yield case["name"], bytes.fromhex(case["object"]), case["lines"]
 
