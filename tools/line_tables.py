@@ -42,7 +42,7 @@ def sequences(path):
         if begin := re.match(r"file_names\[ *(\d+)\]:", line):
             number = int(begin[1])
         elif name := re.match(r'\s+name: "(.*)"$', line):
-            files[number] = name[1].rpartition("/")[2]
+            files[number] = re.sub("[^!-~]", "?", name[1].rpartition("/")[2])
         elif row := re.match(r"0x([0-9a-f]{16}) +(\d+) +\d+ +(\d+) +\d+ +\d+ *(.*)$", line):
             rows.append(Row(int(row[1], 16), int(row[2]), files.get(int(row[3]))))
             if "end_sequence" in row[4]:
