@@ -3,7 +3,8 @@
 ghost use Rattle.std.specs.Prelude.{◌≡◌, IfOk};
 ghost use Rattle.std.specs.List.{position};
 ghost use Rattle.std.specs.Option.{option_map};
-ghost use Rattle.object_file.specs.LineSections.{line_bytes, bytes_at, number_named, relocations_of, linked, lines_at, lines_in, line_sections_said};
+ghost use Rattle.object_file.specs.LineSections.{line_bytes, bytes_at, number_named, relocations_of, linked};
+ghost use Rattle.object_file.specs.LineSections.{lines_at, lines_in, line_sections_said};
 
 use crate::elf::{Header, headers_in, names_of, table_of};
 use std::alloc::{AllocError, Global};

@@ -1,7 +1,7 @@
 -- A procedure that isn't found.
 use Rattle.std.proofs.Common.{◌≡◌, List, ◌∷◌, map, ap}
 use Rattle.std.specs.Prelude.{Result}
-use Rattle.object_file.specs.Object.{Declared, declared_of}
+use Rattle.object_file.specs.Object.{declared_of}
 use Rattle.object_file.specs.declared.procedures.Procedure.{Procedure}
 use Rattle.object_procedures.specs.Each.{each}
 use Rattle.object_procedures.specs.Finding.{found_of, IsStop}

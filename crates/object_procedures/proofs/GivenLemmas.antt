@@ -1,5 +1,5 @@
 -- A procedure that isn't given.
-use Rattle.std.proofs.Common.{◌≡◌, ◌∙◌, ℕ, List, ◌∷◌, map}
+use Rattle.std.proofs.Common.{◌≡◌, ℕ, List, ◌∷◌}
 use Rattle.std.specs.Prelude.{Result, string_bytes}
 use Rattle.scripts.specs.declared.script.Procedure.{Procedure}
 use Rattle.object_procedures.specs.Each.{each}

@@ -25,7 +25,8 @@ code_said bytes = code_by (fault_in bytes) bytes
 -- its name is one of a script's procedure
 abbrev pub found_of : Declared → Result Found ObjectRefusal
 found_of p =
-    if is_name p.name then Ok (record { name = p.name; decl = p.decl; code = code_said p.code; section = p.section }) else Err (BadName p.section)
+    if is_name p.name then Ok (record { name = p.name; decl = p.decl; code = code_said p.code; section = p.section }) else
+    Err (BadName p.section)
 
 -- all of them, or the first that has no such name
 abbrev pub all_found : List Declared → Result (List Found) ObjectRefusal

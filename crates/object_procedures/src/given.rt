@@ -58,7 +58,10 @@ fn given_of<'a>(alloc: Global, found: Found<'a>) -> Result<Procedure<'a>, Ungive
     ensures { Gives (given_of found.entry) result }
 {
     let Found {
-        name, decl, code, ..
+        name,
+        decl,
+        code,
+        ..
     } = found;
     match code {
         Ok(code) => Ok(Procedure {

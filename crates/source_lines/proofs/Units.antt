@@ -27,6 +27,7 @@ unit_on n k begin end s place relocations left bytes unit rest line total below 
     sym (ap (λ (m : ℕ). line_within m s place relocations bytes) (one_left n k below)
     ∙ ap (λ (u : Option (List ℕ × List ℕ)). u >>= after_unit (n - (k + 1)) s place (left_at s relocations bytes)) is
     ∙ ap (λ (x : List ℕ). or_else (line_in s.strings (around_unit s x rest) place unit) (line_within (n - (k + 1)) s place x rest)) (sym now)
-    ∙ ap (λ (e : ℕ). or_else (line_in s.strings (record { end = e; symbols = s.symbols; relocations = left }) place unit) (line_within (n - (k + 1)) s place left rest)) (sym ends)
+    ∙ ap (λ (e : ℕ). or_else (line_in s.strings (record { end = e; symbols = s.symbols; relocations = left }) place unit)
+    (line_within (n - (k + 1)) s place left rest)) (sym ends)
     ∙ ap (λ (l : Option Line). or_else l (line_within (n - (k + 1)) s place left rest)) said)
     ∙ so_far

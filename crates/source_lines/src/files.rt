@@ -1,8 +1,9 @@
 //! The names of a unit's files.
 
 ghost use Rattle.std.specs.Prelude.{◌≡◌, ◌-◌, ◌≤◌, Some, None, IfSome, IfNone, length, take};
-ghost use Rattle.source_lines.specs.Files.{behind_directories, path_four, form_of, behind_field, text_at, string_field, field_in, behind_formats};
-ghost use Rattle.source_lines.specs.Files.{behind_entry, behind_entries, path_in, shown, table_in, path_of, path_five, path_said, base_name};
+ghost use Rattle.source_lines.specs.Files.{behind_directories, path_four, form_of, behind_field, text_at, string_field};
+ghost use Rattle.source_lines.specs.Files.{field_in, behind_formats, behind_entry, behind_entries, path_in, shown, table_in};
+ghost use Rattle.source_lines.specs.Files.{path_of, path_five, path_said, base_name};
 ghost use Rattle.source_lines.specs.Unit.{shown as shown_program};
 
 use crate::numbers::{behind, behind_lebs, text, unsigned};

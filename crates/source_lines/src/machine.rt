@@ -2,8 +2,9 @@
 
 ghost use Rattle.std.specs.Prelude.{◌≡◌, ◌+◌, ◌/◌, ◌<◌, ◌≤◌, Some, None, IfSome, IfNone, length, slice_index};
 ghost use Rattle.std.specs.Option.{option_map};
-ghost use Rattle.source_lines.specs.Machine.{relocations_from, symbol_at, target_of, initial, advanced, moved, signed_byte, after, quiet, appending, special, addressed};
-ghost use Rattle.source_lines.specs.Machine.{around, extended_by, extended_in, extended, standard, step};
+ghost use Rattle.source_lines.specs.Machine.{around, relocations_from, symbol_at, target_of, initial, advanced, moved};
+ghost use Rattle.source_lines.specs.Machine.{signed_byte, after, quiet, appending, special, addressed};
+ghost use Rattle.source_lines.specs.Machine.{extended_by, extended_in, extended, standard, step};
 ghost use Rattle.source_lines.specs.Unit.{shown};
 
 use crate::numbers::{behind, behind_lebs, leb, unsigned};

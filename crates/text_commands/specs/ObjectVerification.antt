@@ -55,5 +55,6 @@ status_of_found (Err why) = 1
 
 -- of an object file, or of a script
 abbrev pub IsVerification : (is_object : Bool) → List ℕ → ℕ → List ℕ → Type 0
-IsVerification true file status lines = (status ≡ status_of_found (found_in file)) × (lines ≡ lines_of_found (line_sections_said file) (found_in file))
+IsVerification true file status lines =
+    (status ≡ status_of_found (found_in file)) × (lines ≡ lines_of_found (line_sections_said file) (found_in file))
 IsVerification false text status lines = (status ≡ verification_status text) × (lines ≡ verification_lines text)

@@ -26,10 +26,8 @@ fn fault_slot(fault: &DecodeFault) -> Option<usize>
         | DecodeFault::UnusedField(slot)
         | DecodeFault::Undefined(slot)
         | DecodeFault::OutsideProfile(slot, _) => Some(slot),
-        DecodeFault::NoCode
-        | DecodeFault::Length
-        | DecodeFault::TooLong
-        | DecodeFault::Memory => None,
+        DecodeFault::NoCode | DecodeFault::Length | DecodeFault::TooLong | DecodeFault::Memory =>
+            None,
     }
 }
 

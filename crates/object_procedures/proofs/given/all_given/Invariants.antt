@@ -1,4 +1,4 @@
-use Rattle.std.proofs.Common.{◌≡◌, map, length}
+use Rattle.std.proofs.Common.{◌≡◌, length}
 use Rattle.object_procedures.specs.Each.{each}
 use Rattle.object_procedures.specs.Given.{given_of, all_given}
 use Rattle.object_procedures.proofs.Each.{behind}

@@ -24,13 +24,14 @@ pub returns-in_err-stepped : goal.returns-in_err-stepped
 returns-in_err-stepped c =
     let l = c.opcodes in
     let none : c.from_residual-in_err-stepped.result ≡ None = search rules in
-    none ∙ sym (step_cut c.args.place (length c.args.program.now.opcodes.now) l.counter (shown c.args.program.now) (around l.context) (around c.at_operands-context.result)
-    l.registers l.before l.rest.now c.in_ok-opcode.operands.now c.in_ok-opcode.opcode.now _
+    none ∙ sym (step_cut c.args.place (length c.args.program.now.opcodes.now) l.counter (shown c.args.program.now) (around l.context)
+    (around c.at_operands-context.result) l.registers l.before l.rest.now c.in_ok-opcode.operands.now c.in_ok-opcode.opcode.now _
     c.opcodes-test.true c.in_ok-opcode.ensures.cases.0 c.at_operands-context.ensures (sym c.in_err-stepped.ensures) l.invariant)
 
 pub returns-in_err-opcode : goal.returns-in_err-opcode
 returns-in_err-opcode c =
     let l = c.opcodes in
     let none : c.from_residual.result ≡ None = search rules in
-    none ∙ sym (no_more c.args.place (length c.args.program.now.opcodes.now - l.counter) (shown c.args.program.now) (around l.context) l.registers l.before l.rest.now _
+    none ∙ sym (no_more c.args.place (length c.args.program.now.opcodes.now - l.counter) (shown c.args.program.now) (around l.context) l.registers
+    l.before l.rest.now _
     (nil_from_length l.rest.now c.in_err-opcode.ensures.cases) l.invariant)
