@@ -68,10 +68,10 @@ const OBJECT: [u8; 1288] = [
 // The line of each slot, as llvm-dwarfdump 14 reads the table; behind the code there is none.
 const LINES: [Option<u64>; 7] = [Some(4), None, Some(6), None, None, Some(9), None];
 
-fn line_of(table: &LineSections, section: usize, slot: u64) -> Option<u64> {
+fn line_of(table: &LineSections, section: usize, slot: u32) -> Option<u64> {
     let place = Place {
         section,
-        address: 8 * slot,
+        address: 8 * u64::from(slot),
     };
     match line_at(table, place) {
         Some(SourceLine { line, .. }) => Some(line),
@@ -83,8 +83,8 @@ fn line_of(table: &LineSections, section: usize, slot: u64) -> Option<u64> {
 fn lines_of(alloc: Global, file: &[u8]) -> Option<[Option<u64>; 7]> {
     let table = line_sections(alloc, file).ok()??;
     let mut lines = [None; 7];
-    for slot in 0..7 {
-        lines[slot] = line_of(&table, 3, slot as u64);
+    for slot in 0..7_u32 {
+        lines[slot as usize] = line_of(&table, 3, slot);
     }
     Some(lines)
 }
