@@ -46,7 +46,7 @@ impl Link for Together {
         self.is_prompt
     }
 
-    fn carry_all<R: Wait>(&self, rt: &R, worker: usize, errands: &mut [Errand]) {
+    fn carry_all<J: Naming, R: Wait>(&self, rt: &R, worker: usize, errands: &mut [Errand<J>]) {
         let count = errands.iter().filter(|e| e.wire().is_some()).count();
         self.most.fetch_max(count as u64, Ordering::SeqCst);
         self.dcs.carry_all(rt, worker, errands);

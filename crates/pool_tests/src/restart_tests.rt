@@ -1,7 +1,7 @@
 // Runs over a data component that restarts and loses what came after its last checkpoint.
 
-use crate::test_pool::{answers_of, begun, behind_put, is_same};
-use crate::test_state::{dc, moves, puts, state};
+use crate::test_pool::{answers_of, are_committed, begun, behind_put, is_same};
+use crate::test_state::{PUT_BESIDE, calls_of, dc, moves, puts, state};
 use access_slots::op::{News, Reply, Wire};
 use data_component::dc::Dc;
 use samples::record;
@@ -41,9 +41,10 @@ impl Restarting {
     }
 }
 
-// Carries to one such component, and hands its last news out again and again.
+// Carries to one such component, which has this number, and hands its last news out again and again.
 #[derive(Drop)]
 struct Restarts {
+    number: u16,
     dc: Mutex<Restarting>,
 }
 
@@ -52,11 +53,13 @@ impl Restarts {
     // carries.
     fn new(
         alloc: Global,
+        number: u16,
         rows: usize,
         restart_at: u64,
         checkpoint_at: u64,
     ) -> Result<Restarts, AllocError> {
         Ok(Restarts {
+            number,
             dc: Mutex::new(Restarting {
                 dc: dc(alloc, rows)?,
                 carried: 0,
@@ -78,7 +81,10 @@ impl Link for Restarts {
         self.dc.lock(rt).perform(wire)
     }
 
-    fn news<R: Wait>(&self, rt: &R, _worker: usize, _dc: u16) -> Option<News> {
+    fn news<R: Wait>(&self, rt: &R, _worker: usize, dc: u16) -> Option<News> {
+        if dc != self.number {
+            return None;
+        }
         self.dc.lock(rt).news
     }
 }
@@ -126,7 +132,7 @@ fn has_restarted<R: Wait + Abort>(rt: &R, link: &Restarts) {
 }
 
 fn eight_moved<R: Threads + Wait + Sync + Abort>(rt: &R, alloc: Global, workers: usize) {
-    let link = Restarts::new(alloc, 4, 7, 5).expect(rt, "no link");
+    let link = Restarts::new(alloc, 0, 4, 7, 5).expect(rt, "no link");
     let calls = moves(rt, alloc, 1, 8);
     let state = behind_put(rt, alloc, &link);
     let answers = answers(rt, alloc, state, calls.as_slice(), workers, &link);
@@ -148,12 +154,36 @@ fn eight_moves_over_restarts(rt: HostRuntime) {
 // Eight workers send and redo beside one another: two hundred calls, each of a key of its own.
 #[test]
 fn eight_workers_over_restarts(rt: HostRuntime) {
-    let link = Restarts::new(rt.alloc(), 200, 37, 11).expect(&rt, "no link");
+    let link = Restarts::new(rt.alloc(), 0, 200, 37, 11).expect(&rt, "no link");
     let calls = puts(rt.alloc(), 200, 1).expect(&rt, "no calls");
     let state = state(&rt, rt.alloc());
     let answers = answers(&rt, rt.alloc(), state, calls.as_slice(), 8, &link);
     are_told(&rt, answers.as_slice(), 200);
     has_restarted(&rt, &link);
+    drop(calls);
+    drop(link);
+}
+
+// News of the second component are asked for where it is silent, and reach it: a restart at every third carry, and
+// a checkpoint behind each, so that `put` commits each time.
+#[test]
+fn news_of_the_component_that_restarted(rt: HostRuntime) {
+    let link = Restarts::new(rt.alloc(), 1, 4, 3, 1).expect(&rt, "no link");
+    let calls = calls_of(
+        &rt,
+        rt.alloc(),
+        &[
+            (PUT_BESIDE, &[5, 1]),
+            (PUT_BESIDE, &[6, 2]),
+            (PUT_BESIDE, &[7, 3]),
+            (PUT_BESIDE, &[8, 4]),
+        ],
+    );
+    let state = state(&rt, rt.alloc());
+    let answers = answers(&rt, rt.alloc(), state, calls.as_slice(), 1, &link);
+    are_committed(&rt, answers.as_slice(), 4);
+    has_restarted(&rt, &link);
+    drop(answers);
     drop(calls);
     drop(link);
 }

@@ -18,7 +18,8 @@ use Rattle.tc_core.specs.declared.state.Stranger2.{Stranger2}
 use Rattle.worker_pool.specs.Kept.{Keeps}
 use Rattle.worker_pool.specs.Joining.Handing.{IsHanded}
 use Rattle.worker_pool.proofs.Placed.{begins_more}
-use Rattle.worker_pool.proofs.Steps.{opened, asked, undone, heard, restart_told, redo_asked, redo_heard}
+use Rattle.worker_pool.proofs.Steps.{opened, asked, undone, heard}
+use Rattle.worker_pool.proofs.Carrying.{redo_logs_nothing, told_logs_nothing, redone_logs_nothing}
 use Rattle.worker_pool.proofs.Handing.{begins_self, handed_on}
 
 nothing : (s : Core) → Keeps s [] s []
@@ -42,21 +43,21 @@ module _ (start : Core) (bs : List (List Event)) (n : ℕ) (old : Core) where
       → IsHanded start.events bs n old.events → IsHanded start.events bs n new.events
   handed_heard new r said result ok err it = goes_on new (heard old [] old new [] r said result ok err (nothing old)).begins it
 
+  pub handed_same : (new : Core) → new.events ≡ old.events → IsHanded start.events bs n old.events → IsHanded start.events bs n new.events
+  handed_same new same it = subst (λ (h : List Event). IsHanded start.events bs n h) (sym same) it
+
   pub handed_told : (new : Core) (d : ℕ) (news : News) (result : Result Unit NewsFault)
       → OnOk result (new ≡ after_told old d news) → OnErr result (new ≡ old)
       → IsHanded start.events bs n old.events → IsHanded start.events bs n new.events
-  handed_told new d news result ok err it = goes_on new (restart_told old [] old new [] d news result ok err (nothing old)).begins it
+  handed_told new d news result ok err it = handed_same new (told_logs_nothing old new d news result ok err) it
 
   pub handed_redo : (d : ℕ) (reply : Redo) → IsHanded start.events bs n old.events → IsHanded start.events bs n (after_redo old d reply).events
-  handed_redo d reply it = goes_on (after_redo old d reply) (redo_asked old [] old [] d reply (nothing old)).begins it
+  handed_redo d reply it = handed_same (after_redo old d reply) (redo_logs_nothing old d reply) it
 
   pub handed_redone : (new : Core) (d m : ℕ) (result : Result Unit Stranger2)
       → OnOk result (new ≡ after_redone old d m) → OnErr result (new ≡ old)
       → IsHanded start.events bs n old.events → IsHanded start.events bs n new.events
-  handed_redone new d m result ok err it = goes_on new (redo_heard old [] old new [] d m result ok err (nothing old)).begins it
-
-  pub handed_same : (new : Core) → new.events ≡ old.events → IsHanded start.events bs n old.events → IsHanded start.events bs n new.events
-  handed_same new same it = subst (λ (h : List Event). IsHanded start.events bs n h) (sym same) it
+  handed_redone new d m result ok err it = handed_same new (redone_logs_nothing old new d m result ok err) it
 
   pub handed_ended : (t : ℕ) (o : Option Outcome) → IsHanded start.events bs n old.events → IsHanded start.events bs n (after_end old t o).events
   handed_ended t None it = it

@@ -8,5 +8,6 @@ pub mod Reported
 pub mod Serving
 pub mod Seated
 pub mod Carrying
+pub mod Known
 pub mod Handing
 pub mod Grown

@@ -55,6 +55,8 @@ use Rattle.worker_pool.proofs.Placed.{stands_more, stands_here, stood, stands_wi
 use Rattle.worker_pool.specs.Doubts.{IsDoubtful}
 use Rattle.worker_pool.proofs.Doubtful.{sends_more, doubtful_sent}
 use Rattle.worker_pool.proofs.GivenUp.{begin_same, begin_then, given_up_more}
+use Rattle.worker_pool.specs.Restarts.{StaysKnown}
+use Rattle.worker_pool.proofs.Known.{known_behind}
 
 -- ---- one event more
 
@@ -208,6 +210,7 @@ pub told : (start : Core) (calls : List Call) (state : Core) (ps : List Progress
 told start calls state ps k p p' c keeps at of fits same was none = record {
   stays = keeps.stays;
   begins = keeps.begins;
+  restarts = keeps.restarts;
   one_each = length_set ps k p' ∙ keeps.one_each;
   fits = λ i q d at' of'. elim (get_set ps k i p' q at') [
     | inl x ↦ subst (λ (y : Progress). Fits start state (call_of d) y) x.1 (subst (λ (y : Call). Fits start state (call_of y) p') (same_call calls k i c d of x.0 of') fits)
@@ -277,6 +280,7 @@ grown start calls state ps e quiet keeps =
     record {
       stays = stays_more start state e keeps.stays;
       begins = begins_more start.events h e keeps.begins;
+      restarts = keeps.restarts;
       one_each = keeps.one_each;
       fits = λ k p c at of. fits_more start state e (call_of c) p quiet.more (λ t own. quiet.still t) (keeps.fits k p c at of);
       recent = λ k p t at own. let old = keeps.recent k p t at own in omega (arith, old, quiet.more.0);
@@ -323,10 +327,11 @@ heard start calls old new ps r said (Err s) ok err keeps = rw err keeps
 
 -- no event, but more numbers given up, or something else known of data components
 beside : (start : Core) (calls : List Call) (old : Core) (ps : List Progress) (numbers : List ℕ) (sites : List Site)
-    → BeginWith old.given_up numbers → Keeps start calls old ps → Keeps start calls (record old { given_up = numbers; sites = sites }) ps
-beside start calls old ps numbers sites more keeps = record {
+    → BeginWith old.given_up numbers → StaysKnown old (record old { given_up = numbers; sites = sites }) → Keeps start calls old ps → Keeps start calls (record old { given_up = numbers; sites = sites }) ps
+beside start calls old ps numbers sites more known keeps = record {
   stays = ap (λ (s : Core). record s { events = old.events; given_up = numbers; sites = sites }) keeps.stays;
   begins = keeps.begins;
+  restarts = λ d incarnation n come. known d incarnation n (keeps.restarts d incarnation n come);
   one_each = keeps.one_each;
   fits = λ k p c at of. fits_beside start old numbers sites (call_of c) p more (keeps.fits k p c at of);
   recent = keeps.recent;
@@ -343,39 +348,41 @@ pub gave_up : (start : Core) (calls : List Call) (old new : Core) (ps : List Pro
     → new ≡ record old { given_up = new.given_up } → Keeps start calls old ps → Keeps start calls new ps
 gave_up start calls old new ps r here elsewhere rest keeps =
     subst (λ (s : Core). Keeps start calls s ps) (sym rest)
-    (beside start calls old ps new.given_up old.sites (given_up_more old new r here elsewhere) keeps)
+    (beside start calls old ps new.given_up old.sites (given_up_more old new r here elsewhere) (λ d incarnation n come. come) keeps)
 
 -- something else is known of data components
 sited : (start : Core) (calls : List Call) (old : Core) (ps : List Progress) (sites : List Site)
-    → Keeps start calls old ps → Keeps start calls (record old { sites = sites }) ps
-sited start calls old ps sites keeps = beside start calls old ps old.given_up sites (begin_same old.given_up) keeps
+    → StaysKnown old (record old { sites = sites }) → Keeps start calls old ps → Keeps start calls (record old { sites = sites }) ps
+sited start calls old ps sites known keeps = beside start calls old ps old.given_up sites (begin_same old.given_up) known keeps
 
 pub restart_told : (start : Core) (calls : List Call) (old new : Core) (ps : List Progress) (d : ℕ) (news : News) (result : Result Unit NewsFault)
-    → OnOk result (new ≡ after_told old d news) → OnErr result (new ≡ old) → Keeps start calls old ps → Keeps start calls new ps
-restart_told start calls old new ps d news (Ok x) ok err keeps = rw ok (sited start calls old ps (after_told old d news).sites keeps)
-restart_told start calls old new ps d news (Err f) ok err keeps = rw err keeps
+    → OnOk result (new ≡ after_told old d news) → OnErr result (new ≡ old) → StaysKnown old new → Keeps start calls old ps → Keeps start calls new ps
+restart_told start calls old new ps d news (Ok x) ok err known keeps =
+    rw ok (sited start calls old ps (after_told old d news).sites (subst (λ (s : Core). StaysKnown old s) ok known) keeps)
+restart_told start calls old new ps d news (Err f) ok err known keeps = rw err keeps
 
 up_again_keeps : (start : Core) (calls : List Call) (old : Core) (ps : List Progress) (d : ℕ) (o : Option Site)
-    → Keeps start calls old ps → Keeps start calls (up_again old d o) ps
-up_again_keeps start calls old ps d None keeps = keeps
-up_again_keeps start calls old ps d (Some s) keeps = sited start calls old ps (up_again old d (Some s)).sites keeps
+    → StaysKnown old (up_again old d o) → Keeps start calls old ps → Keeps start calls (up_again old d o) ps
+up_again_keeps start calls old ps d None known keeps = keeps
+up_again_keeps start calls old ps d (Some s) known keeps = sited start calls old ps (up_again old d (Some s)).sites known keeps
 
 pub redo_asked : (start : Core) (calls : List Call) (old : Core) (ps : List Progress) (d : ℕ) (reply : Redo)
     → Keeps start calls old ps → Keeps start calls (after_redo old d reply) ps
 redo_asked start calls old ps d (redo.Send w) keeps = keeps
-redo_asked start calls old ps d redo.Finished keeps = up_again_keeps start calls old ps d (slice_get old.sites d) keeps
+redo_asked start calls old ps d redo.Finished keeps = up_again_keeps start calls old ps d (slice_get old.sites d) (known_behind old d redo.Finished) keeps
 redo_asked start calls old ps d redo.NotDown keeps = keeps
 redo_asked start calls old ps d redo.NoDc keeps = keeps
 
 redone_keeps : (start : Core) (calls : List Call) (old : Core) (ps : List Progress) (d n : ℕ) (o : Option Site)
-    → Keeps start calls old ps → Keeps start calls (redone_at old d n o) ps
-redone_keeps start calls old ps d n None keeps = keeps
-redone_keeps start calls old ps d n (Some s) keeps = sited start calls old ps (redone_at old d n (Some s)).sites keeps
+    → StaysKnown old (redone_at old d n o) → Keeps start calls old ps → Keeps start calls (redone_at old d n o) ps
+redone_keeps start calls old ps d n None known keeps = keeps
+redone_keeps start calls old ps d n (Some s) known keeps = sited start calls old ps (redone_at old d n (Some s)).sites known keeps
 
 pub redo_heard : (start : Core) (calls : List Call) (old new : Core) (ps : List Progress) (d n : ℕ) (result : Result Unit Stranger2)
-    → OnOk result (new ≡ after_redone old d n) → OnErr result (new ≡ old) → Keeps start calls old ps → Keeps start calls new ps
-redo_heard start calls old new ps d n (Ok x) ok err keeps = rw ok (redone_keeps start calls old ps d n (slice_get old.sites d) keeps)
-redo_heard start calls old new ps d n (Err f) ok err keeps = rw err keeps
+    → OnOk result (new ≡ after_redone old d n) → OnErr result (new ≡ old) → StaysKnown old new → Keeps start calls old ps → Keeps start calls new ps
+redo_heard start calls old new ps d n (Ok x) ok err known keeps =
+    rw ok (redone_keeps start calls old ps d n (slice_get old.sites d) (subst (λ (s : Core). StaysKnown old s) ok known) keeps)
+redo_heard start calls old new ps d n (Err f) ok err known keeps = rw err keeps
 
 -- a call is admitted
 pub admitted_one : (start : Core) (calls : List Call) (state : Core) (ps : List Progress) (k : ℕ) (t : TxnId) (c : Call)
@@ -398,6 +405,7 @@ admitted_one start calls state ps k t c keeps at of there is =
     record {
       stays = stays_more start state e keeps.stays;
       begins = begins_more start.events h e keeps.begins;
+      restarts = keeps.restarts;
       one_each = length_set ps k p' ∙ keeps.one_each;
       fits = λ i q d at' of'. elim (get_set ps k i p' q at') [
         | inl x ↦ subst (λ (y : Progress). Fits start (with_event state e) (call_of d) y) x.1 (subst (λ (y : Call). Fits start (with_event state e) (call_of y) p') (same_call calls k i c d of x.0 of') new)
@@ -460,6 +468,7 @@ ended start calls state ps k t o a c keeps at of fits' place =
     record {
       stays = stays_more start state e keeps.stays;
       begins = begins_more start.events h e keeps.begins;
+      restarts = keeps.restarts;
       one_each = length_set ps k p' ∙ keeps.one_each;
       fits = λ i q d at' of'. elim (get_set ps k i p' q at') [
         | inl x ↦ subst (λ (y : Progress). Fits start (with_event state e) (call_of d) y) x.1 (subst (λ (y : Call). Fits start (with_event state e) (call_of y) p') (same_call calls k i c d of x.0 of') fits')
@@ -569,6 +578,7 @@ opened start calls =
     record {
       stays = refl;
       begins = record { later = []; is = refl };
+      restarts = λ d incarnation m come. come;
       one_each = length-replicate n Waiting;
       fits = λ k p c at of. subst (λ (y : Progress). Fits start start (call_of c) y) (all k p at) tt;
       recent = λ k p t at own. absurd (let bad : None ≡ Some t = ap txn_of (all k p at) ∙ own in cc);

@@ -13,6 +13,7 @@ use Rattle.tc_core.specs.declared.state.TxnId.{TxnId}
 use Rattle.worker_pool.specs.declared.answer.Progress.{Progress}
 use Rattle.worker_pool.specs.declared.answer.Progress.TheVariants.{Waiting, Begun, Answered}
 use Rattle.worker_pool.specs.Answers.{place_of, is_some, IsAdmitted, StaysBut, AnswerFits}
+use Rattle.worker_pool.specs.Restarts.{StaysKnown}
 
 -- how many transactions ended
 abbrev pub ends : List Event → ℕ
@@ -72,6 +73,7 @@ pub record IsAdmittedFor (calls : List Call) (ps : List Progress) (t proc : ℕ)
 pub record Keeps (start : Core) (calls : List Call) (state : Core) (ps : List Progress) : Type 0 where
   pub stays : StaysBut start state
   pub begins : Begins start.events state.events
+  pub restarts : StaysKnown start state
   pub one_each : length ps ≡ length calls
   pub fits : (k : ℕ) (p : Progress) (c : Call) → slice_get ps k ≡ Some p → slice_get calls k ≡ Some c → Fits start state (call_of c) p
   pub recent : (k : ℕ) (p : Progress) (t : ℕ) → slice_get ps k ≡ Some p → txn_of p ≡ Some t → t ≤ admitted state.events

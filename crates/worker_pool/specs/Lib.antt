@@ -7,4 +7,5 @@ pub mod Faults
 pub mod Journals
 pub mod Serving
 pub mod Wires
+pub mod Restarts
 pub mod Joining

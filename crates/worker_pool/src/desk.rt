@@ -1,16 +1,19 @@
 // What lies under the lock: the state, how far each call has come, and what of the log was handed over
 // to be kept.
 
-ghost use Rattle.std.specs.Prelude.{◌≡◌, ◌+◌, ◌<◌, ◌≤◌, ◌++◌, ◌∷◌, true, List, ℕ, [], length, drop, replicate, reverse, Some, None, slice_get, OnOk, OnErr, IfOk, IfErr, IfSome, IfNone, IsSome, vec_capacity, map, false};
+ghost use Rattle.std.specs.Prelude.{◌≡◌, ◌↔◌, ◌+◌, ◌<◌, ◌≤◌, ◌++◌, ◌∷◌, true, List, ℕ, [], length, drop, replicate, reverse, Some, None, slice_get, OnOk, OnErr, IfOk, IfErr, IfSome, IfNone, IsSome, IsTrue, vec_capacity, map, false};
 ghost use Rattle.tc_core.specs.Core.{Core, Asking};
 ghost use Rattle.tc_core.specs.Replies.{ask_reply, after_ask, end_of};
 ghost use Rattle.tc_log.specs.declared.event.Outcome.{Outcome};
 ghost use Rattle.tc_core.specs.Admission.{call_of, IsRefused};
+ghost use Rattle.tc_core.specs.GivingUp.{IsOpenHere};
+ghost use Rattle.access_slots.specs.Locks.{target};
 ghost use Rattle.worker_pool.specs.Answers.{answer_of, place_of, AnswerFits, AdmitRefusalFits};
 ghost use Rattle.worker_pool.specs.Doubts.{IsDoubtful, IsGoing};
 ghost use Rattle.worker_pool.specs.Joining.Ups.{IsUpFor};
 ghost use Rattle.worker_pool.specs.Joining.Untried.{IsUntried};
-ghost use Rattle.worker_pool.specs.Wires.{IsItsOwn, IsToRedo};
+ghost use Rattle.worker_pool.specs.Wires.{IsItsOwn, IsToRedo, IsOfRun, IsSentBy};
+ghost use Rattle.worker_pool.specs.Restarts.{StaysKnown, AreKnown, IsKnownRedone};
 ghost use Rattle.worker_pool.specs.Joining.Seen.{IsAnswered, AreToldBy};
 
 use crate::acknowledgement::Due;
@@ -19,7 +22,7 @@ use crate::batch::Batch;
 use crate::handed::{Count, Handed};
 use crate::journal::NotKept;
 use crate::report::Report;
-use crate::sending::Sending;
+use crate::sending::{Sending, is_sent_for};
 use access_slots::op::{News, Reply, Wire};
 use lock_table::table::Busy;
 use std::alloc::AllocError;
@@ -122,7 +125,7 @@ impl<J: Naming> Model for Desk<J> {
 }
 
 impl<J: Naming> Desk<J> {
-    ghost use Rattle.worker_pool.specs.Joining.Moves.{MovesOn, IsHeldBy};
+    ghost use Rattle.worker_pool.specs.Joining.Moves.{MovesOn, IsHeldBy, Sends, GoesOnSending};
     ghost use Rattle.worker_pool.specs.Joining.Seen.{IsAnswered, AnswersStay};
     ghost use Rattle.worker_pool.specs.Joining.Handing.{events_of};
     ghost use Rattle.worker_pool.specs.Journals.{HasGoneOn};
@@ -198,6 +201,7 @@ impl<J: Naming> Desk<J> {
         ensures err { OnErr result ((self.new.state ≡ self.old.state) × (self.new.progress ≡ self.old.progress)) }
         ensures refused { IfErr result (λ why. AdmitRefusalFits J.start self.old.state (call_of call.now) why) }
         ensures memory { IfErr result (λ why. why ≡ Refusal.Memory → self.new.is_out_of_memory ≡ true) }
+        ensures sites { self.new.state.sites ≡ self.old.state.sites }
     {
         self.touched = true;
         self.state.known();
@@ -264,6 +268,7 @@ impl<J: Naming> Desk<J> {
         ensures moves { MovesOn self.old.progress self.new.progress k result }
         ensures none { IsHeldBy result None }
         ensures full { self.old.is_out_of_memory ≡ true → (self.new.state ≡ self.old.state) × (self.new.is_out_of_memory ≡ true) }
+        ensures sites { self.new.state.sites ≡ self.old.state.sites }
     {
         if self.is_out_of_memory {
             return self.leave_out(k, call);
@@ -284,11 +289,20 @@ impl<J: Naming> Desk<J> {
         }
     }
 
+    // What the type keeps: the state is one of the run.
+    fn known(&self)
+        ensures { IsOfRun J.start self.now.state }
+    {
+        self.state.known();
+    }
+
     // What is to be redone at a request's data component before the request can be sent, if anything is.
     #[inline(always)]
     fn to_redo(&mut self, request: &Request) -> Option<Wire>
-        ensures redo { IfSome result (IsToRedo request.now) }
+        ensures redo { IfSome result (IsToRedo self.new.state request.now) }
         ensures up { IfNone result (IsUpFor self.new.state request.now) }
+        ensures events { self.new.state.events ≡ self.old.state.events }
+        ensures known { StaysKnown self.old.state self.new.state }
         ensures same { self.new.progress ≡ self.old.progress }
     {
         self.touched = true;
@@ -300,8 +314,10 @@ impl<J: Naming> Desk<J> {
 
     // A request's own wire, unless its data component is down.
     #[inline(always)]
+    #[tactic(auto, using(crate::proofs::Carrying::own))]
     fn own_wire(&self, request: &Request) -> Option<Wire>
-        ensures { IfSome result (IsItsOwn request.now) }
+        requires { IsOpenHere self.now.state request.now }
+        ensures { IfSome result (IsItsOwn self.now.state request.now) }
     {
         self.state.wire(request).ok()
     }
@@ -309,8 +325,9 @@ impl<J: Naming> Desk<J> {
     // The same, where its data component is up.
     #[inline(always)]
     fn wire(&self, request: &Request) -> Wire
-        requires { IsUpFor self.now.state request.now }
-        ensures { IsItsOwn request.now result }
+        requires is_open { IsOpenHere self.now.state request.now }
+        requires up { IsUpFor self.now.state request.now }
+        ensures { IsItsOwn self.now.state request.now result }
     {
         match self.state.wire(request) {
             Ok(wire) => wire,
@@ -318,13 +335,31 @@ impl<J: Naming> Desk<J> {
         }
     }
 
+    // Whether its transaction waits for the request.
+    fn is_open(&self, request: &Request) -> bool
+        ensures { IsTrue result ↔ IsOpenHere self.now.state request.now }
+    {
+        let Some(txn) = self.state.find_txn(request.txn()) else {
+            return false;
+        };
+        match self.state.waits_for(txn) {
+            Some(sent) => is_sent_for(&sent, request),
+            None => false,
+        }
+    }
+
     // What is carried for a request next: its own operation, unless something is to be redone first.
     #[inline(always)]
-    fn carry(&mut self, request: Request, sending: &mut Sending)
-        requires { sending.old.request ≡ None }
+    #[tactic(auto, using(crate::proofs::Carrying::carries_own))]
+    fn carry(&mut self, request: Request, sending: &mut Sending<J>)
+        requires none { sending.old.request ≡ None }
+        requires is_open { IsOpenHere self.old.state request }
         ensures held { IsSome sending.new.request }
+        ensures sent { IsSentBy self.new.state sending.new }
+        ensures known { StaysKnown self.old.state self.new.state }
         ensures same { self.new.progress ≡ self.old.progress }
     {
+        self.known();
         match self.own_wire(&request) {
             Some(wire) => sending.own(request, wire),
             None => self.carry_behind_redo(request, sending),
@@ -332,12 +367,18 @@ impl<J: Naming> Desk<J> {
     }
 
     // The same where the request's data component was down.
-    fn carry_behind_redo(&mut self, request: Request, sending: &mut Sending)
-        requires { sending.old.request ≡ None }
+    #[tactic(auto, using(crate::proofs::Carrying::carries_own, crate::proofs::Carrying::carries_redo, crate::proofs::Carrying::open_still))]
+    fn carry_behind_redo(&mut self, request: Request, sending: &mut Sending<J>)
+        requires none { sending.old.request ≡ None }
+        requires is_open { IsOpenHere self.old.state request }
         ensures held { IsSome sending.new.request }
+        ensures sent { IsSentBy self.new.state sending.new }
+        ensures known { StaysKnown self.old.state self.new.state }
         ensures same { self.new.progress ≡ self.old.progress }
     {
-        match self.to_redo(&request) {
+        let to_redo = self.to_redo(&request);
+        self.known();
+        match to_redo {
             Some(wire) => sending.redo(request, wire),
             None => {
                 let wire = self.wire(&request);
@@ -348,9 +389,12 @@ impl<J: Naming> Desk<J> {
 
     // A request is sent for the first time.
     #[inline(always)]
-    fn send(&mut self, request: Request, sending: &mut Sending)
-        requires { sending.old.request ≡ None }
+    fn send(&mut self, request: Request, sending: &mut Sending<J>)
+        requires none { sending.old.request ≡ None }
+        requires is_open { IsOpenHere self.old.state request }
         ensures held { IsSome sending.new.request }
+        ensures sent { IsSentBy self.new.state sending.new }
+        ensures known { StaysKnown self.old.state self.new.state }
         ensures same { self.new.progress ≡ self.old.progress }
     {
         sending.begin(self.tries);
@@ -358,10 +402,12 @@ impl<J: Naming> Desk<J> {
     }
 
     // What undoes the last write that stands, of a transaction that is to be undone.
-    fn undo(&mut self, txn: TxnId, sending: &mut Sending)
+    fn undo(&mut self, txn: TxnId, sending: &mut Sending<J>)
         requires undoing { ask_reply self.old.state txn.serial ≡ Asked.Undoing }
         requires none { sending.old.request ≡ None }
         ensures held { IsSome sending.new.request }
+        ensures sent { IsSentBy self.new.state sending.new }
+        ensures known { StaysKnown self.old.state self.new.state }
         ensures same { self.new.progress ≡ self.old.progress }
     {
         self.touched = true;
@@ -377,7 +423,8 @@ impl<J: Naming> Desk<J> {
         requires call { slice_get J.calls k ≡ Some call.now }
         requires begun { slice_get self.old.progress k ≡ Some (Progress.Begun txn) }
         requires doubtful { IsDoubtful self.old.state txn.serial number }
-        ensures { IsAnswered self.new.progress k × AnswersStay self.old.progress self.new.progress }
+        ensures answered { IsAnswered self.new.progress k × AnswersStay self.old.progress self.new.progress }
+        ensures sites { self.new.state.sites ≡ self.old.state.sites }
     {
         self.touched = true;
         self.progress[k] = Progress::Answered(Answer::InDoubt(number), Some(txn));
@@ -389,7 +436,8 @@ impl<J: Naming> Desk<J> {
         requires call { slice_get J.calls k ≡ Some call.now }
         requires begun { slice_get self.old.progress k ≡ Some (Progress.Begun txn) }
         requires over { ask_reply self.old.state txn.serial ≡ Asked.Over }
-        ensures { IsAnswered self.new.progress k × AnswersStay self.old.progress self.new.progress }
+        ensures answered { IsAnswered self.new.progress k × AnswersStay self.old.progress self.new.progress }
+        ensures sites { self.new.state.sites ≡ self.old.state.sites }
     {
         self.touched = true;
         match self.state.end(txn) {
@@ -431,11 +479,13 @@ impl<J: Naming> Desk<J> {
 
     /// The next step of a call, whatever was done for it before. What is to be carried is written into
     /// `sending`, where nothing is on its way.
-    pub fn advance(&mut self, k: usize, call: &Call, sending: &mut Sending) -> Next
+    pub fn advance(&mut self, k: usize, call: &Call, sending: &mut Sending<J>) -> Next
         requires call { slice_get J.calls k ≡ Some call.now }
         requires none { sending.old.request ≡ None }
         ensures moves { MovesOn self.old.progress self.new.progress k result }
         ensures held { IsHeldBy result sending.new.request }
+        ensures sends { Sends self.new.state result sending.new }
+        ensures known { StaysKnown self.old.state self.new.state }
     {
         let txn = match self.progress_of(k, call) {
             Progress::Waiting => return self.begin(k, call),
@@ -477,7 +527,8 @@ impl<J: Naming> Desk<J> {
 
     // Gives a request up: its transaction is in doubt.
     fn give_up(&mut self, request: Request)
-        ensures { self.new.progress ≡ self.old.progress }
+        ensures sites { self.new.state.sites ≡ self.old.state.sites }
+        ensures same { self.new.progress ≡ self.old.progress }
     {
         self.touched = true;
         let _number = self.state.give_up(request);
@@ -486,7 +537,7 @@ impl<J: Naming> Desk<J> {
     /// Gives up the request for which something is on its way, if anything is, without going on with its
     /// call.
     #[inline(always)]
-    pub fn abandon(&mut self, sending: Sending)
+    pub fn abandon(&mut self, sending: Sending<J>)
         ensures { self.new.progress ≡ self.old.progress }
     {
         if let Some(request) = sending.into_request() {
@@ -495,10 +546,12 @@ impl<J: Naming> Desk<J> {
     }
 
     // Gives a request up, and goes on with its call.
-    fn go_on_without(&mut self, k: usize, call: &Call, sending: &mut Sending) -> Next
+    fn go_on_without(&mut self, k: usize, call: &Call, sending: &mut Sending<J>) -> Next
         requires call { slice_get J.calls k ≡ Some call.now }
         ensures moves { MovesOn self.old.progress self.new.progress k result }
         ensures held { IsHeldBy result sending.new.request }
+        ensures sends { Sends self.new.state result sending.new }
+        ensures known { StaysKnown self.old.state self.new.state }
     {
         if let Some(request) = sending.take() {
             self.give_up(request);
@@ -508,27 +561,43 @@ impl<J: Naming> Desk<J> {
 
     // Takes in that an operation is redone.
     fn redone(&mut self, dc: u16, reply: &Reply) -> Result<(), Stranger2>
-        ensures { self.new.progress ≡ self.old.progress }
+        ensures redone { IsKnownRedone self.old.state self.new.state dc reply.now }
+        ensures same { self.new.progress ≡ self.old.progress }
     {
         self.touched = true;
+        self.state.known();
         self.state.redone(dc, reply)
     }
 
     // Takes news of a restart in. Old ones change nothing: another worker was told of them before.
     fn told(&mut self, dc: u16, news: News)
-        ensures { self.new.progress ≡ self.old.progress }
+        ensures told { AreKnown self.old.state self.new.state dc news }
+        ensures same { self.new.progress ≡ self.old.progress }
     {
         self.touched = true;
         let _old = self.state.told(dc, news);
     }
 
+    // The same of the news that the link has, if it has any, of the data component that something was carried to.
+    fn hear_news(&mut self, sending: &Sending<J>, news: Option<News>)
+        ensures told { IfSome news (AreKnown self.old.state self.new.state (target sending.now.wire.op).dc) }
+        ensures same { self.new.progress ≡ self.old.progress }
+    {
+        if let Some(news) = news {
+            self.told(sending.dc(), news);
+        }
+    }
+
     /// Takes in what came back for what was carried. The call goes on where that answers it; a stranger
-    /// counts as no answer.
+    /// counts as no answer. What is redone is redone at the data component that it was carried to.
     #[inline(always)]
-    pub fn hear(&mut self, k: usize, call: &Call, sending: &mut Sending, reply: &Reply) -> Next
+    pub fn hear(&mut self, k: usize, call: &Call, sending: &mut Sending<J>, reply: &Reply) -> Next
         requires call { slice_get J.calls k ≡ Some call.now }
         ensures moves { MovesOn self.old.progress self.new.progress k result }
         ensures held { IsHeldBy result sending.new.request }
+        ensures sends { GoesOnSending self.new.state result sending.old sending.new }
+        ensures redone { IsSome sending.old.request → sending.old.wire.redo ≡ true
+            → IsKnownRedone self.old.state self.new.state (target sending.old.wire.op).dc reply.now }
     {
         if sending.wire().redo {
             return self.hear_redo(k, call, sending, reply);
@@ -546,10 +615,12 @@ impl<J: Naming> Desk<J> {
     }
 
     // The same for what is redone.
-    fn hear_redo(&mut self, k: usize, call: &Call, sending: &mut Sending, reply: &Reply) -> Next
+    fn hear_redo(&mut self, k: usize, call: &Call, sending: &mut Sending<J>, reply: &Reply) -> Next
         requires call { slice_get J.calls k ≡ Some call.now }
         ensures moves { MovesOn self.old.progress self.new.progress k result }
         ensures held { IsHeldBy result sending.new.request }
+        ensures sends { GoesOnSending self.new.state result sending.old sending.new }
+        ensures redone { IsSome sending.old.request → IsKnownRedone self.old.state self.new.state (target sending.old.wire.op).dc reply.now }
     {
         if sending.is_held() && self.redone(sending.dc(), reply).is_err() {
             return Next::Unanswered;
@@ -558,15 +629,21 @@ impl<J: Naming> Desk<J> {
     }
 
     // What is carried for a request next. Where what is to be redone first was sent as often as it may
-    // be, the request is given up.
-    fn carry_on(&mut self, k: usize, call: &Call, sending: &mut Sending) -> Next
+    // be, the request is given up. Nothing is carried for one that its transaction doesn't wait for.
+    fn carry_on(&mut self, k: usize, call: &Call, sending: &mut Sending<J>) -> Next
         requires call { slice_get J.calls k ≡ Some call.now }
         ensures moves { MovesOn self.old.progress self.new.progress k result }
         ensures held { IsHeldBy result sending.new.request }
+        ensures sends { Sends self.new.state result sending.new }
+        ensures known { StaysKnown self.old.state self.new.state }
     {
         let Some(request) = sending.take() else {
             return self.advance(k, call, sending);
         };
+        if !self.is_open(&request) {
+            self.give_up(request);
+            return self.advance(k, call, sending);
+        }
         self.carry(request, sending);
         if sending.is_spent() {
             return self.go_on_without(k, call, sending);
@@ -580,16 +657,16 @@ impl<J: Naming> Desk<J> {
         &mut self,
         k: usize,
         call: &Call,
-        sending: &mut Sending,
+        sending: &mut Sending<J>,
         news: Option<News>,
     ) -> Next
         requires call { slice_get J.calls k ≡ Some call.now }
         ensures moves { MovesOn self.old.progress self.new.progress k result }
         ensures held { IsHeldBy result sending.new.request }
+        ensures sends { Sends self.new.state result sending.new }
+        ensures told { IfSome news (AreKnown self.old.state self.new.state (target sending.old.wire.op).dc) }
     {
-        if let Some(news) = news {
-            self.told(sending.dc(), news);
-        }
+        self.hear_news(sending, news);
         if sending.is_last() {
             return self.go_on_without(k, call, sending);
         }

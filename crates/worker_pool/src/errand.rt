@@ -2,17 +2,19 @@
 
 ghost use Rattle.std.specs.Prelude.{◌≡◌, true, Some, None, IfSome, IsSome};
 ghost use Rattle.access_slots.specs.Locks.{target};
+ghost use Rattle.worker_pool.specs.Wires.{WasInFlight};
 
+use crate::desk::Naming;
 use crate::sending::Sending;
 use access_slots::op::{News, Reply, Wire};
 
 /// A call's wire on its way to a data component, and what came back for it. It stays in its place from the
 /// call's first question to its answer.
-pub struct Errand {
+pub struct Errand<J: Naming> {
     pub(crate) call: usize,
     // Whether the call was admitted, and the gate isn't told of it yet.
     pub(crate) is_begun: bool,
-    pub(crate) sending: Sending,
+    pub(crate) sending: Sending<J>,
     // Whether something came back for the wire that doesn't answer it.
     pub(crate) is_carried: bool,
     pub(crate) reply: Option<Reply>,
@@ -20,10 +22,10 @@ pub struct Errand {
     pub(crate) news: Option<News>,
 }
 
-impl Errand {
+impl<J: Naming> Errand<J> {
     // Nothing is on its way for the call.
     #[inline(always)]
-    pub(crate) fn new(call: usize) -> Errand
+    pub(crate) fn new(call: usize) -> Errand<J>
         ensures call { result.call ≡ call }
         ensures none { result.sending.request ≡ None }
     {
@@ -37,16 +39,17 @@ impl Errand {
         }
     }
 
-    /// The wire, where it is to be carried: nothing came back for it.
+    /// The wire, where it is to be carried: nothing came back for it. In a state of the run it was in flight.
     #[inline(always)]
     pub fn wire(&self) -> Option<&Wire>
         ensures wire { IfSome result (λ wire. wire.now ≡ self.now.sending.wire) }
         ensures brought { IsSome self.now.reply → result ≡ None }
+        ensures flight { IfSome result (λ wire. WasInFlight J.start wire.now) }
     {
         if self.is_carried || self.reply.is_some() {
             return None;
         }
-        Some(self.sending.wire())
+        self.sending.in_flight()
     }
 
     // The wire, where it is to be carried to the component with this number.

@@ -1,7 +1,9 @@
 // The calls that a worker has on their way.
 
 ghost use Rattle.std.specs.Prelude.{◌≡◌, ◌+◌, ◌<◌, ◌≤◌, Some, None, IfSome, slice_get, vec_len, vec_capacity};
+ghost use Rattle.access_slots.specs.Locks.{target};
 ghost use Rattle.worker_pool.specs.Joining.Moves.{IsAnsweredBy};
+ghost use Rattle.worker_pool.specs.Restarts.{AreKnown};
 
 use crate::acknowledgement::Due;
 use crate::desk::{Desk, Naming, Next};
@@ -15,7 +17,7 @@ use tc_core::state::Call;
 /// The calls that a worker has on their way, so many at most.
 pub struct Errands<J: Naming> {
     // Those whose wires are carried next, each in its place until it is over.
-    away: Vec<Errand>,
+    away: Vec<Errand<J>>,
     // Answers that stand, and are due.
     over: Vec<Due<J>>,
     // A call with another transaction in its way.
@@ -65,7 +67,7 @@ fn course_of<J: Naming>(desk: &Desk<J>, k: usize, call: &Call, next: Next) -> Co
 // The first step of a call, and the next one where it was admitted.
 #[inline(always)]
 #[tactic(auto, using(crate::proofs::Steps::answered_by))]
-fn first_steps<J: Naming>(desk: &mut Desk<J>, call: &Call, errand: &mut Errand) -> Next
+fn first_steps<J: Naming>(desk: &mut Desk<J>, call: &Call, errand: &mut Errand<J>) -> Next
     requires call { slice_get J.calls errand.old.call ≡ Some call.now }
     requires none { errand.old.sending.request ≡ None }
     ensures answered { IsAnsweredBy desk.new.progress errand.old.call result }
@@ -82,7 +84,7 @@ fn first_steps<J: Naming>(desk: &mut Desk<J>, call: &Call, errand: &mut Errand) 
 
 // The first steps of a call: one that is admitted goes on at once.
 #[inline(always)]
-fn begin<J: Naming>(desk: &mut Desk<J>, call: &Call, errand: &mut Errand) -> Course<J>
+fn begin<J: Naming>(desk: &mut Desk<J>, call: &Call, errand: &mut Errand<J>) -> Course<J>
     requires call { slice_get J.calls errand.old.call ≡ Some call.now }
     requires none { errand.old.sending.request ≡ None }
 {
@@ -93,10 +95,12 @@ fn begin<J: Naming>(desk: &mut Desk<J>, call: &Call, errand: &mut Errand) -> Cou
 // The step of a call that what came back leads to, or that nothing did.
 #[inline(always)]
 #[tactic(auto, using(crate::proofs::Steps::answered_by))]
-fn next_step<J: Naming>(desk: &mut Desk<J>, call: &Call, errand: &mut Errand) -> Next
+fn next_step<J: Naming>(desk: &mut Desk<J>, call: &Call, errand: &mut Errand<J>) -> Next
     requires { slice_get J.calls errand.old.call ≡ Some call.now }
     ensures answered { IsAnsweredBy desk.new.progress errand.old.call result }
     ensures call { errand.new.call ≡ errand.old.call }
+    ensures told { errand.old.reply ≡ None
+        → IfSome errand.old.news (AreKnown desk.old.state desk.new.state (target errand.old.sending.wire.op).dc) }
 {
     match &errand.reply {
         Some(reply) => desk.hear(errand.call, call, &mut errand.sending, reply),
@@ -105,8 +109,10 @@ fn next_step<J: Naming>(desk: &mut Desk<J>, call: &Call, errand: &mut Errand) ->
 }
 
 #[inline(always)]
-fn go_on<J: Naming>(desk: &mut Desk<J>, call: &Call, errand: &mut Errand) -> Course<J>
+fn go_on<J: Naming>(desk: &mut Desk<J>, call: &Call, errand: &mut Errand<J>) -> Course<J>
     requires { slice_get J.calls errand.old.call ≡ Some call.now }
+    ensures told { errand.old.reply ≡ None
+        → IfSome errand.old.news (AreKnown desk.old.state desk.new.state (target errand.old.sending.wire.op).dc) }
 {
     let next = next_step(desk, call, errand);
     errand.reply = None;
@@ -115,7 +121,7 @@ fn go_on<J: Naming>(desk: &mut Desk<J>, call: &Call, errand: &mut Errand) -> Cou
 
 // The next step of an errand's call, which is one of these.
 #[inline(always)]
-fn step<J: Naming>(desk: &mut Desk<J>, calls: &[Call], errand: &mut Errand) -> Course<J>
+fn step<J: Naming>(desk: &mut Desk<J>, calls: &[Call], errand: &mut Errand<J>) -> Course<J>
     requires { calls.now ≡ J.calls }
 {
     match calls.get(errand.call) {
@@ -125,7 +131,7 @@ fn step<J: Naming>(desk: &mut Desk<J>, calls: &[Call], errand: &mut Errand) -> C
 }
 
 // Gives an errand's request up, if it has one, without going on with its call.
-fn abandon<J: Naming>(desk: &mut Desk<J>, errand: Errand) {
+fn abandon<J: Naming>(desk: &mut Desk<J>, errand: Errand<J>) {
     let Errand {
         call: _,
         is_begun: _,
@@ -138,7 +144,7 @@ fn abandon<J: Naming>(desk: &mut Desk<J>, errand: Errand) {
 }
 
 // Gives the requests of these errands up.
-fn abandon_all<J: Naming>(desk: &mut Desk<J>, mut errands: Vec<Errand>) {
+fn abandon_all<J: Naming>(desk: &mut Desk<J>, mut errands: Vec<Errand<J>>) {
     while let Some(errand) = errands.pop() {
         abandon(desk, errand);
     }
@@ -166,7 +172,7 @@ fn next_call<J: Naming>(waiting: &mut Option<usize>, desk: &mut Desk<J>) -> Opti
 // leaves its place.
 #[inline(always)]
 fn settle<J: Naming>(
-    away: &mut Vec<Errand>,
+    away: &mut Vec<Errand<J>>,
     over: &mut Vec<Due<J>>,
     desk: &mut Desk<J>,
     at: usize,

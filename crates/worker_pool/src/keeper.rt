@@ -181,6 +181,7 @@ impl<J: Naming, K: Journal> Keeper<J, K> {
         requires { J.keeps ≡ true }
         ensures due { IfOk result (λ acknowledgement. acknowledgement ≡ due) }
         ensures same { self.new.journal ≡ self.old.journal }
+        ensures stopped { IfErr result (λ stopped. self.new.fault ≡ Some stopped.why) }
     {
         let (due, fault) = match kept {
             Ok(()) => match self.acknowledge(due) {
@@ -203,6 +204,7 @@ impl<J: Naming, K: Journal> Keeper<J, K> {
     ) -> Result<Acknowledgement<J>, Stopped<J>>
         ensures due { IfOk result (λ acknowledgement. acknowledgement ≡ due) }
         ensures never_again { (why : NotKeptValue) → self.old.fault ≡ Some why → self.new.journal ≡ self.old.journal }
+        ensures stopped { IfErr result (λ stopped. self.new.fault ≡ Some stopped.why) }
     {
         match self.acknowledge(due) {
             Ok(acknowledgement) => Ok(acknowledgement),
@@ -222,6 +224,7 @@ impl<J: Naming, K: Journal> Keeper<J, K> {
         ensures due { IfOk result (λ acknowledgement. acknowledgement ≡ due) }
         ensures same { desk.new ≡ desk.old }
         ensures never_again { (why : NotKeptValue) → self.old.fault ≡ Some why → self.new.journal ≡ self.old.journal }
+        ensures stopped { IfErr result (λ stopped. self.new.fault ≡ Some stopped.why) }
     {
         match self.acknowledge(due) {
             Ok(acknowledgement) => Ok(acknowledgement),

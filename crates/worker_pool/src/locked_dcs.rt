@@ -3,6 +3,7 @@
 ghost use Rattle.std.specs.Prelude.{◌≡◌, true, ◌<◌, ◌≤◌, ◌↔◌, None, vec_len, IfOk, IfSome, IsSome};
 ghost use Rattle.access_slots.specs.Locks.{target};
 
+use crate::desk::Naming;
 use crate::errand::Errand;
 use crate::pool::Link;
 use crate::seat::perform_all;
@@ -86,7 +87,7 @@ impl Link for LockedDcs {
     }
 
     /// Each component's lock is taken once for all wires that are for it.
-    fn carry_all<R: Wait>(&self, rt: &R, _worker: usize, errands: &mut [Errand]) {
+    fn carry_all<J: Naming, R: Wait>(&self, rt: &R, _worker: usize, errands: &mut [Errand<J>]) {
         for (number, dc) in self.dcs.iter().enumerate() {
             if errands
                 .iter()

@@ -55,7 +55,7 @@ pub trait Link {
 
     /// Carries the wires of several calls, and brings what came back for each: one after the other, where
     /// the link knows no better.
-    fn carry_all<R: Wait>(&self, rt: &R, worker: usize, errands: &mut [Errand]) {
+    fn carry_all<J: Naming, R: Wait>(&self, rt: &R, worker: usize, errands: &mut [Errand<J>]) {
         for errand in errands {
             if let Some(wire) = errand.wire() {
                 if let Some(reply) = self.carry(rt, worker, wire) {

@@ -6,6 +6,7 @@ ghost use Rattle.access_slots.specs.Locks.{target};
 ghost use Rattle.crossbeam_queue.specs.Fifo.{Admits, Held, Learns, Pops};
 ghost use Rattle.worker_pool.specs.Serving.{IsServed};
 
+use crate::desk::Naming;
 use crate::errand::Errand;
 use crate::pool::{AT_A_TIME, Link};
 use crate::ring::Ring;
@@ -72,7 +73,7 @@ impl Place {
     }
 
     // Has the component perform the errands' wires that are for it, where that is so. Whether it was.
-    fn perform_all_idle(&self, errands: &mut [Errand]) -> bool {
+    fn perform_all_idle<J: Naming>(&self, errands: &mut [Errand<J>]) -> bool {
         self.inbox.has_sleeper() && self.seat.try_perform_all(errands)
     }
 
@@ -87,7 +88,13 @@ impl Place {
 
     // Puts the errands' wires that are for the component, which has this number, into the inbox. How many notes
     // will come for them.
-    fn send_all<R: Wait>(&self, rt: &R, worker: usize, number: usize, errands: &[Errand]) -> usize {
+    fn send_all<J: Naming, R: Wait>(
+        &self,
+        rt: &R,
+        worker: usize,
+        number: usize,
+        errands: &[Errand<J>],
+    ) -> usize {
         let mut sent = 0usize;
         for errand in errands {
             if let Some(wire) = errand.wire_for(number) {
@@ -247,7 +254,13 @@ impl RingLink {
     }
 
     // Waits for so many notes, and brings the errands what they reply.
-    fn bring_all<R: Wait>(&self, rt: &R, notes: &Notes, count: usize, errands: &mut [Errand]) {
+    fn bring_all<J: Naming, R: Wait>(
+        &self,
+        rt: &R,
+        notes: &Notes,
+        count: usize,
+        errands: &mut [Errand<J>],
+    ) {
         for _ in 0..count {
             let Some(note) = notes.take::<Free, R>(rt, &self.closed) else {
                 return;
@@ -297,7 +310,7 @@ impl Link for RingLink {
 
     /// The wires for components whose threads sleep are performed by them there and then; all others are put
     /// into the inboxes before the first note is waited for.
-    fn carry_all<R: Wait>(&self, rt: &R, worker: usize, errands: &mut [Errand]) {
+    fn carry_all<J: Naming, R: Wait>(&self, rt: &R, worker: usize, errands: &mut [Errand<J>]) {
         let Some(notes) = self.notes.get(worker) else {
             return;
         };
@@ -319,7 +332,7 @@ impl Link for RingLink {
 }
 
 // Brings a reply to the errand that carries its number, if one does.
-fn bring(errands: &mut [Errand], reply: Reply) {
+fn bring<J: Naming>(errands: &mut [Errand<J>], reply: Reply) {
     for errand in errands {
         if is_under(errand, reply.number) {
             errand.bring(reply);
@@ -329,7 +342,7 @@ fn bring(errands: &mut [Errand], reply: Reply) {
 }
 
 // Whether a wire of this number is carried.
-fn is_under(errand: &Errand, number: u64) -> bool {
+fn is_under<J: Naming>(errand: &Errand<J>, number: u64) -> bool {
     match errand.wire() {
         Some(wire) => wire.number == number,
         None => false,

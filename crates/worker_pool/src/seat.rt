@@ -5,6 +5,7 @@ ghost use Rattle.data_component.specs.Store.{Store, performed, replied};
 ghost use Rattle.worker_pool.specs.Serving.{IsFor, IsServed};
 ghost use Rattle.worker_pool.specs.Joining.Seated.{GoesOn, HasRisen, IsHolding, sitting};
 
+use crate::desk::Naming;
 use crate::errand::Errand;
 use crate::served::{Part, Served};
 use crate::waiting::LOOKS;
@@ -31,7 +32,7 @@ fn perform_own(dc: &mut Dc, number: usize, wire: &Wire) -> Option<Reply>
 
 // Has the component with this number perform an errand's wire, if that is for it.
 #[inline(always)]
-fn perform_errand(dc: &mut Dc, number: usize, errand: &mut Errand)
+fn perform_errand<J: Naming>(dc: &mut Dc, number: usize, errand: &mut Errand<J>)
     ensures { IsServed number dc.old dc.new }
 {
     let Some(wire) = errand.wire_for(number) else {
@@ -44,7 +45,7 @@ fn perform_errand(dc: &mut Dc, number: usize, errand: &mut Errand)
 
 /// Has the component with this number perform the errands' wires that are for it.
 #[inline(always)]
-pub fn perform_all(dc: &mut Dc, number: usize, errands: &mut [Errand])
+pub fn perform_all<J: Naming>(dc: &mut Dc, number: usize, errands: &mut [Errand<J>])
     ensures { IsServed number dc.old dc.new }
 {
     for errand in errands {
@@ -112,7 +113,7 @@ fn perform_there(there: &mut Option<Served>, wire: &Wire) -> Option<Option<Reply
 }
 
 // Has a component there perform the wires that are for it. Whether one is there.
-fn perform_all_there(there: &mut Option<Served>, errands: &mut [Errand]) -> bool
+fn perform_all_there<J: Naming>(there: &mut Option<Served>, errands: &mut [Errand<J>]) -> bool
     ensures { GoesOn there.old there.new }
 {
     match there {
@@ -279,7 +280,7 @@ impl Seat {
     }
 
     /// Has the component perform the wires that are for it, where it is free. Whether it was.
-    pub fn try_perform_all(&self, errands: &mut [Errand]) -> bool {
+    pub fn try_perform_all<J: Naming>(&self, errands: &mut [Errand<J>]) -> bool {
         let Some(mut pass) = self.look() else {
             return false;
         };

@@ -2,26 +2,29 @@
 
 ghost use Rattle.std.specs.Prelude.{◌≡◌, ◌↔◌, Some, None, IfSome, IsSome, IsTrue};
 ghost use Rattle.access_slots.specs.Locks.{target};
-ghost use Rattle.worker_pool.specs.Wires.{IsCarriedFor, IsItsOwn, IsToRedo};
+ghost use Rattle.worker_pool.specs.Wires.{IsCarriedFor, WasInFlight};
 
+use crate::desk::Naming;
 use crate::redos::Redos;
 use access_slots::op::{Op, Wire};
 use access_slots::slot::Record;
-use std::marker::Model;
+use std::marker::{Model, PhantomData};
 use std::mem;
 use tc_core::state::Request;
+use transactions::Sent;
 
 /// What is on its way for a call: a request, what is carried for it, how many more times its own operation
 /// may be sent, and what was redone for it. It is large, so it is written in place, and what is carried
-/// stays there when nothing is on its way.
-pub struct Sending {
+/// stays there when nothing is on its way. What is, a state of the run has carried.
+pub struct Sending<J: Naming> {
     request: Option<Request>,
     wire: Wire,
     left: u64,
     redos: Redos,
+    of: PhantomData<J>,
 }
 
-impl Model for Sending {
+impl<J: Naming> Model for Sending<J> {
     ghost use Rattle.std.specs.Prelude.{IfSome};
     ghost use Rattle.worker_pool.specs.Wires.{OnItsWay, IsCarriedFor};
 
@@ -29,7 +32,7 @@ impl Model for Sending {
 
     ghost view = { λ s. record { request = s.request; wire = s.wire } };
 
-    ghost invariant = { λ s. IfSome s.request (λ r. IsCarriedFor r s.wire) };
+    ghost invariant = { λ s. IfSome s.request (λ r. IsCarriedFor J.start r s.wire) };
 }
 
 // What stands where nothing was carried yet.
@@ -45,10 +48,10 @@ const NO_WIRE: Wire = Wire {
     }),
 };
 
-impl Sending {
+impl<J: Naming> Sending<J> {
     /// Nothing is on its way.
     #[inline(always)]
-    pub(crate) fn none() -> Sending
+    pub(crate) fn none() -> Sending<J>
         ensures { result.request ≡ None }
     {
         Sending {
@@ -56,6 +59,7 @@ impl Sending {
             wire: NO_WIRE,
             left: 0,
             redos: Redos::new(0),
+            of: PhantomData,
         }
     }
 
@@ -72,8 +76,8 @@ impl Sending {
     #[inline(always)]
     pub(crate) fn own(&mut self, request: Request, wire: Wire)
         requires none { self.old.request ≡ None }
-        requires own { IsItsOwn request wire }
-        ensures { IsSome self.new.request }
+        requires own { IsCarriedFor J.start request wire }
+        ensures { self.new ≡ record { request = Some request; wire = wire } }
     {
         self.left = self.left.saturating_sub(1);
         self.wire = wire;
@@ -83,8 +87,8 @@ impl Sending {
     /// What is to be redone before the request is carried.
     pub(crate) fn redo(&mut self, request: Request, wire: Wire)
         requires none { self.old.request ≡ None }
-        requires redo { IsToRedo request wire }
-        ensures { IsSome self.new.request }
+        requires redo { IsCarriedFor J.start request wire }
+        ensures { self.new ≡ record { request = Some request; wire = wire } }
     {
         self.redos = self.redos.sent(&wire);
         self.wire = wire;
@@ -96,7 +100,7 @@ impl Sending {
     pub(crate) fn take(&mut self) -> Option<Request>
         ensures request { result ≡ self.old.request }
         ensures none { self.new ≡ record self.old { request = None } }
-        ensures fits { IfSome result (λ r. IsCarriedFor r self.new.wire) }
+        ensures fits { IfSome result (λ r. IsCarriedFor J.start r self.new.wire) }
     {
         self.request.take()
     }
@@ -104,8 +108,8 @@ impl Sending {
     /// The request is on its way still.
     pub(crate) fn put_back(&mut self, request: Request)
         requires none { self.old.request ≡ None }
-        requires fits { IsCarriedFor request self.old.wire }
-        ensures { IsSome self.new.request }
+        requires fits { IsCarriedFor J.start request self.old.wire }
+        ensures { self.new ≡ record self.old { request = Some request } }
     {
         hold(&mut self.request, request);
     }
@@ -120,6 +124,7 @@ impl Sending {
             wire: _,
             left: _,
             redos: _,
+            of: _,
         } = self;
         request
     }
@@ -129,6 +134,19 @@ impl Sending {
         ensures { IsTrue result ↔ IsSome self.now.request }
     {
         self.request.is_some()
+    }
+
+    /// What is on its way, if anything is: in a state of the run it was in flight.
+    #[inline(always)]
+    #[tactic(auto, using(crate::proofs::Carrying::flew))]
+    pub fn in_flight(&self) -> Option<&Wire>
+        ensures wire { IfSome result (λ wire. wire.now ≡ self.now.wire) }
+        ensures flight { IfSome result (λ wire. WasInFlight J.start wire.now) }
+    {
+        match self.request {
+            Some(_) => Some(&self.wire),
+            None => None,
+        }
     }
 
     /// What is sent.
@@ -157,6 +175,13 @@ impl Sending {
     pub(crate) fn is_spent(&self) -> bool {
         self.redos.is_spent()
     }
+}
+
+// Whether this is the request's number and operation.
+pub(crate) fn is_sent_for(sent: &Sent, request: &Request) -> bool
+    ensures { IsTrue result ↔ ((sent.now.number ≡ request.now.number) × (sent.now.op ≡ request.now.op)) }
+{
+    sent.number == request.number() && sent.op == request.op()
 }
 
 // One request where there is none.

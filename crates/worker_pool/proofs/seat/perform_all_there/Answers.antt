@@ -4,7 +4,7 @@ use Rattle.worker_pool.specs.Joining.Seated.{GoesOn}
 use Rattle.worker_pool.proofs.seat.perform_all_there.Goals as goal
 
 pub returns-in-Some : goal.returns-in-Some
-returns-in-Some c =
+returns-in-Some g c =
     let s = c.in-Some.served in
     let now = c.perform_all.new.dc in
     subst (λ (b : Option Served). GoesOn b (Some (record { number = s.number; dc = now }))) (sym c.in-Some.is)

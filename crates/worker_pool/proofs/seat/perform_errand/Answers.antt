@@ -2,13 +2,13 @@ use Rattle.worker_pool.proofs.Serving.{not_yet, one_more}
 use Rattle.worker_pool.proofs.seat.perform_errand.Goals as goal
 
 pub returns-in-Some-perform : goal.returns-in-Some-perform
-returns-in-Some-perform c =
+returns-in-Some-perform g c =
     let n = c.args.number in
     let dc = c.args.dc.now in
     one_more n dc dc c.perform.new.self c.in-Some.wire.now (not_yet n dc) c.in-Some.ensures.wire.1 c.perform.ensures.store
 
 pub returns-in_default-perform : goal.returns-in_default-perform
-returns-in_default-perform c =
+returns-in_default-perform g c =
     let n = c.args.number in
     let dc = c.args.dc.now in
     one_more n dc dc c.perform.new.self c.in-Some.wire.now (not_yet n dc) c.in-Some.ensures.wire.1 c.perform.ensures.store

@@ -19,8 +19,8 @@ invariant_of-self g c =
       c.self.invariant.2,
     )
 
-pub returns : goal.returns
-returns g c =
+pub returns-clause-answered : goal.returns-clause-answered
+returns-clause-answered g c =
     let ss = c.self.inside.progress.items in
     let at : slice_get ss c.args.k ≡ Some (Begun c.args.txn) = ap (λ (v : Seen). slice_get v.progress c.args.k) c.self.view_is ∙ c.requires.begun in (
       now_answered ss c.args.k (Begun c.args.txn) (InDoubt c.args.number) (Some c.args.txn) at,

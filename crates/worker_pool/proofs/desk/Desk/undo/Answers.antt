@@ -1,10 +1,15 @@
-use Rattle.std.proofs.Common.{◌≡◌, ◌∙◌, ap, subst, inl, inr}
-use Rattle.tc_core.specs.Replies.{ask_reply}
+use Rattle.std.proofs.Common.{◌≡◌, ◌∙◌, ap, sym, subst, inl, inr}
+use Rattle.tc_core.specs.Core.{Core}
+use Rattle.tc_core.specs.GivingUp.{IsOpenHere}
+use Rattle.tc_core.specs.Replies.{ask_reply, after_undo}
 use Rattle.tc_core.specs.declared.state.Asked.TheVariants.{Undoing}
 use Rattle.worker_pool.specs.Joining.Seen.{Seen}
 use Rattle.worker_pool.proofs.Steps.{undone}
 use Rattle.worker_pool.proofs.Doubtful.{undo_sends, IsRequest}
 use Rattle.worker_pool.proofs.Grown.{handed_undone}
+use Rattle.worker_pool.specs.Restarts.{StaysKnown}
+use Rattle.worker_pool.proofs.Carrying.{undo_opens}
+use Rattle.worker_pool.proofs.Known.{known_then, undone_sites}
 use Rattle.worker_pool.proofs.desk.Desk.undo.Goals as goal
 
 pub invariant_of-self : goal.invariant_of-self
@@ -33,3 +38,17 @@ unreachable-requires-in-Stuck g c =
       | inl is ↦ subst IsRequest is.1 sends
       | inr is ↦ subst IsRequest is.1 sends
     ]
+
+pub send-requires-clause-is_open : goal.send-requires-clause-is_open
+send-requires-clause-is_open g c =
+    let e = c.undo_next.ensures in
+    let state = c.self.inside.state in
+    subst (λ (s : Core). IsOpenHere s c.in-Request.request) (sym (e.state ∙ ap (after_undo state) c.in-Request.is))
+    (undo_opens state c.args.txn.serial c.in-Request.request (sym e.reply ∙ c.in-Request.is))
+
+pub returns-clause-known : goal.returns-clause-known
+returns-clause-known g c =
+    let state = c.self.inside.state in
+    let mid = c.undo_next.new.self in
+    subst (λ (v : Seen). StaysKnown v.state c.send.new.self.state) c.self.view_is
+    (known_then state mid c.send.new.self.state (ap (λ (s : Core). s.sites) c.undo_next.ensures.state ∙ undone_sites state c.undo_next.result) c.send.ensures.known)
