@@ -3,8 +3,8 @@
 
 usage: tools/try_dist.py [--unproved]
 
-The archive: the first run of its README, each example against what is stored here, and the C program of docs/EMBEDDING.md over
-the unpacked headers and libraries, by pkg-config and over the shared library. The Debian package: its program, and the same C
+The archive: the first run of its README, each example against what is stored here, tests of the library by its Makefile, and the C
+program of docs/EMBEDDING.md over the unpacked headers and libraries, by pkg-config and over the shared library. The Debian package: its program, and the same C
 program. Both: their sums; made twice they have the same bytes; the program asks for libc alone; no file names a path of this
 machine. And what a package says of a gate is what is noted of its program and library, or nothing.
 """
@@ -29,6 +29,11 @@ FENCE = 'for place in $HIDDEN; do mount -t tmpfs none "$place" || exit; done; ex
 INTERPRETER, LIBRARY = "/lib64/ld-linux-x86-64.so.2", "libc.so.6"
 
 
+def runs(words):
+    """Whether a command is there, and ends well."""
+    return shutil.which(words[0]) is not None and subprocess.run(words, capture_output=True, check=False).returncode == 0
+
+
 class Place:
     """A folder for a user of the packages."""
 
@@ -38,10 +43,10 @@ class Place:
         self.words = words
         self.kit = dist.kit() if shutil.which("rt") else None
         self.hidden = " ".join(str(path) for path in (TOP, self.kit) if path)
-        fenced = subprocess.run(["unshare", "--map-root-user", "--mount", "true"], capture_output=True, check=False)
-        self.fence = ["unshare", "--map-root-user", "--mount"] if fenced.returncode == 0 else []
+        fence = ["unshare", "--map-root-user", "--mount"]
+        self.fence = fence if runs([*fence, "true"]) else []
         if not self.fence:
-            print("dist: kit and checkout are out of the path, but not hidden: unshare isn't permitted")
+            print("dist: kit and checkout are out of the path, but not hidden: unshare isn't there, or isn't permitted")
 
     def said(self, what, commands, folder):
         """What the commands print there; None, and it is said, where one ends otherwise than well."""
@@ -115,6 +120,12 @@ def examples(place, unpacked):
     return len(stored)
 
 
+def makefile(place, unpacked):
+    """The unpacked Makefile takes the unpacked library."""
+    said = place.said("the unpacked Makefile", "make -s -C c_interface check_misuse check_same", unpacked)
+    place.is_so(said is not None and "misuse: refused" in said, f"misuse of the unpacked library is refused: {said}")
+
+
 def page_of_archive(place, page, archive):
     """The page's commands over an unpacked archive; then the same program over the shared library."""
     folder = page.written(place.home)
@@ -177,8 +188,7 @@ def claims_no_gate_but_its_own(place):
 
 def page_here():
     """The page, where what it asks for is here."""
-    asked = (["clang", "-target", "bpf", "-x", "c", "-c", os.devnull, "-o", os.devnull], ["pkg-config", "--version"])
-    there = all(shutil.which(words[0]) and subprocess.run(words, capture_output=True, check=False).returncode == 0 for words in asked)
+    there = runs(["clang", "-target", "bpf", "-x", "c", "-c", os.devnull, "-o", os.devnull]) and runs(["pkg-config", "--version"])
     return Page() if there else None
 
 
@@ -190,6 +200,7 @@ def tried(place):
     asks_for_libc_alone(place, unpacked / "bin/procd")
     names_no_path(place, unpacked)
     count = examples(place, unpacked)
+    makefile(place, unpacked)
     if page:
         page_of_archive(place, page, archive)
     for name in package:
