@@ -120,6 +120,15 @@ def examples(place, unpacked):
     return len(stored)
 
 
+def one_number(place, unpacked):
+    """The programs and pkg-config say the header's."""
+    version = dist.release()
+    asked = ["bin/mz_skeleton --version", "PKG_CONFIG_PATH=lib/pkgconfig pkg-config --modversion mazzulpe"]
+    answers = [f"mz_skeleton {version}\n", f"{version}\n"]
+    for commands, printed in zip(asked, answers if shutil.which("pkg-config") else answers[:1]):
+        place.prints(commands, commands, unpacked, printed)
+
+
 def makefile(place, unpacked):
     """The unpacked Makefile takes the unpacked library."""
     said = place.said("the unpacked Makefile", "make -s -C c_interface check_misuse check_same", unpacked)
@@ -200,6 +209,7 @@ def tried(place):
     asks_for_libc_alone(place, unpacked / "bin/procd")
     names_no_path(place, unpacked)
     count = examples(place, unpacked)
+    one_number(place, unpacked)
     makefile(place, unpacked)
     if page:
         page_of_archive(place, page, archive)
