@@ -8,7 +8,6 @@ program of docs/EMBEDDING.md over the unpacked headers and libraries, by pkg-con
 program. Both: their sums; made twice they have the same bytes; the program asks for libc alone; no file names a path of this
 machine. And what a package says of a gate is what is noted of its program and library, or nothing.
 """
-import hashlib
 import os
 import pathlib
 import re
@@ -169,28 +168,31 @@ def debian(place, page, package):
 
 
 def claims_no_gate_but_its_own(place):
-    """What a package says of a gate, by what is noted."""
-    built = tuple(f"{place.home}/{name}" for name in ("program", "library"))
-    sums = []
-    for path in built:
-        pathlib.Path(path).write_text(path)
-        sums.append(f"{hashlib.sha256(path.encode()).hexdigest()}  {path}\n")
-    dist.TOP, dist.PASSED = "", f"{place.home}/passed"
-    good, ended = "c0ffee as committed: ", "3 passed, 0 failed"
-    cases = [
-        (good + ended, sums, "c0ffee", True, True),
-        (good + ended, sums, "c0ffee", False, False),
-        (good + ended, sums, "decade", True, False),
-        ("c0ffee changed: " + ended, sums, "c0ffee", True, False),
-        (good + ended, [sums[1], sums[0]], "c0ffee", True, False),
-        (good + ended, sums[:1], "c0ffee", True, False),
-        (good + ended, ["0" * 64 + sums[0][64:], sums[1]], "c0ffee", True, False),
-    ]
-    for head, noted, commit, unchanged, passed in cases:
-        dist.state = lambda commit=commit, unchanged=unchanged: (commit, unchanged)
-        pathlib.Path(dist.PASSED).write_text(f"{head}\n{''.join(noted)}")
+    """What a package says of a gate: of the program, library and commit that the gate noted, and of no other."""
+    built, ended = tuple(f"{place.home}/{name}" for name in ("program", "library")), "3 passed, 0 failed"
+    dist.TOP, dist.PASSED, dist.BUILT = "", f"{place.home}/gate/passed", built
+    here, changed, other = ("c0ffee", True), ("c0ffee", False), ("decade", True)
+
+    def claims(noted_at, packed_at, rebuilt=None):
+        for path in built:
+            pathlib.Path(path).write_text(path)
+        dist.state = lambda: noted_at
+        dist.note(ended)
+        dist.state = lambda: packed_at
+        if rebuilt:
+            pathlib.Path(rebuilt).write_text("another")
         said = dist.gate_line(built)
-        place.is_so((ended in said) == passed and ("No gate" in said) != passed, f"of {head}, {commit}, {unchanged}: {said}")
+        return ended in said and "No gate" not in said
+
+    place.is_so(claims(here, here), "a gate is named where it passed just this")
+    for case in ((here, changed), (here, other), (changed, here), (changed, changed), (here, here, built[0]), (here, here, built[1])):
+        place.is_so(not claims(*case), f"no gate is named of {case}")
+    for line in ("3 passed, 1 failed", "0 passed, 0 failed", "passed"):
+        try:
+            dist.note(line)
+            place.is_so(False, f"the gate's note isn't `{line}`")
+        except dist.Failed:
+            pass
     os.remove(dist.PASSED)
     place.is_so("No gate" in dist.gate_line(built), "without a note no gate is named")
 
