@@ -4,9 +4,10 @@
 usage: tools/try_dist.py [--unproved]
 
 The archive: the first run of its README, each example against what is stored here, tests of the library by its Makefile, and the C
-program of docs/EMBEDDING.md over the unpacked headers and libraries, by pkg-config and over the shared library. The Debian package: its program, and the same C
-program. Both: their sums; made twice they have the same bytes; the program asks for libc alone; no file names a path of this
-machine. And what a package says of a gate is what is noted of its program and library, or nothing.
+program of docs/EMBEDDING.md over the unpacked headers and libraries, by pkg-config and over the shared library. The Debian
+package: its program, and the same C program. Both: their sums; made twice they have the same bytes; the program asks for libc
+alone; no file names a path of this machine; all say one version. And what a package says of a gate is what is noted of its
+program, its library and its commit, or nothing.
 """
 import os
 import pathlib
