@@ -24,7 +24,7 @@ from try_page import Page  # noqa: E402, which stands in another folder
 
 TOP = pathlib.Path(dist.TOP)
 # Commands behind it see empty folders where the kit and this checkout are.
-FENCE = 'for place in $HIDDEN; do mount -t tmpfs none "$place" || exit; done; exec env -i HOME="$HOME" PATH=/usr/bin:/bin sh -ec "$0"'
+FENCE = 'for place; do mount -t tmpfs none "$place" || exit; done; exec env -i HOME="$HOME" PATH=/usr/bin:/bin sh -ec "$0"'
 # What the program may ask of the system: libc, by the loader that all of it asks for.
 INTERPRETER, LIBRARY = "/lib64/ld-linux-x86-64.so.2", "libc.so.6"
 
@@ -41,8 +41,7 @@ class Place:
         self.home, self.wrong = home, 0
         self.packages = f"{home}/packages"
         self.words = words
-        self.kit = dist.kit() if shutil.which("rt") else None
-        self.hidden = " ".join(str(path) for path in (TOP, self.kit) if path)
+        self.hidden = [dist.TOP, *([dist.kit()] if shutil.which("rt") else [])]
         fence = ["unshare", "--map-root-user", "--mount"]
         self.fence = fence if runs([*fence, "true"]) else []
         if not self.fence:
@@ -50,8 +49,8 @@ class Place:
 
     def said(self, what, commands, folder):
         """What the commands print there; None, and it is said, where one ends otherwise than well."""
-        env = {"HOME": self.home, "HIDDEN": self.hidden if self.fence else "", "PATH": "/usr/bin:/bin"}
-        words = [*self.fence, "sh", "-c", FENCE, commands]
+        env = {"HOME": self.home, "PATH": "/usr/bin:/bin"}
+        words = [*self.fence, "sh", "-c", FENCE, commands, *(self.hidden if self.fence else [])]
         ran = subprocess.run(words, cwd=folder, env=env, stdin=subprocess.DEVNULL, capture_output=True, text=True, check=False)
         if ran.returncode == 0:
             return ran.stdout
@@ -92,7 +91,7 @@ def asks_for_libc_alone(place, program):
 def names_no_path(place, folder):
     """Of this checkout, the kit or whoever made it."""
     for path in filter(pathlib.Path.is_file, pathlib.Path(folder).rglob("*")):
-        for hidden in [*place.hidden.split(), place.home]:
+        for hidden in [*place.hidden, place.home]:
             place.is_so(f"{hidden}/".encode() not in path.read_bytes(), f"{path.name} doesn't name {hidden}")
 
 
