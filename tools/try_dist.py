@@ -122,9 +122,9 @@ def examples(place, unpacked):
 def one_number(place, unpacked):
     """The programs and pkg-config say the header's."""
     version = dist.release()
-    asked = ["bin/mz_skeleton --version", "PKG_CONFIG_PATH=lib/pkgconfig pkg-config --modversion mazzulpe"]
-    answers = [f"mz_skeleton {version}\n", f"{version}\n"]
-    for commands, printed in zip(asked, answers if shutil.which("pkg-config") else answers[:1]):
+    asked = ["bin/procd --version", "bin/mz_skeleton --version", "PKG_CONFIG_PATH=lib/pkgconfig pkg-config --modversion mazzulpe"]
+    answers = [f"procd {version}\n", f"mz_skeleton {version}\n", f"{version}\n"]
+    for commands, printed in zip(asked, answers if shutil.which("pkg-config") else answers[:2]):
         place.prints(commands, commands, unpacked, printed)
 
 
