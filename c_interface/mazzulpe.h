@@ -81,6 +81,7 @@ extern "C" {
 /* ---- what is handed over */
 
 #define MZ_VERSION 1 /* of this header and of the frame; mazzulpe_version() answers the library's */
+#define MZ_RELEASE "0.1.0" /* 0.MZ_VERSION.PATCH: of the library, its packages and procd */
 
 typedef uint32_t mz_code;
 #define MZ_CODE(letter, number) ((mz_code)((letter) << 8 | (number)))

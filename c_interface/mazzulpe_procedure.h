@@ -17,6 +17,12 @@ typedef unsigned long long u64;
  * which undoes what it wrote. It stands in a section of its own, from which its code is taken. */
 #define PROCEDURE(name) __attribute__((section("procedure/" #name))) u64 name(const u64 *args)
 
+/* The same with names for its arguments, 1 at least: PROCEDURE_OF(move, from, to, amount) reads args->from. Compiled with -g, the
+ * calls that mz_skeleton makes for C have these names too. */
+#define PROCEDURE_OF(name, ...) \
+    struct arguments_##name { u64 __VA_ARGS__; }; \
+    __attribute__((section("procedure/" #name))) u64 name(const struct arguments_##name *args)
+
 /* The access slots of a procedure, in the order of their numbers, behind how many arguments it takes (at
  * most 8). READS is a slot for reading alone, WRITES one for both: data component, table, and KEY(k) or
  * ARGUMENT(i). At most 16. */

@@ -44,24 +44,36 @@ def by_cxx(compiler, use, folder, home):
     return shell(commands, folder, env)
 
 
-def main():
-    page = (HERE.parent / "docs/EMBEDDING.md").read_text()
-    blocks = re.findall(r"```(\w*)\n(.*?)```", page, re.DOTALL)
-    build, use = [text for kind, text in blocks if kind == "sh"]
-    procedures, program = [text for kind, text in blocks if kind == "c"]
-    (printed,) = [text for kind, text in blocks if kind == ""]
-    with tempfile.TemporaryDirectory() as home:
+class Page:
+    """What the page says: commands (to unpack a package, to build here, to use either), what they print, and two files."""
+
+    def __init__(self):
+        text = (HERE.parent / "docs/EMBEDDING.md").read_text()
+        blocks = re.findall(r"```(\w*)\n(.*?)```", text, re.DOTALL)
+        self.unpack, self.build, self.use = [block for kind, block in blocks if kind == "sh"]
+        self.procedures, self.program = [block for kind, block in blocks if kind == "c"]
+        (self.printed,) = [block for kind, block in blocks if kind == ""]
+
+    def written(self, home):
+        """A folder with the page's two files."""
         folder = pathlib.Path(home, "bank")
         folder.mkdir()
-        (folder / "bank.c").write_text(procedures)
-        (folder / "main.c").write_text(program)
+        (folder / "bank.c").write_text(self.procedures)
+        (folder / "main.c").write_text(self.program)
+        return folder
+
+
+def main():
+    page = Page()
+    with tempfile.TemporaryDirectory() as home:
+        folder = page.written(home)
         env = {**os.environ, "HOME": home}
-        shell(build, HERE.parent, env)
+        shell(page.build, HERE.parent, env)
         began = time.monotonic()
-        wrong = told("page", shell(use, folder, env), printed)
+        wrong = told("page", shell(page.use, folder, env), page.printed)
         print(f"page: {time.monotonic() - began:.1f} s from the two files to what it prints")
         for compiler in sys.argv[1:]:
-            wrong += told(f"page by {compiler}, PREFIX with a space", by_cxx(compiler, use, folder, home), printed)
+            wrong += told(f"page by {compiler}, PREFIX with a space", by_cxx(compiler, page.use, folder, home), page.printed)
     return wrong != 0
 
 

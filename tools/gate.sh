@@ -67,9 +67,13 @@ for tool in make cc ar; do
 done
 if [ -z "$missing" ]; then
     tried c_interface
+    tried tools/try_dist.py
 else
-    echo "gate: c_interface is left out, since there is no$missing"
+    echo "gate: c_interface and packages are left out, since there is no$missing"
 fi
 took "all"
+if [ -z "$missing" ] && [ "$failed" -eq 0 ]; then
+    tools/dist.py --passed "$passed passed, $failed failed" || echo "gate: packages can't say that they passed it"
+fi
 echo "$passed passed, $failed failed"
 [ "$failed" -eq 0 ]

@@ -11,6 +11,7 @@ import argparse
 import pathlib
 import sys
 
+from dist import release
 from printed_rows import code, commands, logs, objects, restarts, runs, scripts, worlds
 from trying import Program
 
@@ -36,6 +37,12 @@ def help_is_there(program):
     return all(ran.status == 0 and ran.out and not ran.err for ran in asked)
 
 
+def version_is_there(program):
+    """Whether it says the number of the library for C."""
+    said = f"procd {release()}\n".encode()
+    return all((ran.status, ran.out, ran.err) == (0, said, b"") for ran in (program.run(["--version"]), program.run(["-V"])))
+
+
 def main():
     parser = argparse.ArgumentParser(description=__doc__, formatter_class=argparse.RawDescriptionHelpFormatter)
     parser.add_argument("--procd", action="append", help="a program (those of crates/procd/out that there are)")
@@ -54,6 +61,9 @@ def main():
         if not help_is_there(program):
             good = False
             print("printed: a command has no help")
+        if not version_is_there(program):
+            good = False
+            print("printed: --version isn't the library's MZ_RELEASE")
         print(f"printed: {count} rows by {pathlib.Path(path).name}, {'nothing wrong' if good else 'wrong'}")
     sys.exit(0 if good else 1)
 

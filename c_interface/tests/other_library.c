@@ -1,4 +1,5 @@
-/* A library of another version, or with another frame, isn't started. The six functions are stand-ins here. */
+/* A library of another version, or with another frame, isn't started. The six functions are stand-ins here. And the release
+ * says the version. */
 #include "mazzulpe.h"
 #include "seen.h"
 
@@ -24,7 +25,13 @@ static mz_code started(uint32_t version_then, size_t size_then) {
     return code;
 }
 
+static int says_version(const char *release) {
+    int version_said = 0, patch = -1;
+    return sscanf(release, "0.%d.%d", &version_said, &patch) == 2 && version_said == MZ_VERSION && patch >= 0;
+}
+
 int main(void) {
+    SEEN(says_version(MZ_RELEASE));
     SEEN(started(MZ_VERSION, sizeof(mz_frame)) == MZ_OK);
     SEEN(started(MZ_VERSION + 1, sizeof(mz_frame)) == MZ_OTHER_LIBRARY);
     SEEN(started(MZ_VERSION, sizeof(mz_frame) + 8) == MZ_OTHER_LIBRARY);

@@ -3,6 +3,7 @@ use Rattle.std.specs.Prelude.{◌≡◌, ◌≢◌, ℕ, Bool, List, [], ◌<◌
 use Rattle.std.specs.List.{list_any}
 use Rattle.clap.specs.Words.{App, Kinds, Row, Rule, Text, all_of, fault_of, first_of, one_of, new_app, new_rule}
 use Rattle.clap.specs.Words.{subcommand_of, takes, with_rule, with_subcommand}
+use Rattle.clap.specs.Simple.{on_top}
 use Rattle.clap.specs.declared.error.kind.ErrorKind.{ErrorKind}
 use Rattle.clap.specs.declared.error.kind.ErrorKind.TheVariants as kind
 use Rattle.clap.specs.declared.builder.ArgAction.TheVariants.{Set, SetTrue, Append}
@@ -81,9 +82,17 @@ log_app = with_rule (with_rule (with_rule (with_rule (new_app (codes "log")) row
 abbrev pub code_app : App
 code_app = with_subcommand (with_subcommand (with_subcommand (new_app (codes "procd")) exec_app.top) asm_app.top) dis_app.top
 
+-- all commands
+abbrev pub commands_app : App
+commands_app = with_subcommand (with_subcommand (with_subcommand (with_subcommand code_app verify_app.top) world_app.top) run_app.top) log_app.top
+
+-- a command line that takes --version
+abbrev pub with_version : App → App
+with_version = on_top (λ s. record s { has_version = true })
+
 -- the command line of the program
 unfoldable pub procd_app : App
-procd_app = with_subcommand (with_subcommand (with_subcommand (with_subcommand code_app verify_app.top) world_app.top) run_app.top) log_app.top
+procd_app = with_version commands_app
 
 -- the number that a text says in decimal, and whether it says one of 64 bits
 abbrev pub value_of : Text → ℕ

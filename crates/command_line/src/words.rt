@@ -348,6 +348,9 @@ fn with_command<'a>(
     }
 }
 
+/// The release, which `--version` prints: `MZ_RELEASE` of the library for C.
+const RELEASE: &str = "0.1.0";
+
 // The command line of the program.
 fn procd_command<'a>(alloc: Global) -> Result<Command<'a>, AllocError>
     ensures { IfOk result (λ c. app_of c ≡ procd_app) }
@@ -388,7 +391,9 @@ fn procd_command<'a>(alloc: Global) -> Result<Command<'a>, AllocError>
         log_command(alloc),
         "Print the events of a log's file, one a line, as `7 end 3 committed`; or audit it beside a script",
     )?;
-    Ok(with_log.about("A transaction component that runs verified BPF procedures"))
+    Ok(with_log
+        .about("A transaction component that runs verified BPF procedures")
+        .version(RELEASE))
 }
 
 // What the words say.

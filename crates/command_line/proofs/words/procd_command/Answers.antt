@@ -1,7 +1,7 @@
 use Rattle.std.proofs.Common.{◌≡◌, ◌∙◌, ap}
 use Rattle.clap.specs.Words.{App, with_subcommand}
 use Rattle.clap.specs.Simple.{app_of_fields}
-use Rattle.command_line.specs.Said.{procd_app, exec_app, asm_app, dis_app, verify_app, world_app, run_app, log_app}
+use Rattle.command_line.specs.Said.{procd_app, exec_app, asm_app, dis_app, verify_app, world_app, run_app, log_app, with_version}
 use Rattle.command_line.proofs.words.procd_command.Goals as goal
 
 -- one subcommand more, behind those that are there
@@ -18,4 +18,4 @@ returns c =
     let world = c.in_ok-with_world.ensures world_app c.world_command.ensures.app c.world_command.ensures.local ∙ behind world_app _ _ verify in
     let run = c.in_ok-with_run.ensures run_app c.run_command.ensures.app c.run_command.ensures.local ∙ behind run_app _ _ world in
     let log = c.in_ok-with_log.ensures log_app c.log_command.ensures.app c.log_command.ensures.local ∙ behind log_app _ _ run in
-    ap app_of_fields c.about.ensures ∙ log
+    ap app_of_fields c.version.ensures ∙ ap with_version (ap app_of_fields c.about.ensures ∙ log)

@@ -1,0 +1,86 @@
+#!/bin/sh
+# What mz_skeleton prints of arguments, and what it refuses, by name and place: status, standard error, and nothing printed.
+#
+# usage: skeleton.sh FOLDER: of what `make check` built
+set -e
+built=$(cd "$1" && pwd)
+clang=${CLANG:-clang}
+here=$(cd "$(dirname "$0")/.." && pwd)
+place=$(mktemp -d)
+trap 'rm -rf "$place"' EXIT
+cd "$place"
+wrong=0
+
+# refuses STATUS MESSAGE WORD..
+refuses() {
+    wanted=$1 message=$2 status=0
+    shift 2
+    "$built/mz_skeleton" "$@" > said 2> told || status=$?
+    if [ "$status" -ne "$wanted" ] || [ -s said ] || [ "$(cat told)" != "mz_skeleton: $message" ]; then
+        echo "skeleton: NOT so of $*: status $status, $(wc -c < said) bytes, $(cat told)"
+        wrong=1
+    fi
+}
+
+# compiled NAME: the procedures of standard input as NAME.o
+compiled() {
+    { echo '#include "mazzulpe_procedure.h"'; cat; } | "$clang" -target bpf -O2 -mcpu=v2 -I"$here" -x c -c - -o "$1.o"
+}
+
+grep -E '^static inline mz_code named_[a-z]+\(' "$built/named.h" > prototypes
+diff "$here/tests/named.expected" prototypes || wrong=1
+
+echo 'no object' > text.o
+: > empty.o
+refuses 1 'text.o: not a whole object file with procedures for BPF' text.o
+refuses 1 'empty.o: not a whole object file with procedures for BPF' empty.o
+refuses 3 'cannot read there.o' there.o
+refuses 3 'cannot read .' . folder
+refuses 2 'no name in C, or the library'"'"'s: `mz_skeleton FILE NAME` says another one' 2nd.o
+refuses 2 'no name in C, or the library'"'"'s: `mz_skeleton FILE NAME` says another one' empty.o mz
+compiled none < /dev/null
+refuses 1 'none.o: no procedure in it (a section procedure/NAME)' none.o
+compiled one << 'C'
+ACCESSES(good, TAKES(1), WRITES(0, 0, ARGUMENT(0)))
+PROCEDURE(good) { return record_delete(0); }
+ACCESSES(get, TAKES(1), READS(0, 0, ARGUMENT(0)))
+PROCEDURE(get) { return record_read(0)[0]; }
+C
+refuses 1 'one.o: get V10 MaybeNull slot 2' one.o
+compiled slots << 'C'
+ACCESSES(far, TAKES(1), READS(0, 0, ARGUMENT(0)), READS(65535, 0, ARGUMENT(0)))
+PROCEDURE(far) { return 0; }
+C
+refuses 1 'slots.o: far P2 DcUnknown access slot 1' slots.o
+compiled bare << 'C'
+PROCEDURE(bare) { return 0; }
+C
+refuses 1 'bare.o: bare has no access slots in the file (ACCESSES)' bare.o
+for name in open dcs; do
+    compiled own << C
+ACCESSES($name, TAKES(0))
+PROCEDURE($name) { return 0; }
+C
+    refuses 1 "own.o: $name is a name of the header itself" own.o
+done
+compiled own << 'C'
+ACCESSES(move, TAKES(0))
+PROCEDURE(move) { return 0; }
+ACCESSES(move_blocked, TAKES(0))
+PROCEDURE(move_blocked) { return 1; }
+C
+refuses 1 'own.o: move_blocked is a name of the header itself' own.o
+sed 's/procedure\/far/procedure\/f\x1b-/; s/accesses\/far/accesses\/f\x1b-/' slots.o > odd.o
+sed -i 's/\xff\xff\x00\x00\x02\x00/\x00\x00\x00\x00\x02\x00/' odd.o
+refuses 1 'odd.o: f?- is no name in C' odd.o
+status=0
+"$built/mz_skeleton" "$built/named.o" > /dev/full 2> told || status=$?
+[ "$status" -eq 3 ] && [ "$(cat told)" = 'mz_skeleton: cannot write' ] || { echo "skeleton: NOT so of a full disk: $status"; wrong=1; }
+# Each length of a file that is cut: refused, or with fewer sections behind what is loaded.
+size=$(wc -c < "$built/bank.o")
+for length in $(seq 0 "${STEP:-61}" "$((size - 1))"); do
+    head -c "$length" "$built/bank.o" > cut.o
+    refuses 1 'cut.o: not a whole object file with procedures for BPF' cut.o
+done
+[ "$wrong" -eq 0 ] && echo "skeleton: names of arguments; what isn't such a file is refused by name and place"
+exit "$wrong"
