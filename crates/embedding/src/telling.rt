@@ -1,6 +1,6 @@
 // What a transaction component says, written into a frame.
 
-ghost use Rattle.std.specs.Prelude.{◌≡◌, ◌≢◌, ◌<◌, ◌++◌, [], ◌∷◌, length, min, take, vec_len, vec_capacity, Some, IfOk, OnOk};
+ghost use Rattle.std.specs.Prelude.{◌≡◌, ◌≢◌, ◌<◌, ◌≤◌, ◌++◌, [], ◌∷◌, length, min, take, vec_len, vec_capacity, Some, IfOk, OnOk, OnErr};
 ghost use Rattle.tc_core.specs.Lent.{wire_of};
 ghost use Rattle.tc_log.specs.Printed.{printed};
 ghost use Rattle.embedding.specs.Frames.{IsOf, Names};
@@ -21,6 +21,7 @@ use transactions::{Sent, Site};
 /// Makes room for one more request.
 pub fn make_room(requests: &mut Vec<Request>) -> Result<(), AllocError>
     ensures room { OnOk result (vec_len requests.new < vec_capacity requests.new) }
+    ensures full { OnErr result (vec_capacity requests.old ≤ vec_len requests.old) }
     ensures items { requests.new.items ≡ requests.old.items }
 {
     requests.reserve(1)
