@@ -9,8 +9,8 @@ use Rattle.access_slots.specs.declared.slot.Record.{Record}
 use Rattle.data_component.specs.Keeping.{AreRowsOf}
 use Rattle.data_component.specs.Performed.{value_in, count}
 use Rattle.data_component.specs.Sorted.{Rows}
-use Rattle.data_component.specs.Store.{Store, replied, performed, checkpointed, IsSpent, restarted, news_of, heard, may_forget}
-use Rattle.data_component.specs.Store.{HasForgotten}
+use Rattle.data_component.specs.Store.{Store, replied, performed, checkpointed, IsSpent, restarted, news_of}
+use Rattle.data_component.specs.Store.{heard, may_forget, HasForgotten}
 use Rattle.embedding.specs.Frames.{bit, IsOf, Says, Carries, CarriesNothing, Brings, news_in}
 use Rattle.embedding.specs.declared.call.TheConstants.{PERFORM, RESTART, GET, ROWS, ROW, MARK, CHECKPOINT, INCARNATION, HEAR_MARK, FORGET}
 use Rattle.embedding.specs.declared.codes.TheConstants.{BAD_FRAME, INCARNATIONS_SPENT, NO_PLACE, NO_SUCH_CALL, SILENT}

@@ -42,16 +42,15 @@ use Rattle.tc_core.specs.declared.recovery.RecoverFault.{RecoverFault}
 use Rattle.tc_core.specs.declared.state.NewsFault.{NewsFault}
 use Rattle.tc_core.specs.declared.state.Refusal.{Refusal}
 use Rattle.embedding.specs.Codes.{news_number, checkpoint_number, read_number, read_place, recover_number, recover_place}
-use Rattle.embedding.specs.Frames.{bit, IsOf, Names, SaysNothing, Carries, Brings, news_in, HasArgs, args_in, text_in, HasName, IsNoName}
-use Rattle.embedding.specs.Frames.{call_in}
+use Rattle.embedding.specs.Frames.{bit, IsOf, Names, SaysNothing, Carries, Brings, news_in, HasArgs, args_in, text_in, call_in}
+use Rattle.embedding.specs.Frames.{HasName, IsNoName}
 use Rattle.embedding.specs.Gathering.{GatheredBy, IsAsGathered, WhyNoBytes, WhyNoSlot, WhyNoNote, checked_of, IsProcedure, IsNoProcedure}
 use Rattle.embedding.specs.Telling.{Sends, Tells, requests_of, EndsAs, TellsRefusal, TellsLoading, TellsRedo, TellsSite}
 use Rattle.embedding.specs.declared.call.TheConstants.{BYTES, SLOT, CLEAR, NOTE, LOAD, FIND, ADMIT, BLOCKED, ASK, UNDO, WIRE, ANSWER}
 use Rattle.embedding.specs.declared.call.TheConstants.{GIVE_UP, END, OPEN_COUNT, LOG_LENGTH, LOG_BYTES, SITE, TOLD, REDO_NEXT, REDONE}
 use Rattle.embedding.specs.declared.call.TheConstants.{LOG_ANEW, LOW_WATER, RECOVER, OPEN_FROM, RETAKE, WAITING_FROM, LOCK_AT, REDO_BEHIND}
 use Rattle.embedding.specs.declared.codes.TheConstants.{BAD_FRAME, DOWN, MEMORY, NO_DC, NO_PLACE, NO_PROCEDURE, NO_SUCH_CALL, NO_TXN}
-use Rattle.embedding.specs.declared.codes.TheConstants.{NOT_OVER}
-use Rattle.embedding.specs.declared.codes.TheConstants.{NOTHING_OPEN, STRANGER}
+use Rattle.embedding.specs.declared.codes.TheConstants.{NOT_OVER, NOTHING_OPEN, STRANGER}
 use Rattle.embedding.specs.declared.frame.Frame.{Frame}
 use Rattle.embedding.specs.declared.tc_part.TcPart.{TcPart}
 
@@ -145,13 +144,18 @@ pub record IsNotAdmitted (p : TcPart) (f : Frame) (code : ℕ) (f' : Frame) : Ty
   pub is : IsRefused p.state (call_in f) why
   pub told : TellsRefusal why code f'
 
--- there are more arguments than a frame has room for, or memory for them runs out, before the call is looked at
+-- there are more arguments than a frame has room for, or no memory for a copy of some
 pub data HasNoCall (f : Frame) (code : ℕ) : Type 0 where
   TooMany : code ≡ BAD_FRAME → 8 < f.count → HasNoCall f code
-  NoMemory : code ≡ MEMORY → HasArgs f → HasNoCall f code
+  NoMemory : code ≡ MEMORY → HasArgs f → 0 < f.count → HasNoCall f code
+
+-- a request of each open transaction, of this call's too and one more don't find room among those that are kept
+abbrev pub IsCrowded : TcPart → Type 0
+IsCrowded p = vec_capacity p.requests < vec_len p.requests + (total each_one p.state.events + 2)
 
 pub data WhyNotAdmitted (p : TcPart) (f : Frame) (code : ℕ) (f' : Frame) : Type 0 where
   Uncalled : HasNoCall f code → WhyNotAdmitted p f code f'
+  Crowded : code ≡ MEMORY → HasArgs f → IsCrowded p → WhyNotAdmitted p f code f'
   Refused : HasArgs f → IsNotAdmitted p f code f' → WhyNotAdmitted p f code f'
 
 -- a transaction with this serial number is open

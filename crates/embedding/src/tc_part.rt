@@ -180,10 +180,11 @@ impl TcPart {
         let Some(args) = frame.arguments() else {
             return Err(BAD_FRAME);
         };
-        match Vec::from_slice(self.alloc, args) {
-            Ok(args) => Ok(Call {
+        let mut copied = Vec::new(self.alloc);
+        match copied.extend_from_slice(args) {
+            Ok(()) => Ok(Call {
                 proc: frame.word as usize,
-                args,
+                args: copied,
             }),
             Err(_) => Err(MEMORY),
         }
