@@ -2,3 +2,4 @@ pub mod ByNumber
 pub mod Parts
 pub mod RunningLemmas
 pub mod AdmittedLemmas
+pub mod KeptLemmas

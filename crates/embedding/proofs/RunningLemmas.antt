@@ -1,5 +1,6 @@
 -- A machine begins and goes on as the run of its code does.
 use Rattle.std.proofs.Common.{◌≡◌, ℕ, true, false, List, [], ◌∷◌, ◌++◌, Option, Some, None, refl, sym, subst, ap, ◌∙◌}
+use Rattle.std.specs.Prelude.{is_some}
 use Rattle.access_slots.specs.Access.{fits, is_no_room}
 use Rattle.access_slots.specs.declared.op.Op.{Op}
 use Rattle.access_slots.specs.declared.op.Said.{Said}
@@ -82,6 +83,15 @@ stops_by q m p args answers taken run s call count is = record {
   count = count;
   waits = subst (WaitsIfAsked q args answers p) (sym is) (waits_by q m p args answers s call);
 }
+
+-- whether a run waits
+pub waits_not : (run : Option Run) → is_some run ≡ false → run ≡ None
+waits_not None idle = refl
+waits_not (Some r) idle = absurd (let bad : true ≡ false = idle in cc)
+
+pub waits_some : (run : Option Run) → is_some run ≡ true → run ≡ None → ⊥
+waits_some None waits none = absurd (let bad : false ≡ true = waits in cc)
+waits_some (Some r) waits none = absurd (let bad : Some r ≡ None = none in cc)
 
 -- the run that waits is the one that is kept
 pub waits_on : (q : Checked) (run : Option Run) (r : Run) (args : List ℕ) (answers : List Said) (o : Op) → run ≡ Some r → WaitsBehind q args answers o run

@@ -1,6 +1,7 @@
 -- What a frame says: records, operations, wires, replies and news. The relations hold in both directions, of what a caller wrote and of
 -- what it reads.
-use Rattle.std.specs.Prelude.{◌≡◌, ℕ, Bool, true, false, List, take, Some, None}
+use Rattle.std.specs.Prelude.{◌≡◌, ◌<◌, ◌≤◌, ℕ, Bool, true, false, List, take, Some, None}
+use Rattle.std.specs.Str.{IsUtf8}
 use Rattle.access_slots.specs.declared.op.Op.{Op}
 use Rattle.access_slots.specs.declared.op.Op.TheVariants.{Read, Insert, Update, Delete}
 use Rattle.access_slots.specs.declared.op.Said.{Said}
@@ -10,6 +11,7 @@ use Rattle.access_slots.specs.declared.op.Reply.{Reply}
 use Rattle.access_slots.specs.declared.op.News.{News}
 use Rattle.access_slots.specs.declared.slot.Record as records
 use Rattle.history.specs.Calls.{Call}
+use Rattle.embedding.specs.declared.codes.TheConstants.{BAD_FRAME, NOT_TEXT}
 use Rattle.embedding.specs.declared.frame.Frame.{Frame}
 
 abbrev pub bit : Bool → ℕ
@@ -38,9 +40,17 @@ Says f Missing = f.kind ≡ 6
 Says f NoRoom = f.kind ≡ 7
 Says f Old = f.kind ≡ 8
 
+-- it says none of the eight answers
+abbrev pub SaysNothing : Frame → Type 0
+SaysNothing f = (said : Said) → ¬ (Says f said)
+
 -- the frame carries this wire
 abbrev pub Carries : Frame → Wire → Type 0
 Carries f w = (f.number ≡ w.number) × (f.low_water ≡ w.low_water) × (f.incarnation ≡ w.incarnation) × (f.redo ≡ bit w.redo) × Names f w.op
+
+-- it names none of the four operations, or has no bit where it says whether it redoes
+abbrev pub CarriesNothing : Frame → Type 0
+CarriesNothing f = (w : Wire) → ¬ (Carries f w)
 
 -- the frame brings this reply
 abbrev pub Brings : Frame → Reply → Type 0
@@ -50,12 +60,30 @@ Brings f x = (f.number ≡ x.number) × (f.incarnation ≡ x.incarnation) × Say
 abbrev pub news_in : Frame → News
 news_in f = record { incarnation = f.incarnation; mark = f.low_water }
 
+-- there are no more arguments than a frame has room for
+abbrev pub HasArgs : Frame → Type 0
+HasArgs f = f.count ≤ 8
+
 abbrev pub args_in : Frame → List ℕ
 args_in f = take f.count f.args
+
+-- there are no more bytes than a frame has room for
+abbrev pub HasBytes : Frame → Type 0
+HasBytes f = f.count ≤ 256
 
 -- the bytes in the frame, as a name has them
 abbrev pub text_in : Frame → List ℕ
 text_in f = take f.count f.bytes
+
+-- these bytes are text
+pub record HasName (f : Frame) : Type 0 where
+  pub short : HasBytes f
+  pub text : IsUtf8 (text_in f)
+
+-- why they are no name: there are more than a frame has room for, or they aren't UTF-8
+pub data IsNoName (f : Frame) (code : ℕ) : Type 0 where
+  TooLong : code ≡ BAD_FRAME → 256 < f.count → IsNoName f code
+  NotText : code ≡ NOT_TEXT → HasBytes f → ¬ (IsUtf8 (text_in f)) → IsNoName f code
 
 -- the call in the frame: a procedure's number and its arguments
 abbrev pub call_in : Frame → Call

@@ -1,5 +1,6 @@
 -- Runs of verified code outside of transactions.
-use Rattle.std.specs.Prelude.{◌≡◌, ℕ, List, Option, Some, None}
+use Rattle.std.specs.Prelude.{◌≡◌, ℕ, true, false, List, Option, Some, None}
+use Rattle.access_slots.specs.Access.{fits, is_no_room}
 use Rattle.access_slots.specs.declared.op.Op.{Op}
 use Rattle.access_slots.specs.declared.op.Said.{Said}
 use Rattle.semantics.specs.Step.{Config}
@@ -28,6 +29,13 @@ pub record Stands (q : Checked) (m : Standing) (p : Pause) (answers : List Said)
 abbrev pub IsFine : Checked → Option Run → Type 0
 IsFine q None = Unit {0}
 IsFine q (Some r) = (answers : List Said) × Stands q r.machine (pause.Ask r.op) answers
+
+-- a run waits, and goes on with this answer: it fits the question, and isn't NoRoom
+pub record Takes (run : Option Run) (said : Said) : Type 0 where
+  pub asked : Run
+  pub waits : run ≡ Some asked
+  pub fit : fits asked.op said ≡ true
+  pub room : is_no_room said ≡ false
 
 -- what is kept of a machine that stopped so
 abbrev pub run_by : Pause → Standing → Option Run

@@ -1,6 +1,9 @@
 -- What one call makes of a transaction component, by the frame that it was made with, the code that it answered and the frame
--- behind it.
-use Rattle.std.specs.Prelude.{◌≡◌, ◌≢◌, ◌+◌, ℕ, Bool, ◌==◌, ◌<◌, ⊤, MatchBool, IsTrue, IsSome, ◌↔◌, ◌≤◌, List, [], ◌∷◌, ◌++◌, length, min, replicate, reverse, take, slice_get, swap_remove, Option, Some, None, Ok}
+-- behind it; and why one is refused.
+use Rattle.std.specs.Prelude.{◌≡◌, ◌≢◌, ◌+◌, ℕ, Bool, true, false, ◌==◌, ◌<◌, ⊤, MatchBool, IsTrue, IsSome, ◌↔◌, ◌≤◌}
+use Rattle.std.specs.Prelude.{List, [], ◌∷◌, ◌++◌, length, min, replicate, reverse, take, slice_get, swap_remove, vec_len, vec_capacity}
+use Rattle.std.specs.Prelude.{Option, Some, None, Ok, Err}
+use Rattle.std.specs.List.{list_any}
 use Rattle.access_slots.specs.Locks.{mode_in, target, Rising}
 use Rattle.access_slots.specs.declared.lock.Lock.{Lock}
 use Rattle.access_slots.specs.declared.op.Reply.{Reply}
@@ -39,14 +42,16 @@ use Rattle.tc_core.specs.declared.recovery.RecoverFault.{RecoverFault}
 use Rattle.tc_core.specs.declared.state.NewsFault.{NewsFault}
 use Rattle.tc_core.specs.declared.state.Refusal.{Refusal}
 use Rattle.embedding.specs.Codes.{news_number, checkpoint_number, read_number, read_place, recover_number, recover_place}
-use Rattle.embedding.specs.Frames.{bit, IsOf, Names, Carries, Brings, news_in, args_in, text_in, call_in}
-use Rattle.embedding.specs.Gathering.{GatheredBy, IsAsGathered, checked_of, IsProcedure, IsWrong, wrong_number, wrong_place}
+use Rattle.embedding.specs.Frames.{bit, IsOf, Names, SaysNothing, Carries, Brings, news_in, HasArgs, args_in, text_in, call_in}
+use Rattle.embedding.specs.Frames.{HasName, IsNoName}
+use Rattle.embedding.specs.Gathering.{GatheredBy, IsAsGathered, WhyNoBytes, WhyNoSlot, WhyNoNote, checked_of, IsProcedure, IsNoProcedure}
 use Rattle.embedding.specs.Telling.{Sends, Tells, requests_of, EndsAs, TellsRefusal, TellsLoading, TellsRedo, TellsSite}
-use Rattle.embedding.specs.declared.call.TheConstants.{LOAD, FIND, ADMIT, BLOCKED, ASK, UNDO, WIRE, ANSWER, GIVE_UP, END, OPEN_COUNT, LOG_LENGTH, LOG_BYTES, SITE, TOLD, REDO_NEXT, REDONE, LOG_ANEW, LOW_WATER}
-use Rattle.embedding.specs.declared.call.TheConstants.{RECOVER, OPEN_FROM, RETAKE, WAITING_FROM, LOCK_AT, REDO_BEHIND}
-use Rattle.embedding.specs.declared.codes.TheConstants.{BAD_FRAME, MEMORY, NOT_TEXT, NO_TXN, NOT_OVER, NOTHING_OPEN, STRANGER}
+use Rattle.embedding.specs.declared.call.TheConstants.{BYTES, SLOT, CLEAR, NOTE, LOAD, FIND, ADMIT, BLOCKED, ASK, UNDO, WIRE, ANSWER}
+use Rattle.embedding.specs.declared.call.TheConstants.{GIVE_UP, END, OPEN_COUNT, LOG_LENGTH, LOG_BYTES, SITE, TOLD, REDO_NEXT, REDONE}
+use Rattle.embedding.specs.declared.call.TheConstants.{LOG_ANEW, LOW_WATER, RECOVER, OPEN_FROM, RETAKE, WAITING_FROM, LOCK_AT, REDO_BEHIND}
+use Rattle.embedding.specs.declared.codes.TheConstants.{BAD_FRAME, DOWN, MEMORY, NO_DC, NO_PLACE, NO_PROCEDURE, NO_SUCH_CALL, NO_TXN}
+use Rattle.embedding.specs.declared.codes.TheConstants.{NOT_OVER, NOTHING_OPEN, STRANGER}
 use Rattle.embedding.specs.declared.frame.Frame.{Frame}
-use Rattle.embedding.specs.declared.gathered.Wrong.{Wrong}
 use Rattle.embedding.specs.declared.tc_part.TcPart.{TcPart}
 
 -- ---- procedures
@@ -54,6 +59,7 @@ use Rattle.embedding.specs.declared.tc_part.TcPart.{TcPart}
 -- what was handed in is loaded under the name in the frame
 pub record Loads (p : TcPart) (f : Frame) (p' : TcPart) (f' : Frame) : Type 0 where
   pub fine : IsProcedure p.gathered.bytes.items p.gathered.slots.items f.word
+  pub named : HasName f
   pub allowed : load_refusal p.state.dcs p.state.names (text_in f) p.gathered.slots.items ≡ None
   pub is : p'.state ≡ record p.state {
     procs = p.state.procs ++ checked_of p.gathered.bytes.items p.gathered.slots.items f.word ∷ [];
@@ -61,24 +67,28 @@ pub record Loads (p : TcPart) (f : Frame) (p' : TcPart) (f' : Frame) : Type 0 wh
   }
   pub number : f'.word ≡ length p.state.procs
 
--- what was handed in is no procedure
-pub record IsNoProcedure (p : TcPart) (f : Frame) (code : ℕ) (f' : Frame) : Type 0 where
-  pub why : Wrong
-  pub is : IsWrong p.gathered.bytes.items p.gathered.slots.items f.word why
-  pub number : code ≡ wrong_number why
-  pub place : f'.place ≡ wrong_place why
-
--- it can't be loaded under this name, or here
+-- it is a procedure, but can't be loaded under this name, or here
 pub record IsNotLoaded (p : TcPart) (f : Frame) (code : ℕ) (f' : Frame) : Type 0 where
+  pub fine : IsProcedure p.gathered.bytes.items p.gathered.slots.items f.word
+  pub named : HasName f
   pub why : LoadRefusal
   pub is : IsFirstRefusal (load_refusal p.state.dcs p.state.names (text_in f) p.gathered.slots.items) why
   pub told : TellsLoading why code f'
 
 pub data WhyNotLoaded (p : TcPart) (f : Frame) (code : ℕ) (f' : Frame) : Type 0 where
-  Wrongly : IsNoProcedure p f code f' → WhyNotLoaded p f code f'
-  Unnamed : code ≡ BAD_FRAME → WhyNotLoaded p f code f'
-  Untold : code ≡ NOT_TEXT → WhyNotLoaded p f code f'
+  Wrongly : IsNoProcedure p.gathered f code f' → WhyNotLoaded p f code f'
+  Unnamed : IsProcedure p.gathered.bytes.items p.gathered.slots.items f.word → IsNoName f code → WhyNotLoaded p f code f'
   Refused : IsNotLoaded p f code f' → WhyNotLoaded p f code f'
+
+-- the number of the procedure with the name in the frame
+pub record FindsProcedure (p : TcPart) (f : Frame) (f' : Frame) : Type 0 where
+  pub named : HasName f
+  pub is : number_of (text_in f) p.state.names ≡ Some f'.word
+
+-- there is no name in the frame, or no procedure has it
+pub data WhyNotFound (p : TcPart) (f : Frame) (code : ℕ) : Type 0 where
+  Unnamed : IsNoName f code → WhyNotFound p f code
+  Unknown : code ≡ NO_PROCEDURE → HasName f → number_of (text_in f) p.state.names ≡ None → WhyNotFound p f code
 
 -- ---- the way back from a log
 
@@ -124,6 +134,7 @@ WhyNotRecovered p code f' = code ≢ MEMORY → IsLogRefused p code f'
 -- ---- transactions
 
 pub record Admits (p : TcPart) (f : Frame) (p' : TcPart) (f' : Frame) : Type 0 where
+  pub few : HasArgs f
   pub admissible : IsAdmissible p.state (call_in f)
   pub serial : f'.txn ≡ admitted p.state.events + 1
   pub is : p'.state ≡ with_event p.state (Admit f'.txn f.word (args_in f))
@@ -133,38 +144,84 @@ pub record IsNotAdmitted (p : TcPart) (f : Frame) (code : ℕ) (f' : Frame) : Ty
   pub is : IsRefused p.state (call_in f) why
   pub told : TellsRefusal why code f'
 
--- a count of arguments out of its range and want of memory aside
-abbrev pub WhyNotAdmitted : TcPart → Frame → ℕ → Frame → Type 0
-WhyNotAdmitted p f code f' = code ≢ BAD_FRAME → code ≢ MEMORY → IsNotAdmitted p f code f'
+-- there are more arguments than a frame has room for, or no memory for a copy of some
+pub data HasNoCall (f : Frame) (code : ℕ) : Type 0 where
+  TooMany : code ≡ BAD_FRAME → 8 < f.count → HasNoCall f code
+  NoMemory : code ≡ MEMORY → HasArgs f → 0 < f.count → HasNoCall f code
+
+-- a request of each open transaction, of this call's too and one more don't find room among those that are kept
+abbrev pub IsCrowded : TcPart → Type 0
+IsCrowded p = vec_capacity p.requests < vec_len p.requests + (total each_one p.state.events + 2)
+
+pub data WhyNotAdmitted (p : TcPart) (f : Frame) (code : ℕ) (f' : Frame) : Type 0 where
+  Uncalled : HasNoCall f code → WhyNotAdmitted p f code f'
+  Crowded : code ≡ MEMORY → HasArgs f → IsCrowded p → WhyNotAdmitted p f code f'
+  Refused : HasArgs f → IsNotAdmitted p f code f' → WhyNotAdmitted p f code f'
+
+-- a transaction with this serial number is open
+abbrev pub IsOpen : TcPart → ℕ → Type 0
+IsOpen p txn = IsSome (standing p.state.events txn)
+
+-- none is
+abbrev pub IsClosed : TcPart → ℕ → Type 0
+IsClosed p txn = standing p.state.events txn ≡ None
+
+-- there is no room for a request more
+abbrev pub IsFull : TcPart → Type 0
+IsFull p = vec_capacity p.requests ≤ vec_len p.requests
+
+pub data WhyNotAsked (p : TcPart) (f : Frame) (code : ℕ) : Type 0 where
+  Closed : code ≡ NO_TXN → IsClosed p f.txn → WhyNotAsked p f code
+  NoMemory : code ≡ MEMORY → IsOpen p f.txn → IsFull p → WhyNotAsked p f code
 
 pub record Asks (p : TcPart) (f : Frame) (p' : TcPart) (f' : Frame) : Type 0 where
+  pub is_open : IsOpen p f.txn
   pub is : p'.state ≡ after_ask p.state (ask_reply p.state f.txn)
   pub told : Tells p'.state (ask_reply p.state f.txn) f'
   pub kept : p'.requests.items ≡ p.requests.items ++ requests_of (ask_reply p.state f.txn)
 
 pub record Undoes (p : TcPart) (f : Frame) (p' : TcPart) (f' : Frame) : Type 0 where
+  pub is_open : IsOpen p f.txn
   pub is : p'.state ≡ after_undo p.state (undo_reply p.state f.txn)
   pub told : Tells p'.state (undo_reply p.state f.txn) f'
   pub kept : p'.requests.items ≡ p.requests.items ++ requests_of (undo_reply p.state f.txn)
 
--- the request at this place is of this transaction
-pub record IsRequestOf (rs : List Asking) (txn : ℕ) (k : ℕ) : Type 0 where
-  pub request : Asking
-  pub at : slice_get rs k ≡ Some request
-  pub is : request.txn ≡ txn
+-- none of the first so many requests is of this transaction
+abbrev pub NoneOf : List Asking → ℕ → ℕ → Type 0
+NoneOf rs txn count = (k : ℕ) → k < count → (r : Asking) → slice_get rs k ≡ Some r → r.txn ≡ txn → ⊥
 
 -- no request of this transaction is kept
 abbrev pub HasNoRequest : List Asking → ℕ → Type 0
-HasNoRequest rs txn = (k : ℕ) → k < length rs → (r : Asking) → slice_get rs k ≡ Some r → r.txn ≡ txn → ⊥
+HasNoRequest rs txn = NoneOf rs txn (length rs)
+
+-- this request is kept at this place, the first of this transaction
+pub record IsKeptAt (rs : List Asking) (txn place : ℕ) (request : Asking) : Type 0 where
+  pub at : slice_get rs place ≡ Some request
+  pub of : request.txn ≡ txn
+  pub first : NoneOf rs txn place
+
+pub record IsRequestOf (rs : List Asking) (txn place : ℕ) : Type 0 where
+  pub request : Asking
+  pub is : IsKeptAt rs txn place request
 
 pub record Resends (p : TcPart) (f : Frame) (f' : Frame) : Type 0 where
   pub place : ℕ
   pub request : Asking
-  pub kept : slice_get p.requests.items place ≡ Some request
-  pub of : request.txn ≡ f.txn
+  pub kept : IsKeptAt p.requests.items f.txn place request
   pub wire : Wire
   pub is : wire_of p.state request ≡ Ok wire
   pub told : Carries f' wire
+
+-- the request is kept, and waits for a data component that is down
+pub record IsHeldBack (p : TcPart) (f : Frame) : Type 0 where
+  pub place : ℕ
+  pub request : Asking
+  pub kept : IsKeptAt p.requests.items f.txn place request
+  pub down : wire_of p.state request ≡ Err (record {})
+
+pub data WhyNotResent (p : TcPart) (f : Frame) (code : ℕ) : Type 0 where
+  Unheld : code ≡ NOTHING_OPEN → HasNoRequest p.requests.items f.txn → WhyNotResent p f code
+  HeldBack : code ≡ DOWN → IsHeldBack p f → WhyNotResent p f code
 
 -- the open request, which nobody held, is made again, and kept
 pub record IsRetaken (p : TcPart) (f : Frame) (p' : TcPart) (f' : Frame) : Type 0 where
@@ -176,10 +233,10 @@ pub record IsRetaken (p : TcPart) (f : Frame) (p' : TcPart) (f' : Frame) : Type 
 
 -- the request that is kept is told
 pub record IsHeld (p : TcPart) (f : Frame) (p' : TcPart) (f' : Frame) : Type 0 where
+  pub is_open : IsOpen p f.txn
   pub place : ℕ
   pub request : Asking
-  pub at : slice_get p.requests.items place ≡ Some request
-  pub of : request.txn ≡ f.txn
+  pub held : IsKeptAt p.requests.items f.txn place request
   pub told : Sends request f' (wire_of p.state request)
   pub kept : p'.requests.items ≡ p.requests.items
 
@@ -187,15 +244,16 @@ pub data Retakes (p : TcPart) (f : Frame) (p' : TcPart) (f' : Frame) : Type 0 wh
   Again : p'.state ≡ p.state → IsRetaken p f p' f' → Retakes p f p' f'
   Held : p'.state ≡ p.state → IsHeld p f p' f' → Retakes p f p' f'
 
-pub record WhyNotRetaken (p : TcPart) (f : Frame) (code : ℕ) : Type 0 where
-  pub closed : code ≡ NO_TXN → standing p.state.events f.txn ≡ None
-  pub none : code ≡ NOTHING_OPEN → open_request p.state f.txn ≡ None
+pub data WhyNotRetaken (p : TcPart) (f : Frame) (code : ℕ) : Type 0 where
+  Closed : code ≡ NO_TXN → IsClosed p f.txn → WhyNotRetaken p f code
+  NoMemory : code ≡ MEMORY → IsOpen p f.txn → HasNoRequest p.requests.items f.txn → IsFull p → WhyNotRetaken p f code
+  Idle : code ≡ NOTHING_OPEN → IsOpen p f.txn → HasNoRequest p.requests.items f.txn → open_request p.state f.txn ≡ None
+      → WhyNotRetaken p f code
 
 pub record Answers (p : TcPart) (f : Frame) (p' : TcPart) : Type 0 where
   pub place : ℕ
   pub request : Asking
-  pub kept : slice_get p.requests.items place ≡ Some request
-  pub of : request.txn ≡ f.txn
+  pub kept : IsKeptAt p.requests.items f.txn place request
   pub reply : Reply
   pub brought : Brings f reply
   pub fit : IsAnswer p.state request reply
@@ -206,22 +264,21 @@ pub record Answers (p : TcPart) (f : Frame) (p' : TcPart) : Type 0 where
 pub record IsStranger (p : TcPart) (f : Frame) (p' : TcPart) : Type 0 where
   pub place : ℕ
   pub request : Asking
-  pub kept : slice_get p.requests.items place ≡ Some request
-  pub of : request.txn ≡ f.txn
+  pub kept : IsKeptAt p.requests.items f.txn place request
   pub reply : Reply
   pub brought : Brings f reply
   pub unfit : IsAnswer p.state request reply → ⊥
   pub back : p'.requests.items ≡ swap_remove p.requests.items place request ++ request ∷ []
 
-pub record WhyNotAnswered (p : TcPart) (f : Frame) (code : ℕ) (p' : TcPart) : Type 0 where
-  pub none : code ≡ NOTHING_OPEN → HasNoRequest p.requests.items f.txn
-  pub stranger : code ≡ STRANGER → IsStranger p f p'
+pub data WhyNotAnswered (p : TcPart) (f : Frame) (code : ℕ) (p' : TcPart) : Type 0 where
+  Unsaid : code ≡ BAD_FRAME → SaysNothing f → WhyNotAnswered p f code p'
+  Unheld : code ≡ NOTHING_OPEN → (reply : Reply) → Brings f reply → HasNoRequest p.requests.items f.txn → WhyNotAnswered p f code p'
+  Strange : code ≡ STRANGER → IsStranger p f p' → WhyNotAnswered p f code p'
 
 pub record GivesUp (p : TcPart) (f : Frame) (p' : TcPart) (f' : Frame) : Type 0 where
   pub place : ℕ
   pub request : Asking
-  pub kept : slice_get p.requests.items place ≡ Some request
-  pub of : request.txn ≡ f.txn
+  pub kept : IsKeptAt p.requests.items f.txn place request
   pub number : f'.number ≡ request.number
   pub open_here : IsOpenHere p.state request → p'.state ≡ with_given_up p.state request.number
   pub elsewhere : (IsOpenHere p.state request → ⊥) → p'.state ≡ p.state
@@ -231,6 +288,10 @@ pub record Ends (p : TcPart) (f : Frame) (p' : TcPart) (f' : Frame) : Type 0 whe
   pub is : p'.state ≡ after_end p.state f.txn (end_of p.state f.txn)
   pub told : EndsAs (end_of p.state f.txn) f'
   pub place : f'.place ≡ length p.state.events
+
+pub data WhyNotEnded (p : TcPart) (f : Frame) (code : ℕ) : Type 0 where
+  Closed : code ≡ NO_TXN → IsClosed p f.txn → WhyNotEnded p f code
+  Early : code ≡ NOT_OVER → IsOpen p f.txn → end_of p.state f.txn ≡ None → WhyNotEnded p f code
 
 -- ---- data components that restart
 
@@ -259,6 +320,10 @@ pub record IsNotRedone (p : TcPart) (f : Frame) : Type 0 where
   pub brought : Brings f reply
   pub unfit : IsRedone p.state f.dc reply → ⊥
 
+pub data WhyNotRedone (p : TcPart) (f : Frame) (code : ℕ) : Type 0 where
+  Unsaid : code ≡ BAD_FRAME → SaysNothing f → WhyNotRedone p f code
+  Strange : code ≡ STRANGER → IsNotRedone p f → WhyNotRedone p f code
+
 -- ---- a log that begins anew
 
 -- the least mark that data components' checkpoints have kept, as the frame says it, for each of them
@@ -286,7 +351,18 @@ pub record ShowsEvent (p : TcPart) (f : Frame) (f' : Frame) : Type 0 where
   pub count : f'.count ≡ min (length (printed event)) 256
   pub bytes : text_in f' ≡ take f'.count (printed event)
 
+-- there is no such place, or no memory for the bytes of the event there
+pub data WhyNoEvent (p : TcPart) (f : Frame) (code : ℕ) : Type 0 where
+  Beyond : code ≡ NO_PLACE → slice_get (reverse p.state.events) f.place ≡ None → WhyNoEvent p f code
+  NoMemory : code ≡ MEMORY → (event : Event) → slice_get (reverse p.state.events) f.place ≡ Some event → WhyNoEvent p f code
+
+-- what is known of a data component that is there
+pub record ShowsSite (p : TcPart) (f : Frame) (f' : Frame) : Type 0 where
+  pub there : f.dc < p.state.dcs
+  pub told : TellsSite (site_at p.state.sites f.dc) f'
+
 pub record SaysBlocked (p : TcPart) (f : Frame) (f' : Frame) : Type 0 where
+  pub few : HasArgs f
   pub blocked : Bool
   pub is : IsTrue blocked ↔ IsBlocked p.state (call_in f)
   pub told : f'.word ≡ bit blocked
@@ -373,6 +449,14 @@ pub data HasNoLock (c : Core) (place number : ℕ) : Type 0 where
   Closed : ((txn proc : ℕ) → IsOpenAt c place txn proc → ⊥) → HasNoLock c place number
   Past : (txn proc : ℕ) (locks : List Lock) → IsOpenAt c place txn proc → AreItsLocks c txn locks → length locks ≤ number → HasNoLock c place number
 
+-- the calls that a transaction component has
+abbrev pub is_tc_call : ℕ → Bool
+is_tc_call what =
+    list_any (λ c. what == c)
+    (BYTES ∷ SLOT ∷ CLEAR ∷ LOAD ∷ FIND ∷ NOTE ∷ RECOVER ∷ ADMIT ∷ BLOCKED ∷ ASK ∷ UNDO ∷ WIRE ∷ ANSWER ∷ GIVE_UP ∷ END ∷ OPEN_COUNT
+    ∷ LOG_LENGTH ∷ LOG_BYTES ∷ SITE ∷ TOLD ∷ REDO_NEXT ∷ REDONE ∷ LOG_ANEW ∷ LOW_WATER ∷ OPEN_FROM ∷ RETAKE ∷ LOCK_AT ∷ WAITING_FROM
+    ∷ REDO_BEHIND ∷ [])
+
 -- what a call has done that answered 0, by its number; one that isn't named here leaves the transaction component as it was
 abbrev pub DoneBy : ℕ → TcPart → Frame → TcPart → Frame → Type 0
 DoneBy what p f p' f' =
@@ -408,13 +492,13 @@ RequestsBy what p p' =
 -- what such a call says, that has changed nothing
 abbrev pub ShownBy : ℕ → TcPart → Frame → Frame → Type 0
 ShownBy what p f f' =
-    MatchBool (what == FIND) (number_of (text_in f) p.state.names ≡ Some f'.word)
+    MatchBool (what == FIND) (FindsProcedure p f f')
     (MatchBool (what == BLOCKED) (SaysBlocked p f f')
     (MatchBool (what == WIRE) (Resends p f f')
     (MatchBool (what == OPEN_COUNT) (f'.word ≡ total each_one p.state.events)
     (MatchBool (what == LOG_LENGTH) (f'.word ≡ length p.state.events)
     (MatchBool (what == LOG_BYTES) (ShowsEvent p f f')
-    (MatchBool (what == SITE) (TellsSite (site_at p.state.sites f.dc) f')
+    (MatchBool (what == SITE) (ShowsSite p f f')
     (MatchBool (what == LOW_WATER) ((f'.low_water ≡ low_water p.state.events) × (f'.number ≡ given p.state.events))
     (MatchBool (what == OPEN_FROM) (ShowsOpen p f f')
     (MatchBool (what == WAITING_FROM) (ShowsWaiting p f f')
@@ -422,33 +506,41 @@ ShownBy what p f f' =
     (MatchBool (what == REDO_BEHIND) (TellsRedo (redo_behind p.state f.dc f.number) 0 f')
     ⊤)))))))))))
 
--- why a call did nothing, by its number
+-- why a call did nothing, by its number; one that isn't named here only where there is no such call
 abbrev pub RefusedBy : ℕ → TcPart → Frame → ℕ → TcPart → Frame → Type 0
 RefusedBy what p f code p' f' =
-    MatchBool (what == LOAD) (WhyNotLoaded p f code f')
+    MatchBool (what == BYTES) (WhyNoBytes p.gathered f code)
+    (MatchBool (what == SLOT) (WhyNoSlot p.gathered f code)
+    (MatchBool (what == NOTE) (WhyNoNote p.gathered f code)
+    (MatchBool (what == LOAD) (WhyNotLoaded p f code f')
+    (MatchBool (what == FIND) (WhyNotFound p f code)
     (MatchBool (what == ADMIT) (WhyNotAdmitted p f code f')
-    (MatchBool (what == ASK) (code ≡ NO_TXN → standing p.state.events f.txn ≡ None)
-    (MatchBool (what == UNDO) (code ≡ NO_TXN → standing p.state.events f.txn ≡ None)
+    (MatchBool (what == BLOCKED) (HasNoCall f code)
+    (MatchBool (what == ASK) (WhyNotAsked p f code)
+    (MatchBool (what == UNDO) (WhyNotAsked p f code)
     (MatchBool (what == ANSWER) (WhyNotAnswered p f code p')
-    (MatchBool (what == GIVE_UP) (code ≡ NOTHING_OPEN → HasNoRequest p.requests.items f.txn)
-    (MatchBool (what == WIRE) (code ≡ NOTHING_OPEN → HasNoRequest p.requests.items f.txn)
-    (MatchBool (what == END) (code ≡ NOT_OVER → end_of p.state f.txn ≡ None)
+    (MatchBool (what == GIVE_UP) ((code ≡ NOTHING_OPEN) × HasNoRequest p.requests.items f.txn)
+    (MatchBool (what == WIRE) (WhyNotResent p f code)
+    (MatchBool (what == END) (WhyNotEnded p f code)
+    (MatchBool (what == LOG_BYTES) (WhyNoEvent p f code)
+    (MatchBool (what == SITE) ((code ≡ NO_DC) × (p.state.dcs ≤ f.dc))
     (MatchBool (what == TOLD) (WhyNotHeard p f code)
     (MatchBool (what == REDO_NEXT) (TellsRedo (redo_reply p.state f.dc) code f')
-    (MatchBool (what == REDONE) (code ≡ STRANGER → IsNotRedone p f)
+    (MatchBool (what == REDONE) (WhyNotRedone p f code)
     (MatchBool (what == LOG_ANEW) (WhyNotBegun p f code)
     (MatchBool (what == RECOVER) (WhyNotRecovered p code f')
     (MatchBool (what == RETAKE) (WhyNotRetaken p f code)
-    (MatchBool (what == OPEN_FROM) (NoneIsOpen p.state f.place (length p.state.events))
-    (MatchBool (what == WAITING_FROM) (NoneWaits p.state f.dc f.place (length p.state.events))
-    (MatchBool (what == LOCK_AT) (HasNoLock p.state f.place f.word)
+    (MatchBool (what == OPEN_FROM) ((code ≡ NO_PLACE) × NoneIsOpen p.state f.place (length p.state.events))
+    (MatchBool (what == WAITING_FROM) ((code ≡ NO_PLACE) × NoneWaits p.state f.dc f.place (length p.state.events))
+    (MatchBool (what == LOCK_AT) ((code ≡ NO_PLACE) × HasNoLock p.state f.place f.word)
     (MatchBool (what == REDO_BEHIND) (TellsRedo (redo_behind p.state f.dc f.number) code f')
-    ⊤)))))))))))))))))
+    ((code ≡ NO_SUCH_CALL) × (is_tc_call what ≡ false))))))))))))))))))))))))))
 
 -- refused means unchanged; the reply of a stranger aside, whose request is kept in another place (IsStranger)
 pub record IsServed (p : TcPart) (f : Frame) (code : ℕ) (p' : TcPart) (f' : Frame) : Type 0 where
   pub refused : code ≢ 0 → p'.state ≡ p.state
   pub why : code ≢ 0 → RefusedBy f.what p f code p' f'
+  pub known : code ≡ 0 → is_tc_call f.what ≡ true
   pub done : code ≡ 0 → DoneBy f.what p f p' f'
   pub shown : code ≡ 0 → ShownBy f.what p f f'
   pub gathers : code ≡ 0 → GatheredBy f.what p.gathered f p'.gathered

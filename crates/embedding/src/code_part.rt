@@ -1,8 +1,8 @@
 // A program behind a frame.
 
-ghost use Rattle.std.specs.Prelude.{◌≡◌, ◌≢◌};
-ghost use Rattle.embedding.specs.Gathering.{HasNothing, IsAsGathered};
-ghost use Rattle.embedding.specs.Programs.{IsStop, Accepts, Starts, GoesOn, IsRun};
+ghost use Rattle.std.specs.Prelude.{◌≡◌, ◌≢◌, None};
+ghost use Rattle.embedding.specs.Gathering.{HasNothing, IsAsGathered, IsNoProcedure};
+ghost use Rattle.embedding.specs.Programs.{IsStop, Accepts, Starts, WhyNotStarted, GoesOn, WhyNotGoneOn, IsRun};
 
 use crate::call;
 use crate::codes::{
@@ -38,7 +38,8 @@ fn put_stop(frame: &mut Frame, pause: &Pause, executed: u32)
 impl CodePart {
     /// Nothing is accepted yet. It takes no memory.
     pub fn new(alloc: Global) -> CodePart
-        ensures { HasNothing result.gathered }
+        ensures gathered { HasNothing result.gathered }
+        ensures program { result.program ≡ None }
     {
         CodePart {
             gathered: Gathered::new(alloc),
@@ -48,7 +49,8 @@ impl CodePart {
 
     fn verify(&mut self, frame: &mut Frame) -> u32
         ensures refused { result ≢ 0 → self.new.program ≡ self.old.program }
-        ensures done { result ≡ 0 → Accepts self.old frame.old self.new }
+        ensures why { result ≢ 0 → IsNoProcedure self.old.gathered frame.old result frame.new }
+        ensures done { result ≡ 0 → Accepts self.old frame.old self.new frame.new }
         ensures gathered { IsAsGathered self.old.gathered self.new.gathered }
     {
         match self.gathered.verified(frame.word) {
@@ -67,6 +69,7 @@ impl CodePart {
 
     fn run(&mut self, frame: &mut Frame) -> u32
         ensures refused { result ≢ 0 → self.new.program ≡ self.old.program }
+        ensures why { result ≢ 0 → WhyNotStarted self.old frame.old result }
         ensures done { result ≡ 0 → Starts self.old frame.old self.new frame.new }
         ensures gathered { IsAsGathered self.old.gathered self.new.gathered }
     {
@@ -86,6 +89,7 @@ impl CodePart {
 
     fn resume(&mut self, frame: &mut Frame) -> u32
         ensures refused { result ≢ 0 → self.new.program ≡ self.old.program }
+        ensures why { result ≢ 0 → WhyNotGoneOn self.old frame.old result }
         ensures done { result ≡ 0 → GoesOn self.old frame.old self.new frame.new }
         ensures gathered { IsAsGathered self.old.gathered self.new.gathered }
     {

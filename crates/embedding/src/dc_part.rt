@@ -1,7 +1,9 @@
 // A data component behind a frame.
 
-ghost use Rattle.std.specs.Prelude.{◌≡◌, ◌≢◌, ◌<◌, length};
-ghost use Rattle.embedding.specs.Keeping.{Performs, WhySilent, Finds, HasRestarted, Forgets, IsKept};
+ghost use Rattle.std.specs.Prelude.{◌≡◌, ◌≢◌, ◌<◌, ◌≤◌, length};
+ghost use Rattle.data_component.specs.Performed.{count};
+ghost use Rattle.data_component.specs.Store.{IsSpent};
+ghost use Rattle.embedding.specs.Keeping.{Performs, WhyNotPerformed, Finds, ShowsRow, HasRestarted, Forgets, IsKept};
 
 use crate::call;
 use crate::codes::{BAD_FRAME, DONE, INCARNATIONS_SPENT, NO_PLACE, NO_SUCH_CALL, SILENT};
@@ -11,7 +13,7 @@ use data_component::dc::Dc;
 
 fn perform(dc: &mut Dc, frame: &mut Frame) -> u32
     ensures refused { result ≢ 0 → result ≢ SILENT → dc.new ≡ dc.old }
-    ensures silent { result ≡ SILENT → WhySilent dc.old frame.old dc.new }
+    ensures why { result ≢ 0 → WhyNotPerformed dc.old frame.old result dc.new }
     ensures done { result ≡ 0 → Performs dc.old frame.old dc.new frame.new }
 {
     let Some(wire) = frame.wire() else {
@@ -28,7 +30,7 @@ fn perform(dc: &mut Dc, frame: &mut Frame) -> u32
 
 fn restart(dc: &mut Dc, frame: &mut Frame) -> u32
     ensures refused { result ≢ 0 → dc.new ≡ dc.old }
-    ensures other { result ≢ SILENT }
+    ensures why { result ≢ 0 → (result ≡ INCARNATIONS_SPENT) × IsSpent dc.old }
     ensures done { result ≡ 0 → HasRestarted dc.old dc.new frame.new }
 {
     match dc.restart() {
@@ -49,15 +51,21 @@ fn get(dc: &Dc, frame: &mut Frame)
     }
 }
 
-fn row(dc: &Dc, frame: &mut Frame) -> u32
-    ensures { result ≢ SILENT }
+fn row_count(dc: &Dc) -> u64
+    ensures { result ≡ count dc.now.base dc.now.list }
 {
-    if frame.place >= dc.rows().len() as u64 {
+    dc.rows().len() as u64
+}
+
+fn row(dc: &Dc, frame: &mut Frame) -> u32
+    ensures why { result ≢ 0 → (result ≡ NO_PLACE) × (count dc.now.base dc.now.list ≤ frame.old.place) }
+    ensures done { result ≡ 0 → ShowsRow dc.now frame.old frame.new }
+{
+    let Some(row) = dc.rows().get(frame.place as usize) else {
         return NO_PLACE;
-    }
-    let (record, value) = dc.rows()[frame.place as usize];
-    frame.put_record(&record);
-    frame.put_said(&Said::Value(value));
+    };
+    frame.put_record(&row.0);
+    frame.put_said(&Said::Value(row.1));
     DONE
 }
 
@@ -84,7 +92,7 @@ pub fn serve(dc: &mut Dc, frame: &mut Frame) -> u32
             DONE
         }
         call::ROWS => {
-            frame.word = dc.rows().len() as u64;
+            frame.word = row_count(dc);
             DONE
         }
         call::ROW => row(dc, frame),

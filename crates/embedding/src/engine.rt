@@ -3,7 +3,7 @@
 ghost use Rattle.std.specs.Prelude.{◌≡◌, ◌≢◌, IfOk, IfErr};
 ghost use Rattle.data_component.specs.Store.{Store};
 ghost use Rattle.embedding.specs.Sound.{IsSoundBody};
-ghost use Rattle.embedding.specs.Calling.{IsCalled, Begins, BegunBy, Serves, Keeps, Runs};
+ghost use Rattle.embedding.specs.Calling.{IsCalled, Begins, BegunBy, UnbegunBy, Serves, Keeps, Runs};
 ghost use Rattle.embedding.specs.declared.code_part.CodePart.{CodePart as Program};
 ghost use Rattle.embedding.specs.declared.tc_part.TcPart.{TcPart as Part};
 ghost use Rattle.embedding.specs.declared.engine.Body.TheVariants.{Tc as IsTc, Dc as IsDc, Code as IsCode};
@@ -68,6 +68,7 @@ pub fn finish(engine: Engine) {
 fn started(alloc: Global, frame: &Frame) -> Result<Body, u32>
     ensures ok { IfOk result (BegunBy frame.now.what frame.now) }
     ensures err { IfErr result (λ code. code ≢ 0) }
+    ensures why { IfErr result (UnbegunBy frame.now.what frame.now) }
 {
     match frame.what {
         call::START_TC => {
@@ -95,6 +96,7 @@ fn started(alloc: Global, frame: &Frame) -> Result<Body, u32>
 
 fn start(alloc: Global, body: &mut Body, frame: &Frame) -> u32
     ensures refused { result ≢ 0 → body.new ≡ body.old }
+    ensures why { result ≢ 0 → UnbegunBy frame.now.what frame.now result }
     ensures done { result ≡ 0 → BegunBy frame.now.what frame.now body.new }
 {
     match started(alloc, frame) {

@@ -1,10 +1,14 @@
 //! What a caller writes before a call, and reads behind it.
 
-ghost use Rattle.std.specs.Prelude.{◌≡◌, ◌≤◌, length, take, IfSome};
-ghost use Rattle.embedding.specs.Frames.{IsOf, Names, Says, Carries, Brings, bit, news_in};
+ghost use Rattle.std.specs.Prelude.{◌≡◌, ◌≢◌, ◌<◌, ◌≤◌, length, take, true, false, IfOk, IfErr, IfSome, IfNone};
+ghost use Rattle.access_slots.specs.declared.op.Op.{Op as Operation};
+ghost use Rattle.embedding.specs.Frames.{IsOf, Names, Says, SaysNothing, Carries, CarriesNothing, Brings, bit, news_in};
+ghost use Rattle.embedding.specs.Frames.{HasArgs, args_in, HasBytes, text_in, HasName, IsNoName};
 
+use crate::codes::{BAD_FRAME, NOT_TEXT};
 use access_slots::op::{News, Op, Reply, Said, Wire};
 use access_slots::slot::{Record, Value};
+use std::str::from_utf8;
 
 /// Plain numbers and bytes: whatever lies in its memory is a frame.
 #[repr(C)]
@@ -46,7 +50,8 @@ pub fn bit_of(flag: bool) -> u32
 
 // A number as a bit, if it is one.
 fn flag_of(number: u32) -> Option<bool>
-    ensures { IfSome result (λ flag. number ≡ bit flag) }
+    ensures some { IfSome result (λ flag. number ≡ bit flag) }
+    ensures none { IfNone result ((number ≢ bit false) × (number ≢ bit true)) }
 {
     match number {
         0 => Some(false),
@@ -92,7 +97,8 @@ impl Frame {
 
     /// The operation that it names.
     pub fn operation(&self) -> Option<Op>
-        ensures { IfSome result (Names self.now) }
+        ensures some { IfSome result (Names self.now) }
+        ensures none { IfNone result ((o : Operation) → ¬ (Names self.now o)) }
     {
         let named = self.named();
         match self.op {
@@ -106,7 +112,8 @@ impl Frame {
 
     /// What it says to an operation.
     pub fn said(&self) -> Option<Said>
-        ensures { IfSome result (Says self.now) }
+        ensures some { IfSome result (Says self.now) }
+        ensures none { IfNone result (SaysNothing self.now) }
     {
         match self.kind {
             1 => Some(Said::Value(self.value)),
@@ -123,7 +130,8 @@ impl Frame {
 
     /// The wire that it carries.
     pub fn wire(&self) -> Option<Wire>
-        ensures { IfSome result (Carries self.now) }
+        ensures some { IfSome result (Carries self.now) }
+        ensures none { IfNone result (CarriesNothing self.now) }
     {
         let Some(op) = self.operation() else {
             return None;
@@ -142,7 +150,8 @@ impl Frame {
 
     /// The reply that it brings.
     pub fn reply(&self) -> Option<Reply>
-        ensures { IfSome result (Brings self.now) }
+        ensures some { IfSome result (Brings self.now) }
+        ensures none { IfNone result (SaysNothing self.now) }
     {
         let Some(said) = self.said() else {
             return None;
@@ -166,7 +175,9 @@ impl Frame {
 
     /// The arguments that it has, unless there are more than 8.
     pub fn arguments(&self) -> Option<&[u64]>
-        ensures { IfSome result (λ args. args.now ≡ take self.now.count self.now.args) }
+        ensures some { IfSome result (λ args. args.now ≡ args_in self.now) }
+        ensures few { IfSome result (λ _. HasArgs self.now) }
+        ensures none { IfNone result (8 < self.now.count) }
     {
         let count = self.count as usize;
         if count > 8 {
@@ -177,13 +188,31 @@ impl Frame {
 
     /// The bytes that it has, unless there are more than 256.
     pub fn text(&self) -> Option<&[u8]>
-        ensures { IfSome result (λ text. text.now ≡ take self.now.count self.now.bytes) }
+        ensures some { IfSome result (λ text. text.now ≡ text_in self.now) }
+        ensures short { IfSome result (λ _. HasBytes self.now) }
+        ensures none { IfNone result (256 < self.now.count) }
     {
         let count = self.count as usize;
         if count > 256 {
             return None;
         }
         Some(&self.bytes[..count])
+    }
+
+    /// The name that it has: its bytes, where they are UTF-8. Else W2 or W3.
+    pub fn name(&self) -> Result<&str, u32>
+        ensures ok { IfOk result (λ name. name.now ≡ text_in self.now) }
+        ensures name { IfOk result (λ _. HasName self.now) }
+        ensures none { IfErr result (IsNoName self.now) }
+        ensures refused { IfErr result (λ code. code ≢ 0) }
+    {
+        let Some(text) = self.text() else {
+            return Err(BAD_FRAME);
+        };
+        match from_utf8(text) {
+            Ok(name) => Ok(name),
+            Err(_) => Err(NOT_TEXT),
+        }
     }
 
     /// Names a record.

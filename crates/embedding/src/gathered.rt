@@ -1,9 +1,13 @@
 // Code and access slots, or a log's rows and what was noted of data components, as they are handed in piece by piece.
 
-ghost use Rattle.std.specs.Prelude.{◌≡◌, ◌≢◌, reverse, IfOk, IfErr, IfSome};
+ghost use Rattle.std.specs.Prelude.{◌≡◌, ◌≢◌, reverse, IfOk, IfErr, IfSome, IfNone};
+ghost use Rattle.access_slots.specs.declared.slot.Key.{Key as SlotKey};
+ghost use Rattle.access_slots.specs.declared.slot.Mode.{Mode as SlotMode};
+ghost use Rattle.tc_core.specs.declared.recovery.SiteNote.{SiteNote as Note};
 ghost use Rattle.tc_log.specs.Reading.{ArePrinted, AreOnlyOnes, IsReadFault};
 ghost use Rattle.embedding.specs.Codes.{decl_number, decl_place, decode_number, decode_place};
 ghost use Rattle.embedding.specs.Gathering.{IsMode, IsKey, IsNote, HasNothing, IsAsGathered, TakesBytes, TakesSlot, TakesNote};
+ghost use Rattle.embedding.specs.Gathering.{WhyNoBytes, WhyNoSlot, WhyNoNote};
 ghost use Rattle.embedding.specs.Gathering.{checked_of, IsProcedure, IsWrong, wrong_number, wrong_place};
 
 use crate::codes::{self, BAD_FRAME, DONE, MEMORY};
@@ -59,7 +63,8 @@ impl Wrong {
 }
 
 fn mode_of(kind: u32) -> Option<Mode>
-    ensures { IfSome result (IsMode kind) }
+    ensures some { IfSome result (IsMode kind) }
+    ensures none { IfNone result ((mode : SlotMode) → ¬ (IsMode kind mode)) }
 {
     match kind {
         0 => Some(Mode::Read),
@@ -70,7 +75,8 @@ fn mode_of(kind: u32) -> Option<Mode>
 
 // With 1 in `op` the key is the number of an argument.
 fn key_of(frame: &Frame) -> Option<Key>
-    ensures { IfSome result (IsKey frame.now) }
+    ensures some { IfSome result (IsKey frame.now) }
+    ensures none { IfNone result ((key : SlotKey) → ¬ (IsKey frame.now key)) }
 {
     match frame.op {
         0 => Some(Key::Fixed(frame.key)),
@@ -86,7 +92,8 @@ fn key_of(frame: &Frame) -> Option<Key>
 
 // That a data component is up, or has restarted.
 fn note_of(frame: &Frame) -> Option<SiteNote>
-    ensures { IfSome result (IsNote frame.now) }
+    ensures some { IfSome result (IsNote frame.now) }
+    ensures none { IfNone result ((note : Note) → ¬ (IsNote frame.now note)) }
 {
     match frame.kind {
         1 => Some(SiteNote::Up(frame.incarnation)),
@@ -120,6 +127,7 @@ impl Gathered {
     /// The frame's bytes behind those that there are.
     pub fn more_bytes(&mut self, frame: &Frame) -> u32
         ensures refused { result ≢ 0 → IsAsGathered self.old self.new }
+        ensures why { result ≢ 0 → WhyNoBytes self.old frame.now result }
         ensures done { result ≡ 0 → TakesBytes self.old frame.now self.new }
     {
         let Some(text) = frame.text() else {
@@ -134,6 +142,7 @@ impl Gathered {
     /// The frame's slot behind those that there are.
     pub fn more_slots(&mut self, frame: &Frame) -> u32
         ensures refused { result ≢ 0 → IsAsGathered self.old self.new }
+        ensures why { result ≢ 0 → WhyNoSlot self.old frame.now result }
         ensures done { result ≡ 0 → TakesSlot self.old frame.now self.new }
     {
         let Some(mode) = mode_of(frame.kind) else {
@@ -157,6 +166,7 @@ impl Gathered {
     /// The frame's note behind those that there are.
     pub fn more_notes(&mut self, frame: &Frame) -> u32
         ensures refused { result ≢ 0 → IsAsGathered self.old self.new }
+        ensures why { result ≢ 0 → WhyNoNote self.old frame.now result }
         ensures done { result ≡ 0 → TakesNote self.old frame.now self.new }
     {
         let Some(note) = note_of(frame) else {

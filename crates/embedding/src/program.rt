@@ -1,10 +1,10 @@
 //! Verified code that is run outside of transactions, whose questions its caller answers.
 
-ghost use Rattle.std.specs.Prelude.{◌≡◌, ◌++◌, ℕ, [], ◌∷◌, List, length, None, IfNone, IfSome};
+ghost use Rattle.std.specs.Prelude.{◌≡◌, ◌++◌, ℕ, [], ◌∷◌, List, length, None, IfNone, IfSome, is_some};
 ghost use Rattle.access_slots.specs.Access as Access;
 ghost use Rattle.access_slots.specs.declared.op.Op.{Op as Operation};
 ghost use Rattle.access_slots.specs.declared.op.Said.{Said as Answer};
-ghost use Rattle.embedding.specs.Running.{run_by, StopsAt, WaitsBehind};
+ghost use Rattle.embedding.specs.Running.{run_by, StopsAt, Takes, WaitsBehind};
 
 use access_slots::op::{Op, Said, fits};
 use interpreter::layout::Layout;
@@ -73,7 +73,9 @@ impl Program {
     }
 
     /// Whether a run waits for an answer.
-    pub fn waits(&self) -> bool {
+    pub fn waits(&self) -> bool
+        ensures { result ≡ is_some self.now.run }
+    {
         self.run.is_some()
     }
 
@@ -96,6 +98,8 @@ impl Program {
     pub fn resume(&mut self, said: Said) -> Option<(Pause, u32)>
         ensures code { self.new.code ≡ self.old.code }
         ensures refused { IfNone result (self.new ≡ self.old) }
+        ensures why { IfNone result (¬ (Takes self.old.run said)) }
+        ensures takes { IfSome result (λ _. Takes self.old.run said) }
         ensures goes_on { IfSome result (λ stop. (args : List ℕ) (answers : List Answer) (o : Operation)
             → WaitsBehind self.old.code args answers o self.old.run
             → StopsAt self.new.code args (answers ++ said ∷ []) stop.0 stop.1 self.new.run) }

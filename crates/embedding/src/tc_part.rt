@@ -1,21 +1,22 @@
 // A transaction component behind a frame.
 
-ghost use Rattle.std.specs.Prelude.{◌≡◌, ◌≢◌, ◌<◌, ⊤, [], ◌∷◌, length, take, vec_len, vec_capacity, slice_get, Some, None, IfOk, OnOk, IfErr, IfSome, IfNone};
-ghost use Rattle.transactions.specs.InFlight.{site_at};
+ghost use Rattle.std.specs.Prelude.{◌≡◌, ◌≢◌, ◌<◌, ◌≤◌, ⊤, [], ◌∷◌, length, take, vec_len, vec_capacity, slice_get, Some, None, IfOk, OnOk};
+ghost use Rattle.std.specs.Prelude.{IfErr, IfSome, IfNone, replicate};
+ghost use Rattle.transactions.specs.InFlight.{untold};
 ghost use Rattle.transactions.specs.Room.{each_one, total};
 ghost use Rattle.transactions.specs.Standing.{standing};
-ghost use Rattle.tc_core.specs.Loaded.{number_of};
 ghost use Rattle.tc_core.specs.Recovery.{open_request, sent_in};
 ghost use Rattle.tc_core.specs.Redo.{redo_reply, redo_behind};
-ghost use Rattle.tc_core.specs.Replies.{end_of};
-ghost use Rattle.embedding.specs.Frames.{args_in, text_in};
+ghost use Rattle.embedding.specs.Frames.{HasArgs, args_in, text_in};
 ghost use Rattle.embedding.specs.Gathering.{HasNothing, IsAsGathered};
 ghost use Rattle.embedding.specs.Sound.{IsSoundCore};
-ghost use Rattle.embedding.specs.Telling.{TellsRedo, TellsSite};
-ghost use Rattle.embedding.specs.Serving.{Loads, WhyNotLoaded, Admits, WhyNotAdmitted, Asks, Undoes, Resends, Answers, IsStranger, GivesUp, Ends};
-ghost use Rattle.embedding.specs.Serving.{KeepsRequests, Hears, WhyNotHeard, Redoes, HasRedone, IsNotRedone, BeginsAnew, WhyNotBegun, SaysBlocked, ShowsEvent, IsServed, IsRequestOf, HasNoRequest};
-ghost use Rattle.embedding.specs.Serving.{Recovers, WhyNotRecovered, Retakes, WhyNotRetaken, NoneIsOpen, ShowsOpen, SaysHeld, SaysAwaited};
-ghost use Rattle.embedding.specs.Serving.{NoneWaits, ShowsWaiting, HasNoLock, ShowsLock};
+ghost use Rattle.embedding.specs.Telling.{TellsRedo};
+ghost use Rattle.embedding.specs.Serving.{Loads, WhyNotLoaded, FindsProcedure, WhyNotFound, HasNoCall, Admits, WhyNotAdmitted, WhyNotAsked};
+ghost use Rattle.embedding.specs.Serving.{Asks, Undoes, Resends, WhyNotResent, Answers, WhyNotAnswered, GivesUp, Ends, WhyNotEnded};
+ghost use Rattle.embedding.specs.Serving.{KeepsRequests, Hears, WhyNotHeard, Redoes, HasRedone, WhyNotRedone, BeginsAnew, WhyNotBegun};
+ghost use Rattle.embedding.specs.Serving.{SaysBlocked, ShowsEvent, WhyNoEvent, ShowsSite, IsServed, IsRequestOf, HasNoRequest, Recovers};
+ghost use Rattle.embedding.specs.Serving.{WhyNotRecovered, Retakes, WhyNotRetaken, NoneIsOpen, ShowsOpen, SaysHeld, SaysAwaited, NoneWaits};
+ghost use Rattle.embedding.specs.Serving.{ShowsWaiting, HasNoLock, ShowsLock};
 
 use crate::codes::{
     self, BAD_FRAME, DONE, DOWN, MEMORY, NO_DC, NO_PLACE, NO_SUCH_CALL, NO_TXN, NOT_OVER,
@@ -26,7 +27,6 @@ use crate::gathered::Gathered;
 use crate::opened::{first_open, first_waiting, locks_at, open_in};
 use crate::{call, telling};
 use std::alloc::{AllocError, Global};
-use std::str::from_utf8;
 use tc_core::state::{Call, Request, Stranger, TcState};
 use transactions::{Sent, all_covered, all_in_flight_covered, none_in_flight_conflict};
 
@@ -57,8 +57,10 @@ impl TcPart {
     /// For so many data components: nothing is loaded, and nothing has happened.
     pub fn new(alloc: Global, dcs: u16) -> Result<TcPart, AllocError>
         ensures dcs { IfOk result (λ p. p.state.dcs ≡ dcs) }
-        ensures procs { IfOk result (λ p. p.state.procs ≡ []) }
+        ensures procs { IfOk result (λ p. (p.state.procs ≡ []) × (p.state.names ≡ [])) }
         ensures events { IfOk result (λ p. p.state.events ≡ []) }
+        ensures given_up { IfOk result (λ p. p.state.given_up ≡ []) }
+        ensures sites { IfOk result (λ p. p.state.sites ≡ replicate dcs untold) }
         ensures requests { IfOk result (λ p. p.requests.items ≡ []) }
         ensures gathered { IfOk result (λ p. HasNothing p.gathered) }
     {
@@ -110,11 +112,9 @@ impl TcPart {
                 return code;
             }
         };
-        let Some(name) = frame.text() else {
-            return BAD_FRAME;
-        };
-        let Ok(name) = from_utf8(name) else {
-            return codes::NOT_TEXT;
+        let name = match frame.name() {
+            Ok(name) => name,
+            Err(code) => return code,
         };
         match self.state.load(name, verified) {
             Ok(number) => {
@@ -126,13 +126,12 @@ impl TcPart {
     }
 
     fn find(&self, frame: &mut Frame) -> u32
-        ensures { result ≡ 0 → number_of (text_in frame.old) self.now.state.names ≡ Some frame.new.word }
+        ensures why { result ≢ 0 → WhyNotFound self.now frame.old result }
+        ensures done { result ≡ 0 → FindsProcedure self.now frame.old frame.new }
     {
-        let Some(name) = frame.text() else {
-            return BAD_FRAME;
-        };
-        let Ok(name) = from_utf8(name) else {
-            return codes::NOT_TEXT;
+        let name = match frame.name() {
+            Ok(name) => name,
+            Err(code) => return code,
         };
         match self.state.find(name) {
             Some(number) => {
@@ -174,16 +173,18 @@ impl TcPart {
 
     fn call_of(&self, frame: &Frame) -> Result<Call, u32>
         ensures call { IfOk result (λ call. (call.proc ≡ frame.now.word) × (call.args.items ≡ args_in frame.now)) }
+        ensures few { IfOk result (λ _. HasArgs frame.now) }
         ensures refused { IfErr result (λ code. code ≢ 0) }
-        ensures why { IfErr result (λ code. code ≢ BAD_FRAME → code ≡ MEMORY) }
+        ensures why { IfErr result (HasNoCall frame.now) }
     {
         let Some(args) = frame.arguments() else {
             return Err(BAD_FRAME);
         };
-        match Vec::from_slice(self.alloc, args) {
-            Ok(args) => Ok(Call {
+        let mut copied = Vec::new(self.alloc);
+        match copied.extend_from_slice(args) {
+            Ok(()) => Ok(Call {
                 proc: frame.word as usize,
-                args,
+                args: copied,
             }),
             Err(_) => Err(MEMORY),
         }
@@ -214,7 +215,8 @@ impl TcPart {
     }
 
     fn blocked(&self, frame: &mut Frame) -> u32
-        ensures { result ≡ 0 → SaysBlocked self.now frame.old frame.new }
+        ensures why { result ≢ 0 → HasNoCall frame.old result }
+        ensures done { result ≡ 0 → SaysBlocked self.now frame.old frame.new }
     {
         let call = match self.call_of(frame) {
             Ok(call) => call,
@@ -226,7 +228,7 @@ impl TcPart {
 
     fn ask(&mut self, frame: &mut Frame) -> u32
         ensures refused { result ≢ 0 → self.new.state ≡ self.old.state }
-        ensures why { result ≡ NO_TXN → standing self.old.state.events frame.old.txn ≡ None }
+        ensures why { result ≢ 0 → WhyNotAsked self.old frame.old result }
         ensures done { result ≡ 0 → Asks self.old frame.old self.new frame.new }
         ensures gathered { IsAsGathered self.old.gathered self.new.gathered }
         ensures kept { result ≢ 0 → KeepsRequests self.old self.new }
@@ -244,7 +246,7 @@ impl TcPart {
 
     fn undo(&mut self, frame: &mut Frame) -> u32
         ensures refused { result ≢ 0 → self.new.state ≡ self.old.state }
-        ensures why { result ≡ NO_TXN → standing self.old.state.events frame.old.txn ≡ None }
+        ensures why { result ≢ 0 → WhyNotAsked self.old frame.old result }
         ensures done { result ≡ 0 → Undoes self.old frame.old self.new frame.new }
         ensures gathered { IsAsGathered self.old.gathered self.new.gathered }
         ensures kept { result ≢ 0 → KeepsRequests self.old self.new }
@@ -261,7 +263,7 @@ impl TcPart {
     }
 
     fn wire(&self, frame: &mut Frame) -> u32
-        ensures why { result ≡ NOTHING_OPEN → HasNoRequest self.now.requests.items frame.old.txn }
+        ensures why { result ≢ 0 → WhyNotResent self.now frame.old result }
         ensures done { result ≡ 0 → Resends self.now frame.old frame.new }
     {
         let Some(place) = find(self.requests.as_slice(), frame.txn) else {
@@ -303,8 +305,7 @@ impl TcPart {
 
     fn answer(&mut self, frame: &mut Frame) -> u32
         ensures refused { result ≢ 0 → self.new.state ≡ self.old.state }
-        ensures none { result ≡ NOTHING_OPEN → HasNoRequest self.old.requests.items frame.old.txn }
-        ensures why { result ≡ STRANGER → IsStranger self.old frame.old self.new }
+        ensures why { result ≢ 0 → WhyNotAnswered self.old frame.old result self.new }
         ensures done { result ≡ 0 → Answers self.old frame.old self.new }
         ensures gathered { IsAsGathered self.old.gathered self.new.gathered }
         ensures kept { result ≢ 0 → result ≢ STRANGER → KeepsRequests self.old self.new }
@@ -315,9 +316,6 @@ impl TcPart {
         let Some(place) = find(self.requests.as_slice(), frame.txn) else {
             return NOTHING_OPEN;
         };
-        if telling::make_room(&mut self.requests).is_err() {
-            return MEMORY;
-        }
         let request = self.requests.swap_remove(place);
         match self.state.answer(request, reply) {
             Ok(()) => DONE,
@@ -330,7 +328,7 @@ impl TcPart {
 
     fn give_up(&mut self, frame: &mut Frame) -> u32
         ensures refused { result ≢ 0 → self.new.state ≡ self.old.state }
-        ensures none { result ≡ NOTHING_OPEN → HasNoRequest self.old.requests.items frame.old.txn }
+        ensures why { result ≢ 0 → (result ≡ NOTHING_OPEN) × HasNoRequest self.old.requests.items frame.old.txn }
         ensures done { result ≡ 0 → GivesUp self.old frame.old self.new frame.new }
         ensures gathered { IsAsGathered self.old.gathered self.new.gathered }
         ensures kept { result ≢ 0 → KeepsRequests self.old self.new }
@@ -345,7 +343,7 @@ impl TcPart {
 
     fn end(&mut self, frame: &mut Frame) -> u32
         ensures refused { result ≢ 0 → self.new.state ≡ self.old.state }
-        ensures why { result ≡ NOT_OVER → end_of self.old.state frame.old.txn ≡ None }
+        ensures why { result ≢ 0 → WhyNotEnded self.old frame.old result }
         ensures done { result ≡ 0 → Ends self.old frame.old self.new frame.new }
         ensures gathered { IsAsGathered self.old.gathered self.new.gathered }
         ensures kept { KeepsRequests self.old self.new }
@@ -387,7 +385,7 @@ impl TcPart {
     }
 
     fn open_from(&self, frame: &mut Frame) -> u32
-        ensures none { result ≢ 0 → NoneIsOpen self.now.state frame.old.place (length self.now.state.events) }
+        ensures none { result ≢ 0 → (result ≡ NO_PLACE) × NoneIsOpen self.now.state frame.old.place (length self.now.state.events) }
         ensures done { result ≡ 0 → ShowsOpen self.now frame.old frame.new }
     {
         let Some(opened) = first_open(&self.state, frame.place as usize) else {
@@ -404,7 +402,8 @@ impl TcPart {
     }
 
     fn waiting_from(&self, frame: &mut Frame) -> u32
-        ensures none { result ≢ 0 → NoneWaits self.now.state frame.old.dc frame.old.place (length self.now.state.events) }
+        ensures none { result ≢ 0
+            → (result ≡ NO_PLACE) × NoneWaits self.now.state frame.old.dc frame.old.place (length self.now.state.events) }
         ensures done { result ≡ 0 → ShowsWaiting self.now frame.old frame.new }
     {
         let Some((opened, sent)) = first_waiting(&self.state, frame.place as usize, frame.dc) else {
@@ -421,7 +420,7 @@ impl TcPart {
     }
 
     fn lock_at(&self, frame: &mut Frame) -> u32
-        ensures none { result ≢ 0 → HasNoLock self.now.state frame.old.place frame.old.word }
+        ensures none { result ≢ 0 → (result ≡ NO_PLACE) × HasNoLock self.now.state frame.old.place frame.old.word }
         ensures done { result ≡ 0 → ShowsLock self.now frame.old frame.new }
     {
         let Some((opened, set)) = locks_at(&self.state, frame.place as usize) else {
@@ -436,7 +435,8 @@ impl TcPart {
     }
 
     fn log_bytes(&self, frame: &mut Frame) -> u32
-        ensures { result ≡ 0 → ShowsEvent self.now frame.old frame.new }
+        ensures why { result ≢ 0 → WhyNoEvent self.now frame.old result }
+        ensures done { result ≡ 0 → ShowsEvent self.now frame.old frame.new }
     {
         let Some(event) = self.state.log().at(frame.place as usize) else {
             return NO_PLACE;
@@ -451,7 +451,8 @@ impl TcPart {
     }
 
     fn site(&self, frame: &mut Frame) -> u32
-        ensures { result ≡ 0 → TellsSite (site_at self.now.state.sites frame.old.dc) frame.new }
+        ensures why { result ≢ 0 → (result ≡ NO_DC) × (self.now.state.dcs ≤ frame.old.dc) }
+        ensures done { result ≡ 0 → ShowsSite self.now frame.old frame.new }
     {
         if frame.dc >= self.state.dcs() {
             return NO_DC;
@@ -494,7 +495,7 @@ impl TcPart {
 
     fn redone(&mut self, frame: &Frame) -> u32
         ensures refused { result ≢ 0 → self.new.state ≡ self.old.state }
-        ensures why { result ≡ STRANGER → IsNotRedone self.old frame.now }
+        ensures why { result ≢ 0 → WhyNotRedone self.old frame.now result }
         ensures done { result ≡ 0 → HasRedone self.old frame.now self.new }
         ensures gathered { IsAsGathered self.old.gathered self.new.gathered }
         ensures kept { KeepsRequests self.old self.new }

@@ -1,6 +1,6 @@
 // What a transaction component says, written into a frame.
 
-ghost use Rattle.std.specs.Prelude.{◌≡◌, ◌≢◌, ◌<◌, ◌++◌, [], ◌∷◌, length, min, take, vec_len, vec_capacity, Some, IfOk, OnOk};
+ghost use Rattle.std.specs.Prelude.{◌≡◌, ◌≢◌, ◌<◌, ◌≤◌, ◌+◌, ◌++◌, [], ◌∷◌, length, min, take, vec_len, vec_capacity, Some, IfOk, OnOk, OnErr};
 ghost use Rattle.tc_core.specs.Lent.{wire_of};
 ghost use Rattle.tc_log.specs.Printed.{printed};
 ghost use Rattle.embedding.specs.Frames.{IsOf, Names};
@@ -21,6 +21,7 @@ use transactions::{Sent, Site};
 /// Makes room for one more request.
 pub fn make_room(requests: &mut Vec<Request>) -> Result<(), AllocError>
     ensures room { OnOk result (vec_len requests.new < vec_capacity requests.new) }
+    ensures full { OnErr result (vec_capacity requests.old ≤ vec_len requests.old) }
     ensures items { requests.new.items ≡ requests.old.items }
 {
     requests.reserve(1)
@@ -29,7 +30,8 @@ pub fn make_room(requests: &mut Vec<Request>) -> Result<(), AllocError>
 /// Makes room for the requests of so many open transactions, so that no later call on these takes memory;
 /// and for one more, since a call makes room before it is known whether it asks.
 pub fn make_room_for(requests: &mut Vec<Request>, open: usize) -> Result<(), AllocError>
-    ensures { requests.new.items ≡ requests.old.items }
+    ensures items { requests.new.items ≡ requests.old.items }
+    ensures full { OnErr result (vec_capacity requests.old < vec_len requests.old + («open» + 1)) }
 {
     requests.reserve(open.saturating_add(1))
 }

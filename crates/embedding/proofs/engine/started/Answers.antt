@@ -8,12 +8,15 @@ returns-in-Ok-clause-ok c = begun_as c.args.frame.now (Tc c.in-Ok.part) 1 c.in-1
     (record {
       part = c.in-Ok.part;
       is = refl;
+      few = c.if-frame-gt65535.false;
       dcs = c.in-Ok.ensures.dcs;
       procs = c.in-Ok.ensures.procs;
       events = c.in-Ok.ensures.events;
+      given_up = c.in-Ok.ensures.given_up;
+      sites = c.in-Ok.ensures.sites;
       requests = c.in-Ok.ensures.requests;
       gathered = c.in-Ok.ensures.gathered;
     })
 
 pub returns-in-3-clause-ok : goal.returns-in-3-clause-ok
-returns-in-3-clause-ok c = begun_as c.args.frame.now (Code c.new-in-3.result) 3 c.in-3.is (record { part = c.new-in-3.result; is = refl; gathered = c.new-in-3.ensures })
+returns-in-3-clause-ok c = begun_as c.args.frame.now (Code c.new-in-3.result) 3 c.in-3.is (record { part = c.new-in-3.result; is = refl; program = c.new-in-3.ensures.program; gathered = c.new-in-3.ensures.gathered })

@@ -25,7 +25,7 @@ pub returns-in_default-get-clause-none : goal.returns-in_default-get-clause-none
 returns-in_default-get-clause-none c = λ _.
     let x = c.in-Some in let past = c.in_default-get.ensures.lookup.3 in
     let same : length c.locks.result.now ≡ length c.in-Some.set = ap length c.locks.ensures.value in
-    Past x.opened.txn.serial x.opened.proc x.set x.ensures.some x.ensures.its (omega (arith, past, same))
+    (refl, Past x.opened.txn.serial x.opened.proc x.set x.ensures.some x.ensures.its (omega (arith, past, same)))
 
 pub returns-clause-done : goal.returns-clause-done
 returns-clause-done c = λ _.
