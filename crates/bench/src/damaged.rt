@@ -1,9 +1,12 @@
 //! A log's file that is cut short, or of which one byte is another: what it is read as.
 
 use crate::log::asks;
+use access_slots::slot::Record;
 use frame_file::{FrameFault, Memory};
-use log_file::{Header, LogFile, OpenFault};
+use log_file::{BaseRow, Header, LogFile, OpenFault};
 use std::alloc::Global;
+use tc_log::event::Event;
+use tc_log::log::Log;
 
 const HEADER: Header = Header {
     dcs: 1,
@@ -11,17 +14,46 @@ const HEADER: Header = Header {
     digest: [7; 32],
 };
 
-// So many rows of 96 bytes has a frame.
-const FRAME: usize = 40 * 96;
+// Bytes of an event's row, and of what stands before a frame's payload.
+const ROW: usize = 96;
+
+const HEAD: usize = 24;
+
+// So many rows has a frame.
+const FRAME: usize = 40 * ROW;
+
+// So many bytes of a header of either layout are the same: the number of its frame.
+const SAME: usize = 8;
+
+// The records with which a log begins that was cut.
+const BASE: [BaseRow; 2] = [
+    (
+        Record {
+            dc: 0,
+            table: 0,
+            key: 1,
+        },
+        [5; 64],
+    ),
+    (
+        Record {
+            dc: 0,
+            table: 0,
+            key: 2,
+        },
+        [6; 64],
+    ),
+];
 
 // A whole file, and what it has.
 #[derive(Drop)]
 struct Written {
     bytes: Vec<u8>,
-    /// The rows of its events.
+    // The rows of its events.
     rows: Vec<u8>,
-    /// Where the header's frame ends, and where each further one does.
+    // Where the header's frame ends, and where each further one does.
     ends: Vec<usize>,
+    is_cut: bool,
 }
 
 // What bytes were read as, or are to be read as.
@@ -31,6 +63,10 @@ enum Found {
     Rows(usize),
     /// The frame of this number is damaged.
     Damaged(u64),
+    /// The frame of this number isn't there, of a base.
+    NoBase(u64),
+    /// No log.
+    Other,
     /// Anything else.
     Another,
 }
@@ -45,28 +81,64 @@ struct Tried {
     wrong: u64,
 }
 
-// Appends the rows to a file that is begun, and says where its frames end.
-fn fill(alloc: Global, file: &mut LogFile<Memory>, rows: &[u8]) -> Option<Vec<usize>> {
-    let Err(OpenFault::Empty) = file.open(alloc, &HEADER) else {
+// The row of a checkpoint.
+fn checkpoint_row(alloc: Global) -> Option<Vec<u8>> {
+    let mut log = Log::new(alloc);
+    let Ok(()) = log.reserve(1) else {
         return None;
     };
-    file.create(alloc, &HEADER).ok()?;
+    log.push(Event::Checkpoint {
+        admitted: 1,
+        given: 9,
+    });
+    log.print(alloc).ok()
+}
+
+// Where the frames end of a file that has these bytes, one behind the other.
+fn frame_ends(alloc: Global, bytes: &[u8]) -> Option<Vec<usize>> {
     let mut ends = Vec::new(alloc);
-    ends.push(file.device().bytes().len()).ok()?;
-    for frame in rows.chunks(FRAME) {
-        file.append(alloc, &[], frame).ok()?;
-        ends.push(file.device().bytes().len()).ok()?;
+    let mut end = 0usize;
+    // There are fewer frames than bytes.
+    for _ in 0..bytes.len() {
+        if end >= bytes.len() {
+            break;
+        }
+        let length = bytes.get(end.checked_add(8)?..end.checked_add(16)?)?;
+        let length = u64::from_le_bytes(length.try_into().ok()?);
+        end = end
+            .checked_add(HEAD)?
+            .checked_add(usize::try_from(length).ok()?)?;
+        ends.push(end).ok()?;
     }
     Some(ends)
 }
 
-fn whole_file(alloc: Global, events: u64) -> Option<Written> {
-    let log = asks(alloc, events)?;
-    let rows = log.print(alloc).ok()?;
+// A file with so many events; where it was cut, they stand behind a checkpoint.
+fn whole_file(alloc: Global, events: u64, is_cut: bool) -> Option<Written> {
     let mut file = LogFile::new(Memory::new(alloc, Vec::new(alloc)));
-    let ends = fill(alloc, &mut file, &rows)?;
+    let Err(OpenFault::Empty) = file.open(alloc, &HEADER) else {
+        return None;
+    };
+    let mut rows = Vec::new(alloc);
+    if is_cut {
+        rows = checkpoint_row(alloc)?;
+        file.begin_anew(alloc, &HEADER, &BASE, &rows).ok()?;
+    } else {
+        file.create(alloc, &HEADER).ok()?;
+    }
+    let behind = asks(alloc, events)?.print(alloc).ok()?;
+    for frame in behind.chunks(FRAME) {
+        file.append(alloc, &[], frame).ok()?;
+    }
+    rows.extend_from_slice(&behind).ok()?;
     let bytes = Vec::from_slice(alloc, file.device().bytes()).ok()?;
-    Some(Written { bytes, rows, ends })
+    let ends = frame_ends(alloc, &bytes)?;
+    Some(Written {
+        bytes,
+        rows,
+        ends,
+        is_cut,
+    })
 }
 
 impl Written {
@@ -86,6 +158,8 @@ impl Written {
             Err(OpenFault::Empty) => Some(Found::Rows(0)),
             Err(OpenFault::Frames(FrameFault::Damaged(frame))) => Some(Found::Damaged(frame)),
             Err(OpenFault::Frames(FrameFault::Device(_))) => None,
+            Err(OpenFault::NoBase(frame)) => Some(Found::NoBase(frame as u64)),
+            Err(OpenFault::Other) => Some(Found::Other),
             Err(_) => Some(Found::Another),
         }
     }
@@ -95,10 +169,27 @@ impl Written {
         self.ends.iter().filter(|end| **end <= place).count()
     }
 
-    // The rows of all frames but the header's, of so many.
+    // What so many frames are read as: their rows. Behind the header of a log that was cut come its base and its
+    // checkpoint, of a frame each.
     fn rows_of(&self, frames: usize) -> Found {
-        let rows = frames.saturating_sub(1).saturating_mul(FRAME);
+        let (front, first) = if self.is_cut { (3, ROW) } else { (1, 0) };
+        if self.is_cut && frames < front {
+            return Found::NoBase(frames as u64);
+        }
+        let rows = frames
+            .saturating_sub(front)
+            .saturating_mul(FRAME)
+            .saturating_add(first);
         Found::Rows(rows.min(self.rows.len()))
+    }
+
+    // What so many bytes are read as. A part of a header's frame is a beginning only of layout 1.
+    fn front_of(&self, len: usize) -> Found {
+        match self.whole(len) {
+            0 if self.is_cut && len > SAME => Found::Other,
+            0 => Found::Rows(0),
+            frames => self.rows_of(frames),
+        }
     }
 
     // A file that is cut short is a beginning.
@@ -106,7 +197,7 @@ impl Written {
         let front = Vec::from_slice(alloc, self.bytes.get(..len)?).ok()?;
         let found = self.read(alloc, front)?;
         tried.truncations = tried.truncations.wrapping_add(1);
-        tried.take(found, self.rows_of(self.whole(len)));
+        tried.take(found, self.front_of(len));
         Some(())
     }
 
@@ -147,33 +238,36 @@ impl Tried {
         let counter = match found {
             _ if found != wanted => &mut self.wrong,
             Found::Rows(_) => &mut self.beginnings,
-            Found::Damaged(_) | Found::Another => &mut self.refused,
+            _ => &mut self.refused,
         };
         *counter = counter.wrapping_add(1);
     }
 }
 
-fn try_all(alloc: Global, written: &Written) -> Option<Tried> {
-    let mut tried = Tried::default();
+fn try_all(alloc: Global, written: &Written, tried: &mut Tried) -> Option<()> {
     for len in 0..=written.bytes.len() {
-        written.truncate(alloc, len, &mut tried)?;
+        written.truncate(alloc, len, tried)?;
     }
     for place in 0..written.bytes.len() {
         // One of its bits in turn, and then all.
         let bit = 1u8.rotate_left((place % 8) as u32);
-        written.change(alloc, place, bit, &mut tried)?;
-        written.change(alloc, place, u8::MAX, &mut tried)?;
+        written.change(alloc, place, bit, tried)?;
+        written.change(alloc, place, u8::MAX, tried)?;
     }
-    Some(tried)
+    Some(())
 }
 
-/// A log of so many events is written in frames of 40; then a copy of the file is cut at each length, and
-/// of each byte a copy has one bit turned, and another all bits. A cut copy has to be read as the events
-/// of its whole frames; one with a changed byte as those before its last frame, where the byte is one of
-/// it, or else be refused with the number of the frame. `wrong` counts those that aren't.
+/// A log of so many events is written in frames of 40, and another behind the records and the checkpoint with
+/// which it begins anew; then a copy of each file is cut at each length, and of each byte a copy has one bit
+/// turned, and another all bits. A cut copy has to be read as the events of its whole frames, or refused where
+/// the base isn't whole; one with a changed byte as those before its last frame, where the byte is one of it,
+/// or else be refused with the number of the frame. `wrong` counts those that aren't.
 pub fn repeat(alloc: Global, events: u64) -> Option<String> {
-    let written = whole_file(alloc, events)?;
-    let tried = try_all(alloc, &written)?;
+    let mut tried = Tried::default();
+    for is_cut in [false, true] {
+        let written = whole_file(alloc, events, is_cut)?;
+        try_all(alloc, &written, &mut tried)?;
+    }
     format!(in alloc;
         "truncations {} changes {} beginnings {} refused {} wrong {}\n",
         tried.truncations, tried.changes, tried.beginnings, tried.refused, tried.wrong

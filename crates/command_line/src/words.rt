@@ -391,9 +391,11 @@ fn procd_command<'a>(alloc: Global) -> Result<Command<'a>, AllocError>
         log_command(alloc),
         "Print the events of a log's file, one a line, as `7 end 3 committed`; or audit it beside a script",
     )?;
-    Ok(with_log
-        .about("A transaction component that runs verified BPF procedures")
-        .version(RELEASE))
+    Ok(
+        with_log
+            .about("A transaction component that runs verified BPF procedures")
+            .version(RELEASE),
+    )
 }
 
 // What the words say.

@@ -10,4 +10,4 @@ returns-in-Some-waits_for g c =
     let r = c.args.request.now in
     subst (λ (v : Seen). IsTrue c.is_sent_for.result ↔ IsOpenHere v.state r) c.self.view_is
     (open_where c.self.inside.state r c.in-Some.txn.serial c.in-Some-waits_for.sent c.is_sent_for.result (c.in-Some.ensures.found.0 ∙ c.txn.ensures)
-        c.in-Some-waits_for.ensures c.is_sent_for.ensures)
+    c.in-Some-waits_for.ensures c.is_sent_for.ensures)

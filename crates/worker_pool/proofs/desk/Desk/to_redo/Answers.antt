@@ -55,4 +55,4 @@ pub returns-clause-known : goal.returns-clause-known
 returns-clause-known g c =
     subst (λ (v : Seen). StaysKnown v.state c.redo_next.new.self) c.self.view_is
     (subst (λ (s : Core). StaysKnown c.self.inside.state s) (sym c.redo_next.ensures.state)
-        (known_behind c.self.inside.state c.record.result.now.dc c.redo_next.result))
+    (known_behind c.self.inside.state c.record.result.now.dc c.redo_next.result))
