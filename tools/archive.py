@@ -18,7 +18,8 @@ import subprocess
 import sys
 import tempfile
 
-from unproved import CHECKED, TOP, Failed, below, crates, kit, module_of
+from built import TOP, uses
+from unproved import CHECKED, Failed, below, kit, module_of
 
 CRATE = "mazzulpe"
 # Behind the library's source: calls each function that it exports.
@@ -43,7 +44,7 @@ def library(name):
 
 def words(kit_at, made):
     """What `rattle build` is called with."""
-    known = crates()
+    known = uses()
     ours = below(CRATE, known)
     missing = [name for name in ours if not os.path.isdir(library(name))]
     if missing:

@@ -17,9 +17,9 @@ import subprocess
 import sys
 import time
 
-from unproved import NO_KIT
+import built
+from built import NO_KIT, TOP
 
-TOP = os.path.dirname(os.path.dirname(os.path.realpath(__file__)))
 PARTS = ("src", "specs", "proofs")
 GIGABYTE = 1 << 30
 SHORTEST = 5  # seconds: what took less was built before, and says nothing of the pace
@@ -57,10 +57,7 @@ class Known(dict):
 
     def __init__(self):
         super().__init__()
-        with open(f"{TOP}/crates.txt", encoding="utf-8") as it:
-            lines = [line.split("#")[0] for line in it]
-        self.lines = {line.split(":")[0].split()[0]: line for line in lines if ":" in line}
-        self.uses = {name: line.split(":")[1].split() for name, line in self.lines.items()}
+        self.lines, self.uses = built.lines(), built.uses()
 
     def __missing__(self, name):
         self[name] = Crate(name, self)
@@ -112,7 +109,7 @@ class Proof:
                 linked(f"{it.folder}/out/{kept}", f"{there}/out/{kept}")
         shutil.copyfile(f"{TOP}/HANDLES", f"{self.place}/HANDLES")
         with open(f"{self.place}/crates.txt", "w", encoding="utf-8") as listed:
-            listed.writelines(it.line for it in needed)
+            listed.writelines(f"{it.line}\n" for it in needed)
         self.run = self.begun()
 
     def begun(self):

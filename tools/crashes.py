@@ -42,14 +42,13 @@ import sys
 import tempfile
 import time
 
+from built import PROCD
 from hostile_faults import limited_to
 from plain_log import ADMIT, Legal, read_log, replayed, serial
 from plain_model import PROCEDURES, move
 from procedures import BACK, MOVE, PUT
 from trying import Program, Ran, preloaded
 
-TOP = pathlib.Path(__file__).resolve().parent.parent
-PROCD = TOP / "crates" / "procd" / "out" / "procd"
 RECORDS, AMOUNT, MOST_AMOUNT = 100, 1_000_000, 100
 WORKERS = (1, 4, 16, 64)
 LOGGED = 700  # bytes of a log are less than a move takes

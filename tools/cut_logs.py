@@ -16,6 +16,7 @@ import random
 import sys
 import tempfile
 
+from built import PROCD
 from explore import Steps, script_of
 from log_files import base_row, batch, frames, numbers, parts
 from plain_file import Refused, lines, read_file
@@ -23,7 +24,6 @@ from plain_log import ANSWER, ASK, CHECKPOINT, UNDO, Legal, audit, read_log
 from plain_model import DataComponent, Wire, put_at
 from trying import Program
 
-TOP = pathlib.Path(__file__).resolve().parent.parent
 STEPS = 300
 FILES_OF_ONE = 20  # so many files are made of one log
 
@@ -199,7 +199,7 @@ def main():
     options = argparse.ArgumentParser(description=__doc__, formatter_class=argparse.RawDescriptionHelpFormatter)
     options.add_argument("--files", type=int, default=2000)
     options.add_argument("--seed", type=int, default=1)
-    options.add_argument("--procd", default=TOP / "crates/procd/out/procd")
+    options.add_argument("--procd", default=PROCD)
     options = options.parse_args()
     draw, tally, made, turn, wrong = random.Random(options.seed), collections.Counter(), 0, 0, None
     with tempfile.TemporaryDirectory() as name:

@@ -21,7 +21,8 @@ import sys
 import tarfile
 import tempfile
 
-from unproved import TOP, Failed, below_in_kit, crates, kit
+from built import TOP, uses
+from unproved import Failed, below_in_kit, kit
 
 BUILT = ("crates/procd/out/procd", "crates/mazzulpe/out/libmazzulpe.a")
 UNPROVED = ("out-unproved/procd", "out-unproved/libmazzulpe.a")
@@ -101,7 +102,7 @@ def gate_line(built):
 def licences(place):
     """Puts the licences there of what is linked in, and says what is missing."""
     try:
-        kit_at, known = kit(), crates()
+        kit_at, known = kit(), uses()
     except Failed:
         return "Those of the Rattle kit's crates that are linked in are missing here: the kit wasn't at hand when this was packed."
     without = []

@@ -16,7 +16,8 @@ import subprocess
 import sys
 import tempfile
 
-from build import PARTS, TOP
+from build import PARTS
+from built import TOP
 
 MORE = "more-edits"
 BUILT = "out/rlib"

@@ -26,10 +26,10 @@ import sys
 import tempfile
 import time
 
+from built import PROCD
 from plain_log import alone, audit, read_log, replayed, serial
 from plain_model import PROCEDURES, TEXTS, ZEROS, World, fits, put_at, record_text, said_text, value_text
 
-TOP = pathlib.Path(__file__).resolve().parent.parent
 AMPLE = [(20, 5000)] * 2  # rows and operations of the data components, where they don't matter
 HUNTED = 300  # how many further scripts are looked through for a shorter one
 AGAIN = 10  # how often a script of calls is run before it is said to show nothing
@@ -502,8 +502,7 @@ def explored(procd, options, made):
 
 def main():
     parser = argparse.ArgumentParser(description=__doc__, formatter_class=argparse.RawDescriptionHelpFormatter)
-    path = TOP / "crates" / "procd" / "out" / "procd"
-    parser.add_argument("--procd", default=path, help="the program (that of crates/procd/out)")
+    parser.add_argument("--procd", default=PROCD, help="the program (that of crates/procd/out)")
     parser.add_argument("--audit", action="store_true", help="let the program audit each run")
     parser.add_argument("--seconds", type=float, default=60, help="how long to go on (60)")
     parser.add_argument("--seed", type=int, default=1, help="the first seed (1); then the next")

@@ -18,11 +18,11 @@ import subprocess
 import sys
 import tempfile
 
+from built import PROCD
 from log_files import batch, event, frame, frames, header, procedure
 from plain_file import is_end, stands_whole, whole
 from trying import Program
 
-TOP = pathlib.Path(__file__).resolve().parent.parent
 SCRIPT = "dc 1 100\nproc nothing 0\nmov r0, 5\nexit\nend\n"
 NOTHING = procedure(0, [], bytes.fromhex("b700000005000000 9500000000000000"))
 OWN = header(1, NOTHING)
@@ -133,7 +133,7 @@ def main():
     options = argparse.ArgumentParser(usage=__doc__)
     options.add_argument("--files", type=int, default=2000)
     options.add_argument("--seed", type=int, default=1)
-    options.add_argument("--procd", default=TOP / "crates/procd/out/procd")
+    options.add_argument("--procd", default=PROCD)
     options = options.parse_args()
     draw, tally = random.Random(options.seed), collections.Counter()
     with tempfile.TemporaryDirectory() as name:

@@ -8,14 +8,12 @@ Where the time grew with the square of the calls, the second run would take a hu
 where something was wrong.
 """
 import argparse
-import pathlib
 import sys
 import time
 
+from built import PROCD
 from trying import Program
 
-TOP = pathlib.Path(__file__).resolve().parent.parent
-PROCD = TOP / "crates" / "procd" / "out" / "procd"
 ROOM = 1000  # operations that it has room for
 MOST = 40  # times as long at most: four times what proportion asks for, on a machine that does other work too
 SCRIPT = f"dc 10 {ROOM}\nproc look 1\nslot read 0 0 $0\n mov r1, 0\n call 1\n mov r0, 0\n exit\nend\n"

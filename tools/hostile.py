@@ -11,6 +11,7 @@ import pathlib
 import sys
 import tempfile
 
+from built import PROCD
 from hostile_code import hostile_code
 from hostile_faults import hostile_files, hostile_memory
 from hostile_objects import hostile_objects
@@ -18,7 +19,6 @@ from hostile_texts import hostile_texts
 from hostile_worlds import hostile_worlds
 from trying import Program, Tally
 
-TOP = pathlib.Path(__file__).resolve().parent.parent
 SECTIONS = {
     "code": hostile_code,
     "texts": hostile_texts,
@@ -31,8 +31,7 @@ SECTIONS = {
 
 def main():
     parser = argparse.ArgumentParser(description=__doc__, formatter_class=argparse.RawDescriptionHelpFormatter)
-    path = TOP / "crates" / "procd" / "out" / "procd"
-    parser.add_argument("--procd", default=path, help="the program (that of crates/procd/out)")
+    parser.add_argument("--procd", default=PROCD, help="the program (that of crates/procd/out)")
     parser.add_argument("--every", type=int, default=1, help="try one of N of what there is to try (1: all)")
     parser.add_argument("sections", nargs="*", metavar="SECTION", help=f"{', '.join(SECTIONS)} (all)")
     options, good = parser.parse_args(), True

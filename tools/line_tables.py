@@ -19,10 +19,10 @@ import subprocess
 import sys
 import tempfile
 
+from built import PROCD, TOP
 from objects import CODE, UNKNOWN, code_of, patched, with_lines
 from trying import Program
 
-TOP = pathlib.Path(__file__).resolve().parent.parent
 OBJECTS = TOP / "tools" / "outside" / "lines" / "objects.jsonl"
 TOOLS = ["clang", "llvm-dwarfdump", "llvm-objdump"]
 OPTIONS = [[f"-gdwarf-{version}", *further] for version in (4, 5) for further in (["-O1", "-mcpu=v1"], ["-O2", "-mcpu=v3"])]
@@ -105,8 +105,7 @@ def store(name, path):
 
 def main():
     parser = argparse.ArgumentParser(description=__doc__, formatter_class=argparse.RawDescriptionHelpFormatter)
-    path = TOP / "crates" / "procd" / "out" / "procd"
-    parser.add_argument("--procd", default=path, help="the program (that of crates/procd/out)")
+    parser.add_argument("--procd", default=PROCD, help="the program (that of crates/procd/out)")
     parser.add_argument("--store", nargs=2, metavar=("NAME", "OBJECT"), help="adds a case")
     options = parser.parse_args()
     if options.store:

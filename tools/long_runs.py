@@ -1,7 +1,7 @@
 #!/usr/bin/env python3
-"""Two long runs of calls by eight workers.
+"""Long runs of calls.
 
-usage: tools/long_runs.py [--procd PATH] [--bench PATH] [--calls N] [--seed N]
+usage: tools/long_runs.py [--procd PATH] [--bench PATH] [--calls N] [--seed N] [--cut BYTES]
 
 1. `procd run --workers 8` on a script of N calls (200,000) that move an amount between two of a
    thousand records: each call has to be committed, and the records' sum has to stay.
@@ -9,30 +9,33 @@ usage: tools/long_runs.py [--procd PATH] [--bench PATH] [--calls N] [--seed N]
    a data component that keeps checkpoints and restarts, at random from the seed, each number sent ten
    times at most: each call has to be committed, in doubt, or blocked on a record of one in doubt, and
    the audit behind it has to say ok.
+3. With `--cut BYTES` alone: the script of 1 with `--log` and `--checkpoint-over BYTES`, by four workers.
+   All have to be committed, an audit of the log has to say ok, and the sum has to stay when a second run
+   comes back from it. It says how much memory and time both took, and how large the log's file is.
 
 crates/procd/out/procd and crates/bench/out/bench have to be there: `rt run` in each crate builds it.
 """
 import argparse
+import os
 import pathlib
 import random
 import re
 import subprocess
 import sys
 import tempfile
+import time
 
+from built import BENCH, PROCD
 from plain_model import TEXTS
 
-TOP = pathlib.Path(__file__).resolve().parent.parent
-PROCD = TOP / "crates" / "procd" / "out" / "procd"
-BENCH = TOP / "crates" / "bench" / "out" / "bench"
-RECORDS, AMOUNT = 1000, 1_000_000
+RECORDS, AMOUNT, MOST_OPERATIONS = 1000, 1_000_000, 1 << 20
 
 PROCEDURES = TEXTS["put"] + TEXTS["move"]
 
 
 def script(calls, seed):
     draw = random.Random(seed)
-    lines = [f"dc {RECORDS} {4 * calls + RECORDS}\n", PROCEDURES]
+    lines = [f"dc {RECORDS} {min(4 * calls + RECORDS, MOST_OPERATIONS)}\n", PROCEDURES]
     lines += [f"first put {key} {AMOUNT}\n" for key in range(RECORDS)]
     lines += ["call move %d %d 1\n" % tuple(draw.sample(range(RECORDS), 2)) for _ in range(calls)]
     return "".join(lines)
@@ -62,13 +65,50 @@ def by_storm(bench, calls, seed):
     return good
 
 
+def timed(words):
+    """What a command printed, its status, its greatest memory in KB, and its seconds."""
+    began = time.monotonic()
+    with tempfile.TemporaryFile("w+") as out:
+        ran = subprocess.Popen(words, stdin=subprocess.DEVNULL, stdout=out)
+        _, status, used = os.wait4(ran.pid, 0)
+        out.seek(0)
+        return out.read(), os.waitstatus_to_exitcode(status), used.ru_maxrss, time.monotonic() - began
+
+
+def sum_of(lines):
+    """The sum of the rows among these lines."""
+    return sum(int(line.split()[2]) for line in lines if line.startswith("row ")) % 2**64
+
+
+def by_log(procd, calls, seed, cut):
+    with tempfile.TemporaryDirectory() as folder:
+        text, none, log = (pathlib.Path(folder) / it for it in ("calls.txt", "none.txt", "calls.log"))
+        text.write_text(script(calls, seed))
+        none.write_text(script(0, seed).split("first", 1)[0])
+        run = [procd, "run", "--workers", "4", "--log", log, "--checkpoint-over", str(cut)]
+        said, status, memory, seconds = timed([*run, text])
+        lines = said.splitlines()
+        good = status == 0 and sum(line.endswith(" committed") for line in lines) == calls + RECORDS
+        good = good and sum_of(lines) == RECORDS * AMOUNT
+        print(f"log: {calls} calls, {memory} KB at most, {seconds:.1f} s, LOG has {log.stat().st_size} bytes", flush=True)
+        said, status, memory, seconds = timed([procd, "log", "--audit", log, none])
+        good = good and status == 0 and said.startswith("audit ok ")
+        said, status, memory, seconds = timed([*run, none])
+        good = good and status == 0 and sum_of(said.splitlines()) == RECORDS * AMOUNT
+        print(f"log: back in {seconds:.2f} s with {memory} KB, {'the sum stays' if good else 'WRONG'}", flush=True)
+        return good
+
+
 def main():
     parser = argparse.ArgumentParser(description=__doc__, formatter_class=argparse.RawDescriptionHelpFormatter)
     parser.add_argument("--procd", default=PROCD)
     parser.add_argument("--bench", default=BENCH)
     parser.add_argument("--calls", type=int, default=200_000)
     parser.add_argument("--seed", type=int, default=1)
+    parser.add_argument("--cut", type=int, metavar="BYTES")
     options = parser.parse_args()
+    if options.cut:
+        sys.exit(0 if by_log(options.procd, options.calls, options.seed, options.cut) else 1)
     good = by_script(options.procd, options.calls, options.seed)
     sys.exit(0 if by_storm(options.bench, options.calls, options.seed) and good else 1)
 

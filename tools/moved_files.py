@@ -17,12 +17,11 @@ import subprocess
 import sys
 import tempfile
 
+from built import PROCD
 from hostile_faults import limited_to
 from procedures import PUT
 from trying import Program
 
-TOP = pathlib.Path(__file__).resolve().parent.parent
-PROCD = TOP / "crates" / "procd" / "out" / "procd"
 CALLS, PIPE = 1000, 4096  # so many calls that what is told of them fills a pipe of so many bytes
 SCRIPT = f"dc {CALLS} {CALLS}\n" + PUT
 GONE, RESIZED = "it was removed, moved or replaced", "another program changed its length"

@@ -18,16 +18,14 @@ crates/bench/out/bench has to be there: `rt run` in crates/bench builds it.
 """
 import argparse
 import collections
-import pathlib
 import re
 import subprocess
 import sys
 import time
 
+from built import BENCH
 from plain_log import END, Legal, read_log, replayed, serial
 
-TOP = pathlib.Path(__file__).resolve().parent.parent
-BENCH = TOP / "crates" / "bench" / "out" / "bench"
 RECORDS = 1000
 EVENT = 96
 COMMITTED = 1

@@ -14,18 +14,17 @@ crates/bench/out/bench has to be there: `rt run` in crates/bench builds it.
 """
 import argparse
 import collections
-import pathlib
 import random
 import re
 import subprocess
 import sys
 
+from built import BENCH
 from explore import Steps, script_of
 from plain_log import ADMIT, ANSWER, ASK, CHECKPOINT, END, UNDO, audit, outcome_of, read_log
 from plain_model import ZEROS, DataComponent, Wire, admit_bytes, answer_bytes, end_bytes, put_at, sent_bytes
 from trying import some_of
 
-TOP = pathlib.Path(__file__).resolve().parent.parent
 VALUE = put_at(ZEROS, 0, 77)
 SAIDS = [("value", VALUE), ("absent",), ("done", None), ("done", VALUE), ("duplicate",), ("missing",), ("noroom",)]
 # What `bench audit` prints of a fault, and what is found in it.
@@ -177,8 +176,7 @@ def by_bench(bench, given):
 
 def main():
     parser = argparse.ArgumentParser(description=__doc__, formatter_class=argparse.RawDescriptionHelpFormatter)
-    path = TOP / "crates" / "bench" / "out" / "bench"
-    parser.add_argument("--bench", default=path, help="the program `bench` (that of crates/bench/out)")
+    parser.add_argument("--bench", default=BENCH, help="the program `bench` (that of crates/bench/out)")
     parser.add_argument("--steps", type=int, default=2000, help="steps of the script (2000)")
     parser.add_argument("--seed", type=int, default=1, help="the first seed that is looked at (1)")
     parser.add_argument("--every", type=int, default=1, help="try one of N changes (1: all)")

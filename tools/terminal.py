@@ -11,7 +11,6 @@ status is 1 where one was.
 import argparse
 import errno
 import os
-import pathlib
 import pty
 import re
 import signal
@@ -20,11 +19,10 @@ import sys
 import tempfile
 import time
 
+from built import PROCD
 from objects import named, object_of, unit
 from printed_rows.objects import GET, WITH_FIELD, with_lines
 
-TOP = pathlib.Path(__file__).resolve().parent.parent
-BUILT = TOP / "crates" / "procd" / "out" / "procd"
 PUT = "dc 65536 1048576\nproc put 2\nslot write 0 0 $0\nldxdw r6, [r1+8]\nmov r1, 0\ncall 5\nstxdw [r0+0], r6\n"
 PUT += "mov r1, 0\ncall 2\nmov r0, 0\nexit\nend\n"
 CALLS = 1_000_000
@@ -185,7 +183,7 @@ def signals(procd):
 
 def main():
     parser = argparse.ArgumentParser(description=__doc__, formatter_class=argparse.RawDescriptionHelpFormatter)
-    parser.add_argument("--procd", default=str(BUILT), help="the program (that of crates/procd/out)")
+    parser.add_argument("--procd", default=str(PROCD), help="the program (that of crates/procd/out)")
     procd = parser.parse_args().procd
     wrong = [*refusals(procd), *cures(procd), *progress(procd), *signals(procd)]
     for line in wrong:

@@ -1,7 +1,7 @@
 #!/usr/bin/env python3
 """Requests for memory: none behind an admission, and each refused in turn where there are some.
 
-usage: tools/requests.py [--tests PATH] [--procd PATH] [--scripts N] [--steps N] [--seed N] [SECTION..]
+usage: tools/memory_requests.py [--tests PATH] [--procd PATH] [--scripts N] [--steps N] [--seed N] [SECTION..]
 
 `pairs`: the worked runs are tests of `component_tests`, in pairs: one stops at the admission, the other goes on to the end.
 Both are run, their requests counted, and the second is to make no more than the first. `worlds`: random scripts
@@ -23,10 +23,10 @@ import subprocess
 import sys
 import tempfile
 
+from built import TOP
 from explore import Procd, Steps
 from trying import preloaded
 
-TOP = pathlib.Path(__file__).resolve().parent.parent
 PAIRS = [("put_admitted", "put_ended"), ("abort_admitted", "abort_ended"), ("delete_admitted", "delete_stuck")]
 ASKING = ["admit"]  # calls that may ask for memory
 # `wire` and `told` may be part of their callers' code in the program.
@@ -37,10 +37,10 @@ SHOWN = 5  # of what is wrong, how much is shown
 
 
 class Counting:
-    """Runs a program before which requests.c counts."""
+    """Runs a program before which memory_requests.c counts."""
 
     def __init__(self, folder, functions=()):
-        self.library = preloaded("requests", folder) or sys.exit("there is no C compiler")
+        self.library = preloaded("memory_requests", folder) or sys.exit("there is no C compiler")
         self.counts, self.functions = folder / "counts", list(functions)
 
     def run(self, words):
