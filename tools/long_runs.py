@@ -83,8 +83,9 @@ def sum_of(lines):
 def by_log(procd, calls, seed, cut):
     with tempfile.TemporaryDirectory() as folder:
         text, none, log = (pathlib.Path(folder) / it for it in ("calls.txt", "none.txt", "calls.log"))
-        text.write_text(script(calls, seed))
-        none.write_text(script(0, seed).split("first", 1)[0])
+        said = script(calls, seed)
+        text.write_text(said)
+        none.write_text(said[: said.index("first")])
         run = [procd, "run", "--workers", "4", "--log", log, "--checkpoint-over", str(cut)]
         said, status, memory, seconds = timed([*run, text])
         lines = said.splitlines()
