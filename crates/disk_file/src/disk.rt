@@ -100,6 +100,11 @@ impl DiskFile {
         Ok(())
     }
 
+    /// The open file.
+    pub(crate) fn file(&self) -> &File {
+        &self.file
+    }
+
     /// How many bytes were cut off since it was opened.
     pub fn cut_off(&self) -> usize {
         self.cut_off
@@ -122,6 +127,13 @@ impl DiskFile {
             Err(error) if error.kind() == ErrorKind::NotFound => Err(FileFault::Gone),
             Err(error) => Err(FileFault::Io(error)),
         }
+    }
+
+    /// How many bytes it has: those that were read and those that were appended since.
+    pub fn len(&self) -> u64
+        ensures { result ≡ length (disk_bytes self.now) }
+    {
+        self.bytes.len() as u64
     }
 
     // Syncs the file, and looks whether it is there as it was written.

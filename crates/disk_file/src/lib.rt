@@ -2,8 +2,9 @@
 //!
 //! ```text
 //! let mut file = FrameFile::new(DiskFile::open(&rt, alloc, "calls.log")?);
-//! let next = DiskFile::open_beside(&rt, alloc, "calls.log", &front)?;   // in `calls.log.new`; written, then
-//! next.take_place(&rt, alloc, "calls.log")?;                            // it is `calls.log`
+//! let beside = Beside::open(&rt, alloc, "calls.log")?;               // `calls.log.new`, with what stands in it
+//! let next = beside.emptied(&rt, alloc, "calls.log", &old)?;         // written and synced, then
+//! next.take_place(&rt, alloc, "calls.log", &old)?;                   // it is `calls.log`
 //! ```
 //!
 //! (`frames_in_a_file` in `disk_tests` of `lower_tests`, which has its tests.)
@@ -13,7 +14,9 @@ mod disk;
 mod fault;
 mod opening;
 mod record;
+mod replacing;
 
 pub use disk::DiskFile;
 pub use fault::FileFault;
-pub use opening::{BesideError, FileKind, OpenError};
+pub use opening::{FileKind, OpenError};
+pub use replacing::{Beside, BesideError, PlaceError};

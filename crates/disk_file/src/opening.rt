@@ -1,6 +1,6 @@
 // How a file is opened.
 
-ghost use Rattle.std.specs.Prelude.{◌≡◌, [], IfOk};
+ghost use Rattle.std.specs.Prelude.{◌≡◌, IfOk};
 ghost use Rattle.frame_file.specs.Device.{Only};
 ghost use Rattle.disk_file.specs.Disk.{disk_bytes, left_of};
 
@@ -24,14 +24,6 @@ pub enum OpenError {
     Busy,
     /// What has this name is no file of bytes.
     Kind(FileKind),
-}
-
-/// Why no file is opened that is to take another's place.
-#[derive(Clone, Copy, Debug)]
-pub enum BesideError {
-    Open(OpenError),
-    /// What stands in the file with its name isn't what was cut short of a replacement.
-    Foreign,
 }
 
 /// What isn't a file of bytes.
@@ -99,12 +91,6 @@ impl From<TryLockError> for OpenError {
     }
 }
 
-impl From<OpenError> for BesideError {
-    fn from(error: OpenError) -> BesideError {
-        BesideError::Open(error)
-    }
-}
-
 impl DiskFile {
     /// Opens the file with this name, and makes it where there is none. It is locked as long as it is open
     /// (an advisory lock, which not every network file system keeps), read up to the length that it has then,
@@ -124,46 +110,6 @@ impl DiskFile {
         let file = DiskFile::settled(file, bytes);
         file.check_name(rt, path)?;
         Ok(file)
-    }
-
-    /// Opens the file of this name with `.new` behind it, which is to take the place of the one of this name
-    /// ([`DiskFile::take_place`]): made where there is none, locked, emptied, and synced with its folder. What
-    /// stands in it is thrown away only where a crash may have left it of a file that was to begin with this
-    /// front: each word of 8 bytes, as far as it is there, is the front's, or zeros. Anything else is refused,
-    /// and left as it is.
-    pub fn open_beside<F: Files<File = File>>(
-        rt: &F,
-        alloc: Global,
-        path: &str,
-        front: &[u8],
-    ) -> Result<DiskFile, BesideError>
-        ensures empty { IfOk result (λ d. disk_bytes d ≡ []) }
-        ensures settled { IfOk result (λ d. Only (disk_bytes d) (left_of d)) }
-    {
-        let name = beside(alloc, path)?;
-        let (file, bytes) = locked(rt, alloc, name.as_str())?;
-        if !may_be_left(&bytes, front) {
-            return Err(BesideError::Foreign);
-        }
-        file.set_len(0).map_err(OpenError::Unwritten)?;
-        sync_with_folder(rt, alloc, name.as_str(), &file)?;
-        Ok(DiskFile::settled(file, Vec::new(alloc)))
-    }
-
-    /// Puts this file, which was opened beside the one of this name, in its place, and syncs their folder. A
-    /// crash leaves the one or the other. The one that had the name is to be open, and so locked, until then;
-    /// where this fails, either may have the name: it has to be opened again.
-    pub fn take_place<F: Files<File = File>>(
-        &self,
-        rt: &F,
-        alloc: Global,
-        path: &str,
-    ) -> Result<(), OpenError> {
-        let name = beside(alloc, path)?;
-        let placed = fs::rename(rt, name.as_str(), path).and_then(|()| folder_of(
-            rt, alloc, path,
-        )?.sync_all());
-        placed.map_err(OpenError::Unwritten)
     }
 
     /// From now on, what is cut off is kept behind the last byte of the file of this name with `.dropped`
@@ -186,13 +132,8 @@ impl DiskFile {
     }
 }
 
-// The name of the file that is to take the place of the one of this name.
-fn beside(alloc: Global, path: &str) -> Result<String, OpenError> {
-    Ok(format!(in alloc; "{path}.new")?)
-}
-
-// Opens and locks the file of this name, and reads it whole.
-fn locked<F: Files<File = File>>(
+/// Opens and locks the file of this name, and reads it whole.
+pub(crate) fn locked<F: Files<File = File>>(
     rt: &F,
     alloc: Global,
     path: &str,
@@ -202,12 +143,6 @@ fn locked<F: Files<File = File>>(
     file.try_lock()?;
     let bytes = read_whole(alloc, &file)?;
     Ok((file, bytes))
-}
-
-// Whether a crash may have left these bytes of a file that was to begin with this front.
-fn may_be_left(bytes: &[u8], front: &[u8]) -> bool {
-    bytes.chunks(8).zip(front.chunks(8)).all(|(there, word)| word.starts_with(there)
-        || there.iter().all(|byte| *byte == 0))
 }
 
 // Refuses what isn't a file of bytes, if there is anything.
@@ -252,8 +187,8 @@ fn read_whole(alloc: Global, file: &File) -> Result<Vec<u8>, OpenError> {
     Ok(bytes)
 }
 
-// Syncs a file with its folder.
-fn sync_with_folder<F: Files<File = File>>(
+/// Syncs a file with its folder.
+pub(crate) fn sync_with_folder<F: Files<File = File>>(
     rt: &F,
     alloc: Global,
     path: &str,
@@ -265,8 +200,12 @@ fn sync_with_folder<F: Files<File = File>>(
     synced.map_err(OpenError::Unwritten)
 }
 
-// The folder in which a file lies that there is.
-fn folder_of<F: Files<File = File>>(rt: &F, alloc: Global, path: &str) -> io::Result<File> {
+/// The folder in which a file lies that there is.
+pub(crate) fn folder_of<F: Files<File = File>>(
+    rt: &F,
+    alloc: Global,
+    path: &str,
+) -> io::Result<File> {
     let mut folder = fs::canonicalize(&(rt, alloc), path)?;
     folder.pop();
     File::open(rt, folder.as_str())

@@ -3,11 +3,12 @@ ghost use Rattle.frame_file.specs.Device.{Only};
 ghost use Rattle.disk_file.specs.Disk.{disk_bytes, left_of};
 
 use crate::checks::is_same;
-use disk_file::{BesideError, DiskFile, FileKind, OpenError};
+use disk_file::{Beside, BesideError, DiskFile, FileFault, FileKind, OpenError, PlaceError};
 use frame_file::{Device, DeviceError, FrameFault, FrameFile};
 use std::alloc::Global;
 use std::fs;
-use std::fs::File;
+use std::fs::{File, Permissions};
+use std::os::unix::fs::{PermissionsExt, symlink};
 use std::process::Abort;
 use std::rt::Files;
 
@@ -121,44 +122,128 @@ fn no_file_of_bytes(rt: HostRuntime) {
     );
 }
 
-const PLACE: &str = "disk_file_place";
+// The file of this name, which has one byte.
+fn old_file<R: Files<File = File> + Abort>(rt: &R, alloc: Global, path: &str) -> DiskFile {
+    fs::write(rt, path, [1].as_slice()).expect(rt, "not written");
+    DiskFile::open(rt, alloc, path).expect(rt, "not opened")
+}
 
-const BESIDE: &str = "disk_file_place.new";
+// A file with two bytes beside it.
+fn new_file<R: Files<File = File> + Abort>(
+    rt: &R,
+    alloc: Global,
+    path: &str,
+    old: &DiskFile,
+) -> DiskFile
+    ensures { Only (disk_bytes result) (left_of result) }
+{
+    let beside = Beside::open(rt, alloc, path).expect(rt, "not beside");
+    let mut new = beside
+        .emptied(rt, alloc, path, old)
+        .expect(rt, "not emptied");
+    new.append(&[2, 3]).expect(rt, "not appended");
+    match new.sync() {
+        Ok(()) => new,
+        Err(_) => panic!(rt; "not synced"),
+    }
+}
 
-const FRONT: [u8; 8] = [7; 8];
+fn has_bytes<R: Files<File = File> + Abort>(rt: &R, alloc: Global, path: &str, wanted: &[u8]) {
+    let bytes = fs::read(&(rt, alloc), path).expect(rt, "not read");
+    is_same(rt, bytes.as_slice(), wanted);
+}
 
-// What a replacement that was cut short has left is thrown away, and the next one takes the file's place, which
-// nobody else opens meanwhile.
+// The next one takes the file's place, with its permissions, and nobody else opens it meanwhile.
 #[test]
 fn a_file_takes_the_place(rt: HostRuntime) {
+    const PLACE: &str = "disk_file_place";
+    const BESIDE: &str = "disk_file_place.new";
     let alloc = rt.alloc();
-    fs::write(&rt, PLACE, [1].as_slice()).expect(&rt, "not written");
     fs::write(&rt, BESIDE, [7, 7, 7].as_slice()).expect(&rt, "not written");
-    let old = DiskFile::open(&rt, alloc, PLACE).expect(&rt, "not opened");
-    let mut new = DiskFile::open_beside(&rt, alloc, PLACE, &FRONT).expect(&rt, "not beside");
-    let written = (new.append(&[2, 3]), new.sync());
-    is_same(&rt, written, (Ok(()), Ok(())));
-    new.take_place(&rt, alloc, PLACE)
+    let old = old_file(&rt, alloc, PLACE);
+    fs::set_permissions(&rt, PLACE, Permissions::from_mode(0o640)).expect(&rt, "no mode");
+    let left = Beside::open(&rt, alloc, PLACE).expect(&rt, "not beside");
+    is_same(&rt, left.bytes(), [7, 7, 7].as_slice());
+    drop(left);
+    let new = new_file(&rt, alloc, PLACE, &old);
+    new.take_place(&rt, alloc, PLACE, &old)
         .expect(&rt, "not in its place");
     drop(old);
     let again = DiskFile::open(&rt, alloc, PLACE);
     is_same(&rt, matches!(again, Err(OpenError::Busy)), true);
     drop(new);
-    let bytes = fs::read(&rt, PLACE).expect(&rt, "not read");
-    is_same(&rt, bytes.as_slice(), [2, 3].as_slice());
+    has_bytes(&rt, alloc, PLACE, &[2, 3]);
+    let known = fs::metadata(&rt, PLACE).expect(&rt, "not known");
+    is_same(&rt, known.permissions().mode() & 0o777, 0o640);
     fs::remove_file(&rt, PLACE).expect(&rt, "not removed");
 }
 
-// What another program wrote beside it is left.
+// Where the name is a link, the file that it leads to is replaced.
+#[test]
+fn a_link_stays(rt: HostRuntime) {
+    const LINK: &str = "disk_file_link";
+    const TARGET: &str = "disk_file_target";
+    let alloc = rt.alloc();
+    fs::write(&rt, TARGET, [1].as_slice()).expect(&rt, "not written");
+    symlink(&rt, TARGET, LINK).expect(&rt, "no link");
+    let old = old_file(&rt, alloc, LINK);
+    let new = new_file(&rt, alloc, LINK, &old);
+    new.take_place(&rt, alloc, LINK, &old)
+        .expect(&rt, "not in its place");
+    drop(old);
+    drop(new);
+    let known = fs::symlink_metadata(&rt, LINK).expect(&rt, "not known");
+    is_same(&rt, known.is_symlink(), true);
+    has_bytes(&rt, alloc, TARGET, &[2, 3]);
+    fs::remove_file(&rt, LINK).expect(&rt, "not removed");
+    fs::remove_file(&rt, TARGET).expect(&rt, "not removed");
+}
+
+// A name that is another file's is not taken, and the new file gives up its own.
+#[test]
+fn a_name_that_is_lost(rt: HostRuntime) {
+    const PLACE: &str = "disk_file_lost";
+    const BESIDE: &str = "disk_file_lost.new";
+    let alloc = rt.alloc();
+    let old = old_file(&rt, alloc, PLACE);
+    let new = new_file(&rt, alloc, PLACE, &old);
+    fs::remove_file(&rt, PLACE).expect(&rt, "not removed");
+    fs::write(&rt, PLACE, [9].as_slice()).expect(&rt, "not written");
+    let placed = new.take_place(&rt, alloc, PLACE, &old);
+    is_same(
+        &rt,
+        matches!(placed, Err(PlaceError::Kept(FileFault::Gone))),
+        true,
+    );
+    new.give_up_place(&rt, alloc, PLACE);
+    has_bytes(&rt, alloc, PLACE, &[9]);
+    let beside = fs::metadata(&rt, BESIDE);
+    is_same(&rt, matches!(beside, Err(_)), true);
+    drop(old);
+    drop(new);
+    fs::remove_file(&rt, PLACE).expect(&rt, "not removed");
+}
+
+// What has another name too, or is a link, isn't opened, and what it has stays.
 #[test]
 fn another_file_stands_beside(rt: HostRuntime) {
-    const PAGE: &str = "disk_file_page";
-    const OTHER: &str = "disk_file_page.new";
+    const PLACE: &str = "disk_file_page";
+    const BESIDE: &str = "disk_file_page.new";
+    const OTHER: &str = "disk_file_other";
+    let alloc = rt.alloc();
     let page = b"# A page".as_slice();
+    let old = old_file(&rt, alloc, PLACE);
     fs::write(&rt, OTHER, page).expect(&rt, "not written");
-    let refused = DiskFile::open_beside(&rt, rt.alloc(), PAGE, &FRONT);
+    fs::hard_link(&rt, OTHER, BESIDE).expect(&rt, "no name");
+    let refused = Beside::open(&rt, alloc, PLACE);
     is_same(&rt, matches!(refused, Err(BesideError::Foreign)), true);
-    let bytes = fs::read(&rt, OTHER).expect(&rt, "not read");
-    is_same(&rt, bytes.as_slice(), page);
-    fs::remove_file(&rt, OTHER).expect(&rt, "not removed");
+    fs::remove_file(&rt, BESIDE).expect(&rt, "not removed");
+    symlink(&rt, OTHER, BESIDE).expect(&rt, "no link");
+    let refused = Beside::open(&rt, alloc, PLACE);
+    is_same(&rt, matches!(refused, Err(BesideError::Foreign)), true);
+    has_bytes(&rt, alloc, OTHER, page);
+    drop(old);
+    for name in [PLACE, BESIDE, OTHER] {
+        fs::remove_file(&rt, name).expect(&rt, "not removed");
+    }
 }
