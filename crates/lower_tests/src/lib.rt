@@ -7,6 +7,7 @@
 //! | `number_tests` | `request_numbers`: numbers that are answered in another order |
 //! | `lock_tests` | `lock_table`: waits and releases, and all answers beside those of a plain table |
 //! | `event_tests` | `tc_log`: the bytes of events |
+//! | `picture_tests` | `log_picture`: transactions, lanes, numbers, records, and what is drawn |
 //! | `store_tests` | `data_component`: each answer, repeated and late wires, restarts |
 //! | `verdict_tests` | `verifier`: small and random code beside the plain passes, and procedures |
 //! | `refusal_tests` | `verifier`: what is refused, at which slot and why, and what lies beside it |
@@ -36,6 +37,8 @@ mod lock_tests;
 mod number_tests;
 #[cfg(test)]
 mod object_tests;
+#[cfg(test)]
+mod picture_tests;
 #[cfg(test)]
 mod plain_table;
 #[cfg(test)]

@@ -1,0 +1,9 @@
+pub mod Lives
+pub mod Ways
+pub mod Lanes
+pub mod Busiest
+pub mod Picture
+pub mod Texts
+pub mod Canvas
+pub mod Drawing
+pub mod Joining
