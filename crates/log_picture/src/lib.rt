@@ -2,7 +2,7 @@
 //! plain model first, and its drawing in SVG.
 //!
 //! ```
-//! let picture = pictured(alloc, log.events(), 0, 1000)?;   // of the first 1000 events, from place 0 on
+//! let picture = pictured(alloc, log.events(), 0)?;   // of a log of 78 events, from place 0 on
 //! picture.tracks[0].life.end;                              // Some: the place of its End, and its outcome
 //! let svg = drawing(alloc, log.events(), 0, 78, 78, &picture)?;
 //! ```
