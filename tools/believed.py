@@ -34,7 +34,7 @@ GROUPS = [
     ("what a log says: locks, operations, redo; one that begins anew", "history"),
     ("a data component's list, its rules, checkpoints and restarts", "data_component"),
     ("transactions, legal histories, what is in flight", "transactions"),
-    ("the transaction component's calls, and what its state keeps", "tc_core"),
+    ("the transaction component's calls, what its state keeps, what a call's slots hold", "tc_core call_results"),
     ("the procedures of an object file, the lines of its source", "object_file source_lines"),
     ("a file that a crash may cut short", "frame_file"),
     ("a log's file, a file of the system, whose log it is, a journal over it", "log_file disk_file procedure_digest log_journal"),

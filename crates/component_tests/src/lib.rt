@@ -7,6 +7,7 @@
 //! | `log_tests` | `tc_log`: prefixes of a log, and each of its bytes set to 255 |
 //! | `machine_tests` | `interpreter`: procedures from their first question to each end |
 //! | `state_tests`, `undo_tests` | `tc_core`: worked runs without a world, refusals, undos that fail |
+//! | `result_tests` | `call_results`: what slots hold where runs ended |
 //! | `checkpoint_tests` | `tc_core`: a log that begins anew, and what bars it |
 //! | `recovery_tests` | `tc_core`: a state that comes back from each beginning of a log |
 //! | `memory_tests` | `bpf_encoding`, `verifier`, `tc_log`, `request_numbers`, `lock_table`, `data_component`: calls that are refused memory |
@@ -35,6 +36,8 @@ mod memory_state_tests;
 mod memory_tests;
 #[cfg(test)]
 mod recovery_tests;
+#[cfg(test)]
+mod result_tests;
 #[cfg(test)]
 mod state_tests;
 #[cfg(test)]

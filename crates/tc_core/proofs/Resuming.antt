@@ -22,14 +22,14 @@ pub paused_reached : (p : Pause) (c : Config) (st : Stop) → Pauses p c st → 
 paused_reached (pause.Ask o) c st h = ap reached_of h.1
 paused_reached (pause.Exit v) c st h = ap reached_of h
 
-paused : (p : Pause) (c : Config) (st : Stop) (o : Op) → Pauses p c st → reached_of st ≡ Asks o → (slot : ℕ) × (st ≡ Asked slot o c)
+pub paused : (p : Pause) (c : Config) (st : Stop) (o : Op) → Pauses p c st → reached_of st ≡ Asks o → (slot : ℕ) × (st ≡ Asked slot o c)
 paused (pause.Ask p) c st o h e =
     let f : Asks p ≡ Asks o = sym (ap reached_of h.1) ∙ e in
     let same : p ≡ o = cc in
     (h.0, h.1 ∙ ap (λ (x : Op). Asked h.0 x c) same)
 paused (pause.Exit v) c st o h e = absurd (let f : Ends v ≡ Asks o = sym (ap reached_of h) ∙ e in cc)
 
-continues : (q : Checked) (m : Standing) (p : Pause) (args : List ℕ) (answers : List Said) (o : Op) (said : Said)
+pub continues : (q : Checked) (m : Standing) (p : Pause) (args : List ℕ) (answers : List Said) (o : Op) (said : Said)
     → m.args ≡ args → m.bases ≡ plain_bases → Pauses p m.config (stop_at q args answers) → Fitting q args answers
     → reached_of (stop_at q args answers) ≡ Asks o → fits o said ≡ true → is_no_room said ≡ false
     → Continues (setting_of q m.args m.bases) m.config (Some said) (answers ++ said ∷ [])

@@ -243,8 +243,8 @@ impl TcState {
     }
 }
 
-// The event at a place that the log has.
-fn event_at(log: &Log, place: usize) -> &Event
+/// The event at a place that the log has.
+pub fn event_at(log: &Log, place: usize) -> &Event
     requires { place < length log.now.events }
     ensures { StandsAt log.now.events place result.now }
 {

@@ -1,0 +1,3 @@
+pub mod Answering
+pub mod Along
+pub mod Places
