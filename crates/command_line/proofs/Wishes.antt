@@ -1,7 +1,7 @@
 -- What the command of a name wants.
 use Rattle.std.proofs.Common.{arith, slice_index, ◌≡◌, ℕ, Bool, List, [], Option, Some, None, option_map, unwrap_or, codes, is_some, refl, sym}
 use Rattle.std.proofs.Common.{subst, ap, ap₂, ◌∙◌, ◌+◌, ◌∷◌, true, false, inl, inr, eq-or-lt_of_le}
-use Rattle.std.specs.Prelude.{◌<◌, ◌≤◌, Result, slice_get}
+use Rattle.std.specs.Prelude.{◌⊎◌, ◌<◌, ◌≤◌, Result, slice_get}
 use Rattle.std.proofs.lemmas.Bool.{or_parts}
 use Rattle.command_line.proofs.Options.{some_some}
 use Rattle.clap.specs.Words.{HasKind, IsAmong, Kinds, Row, Text, all_of, fault_of, first_of, kind_of, one_of, subcommand_rows_of}
@@ -11,9 +11,12 @@ use Rattle.std.specs.List.{list_any}
 use Rattle.clap.specs.Matches.{subcommand_name_of}
 use Rattle.clap.specs.declared.parser.matches.ArgMatches.{ArgMatches}
 use Rattle.clap.specs.declared.parser.matches.ArgMatches.TheViews.{out-ArgMatches}
-use Rattle.command_line.specs.Said.{AllNumbers, IsNoCount, IsUnfit, Argument, Workers, Tries, Alone, Both, IsWrong, Refused, NoCommand, Unfit, procd_app, shows}
-use Rattle.command_line.specs.Said.{IsFlag, SaysCount, SaysLog, SaysNumber, SaysNumbers, SaysRun, SaysWish, value_of}
-use Rattle.command_line.specs.Task.{LogWish, Events, EventsAndRows, Audit}
+use Rattle.command_line.specs.Said.{AllNumbers, IsNoCount, IsNoPart, IsUnfit, Argument, Workers, Tries, Alone, Both, Drawn, NoPart, Parted, IsWrong, Refused, NoCommand, Unfit, procd_app, shows}
+use Rattle.command_line.specs.Said.{IsFlag, SaysCount, SaysLog, SaysNumber, SaysNumberIf, SaysNumbers, SaysPart, SaysPartOf, SaysRun, SaysWish, value_of}
+use Rattle.command_line.specs.Task.{LogWish, Events, EventsAndRows, Audit, Picture}
+use Rattle.command_line.specs.Joining.LogWanted.{shown_wanted, audit_wanted}
+use Rattle.log_part.specs.declared.part.Part.{Part}
+use Rattle.log_part.specs.declared.part.Part.TheVariants.{Whole, From, Last}
 use Rattle.command_line.specs.Task.{Wish, Exec, Asm, Dis, Verify, World, Run, Log, command_name}
 use Rattle.command_line.specs.Wanted.{IsTaskOrNoMemory}
 use Rattle.command_line.specs.declared.words.Task.{Task}
@@ -145,31 +148,107 @@ wants_log name rows result is all (Log wanted) named says = all wanted says
 
 -- ---- a log's file
 
--- what a script's path, and the flags of an audit and of rows, ask for
-abbrev pub log_wanted : Option Text → Bool → Bool → Option LogWish
-log_wanted None true base = None
-log_wanted None false true = Some EventsAndRows
-log_wanted None false false = Some Events
-log_wanted (Some script) false base = None
-log_wanted (Some script) true true = None
-log_wanted (Some script) true false = Some (Audit script)
+-- a script's path, and the flags of an audit and of rows, with the file of a picture and a part
+abbrev log_wanted : Option Text → Bool → Bool → Option Text → Part → Option LogWish
+log_wanted None true base picture part = None
+log_wanted None false base picture part = shown_wanted base picture part
+log_wanted (Some script) false base picture part = None
+log_wanted (Some script) true base picture part = audit_wanted base picture part script
 
-module _ (rows : List Row) (base audit : Bool) (script : Option Text) (asks : (b : Bool) → IsFlag b (one_of (codes "rows") rows) → base ≡ b)
-    (audits : (a : Bool) → IsFlag a (one_of (codes "audit") rows) → audit ≡ a) (is : script ≡ first_of (codes "script") rows) where
-  pub log_said : (wanted : LogWish) → SaysLog rows wanted → log_wanted script audit base ≡ Some wanted
-  log_said Events says = rw (is ∙ says.2, audits false says.1, asks false says.0) refl
-  log_said EventsAndRows says = rw (is ∙ says.2, audits false says.1, asks true says.0) refl
-  log_said (Audit path) says = rw (is ∙ says.2, audits true says.1, asks false says.0) refl
+part_same : (from tail : Option Text) (a b : Part) → SaysPart from tail a → SaysPart from tail b → a ≡ b
+part_same None None a b is_a is_b = is_a ∙ sym is_b
+part_same (Some text) None a b is_a is_b = is_a.1 ∙ sym is_b.1
+part_same None (Some text) a b is_a is_b = is_a.1 ∙ sym is_b.1
+part_same (Some text) (Some other) a b is_a is_b = absurd is_a
 
-  pub log_fits : is_some script ≡ audit → (audit ≡ true → base ≡ false) → ¬ IsUnfit (codes "log") rows
-  log_fits same one (Argument exec none) = exec_not_log (sym exec)
-  log_fits same one (Workers run none) = log_not_run run
-  log_fits same one (Tries run none) = log_not_run run
-  log_fits same one (Alone log a flag unequal) = unequal (ap is_some (sym is) ∙ (same ∙ audits a flag))
-  log_fits same one (Both log asked audited) =
-      let yes = asks true asked in
-      let no = one (audits true audited) in
-      absurd (cc)
+-- words that say a part say no wrong one
+part_said : (from tail : Option Text) (part : Part) → SaysPart from tail part → ¬ IsNoPart from tail
+part_said None None part says none = elim none [ inl first ↦ first | inr others ↦ elim others [ inl second ↦ second | inr both ↦ absurd (cc) ] ]
+part_said (Some text) None part says none =
+    elim none [ inl first ↦ first says.0 | inr others ↦ elim others [ inl second ↦ second | inr both ↦ absurd (cc) ] ]
+part_said None (Some text) part says none =
+    elim none [ inl first ↦ first | inr others ↦ elim others [ inl second ↦ second says.0 | inr both ↦ absurd (cc) ] ]
+part_said (Some text) (Some other) part says none = says
+
+whole_only : (from tail : Option Text) → SaysPart from tail Whole → (is_some from ≡ true) ⊎ (is_some tail ≡ true) → ⊥
+whole_only None None says some = elim some [ inl first ↦ absurd (cc) | inr second ↦ absurd (cc) ]
+whole_only (Some text) None says some = let differs = says.1 in absurd (cc)
+whole_only None (Some text) says some = let differs = says.1 in absurd (cc)
+whole_only (Some text) (Some other) says some = says
+
+-- rows are of the whole log, and stand beside no picture
+rows_alone : (picture : Option Text) (part : Part) (wanted : LogWish) → shown_wanted true picture part ≡ Some wanted
+    → (picture ≡ None) × (part ≡ Whole)
+rows_alone (Some path) part wanted e = absurd (cc)
+rows_alone None Whole wanted e = (refl, refl)
+rows_alone None (From place) wanted e = absurd (cc)
+rows_alone None (Last count) wanted e = absurd (cc)
+
+-- and so is an audit, and stands beside neither
+audit_alone : (base : Bool) (picture : Option Text) (part : Part) (script : Text) (wanted : LogWish)
+    → audit_wanted base picture part script ≡ Some wanted → (base ≡ false) × (picture ≡ None) × (part ≡ Whole)
+audit_alone true picture part script wanted e = absurd (cc)
+audit_alone false (Some path) part script wanted e = absurd (cc)
+audit_alone false None Whole script wanted e = (refl, refl, refl)
+audit_alone false None (From place) script wanted e = absurd (cc)
+audit_alone false None (Last count) script wanted e = absurd (cc)
+
+true_false : true ≡ false → ⊥
+true_false e = cc
+
+none_true : (o : Option Text) → o ≡ None → is_some o ≡ true → ⊥
+none_true o none some = true_false (sym some ∙ ap is_some none)
+
+-- what is said of a log says no wrong part
+pub log_parted : (rows : List Row) (wanted : LogWish) → SaysLog rows wanted → ¬ IsNoPart (first_of (codes "from") rows) (first_of (codes "tail") rows)
+log_parted rows (Events p) says = part_said _ _ p says.4
+log_parted rows EventsAndRows says = part_said _ _ Whole says.4
+log_parted rows (Audit path) says = part_said _ _ Whole says.4
+log_parted rows (Picture path p) says = part_said _ _ p says.4
+
+module _ (rows : List Row) (base audit : Bool) (script picture : Option Text) (part : Part)
+    (asks : (b : Bool) → IsFlag b (one_of (codes "rows") rows) → base ≡ b)
+    (audits : (a : Bool) → IsFlag a (one_of (codes "audit") rows) → audit ≡ a) (is : script ≡ first_of (codes "script") rows)
+    (drawn : picture ≡ first_of (codes "picture") rows) (parted : SaysPartOf rows part) where
+  pub log_said : (wanted : LogWish) → SaysLog rows wanted → log_wanted script audit base picture part ≡ Some wanted
+  log_said (Events p) says =
+      rw (is ∙ says.2, audits false says.1, asks false says.0, drawn ∙ says.3, part_same _ _ part p parted says.4) refl
+  log_said EventsAndRows says =
+      rw (is ∙ says.2, audits false says.1, asks true says.0, drawn ∙ says.3, part_same _ _ part Whole parted says.4) refl
+  log_said (Audit path) says =
+      rw (is ∙ says.2, audits true says.1, asks false says.0, drawn ∙ says.3, part_same _ _ part Whole parted says.4) refl
+  log_said (Picture path p) says =
+      rw (is ∙ says.2, audits false says.1, asks false says.0, drawn ∙ says.3, part_same _ _ part p parted says.4) refl
+
+  -- where what is asked for stands beside nothing else, nothing is unfit
+  log_fits : is_some script ≡ audit → (audit ≡ true → base ≡ false)
+      → ((base ≡ true) ⊎ (audit ≡ true) → (picture ≡ None) × (part ≡ Whole)) → ¬ IsUnfit (codes "log") rows
+  log_fits same one alone (Argument exec none) = exec_not_log (sym exec)
+  log_fits same one alone (Workers run none) = log_not_run run
+  log_fits same one alone (Tries run none) = log_not_run run
+  log_fits same one alone (Alone log a flag unequal) = unequal (ap is_some (sym is) ∙ (same ∙ audits a flag))
+  log_fits same one alone (Both log asked audited) = true_false (sym (asks true asked) ∙ one (audits true audited))
+  log_fits same one alone (Drawn log some whole) =
+      let none = (alone (elim whole [ inl asked ↦ inl (asks true asked) | inr audited ↦ inr (audits true audited) ])).0 in
+      none_true picture none (ap is_some drawn ∙ some)
+  log_fits same one alone (NoPart log none) = part_said _ _ part parted none
+  log_fits same one alone (Parted log some whole) =
+      let all = (alone (elim whole [ inl asked ↦ inl (asks true asked) | inr audited ↦ inr (audits true audited) ])).1 in
+      whole_only _ _ (subst (SaysPartOf rows) all parted) some
+
+  pub shown_fits : (wanted : LogWish) → script ≡ None → audit ≡ false → shown_wanted base picture part ≡ Some wanted → ¬ IsUnfit (codes "log") rows
+  shown_fits wanted no_script no_audit shown =
+      log_fits (ap is_some no_script ∙ sym no_audit) (λ yes. absurd (true_false (sym yes ∙ no_audit)))
+      (λ either. elim either [
+        | inl asked ↦ rows_alone picture part wanted (subst (λ (b : Bool). shown_wanted b picture part ≡ Some wanted) asked shown)
+        | inr audited ↦ absurd (true_false (sym audited ∙ no_audit))
+      ])
+
+  pub audit_fits : (path : Text) (wanted : LogWish) → script ≡ Some path → audit ≡ true → audit_wanted base picture part path ≡ Some wanted
+      → ¬ IsUnfit (codes "log") rows
+  audit_fits path wanted there audited found =
+      let alone = audit_alone base picture part path wanted found in
+      log_fits (ap is_some there ∙ sym audited) (λ _. alone.0) (λ _. (alone.1, alone.2))
 
 composed : {A B C : Type 0} (g : A → B) (f : B → C) (o : Option A) → option_map (λ a. f (g a)) o ≡ option_map f (option_map g o)
 composed g f None = refl
@@ -181,23 +260,18 @@ name_of_rows m = composed _ (λ p. p.0) (out-ArgMatches m).subcommand
 
 -- ---- an option with a number
 
-pub count_said : (o : Option Text) (text : Text) (default n : ℕ) → Some text ≡ o → SaysCount o default n → SaysNumber text × (n ≡ value_of text)
-count_said None text default n e says = absurd (cc)
-count_said (Some said) text default n e says = let same : said ≡ text = cc in subst (λ (t : Text). SaysNumber t × (n ≡ value_of t)) same says
+pub number_there : (o : Option Text) (text : Text) (n : ℕ) → Some text ≡ o → SaysNumber text → n ≡ value_of text → SaysNumberIf o (Some n)
+number_there None text n e says is = absurd (cc)
+number_there (Some said) text n e says is =
+    let same : text ≡ said = cc in (subst SaysNumber same says, ap Some (is ∙ ap value_of same))
 
-pub count_silent : (o : Option Text) (default n : ℕ) → None ≡ o → SaysCount o default n → n ≡ default
-count_silent None default n e says = says
-count_silent (Some said) default n e says = absurd (cc)
+pub number_silent : (o : Option Text) → None ≡ o → SaysNumberIf o None
+number_silent None e = refl
+number_silent (Some said) e = absurd (cc)
 
--- ---- numbers that are wanted, and aren't there
-
-pub count_is : (o : Option Text) (text : Text) → Some text ≡ o → SaysNumber text → ¬ IsNoCount o
-count_is None text e number = absurd (cc)
-count_is (Some said) text e number = let same : text ≡ said = cc in λ none. none (subst SaysNumber same number)
-
-pub silent_is : (o : Option Text) → None ≡ o → ¬ IsNoCount o
-silent_is None e = λ none. none
-silent_is (Some said) e = absurd (cc)
+pub number_wrong : (o : Option Text) (text : Text) → Some text ≡ o → ¬ SaysNumber text → IsNoCount o
+number_wrong None text e wrong = absurd (cc)
+number_wrong (Some said) text e wrong = let same : said ≡ text = cc in λ says. wrong (subst SaysNumber same says)
 
 -- only these three commands have more to say than a file and flags
 pub lacks_nothing : (name : Text) (rows : List Row) → (name ≡ codes "exec" → ⊥) → (name ≡ codes "run" → ⊥) → (name ≡ codes "log" → ⊥)
@@ -207,6 +281,9 @@ lacks_nothing name rows not_exec not_run not_log (Workers run none) = not_run ru
 lacks_nothing name rows not_exec not_run not_log (Tries run none) = not_run run
 lacks_nothing name rows not_exec not_run not_log (Alone log audit flag unequal) = not_log log
 lacks_nothing name rows not_exec not_run not_log (Both log asked audit) = not_log log
+lacks_nothing name rows not_exec not_run not_log (Drawn log some whole) = not_log log
+lacks_nothing name rows not_exec not_run not_log (NoPart log none) = not_log log
+lacks_nothing name rows not_exec not_run not_log (Parted log some whole) = not_log log
 
 pub lacks_no_argument : (name : Text) (rows : List Row) → name ≡ codes "exec" → AllNumbers (unwrap_or (all_of (codes "arg") rows) [])
     → ¬ IsUnfit name rows
@@ -215,6 +292,9 @@ lacks_no_argument name rows is all (Workers run none) = exec_not_run (sym is ∙
 lacks_no_argument name rows is all (Tries run none) = exec_not_run (sym is ∙ run)
 lacks_no_argument name rows is all (Alone log audit flag unequal) = exec_not_log (sym is ∙ log)
 lacks_no_argument name rows is all (Both log asked audit) = exec_not_log (sym is ∙ log)
+lacks_no_argument name rows is all (Drawn log some whole) = exec_not_log (sym is ∙ log)
+lacks_no_argument name rows is all (NoPart log none) = exec_not_log (sym is ∙ log)
+lacks_no_argument name rows is all (Parted log some whole) = exec_not_log (sym is ∙ log)
 
 pub lacks_no_count : (rows : List Row) → ¬ IsNoCount (first_of (codes "workers") rows) → ¬ IsNoCount (first_of (codes "tries") rows)
     → ¬ IsUnfit (codes "run") rows
@@ -223,6 +303,9 @@ lacks_no_count rows workers tries (Workers run none) = workers none
 lacks_no_count rows workers tries (Tries run none) = tries none
 lacks_no_count rows workers tries (Alone log audit flag unequal) = log_not_run (sym log)
 lacks_no_count rows workers tries (Both log asked audit) = log_not_run (sym log)
+lacks_no_count rows workers tries (Drawn log some whole) = log_not_run (sym log)
+lacks_no_count rows workers tries (NoPart log none) = log_not_run (sym log)
+lacks_no_count rows workers tries (Parted log some whole) = log_not_run (sym log)
 
 pub asm_lacks_nothing : (name : Text) (rows : List Row) → name ≡ codes "asm" → ¬ IsUnfit name rows
 asm_lacks_nothing name rows is = lacks_nothing name rows (λ e. exec_not_asm (sym e ∙ is)) (λ e. asm_not_run (sym is ∙ e)) (λ e. asm_not_log (sym is ∙ e))

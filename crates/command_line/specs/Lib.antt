@@ -1,3 +1,4 @@
 pub mod Task
 pub mod Said
 pub mod Wanted
+pub mod Joining

@@ -9,7 +9,9 @@ use Rattle.clap.specs.declared.error.kind.ErrorKind.TheVariants as kind
 use Rattle.clap.specs.declared.builder.ArgAction.TheVariants.{Set, SetTrue, Append}
 use Rattle.std.specs.Str.Parse.{IsNumeral, digits_value, without_leading_plus}
 use Rattle.command_line.specs.Task.{Wish, Exec, Asm, Dis, Verify, World, Run, Log, command_name}
-use Rattle.command_line.specs.Task.{LogWish, Events, EventsAndRows, Audit}
+use Rattle.command_line.specs.Task.{LogWish, Events, EventsAndRows, Audit, Picture}
+use Rattle.log_part.specs.declared.part.Part.{Part}
+use Rattle.log_part.specs.declared.part.Part.TheVariants.{Whole, From, Last}
 
 abbrev pub raw_rule : Rule
 raw_rule = record (new_rule (codes "raw")) { long = Some (codes "raw"); action = Some SetTrue }
@@ -74,9 +76,17 @@ told_app = with_rule (with_rule (with_rule counted_app stats_rule) audit_rule) t
 abbrev pub run_app : App
 run_app = with_rule (with_rule (with_rule told_app (option_rule (codes "log"))) file_rule) script_rule
 
--- log [--rows] [--audit] FILE [SCRIPT]
+-- log [--rows] [--audit] [--picture SVG]
+abbrev pub drawn_app : App
+drawn_app = with_rule (with_rule (with_rule (new_app (codes "log")) rows_rule) audit_rule) (option_rule (codes "picture"))
+
+-- log [--rows] [--audit] [--picture SVG] [--from P] [--tail N]
+abbrev pub parted_app : App
+parted_app = with_rule (with_rule drawn_app (option_rule (codes "from"))) (option_rule (codes "tail"))
+
+-- log [--rows] [--audit] [--picture SVG] [--from P] [--tail N] FILE [SCRIPT]
 abbrev pub log_app : App
-log_app = with_rule (with_rule (with_rule (with_rule (new_app (codes "log")) rows_rule) audit_rule) file_rule) script_rule
+log_app = with_rule (with_rule parted_app file_rule) script_rule
 
 -- the commands that take code
 abbrev pub code_app : App
@@ -119,6 +129,11 @@ abbrev pub SaysCount : Option Text → ℕ → ℕ → Type 0
 SaysCount None default n = n ≡ default
 SaysCount (Some text) default n = SaysNumber text × (n ≡ value_of text)
 
+-- the same, or none
+abbrev pub SaysNumberIf : Option Text → Option ℕ → Type 0
+SaysNumberIf None n = n ≡ None
+SaysNumberIf (Some text) n = SaysNumber text × (n ≡ Some (value_of text))
+
 -- 4 workers and 3 tries, where nothing is said of them
 abbrev pub SaysRun : List Row → ℕ → ℕ → Bool → Bool → Bool → Option Text → Option Text → Type 0
 SaysRun rows workers tries stats audit tell log script =
@@ -126,16 +141,28 @@ SaysRun rows workers tries stats audit tell log script =
     × IsFlag stats (one_of (codes "stats") rows) × IsFlag audit (one_of (codes "audit") rows) × IsFlag tell (one_of (codes "tell") rows)
     × (first_of (codes "log") rows ≡ log) × (first_of (codes "script") rows ≡ script)
 
--- whether the rows with which it begins are asked for, whether an audit is, and the script
-abbrev pub SaysOfLog : List Row → Bool → Bool → Option Text → Type 0
-SaysOfLog rows base audit script =
-    IsFlag base (one_of (codes "rows") rows) × IsFlag audit (one_of (codes "audit") rows) × (first_of (codes "script") rows ≡ script)
+-- from which place on, or how many at the end: one of both at most, and the whole log where neither is said
+abbrev pub SaysPart : (from tail : Option Text) → Part → Type 0
+SaysPart None None part = part ≡ Whole
+SaysPart (Some text) None part = SaysNumber text × (part ≡ From (value_of text))
+SaysPart None (Some text) part = SaysNumber text × (part ≡ Last (value_of text))
+SaysPart (Some text) (Some other) part = ⊥
 
--- a script where an audit is asked for, and else none; rows without an audit alone
+abbrev pub SaysPartOf : List Row → Part → Type 0
+SaysPartOf rows part = SaysPart (first_of (codes "from") rows) (first_of (codes "tail") rows) part
+
+-- whether the rows with which it begins are asked for, whether an audit is, the script, the file of a picture, and the part of its events
+abbrev pub SaysOfLog : List Row → (base audit : Bool) → (script picture : Option Text) → Part → Type 0
+SaysOfLog rows base audit script picture part =
+    IsFlag base (one_of (codes "rows") rows) × IsFlag audit (one_of (codes "audit") rows) × (first_of (codes "script") rows ≡ script)
+    × (first_of (codes "picture") rows ≡ picture) × SaysPartOf rows part
+
+-- a script where an audit is asked for, and else none; rows, an audit or a picture, and a part of the events with neither rows nor an audit
 abbrev pub SaysLog : List Row → LogWish → Type 0
-SaysLog rows Events = SaysOfLog rows false false None
-SaysLog rows EventsAndRows = SaysOfLog rows true false None
-SaysLog rows (Audit script) = SaysOfLog rows false true (Some script)
+SaysLog rows (Events part) = SaysOfLog rows false false None None part
+SaysLog rows EventsAndRows = SaysOfLog rows true false None None Whole
+SaysLog rows (Audit script) = SaysOfLog rows false true (Some script) None Whole
+SaysLog rows (Picture path part) = SaysOfLog rows false false None (Some path) part
 
 -- what a command's rows say
 abbrev pub SaysWish : List Row → Wish → Type 0
@@ -173,7 +200,16 @@ abbrev pub IsNoCount : Option Text → Type 0
 IsNoCount None = ⊥
 IsNoCount (Some text) = ¬ SaysNumber text
 
--- what is to be a number isn't one, an audit has no script, or a script no audit; or rows are asked for beside an audit
+-- a place or a count of events isn't a number, or both are there
+abbrev pub IsNoPart : (from tail : Option Text) → Type 0
+IsNoPart from tail = IsNoCount from ⊎ (IsNoCount tail ⊎ ((is_some from ≡ true) × (is_some tail ≡ true)))
+
+-- rows or an audit are asked for
+abbrev pub IsOfWhole : List Row → Type 0
+IsOfWhole rows = IsFlag true (one_of (codes "rows") rows) ⊎ IsFlag true (one_of (codes "audit") rows)
+
+-- what is to be a number isn't one, an audit has no script, or a script no audit; rows are asked for beside an audit, or a picture or a
+-- part of the events beside one of these
 pub data IsUnfit (name : Text) (rows : List Row) : Type 0 where
   Argument : name ≡ codes "exec" → ¬ AllNumbers (unwrap_or (all_of (codes "arg") rows) []) → IsUnfit name rows
   Workers : name ≡ codes "run" → IsNoCount (first_of (codes "workers") rows) → IsUnfit name rows
@@ -181,6 +217,10 @@ pub data IsUnfit (name : Text) (rows : List Row) : Type 0 where
   Alone : name ≡ codes "log" → (audit : Bool) → IsFlag audit (one_of (codes "audit") rows)
       → is_some (first_of (codes "script") rows) ≢ audit → IsUnfit name rows
   Both : name ≡ codes "log" → IsFlag true (one_of (codes "rows") rows) → IsFlag true (one_of (codes "audit") rows) → IsUnfit name rows
+  Drawn : name ≡ codes "log" → is_some (first_of (codes "picture") rows) ≡ true → IsOfWhole rows → IsUnfit name rows
+  NoPart : name ≡ codes "log" → IsNoPart (first_of (codes "from") rows) (first_of (codes "tail") rows) → IsUnfit name rows
+  Parted : name ≡ codes "log" → (is_some (first_of (codes "from") rows) ≡ true) ⊎ (is_some (first_of (codes "tail") rows) ≡ true)
+      → IsOfWhole rows → IsUnfit name rows
 
 -- the words are refused by the command line's rules, name no command, or don't fit together
 pub data IsWrong (words : List Text) : Type 0 where

@@ -4,12 +4,15 @@ use Rattle.command_line.specs.declared.words.Task.{Task}
 use Rattle.command_line.specs.declared.words.Task.TheVariants as task
 use Rattle.command_line.specs.declared.words.LogTask.{LogTask}
 use Rattle.command_line.specs.declared.words.LogTask.TheVariants as of_log
+use Rattle.log_part.specs.declared.part.Part.{Part}
 
--- what is printed of a log's file: its events, the rows with which it begins behind them, or an audit beside the script of a path
+-- what is wanted of a log's file: some of its events are printed, or all and the rows with which it begins; an audit beside the script of
+-- a path; or a picture of some of its events, in a file of a path
 pub data LogWish : Type 0 where
-  Events : LogWish
+  Events : (part : Part) → LogWish
   EventsAndRows : LogWish
   Audit : (script : List ℕ) → LogWish
+  Picture : (path : List ℕ) (part : Part) → LogWish
 
 -- a command, but for its file
 pub data Wish : Type 0 where
@@ -31,9 +34,10 @@ command_name (Run workers tries stats audit tell log script) = codes "run"
 command_name (Log wanted) = codes "log"
 
 abbrev pub log_wish : LogTask → LogWish
-log_wish of_log.Events = Events
+log_wish (of_log.Events part) = Events part
 log_wish of_log.EventsAndRows = EventsAndRows
 log_wish (of_log.Audit script) = Audit script.now
+log_wish (of_log.Picture path part) = Picture path.now part
 
 abbrev pub wish_of : Task → Wish
 wish_of (task.Exec raw numbers) = Exec raw numbers.items

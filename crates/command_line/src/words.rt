@@ -5,14 +5,16 @@ ghost use Rattle.clap.specs.Words.{App, Row, app_of, with_subcommand, rule_of, k
 ghost use Rattle.clap.specs.Words.{subcommand_rows_of, takes, rows_of, found_of, first_of, one_of, all_of, fault_of, FailsBy};
 ghost use Rattle.clap.specs.declared.builder.command.Command.TheViews.{out-Command};
 ghost use Rattle.command_line.specs.Wanted.{WantsOrNoMemory, IsTaskOrNoMemory, IsNumbersOrNoMemory, IsWordFault, IsWrongOrNoMemory};
-ghost use Rattle.command_line.specs.Task.{Wish, LogWish, Run, Log, command_name};
+ghost use Rattle.command_line.specs.Task.{Wish, LogWish, Run, Log, command_name, log_wish};
+ghost use Rattle.command_line.specs.Joining.LogWanted.{shown_wanted, audit_wanted};
 ghost use Rattle.command_line.specs.Said.{procd_app, exec_app, asm_app, dis_app, verify_app, world_app, run_app, log_app};
 ghost use Rattle.command_line.specs.Said.{file_rule, raw_rule, log_rule, audit_rule, rows_rule, script_rule, option_rule, stats_rule, tell_rule};
-ghost use Rattle.command_line.specs.Said.{Says, SaysWish, SaysRun, SaysLog, SaysCount, SaysNumbers, AllNumbers, IsFlag, value_of};
-ghost use Rattle.command_line.specs.Said.{IsWrong, IsNoCount, IsUnfit};
+ghost use Rattle.command_line.specs.Said.{Says, SaysWish, SaysRun, SaysLog, SaysPart, SaysCount, SaysNumberIf, SaysNumbers, AllNumbers, IsFlag, value_of};
+ghost use Rattle.command_line.specs.Said.{IsWrong, IsNoCount, IsNoPart, IsUnfit};
 
 use clap::error::ErrorKind;
 use clap::{Arg, ArgAction, ArgMatches, Command, Error};
+use log_part::Part;
 use std::alloc::{AllocError, Global};
 use std::convert::AsStr;
 
@@ -59,12 +61,14 @@ pub enum Task<'a> {
 /// What is wanted of a log's file.
 #[derive(Clone, Copy)]
 pub enum LogTask<'a> {
-    /// Print its events.
-    Events,
+    /// Print these of its events.
+    Events(Part),
     /// Print its events, and behind them the records with which data components begin.
     EventsAndRows,
     /// Audit it, with the script of this path, whose procedures it was written for.
     Audit(&'a str),
+    /// Draw these of its events into a new file of this path.
+    Picture(&'a str, Part),
 }
 
 impl Task<'_> {
@@ -106,8 +110,12 @@ pub enum WordFault {
     AuditAlone,
     /// `log` with a script, but without `--audit`.
     ScriptAlone,
-    /// `log` with `--audit` and with `--rows`.
-    RowsBesideAudit,
+    /// `log` with two of `--rows`, `--audit` and `--picture`.
+    TwoPurposes,
+    /// `log` with `--from` and with `--tail`.
+    TwoParts,
+    /// `log` with `--from` or `--tail`, and with `--rows` or `--audit`.
+    PartUnwanted,
     NoCommand,
     Memory,
 }
@@ -314,11 +322,24 @@ fn rows_arg<'a>(alloc: Global) -> Arg<'a>
         .help("Print the rows as well with which a log begins that was cut, behind its events")
 }
 
-// `log [--rows] [--audit] FILE [SCRIPT]`
+// `log [--rows] [--audit] [--picture SVG] [--from P] [--tail N] FILE [SCRIPT]`
 fn log_command<'a>(alloc: Global) -> Result<Command<'a>, AllocError>
     ensures app { IfOk result (λ c. app_of c ≡ log_app) }
     ensures local { IfOk result (λ c. (out-Command c).has_globals ≡ false) }
 {
+    let picture = option_arg(
+        alloc,
+        "picture",
+        "SVG",
+        "Draw the events as a picture, into a new file: its path",
+    );
+    let from = option_arg(
+        alloc,
+        "from",
+        "P",
+        "Only the events from place P on, from 0; of a picture the first ones there",
+    );
+    let tail = option_arg(alloc, "tail", "N", "Only the last N events");
     let script = script_arg(
         alloc,
         "With --audit, the script whose procedures the log was written for: a path",
@@ -326,6 +347,9 @@ fn log_command<'a>(alloc: Global) -> Result<Command<'a>, AllocError>
     Command::new(alloc, "log")
         .arg(rows_arg(alloc))?
         .arg(audit_arg(alloc))?
+        .arg(picture)?
+        .arg(from)?
+        .arg(tail)?
         .arg(file_arg(alloc, "The log's file: a path, or - for standard input"))?
         .arg(script)
 }
@@ -389,7 +413,7 @@ fn procd_command<'a>(alloc: Global) -> Result<Command<'a>, AllocError>
     let with_log = with_command(
         with_run,
         log_command(alloc),
-        "Print the events of a log's file, one a line, as `7 end 3 committed`; or audit it beside a script",
+        "Print the events of a log's file, one a line, as `7 end 3 committed`; or draw them, or audit it beside a script",
     )?;
     Ok(
         with_log
@@ -437,17 +461,28 @@ fn numbers_in(alloc: Global, matches: &ArgMatches) -> Result<Vec<u64>, WordFault
     }
 }
 
+// The number that an option says, where it is there.
+fn number_of(matches: &ArgMatches, name: &str) -> Result<Option<u64>, WordFault>
+    ensures ok { IfOk result (SaysNumberIf (first_of name.now (rows_of (found_of matches.now)))) }
+    ensures err { IfErr result (λ e. IsWordFault e × IsNoCount (first_of name.now (rows_of (found_of matches.now)))) }
+{
+    match matches.get_str(name) {
+        Some(text) => match text.parse::<u64>() {
+            Ok(n) => Ok(Some(n)),
+            Err(_) => Err(WordFault::NotNumber),
+        },
+        None => Ok(None),
+    }
+}
+
 // The number that an option says, or this one where it isn't there.
 fn number_or(matches: &ArgMatches, name: &str, default: u64) -> Result<u64, WordFault>
     ensures count { (n : ℕ) → SaysCount (first_of name.now (rows_of (found_of matches.now))) default n → result ≡ Ok n }
     ensures wrong { IfOk result (λ n. ¬ IsNoCount (first_of name.now (rows_of (found_of matches.now)))) }
     ensures err { IfErr result IsWordFault }
 {
-    match matches.get_str(name) {
-        Some(text) => match text.parse::<u64>() {
-            Ok(n) => Ok(n),
-            Err(_) => Err(WordFault::NotNumber),
-        },
+    match number_of(matches, name)? {
+        Some(n) => Ok(n),
         None => Ok(default),
     }
 }
@@ -487,6 +522,60 @@ fn run_task<'a>(matches: &ArgMatches<'a>) -> Result<Task<'a>, WordFault>
     })
 }
 
+// Which of a log's events are wanted.
+fn part_of(matches: &ArgMatches) -> Result<Part, WordFault>
+    ensures ok { IfOk result (SaysPart (first_of (codes "from") (rows_of (found_of matches.now)))
+        (first_of (codes "tail") (rows_of (found_of matches.now)))) }
+    ensures err { IfErr result (λ e. IsWordFault e × IsNoPart (first_of (codes "from") (rows_of (found_of matches.now)))
+        (first_of (codes "tail") (rows_of (found_of matches.now)))) }
+{
+    let from = number_of(matches, "from")?;
+    let tail = number_of(matches, "tail")?;
+    match (from, tail) {
+        (None, None) => Ok(Part::Whole),
+        (Some(place), None) => Ok(Part::From(place)),
+        (None, Some(wanted)) => Ok(Part::Last(wanted)),
+        (Some(_), Some(_)) => Err(WordFault::TwoParts),
+    }
+}
+
+// What is to be done with a log's file, where no audit is asked for.
+fn shown_task<'a>(
+    rows: bool,
+    picture: Option<&'a str>,
+    part: Part,
+) -> Result<LogTask<'a>, WordFault>
+    ensures ok { IfOk result (λ task. shown_wanted rows (option_map (λ path. path.now) picture.entry) part ≡ Some (log_wish task)) }
+    ensures err { IfErr result (λ e. IsWordFault e × (shown_wanted rows (option_map (λ path. path.now) picture.entry) part ≡ None)) }
+{
+    match picture {
+        Some(_) if rows => Err(WordFault::TwoPurposes),
+        Some(path) => Ok(LogTask::Picture(path, part)),
+        None if !rows => Ok(LogTask::Events(part)),
+        None if part == Part::Whole => Ok(LogTask::EventsAndRows),
+        None => Err(WordFault::PartUnwanted),
+    }
+}
+
+// An audit of a log's file.
+fn audit_task<'a>(
+    rows: bool,
+    picture: Option<&'a str>,
+    part: Part,
+    script: &'a str,
+) -> Result<LogTask<'a>, WordFault>
+    ensures ok { IfOk result (λ task. audit_wanted rows (option_map (λ path. path.now) picture.entry) part script.entry.now ≡ Some (log_wish task)) }
+    ensures err { IfErr result (λ e. IsWordFault e × (audit_wanted rows (option_map (λ path. path.now) picture.entry) part script.entry.now ≡ None)) }
+{
+    if rows || picture.is_some() {
+        return Err(WordFault::TwoPurposes);
+    }
+    if part != Part::Whole {
+        return Err(WordFault::PartUnwanted);
+    }
+    Ok(LogTask::Audit(script))
+}
+
 // What is to be done with a log's file.
 fn log_task<'a>(matches: &ArgMatches<'a>) -> Result<Task<'a>, WordFault>
     ensures task { (wanted : LogWish) → SaysLog (rows_of (found_of matches.now)) wanted → IsTaskOrNoMemory (Log wanted) result }
@@ -495,13 +584,13 @@ fn log_task<'a>(matches: &ArgMatches<'a>) -> Result<Task<'a>, WordFault>
 {
     let rows = flag_of(matches, "rows");
     let audit = flag_of(matches, "audit");
+    let picture = text_of(matches, "picture");
+    let part = part_of(matches)?;
     match text_of(matches, "script") {
         None if audit => Err(WordFault::AuditAlone),
-        None if rows => Ok(Task::Log(LogTask::EventsAndRows)),
-        None => Ok(Task::Log(LogTask::Events)),
+        None => Ok(Task::Log(shown_task(rows, picture, part)?)),
         Some(_) if !audit => Err(WordFault::ScriptAlone),
-        Some(_) if rows => Err(WordFault::RowsBesideAudit),
-        Some(script) => Ok(Task::Log(LogTask::Audit(script))),
+        Some(script) => Ok(Task::Log(audit_task(rows, picture, part, script)?)),
     }
 }
 
