@@ -17,26 +17,26 @@ event_lines-append place (x ∷ xs) ys =
     ∙ sym (append_assoc (event_line place x) (event_lines (place + 1) xs) (event_lines (place + suc (length xs)) ys))
 
 -- the lines of one event more
-one_more : (events : List Event) (place : ℕ) (e : Event) → place < length events → e ≡ get_or events place e
-    → event_lines 0 (take (place + 1) events) ≡ event_lines 0 (take place events) ++ event_line place e
-one_more events place e inside at =
+one_more : (first : ℕ) (events : List Event) (place : ℕ) (e : Event) → place < length events → e ≡ get_or events place e
+    → event_lines first (take (place + 1) events) ≡ event_lines first (take place events) ++ event_line (first + place) e
+one_more first events place e inside at =
     let front = take place events in
     let split : take (place + 1) events ≡ front ++ e ∷ []
     = take_more events place e inside ∙ ap (λ (x : Event). take place events ++ x ∷ []) (sym at) in
-    let there : 0 + length front ≡ place = omega (arith, length-take-le place events (omega (arith, inside))) in
-    ap (event_lines 0) split
-    ∙ (event_lines-append 0 front (e ∷ [])
-    ∙ ap (λ (n : ℕ). event_lines 0 (take place events) ++ (event_line n e ++ [])) there
-    ∙ ap (λ (l : List ℕ). event_lines 0 (take place events) ++ l) (append-nil (event_line place e)))
+    let there : first + length front ≡ first + place = omega (arith, length-take-le place events (omega (arith, inside))) in
+    ap (event_lines first) split
+    ∙ (event_lines-append first front (e ∷ [])
+    ∙ ap (λ (n : ℕ). event_lines first (take place events) ++ (event_line n e ++ [])) there
+    ∙ ap (λ (l : List ℕ). event_lines first (take place events) ++ l) (append-nil (event_line (first + place) e)))
 
-pub lines_more : (events : List Event) (place : ℕ) (e : Event) (old all new line : List ℕ) → place < length events → e ≡ get_or events place e
-    → all ≡ old ++ event_lines 0 (take place events) → line ≡ event_line place e → new ≡ all ++ line
-    → new ≡ old ++ event_lines 0 (take (place + 1) events)
-lines_more events place e old all new line inside at so_far is grown =
-    let lines = event_lines 0 (take place events) in
+pub lines_more : (first : ℕ) (events : List Event) (place : ℕ) (e : Event) (old all new line : List ℕ) → place < length events
+    → e ≡ get_or events place e → all ≡ old ++ event_lines first (take place events) → line ≡ event_line (first + place) e → new ≡ all ++ line
+    → new ≡ old ++ event_lines first (take (place + 1) events)
+lines_more first events place e old all new line inside at so_far is grown =
+    let lines = event_lines first (take place events) in
     grown
     ∙ (ap₂ (λ (x y : List ℕ). x ++ y) so_far is
-    ∙ (append_assoc old lines (event_line place e) ∙ ap (λ (l : List ℕ). old ++ l) (sym (one_more events place e inside at))))
+    ∙ (append_assoc old lines (event_line (first + place) e) ∙ ap (λ (l : List ℕ). old ++ l) (sym (one_more first events place e inside at))))
 
 abbrev pub admit_text : ℕ → ℕ → ℕ → List ℕ → List ℕ
 admit_text place t p args =

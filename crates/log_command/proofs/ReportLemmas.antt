@@ -30,6 +30,7 @@ use Rattle.scripts.specs.Reading.{Contents, Reading}
 use Rattle.scripts.specs.declared.script.Dc.{Dc}
 use Rattle.script_loading.specs.Loading.{refusal_of, with_procedures, empty_core, empty_store, IsReady}
 use Rattle.script_loading.specs.declared.loading.Loaded.{Loaded as Script}
+use Rattle.log_part.specs.declared.part.Part.{Part}
 use Rattle.log_command.specs.declared.beginning.BaseFault.{BaseFault}
 use Rattle.log_command.specs.Beginning.{HaveBegun, IsUnbegun}
 use Rattle.log_command.specs.Joining.Beginning.{IsOfLog}
@@ -37,11 +38,11 @@ use Rattle.log_command.specs.LogReport.{stored_lines, base_fault_line, IsListing
 use Rattle.log_command.specs.LogReport.{IsChecked, NotBegun, NotBrought, Audited}
 use Rattle.log_command.specs.LogReport.{IsBeside, Anothers, Own, IsAudit, IsAuditBy}
 
-pub listed_is : {E : Type 0} (rows : Bool) (file : List ℕ) (s : Stored) (result : Result Report E) → IsStored file s
-    → IfOk result (λ r. string_bytes r.lines ≡ stored_lines rows s) → IfOk result (λ r. r.status ≡ 0)
-    → IfOk result (λ r. IsListing rows file r.status (string_bytes r.lines))
-listed_is rows file s (Ok r) is lines status = Listed s is lines status
-listed_is rows file s (Err e) is lines status = tt
+pub listed_is : {E : Type 0} (part : Part) (rows : Bool) (file : List ℕ) (s : Stored) (result : Result Report E) → IsStored file s
+    → IfOk result (λ r. string_bytes r.lines ≡ stored_lines part rows s) → IfOk result (λ r. r.status ≡ 0)
+    → IfOk result (λ r. IsListing part rows file r.status (string_bytes r.lines))
+listed_is part rows file s (Ok r) is lines status = Listed s is lines status
+listed_is part rows file s (Err e) is lines status = tt
 
 pub anothers_is : {E : Type 0} (file : List ℕ) (start : Core) (empties : List Store) (s : Stored) (result : Result Report E) → IsStored file s
     → ¬ (s.header ≡ header_of (loaded_in start)) → IfOk result (λ r. string_bytes r.lines ≡ other_line s.header (header_of (loaded_in start)))

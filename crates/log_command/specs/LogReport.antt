@@ -1,5 +1,5 @@
 -- What `log` prints of a log's file, and the exit status.
-use Rattle.std.specs.Prelude.{◌≡◌, ℕ, ◌==◌, Bool, true, false, if◌then◌else◌, List, [], ◌++◌, length, map, reverse, Option, Some, None, codes, decimal}
+use Rattle.std.specs.Prelude.{◌≡◌, ℕ, ◌==◌, Bool, true, false, if◌then◌else◌, List, [], ◌++◌, length, drop, map, reverse, Option, Some, None, codes, decimal}
 use Rattle.tc_log.specs.declared.event.Event.{Event}
 use Rattle.frame_file.specs.declared.reading.FrameFault.TheVariants.{Damaged}
 use Rattle.log_file.specs.declared.reading.OpenFault.{OpenFault}
@@ -30,6 +30,8 @@ use Rattle.state_lines.specs.AuditLines.{AddsAudit}
 use Rattle.state_lines.specs.RowLines.{row_lines}
 use Rattle.log_command.specs.declared.beginning.BaseFault.{BaseFault}
 use Rattle.log_command.specs.declared.beginning.BaseFault.TheVariants.{NoDc, NoRoom as NoBaseRoom}
+use Rattle.log_part.specs.declared.part.Part.{Part}
+use Rattle.log_part.specs.Part.{first_of}
 use Rattle.log_command.specs.EventLines.{event_lines}
 use Rattle.log_command.specs.Beginning.{HaveBegun, IsUnbegun}
 
@@ -55,9 +57,13 @@ base_lines true (Some rows) = row_lines rows
 base_lines true None = []
 base_lines false base = []
 
--- the events, the oldest first, and the rows with which the log begins
-abbrev pub stored_lines : Bool → Stored → List ℕ
-stored_lines rows s = event_lines 0 (reverse s.log.events) ++ (base_lines rows (base_in s.base) ++ unfinished_line s.unfinished)
+-- a line for each event of a part of these, the oldest first: those of all, but for the ones before it
+abbrev pub part_lines : Part → List Event → List ℕ
+part_lines part events = event_lines (first_of part (length events)) (drop (first_of part (length events)) events)
+
+-- the events of a part, the oldest first, and the rows with which the log begins
+abbrev pub stored_lines : Part → Bool → Stored → List ℕ
+stored_lines part rows s = part_lines part (reverse s.log.events) ++ (base_lines rows (base_in s.base) ++ unfinished_line s.unfinished)
 
 -- why data components don't begin with these rows
 abbrev pub base_fault_line : BaseFault → List ℕ
@@ -83,9 +89,9 @@ pub record IsUnread (file : List ℕ) (status : ℕ) (lines : List ℕ) : Type 0
   pub line : refusal_line fault ≡ Some lines
   pub status_is : status ≡ 1
 
-pub data IsListing (rows : Bool) (file : List ℕ) (status : ℕ) (lines : List ℕ) : Type 0 where
-  Listed : (s : Stored) → IsStored file s → lines ≡ stored_lines rows s → status ≡ 0 → IsListing rows file status lines
-  Unread : IsUnread file status lines → IsListing rows file status lines
+pub data IsListing (part : Part) (rows : Bool) (file : List ℕ) (status : ℕ) (lines : List ℕ) : Type 0 where
+  Listed : (s : Stored) → IsStored file s → lines ≡ stored_lines part rows s → status ≡ 0 → IsListing part rows file status lines
+  Unread : IsUnread file status lines → IsListing part rows file status lines
 
 -- ---- beside procedures and data components
 

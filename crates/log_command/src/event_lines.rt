@@ -1,6 +1,6 @@
 //! The lines of events.
 
-ghost use Rattle.std.specs.Prelude.{◌≡◌, ◌++◌, IfOk, OnOk, string_bytes};
+ghost use Rattle.std.specs.Prelude.{◌≡◌, ◌<◌, ◌+◌, ◌^◌, ◌++◌, length, IfOk, OnOk, string_bytes};
 ghost use Rattle.log_command.specs.EventLines.{arguments_text, event_line, event_lines};
 
 use state_lines::operation_texts::{op_text, outcome_text, said_text};
@@ -50,16 +50,18 @@ fn event_line(alloc: Global, place: usize, event: &Event) -> Result<String, Allo
     }
 }
 
-/// Adds a line for each event, the oldest first.
+/// Adds a line for each of these events, the oldest first, which stands at the place `first` of its log.
 pub(crate) fn write_events(
     alloc: Global,
+    first: usize,
     events: &[Event],
     lines: &mut String,
 ) -> Result<(), AllocError>
-    ensures { OnOk result (string_bytes lines.new ≡ string_bytes lines.old ++ event_lines 0 events.now) }
+    requires { first + length events.now < 2 ^ 64 }
+    ensures { OnOk result (string_bytes lines.new ≡ string_bytes lines.old ++ event_lines first events.now) }
 {
     'events: for (place, event) in events.iter().enumerate() {
-        let line = event_line(alloc, place, event)?;
+        let line = event_line(alloc, first + place, event)?;
         lines.push_str(line.as_str())?;
     }
     Ok(())

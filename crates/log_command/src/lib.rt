@@ -1,8 +1,10 @@
-//! What `procd log` prints of a log's file: its events, or what an audit finds of it beside a script.
+//! What `procd log` makes of a log's file: lines of its events, a picture of them, or what an audit finds of it beside
+//! a script.
 //!
 //! ```
-//! let report = listing(alloc, bytes, false)?;    // `7 end 3 committed`, a line each event
-//! let report = auditing(alloc, bytes, script)?;  // `audit ok ended 3 open 0`
+//! let report = listing(alloc, bytes, Part::Whole, false)?;   // `7 end 3 committed`, a line each event
+//! let pictured = picturing(alloc, bytes, Part::Last(100))?;  // an SVG, and `picture 78 of 78 events ..`
+//! let report = auditing(alloc, bytes, script)?;              // `audit ok ended 3 open 0`
 //! ```
 #![tactic(auto)]
 
@@ -10,4 +12,5 @@ pub mod auditing;
 pub mod beginning;
 mod event_lines;
 pub mod listing;
+pub mod picturing;
 mod refusing;
