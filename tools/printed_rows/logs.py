@@ -269,4 +269,4 @@ def rows(_program):
     yield Row(["log", "--audit", "-"], b"", b"", 2, b"error: ")
     yield Row(["log", "-", str(script)], b"", b"", 2, b"error: ")
     yield Row(["log", "--rows", "-", str(script)], b"", b"", 2, b"error: ")
-    yield Row(["log", "--rows", *audit[1:], str(script)], b"", b"", 2, b"error: log takes --rows")
+    yield Row(["log", "--rows", *audit[1:], str(script)], b"", b"", 2, b"error: log takes one of --rows")

@@ -7,7 +7,7 @@ use Rattle.procd.specs.Streams.{Stream, IsKept, Begins, Ends, EndsOn, Runs, IsLo
 use Rattle.procd.specs.Streams.{TellsUnread, TellsUnwritten, IsToldOrNoMemory}
 use Rattle.procd.specs.Joining.Further.{Reads, Writes}
 use Rattle.command_line.specs.Task.{Wish, Exec, Asm, Dis, Verify, World, Run, Log}
-use Rattle.command_line.specs.Task.{Events, EventsAndRows, Audit}
+use Rattle.command_line.specs.Task.{Events, EventsAndRows, Audit, Picture}
 use Rattle.procd.proofs.Statuses.{report_low}
 
 -- some text that is there to be read
@@ -59,9 +59,10 @@ read_fails Verify path err is told = absurd is
 read_fails (World log audit script) path err is told = script_fails script path err is told
 read_fails (Run workers tries stats audit tell log script) path err is told =
     elim is [ inl keeps ↦ inl (log_fails log path err keeps (inl told)) | inr beside ↦ inr (script_fails script path err beside told) ]
-read_fails (Log Events) path err is told = absurd is
+read_fails (Log (Events part)) path err is told = absurd is
 read_fails (Log EventsAndRows) path err is told = absurd is
 read_fails (Log (Audit script)) path err is told = subst (λ (s : List ℕ). FurtherFails (Log (Audit s)) err) (sym is) told
+read_fails (Log (Picture file part)) path err is told = absurd is
 
 write_fails : (wish : Wish) (path : List ℕ) (err : Stream) → Writes wish path → TellsUnwritten path err → FurtherFails wish err
 write_fails (Exec raw numbers) path err is told = absurd is
@@ -70,7 +71,10 @@ write_fails (Dis raw) path err is told = absurd is
 write_fails Verify path err is told = absurd is
 write_fails (World log audit script) path err is told = absurd is
 write_fails (Run workers tries stats audit tell log script) path err is told = inl (log_fails log path err is (inr told))
-write_fails (Log wanted) path err is told = absurd is
+write_fails (Log (Events part)) path err is told = absurd is
+write_fails (Log EventsAndRows) path err is told = absurd is
+write_fails (Log (Audit script)) path err is told = absurd is
+write_fails (Log (Picture file part)) path err is told = subst (λ (s : List ℕ). FurtherFails (Log (Picture s part)) err) (sym is) told
 
 module _ (file : List ℕ) (wish : Wish) (text : List ℕ) (out err : Stream) (status : ℕ) where
   no_memory_ends : status ≡ 4 → IsKept out → Begins err (codes "memory\n") → Ends file wish text out err status

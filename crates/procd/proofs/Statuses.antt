@@ -5,7 +5,9 @@ use Rattle.std.specs.Prelude.{Result, Ok, Err, ◌≤◌, ◌&&◌, if◌then◌
 use Rattle.text_commands.specs.Execution.{status_of}
 use Rattle.report_texts.specs.Hex.{Hex, hex_of}
 use Rattle.command_line.specs.Task.{Wish, Exec, Asm, Dis, Verify, World, Run, Log}
-use Rattle.command_line.specs.Task.{Events, EventsAndRows, Audit}
+use Rattle.command_line.specs.Task.{Events, EventsAndRows, Audit, Picture}
+use Rattle.log_part.specs.declared.part.Part.{Part}
+use Rattle.log_part.specs.declared.part.Part.TheVariants.{Whole}
 use Rattle.std.specs.List.{list_any}
 use Rattle.scripts.specs.Reading.{Contents, Reading, script_said}
 use Rattle.script_loading.specs.Loading.{Beginning, beginning, refusal_of, with_procedures, empty_core, empty_store}
@@ -17,6 +19,7 @@ use Rattle.text_commands.specs.ObjectVerification.{IsVerification, is_found_refu
 use Rattle.log_file.specs.declared.stored.Stored.{Stored}
 use Rattle.log_command.specs.LogReport.{IsUnread, IsListing, Listed, Unread, IsChecked, NotBegun, NotBrought, Audited}
 use Rattle.log_command.specs.LogReport.{IsBeside, NotRead, Anothers, Own, IsAuditBy}
+use Rattle.log_command.specs.PictureReport.{IsPicturing, Drawn, NotDrawn}
 use Rattle.run_command.specs.Running.{IsRunBy, IsCallsRun, Ran, Stopped, begun, empty_stores}
 use Rattle.run_command.specs.Logged.{FileJournal, KeepsLog, IsLoggedRun, Refused, Behind as GoneOn, IsLoggedBy}
 use Rattle.world_command.specs.WorldReport.{IsWorldBy, status_of_steps}
@@ -110,9 +113,13 @@ world_low None contents behind status lines h = omega (arith, h.left.status_is, 
 unread_low : (file : List ℕ) (status : ℕ) (lines : List ℕ) → IsUnread file status lines → status ≤ 1
 unread_low file status lines h = omega (arith, h.status_is)
 
-listing_low : (rows : Bool) (file : List ℕ) (status : ℕ) (lines : List ℕ) → IsListing rows file status lines → status ≤ 1
-listing_low rows file status lines (Listed s is printed zero) = omega (arith, zero)
-listing_low rows file status lines (Unread h) = unread_low file status lines h
+listing_low : (part : Part) (rows : Bool) (file : List ℕ) (status : ℕ) (lines : List ℕ) → IsListing part rows file status lines → status ≤ 1
+listing_low part rows file status lines (Listed s is printed zero) = omega (arith, zero)
+listing_low part rows file status lines (Unread h) = unread_low file status lines h
+
+picturing_low : (part : Part) (file : List ℕ) (svg : Option (List ℕ)) (status : ℕ) (lines : List ℕ) → IsPicturing part file svg status lines → status ≤ 1
+picturing_low part file svg status lines (Drawn s is drawn) = let zero = drawn.status_is in omega (arith, zero)
+picturing_low part file svg status lines (NotDrawn h none) = unread_low file status lines h
 
 checked_low : (start : Core) (empties : List Store) (s : Stored) (status : ℕ) (lines : List ℕ) → IsChecked start empties s status lines → status ≤ 1
 checked_low start empties s status lines (NotBegun fault why told one) = omega (arith, one)
@@ -164,7 +171,8 @@ report_low (Dis raw) text status lines h = disassembly_low raw text status lines
 report_low Verify file status lines h = verification_low (is_elf file) file status lines h
 report_low (World log audit script) file status lines h = world_of_low (record { audit = audit; log = log }) script file status lines h
 report_low (Run workers tries stats audit tell log script) file status lines h = run_of_low workers tries audit log script file status lines h
-report_low (Log Events) text status lines h = listing_low false text status lines h
-report_low (Log EventsAndRows) text status lines h = listing_low true text status lines h
+report_low (Log (Events part)) text status lines h = listing_low part false text status lines h
+report_low (Log EventsAndRows) text status lines h = listing_low Whole true text status lines h
+report_low (Log (Picture path part)) text status lines h = picturing_low part text h.0 status lines h.1
 report_low (Log (Audit path)) text status lines h =
     let r = script_said command.Run h.0 in audit_low (refusal_of r) r.contents text status lines h.1

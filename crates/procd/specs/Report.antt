@@ -5,7 +5,8 @@ use Rattle.procd.specs.declared.reading.TextFault.{TextFault}
 use Rattle.procd.specs.declared.reading.TextFault.TheVariants.{NotUtf8, Marked}
 use Rattle.bpf_asm.specs.Lines.{assembled}
 use Rattle.command_line.specs.Task.{Wish, Exec, Asm, Dis, Verify, World, Run, Log}
-use Rattle.command_line.specs.Task.{LogWish, Events, EventsAndRows, Audit}
+use Rattle.command_line.specs.Task.{LogWish, Events, EventsAndRows, Audit, Picture}
+use Rattle.log_part.specs.declared.part.Part.TheVariants.{Whole}
 use Rattle.scripts.specs.Reading.{script_said}
 use Rattle.script_loading.specs.Loading.{Beginning, beginning}
 use Rattle.scripts.specs.declared.keyword.Command.TheVariants as command
@@ -18,6 +19,7 @@ use Rattle.world_command.specs.declared.world.Behind.{Behind}
 use Rattle.run_command.specs.Running.{IsRun}
 use Rattle.run_command.specs.Logged.{FileJournal, IsLogged}
 use Rattle.log_command.specs.LogReport.{IsListing, IsAudit}
+use Rattle.log_command.specs.PictureReport.{IsPicturing}
 
 -- the byte order mark, U+FEFF in UTF-8
 abbrev pub byte_order_mark : List ℕ
@@ -46,10 +48,11 @@ abbrev pub IsWorldOf : Behind → (script : Option (List ℕ)) → List ℕ → 
 IsWorldOf behind None text status lines = IsWorld behind (beginning command.World None text) status lines
 IsWorldOf behind (Some path) file status lines = (text : List ℕ) × IsWorld behind (beginning command.World (Some file) text) status lines
 
--- what is printed of a log's file, or of an audit beside what the script's file has
+-- what is printed of a log's file, of a picture of it, or of an audit beside what the script's file has
 abbrev pub IsLogReport : LogWish → List ℕ → ℕ → List ℕ → Type 0
-IsLogReport Events file status lines = IsListing false file status lines
-IsLogReport EventsAndRows file status lines = IsListing true file status lines
+IsLogReport (Events part) file status lines = IsListing part false file status lines
+IsLogReport EventsAndRows file status lines = IsListing Whole true file status lines
+IsLogReport (Picture path part) file status lines = (svg : Option (List ℕ)) × IsPicturing part file svg status lines
 IsLogReport (Audit path) file status lines = (script : List ℕ) × IsAudit file (script_said command.Run script) status lines
 
 -- what a command prints of a text, and its exit status

@@ -4,7 +4,7 @@ use Rattle.std.specs.Io.KnownBytes.{Appends}
 use Rattle.disk_file.specs.declared.opening.FileKind.{FileKind}
 use Rattle.run_command.specs.LogLines.{kind_refusal}
 use Rattle.procd.specs.Report.{IsReport}
-use Rattle.command_line.specs.Task.{Wish, World, Run, Log, Audit, may_tell}
+use Rattle.command_line.specs.Task.{Wish, World, Run, Log, Audit, Picture, may_tell}
 
 -- what a stream held before and holds afterwards, where that is known
 pub record Stream : Type 0 where
@@ -80,6 +80,7 @@ abbrev pub FurtherFails : Wish → Stream → Type 0
 FurtherFails (World log audit script) err = ScriptFails script err
 FurtherFails (Run workers tries stats audit tell log script) err = LogFails log err ⊎ ScriptFails script err
 FurtherFails (Log (Audit path)) err = TellsUnread path err
+FurtherFails (Log (Picture path part)) err = TellsUnwritten path err
 FurtherFails other err = ⊥
 
 abbrev pub IsFurtherFault : Wish → Stream → Stream → ℕ → Type 0

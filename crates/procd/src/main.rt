@@ -4,6 +4,7 @@
 mod program;
 mod reading;
 mod report;
+mod writing;
 
 use program::{no_memory, not_text, program};
 use report::Meanwhile;

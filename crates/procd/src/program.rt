@@ -1,10 +1,9 @@
 //! The program, over readers and writers that are handed in.
 
-ghost use Rattle.std.specs.Prelude.{◌≡◌, ◌≤◌, ◌++◌, ℕ, List, IfOk, IfSome, OnOk, None, Some, Ok, true, false};
-ghost use Rattle.std.specs.Prelude.{codes, length, map, take, string_bytes};
-ghost use Rattle.std.specs.Io.KnownBytes.{Appends};
+ghost use Rattle.std.specs.Prelude.{◌≡◌, ◌++◌, ℕ, List, IfOk, IfSome, None, Some, Ok, true, false};
+ghost use Rattle.std.specs.Prelude.{codes, map, string_bytes};
 ghost use Rattle.command_line.specs.Said.{Says, IsWrong, shows};
-ghost use Rattle.procd.specs.Streams.{stream, written, TellsIf, IsKept, Gets, Begins, Ends, EndsOn, Runs, IsMisuse};
+ghost use Rattle.procd.specs.Streams.{stream, TellsIf, IsKept, Begins, Ends, EndsOn, Runs, IsMisuse};
 ghost use Rattle.run_command.specs.LogLines.{kind_refusal};
 ghost use Rattle.procd.specs.Streams.{IsLog, IsRefusedBy, IsFaultLine, TellsUnread, TellsUnwritten, TellsNotPrinted, IsToldOrNoMemory};
 ghost use Rattle.command_line.specs.Task.{Wish, wish_of};
@@ -12,6 +11,7 @@ ghost use Rattle.clap.specs.Words.{kind_of};
 
 use crate::reading::{MOST_BYTES, ReadFault, Reason, most_of, read_all};
 use crate::report::{Meanwhile, ReportFault, explain, report_on};
+use crate::writing::tell;
 use clap::Error;
 use clap::error::ErrorKind;
 use command_line::words::{Task, Wanted, WordFault, wanted_of};
@@ -38,41 +38,6 @@ const FILE_FAULT: u8 = 3;
 
 /// Memory ran out.
 const MEMORY: u8 = 4;
-
-/// How often a text is written on at most: the end of a writer that is always interrupted.
-const WRITES: u64 = 16_777_216;
-
-// Writes some of these bytes, and answers how many.
-fn write_some<W: Write>(to: &mut W, bytes: &[u8]) -> io::Result<usize>
-    ensures bound { IfOk result (λ n. n ≤ length bytes.now) }
-    ensures bytes { Appends (W.contents to.old) (W.contents to.new) (take (written result) bytes.now) }
-{
-    match to.write(bytes) {
-        Ok(0) => Err(io::Error::new(io::ErrorKind::WriteZero, "failed to write whole buffer")),
-        Ok(n) => Ok(n),
-        Err(e) if e.kind() == io::ErrorKind::Interrupted => Ok(0),
-        Err(e) => Err(e),
-    }
-}
-
-// Writes the text, or says why not all of it was written. What isn't is lost.
-#[tactic(auto, using(crate::proofs::Streaming::begins_by))]
-fn tell<W: Write>(to: &mut W, text: &str) -> io::Result<()>
-    ensures whole { OnOk result (Gets (stream (W.contents to.old) (W.contents to.new)) text.now) }
-    ensures part { Begins (stream (W.contents to.old) (W.contents to.new)) text.now }
-{
-    let mut rest = text.as_bytes();
-    for _ in 0..WRITES {
-        if rest.is_empty() {
-            return Ok(());
-        }
-        match write_some(to, rest) {
-            Ok(n) => rest = &rest[n..],
-            Err(error) => return Err(error),
-        }
-    }
-    Err(io::Error::from(io::ErrorKind::Interrupted))
-}
 
 /// Says that memory ran out, and answers the status for it.
 pub fn no_memory<E: Write>(err: &mut E) -> u8
@@ -402,7 +367,10 @@ pub fn program<
         Err(WordFault::Clap(error)) => misuse(alloc, error, out, err),
         Err(WordFault::Memory) => no_memory(err),
         Err(WordFault::NotNumber) => {
-            wrong_words(err, "error: an ARG or N is no number of 64 bits in decimal")
+            wrong_words(
+                err,
+                "error: an ARG, N or P is no number of 64 bits in decimal",
+            )
         }
         Err(WordFault::AuditAlone) => wrong_words(
             err,
@@ -411,9 +379,14 @@ pub fn program<
         Err(WordFault::ScriptAlone) => {
             wrong_words(err, "error: log takes a SCRIPT with --audit alone")
         }
-        Err(WordFault::RowsBesideAudit) => {
-            wrong_words(err, "error: log takes --rows without --audit alone")
+        Err(WordFault::TwoPurposes) => {
+            wrong_words(err, "error: log takes one of --rows, --audit and --picture")
         }
+        Err(WordFault::TwoParts) => wrong_words(err, "error: log takes one of --from and --tail"),
+        Err(WordFault::PartUnwanted) => wrong_words(
+            err,
+            "error: log takes --from and --tail with neither --rows nor --audit",
+        ),
         Err(WordFault::NoCommand) => wrong_words(
             err,
             "error: a command is missing: exec, asm, dis, verify, world, run or log",

@@ -9,12 +9,16 @@ ghost use Rattle.scripts.specs.declared.keyword.Command.TheVariants as command;
 ghost use Rattle.procd.specs.Report.{IsReport, IsKeptRun, IsRunReport, IsRunOf, IsWorldOf, IsLogReport};
 ghost use Rattle.procd.specs.Joining.Further.{IsScriptFault, IsLogFault, IsTaskFault, IsNoTextOf, IsOfText, IsOfFile, wants_text};
 ghost use Rattle.procd.specs.Joining.Further.{IsBesideFault, IsRunFault};
-ghost use Rattle.command_line.specs.Task.{Log, Audit, log_wish, wish_of};
+ghost use Rattle.procd.specs.Joining.Further.{IsPictureFault};
+ghost use Rattle.command_line.specs.Task.{Log, Audit, Picture, log_wish, wish_of};
 
 use crate::reading::{ReadFault, Reason, TextFault, most_of, read_all, text_of};
+use crate::writing::tell;
 use command_line::words::{LogTask, Task};
 use log_command::auditing::auditing;
 use log_command::listing::listing;
+use log_command::picturing::{Pictured, picturing};
+use log_part::Part;
 use object_file::is_elf;
 use report_texts::explanation::explanation;
 use report_texts::report::Report;
@@ -23,7 +27,7 @@ use run_command::running::{Listeners, Manner, running};
 use script_loading::loading::Source;
 use scripts::keyword::Command;
 use std::alloc::{AllocError, Global};
-use std::fs::File;
+use std::fs::{self, File};
 use std::io::{Stderr, Write};
 use std::rt::Files;
 use std::sync::Wait;
@@ -50,7 +54,7 @@ pub enum ReportFault<'a> {
     NotText(TextFault),
     /// The further file with this path can't be read, and why: a run's log, or the script beside a log or an object file.
     Unread(&'a str, Option<Reason>),
-    /// The file with this path, which is to keep a run's log, can't be written.
+    /// The file with this path, which is to keep a run's log or a picture, can't be written, and why.
     Unwritten(&'a str, Option<Reason>),
     Memory,
 }
@@ -311,6 +315,42 @@ fn audit_report<'a, R: Files>(
     }
 }
 
+// Writes a new file; what is begun of one that isn't written whole is taken away.
+fn write_new<'a, R: Files>(rt: &R, path: &'a str, text: &str) -> Result<(), ReportFault<'a>>
+    ensures { IfErr result (IsPictureFault path.entry.now) }
+{
+    let written = match File::create_new(rt, path) {
+        Ok(mut file) => tell(&mut file, text),
+        Err(error) => return Err(ReportFault::Unwritten(path, Some(Reason::System(error)))),
+    };
+    match written {
+        Ok(()) => Ok(()),
+        Err(error) => {
+            let _ = fs::remove_file(rt, path);
+            Err(ReportFault::Unwritten(path, Some(Reason::System(error))))
+        }
+    }
+}
+
+// Draws a part of a log's file into a new file of this path.
+fn picture_report<'a, R: Files>(
+    rt: &R,
+    alloc: Global,
+    file: &[u8],
+    path: &'a str,
+    part: Part,
+) -> Result<Report, ReportFault<'a>>
+    ensures ok { IfOk result (λ r. IsLogReport (Picture path.entry.now part) file.now r.status (string_bytes r.lines)) }
+    ensures text { IfErr result IsOfText }
+    ensures picture { IfErr result (IsPictureFault path.entry.now) }
+{
+    let Pictured { svg, report } = picturing(alloc, file, part)?;
+    if let Some(svg) = svg {
+        write_new(rt, path, svg.as_str())?;
+    }
+    Ok(report)
+}
+
 // What is printed of a log's file.
 fn log_report<'a, R: Files>(
     rt: &R,
@@ -323,9 +363,10 @@ fn log_report<'a, R: Files>(
     ensures script { IfErr result (IsTaskFault (Log (log_wish wanted.entry))) }
 {
     match wanted {
-        LogTask::Events => Ok(listing(alloc, file, false)?),
-        LogTask::EventsAndRows => Ok(listing(alloc, file, true)?),
+        LogTask::Events(part) => Ok(listing(alloc, file, part, false)?),
+        LogTask::EventsAndRows => Ok(listing(alloc, file, Part::Whole, true)?),
         LogTask::Audit(script) => audit_report(rt, alloc, file, script),
+        LogTask::Picture(path, part) => picture_report(rt, alloc, file, path, part),
     }
 }
 

@@ -1,7 +1,8 @@
--- Why there is no report: no text was read, or a further file isn't read or written, which keeps a run's log or is a script beside FILE.
+-- Why there is no report: no text was read, or a further file isn't read or written, which keeps a run's log, is a script beside FILE or is
+-- to have a picture.
 use Rattle.std.specs.Prelude.{◌≡◌, ◌⊎◌, true, Bool, not, List, ℕ, Option, Some}
 use Rattle.procd.specs.Report.{IsTextFault}
-use Rattle.command_line.specs.Task.{Wish, Verify, World, Run, Log, Audit, reads_text}
+use Rattle.command_line.specs.Task.{Wish, Verify, World, Run, Log, Audit, Picture, reads_text}
 use Rattle.object_file.specs.Elf.{is_elf}
 use Rattle.procd.specs.declared.report.ReportFault.{ReportFault}
 use Rattle.procd.specs.declared.report.ReportFault.TheVariants.{NotText, Unread, Unwritten, Memory}
@@ -16,6 +17,7 @@ Reads other path = ⊥
 -- it writes it
 abbrev pub Writes : Wish → List ℕ → Type 0
 Writes (Run workers tries stats audit tell log script) path = log ≡ Some path
+Writes (Log (Picture file part)) path = file ≡ path
 Writes other path = ⊥
 
 -- where a further file isn't read or written, it is the command's
@@ -31,6 +33,13 @@ IsScriptFault path (Unread other reason) = Some path ≡ Some other.now
 IsScriptFault path (Unwritten other reason) = ⊥
 IsScriptFault path (NotText fault) = ⊥
 IsScriptFault path Memory = Unit {0}
+
+-- the file of this path, which is to have a picture, isn't written
+abbrev pub IsPictureFault : List ℕ → ReportFault → Type 0
+IsPictureFault path (Unread other reason) = ⊥
+IsPictureFault path (Unwritten other reason) = path ≡ other.now
+IsPictureFault path (NotText fault) = ⊥
+IsPictureFault path Memory = Unit {0}
 
 -- FILE is no text, or the script beside it isn't read
 abbrev pub IsBesideFault : Option (List ℕ) → ReportFault → Type 0

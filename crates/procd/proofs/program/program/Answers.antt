@@ -38,6 +38,13 @@ returns-in-Err-AuditAlone-clause-runs g c = λ file wish says. absurd (rw c.in-E
 pub returns-in-Err-ScriptAlone-clause-runs : goal.returns-in-Err-ScriptAlone-clause-runs
 returns-in-Err-ScriptAlone-clause-runs g c = λ file wish says. absurd (rw c.in-Err-ScriptAlone.field-0-is at (c.in-Err-ScriptAlone.ensures.wanted file wish says))
 
-pub returns-in-Err-RowsBesideAudit-clause-runs : goal.returns-in-Err-RowsBesideAudit-clause-runs
-returns-in-Err-RowsBesideAudit-clause-runs g c = λ file wish says.
-    absurd (rw c.in-Err-RowsBesideAudit.field-0-is at (c.in-Err-RowsBesideAudit.ensures.wanted file wish says))
+pub returns-in-Err-TwoPurposes-clause-runs : goal.returns-in-Err-TwoPurposes-clause-runs
+returns-in-Err-TwoPurposes-clause-runs g c = λ file wish says.
+    absurd (rw c.in-Err-TwoPurposes.field-0-is at (c.in-Err-TwoPurposes.ensures.wanted file wish says))
+
+pub returns-in-Err-TwoParts-clause-runs : goal.returns-in-Err-TwoParts-clause-runs
+returns-in-Err-TwoParts-clause-runs g c = λ file wish says. absurd (rw c.in-Err-TwoParts.field-0-is at (c.in-Err-TwoParts.ensures.wanted file wish says))
+
+pub returns-in-Err-PartUnwanted-clause-runs : goal.returns-in-Err-PartUnwanted-clause-runs
+returns-in-Err-PartUnwanted-clause-runs g c = λ file wish says.
+    absurd (rw c.in-Err-PartUnwanted.field-0-is at (c.in-Err-PartUnwanted.ensures.wanted file wish says))
