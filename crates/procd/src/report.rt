@@ -319,11 +319,11 @@ fn audit_report<'a, R: Files>(
 fn write_new<'a, R: Files>(rt: &R, path: &'a str, text: &str) -> Result<(), ReportFault<'a>>
     ensures { IfErr result (IsPictureFault path.entry.now) }
 {
-    let written = match File::create_new(rt, path) {
-        Ok(mut file) => tell(&mut file, text),
+    let mut file = match File::create_new(rt, path) {
+        Ok(file) => file,
         Err(error) => return Err(ReportFault::Unwritten(path, Some(Reason::System(error)))),
     };
-    match written {
+    match tell(&mut file, text) {
         Ok(()) => Ok(()),
         Err(error) => {
             let _ = fs::remove_file(rt, path);
