@@ -58,6 +58,12 @@ fn is_logged(rt: &impl Abort, tc: &TcState, place: usize, slot: usize, wanted: O
     is_same(rt, logged_result(tc.procs(), tc.log(), place, slot), wanted);
 }
 
+// The procedure of the call whose end stands at the place declares so many slots.
+fn declares(rt: &impl Abort, tc: &TcState, place: usize, wanted: usize) {
+    tc.known();
+    is_same(rt, logged_slot_count(tc.procs(), tc.log(), place), wanted);
+}
+
 // A slot holds this while its call is open, and behind its end, which stands at the place.
 fn ends_with(
     rt: &impl Abort,
@@ -176,8 +182,8 @@ fn both_slots_are_told(rt: &impl Abort, alloc: Global, tc: &mut TcState) {
     ends_with(rt, tc, twice, (5, Outcome::Committed), there(value(7)));
     is_logged(rt, tc, 5, 1, not_there(value(0)));
     is_same(rt, slot_count(tc, twice), 0);
-    is_same(rt, logged_slot_count(tc.procs(), tc.log(), 5), 2);
-    is_same(rt, logged_slot_count(tc.procs(), tc.log(), 4), 0);
+    declares(rt, tc, 5, 2);
+    declares(rt, tc, 4, 0);
 }
 
 #[test]
