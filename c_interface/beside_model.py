@@ -25,7 +25,7 @@ from plain_model import PROCEDURES, TEXTS, Reply, Wire, World, op_text, record_b
 
 START_TC, START_DC, BYTES, SLOT, CLEAR, LOAD, NOTE, RECOVER = 1, 2, 10, 11, 12, 13, 15, 16
 ADMIT, ASK, UNDO, WIRE, ANSWER, END, LOG_LENGTH, LOG_BYTES, TOLD, REDO_NEXT, REDONE = 20, 22, 23, 24, 25, 27, 29, 30, 32, 33, 34
-SITE, LOG_ANEW, LOW_WATER, OPEN_FROM, RETAKE = 31, 35, 36, 37, 38
+SITE, LOG_ANEW, LOW_WATER, OPEN_FROM, RETAKE, RESULT = 31, 35, 36, 37, 38, 62
 PERFORM, RESTART, ROWS, ROW, CHECKPOINT, HEAR_MARK, FORGET = 40, 41, 43, 44, 46, 48, 49
 ILLEGAL = {"I2": "NoTxn", "I5": "NotOver", "I6": "NothingOpen", "I9": "Stranger", "I10": "NoDc", "I12": "IncarnationsSpent"}
 ILLEGAL |= {"I15": "OldNews", "I16": "NotDown", "Q3": "Forgotten"}
@@ -34,12 +34,50 @@ ANSWERS = {1: "value", 2: "absent", 3: "done", 4: "done", 5: "duplicate", 6: "mi
 EACH = 2000  # steps of a seed
 
 
+# The access slot by which a procedure makes its operation at this place, from 0; where it isn't named, the first.
+SLOTS = {"move": lambda at, op: at % 2, "pair": lambda at, op: at, "churn": lambda at, op: int(op[1][1] == 7)}
+SLOT_COUNT = {"move": 2, "pair": 2, "churn": 2}
+
+
+def held_behind(held, op, said):
+    """What a slot holds behind an operation by it: the bytes of its buffer, and whether a record is there."""
+    value, there = held
+    if op[0] == "read":
+        return (said[1], True) if said[0] == "value" else (bytes(64), False)
+    return (op[2] if len(op) > 2 else value), (op[0] != "delete" if said[0] == "done" else there)
+
+
 class AnewWorld(World):
-    """The model with a log that begins anew, and data components that forget what they performed."""
+    """The model with a log that begins anew, data components that forget what they performed, and what slots of calls hold."""
 
     def begin(self):
         super().begin()
         self.begun = 0
+        self.said = {}  # of each transaction its procedure's name, and the operations of its run with what was said to them
+
+    def admitted(self, name, args):
+        super().admitted(name, args)
+        self.said[self.serials] = name, []
+
+    def answered(self, n, said):
+        t, op, is_undo = self.unanswered[n]
+        if not is_undo:
+            self.said[t][1].append((op, said))
+        super().answered(n, said)
+
+    def result(self, t, slot):
+        if t not in self.txns:
+            return "I2"
+        name, said = self.said[t]
+        if slot >= SLOT_COUNT.get(name, 1):
+            return "W6"
+        if not self.txns[t].outcome:
+            return "I5"
+        held = bytes(64), False
+        for at, (op, answer) in enumerate(said):
+            if SLOTS.get(name, lambda at, op: 0)(at, op) == slot:
+                held = held_behind(held, op, answer)
+        return held
 
     def hear(self, d, incarnation, mark):
         dc = self.dcs[d]
@@ -255,6 +293,10 @@ class Frames:
         self.txns.discard(t)
         return f"ended {t} {({1: 'committed', 2: f'aborted {f.word}', 3: 'noroom'})[f.kind]} at {f.place}"
 
+    def result(self, t, slot):
+        code = self.tc(RESULT, txn=t, place=slot)
+        return code or (self.tc.value(), self.tc.frame.word == 1)
+
     def perform(self, i):
         if i >= len(self.wires):
             return "illegal I7 NoCopy"
@@ -395,6 +437,10 @@ def difference(library, procedures, seed, count, made):
         step = next(anew, None) or some_step(draw, world, weights)
         if rests and at % 100 >= 30 and step[0] == "admit":  # (so that at times nothing is open)
             step = next_step(draw, world, weights) or step
+        t, slot = draw.choice([*world.txns, world.serials, world.serials + 1]), draw.randrange(3)
+        if (it := world.result(t, slot)) != (other := frames.result(t, slot)):
+            return f"step {at}: of transaction {t} and slot {slot} the frames say {other}, the model {it}"
+        made["result", it if isinstance(it, str) else "told"] += 1
         wanted = world.step(*step)
         said = wanted if "NotWritten" in wanted else frames.step(*step)  # (of that no frame can tell)
         made[step[0], said if step[0] == "forget" else said.split()[0]] += 1
@@ -422,7 +468,8 @@ def main():
             print(f"seed {seed}: {why}")
             return 1
     counts = f"{made['anew', 'anew']} logs begun anew, {made['forget', 'forgot 1']} lists forgotten, {made['crash', 'crashed']} crashes"
-    print(f"beside the model: {sum(made.values())} steps, {counts}, no difference")
+    results = sum(count for (word, _), count in made.items() if word == "result")
+    print(f"beside the model: {sum(made.values()) - results} steps, {counts}, {made['result', 'told']} results, no difference")
     return 0
 
 

@@ -10,7 +10,7 @@
  *     mz_admit -> mz_ask -> MZ_REQUEST: carry the wire, mz_answer, mz_ask again
  *                        -> MZ_DOWN: the data component restarted; once it is up again, mz_resend
  *                        -> MZ_UNDOING: mz_undo instead of mz_ask, until it says MZ_OVER
- *                        -> MZ_OVER: mz_end
+ *                        -> MZ_OVER: mz_end; before it mz_result says what was read and written
  *
  * mz_run does that with a function of yours that carries. Where nobody answers it stops, and goes on where it is
  * called again.
@@ -224,7 +224,7 @@ enum {
     MZ_CALL_PERFORM = 40, MZ_CALL_RESTART, MZ_CALL_GET, MZ_CALL_ROWS, MZ_CALL_ROW, MZ_CALL_MARK,
     MZ_CALL_CHECKPOINT, MZ_CALL_INCARNATION, MZ_CALL_HEAR_MARK, MZ_CALL_FORGET,
     MZ_CALL_VERIFY = 50, MZ_CALL_RUN, MZ_CALL_RESUME,
-    MZ_CALL_WAITING_FROM = 60, MZ_CALL_REDO_BEHIND
+    MZ_CALL_WAITING_FROM = 60, MZ_CALL_REDO_BEHIND, MZ_CALL_RESULT
 };
 
 /* What a handle points to; behind it comes the library's part, which begins with the frame. */
@@ -562,6 +562,23 @@ static inline mz_code mz_end(mz_tc *tc, uint64_t txn, mz_receipt *receipt) {
         receipt->value = f->word;
         receipt->place = f->place;
     }
+    return mz_leave(f, c);
+}
+
+/* What access slot number `slot`, from 0, of an open transaction holds once its run has ended, until mz_end: the bytes
+ * of its buffer, and in *there whether the last operation by it that did anything left a record (1) or none (0). What
+ * undoes an abort changes neither. MZ_NO_TXN; MZ_NO_PLACE: its procedure has no such slot; MZ_NOT_OVER: its run goes on.
+ * It runs the procedure again on the log's answers, and takes no memory. */
+static inline mz_code mz_result(mz_tc *tc, uint64_t txn, uint64_t slot, uint8_t value[MZ_VALUE], int *there) {
+    mz_frame *f;
+    mz_code c = mz_enter(tc, MZ_KIND_TC, value && there, &f);
+    if (c != MZ_OK) return c;
+    f->txn = txn;
+    f->place = slot;
+    c = mz_make(f, MZ_CALL_RESULT);
+    if (c != MZ_OK) return mz_leave(f, c);
+    memcpy(value, f->value, MZ_VALUE);
+    *there = f->word == 1;
     return mz_leave(f, c);
 }
 
@@ -1004,21 +1021,10 @@ static inline mz_code mz_redo(mz_tc *tc, uint16_t dc, mz_carry *carry, void *con
     return mz_redo_within(tc, dc, carry, context, tries, &restarts, up);
 }
 
-/* Runs an admitted transaction by one thread, until it ends or nobody answers. Each wire is carried `tries` times at
- * most; a data component that is down, or says that it restarted, is redone, and while one request waits so many
- * restarts are heard of at most. So it returns, whatever is carried. *stopped is
- *   MZ_OVER: it has ended, as *receipt says;
- *   MZ_WAITS: nobody answered;
- *   MZ_DOWN: its data component is down, and a wire of its redo wasn't answered;
- *   MZ_UNDOING: what undoes a write found no room;
- *   MZ_STUCK: so it was under four numbers, which are all that it has.
- * Nothing is given up: behind MZ_WAITS, MZ_DOWN and MZ_UNDOING wait a while, and call this again; it keeps its locks. Or
- * mz_give_up, behind which this answers MZ_WAITS, and carries nothing, until mz_retake. If a lock of yours is held round
- * this call, `carry` may let it go while it carries, for calls on other transactions. MZ_NO_TXN; MZ_FORGOTTEN of news:
- * the request stays open; MZ_BAD_ARGUMENT where tries isn't above 0. */
-static inline mz_code mz_run(mz_tc *tc, uint64_t txn, mz_carry *carry, void *context, int tries, mz_receipt *receipt,
-                             mz_next *stopped) {
-    if (!carry || !receipt || !stopped || tries < 1) return MZ_BAD_ARGUMENT;
+/* As mz_run, but doesn't end it: behind MZ_OVER mz_result says what its access slots hold, and mz_end ends it. */
+static inline mz_code mz_run_until_over(mz_tc *tc, uint64_t txn, mz_carry *carry, void *context, int tries,
+                                        mz_next *stopped) {
+    if (!carry || !stopped || tries < 1) return MZ_BAD_ARGUMENT;
     int undoing = 0, full = 0;
     mz_asked asked;
     memset(&asked, 0, sizeof asked);
@@ -1043,10 +1049,29 @@ static inline mz_code mz_run(mz_tc *tc, uint64_t txn, mz_carry *carry, void *con
             undoing = 1;
             break;
         case MZ_RUNNING: undoing = 0; break;
-        case MZ_OVER: return mz_end(tc, txn, receipt);
+        case MZ_OVER:
         case MZ_STUCK: return MZ_OK;
         }
     }
+}
+
+/* Runs an admitted transaction by one thread, until it ends or nobody answers. Each wire is carried `tries` times at
+ * most; a data component that is down, or says that it restarted, is redone, and while one request waits so many
+ * restarts are heard of at most. So it returns, whatever is carried. *stopped is
+ *   MZ_OVER: it has ended, as *receipt says;
+ *   MZ_WAITS: nobody answered;
+ *   MZ_DOWN: its data component is down, and a wire of its redo wasn't answered;
+ *   MZ_UNDOING: what undoes a write found no room;
+ *   MZ_STUCK: so it was under four numbers, which are all that it has.
+ * Nothing is given up: behind MZ_WAITS, MZ_DOWN and MZ_UNDOING wait a while, and call this again; it keeps its locks. Or
+ * mz_give_up, behind which this answers MZ_WAITS, and carries nothing, until mz_retake. If a lock of yours is held round
+ * this call, `carry` may let it go while it carries, for calls on other transactions. MZ_NO_TXN; MZ_FORGOTTEN of news:
+ * the request stays open; MZ_BAD_ARGUMENT where tries isn't above 0. */
+static inline mz_code mz_run(mz_tc *tc, uint64_t txn, mz_carry *carry, void *context, int tries, mz_receipt *receipt,
+                             mz_next *stopped) {
+    if (!receipt) return MZ_BAD_ARGUMENT;
+    mz_code c = mz_run_until_over(tc, txn, carry, context, tries, stopped);
+    return c == MZ_OK && *stopped == MZ_OVER ? mz_end(tc, txn, receipt) : c;
 }
 
 /* ---- a data component in memory: performs each number once */

@@ -83,3 +83,9 @@ PROCEDURE(move_here) {
     to[0] = args[2];
     return record_insert(1);
 }
+
+/* balances HERE THERE: reads an account at each data component, as they stand together, and commits: mz_result has both records. */
+ACCESSES(balances, TAKES(2), READS(0, 0, ARGUMENT(0)), READS(1, 0, ARGUMENT(1)))
+PROCEDURE(balances) {
+    return record_read(0) && record_read(1) ? 0 : UNKNOWN_ACCOUNT;
+}

@@ -1,6 +1,6 @@
 /* The bank over two data components in memory, made by the same library: a transfer between them, a lost
- * reply, an abort that is undone, a restart that loses and is redone, a log that begins anew. Prints what
- * comes of each. */
+ * reply, an abort that is undone, a restart that loses and is redone, both balances read at once, a log that
+ * begins anew. Prints what comes of each. */
 #include "mazzulpe_object.h"
 
 typedef struct { mz_dc *dc[2]; int lose; } world;
@@ -61,12 +61,21 @@ static void begin_anew(mz_tc *tc, world *w) {
     if (c != MZ_OK) die("checkpoint", c);
 }
 
-static uint64_t balance(world *w, uint16_t dc, uint64_t account) {
-    uint8_t value[MZ_VALUE];
-    mz_said said;
-    mz_record record = {dc, 0, account};
-    if (mz_dc_get(w->dc[dc], &record, &said, value) != MZ_OK || said != MZ_VALUE_IS) return 0;
-    return mz_little(value, 8);
+/* The whole records of an account at each data component, read by one transaction. */
+static void balances(mz_tc *tc, world *w, uint64_t here, uint64_t there) {
+    uint64_t procedure = 0, txn = 0;
+    uint8_t record[2][MZ_VALUE];
+    int found[2] = {0, 0};
+    mz_receipt r;
+    mz_next stopped;
+    mz_code c = mz_find(tc, "balances", &procedure);
+    if (c == MZ_OK) c = mz_admit(tc, procedure, (uint64_t[]){here, there}, 2, &txn, NULL, NULL);
+    if (c == MZ_OK) c = mz_run_until_over(tc, txn, carry, w, 3, &stopped);
+    for (uint64_t slot = 0; c == MZ_OK && slot < 2; slot++) c = mz_result(tc, txn, slot, record[slot], &found[slot]);
+    if (c == MZ_OK) c = mz_end(tc, txn, &r);
+    if (c != MZ_OK) die("balances", c);
+    if (r.outcome != MZ_COMMITTED || !found[0] || !found[1]) printf("balances aborted %llu\n", (unsigned long long)r.value);
+    else printf("balances %llu %llu\n", (unsigned long long)mz_little(record[0], 8), (unsigned long long)mz_little(record[1], 8));
 }
 
 int main(void) {
@@ -89,7 +98,7 @@ int main(void) {
     call(tc, &w, "touch", (uint64_t[]){1}, 1);
     restart(tc, &w, 1);
     call(tc, &w, "move_back", (uint64_t[]){2, 1, 5}, 3);
-    printf("balances %llu %llu\n", (unsigned long long)balance(&w, 0, 1), (unsigned long long)balance(&w, 1, 2));
+    balances(tc, &w, 1, 2);
     long kinds[MZ_EVENT_CHECKPOINT + 1] = {0};
     mz_event event;
     for (uint64_t at = 0; mz_log_at(tc, at, &event) == MZ_OK; at++) kinds[event.kind]++;

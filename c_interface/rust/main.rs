@@ -7,7 +7,7 @@ mod mazzulpe;
 use mazzulpe::{
     At, Carried, DC_DOWN, Dc, Event, FORGOTTEN, Key, News, Next, NotAdmitted, Op, Open, Outcome, Program, Ran, Record,
 };
-use mazzulpe::{Refusal, Reply, Said, Slot, TXNS_OPEN, Tc, Value, Wire};
+use mazzulpe::{NOT_OVER, Refusal, Reply, Said, Slot, TXNS_OPEN, Tc, Value, Wire};
 use std::collections::HashMap;
 use std::sync::{Condvar, Mutex, MutexGuard};
 
@@ -215,7 +215,10 @@ fn in_memory() -> Result<(), Refusal> {
     tc.give_up(txn)?;
     assert_eq!(tc.run(txn, TRIES, |wire| carry(&mut dcs, wire))?, Ran::Waits);
     assert!(matches!(tc.retake(txn)?, Next::Request(_)));
-    assert!(matches!(tc.run(txn, TRIES, |wire| carry(&mut dcs, wire))?, Ran::Over(_)));
+    assert_eq!(tc.result(txn, 0), Err(NOT_OVER));
+    assert_eq!(tc.run_until_over(txn, TRIES, |wire| carry(&mut dcs, wire))?, Ran::Over(()));
+    println!("{txn} holds {:?}", tc.result(txn, 0)?.map(|value| value[0]));
+    assert_eq!(tc.end(txn)?.outcome, Outcome::Committed);
     let (mark, mut before) = (tc.low_water(), dcs[0].restart()?);
     for dc in 0..2 {
         tc.told(dc, if dc == 0 { before } else { dcs[1].restart()? })?;

@@ -80,6 +80,7 @@ mod call {
     pub const RESUME: u32 = 52;
     pub const WAITING_FROM: u32 = 60;
     pub const REDO_BEHIND: u32 = 61;
+    pub const RESULT: u32 = 62;
 }
 
 unsafe extern "C" {

@@ -21,7 +21,7 @@ static void tc_refuses(mz_tc *tc, mz_code code) {
     mz_receipt receipt;
     mz_next stopped;
     mz_event event;
-    uint8_t bytes[MZ_EVENT_BYTES];
+    uint8_t bytes[MZ_EVENT_BYTES], value[MZ_VALUE];
     mz_open open;
     mz_lock lock;
     mz_note note = {0, 0, 0};
@@ -42,6 +42,7 @@ static void tc_refuses(mz_tc *tc, mz_code code) {
     SEEN(mz_open_count(tc) == 0);
     SEEN(mz_open_from(tc, 0, &open) == code && mz_waiting_from(tc, 0, 0, &open) == code);
     SEEN(mz_lock_at(tc, 0, 0, &lock) == code);
+    SEEN(mz_result(tc, 1, 0, value, &flag) == code);
     SEEN(mz_low_water(tc) == 0);
     SEEN(mz_last_number(tc) == 0);
     SEEN(mz_noted(tc, 0, &note) == code);
@@ -54,6 +55,7 @@ static void tc_refuses(mz_tc *tc, mz_code code) {
     SEEN(mz_redone(tc, 0, &reply) == code);
     SEEN(mz_redo(tc, 0, lost, NULL, 1, &flag) == code);
     SEEN(mz_run(tc, 1, lost, NULL, 1, &receipt, &stopped) == code);
+    SEEN(mz_run_until_over(tc, 1, lost, NULL, 1, &stopped) == code);
     SEEN(mz_log_length(tc) == 0);
     SEEN(mz_log_bytes(tc, 0, bytes) == code);
     SEEN(mz_log_at(tc, 0, &event) == code);
@@ -95,6 +97,7 @@ static void pointers(mz_tc *tc, mz_dc *dc, mz_program *program) {
     uint64_t number, txn;
     size_t count;
     int flag;
+    uint8_t value[MZ_VALUE];
     mz_receipt receipt;
     mz_next stopped;
     mz_stop stop;
@@ -115,12 +118,15 @@ static void pointers(mz_tc *tc, mz_dc *dc, mz_program *program) {
     SEEN(mz_redo_some(tc, 0, &wire, 0, &count) == bad);
     SEEN(mz_retake(tc, 1, NULL) == bad && mz_open_from(tc, 0, NULL) == bad && mz_waiting_from(tc, 0, 0, NULL) == bad);
     SEEN(mz_lock_at(tc, 0, 0, NULL) == bad && mz_noted(tc, 0, NULL) == bad);
+    SEEN(mz_result(tc, 1, 0, NULL, &flag) == bad && mz_result(tc, 1, 0, value, NULL) == bad);
     SEEN(mz_recover(tc, NULL, 1, NULL, 0, NULL) == bad && mz_recover(tc, answers_0, 0, NULL, 1, NULL) == bad);
     SEEN(mz_recover(tc, answers_0, SIZE_MAX, NULL, 0, NULL) == bad);
     SEEN(mz_told(tc, 0, NULL) == bad && mz_redone(tc, 0, NULL) == bad);
     SEEN(mz_log_bytes(tc, 0, NULL) == bad && mz_log_at(tc, 0, NULL) == bad);
     SEEN(mz_run(tc, 1, NULL, NULL, 1, &receipt, &stopped) == bad);
     SEEN(mz_run(tc, 1, lost, NULL, 1, NULL, &stopped) == bad && mz_run(tc, 1, lost, NULL, 1, &receipt, NULL) == bad);
+    SEEN(mz_run_until_over(tc, 1, NULL, NULL, 1, &stopped) == bad && mz_run_until_over(tc, 1, lost, NULL, 1, NULL) == bad);
+    SEEN(mz_run_until_over(tc, 1, lost, NULL, 0, &stopped) == bad);
     SEEN(mz_run(tc, 1, lost, NULL, 0, &receipt, &stopped) == bad && mz_redo(tc, 0, lost, NULL, 0, &flag) == bad);
     SEEN(mz_redo(tc, 0, NULL, NULL, 1, &flag) == bad && mz_redo(tc, 0, lost, NULL, 1, NULL) == bad);
     SEEN(mz_dc_perform(dc, NULL, &reply) == bad && mz_dc_perform(dc, &wire, NULL) == bad);

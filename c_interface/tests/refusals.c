@@ -32,7 +32,7 @@ static void marked(char *are_calls, int from, int to) {
 
 static void begins(void) {
     char tc[100] = {0}, dc[100] = {0}, program[100] = {0};
-    marked(tc, 10, 39), tc[17] = tc[18] = tc[19] = 0, marked(tc, 60, 61);
+    marked(tc, 10, 39), tc[17] = tc[18] = tc[19] = 0, marked(tc, 60, 62);
     marked(dc, 40, 49);
     marked(program, 10, 12), marked(program, 50, 52);
     void *handle = begun(MZ_CALL_START_TC, 65535, 0, MZ_OK);
@@ -125,10 +125,16 @@ static void asked(mz_frame *f) {
     SAYS(MZ_NO_TXN, UNDO);
     SAYS(MZ_NO_TXN, END);
     SAYS(MZ_NO_TXN, RETAKE);
+    SAYS(MZ_NO_TXN, RESULT);
     SAYS(MZ_NOTHING_OPEN, WIRE);
     SAYS(MZ_NOTHING_OPEN, ANSWER);
     SAYS(MZ_NOTHING_OPEN, GIVE_UP);
-    f->txn = 1;
+    f->txn = 1, f->place = 0;
+    SAYS(MZ_NOT_OVER, RESULT);
+    f->place = 1;
+    SAYS(MZ_NO_PLACE, RESULT);
+    f->place = UINT64_MAX;
+    SAYS(MZ_NO_PLACE, RESULT);
     SAYS(MZ_NOT_OVER, END);
     SAYS(MZ_OK, GIVE_UP);
     SAYS(MZ_NOTHING_OPEN, WIRE);
@@ -144,8 +150,14 @@ static void asked(mz_frame *f) {
     SAYS(MZ_NOTHING_OPEN, RETAKE);
     SAYS(MZ_OK, ASK);
     SEEN(f->kind == MZ_OVER);
+    f->place = 1;
+    SAYS(MZ_NO_PLACE, RESULT);
+    f->place = 0, f->value[0] = 9, f->word = 7;
+    SAYS(MZ_OK, RESULT);
+    SEEN(f->value[0] == 0 && f->word == 0);
     SAYS(MZ_OK, END);
     SAYS(MZ_NO_TXN, END);
+    SAYS(MZ_NO_TXN, RESULT);
 }
 
 /* 602 events: two of each call, and two more of the first. */

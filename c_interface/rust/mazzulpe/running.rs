@@ -1,7 +1,8 @@
 //! Whole calls: a transaction to its end, and a redo, over a function that carries wires.
 
 use super::{
-    BAD_ARGUMENT, DC_DOWN, NOT_DOWN, NOTHING_OPEN, News, Next, OLD_NEWS, Receipt, Refusal, Reply, Said, Tc, Wire,
+    BAD_ARGUMENT, DC_DOWN, NOT_DOWN, NOTHING_OPEN, News, Next, OLD_NEWS, Receipt, Refusal, Reply, Said, Tc, Value, Wire,
+    call,
 };
 
 /// What became of a wire.
@@ -16,8 +17,8 @@ pub enum Carried {
 
 /// Where [`Tc::run`] stopped. Nothing is given up: behind `Waits`, `Down` and `Undoing` wait a while, and run it again.
 #[derive(Clone, Copy, Debug, PartialEq, Eq)]
-pub enum Ran {
-    Over(Receipt),
+pub enum Ran<End = Receipt> {
+    Over(End),
     /// Nobody answered; or the request was given up, and [`Tc::retake`] takes it up.
     Waits,
     /// Its data component is down, and a wire of its redo wasn't answered.
@@ -126,7 +127,32 @@ impl Tc {
     /// Runs an admitted transaction until it ends or nobody answers. Each wire is carried `tries` times at most; a data
     /// component that is down, or says that it restarted, is redone, and while one request waits so many restarts are
     /// heard of at most.
-    pub fn run(&mut self, txn: u64, tries: u32, mut carry: impl FnMut(&Wire) -> Carried) -> Result<Ran, Refusal> {
+    pub fn run(&mut self, txn: u64, tries: u32, carry: impl FnMut(&Wire) -> Carried) -> Result<Ran, Refusal> {
+        Ok(match self.run_until_over(txn, tries, carry)? {
+            Ran::Over(()) => Ran::Over(self.end(txn)?),
+            Ran::Waits => Ran::Waits,
+            Ran::Down => Ran::Down,
+            Ran::Undoing => Ran::Undoing,
+            Ran::Stuck(number) => Ran::Stuck(number),
+        })
+    }
+
+    /// What access slot number `slot`, from 0, of an open transaction holds once its run has ended, until [`Tc::end`];
+    /// `None` where no record is there.
+    pub fn result(&mut self, txn: u64, slot: u64) -> Result<Option<Value>, Refusal> {
+        (self.frame().txn, self.frame().place) = (txn, slot);
+        self.handle.call(call::RESULT)?;
+        let f = self.frame();
+        Ok((f.word == 1).then_some(f.value))
+    }
+
+    /// As [`Tc::run`], but doesn't end it: behind `Over` [`Tc::result`] says what its slots hold, and [`Tc::end`] ends it.
+    pub fn run_until_over(
+        &mut self,
+        txn: u64,
+        tries: u32,
+        mut carry: impl FnMut(&Wire) -> Carried,
+    ) -> Result<Ran<()>, Refusal> {
         if tries == 0 {
             return Err(BAD_ARGUMENT);
         }
@@ -140,7 +166,7 @@ impl Tc {
                     undoing = !undoing;
                     continue;
                 }
-                Next::Over => return self.end(txn).map(Ran::Over),
+                Next::Over => return Ok(Ran::Over(())),
                 Next::Stuck(number) => return Ok(Ran::Stuck(number)),
             };
             match self.carry_open(txn, made, tries, &mut carry) {

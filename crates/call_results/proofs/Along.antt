@@ -21,8 +21,6 @@ use Rattle.tc_core.proofs.Resuming.{paused_reached}
 use Rattle.call_results.specs.Joining.Along.{Runs, MayHear, IsAlong, MayAnswer, Follows, MayFollow}
 use Rattle.tc_core.specs.Recovery.{first_events}
 use Rattle.tc_core.proofs.RecoveryLemmas.{all-first}
-use Rattle.call_results.specs.Results.{result_in}
-use Rattle.call_results.specs.declared.results.SlotResult.{SlotResult}
 use Rattle.call_results.specs.declared.rerun.Rerun.{Rerun}
 
 -- ---- what an answer makes of it
@@ -217,12 +215,13 @@ buffer_there ps r (Some s) q a opened loaded few =
 
 -- ---- what is told of the whole log
 
-pub told_of_all : (ps first last : List Checked) (h g : List Event) (n t u slot : ℕ) (r : Rerun) (x : Option SlotResult) → first ≡ ps → last ≡ ps → g ≡ h
-    → n ≡ length g → u ≡ t → r.slot ≡ slot → Follows first r (standing (first_events n g) u)
-    → ((at : Option Standing) → Follows last r at → x ≡ result_in last at r.slot) → x ≡ result_in ps (standing h t) slot
-told_of_all ps first last h g n t u slot r x same same' log all txn own follows tells =
+pub told_of_all : (A : Type 0) (told : List Checked → Option Standing → ℕ → A) (ps first last : List Checked) (h g : List Event) (n t u slot : ℕ)
+    (r : Rerun) (x : A) → first ≡ ps → last ≡ ps → g ≡ h → n ≡ length g → u ≡ t → r.slot ≡ slot
+    → Follows first r (standing (first_events n g) u)
+    → ((at : Option Standing) → Follows last r at → x ≡ told last at r.slot) → x ≡ told ps (standing h t) slot
+told_of_all A told ps first last h g n t u slot r x same same' log all txn own follows tells =
     let at = standing (first_events n g) u in
     tells at (subst (λ (qs : List Checked). Follows qs r at) (same ∙ sym same') follows)
-    ∙ (ap (λ (qs : List Checked). result_in qs at r.slot) same'
-    ∙ (ap (λ (y : List Event). result_in ps (standing y u) r.slot) (all-first n g all ∙ log)
-    ∙ (ap (λ (y : ℕ). result_in ps (standing h y) r.slot) txn ∙ ap (result_in ps (standing h t)) own)))
+    ∙ (ap (λ (qs : List Checked). told qs at r.slot) same'
+    ∙ (ap (λ (y : List Event). told ps (standing y u) r.slot) (all-first n g all ∙ log)
+    ∙ (ap (λ (y : ℕ). told ps (standing h y) r.slot) txn ∙ ap (told ps (standing h t)) own)))

@@ -58,6 +58,15 @@ abbrev pub result_in : List Checked → Option Standing → ℕ → Option SlotR
 result_in ps None k = None
 result_in ps (Some s) k = result_by (slice_get ps s.call.proc) s k
 
+abbrev pub slots_by : Option Checked → ℕ
+slots_by None = 0
+slots_by (Some q) = length q.decl.slots
+
+-- how many slots the procedure of an open transaction declares
+abbrev pub slots_in : List Checked → Option Standing → ℕ
+slots_in ps None = 0
+slots_in ps (Some s) = slots_by (slice_get ps s.call.proc)
+
 abbrev pub result_behind : List Checked → List Event → Option Event → ℕ → Option SlotResult
 result_behind ps h (Some (End t outcome)) k = result_in ps (standing h t) k
 result_behind ps h _ k = None
@@ -65,3 +74,11 @@ result_behind ps h _ k = None
 -- the same of a transaction whose end stands at this place of the log, the oldest event at 0
 abbrev pub result_at_end : List Checked → List Event → ℕ → ℕ → Option SlotResult
 result_at_end ps h place k = result_behind ps (first_events place h) (slice_get (reverse h) place) k
+
+abbrev pub slots_behind : List Checked → List Event → Option Event → ℕ
+slots_behind ps h (Some (End t outcome)) = slots_in ps (standing h t)
+slots_behind ps h _ = 0
+
+-- how many slots the procedure of such a transaction declares
+abbrev pub slots_at_end : List Checked → List Event → ℕ → ℕ
+slots_at_end ps h place = slots_behind ps (first_events place h) (slice_get (reverse h) place)

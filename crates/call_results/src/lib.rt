@@ -19,4 +19,4 @@
 mod rerun;
 pub mod results;
 
-pub use results::{SlotResult, logged_result, slot_result};
+pub use results::{SlotResult, logged_result, logged_slot_count, slot_count, slot_result};

@@ -5,7 +5,7 @@ ghost use Rattle.verifier.specs.Checked.{Checked};
 ghost use Rattle.transactions.specs.Legal.{Legal};
 ghost use Rattle.transactions.specs.Standing.{Standing, standing};
 ghost use Rattle.tc_core.specs.Recovery.{first_events};
-ghost use Rattle.call_results.specs.Results.{result_in, result_at_end};
+ghost use Rattle.call_results.specs.Results.{result_in, result_at_end, slots_in, slots_at_end};
 ghost use Rattle.call_results.specs.Joining.Along.{Follows, IsAdmission};
 
 use crate::rerun::Rerun;
@@ -87,6 +87,30 @@ fn held(procs: &Procs, run: &Rerun) -> Option<SlotResult>
     })
 }
 
+// How many slots the procedure of the run's call declares.
+fn declared(procs: &Procs, run: &Rerun) -> usize
+    requires { (at : Option Standing) × Follows procs.now.codes run.now at }
+    ensures { (at : Option Standing) → Follows procs.now.codes run.now at → result ≡ slots_in procs.now.codes at }
+{
+    if !run.is_open {
+        return 0;
+    }
+    match procs.get(run.proc) {
+        Some(code) => code.decl().slots().len(),
+        None => 0,
+    }
+}
+
+/// How many slots the procedure of an open transaction declares; 0 of one that isn't open.
+pub fn slot_count(state: &TcState, txn: TxnId) -> usize
+    ensures { result ≡ slots_in state.now.procs (standing state.now.events txn.serial) }
+{
+    state.known();
+    let log = state.log();
+    let run = rerun(state.procs(), log, log.len(), txn.serial(), 0);
+    declared(state.procs(), &run)
+}
+
 /// What a slot of an open transaction holds where its run ended: at its end, or at an insert that found no
 /// room. None for one that isn't open or whose run goes on, and for a slot that isn't declared.
 pub fn slot_result(state: &TcState, txn: TxnId, slot: usize) -> Option<SlotResult>
@@ -110,4 +134,15 @@ pub fn logged_result(procs: &Procs, log: &Log, place: usize, slot: usize) -> Opt
         _ => return None,
     };
     held(procs, &rerun(procs, log, place, txn, slot))
+}
+
+/// How many slots the procedure of such a transaction declares; 0 where no end stands there.
+pub fn logged_slot_count(procs: &Procs, log: &Log, place: usize) -> usize
+    requires { Legal procs.now.codes log.now.events }
+    ensures { result ≡ slots_at_end procs.now.codes log.now.events place }
+{
+    match log.at(place) {
+        Some(Event::End { txn, .. }) => declared(procs, &rerun(procs, log, place, *txn, 0)),
+        _ => 0,
+    }
 }

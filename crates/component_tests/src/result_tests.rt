@@ -4,7 +4,7 @@ use crate::checks::is_same;
 use crate::state_tests::{admitted, ask_is, asks, ends, undoes, wire, with_state};
 use access_slots::op::{Op, Said};
 use access_slots::slot::{Mode, Value};
-use call_results::{SlotResult, logged_result, slot_result};
+use call_results::{SlotResult, logged_result, logged_slot_count, slot_count, slot_result};
 use samples::procedures::{keyed, procedure};
 use samples::{BAD, GET, PUT, load, record, value};
 use std::alloc::Global;
@@ -56,6 +56,12 @@ fn holds(rt: &impl Abort, tc: &TcState, txn: TxnId, slot: usize, wanted: Option<
 fn is_logged(rt: &impl Abort, tc: &TcState, place: usize, slot: usize, wanted: Option<SlotResult>) {
     tc.known();
     is_same(rt, logged_result(tc.procs(), tc.log(), place, slot), wanted);
+}
+
+// The procedure of the call whose end stands at the place declares so many slots.
+fn declares(rt: &impl Abort, tc: &TcState, place: usize, wanted: usize) {
+    tc.known();
+    is_same(rt, logged_slot_count(tc.procs(), tc.log(), place), wanted);
 }
 
 // A slot holds this while its call is open, and behind its end, which stands at the place.
@@ -159,6 +165,7 @@ fn an_abort(rt: HostRuntime) {
 fn both_slots_are_told(rt: &impl Abort, alloc: Global, tc: &mut TcState) {
     is_same(rt, load_twice(alloc, tc), Some(TWICE));
     let twice = admitted(rt, alloc, tc, (TWICE, &[5]), 1);
+    is_same(rt, slot_count(tc, twice), 2);
     let read = Op::Read(record(5));
     asks(rt, tc, twice, wire(1, 0, read), Said::Value(value(100)));
     let delete = Op::Delete(record(5));
@@ -174,6 +181,9 @@ fn both_slots_are_told(rt: &impl Abort, alloc: Global, tc: &mut TcState) {
     holds(rt, tc, twice, 2, None);
     ends_with(rt, tc, twice, (5, Outcome::Committed), there(value(7)));
     is_logged(rt, tc, 5, 1, not_there(value(0)));
+    is_same(rt, slot_count(tc, twice), 0);
+    declares(rt, tc, 5, 2);
+    declares(rt, tc, 4, 0);
 }
 
 #[test]

@@ -11,6 +11,8 @@ use Rattle.access_slots.specs.declared.op.Wire.{Wire}
 use Rattle.access_slots.specs.declared.slot.Mode.{Mode}
 use Rattle.access_slots.specs.declared.slot.Mode.TheVariants.{Read, Write}
 use Rattle.access_slots.specs.declared.slot.Record.{Record}
+use Rattle.call_results.specs.Results.{result_in, slots_in}
+use Rattle.call_results.specs.declared.results.SlotResult.{SlotResult}
 use Rattle.history.specs.Calls.{admitted, held}
 use Rattle.history.specs.Anew.{begun}
 use Rattle.history.specs.Flight.{given, low_water}
@@ -49,6 +51,7 @@ use Rattle.embedding.specs.Telling.{Sends, Tells, requests_of, EndsAs, TellsRefu
 use Rattle.embedding.specs.declared.call.TheConstants.{BYTES, SLOT, CLEAR, NOTE, LOAD, FIND, ADMIT, BLOCKED, ASK, UNDO, WIRE, ANSWER}
 use Rattle.embedding.specs.declared.call.TheConstants.{GIVE_UP, END, OPEN_COUNT, LOG_LENGTH, LOG_BYTES, SITE, TOLD, REDO_NEXT, REDONE}
 use Rattle.embedding.specs.declared.call.TheConstants.{LOG_ANEW, LOW_WATER, RECOVER, OPEN_FROM, RETAKE, WAITING_FROM, LOCK_AT, REDO_BEHIND}
+use Rattle.embedding.specs.declared.call.TheConstants.{RESULT}
 use Rattle.embedding.specs.declared.codes.TheConstants.{BAD_FRAME, DOWN, MEMORY, NO_DC, NO_PLACE, NO_PROCEDURE, NO_SUCH_CALL, NO_TXN}
 use Rattle.embedding.specs.declared.codes.TheConstants.{NOT_OVER, NOTHING_OPEN, STRANGER}
 use Rattle.embedding.specs.declared.frame.Frame.{Frame}
@@ -449,13 +452,31 @@ pub data HasNoLock (c : Core) (place number : ℕ) : Type 0 where
   Closed : ((txn proc : ℕ) → IsOpenAt c place txn proc → ⊥) → HasNoLock c place number
   Past : (txn proc : ℕ) (locks : List Lock) → IsOpenAt c place txn proc → AreItsLocks c txn locks → length locks ≤ number → HasNoLock c place number
 
+-- what the slot of the open transaction holds, whose run has ended: the bytes of its buffer, and whether there is a record
+pub record ShowsResult (p : TcPart) (f : Frame) (f' : Frame) : Type 0 where
+  pub held : SlotResult
+  pub is : result_in p.state.procs (standing p.state.events f.txn) f.place ≡ Some held
+  pub value : f'.value ≡ held.value
+  pub there : f'.word ≡ bit held.is_there
+
+-- how many slots its procedure declares
+abbrev pub slots_of : TcPart → ℕ → ℕ
+slots_of p txn = slots_in p.state.procs (standing p.state.events txn)
+
+-- no such transaction is open, its procedure has no such slot, or its run goes on
+pub data WhyNoResult (p : TcPart) (f : Frame) (code : ℕ) : Type 0 where
+  Closed : code ≡ NO_TXN → IsClosed p f.txn → WhyNoResult p f code
+  Undeclared : code ≡ NO_PLACE → IsOpen p f.txn → slots_of p f.txn ≤ f.place → WhyNoResult p f code
+  Early : code ≡ NOT_OVER → IsOpen p f.txn → f.place < slots_of p f.txn → result_in p.state.procs (standing p.state.events f.txn) f.place ≡ None
+      → WhyNoResult p f code
+
 -- the calls that a transaction component has
 abbrev pub is_tc_call : ℕ → Bool
 is_tc_call what =
     list_any (λ c. what == c)
     (BYTES ∷ SLOT ∷ CLEAR ∷ LOAD ∷ FIND ∷ NOTE ∷ RECOVER ∷ ADMIT ∷ BLOCKED ∷ ASK ∷ UNDO ∷ WIRE ∷ ANSWER ∷ GIVE_UP ∷ END ∷ OPEN_COUNT
     ∷ LOG_LENGTH ∷ LOG_BYTES ∷ SITE ∷ TOLD ∷ REDO_NEXT ∷ REDONE ∷ LOG_ANEW ∷ LOW_WATER ∷ OPEN_FROM ∷ RETAKE ∷ LOCK_AT ∷ WAITING_FROM
-    ∷ REDO_BEHIND ∷ [])
+    ∷ REDO_BEHIND ∷ RESULT ∷ [])
 
 -- what a call has done that answered 0, by its number; one that isn't named here leaves the transaction component as it was
 abbrev pub DoneBy : ℕ → TcPart → Frame → TcPart → Frame → Type 0
@@ -504,7 +525,8 @@ ShownBy what p f f' =
     (MatchBool (what == WAITING_FROM) (ShowsWaiting p f f')
     (MatchBool (what == LOCK_AT) (ShowsLock p f f')
     (MatchBool (what == REDO_BEHIND) (TellsRedo (redo_behind p.state f.dc f.number) 0 f')
-    ⊤)))))))))))
+    (MatchBool (what == RESULT) (ShowsResult p f f')
+    ⊤))))))))))))
 
 -- why a call did nothing, by its number; one that isn't named here only where there is no such call
 abbrev pub RefusedBy : ℕ → TcPart → Frame → ℕ → TcPart → Frame → Type 0
@@ -534,7 +556,8 @@ RefusedBy what p f code p' f' =
     (MatchBool (what == WAITING_FROM) ((code ≡ NO_PLACE) × NoneWaits p.state f.dc f.place (length p.state.events))
     (MatchBool (what == LOCK_AT) ((code ≡ NO_PLACE) × HasNoLock p.state f.place f.word)
     (MatchBool (what == REDO_BEHIND) (TellsRedo (redo_behind p.state f.dc f.number) code f')
-    ((code ≡ NO_SUCH_CALL) × (is_tc_call what ≡ false))))))))))))))))))))))))))
+    (MatchBool (what == RESULT) (WhyNoResult p f code)
+    ((code ≡ NO_SUCH_CALL) × (is_tc_call what ≡ false)))))))))))))))))))))))))))
 
 -- refused means unchanged; the reply of a stranger aside, whose request is kept in another place (IsStranger)
 pub record IsServed (p : TcPart) (f : Frame) (code : ℕ) (p' : TcPart) (f' : Frame) : Type 0 where

@@ -104,3 +104,6 @@ pub const WAITING_FROM: u32 = 60;
 
 /// And what is redone behind a number, for several at once.
 pub const REDO_BEHIND: u32 = 61;
+
+/// And what a slot of a call holds, whose run has ended.
+pub const RESULT: u32 = 62;

@@ -16,7 +16,7 @@ ghost use Rattle.embedding.specs.Serving.{Asks, Undoes, Resends, WhyNotResent, A
 ghost use Rattle.embedding.specs.Serving.{KeepsRequests, Hears, WhyNotHeard, Redoes, HasRedone, WhyNotRedone, BeginsAnew, WhyNotBegun};
 ghost use Rattle.embedding.specs.Serving.{SaysBlocked, ShowsEvent, WhyNoEvent, ShowsSite, IsServed, IsRequestOf, HasNoRequest, Recovers};
 ghost use Rattle.embedding.specs.Serving.{WhyNotRecovered, Retakes, WhyNotRetaken, NoneIsOpen, ShowsOpen, SaysHeld, SaysAwaited, NoneWaits};
-ghost use Rattle.embedding.specs.Serving.{ShowsWaiting, HasNoLock, ShowsLock};
+ghost use Rattle.embedding.specs.Serving.{ShowsWaiting, HasNoLock, ShowsLock, ShowsResult, WhyNoResult};
 
 use crate::codes::{
     self, BAD_FRAME, DONE, DOWN, MEMORY, NO_DC, NO_PLACE, NO_SUCH_CALL, NO_TXN, NOT_OVER,
@@ -26,6 +26,7 @@ use crate::frame::{Frame, bit_of};
 use crate::gathered::Gathered;
 use crate::opened::{first_open, first_waiting, locks_at, open_in};
 use crate::{call, telling};
+use call_results::{slot_count, slot_result};
 use std::alloc::{AllocError, Global};
 use tc_core::state::{Call, Request, Stranger, TcState};
 use transactions::{Sent, all_covered, all_in_flight_covered, none_in_flight_conflict};
@@ -434,6 +435,24 @@ impl TcPart {
         DONE
     }
 
+    fn held_in_slot(&self, frame: &mut Frame) -> u32
+        ensures why { result ≢ 0 → WhyNoResult self.now frame.old result }
+        ensures done { result ≡ 0 → ShowsResult self.now frame.old frame.new }
+    {
+        let Some(txn) = self.state.find_txn(frame.txn) else {
+            return NO_TXN;
+        };
+        let slot = frame.place as usize;
+        let Some(held) = slot_result(&self.state, txn, slot) else {
+            let declared = slot_count(&self.state, txn);
+            return if slot < declared { NOT_OVER } else { NO_PLACE };
+        };
+        let value = held.value;
+        frame.value = value;
+        frame.word = u64::from(bit_of(held.is_there));
+        DONE
+    }
+
     fn log_bytes(&self, frame: &mut Frame) -> u32
         ensures why { result ≢ 0 → WhyNoEvent self.now frame.old result }
         ensures done { result ≡ 0 → ShowsEvent self.now frame.old frame.new }
@@ -570,6 +589,7 @@ impl TcPart {
             call::LOCK_AT => self.lock_at(frame),
             call::WAITING_FROM => self.waiting_from(frame),
             call::REDO_BEHIND => self.redo_behind(frame),
+            call::RESULT => self.held_in_slot(frame),
             _ => NO_SUCH_CALL,
         }
     }

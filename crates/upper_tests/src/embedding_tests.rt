@@ -1,5 +1,7 @@
 use embedding::call;
-use embedding::codes::{BEGUN, DONE, DOWN, NO_PLACE, NO_SUCH_CALL, NOTHING_OPEN, STRANGER};
+use embedding::codes::{
+    BEGUN, DONE, DOWN, NO_PLACE, NO_SUCH_CALL, NO_TXN, NOT_OVER, NOTHING_OPEN, STRANGER,
+};
 use embedding::engine::{self, Engine};
 use std::test::Fail;
 
@@ -86,6 +88,40 @@ fn a_call_is_asked_and_answered(rt: HostRuntime) -> Result<(), Fail> {
     assert_eq!(rt; answered, [STRANGER, DONE, NOTHING_OPEN]);
     assert_eq!(rt; ended, [(DONE, 3), (DONE, 1)]);
     assert_eq!(rt; shown, (DONE, 96, [2, 1, 7]));
+    Ok(())
+}
+
+// The record that was read: a 5.
+fn answered_with_5(engine: &mut Engine) -> u32 {
+    engine.frame.kind = 1;
+    engine.frame.value = [0; 64];
+    engine.frame.value[0] = 5;
+    made(engine, call::ANSWER)
+}
+
+// What this slot holds: whether a record is there, and its first byte.
+fn result(engine: &mut Engine, slot: u64) -> (u32, u64, u8) {
+    engine.frame.place = slot;
+    engine.frame.value[0] = 0;
+    let told = made(engine, call::RESULT);
+    (told, engine.frame.word, engine.frame.value[0])
+}
+
+// What a call read is told from its run's end to its own.
+#[test]
+fn a_result_is_told(rt: HostRuntime) -> Result<(), Fail> {
+    let mut engine = engine::made(rt.alloc());
+    let asked = asked(&mut engine);
+    let (early, _, _) = result(&mut engine, 0);
+    let answered = answered_with_5(&mut engine);
+    let held = result(&mut engine, 0);
+    let (further, _, _) = result(&mut engine, 1);
+    let ended = ended(&mut engine);
+    let (late, _, _) = result(&mut engine, 0);
+    engine::finish(engine);
+    assert_eq!(rt; (asked, early, answered), (true, NOT_OVER, DONE));
+    assert_eq!(rt; (held, further), ((DONE, 1, 5), NO_PLACE));
+    assert_eq!(rt; (ended, late), ([(DONE, 3), (DONE, 1)], NO_TXN));
     Ok(())
 }
 

@@ -121,3 +121,7 @@ pub returns-in-61 : goal.returns-in-61
 returns-in-61 c = served_as _ _ _ _ _ _ c.in-61.is refl (λ _. refl) (λ _. c.redo_behind.ensures) (λ _. refl)
     (λ z. subst (λ (n : ℕ). TellsRedo (redo_behind c.args.self.now.state c.args.frame.now.dc c.args.frame.now.number) n c.redo_behind.new.frame) z c.redo_behind.ensures)
     (λ _. same_gathered _) (λ _. same_gathered _) (λ _. refl) (λ _ _. refl)
+
+pub returns-in-62 : goal.returns-in-62
+returns-in-62 c = served_as _ _ _ _ _ _ c.in-62.is refl (λ _. refl) (c.held_in_slot.ensures.why) (λ _. refl) (c.held_in_slot.ensures.done)
+    (λ _. same_gathered _) (λ _. same_gathered _) (λ _. refl) (λ _ _. refl)
