@@ -24,7 +24,8 @@ pub struct FrameFile<D: Device> {
 impl<D: Device> FrameFile<D> {
     /// Over a device whose file isn't read yet.
     pub fn new(device: D) -> FrameFile<D>
-        ensures { result.device ≡ device }
+        ensures device { result.device ≡ device }
+        ensures count { result.count ≡ 0 }
     {
         FrameFile { device, count: 0 }
     }

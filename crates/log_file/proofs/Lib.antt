@@ -7,3 +7,4 @@ pub mod OpeningLemmas
 mod MomentLemmas
 pub mod StoredLemmas
 mod WritingLemmas
+pub mod ReplacementLemmas

@@ -3,3 +3,4 @@ pub mod Reading
 pub mod Found
 pub mod Stored
 pub mod Joining
+pub mod Replacement

@@ -1,9 +1,10 @@
 // What a log begins with that begins behind an earlier one.
 
-ghost use Rattle.std.specs.Prelude.{◌≡◌, ◌↔◌, ◌≤◌, ◌<◌, ◌+◌, ◌*◌, ◌++◌, ◌∷◌, [], length, take, drop, map, IsTrue, IsFalse, IfOk, IfErr, IfSome, IfNone, OnOk};
+ghost use Rattle.std.specs.Prelude.{◌≡◌, ◌↔◌, ◌≤◌, ◌<◌, ◌+◌, ◌*◌, ◌++◌, ◌∷◌, [], length, take, drop, map, true, IsTrue, IsFalse, IfOk, IfErr, IfSome, IfNone, OnOk};
 ghost use Rattle.frame_file.specs.Reading.{payloads_in};
+ghost use Rattle.access_slots.specs.Locks.{record_less};
 ghost use Rattle.log_file.specs.Bytes.{row_bytes, part_bytes, parts_of};
-ghost use Rattle.log_file.specs.Reading.{IsRow, AreRows, Rise, IsBase};
+ghost use Rattle.log_file.specs.Reading.{IsRow, AreRows, Rise, RiseFrom, IsBase};
 ghost use Rattle.log_file.specs.Joining.Fields.{row_in, rows_in, IsPart, IsAdded, NoneAdded, IsBaseFault};
 
 use crate::batch::is_same;
@@ -113,6 +114,50 @@ fn is_above(rows: &[BaseRow], row: &BaseRow) -> bool
 {
     match rows.last() {
         Some(last) => last.0 < row.0,
+        None => true,
+    }
+}
+
+// Whether its fields are of their widths, which their types say as well.
+fn is_row(row: &BaseRow) -> bool
+    ensures { IsTrue result ↔ IsRow row.now }
+{
+    let (record, value) = row;
+    u32::from(record.dc) < 1 << 16
+        && u32::from(record.table) < 1 << 16
+        && u128::from(record.key) < 1 << 64
+        && value.len() == 64
+}
+
+// Whether the record stands below the other.
+fn is_below(row: &BaseRow, other: &BaseRow) -> bool
+    ensures { IsTrue result ↔ (record_less row.now.0 other.now.0 ≡ true) }
+{
+    row.0 < other.0
+}
+
+// Whether each of these records is above the one before it, and the first above this one.
+fn rise_from(first: &BaseRow, rows: &[BaseRow]) -> bool
+    ensures { IsTrue result ↔ (RiseFrom first.now.0 rows.now × AreRows rows.now) }
+{
+    let mut last = first;
+    let mut rest = rows;
+    'rows: while let Some((row, behind)) = rest.split_first() {
+        if !is_row(row) || !is_below(last, row) {
+            return false;
+        }
+        last = row;
+        rest = behind;
+    }
+    true
+}
+
+/// Whether a log can begin with these records: each is above the one before it.
+pub fn is_base(rows: &[BaseRow]) -> bool
+    ensures { IsTrue result ↔ IsBase rows.now }
+{
+    match rows.split_first() {
+        Some((first, behind)) => is_row(first) && rise_from(first, behind),
         None => true,
     }
 }

@@ -29,7 +29,8 @@ pub struct LogFile<D: Device> {
 impl<D: Device> LogFile<D> {
     /// Over a device whose file isn't read yet.
     pub fn new(device: D) -> LogFile<D>
-        ensures { result.frames.device ≡ device }
+        ensures device { result.frames.device ≡ device }
+        ensures count { result.frames.count ≡ 0 }
     {
         LogFile {
             frames: FrameFile::new(device),

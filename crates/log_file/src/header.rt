@@ -53,6 +53,13 @@ fn laid_out(alloc: Global, version: u64, header: &Header) -> Result<Vec<u8>, All
     Ok(out)
 }
 
+/// What its payload of layout 2 has before the count of the base records.
+pub(crate) fn based_front_bytes(alloc: Global, header: &Header) -> Result<Vec<u8>, AllocError>
+    ensures { IfOk result (λ bytes. bytes.items ≡ front_bytes 2 header.now ++ header.now.digest) }
+{
+    laid_out(alloc, BASED, header)
+}
+
 /// The header's 64 bytes, of layout 1.
 #[tactic(auto, unfolding(crate::specs::Bytes::header_bytes))]
 pub(crate) fn header_bytes(alloc: Global, header: &Header) -> Result<Vec<u8>, AllocError>
@@ -70,7 +77,7 @@ pub(crate) fn based_header_bytes(
 ) -> Result<Vec<u8>, AllocError>
     ensures { IfOk result (λ bytes. bytes.items ≡ based_header_bytes header.now rows) }
 {
-    let mut out = laid_out(alloc, BASED, header)?;
+    let mut out = based_front_bytes(alloc, header)?;
     write_long(&mut out, rows)?;
     Ok(out)
 }

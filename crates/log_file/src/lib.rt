@@ -24,14 +24,16 @@ mod header;
 mod laws;
 mod note;
 mod reading;
+mod replacement;
 mod stored;
 
-pub use base::BaseRow;
+pub use base::{BaseRow, is_base};
 pub use file::LogFile;
 pub use header::{BASED_FRONT, Header};
 pub use laws::{
     acknowledged_are_read, crashes_are_read, headers_tell, legal_logs_are_read, read_as_written,
 };
 pub use note::Note;
-pub use reading::{OpenFault, Recovered};
+pub use reading::{OpenFault, Recovered, begins_anew};
+pub use replacement::may_be_left;
 pub use stored::{Stored, read_file};

@@ -105,8 +105,8 @@ fn is_checkpoint(event: &Event) -> bool
     matches!(event, Event::Checkpoint { .. })
 }
 
-// Whether the oldest event is a checkpoint.
-fn begins_anew(log: &Log) -> bool
+/// Whether a log can stand behind base records: its oldest event is a checkpoint.
+pub fn begins_anew(log: &Log) -> bool
     ensures { result ≡ begins_anew (reverse log.now.events) }
 {
     match log.at(0) {
