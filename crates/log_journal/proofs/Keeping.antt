@@ -1,5 +1,5 @@
 -- One batch of rows more in a journal's file.
-use Rattle.std.proofs.Common.{◌≡◌, ◌∙◌, ◌++◌, ◌∷◌, [], ℕ, List, length, map, refl, ap, ap₂, sym, subst, arith}
+use Rattle.std.proofs.Common.{◌≡◌, ◌∙◌, ◌++◌, ◌∷◌, [], ℕ, List, Option, Some, None, true, false, length, map, refl, ap, ap₂, sym, subst, arith}
 use Rattle.std.specs.Prelude.{◌%◌, ◌<◌}
 use Rattle.std.specs.List.{flat_map}
 use Rattle.std.proofs.lemmas.List.{map-append, append-nil}
@@ -11,11 +11,11 @@ use Rattle.frame_file.specs.Reading.{IsSettled}
 use Rattle.log_file.specs.declared.note.Note.{Note}
 use Rattle.log_file.specs.declared.file.LogFile.{LogFile}
 use Rattle.log_file.specs.declared.header.Header.{Header}
-use Rattle.log_file.specs.Bytes.{Batch, batch_bytes, payloads_of, rows_of}
-use Rattle.log_file.specs.Reading.{IsBatch}
+use Rattle.log_file.specs.Bytes.{Rows as BaseRows, Batch, batch_bytes, payloads_of, rows_of}
+use Rattle.log_file.specs.Reading.{IsBase, IsBatch, IsBehind, begins_anew}
 use Rattle.log_file.proofs.GatheringLemmas.{batches_push}
 use Rattle.log_file.proofs.LawLemmas.{payloads_push}
-use Rattle.log_journal.specs.Keeping.{HasWritten}
+use Rattle.log_journal.specs.Keeping.{HasWritten, HasWrittenBehind}
 
 -- rows, and nothing that is noted
 abbrev pub of_rows : List ℕ → Batch
@@ -23,6 +23,15 @@ of_rows rows = record { notes = []; rows = rows }
 
 is_batch : (dcs : ℕ) (rows : List ℕ) → length rows % 96 ≡ 0 → IsBatch dcs (of_rows rows)
 is_batch dcs rows whole = record { notes = tt; count = omega arith; there = All-nil (λ (n : Note). n.dc < dcs); whole = whole }
+
+-- what stands behind a base may go on
+behind_more : (base : Option BaseRows) (before more : List Event) → IsBehind base before → IsBehind base (before ++ more)
+behind_more None before more behind = tt
+behind_more (Some base) [] more behind = absurd (let bad : false ≡ true = behind in cc)
+behind_more (Some base) (e ∷ before) more behind = behind
+
+append-one : (l : List ℕ) → flat_map (λ (x : Batch). x.rows) (of_rows l ∷ []) ≡ l
+append-one l = append-nil l
 
 pub written_push : {D : Type 0} (seen : D → List ℕ) (may_leave : D → List ℕ → Type 0) (h : Header) (file new : LogFile D)
     (before more : List Event) (rows : List ℕ) → HasWritten seen may_leave h file before → rows ≡ flat_map printed more
@@ -35,11 +44,26 @@ written_push seen may_leave h file new before more rows was rows_are whole appen
     record {
       base = was.base;
       starts = was.starts;
+      behind = behind_more was.base before more was.behind;
       batches = was.batches ++ b ∷ [];
       are = batches_push h.dcs was.batches b was.are (is_batch h.dcs rows whole);
       settled = subst (IsSettled seen may_leave new.frames) (sym (payloads_push h was.base was.batches b)) (appended (payloads_of h was.base was.batches) was.settled);
       rows = flat_map-append (λ (x : Batch). x.rows) was.batches (b ∷ []) ∙ (ap₂ (λ (l m : List ℕ). l ++ m) was.rows (append-one rows ∙ rows_are) ∙ sym (flat_map-append printed before more));
     }
-  where
-    append-one : (l : List ℕ) → flat_map (λ (x : Batch). x.rows) (of_rows l ∷ []) ≡ l
-    append-one l = append-nil l
+
+-- a log that begins anew, in one batch behind the base
+pub written_anew : {D : Type 0} (seen : D → List ℕ) (may_leave : D → List ℕ → Type 0) (h : Header) (file : LogFile D) (base : BaseRows)
+    (events : List Event) (rows : List ℕ) → IsBase base → begins_anew events ≡ true → rows ≡ flat_map printed events → length rows % 96 ≡ 0
+    → IsSettled seen may_leave file.frames (payloads_of h (Some base) (of_rows rows ∷ [])) → HasWrittenBehind seen may_leave h (Some base) file events
+written_anew seen may_leave h file base events rows is anew rows_are whole settled = (
+  record {
+    base = Some base;
+    starts = is;
+    behind = anew;
+    batches = of_rows rows ∷ [];
+    are = (is_batch h.dcs rows whole, tt);
+    settled = settled;
+    rows = append-one rows ∙ rows_are;
+  },
+  refl,
+)

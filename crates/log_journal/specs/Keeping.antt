@@ -1,5 +1,5 @@
 -- What a journal's file has.
-use Rattle.std.specs.Prelude.{◌≡◌, ◌⊎◌, ℕ, List, [], Option}
+use Rattle.std.specs.Prelude.{◌≡◌, ◌⊎◌, ℕ, List, [], Option, None}
 use Rattle.std.specs.List.{flat_map}
 use Rattle.tc_log.specs.declared.event.Event.{Event}
 use Rattle.tc_log.specs.Printed.{printed}
@@ -8,19 +8,25 @@ use Rattle.frame_file.specs.Reading.{Reads, IsSettled}
 use Rattle.log_file.specs.declared.file.LogFile.{LogFile}
 use Rattle.log_file.specs.declared.header.Header.{Header}
 use Rattle.log_file.specs.Bytes.{Rows, Batch, payloads_of, rows_of}
-use Rattle.log_file.specs.Reading.{IsStart, AreBatches, Says}
+use Rattle.log_file.specs.Reading.{IsStart, IsBehind, AreBatches, Says}
 
 -- the file is on the disk: this header, a base where the log begins behind an earlier one, and then batches that have the rows of these events, the oldest first
 pub record HasWritten {D : Type 0} (seen : D → List ℕ) (may_leave : D → List ℕ → Type 0) (h : Header) (file : LogFile D)
     (events : List Event) : Type 0 where
   pub base : Option Rows
   pub starts : IsStart base
+  pub behind : IsBehind base events
   pub batches : List Batch
   pub are : AreBatches h.dcs batches
   pub settled : IsSettled seen may_leave file.frames (payloads_of h base batches)
   pub rows : rows_of batches ≡ flat_map printed events
 
--- the bytes of a file with this header say these events; of a file without a frame these are none
-pub data IsLogOf (h : Header) (file : List ℕ) (events : List Event) : Type 0 where
-  Begun : Reads file [] → events ≡ [] → IsLogOf h file events
-  Read : (payloads : List (List ℕ)) (base : Option Rows) (known : List SiteNote) → Reads file payloads → Says h payloads base known events → IsLogOf h file events
+-- behind this base
+abbrev pub HasWrittenBehind : {D : Type 0} → (D → List ℕ) → (D → List ℕ → Type 0) → Header → Option Rows → LogFile D → List Event → Type 0
+HasWrittenBehind seen may_leave h base file events = (written : HasWritten seen may_leave h file events) × (written.base ≡ base)
+
+-- the bytes of a file with this header say this base and these events; of a file without a frame there are none
+pub data IsLogOf (h : Header) (file : List ℕ) (base : Option Rows) (events : List Event) : Type 0 where
+  Begun : Reads file [] → base ≡ None → events ≡ [] → IsLogOf h file base events
+  Read : (payloads : List (List ℕ)) (known : List SiteNote) → Reads file payloads → Says h payloads base known events
+      → IsLogOf h file base events

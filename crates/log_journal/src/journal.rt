@@ -1,14 +1,16 @@
 // The journal.
 
-ghost use Rattle.std.specs.Prelude.{◌≡◌, ◌++◌, ℕ, List, drop, reverse, IfOk, IfErr, OnOk};
+ghost use Rattle.std.specs.Prelude.{◌≡◌, ◌++◌, ℕ, List, [], drop, reverse, Some, None, IfOk, IfErr, OnOk};
 ghost use Rattle.tc_log.specs.declared.event.Event.{Event as EventValue};
 ghost use Rattle.frame_file.specs.Device.{Only};
+ghost use Rattle.frame_file.specs.Reading.{IsSettled};
 ghost use Rattle.log_file.specs.declared.header.Header.{Header as HeaderValue};
 ghost use Rattle.log_file.specs.Reading.{IsOpenFault, IsRefusal, IsAsItWas};
-ghost use Rattle.log_journal.specs.Keeping.{HasWritten, IsLogOf};
+ghost use Rattle.log_file.specs.Found.{base_in};
+ghost use Rattle.log_journal.specs.Keeping.{HasWritten, HasWrittenBehind, IsLogOf};
 
 use frame_file::{Device, DeviceError, FrameFault};
-use log_file::{Header, LogFile, OpenFault, Recovered};
+use log_file::{BaseRow, Header, LogFile, OpenFault, Recovered, begins_anew, is_base};
 use std::alloc::Global;
 use tc_log::log::Log;
 use worker_pool::{Journal, NotKept};
@@ -34,6 +36,14 @@ fn not_begun(fault: FrameFault) -> OpenFault
     }
 }
 
+/// What a journal's file has.
+#[derive(Drop)]
+pub struct Restored {
+    /// The records with which the data components begin, rising, where the log begins behind an earlier one.
+    pub base: Option<Vec<BaseRow>>,
+    pub log: Log,
+}
+
 /// A journal whose file has the log. Its data components end with the process: nothing is noted of them.
 #[derive(Drop)]
 pub struct LogJournal<D: Device> {
@@ -43,38 +53,48 @@ pub struct LogJournal<D: Device> {
 }
 
 impl<D: Device + Drop> LogJournal<D> {
-    /// The journal of a file, which is begun where it has no frame, and the log that the file has.
-    pub fn open(alloc: Global, device: D, header: Header) -> Result<(LogJournal<D>, Log), OpenFault>
+    /// The journal of a file, which is begun where it has no frame, and what the file has.
+    pub fn open(
+        alloc: Global,
+        device: D,
+        header: Header,
+    ) -> Result<(LogJournal<D>, Restored), OpenFault>
         // After a restart, what is read is what is on the disk.
         requires { Only (D.seen device) (D.may_leave device) }
-        ensures kept { IfOk result (λ r. HasWritten D.seen D.may_leave header r.0.file (reverse r.1.events)) }
+        ensures kept { IfOk result (λ r. HasWrittenBehind D.seen D.may_leave header (base_in r.1.base) r.0.file (reverse r.1.log.events)) }
         ensures header { IfOk result (λ r. r.0.header ≡ header) }
-        ensures log { IfOk result (λ r. IsLogOf header (D.seen device) (reverse r.1.events)) }
+        ensures log { IfOk result (λ r. IsLogOf header (D.seen device) (base_in r.1.base) (reverse r.1.log.events)) }
         ensures fault { IfErr result (IsOpenFault header (D.seen device)) }
     {
         let mut file = LogFile::new(device);
-        let log = LogJournal::begin(alloc, &mut file, &header)?;
-        Ok((LogJournal::over(alloc, file, header), log))
+        let restored = LogJournal::begin(alloc, &mut file, &header)?;
+        Ok((LogJournal::over(alloc, file, header), restored))
     }
 
-    /// The log that a file has, which is begun where it has no frame.
-    pub fn begin(alloc: Global, file: &mut LogFile<D>, header: &Header) -> Result<Log, OpenFault>
+    /// What a file has, which is begun where it has no frame.
+    pub fn begin(
+        alloc: Global,
+        file: &mut LogFile<D>,
+        header: &Header,
+    ) -> Result<Restored, OpenFault>
         // After a restart, what is read is what is on the disk.
         requires { Only (D.seen file.old.frames.device) (D.may_leave file.old.frames.device) }
-        ensures kept { IfOk result (λ log. HasWritten D.seen D.may_leave header.now file.new (reverse log.events)) }
-        ensures log { IfOk result (λ log. IsLogOf header.now (D.seen file.old.frames.device) (reverse log.events)) }
+        ensures kept { IfOk result (λ r. HasWrittenBehind D.seen D.may_leave header.now (base_in r.base) file.new (reverse r.log.events)) }
+        ensures log { IfOk result (λ r. IsLogOf header.now (D.seen file.old.frames.device) (base_in r.base) (reverse r.log.events)) }
         ensures fault { IfErr result (IsOpenFault header.now (D.seen file.old.frames.device)) }
         ensures refused { IfErr result (λ fault. IsRefusal fault
             → IsAsItWas D.seen D.may_leave D.kept file.old.frames.device file.new.frames.device) }
     {
         match file.open(alloc, header) {
             Ok(Recovered { base, log, notes }) => {
-                drop(base);
                 drop(notes);
-                Ok(log)
+                Ok(Restored { base, log })
             }
             Err(OpenFault::Empty) => match file.create(alloc, header) {
-                Ok(()) => Ok(Log::new(alloc)),
+                Ok(()) => Ok(Restored {
+                    base: None,
+                    log: Log::new(alloc),
+                }),
                 Err(fault) => Err(not_begun(fault)),
             },
             Err(fault) => Err(fault),
@@ -93,6 +113,45 @@ impl<D: Device + Drop> LogJournal<D> {
         }
     }
 
+    /// A journal of a device whose file is empty, in which the log begins anew, behind an earlier one: with these
+    /// records, with which the data components begin, and this log, whose oldest event is a checkpoint. `Err` says
+    /// why it isn't kept, [`NotKept::Failed`] also where the records don't rise or the log doesn't begin
+    /// so; until it is, a crash leaves a file that says no log.
+    pub fn begin_anew(
+        alloc: Global,
+        device: D,
+        header: Header,
+        base: &[BaseRow],
+        log: &Log,
+    ) -> (LogJournal<D>, Result<(), NotKept>)
+        requires empty { D.seen device ≡ [] }
+        requires settled { Only (D.seen device) (D.may_leave device) }
+        ensures kept { OnOk result.1 (HasWrittenBehind D.seen D.may_leave header (Some base.now) result.0.file (reverse log.now.events)) }
+        ensures header { result.0.header ≡ header }
+    {
+        let mut journal = LogJournal::over(alloc, LogFile::new(device), header);
+        let kept = journal.write_anew(base, log);
+        (journal, kept)
+    }
+
+    // Writes these records and this log into its file, which is empty.
+    fn write_anew(&mut self, base: &[BaseRow], log: &Log) -> Result<(), NotKept>
+        requires { IsSettled D.seen D.may_leave self.old.file.frames [] }
+        ensures kept { OnOk result (HasWrittenBehind D.seen D.may_leave self.old.header (Some base.now) self.new.file (reverse log.now.events)) }
+        ensures header { self.new.header ≡ self.old.header }
+    {
+        if !is_base(base) || !begins_anew(log) {
+            return Err(NotKept::Failed);
+        }
+        let Ok(rows) = log.print_from(self.alloc, 0) else {
+            return Err(NotKept::Memory);
+        };
+        match self.file.begin_anew(self.alloc, &self.header, base, &rows) {
+            Ok(()) => Ok(()),
+            Err(fault) => Err(unkept(fault)),
+        }
+    }
+
     /// Keeps the events of a log from this place on, the oldest at 0, behind those that it has kept.
     /// Whatever keeps them from being on the disk, it is told as not kept: the file is to be opened again.
     pub fn keep_from(&mut self, log: &Log, place: usize) -> Result<(), NotKept>
@@ -107,6 +166,13 @@ impl<D: Device + Drop> LogJournal<D> {
             Ok(()) => Ok(()),
             Err(fault) => Err(unkept(fault)),
         }
+    }
+
+    /// Whose log it is.
+    pub fn header(&self) -> &Header
+        ensures { result.now ≡ self.now.header }
+    {
+        &self.header
     }
 
     /// The device of its file.

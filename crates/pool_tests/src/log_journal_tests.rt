@@ -2,13 +2,15 @@
 
 use crate::test_pool::{are_committed, is_same, locked_dc, state_of};
 use crate::test_state::{puts, state};
+use access_slots::slot::Record;
 use frame_file::Memory;
-use log_file::{Header, OpenFault};
-use log_journal::LogJournal;
+use log_file::{BaseRow, Header, OpenFault, may_be_left};
+use log_journal::{LogJournal, Restored};
 use std::alloc::Global;
 use std::process::Abort;
 use std::sync::Wait;
 use std::thread::Threads;
+use tc_log::event::Event;
 use tc_log::log::Log;
 use worker_pool::{KeptFault, OpenGate, Report, run_kept};
 
@@ -18,11 +20,16 @@ const HEADER: Header = Header {
     digest: [7; 32],
 };
 
-// A journal over a file in memory with these bytes, and the log that they say.
+// A file in memory with these bytes.
+fn memory(rt: &impl Abort, alloc: Global, bytes: &[u8]) -> Memory {
+    Memory::new(alloc, Vec::from_slice(alloc, bytes).expect(rt, "no bytes"))
+}
+
+// A journal over a file in memory with these bytes, and the log that they say, which begins at the beginning.
 fn opened(rt: &impl Abort, alloc: Global, bytes: &[u8]) -> (LogJournal<Memory>, Log) {
-    let bytes = Vec::from_slice(alloc, bytes).expect(rt, "no bytes");
-    match LogJournal::open(alloc, Memory::new(alloc, bytes), HEADER) {
-        Ok(opened) => opened,
+    match LogJournal::open(alloc, memory(rt, alloc, bytes), HEADER) {
+        Ok((journal, Restored { base: None, log })) => (journal, log),
+        Ok(_) => panic!(rt; "it begins behind another one"),
         Err(_) => panic!(rt; "not opened"),
     }
 }
@@ -139,4 +146,95 @@ fn anothers_file(rt: HostRuntime) {
     };
     let refused = LogJournal::open(rt.alloc(), Memory::new(rt.alloc(), bytes), other);
     assert!(&rt; matches!(refused, Err(OpenFault::Other)));
+}
+
+// The row of a record of table 0 with this key.
+fn row(key: u64) -> BaseRow {
+    let record = Record {
+        dc: 0,
+        table: 0,
+        key,
+    };
+    (record, [5; 64])
+}
+
+// A log that is this event alone.
+fn log_of(rt: &impl Abort, alloc: Global, event: Event) -> Log {
+    let mut log = Log::new(alloc);
+    log.reserve(1).expect(rt, "no room");
+    log.push(event);
+    log
+}
+
+const CHECKPOINT: Event = Event::Checkpoint {
+    admitted: 3,
+    given: 9,
+};
+
+// The bytes of a file in which the log begins anew with these records, if it does.
+fn begun_anew(rt: &impl Abort, alloc: Global, base: &[BaseRow], log: &Log) -> Option<Vec<u8>> {
+    let (journal, kept) = LogJournal::begin_anew(alloc, memory(rt, alloc, &[]), HEADER, base, log);
+    let bytes = bytes_of(rt, alloc, journal);
+    kept.is_ok().then_some(bytes)
+}
+
+#[test]
+fn a_log_that_begins_anew_is_read_with_its_records(rt: HostRuntime) {
+    let alloc = rt.alloc();
+    let base = [row(4), row(7)];
+    let log = log_of(&rt, alloc, CHECKPOINT);
+    let bytes = begun_anew(&rt, alloc, &base, &log).expect(&rt, "not begun");
+    drop(log);
+    match LogJournal::open(alloc, memory(&rt, alloc, bytes.as_slice()), HEADER) {
+        Ok(
+            (
+                journal,
+                Restored {
+                    base: Some(found),
+                    log,
+                },
+            ),
+        ) => {
+            drop(journal);
+            assert_eq!(&rt; found.as_slice(), &base[..]);
+            assert!(&rt;
+                matches!(
+                    log.at(0),
+                    Some(Event::Checkpoint {
+                        admitted: 3,
+                        given: 9
+                    })
+                )
+            );
+            assert_eq!(&rt; log.len(), 1);
+        }
+        _ => panic!(&rt; "not read"),
+    }
+    // What a crash leaves of it may be written over, and says no log; its first 8 bytes are those of any log's file.
+    for end in 0..bytes.len() {
+        let torn = bytes.get(..end).unwrap_or_default();
+        assert_eq!(&rt; may_be_left(alloc, &HEADER, torn), Ok(true));
+        let refused = LogJournal::open(alloc, memory(&rt, alloc, torn), HEADER).is_err();
+        assert_eq!(&rt; refused, end > 8);
+    }
+    let other = Header {
+        procedures: 7,
+        ..HEADER
+    };
+    assert_eq!(&rt; may_be_left(alloc, &other, bytes.as_slice()), Ok(false));
+    assert_eq!(&rt;
+        may_be_left(alloc, &HEADER, b"a text of somebody else"),
+        Ok(false)
+    );
+}
+
+#[test]
+fn no_log_begins_anew_with_records_that_do_not_rise_or_without_a_checkpoint(rt: HostRuntime) {
+    let alloc = rt.alloc();
+    let log = log_of(&rt, alloc, CHECKPOINT);
+    assert!(&rt; begun_anew(&rt, alloc, &[row(7), row(4)], &log).is_none());
+    assert!(&rt; begun_anew(&rt, alloc, &[row(4), row(4)], &log).is_none());
+    drop(log);
+    let log = Log::new(alloc);
+    assert!(&rt; begun_anew(&rt, alloc, &[], &log).is_none());
 }
