@@ -7,6 +7,11 @@ use Rattle.data_component.specs.Performed.{count, all_at_most}
 use Rattle.data_component.specs.Store.{Store, heard, checkpointed, HasForgotten}
 use Rattle.transactions.specs.declared.Site.{Site}
 use Rattle.transactions.specs.InFlight.{site_at}
+use Rattle.transactions.specs.Room.{each_one, total}
+use Rattle.tc_core.specs.Checkpointing.{MayCheckpoint, IsCheckpointFault, checkpointed as anew_core}
+use Rattle.tc_core.specs.Core.{Core}
+use Rattle.tc_world.specs.declared.step.Illegal.{Illegal}
+use Rattle.tc_world.specs.declared.step.Illegal.TheVariants.{NotCut, Unforgettable, Memory}
 use Rattle.tc_world.specs.Whole.{Whole}
 
 -- the data component hears the mark, where it is of this incarnation, and keeps what it has
@@ -46,3 +51,18 @@ pub record IsForgotten (low_water : ℕ) (sites : List Site) (d : ℕ) (s : Stor
 pub record AreForgotten (low_water : ℕ) (sites : List Site) (olds news : List Store) : Type 0 where
   pub count : length news ≡ length olds
   pub each : (d : ℕ) (s : Store) → slice_get olds d ≡ Some s → IsForgotten low_water sites d s news
+
+-- the log of this transaction component begins anew, behind these data components, which have become those: they have forgotten what they
+-- performed, and kept their rows
+pub record IsCut (c : Core) (dcs : List Store) (c' : Core) (dcs' : List Store) : Type 0 where
+  pub may : MayCheckpoint c (marks_from (low_water c.events) c.sites 0 dcs)
+  pub forgotten : AreForgotten (low_water c.events) c.sites dcs dcs'
+  pub next : c' ≡ anew_core c
+
+-- it doesn't. Open transactions are looked for first, and what can't forget second; want of memory comes behind both, since the marks are
+-- listed then
+abbrev pub IsUncut : Core → List Store → Illegal → Type 0
+IsUncut c dcs (NotCut fault) = IsCheckpointFault c (marks_from (low_water c.events) c.sites 0 dcs) fault
+IsUncut c dcs (Unforgettable d) = (total each_one c.events ≡ 0) × IsUnforgettable (low_water c.events) dcs d
+IsUncut c dcs Memory = total each_one c.events ≡ 0
+IsUncut c dcs why = ⊥

@@ -31,7 +31,7 @@ use Rattle.tc_core.specs.declared.state.Redo.{Redo}
 use Rattle.tc_core.specs.declared.state.Redo.TheVariants as redo
 use Rattle.tc_core.specs.Recovery.{first_events}
 use Rattle.tc_world.specs.Whole.{Whole}
-use Rattle.tc_world.specs.Cutting.{kept_marks, IsUnforgettable, AreForgotten}
+use Rattle.tc_world.specs.Cutting.{kept_marks, AreForgotten, IsUncut}
 use Rattle.tc_world.specs.Recovery.{come_back, notes_of, MayCrash}
 use Rattle.tc_world.specs.declared.step.Step.{Step}
 use Rattle.tc_world.specs.declared.step.Step.TheVariants as step
@@ -232,12 +232,8 @@ pub record Cuts (w : Whole) (o : Outcome) (w' : Whole) : Type 0 where
   pub forgotten : AreForgotten (low_water w.core.events) w.core.sites w.dcs w'.dcs
   pub next : w' ≡ record w { core = cut_core w.core; dcs = w'.dcs }
 
--- open transactions are looked for first, and what can't forget second; want of memory comes behind both, since the marks are listed then
 abbrev pub IsNotCut : Whole → Illegal → Type 0
-IsNotCut w (illegal.NotCut fault) = IsCheckpointFault w.core (kept_marks w) fault
-IsNotCut w (illegal.Unforgettable d) = (total each_one w.core.events ≡ 0) × IsUnforgettable (low_water w.core.events) w.dcs d
-IsNotCut w illegal.Memory = total each_one w.core.events ≡ 0
-IsNotCut w why = ⊥
+IsNotCut w why = IsUncut w.core w.dcs why
 
 -- it stops so; want of memory comes only where it may
 abbrev pub StopsOr : Type 0 → Fate → Illegal → Type 0

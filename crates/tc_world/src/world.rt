@@ -27,7 +27,7 @@ ghost use Rattle.tc_world.specs.declared.step.Step.TheVariants as step;
 use crate::again::make_again;
 use crate::asking::{find_number, find_txn};
 use crate::beginning::admitted_since;
-use crate::cutting::{first_unforgettable, forget_all, kept_marks};
+use crate::cutting::cut;
 use crate::noting::notes_of;
 use crate::parts::{at, checkpoint_at, is_spent_at, perform_at, restart_at};
 use crate::step::{Illegal, Outcome, Step};
@@ -38,7 +38,6 @@ use access_slots::op::{News, Reply, Wire};
 use data_component::dc::Dc;
 use std::alloc::{AllocError, Global};
 use std::marker::Model;
-use tc_core::beginning::CheckpointFault;
 use tc_core::state::{Call, NewsFault, Redo, Request, TcState};
 
 /// A transaction component, its data components, and every wire and reply that was ever sent.
@@ -405,21 +404,10 @@ impl World {
         ensures why { IfErr result (Steps.IsNotCut self.old) }
     {
         self.state.known();
-        let open = self.state.open_count();
-        if open > 0 {
-            return Err(Illegal::NotCut(CheckpointFault::Open(open)));
+        match cut(self.alloc, &mut self.state, &mut self.dcs) {
+            Ok(()) => Ok(Outcome::Cut(self.state.admitted(), self.state.begun())),
+            Err(illegal) => Err(illegal),
         }
-        let low_water = self.state.low_water();
-        if let Some(dc) = first_unforgettable(self.dcs.as_slice(), low_water) {
-            return Err(Illegal::Unforgettable(dc));
-        }
-        let marks = kept_marks(self.alloc, &self.state, self.dcs.as_slice())?;
-        match self.state.checkpoint(marks.as_slice()) {
-            Ok(()) => {}
-            Err(fault) => return Err(Illegal::NotCut(fault)),
-        }
-        forget_all(&mut self.dcs, &self.state, low_water);
-        Ok(Outcome::Cut(self.state.admitted(), self.state.begun()))
     }
 
     fn try_step(&mut self, step: &Step) -> Result<Outcome, Illegal>
