@@ -1,3 +1,2 @@
 pub mod EventLemmas
 pub mod ReportLemmas
-pub mod BaseLemmas

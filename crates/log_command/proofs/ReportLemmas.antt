@@ -31,10 +31,11 @@ use Rattle.scripts.specs.declared.script.Dc.{Dc}
 use Rattle.script_loading.specs.Loading.{refusal_of, with_procedures, empty_core, empty_store, IsReady}
 use Rattle.script_loading.specs.declared.loading.Loaded.{Loaded as Script}
 use Rattle.log_part.specs.declared.part.Part.{Part}
-use Rattle.log_command.specs.declared.beginning.BaseFault.{BaseFault}
-use Rattle.log_command.specs.Beginning.{HaveBegun, IsUnbegun}
+use Rattle.base_records.specs.declared.beginning.BaseFault.{BaseFault}
+use Rattle.base_records.specs.Beginning.{HaveBegun, IsUnbegun}
+use Rattle.base_records.specs.Lines.{base_fault_line}
 use Rattle.log_command.specs.Joining.Beginning.{IsOfLog}
-use Rattle.log_command.specs.LogReport.{stored_lines, base_fault_line, IsListing, Listed, AreBrought, AreAuditLines, IsUnfit}
+use Rattle.log_command.specs.LogReport.{stored_lines, IsListing, Listed, AreBrought, AreAuditLines, IsUnfit}
 use Rattle.log_command.specs.LogReport.{IsChecked, NotBegun, NotBrought, Audited}
 use Rattle.log_command.specs.LogReport.{IsBeside, Anothers, Own, IsAudit, IsAuditBy}
 

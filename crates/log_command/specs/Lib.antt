@@ -1,5 +1,4 @@
 pub mod EventLines
-pub mod Beginning
 pub mod LogReport
 pub mod PictureReport
 pub mod Joining

@@ -28,12 +28,12 @@ use Rattle.scripts.specs.Reading.{Contents, Reading}
 use Rattle.script_loading.specs.Loading.{refusal_of, with_procedures, empty_core, empty_store}
 use Rattle.state_lines.specs.AuditLines.{AddsAudit}
 use Rattle.state_lines.specs.RowLines.{row_lines}
-use Rattle.log_command.specs.declared.beginning.BaseFault.{BaseFault}
-use Rattle.log_command.specs.declared.beginning.BaseFault.TheVariants.{NoDc, NoRoom as NoBaseRoom}
+use Rattle.base_records.specs.declared.beginning.BaseFault.{BaseFault}
 use Rattle.log_part.specs.declared.part.Part.{Part}
 use Rattle.log_part.specs.Part.{first_of}
 use Rattle.log_command.specs.EventLines.{event_lines}
-use Rattle.log_command.specs.Beginning.{HaveBegun, IsUnbegun}
+use Rattle.base_records.specs.Beginning.{HaveBegun, IsUnbegun}
+use Rattle.base_records.specs.Lines.{base_fault_line}
 
 -- ---- lines
 
@@ -64,11 +64,6 @@ part_lines part events = event_lines (first_of part (length events)) (drop (firs
 -- the events of a part, the oldest first, and the rows with which the log begins
 abbrev pub stored_lines : Part → Bool → Stored → List ℕ
 stored_lines part rows s = part_lines part (reverse s.log.events) ++ (base_lines rows (base_in s.base) ++ unfinished_line s.unfinished)
-
--- why data components don't begin with these rows
-abbrev pub base_fault_line : BaseFault → List ℕ
-base_fault_line (NoDc dc) = codes "refused log NoDc dc " ++ (decimal dc ++ codes "\n")
-base_fault_line (NoBaseRoom dc) = codes "refused log NoRoom dc " ++ (decimal dc ++ codes "\n")
 
 -- why data components aren't brought to where the log left them: its first event that isn't allowed, or one that lost what the log has no
 -- more, has no room for what the log says that it did, or does otherwise

@@ -9,8 +9,8 @@ ghost use Rattle.coming_back.specs.Coming.{HasOnlyRows};
 ghost use Rattle.log_command.specs.LogReport.{AreAuditLines, IsUnfit, IsChecked, IsBeside, IsAudit};
 ghost use Rattle.log_command.specs.Joining.Beginning.{IsOfLog};
 
-use crate::beginning::begin;
 use crate::refusing::{anothers, refused, unbegun, unfit_line, write_unfinished};
+use base_records::begin;
 use coming_back::{ComeBackFault, bring_back};
 use data_component::dc::Dc;
 use log_file::{Stored, read_file};
@@ -62,7 +62,7 @@ fn checked(
     requires empty { All HasOnlyRows dcs.old }
     ensures { IfOk result (λ r. IsChecked state.old dcs.old stored.now r.status (string_bytes r.lines)) }
 {
-    if let Some(fault) = begin(dcs, stored)? {
+    if let Some(fault) = begin(dcs, &stored.base, &stored.log)? {
         return unbegun(alloc, fault);
     }
     match bring_back(alloc, state, dcs, &stored.log) {

@@ -9,7 +9,6 @@
 #![tactic(auto)]
 
 pub mod auditing;
-pub mod beginning;
 mod event_lines;
 pub mod listing;
 pub mod picturing;

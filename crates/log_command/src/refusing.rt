@@ -3,10 +3,11 @@
 ghost use Rattle.std.specs.Prelude.{◌≡◌, Some, IfOk, OnOk, string_bytes};
 ghost use Rattle.std.specs.Prelude.{◌++◌};
 ghost use Rattle.procedure_digest.specs.Difference.{other_line};
-ghost use Rattle.log_command.specs.LogReport.{refusal_line, unfit_line, base_fault_line, unfinished_line};
+ghost use Rattle.log_command.specs.LogReport.{refusal_line, unfit_line, unfinished_line};
+ghost use Rattle.base_records.specs.Lines.{base_fault_line};
 ghost use Rattle.log_command.specs.Joining.Beginning.{IsOfLog};
 
-use crate::beginning::BaseFault;
+use base_records::{BaseFault, base_fault_line};
 use coming_back::ComeBackFault;
 use frame_file::FrameFault;
 use log_file::{Header, OpenFault};
@@ -87,10 +88,7 @@ pub(crate) fn unbegun(alloc: Global, fault: BaseFault) -> Result<Report, AllocEr
     ensures line { IfOk result (λ r. string_bytes r.lines ≡ base_fault_line fault) }
     ensures status { IfOk result (λ r. r.status ≡ 1) }
 {
-    Ok(refusal(match fault {
-        BaseFault::NoDc(dc) => format!(in alloc; "refused log NoDc dc {dc}\n")?,
-        BaseFault::NoRoom(dc) => format!(in alloc; "refused log NoRoom dc {dc}\n")?,
-    }))
+    Ok(refusal(base_fault_line(alloc, fault)?))
 }
 
 /// Adds how many bytes at the end are no whole frame, where there are such.

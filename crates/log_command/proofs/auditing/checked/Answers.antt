@@ -3,7 +3,7 @@ use Rattle.std.specs.Prelude.{IfOk, string_bytes}
 use Rattle.log_file.specs.Found.{base_in}
 use Rattle.tc_core.specs.Loaded.{Loaded}
 use Rattle.log_command.specs.LogReport.{AreAuditLines}
-use Rattle.log_command.proofs.BaseLemmas.{have_only_rows, begun_count}
+use Rattle.base_records.proofs.BaseLemmas.{have_only_rows, begun_count}
 use Rattle.log_command.proofs.ReportLemmas.{unbegun_is, brought, audited_is, of_log, unfit_is}
 use Rattle.log_command.proofs.auditing.checked.Goals as goal
 

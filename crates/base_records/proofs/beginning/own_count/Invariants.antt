@@ -1,6 +1,6 @@
 use Rattle.std.proofs.Common.{◌≡◌, ◌≤◌, take}
-use Rattle.log_command.specs.Beginning.{own_count}
-use Rattle.log_command.proofs.beginning.own_count.Given as goal
+use Rattle.base_records.specs.Beginning.{own_count}
+use Rattle.base_records.proofs.beginning.own_count.Given as goal
 
 abbrev pub invariant-rows : goal.invariant-rows
 invariant-rows l = record {

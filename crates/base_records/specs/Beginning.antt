@@ -6,8 +6,8 @@ use Rattle.access_slots.specs.declared.slot.Record.{Record}
 use Rattle.data_component.specs.Sorted.{Rows}
 use Rattle.data_component.specs.Store.{Store}
 use Rattle.data_component.specs.Beginning.{AreBegun}
-use Rattle.log_command.specs.declared.beginning.BaseFault.{BaseFault}
-use Rattle.log_command.specs.declared.beginning.BaseFault.TheVariants.{NoDc, NoRoom}
+use Rattle.base_records.specs.declared.beginning.BaseFault.{BaseFault}
+use Rattle.base_records.specs.declared.beginning.BaseFault.TheVariants.{NoDc, NoRoom}
 
 -- how many numbers were given out before events, the oldest first, that begin with a checkpoint
 abbrev pub first_given : List Event → ℕ

@@ -1,5 +1,5 @@
-use Rattle.log_command.proofs.BaseLemmas.{one_fits}
-use Rattle.log_command.proofs.beginning.first_crowded.Goals as goal
+use Rattle.base_records.proofs.BaseLemmas.{one_fits}
+use Rattle.base_records.proofs.beginning.first_crowded.Goals as goal
 
 pub dcs-preserved : goal.dcs-preserved
 dcs-preserved c =

@@ -1,12 +1,13 @@
 //! Data components that begin with the records with which a log begins that was cut.
 
-ghost use Rattle.std.specs.Prelude.{◌≡◌, ◌==◌, ◌≤◌, count_by, length, reverse, IfOk, IfSome, IfNone};
+ghost use Rattle.std.specs.Prelude.{◌≡◌, ◌==◌, ◌≤◌, count_by, length, reverse, IfOk, IfSome, IfNone, string_bytes};
 ghost use Rattle.log_file.specs.Found.{base_in};
-ghost use Rattle.log_command.specs.Beginning.{own_count, first_given, HaveBegun, IsUnbegun, IsFirstOfNone, IsFirstCrowded, IsBaseFault};
+ghost use Rattle.base_records.specs.Lines.{base_fault_line};
+ghost use Rattle.base_records.specs.Beginning.{own_count, first_given, HaveBegun, IsUnbegun, IsFirstOfNone, IsFirstCrowded, IsBaseFault};
 
 use data_component::{Dc, begin_all};
-use log_file::{BaseRow, Stored};
-use std::alloc::AllocError;
+use log_file::BaseRow;
+use std::alloc::{AllocError, Global};
 use tc_log::event::Event;
 use tc_log::log::Log;
 
@@ -79,19 +80,33 @@ fn first_given(log: &Log) -> u64
 
 /// The data components, of which nothing was performed, begin with what the log begins with; where that is
 /// nothing they stay as they are. Where one can't, the first reason is named.
-pub(crate) fn begin(dcs: &mut [Dc], stored: &Stored) -> Result<Option<BaseFault>, AllocError>
-    ensures begun { IfOk result (λ fault. IfNone fault (HaveBegun (base_in stored.now.base) (reverse stored.now.log.events) dcs.old dcs.new)) }
-    ensures fault { IfOk result (λ fault. IfSome fault (IsUnbegun (base_in stored.now.base) dcs.old)) }
+pub fn begin(
+    dcs: &mut [Dc],
+    base: &Option<Vec<BaseRow>>,
+    log: &Log,
+) -> Result<Option<BaseFault>, AllocError>
+    ensures begun { IfOk result (λ fault. IfNone fault (HaveBegun (base_in base.now) (reverse log.now.events) dcs.old dcs.new)) }
+    ensures fault { IfOk result (λ fault. IfSome fault (IsUnbegun (base_in base.now) dcs.old)) }
 {
-    let Some(base) = &stored.base else {
+    let Some(base) = base else {
         return Ok(None);
     };
     if let Some(fault) = base_fault(base, dcs) {
         return Ok(Some(fault));
     }
-    match begin_all(dcs, base, first_given(&stored.log)) {
+    match begin_all(dcs, base, first_given(log)) {
         Ok(()) => Ok(None),
         // Not so of rows that rise and have room, and of data components to which nothing has happened.
         Err(_) => Err(AllocError),
+    }
+}
+
+/// The line of why they don't.
+pub fn base_fault_line(alloc: Global, fault: BaseFault) -> Result<String, AllocError>
+    ensures { IfOk result (λ line. string_bytes line ≡ base_fault_line fault) }
+{
+    match fault {
+        BaseFault::NoDc(dc) => format!(in alloc; "refused log NoDc dc {dc}\n"),
+        BaseFault::NoRoom(dc) => format!(in alloc; "refused log NoRoom dc {dc}\n"),
     }
 }

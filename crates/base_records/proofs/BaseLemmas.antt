@@ -11,7 +11,7 @@ use Rattle.data_component.specs.Store.{Store, begun_with}
 use Rattle.data_component.specs.Beginning.{AreBegun}
 use Rattle.tc_world.proofs.ComingBack.{all_at}
 use Rattle.coming_back.specs.Coming.{HasOnlyRows}
-use Rattle.log_command.specs.Beginning.{first_given, own_count, HaveBegun, IsCrowded}
+use Rattle.base_records.specs.Beginning.{first_given, own_count, HaveBegun, IsCrowded}
 
 -- ---- which has more rows than room
 
