@@ -1,7 +1,7 @@
 -- What the command of a name wants.
 use Rattle.std.proofs.Common.{arith, slice_index, ◌≡◌, ℕ, Bool, List, [], Option, Some, None, option_map, unwrap_or, codes, is_some, refl, sym}
 use Rattle.std.proofs.Common.{subst, ap, ap₂, ◌∙◌, ◌+◌, ◌∷◌, true, false, inl, inr, eq-or-lt_of_le}
-use Rattle.std.specs.Prelude.{◌⊎◌, ◌<◌, ◌≤◌, Result, slice_get}
+use Rattle.std.specs.Prelude.{◌⊎◌, ◌&&◌, ◌||◌, is_none, ◌<◌, ◌≤◌, Result, slice_get}
 use Rattle.std.proofs.lemmas.Bool.{or_parts}
 use Rattle.command_line.proofs.Options.{some_some}
 use Rattle.clap.specs.Words.{HasKind, IsAmong, Kinds, Row, Text, all_of, fault_of, first_of, kind_of, one_of, subcommand_rows_of}
@@ -11,7 +11,7 @@ use Rattle.std.specs.List.{list_any}
 use Rattle.clap.specs.Matches.{subcommand_name_of}
 use Rattle.clap.specs.declared.parser.matches.ArgMatches.{ArgMatches}
 use Rattle.clap.specs.declared.parser.matches.ArgMatches.TheViews.{out-ArgMatches}
-use Rattle.command_line.specs.Said.{AllNumbers, IsNoCount, IsNoPart, IsUnfit, Argument, Workers, Tries, Alone, Both, Drawn, NoPart, Parted, IsWrong, Refused, NoCommand, Unfit, procd_app, shows}
+use Rattle.command_line.specs.Said.{AllNumbers, IsNoCount, IsNoPart, IsUnfit, Argument, Workers, Tries, Bytes, Logless, Alone, Both, Drawn, NoPart, Parted, IsWrong, Refused, NoCommand, Unfit, procd_app, shows}
 use Rattle.command_line.specs.Said.{IsFlag, SaysCount, SaysLog, SaysNumber, SaysNumberIf, SaysNumbers, SaysPart, SaysPartOf, SaysRun, SaysWish, value_of}
 use Rattle.command_line.specs.Task.{LogWish, Events, EventsAndRows, Audit, Picture}
 use Rattle.command_line.specs.Joining.LogWanted.{shown_wanted, audit_wanted}
@@ -96,7 +96,7 @@ wants_exec name rows raw numbers is flag all Asm named says = absurd (exec_not_a
 wants_exec name rows raw numbers is flag all (Dis r) named says = absurd (exec_not_dis (sym is ∙ named))
 wants_exec name rows raw numbers is flag all Verify named says = absurd (exec_not_verify (sym is ∙ named))
 wants_exec name rows raw numbers is flag all (World log audit script) named says = absurd (exec_not_world (sym is ∙ named))
-wants_exec name rows raw numbers is flag all (Run workers tries stats audit tell log script) named says = absurd (exec_not_run (sym is ∙ named))
+wants_exec name rows raw numbers is flag all (Run workers tries stats audit tell log checkpoint over script) named says = absurd (exec_not_run (sym is ∙ named))
 wants_exec name rows raw numbers is flag all (Log script) named says = absurd (exec_not_log (sym is ∙ named))
 
 pub wants_dis : (name : List ℕ) (rows : List Row) (raw : Bool) → name ≡ codes "dis" → ((r : Bool) → IsFlag r (one_of (codes "raw") rows) → raw ≡ r)
@@ -106,7 +106,7 @@ wants_dis name rows raw is flag Asm named says = absurd (asm_not_dis (sym named 
 wants_dis name rows raw is flag (Dis r) named says = ap Dis (flag r says)
 wants_dis name rows raw is flag Verify named says = absurd (dis_not_verify (sym is ∙ named))
 wants_dis name rows raw is flag (World log audit script) named says = absurd (dis_not_world (sym is ∙ named))
-wants_dis name rows raw is flag (Run workers tries stats audit tell log script) named says = absurd (dis_not_run (sym is ∙ named))
+wants_dis name rows raw is flag (Run workers tries stats audit tell log checkpoint over script) named says = absurd (dis_not_run (sym is ∙ named))
 wants_dis name rows raw is flag (Log script) named says = absurd (dis_not_log (sym is ∙ named))
 
 pub wants_world : (name : List ℕ) (rows : List Row) (log audit : Bool) (script : Option (List ℕ)) → name ≡ codes "world"
@@ -120,19 +120,21 @@ wants_world name rows log audit script is flag other path (Dis r) named says = a
 wants_world name rows log audit script is flag other path Verify named says = absurd (verify_not_world (sym named ∙ is))
 wants_world name rows log audit script is flag other path (World l a s) named says =
     ap₂ (λ (x y : Bool). World x y script) (flag l says.0) (other a says.1) ∙ ap (λ (o : Option (List ℕ)). World l a o) (path ∙ says.2)
-wants_world name rows log audit script is flag other path (Run workers tries stats a tell kept beside) named says = absurd (world_not_run (sym is ∙ named))
+wants_world name rows log audit script is flag other path (Run workers tries stats a tell kept checkpoint over beside) named says = absurd (world_not_run (sym is ∙ named))
 wants_world name rows log audit script is flag other path (Log beside) named says = absurd (world_not_log (sym is ∙ named))
 
 pub wants_run : (name : List ℕ) (rows : List Row) (result : Result Task WordFault) → name ≡ codes "run"
-    → ((workers tries : ℕ) (stats audit tell : Bool) (log script : Option (List ℕ)) → SaysRun rows workers tries stats audit tell log script
-    → IsTaskOrNoMemory (Run workers tries stats audit tell log script) result)
+    → ((workers tries : ℕ) (stats audit tell : Bool) (log : Option (List ℕ)) (checkpoint : Bool) (over : Option ℕ) (script : Option (List ℕ))
+    → SaysRun rows workers tries stats audit tell log checkpoint over script
+    → IsTaskOrNoMemory (Run workers tries stats audit tell log checkpoint over script) result)
     → (wish : Wish) → name ≡ command_name wish → SaysWish rows wish → IsTaskOrNoMemory wish result
 wants_run name rows result is all (Exec r ns) named says = absurd (exec_not_run (sym named ∙ is))
 wants_run name rows result is all Asm named says = absurd (asm_not_run (sym named ∙ is))
 wants_run name rows result is all (Dis r) named says = absurd (dis_not_run (sym named ∙ is))
 wants_run name rows result is all Verify named says = absurd (verify_not_run (sym named ∙ is))
 wants_run name rows result is all (World log audit script) named says = absurd (world_not_run (sym named ∙ is))
-wants_run name rows result is all (Run workers tries stats audit tell log script) named says = all workers tries stats audit tell log script says
+wants_run name rows result is all (Run workers tries stats audit tell log checkpoint over script) named says =
+    all workers tries stats audit tell log checkpoint over script says
 wants_run name rows result is all (Log script) named says = absurd (log_not_run (sym named ∙ is))
 
 pub wants_log : (name : List ℕ) (rows : List Row) (result : Result Task WordFault) → name ≡ codes "log"
@@ -143,7 +145,7 @@ wants_log name rows result is all Asm named says = absurd (asm_not_log (sym name
 wants_log name rows result is all (Dis r) named says = absurd (dis_not_log (sym named ∙ is))
 wants_log name rows result is all Verify named says = absurd (verify_not_log (sym named ∙ is))
 wants_log name rows result is all (World log audit script) named says = absurd (world_not_log (sym named ∙ is))
-wants_log name rows result is all (Run workers tries stats audit tell log script) named says = absurd (log_not_run (sym is ∙ named))
+wants_log name rows result is all (Run workers tries stats audit tell log checkpoint over script) named says = absurd (log_not_run (sym is ∙ named))
 wants_log name rows result is all (Log wanted) named says = all wanted says
 
 -- ---- a log's file
@@ -226,6 +228,8 @@ module _ (rows : List Row) (base audit : Bool) (script picture : Option Text) (p
   log_fits same one alone (Argument exec none) = exec_not_log (sym exec)
   log_fits same one alone (Workers run none) = log_not_run run
   log_fits same one alone (Tries run none) = log_not_run run
+  log_fits same one alone (Bytes run none) = log_not_run run
+  log_fits same one alone (Logless run none wanted) = log_not_run run
   log_fits same one alone (Alone log a flag unequal) = unequal (ap is_some (sym is) ∙ (same ∙ audits a flag))
   log_fits same one alone (Both log asked audited) = true_false (sym (asks true asked) ∙ one (audits true audited))
   log_fits same one alone (Drawn log some whole) =
@@ -273,12 +277,57 @@ pub number_wrong : (o : Option Text) (text : Text) → Some text ≡ o → ¬ Sa
 number_wrong None text e wrong = absurd (cc)
 number_wrong (Some said) text e wrong = let same : said ≡ text = cc in λ says. wrong (subst SaysNumber same says)
 
+-- it says one number, or none
+pub number_same : (o : Option Text) (m n : Option ℕ) → SaysNumberIf o m → SaysNumberIf o n → m ≡ n
+number_same None m n one other = one ∙ sym other
+number_same (Some text) m n one other = one.1 ∙ sym other.1
+
+pub number_known : (o : Option Text) (n : Option ℕ) → SaysNumberIf o n → ¬ IsNoCount o
+number_known None n says none = none
+number_known (Some text) n says none = none says.0
+
+pub number_some : (o : Option Text) (n : Option ℕ) → SaysNumberIf o n → is_some n ≡ is_some o
+number_some None n says = ap is_some says
+number_some (Some text) n says = ap is_some says.1
+
+nothing_there : {X Y : Type 0} (f : X → Y) (o : Option X) → option_map f o ≡ None → is_none o ≡ true
+nothing_there f None none = refl
+nothing_there f (Some x) none = absurd (cc)
+
+both_true : (a b c : Bool) → a ≡ true → c ≡ true → (a && (b || c)) ≡ true
+both_true a b c one other = rw (one, other) (or_true b)
+  where
+    or_true : (x : Bool) → (true && (x || true)) ≡ true
+    or_true true = refl
+    or_true false = refl
+
+first_true : (a b c : Bool) → a ≡ true → b ≡ true → (a && (b || c)) ≡ true
+first_true a b c one other = rw (one, other) refl
+
+-- no checkpoint is asked for without a log
+pub logged_so : {X : Type 0} (f : X → Text) (rows : List Row) (log : Option X) (checkpoint : Bool) (over : Option ℕ)
+    → option_map f log ≡ first_of (codes "log") rows
+    → ((flag : Bool) → IsFlag flag (one_of (codes "checkpoint") rows) → checkpoint ≡ flag)
+    → SaysNumberIf (first_of (codes "checkpoint-over") rows) over → (is_none log && (checkpoint || is_some over)) ≡ false
+    → first_of (codes "log") rows ≡ None
+    → IsFlag true (one_of (codes "checkpoint") rows) ⊎ (is_some (first_of (codes "checkpoint-over") rows) ≡ true) → ⊥
+logged_so f rows log checkpoint over log_is flag says not none wanted =
+    let no_log = nothing_there f log (log_is ∙ none) in
+    elim wanted [
+      | inl asked ↦ let yes = first_true (is_none log) checkpoint (is_some over) no_log (flag true asked) in true_false (sym yes ∙ not)
+      | inr there ↦
+          let yes = both_true (is_none log) checkpoint (is_some over) no_log (number_some (first_of (codes "checkpoint-over") rows) over says ∙ there) in
+          true_false (sym yes ∙ not)
+    ]
+
 -- only these three commands have more to say than a file and flags
 pub lacks_nothing : (name : Text) (rows : List Row) → (name ≡ codes "exec" → ⊥) → (name ≡ codes "run" → ⊥) → (name ≡ codes "log" → ⊥)
     → ¬ IsUnfit name rows
 lacks_nothing name rows not_exec not_run not_log (Argument exec none) = not_exec exec
 lacks_nothing name rows not_exec not_run not_log (Workers run none) = not_run run
 lacks_nothing name rows not_exec not_run not_log (Tries run none) = not_run run
+lacks_nothing name rows not_exec not_run not_log (Bytes run none) = not_run run
+lacks_nothing name rows not_exec not_run not_log (Logless run none wanted) = not_run run
 lacks_nothing name rows not_exec not_run not_log (Alone log audit flag unequal) = not_log log
 lacks_nothing name rows not_exec not_run not_log (Both log asked audit) = not_log log
 lacks_nothing name rows not_exec not_run not_log (Drawn log some whole) = not_log log
@@ -290,6 +339,8 @@ pub lacks_no_argument : (name : Text) (rows : List Row) → name ≡ codes "exec
 lacks_no_argument name rows is all (Argument exec none) = none all
 lacks_no_argument name rows is all (Workers run none) = exec_not_run (sym is ∙ run)
 lacks_no_argument name rows is all (Tries run none) = exec_not_run (sym is ∙ run)
+lacks_no_argument name rows is all (Bytes run none) = exec_not_run (sym is ∙ run)
+lacks_no_argument name rows is all (Logless run none wanted) = exec_not_run (sym is ∙ run)
 lacks_no_argument name rows is all (Alone log audit flag unequal) = exec_not_log (sym is ∙ log)
 lacks_no_argument name rows is all (Both log asked audit) = exec_not_log (sym is ∙ log)
 lacks_no_argument name rows is all (Drawn log some whole) = exec_not_log (sym is ∙ log)
@@ -297,15 +348,20 @@ lacks_no_argument name rows is all (NoPart log none) = exec_not_log (sym is ∙ 
 lacks_no_argument name rows is all (Parted log some whole) = exec_not_log (sym is ∙ log)
 
 pub lacks_no_count : (rows : List Row) → ¬ IsNoCount (first_of (codes "workers") rows) → ¬ IsNoCount (first_of (codes "tries") rows)
+    → ¬ IsNoCount (first_of (codes "checkpoint-over") rows)
+    → (first_of (codes "log") rows ≡ None
+    → IsFlag true (one_of (codes "checkpoint") rows) ⊎ (is_some (first_of (codes "checkpoint-over") rows) ≡ true) → ⊥)
     → ¬ IsUnfit (codes "run") rows
-lacks_no_count rows workers tries (Argument exec none) = exec_not_run (sym exec)
-lacks_no_count rows workers tries (Workers run none) = workers none
-lacks_no_count rows workers tries (Tries run none) = tries none
-lacks_no_count rows workers tries (Alone log audit flag unequal) = log_not_run (sym log)
-lacks_no_count rows workers tries (Both log asked audit) = log_not_run (sym log)
-lacks_no_count rows workers tries (Drawn log some whole) = log_not_run (sym log)
-lacks_no_count rows workers tries (NoPart log none) = log_not_run (sym log)
-lacks_no_count rows workers tries (Parted log some whole) = log_not_run (sym log)
+lacks_no_count rows workers tries bytes logged (Argument exec none) = exec_not_run (sym exec)
+lacks_no_count rows workers tries bytes logged (Workers run none) = workers none
+lacks_no_count rows workers tries bytes logged (Tries run none) = tries none
+lacks_no_count rows workers tries bytes logged (Bytes run none) = bytes none
+lacks_no_count rows workers tries bytes logged (Logless run none wanted) = logged none wanted
+lacks_no_count rows workers tries bytes logged (Alone log audit flag unequal) = log_not_run (sym log)
+lacks_no_count rows workers tries bytes logged (Both log asked audit) = log_not_run (sym log)
+lacks_no_count rows workers tries bytes logged (Drawn log some whole) = log_not_run (sym log)
+lacks_no_count rows workers tries bytes logged (NoPart log none) = log_not_run (sym log)
+lacks_no_count rows workers tries bytes logged (Parted log some whole) = log_not_run (sym log)
 
 pub asm_lacks_nothing : (name : Text) (rows : List Row) → name ≡ codes "asm" → ¬ IsUnfit name rows
 asm_lacks_nothing name rows is = lacks_nothing name rows (λ e. exec_not_asm (sym e ∙ is)) (λ e. asm_not_run (sym is ∙ e)) (λ e. asm_not_log (sym is ∙ e))

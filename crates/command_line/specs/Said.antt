@@ -1,5 +1,5 @@
 -- What the command line says, and when it is wrong.
-use Rattle.std.specs.Prelude.{◌≡◌, ◌≢◌, ℕ, Bool, List, [], ◌<◌, ◌^◌, map, slice_get, unwrap_or, Option, Some, None, codes, is_some, true, false, ◌⊎◌}
+use Rattle.std.specs.Prelude.{◌≡◌, ◌≢◌, ℕ, Bool, List, [], ◌<◌, ◌^◌, map, slice_get, unwrap_or, Option, Some, None, codes, is_some, true, false, ◌⊎◌, ◌||◌}
 use Rattle.std.specs.List.{list_any}
 use Rattle.clap.specs.Words.{App, Kinds, Row, Rule, Text, all_of, fault_of, first_of, one_of, new_app, new_rule}
 use Rattle.clap.specs.Words.{subcommand_of, takes, with_rule, with_subcommand}
@@ -44,6 +44,9 @@ stats_rule = record (new_rule (codes "stats")) { long = Some (codes "stats"); ac
 abbrev pub tell_rule : Rule
 tell_rule = record (new_rule (codes "tell")) { long = Some (codes "tell"); action = Some SetTrue }
 
+abbrev pub checkpoint_rule : Rule
+checkpoint_rule = record (new_rule (codes "checkpoint")) { long = Some (codes "checkpoint"); action = Some SetTrue }
+
 -- exec [--raw] FILE [ARG]...
 abbrev pub exec_app : App
 exec_app = with_rule (with_rule (with_rule (new_app (codes "exec")) raw_rule) file_rule) arg_rule
@@ -72,9 +75,13 @@ counted_app = with_rule (with_rule (new_app (codes "run")) (option_rule (codes "
 abbrev pub told_app : App
 told_app = with_rule (with_rule (with_rule counted_app stats_rule) audit_rule) tell_rule
 
--- run [--workers N] [--tries N] [--stats] [--audit] [--tell] [--log LOG] FILE [SCRIPT]
+-- run [--workers N] [--tries N] [--stats] [--audit] [--tell] [--log LOG]
+abbrev pub kept_app : App
+kept_app = with_rule told_app (option_rule (codes "log"))
+
+-- and behind it [--checkpoint] [--checkpoint-over BYTES] FILE [SCRIPT]
 abbrev pub run_app : App
-run_app = with_rule (with_rule (with_rule told_app (option_rule (codes "log"))) file_rule) script_rule
+run_app = with_rule (with_rule (with_rule (with_rule kept_app checkpoint_rule) (option_rule (codes "checkpoint-over"))) file_rule) script_rule
 
 -- log [--rows] [--audit] [--picture SVG]
 abbrev pub drawn_app : App
@@ -134,12 +141,18 @@ abbrev pub SaysNumberIf : Option Text → Option ℕ → Type 0
 SaysNumberIf None n = n ≡ None
 SaysNumberIf (Some text) n = SaysNumber text × (n ≡ Some (value_of text))
 
--- 4 workers and 3 tries, where nothing is said of them
-abbrev pub SaysRun : List Row → ℕ → ℕ → Bool → Bool → Bool → Option Text → Option Text → Type 0
-SaysRun rows workers tries stats audit tell log script =
+-- a checkpoint is asked for behind the last call, or where the log's file has more bytes than this
+abbrev pub wants_checkpoint : Bool → Option ℕ → Bool
+wants_checkpoint checkpoint over = checkpoint || is_some over
+
+-- 4 workers and 3 tries, where nothing is said of them; a checkpoint is that of a log
+abbrev pub SaysRun : List Row → ℕ → ℕ → Bool → Bool → Bool → Option Text → Bool → Option ℕ → Option Text → Type 0
+SaysRun rows workers tries stats audit tell log checkpoint over script =
     SaysCount (first_of (codes "workers") rows) 4 workers × SaysCount (first_of (codes "tries") rows) 3 tries
     × IsFlag stats (one_of (codes "stats") rows) × IsFlag audit (one_of (codes "audit") rows) × IsFlag tell (one_of (codes "tell") rows)
-    × (first_of (codes "log") rows ≡ log) × (first_of (codes "script") rows ≡ script)
+    × (first_of (codes "log") rows ≡ log) × IsFlag checkpoint (one_of (codes "checkpoint") rows)
+    × SaysNumberIf (first_of (codes "checkpoint-over") rows) over × (first_of (codes "script") rows ≡ script)
+    × (log ≡ None → wants_checkpoint checkpoint over ≡ false)
 
 -- from which place on, or how many at the end: one of both at most, and the whole log where neither is said
 abbrev pub SaysPart : (from tail : Option Text) → Part → Type 0
@@ -172,7 +185,7 @@ SaysWish rows (Dis raw) = IsFlag raw (one_of (codes "raw") rows)
 SaysWish rows Verify = Unit {0}
 SaysWish rows (World log audit script) =
     IsFlag log (one_of (codes "log") rows) × IsFlag audit (one_of (codes "audit") rows) × (first_of (codes "script") rows ≡ script)
-SaysWish rows (Run workers tries stats audit tell log script) = SaysRun rows workers tries stats audit tell log script
+SaysWish rows (Run workers tries stats audit tell log checkpoint over script) = SaysRun rows workers tries stats audit tell log checkpoint over script
 SaysWish rows (Log wanted) = SaysLog rows wanted
 
 -- the words are a command line of the program, and say this command with this file
@@ -209,11 +222,14 @@ abbrev pub IsOfWhole : List Row → Type 0
 IsOfWhole rows = IsFlag true (one_of (codes "rows") rows) ⊎ IsFlag true (one_of (codes "audit") rows)
 
 -- what is to be a number isn't one, an audit has no script, or a script no audit; rows are asked for beside an audit, or a picture or a
--- part of the events beside one of these
+-- part of the events beside one of these; or a checkpoint without a log
 pub data IsUnfit (name : Text) (rows : List Row) : Type 0 where
   Argument : name ≡ codes "exec" → ¬ AllNumbers (unwrap_or (all_of (codes "arg") rows) []) → IsUnfit name rows
   Workers : name ≡ codes "run" → IsNoCount (first_of (codes "workers") rows) → IsUnfit name rows
   Tries : name ≡ codes "run" → IsNoCount (first_of (codes "tries") rows) → IsUnfit name rows
+  Bytes : name ≡ codes "run" → IsNoCount (first_of (codes "checkpoint-over") rows) → IsUnfit name rows
+  Logless : name ≡ codes "run" → first_of (codes "log") rows ≡ None
+      → IsFlag true (one_of (codes "checkpoint") rows) ⊎ (is_some (first_of (codes "checkpoint-over") rows) ≡ true) → IsUnfit name rows
   Alone : name ≡ codes "log" → (audit : Bool) → IsFlag audit (one_of (codes "audit") rows)
       → is_some (first_of (codes "script") rows) ≢ audit → IsUnfit name rows
   Both : name ≡ codes "log" → IsFlag true (one_of (codes "rows") rows) → IsFlag true (one_of (codes "audit") rows) → IsUnfit name rows

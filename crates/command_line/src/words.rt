@@ -1,15 +1,15 @@
 //! The command line.
 
-ghost use Rattle.std.specs.Prelude.{◌≡◌, ℕ, Bool, List, Option, [], true, false, Some, map, unwrap_or, IfOk, IfErr, IfSome, option_map, codes};
+ghost use Rattle.std.specs.Prelude.{◌≡◌, ℕ, Bool, List, Option, [], true, false, Some, map, unwrap_or, IfOk, IfErr, IfSome, is_none, ◌&&◌, option_map, codes};
 ghost use Rattle.clap.specs.Words.{App, Row, app_of, with_subcommand, rule_of, kind_of, subcommand_of};
 ghost use Rattle.clap.specs.Words.{subcommand_rows_of, takes, rows_of, found_of, first_of, one_of, all_of, fault_of, FailsBy};
 ghost use Rattle.clap.specs.declared.builder.command.Command.TheViews.{out-Command};
 ghost use Rattle.command_line.specs.Wanted.{WantsOrNoMemory, IsTaskOrNoMemory, IsNumbersOrNoMemory, IsWordFault, IsWrongOrNoMemory};
 ghost use Rattle.command_line.specs.Task.{Wish, LogWish, Run, Log, command_name, log_wish};
 ghost use Rattle.command_line.specs.Joining.LogWanted.{shown_wanted, audit_wanted};
-ghost use Rattle.command_line.specs.Said.{procd_app, exec_app, asm_app, dis_app, verify_app, world_app, run_app, log_app};
-ghost use Rattle.command_line.specs.Said.{file_rule, raw_rule, log_rule, audit_rule, rows_rule, script_rule, option_rule, stats_rule, tell_rule};
-ghost use Rattle.command_line.specs.Said.{Says, SaysWish, SaysRun, SaysLog, SaysPart, SaysCount, SaysNumberIf, SaysNumbers, AllNumbers, IsFlag, value_of};
+ghost use Rattle.command_line.specs.Said.{procd_app, exec_app, asm_app, dis_app, verify_app, world_app, kept_app, run_app, log_app};
+ghost use Rattle.command_line.specs.Said.{file_rule, raw_rule, log_rule, audit_rule, rows_rule, script_rule, option_rule, stats_rule, tell_rule, checkpoint_rule};
+ghost use Rattle.command_line.specs.Said.{Says, SaysWish, SaysRun, SaysLog, SaysPart, SaysCount, SaysNumberIf, SaysNumbers, AllNumbers, IsFlag, value_of, wants_checkpoint};
 ghost use Rattle.command_line.specs.Said.{IsWrong, IsNoCount, IsNoPart, IsUnfit};
 
 use clap::error::ErrorKind;
@@ -44,7 +44,8 @@ pub enum Task<'a> {
     /// Run the calls of a script by so many workers, and send each request so often at most. With
     /// `stats` the figures of the run are told on standard error; with `audit` what an audit finds is
     /// printed behind the rows; with `tell` standard error is told of each answer as soon as it stands;
-    /// `log` is the path of the file that keeps the log, if one does. `script` is as of `World`.
+    /// `log` is the path of the file that keeps the log, if one does, which begins anew behind the last call with
+    /// `checkpoint`, and where its file has more bytes than `over`. `script` is as of `World`.
     Run {
         workers: u64,
         tries: u64,
@@ -52,6 +53,8 @@ pub enum Task<'a> {
         audit: bool,
         tell: bool,
         log: Option<&'a str>,
+        checkpoint: bool,
+        over: Option<u64>,
         script: Option<&'a str>,
     },
     /// Read a log's file.
@@ -116,6 +119,8 @@ pub enum WordFault {
     TwoParts,
     /// `log` with `--from` or `--tail`, and with `--rows` or `--audit`.
     PartUnwanted,
+    /// `run --checkpoint` or `--checkpoint-over` without `--log`.
+    CheckpointAlone,
     NoCommand,
     Memory,
 }
@@ -277,9 +282,20 @@ fn tell_arg<'a>(alloc: Global) -> Arg<'a>
         )
 }
 
-// `run [--workers N] [--tries N] [--stats] [--audit] [--tell] [--log LOG] FILE [SCRIPT]`
-fn run_command<'a>(alloc: Global) -> Result<Command<'a>, AllocError>
-    ensures app { IfOk result (λ c. app_of c ≡ run_app) }
+// --checkpoint
+fn checkpoint_arg<'a>(alloc: Global) -> Arg<'a>
+    ensures rule { rule_of result ≡ checkpoint_rule }
+    ensures local { result.global ≡ false }
+{
+    Arg::new(alloc, "checkpoint")
+        .long("checkpoint")
+        .action(ArgAction::SetTrue)
+        .help("Write LOG anew behind the last call: the rows, and the log from there on")
+}
+
+// `run [--workers N] [--tries N] [--stats] [--audit] [--tell] [--log LOG]`
+fn kept_command<'a>(alloc: Global) -> Result<Command<'a>, AllocError>
+    ensures app { IfOk result (λ c. app_of c ≡ kept_app) }
     ensures local { IfOk result (λ c. (out-Command c).has_globals ≡ false) }
 {
     let workers = option_arg(
@@ -306,7 +322,23 @@ fn run_command<'a>(alloc: Global) -> Result<Command<'a>, AllocError>
         .arg(stats_arg(alloc))?
         .arg(audit_arg(alloc))?
         .arg(tell_arg(alloc))?
-        .arg(log)?
+        .arg(log)
+}
+
+// The same with `[--checkpoint] [--checkpoint-over BYTES] FILE [SCRIPT]` behind it.
+fn run_command<'a>(alloc: Global) -> Result<Command<'a>, AllocError>
+    ensures app { IfOk result (λ c. app_of c ≡ run_app) }
+    ensures local { IfOk result (λ c. (out-Command c).has_globals ≡ false) }
+{
+    let over = option_arg(
+        alloc,
+        "checkpoint-over",
+        "BYTES",
+        "The same where LOG has more bytes than this: before the first call, between parts of 65536 and behind the last",
+    );
+    kept_command(alloc)?
+        .arg(checkpoint_arg(alloc))?
+        .arg(over)?
         .arg(file_arg(alloc, SCRIPT_HELP))?
         .arg(script_arg(alloc, BESIDE_HELP))
 }
@@ -501,23 +533,38 @@ fn text_of<'a>(matches: &ArgMatches<'a>, name: &str) -> Option<&'a str>
     matches.get_str(name)
 }
 
+// Whether a checkpoint is asked for, and there is no log.
+fn is_logless(log: Option<&str>, checkpoint: bool, over: Option<u64>) -> bool
+    ensures { result ≡ (is_none log.entry && wants_checkpoint checkpoint over) }
+{
+    log.is_none() && (checkpoint || over.is_some())
+}
+
 // How calls are to be run.
 fn run_task<'a>(matches: &ArgMatches<'a>) -> Result<Task<'a>, WordFault>
-    ensures task { (workers tries : ℕ) (stats audit tell : Bool) (log script : Option (List ℕ))
-        → SaysRun (rows_of (found_of matches.now)) workers tries stats audit tell log script
-        → IsTaskOrNoMemory (Run workers tries stats audit tell log script) result }
+    ensures task { (workers tries : ℕ) (stats audit tell : Bool) (log : Option (List ℕ)) (checkpoint : Bool) (over : Option ℕ)
+        (script : Option (List ℕ)) → SaysRun (rows_of (found_of matches.now)) workers tries stats audit tell log checkpoint over script
+        → IsTaskOrNoMemory (Run workers tries stats audit tell log checkpoint over script) result }
     ensures wrong { IfOk result (λ task. ¬ IsUnfit (codes "run") (rows_of (found_of matches.now))) }
     ensures err { IfErr result IsWordFault }
 {
     let workers = number_or(matches, "workers", WORKERS)?;
     let tries = number_or(matches, "tries", TRIES)?;
+    let over = number_of(matches, "checkpoint-over")?;
+    let checkpoint = flag_of(matches, "checkpoint");
+    let log = text_of(matches, "log");
+    if is_logless(log, checkpoint, over) {
+        return Err(WordFault::CheckpointAlone);
+    }
     Ok(Task::Run {
         workers,
         tries,
         stats: flag_of(matches, "stats"),
         audit: flag_of(matches, "audit"),
         tell: flag_of(matches, "tell"),
-        log: text_of(matches, "log"),
+        log,
+        checkpoint,
+        over,
         script: text_of(matches, "script"),
     })
 }

@@ -16,8 +16,10 @@ use Rattle.text_commands.specs.ObjectVerification.{IsVerification}
 use Rattle.object_file.specs.Elf.{is_elf}
 use Rattle.world_command.specs.WorldReport.{IsWorld}
 use Rattle.world_command.specs.declared.world.Behind.{Behind}
+use Rattle.run_command.specs.declared.anew.Checkpoints.{Checkpoints}
+use Rattle.run_command.specs.Kept.{FileJournal}
 use Rattle.run_command.specs.Running.{IsRun}
-use Rattle.run_command.specs.Logged.{FileJournal, IsLogged}
+use Rattle.run_command.specs.Logged.{IsLogged}
 use Rattle.log_command.specs.LogReport.{IsListing, IsAudit}
 use Rattle.log_command.specs.PictureReport.{IsPicturing}
 
@@ -31,18 +33,20 @@ IsTextFault bytes NotUtf8 = ¬ (IsUtf8 bytes)
 IsTextFault bytes Marked = take 3 bytes ≡ byte_order_mark
 
 -- a run whose log is kept, by some journal
-abbrev pub IsKeptRun : ℕ → ℕ → Bool → Beginning → ℕ → List ℕ → Type 0
-IsKeptRun workers tries audit b status lines = (journal : Option FileJournal) × IsLogged journal workers tries audit b status lines
+abbrev pub IsKeptRun : Checkpoints → ℕ → ℕ → Bool → Beginning → ℕ → List ℕ → Type 0
+IsKeptRun checkpoints workers tries audit b status lines =
+    (journal : Option FileJournal) × IsLogged journal checkpoints workers tries audit b status lines
 
-abbrev pub IsRunReport : ℕ → ℕ → Bool → (log : Option (List ℕ)) → Beginning → ℕ → List ℕ → Type 0
-IsRunReport workers tries audit None b status lines = IsRun workers tries audit b status lines
-IsRunReport workers tries audit (Some path) b status lines = IsKeptRun workers tries audit b status lines
+abbrev pub IsRunReport : Checkpoints → ℕ → ℕ → Bool → (log : Option (List ℕ)) → Beginning → ℕ → List ℕ → Type 0
+IsRunReport checkpoints workers tries audit None b status lines = IsRun workers tries audit b status lines
+IsRunReport checkpoints workers tries audit (Some path) b status lines = IsKeptRun checkpoints workers tries audit b status lines
 
 -- of a script; or of an object file, with what the script's file has
-abbrev pub IsRunOf : ℕ → ℕ → Bool → (log script : Option (List ℕ)) → List ℕ → ℕ → List ℕ → Type 0
-IsRunOf workers tries audit log None text status lines = IsRunReport workers tries audit log (beginning command.Run None text) status lines
-IsRunOf workers tries audit log (Some path) file status lines =
-    (text : List ℕ) × IsRunReport workers tries audit log (beginning command.Run (Some file) text) status lines
+abbrev pub IsRunOf : Checkpoints → ℕ → ℕ → Bool → (log script : Option (List ℕ)) → List ℕ → ℕ → List ℕ → Type 0
+IsRunOf checkpoints workers tries audit log None text status lines =
+    IsRunReport checkpoints workers tries audit log (beginning command.Run None text) status lines
+IsRunOf checkpoints workers tries audit log (Some path) file status lines =
+    (text : List ℕ) × IsRunReport checkpoints workers tries audit log (beginning command.Run (Some file) text) status lines
 
 abbrev pub IsWorldOf : Behind → (script : Option (List ℕ)) → List ℕ → ℕ → List ℕ → Type 0
 IsWorldOf behind None text status lines = IsWorld behind (beginning command.World None text) status lines
@@ -62,5 +66,6 @@ IsReport Asm text status lines = IsAssembly (assembled text) status lines
 IsReport (Dis raw) text status lines = IsDisassembly raw text status lines
 IsReport Verify file status lines = IsVerification (is_elf file) file status lines
 IsReport (World log audit script) file status lines = IsWorldOf (record { audit = audit; log = log }) script file status lines
-IsReport (Run workers tries stats audit tell log script) file status lines = IsRunOf workers tries audit log script file status lines
+IsReport (Run workers tries stats audit tell log checkpoint over script) file status lines =
+    IsRunOf (record { at_end = checkpoint; over = over }) workers tries audit log script file status lines
 IsReport (Log wanted) file status lines = IsLogReport wanted file status lines

@@ -387,6 +387,10 @@ pub fn program<
             err,
             "error: log takes --from and --tail with neither --rows nor --audit",
         ),
+        Err(WordFault::CheckpointAlone) => wrong_words(
+            err,
+            "error: run takes --checkpoint and --checkpoint-over with --log alone: what begins anew is its file",
+        ),
         Err(WordFault::NoCommand) => wrong_words(
             err,
             "error: a command is missing: exec, asm, dis, verify, world, run or log",

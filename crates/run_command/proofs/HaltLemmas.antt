@@ -9,10 +9,10 @@ use Rattle.run_command.specs.declared.answering.Halt.{Halt}
 use Rattle.run_command.specs.declared.answering.Halt.TheVariants.{Unbegun, NotKept, Memory as NoMemory}
 use Rattle.run_command.specs.declared.answering.Unbegun.{Unbegun as Cause}
 use Rattle.run_command.specs.declared.answering.Unbegun.TheVariants.{Workers, Tries, Memory, NoThread}
-use Rattle.run_command.specs.Running.{cause_of}
+use Rattle.run_command.specs.Stops.{cause_of}
 use Rattle.run_command.specs.declared.running.Unreported.{Unreported}
 use Rattle.run_command.specs.declared.running.Unreported.TheVariants as unreported
-use Rattle.run_command.specs.Logged.{FileJournal, HaltFits, UnreportedFits}
+use Rattle.run_command.specs.Kept.{FileJournal, HaltFits, UnreportedFits}
 use Rattle.run_command.specs.Joining.Halts.{ListHalts}
 
 of_cause : (journal : Option FileJournal) (workers tries : ℕ) (f : RunFault) → FaultFits workers tries f → ListHalts journal workers tries (Unbegun (cause_of f))

@@ -4,3 +4,6 @@ pub mod HaltLemmas
 pub mod RunLemmas
 pub mod ServerLemmas
 pub mod LoggedLemmas
+pub mod AnewLemmas
+pub mod PartsLemmas
+pub mod StopLemmas

@@ -1,6 +1,6 @@
 -- What opening a log's file and coming back from its log come to.
 use Rattle.std.specs.Prelude.{string_bytes}
-use Rattle.std.proofs.Common.{◌≡◌, ◌∙◌, ◌++◌, List, ℕ, Some, [], ◌∷◌, length, map, take, drop, refl, sym, ap, subst, inl, inr, arith}
+use Rattle.std.proofs.Common.{◌≡◌, ◌∙◌, ◌++◌, List, ℕ, Option, Some, [], ◌∷◌, length, map, reverse, take, drop, refl, sym, ap, subst, inl, inr, arith}
 use Rattle.std.specs.List.{All}
 use Rattle.std.proofs.lemmas.List.{drop_all, take_all, append-nil}
 use Rattle.std.proofs.lemmas.List.Elements.{All-cons, All-nil}
@@ -23,25 +23,41 @@ use Rattle.log_file.specs.Reading.{IsRefusal}
 use Rattle.coming_back.specs.declared.resumed.Resumed.{Resumed}
 use Rattle.report_texts.specs.declared.report.Report.{Report}
 use Rattle.run_command.specs.LogLines.{IsOtherRefusal, IsOpenRefusal, overfull_refusal}
-use Rattle.run_command.specs.Logged.{FileJournal, IsLogFor, HasComeBack, overfull, Unfit, Overfull}
+use Rattle.run_command.specs.Kept.{FileJournal}
+use Rattle.run_command.specs.Logged.{IsLogFor, HasComeBack, overfull, Baseless, Unfit, Overfull}
+use Rattle.base_records.specs.declared.beginning.BaseFault.{BaseFault}
+use Rattle.base_records.specs.Beginning.{HaveBegun, IsUnbegun}
+use Rattle.base_records.specs.Lines.{base_fault_line}
+use Rattle.log_file.specs.Bytes.{Rows}
+use Rattle.log_file.specs.Found.{base_in}
 use Rattle.run_command.specs.Joining.Opening.{IsOpened, IsUnfit, IsComing, IsGoingBack, IsBegun}
 
-pub unfit_comes : (start : Core) (empties : List Store) (file : List ℕ) (log : List Event) (after : Core) (dcs : List Store) (journal : FileJournal)
-    (fault : ComeBackFault) (x : Coming) → IsLogFor start file log → IsFaultOf start log (length empties) after dcs fault → IsUnfit fault x
-    → IsComing start empties log after dcs journal x
-unfit_comes start empties file log after dcs journal fault (coming.Lines lines) is_log why h = absurd h
-unfit_comes start empties file log after dcs journal fault (coming.Refused report) is_log why h = (Unfit file log after dcs fault is_log why h.0, h.1)
+pub baseless_comes : (start : Core) (empties : List Store) (file : List ℕ) (base : Option Rows) (log : List Event) (after : Core) (dcs : List Store)
+    (journal : FileJournal) (report : Report) (fault : BaseFault) → IsLogFor start file base log → IsUnbegun base empties fault
+    → string_bytes report.lines ≡ base_fault_line fault → report.status ≡ 1
+    → IsComing start empties base log after dcs journal (coming.Refused report)
+baseless_comes start empties file base log after dcs journal report fault is_log why line status = (Baseless file base log fault is_log why line, status)
 
-pub overfull_comes : (start : Core) (empties : List Store) (file : List ℕ) (log : List Event) (back : Core) (dcs : List Store) (resumed : List Resumed)
-    (journal : FileJournal) (report : Report) (d : ℕ) → IsLogFor start file log → HasComeBack start empties log back dcs resumed
-    → overfull dcs resumed ≡ Some d → string_bytes report.lines ≡ overfull_refusal d → report.status ≡ 1
-    → IsComing start empties log back dcs journal (coming.Refused report)
-overfull_comes start empties file log back dcs resumed journal report d is_log came over line status =
-    (Overfull file log back dcs resumed is_log came d over line, status)
+pub unfit_comes : (start : Core) (empties : List Store) (file : List ℕ) (base : Option Rows) (log : List Event) (begun : List Store) (after : Core)
+    (dcs : List Store) (journal : FileJournal) (fault : ComeBackFault) (x : Coming) → IsLogFor start file base log
+    → HaveBegun base (reverse log) empties begun → IsFaultOf start log (length begun) after dcs fault → IsUnfit fault x
+    → IsComing start empties base log after dcs journal x
+unfit_comes start empties file base log begun after dcs journal fault (coming.Lines lines) is_log begins why h = absurd h
+unfit_comes start empties file base log begun after dcs journal fault (coming.Refused report) is_log begins why h =
+    (Unfit file base log begun after dcs fault is_log begins why h.0, h.1)
+
+pub overfull_comes : (start : Core) (empties : List Store) (file : List ℕ) (base : Option Rows) (log : List Event) (begun : List Store) (back : Core)
+    (dcs : List Store) (resumed : List Resumed) (journal : FileJournal) (report : Report) (d : ℕ) → IsLogFor start file base log
+    → HaveBegun base (reverse log) empties begun → HasComeBack start begun log back dcs resumed → overfull dcs resumed ≡ Some d
+    → string_bytes report.lines ≡ overfull_refusal d → report.status ≡ 1
+    → IsComing start empties base log back dcs journal (coming.Refused report)
+overfull_comes start empties file base log begun back dcs resumed journal report d is_log begins came over line status =
+    (Overfull file base log begun back dcs resumed is_log begins came d over line, status)
 
 pub begun_by : (start : Core) (empties : List Store) (back : Core) (dcs : List Store) (opened : Opened) (x : GoingBack) → IsOpened start opened
-    → IsGoingBack start empties opened.log.events back dcs x → IsBegun start empties back dcs x
-begun_by start empties back dcs opened (going.Back b) o h = record { file = o.file; log = opened.log.events; is_log = o.is_log; is_back = h }
+    → IsGoingBack start empties (base_in opened.base) opened.log.events back dcs x → IsBegun start empties back dcs x
+begun_by start empties back dcs opened (going.Back b) o h =
+    record { file = o.file; base = base_in opened.base; log = opened.log.events; is_log = o.is_log; from = h }
 begun_by start empties back dcs opened (going.Refused report) o h = h
 
 -- a slice that is as long as the vector that lent it is all of it

@@ -5,7 +5,7 @@ use Rattle.std.proofs.lemmas.Option.{slice_get_within, get_or_from_slice_get}
 use Rattle.data_component.specs.Store.{Store}
 use Rattle.worker_pool.specs.Serving.{IsServed}
 use Rattle.run_command.specs.Joining.Servers.{Server, Promises, ArePromised}
-use Rattle.run_command.specs.Running.{AreServed}
+use Rattle.run_command.specs.Answered.{AreServed}
 
 -- ---- starting
 

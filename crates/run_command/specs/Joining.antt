@@ -3,3 +3,5 @@ pub mod Servers
 pub mod Halts
 pub mod Opening
 pub mod Stopping
+pub mod Parts
+pub mod Renewing

@@ -1,5 +1,10 @@
 pub mod AnswerLines
 pub mod Figures
+pub mod Stops
+pub mod Kept
+pub mod Anew
+pub mod Answered
+pub mod Parts
 pub mod Running
 pub mod LogLines
 pub mod Logged

@@ -4,14 +4,15 @@ use Rattle.std.specs.List.{All, list_any}
 use Rattle.tc_log.specs.declared.event.Event.{Event}
 use Rattle.history.specs.Places.{Begins}
 use Rattle.transactions.specs.Legal.{Legal}
+use Rattle.base_records.specs.declared.beginning.BaseFault.{BaseFault}
+use Rattle.base_records.specs.Beginning.{HaveBegun, IsUnbegun}
+use Rattle.base_records.specs.Lines.{base_fault_line}
 use Rattle.data_component.specs.Store.{Store, restarted, is_overfull}
-use Rattle.disk_file.specs.declared.disk.DiskFile.{DiskFile}
 use Rattle.disk_file.specs.declared.opening.FileKind.{FileKind}
-use Rattle.disk_file.specs.Disk.{disk_bytes, left_of}
 use Rattle.log_file.specs.declared.reading.OpenFault.{OpenFault}
+use Rattle.log_file.specs.Bytes.{Rows}
 use Rattle.log_file.specs.Reading.{IsOpenFault}
-use Rattle.log_journal.specs.declared.journal.LogJournal.{LogJournal}
-use Rattle.log_journal.specs.Keeping.{HasWritten, IsLogOf}
+use Rattle.log_journal.specs.Keeping.{IsLogOf}
 use Rattle.procedure_digest.specs.Header.{header_of}
 use Rattle.scripts.specs.Reading.{Contents}
 use Rattle.scripts.specs.declared.script.Call as said
@@ -26,43 +27,19 @@ use Rattle.coming_back.specs.declared.resumed.Resumed.TheVariants as resumed
 use Rattle.coming_back.specs.Coming.{serial_of, open_txns, in_doubt, IsResumed, at_rest, ComesFrom}
 use Rattle.coming_back.specs.Faults.{IsFaultOf}
 use Rattle.coming_back.specs.Serving.{AreServed as ArePerformed}
-use Rattle.worker_pool.specs.Faults.{TriesFit}
-use Rattle.run_command.specs.declared.answering.Halt.{Halt}
-use Rattle.run_command.specs.declared.answering.Halt.TheVariants.{Unbegun, NotKept, Memory}
-use Rattle.run_command.specs.declared.running.Unreported.{Unreported}
-use Rattle.run_command.specs.declared.running.Unreported.TheVariants as unreported
+use Rattle.run_command.specs.declared.anew.Checkpoints.{Checkpoints}
+use Rattle.run_command.specs.declared.anew.Renewal.{Renewal}
+use Rattle.run_command.specs.declared.anew.Renewal.TheVariants.{Unwanted}
+use Rattle.run_command.specs.Anew.{IsRenewal, renewal_line}
+use Rattle.run_command.specs.Kept.{FileJournal, KeepsLog}
 use Rattle.run_command.specs.LogLines.{IsOpenRefusal, kind_refusal, back_refusal, overfull_refusal, back_lines}
-use Rattle.run_command.specs.Running.{Stops, IsCallsRun, begun, empty_stores}
-
--- ---- what is kept
-
-abbrev pub FileJournal : Type 0
-FileJournal = LogJournal DiskFile
-
--- where there is a journal, its file has this log on the disk, whole. A log is read with its newest event first
-abbrev pub KeepsLog : Option FileJournal → List Event → Type 0
-KeepsLog None events = Unit {0}
-KeepsLog (Some j) events = HasWritten disk_bytes left_of j.header j.file (reverse events)
-
--- when calls have no answers: as without a journal; or something wasn't kept, or couldn't be for want of memory, where there is one
-abbrev pub HaltFits : Option FileJournal → ℕ → ℕ → Halt → Type 0
-HaltFits journal workers tries (Unbegun cause) = Stops workers tries cause
-HaltFits None workers tries (NotKept failure) = ⊥
-HaltFits (Some j) workers tries (NotKept failure) = TriesFit tries
-HaltFits None workers tries Memory = ⊥
-HaltFits (Some j) workers tries Memory = TriesFit tries
-
--- want of memory is told of any run, and that something wasn't kept where there is a journal
-abbrev pub UnreportedFits : Option FileJournal → Unreported → Type 0
-UnreportedFits journal unreported.Memory = Unit {0}
-UnreportedFits None (unreported.NotKept failure) = ⊥
-UnreportedFits (Some j) (unreported.NotKept failure) = Unit {0}
+use Rattle.run_command.specs.Running.{IsCallsRun, begun, empty_stores}
 
 -- ---- what is gone on from
 
--- the bytes of the log's file of a state in which nothing has happened say these events
-abbrev pub IsLogFor : Core → List ℕ → List Event → Type 0
-IsLogFor start file log = IsLogOf (header_of (loaded_in start)) file (reverse log)
+-- the bytes of the log's file of a state in which nothing has happened say these events, behind these records if it was cut
+abbrev pub IsLogFor : Core → List ℕ → Option Rows → List Event → Type 0
+IsLogFor start file base log = IsLogOf (header_of (loaded_in start)) file base (reverse log)
 
 -- from this log, and these data components, to which nothing had happened, came these: each data component is up and performed wires
 -- since it restarted, each transaction that was open is told of, and those left open are in doubt. It goes on from any world that has
@@ -93,48 +70,66 @@ overfull dcs resumed = if list_any is_in_doubt resumed then None else position i
 
 -- ---- what is printed
 
--- another process has the file open; or there is no file of bytes; or it isn't read; or its log isn't gone on from, or leaves a data
--- component with more records than it has room for
+-- another process has the file open; or there is no file of bytes; or it isn't read; or data components don't begin with the records that it
+-- begins with; or its log isn't gone on from, or leaves a data component with more records than it has room for
 pub data IsLogRefusal (start : Core) (empties : List Store) (lines : List ℕ) : Type 0 where
   Busy : lines ≡ codes "refused log Busy\n" → IsLogRefusal start empties lines
   NotAFile : (kind : FileKind) → lines ≡ kind_refusal kind → IsLogRefusal start empties lines
   Unread : (file : List ℕ) (fault : OpenFault) → IsOpenFault (header_of (loaded_in start)) file fault
       → IsOpenRefusal (header_of (loaded_in start)) file fault lines → IsLogRefusal start empties lines
-  Unfit : (file : List ℕ) (log : List Event) (after : Core) (dcs : List Store) (fault : ComeBackFault) → IsLogFor start file log
-      → IsFaultOf start log (length empties) after dcs fault → back_refusal fault ≡ Some lines → IsLogRefusal start empties lines
-  Overfull : (file : List ℕ) (log : List Event) (back : Core) (dcs : List Store) (resumed : List Resumed) → IsLogFor start file log
-      → HasComeBack start empties log back dcs resumed → (d : ℕ) → overfull dcs resumed ≡ Some d → lines ≡ overfull_refusal d
-      → IsLogRefusal start empties lines
+  Baseless : (file : List ℕ) (base : Option Rows) (log : List Event) (fault : BaseFault) → IsLogFor start file base log
+      → IsUnbegun base empties fault → lines ≡ base_fault_line fault → IsLogRefusal start empties lines
+  Unfit : (file : List ℕ) (base : Option Rows) (log : List Event) (begun : List Store) (after : Core) (dcs : List Store) (fault : ComeBackFault)
+      → IsLogFor start file base log → HaveBegun base (reverse log) empties begun → IsFaultOf start log (length begun) after dcs fault
+      → back_refusal fault ≡ Some lines → IsLogRefusal start empties lines
+  Overfull : (file : List ℕ) (base : Option Rows) (log : List Event) (begun : List Store) (back : Core) (dcs : List Store) (resumed : List Resumed)
+      → IsLogFor start file base log → HaveBegun base (reverse log) empties begun → HasComeBack start begun log back dcs resumed
+      → (d : ℕ) → overfull dcs resumed ≡ Some d → lines ≡ overfull_refusal d → IsLogRefusal start empties lines
 
--- the lines of what came back, and behind them those of the calls, which are run from there, with the log of the last state on the disk
-pub record IsRunBehind (journal : Option FileJournal) (start : Core) (empties : List Store) (first calls : List said.Call)
+-- behind these lines, and that of a log that may begin anew first, those of the calls, which are run from there, with the log of the last state
+-- on the disk
+pub record IsRunOn (journal : Option FileJournal) (checkpoints : Checkpoints) (back : Core) (dcs : List Store) (first calls : List said.Call)
+    (workers tries : ℕ) (audit : Bool) (status : ℕ) (before lines : List ℕ) : Type 0 where
+  pub renewal : Renewal
+  pub anew : Core
+  pub anew_dcs : List Store
+  pub renewed : IsRenewal back dcs anew anew_dcs renewal
+  pub wanted : checkpoints.over ≡ None → renewal ≡ Unwanted
+  pub answers : List ℕ
+  pub ran : IsCallsRun (λ last. KeepsLog journal last.events) checkpoints anew anew_dcs first calls workers tries audit status answers
+  pub lines_are : lines ≡ (before ++ renewal_line anew.events renewal) ++ answers
+
+-- the lines of what came back, and behind them those of the calls
+pub record IsRunBehind (journal : Option FileJournal) (checkpoints : Checkpoints) (start : Core) (empties : List Store) (first calls : List said.Call)
     (workers tries : ℕ) (audit : Bool) (status : ℕ) (lines : List ℕ) : Type 0 where
   pub file : List ℕ
+  pub base : Option Rows
   pub log : List Event
-  pub is_log : IsLogFor start file log
+  pub is_log : IsLogFor start file base log
+  pub begun : List Store
+  pub begins : HaveBegun base (reverse log) empties begun
   pub back : Core
   pub dcs : List Store
   pub resumed : List Resumed
-  pub came_back : HasComeBack start empties log back dcs resumed
-  pub goes_on : GoesOn start empties log back dcs
+  pub came_back : HasComeBack start begun log back dcs resumed
+  pub goes_on : GoesOn start begun log back dcs
   pub dropped : ℕ
   pub path : List ℕ
-  pub answers : List ℕ
-  pub ran : IsCallsRun (λ last. KeepsLog journal last.events) back dcs first calls workers tries audit status answers
-  pub lines_are : lines ≡ back_lines (length log) dropped path resumed ++ answers
+  pub on : IsRunOn journal checkpoints back dcs first calls workers tries audit status (back_lines (length log) dropped path resumed) lines
 
 -- the log is refused, or the calls are run behind it
-pub data IsLoggedRun (journal : Option FileJournal) (start : Core) (empties : List Store) (first calls : List said.Call)
+pub data IsLoggedRun (journal : Option FileJournal) (checkpoints : Checkpoints) (start : Core) (empties : List Store) (first calls : List said.Call)
     (workers tries : ℕ) (audit : Bool) (status : ℕ) (lines : List ℕ) : Type 0 where
-  Refused : IsLogRefusal start empties lines → status ≡ 1 → IsLoggedRun journal start empties first calls workers tries audit status lines
-  Behind : IsRunBehind journal start empties first calls workers tries audit status lines
-      → IsLoggedRun journal start empties first calls workers tries audit status lines
+  Refused : IsLogRefusal start empties lines → status ≡ 1
+      → IsLoggedRun journal checkpoints start empties first calls workers tries audit status lines
+  Behind : IsRunBehind journal checkpoints start empties first calls workers tries audit status lines
+      → IsLoggedRun journal checkpoints start empties first calls workers tries audit status lines
 
-abbrev pub IsLoggedBy : Option FileJournal → Option (List ℕ) → Contents → ℕ → ℕ → Bool → ℕ → List ℕ → Type 0
-IsLoggedBy journal (Some refusal) contents workers tries audit status lines = (status ≡ 1) × (lines ≡ refusal)
-IsLoggedBy journal None contents workers tries audit status lines =
-    IsLoggedRun journal (begun contents) (empty_stores contents) contents.first contents.calls workers tries audit status lines
+abbrev pub IsLoggedBy : Option FileJournal → Checkpoints → Option (List ℕ) → Contents → ℕ → ℕ → Bool → ℕ → List ℕ → Type 0
+IsLoggedBy journal checkpoints (Some refusal) contents workers tries audit status lines = (status ≡ 1) × (lines ≡ refusal)
+IsLoggedBy journal checkpoints None contents workers tries audit status lines =
+    IsLoggedRun journal checkpoints (begun contents) (empty_stores contents) contents.first contents.calls workers tries audit status lines
 
 -- of a script that is refused no file is opened
-abbrev pub IsLogged : Option FileJournal → ℕ → ℕ → Bool → Beginning → ℕ → List ℕ → Type 0
-IsLogged journal workers tries audit b status lines = IsLoggedBy journal b.refusal b.contents workers tries audit status lines
+abbrev pub IsLogged : Option FileJournal → Checkpoints → ℕ → ℕ → Bool → Beginning → ℕ → List ℕ → Type 0
+IsLogged journal checkpoints workers tries audit b status lines = IsLoggedBy journal checkpoints b.refusal b.contents workers tries audit status lines

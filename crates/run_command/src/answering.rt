@@ -7,8 +7,9 @@ ghost use Rattle.tc_core.specs.Core.{Core};
 ghost use Rattle.worker_pool.specs.Faults.{InRange};
 ghost use Rattle.worker_pool.specs.Journals.{KeptFaultFits};
 ghost use Rattle.worker_pool.specs.Reports.{Reports};
-ghost use Rattle.run_command.specs.Running.{AreAnswered, AreServed, Stops, cause_of};
-ghost use Rattle.run_command.specs.Logged.{FileJournal as FileJournalValue, KeepsLog, HaltFits};
+ghost use Rattle.run_command.specs.Answered.{AreAnswered, AreServed};
+ghost use Rattle.run_command.specs.Stops.{Stops, cause_of};
+ghost use Rattle.run_command.specs.Kept.{FileJournal as FileJournalValue, KeepsLog, HaltFits};
 ghost use Rattle.run_command.specs.Joining.Halts.{ListHalts};
 ghost use Rattle.run_command.specs.Joining.Servers.{ArePromised};
 
@@ -38,13 +39,14 @@ pub struct Manner {
     pub audit: bool,
 }
 
-/// Both lists of a script's calls, how they are run, and how long those of the second wait.
+/// Calls of both lists of a script, and how they are run.
 #[derive(Drop)]
 pub struct Workload {
     pub first: Vec<Call>,
     pub calls: Vec<Call>,
+    /// The place of the second list's first one among all of that list.
+    pub place: usize,
     pub manner: Manner,
-    pub waits: Waits,
 }
 
 /// Why the calls of both lists, or those of the second, aren't begun.
@@ -220,8 +222,7 @@ fn answer_list<R: Threads + Wait + Sync, G: Gate + Sync>(
 }
 
 /// What the calls of both lists were answered, the state behind them, the journal that has kept its log, if
-/// there is one, how long the calls of the second list took in all, if the clock can be read, and how long
-/// the longest of them.
+/// there is one, and how long the calls of the second list took in all, if the clock can be read.
 #[derive(Drop)]
 pub struct Answered {
     pub state: TcState,
@@ -229,7 +230,6 @@ pub struct Answered {
     pub first: Vec<Answer>,
     pub calls: Vec<Answer>,
     pub elapsed: Option<Duration>,
-    pub longest: Duration,
 }
 
 // How long ago that was, if the clock can be read.
@@ -243,6 +243,7 @@ fn answer_all<R: Clock + Threads + Wait + Sync>(
     alloc: Global,
     state: TcState,
     workload: &Workload,
+    waits: &Waits,
     link: &RingLink,
     journal: Option<FileJournal>,
 ) -> Result<Answered, Halt>
@@ -262,26 +263,23 @@ fn answer_all<R: Clock + Threads + Wait + Sync>(
         journal,
     } = answer_list(rt, alloc, state, first, alone, link, &OpenGate, journal)?;
     let start = Instant::now(rt).ok();
-    let watch = Watch::new(rt, &workload.waits);
+    let watch = Watch::new(rt, waits, workload.place);
     let all = Crew {
         workers: workload.manner.workers as usize,
         tries,
     };
     let calls = workload.calls.as_slice();
-    let ended = answer_list(rt, alloc, state, calls, all, link, &watch, journal);
-    workload.waits.end();
     let Listed {
         state,
         answers: calls,
         journal,
-    } = ended?;
+    } = answer_list(rt, alloc, state, calls, all, link, &watch, journal)?;
     Ok(Answered {
         state,
         journal,
         first,
         calls,
         elapsed: since(rt, start),
-        longest: workload.waits.longest(),
     })
 }
 
@@ -365,6 +363,7 @@ pub fn answer_served<R: Clock + Threads + Wait + Sync>(
     state: TcState,
     dcs: Vec<Dc>,
     workload: &Workload,
+    waits: &Waits,
     rings: Rings,
     journal: Option<FileJournal>,
 ) -> (Result<Answered, Halt>, Result<Vec<Dc>, AllocError>)
@@ -394,7 +393,7 @@ pub fn answer_served<R: Clock + Threads + Wait + Sync>(
             let count = dcs.len();
             let servers = serve_all(scope, rt, link, dcs, servers);
             if servers.len() == count {
-                let answered = answer_all(rt, alloc, state, workload, link, journal);
+                let answered = answer_all(rt, alloc, state, workload, waits, link, journal);
                 link.close();
                 (answered, handed_back(rt, servers))
             } else {

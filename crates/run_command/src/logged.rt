@@ -15,20 +15,24 @@ ghost use Rattle.log_file.specs.Reading.{IsOpenFault, IsRefusal};
 ghost use Rattle.procedure_digest.specs.Header.{header_of};
 ghost use Rattle.tc_core.specs.Core.{loaded_in};
 ghost use Rattle.run_command.specs.LogLines.{IsOpenRefusal};
-ghost use Rattle.run_command.specs.Running.{IsCallsRun};
-ghost use Rattle.run_command.specs.Logged.{is_in_doubt, overfull, KeepsLog, IsLogFor, IsLogRefusal, IsLoggedRun, IsLogged};
+ghost use Rattle.log_file.specs.Found.{base_in};
+ghost use Rattle.run_command.specs.Logged.{is_in_doubt, overfull, IsLogFor, IsLogRefusal, IsRunOn, IsLoggedRun, IsLogged};
+ghost use Rattle.run_command.specs.Joining.Renewing.{IsRenewedFirst};
+ghost use Rattle.run_command.specs.Kept.{KeepsLog};
 ghost use Rattle.run_command.specs.Joining.Opening.{IsOpened, IsOpening, IsUnfit, IsComing, IsGoingBack, IsBegun};
 
+use crate::anew::{Checkpoints, Ground, renew, renewal_line};
 use crate::answering::FileJournal;
 pub use crate::log_lines::kind_refusal;
 use crate::log_lines::{back_lines, back_refusal, open_refusal, other_refusal, overfull_refusal};
 use crate::running::{Calls, Listeners, Manner, Ran, Unreported, run_from};
+use base_records::{base_fault_line, begin as begin_with};
 use coming_back::{ComeBackFault, Resumed, come_back};
 use data_component::dc::Dc;
 use disk_file::{DiskFile, FileFault, OpenError};
 use frame_file::{DeviceError, FrameFault};
-use log_file::{Header, LogFile, OpenFault};
-use log_journal::LogJournal;
+use log_file::{BaseRow, Header, LogFile, OpenFault};
+use log_journal::{LogJournal, Restored};
 use procedure_digest::header_of;
 use report_texts::report::Report;
 use script_loading::loading::{Loaded, Loading, Source, load_source};
@@ -64,6 +68,8 @@ impl From<AllocError> for Unlogged {
 #[derive(Drop)]
 struct Opened {
     journal: FileJournal,
+    // The records with which its log begins, where that was cut.
+    base: Option<Vec<BaseRow>>,
     log: Log,
     // How many bytes at its end were cut off.
     dropped: usize,
@@ -190,10 +196,11 @@ fn try_log<F: Files<File = File>>(
     };
     let mut file = LogFile::new(file);
     match LogJournal::begin(alloc, &mut file, &header) {
-        Ok(log) => {
+        Ok(Restored { base, log }) => {
             let dropped = file.device().cut_off();
             Ok(Some(Opening::Open(Opened {
                 journal: LogJournal::over(alloc, file, header),
+                base,
                 log,
                 dropped,
             })))
@@ -285,20 +292,24 @@ fn overfull(dcs: &[Dc], resumed: &[Resumed]) -> Option<usize>
     first_overfull(dcs)
 }
 
-// Comes back from a log, and keeps what that adds to it.
+// Comes back from a log that was opened, and keeps what that adds to it.
 fn come(
     alloc: Global,
     state: &mut TcState,
     dcs: &mut [Dc],
+    base: &Option<Vec<BaseRow>>,
     log: &Log,
     dropped: usize,
     path: &str,
     journal: &mut FileJournal,
 ) -> Result<Coming, Unlogged>
     requires { All HasOnlyRows dcs.old }
-    ensures { (file : List ℕ) → IsLogFor state.old file log.now.events → KeepsLog (Some journal.old) log.now.events
-        → IfOk result (IsComing state.old dcs.old log.now.events state.new dcs.new journal.new) }
+    ensures { (file : List ℕ) → IsLogFor state.old file (base_in base.now) log.now.events → KeepsLog (Some journal.old) log.now.events
+        → IfOk result (IsComing state.old dcs.old (base_in base.now) log.now.events state.new dcs.new journal.new) }
 {
+    if let Some(fault) = begin_with(dcs, base, log)? {
+        return Ok(Coming::Refused(refusal(base_fault_line(alloc, fault)?)));
+    }
     let resumed = match come_back(alloc, state, dcs, log) {
         Ok(resumed) => resumed,
         Err(fault) => return unfit(alloc, &fault),
@@ -330,14 +341,16 @@ fn go_back(
     path: &str,
 ) -> Result<GoingBack, Unlogged>
     requires { All HasOnlyRows dcs.old }
-    ensures { IsOpened state.old opened → IfOk result (IsGoingBack state.old dcs.old opened.log.events state.new dcs.new) }
+    ensures { IsOpened state.old opened → IfOk result (IsGoingBack state.old dcs.old (base_in opened.base) opened.log.events state.new dcs.new) }
 {
     let Opened {
         mut journal,
+        base,
         log,
         dropped,
     } = opened;
-    let coming = come(alloc, state, dcs, &log, dropped, path, &mut journal);
+    let coming = come(alloc, state, dcs, &base, &log, dropped, path, &mut journal);
+    drop(base);
     drop(log);
     match coming {
         Ok(Coming::Lines(lines)) => Ok(GoingBack::Back(Back { journal, lines })),
@@ -406,6 +419,37 @@ fn check_name<F: Files<File = File>>(rt: &F, path: &str, ran: &Ran) -> Result<()
     }
 }
 
+// Why a log that was to begin anew, or to be kept, isn't.
+fn why_unlogged(why: Unreported) -> Unlogged {
+    match why {
+        Unreported::Memory => Unlogged::Memory,
+        Unreported::NotKept(failure) => Unlogged::Unwritten(failure),
+    }
+}
+
+// Begins the log of what came back anew where its file has more bytes than this, and adds the line of that.
+fn renew_first<F: Files<File = File>>(
+    rt: &F,
+    alloc: Global,
+    path: &str,
+    over: Option<u64>,
+    ground: Ground,
+    lines: String,
+) -> Result<(Ground, String), Unlogged>
+    ensures renewed { IfOk result (IsRenewedFirst ground lines over) }
+    ensures kept { KeepsLog ground.journal ground.state.events → IfOk result (λ r. KeepsLog r.0.journal r.0.state.events) }
+{
+    let mut lines = lines;
+    match renew(rt, alloc, path, over, ground) {
+        Ok((ground, renewal)) => {
+            let line = renewal_line(alloc, renewal, &ground.state)?;
+            lines.push_str(line.as_str())?;
+            Ok((ground, lines))
+        }
+        Err(why) => Err(why_unlogged(why)),
+    }
+}
+
 // Runs the calls from what came back.
 fn run_back<R: Files<File = File> + Clock + Threads + Wait + Sync>(
     rt: &R,
@@ -413,13 +457,11 @@ fn run_back<R: Files<File = File> + Clock + Threads + Wait + Sync>(
     path: &str,
     loaded: Loaded,
     back: Back,
-    manner: Manner,
-    listeners: Listeners,
+    how: How,
 ) -> Result<Ran, Unlogged>
-    ensures { KeepsLog (Some back.journal) loaded.state.events → IfOk result (λ r. (answers : List ℕ)
-        × IsCallsRun (λ last. KeepsLog r.journal last.events) loaded.state loaded.dcs.items loaded.first.items loaded.calls.items
-        manner.workers manner.tries manner.audit r.report.status answers
-        × (string_bytes r.report.lines ≡ string_bytes back.lines ++ answers)) }
+    ensures { KeepsLog (Some back.journal) loaded.state.events → IfOk result (λ r.
+        IsRunOn r.journal how.checkpoints loaded.state loaded.dcs.items loaded.first.items loaded.calls.items
+        how.manner.workers how.manner.tries how.manner.audit r.report.status (string_bytes back.lines) (string_bytes r.report.lines)) }
 {
     let Loaded {
         state,
@@ -429,19 +471,25 @@ fn run_back<R: Files<File = File> + Clock + Threads + Wait + Sync>(
         calls,
     } = loaded;
     let Back { journal, lines } = back;
+    let ground = Ground {
+        state,
+        dcs,
+        journal: Some(journal),
+    };
+    let (ground, lines) = renew_first(rt, alloc, path, how.checkpoints.over, ground, lines)?;
     let calls = Calls {
         first,
         calls,
-        manner,
-        listeners,
+        manner: how.manner,
+        checkpoints: how.checkpoints,
+        listeners: how.listeners,
     };
-    match run_from(rt, alloc, state, dcs, calls, Some(journal)) {
+    match run_from(rt, alloc, path, ground, calls) {
         Ok(ran) => {
             check_name(rt, path, &ran)?;
             behind(lines, ran)
         }
-        Err(Unreported::Memory) => Err(Unlogged::Memory),
-        Err(Unreported::NotKept(failure)) => Err(Unlogged::Unwritten(failure)),
+        Err(why) => Err(why_unlogged(why)),
     }
 }
 
@@ -451,12 +499,11 @@ fn run_behind<R: Files<File = File> + Clock + Threads + Wait + Sync>(
     alloc: Global,
     path: &str,
     loaded: Loaded,
-    manner: Manner,
-    listeners: Listeners,
+    how: How,
 ) -> Result<Ran, Unlogged>
     requires { All HasOnlyRows loaded.dcs.items }
-    ensures { IfOk result (λ r. IsLoggedRun r.journal loaded.state loaded.dcs.items loaded.first.items loaded.calls.items
-        manner.workers manner.tries manner.audit r.report.status (string_bytes r.report.lines)) }
+    ensures { IfOk result (λ r. IsLoggedRun r.journal how.checkpoints loaded.state loaded.dcs.items loaded.first.items loaded.calls.items
+        how.manner.workers how.manner.tries how.manner.audit r.report.status (string_bytes r.report.lines)) }
 {
     let mut loaded = loaded;
     match begin(
@@ -466,7 +513,7 @@ fn run_behind<R: Files<File = File> + Clock + Threads + Wait + Sync>(
         &mut loaded.state,
         loaded.dcs.as_mut_slice(),
     ) {
-        Ok(GoingBack::Back(back)) => run_back(rt, alloc, path, loaded, back, manner, listeners),
+        Ok(GoingBack::Back(back)) => run_back(rt, alloc, path, loaded, back, how),
         Ok(GoingBack::Refused(report)) => {
             drop(loaded);
             Ok(Ran {
@@ -481,24 +528,33 @@ fn run_behind<R: Files<File = File> + Clock + Threads + Wait + Sync>(
     }
 }
 
+/// How the calls of a script are run whose log is kept.
+#[derive(Clone, Copy)]
+pub struct How {
+    pub manner: Manner,
+    pub checkpoints: Checkpoints,
+    pub listeners: Listeners,
+}
+
 /// Runs the calls of a script as [`running`](crate::running::running) does, and keeps the log in the file
 /// with this path, which is begun where it is missing or empty. Where it has a log, that is gone on from: the
-/// data components are redone, transactions that were open are run to their ends, and each is told by a line
-/// before those of the calls, which are new ones. No answer is told before what it names is on the disk, in a
-/// file that has a name. There is no report where this path isn't the file's own behind the last call.
+/// data components begin with its records, if it was cut, and are redone, transactions that were open are run to
+/// their ends, and each is told by a line before those of the calls, which are new ones. No answer is told before
+/// what it names is on the disk, in a file that has a name. Where checkpoints are wanted, the log begins anew in a
+/// file that takes this one's place: the name has the one or the other, whatever the moment of a crash. There is no
+/// report where this path isn't the file's own behind the last call.
 pub fn running_logged<R: Files<File = File> + Clock + Threads + Wait + Sync>(
     rt: &R,
     alloc: Global,
     path: &str,
     source: Source,
-    manner: Manner,
-    listeners: Listeners,
+    how: How,
 ) -> Result<Ran, Unlogged>
-    ensures { IfOk result (λ r. IsLogged r.journal manner.workers manner.tries manner.audit (beginning_of command.Run source.entry)
-        r.report.status (string_bytes r.report.lines)) }
+    ensures { IfOk result (λ r. IsLogged r.journal how.checkpoints how.manner.workers how.manner.tries how.manner.audit
+        (beginning_of command.Run source.entry) r.report.status (string_bytes r.report.lines)) }
 {
     match load_source(alloc, Command::Run, source)? {
-        Loading::Ready(loaded) => run_behind(rt, alloc, path, loaded, manner, listeners),
+        Loading::Ready(loaded) => run_behind(rt, alloc, path, loaded, how),
         Loading::Refused(report) => Ok(Ran {
             report,
             journal: None,

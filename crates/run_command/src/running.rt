@@ -1,6 +1,6 @@
 //! `run`: the calls of a script by workers, a line for each, and then what the data components keep.
 
-ghost use Rattle.std.specs.Prelude.{◌≡◌, ◌++◌, List, Ok, IfOk, IfErr, IsOkAnd, Option, Some, codes, string_bytes};
+ghost use Rattle.std.specs.Prelude.{◌≡◌, ◌++◌, ℕ, List, Ok, IfOk, IfErr, IsOkAnd, Option, Some, codes, string_bytes};
 ghost use Rattle.disk_file.specs.declared.fault.FileFault.{FileFault as FileFaultValue};
 ghost use Rattle.std.specs.List.{list_any};
 ghost use Rattle.script_loading.specs.Loading.{beginning_of};
@@ -10,14 +10,21 @@ ghost use Rattle.tc_core.specs.Admission.{call_of};
 ghost use Rattle.run_command.specs.AnswerLines.{answer_lines, fault_line};
 ghost use Rattle.state_lines.specs.AuditLines.{AddsIf, AddsAudit};
 ghost use Rattle.state_lines.specs.RowLines.{AddsRowLines};
-ghost use Rattle.run_command.specs.Logged.{KeepsLog, UnreportedFits};
+ghost use Rattle.run_command.specs.Kept.{FileJournal as FileJournalValue, KeepsLog, UnreportedFits};
 ghost use Rattle.run_command.specs.Joining.Stopping.{StopsAt};
-ghost use Rattle.run_command.specs.Running.{said_call, AreCallsOf, is_want_of_memory, AreLinesOf, IsCallsRun, IsRun};
+ghost use Rattle.run_command.specs.Answered.{said_call, AreCallsOf};
+ghost use Rattle.run_command.specs.Parts.{StopFits};
+ghost use Rattle.run_command.specs.declared.answering.Halt.{Halt as HaltValue};
+ghost use Rattle.run_command.specs.declared.parts.Stop.TheVariants.{Halted};
+ghost use Rattle.run_command.specs.Running.{is_want_of_memory, AreLinesOf, IsCallsRun, IsRun, never};
 
+pub use crate::anew::Checkpoints;
+use crate::anew::{Ground, Renewal, renewal_line};
 use crate::answer_lines::{fault_line, write_answers};
 pub use crate::answering::Manner;
-use crate::answering::{Answered, FileJournal, Halt, Rings, Unbegun, Workload, answer_served};
+use crate::answering::{FileJournal, Halt, Unbegun};
 use crate::figures::{figures, full_dcs, longest_wait, rate};
+use crate::parts::{Progress, Stop, Wish, answer_parts};
 pub use crate::watching::Listeners;
 use crate::watching::Waits;
 use data_component::dc::Dc;
@@ -29,9 +36,11 @@ use scripts::script;
 use state_lines::audit_lines::write_audit;
 use state_lines::row_lines::write_all_rows;
 use std::alloc::{AllocError, Global};
+use std::fs::File;
+use std::rt::Files;
 use std::sync::Wait;
 use std::thread::Threads;
-use std::time::Clock;
+use std::time::{Clock, Duration};
 use tc_core::state::{Call, Refusal, TcState};
 use worker_pool::Answer;
 
@@ -45,8 +54,8 @@ fn call_of(alloc: Global, said: &script::Call) -> Result<Call, AllocError>
     })
 }
 
-// The calls that lines of the script say, in their order.
-fn calls_of(alloc: Global, said: &[script::Call]) -> Result<Vec<Call>, AllocError>
+/// The calls that lines of the script say, in their order.
+pub fn calls_of(alloc: Global, said: &[script::Call]) -> Result<Vec<Call>, AllocError>
     ensures { IfOk result (λ calls. AreCallsOf said.now calls.items) }
 {
     let mut calls = Vec::with_capacity(alloc, said.len())?;
@@ -63,34 +72,36 @@ fn has_want_of_memory(answers: &[Answer]) -> bool
     answers.iter().any(|answer| matches!(answer, Answer::Refused(Refusal::Memory)))
 }
 
-// The lines of both lists' answers, and behind them those of the rows.
+// The lines of both lists' answers, behind them that of a log that may have begun anew, and those of the rows.
 fn run_lines(
     alloc: Global,
     first: &[Answer],
     calls: &[Answer],
+    renewal: &str,
     dcs: &[Dc],
 ) -> Result<String, AllocError>
-    ensures { IfOk result (λ s. AddsRowLines dcs.now (answer_lines (codes "first") first.now ++ answer_lines (codes "call") calls.now)
-        (string_bytes s)) }
+    ensures { IfOk result (λ s. AddsRowLines dcs.now
+        ((answer_lines (codes "first") first.now ++ answer_lines (codes "call") calls.now) ++ renewal.now) (string_bytes s)) }
 {
     let mut lines = String::new(alloc);
     write_answers(alloc, "first", first, &mut lines)?;
     write_answers(alloc, "call", calls, &mut lines)?;
+    lines.push_str(renewal)?;
     write_all_rows(alloc, dcs, &mut lines)?;
     Ok(lines)
 }
 
 // The figures of the second list, and which data components are full.
-fn notes(alloc: Global, answered: &Answered, dcs: &[Dc]) -> Result<String, AllocError> {
-    let calls = answered.calls.as_slice();
+fn notes(alloc: Global, progress: &Progress, longest: Duration) -> Result<String, AllocError> {
+    let calls = progress.calls.as_slice();
     let mut notes = figures(alloc, calls)?;
-    if let Some(elapsed) = answered.elapsed {
+    if let Some(elapsed) = progress.elapsed {
         let rate = rate(alloc, calls.len(), elapsed)?;
         notes.push_str(rate.as_str())?;
-        let wait = longest_wait(alloc, answered.longest)?;
+        let wait = longest_wait(alloc, longest)?;
         notes.push_str(wait.as_str())?;
     }
-    let full = full_dcs(alloc, dcs)?;
+    let full = full_dcs(alloc, progress.ground.dcs.as_slice())?;
     notes.push_str(full.as_str())?;
     Ok(notes)
 }
@@ -113,28 +124,32 @@ fn write_found(
     write_audit(alloc, state.procs(), state.log(), dcs, lines)
 }
 
-// The report of calls that were run, over components that are now these.
+// The report of calls that were run.
 fn reported(
     alloc: Global,
-    answered: &Answered,
-    dcs: &[Dc],
+    progress: &Progress,
+    renewal: Renewal,
     manner: Manner,
+    longest: Duration,
 ) -> Result<Report, AllocError>
-    ensures { IfOk result (λ r. AreLinesOf answered.now.state dcs.now manner.audit answered.now.first.items answered.now.calls.items
-        r.status (string_bytes r.lines)) }
+    ensures { IfOk result (λ r. AreLinesOf progress.now.ground.state progress.now.ground.dcs.items manner.audit
+        progress.now.first.items progress.now.calls.items renewal r.status (string_bytes r.lines)) }
 {
-    let first = answered.first.as_slice();
-    let calls = answered.calls.as_slice();
+    let first = progress.first.as_slice();
+    let calls = progress.calls.as_slice();
     if has_want_of_memory(first) || has_want_of_memory(calls) {
         return Err(AllocError);
     }
-    let mut lines = run_lines(alloc, first, calls, dcs)?;
-    let sound = write_found(alloc, manner.audit, &answered.state, dcs, &mut lines)?;
+    let state = &progress.ground.state;
+    let dcs = progress.ground.dcs.as_slice();
+    let renewed = renewal_line(alloc, renewal, state)?;
+    let mut lines = run_lines(alloc, first, calls, renewed.as_str(), dcs)?;
+    let sound = write_found(alloc, manner.audit, state, dcs, &mut lines)?;
     Ok(Report {
         status: u8::from(!sound),
         lines,
         notes: if manner.stats {
-            Some(notes(alloc, answered, dcs)?)
+            Some(notes(alloc, progress, longest)?)
         } else {
             None
         },
@@ -151,41 +166,6 @@ fn stopped(alloc: Global, fault: Unbegun) -> Result<Report, AllocError>
         status: 1,
         lines: String::from_str(alloc, line)?,
         notes: None,
-    })
-}
-
-// What calls are run with: they themselves, and the rings to the data components.
-#[derive(Drop)]
-struct Prepared {
-    workload: Workload,
-    rings: Rings,
-}
-
-// Makes the calls that both lists say, and rings to so many components.
-fn prepare(
-    alloc: Global,
-    first: &[script::Call],
-    calls: &[script::Call],
-    dcs: usize,
-    manner: Manner,
-    listeners: Listeners,
-) -> Result<Prepared, AllocError>
-    ensures first { IfOk result (λ p. AreCallsOf first.now p.workload.first.items) }
-    ensures calls { IfOk result (λ p. AreCallsOf calls.now p.workload.calls.items) }
-    ensures manner { IfOk result (λ p. p.workload.manner ≡ manner) }
-{
-    let first = calls_of(alloc, first)?;
-    let calls = calls_of(alloc, calls)?;
-    let rings = Rings::new(alloc, dcs, manner.workers)?;
-    let waits = Waits::new(alloc, calls.len(), manner.stats, listeners)?;
-    Ok(Prepared {
-        workload: Workload {
-            first,
-            calls,
-            manner,
-            waits,
-        },
-        rings,
     })
 }
 
@@ -215,35 +195,25 @@ impl From<AllocError> for Unreported {
     }
 }
 
-// The same over the components that were handed back, if memory sufficed for that.
-fn reported_over(
-    alloc: Global,
-    answered: &Answered,
-    dcs: Result<Vec<Dc>, AllocError>,
-    manner: Manner,
-) -> Result<Report, AllocError>
-    ensures { IfOk result (λ r. IsOkAnd dcs (λ back. AreLinesOf answered.now.state back.items manner.audit answered.now.first.items
-        answered.now.calls.items r.status (string_bytes r.lines))) }
-{
-    let dcs = dcs?;
-    reported(alloc, answered, dcs.as_slice(), manner)
-}
-
 // The journal that has kept the log, if there is one; all else goes.
-fn journal_of(answered: Answered) -> Option<FileJournal>
-    ensures { result ≡ answered.journal }
+fn journal_of(progress: Progress) -> Option<FileJournal>
+    ensures { result ≡ progress.ground.journal }
 {
-    let Answered {
-        state,
-        journal,
+    let Progress {
+        ground,
         first,
         calls,
         elapsed: _,
-        longest: _,
-    } = answered;
-    drop(state);
+    } = progress;
     drop(first);
     drop(calls);
+    let Ground {
+        state,
+        dcs,
+        journal,
+    } = ground;
+    drop(state);
+    drop(dcs);
     journal
 }
 
@@ -276,38 +246,48 @@ fn unanswered(alloc: Global, halt: Halt) -> Result<Ran, Unreported>
     }
 }
 
-// Tells who listens which data components are full, unless that stands among the figures.
-fn tell_full(workload: &Workload, dcs: &Result<Vec<Dc>, AllocError>) {
-    if let (Ok(dcs), false) = (dcs, workload.manner.stats) {
-        workload.waits.tell_full(dcs.as_slice());
+// Ends what is told of calls while they last, with which data components are full, unless that stands among the
+// figures.
+fn tell_end(waits: &Waits, manner: Manner, dcs: &[Dc]) {
+    waits.end();
+    if !manner.stats {
+        waits.tell_full(dcs);
     }
 }
 
-// Runs both lists of calls from this state over these components.
-fn run_calls<R: Clock + Threads + Wait + Sync>(
+// What is told of calls that have no report.
+fn stopped_at(alloc: Global, waits: &Waits, stop: Stop) -> Result<Ran, Unreported>
+    ensures ok { IfOk result (λ r. (halt : HaltValue) × (stop ≡ Halted halt) × StopsAt halt r.report.status (string_bytes r.report.lines)) }
+    ensures fault { (journal : Option FileJournalValue) (workers tries : ℕ) → StopFits journal workers tries stop → IfErr result (UnreportedFits journal) }
+{
+    waits.end();
+    match stop {
+        Stop::Halted(halt) => unanswered(alloc, halt),
+        Stop::Unreported(why) => Err(why),
+    }
+}
+
+// Runs both lists of calls.
+fn run_wish<R: Files<File = File> + Clock + Threads + Wait + Sync>(
     rt: &R,
     alloc: Global,
-    state: TcState,
-    dcs: Vec<Dc>,
-    prepared: Prepared,
-    journal: Option<FileJournal>,
+    ground: Ground,
+    wish: Wish,
+    waits: &Waits,
 ) -> Result<Ran, Unreported>
-    ensures run { (said_first said_calls : List ScriptCall) → KeepsLog journal state.events
-        → AreCallsOf said_first prepared.workload.first.items
-        → AreCallsOf said_calls prepared.workload.calls.items → IfOk result (λ r. IsCallsRun (λ last. KeepsLog r.journal last.events)
-        state dcs.items said_first said_calls prepared.workload.manner.workers prepared.workload.manner.tries
-        prepared.workload.manner.audit r.report.status (string_bytes r.report.lines)) }
-    ensures fault { IfErr result (UnreportedFits journal) }
+    ensures run { KeepsLog ground.journal ground.state.events → IfOk result (λ r. IsCallsRun (λ last. KeepsLog r.journal last.events)
+        wish.entry.checkpoints ground.state ground.dcs.items wish.entry.first.now wish.entry.calls.now wish.entry.manner.workers wish.entry.manner.tries
+        wish.entry.manner.audit r.report.status (string_bytes r.report.lines)) }
+    ensures fault { IfErr result (UnreportedFits ground.journal) }
 {
-    let Prepared { workload, rings } = prepared;
-    let (answered, dcs) = answer_served(rt, alloc, state, dcs, &workload, rings, journal);
-    match answered {
-        Ok(answered) => {
-            tell_full(&workload, &dcs);
-            let report = reported_over(alloc, &answered, dcs, workload.manner);
-            with_journal(report, journal_of(answered))
+    let manner = wish.manner;
+    match answer_parts(rt, alloc, ground, wish, waits) {
+        Ok((progress, renewal)) => {
+            tell_end(waits, manner, progress.ground.dcs.as_slice());
+            let report = reported(alloc, &progress, renewal, manner, waits.longest());
+            with_journal(report, journal_of(progress))
         }
-        Err(halt) => unanswered(alloc, halt),
+        Err(stop) => stopped_at(alloc, waits, stop),
     }
 }
 
@@ -317,51 +297,50 @@ pub struct Calls {
     pub first: Vec<script::Call>,
     pub calls: Vec<script::Call>,
     pub manner: Manner,
+    pub checkpoints: Checkpoints,
     pub listeners: Listeners,
 }
 
-/// Runs the calls from this state over these components, and keeps the log where there is a journal.
-pub fn run_from<R: Clock + Threads + Wait + Sync>(
+/// Runs the calls on this ground, and keeps the log where there is a journal, in the file of this path.
+pub fn run_from<R: Files<File = File> + Clock + Threads + Wait + Sync>(
     rt: &R,
     alloc: Global,
-    state: TcState,
-    dcs: Vec<Dc>,
+    path: &str,
+    ground: Ground,
     calls: Calls,
-    journal: Option<FileJournal>,
 ) -> Result<Ran, Unreported>
-    ensures run { KeepsLog journal state.events → IfOk result (λ r. IsCallsRun (λ last. KeepsLog r.journal last.events)
-        state dcs.items calls.first.items calls.calls.items calls.manner.workers calls.manner.tries calls.manner.audit
-        r.report.status (string_bytes r.report.lines)) }
-    ensures fault { IfErr result (UnreportedFits journal) }
+    ensures run { KeepsLog ground.journal ground.state.events → IfOk result (λ r. IsCallsRun (λ last. KeepsLog r.journal last.events)
+        calls.checkpoints ground.state ground.dcs.items calls.first.items calls.calls.items calls.manner.workers calls.manner.tries
+        calls.manner.audit r.report.status (string_bytes r.report.lines)) }
+    ensures fault { IfErr result (UnreportedFits ground.journal) }
 {
     let Calls {
         first,
         calls,
         manner,
+        checkpoints,
         listeners,
     } = calls;
-    match prepare(
-        alloc,
-        first.as_slice(),
-        calls.as_slice(),
-        dcs.len(),
+    let waits = Waits::new(rt, alloc, calls.len(), manner.stats, listeners)?;
+    let wish = Wish {
+        first: first.as_slice(),
+        calls: calls.as_slice(),
         manner,
-        listeners,
-    ) {
-        Ok(ready) => run_calls(rt, alloc, state, dcs, ready, journal),
-        Err(AllocError) => Err(Unreported::Memory),
-    }
+        path,
+        checkpoints,
+    };
+    run_wish(rt, alloc, ground, wish, &waits)
 }
 
 // Runs the calls of a script that is loaded, without a journal.
-fn run_loaded<R: Clock + Threads + Wait + Sync>(
+fn run_loaded<R: Files<File = File> + Clock + Threads + Wait + Sync>(
     rt: &R,
     alloc: Global,
     loaded: Loaded,
     manner: Manner,
     listeners: Listeners,
 ) -> Result<Report, AllocError>
-    ensures { IfOk result (λ r. IsCallsRun (λ _. Unit {0}) loaded.state loaded.dcs.items loaded.first.items loaded.calls.items
+    ensures { IfOk result (λ r. IsCallsRun (λ _. Unit {0}) never loaded.state loaded.dcs.items loaded.first.items loaded.calls.items
         manner.workers manner.tries manner.audit r.status (string_bytes r.lines)) }
 {
     let Loaded {
@@ -371,13 +350,19 @@ fn run_loaded<R: Clock + Threads + Wait + Sync>(
         first,
         calls,
     } = loaded;
+    let ground = Ground {
+        state,
+        dcs,
+        journal: None,
+    };
     let calls = Calls {
         first,
         calls,
         manner,
+        checkpoints: Checkpoints::NONE,
         listeners,
     };
-    match run_from(rt, alloc, state, dcs, calls, None) {
+    match run_from(rt, alloc, "", ground, calls) {
         Ok(Ran { report, journal: _ }) => Ok(report),
         Err(Unreported::Memory) => Err(AllocError),
         Err(Unreported::NotKept(_)) => unreachable!(),
@@ -387,7 +372,7 @@ fn run_loaded<R: Clock + Threads + Wait + Sync>(
 /// Runs the calls of a script: the first list by one worker, and then the other in this manner.
 /// Prints what each call was answered, then what is kept, and then, where it is wanted, what an audit
 /// finds. The listeners are told of the second list's calls meanwhile.
-pub fn running<R: Clock + Threads + Wait + Sync>(
+pub fn running<R: Files<File = File> + Clock + Threads + Wait + Sync>(
     rt: &R,
     alloc: Global,
     source: Source,

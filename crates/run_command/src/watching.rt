@@ -28,6 +28,8 @@ pub struct Waits {
     alloc: Global,
     // How many calls there are.
     total: usize,
+    // When they were begun, where somebody asks for what is known and the clock can be read.
+    start: Option<Instant>,
     // Of each call, in nanoseconds: 0, then when it began, and at last how long it took.
     calls: Vec<AtomicU64>,
     listeners: Listeners,
@@ -37,7 +39,8 @@ pub struct Waits {
 
 impl Waits {
     /// So many calls, of which none has begun, with room for the times of them where these are asked for.
-    pub fn new(
+    pub fn new<R: Clock>(
+        rt: &R,
         alloc: Global,
         total: usize,
         is_timed: bool,
@@ -48,19 +51,16 @@ impl Waits {
         for _ in 0..timed {
             times.push(AtomicU64::new(0))?;
         }
+        let is_idle = timed == 0 && listeners.terminal.is_none();
         Ok(Waits {
             alloc,
             total,
+            start: if is_idle { None } else { Instant::now(rt).ok() },
             calls: times,
             listeners,
             answered: AtomicU64::new(0),
             told: AtomicU64::new(0),
         })
-    }
-
-    // Whether nobody asks for what is known.
-    fn is_idle(&self) -> bool {
-        self.calls.is_empty() && self.listeners.terminal.is_none()
     }
 
     // Writes a line with the call's place and its answer, at once.
@@ -122,44 +122,47 @@ impl Waits {
     }
 }
 
-/// Who watches the calls of a run by a clock.
+/// Who watches a part of a run's calls by a clock.
 #[derive(Drop)]
 pub struct Watch<'a, R> {
     clock: &'a R,
-    start: Option<Instant>,
     waits: &'a Waits,
+    // The place of its first call among all.
+    place: usize,
 }
 
 impl<'a, R: Clock> Watch<'a, R> {
-    /// Watches from now on, where somebody asks for what is known and the clock can be read.
-    pub fn new(clock: &'a R, waits: &'a Waits) -> Watch<'a, R> {
+    /// Watches the calls from this place on.
+    pub fn new(clock: &'a R, waits: &'a Waits, place: usize) -> Watch<'a, R> {
         Watch {
             clock,
-            start: if waits.is_idle() {
-                None
-            } else {
-                Instant::now(clock).ok()
-            },
             waits,
+            place,
         }
     }
 
     // The nanoseconds since the start.
     fn now(&self) -> Option<u64> {
-        let elapsed = self.start?.elapsed(self.clock).ok()?;
+        let elapsed = self.waits.start?.elapsed(self.clock).ok()?;
         u64::try_from(elapsed.as_nanos()).ok()
+    }
+
+    // The place among all calls of one of this part.
+    fn place_of(&self, call: usize) -> usize {
+        self.place.saturating_add(call)
     }
 }
 
 impl<R: Clock> Gate for Watch<'_, R> {
     fn begun(&self, call: usize) {
-        if let (Some(call), Some(now)) = (self.waits.calls.get(call), self.now()) {
+        let place = self.place_of(call);
+        if let (Some(call), Some(now)) = (self.waits.calls.get(place), self.now()) {
             call.store(now.max(1), Ordering::SeqCst);
         }
     }
 
     fn answered<J: Naming>(&self, acknowledgement: &Acknowledgement<J>) {
-        let call = acknowledgement.call();
+        let call = self.place_of(acknowledgement.call());
         self.waits.tell_each(call, &acknowledgement.answer());
         let Some(now) = self.now() else {
             return;

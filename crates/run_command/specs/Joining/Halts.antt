@@ -4,7 +4,7 @@ use Rattle.worker_pool.specs.Faults.{InRange, WorkersFit}
 use Rattle.run_command.specs.declared.answering.Halt.{Halt}
 use Rattle.run_command.specs.declared.answering.Halt.TheVariants.{Unbegun, NotKept, Memory as NoMemory}
 use Rattle.run_command.specs.declared.answering.Unbegun.TheVariants.{Workers, Tries, Memory, NoThread}
-use Rattle.run_command.specs.Logged.{FileJournal}
+use Rattle.run_command.specs.Kept.{FileJournal}
 
 -- none of its calls was begun; or something wasn't kept, or couldn't be for want of memory, where there is a journal
 abbrev pub ListHalts : Option FileJournal → ℕ → ℕ → Halt → Type 0

@@ -1,7 +1,10 @@
 -- The steps towards a run behind what a log's file has.
-use Rattle.std.specs.Prelude.{◌≡◌, ℕ, List, length, Some, string_bytes}
+use Rattle.std.specs.Prelude.{◌≡◌, ℕ, List, length, reverse, Option, Some, string_bytes}
 use Rattle.tc_log.specs.declared.event.Event.{Event}
+use Rattle.base_records.specs.Beginning.{HaveBegun}
 use Rattle.data_component.specs.Store.{Store}
+use Rattle.log_file.specs.Bytes.{Rows}
+use Rattle.log_file.specs.Found.{base_in}
 use Rattle.tc_core.specs.Core.{Core}
 use Rattle.coming_back.specs.declared.resumed.Resumed.{Resumed}
 use Rattle.run_command.specs.declared.logged.Opened.{Opened}
@@ -14,12 +17,13 @@ use Rattle.coming_back.specs.declared.coming.ComeBackFault.{ComeBackFault}
 use Rattle.run_command.specs.declared.logged.GoingBack.{GoingBack}
 use Rattle.run_command.specs.declared.logged.GoingBack.TheVariants as going
 use Rattle.run_command.specs.LogLines.{back_lines, back_refusal}
-use Rattle.run_command.specs.Logged.{FileJournal, KeepsLog, IsLogFor, HasComeBack, GoesOn, IsLogRefusal}
+use Rattle.run_command.specs.Kept.{FileJournal, KeepsLog}
+use Rattle.run_command.specs.Logged.{IsLogFor, HasComeBack, GoesOn, IsLogRefusal}
 
 -- the file has this log, which the journal keeps
 pub record IsOpened (start : Core) (o : Opened) : Type 0 where
   pub file : List ℕ
-  pub is_log : IsLogFor start file o.log.events
+  pub is_log : IsLogFor start file (base_in o.base) o.log.events
   pub kept : KeepsLog (Some o.journal) o.log.events
 
 abbrev pub IsOpening : Core → List Store → Opening → Type 0
@@ -41,23 +45,32 @@ abbrev pub IsUnfit : ComeBackFault → Coming → Type 0
 IsUnfit fault (coming.Lines lines) = ⊥
 IsUnfit fault (coming.Refused report) = (back_refusal fault ≡ Some (string_bytes report.lines)) × (report.status ≡ 1)
 
+-- data components began with the records before the log, and what came back from it then, with its lines, and the journal that keeps its log
+pub record IsBackFrom (start : Core) (empties : List Store) (base : Option Rows) (log : List Event) (back : Core) (dcs : List Store) (b : Back)
+    : Type 0 where
+  pub begun : List Store
+  pub begins : HaveBegun base (reverse log) empties begun
+  pub is_back : IsBack start begun log back dcs b
+
 -- the same as lines, and a journal
-abbrev pub IsComing : Core → List Store → List Event → Core → List Store → FileJournal → Coming → Type 0
-IsComing start empties log back dcs journal (coming.Lines lines) =
-    IsBack start empties log back dcs (record { journal = journal; lines = lines })
-IsComing start empties log back dcs journal (coming.Refused report) =
+abbrev pub IsComing : Core → List Store → Option Rows → List Event → Core → List Store → FileJournal → Coming → Type 0
+IsComing start empties base log back dcs journal (coming.Lines lines) =
+    IsBackFrom start empties base log back dcs (record { journal = journal; lines = lines })
+IsComing start empties base log back dcs journal (coming.Refused report) =
     IsLogRefusal start empties (string_bytes report.lines) × (report.status ≡ 1)
 
-abbrev pub IsGoingBack : Core → List Store → List Event → Core → List Store → GoingBack → Type 0
-IsGoingBack start empties log back dcs (going.Back b) = IsBack start empties log back dcs b
-IsGoingBack start empties log back dcs (going.Refused report) = IsLogRefusal start empties (string_bytes report.lines) × (report.status ≡ 1)
+abbrev pub IsGoingBack : Core → List Store → Option Rows → List Event → Core → List Store → GoingBack → Type 0
+IsGoingBack start empties base log back dcs (going.Back b) = IsBackFrom start empties base log back dcs b
+IsGoingBack start empties base log back dcs (going.Refused report) =
+    IsLogRefusal start empties (string_bytes report.lines) × (report.status ≡ 1)
 
 -- a log was opened and gone on from
 pub record IsBackTo (start : Core) (empties : List Store) (back : Core) (dcs : List Store) (b : Back) : Type 0 where
   pub file : List ℕ
+  pub base : Option Rows
   pub log : List Event
-  pub is_log : IsLogFor start file log
-  pub is_back : IsBack start empties log back dcs b
+  pub is_log : IsLogFor start file base log
+  pub from : IsBackFrom start empties base log back dcs b
 
 abbrev pub IsBegun : Core → List Store → Core → List Store → GoingBack → Type 0
 IsBegun start empties back dcs (going.Back b) = IsBackTo start empties back dcs b

@@ -6,22 +6,14 @@ use Rattle.command_line.proofs.words.run_command.Goals as goal
 
 pub returns-clause-app : goal.returns-clause-app
 returns-clause-app c =
-    let first = c.in_ok-arg.ensures.shape c.option_arg-workers.ensures.local ∙ ap₂ with_rule c.new.ensures.app c.option_arg-workers.ensures.rule in
-    let second = c.in_ok-arg-2.ensures.shape c.option_arg-tries.ensures.local ∙ ap₂ with_rule first c.option_arg-tries.ensures.rule in
-    let third = c.in_ok-arg-3.ensures.shape c.stats_arg.ensures.local ∙ ap₂ with_rule second c.stats_arg.ensures.rule in
-    let fourth = c.in_ok-arg-4.ensures.shape c.audit_arg.ensures.local ∙ ap₂ with_rule third c.audit_arg.ensures.rule in
-    let fifth = c.in_ok-arg-5.ensures.shape c.tell_arg.ensures.local ∙ ap₂ with_rule fourth c.tell_arg.ensures.rule in
-    let sixth = c.in_ok-arg-6.ensures.shape c.option_arg-log.ensures.local ∙ ap₂ with_rule fifth c.option_arg-log.ensures.rule in
-    let seventh = c.in_ok-arg-7.ensures.shape c.file_arg.ensures.local ∙ ap₂ with_rule sixth c.file_arg.ensures.rule in
-    IfOk-weaker c.arg-8.result _ _ (λ r h. h.shape c.script_arg.ensures.local ∙ ap₂ with_rule seventh c.script_arg.ensures.rule) c.arg-8.ensures
+    let first = c.in_ok-arg.ensures.shape c.checkpoint_arg.ensures.local ∙ ap₂ with_rule c.in_ok-kept_command.ensures.app c.checkpoint_arg.ensures.rule in
+    let second = c.in_ok-arg-2.ensures.shape c.option_arg-over.ensures.local ∙ ap₂ with_rule first c.option_arg-over.ensures.rule in
+    let third = c.in_ok-arg-3.ensures.shape c.file_arg.ensures.local ∙ ap₂ with_rule second c.file_arg.ensures.rule in
+    IfOk-weaker c.arg-4.result _ _ (λ r h. h.shape c.script_arg.ensures.local ∙ ap₂ with_rule third c.script_arg.ensures.rule) c.arg-4.ensures
 
 pub returns-clause-local : goal.returns-clause-local
 returns-clause-local c =
-    let first = still_local _ _ _ c.in_ok-arg.ensures.globals c.new.ensures.local c.option_arg-workers.ensures.local in
-    let second = still_local _ _ _ c.in_ok-arg-2.ensures.globals first c.option_arg-tries.ensures.local in
-    let third = still_local _ _ _ c.in_ok-arg-3.ensures.globals second c.stats_arg.ensures.local in
-    let fourth = still_local _ _ _ c.in_ok-arg-4.ensures.globals third c.audit_arg.ensures.local in
-    let fifth = still_local _ _ _ c.in_ok-arg-5.ensures.globals fourth c.tell_arg.ensures.local in
-    let sixth = still_local _ _ _ c.in_ok-arg-6.ensures.globals fifth c.option_arg-log.ensures.local in
-    let seventh = still_local _ _ _ c.in_ok-arg-7.ensures.globals sixth c.file_arg.ensures.local in
-    IfOk-weaker c.arg-8.result _ _ (λ r h. still_local _ _ _ h.globals seventh c.script_arg.ensures.local) c.arg-8.ensures
+    let first = still_local _ _ _ c.in_ok-arg.ensures.globals c.in_ok-kept_command.ensures.local c.checkpoint_arg.ensures.local in
+    let second = still_local _ _ _ c.in_ok-arg-2.ensures.globals first c.option_arg-over.ensures.local in
+    let third = still_local _ _ _ c.in_ok-arg-3.ensures.globals second c.file_arg.ensures.local in
+    IfOk-weaker c.arg-4.result _ _ (λ r h. still_local _ _ _ h.globals third c.script_arg.ensures.local) c.arg-4.ensures

@@ -1,17 +1,13 @@
-use Rattle.std.proofs.Common.{◌≡◌, ◌∙◌, refl}
-use Rattle.clap.specs.Words.{found_of, rows_of}
-use Rattle.command_line.proofs.Wishes.{lacks_no_count}
+use Rattle.clap.specs.Words.{first_of, found_of, rows_of}
+use Rattle.std.proofs.Common.{codes, sym, ◌∙◌}
+use Rattle.command_line.proofs.Wishes.{lacks_no_count, logged_so, number_known}
 use Rattle.command_line.proofs.words.run_task.Goals as goal
 
-pub returns-clause-task : goal.returns-clause-task
-returns-clause-task c = λ workers tries stats audit tell log script says.
-    let first = c.in_ok-workers.ensures.count workers says.0 in
-    let second = c.in_ok-tries.ensures.count tries says.1 in
-    let workers_are : c.in_ok-workers.workers ≡ workers = cc in
-    let tries_are : c.in_ok-tries.tries ≡ tries = cc in
-    let path_is = c.text_of.ensures ∙ says.5 in
-    let script_is = c.text_of-2.ensures ∙ says.6 in
-    rw (workers_are, tries_are, c.flag_of.ensures stats says.2, c.flag_of-2.ensures audit says.3, c.flag_of-3.ensures tell says.4, path_is, script_is) refl
-
 pub returns-clause-wrong : goal.returns-clause-wrong
-returns-clause-wrong c = lacks_no_count (rows_of (found_of c.args.matches.now)) c.in_ok-workers.ensures.wrong c.in_ok-tries.ensures.wrong
+returns-clause-wrong c =
+    let rows = rows_of (found_of c.args.matches.now) in
+    let over = c.in_ok-over.over in
+    lacks_no_count rows c.in_ok-workers.ensures.wrong c.in_ok-tries.ensures.wrong
+    (number_known (first_of (codes "checkpoint-over") rows) over c.in_ok-over.ensures.ok)
+    (logged_so (λ s. s.now) rows c.text_of-log.result c.flag_of-checkpoint.result over c.text_of-log.ensures c.flag_of-checkpoint.ensures c.in_ok-over.ensures.ok
+    (sym c.is_logless.ensures ∙ c.if-is_logless.false))

@@ -48,3 +48,7 @@ returns-in-Err-TwoParts-clause-runs g c = λ file wish says. absurd (rw c.in-Err
 pub returns-in-Err-PartUnwanted-clause-runs : goal.returns-in-Err-PartUnwanted-clause-runs
 returns-in-Err-PartUnwanted-clause-runs g c = λ file wish says.
     absurd (rw c.in-Err-PartUnwanted.field-0-is at (c.in-Err-PartUnwanted.ensures.wanted file wish says))
+
+pub returns-in-Err-CheckpointAlone-clause-runs : goal.returns-in-Err-CheckpointAlone-clause-runs
+returns-in-Err-CheckpointAlone-clause-runs g c = λ file wish says.
+    absurd (rw c.in-Err-CheckpointAlone.field-0-is at (c.in-Err-CheckpointAlone.ensures.wanted file wish says))

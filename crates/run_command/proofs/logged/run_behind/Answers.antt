@@ -1,26 +1,33 @@
 use Rattle.std.proofs.Common.{rules, ◌≡◌, ◌∙◌, ◌++◌, ℕ, List, length, ap, subst}
 use Rattle.std.specs.Prelude.{string_bytes}
 use Rattle.data_component.specs.Store.{Store, restarted}
-use Rattle.run_command.specs.Running.{IsCallsRun}
+use Rattle.base_records.proofs.BaseLemmas.{begun_count}
 use Rattle.run_command.proofs.LoggedLemmas.{lent_whole}
 use Rattle.std.proofs.lemmas.List.{length-map}
 use Rattle.std.proofs.lemmas.Result.{IfOk-weaker}
-use Rattle.run_command.specs.Logged.{KeepsLog, IsLogRefusal, Refused, Behind}
+use Rattle.run_command.specs.Logged.{IsLogRefusal, IsRunOn, Refused, Behind}
 use Rattle.run_command.specs.Joining.Opening.{IsBackTo}
 use Rattle.run_command.proofs.logged.run_behind.Goals as goal
 
 pub returns-in-Ok-Back : goal.returns-in-Ok-Back
 returns-in-Ok-Back g c =
-    let same : c.as_mut_slice.result.now ≡ c.args.loaded.dcs.items = search rules in
-    let to = subst (λ (dcs : List Store). IsBackTo c.args.loaded.state dcs c.begin.new.state c.begin.new.dcs c.in-Ok-Back.back) same (rw c.in-Ok-Back.field-0-is at c.in-Ok-Back.ensures) in
-    let b = to.is_back in
-    let len : c.args.loaded.dcs.len ≡ length c.args.loaded.dcs.items = search rules in
-    let count : length c.begin.new.dcs ≡ length c.args.loaded.dcs.items = b.came_back.served.count ∙ length-map c.args.loaded.dcs.items restarted in
-    let whole = lent_whole c.begin.new.dcs c.args.loaded.dcs.items c.args.loaded.dcs.len len count in
+    let loaded = c.args.loaded in
+    let how = c.args.how in
+    let same : c.as_mut_slice.result.now ≡ loaded.dcs.items = search rules in
+    let to = subst (λ (dcs : List Store). IsBackTo loaded.state dcs c.begin.new.state c.begin.new.dcs c.in-Ok-Back.back) same (rw c.in-Ok-Back.field-0-is at c.in-Ok-Back.ensures) in
+    let from = to.from in
+    let b = from.is_back in
+    let len : loaded.dcs.len ≡ length loaded.dcs.items = search rules in
+    let count : length c.begin.new.dcs ≡ length loaded.dcs.items =
+    b.came_back.served.count ∙ (length-map from.begun restarted ∙ begun_count to.base _ loaded.dcs.items from.begun from.begins) in
+    let whole = lent_whole c.begin.new.dcs loaded.dcs.items loaded.dcs.len len count in
     IfOk-weaker c.run_back.result _ _ (λ r h. Behind (record {
       file = to.file;
+      base = to.base;
       log = to.log;
       is_log = to.is_log;
+      begun = from.begun;
+      begins = from.begins;
       back = c.begin.new.state;
       dcs = c.begin.new.dcs;
       resumed = b.resumed;
@@ -28,9 +35,8 @@ returns-in-Ok-Back g c =
       goes_on = b.goes_on;
       dropped = b.dropped;
       path = b.path;
-      answers = h.0;
-      ran = subst (λ (dcs : List Store). IsCallsRun (λ last. KeepsLog r.journal last.events) c.begin.new.state dcs c.args.loaded.first.items c.args.loaded.calls.items c.args.manner.workers c.args.manner.tries c.args.manner.audit r.report.status h.0) whole h.1;
-      lines_are = h.2 ∙ ap (λ (l : List ℕ). l ++ h.0) b.lines;
+      on = subst (λ (lines : List ℕ). IsRunOn r.journal how.checkpoints c.begin.new.state c.begin.new.dcs loaded.first.items loaded.calls.items how.manner.workers how.manner.tries how.manner.audit r.report.status lines (string_bytes r.report.lines)) b.lines
+          (subst (λ (dcs : List Store). IsRunOn r.journal how.checkpoints c.begin.new.state dcs loaded.first.items loaded.calls.items how.manner.workers how.manner.tries how.manner.audit r.report.status (string_bytes c.in-Ok-Back.back.lines) (string_bytes r.report.lines)) whole h);
     })) (c.run_back.ensures b.kept)
 
 pub returns-in-Ok-Refused : goal.returns-in-Ok-Refused

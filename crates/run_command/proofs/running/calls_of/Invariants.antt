@@ -1,5 +1,5 @@
 use Rattle.std.proofs.Common.{take}
-use Rattle.run_command.specs.Running.{AreCallsOf}
+use Rattle.run_command.specs.Answered.{AreCallsOf}
 use Rattle.run_command.proofs.running.calls_of.Given as goal
 
 abbrev pub invariant-loop-line : goal.invariant-loop-line

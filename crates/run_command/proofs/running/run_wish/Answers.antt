@@ -1,0 +1,38 @@
+use Rattle.std.proofs.Common.{◌≡◌, ◌∙◌, ℕ, sym, subst}
+use Rattle.std.specs.Prelude.{string_bytes}
+use Rattle.std.proofs.lemmas.Result.{IfOk-weaker}
+use Rattle.run_command.specs.declared.answering.Halt.{Halt}
+use Rattle.run_command.specs.declared.parts.Stop.{Stop}
+use Rattle.run_command.specs.Kept.{KeepsLog, HaltFits}
+use Rattle.run_command.specs.Parts.{StopFits}
+use Rattle.run_command.specs.Running.{Stopped}
+use Rattle.run_command.proofs.RunLemmas.{ran_run}
+use Rattle.run_command.proofs.running.run_wish.Goals as goal
+
+pub returns-in-Ok-clause-run : goal.returns-in-Ok-clause-run
+returns-in-Ok-clause-run g c = λ was.
+    let ground = c.args.ground in
+    let wish = c.args.wish in
+    let m = wish.manner in
+    let p = c.in-Ok.progress in
+    let renewal = c.in-Ok.renewal in
+    let it = c.in-Ok.ensures in
+    IfOk-weaker c.with_journal.result _ _ (λ r h.
+    let journal = h.1 ∙ c.journal_of.ensures in
+    ran_run (λ last. KeepsLog r.journal last.events) wish.checkpoints ground.state ground.dcs.items wish.first.now wish.calls.now m.workers m.tries m.audit r.report.status (string_bytes r.report.lines) p renewal
+    it.range it.ended (rw h.0 at c.reported-report.ensures) (subst (λ j. KeepsLog j p.ground.state.events) (sym journal) (it.kept was)))
+    c.with_journal.ensures.ok
+
+pub returns-in-Err-clause-run : goal.returns-in-Err-clause-run
+returns-in-Err-clause-run g c = λ was.
+    let journal = c.args.ground.journal in
+    let m = c.args.wish.manner in
+    IfOk-weaker c.stopped_at.result _ _ (λ r h.
+    let fits : HaltFits journal m.workers m.tries h.0 = subst (λ (stop : Stop). StopFits journal m.workers m.tries stop) h.1 c.in-Err.ensures.fault in
+    Stopped h.2.cause (subst (λ (halt : Halt). HaltFits journal m.workers m.tries halt) h.2.is fits) h.2.status_is h.2.line)
+    c.stopped_at.ensures.ok
+
+pub returns-in-Err-clause-fault : goal.returns-in-Err-clause-fault
+returns-in-Err-clause-fault g c =
+    let m = c.args.wish.manner in
+    c.stopped_at.ensures.fault c.args.ground.journal m.workers m.tries c.in-Err.ensures.fault

@@ -1,0 +1,85 @@
+-- Calls that are answered in parts, between which the log may begin anew.
+use Rattle.std.specs.Prelude.{◌≡◌, ℕ, List, [], ◌∷◌, ◌++◌, Option, None, Bool, false}
+use Rattle.data_component.specs.Store.{Store}
+use Rattle.scripts.specs.declared.script.Call as said
+use Rattle.tc_core.specs.Core.{Core}
+use Rattle.tc_core.specs.declared.state.Call.{Call}
+use Rattle.worker_pool.specs.declared.answer.Answer.{Answer}
+use Rattle.run_command.specs.declared.anew.Checkpoints.{Checkpoints}
+use Rattle.run_command.specs.declared.anew.Renewal.{Renewal}
+use Rattle.run_command.specs.declared.anew.Renewal.TheVariants.{Unwanted}
+use Rattle.run_command.specs.declared.answering.Halt.{Halt}
+use Rattle.run_command.specs.declared.parts.Stop.{Stop}
+use Rattle.run_command.specs.declared.parts.Stop.TheVariants.{Halted, Unreported as Untold}
+use Rattle.run_command.specs.Anew.{IsRenewal}
+use Rattle.run_command.specs.Answered.{AreCallsOf, AreAnswered, AreServed}
+use Rattle.run_command.specs.Kept.{FileJournal, HaltFits, UnreportedFits}
+
+-- calls of the first list and then of the second one that were answered so, or a log that may have begun anew
+pub data Stage : Type 0 where
+  Part : (first calls : List said.Call) → (first_answers other_answers : List Answer) → Stage
+  Anew : Renewal → Stage
+
+-- the calls that lines of both lists say were answered so on these data components
+pub record IsPart (c : Core) (dcs : List Store) (first calls : List said.Call) (first_answers other_answers : List Answer) (c' : Core) (dcs' : List Store)
+    : Type 0 where
+  pub first_calls : List Call
+  pub first_are : AreCallsOf first first_calls
+  pub other_calls : List Call
+  pub others_are : AreCallsOf calls other_calls
+  pub answered : AreAnswered c first_calls other_calls first_answers other_answers c'
+  pub served : AreServed dcs dcs'
+
+abbrev pub IsStage : Stage → Core → List Store → Core → List Store → Type 0
+IsStage (Part first calls first_answers other_answers) c dcs c' dcs' = IsPart c dcs first calls first_answers other_answers c' dcs'
+IsStage (Anew renewal) c dcs c' dcs' = IsRenewal c dcs c' dcs' renewal
+
+-- the stages, the last of which stands first, lead from the one to the other
+abbrev pub Lead : List Stage → Core → List Store → Core → List Store → Type 0
+Lead [] c dcs c' dcs' = (c' ≡ c) × (dcs' ≡ dcs)
+Lead (stage ∷ stages) c dcs c' dcs' = (m : Core) × (ms : List Store) × Lead stages c dcs m ms × IsStage stage m ms c' dcs'
+
+-- ---- what was called and answered in all stages
+
+abbrev pub first_in : Stage → List said.Call
+first_in (Part first calls first_answers other_answers) = first
+first_in (Anew renewal) = []
+
+abbrev pub calls_in : Stage → List said.Call
+calls_in (Part first calls first_answers other_answers) = calls
+calls_in (Anew renewal) = []
+
+abbrev pub first_told : Stage → List Answer
+first_told (Part first calls first_answers other_answers) = first_answers
+first_told (Anew renewal) = []
+
+abbrev pub calls_told : Stage → List Answer
+calls_told (Part first calls first_answers other_answers) = other_answers
+calls_told (Anew renewal) = []
+
+-- all of one kind, those of the last stage behind the others
+abbrev pub in_all : {X : Type 0} → (Stage → List X) → List Stage → List X
+in_all of [] = []
+in_all of (stage ∷ stages) = in_all of stages ++ of stage
+
+-- these calls were answered so by stages that lead from the one to the other
+pub record HaveLed (c : Core) (dcs : List Store) (first calls : List said.Call) (first_answers other_answers : List Answer) (c' : Core)
+    (dcs' : List Store) (stages : List Stage) : Type 0 where
+  pub lead : Lead stages c dcs c' dcs'
+  pub first_are : in_all first_in stages ≡ first
+  pub calls_are : in_all calls_in stages ≡ calls
+  pub first_told : in_all first_told stages ≡ first_answers
+  pub calls_told : in_all calls_told stages ≡ other_answers
+
+-- where the log isn't to begin anew between two parts there is one
+abbrev pub AreOne : Option ℕ → List said.Call → List said.Call → List Answer → List Answer → List Stage → Type 0
+AreOne over first calls first_answers other_answers stages = over ≡ None → stages ≡ Part first calls first_answers other_answers ∷ []
+
+-- and where it isn't behind the last call either, it doesn't
+abbrev pub IsWanted : Checkpoints → Renewal → Type 0
+IsWanted checkpoints renewal = checkpoints.over ≡ None → checkpoints.at_end ≡ false → renewal ≡ Unwanted
+
+-- why calls have no report
+abbrev pub StopFits : Option FileJournal → ℕ → ℕ → Stop → Type 0
+StopFits journal workers tries (Halted halt) = HaltFits journal workers tries halt
+StopFits journal workers tries (Untold why) = UnreportedFits journal why

@@ -1,0 +1,340 @@
+//! `run --checkpoint`: the log begins anew, in a file that takes the place of the one that has all of it.
+
+ghost use Rattle.std.specs.Prelude.{◌≡◌, ◌≢◌, List, Some, None, is_some, true, false, IsTrue, IfOk, IfErr, string_bytes};
+ghost use Rattle.data_component.specs.Store.{Store};
+ghost use Rattle.tc_core.specs.Core.{Core};
+ghost use Rattle.tc_world.specs.Cutting.{IsUncut};
+ghost use Rattle.run_command.specs.declared.anew.Renewal.TheVariants.{Unwanted};
+ghost use Rattle.run_command.specs.Anew.{AreAllRows, HasBegunAnew, IsBar, IsRenewal, renewal_line};
+ghost use Rattle.run_command.specs.declared.running.Unreported.TheVariants as Unreported;
+ghost use Rattle.run_command.specs.Kept.{FileJournal as FileJournalValue, KeepsLog, UnreportedFits};
+
+use crate::answering::FileJournal;
+use crate::running::Unreported;
+use data_component::dc::Dc;
+use disk_file::{Beside, BesideError, DiskFile, FileFault, OpenError, PlaceError};
+use log_file::{BaseRow, may_be_left};
+use log_journal::LogJournal;
+use state_lines::refusal_texts::checkpoint_fault_text;
+use std::alloc::{AllocError, Global};
+use std::fs::File;
+use std::rt::Files;
+use tc_core::beginning::CheckpointFault;
+use tc_core::state::TcState;
+use tc_log::log::Log;
+use tc_world::cutting::cut;
+use tc_world::step::Illegal;
+use worker_pool::NotKept;
+
+/// When the log of a run begins anew.
+#[derive(Clone, Copy, Debug)]
+pub struct Checkpoints {
+    /// Behind the last call.
+    pub at_end: bool,
+    /// At the beginning, between parts of the calls and behind the last, where the log's file has more bytes than
+    /// this.
+    pub over: Option<u64>,
+}
+
+impl Checkpoints {
+    /// Never.
+    pub const NONE: Checkpoints = Checkpoints {
+        at_end: false,
+        over: None,
+    };
+
+    /// From how many bytes on it does behind the last call.
+    pub fn over_at_end(&self) -> Option<u64>
+        ensures { self.now.over ≡ None → self.now.at_end ≡ false → result ≡ None }
+    {
+        if self.at_end { Some(0) } else { self.over }
+    }
+}
+
+/// What calls are run on: a transaction component's state, its data components, and the journal of its log, if
+/// there is one.
+#[derive(Drop)]
+pub struct Ground {
+    pub state: TcState,
+    pub dcs: Vec<Dc>,
+    pub journal: Option<FileJournal>,
+}
+
+/// Why a log doesn't begin anew, and goes on as it is.
+#[derive(Clone, Copy, Debug, PartialEq, Eq)]
+pub enum Bar {
+    /// The transaction component's reason: transactions are open, in doubt or stuck, say.
+    Fault(CheckpointFault),
+    /// This data component can't forget what it has performed: it has more records than it has room for.
+    Unforgettable(usize),
+    /// The file beside LOG, under its name with `.new` behind it, isn't one that this program left there, or it
+    /// can't be opened.
+    InTheWay,
+}
+
+/// What came of a log that may begin anew.
+#[derive(Clone, Copy, Debug, PartialEq, Eq)]
+pub enum Renewal {
+    /// It isn't to.
+    Unwanted,
+    /// It did.
+    Begun,
+    Barred(Bar),
+}
+
+/// The line of what came of it.
+pub fn renewal_line(alloc: Global, renewal: Renewal, state: &TcState) -> Result<String, AllocError>
+    ensures { IfOk result (λ s. string_bytes s ≡ renewal_line state.now.events renewal) }
+{
+    match renewal {
+        Renewal::Unwanted => Ok(String::new(alloc)),
+        Renewal::Begun => {
+            let admitted = state.admitted();
+            let given = state.begun();
+            format!(in alloc; "checkpoint {admitted} {given}\n")
+        }
+        Renewal::Barred(Bar::Fault(fault)) => {
+            let fault = checkpoint_fault_text(alloc, &fault)?;
+            format!(in alloc; "no checkpoint {fault}\n")
+        }
+        Renewal::Barred(Bar::Unforgettable(dc)) => {
+            format!(in alloc; "no checkpoint NoRoom dc {dc}\n")
+        }
+        Renewal::Barred(Bar::InTheWay) => String::from_str(alloc, "no checkpoint LOG.new\n"),
+    }
+}
+
+// Why a log that isn't cut goes on as it is.
+fn bar_of(why: Illegal) -> Result<Bar, Unreported>
+    ensures bar { (c : Core) (dcs : List Store) → IsUncut c dcs why → IfOk result (IsBar c dcs) }
+    ensures fault { IfErr result (λ e. e ≡ Unreported.Memory) }
+{
+    match why {
+        Illegal::NotCut(fault) => Ok(Bar::Fault(fault)),
+        Illegal::Unforgettable(dc) => Ok(Bar::Unforgettable(dc)),
+        _ => Err(Unreported::Memory),
+    }
+}
+
+// The records of all data components.
+fn base_of(alloc: Global, dcs: &[Dc]) -> Result<Vec<BaseRow>, AllocError>
+    ensures { IfOk result (λ base. AreAllRows dcs.now base.items) }
+{
+    let mut base = Vec::new(alloc);
+    'dcs: for dc in dcs {
+        base.extend_from_slice(dc.rows())?;
+    }
+    Ok(base)
+}
+
+// Opens the file beside the log's, if it may be written over: it is empty, or what a run left that was cut
+// short.
+fn open_beside<F: Files<File = File>>(
+    rt: &F,
+    alloc: Global,
+    path: &str,
+    journal: &FileJournal,
+) -> Result<Option<Beside>, AllocError> {
+    match Beside::open(rt, alloc, path) {
+        Ok(beside) => {
+            if may_be_left(alloc, journal.header(), beside.bytes())? {
+                Ok(Some(beside))
+            } else {
+                drop(beside);
+                Ok(None)
+            }
+        }
+        Err(BesideError::Open(OpenError::Memory)) => Err(AllocError),
+        Err(_) => Ok(None),
+    }
+}
+
+// Why a file that was to be written anew isn't.
+fn unopened(error: OpenError) -> Unreported
+    ensures { (journal : FileJournalValue) → UnreportedFits (Some journal) result }
+{
+    match error {
+        OpenError::Unread(fault) => Unreported::NotKept(Some(fault)),
+        OpenError::Unwritten(error) => Unreported::NotKept(Some(FileFault::Io(error))),
+        OpenError::Memory => Unreported::Memory,
+        OpenError::Busy | OpenError::Kind(_) => Unreported::NotKept(None),
+    }
+}
+
+// Why the new file isn't in the old one's place.
+fn unplaced(error: PlaceError) -> Unreported
+    ensures { (journal : FileJournalValue) → UnreportedFits (Some journal) result }
+{
+    match error {
+        PlaceError::Kept(fault) => Unreported::NotKept(Some(fault)),
+        PlaceError::Unsynced(error) => Unreported::NotKept(Some(FileFault::Io(error))),
+    }
+}
+
+// Writes the log and the records of the data components into the file beside the journal's.
+fn write_beside<F: Files<File = File>>(
+    rt: &F,
+    alloc: Global,
+    path: &str,
+    beside: Beside,
+    journal: &FileJournal,
+    log: &Log,
+    dcs: &[Dc],
+) -> Result<FileJournal, Unreported>
+    ensures kept { IfOk result (λ new. HasBegunAnew dcs.now log.now.events new) }
+    ensures fault { IfErr result (UnreportedFits (Some journal.now)) }
+{
+    let base = base_of(alloc, dcs)?;
+    let device = match beside.emptied(rt, alloc, path, journal.device()) {
+        Ok(device) => device,
+        Err(error) => return Err(unopened(error)),
+    };
+    let header = *journal.header();
+    let (new, kept) = LogJournal::begin_anew(alloc, device, header, base.as_slice(), log);
+    match kept {
+        Ok(()) => Ok(new),
+        Err(why) => {
+            new.device().give_up_place(rt, alloc, path);
+            let failure = new.device().failure();
+            drop(new);
+            Err(match why {
+                NotKept::Memory => Unreported::Memory,
+                NotKept::Failed => Unreported::NotKept(failure),
+            })
+        }
+    }
+}
+
+// Writes them, and puts that file in the place of the journal's.
+fn write_anew<F: Files<File = File>>(
+    rt: &F,
+    alloc: Global,
+    path: &str,
+    beside: Beside,
+    journal: FileJournal,
+    log: &Log,
+    dcs: &[Dc],
+) -> Result<FileJournal, Unreported>
+    ensures kept { IfOk result (λ new. HasBegunAnew dcs.now log.now.events new) }
+    ensures fault { IfErr result (UnreportedFits (Some journal)) }
+{
+    let written = write_beside(rt, alloc, path, beside, &journal, log, dcs);
+    let placed = match written {
+        Ok(new) => match new.device().take_place(rt, alloc, path, journal.device()) {
+            Ok(()) => Ok(new),
+            Err(error) => {
+                drop(new);
+                Err(unplaced(error))
+            }
+        },
+        Err(fault) => Err(fault),
+    };
+    drop(journal);
+    placed
+}
+
+// Takes the file beside the log's away again.
+fn give_up<F: Files<File = File>>(
+    rt: &F,
+    alloc: Global,
+    path: &str,
+    beside: Beside,
+    journal: &FileJournal,
+) {
+    if let Ok(new) = beside.emptied(rt, alloc, path, journal.device()) {
+        new.give_up_place(rt, alloc, path);
+    }
+}
+
+// Begins the log anew, if nothing bars it.
+fn begin_anew<F: Files<File = File>>(
+    rt: &F,
+    alloc: Global,
+    path: &str,
+    mut state: TcState,
+    mut dcs: Vec<Dc>,
+    journal: FileJournal,
+) -> Result<(Ground, Renewal), Unreported>
+    ensures goes { IfOk result (λ r. IsRenewal state dcs.items r.0.state r.0.dcs.items r.1) }
+    ensures kept { KeepsLog (Some journal) state.events → IfOk result (λ r. KeepsLog r.0.journal r.0.state.events) }
+    ensures same { IfOk result (λ r. is_some r.0.journal ≡ true) }
+    ensures fault { IfErr result (UnreportedFits (Some journal)) }
+{
+    let Some(beside) = open_beside(rt, alloc, path, &journal)? else {
+        let ground = Ground {
+            state,
+            dcs,
+            journal: Some(journal),
+        };
+        return Ok((ground, Renewal::Barred(Bar::InTheWay)));
+    };
+    match cut(alloc, &mut state, &mut dcs) {
+        Ok(()) => {
+            let log = state.log();
+            let journal = write_anew(rt, alloc, path, beside, journal, log, dcs.as_slice())?;
+            let ground = Ground {
+                state,
+                dcs,
+                journal: Some(journal),
+            };
+            Ok((ground, Renewal::Begun))
+        }
+        Err(why) => {
+            give_up(rt, alloc, path, beside, &journal);
+            let bar = bar_of(why)?;
+            let ground = Ground {
+                state,
+                dcs,
+                journal: Some(journal),
+            };
+            Ok((ground, Renewal::Barred(bar)))
+        }
+    }
+}
+
+// Whether the log's file has more bytes than this.
+fn is_over(journal: &Option<FileJournal>, over: Option<u64>) -> bool
+    ensures { IsTrue result → over ≢ None }
+{
+    match (journal, over) {
+        (Some(journal), Some(over)) => journal.device().len() > over,
+        _ => false,
+    }
+}
+
+/// Begins the log anew where there is a journal whose file has more bytes than this, if that is given, and nothing
+/// bars it: the file that has all of it stays where it is until the new one is synced, and a crash leaves the one
+/// or the other. `Err` ends the run: then the state has a log that no file has.
+pub fn renew<F: Files<File = File>>(
+    rt: &F,
+    alloc: Global,
+    path: &str,
+    over: Option<u64>,
+    ground: Ground,
+) -> Result<(Ground, Renewal), Unreported>
+    ensures goes { IfOk result (λ r. IsRenewal ground.state ground.dcs.items r.0.state r.0.dcs.items r.1) }
+    ensures unwanted { IfOk result (λ r. over ≡ None → r.1 ≡ Unwanted) }
+    ensures kept { KeepsLog ground.journal ground.state.events → IfOk result (λ r. KeepsLog r.0.journal r.0.state.events) }
+    ensures same { IfOk result (λ r. is_some r.0.journal ≡ is_some ground.journal) }
+    ensures fault { IfErr result (UnreportedFits ground.journal) }
+{
+    if !is_over(&ground.journal, over) {
+        return Ok((ground, Renewal::Unwanted));
+    }
+    let Ground {
+        state,
+        dcs,
+        journal,
+    } = ground;
+    match journal {
+        Some(journal) => begin_anew(rt, alloc, path, state, dcs, journal),
+        None => {
+            let ground = Ground {
+                state,
+                dcs,
+                journal: None,
+            };
+            Ok((ground, Renewal::Unwanted))
+        }
+    }
+}
