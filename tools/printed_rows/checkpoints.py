@@ -1,0 +1,43 @@
+"""`run --log LOG` where LOG begins anew."""
+import atexit
+import pathlib
+import tempfile
+
+from procedures import PUT
+from .row import Row
+
+SCRIPT = "dc 4 100\n" + PUT
+CALLS = "first put 1 7\ncall put 2 9\n"  # an insert each
+TOLD = "first 0 committed\ncall 0 committed\n"
+ROWS = "row 0/0/1 7\nrow 0/0/2 9\n"
+
+
+def rows(_program):
+    """What is printed of checkpoints, each of a log of its own."""
+    folder = tempfile.TemporaryDirectory(prefix="checkpoints-")
+    atexit.register(folder.cleanup)
+    place = pathlib.Path(folder.name)
+    script, empty = place / "script", place / "empty"
+    script.write_text(SCRIPT + CALLS)
+    empty.write_text(SCRIPT)
+
+    def run(name, printed, *words, text=script):
+        return Row(["run", "--log", str(place / name), *words, str(text)], b"", printed.encode(), 0)
+
+    yield run("one", TOLD + "checkpoint 2 2\n" + ROWS, "--checkpoint")
+    yield run("two", TOLD + "checkpoint 2 2\n" + ROWS, "--checkpoint-over", "100")
+    yield run("three", TOLD + ROWS, "--checkpoint-over", "100000")
+    yield run("four", TOLD + "checkpoint 2 2\n" + ROWS, "--checkpoint-over", "100000", "--checkpoint")
+    yield run("five", "no checkpoint G1 Nothing\n", "--checkpoint", text=empty)
+    (place / "six").write_bytes(b"")
+    (place / "six.new").write_text("somebody else's\n")
+    yield run("six", TOLD + "no checkpoint LOG.new\n" + ROWS, "--checkpoint")
+    (place / "seven").write_bytes(b"")
+    (place / "seven.new").mkdir()
+    yield run("seven", TOLD + "no checkpoint LOG.new\n" + ROWS, "--checkpoint")
+    (place / "eight").write_bytes(b"")
+    (place / "eight.new").write_bytes(bytes(40))  # zeros, as a crash leaves them
+    yield run("eight", TOLD + "checkpoint 2 2\n" + ROWS, "--checkpoint")
+    yield Row(["run", "--checkpoint", str(script)], b"", b"", 2, b"error: run takes --checkpoint and --checkpoint-over with --log alone")
+    yield Row(["run", "--checkpoint-over", "9", str(script)], b"", b"", 2, b"error: run takes --checkpoint and --checkpoint-over with --log alone")
+    yield Row(["run", "--log", str(place / "nine"), "--checkpoint-over", "x", str(script)], b"", b"", 2, b"error: an ARG")
