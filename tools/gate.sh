@@ -49,7 +49,7 @@ for how in "" --forget --control; do
     tried tools/crashes.py --kills 5 --moves 1000 $how
 done
 for how in "" --forget --control; do
-    tried tools/cut_crashes.py --kills 10 $how
+    tried tools/cut_crashes.py --kills 20 $how
 done
 tried tools/foreign_files.py --files 500
 tried tools/cut_logs.py --files 500
