@@ -173,7 +173,13 @@ const CHECKPOINT: Event = Event::Checkpoint {
 
 // The bytes of a file in which the log begins anew with these records, if it does.
 fn begun_anew(rt: &impl Abort, alloc: Global, base: &[BaseRow], log: &Log) -> Option<Vec<u8>> {
-    let (journal, kept) = LogJournal::begin_anew(alloc, memory(rt, alloc, &[]), HEADER, base, log);
+    let (journal, kept) = LogJournal::begin_anew(
+        alloc,
+        Memory::new(alloc, Vec::new(alloc)),
+        HEADER,
+        base,
+        log,
+    );
     let bytes = bytes_of(rt, alloc, journal);
     kept.is_ok().then_some(bytes)
 }
@@ -185,31 +191,27 @@ fn a_log_that_begins_anew_is_read_with_its_records(rt: HostRuntime) {
     let log = log_of(&rt, alloc, CHECKPOINT);
     let bytes = begun_anew(&rt, alloc, &base, &log).expect(&rt, "not begun");
     drop(log);
-    match LogJournal::open(alloc, memory(&rt, alloc, bytes.as_slice()), HEADER) {
-        Ok(
-            (
-                journal,
-                Restored {
-                    base: Some(found),
-                    log,
-                },
-            ),
-        ) => {
-            drop(journal);
-            assert_eq!(&rt; found.as_slice(), &base[..]);
-            assert!(&rt;
-                matches!(
-                    log.at(0),
-                    Some(Event::Checkpoint {
-                        admitted: 3,
-                        given: 9
-                    })
-                )
-            );
-            assert_eq!(&rt; log.len(), 1);
-        }
-        _ => panic!(&rt; "not read"),
-    }
+    let Ok((journal, restored)) = LogJournal::open(
+        alloc,
+        memory(&rt, alloc, bytes.as_slice()),
+        HEADER,
+    ) else {
+        panic!(&rt; "not read");
+    };
+    drop(journal);
+    let Restored { base: found, log } = restored;
+    let found = found.expect(&rt, "no records");
+    assert_eq!(&rt; found.as_slice(), &base[..]);
+    assert!(&rt;
+        matches!(
+            log.at(0),
+            Some(Event::Checkpoint {
+                admitted: 3,
+                given: 9
+            })
+        )
+    );
+    assert_eq!(&rt; log.len(), 1);
     // What a crash leaves of it may be written over, and says no log; its first 8 bytes are those of any log's file.
     for end in 0..bytes.len() {
         let torn = bytes.get(..end).unwrap_or_default();
