@@ -116,7 +116,7 @@ fn frame_ends(alloc: Global, bytes: &[u8]) -> Option<Vec<usize>> {
 // A file with so many events; where it was cut, they stand behind a checkpoint.
 fn whole_file(alloc: Global, events: u64, is_cut: bool) -> Option<Written> {
     let mut file = LogFile::new(Memory::new(alloc, Vec::new(alloc)));
-    let Err(OpenFault::Empty) = file.open(alloc, &HEADER) else {
+    let Err(OpenFault::Empty) = file.open(alloc, &HEADER, &[]) else {
         return None;
     };
     let mut rows = Vec::new(alloc);
@@ -143,9 +143,10 @@ fn whole_file(alloc: Global, events: u64, is_cut: bool) -> Option<Written> {
 
 impl Written {
     // What these bytes are read as; `None` where memory ran out.
-    fn read(&self, alloc: Global, bytes: Vec<u8>) -> Option<Found> {
-        let mut file = LogFile::new(Memory::new(alloc, bytes));
-        match file.open(alloc, &HEADER) {
+    fn read(&self, alloc: Global, bytes: &[u8]) -> Option<Found> {
+        let copy = Vec::from_slice(alloc, bytes).ok()?;
+        let mut file = LogFile::new(Memory::new(alloc, copy));
+        match file.open(alloc, &HEADER, bytes) {
             Ok(found) => {
                 let again = found.log.print(alloc).ok()?;
                 let begins = self.rows.as_slice().starts_with(&again);
@@ -194,8 +195,7 @@ impl Written {
 
     // A file that is cut short is a beginning.
     fn truncate(&self, alloc: Global, len: usize, tried: &mut Tried) -> Option<()> {
-        let front = Vec::from_slice(alloc, self.bytes.get(..len)?).ok()?;
-        let found = self.read(alloc, front)?;
+        let found = self.read(alloc, self.bytes.get(..len)?)?;
         tried.truncations = tried.truncations.wrapping_add(1);
         tried.take(found, self.front_of(len));
         Some(())
@@ -220,7 +220,7 @@ impl Written {
         let frame = self.whole(place);
         let is_last = frame.saturating_add(1) == self.ends.len();
         let is_end = is_last && self.is_end(&changed, place)?;
-        let found = self.read(alloc, changed)?;
+        let found = self.read(alloc, &changed)?;
         tried.changes = tried.changes.wrapping_add(1);
         let wanted = if is_end {
             self.rows_of(frame)

@@ -6,6 +6,7 @@ mod audits;
 mod calls;
 mod checks;
 mod code;
+mod cuts;
 mod damaged;
 mod doubts;
 mod locks;
@@ -53,6 +54,8 @@ const USAGE: &str = "usage:
   bench storm SEED WORKERS CALLS       the same over a link that loses, repeats, delays, forges and answers late, to a
                                        data component that keeps checkpoints and restarts, and an audit of it
   bench trace SEED WORKERS CALLS       the same, and the events of its log, 192 hex digits each
+  bench cuts SEED WORKERS CALLS        the same as trace in parts of 100 calls, between which the log begins anew where
+                                       it may: the events of each log are a line of their own
   bench restarts SEED WORKERS CALLS    the same as trace over a link that loses nothing, to a data component that keeps
                                        a checkpoint at every fifth wire and restarts at every seventh
   bench damaged EVENTS                 writes a log of EVENTS events in frames of 40, and reads the file cut at each

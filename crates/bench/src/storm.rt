@@ -96,6 +96,11 @@ impl Storm {
         }
     }
 
+    /// The data component, where no worker is at work.
+    pub fn dc_mut(&mut self) -> &mut Dc {
+        self.dc.get_mut()
+    }
+
     /// The data component as it is.
     pub fn into_dc(self) -> Dc {
         let Storm { dc, .. } = self;

@@ -2,6 +2,7 @@
 
 use crate::audits::audit_line;
 use crate::calls::{RECORDS, moves, puts, store};
+use crate::cuts::run_parts;
 use crate::procedures::state;
 use crate::storm::{Calm, Regular, Storm};
 use data_component::dc::Dc;
@@ -32,6 +33,8 @@ pub enum Weather {
     Traced,
     /// A link that loses nothing, and a data component that restarts all the time; the log is asked for.
     Regular,
+    /// A storm, in which the log begins anew now and then; it is asked for.
+    Cut,
 }
 
 impl Weather {
@@ -41,13 +44,35 @@ impl Weather {
             "storm" => Some(Weather::Storm),
             "trace" => Some(Weather::Traced),
             "restarts" => Some(Weather::Regular),
+            "cuts" => Some(Weather::Cut),
             _ => None,
         }
     }
 }
 
+impl Ended {
+    /// Those of both.
+    pub fn with(&self, more: &Ended) -> Ended {
+        Ended {
+            committed: self.committed.wrapping_add(more.committed),
+            in_doubt: self.in_doubt.wrapping_add(more.in_doubt),
+            blocked: self.blocked.wrapping_add(more.blocked),
+            other: self.other.wrapping_add(more.other),
+        }
+    }
+}
+
+/// What calls left: a state, how they ended, and as hex text, a line each, the events of the logs behind which
+/// others began anew.
+#[derive(Drop)]
+pub struct Behind {
+    pub state: TcState,
+    pub ended: Ended,
+    pub earlier: String,
+}
+
 /// How the calls ended, how often the data component restarted, a line of the audit, and where they
-/// are asked for the events of the log as hex text.
+/// are asked for the events of the log as hex text, a line for each log that began.
 #[derive(Drop)]
 pub struct Weathered {
     pub ended: Ended,
@@ -56,8 +81,8 @@ pub struct Weathered {
     pub log: String,
 }
 
-// A number is sent so often at most.
-const TRIES: u64 = 10;
+/// A number is sent so often at most.
+pub const TRIES: u64 = 10;
 
 fn count(state: &TcState, answer: &Answer, ended: &mut Ended) {
     let counter = match answer {
@@ -69,7 +94,8 @@ fn count(state: &TcState, answer: &Answer, ended: &mut Ended) {
     *counter = counter.wrapping_add(1);
 }
 
-fn counted(report: &Report) -> Ended {
+/// How the calls of a report ended.
+pub fn counted(report: &Report) -> Ended {
     let mut ended = Ended::default();
     for answer in &report.answers {
         count(&report.state, answer, &mut ended);
@@ -77,12 +103,9 @@ fn counted(report: &Report) -> Ended {
     ended
 }
 
-// The events of the report's log as hex text, where they are asked for.
-fn events(alloc: Global, report: &Report, weather: Weather) -> Option<String> {
-    if weather == Weather::Storm {
-        return Some(String::new(alloc));
-    }
-    let bytes = report.state.log().print(alloc).ok()?;
+/// The events of the state's log as hex text.
+pub fn events(alloc: Global, state: &TcState) -> Option<String> {
+    let bytes = state.log().print(alloc).ok()?;
     hex::encode(alloc, bytes).ok()
 }
 
@@ -132,6 +155,18 @@ fn put_all<R: Threads + Wait + Sync>(
     .ok()
 }
 
+// What a report leaves.
+fn left_by(alloc: Global, report: Report) -> Behind {
+    let ended = counted(&report);
+    let Report { state, answers } = report;
+    drop(answers);
+    Behind {
+        state,
+        ended,
+        earlier: String::new(alloc),
+    }
+}
+
 // Runs the calls over the storm, or over its data component alone.
 fn run_all<R: Threads + Wait + Sync>(
     rt: &R,
@@ -139,31 +174,48 @@ fn run_all<R: Threads + Wait + Sync>(
     state: TcState,
     calls: &[Call],
     workers: usize,
-    storm: &Storm,
+    storm: &mut Storm,
     weather: Weather,
-) -> Option<Report> {
-    if weather == Weather::Regular {
-        let carried = AtomicU64::new(0);
-        let link = Regular { storm, carried };
-        return run(rt, alloc, state, calls, workers, TRIES, &link, &OpenGate).ok();
+) -> Option<Behind> {
+    let ran = match weather {
+        Weather::Cut => return run_parts(rt, alloc, state, calls, workers, storm),
+        Weather::Regular => {
+            let carried = AtomicU64::new(0);
+            let link = Regular { storm, carried };
+            run(rt, alloc, state, calls, workers, TRIES, &link, &OpenGate)
+        }
+        Weather::Storm | Weather::Traced => {
+            run(rt, alloc, state, calls, workers, TRIES, storm, &OpenGate)
+        }
+    };
+    Some(left_by(alloc, ran.ok()?))
+}
+
+// The logs of what calls left, where they are asked for.
+fn logs(alloc: Global, state: &TcState, earlier: String, weather: Weather) -> Option<String> {
+    let mut logs = earlier;
+    if weather != Weather::Storm {
+        logs.push_str(events(alloc, state)?.as_str()).ok()?;
     }
-    run(rt, alloc, state, calls, workers, TRIES, storm, &OpenGate).ok()
+    Some(logs)
 }
 
 // What came of a run, and of its data component.
-fn outcome(alloc: Global, report: Report, dc: Dc, weather: Weather) -> Option<Weathered> {
-    let ended = counted(&report);
+fn outcome(alloc: Global, behind: Behind, dc: Dc, weather: Weather) -> Option<Weathered> {
+    let Behind {
+        mut state,
+        ended,
+        earlier,
+    } = behind;
     let restarts = dc.incarnation();
-    let log = events(alloc, &report, weather)?;
-    let Report { mut state, answers } = report;
-    drop(answers);
+    let log = logs(alloc, &state, earlier, weather);
     let audit = audited(alloc, &mut state, dc);
     drop(state);
     Some(Weathered {
         ended,
         restarts,
         audit: audit?,
-        log,
+        log: log?,
     })
 }
 
@@ -180,10 +232,10 @@ pub fn repeat<R: Threads + Wait + Sync>(
 ) -> Option<Weathered> {
     let puts = puts(alloc, RECORDS)?;
     let moves = moves(alloc, calls)?;
-    let storm = Storm::new(store(alloc, calls)?, seed);
+    let mut storm = Storm::new(store(alloc, calls)?, seed);
     let before = put_all(rt, alloc, puts.as_slice(), &storm)?;
     let workers = workers as usize;
     let moves = moves.as_slice();
-    let report = run_all(rt, alloc, before.state, moves, workers, &storm, weather)?;
-    outcome(alloc, report, storm.into_dc(), weather)
+    let behind = run_all(rt, alloc, before.state, moves, workers, &mut storm, weather)?;
+    outcome(alloc, behind, storm.into_dc(), weather)
 }

@@ -1,8 +1,8 @@
 -- One call more.
-use Rattle.std.proofs.Common.{◌≡◌, ◌⊎◌, inl, inr, ℕ, zero, suc, ◌+◌, ◌*◌, ◌<◌, ◌≤◌, List, [], ◌∷◌, ◌++◌, length, take, drop, refl, sym, ap, subst, arith}
+use Rattle.std.proofs.Common.{◌≡◌, ◌⊎◌, inl, inr, ℕ, zero, suc, ◌*◌, List, [], ◌∷◌, length, take, drop, refl, sym, subst, arith}
 use Rattle.std.proofs.lemmas.List.{append-nil, take_all}
 use Rattle.frame_file.specs.Device.{Elapses, Follows, Torn, Cut, Only, word_at}
-use Rattle.disk_file.specs.Events.{Call, Opened, Appended, CutTo, Synced, Unsynced, Event, MayLeave, LeftSince, left_by}
+use Rattle.disk_file.specs.Events.{Appended, CutTo, Synced, Unsynced, Event, written_by, MayLeave, LeftSince}
 
 abbrev pub Events : Type 0
 Events = List Event
@@ -48,12 +48,12 @@ not_appended events bytes c left = (
 pub cut_to : (events new : Events) (n fault : ℕ) → new ≡ record { call = CutTo n; fault = fault } ∷ events → Follows (Cut n) (MayLeave events) (MayLeave new)
 cut_to events new n fault is = subst (λ (l : Events). Follows (Cut n) (MayLeave events) (MayLeave l)) (sym is) (λ c left. left)
 
-pub synced : (events new : Events) (file : List ℕ) (fault : ℕ) → new ≡ record { call = Synced file; fault = fault } ∷ events → Only file (MayLeave new)
-synced events new file fault is = subst (λ (l : Events). Only file (MayLeave l)) (sym is) (λ c left. left.0)
+pub synced : (events new : Events) (fault : ℕ) → new ≡ record { call = Synced; fault = fault } ∷ events → Only (written_by events) (MayLeave new)
+synced events new fault is = subst (λ (l : Events). Only (written_by events) (MayLeave l)) (sym is) (λ c left. left.0)
 
-pub synced_within : (events new : Events) (file : List ℕ) (fault : ℕ) → new ≡ record { call = Synced file; fault = fault } ∷ events
+pub synced_within : (events new : Events) (fault : ℕ) → new ≡ record { call = Synced; fault = fault } ∷ events
     → (c : List ℕ) → MayLeave new c → MayLeave events c
-synced_within events new file fault is c left = (let there : MayLeave (record { call = Synced file; fault = fault } ∷ events) c = subst (λ (l : Events). MayLeave l c) is left in there.1)
+synced_within events new fault is c left = (let there : MayLeave (record { call = Synced; fault = fault } ∷ events) c = subst (λ (l : Events). MayLeave l c) is left in there.1)
 
 pub unsynced_within : (events new : Events) (fault : ℕ) → new ≡ record { call = Unsynced; fault = fault } ∷ events → (c : List ℕ) → MayLeave new c → MayLeave events c
 unsynced_within events new fault is c left = (let there : MayLeave (record { call = Unsynced; fault = fault } ∷ events) c = subst (λ (l : Events). MayLeave l c) is left in there)

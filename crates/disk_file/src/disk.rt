@@ -1,14 +1,14 @@
 // A file of the operating system.
 
-ghost use Rattle.std.specs.Prelude.{◌≡◌, ◌≤◌, ◌+◌, ◌++◌, length, drop, IfOk, OnOk, OnErr};
+ghost use Rattle.std.specs.Prelude.{◌≡◌, ◌+◌, ◌++◌, length, IfOk, OnOk};
 ghost use Rattle.frame_file.specs.Device.{Only, HasCause};
 ghost use Rattle.disk_file.specs.Disk.{disk_bytes, left_of, kept_of};
-ghost use Rattle.disk_file.specs.Events.{MayLeave, LeftSince, pieces_in, fault_count, counted, alone};
+ghost use Rattle.disk_file.specs.Events.{written_by, MayLeave, LeftSince, fault_count, counted, alone};
 
+use crate::calls::Calls;
 use crate::fault::FileFault;
 use crate::record::Record;
 use frame_file::{Device, DeviceError};
-use std::alloc::Global;
 use std::fs::{self, File};
 use std::io::{self, ErrorKind, Write};
 use std::os::unix::fs::MetadataExt;
@@ -23,23 +23,36 @@ const CUT: u64 = 2;
 
 const SYNCED: u64 = 3;
 
-const UNSYNCED: u64 = 4;
+const KEPT: u64 = 4;
+
+const UNSYNCED: u64 = 5;
 
 /// An open file of the operating system. Each method makes the call of the system that it notes; what a
 /// crash leaves behind these calls is what a device says. Behind each sync it is looked at whether the file
-/// still has a name, and the length of what was read and written: else the sync has failed.
+/// still has a name, and the length of what was read and written: else the sync has failed. Of the bytes it
+/// knows only how many they are.
 #[derive(Drop)]
 pub struct DiskFile {
     file: File,
-    // what was read when it was opened, and what was appended since
-    bytes: Vec<u8>,
-    calls: Record,
+    calls: Calls,
     // where what is cut off is kept, how many bytes that are, and the calls of that file
     dropped: Option<File>,
     cut_off: usize,
     kept: Record,
     // why the last call failed that did
     failure: Option<FileFault>,
+}
+
+// Writes behind the last byte of a file of this length, and says how long it is then. No file is longer than a
+// machine counts.
+fn write_behind(file: &mut File, len: u64, bytes: &[u8]) -> io::Result<u64>
+    ensures { IfOk result (λ new. new ≡ len + length bytes.now) }
+{
+    let Some(new) = len.checked_add(bytes.len() as u64) else {
+        return Err(io::Error::from(ErrorKind::FileTooLarge));
+    };
+    file.write_all(bytes)?;
+    Ok(new)
 }
 
 // Writes behind the last byte, and syncs.
@@ -50,15 +63,14 @@ fn write_synced(file: &mut File, bytes: &[u8]) -> io::Result<()> {
 
 impl DiskFile {
     /// Of a file that was read as these bytes, and synced.
-    pub(crate) fn settled(file: File, bytes: Vec<u8>) -> DiskFile
-        ensures bytes { disk_bytes result ≡ bytes.items }
+    pub(crate) fn settled(file: File, bytes: &[u8]) -> DiskFile
+        ensures bytes { disk_bytes result ≡ bytes.now }
         ensures settled { Only (disk_bytes result) (left_of result) }
     {
-        let mut calls = Record::new();
-        calls.note(&[OPENED, 0, 0], &bytes);
+        let mut calls = Calls::new();
+        calls.note(&[OPENED, 0, 0], bytes, bytes.len() as u64);
         DiskFile {
             file,
-            bytes,
             calls,
             dropped: None,
             cut_off: 0,
@@ -75,15 +87,12 @@ impl DiskFile {
         self.dropped = Some(dropped);
     }
 
-    // Keeps what stands from this place on.
-    fn keep(&mut self, len: usize) -> Result<(), DeviceError>
-        requires { len ≤ length (disk_bytes self.old) }
-        ensures kept { OnOk result (kept_of self.new ≡ kept_of self.old ++ drop len (disk_bytes self.old)) }
-        ensures bytes { self.new.bytes ≡ self.old.bytes }
+    // Keeps what is to be cut off.
+    fn keep(&mut self, end: &[u8]) -> Result<(), DeviceError>
+        ensures kept { OnOk result (kept_of self.new ≡ kept_of self.old ++ end.now) }
         ensures calls { self.new.calls ≡ self.old.calls }
         ensures cause { HasCause (fault_count self.old.kept.events) (fault_count self.new.kept.events) result }
     {
-        let end = &self.bytes[len..];
         if end.is_empty() {
             return Ok(());
         }
@@ -95,7 +104,7 @@ impl DiskFile {
             self.failure = Some(FileFault::Io(error));
             return Err(DeviceError::Failed);
         }
-        self.kept.note(&[SYNCED, 0, 0], end);
+        self.kept.note(&[KEPT, 0, 0], end);
         self.cut_off = self.cut_off.saturating_add(end.len());
         Ok(())
     }
@@ -133,7 +142,7 @@ impl DiskFile {
     pub fn len(&self) -> u64
         ensures { result ≡ length (disk_bytes self.now) }
     {
-        self.bytes.len() as u64
+        self.calls.len()
     }
 
     // Syncs the file, and looks whether it is there as it was written.
@@ -143,72 +152,65 @@ impl DiskFile {
         if known.nlink() == 0 {
             return Err(FileFault::Gone);
         }
-        if known.len() != self.bytes.len() as u64 {
+        if known.len() != self.len() {
             return Err(FileFault::Resized);
         }
         Ok(())
     }
-
-    /// What a read returns.
-    pub fn bytes(&self) -> &[u8]
-        ensures { result.now ≡ disk_bytes self.now }
-    {
-        &self.bytes
-    }
 }
 
 impl Device for DiskFile {
-    ghost seen = { λ d. d.bytes.items };
+    ghost seen = { λ d. written_by d.calls };
 
-    ghost may_leave = { λ d c. MayLeave d.calls.events c };
+    ghost may_leave = { λ d c. MayLeave d.calls c };
 
-    ghost moment = { λ d. length d.calls.events };
+    ghost moment = { λ d. length d.calls };
 
-    ghost left_since = { λ d t c. LeftSince d.calls.events t c };
+    ghost left_since = { λ d t c. LeftSince d.calls t c };
 
-    ghost faults = { λ d. fault_count d.calls.events + fault_count d.kept.events };
+    ghost faults = { λ d. fault_count d.calls + fault_count d.kept.events };
 
     ghost kept = { λ d. kept_of d };
 
-    ghost counts_now = { λ d t c le now. counted d.calls.events t c now };
+    ghost counts_now = { λ d t c le now. counted d.calls t c now };
 
-    ghost only_now = { λ d c left. alone d.calls.events c left };
-
-    fn read(&mut self, alloc: Global) -> Result<Vec<u8>, DeviceError> {
-        Ok(self.bytes.to_vec(alloc)?)
-    }
+    ghost only_now = { λ d c left. alone d.calls c left };
 
     fn append(&mut self, bytes: &[u8]) -> Result<(), DeviceError> {
-        // Memory first: what is written has to be known.
-        self.bytes.reserve(bytes.len())?;
-        if let Err(error) = self.file.write_all(bytes) {
-            self.calls.note(&[APPENDED, 1, 0], bytes);
-            self.failure = Some(FileFault::Io(error));
-            return Err(DeviceError::Failed);
+        let len = self.calls.len();
+        match write_behind(&mut self.file, len, bytes) {
+            Ok(new) => {
+                self.calls.note(&[APPENDED, 0, 0], bytes, new);
+                Ok(())
+            }
+            Err(error) => {
+                self.calls.note(&[APPENDED, 1, 0], bytes, len);
+                self.failure = Some(FileFault::Io(error));
+                Err(DeviceError::Failed)
+            }
         }
-        self.calls.note(&[APPENDED, 0, 0], bytes);
-        Ok(self.bytes.extend_from_slice(bytes)?)
     }
 
-    fn cut(&mut self, len: usize) -> Result<(), DeviceError> {
-        self.keep(len)?;
+    fn cut(&mut self, len: usize, end: &[u8]) -> Result<(), DeviceError> {
+        self.keep(end)?;
         if let Err(error) = self.file.set_len(len as u64) {
-            self.calls.note(&[CUT, 1, len as u64], &[]);
+            let before = self.calls.len();
+            self.calls.note(&[CUT, 1, len as u64], &[], before);
             self.failure = Some(FileFault::Io(error));
             return Err(DeviceError::Failed);
         }
-        self.calls.note(&[CUT, 0, len as u64], &[]);
-        self.bytes.truncate(len);
+        self.calls.note(&[CUT, 0, len as u64], &[], len as u64);
         Ok(())
     }
 
     fn sync(&mut self) -> Result<(), DeviceError> {
+        let len = self.calls.len();
         if let Err(fault) = self.put_on_disk() {
-            self.calls.note(&[UNSYNCED, 1, 0], &[]);
+            self.calls.note(&[UNSYNCED, 1, 0], &[], len);
             self.failure = Some(fault);
             return Err(DeviceError::Failed);
         }
-        self.calls.note(&[SYNCED, 0, 0], &self.bytes);
+        self.calls.note(&[SYNCED, 0, 0], &[], len);
         Ok(())
     }
 }

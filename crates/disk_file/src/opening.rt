@@ -92,8 +92,8 @@ impl From<TryLockError> for OpenError {
 }
 
 impl DiskFile {
-    /// Opens the file with this name, and makes it where there is none. It is locked as long as it is open
-    /// (an advisory lock, which not every network file system keeps), read up to the length that it has then,
+    /// Opens the file with this name, and makes it where there is none; and what it has. It is locked as long as it
+    /// is open (an advisory lock, which not every network file system keeps), read up to the length that it has then,
     /// and synced with its folder. What isn't a file of bytes is refused before it is opened; so is a
     /// file that has more bytes than its length, or lost its name before it was locked. Nothing is cut
     /// off from the file before it is told where that is kept ([`DiskFile::keep_dropped`]).
@@ -101,15 +101,16 @@ impl DiskFile {
         rt: &F,
         alloc: Global,
         path: &str,
-    ) -> Result<DiskFile, OpenError>
+    ) -> Result<(DiskFile, Vec<u8>), OpenError>
+        ensures bytes { IfOk result (λ r. r.1.items ≡ disk_bytes r.0) }
         // What is read is what is on the disk.
-        ensures { IfOk result (λ d. Only (disk_bytes d) (left_of d)) }
+        ensures settled { IfOk result (λ r. Only (disk_bytes r.0) (left_of r.0)) }
     {
         let (file, bytes) = locked(rt, alloc, path)?;
         sync_with_folder(rt, alloc, path, &file)?;
-        let file = DiskFile::settled(file, bytes);
+        let file = DiskFile::settled(file, &bytes);
         file.check_name(rt, path)?;
-        Ok(file)
+        Ok((file, bytes))
     }
 
     /// From now on, what is cut off is kept behind the last byte of the file of this name with `.dropped`

@@ -54,21 +54,21 @@ impl From<io::Error> for PlaceError {
     }
 }
 
-/// The file that is to take another's place, as it was found: locked, read and not changed. It lies beside that
+/// The file that is to take another's place, as it was found: locked, and not changed. It lies beside that
 /// one, under its name with `.new` behind it; where the name is a link, beside the file that it leads to.
 #[derive(Drop)]
 pub struct Beside {
     file: File,
-    bytes: Vec<u8>,
 }
 
 impl Beside {
-    /// Opens the file beside the one of this name, which there has to be, and makes it where there is none.
+    /// Opens the file beside the one of this name, which there has to be, and makes it where there is none; and
+    /// what stands in it.
     pub fn open<F: Files<File = File>>(
         rt: &F,
         alloc: Global,
         path: &str,
-    ) -> Result<Beside, BesideError> {
+    ) -> Result<(Beside, Vec<u8>), BesideError> {
         let name = name_beside(rt, alloc, path)?;
         if !is_alone(rt, name.as_str())? {
             return Err(BesideError::Foreign);
@@ -77,14 +77,7 @@ impl Beside {
         if !is_named(rt, &file, name.as_str())? {
             return Err(BesideError::Foreign);
         }
-        Ok(Beside { file, bytes })
-    }
-
-    /// What stands in it.
-    pub fn bytes(&self) -> &[u8]
-        ensures { result.now ≡ self.now.bytes.items }
-    {
-        &self.bytes
+        Ok((Beside { file }, bytes))
     }
 
     /// Throws away what stands in it, gives it the permissions of the file whose place it is to take, and that
@@ -99,13 +92,12 @@ impl Beside {
         ensures empty { IfOk result (λ d. disk_bytes d ≡ []) }
         ensures settled { IfOk result (λ d. Only (disk_bytes d) (left_of d)) }
     {
-        let Beside { file, bytes } = self;
-        drop(bytes);
+        let Beside { file } = self;
         let name = name_beside(rt, alloc, path)?;
         let changed = file.set_len(0).and_then(|()| take_owner(&file, old.file()));
         changed.map_err(OpenError::Unwritten)?;
         sync_with_folder(rt, alloc, name.as_str(), &file)?;
-        Ok(DiskFile::settled(file, Vec::new(alloc)))
+        Ok(DiskFile::settled(file, &[]))
     }
 }
 

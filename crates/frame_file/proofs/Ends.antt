@@ -1,11 +1,11 @@
 -- What may be torn.
-use Rattle.std.proofs.Common.{◌≡◌, ◌⊎◌, inl, inr, ⊎_elim, ℕ, zero, suc, ◌+◌, ◌-◌, ◌*◌, ◌<◌, ◌≤◌, ◌^◌, List, [], ◌∷◌, ◌++◌, length, take, drop, replicate, refl, sym, ◌∙◌, ap, subst, arith, length-drop}
+use Rattle.std.proofs.Common.{◌≡◌, ◌⊎◌, inl, inr, ⊎_elim, ℕ, zero, suc, ◌+◌, ◌-◌, ◌<◌, ◌≤◌, ◌^◌, List, [], ◌∷◌, length, take, drop, replicate, refl, sym, ◌∙◌, ap, subst, arith, length-drop}
 use Rattle.std.specs.Int.{w64, to_le_bytes, from_le_bytes}
 use Rattle.std.proofs.lemmas.List.{append-nil, length-take-le, take-take, drop-take}
 use Rattle.std.proofs.lemmas.Nat.{from_le_bytes-to_le_bytes_8}
-use Rattle.frame_file.specs.Device.{word_at, IsLeft, Torn}
-use Rattle.frame_file.specs.Frame.{framed, head_bytes, IsPayload, HasFrame, MayBeTorn, IsEnd}
-use Rattle.frame_file.proofs.Frames.{Begun, begun, first_part, second_part, length-framed}
+use Rattle.frame_file.specs.Device.{word_at, IsLeft}
+use Rattle.frame_file.specs.Frame.{framed, IsPayload, MayBeTorn}
+use Rattle.frame_file.proofs.Frames.{begun, first_part, second_part}
 
 -- ---- a front of what is left
 

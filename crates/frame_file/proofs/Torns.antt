@@ -1,11 +1,19 @@
 -- What a crash leaves while a frame is being written.
-use Rattle.std.proofs.Common.{◌≡◌, ◌⊎◌, inl, inr, ℕ, ◌+◌, ◌≤◌, List, [], ◌∷◌, ◌++◌, length, refl, sym, ◌∙◌, ap, subst, arith, append_assoc, length-append}
+use Rattle.std.proofs.Common.{◌≡◌, ◌⊎◌, inl, inr, ℕ, zero, suc, ◌+◌, ◌*◌, ◌≤◌, List, [], ◌∷◌, ◌++◌, length, take, drop, refl, sym, ◌∙◌, ap, subst, arith, append_assoc, length-append}
 use Rattle.std.proofs.lemmas.List.{append-nil}
 use Rattle.frame_file.specs.Device.{Only, Follows, Torn, word_at, IsLeft}
 use Rattle.frame_file.specs.Frame.{framed, frames_from, IsPayload, ArePayloads, MayBeTorn}
 use Rattle.frame_file.specs.Reading.{Reads, IsTold, IsBeforeOrAfter}
 use Rattle.frame_file.proofs.Ends.{nothing_torn, left_torn}
 use Rattle.frame_file.proofs.Frames.{Goes, goes, fits_behind, length-framed}
+
+-- of no bytes there is no word
+no_word : (word : List ℕ) (k : ℕ) → IsLeft word (word_at k [])
+no_word word k = subst (IsLeft word) (sym (nothing (8 * k))) (inl refl)
+  where
+    nothing : (m : ℕ) → take {A = ℕ} 8 (drop m []) ≡ []
+    nothing zero = refl
+    nothing (suc m) = refl
 
 module _ (ps : List (List ℕ)) (p : List ℕ) (fit : ArePayloads ps) where
   behind : (tail rest c : List ℕ) (all more : List (List ℕ)) → length tail ≤ 24 + length p → c ≡ frames_from 0 ps ++ tail → ArePayloads all → IsTold ps p c
@@ -57,8 +65,10 @@ module _ (ps : List (List ℕ)) (p : List ℕ) (fit : ArePayloads ps) where
       nothing_torn (length all) rest
       (omega (arith, short, long, size, length-append (framed n q) after, length-framed n q, length-append (frames_from (n + 1) more) rest))
 
-  pub torn : (tail c : List ℕ) → length tail ≤ 24 + length p → MayBeTorn (length ps) tail → c ≡ frames_from 0 ps ++ tail → IsBeforeOrAfter ps p c
-  torn tail c short may is = record {
+  torn : (tail c : List ℕ) → length tail ≤ 24 + length p → ((k : ℕ) → IsLeft (word_at k (framed (length ps) p)) (word_at k tail))
+      → MayBeTorn (length ps) tail → c ≡ frames_from 0 ps ++ tail → IsBeforeOrAfter ps p c
+  torn tail c short words may is = record {
+    bytes = record { tail = tail; is = is; short = omega (arith, short, length-framed (length ps) p); words = words };
     kept = λ all reads. (let g = gone tail c is all reads in record { more = g.more; is = g.are });
     told = λ all reads told. (let g = gone tail c is all reads in behind tail reads.rest c all g.more short is reads.fit told g.are g.left);
     torn = λ all reads told. (let g = gone tail c is all reads in ends tail reads.rest c all g.more short may is reads.fit told g.are g.left);
@@ -66,7 +76,7 @@ module _ (ps : List (List ℕ)) (p : List ℕ) (fit : ArePayloads ps) where
 
   -- nothing is written yet
   pub whole : (c : List ℕ) → c ≡ frames_from 0 ps → IsBeforeOrAfter ps p c
-  whole c is = torn [] c (omega arith) (nothing_torn (length ps) [] refl) (is ∙ sym (append-nil (frames_from 0 ps)))
+  whole c is = torn [] c (omega arith) (λ k. no_word (word_at k (framed (length ps) p)) k) (nothing_torn (length ps) [] refl) (is ∙ sym (append-nil (frames_from 0 ps)))
 
   -- the frame is being written
   pub append_crash : (bytes : List ℕ) (n : ℕ) (old new : List ℕ → Type 0) → IsPayload p → bytes ≡ framed n p → n ≡ length ps → Only (frames_from 0 ps) old
@@ -80,4 +90,6 @@ module _ (ps : List (List ℕ)) (p : List ℕ) (fit : ArePayloads ps) where
       let words : (k : ℕ) → IsLeft (word_at k (framed n p)) (word_at k t.tail)
       = subst (λ (b : List ℕ). (k : ℕ) → IsLeft (word_at k b) (word_at k t.tail)) are t.words in
       let may : MayBeTorn (length ps) t.tail = subst (λ (m : ℕ). MayBeTorn m t.tail) count (left_torn n p t.tail fits no_longer words) in
-      torn t.tail c no_longer may (t.is ∙ ap (λ (b : List ℕ). b ++ t.tail) (only from.0 from.1))
+      let own : (k : ℕ) → IsLeft (word_at k (framed (length ps) p)) (word_at k t.tail)
+      = subst (λ (m : ℕ). (k : ℕ) → IsLeft (word_at k (framed m p)) (word_at k t.tail)) count words in
+      torn t.tail c no_longer own may (t.is ∙ ap (λ (b : List ℕ). b ++ t.tail) (only from.0 from.1))

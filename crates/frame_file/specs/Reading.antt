@@ -1,7 +1,7 @@
 -- What a file of frames is read as, and what a crash leaves of it.
 use Rattle.std.specs.Prelude.{◌≡◌, ◌⊎◌, ℕ, List, [], ◌∷◌, ◌++◌, length, map, Vec}
 use Rattle.std.specs.declared.alloc.Global.{Global}
-use Rattle.frame_file.specs.Device.{Only}
+use Rattle.frame_file.specs.Device.{Only, Torn}
 use Rattle.frame_file.specs.Frame.{frames_from, framed, IsPayload, ArePayloads, NoFrame, MayBeTorn, IsEnd}
 use Rattle.frame_file.specs.declared.device.DeviceError.TheVariants.{Memory}
 use Rattle.frame_file.specs.declared.file.FrameFile.{FrameFile}
@@ -55,9 +55,11 @@ abbrev pub IsTold : List (List ℕ) → List ℕ → List ℕ → Type 0
 IsTold payloads payload file =
     (other after : List ℕ) → IsPayload other → file ≡ frames_from 0 payloads ++ (framed (length payloads) other ++ after) → other ≡ payload
 
--- what a crash left while the payload was being written behind the others: all others are read, whatever it left; and but for a
--- checksum that is right by chance, no more than that payload behind them; and then an end that may be torn
+-- what a crash left while the payload was being written behind the others: their frames, and a part of the new one's bytes; all others are
+-- read, whatever it left; and but for a checksum that is right by chance, no more than that payload behind them; and then an end that may be
+-- torn
 pub record IsBeforeOrAfter (payloads : List (List ℕ)) (payload file : List ℕ) : Type 0 where
+  pub bytes : Torn (framed (length payloads) payload) (frames_from 0 payloads) file
   pub kept : (all : List (List ℕ)) → Reads file all → Begin payloads all
   pub told : (all : List (List ℕ)) → Reads file all → IsTold payloads payload file → (all ≡ payloads) ⊎ (all ≡ payloads ++ payload ∷ [])
   pub torn : (all : List (List ℕ)) (reads : Reads file all) → IsTold payloads payload file → MayBeTorn (length all) reads.rest

@@ -1,10 +1,10 @@
-// A file as a log sees it: what a read returns, and what a crash may leave.
+// A file as a log sees it: its bytes, and what a crash may leave.
 
-ghost use Rattle.std.specs.Prelude.{◌≡◌, ◌≤◌, ◌++◌, List, ℕ, length, take, drop, IfOk, OnOk};
+ghost use Rattle.std.specs.Prelude.{◌≡◌, ◌≤◌, ◌++◌, List, ℕ, length, take, drop, OnOk};
 ghost use Rattle.frame_file.specs.declared.device.DeviceError.TheVariants.{Memory};
 ghost use Rattle.frame_file.specs.Device.{Only, Follows, Torn, Cut, KeepsFirst, Elapses, HasCause};
 
-use std::alloc::{AllocError, AllocFailed, Global};
+use std::alloc::{AllocError, AllocFailed};
 
 /// Why a call of a device failed.
 #[derive(Clone, Copy, Debug, PartialEq, Eq)]
@@ -33,10 +33,10 @@ impl<T: Drop> From<AllocFailed<T>> for DeviceError {
     }
 }
 
-/// A file that grows at its end. Between two syncs a crash may leave any part of what was appended, with
-/// zeros in the place of some of its words of 8 bytes.
+/// A file that grows at its end. Who opens it has read it; the device hands out no bytes. Between two syncs a crash
+/// may leave any part of what was appended, with zeros in the place of some of its words of 8 bytes.
 pub trait Device {
-    /// The bytes that a read returns.
+    /// Its bytes: those that it was opened with, and what was written since.
     ghost seen: { Self → List ℕ };
 
     /// What a crash at this moment may leave.
@@ -54,15 +54,6 @@ pub trait Device {
     /// What was cut off and is kept elsewhere, one piece behind another.
     ghost kept: { Self → List ℕ };
 
-    /// All the bytes.
-    fn read(&mut self, alloc: Global) -> Result<Vec<u8>, DeviceError>
-        ensures bytes { IfOk result (λ bytes. bytes.items ≡ seen self.old) }
-        ensures seen { seen self.new ≡ seen self.old }
-        ensures kept { kept self.new ≡ kept self.old }
-        ensures crash { (c : List ℕ) → may_leave self.new c → may_leave self.old c }
-        ensures time { Elapses (moment self.old) (moment self.new) (left_since self.old) (left_since self.new) (may_leave self.new) }
-        ensures cause { HasCause (faults self.old) (faults self.new) result };
-
     /// Writes behind the last byte. Until a sync, a crash may leave a part of these bytes there, and holes.
     fn append(&mut self, bytes: &[u8]) -> Result<(), DeviceError>
         ensures written { OnOk result (seen self.new ≡ seen self.old ++ bytes.now) }
@@ -70,9 +61,10 @@ pub trait Device {
         ensures time { Elapses (moment self.old) (moment self.new) (left_since self.old) (left_since self.new) (may_leave self.new) }
         ensures cause { HasCause (faults self.old) (faults self.new) result };
 
-    /// Cuts the file to a length, once what is cut off is kept, and synced, elsewhere.
-    fn cut(&mut self, len: usize) -> Result<(), DeviceError>
-        requires { len ≤ length (seen self.old) }
+    /// Cuts the file to a length, once what is cut off, which is this end of it, is kept, and synced, elsewhere.
+    fn cut(&mut self, len: usize, end: &[u8]) -> Result<(), DeviceError>
+        requires inside { len ≤ length (seen self.old) }
+        requires end { end.now ≡ drop len (seen self.old) }
         ensures cut { OnOk result (seen self.new ≡ take len (seen self.old)) }
         ensures kept { OnOk result (kept self.new ≡ kept self.old ++ drop len (seen self.old)) }
         ensures first { KeepsFirst (drop len (seen self.old)) (kept self.old) (kept self.new) (may_leave self.old) (may_leave self.new) }
@@ -80,7 +72,7 @@ pub trait Device {
         ensures time { Elapses (moment self.old) (moment self.new) (left_since self.old) (left_since self.new) (may_leave self.new) }
         ensures cause { HasCause (faults self.old) (faults self.new) result };
 
-    /// After it, a crash leaves what a read returns.
+    /// After it, a crash leaves its bytes.
     fn sync(&mut self) -> Result<(), DeviceError>
         ensures durable { OnOk result (Only (seen self.old) (may_leave self.new)) }
         ensures seen { seen self.new ≡ seen self.old }

@@ -12,7 +12,7 @@ use crate::frame::{HEAD, write_frame};
 use crate::reading::{Found, FrameFault, read_frames};
 use std::alloc::Global;
 
-/// A file of frames: read by [`FrameFile::recover`] before anything is appended. After each `Err` of a
+/// A file of frames: recovered ([`FrameFile::recover`]) before anything is appended. After each `Err` of a
 /// call, `recover`'s too, the file has to be opened again first: a new device over it as it is then, and
 /// a new `FrameFile`.
 #[derive(Drop)]
@@ -22,7 +22,7 @@ pub struct FrameFile<D: Device> {
 }
 
 impl<D: Device> FrameFile<D> {
-    /// Over a device whose file isn't read yet.
+    /// Over a device whose file isn't recovered yet.
     pub fn new(device: D) -> FrameFile<D>
         ensures device { result.device ≡ device }
         ensures count { result.count ≡ 0 }
@@ -37,23 +37,10 @@ impl<D: Device> FrameFile<D> {
         &self.device
     }
 
-    /// All the bytes of the file, which isn't changed.
-    pub fn bytes(&mut self, alloc: Global) -> Result<Vec<u8>, DeviceError>
-        ensures bytes { IfOk result (λ bytes. bytes.items ≡ D.seen self.old.device) }
-        ensures seen { D.seen self.new.device ≡ D.seen self.old.device }
-        ensures kept { D.kept self.new.device ≡ D.kept self.old.device }
-        ensures crash { (c : List ℕ) → D.may_leave self.new.device c → D.may_leave self.old.device c }
-        ensures any_moment { Only (D.seen self.old.device) (D.may_leave self.old.device)
-            → LeavesOnly D.moment D.left_since self.old.device self.new.device (λ c. c ≡ D.seen self.old.device) }
-        ensures failed { IsErrOf result Failed → D.faults self.old.device < D.faults self.new.device }
-        ensures later { D.faults self.old.device ≤ D.faults self.new.device }
-    {
-        self.device.read(alloc)
-    }
-
     /// Cuts off the end behind the frames that were found in the file's bytes, once it is kept elsewhere.
     /// This may be cut short by a crash too, which leaves a file that is read the same.
-    pub fn settle(&mut self, found: &Found) -> Result<(), DeviceError>
+    pub fn settle(&mut self, bytes: &[u8], found: &Found) -> Result<(), DeviceError>
+        requires bytes { bytes.now ≡ D.seen self.old.device }
         requires found { IsFound (D.seen self.old.device) found.now }
         // After a restart, what is read is what is on the disk.
         requires settled { Only (D.seen self.old.device) (D.may_leave self.old.device) }
@@ -62,17 +49,18 @@ impl<D: Device> FrameFile<D> {
         ensures any_moment { LeavesOnly D.moment D.left_since self.old.device self.new.device (ReadsAs (D.seen self.old.device)) }
         ensures failed { IsErrOf result Failed → D.faults self.old.device < D.faults self.new.device }
     {
-        self.device.cut(found.end)?;
+        self.device.cut(found.end, &bytes[found.end..])?;
         self.device.sync()?;
         self.count = found.payloads.len() as u64;
         Ok(())
     }
 
-    /// The payloads of a file that a crash may have left. Its end, where it isn't a whole frame, is cut
-    /// off, as [`FrameFile::settle`] does. A file that isn't read isn't changed.
-    pub fn recover(&mut self, alloc: Global) -> Result<Vec<Vec<u8>>, FrameFault>
+    /// The payloads of a file with these bytes, which a crash may have left. Its end, where it isn't a whole
+    /// frame, is cut off, as [`FrameFile::settle`] does. A file that isn't read isn't changed.
+    pub fn recover(&mut self, alloc: Global, bytes: &[u8]) -> Result<Vec<Vec<u8>>, FrameFault>
+        requires bytes { bytes.now ≡ D.seen self.old.device }
         // After a restart, what is read is what is on the disk.
-        requires { Only (D.seen self.old.device) (D.may_leave self.old.device) }
+        requires settled { Only (D.seen self.old.device) (D.may_leave self.old.device) }
         ensures reads { IfOk result (λ payloads. Reads (D.seen self.old.device) (payloads_in payloads.items)) }
         ensures settled { IfOk result (λ payloads. IsSettled D.seen D.may_leave self.new (payloads_in payloads.items)) }
         ensures kept { IfOk result (λ payloads. D.kept self.new.device
@@ -82,9 +70,8 @@ impl<D: Device> FrameFile<D> {
         ensures any_moment { LeavesOnly D.moment D.left_since self.old.device self.new.device (ReadsAs (D.seen self.old.device)) }
         ensures failed { IsErrOf result (DeviceFault Failed) → D.faults self.old.device < D.faults self.new.device }
     {
-        let bytes = self.bytes(alloc)?;
-        let found = read_frames(alloc, &bytes)?;
-        self.settle(&found)?;
+        let found = read_frames(alloc, bytes)?;
+        self.settle(bytes, &found)?;
         Ok(found.payloads)
     }
 

@@ -3,8 +3,8 @@
 //!
 //! ```text
 //! let mut file = FrameFile::new(device);
-//! let payloads = file.recover(alloc)?;        // what was acknowledged, and perhaps the last one more
-//! file.append(alloc, &payload)?;              // acknowledged: each crash from now on leaves it
+//! let payloads = file.recover(alloc, &bytes)?; // of these bytes: what was acknowledged, and perhaps the last one more
+//! file.append(alloc, &payload)?;               // acknowledged: each crash from now on leaves it
 //! ```
 //!
 //! A frame is its number, its length and a checksum, 8 bytes each, the lowest first, and its payload.

@@ -81,19 +81,15 @@ impl Device for Memory {
 
     ghost only_now = { λ m c left. only_bytes m.past.items m.bytes.items c left };
 
-    fn read(&mut self, alloc: Global) -> Result<Vec<u8>, DeviceError> {
-        Ok(self.bytes.to_vec(alloc)?)
-    }
-
     fn append(&mut self, bytes: &[u8]) -> Result<(), DeviceError> {
         let mut next = self.bytes.to_vec(self.alloc)?;
         next.extend_from_slice(bytes)?;
         Ok(replace(self.alloc, &mut self.bytes, &mut self.past, next)?)
     }
 
-    fn cut(&mut self, len: usize) -> Result<(), DeviceError> {
+    fn cut(&mut self, len: usize, end: &[u8]) -> Result<(), DeviceError> {
         let next = self.bytes[..len].to_vec(self.alloc)?;
-        self.dropped.extend_from_slice(&self.bytes[len..])?;
+        self.dropped.extend_from_slice(end)?;
         Ok(replace(self.alloc, &mut self.bytes, &mut self.past, next)?)
     }
 

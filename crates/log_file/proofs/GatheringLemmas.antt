@@ -1,15 +1,15 @@
 -- Batches one after another.
-use Rattle.std.proofs.Common.{arith, ◌≡◌, ℕ, zero, suc, ◌+◌, ◌%◌, ◌<◌, ◌≤◌, List, [], ◌∷◌, ◌++◌, length, get_or, take, drop, map, replicate, Vec, refl, sym, ◌∙◌, ap, ap₂, subst, length-append}
-use Rattle.std.specs.List.{All, fold, flat_map}
+use Rattle.std.proofs.Common.{arith, ◌≡◌, ℕ, zero, suc, ◌+◌, ◌%◌, ◌<◌, ◌≤◌, List, [], ◌∷◌, ◌++◌, length, get_or, take, map, replicate, Vec, refl, sym, ◌∙◌, ap, ap₂, subst, length-append}
+use Rattle.std.specs.List.{All, fold}
 use Rattle.std.specs.declared.alloc.Global.{Global}
-use Rattle.std.proofs.lemmas.List.{append-nil, length-map, length-take-le, get_or-take, get_or-map, take-map, map_push, map_more, take_all, flat_map_more}
+use Rattle.std.proofs.lemmas.List.{length-map, length-take-le, get_or-take, get_or-map, take-map, map_push, map_more, take_all, flat_map_more}
 use Rattle.std.proofs.lemmas.List.Sums.{fold-append}
 use Rattle.tc_core.specs.declared.recovery.SiteNote.{SiteNote}
 use Rattle.tc_core.specs.declared.recovery.SiteNote.TheVariants.{Untold}
 use Rattle.frame_file.specs.Reading.{payloads_in}
 use Rattle.log_file.specs.declared.note.Note.{Note}
 use Rattle.log_file.specs.Bytes.{Batch, batch_bytes, notes_of, rows_of}
-use Rattle.log_file.specs.Reading.{IsBatch, AreBatches, IsSync, IsFirstNoBatch, with_note, last_known}
+use Rattle.log_file.specs.Reading.{IsBatch, AreBatches, IsSync, IsFirstNoBatch, with_note}
 use Rattle.log_file.specs.Joining.Fields.{batch_in, AreGathered}
 
 abbrev Vecs : Type 0

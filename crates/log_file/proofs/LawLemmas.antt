@@ -1,5 +1,5 @@
 -- What is read is what was written.
-use Rattle.std.proofs.Common.{arith, ◌≡◌, ◌⊎◌, inl, inr, ⊎_elim, ℕ, List, [], ◌∷◌, ◌++◌, take, drop, map, reverse, refl, sym, ◌∙◌, ap, subst, append_assoc, Option}
+use Rattle.std.proofs.Common.{◌≡◌, ◌⊎◌, inl, inr, ⊎_elim, ℕ, List, [], ◌∷◌, ◌++◌, map, reverse, refl, sym, ◌∙◌, ap, subst, append_assoc, Option}
 use Rattle.std.specs.List.{flat_map}
 use Rattle.std.proofs.lemmas.List.{map_push}
 use Rattle.tc_core.specs.declared.recovery.SiteNote.{SiteNote}
@@ -10,7 +10,7 @@ use Rattle.verifier.specs.Checked.{Checked}
 use Rattle.transactions.specs.Legal.{Legal}
 use Rattle.transactions.specs.Rows.{AllTakeFew}
 use Rattle.transactions.proofs.Rows.{legal_prints}
-use Rattle.frame_file.specs.Reading.{Reads, Begin, IsTold, IsBeforeOrAfter}
+use Rattle.frame_file.specs.Reading.{Reads, IsTold, IsBeforeOrAfter}
 use Rattle.log_file.specs.declared.header.Header.{Header}
 use Rattle.log_file.specs.Bytes.{Rows, Batch, batch_bytes, front_of, payloads_of, notes_of, rows_of}
 use Rattle.log_file.specs.Reading.{IsStart, IsBatch, AreBatches, Says, last_known, Continue}

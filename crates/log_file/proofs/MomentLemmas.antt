@@ -1,5 +1,5 @@
 -- Where no call of the device was made.
-use Rattle.std.proofs.Common.{◌≤◌, inl, ℕ, List, arith}
+use Rattle.std.proofs.Common.{inl, ℕ, List, arith}
 use Rattle.frame_file.specs.Device.{LeavesOnly}
 
 pub unmoved : {D : Type 0} (moment : D → ℕ) (left_since : D → ℕ → List ℕ → Type 0) (device : D) (P : List ℕ → Type 0)

@@ -1,5 +1,5 @@
 -- Why a file isn't read, from why its frames or its payloads aren't.
-use Rattle.std.proofs.Common.{arith, ◌≡◌, ◌⊎◌, inl, inr, ℕ, ◌+◌, ◌-◌, ◌<◌, ◌≤◌, ◌^◌, false, List, [], ◌∷◌, ◌++◌, length, map, slice_get, Option, Some, None, Vec, refl, sym, ◌∙◌, ap, ap₂, subst, length-append}
+use Rattle.std.proofs.Common.{arith, ◌≡◌, inl, inr, ℕ, ◌+◌, ◌-◌, ◌<◌, ◌≤◌, ◌^◌, false, List, [], ◌∷◌, ◌++◌, length, map, slice_get, Option, Some, None, Vec, refl, sym, ◌∙◌, ap, ap₂, subst, length-append}
 use Rattle.std.proofs.lemmas.List.{length-map}
 use Rattle.std.specs.declared.alloc.Global.{Global}
 use Rattle.tc_core.specs.declared.recovery.SiteNote.{SiteNote}
@@ -8,11 +8,11 @@ use Rattle.tc_log.specs.Reading.{ArePrinted, AreOnlyOnes, IsFirstUnread}
 use Rattle.frame_file.specs.declared.device.DeviceError.TheVariants.{Memory}
 use Rattle.frame_file.specs.declared.reading.FrameFault.{FrameFault}
 use Rattle.frame_file.specs.declared.reading.FrameFault.TheVariants.{Device, Full, Damaged}
-use Rattle.frame_file.specs.Reading.{Reads, IsDamaged, IsReadFault, payloads_in}
+use Rattle.frame_file.specs.Reading.{Reads, IsReadFault, payloads_in}
 use Rattle.log_file.specs.declared.header.Header.{Header}
 use Rattle.log_file.specs.declared.reading.OpenFault.{OpenFault}
 use Rattle.log_file.specs.declared.reading.OpenFault.TheVariants.{Frames, Empty, Other, NoBase, NoBatch, Row}
-use Rattle.log_file.specs.Bytes.{Rows, part_bytes, parts_of, Batch, batch_bytes, header_bytes, based_header_bytes, front_of, payloads_of, rows_of}
+use Rattle.log_file.specs.Bytes.{Rows, part_bytes, parts_of, Batch, batch_bytes, header_bytes, based_header_bytes, front_of, payloads_of}
 use Rattle.log_file.specs.Reading.{IsHead, IsStart, is_checkpoint, begins_anew, IsBehind, IsSayFault, IsBegun, IsOpenFault, IsNoBase, NoPart, NoCheckpoint, Says}
 use Rattle.log_file.specs.Joining.Fields.{IsNotBehind, IsGatherFault, IsBaseFault, IsRowsFault, AreGathered}
 

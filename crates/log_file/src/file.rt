@@ -27,7 +27,7 @@ pub struct LogFile<D: Device> {
 }
 
 impl<D: Device> LogFile<D> {
-    /// Over a device whose file isn't read yet.
+    /// Over a device whose file isn't opened yet.
     pub fn new(device: D) -> LogFile<D>
         ensures device { result.frames.device ≡ device }
         ensures count { result.frames.count ≡ 0 }
@@ -44,13 +44,19 @@ impl<D: Device> LogFile<D> {
         self.frames.device()
     }
 
-    /// Reads a file that a crash may have left: the base, the log and the notes of all that was acknowledged, and
-    /// perhaps of what was being appended. An end that a crash left is cut off, once it is kept elsewhere.
+    /// Reads a file of these bytes, which a crash may have left: the base, the log and the notes of all that was
+    /// acknowledged, and perhaps of what was being appended. An end that a crash left is cut off, once it is kept elsewhere.
     /// This may be cut short by a crash too, which leaves a file that is read the same. A file that isn't
     /// this header's log is refused, and not changed.
-    pub fn open(&mut self, alloc: Global, header: &Header) -> Result<Recovered, OpenFault>
+    pub fn open(
+        &mut self,
+        alloc: Global,
+        header: &Header,
+        bytes: &[u8],
+    ) -> Result<Recovered, OpenFault>
+        requires bytes { bytes.now ≡ D.seen self.old.frames.device }
         // After a restart, what is read is what is on the disk.
-        requires { Only (D.seen self.old.frames.device) (D.may_leave self.old.frames.device) }
+        requires settled { Only (D.seen self.old.frames.device) (D.may_leave self.old.frames.device) }
         ensures says { IfOk result (λ r. (payloads : List (List ℕ)) × Reads (D.seen self.old.frames.device) payloads
             × IsSettled D.seen D.may_leave self.new.frames payloads
             × Says header.now payloads (base_in r.base) r.notes.items (reverse r.log.events)) }
@@ -62,10 +68,9 @@ impl<D: Device> LogFile<D> {
         ensures any_moment { LeavesOnly D.moment D.left_since self.old.frames.device self.new.frames.device
             (ReadsAs (D.seen self.old.frames.device)) }
     {
-        let bytes = self.frames.bytes(alloc)?;
-        let found = read_frames(alloc, &bytes)?;
-        let recovered = read_own(alloc, header, &bytes, &found)?;
-        self.frames.settle(&found)?;
+        let found = read_frames(alloc, bytes)?;
+        let recovered = read_own(alloc, header, bytes, &found)?;
+        self.frames.settle(bytes, &found)?;
         match recovered {
             Some(recovered) => Ok(recovered),
             None => Err(OpenFault::Empty),

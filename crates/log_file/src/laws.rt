@@ -1,6 +1,6 @@
 // Laws of what is written and read.
 
-ghost use Rattle.std.specs.Prelude.{◌≡◌, ◌⊎◌, ◌++◌, [], ◌∷◌, ℕ, List, Option, reverse};
+ghost use Rattle.std.specs.Prelude.{◌≡◌, ◌⊎◌, ◌++◌, [], ◌∷◌, ℕ, List, Option, Some, true, length, reverse};
 ghost use Rattle.std.specs.List.{flat_map};
 ghost use Rattle.frame_file.specs.Reading.{Reads, IsTold, IsBeforeOrAfter};
 ghost use Rattle.tc_core.specs.declared.recovery.SiteNote.{SiteNote};
@@ -12,7 +12,8 @@ ghost use Rattle.transactions.specs.Legal.{Legal};
 ghost use Rattle.transactions.specs.Rows.{AllTakeFew};
 ghost use Rattle.log_file.specs.declared.header.Header.{Header as HeaderValue};
 ghost use Rattle.log_file.specs.Bytes.{Rows, Batch, header_bytes, batch_bytes, payloads_of, notes_of, rows_of};
-ghost use Rattle.log_file.specs.Reading.{IsHeader, IsStart, IsBatch, AreBatches, Says, Continue, last_known};
+ghost use Rattle.log_file.specs.Reading.{IsHeader, IsStart, IsBatch, AreBatches, IsFront, Says, Continue, last_known};
+ghost use Rattle.log_file.specs.Replacement.{may_be_left};
 
 /// A header's bytes tell how many data components and procedures there are, and the procedures' digest.
 pub fn headers_tell()
@@ -50,4 +51,10 @@ pub fn crashes_are_read()
         → IsBeforeOrAfter (payloads_of h base batches) (batch_bytes batch) file
         → IsTold (payloads_of h base batches) (batch_bytes batch) file → Reads file (payloads_of h other found)
         → (other ≡ base) × ((found ≡ batches) ⊎ (found ≡ batches ++ batch ∷ [])) }
+{}
+
+/// What a crash leaves of a file that was being begun anew, the whole file too, may be written over.
+pub fn crashes_may_be_left()
+    ensures { (h : HeaderValue) (base : Rows) (batches : List Batch) (file : List ℕ) → length h.digest ≡ 32 →
+        IsFront (payloads_of h (Some base) batches) file → may_be_left h file ≡ true }
 {}

@@ -31,7 +31,8 @@ pub use base::{BaseRow, is_base};
 pub use file::LogFile;
 pub use header::{BASED_FRONT, Header};
 pub use laws::{
-    acknowledged_are_read, crashes_are_read, headers_tell, legal_logs_are_read, read_as_written,
+    acknowledged_are_read, crashes_are_read, crashes_may_be_left, headers_tell,
+    legal_logs_are_read, read_as_written,
 };
 pub use note::Note;
 pub use reading::{OpenFault, Recovered, begins_anew};

@@ -1,8 +1,8 @@
 -- One batch of rows more in a journal's file.
-use Rattle.std.proofs.Common.{◌≡◌, ◌∙◌, ◌++◌, ◌∷◌, [], ℕ, List, Option, Some, None, true, false, length, map, refl, ap, ap₂, sym, subst, arith}
+use Rattle.std.proofs.Common.{◌≡◌, ◌∙◌, ◌++◌, ◌∷◌, [], ℕ, List, Option, Some, None, true, false, length, refl, ap₂, sym, subst, arith}
 use Rattle.std.specs.Prelude.{◌%◌, ◌<◌}
 use Rattle.std.specs.List.{flat_map}
-use Rattle.std.proofs.lemmas.List.{map-append, append-nil}
+use Rattle.std.proofs.lemmas.List.{append-nil}
 use Rattle.std.proofs.lemmas.List.Elements.{All-nil}
 use Rattle.std.proofs.lemmas.Grind.{flat_map-append}
 use Rattle.tc_log.specs.declared.event.Event.{Event}
@@ -11,11 +11,15 @@ use Rattle.frame_file.specs.Reading.{IsSettled}
 use Rattle.log_file.specs.declared.note.Note.{Note}
 use Rattle.log_file.specs.declared.file.LogFile.{LogFile}
 use Rattle.log_file.specs.declared.header.Header.{Header}
-use Rattle.log_file.specs.Bytes.{Rows as BaseRows, Batch, batch_bytes, payloads_of, rows_of}
+use Rattle.log_file.specs.Bytes.{Rows as BaseRows, Batch, batch_bytes, payloads_of}
 use Rattle.log_file.specs.Reading.{IsBase, IsBatch, IsBehind, begins_anew}
 use Rattle.log_file.proofs.GatheringLemmas.{batches_push}
 use Rattle.log_file.proofs.LawLemmas.{payloads_push}
-use Rattle.log_journal.specs.Keeping.{HasWritten, HasWrittenBehind}
+use Rattle.frame_file.specs.Device.{LeavesOnly}
+use Rattle.frame_file.specs.Reading.{IsBeforeOrAfter}
+use Rattle.frame_file.proofs.Moments.{started, weaker}
+use Rattle.log_journal.specs.Keeping.{HasWritten, HasWrittenBehind, IsLeft}
+use Rattle.log_journal.specs.Leaving.{left_between, left_now}
 
 -- rows, and nothing that is noted
 abbrev pub of_rows : List ℕ → Batch
@@ -67,3 +71,23 @@ written_anew seen may_leave h file base events rows is anew rows_are whole settl
   },
   refl,
 )
+
+-- ---- what a crash leaves
+
+module _ {D : Type 0} (seen : D → List ℕ) (may_leave : D → List ℕ → Type 0) (h : Header) (file : LogFile D) (before more : List Event)
+    (was : HasWritten seen may_leave h file before) where
+  module _ (moment : D → ℕ) (left_since : D → ℕ → List ℕ → Type 0)
+      (only_now : (d : D) (left : List ℕ) → left_since d (moment d) left → may_leave d left) where
+    -- nothing was written
+    pub unwritten_leaves : LeavesOnly moment left_since file.frames.device file.frames.device (IsLeft h before more)
+    unwritten_leaves = started moment left_since file.frames.device (IsLeft h before more) (λ left since. left_now seen may_leave h file before more was left (only_now file.frames.device left since))
+
+    -- rows were
+    pub written_leaves : (new : D) (rows : List ℕ) → rows ≡ flat_map printed more
+        → ((payloads : List (List ℕ)) → IsSettled seen may_leave file.frames payloads
+        → LeavesOnly moment left_since file.frames.device new (IsBeforeOrAfter payloads (batch_bytes (of_rows rows))))
+        → LeavesOnly moment left_since file.frames.device new (IsLeft h before more)
+    written_leaves new rows are run =
+        let payloads = payloads_of h was.base was.batches in
+        weaker moment left_since file.frames.device new (IsBeforeOrAfter payloads (batch_bytes (of_rows rows))) (IsLeft h before more)
+        (run payloads was.settled) (λ left it. left_between seen may_leave h file before more was rows left are it)

@@ -2,12 +2,13 @@
 
 ghost use Rattle.std.specs.Prelude.{◌≡◌, ◌++◌, ℕ, List, [], drop, reverse, Some, None, IfOk, IfErr, OnOk};
 ghost use Rattle.tc_log.specs.declared.event.Event.{Event as EventValue};
-ghost use Rattle.frame_file.specs.Device.{Only};
+ghost use Rattle.frame_file.specs.Device.{Only, LeavesOnly};
 ghost use Rattle.frame_file.specs.Reading.{IsSettled};
 ghost use Rattle.log_file.specs.declared.header.Header.{Header as HeaderValue};
 ghost use Rattle.log_file.specs.Reading.{IsOpenFault, IsRefusal, IsAsItWas};
 ghost use Rattle.log_file.specs.Found.{base_in};
-ghost use Rattle.log_journal.specs.Keeping.{HasWritten, HasWrittenBehind, IsLogOf};
+ghost use Rattle.log_journal.specs.Keeping.{HasWritten, HasWrittenBehind, IsLeft, IsLogOf};
+ghost use Rattle.log_journal.specs.Leaving.{left_now};
 
 use frame_file::{Device, DeviceError, FrameFault};
 use log_file::{BaseRow, Header, LogFile, OpenFault, Recovered, begins_anew, is_base};
@@ -53,39 +54,43 @@ pub struct LogJournal<D: Device> {
 }
 
 impl<D: Device + Drop> LogJournal<D> {
-    /// The journal of a file, which is begun where it has no frame, and what the file has.
+    /// The journal of a file of these bytes, which is begun where it has no frame, and what the file has.
     pub fn open(
         alloc: Global,
         device: D,
         header: Header,
+        bytes: &[u8],
     ) -> Result<(LogJournal<D>, Restored), OpenFault>
+        requires bytes { bytes.now ≡ D.seen device }
         // After a restart, what is read is what is on the disk.
-        requires { Only (D.seen device) (D.may_leave device) }
+        requires settled { Only (D.seen device) (D.may_leave device) }
         ensures kept { IfOk result (λ r. HasWrittenBehind D.seen D.may_leave header (base_in r.1.base) r.0.file (reverse r.1.log.events)) }
         ensures header { IfOk result (λ r. r.0.header ≡ header) }
         ensures log { IfOk result (λ r. IsLogOf header (D.seen device) (base_in r.1.base) (reverse r.1.log.events)) }
         ensures fault { IfErr result (IsOpenFault header (D.seen device)) }
     {
         let mut file = LogFile::new(device);
-        let restored = LogJournal::begin(alloc, &mut file, &header)?;
+        let restored = LogJournal::begin(alloc, &mut file, &header, bytes)?;
         Ok((LogJournal::over(alloc, file, header), restored))
     }
 
-    /// What a file has, which is begun where it has no frame.
+    /// What a file of these bytes has, which is begun where it has no frame.
     pub fn begin(
         alloc: Global,
         file: &mut LogFile<D>,
         header: &Header,
+        bytes: &[u8],
     ) -> Result<Restored, OpenFault>
+        requires bytes { bytes.now ≡ D.seen file.old.frames.device }
         // After a restart, what is read is what is on the disk.
-        requires { Only (D.seen file.old.frames.device) (D.may_leave file.old.frames.device) }
+        requires settled { Only (D.seen file.old.frames.device) (D.may_leave file.old.frames.device) }
         ensures kept { IfOk result (λ r. HasWrittenBehind D.seen D.may_leave header.now (base_in r.base) file.new (reverse r.log.events)) }
         ensures log { IfOk result (λ r. IsLogOf header.now (D.seen file.old.frames.device) (base_in r.base) (reverse r.log.events)) }
         ensures fault { IfErr result (IsOpenFault header.now (D.seen file.old.frames.device)) }
         ensures refused { IfErr result (λ fault. IsRefusal fault
             → IsAsItWas D.seen D.may_leave D.kept file.old.frames.device file.new.frames.device) }
     {
-        match file.open(alloc, header) {
+        match file.open(alloc, header, bytes) {
             Ok(Recovered { base, log, notes }) => {
                 drop(notes);
                 Ok(Restored { base, log })
@@ -157,6 +162,10 @@ impl<D: Device + Drop> LogJournal<D> {
     pub fn keep_from(&mut self, log: &Log, place: usize) -> Result<(), NotKept>
         ensures kept { (before : List EventValue) → HasWritten D.seen D.may_leave self.old.header self.old.file before
             → OnOk result (HasWritten D.seen D.may_leave self.new.header self.new.file (before ++ drop place (reverse log.now.events))) }
+        // Whatever comes of it, a crash at any moment of the call leaves all that the file had before it.
+        ensures any_moment { (before : List EventValue) → HasWritten D.seen D.may_leave self.old.header self.old.file before
+            → LeavesOnly D.moment D.left_since self.old.file.frames.device self.new.file.frames.device
+            (IsLeft self.old.header before (drop place (reverse log.now.events))) }
         ensures header { self.new.header ≡ self.old.header }
     {
         let Ok(rows) = log.print_from(self.alloc, place) else {
@@ -185,6 +194,15 @@ impl<D: Device + Drop> LogJournal<D> {
 
 impl<D: Device + Drop> Journal for LogJournal<D> {
     ghost has_kept = { λ journal events. HasWritten D.seen D.may_leave journal.header journal.file events };
+
+    ghost moment = { λ journal. D.moment journal.file.frames.device };
+
+    ghost left_since = { λ journal t left. D.left_since journal.file.frames.device t left };
+
+    ghost leaves = { λ journal before more left. IsLeft journal.header before more left };
+
+    ghost kept_now = { λ journal events left kept now. left_now D.seen D.may_leave journal.header journal.file events [] kept left
+        (D.only_now journal.file.frames.device left now) };
 
     fn keep(&mut self, events: &Log) -> Result<(), NotKept> {
         self.keep_from(events, 0)

@@ -1,4 +1,4 @@
-ghost use Rattle.std.specs.Prelude.{IfOk};
+ghost use Rattle.std.specs.Prelude.{◌≡◌, IfOk};
 ghost use Rattle.frame_file.specs.Device.{Only};
 ghost use Rattle.disk_file.specs.Disk.{disk_bytes, left_of};
 
@@ -18,19 +18,27 @@ const DROPPED: &str = "disk_file_test.dropped";
 
 type Frames = FrameFile<DiskFile>;
 
-fn opened<F: Files<File = File>>(rt: &F, alloc: Global) -> Result<Frames, OpenError>
-    ensures { IfOk result (λ f. Only (disk_bytes f.device) (left_of f.device)) }
+fn opened<F: Files<File = File>>(rt: &F, alloc: Global) -> Result<(Frames, Vec<u8>), OpenError>
+    ensures bytes { IfOk result (λ r. r.1.items ≡ disk_bytes r.0.device) }
+    ensures settled { IfOk result (λ r. Only (disk_bytes r.0.device) (left_of r.0.device)) }
 {
-    let mut file = DiskFile::open(rt, alloc, PATH)?;
+    let (mut file, bytes) = DiskFile::open(rt, alloc, PATH)?;
     file.keep_dropped(rt, alloc, PATH)?;
-    Ok(FrameFile::new(file))
+    Ok((FrameFile::new(file), bytes))
 }
 
-// How many frames are in the file, to which this one is appended.
-fn one_more(rt: &impl Abort, alloc: Global, file: &mut Frames, payload: &[u8]) -> usize
-    requires { Only (disk_bytes file.old.device) (left_of file.old.device) }
+// How many frames are in the file, which has these bytes; this one is appended to it.
+fn one_more(
+    rt: &impl Abort,
+    alloc: Global,
+    file: &mut Frames,
+    bytes: &[u8],
+    payload: &[u8],
+) -> usize
+    requires bytes { bytes.now ≡ disk_bytes file.old.device }
+    requires settled { Only (disk_bytes file.old.device) (left_of file.old.device) }
 {
-    let payloads = file.recover(alloc).expect(rt, "not recovered");
+    let payloads = file.recover(alloc, bytes).expect(rt, "not recovered");
     file.append(alloc, payload).expect(rt, "not appended");
     payloads.len()
 }
@@ -39,25 +47,20 @@ fn is_busy<F: Files<File = File>>(rt: &F, alloc: Global) -> bool {
     matches!(DiskFile::open(rt, alloc, PATH), Err(OpenError::Busy))
 }
 
-fn bytes_in(file: &Frames) -> usize {
-    file.device().bytes().len()
-}
-
 // How many bytes and frames are in the file, and how many bytes with this frame more; meanwhile nobody else
 // opens it.
 fn goes_on<R: Files<File = File> + Abort>(
     rt: &R,
     alloc: Global,
     payload: &[u8],
-    wanted: (usize, usize, usize),
+    wanted: (usize, usize, u64),
 ) {
-    let mut file = opened(rt, alloc).expect(rt, "not opened");
-    let bytes = bytes_in(&file);
-    let frames = one_more(rt, alloc, &mut file, payload);
-    let more = bytes_in(&file);
+    let (mut file, bytes) = opened(rt, alloc).expect(rt, "not opened");
+    let frames = one_more(rt, alloc, &mut file, &bytes, payload);
+    let more = file.device().len();
     is_same(rt, is_busy(rt, alloc), true);
     drop(file);
-    is_same(rt, (bytes, frames, more), wanted);
+    is_same(rt, (bytes.len(), frames, more), wanted);
 }
 
 // What a crash leaves of a frame stands behind those that are whole, which have so many bytes.
@@ -96,9 +99,10 @@ fn no_place_for_an_end(rt: HostRuntime) {
     const ALONE: &str = "disk_file_alone";
     let alloc = rt.alloc();
     fs::write(&rt, ALONE, [0, 0, 0].as_slice()).expect(&rt, "not written");
-    let mut file = FrameFile::new(DiskFile::open(&rt, alloc, ALONE).expect(&rt, "not opened"));
+    let (file, bytes) = DiskFile::open(&rt, alloc, ALONE).expect(&rt, "not opened");
+    let mut file = FrameFile::new(file);
     let unkept = FrameFault::Device(DeviceError::Unkept);
-    is_same(&rt, file.recover(alloc).err(), Some(unkept));
+    is_same(&rt, file.recover(alloc, &bytes).err(), Some(unkept));
     drop(file);
     let bytes = fs::read(&rt, ALONE).expect(&rt, "not read");
     is_same(&rt, bytes.as_slice(), [0, 0, 0].as_slice());
@@ -125,7 +129,8 @@ fn no_file_of_bytes(rt: HostRuntime) {
 // The file of this name, which has one byte.
 fn old_file<R: Files<File = File> + Abort>(rt: &R, alloc: Global, path: &str) -> DiskFile {
     fs::write(rt, path, [1].as_slice()).expect(rt, "not written");
-    DiskFile::open(rt, alloc, path).expect(rt, "not opened")
+    let (file, _bytes) = DiskFile::open(rt, alloc, path).expect(rt, "not opened");
+    file
 }
 
 // A file with two bytes beside it.
@@ -137,7 +142,7 @@ fn new_file<R: Files<File = File> + Abort>(
 ) -> DiskFile
     ensures { Only (disk_bytes result) (left_of result) }
 {
-    let beside = Beside::open(rt, alloc, path).expect(rt, "not beside");
+    let (beside, _bytes) = Beside::open(rt, alloc, path).expect(rt, "not beside");
     let mut new = beside
         .emptied(rt, alloc, path, old)
         .expect(rt, "not emptied");
@@ -162,9 +167,9 @@ fn a_file_takes_the_place(rt: HostRuntime) {
     fs::write(&rt, BESIDE, [7, 7, 7].as_slice()).expect(&rt, "not written");
     let old = old_file(&rt, alloc, PLACE);
     fs::set_permissions(&rt, PLACE, Permissions::from_mode(0o640)).expect(&rt, "no mode");
-    let left = Beside::open(&rt, alloc, PLACE).expect(&rt, "not beside");
-    is_same(&rt, left.bytes(), [7, 7, 7].as_slice());
-    drop(left);
+    let (beside, left) = Beside::open(&rt, alloc, PLACE).expect(&rt, "not beside");
+    is_same(&rt, left.as_slice(), [7, 7, 7].as_slice());
+    drop(beside);
     let new = new_file(&rt, alloc, PLACE, &old);
     new.take_place(&rt, alloc, PLACE, &old)
         .expect(&rt, "not in its place");

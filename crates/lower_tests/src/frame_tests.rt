@@ -1,3 +1,6 @@
+ghost use Rattle.std.specs.Prelude.{◌≡◌};
+ghost use Rattle.frame_file.specs.Memory.{memory_bytes};
+
 use crate::checks::is_same;
 use frame_file::{FrameFault, FrameFile, Memory, read_frames};
 use std::alloc::Global;
@@ -14,8 +17,12 @@ const FIRST: [u8; 29] = [
 
 type File = FrameFile<Memory>;
 
-fn memory(alloc: Global, bytes: Vec<u8>) -> File {
-    FrameFile::new(Memory::new(alloc, bytes))
+// A file in memory of these bytes.
+fn memory(rt: &impl Abort, alloc: Global, bytes: &[u8]) -> File
+    ensures { memory_bytes result.device ≡ bytes.now }
+{
+    let copy = Vec::from_slice(alloc, bytes).expect(rt, "no bytes");
+    FrameFile::new(Memory::new(alloc, copy))
 }
 
 // This frame is appended to a file that was recovered.
@@ -23,15 +30,16 @@ fn append(rt: &impl Abort, alloc: Global, file: &mut File, payload: &[u8]) {
     file.append(alloc, payload).expect(rt, "not appended");
 }
 
-// The payloads in a file, which is gone on with behind them.
-fn recovered(rt: &impl Abort, alloc: Global, file: &mut File) -> Vec<Vec<u8>> {
-    file.recover(alloc).expect(rt, "not recovered")
+// A file in memory of these bytes, which is gone on with behind the payloads that it has.
+fn recovered(rt: &impl Abort, alloc: Global, bytes: &[u8]) -> (File, Vec<Vec<u8>>) {
+    let mut file = memory(rt, alloc, bytes);
+    let payloads = file.recover(alloc, bytes).expect(rt, "not recovered");
+    (file, payloads)
 }
 
 // The bytes of a file of these three frames.
 fn three(rt: &impl Abort, alloc: Global) -> Vec<u8> {
-    let mut file = memory(alloc, Vec::new(alloc));
-    let payloads = recovered(rt, alloc, &mut file);
+    let (mut file, payloads) = recovered(rt, alloc, &[]);
     drop(payloads);
     append(rt, alloc, &mut file, b"first".as_slice());
     append(rt, alloc, &mut file, &[]);
@@ -64,8 +72,7 @@ fn four_are_there(rt: &impl Abort, alloc: Global, bytes: &[u8]) {
 #[test]
 fn what_was_appended_is_read_again(rt: HostRuntime) {
     let alloc = rt.alloc();
-    let mut file = memory(alloc, three(&rt, alloc));
-    let payloads = recovered(&rt, alloc, &mut file);
+    let (mut file, payloads) = recovered(&rt, alloc, &three(&rt, alloc));
     three_are_read(&rt, payloads.as_slice());
     drop(payloads);
     append(&rt, alloc, &mut file, b"fourth".as_slice());
@@ -135,20 +142,13 @@ fn each_changed_byte_is_found(rt: HostRuntime) {
     }
 }
 
-// A file of these bytes but the last.
-fn torn(rt: &impl Abort, alloc: Global, bytes: &[u8]) -> File {
-    let mut torn = Vec::from_slice(alloc, bytes).expect(rt, "no bytes");
-    torn.truncate(ENDS[2] - 1);
-    memory(alloc, torn)
-}
-
 // What a crash left of a frame is cut off, and the next one stands in its place.
 #[test]
 fn an_end_is_cut_off(rt: HostRuntime) {
     let alloc = rt.alloc();
     let bytes = three(&rt, alloc);
-    let mut file = torn(&rt, alloc, &bytes);
-    let payloads = recovered(&rt, alloc, &mut file);
+    let torn = bytes.get(..ENDS[2] - 1).unwrap_or_default();
+    let (mut file, payloads) = recovered(&rt, alloc, torn);
     is_same(&rt, payloads.len(), 2);
     drop(payloads);
     is_same(&rt, file.device().bytes().len(), ENDS[1]);
@@ -169,8 +169,8 @@ fn behind(rt: &impl Abort, alloc: Global, end: &[u8]) -> Vec<u8> {
 // What no crash leaves behind three frames is refused, and not cut off.
 fn is_refused(rt: &impl Abort, alloc: Global, end: &[u8]) {
     let bytes = behind(rt, alloc, end);
-    let mut file = memory(alloc, behind(rt, alloc, end));
-    let refused = matches!(file.recover(alloc), Err(FrameFault::Damaged(3)));
+    let mut file = memory(rt, alloc, &bytes);
+    let refused = matches!(file.recover(alloc, &bytes), Err(FrameFault::Damaged(3)));
     is_same(rt, (end.len(), refused), (end.len(), true));
     is_same(rt, file.device().bytes(), bytes.as_slice());
     is_same(rt, file.device().dropped().len(), 0);

@@ -157,6 +157,14 @@ impl Journal for Watched<'_> {
 
     ghost has_kept = { λ journal events. journal.memory ≡ events };
 
+    ghost moment = { λ journal. 0 };
+
+    ghost left_since = { λ journal since left. ⊥ };
+
+    ghost leaves = { λ journal before more left. ⊥ };
+
+    ghost kept_now = { λ journal events left kept now. now };
+
     fn keep(&mut self, events: &Log) -> Result<(), NotKept> {
         let before = self.board.keeps.fetch_add(1, Ordering::SeqCst);
         if before.wrapping_add(1) == self.failure.at {

@@ -7,6 +7,7 @@
 //! | `errand_tests` | how many calls a worker has on their way at a time |
 //! | `locked_tests` | data components of this process, behind locks |
 //! | `ring_tests` | data components in threads of their own, behind rings |
+//! | `cut_tests` | lists of calls between which the log begins anew |
 //! | `journal_tests` | runs whose log is kept in a journal |
 //! | `log_journal_tests` | runs whose log is kept in a file |
 //! | `restart_tests` | data components that restart while calls run |
@@ -15,6 +16,8 @@
 //! `rt test pool_tests` proves and runs these; `tools/requests.py` runs them with memory refused.
 #![tactic(auto)]
 
+#[cfg(test)]
+mod cut_tests;
 #[cfg(test)]
 mod errand_tests;
 #[cfg(test)]

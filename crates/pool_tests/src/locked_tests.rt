@@ -1,26 +1,12 @@
 // Components behind locks, each at its place.
 
-use crate::test_pool::{are_committed, first_answers, is_same};
-use crate::test_state::{PUT_BESIDE, calls_of, dc};
+use crate::test_pool::{are_committed, first_answers, is_same, two_locked_dcs};
+use crate::test_state::{PUT_BESIDE, calls_of};
 use access_slots::slot::Record;
 use data_component::dc::Dc;
 use samples::{PUT, record, value};
-use std::alloc::{AllocError, Global};
 use std::process::Abort;
 use worker_pool::{LockedDcs, OpenGate};
-
-fn push_both(alloc: Global, dcs: &mut Vec<Dc>) -> Result<(), AllocError> {
-    dcs.push(dc(alloc, 4)?)?;
-    dcs.push(dc(alloc, 4)?)?;
-    Ok(())
-}
-
-// Two components.
-fn two_dcs(alloc: Global) -> Result<LockedDcs, AllocError> {
-    let mut dcs = Vec::new(alloc);
-    push_both(alloc, &mut dcs)?;
-    LockedDcs::new(alloc, dcs)
-}
 
 // Sees that this component keeps one row: record 5 of its own, with this number.
 fn keeps(rt: &impl Abort, dc: &Dc, number: u16, kept: u64) {
@@ -55,7 +41,7 @@ fn are_in_order(rt: &impl Abort, dcs: &[Dc]) {
 // first, and `put 5 2` into the second.
 #[test]
 fn two_components_at_their_places(rt: HostRuntime) {
-    let mut link = two_dcs(rt.alloc()).expect(&rt, "no link");
+    let mut link = two_locked_dcs(rt.alloc(), 4).expect(&rt, "no link");
     let calls = calls_of(&rt, rt.alloc(), &[(PUT, &[5, 1]), (PUT_BESIDE, &[5, 2])]);
     let answers = first_answers(&rt, rt.alloc(), calls, 2, &link, &OpenGate);
     are_committed(&rt, answers.as_slice(), 2);

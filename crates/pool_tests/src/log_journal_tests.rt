@@ -1,5 +1,8 @@
 // Runs whose log is kept in a file, of which a crash at each moment leaves a beginning.
 
+ghost use Rattle.std.specs.Prelude.{◌≡◌};
+ghost use Rattle.frame_file.specs.Memory.{memory_bytes};
+
 use crate::test_pool::{are_committed, is_same, locked_dc, state_of};
 use crate::test_state::{puts, state};
 use access_slots::slot::Record;
@@ -21,13 +24,15 @@ const HEADER: Header = Header {
 };
 
 // A file in memory with these bytes.
-fn memory(rt: &impl Abort, alloc: Global, bytes: &[u8]) -> Memory {
+fn memory(rt: &impl Abort, alloc: Global, bytes: &[u8]) -> Memory
+    ensures { memory_bytes result ≡ bytes.now }
+{
     Memory::new(alloc, Vec::from_slice(alloc, bytes).expect(rt, "no bytes"))
 }
 
 // A journal over a file in memory with these bytes, and the log that they say, which begins at the beginning.
 fn opened(rt: &impl Abort, alloc: Global, bytes: &[u8]) -> (LogJournal<Memory>, Log) {
-    match LogJournal::open(alloc, memory(rt, alloc, bytes), HEADER) {
+    match LogJournal::open(alloc, memory(rt, alloc, bytes), HEADER, bytes) {
         Ok((journal, Restored { base: None, log })) => (journal, log),
         Ok(_) => panic!(rt; "it begins behind another one"),
         Err(_) => panic!(rt; "not opened"),
@@ -144,7 +149,8 @@ fn anothers_file(rt: HostRuntime) {
         digest: [8; 32],
         ..HEADER
     };
-    let refused = LogJournal::open(rt.alloc(), Memory::new(rt.alloc(), bytes), other);
+    let file = memory(&rt, rt.alloc(), &bytes);
+    let refused = LogJournal::open(rt.alloc(), file, other, &bytes);
     assert!(&rt; matches!(refused, Err(OpenFault::Other)));
 }
 
@@ -195,6 +201,7 @@ fn a_log_that_begins_anew_is_read_with_its_records(rt: HostRuntime) {
         alloc,
         memory(&rt, alloc, bytes.as_slice()),
         HEADER,
+        bytes.as_slice(),
     ) else {
         panic!(&rt; "not read");
     };
@@ -216,7 +223,8 @@ fn a_log_that_begins_anew_is_read_with_its_records(rt: HostRuntime) {
     for end in 0..bytes.len() {
         let torn = bytes.get(..end).unwrap_or_default();
         assert_eq!(&rt; may_be_left(alloc, &HEADER, torn), Ok(true));
-        let refused = LogJournal::open(alloc, memory(&rt, alloc, torn), HEADER).is_err();
+        let file = memory(&rt, alloc, torn);
+        let refused = LogJournal::open(alloc, file, HEADER, torn).is_err();
         assert_eq!(&rt; refused, end > 8);
     }
     let other = Header {

@@ -2,6 +2,7 @@
 
 use crate::test_state::{calls_of, dc, state};
 use access_slots::slot::Value;
+use data_component::dc::Dc;
 use samples::{PUT, record, value};
 use std::alloc::{AllocError, Global};
 use std::fmt::Debug;
@@ -23,6 +24,19 @@ pub(crate) fn is_same<T: PartialEq + Debug + Drop>(rt: &impl Abort, found: T, wa
 pub(crate) fn locked_dc(alloc: Global, rows: usize) -> Result<LockedDcs, AllocError> {
     let mut dcs = Vec::new(alloc);
     dcs.push(dc(alloc, rows)?)?;
+    LockedDcs::new(alloc, dcs)
+}
+
+fn push_both(alloc: Global, dcs: &mut Vec<Dc>, rows: usize) -> Result<(), AllocError> {
+    dcs.push(dc(alloc, rows)?)?;
+    dcs.push(dc(alloc, rows)?)?;
+    Ok(())
+}
+
+/// Both data components that the state knows, each with room for so many rows.
+pub(crate) fn two_locked_dcs(alloc: Global, rows: usize) -> Result<LockedDcs, AllocError> {
+    let mut dcs = Vec::new(alloc);
+    push_both(alloc, &mut dcs, rows)?;
     LockedDcs::new(alloc, dcs)
 }
 

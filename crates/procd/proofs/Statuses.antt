@@ -21,7 +21,9 @@ use Rattle.log_command.specs.LogReport.{IsUnread, IsListing, Listed, Unread, IsC
 use Rattle.log_command.specs.LogReport.{IsBeside, NotRead, Anothers, Own, IsAuditBy}
 use Rattle.log_command.specs.PictureReport.{IsPicturing, Drawn, NotDrawn}
 use Rattle.run_command.specs.declared.anew.Checkpoints.{Checkpoints}
-use Rattle.run_command.specs.Kept.{FileJournal, KeepsLog}
+use Rattle.run_command.specs.declared.anew.Renewal.{Renewal}
+use Rattle.run_command.specs.Kept.{FileJournal}
+use Rattle.run_command.specs.Parts.{IsKeptSo}
 use Rattle.run_command.specs.Running.{IsRunBy, IsCallsRun, Ran, Stopped, never, begun, empty_stores}
 use Rattle.run_command.specs.Logged.{IsLoggedRun, Refused, Behind as GoneOn, IsLoggedBy}
 use Rattle.world_command.specs.WorldReport.{IsWorldBy, status_of_steps}
@@ -78,7 +80,7 @@ sound_low : (sound : Bool) → (if sound then 0 else 1) ≤ 1
 sound_low true = omega arith
 sound_low false = omega arith
 
-calls_low : (Kept : Core → Type 0) (checkpoints : Checkpoints) (start : Core) (dcs : List Store) (first calls : List Call) (workers tries : ℕ) (audit : Bool) (status : ℕ) (lines : List ℕ)
+calls_low : (Kept : Core → Renewal → Type 0) (checkpoints : Checkpoints) (start : Core) (dcs : List Store) (first calls : List Call) (workers tries : ℕ) (audit : Bool) (status : ℕ) (lines : List ℕ)
     → IsCallsRun Kept checkpoints start dcs first calls workers tries audit status lines → status ≤ 1
 calls_low Kept checkpoints start dcs first calls workers tries audit status lines (Ran fit run) =
     let is = run.printed.status_is in
@@ -89,13 +91,13 @@ run_low : (refusal : Option (List ℕ)) (contents : Contents) (workers tries : �
     → IsRunBy refusal contents workers tries audit status lines → status ≤ 1
 run_low (Some refusal) contents workers tries audit status lines h = omega (arith, h.0)
 run_low None contents workers tries audit status lines h =
-    calls_low (λ _. Unit {0}) never (begun contents) (empty_stores contents) contents.first contents.calls workers tries audit status lines h
+    calls_low (λ _ _. Unit {0}) never (begun contents) (empty_stores contents) contents.first contents.calls workers tries audit status lines h
 
 behind_low : (journal : Option FileJournal) (checkpoints : Checkpoints) (start : Core) (empties : List Store) (first calls : List Call) (workers tries : ℕ) (audit : Bool)
     (status : ℕ) (lines : List ℕ) → IsLoggedRun journal checkpoints start empties first calls workers tries audit status lines → status ≤ 1
 behind_low journal checkpoints start empties first calls workers tries audit status lines (Refused why is) = omega (arith, is)
 behind_low journal checkpoints start empties first calls workers tries audit status lines (GoneOn b) =
-    calls_low (λ (last : Core). KeepsLog journal last.events) checkpoints b.on.anew b.on.anew_dcs first calls workers tries audit status b.on.answers b.on.ran
+    calls_low (IsKeptSo journal checkpoints) checkpoints b.on.anew b.on.anew_dcs first calls workers tries audit status b.on.answers b.on.ran
 
 logged_low : (journal : Option FileJournal) (checkpoints : Checkpoints) (refusal : Option (List ℕ)) (contents : Contents) (workers tries : ℕ) (audit : Bool)
     (status : ℕ) (lines : List ℕ) → IsLoggedBy journal checkpoints refusal contents workers tries audit status lines → status ≤ 1

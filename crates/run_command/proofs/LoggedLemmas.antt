@@ -73,12 +73,3 @@ empty_one dc = record { list = refl; saved = refl; mark = refl; saved_mark = ref
 pub all_empty : (dcs : List Dc) → All HasOnlyRows (map empty_store dcs)
 all_empty [] = All-nil HasOnlyRows
 all_empty (dc ∷ dcs) = All-cons HasOnlyRows (empty_store dc) (map empty_store dcs) (empty_one dc) (all_empty dcs)
-
--- a file that is refused is as it was
-pub refusal_of_file : (script : Header) (now file : List ℕ) (fault : OpenFault) (lines : List ℕ) → (IsRefusal fault → now ≡ file)
-    → IsOpenRefusal script now fault lines → IsOpenRefusal script file fault lines
-refusal_of_file script now file fault lines same h =
-    elim h [
-      | inl line ↦ inl line
-      | inr other ↦ inr (other.0, subst (λ (f : List ℕ). IsOtherRefusal script f lines) (same (subst IsRefusal (sym other.0) tt)) other.1)
-    ]

@@ -9,7 +9,8 @@ use Rattle.run_command.specs.declared.anew.Checkpoints.{Checkpoints}
 use Rattle.run_command.specs.declared.anew.Ground.{Ground}
 use Rattle.run_command.specs.declared.anew.Renewal.{Renewal}
 use Rattle.run_command.specs.declared.parts.Progress.{Progress}
-use Rattle.run_command.specs.Parts.{Stage, Part, Anew, HaveLed, AreOne, IsWanted, in_all, first_in, calls_in, first_told, calls_told}
+use Rattle.run_command.specs.Anew.{IsHeeded}
+use Rattle.run_command.specs.Parts.{Stage, Part, Anew, HaveLed, AreOne, IsWanted, over_at_end, in_all, first_in, calls_in, first_told, calls_told}
 use Rattle.run_command.specs.Joining.Parts.{IsStep, IsRenewed, HasCome, AreSoFar, HasEnded}
 
 -- the first part
@@ -58,8 +59,9 @@ next_come start dcs over first done part p q r renewal some h renewed s = record
 -- the log may begin anew behind the last part
 pub ended_so : (start : Core) (dcs : List Store) (first calls : List Call) (checkpoints : Checkpoints) (p q : Progress) (renewal : Renewal)
     → HasCome start dcs checkpoints.over first calls p → IsRenewed p renewal q → IsWanted checkpoints renewal
+    → IsHeeded q.ground.journal (over_at_end checkpoints) renewal
     → HasEnded start dcs first calls checkpoints q renewal
-ended_so start dcs first calls checkpoints p q renewal h renewed wanted = record {
+ended_so start dcs first calls checkpoints p q renewal h renewed wanted heeded = record {
   behind = p.ground.state;
   behind_dcs = p.ground.dcs.items;
   stages = h.stages;
@@ -74,6 +76,7 @@ ended_so start dcs first calls checkpoints p q renewal h renewed wanted = record
       (subst (λ (b : List Answer). AreOne checkpoints.over first calls p.first.items b h.stages) (sym renewed.calls_told) h.one);
   renewed = renewed.renewed;
   wanted = wanted;
+  heeded = heeded;
 }
 
 -- ---- all of them
@@ -108,8 +111,9 @@ is_none (x ∷ rest) none = absurd (omega (arith, none))
 
 pub all_ended : (g : Ground) (checkpoints : Checkpoints) (first calls rest : List Call) (p q : Progress) (renewal : Renewal) → length rest ≡ 0
     → AreSoFar g checkpoints.over first calls rest p → IsRenewed p renewal q → IsWanted checkpoints renewal
+    → IsHeeded q.ground.journal (over_at_end checkpoints) renewal
     → HasEnded g.state g.dcs.items first calls checkpoints q renewal
-all_ended g checkpoints first calls rest p q renewal none so_far renewed wanted =
+all_ended g checkpoints first calls rest p q renewal none so_far renewed wanted heeded =
     let done : calls ≡ so_far.done = so_far.all ∙ (ap (λ (l : List Call). so_far.done ++ l) (is_none rest none) ∙ append-nil so_far.done) in
     subst (λ (l : List Call). HasEnded g.state g.dcs.items first l checkpoints q renewal) (sym done)
-    (ended_so g.state g.dcs.items first so_far.done checkpoints p q renewal so_far.come renewed wanted)
+    (ended_so g.state g.dcs.items first so_far.done checkpoints p q renewal so_far.come renewed wanted heeded)

@@ -13,10 +13,10 @@ use Rattle.run_command.specs.declared.parts.Progress.{Progress}
 use Rattle.run_command.specs.Joining.Parts.{HasEnded}
 use Rattle.run_command.specs.Running.{AreLinesOf, IsCallsRun, Ran, Stopped}
 
-pub ran_run : (Kept : Core → Type 0) (checkpoints : Checkpoints) (start : Core) (dcs : List Store) (first calls : List Call) (workers tries : ℕ)
+pub ran_run : (Kept : Core → Renewal → Type 0) (checkpoints : Checkpoints) (start : Core) (dcs : List Store) (first calls : List Call) (workers tries : ℕ)
     (audit : Bool) (status : ℕ) (lines : List ℕ) (p : Progress) (renewal : Renewal) → InRange workers tries
     → HasEnded start dcs first calls checkpoints p renewal
-    → AreLinesOf p.ground.state p.ground.dcs.items audit p.first.items p.calls.items renewal status lines → Kept p.ground.state
+    → AreLinesOf p.ground.state p.ground.dcs.items audit p.first.items p.calls.items renewal status lines → Kept p.ground.state renewal
     → IsCallsRun Kept checkpoints start dcs first calls workers tries audit status lines
 ran_run Kept checkpoints start dcs first calls workers tries audit status lines p renewal range ended printed kept =
     Ran range (record {
@@ -37,7 +37,7 @@ ran_run Kept checkpoints start dcs first calls workers tries audit status lines 
     })
 
 -- what is kept may be left out
-pub run_weaker : (K L : Core → Type 0) → ((c : Core) → K c → L c) → (checkpoints : Checkpoints) (start : Core) (dcs : List Store)
+pub run_weaker : (K L : Core → Renewal → Type 0) → ((c : Core) (r : Renewal) → K c r → L c r) → (checkpoints : Checkpoints) (start : Core) (dcs : List Store)
     (first calls : List Call) (workers tries : ℕ) (audit : Bool) (status : ℕ) (lines : List ℕ)
     → IsCallsRun K checkpoints start dcs first calls workers tries audit status lines
     → IsCallsRun L checkpoints start dcs first calls workers tries audit status lines
@@ -56,7 +56,7 @@ run_weaker K L less checkpoints start dcs first calls workers tries audit status
       renewed = r.renewed;
       wanted = r.wanted;
       printed = r.printed;
-      kept = less r.last r.kept;
+      kept = less r.last r.renewal r.kept;
     })
 run_weaker K L less checkpoints start dcs first calls workers tries audit status lines (Stopped cause stops is line) = Stopped cause stops is line
 

@@ -1,5 +1,5 @@
 -- A run whose log begins anew, and what is printed of it.
-use Rattle.std.specs.Prelude.{◌≡◌, ℕ, List, [], ◌∷◌, ◌++◌, reverse, Some, codes, decimal}
+use Rattle.std.specs.Prelude.{◌≡◌, ℕ, List, [], ◌∷◌, ◌++◌, reverse, Option, Some, codes, decimal}
 use Rattle.tc_log.specs.declared.event.Event.{Event}
 use Rattle.history.specs.Anew.{begun}
 use Rattle.history.specs.Calls.{admitted}
@@ -16,7 +16,7 @@ use Rattle.run_command.specs.declared.anew.Bar.{Bar}
 use Rattle.run_command.specs.declared.anew.Bar.TheVariants.{Fault, Unforgettable, InTheWay}
 use Rattle.run_command.specs.declared.anew.Renewal.{Renewal}
 use Rattle.run_command.specs.declared.anew.Renewal.TheVariants.{Unwanted, Begun, Barred}
-use Rattle.run_command.specs.Kept.{FileJournal}
+use Rattle.run_command.specs.Kept.{FileJournal, IsOver}
 
 -- ---- the file
 
@@ -44,6 +44,10 @@ abbrev pub IsRenewal : Core → List Store → Core → List Store → Renewal �
 IsRenewal c dcs c' dcs' Unwanted = (c' ≡ c) × (dcs' ≡ dcs)
 IsRenewal c dcs c' dcs' Begun = IsCut c dcs c' dcs'
 IsRenewal c dcs c' dcs' (Barred bar) = (c' ≡ c) × (dcs' ≡ dcs) × IsBar c dcs bar
+
+-- the log goes on without a try only where its file hasn't more bytes than these
+abbrev pub IsHeeded : Option FileJournal → Option ℕ → Renewal → Type 0
+IsHeeded journal over renewal = renewal ≡ Unwanted → IsOver journal over → ⊥
 
 -- ---- what is printed
 

@@ -1,5 +1,5 @@
 -- The journal that keeps a run's log in a file, and what is told where it doesn't.
-use Rattle.std.specs.Prelude.{ℕ, List, reverse, Option, Some, None}
+use Rattle.std.specs.Prelude.{ℕ, ◌<◌, List, length, reverse, Option, Some, None}
 use Rattle.tc_log.specs.declared.event.Event.{Event}
 use Rattle.disk_file.specs.declared.disk.DiskFile.{DiskFile}
 use Rattle.disk_file.specs.Disk.{disk_bytes, left_of}
@@ -19,6 +19,12 @@ FileJournal = LogJournal DiskFile
 abbrev pub KeepsLog : Option FileJournal → List Event → Type 0
 KeepsLog None events = Unit {0}
 KeepsLog (Some j) events = HasWritten disk_bytes left_of j.header j.file (reverse events)
+
+-- its file has more bytes than these
+abbrev pub IsOver : Option FileJournal → Option ℕ → Type 0
+IsOver None over = ⊥
+IsOver (Some j) None = ⊥
+IsOver (Some j) (Some bytes) = bytes < length (disk_bytes j.file.frames.device)
 
 -- when calls have no answers: as without a journal; or something wasn't kept, or couldn't be for want of memory, where there is one
 abbrev pub HaltFits : Option FileJournal → ℕ → ℕ → Halt → Type 0

@@ -31,8 +31,9 @@ use Rattle.run_command.specs.declared.anew.Checkpoints.{Checkpoints}
 use Rattle.run_command.specs.declared.anew.Renewal.{Renewal}
 use Rattle.run_command.specs.declared.anew.Renewal.TheVariants.{Unwanted}
 use Rattle.run_command.specs.Anew.{IsRenewal, renewal_line}
-use Rattle.run_command.specs.Kept.{FileJournal, KeepsLog}
+use Rattle.run_command.specs.Kept.{FileJournal}
 use Rattle.run_command.specs.LogLines.{IsOpenRefusal, kind_refusal, back_refusal, overfull_refusal, back_lines}
+use Rattle.run_command.specs.Parts.{IsKeptSo}
 use Rattle.run_command.specs.Running.{IsCallsRun, begun, empty_stores}
 
 -- ---- what is gone on from
@@ -96,7 +97,7 @@ pub record IsRunOn (journal : Option FileJournal) (checkpoints : Checkpoints) (b
   pub renewed : IsRenewal back dcs anew anew_dcs renewal
   pub wanted : checkpoints.over ≡ None → renewal ≡ Unwanted
   pub answers : List ℕ
-  pub ran : IsCallsRun (λ last. KeepsLog journal last.events) checkpoints anew anew_dcs first calls workers tries audit status answers
+  pub ran : IsCallsRun (IsKeptSo journal checkpoints) checkpoints anew anew_dcs first calls workers tries audit status answers
   pub lines_are : lines ≡ (before ++ renewal_line anew.events renewal) ++ answers
 
 -- the lines of what came back, and behind them those of the calls

@@ -1,5 +1,5 @@
 -- Calls that are answered in parts, between which the log may begin anew.
-use Rattle.std.specs.Prelude.{◌≡◌, ℕ, List, [], ◌∷◌, ◌++◌, Option, None, Bool, false}
+use Rattle.std.specs.Prelude.{◌≡◌, ℕ, List, [], ◌∷◌, ◌++◌, Option, Some, None, Bool, false, if◌then◌else◌}
 use Rattle.data_component.specs.Store.{Store}
 use Rattle.scripts.specs.declared.script.Call as said
 use Rattle.tc_core.specs.Core.{Core}
@@ -11,9 +11,9 @@ use Rattle.run_command.specs.declared.anew.Renewal.TheVariants.{Unwanted}
 use Rattle.run_command.specs.declared.answering.Halt.{Halt}
 use Rattle.run_command.specs.declared.parts.Stop.{Stop}
 use Rattle.run_command.specs.declared.parts.Stop.TheVariants.{Halted, Unreported as Untold}
-use Rattle.run_command.specs.Anew.{IsRenewal}
+use Rattle.run_command.specs.Anew.{IsRenewal, IsHeeded}
 use Rattle.run_command.specs.Answered.{AreCallsOf, AreAnswered, AreServed}
-use Rattle.run_command.specs.Kept.{FileJournal, HaltFits, UnreportedFits}
+use Rattle.run_command.specs.Kept.{FileJournal, KeepsLog, HaltFits, UnreportedFits}
 
 -- calls of the first list and then of the second one that were answered so, or a log that may have begun anew
 pub data Stage : Type 0 where
@@ -78,6 +78,14 @@ AreOne over first calls first_answers other_answers stages = over ≡ None → s
 -- and where it isn't behind the last call either, it doesn't
 abbrev pub IsWanted : Checkpoints → Renewal → Type 0
 IsWanted checkpoints renewal = checkpoints.over ≡ None → checkpoints.at_end ≡ false → renewal ≡ Unwanted
+
+-- with how many bytes of its file it begins anew behind the last call
+abbrev pub over_at_end : Checkpoints → Option ℕ
+over_at_end checkpoints = if checkpoints.at_end then Some 0 else checkpoints.over
+
+-- the file has all of the last log on the disk, and that has begun anew where it is to, or is barred
+abbrev pub IsKeptSo : Option FileJournal → Checkpoints → Core → Renewal → Type 0
+IsKeptSo journal checkpoints last renewal = KeepsLog journal last.events × IsHeeded journal (over_at_end checkpoints) renewal
 
 -- why calls have no report
 abbrev pub StopFits : Option FileJournal → ℕ → ℕ → Stop → Type 0

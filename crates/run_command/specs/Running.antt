@@ -40,8 +40,8 @@ pub record AreLinesOf (last : Core) (dcs : List Store) (audit : Bool) (first_ans
   pub status_is : status ≡ (if sound then 0 else 1)
 
 -- the calls that the lines say are run over these data components, in stages, and their answers and the rows behind them are printed; behind
--- the last call the log may begin anew; the last state is kept
-pub record ArePrinted (Kept : Core → Type 0) (checkpoints : Checkpoints) (start : Core) (dcs : List Store) (first calls : List said.Call)
+-- the last call the log may begin anew; of the last state and of that log this is so
+pub record ArePrinted (Kept : Core → Renewal → Type 0) (checkpoints : Checkpoints) (start : Core) (dcs : List Store) (first calls : List said.Call)
     (audit : Bool) (status : ℕ) (lines : List ℕ) : Type 0 where
   pub first_answers : List Answer
   pub other_answers : List Answer
@@ -56,10 +56,10 @@ pub record ArePrinted (Kept : Core → Type 0) (checkpoints : Checkpoints) (star
   pub renewed : IsRenewal behind behind_dcs last last_dcs renewal
   pub wanted : IsWanted checkpoints renewal
   pub printed : AreLinesOf last last_dcs audit first_answers other_answers renewal status lines
-  pub kept : Kept last
+  pub kept : Kept last renewal
 
 -- they are run, whatever they are answered, or it is printed why not
-pub data IsCallsRun (Kept : Core → Type 0) (checkpoints : Checkpoints) (start : Core) (dcs : List Store) (first calls : List said.Call)
+pub data IsCallsRun (Kept : Core → Renewal → Type 0) (checkpoints : Checkpoints) (start : Core) (dcs : List Store) (first calls : List said.Call)
     (workers tries : ℕ) (audit : Bool) (status : ℕ) (lines : List ℕ) : Type 0 where
   Ran : InRange workers tries → ArePrinted Kept checkpoints start dcs first calls audit status lines
       → IsCallsRun Kept checkpoints start dcs first calls workers tries audit status lines
@@ -81,7 +81,7 @@ never = record { at_end = false; over = None }
 abbrev pub IsRunBy : Option (List ℕ) → Contents → ℕ → ℕ → Bool → ℕ → List ℕ → Type 0
 IsRunBy (Some refusal) contents workers tries audit status lines = (status ≡ 1) × (lines ≡ refusal)
 IsRunBy None contents workers tries audit status lines =
-    IsCallsRun (λ _. Unit {0}) never (begun contents) (empty_stores contents) contents.first contents.calls workers tries audit status lines
+    IsCallsRun (λ _ _. Unit {0}) never (begun contents) (empty_stores contents) contents.first contents.calls workers tries audit status lines
 
 -- of a script that is refused no call is made
 abbrev pub IsRun : ℕ → ℕ → Bool → Beginning → ℕ → List ℕ → Type 0

@@ -5,15 +5,16 @@ ghost use Rattle.data_component.specs.Store.{Store};
 ghost use Rattle.tc_core.specs.Core.{Core};
 ghost use Rattle.tc_world.specs.Cutting.{IsUncut};
 ghost use Rattle.run_command.specs.declared.anew.Renewal.TheVariants.{Unwanted};
-ghost use Rattle.run_command.specs.Anew.{AreAllRows, HasBegunAnew, IsBar, IsRenewal, renewal_line};
+ghost use Rattle.run_command.specs.Anew.{AreAllRows, HasBegunAnew, IsBar, IsHeeded, IsRenewal, renewal_line};
 ghost use Rattle.run_command.specs.declared.running.Unreported.TheVariants as Unreported;
-ghost use Rattle.run_command.specs.Kept.{FileJournal as FileJournalValue, KeepsLog, UnreportedFits};
+ghost use Rattle.run_command.specs.Kept.{FileJournal as FileJournalValue, IsOver, KeepsLog, UnreportedFits};
+ghost use Rattle.run_command.specs.Parts.{over_at_end};
 
 use crate::answering::FileJournal;
 use crate::running::Unreported;
 use data_component::dc::Dc;
 use disk_file::{Beside, BesideError, DiskFile, FileFault, OpenError, PlaceError};
-use log_file::{BaseRow, may_be_left};
+use log_file::{BaseRow, Header, may_be_left};
 use log_journal::LogJournal;
 use state_lines::refusal_texts::checkpoint_fault_text;
 use std::alloc::{AllocError, Global};
@@ -43,9 +44,10 @@ impl Checkpoints {
         over: None,
     };
 
-    /// From how many bytes on it does behind the last call.
+    /// With more bytes than how many it does behind the last call.
     pub fn over_at_end(&self) -> Option<u64>
-        ensures { self.now.over ≡ None → self.now.at_end ≡ false → result ≡ None }
+        ensures over { result ≡ over_at_end self.now }
+        ensures none { self.now.over ≡ None → self.now.at_end ≡ false → result ≡ None }
     {
         if self.at_end { Some(0) } else { self.over }
     }
@@ -127,6 +129,21 @@ fn base_of(alloc: Global, dcs: &[Dc]) -> Result<Vec<BaseRow>, AllocError>
     Ok(base)
 }
 
+// The file beside the log's, if its bytes are what a run left that was cut short, or none.
+fn if_left(
+    alloc: Global,
+    header: &Header,
+    beside: Beside,
+    bytes: Vec<u8>,
+) -> Result<Option<Beside>, AllocError> {
+    if may_be_left(alloc, header, &bytes)? {
+        Ok(Some(beside))
+    } else {
+        drop(beside);
+        Ok(None)
+    }
+}
+
 // Opens the file beside the log's, if it may be written over: it is empty, or what a run left that was cut
 // short.
 fn open_beside<F: Files<File = File>>(
@@ -136,14 +153,7 @@ fn open_beside<F: Files<File = File>>(
     journal: &FileJournal,
 ) -> Result<Option<Beside>, AllocError> {
     match Beside::open(rt, alloc, path) {
-        Ok(beside) => {
-            if may_be_left(alloc, journal.header(), beside.bytes())? {
-                Ok(Some(beside))
-            } else {
-                drop(beside);
-                Ok(None)
-            }
-        }
+        Ok((beside, bytes)) => if_left(alloc, journal.header(), beside, bytes),
         Err(BesideError::Open(OpenError::Memory)) => Err(AllocError),
         Err(_) => Ok(None),
     }
@@ -223,6 +233,9 @@ fn write_anew<F: Files<File = File>>(
         Ok(new) => match new.device().take_place(rt, alloc, path, journal.device()) {
             Ok(()) => Ok(new),
             Err(error) => {
+                if let PlaceError::Kept(_) = error {
+                    new.device().give_up_place(rt, alloc, path);
+                }
                 drop(new);
                 Err(unplaced(error))
             }
@@ -258,6 +271,7 @@ fn begin_anew<F: Files<File = File>>(
     ensures goes { IfOk result (λ r. IsRenewal state dcs.items r.0.state r.0.dcs.items r.1) }
     ensures kept { KeepsLog (Some journal) state.events → IfOk result (λ r. KeepsLog r.0.journal r.0.state.events) }
     ensures same { IfOk result (λ r. is_some r.0.journal ≡ true) }
+    ensures tried { IfOk result (λ r. r.1 ≡ Unwanted → ⊥) }
     ensures fault { IfErr result (UnreportedFits (Some journal)) }
 {
     let Some(beside) = open_beside(rt, alloc, path, &journal)? else {
@@ -294,7 +308,9 @@ fn begin_anew<F: Files<File = File>>(
 
 // Whether the log's file has more bytes than this.
 fn is_over(journal: &Option<FileJournal>, over: Option<u64>) -> bool
-    ensures { IsTrue result → over ≢ None }
+    ensures wanted { IsTrue result → over ≢ None }
+    ensures over { IsTrue result → IsOver journal.now over }
+    ensures not { result ≡ false → IsOver journal.now over → ⊥ }
 {
     match (journal, over) {
         (Some(journal), Some(over)) => journal.device().len() > over,
@@ -314,6 +330,8 @@ pub fn renew<F: Files<File = File>>(
 ) -> Result<(Ground, Renewal), Unreported>
     ensures goes { IfOk result (λ r. IsRenewal ground.state ground.dcs.items r.0.state r.0.dcs.items r.1) }
     ensures unwanted { IfOk result (λ r. over ≡ None → r.1 ≡ Unwanted) }
+    ensures heeded { IfOk result (λ r. IsHeeded r.0.journal over r.1) }
+    ensures needless { IfOk result (λ r. (IsOver ground.journal over → ⊥) → r.1 ≡ Unwanted) }
     ensures kept { KeepsLog ground.journal ground.state.events → IfOk result (λ r. KeepsLog r.0.journal r.0.state.events) }
     ensures same { IfOk result (λ r. is_some r.0.journal ≡ is_some ground.journal) }
     ensures fault { IfErr result (UnreportedFits ground.journal) }

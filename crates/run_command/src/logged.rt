@@ -11,7 +11,7 @@ ghost use Rattle.data_component.specs.Store.{Store, is_overfull};
 ghost use Rattle.script_loading.specs.Loading.{beginning_of};
 ghost use Rattle.scripts.specs.declared.keyword.Command.TheVariants as command;
 ghost use Rattle.coming_back.specs.Coming.{HasOnlyRows};
-ghost use Rattle.log_file.specs.Reading.{IsOpenFault, IsRefusal};
+ghost use Rattle.log_file.specs.Reading.{IsOpenFault};
 ghost use Rattle.procedure_digest.specs.Header.{header_of};
 ghost use Rattle.tc_core.specs.Core.{loaded_in};
 ghost use Rattle.run_command.specs.LogLines.{IsOpenRefusal};
@@ -94,23 +94,23 @@ fn refusal(lines: String) -> Report
     }
 }
 
-// Why a log's file that was opened isn't read; none where something is to be cut off, and there is no place
-// for it.
+// Why a log's file of these bytes isn't read; none where something is to be cut off, and there is no place for it.
 fn unread(
     alloc: Global,
     fault: &OpenFault,
     header: &Header,
+    bytes: &[u8],
     device: &DiskFile,
 ) -> Result<Option<Report>, Unlogged>
     ensures { IfOk result (λ o. IfSome o (λ report.
-        IsOpenRefusal header.now (disk_bytes device.now) fault.now (string_bytes report.lines) × (report.status ≡ 1))) }
+        IsOpenRefusal header.now bytes.now fault.now (string_bytes report.lines) × (report.status ≡ 1))) }
 {
     if let Some(line) = open_refusal(alloc, fault)? {
         return Ok(Some(refusal(line)));
     }
     match fault {
         OpenFault::Other => {
-            let line = other_refusal(alloc, header, device.bytes())?;
+            let line = other_refusal(alloc, header, bytes)?;
             Ok(Some(refusal(line)))
         }
         OpenFault::Frames(FrameFault::Device(DeviceError::Unkept)) => Ok(None),
@@ -119,18 +119,18 @@ fn unread(
     }
 }
 
-// What comes of opening it then: a file that is refused is as it was.
+// What comes of opening it then.
 fn refused(
     alloc: Global,
     fault: &OpenFault,
     header: &Header,
+    bytes: &[u8],
     device: &DiskFile,
 ) -> Result<Option<Opening>, Unlogged>
-    ensures { (start : Core) (file : List ℕ) → header.now ≡ header_of (loaded_in start) → IsOpenFault header.now file fault.now
-        → (IsRefusal fault.now → disk_bytes device.now ≡ file)
+    ensures { (start : Core) → header.now ≡ header_of (loaded_in start) → IsOpenFault header.now bytes.now fault.now
         → IfOk result (λ o. IfSome o (λ x. (empties : List Store) → IsOpening start empties x)) }
 {
-    match unread(alloc, fault, header, device)? {
+    match unread(alloc, fault, header, bytes, device)? {
         Some(report) => Ok(Some(Opening::Refused(report))),
         None => Ok(None),
     }
@@ -145,21 +145,22 @@ enum Dropped {
     Beside,
 }
 
-// Opens a log's file.
+// Opens a log's file, and reads it.
 fn open_file<F: Files<File = File>>(
     rt: &F,
     alloc: Global,
     path: &str,
     place: Dropped,
-) -> Result<DiskFile, OpenError>
-    ensures { IfOk result (λ d. Only (disk_bytes d) (left_of d)) }
+) -> Result<(DiskFile, Vec<u8>), OpenError>
+    ensures bytes { IfOk result (λ r. r.1.items ≡ disk_bytes r.0) }
+    ensures settled { IfOk result (λ r. Only (disk_bytes r.0) (left_of r.0)) }
 {
-    let mut file = DiskFile::open(rt, alloc, path)?;
+    let (mut file, bytes) = DiskFile::open(rt, alloc, path)?;
     match place {
-        Dropped::Nowhere => Ok(file),
+        Dropped::Nowhere => Ok((file, bytes)),
         Dropped::Beside => {
             file.keep_dropped(rt, alloc, path)?;
-            Ok(file)
+            Ok((file, bytes))
         }
     }
 }
@@ -190,12 +191,12 @@ fn try_log<F: Files<File = File>>(
     ensures { IfOk result (λ o. IfSome o (λ x. (empties : List Store) → IsOpening state.now empties x)) }
 {
     let header = header_of(alloc, state.procs())?;
-    let file = match open_file(rt, alloc, path, place) {
-        Ok(file) => file,
+    let (file, bytes) = match open_file(rt, alloc, path, place) {
+        Ok(opened) => opened,
         Err(error) => return Ok(Some(Opening::Refused(unopened(alloc, error)?))),
     };
     let mut file = LogFile::new(file);
-    match LogJournal::begin(alloc, &mut file, &header) {
+    match LogJournal::begin(alloc, &mut file, &header, &bytes) {
         Ok(Restored { base, log }) => {
             let dropped = file.device().cut_off();
             Ok(Some(Opening::Open(Opened {
@@ -205,7 +206,7 @@ fn try_log<F: Files<File = File>>(
                 dropped,
             })))
         }
-        Err(fault) => refused(alloc, &fault, &header, file.device()),
+        Err(fault) => refused(alloc, &fault, &header, &bytes, file.device()),
     }
 }
 

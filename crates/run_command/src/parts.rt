@@ -6,6 +6,7 @@ ghost use Rattle.run_command.specs.Answered.{AreCallsOf};
 ghost use Rattle.run_command.specs.Kept.{KeepsLog, UnreportedFits};
 ghost use Rattle.run_command.specs.declared.anew.Renewal.{Renewal};
 ghost use Rattle.run_command.specs.declared.anew.Renewal.TheVariants.{Unwanted};
+ghost use Rattle.run_command.specs.Anew.{IsHeeded};
 ghost use Rattle.run_command.specs.Parts.{IsWanted, StopFits};
 ghost use Rattle.run_command.specs.Joining.Parts.{IsStep, IsRenewed, HasCome, HasEnded};
 
@@ -198,6 +199,7 @@ fn renew_behind<F: Files<File = File>>(
 ) -> Result<(Progress, Renewal), Unreported>
     ensures renewed { IfOk result (λ r. IsRenewed progress r.1 r.0) }
     ensures unwanted { IfOk result (λ r. over ≡ None → r.1 ≡ Unwanted) }
+    ensures heeded { IfOk result (λ r. IsHeeded r.0.ground.journal over r.1) }
     ensures kept { KeepsLog progress.ground.journal progress.ground.state.events
         → IfOk result (λ r. KeepsLog r.0.ground.journal r.0.ground.state.events) }
     ensures same { IfOk result (λ r. is_some r.0.ground.journal ≡ is_some progress.ground.journal) }

@@ -13,7 +13,7 @@ ghost use Rattle.state_lines.specs.RowLines.{AddsRowLines};
 ghost use Rattle.run_command.specs.Kept.{FileJournal as FileJournalValue, KeepsLog, UnreportedFits};
 ghost use Rattle.run_command.specs.Joining.Stopping.{StopsAt};
 ghost use Rattle.run_command.specs.Answered.{said_call, AreCallsOf};
-ghost use Rattle.run_command.specs.Parts.{StopFits};
+ghost use Rattle.run_command.specs.Parts.{StopFits, IsKeptSo};
 ghost use Rattle.run_command.specs.declared.answering.Halt.{Halt as HaltValue};
 ghost use Rattle.run_command.specs.declared.parts.Stop.TheVariants.{Halted};
 ghost use Rattle.run_command.specs.Running.{is_want_of_memory, AreLinesOf, IsCallsRun, IsRun, never};
@@ -275,7 +275,7 @@ fn run_wish<R: Files<File = File> + Clock + Threads + Wait + Sync>(
     wish: Wish,
     waits: &Waits,
 ) -> Result<Ran, Unreported>
-    ensures run { KeepsLog ground.journal ground.state.events → IfOk result (λ r. IsCallsRun (λ last. KeepsLog r.journal last.events)
+    ensures run { KeepsLog ground.journal ground.state.events → IfOk result (λ r. IsCallsRun (IsKeptSo r.journal wish.entry.checkpoints)
         wish.entry.checkpoints ground.state ground.dcs.items wish.entry.first.now wish.entry.calls.now wish.entry.manner.workers wish.entry.manner.tries
         wish.entry.manner.audit r.report.status (string_bytes r.report.lines)) }
     ensures fault { IfErr result (UnreportedFits ground.journal) }
@@ -309,7 +309,7 @@ pub fn run_from<R: Files<File = File> + Clock + Threads + Wait + Sync>(
     ground: Ground,
     calls: Calls,
 ) -> Result<Ran, Unreported>
-    ensures run { KeepsLog ground.journal ground.state.events → IfOk result (λ r. IsCallsRun (λ last. KeepsLog r.journal last.events)
+    ensures run { KeepsLog ground.journal ground.state.events → IfOk result (λ r. IsCallsRun (IsKeptSo r.journal calls.checkpoints)
         calls.checkpoints ground.state ground.dcs.items calls.first.items calls.calls.items calls.manner.workers calls.manner.tries
         calls.manner.audit r.report.status (string_bytes r.report.lines)) }
     ensures fault { IfErr result (UnreportedFits ground.journal) }
@@ -340,7 +340,7 @@ fn run_loaded<R: Files<File = File> + Clock + Threads + Wait + Sync>(
     manner: Manner,
     listeners: Listeners,
 ) -> Result<Report, AllocError>
-    ensures { IfOk result (λ r. IsCallsRun (λ _. Unit {0}) never loaded.state loaded.dcs.items loaded.first.items loaded.calls.items
+    ensures { IfOk result (λ r. IsCallsRun (λ _ _. Unit {0}) never loaded.state loaded.dcs.items loaded.first.items loaded.calls.items
         manner.workers manner.tries manner.audit r.status (string_bytes r.lines)) }
 {
     let Loaded {

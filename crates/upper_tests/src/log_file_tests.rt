@@ -1,3 +1,6 @@
+ghost use Rattle.std.specs.Prelude.{◌≡◌, [], IfOk};
+ghost use Rattle.frame_file.specs.Memory.{memory_bytes};
+
 use access_slots::op::{News, Op, Said};
 use access_slots::slot::Record;
 use frame_file::{FrameFault, FrameFile, Memory};
@@ -25,7 +28,9 @@ const DELETE: Op = Op::Delete(Record {
 // with two events.
 const ENDS: [usize; 4] = [88, 344, 408, 632];
 
-fn over(alloc: Global, bytes: &[u8]) -> Result<LogFile<Memory>, AllocError> {
+fn over(alloc: Global, bytes: &[u8]) -> Result<LogFile<Memory>, AllocError>
+    ensures { IfOk result (λ f. memory_bytes f.frames.device ≡ bytes.now) }
+{
     Ok(LogFile::new(Memory::new(alloc, Vec::from_slice(alloc, bytes)?)))
 }
 
@@ -61,8 +66,10 @@ const RESTARTED: SiteNote = SiteNote::Restarted(News {
 });
 
 // A file that is empty is begun.
-fn is_begun(rt: &impl Abort, alloc: Global, file: &mut LogFile<Memory>) {
-    let empty = matches!(file.open(alloc, &HEADER), Err(OpenFault::Empty));
+fn is_begun(rt: &impl Abort, alloc: Global, file: &mut LogFile<Memory>)
+    requires { memory_bytes file.old.frames.device ≡ [] }
+{
+    let empty = matches!(file.open(alloc, &HEADER, &[]), Err(OpenFault::Empty));
     assert_eq!(rt; (empty, file.create(alloc, &HEADER)), (true, Ok(())));
 }
 
@@ -108,7 +115,7 @@ fn written(rt: &impl Abort, alloc: Global) -> Result<Vec<u8>, Fail> {
 
 // What these bytes are read as.
 fn opened(alloc: Global, bytes: &[u8], header: &Header) -> Result<Recovered, OpenFault> {
-    over(alloc, bytes)?.open(alloc, header)
+    over(alloc, bytes)?.open(alloc, header, bytes)
 }
 
 // They are read as the log with so many bytes of rows, and with this note of the second data component.
@@ -184,7 +191,7 @@ fn is_left(
     wanted: OpenFault,
 ) -> Result<(), Fail> {
     let mut file = over(alloc, bytes)?;
-    let fault = file.open(alloc, header).err();
+    let fault = file.open(alloc, header, bytes).err();
     let is_same = file.device().bytes() == bytes && file.device().dropped().is_empty();
     drop(file);
     assert_eq!(rt; (fault, is_same), (Some(wanted), true));
@@ -226,8 +233,9 @@ fn other_files_are_left(rt: HostRuntime) -> Result<(), Fail> {
 fn it_goes_on(rt: HostRuntime) -> Result<(), Fail> {
     let alloc = rt.alloc();
     let bytes = written(&rt, alloc)?;
-    let mut file = over(alloc, bytes.get(..631).unwrap_or_default())?;
-    let Ok(found) = file.open(alloc, &HEADER) else {
+    let front = bytes.get(..631).unwrap_or_default();
+    let mut file = over(alloc, front)?;
+    let Ok(found) = file.open(alloc, &HEADER, front) else {
         panic!(rt; "refused");
     };
     let rest = log(alloc)?.print_from(alloc, found.log.len())?;
@@ -239,7 +247,7 @@ fn it_goes_on(rt: HostRuntime) -> Result<(), Fail> {
 // The fault of a file with this batch behind the header.
 fn fault(alloc: Global, notes: &[Note], rows: &[u8]) -> Result<Option<OpenFault>, Fail> {
     let mut file = over(alloc, &[])?;
-    let _empty = file.open(alloc, &HEADER);
+    let _empty = file.open(alloc, &HEADER, &[]);
     let _created = file.create(alloc, &HEADER);
     let _appended = file.append(alloc, notes, rows);
     Ok(opened(alloc, file.device().bytes(), &HEADER).err())
@@ -327,7 +335,7 @@ fn it_is_read_by_itself(rt: HostRuntime) -> Result<(), Fail> {
 // The fault of a file with this payload alone.
 fn fault_of(alloc: Global, payload: &[u8]) -> Option<OpenFault> {
     let mut file = FrameFile::new(Memory::new(alloc, Vec::new(alloc)));
-    let _read = file.recover(alloc);
+    let _read = file.recover(alloc, &[]);
     let _appended = file.append(alloc, payload);
     read_file(alloc, file.device().bytes()).err()
 }
@@ -387,7 +395,7 @@ fn begun_anew(alloc: Global, base: &[BaseRow]) -> Result<Vec<u8>, Fail> {
     });
     let row = log.print(alloc)?;
     let mut file = over(alloc, &[])?;
-    let _empty = file.open(alloc, &HEADER);
+    let _empty = file.open(alloc, &HEADER, &[]);
     let _begun = file.begin_anew(alloc, &HEADER, base, &row);
     Ok(Vec::from_slice(alloc, file.device().bytes())?)
 }

@@ -10,4 +10,5 @@ pub mod Seated
 pub mod Carrying
 pub mod Known
 pub mod Handing
+pub mod Leaving
 pub mod Grown

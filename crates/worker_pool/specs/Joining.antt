@@ -1,5 +1,6 @@
 -- Definitions that only join bodies to those beside this folder: no contract that others see speaks of them.
 pub mod Handing
+pub mod Leaving
 pub mod Moves
 pub mod Ran
 pub mod Seated

@@ -28,6 +28,17 @@ pub record HasGoneOn (start now : Core) : Type 0 where
   pub begins : Begins start.events now.events
   pub legal : Legal now.procs now.events
 
+-- a crash left these bytes of a journal that had kept, behind what it had before, a beginning of what a state of the run had in its log, while
+-- it was keeping more of that
+pub record IsLeftOfRun (leaves : List Event → List Event → List ℕ → Type 0) (before : List Event) (start : Core) (left : List ℕ)
+    : Type 0 where
+  pub kept : List Event
+  pub more : List Event
+  pub then : Core
+  pub gone_on : HasGoneOn start then
+  pub log : Begins (reverse (kept ++ more) ++ start.events) then.events
+  pub is_left : leaves (before ++ kept) more left
+
 -- the state that is handed back
 abbrev pub kept_state_of : KeptFault → Core
 kept_state_of (Unbegun fault) = state_of fault

@@ -37,7 +37,7 @@ use tc_log::event::{Event, Outcome};
 /// The state that is handed to a run, its calls, whether it has a journal, what that had kept before and what
 /// it has kept at any time since, and the book of what is handed over to it. Each run picks them.
 pub trait Naming {
-    ghost use Rattle.std.specs.Prelude.{Bool, List};
+    ghost use Rattle.std.specs.Prelude.{ℕ, Bool, List};
     ghost use Rattle.logbook.specs.Pages.{Book};
     ghost use Rattle.tc_log.specs.declared.event.Event.{Event};
     ghost use Rattle.tc_core.specs.Core.{Core};
@@ -52,6 +52,12 @@ pub trait Naming {
     ghost before: { List Event → Type 0 };
 
     ghost kept: { List Event → Type 0 };
+
+    ghost since: { ℕ };
+
+    ghost past: { ℕ → List ℕ → Type 0 };
+
+    ghost leaves: { List Event → List Event → List ℕ → Type 0 };
 
     ghost book: { Book };
 }
@@ -68,6 +74,12 @@ impl Naming for Brand {
     ghost before = { λ events. ⊥ };
 
     ghost kept = { λ events. ⊥ };
+
+    ghost since = { 0 };
+
+    ghost past = { λ t left. ⊥ };
+
+    ghost leaves = { λ before more left. ⊥ };
 
     ghost book = { record { number = 0; log_name = 0; cells_name = 0 } };
 }
@@ -128,6 +140,7 @@ impl<J: Naming> Desk<J> {
     ghost use Rattle.worker_pool.specs.Joining.Moves.{MovesOn, IsHeldBy, Sends, GoesOnSending};
     ghost use Rattle.worker_pool.specs.Joining.Seen.{IsAnswered, AnswersStay};
     ghost use Rattle.worker_pool.specs.Joining.Handing.{events_of};
+    ghost use Rattle.worker_pool.specs.Joining.Leaving.{HasStood};
     ghost use Rattle.worker_pool.specs.Journals.{HasGoneOn};
     ghost use Rattle.worker_pool.specs.Reports.{Reports};
 
@@ -164,8 +177,10 @@ impl<J: Naming> Desk<J> {
         ensures more { IfOk result (λ r. r.0 ≡ known.now ++ batch.new ∷ []) }
         ensures all { IfOk result (λ r. self.old.state.events ≡ reverse (events_of r.0) ++ J.start.events) }
         ensures events { IfOk result (λ r. r.1 ≡ length J.start.events + length (events_of r.0)) }
+        ensures stood { IfOk result (λ r. HasStood J.start r.0) }
         ensures same { self.new ≡ self.old }
     {
+        self.known();
         if !self.handed.is_same(known) {
             return Err(NotKept::Failed);
         }

@@ -1,7 +1,8 @@
 // What keeps the events of a log.
 
-ghost use Rattle.std.specs.Prelude.{◌++◌, List, reverse, OnOk};
+ghost use Rattle.std.specs.Prelude.{◌++◌, ℕ, List, [], reverse, OnOk};
 ghost use Rattle.tc_log.specs.declared.event.Event.{Event as EventValue};
+ghost use Rattle.frame_file.specs.Device.{LeavesOnly};
 
 use tc_log::log::Log;
 
@@ -16,18 +17,37 @@ pub enum NotKept {
 
 /// What keeps the events of a log where they outlast the run, as a file does.
 pub trait Journal {
-    ghost use Rattle.std.specs.Prelude.{List};
+    ghost use Rattle.std.specs.Prelude.{ℕ, List, []};
     ghost use Rattle.tc_log.specs.declared.event.Event.{Event};
 
     /// It has kept these events, the oldest first. Which events are kept in a file is for the journal to
     /// say: they needn't be a function of the journal itself.
     ghost has_kept: { Self → List Event → Type 0 };
 
+    /// The moment, as a number that doesn't fall.
+    ghost moment: { Self → ℕ };
+
+    /// The bytes that a crash at some moment from that one on might have left, during a call or between two. Of a
+    /// journal that outlasts no crash there are none.
+    ghost left_since: { Self → ℕ → List ℕ → Type 0 };
+
+    /// A crash may leave these bytes of a journal that had kept the first events, while it was keeping the others
+    /// behind them.
+    ghost leaves: { Self → List Event → List Event → List ℕ → Type 0 };
+
     /// Keeps these events behind those that it has kept. At Ok a crash doesn't lose them. It is called by one
     /// worker at a time, and no lock but the journal's own is held.
     fn keep(&mut self, events: &Log) -> Result<(), NotKept>
-        ensures { (before : List EventValue) → has_kept self.old before
-            → OnOk result (has_kept self.new (before ++ reverse events.now.events)) };
+        ensures kept { (before : List EventValue) → has_kept self.old before
+            → OnOk result (has_kept self.new (before ++ reverse events.now.events)) }
+        // Whatever comes of it, a crash at any moment of the call leaves all that was kept before it.
+        ensures any_moment { (before : List EventValue) → has_kept self.old before
+            → LeavesOnly moment left_since self.old self.new (leaves self.old before (reverse events.now.events)) }
+        ensures same { (before more : List EventValue) (left : List ℕ) → leaves self.new before more left → leaves self.old before more left };
+
+    /// A crash at this moment leaves what is kept.
+    ghost kept_now: { (journal : Self) (events : List Event) (left : List ℕ) → has_kept journal events
+        → left_since journal (moment journal) left → leaves journal events [] left };
 }
 
 /// No journal. It keeps nothing, and a run without one doesn't ask it to.
@@ -36,6 +56,14 @@ pub(crate) struct NoJournal;
 
 impl Journal for NoJournal {
     ghost has_kept = { λ journal events. ⊥ };
+
+    ghost moment = { λ journal. 0 };
+
+    ghost left_since = { λ journal since left. ⊥ };
+
+    ghost leaves = { λ journal before more left. ⊥ };
+
+    ghost kept_now = { λ journal events left kept now. now };
 
     fn keep(&mut self, _events: &Log) -> Result<(), NotKept> {
         Err(NotKept::Failed)

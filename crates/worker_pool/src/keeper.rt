@@ -52,9 +52,10 @@ pub struct Keeper<J: Naming, K: Journal> {
 }
 
 impl<J: Naming, K: Journal> Model for Keeper<J, K> {
-    ghost use Rattle.std.specs.Prelude.{◌≡◌, ◌+◌, List, None, length};
+    ghost use Rattle.std.specs.Prelude.{◌≡◌, ◌+◌, ℕ, List, None, length};
     ghost use Rattle.tc_log.specs.declared.event.Event.{Event};
     ghost use Rattle.worker_pool.specs.Joining.Handing.{Shelf, HasAll, events_of};
+    ghost use Rattle.worker_pool.specs.Joining.Leaving.{LeavesBehind};
 
     ghost Value = { Shelf K };
 
@@ -62,13 +63,17 @@ impl<J: Naming, K: Journal> Model for Keeper<J, K> {
 
     ghost invariant = { λ k. (k.keeps ≡ J.keeps) × (k.fault ≡ None → HasAll K.has_kept J.before k.journal k.handed
         × (k.events ≡ length J.start.events + length (events_of k.handed)))
-        × ((journal : K) (events : List Event) → K.has_kept journal events → J.kept events) };
+        × ((journal : K) (events : List Event) → K.has_kept journal events → J.kept events)
+        × ((events : List Event) → J.before events
+        → LeavesBehind K.moment K.left_since J.start J.since J.past J.leaves events k.journal)
+        × ((events more : List Event) (left : List ℕ) → K.leaves k.journal events more left → J.leaves events more left) };
 }
 
 impl<J: Naming, K: Journal> Keeper<J, K> {
-    ghost use Rattle.std.specs.Prelude.{◌≡◌, ◌+◌, ◌++◌, ◌∷◌, List, [], None, Some, true, length, reverse, OnOk, IfOk, IfErr, IsErrOf};
+    ghost use Rattle.std.specs.Prelude.{◌≡◌, ◌+◌, ◌++◌, ◌∷◌, ℕ, List, [], None, Some, true, length, reverse, OnOk, IfOk, IfErr, IsErrOf};
     ghost use Rattle.tc_log.specs.declared.event.Event.{Event as EventValue};
     ghost use Rattle.worker_pool.specs.Joining.Handing.{HasAll, events_of};
+    ghost use Rattle.worker_pool.specs.Joining.Leaving.{HasStood, LeavesBehind};
     ghost use Rattle.worker_pool.specs.Joining.Ran.{KeepsAll};
     ghost use Rattle.worker_pool.specs.declared.journal.NotKept.{NotKept as NotKeptValue};
 
@@ -86,6 +91,9 @@ impl<J: Naming, K: Journal> Keeper<J, K> {
         requires kept { (journal : K) (events : List EventValue) → K.has_kept journal events → J.kept events }
         requires handed { handed ≡ [] }
         requires events { events ≡ length J.start.events }
+        requires left { (events : List EventValue) → J.before events
+            → LeavesBehind K.moment K.left_since J.start J.since J.past J.leaves events journal }
+        requires leaves { (events more : List EventValue) (left : List ℕ) → K.leaves journal events more left → J.leaves events more left }
     {
         Keeper {
             journal,
@@ -132,6 +140,7 @@ impl<J: Naming, K: Journal> Keeper<J, K> {
         requires sound { self.old.fault ≡ None }
         requires handed { handed ≡ self.old.handed ++ self.old.batch ∷ [] }
         requires events { events ≡ length J.start.events + length (events_of handed) }
+        requires stood { HasStood J.start handed }
         ensures all { OnOk result ((self.new.handed ≡ handed) × HasAll K.has_kept J.before self.new.journal handed) }
         ensures failed { IfErr result (λ why. (self.new.handed ≡ self.old.handed) × (self.new.fault ≡ Some why)) }
     {
@@ -263,7 +272,9 @@ impl<J: Naming, K: Journal> Keeper<J, K> {
 
     /// The journal.
     pub fn into_journal(self) -> K
-        ensures { result ≡ self.journal }
+        ensures same { result ≡ self.journal }
+        ensures left { (events : List EventValue) → J.before events
+            → LeavesBehind K.moment K.left_since J.start J.since J.past J.leaves events result }
     {
         let Keeper {
             journal,

@@ -1,10 +1,11 @@
 // A run whose log is kept.
 
-ghost use Rattle.std.specs.Prelude.{◌≡◌, List, true, IfOk, IfErr, OnOk, MatchResult};
+ghost use Rattle.std.specs.Prelude.{◌≡◌, ℕ, List, true, IfOk, IfErr, OnOk, MatchResult};
 ghost use Rattle.tc_log.specs.declared.event.Event.{Event as EventValue};
+ghost use Rattle.frame_file.specs.Device.{LeavesOnly};
 ghost use Rattle.worker_pool.specs.Faults.{InRange};
 ghost use Rattle.worker_pool.specs.Reports.{Reports};
-ghost use Rattle.worker_pool.specs.Journals.{HasKept, WasKept, KeptFaultFits, kept_state_of};
+ghost use Rattle.worker_pool.specs.Journals.{HasKept, WasKept, IsLeftOfRun, KeptFaultFits, kept_state_of};
 
 use crate::batch::Batch;
 use crate::desk::{Desk, Naming};
@@ -65,12 +66,19 @@ fn run_kept_named<
     requires keeps { J.keeps ≡ true }
     requires before { (events : List EventValue) → J.before events → K.has_kept journal events }
     requires kept { (later : K) (events : List EventValue) → K.has_kept later events → J.kept events }
-    requires since { (events : List EventValue) → J.kept events → WasKept K.has_kept events }
+    requires was { (events : List EventValue) → J.kept events → WasKept K.has_kept events }
+    requires since { J.since ≡ K.moment journal }
+    requires past { (t : ℕ) (left : List ℕ) → K.left_since journal t left → J.past t left }
+    requires past_only { (t : ℕ) (left : List ℕ) → J.past t left → K.left_since journal t left }
+    requires leaves { (events more : List EventValue) (left : List ℕ) → K.leaves journal events more left → J.leaves events more left }
     requires book { opened.seen.book ≡ J.book }
     ensures report { IfOk result.1 (λ r. Reports J.start J.calls r.state r.answers.items) }
     ensures kept { IfOk result.1 (λ r. HasKept K.has_kept J.before result.0 J.start.events r.state.events) }
+    ensures any_moment { (before : List EventValue) → J.before before
+        → LeavesOnly K.moment K.left_since journal result.0 (IsLeftOfRun J.leaves before J.start) }
     ensures which { MatchResult result.1 (λ _. InRange workers tries) (λ f. KeptFaultFits J.start workers tries f) }
 {
+    state.known();
     let (count, handed) = opened.named::<J>();
     let prepared = match prepare(alloc, state, calls, workers, tries) {
         Ok(prepared) => prepared,
@@ -119,6 +127,9 @@ pub fn run_kept<R: Threads + Wait + Sync, L: Link + Sync, G: Gate + Sync, K: Jou
 ) -> (K, Result<Report, KeptFault>)
     ensures report { IfOk result.1 (λ r. Reports state calls.now r.state r.answers.items) }
     ensures kept { IfOk result.1 (λ r. HasKept K.has_kept (K.has_kept journal) result.0 state.events r.state.events) }
+    // Whatever came of it, a crash at any moment of the run leaves a beginning of its log, behind what the journal had.
+    ensures any_moment { (before : List EventValue) → K.has_kept journal before
+        → LeavesOnly K.moment K.left_since journal result.0 (IsLeftOfRun (K.leaves journal) before state) }
     ensures which { MatchResult result.1 (λ _. InRange workers tries) (λ f. KeptFaultFits state workers tries f) }
 {
     run_kept_named::<Brand, K, R, L, G>(

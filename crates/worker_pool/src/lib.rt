@@ -21,7 +21,8 @@
 //! components of this process that workers call themselves, and [`RingLink`] the one to components
 //! that have threads of their own. A [`Gate`] is told when a call is admitted, and of its answer by an
 //! [`Acknowledgement`]. [`run_kept`] keeps the log in a [`Journal`], and tells no answer before the log that it
-//! is true of is kept.
+//! is true of is kept. Between two lists of calls the log of a report's state may begin anew: `tc_world::cutting::cut` does
+//! it with data components of this process, `TcState::checkpoint` by the marks that others have kept.
 //! Its tests are those of `pool_tests`.
 #![tactic(auto)]
 

@@ -48,6 +48,14 @@ impl MemoryJournal {
 impl Journal for MemoryJournal {
     ghost has_kept = { λ journal events. journal ≡ events };
 
+    ghost moment = { λ journal. 0 };
+
+    ghost left_since = { λ journal since left. ⊥ };
+
+    ghost leaves = { λ journal before more left. ⊥ };
+
+    ghost kept_now = { λ journal events left kept now. now };
+
     /// Only want of memory keeps it from keeping them.
     fn keep(&mut self, events: &Log) -> Result<(), NotKept> {
         match copy_events(self.alloc, events.events(), &mut self.log) {

@@ -8,8 +8,8 @@ use Rattle.run_command.specs.declared.anew.Checkpoints.{Checkpoints}
 use Rattle.run_command.specs.declared.anew.Ground.{Ground}
 use Rattle.run_command.specs.declared.anew.Renewal.{Renewal}
 use Rattle.run_command.specs.declared.parts.Progress.{Progress}
-use Rattle.run_command.specs.Anew.{IsRenewal}
-use Rattle.run_command.specs.Parts.{Stage, IsPart, HaveLed, AreOne, IsWanted}
+use Rattle.run_command.specs.Anew.{IsRenewal, IsHeeded}
+use Rattle.run_command.specs.Parts.{Stage, IsPart, HaveLed, AreOne, IsWanted, over_at_end}
 
 -- one part more is answered
 pub record IsStep (was : Progress) (first calls : List Call) (now : Progress) : Type 0 where
@@ -48,3 +48,4 @@ pub record HasEnded (start : Core) (dcs : List Store) (first calls : List Call) 
   pub one : AreOne checkpoints.over first calls p.first.items p.calls.items stages
   pub renewed : IsRenewal behind behind_dcs p.ground.state p.ground.dcs.items renewal
   pub wanted : IsWanted checkpoints renewal
+  pub heeded : IsHeeded p.ground.journal (over_at_end checkpoints) renewal

@@ -1,8 +1,6 @@
-use Rattle.std.proofs.Common.{rules, ◌≡◌, ◌-◌, ◌+◌, ◌<◌, ◌∷◌, [], min, length, List, ℕ, sym, ◌∙◌, ap, arith, Vec}
-use Rattle.std.specs.declared.alloc.Global.{Global}
+use Rattle.std.proofs.Common.{rules, ◌≡◌, ◌-◌, ◌∷◌, min, length}
 use Rattle.frame_file.specs.Reading.{payloads_in}
-use Rattle.log_file.specs.Bytes.{parts_of}
-use Rattle.log_file.specs.Joining.Fields.{IsAdded, NoneAdded}
+use Rattle.log_file.specs.Joining.Fields.{IsAdded}
 use Rattle.log_file.proofs.BaseLemmas.{further}
 use Rattle.log_file.proofs.base.read_base.Goals as goal
 

@@ -1,4 +1,4 @@
-use Rattle.std.proofs.Common.{rules, ◌≡◌, ◌+◌, ◌%◌, length, List, ℕ, refl, sym, ◌∙◌, subst}
+use Rattle.std.proofs.Common.{rules, ◌≡◌, ◌%◌, length, List, ℕ, refl, sym, ◌∙◌, subst}
 use Rattle.log_file.specs.Bytes.{batch_bytes}
 use Rattle.log_file.specs.Reading.{IsBatch, IsSync}
 use Rattle.log_file.specs.Joining.Fields.{batch_in}

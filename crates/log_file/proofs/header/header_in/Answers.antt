@@ -1,4 +1,4 @@
-use Rattle.std.proofs.Common.{◌≡◌, ◌∙◌, ◌<◌, ◌^◌, take, drop, rules}
+use Rattle.std.proofs.Common.{◌≡◌, ◌<◌, ◌^◌, take, drop, rules}
 use Rattle.std.specs.Int.{w64, from_le_bytes}
 use Rattle.log_file.proofs.HeaderLemmas.{same_header, short_none, many_none}
 use Rattle.log_file.proofs.header.header_in.Goals as goal

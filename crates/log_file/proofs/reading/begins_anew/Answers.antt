@@ -1,4 +1,4 @@
-use Rattle.std.proofs.Common.{◌≡◌, ◌∙◌, reverse, sym}
+use Rattle.std.proofs.Common.{◌∙◌, reverse, sym}
 use Rattle.log_file.proofs.OpeningLemmas.{first_is, none_first}
 use Rattle.log_file.proofs.reading.begins_anew.Goals as goal
 

@@ -1,4 +1,4 @@
-use Rattle.std.proofs.Common.{rules, ◌≡◌, List, [], ap}
+use Rattle.std.proofs.Common.{rules, ◌≡◌, []}
 use Rattle.frame_file.specs.Reading.{payloads_in}
 use Rattle.log_file.specs.Reading.{IsSayFault, IsOpenFault}
 use Rattle.log_file.proofs.OpeningLemmas.{said_fault, no_frames}

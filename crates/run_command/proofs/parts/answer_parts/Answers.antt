@@ -1,8 +1,9 @@
-use Rattle.std.proofs.Common.{rules, ◌≡◌, ◌∙◌, ◌<◌, length, sym, ap, subst}
+use Rattle.std.proofs.Common.{rules, ◌≡◌, ◌∙◌, ◌<◌, ℕ, Option, length, sym, ap, subst}
 use Rattle.std.specs.Prelude.{is_some}
 use Rattle.std.proofs.lemmas.Result.{err_from_is_err_and}
 use Rattle.run_command.specs.declared.anew.Ground.{Ground}
 use Rattle.run_command.specs.declared.parts.Stop.TheVariants.{Unreported as Untold}
+use Rattle.run_command.specs.Anew.{IsHeeded}
 use Rattle.run_command.specs.Kept.{KeepsLog}
 use Rattle.run_command.proofs.PartsLemmas.{first_so_far, next_so_far, all_ended}
 use Rattle.run_command.proofs.StopLemmas.{stop_moves}
@@ -61,7 +62,8 @@ returns-in-Ok-clause-ended g c =
     let wish = c.args.wish in
     let none : length c.parts.rest.now ≡ 0 = search rules in
     all_ended c.args.ground wish.checkpoints wish.first.now wish.calls.now c.parts.rest.now c.parts.progress c.in-Ok.ended.0 c.in-Ok.ended.1 none c.parts.invariant.so_far c.in-Ok.ensures.renewed
-    (λ over at_end. c.in-Ok.ensures.unwanted (c.over_at_end.ensures over at_end))
+    (λ over at_end. c.in-Ok.ensures.unwanted (c.over_at_end.ensures.none over at_end))
+    (subst (λ (o : Option ℕ). IsHeeded c.in-Ok.ended.0.ground.journal o c.in-Ok.ended.1) c.over_at_end.ensures.over c.in-Ok.ensures.heeded)
 
 pub returns-in-Err-clause-fault : goal.returns-in-Err-clause-fault
 returns-in-Err-clause-fault g c =

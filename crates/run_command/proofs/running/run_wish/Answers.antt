@@ -3,8 +3,8 @@ use Rattle.std.specs.Prelude.{string_bytes}
 use Rattle.std.proofs.lemmas.Result.{IfOk-weaker}
 use Rattle.run_command.specs.declared.answering.Halt.{Halt}
 use Rattle.run_command.specs.declared.parts.Stop.{Stop}
-use Rattle.run_command.specs.Kept.{KeepsLog, HaltFits}
-use Rattle.run_command.specs.Parts.{StopFits}
+use Rattle.run_command.specs.Kept.{HaltFits}
+use Rattle.run_command.specs.Parts.{StopFits, IsKeptSo}
 use Rattle.run_command.specs.Running.{Stopped}
 use Rattle.run_command.proofs.RunLemmas.{ran_run}
 use Rattle.run_command.proofs.running.run_wish.Goals as goal
@@ -19,8 +19,9 @@ returns-in-Ok-clause-run g c = λ was.
     let it = c.in-Ok.ensures in
     IfOk-weaker c.with_journal.result _ _ (λ r h.
     let journal = h.1 ∙ c.journal_of.ensures in
-    ran_run (λ last. KeepsLog r.journal last.events) wish.checkpoints ground.state ground.dcs.items wish.first.now wish.calls.now m.workers m.tries m.audit r.report.status (string_bytes r.report.lines) p renewal
-    it.range it.ended (rw h.0 at c.reported-report.ensures) (subst (λ j. KeepsLog j p.ground.state.events) (sym journal) (it.kept was)))
+    ran_run (IsKeptSo r.journal wish.checkpoints) wish.checkpoints ground.state ground.dcs.items wish.first.now wish.calls.now m.workers m.tries m.audit r.report.status (string_bytes r.report.lines) p renewal
+    it.range it.ended (rw h.0 at c.reported-report.ensures)
+    (subst (λ j. IsKeptSo j wish.checkpoints p.ground.state renewal) (sym journal) (it.kept was, it.ended.heeded)))
     c.with_journal.ensures.ok
 
 pub returns-in-Err-clause-run : goal.returns-in-Err-clause-run

@@ -1,7 +1,11 @@
-use Rattle.std.proofs.Common.{subst}
+use Rattle.std.proofs.Common.{ℕ, [], refl, subst}
+use Rattle.transactions.specs.Legal.{Legal}
+use Rattle.tc_core.specs.Core.{Core}
 use Rattle.worker_pool.specs.declared.pool.Ran.{Ran}
 use Rattle.worker_pool.specs.Joining.Handing.{events_of}
 use Rattle.worker_pool.specs.Joining.Ran.{RanFits, RanKeeps}
+use Rattle.worker_pool.specs.Journals.{HasGoneOn}
+use Rattle.worker_pool.proofs.Leaving.{leaves_first, leaves_only}
 use Rattle.worker_pool.proofs.kept_run.run_kept_named.Goals as goal
 use Rattle.worker_pool.proofs.kept_run.run_kept_named.Goals.{in-Done, in-NoThread, in-Stopped}
 
@@ -22,7 +26,7 @@ returns-clause-kept g c =
           rw w.ran-is (record {
             behind = events_of c.run_over-keeper.result.0.handed;
             log = all.log;
-            kept = λ events before. rw c.into_journal-journal.ensures (all.kept events before);
+            kept = λ events before. rw c.into_journal-journal.ensures.same (all.kept events before);
           })
       | in-NoThread w ↦ rw w.ran-is tt
       | in-Stopped w ↦ rw w.ran-is tt
@@ -36,3 +40,33 @@ returns-clause-which g c =
       | in-NoThread w ↦ rw w.ran-is (subst Fits w.in-NoThread.is c.run_over-keeper.ensures.ran, c.in-Ok.ensures.which)
       | in-Stopped w ↦ rw w.ran-is (c.in-Ok.ensures.which, (subst Fits w.in-Stopped.is c.run_over-keeper.ensures.ran).1)
     ]
+
+pub returns-clause-any_moment : goal.returns-clause-any_moment
+returns-clause-any_moment g c = λ events was.
+    leaves_only g.K.Journal.moment g.K.Journal.left_since g.J.Naming.start g.J.Naming.since g.J.Naming.past g.J.Naming.leaves events c.args.journal c.into_journal-journal.result
+    c.requires.since c.requires.past_only (c.into_journal-journal.ensures.left events was)
+
+pub new-keeper-requires-clause-left : goal.new-keeper-requires-clause-left
+new-keeper-requires-clause-left g c = λ events was.
+    let start = g.J.Naming.start in
+    let gone_on : HasGoneOn start start = record {
+      stays = refl;
+      begins = record { later = []; is = refl };
+      legal = subst (λ (s : Core). Legal s.procs s.events) c.requires.state c.known.ensures.legal;
+    } in
+    leaves_first g.K.Journal.moment g.K.Journal.left_since start g.J.Naming.since g.J.Naming.past g.J.Naming.leaves events c.args.journal c.requires.since gone_on c.requires.past (λ left l.
+    c.requires.leaves events [] left ((g.met.K.Journal g.world.𝓛 g.world.𝓜 g.world.𝓡 ((λ s x. x), (λ x. x), (λ x. x), λ x. x)).kept_now c.args.journal events left (c.requires.before events was)
+    (subst (λ (n : ℕ). g.K.Journal.left_since c.args.journal n left) c.requires.since l)))
+
+pub returns-in-Err-clause-any_moment : goal.returns-in-Err-clause-any_moment
+returns-in-Err-clause-any_moment g c = λ events was.
+    let start = g.J.Naming.start in
+    let gone_on : HasGoneOn start start = record {
+      stays = refl;
+      begins = record { later = []; is = refl };
+      legal = subst (λ (s : Core). Legal s.procs s.events) c.requires.state c.known.ensures.legal;
+    } in
+    leaves_only g.K.Journal.moment g.K.Journal.left_since start g.J.Naming.since g.J.Naming.past g.J.Naming.leaves events c.args.journal c.args.journal c.requires.since c.requires.past_only
+    (leaves_first g.K.Journal.moment g.K.Journal.left_since start g.J.Naming.since g.J.Naming.past g.J.Naming.leaves events c.args.journal c.requires.since gone_on c.requires.past (λ left l.
+    c.requires.leaves events [] left ((g.met.K.Journal g.world.𝓛 g.world.𝓜 g.world.𝓡 ((λ s x. x), (λ x. x), (λ x. x), λ x. x)).kept_now c.args.journal events left (c.requires.before events was)
+    (subst (λ (n : ℕ). g.K.Journal.left_since c.args.journal n left) c.requires.since l))))

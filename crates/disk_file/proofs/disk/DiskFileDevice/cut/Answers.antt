@@ -1,4 +1,4 @@
-use Rattle.std.proofs.Common.{◌≡◌, List, ℕ, subst, sym, ap}
+use Rattle.std.proofs.Common.{subst, sym}
 use Rattle.frame_file.specs.Device.{Follows, Cut}
 use Rattle.disk_file.specs.Events.{MayLeave}
 use Rattle.disk_file.proofs.Events.{Events, not_cut}
@@ -6,4 +6,4 @@ use Rattle.disk_file.proofs.disk.DiskFileDevice.cut.Goals as goal
 
 pub returns-in_err-keep-clause-crash : goal.returns-in_err-keep-clause-crash
 returns-in_err-keep-clause-crash c =
-    subst (λ (l : Events). Follows (Cut c.args.len) (MayLeave c.args.self.now.calls.events) (MayLeave l)) (sym (ap (λ k. k.events) c.keep.ensures.calls)) (not_cut c.args.self.now.calls.events c.args.len)
+    subst (λ (l : Events). Follows (Cut c.args.len) (MayLeave c.args.self.now.calls) (MayLeave l)) (sym c.keep.ensures.calls) (not_cut c.args.self.now.calls c.args.len)

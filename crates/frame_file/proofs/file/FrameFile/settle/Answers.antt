@@ -1,4 +1,4 @@
-use Rattle.std.proofs.Common.{◌≡◌, ℕ, List, length, arith, sym, ◌∙◌, ap, subst}
+use Rattle.std.proofs.Common.{ℕ, List, arith, sym, ◌∙◌, subst}
 use Rattle.frame_file.specs.Device.{Only, Cut}
 use Rattle.frame_file.specs.Reading.{ReadsAs, payloads_in}
 use Rattle.frame_file.proofs.Readings.{cut_reads_as, same_reads_as, cut_done, end_inside, count_payloads}
@@ -44,8 +44,8 @@ returns-clause-any_moment g c =
     let cut = goes_on g.D.Device.moment g.D.Device.left_since c.args.self.now.device c.args.self.now.device c.cut.new.self P _ at_start c.cut.ensures.time after in
     goes_on g.D.Device.moment g.D.Device.left_since c.args.self.now.device c.cut.new.self c.sync.new.self P _ cut c.sync.ensures.time (λ f now. after f (c.sync.ensures.crash f now))
 
-pub cut-requires : goal.cut-requires
-cut-requires g c =
+pub cut-requires-clause-inside : goal.cut-requires-clause-inside
+cut-requires-clause-inside g c =
     end_inside (g.D.Device.seen c.args.self.now.device) (payloads_in c.args.found.now.payloads.items) c.args.found.now.end c.requires.found.reads c.requires.found.end
 
 pub returns-clause-settled : goal.returns-clause-settled

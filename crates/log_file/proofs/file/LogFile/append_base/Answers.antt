@@ -1,7 +1,5 @@
-use Rattle.std.proofs.Common.{rules, arith, ◌≡◌, ◌≤◌, ◌<◌, ◌∷◌, [], ◌++◌, List, ℕ, length, take, drop, sym, ◌∙◌, ap, subst}
+use Rattle.std.proofs.Common.{rules, arith, ◌≡◌, ◌<◌, [], length, take, drop, sym, ◌∙◌, ap, subst}
 use Rattle.std.proofs.lemmas.List.{length-drop}
-use Rattle.frame_file.specs.Device.{LeavesOnly}
-use Rattle.frame_file.specs.Reading.{IsSettled, IsBeforeOrAfter}
 use Rattle.log_file.specs.Bytes.{Rows, part_bytes}
 use Rattle.log_file.proofs.WritingLemmas.{Wrote, none_yet, moved, one_more, all_written, no_rows}
 use Rattle.log_file.proofs.file.LogFile.append_base.Goals as goal

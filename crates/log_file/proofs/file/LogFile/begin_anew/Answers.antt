@@ -1,8 +1,8 @@
-use Rattle.std.proofs.Common.{rules, arith, ◌≡◌, ◌<◌, ◌∷◌, [], ◌++◌, List, ℕ, length, map, refl, ◌∙◌, subst, OnOk, Some}
+use Rattle.std.proofs.Common.{rules, arith, ◌≡◌, ◌∷◌, [], ◌++◌, List, ℕ, length, map, refl, ◌∙◌, subst}
 use Rattle.frame_file.specs.Device.{LeavesOnly}
 use Rattle.frame_file.specs.Reading.{IsSettled, IsBeforeOrAfter}
 use Rattle.frame_file.proofs.Moments.{weaker, joined}
-use Rattle.log_file.specs.Bytes.{part_bytes, parts_of, batch_bytes, based_header_bytes, payloads_of}
+use Rattle.log_file.specs.Bytes.{part_bytes, parts_of, batch_bytes, based_header_bytes}
 use Rattle.log_file.specs.Reading.{IsFront}
 use Rattle.log_file.proofs.WritingLemmas.{at_rest}
 use Rattle.log_file.proofs.file.LogFile.begin_anew.Goals as goal

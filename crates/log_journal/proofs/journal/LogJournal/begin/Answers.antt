@@ -1,4 +1,4 @@
-use Rattle.std.proofs.Common.{rules, ℕ, List, [], None, refl, sym, subst}
+use Rattle.std.proofs.Common.{rules, [], None, refl, sym, subst}
 use Rattle.frame_file.specs.Reading.{IsSettled}
 use Rattle.log_file.specs.Found.{base_in}
 use Rattle.log_file.specs.Reading.{IsBegun, IsOpenFault}

@@ -1,4 +1,3 @@
-use Rattle.std.proofs.Common.{rules, sym, subst}
 use Rattle.log_journal.proofs.journal.LogJournal.begin_anew.Goals as goal
 
 pub returns-clause-kept : goal.returns-clause-kept

@@ -1,4 +1,4 @@
-use Rattle.std.proofs.Common.{rules, arith, ◌≡◌, ◌∙◌, true, List, ℕ, Some, [], ◌∷◌, length, reverse, subst}
+use Rattle.std.proofs.Common.{rules, arith, ◌≡◌, true, List, ℕ, Some, [], ◌∷◌, length, reverse, subst}
 use Rattle.std.specs.Prelude.{◌%◌}
 use Rattle.std.specs.List.{flat_map}
 use Rattle.tc_log.specs.Printed.{printed}
