@@ -626,7 +626,8 @@ static inline mz_code mz_opened_by(mz_tc *tc, uint32_t what, uint16_t dc, uint64
 /* ---- what is seen of them: nothing is copied, and nothing changed */
 
 /* The first open transaction that was admitted at this place of the log or behind it; for each of them, from 0
- * and then from open->place + 1, whatever ends in between. MZ_NO_PLACE: there is no further one. */
+ * and then from open->place + 1, whatever ends in between. It goes through the log from there on. MZ_NO_PLACE: there is no
+ * further one. */
 static inline mz_code mz_open_from(mz_tc *tc, uint64_t place, mz_open *open) {
     return mz_opened_by(tc, MZ_CALL_OPEN_FROM, 0, place, open);
 }

@@ -18,7 +18,7 @@ component *component_open(const char *folder) {
     pthread_mutex_init(&c->lock, NULL);
     snprintf(c->path, sizeof c->path, "%s/records.db", folder);
     snprintf(c->copy, sizeof c->copy, "%s/copy.db", folder);
-    c->dc = sqlite_dc_open(c->path, 1, 0);
+    c->dc = sqlite_dc_open(c->path, 1, SQLITE_DC_LATER);
     return c;
 }
 
@@ -46,14 +46,14 @@ static int put_back(component *c) {
         remove(beside);
     }
     if (c->has_copy && rename(c->copy, c->path)) return 0;
-    c->dc = sqlite_dc_open(c->path, 1, 0);
+    c->dc = sqlite_dc_open(c->path, 1, SQLITE_DC_LATER);
     return c->dc && sqlite_dc_put_back(c->dc, ++c->incarnation, &news) && component_checkpoint(c);
 }
 
 int component_kill(component *c, int loses) {
     sqlite_dc_close(c->dc);
     if (loses) return put_back(c);
-    c->dc = sqlite_dc_open(c->path, 1, 0);
+    c->dc = sqlite_dc_open(c->path, 1, SQLITE_DC_LATER);
     return c->dc != NULL;
 }
 

@@ -30,7 +30,7 @@ static struct server {
     uint64_t put_back_as; /* the incarnation that it begins, where the file was put back */
 } servers[SERVERS];
 
-static struct { uint64_t session; int kill_one_in, durable, forgetful, untold; } wanted;
+static struct { uint64_t session; int kill_one_in, forgetful, untold; sqlite_dc_durable durable; } wanted;
 static struct { long carried, unanswered, kills, put_back, redone; } seen;
 
 static void serve(struct server *s, int fd) {
@@ -192,7 +192,7 @@ int main(int argc, char **argv) {
     wanted.kill_one_in = atoi(argv[4]);
     wanted.session = ((uint64_t)time(NULL) * 1000003u + (uint64_t)getpid()) >> 2;
     for (int i = 5; i < argc; i++) {
-        wanted.durable |= !strcmp(argv[i], "durable");
+        if (!strcmp(argv[i], "durable")) wanted.durable = SQLITE_DC_AT_ONCE;
         wanted.forgetful |= !strcmp(argv[i], "forgetful");
         wanted.untold |= !strcmp(argv[i], "untold");
     }

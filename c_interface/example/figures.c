@@ -96,7 +96,7 @@ static void sqlite_timed(const char *folder, long count) {
     for (int i = 0; i < 2; i++) {
         snprintf(path[i], sizeof path[i], "%s/figures_%d.db", folder, i);
         remove(path[i]);
-        files[i] = sqlite_dc_open(path[i], 1, 0);
+        files[i] = sqlite_dc_open(path[i], 1, SQLITE_DC_LATER);
         if (!files[i]) exit(6);
     }
     timed("two SQLite files, not synced", count, by_sqlite, NULL);

@@ -12,9 +12,12 @@ static const char *const text[STATEMENTS] = {
     "update records set value = ?3 where tab = ?1 and key = ?2", "delete from records where tab = ?1 and key = ?2",
 };
 
+static const char *const synchronous[] = {"off", "full", "normal"}; /* by sqlite_dc_durable */
+
 struct sqlite_dc {
     sqlite3 *db;
     sqlite3_stmt *s[STATEMENTS];
+    sqlite_dc_durable durable;
     int forgetful;
 };
 
@@ -74,15 +77,17 @@ static int operate(sqlite_dc *dc, const mz_wire *w, mz_reply *r) {
     return is_done(dc, write[w->op]);
 }
 
+/* The mark rises, and what is at or under it is forgotten. */
+static int raised(sqlite_dc *dc, uint64_t mark) {
+    sqlite3_bind_int64(dc->s[RAISE], 1, (sqlite3_int64)mark);
+    sqlite3_bind_int64(dc->s[FORGET], 1, (sqlite3_int64)mark);
+    return is_done(dc, RAISE) && is_done(dc, FORGET);
+}
+
 /* The wire, within a SQLite transaction: the mark rises; a number at or under it is old; one that was
  * performed gets its answer again; else the operation is performed, and kept with its answer. */
 static int performed(sqlite_dc *dc, uint64_t mark, const mz_wire *w, mz_reply *r) {
-    if (w->low_water > mark) {
-        mark = w->low_water;
-        sqlite3_bind_int64(dc->s[RAISE], 1, (sqlite3_int64)mark);
-        sqlite3_bind_int64(dc->s[FORGET], 1, (sqlite3_int64)mark);
-        if (!is_done(dc, RAISE) || !is_done(dc, FORGET)) return 0;
-    }
+    if (w->low_water > mark && !raised(dc, mark = w->low_water)) return 0;
     r->number = w->number;
     r->incarnation = w->incarnation;
     memset(r->value, 0, MZ_VALUE);
@@ -117,6 +122,16 @@ mz_carried sqlite_dc_perform(sqlite_dc *dc, const mz_wire *wire, mz_reply *reply
     return MZ_LOST;
 }
 
+/* The mark is above each earlier one where anything was performed since, so there is something to commit, and with it
+ * all before it comes to the disk. */
+int sqlite_dc_keep(sqlite_dc *dc, uint64_t mark) {
+    mz_news news;
+    if (!executed(dc, sqlite3_mprintf("pragma synchronous = full")) || !is_done(dc, BEGIN)) return 0;
+    int ok = standing(dc, &news) && (mark <= news.mark || raised(dc, mark));
+    ok = is_done(dc, ok ? COMMIT : ROLLBACK) && ok;
+    return executed(dc, sqlite3_mprintf("pragma synchronous = %s", synchronous[dc->durable])) && ok;
+}
+
 int sqlite_dc_put_back(sqlite_dc *dc, uint64_t incarnation, mz_news *news) {
     char *sql = sqlite3_mprintf("update component set incarnation = %lld", (long long)incarnation);
     return executed(dc, sql) && standing(dc, news);
@@ -127,9 +142,10 @@ int sqlite_dc_copy(sqlite_dc *dc, const char *path) {
     return executed(dc, sqlite3_mprintf("vacuum into %Q", path));
 }
 
-sqlite_dc *sqlite_dc_open(const char *path, uint64_t session, int durable) {
+sqlite_dc *sqlite_dc_open(const char *path, uint64_t session, sqlite_dc_durable durable) {
     sqlite_dc *dc = calloc(1, sizeof *dc);
     if (!dc) return NULL;
+    dc->durable = durable;
     int ok = sqlite3_open(path, &dc->db) == SQLITE_OK;
     if (ok) sqlite3_busy_timeout(dc->db, 5000);
     ok = ok && executed(dc, sqlite3_mprintf(
@@ -141,7 +157,7 @@ sqlite_dc *sqlite_dc_open(const char *path, uint64_t session, int durable) {
         "delete from performed where not exists (select 1 from component where session = %lld);"
         "delete from component where session <> %lld;"
         "insert into component select %lld, 0, 0 where not exists (select 1 from component);"
-        "commit;", durable ? "full" : "off", (long long)session, (long long)session, (long long)session));
+        "commit;", synchronous[durable], (long long)session, (long long)session, (long long)session));
     for (int i = 0; ok && i < STATEMENTS; i++) ok = sqlite3_prepare_v2(dc->db, text[i], -1, &dc->s[i], NULL) == SQLITE_OK;
     if (ok) return dc;
     sqlite_dc_close(dc);
@@ -153,6 +169,12 @@ void sqlite_dc_close(sqlite_dc *dc) {
     for (int i = 0; i < STATEMENTS; i++) sqlite3_finalize(dc->s[i]);
     sqlite3_close(dc->db);
     free(dc);
+}
+
+int sqlite_dc_get(sqlite_dc *dc, const mz_record *record, uint8_t value[MZ_VALUE]) {
+    mz_wire read = {.record = *record};
+    bind_record(dc, READ, &read);
+    return blob_of(dc, READ, 0, value, NULL);
 }
 
 int64_t sqlite_dc_sum(sqlite_dc *dc) {

@@ -1,6 +1,6 @@
 //! Threads that share one transaction component behind a mutex, over a map behind another: the lock of
-//! the component is never held while an operation is carried. Halfway the map is put back from a copy; what
-//! it lost is redone.
+//! the component is never held while an operation is carried. Meanwhile the log begins anew, and later the map
+//! is put back from a copy; what it lost is redone.
 #[allow(dead_code)]
 mod mazzulpe;
 
@@ -9,6 +9,7 @@ use mazzulpe::{
 };
 use mazzulpe::{NOT_OVER, Refusal, Reply, Said, Slot, TXNS_OPEN, Tc, Value, Wire};
 use std::collections::HashMap;
+use std::sync::atomic::{AtomicBool, Ordering::Relaxed};
 use std::sync::{Condvar, Mutex, MutexGuard};
 
 const THREADS: u64 = 4;
@@ -68,20 +69,41 @@ impl Store {
 struct Bank {
     tc: Mutex<Tc>,
     freed: Condvar,
+    /// A checkpoint is wanted. It changes under the component's lock.
+    closed: AtomicBool,
     store: Mutex<Store>,
 }
 
 impl Bank {
-    /// Admits a call as soon as no lock is in its way.
+    /// Admits a call as soon as no lock is in its way, and no checkpoint is wanted.
     fn admit(&self, procedure: u64, args: &[u64]) -> u64 {
         let mut tc = self.tc.lock().unwrap();
         loop {
+            while self.closed.load(Relaxed) {
+                tc = self.freed.wait(tc).unwrap();
+            }
             match tc.admit(procedure, args) {
                 Ok(txn) => return txn,
                 Err(NotAdmitted::Busy { .. }) => tc = self.freed.wait(tc).unwrap(),
                 Err(refusal) => panic!("{refusal:?}"),
             }
         }
+    }
+
+    /// The log begins anew while the threads go on: who wants to be admitted waits until what is open has ended, and
+    /// the store has the mark. None is in doubt here.
+    fn begin_anew(&self) -> Result<(), Refusal> {
+        let mut tc = self.tc.lock().unwrap();
+        self.closed.store(true, Relaxed);
+        while tc.open_count() > 0 {
+            tc = self.freed.wait(tc).unwrap();
+        }
+        let mark = tc.low_water();
+        self.store.lock().unwrap().mark = mark;
+        let begun = tc.checkpoint(mark);
+        self.closed.store(false, Relaxed);
+        self.freed.notify_all();
+        begun
     }
 
     /// Redoes what the store has lost. Whoever comes later finds the news old, or the redo gone on.
@@ -280,11 +302,15 @@ fn main() {
     let deposit = tc.load("deposit", &read("deposit_here"), &[slot(true, 0)], 2).unwrap();
     let transfer = tc.load("move", &read("move"), &[slot(true, 0), slot(true, 1)], 3).unwrap();
     println!("{:?}", tc.load("weak", &read("move"), &[slot(true, 0), slot(false, 1)], 3).unwrap_err().0);
-    let bank = Bank { tc: Mutex::new(tc), freed: Condvar::new(), store: Mutex::new(Store::default()) };
+    let bank = Bank {
+        tc: Mutex::new(tc),
+        freed: Condvar::new(),
+        closed: AtomicBool::new(false),
+        store: Mutex::new(Store::default()),
+    };
     for account in 0..ACCOUNTS {
         bank.run(deposit, &[account, 100]);
     }
-    let copy = bank.store.lock().unwrap().clone();
     let committed: usize = std::thread::scope(|scope| {
         let workers: Vec<_> = (0..THREADS)
             .map(|w| {
@@ -294,7 +320,10 @@ fn main() {
                 })
             })
             .collect();
-        std::thread::sleep(std::time::Duration::from_millis(20));
+        std::thread::sleep(std::time::Duration::from_millis(10));
+        bank.begin_anew().unwrap();
+        let copy = bank.store.lock().unwrap().clone();
+        std::thread::sleep(std::time::Duration::from_millis(10));
         bank.put_back(copy);
         workers.into_iter().map(|w| w.join().unwrap()).sum()
     });
