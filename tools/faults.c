@@ -6,11 +6,13 @@
  * READ_INTERRUPTED=1: each second read is interrupted before it gives anything.
  * WRITE_FAILS_AFTER, WRITE_MOST, WRITE_INTERRUPTED: the same of writes to standard output; WRITE_NOTHING=1:
  * they take no byte.
+ * RENAME_FAILS=1: no file is renamed.
  */
 #define _GNU_SOURCE
 #include <dlfcn.h>
 #include <errno.h>
 #include <fcntl.h>
+#include <stdio.h>
 #include <stdlib.h>
 #include <sys/mman.h>
 #include <unistd.h>
@@ -92,4 +94,12 @@ ssize_t write(int file, const void *bytes, size_t size) {
     if (count >= 0) count = real(file, bytes, (size_t)count);
     if (count > 0) output.bytes += count;
     return count;
+}
+
+int rename(const char *from, const char *to) {
+    static int (*real)(const char *, const char *);
+    if (!real) real = dlsym(RTLD_NEXT, "rename");
+    if (!setting("RENAME_FAILS", 0)) return real(from, to);
+    errno = EIO;
+    return -1;
 }

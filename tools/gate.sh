@@ -43,7 +43,7 @@ tried tools/terminal.py
 tried tools/hostile.py files
 tried tools/hostile.py --every 25 code texts objects worlds memory
 tried tools/explore.py --audit --seconds 20
-tried tools/storms.py --runs 5 --calls 1000
+tried tools/storms.py --runs 5 --calls 1000 --cuts
 tried tools/tampered.py --every 25
 for how in "" --forget --control; do
     tried tools/crashes.py --kills 5 --moves 1000 $how

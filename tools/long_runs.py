@@ -10,8 +10,8 @@ usage: tools/long_runs.py [--procd PATH] [--bench PATH] [--calls N] [--seed N] [
    times at most: each call has to be committed, in doubt, or blocked on a record of one in doubt, and
    the audit behind it has to say ok.
 3. With `--cut BYTES` alone: the script of 1 with `--log` and `--checkpoint-over BYTES`, by four workers.
-   All have to be committed, an audit of the log has to say ok, and the sum has to stay when a second run
-   comes back from it. It says how much memory and time both took, and how large the log's file is.
+   All have to be committed, an audit of the log has to say ok, and the rows have to be those of the moves,
+   also when a second run comes back from it. It says how much memory and time both took, and how large the log's file is.
 
 crates/procd/out/procd and crates/bench/out/bench have to be there: `rt run` in each crate builds it.
 """
@@ -75,9 +75,18 @@ def timed(words):
         return out.read(), os.waitstatus_to_exitcode(status), used.ru_maxrss, time.monotonic() - began
 
 
-def sum_of(lines):
-    """The sum of the rows among these lines."""
-    return sum(int(line.split()[2]) for line in lines if line.startswith("row ")) % 2**64
+def rows_behind(text):
+    """The rows that the moves of this script leave, in whatever order they are made."""
+    rows = [AMOUNT] * RECORDS
+    for source, target in re.findall(r"^call move (\d+) (\d+) 1$", text, re.MULTILINE):
+        rows[int(source)] -= 1
+        rows[int(target)] += 1
+    return [f"row 0/0/{key} {amount}" for key, amount in enumerate(rows)]
+
+
+def rows_of(lines):
+    """The rows among these lines."""
+    return [line for line in lines if line.startswith("row ")]
 
 
 def by_log(procd, calls, seed, cut):
@@ -90,13 +99,14 @@ def by_log(procd, calls, seed, cut):
         said, status, memory, seconds = timed([*run, text])
         lines = said.splitlines()
         good = status == 0 and sum(line.endswith(" committed") for line in lines) == calls + RECORDS
-        good = good and sum_of(lines) == RECORDS * AMOUNT
+        rows = rows_behind(text.read_text())
+        good = good and rows_of(lines) == rows
         print(f"log: {calls} calls, {memory} KB at most, {seconds:.1f} s, LOG has {log.stat().st_size} bytes", flush=True)
         said, status, memory, seconds = timed([procd, "log", "--audit", log, none])
         good = good and status == 0 and said.startswith("audit ok ")
         said, status, memory, seconds = timed([*run, none])
-        good = good and status == 0 and sum_of(said.splitlines()) == RECORDS * AMOUNT
-        print(f"log: back in {seconds:.2f} s with {memory} KB, {'the sum stays' if good else 'WRONG'}", flush=True)
+        good = good and status == 0 and rows_of(said.splitlines()) == rows
+        print(f"log: back in {seconds:.2f} s with {memory} KB, {'the rows are those of the moves' if good else 'WRONG'}", flush=True)
         return good
 
 

@@ -7,6 +7,7 @@ The file is removed, moved, replaced, moved while another name of it is left, cu
 Each time the run ends with status 3, nothing on standard output, and the line of the formats' page behind what it told;
 and what it told has its End in the file, where that is left. A file that may be read and not written, one that can't be
 made, one that may grow no further, and one that has more bytes than its length are refused with the system's reason.
+Where LOG.new can't be renamed to LOG, the run says so, takes LOG.new away, and leaves LOG to the next one.
 The status is 1 where something was wrong.
 """
 import argparse
@@ -20,7 +21,7 @@ import tempfile
 from built import PROCD
 from hostile_faults import limited_to
 from procedures import PUT
-from trying import Program
+from trying import Program, preloaded
 
 CALLS, PIPE = 1000, 4096  # so many calls that what is told of them fills a pipe of so many bytes
 SCRIPT = f"dc {CALLS} {CALLS}\n" + PUT
@@ -111,6 +112,23 @@ def reasons(program, folder, script):
             yield f"{said}: {ended}"
 
 
+def unrenamed(program, folder, short):
+    """What is wrong with a run that writes its log anew and can't rename the file, if anything."""
+    shim, path = preloaded("faults", folder), folder / "kept"
+    if not shim:
+        return
+    new, words = path.with_name("kept.new"), ["run", "--log", path, "--checkpoint", short]
+    ran = program.run(words, faults={"LD_PRELOAD": str(shim), "RENAME_FAILS": "1"})
+    said = f"cannot write {path}: input/output error\n".encode()
+    if (ran.status, ran.out, ran.err) != (3, b"", said):
+        yield f"a rename that fails: status {ran.status}, {ran.out!r}, {ran.err!r}"
+    if new.exists():
+        yield "a rename that fails leaves LOG.new"
+    again = program.run(["run", "--log", path, "--checkpoint", short])
+    if again.status != 0 or b"\ncheckpoint " not in again.out or new.exists():
+        yield f"behind a rename that failed: status {again.status}, {again.out!r}, {again.err!r}"
+
+
 def main():
     parser = argparse.ArgumentParser(description=__doc__, formatter_class=argparse.RawDescriptionHelpFormatter)
     parser.add_argument("--procd", default=PROCD, help="the program (that of crates/procd/out)")
@@ -122,7 +140,7 @@ def main():
         calls = "".join(f"call put {call} 1\n" for call in range(CALLS))
         script, short = program.file((SCRIPT + calls).encode()), program.file((SCRIPT + "call put 0 1\n").encode())
         found = {how: is_taken_away(program, folder, script, how) for how in TAKEN}
-        wrong = [f"{how}: {what}" for how, what in found.items() if what] + list(reasons(program, folder, short))
+        wrong = [f"{how}: {what}" for how, what in found.items() if what] + [*reasons(program, folder, short), *unrenamed(program, folder, short)]
     for line in wrong:
         print(f"moved_files: {line}")
     print(f"moved_files: {len(TAKEN)} files taken from their runs, 6 not opened or written, {'wrong' if wrong else 'nothing wrong'}")

@@ -1,14 +1,17 @@
 #!/usr/bin/env python3
 """Calls by workers over links that are against them, and what their logs say.
 
-usage: tools/storms.py [--bench PATH] [--runs N] [--calls N] [--workers N] [--seed N]
+usage: tools/storms.py [--bench PATH] [--runs N] [--calls N] [--workers N] [--seed N] [--cuts]
 
 Each run is one of `bench trace`: so many calls that move 1 between two of a thousand records, by so
 many workers, over a link that loses, repeats, delays, forges and answers late, and over a data
 component that keeps checkpoints and restarts, whose news are lost, late and repeated, at random from
-the run's seed. The last run is one of `bench restarts`: over a component that does it all the time.
-Behind each the component restarts once more, is redone, and is audited with the log. The log is gone
-through by the plain model, which shares no code with the crates: numbers are given out one after another, each operation is covered by its transaction's locks, locks that are held and
+the run's seed. With `--cuts` as many are of `bench cuts`: there the log begins anew behind each hundred
+calls, where it may, and the component forgets what it has performed. The last run is one of `bench
+restarts`: over a component that does it all the time. Behind each the component restarts once more,
+is redone, and is audited with the log. The log (where it was cut, all that there were, one behind
+another) is gone through by the plain model, which shares no code with the crates: numbers are given
+out one after another, each operation is covered by its transaction's locks, locks that are held and
 operations in flight don't exclude each other, an answer belongs to an operation in flight; each event
 is the one that its transaction's procedure comes to; the calls one after another, in the order of
 their Ends, end the same; and there is an End for each call that was answered by one. A difference is
@@ -24,7 +27,7 @@ import sys
 import time
 
 from built import BENCH
-from plain_log import END, Legal, read_log, replayed, serial
+from plain_log import ADMIT, ASK, CHECKPOINT, END, UNDO, Legal, read_log, replayed, serial
 
 RECORDS = 1000
 EVENT = 96
@@ -34,19 +37,34 @@ PROCEDURES = ["put", "move"]
 
 
 def traced(bench, weather, workers, calls, seed):
-    """What a run counted, what its audit said, and the events of its log."""
+    """What a run counted, what its audit said, and the events of its logs."""
     words = [bench, weather, str(seed), str(workers), str(calls)]
     ran = subprocess.run(words, stdin=subprocess.DEVNULL, capture_output=True, text=True)
     if ran.returncode != 0:
         sys.exit(f"{weather} of seed {seed}: {bench} ended with status {ran.returncode}: {ran.stderr.strip()}")
     said, audit, text = ran.stdout.split("\n", 2)
     counts = {name: int(count) for name, count in re.findall(r"(\D+) (\d+) ?", said)}
-    data = bytes.fromhex(text)
-    return counts, audit, read_log(data[i : i + EVENT] for i in range(0, len(data), EVENT))
+    logs = [bytes.fromhex(line) for line in text.split()]
+    return counts, audit, [read_log(log[i : i + EVENT] for i in range(0, len(log), EVENT)) for log in logs]
 
 
-def difference(counts, audit, log, calls):
+def joined(logs):
+    """The events of all, without those with which logs begin anew: None where one of these says other numbers."""
+    whole = list(logs[0])
+    for log in logs[1:]:
+        admitted = sum(event.kind == ADMIT for event in whole)
+        given = sum(event.kind in (ASK, UNDO) for event in whole)
+        if (log[0].kind, log[0].txn, log[0].word) != (CHECKPOINT, admitted, given):
+            return None
+        whole += log[1:]
+    return whole
+
+
+def difference(counts, audit, logs, calls):
     """What is wrong with a run, or None."""
+    log = joined(logs)
+    if log is None:
+        return "a log begins anew behind other numbers than there were"
     if sum(counts[name] for name in ENDED) != calls:
         return f"the calls ended as {counts}"
     ends = [event for event in log if event.kind == END]
@@ -57,8 +75,9 @@ def difference(counts, audit, log, calls):
     place = legal.first_illegal(log)
     if place is not None:
         return f"event {place}: no procedure comes to it"
-    if audit != f"audit ok ended {len(ends)} open {len(legal.txns)}":
-        return f"{len(ends)} ended, {len(legal.txns)} are open: {audit}"
+    ended = sum(event.kind == END for event in logs[-1])
+    if audit != f"audit ok ended {ended} open {len(legal.txns)}":
+        return f"{ended} ended, {len(legal.txns)} are open: {audit}"
     return replayed(log, PROCEDURES) or serial(log, PROCEDURES, {})
 
 
@@ -69,20 +88,25 @@ def main():
     parser.add_argument("--calls", type=int, default=5000)
     parser.add_argument("--workers", type=int, default=8)
     parser.add_argument("--seed", type=int, default=1)
+    parser.add_argument("--cuts", action="store_true")
     options = parser.parse_args()
-    total, events, begun = collections.Counter(), 0, time.monotonic()
-    runs = [("trace", seed) for seed in range(options.seed, options.seed + options.runs)]
+    total, events, cuts, begun = collections.Counter(), 0, 0, time.monotonic()
+    seeds = range(options.seed, options.seed + options.runs)
+    runs = [(weather, seed) for weather in ["trace"] + ["cuts"] * options.cuts for seed in seeds]
     for weather, seed in [*runs, ("restarts", options.seed)]:
-        counts, audit, log = traced(options.bench, weather, options.workers, options.calls, seed)
-        why = difference(counts, audit, log, options.calls)
+        counts, audit, logs = traced(options.bench, weather, options.workers, options.calls, seed)
+        why = difference(counts, audit, logs, options.calls)
         if why:
             sys.exit(f"{weather} of seed {seed}: {why}")
-        events += len(log)
+        events += sum(map(len, logs))
+        cuts += len(logs) - 1
         total.update(counts)
     told = ", ".join(f"{count:,} {name}" for name, count in total.items())
     took = time.monotonic() - begun
     print(f"storms: {len(runs) + 1} runs of {options.calls:,} calls by {options.workers} workers: {told};")
-    print(f"{events:,} events of their logs, no difference, {took:.0f} s")
+    print(f"{events:,} events of their logs, cut {cuts:,} times, no difference, {took:.0f} s")
+    if options.cuts and not cuts:
+        sys.exit("no log was cut")
 
 
 if __name__ == "__main__":
