@@ -51,8 +51,8 @@ book-room ps b b' is o =
     let wider = o.number_room in
     let owed = o.owed in
     let promised = o.promised in
-    let most = is.most in
-    let more_given_up = o.most in
+    let doubts = is.doubts in
+    let more_doubts = o.doubt_room in
     let fits = k.rooms.numbers_fit in
     let given_same : given b'.log.events ≡ given b.log.events = ap given o.events in
     let places : Places ps b.log.events txns' = record {
@@ -88,7 +88,7 @@ book-room ps b b' is o =
         };
       };
       from = omega (arith, is.from, o.from, ap begun o.events);
-      most = omega (arith, most, given_same, promised, more_given_up);
+      doubts = omega (arith, doubts, same_len, more_doubts);
       marked = marked-room _ _ _ _ _ _ is.marked o.given_up o.events o.slots;
       starts = rw (o.events, o.sites, o.starts) is.starts;
     }

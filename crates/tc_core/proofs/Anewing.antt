@@ -22,6 +22,7 @@ use Rattle.tc_core.specs.declared.book.Book.{Book}
 use Rattle.tc_core.specs.declared.transaction.Tx.{Tx}
 use Rattle.tc_core.specs.Kept.{IsBook}
 use Rattle.tc_core.proofs.StartLemmas.{starts_first}
+use Rattle.tc_core.proofs.DoubtLemmas.{once_none}
 
 -- where as many are open as none, each is none
 pub at_rest : (ps : List Checked) (h : List Event) → Legal ps h → total each_one h ≡ 0 → IsAtRest h
@@ -51,8 +52,8 @@ beginning_rests before numbers t = standing-checkpoint before numbers [] t
 pub book-anew : (ps : List Checked) (b b' : Book) (before numbers : ℕ) → IsBook ps b → slab_len b.txns ≡ 0 → before ≤ 2 ^ 62 → numbers ≤ 2 ^ 62
     → b'.log.events ≡ beginning before numbers → b'.txns ≡ b.txns → b'.locks ≡ b.locks → b'.numbers.last ≡ numbers → b'.numbers.pending ≡ []
     → b'.serials ≡ before → b'.owed ≡ b.owed → b'.promised ≡ b.promised → b'.given_up.numbers ≡ [] → b'.given_up.from ≡ numbers
-    → b'.given_up.most ≡ numbers → b'.sites.items ≡ b.sites.items → b'.starts.items ≡ replicate (length b.starts.items) 0 → IsBook ps b'
-book-anew ps b b' before numbers is none few_admitted few_given events txns locks last pending serials owed promised given_up from most sites starts =
+    → b'.given_up.room ≡ b.given_up.room → b'.sites.items ≡ b.sites.items → b'.starts.items ≡ replicate (length b.starts.items) 0 → IsBook ps b'
+book-anew ps b b' before numbers is none few_admitted few_given events txns locks last pending serials owed promised given_up from room sites starts =
     let k = is.kept in
     let h = b.log.events in
     let rest : IsAtRest h = at_rest ps h k.legal (sym k.rooms.count ∙ none) in
@@ -91,8 +92,13 @@ book-anew ps b b' before numbers is none few_admitted few_given events txns lock
         };
       };
       from = omega (arith, from, begun_now);
-      most = omega (arith, given_now, unpromised, most);
-      marked = rw (events, txns, given_up) (record { marks = λ key tx at. absurd (open_ones key tx at); early = λ n late. refl });
+      doubts = omega (arith, is.doubts, room, ap slab_len txns);
+      marked = rw (events, txns, given_up) (record {
+        marks = λ key tx at. absurd (open_ones key tx at);
+        early = λ n late. refl;
+        once = once_none numbers;
+        open_yet = λ n held. absurd (let bad : false ≡ true = held in cc);
+      });
       starts = rw (events, sites, starts) (starts_first (length b.starts.items) b.sites.items new (sym is.starts.count));
     }
 

@@ -1,9 +1,9 @@
 -- What a book takes in is what may come next.
 use Rattle.std.proofs.Common.{◌≡◌, ◌≢◌, ℕ, ◌+◌, true, false, List, [], ◌∷◌, ◌++◌, length, replicate, zero, suc, Option}
-use Rattle.std.proofs.Common.{Some, None, Ok, Err, arith, refl, sym, ◌∙◌, ap, subst}
+use Rattle.std.proofs.Common.{Some, None, Result, Ok, Err, arith, refl, sym, ◌∙◌, ap, subst}
 use Rattle.std.proofs.Common.{append_assoc, length-append}
 use Rattle.std.proofs.lemmas.List.{append-nil}
-use Rattle.std.specs.Prelude.{slice_get}
+use Rattle.std.specs.Prelude.{slice_get, OnOk, OnErr}
 use Rattle.std.proofs.lemmas.Bool.{cond-true}
 use Rattle.access_slots.specs.declared.op.Op.{Op}
 use Rattle.access_slots.specs.declared.op.Said.{Said}
@@ -12,8 +12,9 @@ use Rattle.access_slots.specs.Access.{fits}
 use Rattle.access_slots.specs.Locks.{target}
 use Rattle.access_slots.specs.Held.{in_the_way}
 use Rattle.verifier.specs.Checked.{Checked}
+use Rattle.request_numbers.specs.Given.{others}
 use Rattle.tc_log.specs.declared.event.Event.{Event}
-use Rattle.tc_log.specs.declared.event.Event.TheVariants.{Ask, Undo, End}
+use Rattle.tc_log.specs.declared.event.Event.TheVariants.{Ask, Answer, Undo, End}
 use Rattle.tc_log.specs.declared.event.Outcome.{Outcome}
 use Rattle.tc_log.specs.declared.event.Outcome.TheVariants as outcome
 use Rattle.history.specs.Calls.{Call, admitted, held, locks_of}
@@ -31,11 +32,12 @@ use Rattle.transactions.specs.declared.Site.{Site}
 use Rattle.transactions.specs.InFlight.{untold, site_of}
 use Rattle.tc_core.specs.Core.{Core, Asking}
 use Rattle.tc_core.specs.Replies.{next_at, asked_by, undo_by, undone, ask_reply, undo_reply, after_ask, after_undo}
-use Rattle.tc_core.specs.Replies.{over_in, end_of, end_reply, after_end, is_heard, IsAnswer}
+use Rattle.tc_core.specs.Replies.{over_in, end_of, end_reply, after_end, is_heard, IsAnswer, after_answer}
 use Rattle.tc_core.specs.Checking.{IsFirstIllegal}
 use Rattle.tc_core.specs.Joining.Follows.{AreUntold, IsAsked, IsFurther, awaited_by, awaited_in}
 use Rattle.tc_core.specs.declared.state.Receipt.{Receipt}
 use Rattle.tc_core.specs.declared.state.NotOver.{NotOver}
+use Rattle.tc_core.specs.declared.state.Stranger.{Stranger}
 use Rattle.tc_core.specs.declared.state.Asked.{Asked}
 use Rattle.tc_core.specs.declared.state.Asked.TheVariants as reply
 
@@ -202,6 +204,15 @@ undo_further c (reply.Stuck n) = refl
 undo_further c (reply.Waits n) = refl
 undo_further c reply.Running = refl
 undo_further c reply.Unknown = refl
+
+-- where nothing is given up, an answer leaves that so
+pub answer_further : (c new : Core) (r : Asking) (said : Said) (result : Result Unit Stranger) → c.given_up ≡ []
+    → OnOk result (new ≡ after_answer c r said) → OnErr result (new ≡ c) → IsFurther c new
+answer_further c new r said (Ok x) none ok err = rw ok (
+    let h : List Event = Answer r.txn r.number said ∷ c.events in
+    let none_yet : others r.number c.given_up ≡ c.given_up = ap (others r.number) none ∙ sym none in
+    ap (λ (ns : List ℕ). let d : Core = record c { events = h; given_up = ns } in d) none_yet)
+answer_further c new r said (Err s) none ok err = rw err refl
 
 pub end_further : (c : Core) (t : ℕ) (o : Option Outcome) → IsFurther c (after_end c t o)
 end_further c t None = refl

@@ -54,7 +54,7 @@ book-load ps ps' q b is good more = subst (λ (xs : List Checked). IsBook xs b) 
     (record {
       kept = kept-load ps q _ _ _ _ _ _ _ is.kept good;
       from = is.from;
-      most = is.most;
+      doubts = is.doubts;
       marked =
           is.marked;
       starts = is.starts;

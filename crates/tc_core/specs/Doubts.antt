@@ -1,13 +1,16 @@
 -- Numbers that were given up.
-use Rattle.std.specs.Prelude.{◌≡◌, ℕ, ◌+◌, ◌<◌, ◌≤◌, zero, suc, Bool, true, false, List, [], ◌∷◌, ◌++◌, length}
-use Rattle.request_numbers.specs.Given.{holds}
+use Rattle.std.specs.Prelude.{◌≡◌, ℕ, ◌+◌, zero, suc, Bool, true, false, List, [], ◌∷◌, ◌++◌, length}
+use Rattle.request_numbers.specs.Given.{holds, others}
+use Rattle.tc_log.specs.declared.event.Event.{Event}
+use Rattle.tc_log.specs.declared.event.Event.TheVariants.{Admit, Ask, Answer, Undo, End, Checkpoint}
 use Rattle.transactions.specs.Room.{one_if}
 
--- the numbers, in the order in which they were given up; there is room for all numbers behind a first one, up to the last one
+-- the numbers, in the order in which they were given up, how many of them fit with no allocation, and the number behind which the log
+-- begins
 pub record Doubts : Type 0 where
   pub numbers : List ℕ
+  pub room : ℕ
   pub from : ℕ
-  pub most : ℕ
 
 abbrev pub with_number_by : Bool → ℕ → List ℕ → List ℕ
 with_number_by true n ns = ns
@@ -17,13 +20,20 @@ with_number_by false n ns = ns ++ n ∷ []
 abbrev pub with_number : ℕ → List ℕ → List ℕ
 with_number n ns = with_number_by (holds n ns) n ns
 
--- how many of the numbers 1 to n are there
+-- those that are given up behind an event: one that is answered isn't any more
+abbrev pub given_up_behind : Event → List ℕ → List ℕ
+given_up_behind (Admit t p args) ns = ns
+given_up_behind (Ask t n o) ns = ns
+given_up_behind (Answer t n said) ns = others n ns
+given_up_behind (Undo t n o) ns = ns
+given_up_behind (End t o) ns = ns
+given_up_behind (Checkpoint before numbers) ns = ns
+
+-- how many of the numbers 1 to n are among them
 abbrev pub marks : List ℕ → ℕ → ℕ
 marks ns zero = 0
 marks ns (suc n) = marks ns n + one_if (holds (suc n) ns)
 
--- they are distinct, behind the first one and up to the last one
-pub record AreUpTo (ns : List ℕ) (from most : ℕ) : Type 0 where
-  pub count : length ns ≡ marks ns most
-  pub past : (m : ℕ) → most < m → holds m ns ≡ false
-  pub early : (m : ℕ) → m ≤ from → holds m ns ≡ false
+-- each of them is one of 1 to n, and there once
+abbrev pub AreOnce : ℕ → List ℕ → Type 0
+AreOnce n ns = length ns ≡ marks ns n

@@ -1,5 +1,5 @@
 -- What the state keeps: the log is legal, and everything else is what the log says.
-use Rattle.std.specs.Prelude.{◌≡◌, ℕ, ◌<◌, ◌+◌, ◌-◌, ◌*◌, ◌≤◌, ◌^◌, Bool, false, Option, Some, None}
+use Rattle.std.specs.Prelude.{◌≡◌, ℕ, ◌<◌, ◌+◌, ◌-◌, ◌*◌, ◌≤◌, ◌^◌, Bool, true, false, Option, Some, None}
 use Rattle.std.specs.Prelude.{List, [], ◌∷◌, length, reverse, take, slice_get}
 use Rattle.verifier.specs.Checked.{Checked}
 use Rattle.lock_table.specs.Facts.{Table, AreHeld}
@@ -21,6 +21,7 @@ use Rattle.transactions.specs.declared.Sent.{Sent}
 use Rattle.transactions.specs.declared.Redoing.{Redoing}
 use Rattle.transactions.specs.declared.Site.{Site}
 use Rattle.tc_core.specs.Core.{Core}
+use Rattle.tc_core.specs.Doubts.{AreOnce}
 use Rattle.tc_core.specs.Loaded.{Loaded}
 use Rattle.tc_core.specs.AtKey.{StandsAt}
 use Rattle.tc_core.specs.declared.transaction.Tx.{Tx}
@@ -85,10 +86,12 @@ abbrev pub is_doubted : List ℕ → Option Sent → Bool
 is_doubted numbers None = false
 is_doubted numbers (Some r) = holds r.number numbers
 
--- each transaction in doubt is marked, and no other; what was given up was given out
+-- each transaction in doubt is marked, and no other; the numbers that are given up are distinct, and open
 pub record Marked (numbers : List ℕ) (h : List Event) (txns : Slab Tx) : Type 0 where
   pub marks : (key : ℕ) (tx : Tx) → get txns key ≡ Some tx → tx.in_doubt ≡ is_doubted numbers tx.sent
   pub early : (n : ℕ) → given h < n → holds n numbers ≡ false
+  pub once : AreOnce (given h) numbers
+  pub open_yet : (n : ℕ) → holds n numbers ≡ true → holds n (open_numbers h) ≡ true
 
 -- each number sent in these events is at most this one
 abbrev pub AreSentUpTo : ℕ → List Event → Type 0
@@ -115,7 +118,7 @@ pub record AreStarts (sites : List Site) (starts : List ℕ) (h : List Event) : 
 pub record IsBook (ps : List Checked) (b : Book) : Type 0 where
   pub kept : Kept ps b.log b.locks b.numbers b.txns b.serials b.owed b.promised
   pub from : b.given_up.from ≡ begun b.log.events
-  pub most : given b.log.events + b.promised ≤ b.given_up.most
+  pub doubts : slab_len b.txns ≤ b.given_up.room
   pub marked : Marked b.given_up.numbers b.log.events b.txns
   pub starts : AreStarts b.sites.items b.starts.items b.log.events
 

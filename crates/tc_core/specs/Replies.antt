@@ -15,6 +15,7 @@ use Rattle.transactions.specs.declared.Next.TheVariants as next
 use Rattle.transactions.specs.Standing.{Standing, standing}
 use Rattle.transactions.specs.Next.{next_in}
 use Rattle.tc_core.specs.Core.{Core, Asking}
+use Rattle.tc_core.specs.Doubts.{given_up_behind}
 use Rattle.tc_log.specs.declared.event.Outcome.{Outcome}
 use Rattle.tc_log.specs.declared.event.Outcome.TheVariants as outcome
 use Rattle.tc_core.specs.declared.state.Receipt.{Receipt}
@@ -22,9 +23,9 @@ use Rattle.tc_core.specs.declared.state.NotOver.{NotOver}
 use Rattle.tc_core.specs.declared.state.Asked.{Asked}
 use Rattle.tc_core.specs.declared.state.Asked.TheVariants.{Request, Undoing, Over, Stuck, Waits, Running, Unknown}
 
--- what is done with one more event
+-- what is done with one more event: a number that is answered isn't given up any more
 abbrev pub with_event : Core → Event → Core
-with_event c e = record c { events = e ∷ c.events }
+with_event c e = record c { events = e ∷ c.events; given_up = given_up_behind e c.given_up }
 
 -- what the transaction does next, where it is open
 unfoldable pub next_at : Core → ℕ → Option Next

@@ -51,8 +51,7 @@ impl Book {
     /// Makes room for a call, and answers that for what undoes its writes. What is there stays.
     #[inline(always)]
     fn make_room(&mut self, calls: usize, set: &LockSet) -> Result<Undos, AllocError>
-        requires sum { self.old.numbers.last + self.old.promised ≤ 2 ^ 62 }
-        requires few { calls ≤ 4096 }
+        requires { calls ≤ 4096 }
         ensures kept { OnlyRoom self.old self.new }
         ensures room { OnOk result (HasRoom self.new calls set.now) }
         ensures undone { IfOk result (λ u. u.ops ≡ []) }
@@ -61,9 +60,9 @@ impl Book {
         let Some(events) = self.owed.checked_add(10 * calls + 2) else {
             return Err(AllocError);
         };
-        let most = self.numbers.last() + self.promised + 5 * calls as u64;
         self.txns.reserve()?;
-        self.numbers.reserve(self.txns.capacity())?;
+        let most = self.txns.capacity();
+        self.numbers.reserve(most)?;
         self.log.reserve(events)?;
         self.given_up.reserve(most)?;
         self.locks.reserve(set)?;

@@ -143,7 +143,8 @@ impl TcState {
 
     // Takes an Answer in, where it may come next.
     fn follow_answer(&mut self, txn: u64, number: u64, said: Said) -> bool
-        requires { AreUntold self.old.sites }
+        requires untold { AreUntold self.old.sites }
+        requires given_up { self.old.given_up ≡ [] }
         ensures rest { IsFurther self.old self.new }
         ensures follows { IsTrue result → self.new.events ≡ Answer txn number said ∷ self.old.events }
         ensures illegal { IsFalse result → CanAnswer self.old.procs self.old.events txn number said → ⊥ }

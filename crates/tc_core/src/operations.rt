@@ -130,7 +130,8 @@ impl TcState {
     }
 
     /// Takes a reply in. One that isn't to the request, or isn't of the known incarnation, or comes
-    /// while the data component is down, changes nothing.
+    /// while the data component is down, changes nothing. A number that is answered isn't given up any
+    /// more.
     #[inline(always)]
     pub fn answer(&mut self, request: Request, reply: Reply) -> Result<(), Stranger>
         ensures accepted { IsOk result ↔ IsAnswer self.old request reply }
@@ -149,9 +150,11 @@ impl TcState {
             return Err(Stranger { request });
         }
         let code = self.procs.at(tx.proc);
+        let was_given_up = tx.in_doubt;
         let Request { txn, number, op: _ } = request;
         self.book.txns.hear(key, code, &reply.said);
         self.book.numbers.answered(number);
+        self.book.given_up.remove(number, was_given_up);
         self.book.log.push(Event::Answer {
             txn,
             number,

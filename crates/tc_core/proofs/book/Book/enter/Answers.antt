@@ -3,7 +3,7 @@ use Rattle.access_slots.specs.Locks.{mode_in}
 use Rattle.semantics.specs.Reach.{AreArguments}
 use Rattle.lock_table.specs.Facts.{held_by}
 use Rattle.history.specs.Calls.{Call, held, locks_of}
-use Rattle.history.specs.Flight.{given}
+use Rattle.history.specs.Flight.{given, open_numbers}
 use Rattle.history.specs.Anew.{begun}
 use Rattle.transactions.specs.Reached.{calls_in, decls}
 use Rattle.tc_core.specs.Kept.{is_doubted}
@@ -11,7 +11,7 @@ use Rattle.tc_core.specs.Running.{Runs}
 use Rattle.tc_core.specs.Joining.Writes.{Writes}
 use Rattle.transactions.proofs.StandingLemmas.{open-serial}
 use Rattle.tc_core.proofs.StartLemmas.{starts_event}
-use Rattle.tc_core.proofs.MarkedLemmas.{marked-moved}
+use Rattle.tc_core.proofs.MarkedLemmas.{stay_same, marked-moved}
 use Rattle.tc_core.proofs.AdmitLemmas.{kept-admit, keeps_fresh, free_same, nothing_new, admitted-length, wanted_locks}
 use Rattle.tc_core.proofs.book.Book.enter.Goals as goal
 
@@ -68,12 +68,12 @@ returns-clause-kept c = λ ps m.
     let one : b.owed + (10 * c.calls_of-calls.result + 1) ≡ b.owed + (2 * (5 * calls_in q) + 1) = omega (arith, n) in
     let two : b.promised + 5 * c.calls_of-calls.result ≡ b.promised + 5 * calls_in q = omega (arith, n) in
     let same : given c.push.new.self.events ≡ given b.log.events = ap given c.push.ensures.events in
-    let most = m.room.most in
-    let last = m.book.kept.last_is in
+    let fit = m.room.doubts_fit in
     record {
       kept = rw (one, two) it;
-      most = omega (arith, most, last, same, n);
-      marked = marked-moved _ b.log.events _ _ _ _ _ m.book.marked (omega (arith, same)) g.updates (begins.certain ∙ sym (ap (is_doubted _) begins.fresh.0));
+      doubts = omega (arith, fit, c.enter.ensures.len);
+      marked = marked-moved _ b.log.events _ _ _ _ _ m.book.marked (omega (arith, same))
+          (stay_same b.log.events c.push.new.self.events (ap open_numbers c.push.ensures.events)) g.updates (begins.certain ∙ sym (ap (is_doubted _) begins.fresh.0));
       from = (let still : begun c.push.new.self.events ≡ begun b.log.events = ap begun c.push.ensures.events in
           let was = m.book.from in omega (arith, still, was));
       starts = starts_event _ _ _ _ _ c.push.ensures.events m.book.starts;

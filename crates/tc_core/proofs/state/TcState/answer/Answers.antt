@@ -9,11 +9,12 @@ use Rattle.transactions.specs.InFlight.{site_of}
 use Rattle.tc_core.specs.Joining.Hearing.{MayHear, Accepts}
 use Rattle.tc_core.specs.declared.transaction.Tx.{Tx}
 use Rattle.transactions.proofs.StandingLemmas.{some_same}
-use Rattle.history.specs.Flight.{given}
+use Rattle.history.specs.Flight.{given, open_numbers}
 use Rattle.history.specs.Anew.{begun}
-use Rattle.tc_core.specs.Kept.{is_doubted}
+use Rattle.tc_core.specs.GivingUp.{Awaits}
 use Rattle.tc_core.proofs.StartLemmas.{starts_event}
-use Rattle.tc_core.proofs.MarkedLemmas.{marked-moved}
+use Rattle.tc_core.proofs.GivingUpLemmas.{number-marked}
+use Rattle.tc_core.proofs.MarkedLemmas.{marked-answered}
 use Rattle.tc_core.proofs.KeptLemmas.{seen, Seen, may-answer, kept-answer, slice_get-short, is-answer, answer-accepts, seen-at}
 use Rattle.tc_core.proofs.KeyLemmas.{serial-at}
 use Rattle.tc_core.proofs.state.TcState.answer.Goals as goal
@@ -60,6 +61,14 @@ answered-requires c =
     let a = c.accepts.ensures.0 c.if-not-accepts.false in
     (may-answer _ _ _ _ _ _ _ _ _ tx _ _ _ _ c.self.invariant.0.kept w a).holds'
 
+pub remove-requires : goal.remove-requires
+remove-requires c =
+    let tx = c.at-tx.result.now in
+    let a = c.accepts.ensures.0 c.if-not-accepts.false in
+    let waits : Awaits tx c.request.inside.number c.request.inside.op =
+    record { r = a.r; waits = a.waits; same_number = a.same_number; same_op = a.same_op } in
+    number-marked _ _ _ _ tx c.request.inside.number c.request.inside.op c.self.invariant.0.marked c.at-tx.ensures waits
+
 pub push-requires : goal.push-requires
 push-requires c =
     let tx = c.at-tx.result.now in
@@ -91,11 +100,13 @@ invariant_of-self c =
         kept =
             kept-answer _ _ _ _ _ _ _ _ _ _ _ _ c.request.inside.number c.args.reply.number tx c.request.inside.op c.at-code.result.now c.args.reply.said c.self.invariant.0.kept c.at-tx.ensures w a loaded hears
             heard c.hear.ensures.len (rw (← serial) at c.push.ensures.events) c.push.ensures.room c.answered.ensures.last c.answered.ensures.pending c.answered.ensures.room;
-        most = rw more c.self.invariant.0.most;
-        marked = marked-moved _ c.self.inside.book.log.events _ _ _ _ _ c.self.invariant.0.marked
-            (omega (arith, more)) heard.updates (heard.certain ∙ sym (ap (is_doubted _) silent));
+        doubts = omega (arith, c.self.invariant.0.doubts, c.hear.ensures.len, c.remove.ensures.room);
+        marked = rw c.remove.ensures.numbers
+            (marked-answered c.self.inside.procs.codes _ _ _ _ _ _ _ tx heard.after a.r c.self.invariant.0.kept.legal c.self.invariant.0.kept.places
+            c.self.invariant.0.marked c.at-tx.ensures a.waits a.same_number (omega (arith, more))
+            (ap open_numbers c.push.ensures.events) heard.updates heard.certain silent);
         from = (let same : begun c.push.new.self.events ≡ begun c.self.inside.book.log.events =
-            ap begun c.push.ensures.events in omega (arith, same, c.self.invariant.0.from));
+            ap begun c.push.ensures.events in omega (arith, same, c.remove.ensures.from, c.self.invariant.0.from));
         starts = starts_event _ _ _ _ _ c.push.ensures.events c.self.invariant.0.starts;
       },
       c.self.invariant.1,

@@ -18,7 +18,7 @@ returns-clause-kept c =
     rw (← c.self.view_is) (record {
       kept = is.kept;
       from = is.from;
-      most = is.most;
+      doubts = is.doubts;
       marked = is.marked;
       starts = subst (λ (xs : List ℕ). AreStarts sites xs h) (sym c.in-Ok-starts.ensures) (starts_first c.dcs.result sites h many);
     })

@@ -76,7 +76,7 @@ invariant_of-self c =
       record {
         kept = c.self.invariant.0.kept;
         from = c.self.invariant.0.from;
-        most = c.self.invariant.0.most;
+        doubts = c.self.invariant.0.doubts;
         marked = c.self.invariant.0.marked;
         starts = starts_set _ _ _ _ _ _ c.self.invariant.0.starts (omega (arith, inside, many, length-reverse h))
             (begin_behind c.self.inside.procs.codes h c.self.invariant.0.kept.legal c.args.dc c.in-Some-redo.redo.redone c.in-Some-find_done.place c.in-Some-find_done.answered first);

@@ -4,10 +4,10 @@ use Rattle.tc_core.specs.Kept.{core_of}
 use Rattle.tc_core.specs.declared.transaction.Tx.{Tx}
 use Rattle.tc_core.proofs.ReplyLemmas.{next-unknown, next-known}
 use Rattle.transactions.proofs.StandingLemmas.{some_same}
-use Rattle.history.specs.Flight.{given}
+use Rattle.history.specs.Flight.{given, open_numbers}
 use Rattle.history.specs.Anew.{begun}
 use Rattle.tc_core.proofs.StartLemmas.{starts_event}
-use Rattle.tc_core.proofs.MarkedLemmas.{marked-moved}
+use Rattle.tc_core.proofs.MarkedLemmas.{stay_push, marked-moved}
 use Rattle.tc_core.proofs.KeptLemmas.{places-absent, seen, may-send-undo, kept-undo, seen-at}
 use Rattle.tc_core.proofs.KeyLemmas.{serial-at}
 use Rattle.tc_core.proofs.state.TcState.undo_next.Goals as goal
@@ -70,9 +70,6 @@ invariant_of-self c =
     let serial = serial-at _ _ _ tx c.in-Some.ensures.found c.at.ensures in
     let h = c.self.inside.book.log.events in
     let more : given c.push.new.self.events ≡ given h + 1 = ap given c.push.ensures.events in
-    let may = may-send-undo _ _ _ _ _ _ _ _ _ tx _ c.self.invariant.0.kept
-    (seen-at _ _ _ _ tx c.self.invariant.0 c.in-Some.ensures.found c.at.ensures) c.in-Undoes.ensures in
-    let promised = may.promised_left in
     let late : given h < c.next_number-number.result = omega (arith, c.next_number-number.ensures.number, c.self.invariant.0.kept.last_is) in (
       record {
         kept =
@@ -81,8 +78,9 @@ invariant_of-self c =
             c.next_number-number.ensures.number (rw
             (← serial) at c.push.ensures.events) c.push.ensures.room c.next_number-number.ensures.last c.next_number-number.ensures.pending c.next_number-number.ensures.room
             (c.send_undo.ensures.updates tx c.at.ensures) c.send_undo.ensures.len refl;
-        most = omega (arith, c.self.invariant.0.most, more, promised);
+        doubts = omega (arith, c.self.invariant.0.doubts, c.send_undo.ensures.len);
         marked = marked-moved _ h _ _ _ _ _ c.self.invariant.0.marked (omega (arith, more))
+            (stay_push h c.push.new.self.events c.next_number-number.result (ap open_numbers c.push.ensures.events))
             (c.send_undo.ensures.updates tx c.at.ensures) (sym (c.self.invariant.0.marked.early _ late));
         from = (let same : begun c.push.new.self.events ≡ begun c.self.inside.book.log.events =
             ap begun c.push.ensures.events in omega (arith, same, c.self.invariant.0.from));
