@@ -211,7 +211,7 @@ takes_it w r z flying one heard fit agree =
     (ap (takes_answer w (flight r.txn r.op) z) (both_true _ _ heard fit)
     ∙ ap (λ (n : ℕ). Goes (outcome.Took z.number) (with_core w (with_event w.core (event.Answer r.txn n z.said)))) agree))
 
-open_for : (c : Core) (r : Asking) (z : Reply) → IsAnswer c r z → IsOpenHere c r
+pub open_for : (c : Core) (r : Asking) (z : Reply) → IsAnswer c r z → IsOpenHere c r
 open_for c r z a = record { s = a.s; is = a.is; sent = a.sent; waits = a.waits; same_number = a.same_number; same_op = a.same_op }
 
 -- and answered

@@ -32,7 +32,8 @@ use Rattle.tc_core.specs.GivingUp.{IsOpenHere, with_given_up}
 use Rattle.tc_core.specs.declared.state.Receipt.{Receipt}
 use Rattle.tc_core.specs.declared.state.Asked.{Asked}
 use Rattle.tc_core.specs.declared.state.Asked.TheVariants.{Request, Undoing, Over, Stuck, Waits, Running, Unknown}
-use Rattle.tc_core.proofs.DoubtLemmas.{holds_same}
+use Rattle.tc_core.proofs.DoubtLemmas.{holds_same, holds_others}
+use Rattle.tc_core.proofs.MarkedLemmas.{apart}
 use Rattle.coming_back.specs.declared.resumed.Resumed.{Resumed}
 use Rattle.coming_back.specs.declared.resumed.Resumed.TheVariants as came
 use Rattle.coming_back.specs.declared.resuming.Next.TheVariants as then
@@ -40,21 +41,21 @@ use Rattle.coming_back.specs.Serving.{IsFor, AreServed}
 use Rattle.tc_world.specs.Lives.{Becomes}
 use Rattle.coming_back.specs.Coming.{at_rest, serial_if, open_to, open_txns, serial_of, doubt_in, in_doubt, IsLeft, GivenUp, Stuck as IsStuck, IsResumed}
 use Rattle.coming_back.specs.Joining.LivingOn.{LivesOn}
-use Rattle.coming_back.specs.Joining.Moving.{Goes, Moves, IsOpen, IsNextOf, CameOf, CameOfAll, left_of}
+use Rattle.coming_back.specs.Joining.Moving.{Goes, StaysGivenUp, Moves, IsOpen, IsNextOf, CameOf, CameOfAll, left_of}
 use Rattle.coming_back.proofs.ServingLemmas.{all_same, all_then}
 use Rattle.coming_back.specs.Joining.Quiet.{IsQuiet}
 use Rattle.coming_back.proofs.QuietLemmas.{quiet_later, asked_later, undone_later, ended_later, answered_quiet, left_quiet}
-use Rattle.coming_back.proofs.LivedLemmas.{ask_lived, undo_lived, end_lived, carried_lived, answered_lived}
+use Rattle.coming_back.proofs.LivedLemmas.{ask_lived, undo_lived, end_lived, carried_lived, open_for, answered_lived}
 use Rattle.coming_back.specs.Joining.Performing.{There, Nowhere, Sends, Sent, Unsent}
 use Rattle.tc_world.specs.Beginning.{admitted_before}
 use Rattle.tc_world.proofs.BeginningLemmas.{none_before}
 use Rattle.coming_back.proofs.OpenLemmas.{count_to, count_less, none_to, open_same}
-use Rattle.coming_back.proofs.NextLemmas.{is_asked, is_undone, asked_open, undone_open, asked_nearer, undone_nearer, ended_nearer, answered_stands, waits_next}
+use Rattle.coming_back.proofs.NextLemmas.{is_asked, is_undone, asked_open, undone_open, asked_nearer, undone_nearer, ended_nearer, answered_stands, waits_next, waiting}
 
 -- ---- one after another
 
 pub goes_same : (c : Core) (ds : List Store) → Goes c ds c ds
-goes_same c ds = record { core = refl; begins = record { later = []; is = refl }; count = refl; given_up = λ n is. is; served = all_same IsFor ds; lived = λ start l. l; quiet = λ q. q }
+goes_same c ds = record { core = refl; begins = record { later = []; is = refl }; count = refl; served = all_same IsFor ds; lived = λ start l. l; quiet = λ q. q }
 
 begins_then : (h g f : List Event) → Begins h g → Begins g f → Begins h f
 begins_then h g f a b = record { later = b.later ++ a.later; is = b.is ∙ (ap (λ (l : List Event). b.later ++ l) a.is ∙ sym (append_assoc b.later a.later h)) }
@@ -67,30 +68,39 @@ goes_then c d e ds es fs a b = record {
   core = b.core ∙ ap (λ (x : Core). behind x e.events e.given_up) a.core;
   begins = begins_then c.events d.events e.events a.begins b.begins;
   count = b.count ∙ a.count;
-  given_up = λ n is. b.given_up n (a.given_up n is);
   served = all_then IsFor ds es fs a.served b.served;
   lived = λ start l. b.lived start (a.lived start l);
   quiet = λ q. b.quiet (a.quiet q);
 }
 
 pub moves_same : (t : ℕ) (c : Core) (ds : List Store) → Moves t c ds c ds
-moves_same t c ds = record { goes = goes_same c ds; others = λ u other. refl }
+moves_same t c ds = record { goes = goes_same c ds; others = λ u other. refl; given_up = λ u s r other is waits held. held }
 
 pub moves_then : (t : ℕ) (c d e : Core) (ds es fs : List Store) → Moves t c ds d es → Moves t d es e fs → Moves t c ds e fs
-moves_then t c d e ds es fs a b = record { goes = goes_then c d e ds es fs a.goes b.goes; others = λ u other. b.others u other ∙ a.others u other }
+moves_then t c d e ds es fs a b = record {
+  goes = goes_then c d e ds es fs a.goes b.goes;
+  others = λ u other. b.others u other ∙ a.others u other;
+  given_up = λ u s r other is waits held. b.given_up u s r other (a.others u other ∙ is) waits (a.given_up u s r other is waits held);
+}
 
 -- ---- one event
 
-pub one_event : (t : ℕ) (c : Core) (e : Event) (ds es : List Store) → txn_of e ≡ t → admitted (e ∷ c.events) ≡ admitted c.events → AreServed ds es
+pub one_event : (t : ℕ) (c : Core) (e : Event) (ds es : List Store) → txn_of e ≡ t → admitted (e ∷ c.events) ≡ admitted c.events
+    → StaysGivenUp t c (with_event c e) → AreServed ds es
     → LivesOn (at_rest c ds) (at_rest (with_event c e) es) → (IsQuiet c ds → IsQuiet (with_event c e) es) → Moves t c ds (with_event c e) es
-one_event t c e ds es own count served lived quiet = record {
-  goes = record { core = refl; begins = record { later = e ∷ []; is = refl }; count = count; given_up = λ n is. is; served = served; lived = lived; quiet = quiet };
+one_event t c e ds es own count stays_so served lived quiet = record {
+  goes = record { core = refl; begins = record { later = e ∷ []; is = refl }; count = count; served = served; lived = lived; quiet = quiet };
   others = λ u other. standing-other e c.events u (λ is. other (sym is ∙ own));
+  given_up = stays_so;
 }
+
+-- where the same numbers are given up
+all_stay : (t : ℕ) (c d : Core) → d.given_up ≡ c.given_up → StaysGivenUp t c d
+all_stay t c d same u s r other is waits held = ap (holds r.number) same ∙ held
 
 pub ask_moves : (t : ℕ) (c : Core) (a : Asked) (ds : List Store) → a ≡ ask_reply c t → Legal (after_ask c a).procs (after_ask c a).events → AllGood c.procs → Moves t c ds (after_ask c a) ds
 ask_moves t c (Request r) ds is legal good =
-    one_event t c (Ask r.txn r.number r.op) ds ds (is_asked c t r (sym is)).own refl (all_same IsFor ds) (ask_lived t c (Request r) ds is legal good)
+    one_event t c (Ask r.txn r.number r.op) ds ds (is_asked c t r (sym is)).own refl (all_stay t c (after_ask c (Request r)) refl) (all_same IsFor ds) (ask_lived t c (Request r) ds is legal good)
     (quiet_later c (Ask r.txn r.number r.op) ds (asked_later c.procs c.events r.txn r.number r.op legal))
 ask_moves t c Undoing ds is legal good = moves_same t c ds
 ask_moves t c Over ds is legal good = moves_same t c ds
@@ -101,7 +111,7 @@ ask_moves t c Unknown ds is legal good = moves_same t c ds
 
 pub undo_moves : (t : ℕ) (c : Core) (a : Asked) (ds : List Store) → a ≡ undo_reply c t → Legal (after_undo c a).procs (after_undo c a).events → AllGood c.procs → Moves t c ds (after_undo c a) ds
 undo_moves t c (Request r) ds is legal good =
-    one_event t c (Undo r.txn r.number r.op) ds ds (is_undone c t r (sym is)).own refl (all_same IsFor ds) (undo_lived t c (Request r) ds is legal good)
+    one_event t c (Undo r.txn r.number r.op) ds ds (is_undone c t r (sym is)).own refl (all_stay t c (after_undo c (Request r)) refl) (all_same IsFor ds) (undo_lived t c (Request r) ds is legal good)
     (quiet_later c (Undo r.txn r.number r.op) ds (undone_later c.procs c.events r.txn r.number r.op legal))
 undo_moves t c Undoing ds is legal good = moves_same t c ds
 undo_moves t c Over ds is legal good = moves_same t c ds
@@ -114,7 +124,7 @@ pub end_moves : (t : ℕ) (c : Core) (o : Option Outcome) (ds : List Store) → 
     → Legal (after_end c t o).procs (after_end c t o).events → AllGood c.procs → Moves t c ds (after_end c t o) ds
 end_moves t c None ds is legal good = moves_same t c ds
 end_moves t c (Some o) ds is legal good =
-    one_event t c (End t o) ds ds refl refl (all_same IsFor ds) (end_lived t c (Some o) ds is legal good) (quiet_later c (End t o) ds (ended_later c.procs c.events t o legal))
+    one_event t c (End t o) ds ds refl refl (all_stay t c (after_end c t (Some o)) refl) (all_same IsFor ds) (end_lived t c (Some o) ds is legal good) (quiet_later c (End t o) ds (ended_later c.procs c.events t o legal))
 
 -- ---- what is next
 
@@ -180,11 +190,18 @@ answer_lived c r z ds es legal good a legal' (Sent x is (There it)) start l = an
 answer_lived c r z ds es legal good a legal' (Sent x is (Nowhere past none same)) start l = absurd (let bad : Some z ≡ None = none in cc)
 answer_lived c r z ds es legal good a legal' (Unsent down is none same) start l = absurd (let bad : Some z ≡ None = none in cc)
 
+-- two transactions wait for two numbers
+answer_stays : (c : Core) (r : Asking) (said : Said) → Legal c.procs c.events → IsOpenHere c r → StaysGivenUp r.txn c (after_answer c r said)
+answer_stays c r said legal here u s q other is waits held =
+    let differ : r.number ≢ q.number = (λ same.
+    other (apart c.procs c.events legal u r.txn s here.s q here.sent is here.is waits here.waits (sym same ∙ sym here.same_number))) in
+    holds_others c.given_up r.number q.number differ ∙ held
+
 -- it is answered
 pub answer_moves : (c : Core) (r : Asking) (z : Reply) (ds es : List Store) → Legal c.procs c.events → AllGood c.procs → IsAnswer c r z → Legal c.procs (after_answer c r z.said).events
     → Sends c r ds (Some z) es → Moves r.txn c ds (after_answer c r z.said) es
 answer_moves c r z ds es legal good a legal' sends =
-    one_event r.txn c (Answer r.txn r.number z.said) ds es refl refl (send_served c r (Some z) ds es sends) (answer_lived c r z ds es legal good a legal' sends)
+    one_event r.txn c (Answer r.txn r.number z.said) ds es refl refl (answer_stays c r z.said legal (open_for c r z a)) (send_served c r (Some z) ds es sends) (answer_lived c r z ds es legal good a legal' sends)
     (answered_quiet c r z ds es legal a legal' sends)
 
 pub answer_open : (c : Core) (r : Asking) (said : Said) → IsOpenHere c r → IsOpen (after_answer c r said) r.txn
@@ -211,8 +228,9 @@ there_by false n ns is = holds_same ns n
 pub give_up_moves : (t : ℕ) (c : Core) (n : ℕ) (ds es : List Store) → AreServed ds es → LivesOn (at_rest c ds) (at_rest c es)
     → (IsQuiet c ds → IsQuiet (with_given_up c n) es) → Moves t c ds (with_given_up c n) es
 give_up_moves t c n ds es served lived quiet = record {
-  goes = record { core = refl; begins = record { later = []; is = refl }; count = refl; given_up = λ m is. kept_by (holds n c.given_up) n m c.given_up is; served = served; lived = lived; quiet = quiet };
+  goes = record { core = refl; begins = record { later = []; is = refl }; count = refl; served = served; lived = lived; quiet = quiet };
   others = λ u other. refl;
+  given_up = λ u s r other is waits held. kept_by (holds n c.given_up) n r.number c.given_up held;
 }
 
 pub given_up_moves : (c : Core) (r : Asking) (y : Option Reply) (ds es : List Store) → Legal c.procs c.events → AllGood c.procs → IsOpenHere c r → Sends c r ds y es
@@ -285,14 +303,19 @@ came_since c d e t x begins was then_open came_of = record {
 
 -- ---- what came of all
 
-left_stays : (c d : Core) (t n : ℕ) → d.procs ≡ c.procs → standing d.events t ≡ standing c.events t → ((m : ℕ) → holds m c.given_up ≡ true → holds m d.given_up ≡ true) → IsLeft c t n → IsLeft d t n
-left_stays c d t n procs stands more (GivenUp is held) = GivenUp (same_next c d t procs stands ∙ is) (more n held)
-left_stays c d t n procs stands more (IsStuck is) = IsStuck (same_next c d t procs stands ∙ is)
+left_stays : (t : ℕ) (c d : Core) (u n : ℕ) → u ≢ t → d.procs ≡ c.procs → standing d.events u ≡ standing c.events u → StaysGivenUp t c d → IsLeft c u n → IsLeft d u n
+left_stays t c d u n other procs stands stays_so (GivenUp is held) =
+    let w = waiting c u n is in
+    let number : w.1.number ≡ n = w.4 in
+    GivenUp (same_next c d u procs stands ∙ is)
+    (ap (λ (m : ℕ). holds m d.given_up) (sym number)
+    ∙ stays_so u w.0 w.1 other w.2 w.3 (ap (λ (m : ℕ). holds m c.given_up) number ∙ held))
+left_stays t c d u n other procs stands stays_so (IsStuck is) = IsStuck (same_next c d u procs stands ∙ is)
 
 resumed_stays : (first : List Event) (t : ℕ) (c d : Core) (ds es : List Store) (x : Resumed) → Moves t c ds d es → serial_of x ≢ t → IsResumed first c x → IsResumed first d x
 resumed_stays first t c d ds es (came.Ended receipt) moves other ended = record { behind = ended.behind; stands = stays c.events d.events receipt.place _ moves.goes.begins ended.stands }
 resumed_stays first t c d ds es (came.InDoubt u n) moves other left =
-    left_stays c d u n (ap (λ (x : Core). x.procs) moves.goes.core) (moves.others u other) moves.goes.given_up left
+    left_stays t c d u n other (ap (λ (x : Core). x.procs) moves.goes.core) (moves.others u other) moves.given_up left
 
 doubts_join : (xs ys : List Resumed) → in_doubt (xs ++ ys) ≡ in_doubt xs ++ in_doubt ys
 doubts_join [] ys = refl

@@ -127,6 +127,24 @@ may_wait t None false left tries last (Ends v) n is none = by (v == 0) is
     by true h = cc
     by false h = no_wait left tries last (outcome.Aborted v) n h
 
+waiting_by : (sent : Option Sent) (full : Bool) (left : Option Op) (tries last : ℕ) (at : Reached) (n : ℕ)
+    → next_by sent full left tries last at ≡ Some (next.Waits n) → (r : Sent) × (sent ≡ Some r) × (r.number ≡ n)
+waiting_by (Some r) full left tries last at n is = (r, refl, cc)
+waiting_by None full left tries last at n is = absurd (may_wait 0 None full left tries last at n is refl)
+
+waiting_in : (ps : List Checked) (o : Option Standing) (n : ℕ) → next_in ps o ≡ Some (next.Waits n)
+    → (s : Standing) × (r : Sent) × (o ≡ Some s) × (s.sent ≡ Some r) × (r.number ≡ n)
+waiting_in ps None n is = absurd cc
+waiting_in ps (Some s) n is =
+    let it = waiting_by s.sent s.full (first_undo s.undo) s.tries s.last (reached ps s) n is in
+    (s, it.0, refl, it.1, it.2)
+
+-- what a transaction waits for
+pub waiting : (c : Core) (t n : ℕ) → next_at c t ≡ Some (next.Waits n)
+    → (s : Standing) × (r : Sent) × (standing c.events t ≡ Some s) × (s.sent ≡ Some r) × (r.number ≡ n)
+unfolding next_at
+waiting c t n is = waiting_in c.procs (standing c.events t) n is
+
 waits_in : (ps : List Checked) (t n : ℕ) (o : Option Standing) → next_in ps o ≡ Some (next.Waits n) → asking_in t o ≡ None → ⊥
 waits_in ps t n None is none = cc
 waits_in ps t n (Some s) is none = may_wait t s.sent s.full (first_undo s.undo) s.tries s.last (reached ps s) n is none

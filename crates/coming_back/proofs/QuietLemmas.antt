@@ -35,6 +35,7 @@ use Rattle.tc_core.specs.GivingUp.{IsOpenHere, with_given_up}
 use Rattle.tc_core.specs.Lent.{wire_by, wire_for}
 use Rattle.tc_core.specs.Replies.{with_event, IsAnswer, after_answer, is_up}
 use Rattle.tc_core.specs.declared.state.Down.{Down}
+use Rattle.tc_core.proofs.DoubtLemmas.{given_up_before}
 use Rattle.tc_core.proofs.MarkedLemmas.{holds_beside}
 use Rattle.tc_world.specs.OneAtATime.{EachIsKnown}
 use Rattle.tc_world.specs.Marks.{AreMarksLow}
@@ -76,8 +77,13 @@ quiet_later c e ds later q = record {
         list = λ k p there. (let x = is.list k p there in let few = x.0 in
             (omega (arith, few, many), still_closed (open_op (e ∷ c.events) p.0) (λ f opens. none_some _ f x.1 (later.opens p.0 f few opens))));
       };
-  given_up = λ n held. (let few = q.given_up n held in let many = later.many in omega (arith, few, many));
-  full = λ n f s held opens at. q.full n f s held (later.opens n f (q.given_up n held) opens) at;
+  given_up = λ n held.
+      let few = q.given_up n (given_up_before e c.given_up n held) in
+      let many = later.many in
+      omega (arith, few, many);
+  full = λ n f s held opens at.
+      let was = given_up_before e c.given_up n held in
+      q.full n f s was (later.opens n f (q.given_up n was) opens) at;
 }
 
 pub asked_later : (ps : List Checked) (h : List Event) (t m : ℕ) (o : Op) → Legal ps (event.Ask t m o ∷ h) → IsLater h (event.Ask t m o)

@@ -7,6 +7,7 @@ use Rattle.history.specs.Calls.{admitted}
 use Rattle.history.specs.Places.{Begins}
 use Rattle.data_component.specs.Store.{Store}
 use Rattle.transactions.specs.declared.Next.TheVariants as next
+use Rattle.transactions.specs.declared.Sent.{Sent}
 use Rattle.transactions.specs.Standing.{Standing, standing}
 use Rattle.transactions.specs.Room.{weighed, events_left}
 use Rattle.tc_core.specs.Core.{Core}
@@ -20,21 +21,25 @@ use Rattle.coming_back.specs.Joining.LivingOn.{LivesOn}
 use Rattle.coming_back.specs.Joining.Quiet.{IsQuiet}
 use Rattle.coming_back.specs.Coming.{at_rest, serial_if, open_to, serial_of, in_doubt, IsEnded, IsResumed}
 
--- of the state nothing changes but the log, which grows by events of transactions that were admitted, and the numbers given up, which
--- stay so
+-- of the state nothing changes but the log, which grows by events of transactions that were admitted, and which numbers are given up
 pub record Goes (c : Core) (dcs : List Store) (c' : Core) (dcs' : List Store) : Type 0 where
   pub core : c' ≡ record c { events = c'.events; given_up = c'.given_up }
   pub begins : Begins c.events c'.events
   pub count : admitted c'.events ≡ admitted c.events
-  pub given_up : (n : ℕ) → holds n c.given_up ≡ true → holds n c'.given_up ≡ true
   pub served : AreServed dcs dcs'
   pub lived : LivesOn (at_rest c dcs) (at_rest c' dcs')
   pub quiet : IsQuiet c dcs → IsQuiet c' dcs'
 
--- the same for one transaction: all others stand as before
+-- a number that was given up, and that another transaction than this one waits for, stays so
+abbrev pub StaysGivenUp : ℕ → Core → Core → Type 0
+StaysGivenUp t c c' = (u : ℕ) (s : Standing) (r : Sent) → u ≢ t → standing c.events u ≡ Some s → s.sent ≡ Some r
+    → holds r.number c.given_up ≡ true → holds r.number c'.given_up ≡ true
+
+-- the same for one transaction: all others stand as before, and are in doubt where they were
 pub record Moves (t : ℕ) (c : Core) (dcs : List Store) (c' : Core) (dcs' : List Store) : Type 0 where
   pub goes : Goes c dcs c' dcs'
   pub others : (u : ℕ) → u ≢ t → standing c'.events u ≡ standing c.events u
+  pub given_up : StaysGivenUp t c c'
 
 -- how many more events the transaction may log
 unfoldable pub left_of : Core → ℕ → ℕ
