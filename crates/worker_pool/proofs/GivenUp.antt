@@ -1,9 +1,11 @@
--- Numbers that were given up stay so.
-use Rattle.std.proofs.Common.{◌≡◌, ◌⊎◌, ℕ, Bool, true, false, List, [], ◌∷◌, ◌++◌, refl, sym, ◌∙◌, ap, subst, inl, inr}
+-- Numbers that were given up stay so until they are answered.
+use Rattle.std.proofs.Common.{◌≡◌, ◌⊎◌, ℕ, Bool, true, false, not, cond, ◌==◌, List, [], ◌∷◌, ◌++◌, refl, sym, ◌∙◌, ap, subst, inl, inr}
 use Rattle.std.proofs.lemmas.Bool.{cases_eq}
-use Rattle.request_numbers.specs.Given.{holds}
+use Rattle.request_numbers.specs.Given.{holds, others}
+use Rattle.tc_log.specs.declared.event.Event.{Event}
+use Rattle.tc_log.specs.declared.event.Event.TheVariants.{Admit, Ask, Answer, Undo, End, Checkpoint}
 use Rattle.tc_core.specs.Core.{Core, Asking}
-use Rattle.tc_core.specs.Doubts.{with_number_by}
+use Rattle.tc_core.specs.Doubts.{with_number_by, given_up_behind}
 use Rattle.tc_core.specs.GivingUp.{IsOpenHere, with_given_up}
 use Rattle.worker_pool.specs.Answers.{BeginWith}
 
@@ -23,6 +25,27 @@ begin_then first mid last a b = record {
   later = a.later ++ b.later;
   is = b.is ∙ (ap (λ (l : List ℕ). l ++ b.later) a.is ∙ append_again first a.later b.later);
 }
+
+-- ---- an event
+
+others_join : (n : ℕ) (a b : List ℕ) → others n (a ++ b) ≡ others n a ++ others n b
+others_join n [] b = refl
+others_join n (m ∷ a) b = by (not (m == n)) (others n (a ++ b)) (others n a) (others n b) (others_join n a b)
+  where
+    by : (kept : Bool) (all left right : List ℕ) → all ≡ left ++ right → cond kept (m ∷ all) all ≡ cond kept (m ∷ left) left ++ right
+    by true all left right is = ap (λ (l : List ℕ). m ∷ l) is
+    by false all left right is = is
+
+-- what begins with others does so behind an event
+pub begin_behind : (e : Event) (first ns : List ℕ) → BeginWith first ns → BeginWith (given_up_behind e first) (given_up_behind e ns)
+begin_behind (Admit t p args) first ns b = b
+begin_behind (Ask t n o) first ns b = b
+begin_behind (Answer t n said) first ns b = record { later = others n b.later; is = ap (others n) b.is ∙ others_join n first b.later }
+begin_behind (Undo t n o) first ns b = b
+begin_behind (End t o) first ns b = b
+begin_behind (Checkpoint before numbers) first ns b = b
+
+-- ---- a request that is given up
 
 -- whether numbers begin with others
 begins : (first ns : List ℕ) → (BeginWith first ns) ⊎ (BeginWith first ns → ⊥)

@@ -23,6 +23,7 @@ use Rattle.transactions.proofs.StandingLemmas.{standing-same, standing-other}
 use Rattle.tc_core.specs.Core.{Core, Asking}
 use Rattle.tc_core.specs.Admission.{IsCalled, Takes}
 use Rattle.tc_core.specs.Replies.{with_event, after_ask, after_undo, after_answer, end_reply, after_end}
+use Rattle.tc_core.specs.Doubts.{given_up_behind}
 use Rattle.tc_core.specs.GivingUp.{IsOpenHere, with_given_up}
 use Rattle.tc_core.specs.Redo.{after_told, up_again, after_redo, redone_at, after_redone}
 use Rattle.tc_core.specs.declared.state.NewsFault.{NewsFault}
@@ -43,7 +44,7 @@ use Rattle.worker_pool.specs.declared.answer.Progress.{Progress}
 use Rattle.worker_pool.specs.declared.answer.Progress.TheVariants.{Waiting, Begun, Answered}
 use Rattle.tc_core.specs.Admission.{call_of}
 use Rattle.worker_pool.specs.Answers.{place_of, is_some, answer_of, StandsBehind, IsAdmitted}
-use Rattle.worker_pool.specs.Answers.{IsEnded, RefusalFits, StaysBut, BeginWith, IsMoment, AnswerFits}
+use Rattle.worker_pool.specs.Answers.{IsEnded, RefusalFits, StaysBut, BeginWith, still_given_up, IsMoment, AnswerFits}
 use Rattle.worker_pool.specs.Kept.{ends, serial_of, txn_of, place_in, is_placed, IsOpen, IsBegun, Fits, IsAdmittedFor, Keeps}
 use Rattle.worker_pool.specs.Joining.Seen.{IsAnswered, AnswersStay}
 use Rattle.worker_pool.specs.Joining.Moves.{MovesOn, IsAnsweredBy}
@@ -54,7 +55,7 @@ use Rattle.worker_pool.proofs.Lists.{get_set, set_here, set_other, length_set, c
 use Rattle.worker_pool.proofs.Placed.{stands_more, stands_here, stood, stands_within, begins_more, begins_length}
 use Rattle.worker_pool.specs.Doubts.{IsDoubtful}
 use Rattle.worker_pool.proofs.Doubtful.{sends_more, doubtful_sent}
-use Rattle.worker_pool.proofs.GivenUp.{begin_same, begin_then, given_up_more}
+use Rattle.worker_pool.proofs.GivenUp.{begin_same, begin_then, begin_behind, given_up_more}
 use Rattle.worker_pool.specs.Restarts.{StaysKnown}
 use Rattle.worker_pool.proofs.Known.{known_behind}
 
@@ -65,7 +66,7 @@ abbrev IsMore : List Event → Event → Type 0
 IsMore h e = (admitted h ≤ admitted (e ∷ h)) × (given h ≤ given (e ∷ h))
 
 stays_more : (start c : Core) (e : Event) → StaysBut start c → StaysBut start (with_event c e)
-stays_more start c e stays = ap (λ (s : Core). record s { events = e ∷ c.events; given_up = c.given_up; sites = c.sites }) stays
+stays_more start c e stays = ap (λ (s : Core). record s { events = e ∷ c.events; given_up = given_up_behind e c.given_up; sites = c.sites }) stays
 
 behind_more : (first h : List Event) (e : Event) (place : ℕ) (x : Event) → StandsBehind first h place x → StandsBehind first (e ∷ h) place x
 behind_more first h e place x at = record { behind = at.behind; stands = stands_more h e place x at.stands }
@@ -88,7 +89,12 @@ refusal_more start h e c refusal.Memory more it = it
 
 -- one event more is one moment more
 moment_more : (start then now : Core) (e : Event) → IsMoment start then now → IsMoment start then (with_event now e)
-moment_more start then now e m = record { stays = m.stays; begins = m.begins; goes_on = begins_more then.events now.events e m.goes_on; given_up = m.given_up }
+moment_more start then now e m = record {
+  stays = m.stays;
+  begins = m.begins;
+  goes_on = record { later = e ∷ m.goes_on.later; is = ap (λ (l : List Event). e ∷ l) m.goes_on.is };
+  given_up = begin_behind e (still_given_up m.goes_on.later then.given_up) now.given_up m.given_up;
+}
 
 answer_more : (start now : Core) (e : Event) (c : named.Call) (a : Answer) (o : Option ℕ)
     → IsMore now.events e → AnswerFits start now c a o → AnswerFits start (with_event now e) c a o
@@ -141,7 +147,7 @@ answer_beside start now numbers sites c (Blocked b) o more it =
       waits = it.waits;
       takes = it.takes;
       then = it.then;
-      moment = record { stays = m.stays; begins = m.begins; goes_on = m.goes_on; given_up = begin_then it.then.given_up now.given_up numbers m.given_up more };
+      moment = record { stays = m.stays; begins = m.begins; goes_on = m.goes_on; given_up = begin_then (still_given_up m.goes_on.later it.then.given_up) now.given_up numbers m.given_up more };
       blocked = it.blocked;
       first = it.first;
       other = it.other;

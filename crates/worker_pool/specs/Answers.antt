@@ -1,5 +1,5 @@
 -- What the answer to a call says of the log. A log is read with its newest event first, and places count from the oldest one.
-use Rattle.std.specs.Prelude.{◌≡◌, ◌+◌, ◌*◌, ◌^◌, ◌<◌, ◌≤◌, ◌++◌, ℕ, List, Bool, true, false, length, Option, Some, None}
+use Rattle.std.specs.Prelude.{◌≡◌, ◌+◌, ◌*◌, ◌^◌, ◌<◌, ◌≤◌, ◌∷◌, ◌++◌, ℕ, List, [], Bool, true, false, length, Option, Some, None}
 use Rattle.access_slots.specs.Held.{excludes, IsFirstInTheWay}
 use Rattle.tc_log.specs.declared.event.Event.{Event}
 use Rattle.tc_log.specs.declared.event.Event.TheVariants.{Admit, Ask, Undo, End}
@@ -12,6 +12,7 @@ use Rattle.transactions.specs.Reached.{decls}
 use Rattle.lock_table.specs.declared.table.Busy.{Busy}
 use Rattle.tc_core.specs.Core.{Core}
 use Rattle.tc_core.specs.Admission.{Takes, IsRefused}
+use Rattle.tc_core.specs.Doubts.{given_up_behind}
 use Rattle.tc_core.specs.Blocked as stranded
 use Rattle.tc_core.specs.declared.state.Refusal.{Refusal}
 use Rattle.tc_core.specs.declared.state.Refusal.TheVariants as refusal
@@ -100,12 +101,17 @@ pub record BeginWith (first numbers : List ℕ) : Type 0 where
   pub later : List ℕ
   pub is : numbers ≡ first ++ later
 
--- the run came from the first state to this one, and from there to the last one
+-- of numbers that were given up, those that these events don't answer
+abbrev pub still_given_up : List Event → List ℕ → List ℕ
+still_given_up [] ns = ns
+still_given_up (e ∷ es) ns = given_up_behind e (still_given_up es ns)
+
+-- the run came from the first state to this one, and from there to the last one: what was given up stays so until it is answered
 pub record IsMoment (start then now : Core) : Type 0 where
   pub stays : StaysBut start then
   pub begins : Begins start.events then.events
   pub goes_on : Begins then.events now.events
-  pub given_up : BeginWith then.given_up now.given_up
+  pub given_up : BeginWith (still_given_up goes_on.later then.given_up) now.given_up
 
 -- ---- what stands at the end of a run
 
