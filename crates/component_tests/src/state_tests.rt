@@ -482,3 +482,28 @@ fn put_over_a_restart(rt: &impl Abort, alloc: Global, tc: &mut TcState) {
 fn answers_of_the_incarnation_that_was_told(rt: HostRuntime) {
     with_state(&rt, rt.alloc(), put_over_a_restart);
 }
+
+// Its request is made again, and answered.
+fn taken_up_again(rt: &impl Abort, tc: &mut TcState, txn: TxnId) {
+    match tc.request(txn) {
+        Some(request) => answered(rt, tc, request, inserted(0)),
+        None => panic!(rt; "no request"),
+    }
+}
+
+// A number that was given up is answered after all: what wants the lock is blocked until then.
+fn is_answered_after_all(rt: &impl Abort, alloc: Global, tc: &mut TcState) {
+    let txn = before_put(rt, alloc, tc);
+    asked_for_put(rt, tc, txn);
+    let again = put_again(rt, alloc);
+    is_same(rt, tc.blocked(&again), true);
+    taken_up_again(rt, tc, txn);
+    is_same(rt, (tc.blocked(&again), tc.log().len()), (false, 3));
+    drop(again);
+    ask_is(rt, tc, txn, ("over", 0));
+}
+
+#[test]
+fn a_number_given_up_and_answered(rt: HostRuntime) {
+    with_state(&rt, rt.alloc(), is_answered_after_all);
+}
