@@ -1,7 +1,7 @@
 // A file as a log sees it: its bytes, and what a crash may leave.
 
-ghost use Rattle.std.specs.Prelude.{◌≡◌, ◌≤◌, ◌++◌, List, ℕ, length, take, drop, OnOk};
-ghost use Rattle.frame_file.specs.declared.device.DeviceError.TheVariants.{Memory};
+ghost use Rattle.std.specs.Prelude.{◌≡◌, ◌≤◌, ◌++◌, List, ℕ, length, take, drop, OnOk, IsErrOf};
+ghost use Rattle.frame_file.specs.declared.device.DeviceError.TheVariants.{Memory, Unkept};
 ghost use Rattle.frame_file.specs.Device.{Only, Follows, Torn, Cut, KeepsFirst, Elapses, HasCause};
 
 use std::alloc::{AllocError, AllocFailed};
@@ -59,7 +59,9 @@ pub trait Device {
         ensures written { OnOk result (seen self.new ≡ seen self.old ++ bytes.now) }
         ensures crash { Follows (Torn bytes.now) (may_leave self.old) (may_leave self.new) }
         ensures time { Elapses (moment self.old) (moment self.new) (left_since self.old) (left_since self.new) (may_leave self.new) }
-        ensures cause { HasCause (faults self.old) (faults self.new) result };
+        ensures cause { HasCause (faults self.old) (faults self.new) result }
+        // Nothing is cut off.
+        ensures uncut { IsErrOf result Unkept → ⊥ };
 
     /// Cuts the file to a length, once what is cut off, which is this end of it, is kept, and synced, elsewhere.
     fn cut(&mut self, len: usize, end: &[u8]) -> Result<(), DeviceError>
@@ -79,7 +81,8 @@ pub trait Device {
         ensures kept { kept self.new ≡ kept self.old }
         ensures crash { (c : List ℕ) → may_leave self.new c → may_leave self.old c }
         ensures time { Elapses (moment self.old) (moment self.new) (left_since self.old) (left_since self.new) (may_leave self.new) }
-        ensures cause { HasCause (faults self.old) (faults self.new) result };
+        ensures cause { HasCause (faults self.old) (faults self.new) result }
+        ensures uncut { IsErrOf result Unkept → ⊥ };
 
     /// This moment is one of those since an earlier one.
     ghost counts_now: { (file : Self) (t : ℕ) (c : List ℕ) → t ≤ moment file → may_leave file c → left_since file t c };

@@ -4,7 +4,7 @@ ghost use Rattle.std.specs.Prelude.{◌≡◌, ◌<◌, ◌≤◌, ◌+◌, ◌^
 ghost use Rattle.frame_file.specs.Device.{Only, LeavesOnly};
 ghost use Rattle.frame_file.specs.Frame.{frames_from};
 ghost use Rattle.frame_file.specs.Reading.{Reads, IsFound, IsDamaged, IsSettled, IsBeforeOrAfter, ReadsAs, payloads_in};
-ghost use Rattle.frame_file.specs.declared.device.DeviceError.TheVariants.{Failed};
+ghost use Rattle.frame_file.specs.declared.device.DeviceError.TheVariants.{Failed, Unkept};
 ghost use Rattle.frame_file.specs.declared.reading.FrameFault.TheVariants.{Device as DeviceFault, Full, Damaged};
 
 use crate::device::{Device, DeviceError};
@@ -87,6 +87,8 @@ impl<D: Device> FrameFile<D> {
         ensures failed { IsErrOf result (DeviceFault Failed) → D.faults self.old.device < D.faults self.new.device }
         ensures later { D.faults self.old.device ≤ D.faults self.new.device }
         ensures full { IsErrOf result Full → 2 ^ 64 ≤ self.old.count + 1 }
+        ensures uncut { IsErrOf result (DeviceFault Unkept) → ⊥ }
+        ensures undamaged { (number : ℕ) → IsErrOf result (Damaged number) → ⊥ }
     {
         let Some(next) = self.count.checked_add(1) else {
             return Err(FrameFault::Full);

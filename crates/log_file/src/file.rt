@@ -1,10 +1,10 @@
 // A log's file.
 
-ghost use Rattle.std.specs.Prelude.{◌≡◌, ◌<◌, ◌≤◌, ◌++◌, [], ◌∷◌, ℕ, List, Some, map, reverse, IfOk, IfErr, OnOk, IsErrOf};
+ghost use Rattle.std.specs.Prelude.{◌≡◌, ◌<◌, ◌≤◌, ◌+◌, ◌^◌, ◌++◌, [], ◌∷◌, ℕ, List, Some, map, reverse, IfOk, IfErr, OnOk, IsErrOf};
 ghost use Rattle.frame_file.specs.Device.{Only, LeavesOnly};
 ghost use Rattle.frame_file.specs.Reading.{Reads, IsSettled, IsBeforeOrAfter, ReadsAs};
-ghost use Rattle.frame_file.specs.declared.device.DeviceError.TheVariants.{Failed};
-ghost use Rattle.frame_file.specs.declared.reading.FrameFault.TheVariants.{Device as DeviceFault};
+ghost use Rattle.frame_file.specs.declared.device.DeviceError.TheVariants.{Failed, Unkept};
+ghost use Rattle.frame_file.specs.declared.reading.FrameFault.TheVariants.{Device as DeviceFault, Full, Damaged};
 ghost use Rattle.log_file.specs.declared.reading.OpenFault.TheVariants.{Empty as EmptyFault};
 ghost use Rattle.log_file.specs.Bytes.{part_bytes, parts_of, batch_bytes, header_bytes, payloads_of};
 ghost use Rattle.log_file.specs.Found.{base_in};
@@ -143,8 +143,11 @@ impl<D: Device> LogFile<D> {
         ensures any_moment { (payloads : List (List ℕ)) → IsSettled D.seen D.may_leave self.old.frames payloads
             → LeavesOnly D.moment D.left_since self.old.frames.device self.new.frames.device
             (IsBeforeOrAfter payloads (batch_bytes (record { notes = notes.now; rows = rows.now }))) }
-        // It doesn't give up by itself.
+        // It doesn't give up by itself: the disk has failed, there are 2^64 - 1 frames, or memory ran out.
         ensures failed { IsErrOf result (DeviceFault Failed) → D.faults self.old.frames.device < D.faults self.new.frames.device }
+        ensures full { IsErrOf result Full → 2 ^ 64 ≤ self.old.frames.count + 1 }
+        ensures uncut { IsErrOf result (DeviceFault Unkept) → ⊥ }
+        ensures undamaged { (number : ℕ) → IsErrOf result (Damaged number) → ⊥ }
     {
         let payload = batch_bytes(alloc, notes, rows)?;
         self.frames.append(alloc, &payload)

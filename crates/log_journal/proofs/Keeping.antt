@@ -1,12 +1,15 @@
 -- One batch of rows more in a journal's file.
-use Rattle.std.proofs.Common.{◌≡◌, ◌∙◌, ◌++◌, ◌∷◌, [], ℕ, List, Option, Some, None, true, false, length, refl, ap₂, sym, subst, arith}
-use Rattle.std.specs.Prelude.{◌%◌, ◌<◌}
+use Rattle.std.proofs.Common.{◌≡◌, ◌∙◌, ◌++◌, ◌∷◌, [], ℕ, List, Option, Some, None, true, false, length, refl, ap₂, sym, subst, arith, inl, inr}
+use Rattle.std.specs.Prelude.{◌%◌, ◌+◌, ◌<◌, ◌≤◌, ◌^◌}
 use Rattle.std.specs.List.{flat_map}
 use Rattle.std.proofs.lemmas.List.{append-nil}
 use Rattle.std.proofs.lemmas.List.Elements.{All-nil}
 use Rattle.std.proofs.lemmas.Grind.{flat_map-append}
 use Rattle.tc_log.specs.declared.event.Event.{Event}
 use Rattle.tc_log.specs.Printed.{printed}
+use Rattle.frame_file.specs.declared.device.DeviceError.TheVariants as device
+use Rattle.frame_file.specs.declared.reading.FrameFault.{FrameFault}
+use Rattle.frame_file.specs.declared.reading.FrameFault.TheVariants.{Device as DeviceFault, Full, Damaged}
 use Rattle.frame_file.specs.Reading.{IsSettled}
 use Rattle.log_file.specs.declared.note.Note.{Note}
 use Rattle.log_file.specs.declared.file.LogFile.{LogFile}
@@ -18,7 +21,7 @@ use Rattle.log_file.proofs.LawLemmas.{payloads_push}
 use Rattle.frame_file.specs.Device.{LeavesOnly}
 use Rattle.frame_file.specs.Reading.{IsBeforeOrAfter}
 use Rattle.frame_file.proofs.Moments.{started, weaker}
-use Rattle.log_journal.specs.Keeping.{HasWritten, HasWrittenBehind, IsLeft}
+use Rattle.log_journal.specs.Keeping.{HasWritten, HasWrittenBehind, IsLeft, Fails, told_as}
 use Rattle.log_journal.specs.Leaving.{left_between, left_now}
 
 -- rows, and nothing that is noted
@@ -91,3 +94,14 @@ module _ {D : Type 0} (seen : D → List ℕ) (may_leave : D → List ℕ → Ty
         let payloads = payloads_of h was.base was.batches in
         weaker moment left_since file.frames.device new (IsBeforeOrAfter payloads (batch_bytes (of_rows rows))) (IsLeft h before more)
         (run payloads was.settled) (λ left it. left_between seen may_leave h file before more was rows left are it)
+
+-- what an append says of its fault, as it is told
+pub fails : {D : Type 0} (faults : D → ℕ) (before after : LogFile D) (fault : FrameFault)
+    → (fault ≡ DeviceFault device.Failed → faults before.frames.device < faults after.frames.device)
+    → (fault ≡ Full → 2 ^ 64 ≤ before.frames.count + 1) → (fault ≡ DeviceFault device.Unkept → ⊥)
+    → ((number : ℕ) → fault ≡ Damaged number → ⊥) → Fails faults before (told_as fault) after
+fails faults before after (DeviceFault device.Memory) failed full uncut undamaged = tt
+fails faults before after (DeviceFault device.Failed) failed full uncut undamaged = inl (failed refl)
+fails faults before after (DeviceFault device.Unkept) failed full uncut undamaged = absurd (uncut refl)
+fails faults before after Full failed full uncut undamaged = inr (full refl)
+fails faults before after (Damaged number) failed full uncut undamaged = absurd (undamaged number refl)

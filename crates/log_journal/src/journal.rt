@@ -7,7 +7,7 @@ ghost use Rattle.frame_file.specs.Reading.{IsSettled};
 ghost use Rattle.log_file.specs.declared.header.Header.{Header as HeaderValue};
 ghost use Rattle.log_file.specs.Reading.{IsOpenFault, IsRefusal, IsAsItWas};
 ghost use Rattle.log_file.specs.Found.{base_in};
-ghost use Rattle.log_journal.specs.Keeping.{HasWritten, HasWrittenBehind, IsLeft, IsLogOf};
+ghost use Rattle.log_journal.specs.Keeping.{HasWritten, HasWrittenBehind, IsLeft, IsLogOf, Fails, told_as};
 ghost use Rattle.log_journal.specs.Leaving.{left_now};
 
 use frame_file::{Device, DeviceError, FrameFault};
@@ -17,7 +17,9 @@ use tc_log::log::Log;
 use worker_pool::{Journal, NotKept};
 
 // Why events weren't kept.
-fn unkept(fault: FrameFault) -> NotKept {
+fn unkept(fault: FrameFault) -> NotKept
+    ensures { result ≡ told_as fault }
+{
     match fault {
         FrameFault::Device(DeviceError::Memory) => NotKept::Memory,
         FrameFault::Device(DeviceError::Failed | DeviceError::Unkept)
@@ -166,6 +168,8 @@ impl<D: Device + Drop> LogJournal<D> {
         ensures any_moment { (before : List EventValue) → HasWritten D.seen D.may_leave self.old.header self.old.file before
             → LeavesOnly D.moment D.left_since self.old.file.frames.device self.new.file.frames.device
             (IsLeft self.old.header before (drop place (reverse log.now.events))) }
+        // It doesn't give up by itself.
+        ensures failed { IfErr result (λ why. Fails D.faults self.old.file why self.new.file) }
         ensures header { self.new.header ≡ self.old.header }
     {
         let Ok(rows) = log.print_from(self.alloc, place) else {
@@ -200,6 +204,8 @@ impl<D: Device + Drop> Journal for LogJournal<D> {
     ghost left_since = { λ journal t left. D.left_since journal.file.frames.device t left };
 
     ghost leaves = { λ journal before more left. IsLeft journal.header before more left };
+
+    ghost fails = { λ before why after. Fails D.faults before.file why after.file };
 
     ghost kept_now = { λ journal events left kept now. left_now D.seen D.may_leave journal.header journal.file events [] kept left
         (D.only_now journal.file.frames.device left now) };

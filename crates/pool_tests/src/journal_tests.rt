@@ -163,6 +163,8 @@ impl Journal for Watched<'_> {
 
     ghost leaves = { λ journal before more left. ⊥ };
 
+    ghost fails = { λ before why after. Unit {0} };
+
     ghost kept_now = { λ journal events left kept now. now };
 
     fn keep(&mut self, events: &Log) -> Result<(), NotKept> {

@@ -4,7 +4,7 @@ ghost use Rattle.std.specs.Prelude.{◌≡◌, true, false};
 ghost use Rattle.worker_pool.specs.Acknowledged.{WasAnswered, IsKept};
 
 use crate::answer::Answer;
-use crate::desk::Naming;
+use crate::naming::Naming;
 use crate::pool::Gate;
 use std::marker::{Model, PhantomData};
 

@@ -20,69 +20,19 @@ use crate::acknowledgement::Due;
 use crate::answer::{Answer, Progress};
 use crate::batch::Batch;
 use crate::handed::{Count, Handed};
-use crate::journal::NotKept;
+use crate::naming::Naming;
 use crate::report::Report;
 use crate::sending::{Sending, is_sent_for};
 use access_slots::op::{News, Reply, Wire};
 use lock_table::table::Busy;
 use std::alloc::AllocError;
-use std::marker::{Brand, Model, PhantomData};
+use std::marker::{Model, PhantomData};
 use tc_core::procs::Procs;
 use tc_core::state::{
     Asked, Call, Down, NotOver, Receipt, Redo, Refusal, Request, Stranger, Stranger2, TcState,
     TxnId,
 };
 use tc_log::event::{Event, Outcome};
-
-/// The state that is handed to a run, its calls, whether it has a journal, what that had kept before and what
-/// it has kept at any time since, and the book of what is handed over to it. Each run picks them.
-pub trait Naming {
-    ghost use Rattle.std.specs.Prelude.{ℕ, Bool, List};
-    ghost use Rattle.logbook.specs.Pages.{Book};
-    ghost use Rattle.tc_log.specs.declared.event.Event.{Event};
-    ghost use Rattle.tc_core.specs.Core.{Core};
-    ghost use Rattle.tc_core.specs.declared.state.Call.{Call};
-
-    ghost start: { Core };
-
-    ghost calls: { List Call };
-
-    ghost keeps: { Bool };
-
-    ghost before: { List Event → Type 0 };
-
-    ghost kept: { List Event → Type 0 };
-
-    ghost since: { ℕ };
-
-    ghost past: { ℕ → List ℕ → Type 0 };
-
-    ghost leaves: { List Event → List Event → List ℕ → Type 0 };
-
-    ghost book: { Book };
-}
-
-impl Naming for Brand {
-    ghost use Rattle.std.specs.Prelude.{[], false};
-
-    ghost start = { record { procs = []; names = []; dcs = 0; events = []; given_up = []; sites = [] } };
-
-    ghost calls = { [] };
-
-    ghost keeps = { false };
-
-    ghost before = { λ events. ⊥ };
-
-    ghost kept = { λ events. ⊥ };
-
-    ghost since = { 0 };
-
-    ghost past = { λ t left. ⊥ };
-
-    ghost leaves = { λ before more left. ⊥ };
-
-    ghost book = { record { number = 0; log_name = 0; cells_name = 0 } };
-}
 
 /// What is to be done for a call without the lock.
 pub enum Next {
@@ -167,32 +117,33 @@ impl<J: Naming> Desk<J> {
 
     /// Copies what the log has behind what was handed over before into the batch, and answers all that is
     /// handed over then, and how many events the log has. `known` is what was handed over before, as who
-    /// keeps it knows it; where that isn't what the desk knows, nothing is handed over.
+    /// keeps it knows it; where that isn't what the desk knows, nothing is handed over. Only want of memory is
+    /// an error.
     pub fn hand_over(
         &mut self,
         count: &Count<J>,
         known: &Handed<J>,
         batch: &mut Batch,
-    ) -> Result<(Handed<J>, usize), NotKept>
-        ensures more { IfOk result (λ r. r.0 ≡ known.now ++ batch.new ∷ []) }
-        ensures all { IfOk result (λ r. self.old.state.events ≡ reverse (events_of r.0) ++ J.start.events) }
-        ensures events { IfOk result (λ r. r.1 ≡ length J.start.events + length (events_of r.0)) }
-        ensures stood { IfOk result (λ r. HasStood J.start r.0) }
+    ) -> Result<Option<(Handed<J>, usize)>, AllocError>
+        ensures more { IfOk result (λ some. IfSome some (λ r. r.0 ≡ known.now ++ batch.new ∷ [])) }
+        ensures all { IfOk result (λ some. IfSome some (λ r. self.old.state.events ≡ reverse (events_of r.0) ++ J.start.events)) }
+        ensures events { IfOk result (λ some. IfSome some (λ r. r.1 ≡ length J.start.events + length (events_of r.0))) }
+        ensures stood { IfOk result (λ some. IfSome some (λ r. HasStood J.start r.0)) }
         ensures same { self.new ≡ self.old }
     {
         self.known();
         if !self.handed.is_same(known) {
-            return Err(NotKept::Failed);
+            return Ok(None);
         }
         let events = self.state.log().events();
         fill_behind(batch, events, self.copied)?;
         let mut handed = known.again();
         if !handed.add(count, batch) {
-            return Err(NotKept::Failed);
+            return Ok(None);
         }
         self.copied = events.len();
         self.handed = handed.again();
-        Ok((handed, self.copied))
+        Ok(Some((handed, self.copied)))
     }
 
     /// The next call that no worker has taken.
@@ -801,12 +752,9 @@ fn answer_for(receipt: Receipt) -> Answer
 }
 
 // Copies of the events from this place on.
-fn fill_behind(batch: &mut Batch, events: &[Event], from: usize) -> Result<(), NotKept>
+fn fill_behind(batch: &mut Batch, events: &[Event], from: usize) -> Result<(), AllocError>
     requires { from ≤ length events.now }
     ensures { OnOk result (batch.new ≡ drop from events.now) }
 {
-    match batch.fill(&events[from..]) {
-        Ok(()) => Ok(()),
-        Err(AllocError) => Err(NotKept::Memory),
-    }
+    batch.fill(&events[from..])
 }

@@ -4,7 +4,7 @@ ghost use Rattle.std.specs.Prelude.{◌≡◌, true, Some, None, IfSome, IsSome}
 ghost use Rattle.access_slots.specs.Locks.{target};
 ghost use Rattle.worker_pool.specs.Wires.{WasInFlight};
 
-use crate::desk::Naming;
+use crate::naming::Naming;
 use crate::sending::Sending;
 use access_slots::op::{News, Reply, Wire};
 

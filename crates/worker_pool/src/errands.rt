@@ -6,8 +6,9 @@ ghost use Rattle.worker_pool.specs.Joining.Moves.{IsAnsweredBy};
 ghost use Rattle.worker_pool.specs.Restarts.{AreKnown};
 
 use crate::acknowledgement::Due;
-use crate::desk::{Desk, Naming, Next};
+use crate::desk::{Desk, Next};
 use crate::errand::Errand;
+use crate::naming::Naming;
 use crate::pool::{Gate, Link};
 use std::alloc::{AllocError, Global};
 use std::marker::Model;

@@ -8,7 +8,7 @@ ghost use mathlib.Core.List.{IsPrefix};
 ghost use Rattle.worker_pool.specs.Joining.Handing.{head_of};
 
 use crate::batch::Batch;
-use crate::desk::Naming;
+use crate::naming::Naming;
 use logbook::{Gain, Offer, Plain, Play, Rule, Seen, Start, Word};
 use std::marker::{Model, PhantomData};
 

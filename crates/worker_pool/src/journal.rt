@@ -1,9 +1,11 @@
 // What keeps the events of a log.
 
-ghost use Rattle.std.specs.Prelude.{◌++◌, ℕ, List, [], reverse, OnOk};
+ghost use Rattle.std.specs.Prelude.{◌≡◌, ◌++◌, ℕ, List, [], reverse, OnOk, IfErr};
 ghost use Rattle.tc_log.specs.declared.event.Event.{Event as EventValue};
 ghost use Rattle.frame_file.specs.Device.{LeavesOnly};
+ghost use Rattle.worker_pool.specs.declared.journal.NotKept.TheVariants.{Memory};
 
+use std::alloc::AllocError;
 use tc_log::log::Log;
 
 /// Why events weren't kept. How many of them were isn't known, and the journal isn't asked again.
@@ -15,10 +17,19 @@ pub enum NotKept {
     Failed,
 }
 
+impl From<AllocError> for NotKept {
+    ghost from_gives = { λ _ why. why ≡ Memory };
+
+    fn from(_: AllocError) -> Self {
+        NotKept::Memory
+    }
+}
+
 /// What keeps the events of a log where they outlast the run, as a file does.
 pub trait Journal {
     ghost use Rattle.std.specs.Prelude.{ℕ, List, []};
     ghost use Rattle.tc_log.specs.declared.event.Event.{Event};
+    ghost use Rattle.worker_pool.specs.declared.journal.NotKept.{NotKept as Why};
 
     /// It has kept these events, the oldest first. Which events are kept in a file is for the journal to
     /// say: they needn't be a function of the journal itself.
@@ -35,6 +46,9 @@ pub trait Journal {
     /// behind them.
     ghost leaves: { Self → List Event → List Event → List ℕ → Type 0 };
 
+    /// It may say so why events weren't kept, by a call that found it as the first and left it as the second.
+    ghost fails: { Self → Why → Self → Type 0 };
+
     /// Keeps these events behind those that it has kept. At Ok a crash doesn't lose them. It is called by one
     /// worker at a time, and no lock but the journal's own is held.
     fn keep(&mut self, events: &Log) -> Result<(), NotKept>
@@ -43,7 +57,9 @@ pub trait Journal {
         // Whatever comes of it, a crash at any moment of the call leaves all that was kept before it.
         ensures any_moment { (before : List EventValue) → has_kept self.old before
             → LeavesOnly moment left_since self.old self.new (leaves self.old before (reverse events.now.events)) }
-        ensures same { (before more : List EventValue) (left : List ℕ) → leaves self.new before more left → leaves self.old before more left };
+        ensures same { (before more : List EventValue) (left : List ℕ) → leaves self.new before more left → leaves self.old before more left }
+        // It doesn't give up by itself.
+        ensures failed { IfErr result (λ why. fails self.old why self.new) };
 
     /// A crash at this moment leaves what is kept.
     ghost kept_now: { (journal : Self) (events : List Event) (left : List ℕ) → has_kept journal events
@@ -62,6 +78,8 @@ impl Journal for NoJournal {
     ghost left_since = { λ journal since left. ⊥ };
 
     ghost leaves = { λ journal before more left. ⊥ };
+
+    ghost fails = { λ before why after. Unit {0} };
 
     ghost kept_now = { λ journal events left kept now. now };
 

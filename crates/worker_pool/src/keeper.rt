@@ -4,14 +4,18 @@
 // copied, the desk's; nobody who holds the desk's lock waits for the journal's. Whoever holds the journal's
 // writes what all have logged by then, so that those who wait behind it find it kept.
 
-ghost use Rattle.std.specs.Prelude.{◌≡◌, true};
+ghost use Rattle.std.specs.Prelude.{◌≡◌, ◌+◌, ◌++◌, ◌∷◌, [], true, length, reverse, IfOk};
+ghost use Rattle.worker_pool.specs.Joining.Handing.{events_of};
+ghost use Rattle.worker_pool.specs.Joining.Leaving.{HasStood};
 
 use crate::acknowledgement::{Acknowledgement, Due};
 use crate::batch::Batch;
-use crate::desk::{Desk, Naming};
+use crate::desk::Desk;
 use crate::handed::{Count, Handed};
 use crate::journal::{Journal, NotKept};
+use crate::naming::Naming;
 use crate::waiting::acquire;
+use std::alloc::AllocError;
 use std::marker::{Model, PhantomData};
 use std::sync::atomic::{AtomicU64, Ordering};
 use std::sync::{Mutex, Wait};
@@ -36,6 +40,51 @@ impl<J: Naming> Stopped<J> {
     }
 }
 
+// What a desk hands over behind what was handed over before. Both locks are held whenever anything is handed
+// over, so both know of the same; that types alone don't tell it is why this may look again.
+fn hand_over<J: Naming, R: Wait>(
+    rt: &R,
+    desk: &Mutex<Desk<J>>,
+    count: &Count<J>,
+    known: &Handed<J>,
+    batch: &mut Batch,
+) -> Result<(Handed<J>, usize), AllocError>
+    ensures more { IfOk result (λ r. r.0 ≡ known.now ++ batch.new ∷ []) }
+    ensures events { IfOk result (λ r. r.1 ≡ length J.start.events + length (events_of r.0)) }
+    ensures stood { IfOk result (λ r. HasStood J.start r.0) }
+{
+    for _ in rt.forever() {
+        let found = acquire(rt, desk).hand_over(count, known, batch)?;
+        if let Some(handed) = found {
+            return Ok(handed);
+        }
+    }
+    unreachable!()
+}
+
+// The same, where no other worker is left.
+fn hand_over_alone<J: Naming, R: Wait>(
+    rt: &R,
+    desk: &mut Desk<J>,
+    count: &Count<J>,
+    known: &Handed<J>,
+    batch: &mut Batch,
+) -> Result<(Handed<J>, usize), AllocError>
+    ensures more { IfOk result (λ r. r.0 ≡ known.now ++ batch.new ∷ []) }
+    ensures all { IfOk result (λ r. desk.old.state.events ≡ reverse (events_of r.0) ++ J.start.events) }
+    ensures events { IfOk result (λ r. r.1 ≡ length J.start.events + length (events_of r.0)) }
+    ensures stood { IfOk result (λ r. HasStood J.start r.0) }
+    ensures same { desk.new ≡ desk.old }
+{
+    for _ in rt.forever() {
+        let found = desk.hand_over(count, known, batch)?;
+        if let Some(handed) = found {
+            return Ok(handed);
+        }
+    }
+    unreachable!()
+}
+
 /// A journal, and what is known of what it has kept.
 pub struct Keeper<J: Naming, K: Journal> {
     journal: K,
@@ -52,10 +101,12 @@ pub struct Keeper<J: Naming, K: Journal> {
 }
 
 impl<J: Naming, K: Journal> Model for Keeper<J, K> {
-    ghost use Rattle.std.specs.Prelude.{◌≡◌, ◌+◌, ℕ, List, None, length};
+    ghost use Rattle.std.specs.Prelude.{◌≡◌, ◌+◌, ℕ, List, None, Some, length};
     ghost use Rattle.tc_log.specs.declared.event.Event.{Event};
     ghost use Rattle.worker_pool.specs.Joining.Handing.{Shelf, HasAll, events_of};
     ghost use Rattle.worker_pool.specs.Joining.Leaving.{LeavesBehind};
+    ghost use Rattle.worker_pool.specs.Journals.{IsUnkept};
+    ghost use Rattle.worker_pool.specs.declared.journal.NotKept.{NotKept as Why};
 
     ghost Value = { Shelf K };
 
@@ -66,7 +117,8 @@ impl<J: Naming, K: Journal> Model for Keeper<J, K> {
         × ((journal : K) (events : List Event) → K.has_kept journal events → J.kept events)
         × ((events : List Event) → J.before events
         → LeavesBehind K.moment K.left_since J.start J.since J.past J.leaves events k.journal)
-        × ((events more : List Event) (left : List ℕ) → K.leaves k.journal events more left → J.leaves events more left) };
+        × ((events more : List Event) (left : List ℕ) → K.leaves k.journal events more left → J.leaves events more left)
+        × ((why : Why) → k.fault ≡ Some why → IsUnkept K.fails k.journal why) };
 }
 
 impl<J: Naming, K: Journal> Keeper<J, K> {
@@ -75,7 +127,8 @@ impl<J: Naming, K: Journal> Keeper<J, K> {
     ghost use Rattle.worker_pool.specs.Joining.Handing.{HasAll, events_of};
     ghost use Rattle.worker_pool.specs.Joining.Leaving.{HasStood, LeavesBehind};
     ghost use Rattle.worker_pool.specs.Joining.Ran.{KeepsAll};
-    ghost use Rattle.worker_pool.specs.declared.journal.NotKept.{NotKept as NotKeptValue};
+    ghost use Rattle.worker_pool.specs.Journals.{IsUnkept};
+    ghost use Rattle.worker_pool.specs.declared.journal.NotKept.{NotKept as Why};
 
     /// The journal of a run, or none, before anything is handed over. The log has so many events.
     pub fn new(
@@ -128,6 +181,7 @@ impl<J: Naming, K: Journal> Keeper<J, K> {
     fn may_ask(&self) -> Result<(), NotKept>
         ensures sound { OnOk result (self.now.fault ≡ None) }
         ensures failed { IfErr result (λ why. self.now.fault ≡ Some why) }
+        ensures unkept { IfErr result (IsUnkept K.fails self.now.journal) }
     {
         match self.fault {
             None => Ok(()),
@@ -143,6 +197,7 @@ impl<J: Naming, K: Journal> Keeper<J, K> {
         requires stood { HasStood J.start handed }
         ensures all { OnOk result ((self.new.handed ≡ handed) × HasAll K.has_kept J.before self.new.journal handed) }
         ensures failed { IfErr result (λ why. (self.new.handed ≡ self.old.handed) × (self.new.fault ≡ Some why)) }
+        ensures unkept { IfErr result (IsUnkept K.fails self.new.journal) }
     {
         match self.journal.keep(self.batch.log()) {
             Ok(()) => {
@@ -150,19 +205,34 @@ impl<J: Naming, K: Journal> Keeper<J, K> {
                 self.events = events;
                 Ok(())
             }
-            Err(why) => {
-                self.fault = Some(why);
-                Err(why)
+            Err(fault) => {
+                self.fault = Some(fault);
+                Err(fault)
             }
         }
     }
 
     // Keeps all that the log has. The desk's lock is held while that is copied, and free while it is written.
     fn keep<R: Wait>(&mut self, rt: &R, desk: &Mutex<Desk<J>>) -> Result<(), NotKept>
-        ensures never_again { (why : NotKeptValue) → self.old.fault ≡ Some why → (self.new ≡ self.old) × IsErrOf result why }
+        ensures unkept { IfErr result (IsUnkept K.fails self.new.journal) }
+        ensures never_again { (why : Why) → self.old.fault ≡ Some why → (self.new ≡ self.old) × IsErrOf result why }
     {
         self.may_ask()?;
-        let (handed, events) = acquire(rt, desk).hand_over(
+        let (handed, events) = hand_over(rt, desk, &self.count, &self.handed, &mut self.batch)?;
+        self.write(handed, events)
+    }
+
+    // The same, where no other worker is left.
+    fn keep_alone<R: Wait>(&mut self, rt: &R, desk: &mut Desk<J>) -> Result<(), NotKept>
+        ensures same { desk.new ≡ desk.old }
+        ensures all { OnOk result (KeepsAll K.has_kept J.before J.start.events desk.new.state.events self.new) }
+        ensures unkept { IfErr result (IsUnkept K.fails self.new.journal) }
+        ensures never_again { (why : Why) → self.old.fault ≡ Some why → (self.new ≡ self.old) × IsErrOf result why }
+    {
+        self.may_ask()?;
+        let (handed, events) = hand_over_alone(
+            rt,
+            desk,
             &self.count,
             &self.handed,
             &mut self.batch,
@@ -170,38 +240,15 @@ impl<J: Naming, K: Journal> Keeper<J, K> {
         self.write(handed, events)
     }
 
-    // The same, where no other worker is left.
-    fn keep_alone(&mut self, desk: &mut Desk<J>) -> Result<(), NotKept>
-        ensures same { desk.new ≡ desk.old }
-        ensures all { OnOk result (KeepsAll K.has_kept J.before J.start.events desk.new.state.events self.new) }
-        ensures never_again { (why : NotKeptValue) → self.old.fault ≡ Some why → (self.new ≡ self.old) × IsErrOf result why }
-    {
-        self.may_ask()?;
-        let (handed, events) = desk.hand_over(&self.count, &self.handed, &mut self.batch)?;
-        self.write(handed, events)
-    }
-
-    // The acknowledgement of an answer, once something was kept for it. Where that failed the run stops.
-    fn acknowledge_behind(
-        &mut self,
-        due: Due<J>,
-        kept: Result<(), NotKept>,
-    ) -> Result<Acknowledgement<J>, Stopped<J>>
-        requires { J.keeps ≡ true }
-        ensures due { IfOk result (λ acknowledgement. acknowledgement ≡ due) }
+    // Nothing is kept any more, for this reason.
+    fn stop(&mut self, why: NotKept) -> Stopped<J>
+        requires keeps { J.keeps ≡ true }
+        requires unkept { IsUnkept K.fails self.old.journal why }
         ensures same { self.new.journal ≡ self.old.journal }
-        ensures stopped { IfErr result (λ stopped. self.new.fault ≡ Some stopped.why) }
+        ensures stopped { self.new.fault ≡ Some result.why }
     {
-        let (due, fault) = match kept {
-            Ok(()) => match self.acknowledge(due) {
-                Ok(acknowledgement) => return Ok(acknowledgement),
-                Err(due) => (due, NotKept::Failed),
-            },
-            Err(fault) => (due, fault),
-        };
-        due.forget();
-        self.fault = Some(fault);
-        Err(Stopped::new(fault))
+        self.fault = Some(why);
+        Stopped::new(why)
     }
 
     /// The acknowledgement of an answer, once the log that it is true of is kept.
@@ -209,43 +256,54 @@ impl<J: Naming, K: Journal> Keeper<J, K> {
         &mut self,
         rt: &R,
         desk: &Mutex<Desk<J>>,
-        due: Due<J>,
+        mut due: Due<J>,
     ) -> Result<Acknowledgement<J>, Stopped<J>>
         ensures due { IfOk result (λ acknowledgement. acknowledgement ≡ due) }
-        ensures never_again { (why : NotKeptValue) → self.old.fault ≡ Some why → self.new.journal ≡ self.old.journal }
+        ensures never_again { (why : Why) → self.old.fault ≡ Some why → self.new.journal ≡ self.old.journal }
         ensures stopped { IfErr result (λ stopped. self.new.fault ≡ Some stopped.why) }
     {
-        match self.acknowledge(due) {
-            Ok(acknowledgement) => Ok(acknowledgement),
-            Err(due) => {
-                let kept = self.keep(rt, desk);
-                self.acknowledge_behind(due, kept)
+        for _ in rt.forever() {
+            due = match self.acknowledge(due) {
+                Ok(acknowledgement) => return Ok(acknowledgement),
+                Err(due) => due,
+            };
+            if let Err(why) = self.keep(rt, desk) {
+                due.forget();
+                return Err(self.stop(why));
             }
         }
+        unreachable!()
     }
 
     /// The same, where no other worker is left.
-    pub fn conclude_alone(
+    pub fn conclude_alone<R: Wait>(
         &mut self,
+        rt: &R,
         desk: &mut Desk<J>,
-        due: Due<J>,
+        mut due: Due<J>,
     ) -> Result<Acknowledgement<J>, Stopped<J>>
         ensures due { IfOk result (λ acknowledgement. acknowledgement ≡ due) }
         ensures same { desk.new ≡ desk.old }
-        ensures never_again { (why : NotKeptValue) → self.old.fault ≡ Some why → self.new.journal ≡ self.old.journal }
+        ensures never_again { (why : Why) → self.old.fault ≡ Some why → self.new.journal ≡ self.old.journal }
         ensures stopped { IfErr result (λ stopped. self.new.fault ≡ Some stopped.why) }
     {
-        match self.acknowledge(due) {
-            Ok(acknowledgement) => Ok(acknowledgement),
-            Err(due) => {
-                let kept = self.keep_alone(desk);
-                self.acknowledge_behind(due, kept)
+        for _ in rt.forever() {
+            due = match self.acknowledge(due) {
+                Ok(acknowledgement) => return Ok(acknowledgement),
+                Err(due) => due,
+            };
+            if let Err(why) = self.keep_alone(rt, desk) {
+                due.forget();
+                return Err(self.stop(why));
             }
         }
+        unreachable!()
     }
 
     /// Whether the run stopped, and why.
-    pub fn check(&self) -> Result<(), Stopped<J>> {
+    pub fn check(&self) -> Result<(), Stopped<J>>
+        ensures stopped { IfErr result (λ stopped. self.now.fault ≡ Some stopped.why) }
+    {
         if !self.keeps {
             return Ok(());
         }
@@ -256,17 +314,18 @@ impl<J: Naming, K: Journal> Keeper<J, K> {
     }
 
     /// Keeps what is left of the log, in a run with a journal.
-    pub fn keep_rest(&mut self, desk: &mut Desk<J>) -> Result<(), Stopped<J>>
+    pub fn keep_rest<R: Wait>(&mut self, rt: &R, desk: &mut Desk<J>) -> Result<(), Stopped<J>>
         ensures same { desk.new ≡ desk.old }
         ensures all { OnOk result (J.keeps ≡ true → KeepsAll K.has_kept J.before J.start.events desk.new.state.events self.new) }
-        ensures never_again { (why : NotKeptValue) → self.old.fault ≡ Some why → self.new.journal ≡ self.old.journal }
+        ensures never_again { (why : Why) → self.old.fault ≡ Some why → self.new.journal ≡ self.old.journal }
+        ensures stopped { IfErr result (λ stopped. self.new.fault ≡ Some stopped.why) }
     {
         if !self.keeps {
             return Ok(());
         }
-        match self.keep_alone(desk) {
+        match self.keep_alone(rt, desk) {
             Ok(()) => Ok(()),
-            Err(fault) => Err(Stopped::new(fault)),
+            Err(why) => Err(self.stop(why)),
         }
     }
 
@@ -275,6 +334,7 @@ impl<J: Naming, K: Journal> Keeper<J, K> {
         ensures same { result ≡ self.journal }
         ensures left { (events : List EventValue) → J.before events
             → LeavesBehind K.moment K.left_since J.start J.since J.past J.leaves events result }
+        ensures unkept { (why : Why) → self.fault ≡ Some why → IsUnkept K.fails result why }
     {
         let Keeper {
             journal,

@@ -5,13 +5,14 @@ ghost use Rattle.tc_log.specs.declared.event.Event.{Event as EventValue};
 ghost use Rattle.frame_file.specs.Device.{LeavesOnly};
 ghost use Rattle.worker_pool.specs.Faults.{InRange};
 ghost use Rattle.worker_pool.specs.Reports.{Reports};
-ghost use Rattle.worker_pool.specs.Journals.{HasKept, WasKept, IsLeftOfRun, KeptFaultFits, kept_state_of};
+ghost use Rattle.worker_pool.specs.Journals.{HasKept, WasKept, IsLeftOfRun, KeptFaultFits, IsUnkeptBy, kept_state_of};
 
 use crate::batch::Batch;
-use crate::desk::{Desk, Naming};
+use crate::desk::Desk;
 use crate::handed::Opened;
 use crate::journal::{Journal, NotKept};
 use crate::keeper::{Keeper, Keeping};
+use crate::naming::Naming;
 use crate::pool::{Gate, Link, Prepared, Ran, RunFault, prepare, run_over};
 use crate::report::Report;
 use std::alloc::Global;
@@ -77,6 +78,7 @@ fn run_kept_named<
     ensures any_moment { (before : List EventValue) → J.before before
         → LeavesOnly K.moment K.left_since journal result.0 (IsLeftOfRun J.leaves before J.start) }
     ensures which { MatchResult result.1 (λ _. InRange workers tries) (λ f. KeptFaultFits J.start workers tries f) }
+    ensures unkept { IfErr result.1 (IsUnkeptBy K.fails result.0) }
 {
     state.known();
     let (count, handed) = opened.named::<J>();
@@ -131,6 +133,8 @@ pub fn run_kept<R: Threads + Wait + Sync, L: Link + Sync, G: Gate + Sync, K: Jou
     ensures any_moment { (before : List EventValue) → K.has_kept journal before
         → LeavesOnly K.moment K.left_since journal result.0 (IsLeftOfRun (K.leaves journal) before state) }
     ensures which { MatchResult result.1 (λ _. InRange workers tries) (λ f. KeptFaultFits state workers tries f) }
+    // It stops only where the journal failed, or there was no memory for what was to be kept.
+    ensures unkept { IfErr result.1 (IsUnkeptBy K.fails result.0) }
 {
     run_kept_named::<Brand, K, R, L, G>(
         rt,

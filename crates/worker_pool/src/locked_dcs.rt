@@ -3,8 +3,8 @@
 ghost use Rattle.std.specs.Prelude.{◌≡◌, true, ◌<◌, ◌≤◌, ◌↔◌, None, vec_len, IfOk, IfSome, IsSome};
 ghost use Rattle.access_slots.specs.Locks.{target};
 
-use crate::desk::Naming;
 use crate::errand::Errand;
+use crate::naming::Naming;
 use crate::pool::Link;
 use crate::seat::perform_all;
 use crate::waiting::acquire;

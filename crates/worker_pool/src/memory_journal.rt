@@ -1,6 +1,7 @@
 // A journal in memory.
 
 ghost use Rattle.std.specs.Prelude.{◌≡◌, []};
+ghost use Rattle.worker_pool.specs.declared.journal.NotKept.TheVariants.{Memory};
 
 use crate::batch::copy_events;
 use crate::journal::{Journal, NotKept};
@@ -54,9 +55,10 @@ impl Journal for MemoryJournal {
 
     ghost leaves = { λ journal before more left. ⊥ };
 
+    ghost fails = { λ before why after. why ≡ Memory };
+
     ghost kept_now = { λ journal events left kept now. now };
 
-    /// Only want of memory keeps it from keeping them.
     fn keep(&mut self, events: &Log) -> Result<(), NotKept> {
         match copy_events(self.alloc, events.events(), &mut self.log) {
             Ok(()) => Ok(()),

@@ -12,12 +12,13 @@ ghost use Rattle.worker_pool.specs.Joining.Ran.{RanFits, RanKeeps, KeepsAll};
 use crate::acknowledgement::{Acknowledgement, Due};
 use crate::answer::{Answer, Progress};
 use crate::batch::Batch;
-use crate::desk::{Desk, Naming, Next};
+use crate::desk::{Desk, Next};
 use crate::errand::Errand;
 use crate::errands::Errands;
 use crate::handed::Opened;
 use crate::journal::{Journal, NoJournal, NotKept};
 use crate::keeper::{Keeper, Keeping, Stopped};
+use crate::naming::Naming;
 use crate::report::Report;
 use crate::sending::Sending;
 use crate::waiting::acquire;
@@ -131,15 +132,17 @@ struct Worker<'a, L, G> {
 }
 
 // Tells an answer as soon as what it names is kept, where no other worker is left.
-fn conclude_alone<J: Naming, K: Journal, G: Gate>(
+fn conclude_alone<J: Naming, K: Journal, R: Wait, G: Gate>(
+    rt: &R,
     desk: &mut Desk<J>,
     due: Due<J>,
     gate: &G,
     keeper: &mut Keeper<J, K>,
 ) -> Result<(), Stopped<J>>
-    ensures { desk.new ≡ desk.old }
+    ensures same { desk.new ≡ desk.old }
+    ensures stopped { IfErr result (λ stopped. keeper.new.fault ≡ Some stopped.why) }
 {
-    keeper.conclude_alone(desk, due)?.tell(gate);
+    keeper.conclude_alone(rt, desk, due)?.tell(gate);
     Ok(())
 }
 
@@ -153,7 +156,8 @@ fn finish<J: Naming, K: Journal, R: Wait, L: Link, G: Gate>(
     keeper: &mut Keeper<J, K>,
 ) -> Result<(), Stopped<J>>
     requires { slice_get J.calls k ≡ Some call.now }
-    ensures { IsAnswered desk.new.progress k × AnswersStay desk.old.progress desk.new.progress }
+    ensures answered { IsAnswered desk.new.progress k × AnswersStay desk.old.progress desk.new.progress }
+    ensures stopped { IfErr result (λ stopped. keeper.new.fault ≡ Some stopped.why) }
 {
     let mut sending = Sending::none();
     let mut next = desk.advance(k, call, &mut sending);
@@ -162,7 +166,7 @@ fn finish<J: Naming, K: Journal, R: Wait, L: Link, G: Gate>(
             Next::Over => {
                 desk.abandon(sending);
                 let due = desk.due(k, call);
-                return conclude_alone(desk, due, worker.gate, keeper);
+                return conclude_alone(rt, desk, due, worker.gate, keeper);
             }
             Next::LeftOut => {
                 desk.abandon(sending);
@@ -198,7 +202,8 @@ fn finish_all<J: Naming, K: Journal, R: Wait, L: Link, G: Gate>(
     keeper: &mut Keeper<J, K>,
 ) -> Result<(), Stopped<J>>
     requires { calls.now ≡ J.calls }
-    ensures { OnOk result ((k : ℕ) → k < length calls.now → IsAnswered desk.new.progress k) }
+    ensures answered { OnOk result ((k : ℕ) → k < length calls.now → IsAnswered desk.new.progress k) }
+    ensures stopped { IfErr result (λ stopped. keeper.new.fault ≡ Some stopped.why) }
 {
     for (k, call) in calls.iter().enumerate() {
         if desk.is_begun(k) {
@@ -224,10 +229,11 @@ fn finish_and_keep<J: Naming, K: Journal, R: Wait, L: Link, G: Gate>(
     requires { calls.now ≡ J.calls }
     ensures answered { OnOk result ((k : ℕ) → k < length calls.now → IsAnswered desk.new.progress k) }
     ensures kept { OnOk result (J.keeps ≡ true → KeepsAll K.has_kept J.before J.start.events desk.new.state.events keeper.new) }
+    ensures stopped { IfErr result (λ stopped. keeper.new.fault ≡ Some stopped.why) }
 {
     keeper.check()?;
     finish_all(rt, desk, calls, worker, keeper)?;
-    keeper.keep_rest(desk)
+    keeper.keep_rest(rt, desk)
 }
 
 fn all_waiting(alloc: Global, count: usize) -> Result<Vec<Progress>, AllocError>

@@ -6,8 +6,8 @@ ghost use Rattle.access_slots.specs.Locks.{target};
 ghost use Rattle.crossbeam_queue.specs.Fifo.{Admits, Held, Learns, Pops};
 ghost use Rattle.worker_pool.specs.Serving.{IsServed};
 
-use crate::desk::Naming;
 use crate::errand::Errand;
+use crate::naming::Naming;
 use crate::pool::{AT_A_TIME, Link};
 use crate::ring::Ring;
 use crate::seat::Seat;

@@ -5,8 +5,8 @@ ghost use Rattle.data_component.specs.Store.{Store, performed, replied};
 ghost use Rattle.worker_pool.specs.Serving.{IsFor, IsServed};
 ghost use Rattle.worker_pool.specs.Joining.Seated.{GoesOn, HasRisen, IsHolding, sitting};
 
-use crate::desk::Naming;
 use crate::errand::Errand;
+use crate::naming::Naming;
 use crate::served::{Part, Served};
 use crate::waiting::LOOKS;
 use access_slots::op::{Reply, Wire};

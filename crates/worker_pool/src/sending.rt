@@ -4,7 +4,7 @@ ghost use Rattle.std.specs.Prelude.{◌≡◌, ◌↔◌, Some, None, IfSome, Is
 ghost use Rattle.access_slots.specs.Locks.{target};
 ghost use Rattle.worker_pool.specs.Wires.{IsCarriedFor, WasInFlight};
 
-use crate::desk::Naming;
+use crate::naming::Naming;
 use crate::redos::Redos;
 use access_slots::op::{Op, Wire};
 use access_slots::slot::Record;

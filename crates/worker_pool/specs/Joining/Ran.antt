@@ -1,5 +1,5 @@
 -- What came of a run, before it is told.
-use Rattle.std.specs.Prelude.{◌≡◌, List, Bool, true, ◌++◌, reverse}
+use Rattle.std.specs.Prelude.{◌≡◌, List, Bool, true, ◌++◌, reverse, Some}
 use Rattle.tc_log.specs.declared.event.Event.{Event}
 use Rattle.tc_core.specs.Core.{Core}
 use Rattle.tc_core.specs.declared.state.Call.{Call}
@@ -21,8 +21,8 @@ pub record KeepsAll {K : Type 0} (has : K → List Event → Type 0) (before : L
   pub log : now ≡ reverse (events_of shelf.handed) ++ first
   pub kept : HasAll has before shelf.journal shelf.handed
 
--- a run with a journal is reported once all is kept
+-- a run with a journal is reported once all is kept, and stops where something wasn't, for that reason
 abbrev pub RanKeeps : {K : Type 0} → (K → List Event → Type 0) → (List Event → Type 0) → List Event → Bool → Ran → Shelf K → Type 0
 RanKeeps has before first keeps (Done report) shelf = keeps ≡ true → KeepsAll has before first report.state.events shelf
 RanKeeps has before first keeps (NoThread now) shelf = Unit {0}
-RanKeeps has before first keeps (Stopped why now) shelf = Unit {0}
+RanKeeps has before first keeps (Stopped why now) shelf = shelf.fault ≡ Some why

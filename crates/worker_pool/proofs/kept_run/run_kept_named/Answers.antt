@@ -41,6 +41,15 @@ returns-clause-which g c =
       | in-Stopped w ↦ rw w.ran-is (c.in-Ok.ensures.which, (subst Fits w.in-Stopped.is c.run_over-keeper.ensures.ran).1)
     ]
 
+pub returns-clause-unkept : goal.returns-clause-unkept
+returns-clause-unkept g c =
+    let Keeps : Ran → Type 0 = λ ran. RanKeeps g.K.Journal.has_kept g.J.Naming.before g.J.Naming.start.events g.J.Naming.keeps ran c.run_over-keeper.result.0 in
+    elim c.match-ran.branch [
+      | in-Done w ↦ rw w.ran-is tt
+      | in-NoThread w ↦ rw w.ran-is tt
+      | in-Stopped w ↦ rw w.ran-is (c.into_journal-journal.ensures.unkept w.in-Stopped.why (subst Keeps w.in-Stopped.is c.run_over-keeper.ensures.kept))
+    ]
+
 pub returns-clause-any_moment : goal.returns-clause-any_moment
 returns-clause-any_moment g c = λ events was.
     leaves_only g.K.Journal.moment g.K.Journal.left_since g.J.Naming.start g.J.Naming.since g.J.Naming.past g.J.Naming.leaves events c.args.journal c.into_journal-journal.result

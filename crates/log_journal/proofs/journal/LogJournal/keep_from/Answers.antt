@@ -3,7 +3,7 @@ use Rattle.std.specs.Prelude.{◌%◌}
 use Rattle.log_file.specs.Bytes.{batch_bytes}
 use Rattle.frame_file.specs.Device.{LeavesOnly}
 use Rattle.frame_file.specs.Reading.{IsSettled, IsBeforeOrAfter}
-use Rattle.log_journal.proofs.Keeping.{of_rows, written_push, unwritten_leaves, written_leaves}
+use Rattle.log_journal.proofs.Keeping.{of_rows, written_push, unwritten_leaves, written_leaves, fails}
 use Rattle.log_journal.proofs.journal.LogJournal.keep_from.Goals as goal
 
 pub returns-in-Ok-append-clause-kept : goal.returns-in-Ok-append-clause-kept
