@@ -264,44 +264,28 @@ fn begin_anew<F: Files<File = File>>(
     rt: &F,
     alloc: Global,
     path: &str,
-    mut state: TcState,
-    mut dcs: Vec<Dc>,
+    state: &mut TcState,
+    dcs: &mut Vec<Dc>,
     journal: FileJournal,
-) -> Result<(Ground, Renewal), Unreported>
-    ensures goes { IfOk result (λ r. IsRenewal state dcs.items r.0.state r.0.dcs.items r.1) }
-    ensures kept { KeepsLog (Some journal) state.events → IfOk result (λ r. KeepsLog r.0.journal r.0.state.events) }
-    ensures same { IfOk result (λ r. is_some r.0.journal ≡ true) }
+) -> Result<(FileJournal, Renewal), Unreported>
+    ensures goes { IfOk result (λ r. IsRenewal state.old dcs.old.items state.new dcs.new.items r.1) }
+    ensures kept { KeepsLog (Some journal) state.old.events → IfOk result (λ r. KeepsLog (Some r.0) state.new.events) }
     ensures tried { IfOk result (λ r. r.1 ≡ Unwanted → ⊥) }
     ensures fault { IfErr result (UnreportedFits (Some journal)) }
 {
     let Some(beside) = open_beside(rt, alloc, path, &journal)? else {
-        let ground = Ground {
-            state,
-            dcs,
-            journal: Some(journal),
-        };
-        return Ok((ground, Renewal::Barred(Bar::InTheWay)));
+        return Ok((journal, Renewal::Barred(Bar::InTheWay)));
     };
-    match cut(alloc, &mut state, &mut dcs) {
+    match cut(alloc, state, dcs) {
         Ok(()) => {
             let log = state.log();
             let journal = write_anew(rt, alloc, path, beside, journal, log, dcs.as_slice())?;
-            let ground = Ground {
-                state,
-                dcs,
-                journal: Some(journal),
-            };
-            Ok((ground, Renewal::Begun))
+            Ok((journal, Renewal::Begun))
         }
         Err(why) => {
             give_up(rt, alloc, path, beside, &journal);
             let bar = bar_of(why)?;
-            let ground = Ground {
-                state,
-                dcs,
-                journal: Some(journal),
-            };
-            Ok((ground, Renewal::Barred(bar)))
+            Ok((journal, Renewal::Barred(bar)))
         }
     }
 }
@@ -315,6 +299,17 @@ fn is_over(journal: &Option<FileJournal>, over: Option<u64>) -> bool
     match (journal, over) {
         (Some(journal), Some(over)) => journal.device().len() > over,
         _ => false,
+    }
+}
+
+// What calls are run on, of its parts.
+fn ground_of(state: TcState, dcs: Vec<Dc>, journal: Option<FileJournal>) -> Ground
+    ensures { (result.state ≡ state) × (result.dcs ≡ dcs) × (result.journal ≡ journal) }
+{
+    Ground {
+        state,
+        dcs,
+        journal,
     }
 }
 
@@ -340,19 +335,15 @@ pub fn renew<F: Files<File = File>>(
         return Ok((ground, Renewal::Unwanted));
     }
     let Ground {
-        state,
-        dcs,
+        mut state,
+        mut dcs,
         journal,
     } = ground;
     match journal {
-        Some(journal) => begin_anew(rt, alloc, path, state, dcs, journal),
-        None => {
-            let ground = Ground {
-                state,
-                dcs,
-                journal: None,
-            };
-            Ok((ground, Renewal::Unwanted))
+        Some(journal) => {
+            let (journal, renewal) = begin_anew(rt, alloc, path, &mut state, &mut dcs, journal)?;
+            Ok((ground_of(state, dcs, Some(journal)), renewal))
         }
+        None => Ok((ground_of(state, dcs, None), Renewal::Unwanted)),
     }
 }

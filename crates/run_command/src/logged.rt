@@ -17,11 +17,12 @@ ghost use Rattle.tc_core.specs.Core.{loaded_in};
 ghost use Rattle.run_command.specs.LogLines.{IsOpenRefusal};
 ghost use Rattle.log_file.specs.Found.{base_in};
 ghost use Rattle.run_command.specs.Logged.{is_in_doubt, overfull, IsLogFor, IsLogRefusal, IsRunOn, IsLoggedRun, IsLogged};
+ghost use Rattle.run_command.specs.Anew.{renewal_line};
 ghost use Rattle.run_command.specs.Joining.Renewing.{IsRenewedFirst};
 ghost use Rattle.run_command.specs.Kept.{KeepsLog};
 ghost use Rattle.run_command.specs.Joining.Opening.{IsOpened, IsOpening, IsUnfit, IsComing, IsGoingBack, IsBegun};
 
-use crate::anew::{Checkpoints, Ground, renew, renewal_line};
+use crate::anew::{Checkpoints, Ground, Renewal, renew, renewal_line};
 use crate::answering::FileJournal;
 pub use crate::log_lines::kind_refusal;
 use crate::log_lines::{back_lines, back_refusal, open_refusal, other_refusal, overfull_refusal};
@@ -428,6 +429,18 @@ fn why_unlogged(why: Unreported) -> Unlogged {
     }
 }
 
+// Adds the line of what came of it.
+fn add_renewal(
+    alloc: Global,
+    renewal: Renewal,
+    state: &TcState,
+    lines: &mut String,
+) -> Result<(), AllocError>
+    ensures { OnOk result (string_bytes lines.new ≡ string_bytes lines.old ++ renewal_line state.now.events renewal) }
+{
+    lines.push_str(renewal_line(alloc, renewal, state)?.as_str())
+}
+
 // Begins the log of what came back anew where its file has more bytes than this, and adds the line of that.
 fn renew_first<F: Files<File = File>>(
     rt: &F,
@@ -443,8 +456,7 @@ fn renew_first<F: Files<File = File>>(
     let mut lines = lines;
     match renew(rt, alloc, path, over, ground) {
         Ok((ground, renewal)) => {
-            let line = renewal_line(alloc, renewal, &ground.state)?;
-            lines.push_str(line.as_str())?;
+            add_renewal(alloc, renewal, &ground.state, &mut lines)?;
             Ok((ground, lines))
         }
         Err(why) => Err(why_unlogged(why)),

@@ -140,14 +140,15 @@ fn joined_part(
         calls: other_answers,
         elapsed: more,
     } = answered;
+    let ground = Ground {
+        state,
+        dcs,
+        journal,
+    };
     let first = joined(first, first_answers)?;
     let calls = joined(calls, other_answers)?;
     Ok(Progress {
-        ground: Ground {
-            state,
-            dcs,
-            journal,
-        },
+        ground,
         first,
         calls,
         elapsed: both(elapsed, more),

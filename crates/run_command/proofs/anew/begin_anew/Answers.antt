@@ -4,5 +4,5 @@ pub returns-in_ok-bar-in-Err-clause-goes : goal.returns-in_ok-bar-in-Err-clause-
 returns-in_ok-bar-in-Err-clause-goes g c = (
   c.in-Err.ensures.state,
   c.in-Err.ensures.dcs,
-  c.in_ok-bar-in-Err.ensures.bar c.args.state c.args.dcs.items c.in-Err.ensures.why,
+  c.in_ok-bar-in-Err.ensures.bar c.args.state.now c.args.dcs.now.items c.in-Err.ensures.why,
 )
