@@ -1,13 +1,13 @@
 //! Calls over a storm in parts, between which the log begins anew where it may.
 
 use crate::storm::Storm;
-use crate::weather::{Behind, Ended, TRIES, counted, events};
+use crate::weather::{Behind, Ended, TRIES, events, left_by};
 use data_component::dc::Dc;
 use std::alloc::Global;
 use std::sync::Wait;
 use std::thread::Threads;
 use tc_core::state::{Call, TcState};
-use worker_pool::{OpenGate, Report, run};
+use worker_pool::{OpenGate, run};
 
 // So many calls a part has.
 const PART: usize = 100;
@@ -51,14 +51,7 @@ fn run_part<R: Threads + Wait + Sync>(
         earlier,
     } = behind;
     let report = run(rt, alloc, state, calls, workers, TRIES, storm, &OpenGate).ok()?;
-    let ended = ended.with(&counted(&report));
-    let Report { state, answers } = report;
-    drop(answers);
-    Some(Behind {
-        state,
-        ended,
-        earlier,
-    })
+    Some(left_by(report, ended, earlier))
 }
 
 /// Runs the calls over the storm in parts, between two of which the log begins anew where no transaction is open and

@@ -95,7 +95,7 @@ fn count(state: &TcState, answer: &Answer, ended: &mut Ended) {
 }
 
 /// How the calls of a report ended.
-pub fn counted(report: &Report) -> Ended {
+fn counted(report: &Report) -> Ended {
     let mut ended = Ended::default();
     for answer in &report.answers {
         count(&report.state, answer, &mut ended);
@@ -155,15 +155,15 @@ fn put_all<R: Threads + Wait + Sync>(
     .ok()
 }
 
-// What a report leaves.
-fn left_by(alloc: Global, report: Report) -> Behind {
-    let ended = counted(&report);
+/// What a report leaves, behind calls that ended so and logs that were cut.
+pub fn left_by(report: Report, ended: Ended, earlier: String) -> Behind {
+    let ended = ended.with(&counted(&report));
     let Report { state, answers } = report;
     drop(answers);
     Behind {
         state,
         ended,
-        earlier: String::new(alloc),
+        earlier,
     }
 }
 
@@ -188,7 +188,7 @@ fn run_all<R: Threads + Wait + Sync>(
             run(rt, alloc, state, calls, workers, TRIES, storm, &OpenGate)
         }
     };
-    Some(left_by(alloc, ran.ok()?))
+    Some(left_by(ran.ok()?, Ended::default(), String::new(alloc)))
 }
 
 // The logs of what calls left, where they are asked for.
