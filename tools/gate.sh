@@ -27,53 +27,47 @@ status=$(cat "$ended/status")
 last=$(tail -n 1 "$ended/said")
 took "rt ci: $last"
 
-passed=${last%% passed*} failed=0
-# tried COMMAND..: runs it, and counts how it ended.
-tried() {
-    if "$@"; then passed=$((passed + 1)); else failed=$((failed + 1)); fi
-}
-for example in examples/*/; do
-    tried tools/example.sh "$example"
-done
-tried tools/believed.py
-tried tools/printed.py
-tried tools/line_tables.py
-tried tools/without_kit.py
-tried tools/terminal.py
-tried tools/hostile.py files
-tried tools/hostile.py --every 25 code texts objects worlds memory
-tried tools/explore.py --audit --seconds 20
-tried tools/storms.py --runs 5 --calls 1000 --cuts
-tried tools/tampered.py --every 25
-for how in "" --forget --control; do
-    tried tools/crashes.py --kills 5 --moves 1000 $how
-done
-for how in "" --forget --control; do
-    tried tools/cut_crashes.py --kills 20 $how
-done
-tried tools/foreign_files.py --files 500
-tried tools/cut_logs.py --files 500
-tried tools/moved_files.py
-tried tools/full_component.py
-# A log's file with one fault is read as a beginning of it, or refused.
-damaged() {
-    said=$(crates/bench/out/bench damaged 50 < /dev/null) && echo "damaged: $said" && [ "${said##* }" = 0 ]
-}
-tried damaged
-# The library for C, over the libraries that `rt ci` proved just now, and its examples.
-c_interface() {
-    tools/archive.py && make -s -C c_interface check
+passed=${last%% passed*}
+# What is tried behind it, a command a line; the longest stand first.
+tries() {
+    if [ -z "$missing" ]; then
+        echo "tools/archive.py && make -s -C c_interface check"
+        echo "then tools/try_dist.py"
+    fi
+    for how in "" --forget --control; do
+        echo "tools/cut_crashes.py --kills 20 $how"
+        echo "tools/crashes.py --kills 5 --moves 1000 $how"
+    done
+    cat << 'END'
+tools/hostile.py --every 25 code texts objects worlds memory
+tools/storms.py --runs 5 --calls 1000 --cuts
+tools/tampered.py --every 25
+tools/explore.py --audit --seconds 20
+tools/believed.py
+tools/printed.py
+tools/line_tables.py
+tools/without_kit.py
+tools/terminal.py
+tools/hostile.py files
+tools/foreign_files.py --files 500
+tools/cut_logs.py --files 500
+tools/moved_files.py
+tools/full_component.py
+said=$(crates/bench/out/bench damaged 50) && echo "a log's file with one fault: $said" && [ "${said##* }" = 0 ]
+END
+    for example in examples/*/; do
+        echo "tools/example.sh $example"
+    done
 }
 missing=
 for tool in make cc ar; do
     command -v "$tool" > /dev/null || missing="$missing $tool"
 done
-if [ -z "$missing" ]; then
-    tried c_interface
-    tried tools/try_dist.py
-else
-    echo "gate: c_interface and packages are left out, since there is no$missing"
-fi
+[ -z "$missing" ] || echo "gate: the library for C and packages are left out, since there is no$missing"
+tries | tools/side_by_side.py | tee "$ended/tried" || true
+last=$(tail -n 1 "$ended/tried")
+failed=${last#* passed, } passed=$((passed + ${last%% passed*}))
+failed=${failed%% failed*}
 took "all"
 if [ -z "$missing" ] && [ "$failed" -eq 0 ]; then
     tools/dist.py --passed "$passed passed, $failed failed" || echo "gate: packages can't say that they passed it"
