@@ -156,7 +156,7 @@ def debian(place, page, package):
     place.said("unpacking the Debian package", f"dpkg-deb -x {place.packages}/{package} {root}", folder)
     bank = f"{root}/usr/share/doc/mazzulpe/examples/bank"
     stored = (TOP / "examples/bank/printed").read_text()
-    place.prints("the Debian package's program", f"{root}/usr/bin/procd run {bank}/bank.o {bank}/calls.txt", folder, stored)
+    place.prints("the Debian package's program", f"cd {bank} && {root}/usr/bin/procd $(cat words)", folder, stored)
     if not page:
         return
     for name, text in (("bank.c", page.procedures), ("main.c", page.program)):

@@ -37,11 +37,8 @@ PROCEDURE(move) {
     return record_update(1);
 }
 
-/* balance ACCOUNT: only reads, and ends with the balance, so that `aborted V` tells it; there is nothing to undo. */
+/* balance ACCOUNT: only reads, and commits; `run --results` prints the record. */
 ACCESSES(balance, TAKES(1), READS(0, 0, ARGUMENT(0)))
 PROCEDURE(balance) {
-    u64 *account = record_read(0);
-    if (!account)
-        return UNKNOWN_ACCOUNT;
-    return account[0];
+    return record_read(0) ? 0 : UNKNOWN_ACCOUNT;
 }

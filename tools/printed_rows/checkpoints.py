@@ -3,13 +3,16 @@ import atexit
 import pathlib
 import tempfile
 
-from procedures import PUT
+from procedures import GET, PUT
 from .row import Row
 
 SCRIPT = "dc 4 100\n" + PUT
 CALLS = "first put 1 7\ncall put 2 9\n"  # an insert each
 TOLD = "first 0 committed\ncall 0 committed\n"
 ROWS = "row 0/0/1 7\nrow 0/0/2 9\n"
+# More calls than a part has: the log begins anew before the last of them.
+MANY = 65_540
+READS = "dc 4 100000\n" + PUT + GET + "first put 5 7\n" + MANY * "call get 5\n"
 
 
 def rows(_program):
@@ -38,6 +41,11 @@ def rows(_program):
     (place / "eight").write_bytes(b"")
     (place / "eight.new").write_bytes(bytes(40))  # zeros, as a crash leaves them
     yield run("eight", TOLD + "checkpoint 2 2\n" + ROWS, "--checkpoint")
+    many = place / "many"
+    many.write_text(READS)
+    answers = "".join(f"call {place} committed\nresult {place} 0 7\n" for place in range(MANY))
+    told = f"no checkpoint G1 Nothing\nfirst 0 committed\n{answers}checkpoint {MANY + 1} {MANY + 1}\nrow 0/0/5 7\n"
+    yield run("ten", told, "--checkpoint-over", "1", "--results", "--workers", "64", text=many)
     yield Row(["run", "--checkpoint", str(script)], b"", b"", 2, b"error: run takes --checkpoint and --checkpoint-over with --log alone")
     yield Row(["run", "--checkpoint-over", "9", str(script)], b"", b"", 2, b"error: run takes --checkpoint and --checkpoint-over with --log alone")
     yield Row(["run", "--log", str(place / "nine"), "--checkpoint-over", "x", str(script)], b"", b"", 2, b"error: an ARG")

@@ -123,6 +123,44 @@ told 9 in doubt 11
 full dc 0 9 operations
 """
 
+# Each call that committed with what its slots hold, the last with no record: it deletes through one slot what it read through the other.
+RESULTS = """\
+proc gone 1
+slot read 0 0 $0
+slot write 0 0 $0
+mov r1, 0
+call 1
+jeq r0, 0, +2
+stdw [r0+8], 255
+mov r0, 0
+mov r1, 1
+call 4
+exit
+end
+first put 5 100
+first put 6 1
+call get 5
+call move 5 6 10
+call get 7
+call bad 6
+call gone 6
+"""
+
+RESULTS_PRINTED = f"""\
+first 0 committed
+first 1 committed
+call 0 committed
+result 0 0 100
+call 1 committed
+result 1 0 90
+result 1 1 11
+call 2 aborted 1
+call 3 aborted 5
+call 4 committed
+result 4 0 x0b{7 * "00"}ff{55 * "00"}
+row 0/0/5 90
+"""
+
 # Words, what stands behind the four procedures, and why that is refused.
 REFUSED = [
     ("run --workers 65 -", "call get 1\n", "G1 Workers"),
@@ -152,6 +190,8 @@ def rows(_program):
     every = "dc 1 9\n" + PUT + GET + BAD + EVERY_CALL
     yield row("run --workers 1 -", every, EVERY_ANSWERED)
     yield Row("run --tell --workers 1 -".split(), every.encode(), EVERY_ANSWERED.encode(), 0, EVERY_TOLD.encode())
+    yield row("run --results --workers 1 -", FOUR + RESULTS, RESULTS_PRINTED)
+    yield row("run --results --audit --workers 1 -", FOUR + "call put 5 7\n", "call 0 committed\nresult 0 0 7\nrow 0/0/5 7\naudit ok ended 1 open 0\n")
     yield from (refused(words, FOUR + rest, why) for words, rest, why in REFUSED)
     # a script is refused before a call is made
     yield refused("run -", "dc 1 1\nproc a 0\nexit\nend\ncall a\n", "line 4 F7 Verify V5 EmptyRegister slot 0")

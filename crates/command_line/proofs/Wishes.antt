@@ -96,7 +96,7 @@ wants_exec name rows raw numbers is flag all Asm named says = absurd (exec_not_a
 wants_exec name rows raw numbers is flag all (Dis r) named says = absurd (exec_not_dis (sym is ∙ named))
 wants_exec name rows raw numbers is flag all Verify named says = absurd (exec_not_verify (sym is ∙ named))
 wants_exec name rows raw numbers is flag all (World log audit script) named says = absurd (exec_not_world (sym is ∙ named))
-wants_exec name rows raw numbers is flag all (Run workers tries stats audit tell log checkpoint over script) named says = absurd (exec_not_run (sym is ∙ named))
+wants_exec name rows raw numbers is flag all (Run workers tries stats audit results tell log checkpoint over script) named says = absurd (exec_not_run (sym is ∙ named))
 wants_exec name rows raw numbers is flag all (Log script) named says = absurd (exec_not_log (sym is ∙ named))
 
 pub wants_dis : (name : List ℕ) (rows : List Row) (raw : Bool) → name ≡ codes "dis" → ((r : Bool) → IsFlag r (one_of (codes "raw") rows) → raw ≡ r)
@@ -106,7 +106,7 @@ wants_dis name rows raw is flag Asm named says = absurd (asm_not_dis (sym named 
 wants_dis name rows raw is flag (Dis r) named says = ap Dis (flag r says)
 wants_dis name rows raw is flag Verify named says = absurd (dis_not_verify (sym is ∙ named))
 wants_dis name rows raw is flag (World log audit script) named says = absurd (dis_not_world (sym is ∙ named))
-wants_dis name rows raw is flag (Run workers tries stats audit tell log checkpoint over script) named says = absurd (dis_not_run (sym is ∙ named))
+wants_dis name rows raw is flag (Run workers tries stats audit results tell log checkpoint over script) named says = absurd (dis_not_run (sym is ∙ named))
 wants_dis name rows raw is flag (Log script) named says = absurd (dis_not_log (sym is ∙ named))
 
 pub wants_world : (name : List ℕ) (rows : List Row) (log audit : Bool) (script : Option (List ℕ)) → name ≡ codes "world"
@@ -120,21 +120,21 @@ wants_world name rows log audit script is flag other path (Dis r) named says = a
 wants_world name rows log audit script is flag other path Verify named says = absurd (verify_not_world (sym named ∙ is))
 wants_world name rows log audit script is flag other path (World l a s) named says =
     ap₂ (λ (x y : Bool). World x y script) (flag l says.0) (other a says.1) ∙ ap (λ (o : Option (List ℕ)). World l a o) (path ∙ says.2)
-wants_world name rows log audit script is flag other path (Run workers tries stats a tell kept checkpoint over beside) named says = absurd (world_not_run (sym is ∙ named))
+wants_world name rows log audit script is flag other path (Run workers tries stats a results tell kept checkpoint over beside) named says = absurd (world_not_run (sym is ∙ named))
 wants_world name rows log audit script is flag other path (Log beside) named says = absurd (world_not_log (sym is ∙ named))
 
 pub wants_run : (name : List ℕ) (rows : List Row) (result : Result Task WordFault) → name ≡ codes "run"
-    → ((workers tries : ℕ) (stats audit tell : Bool) (log : Option (List ℕ)) (checkpoint : Bool) (over : Option ℕ) (script : Option (List ℕ))
-    → SaysRun rows workers tries stats audit tell log checkpoint over script
-    → IsTaskOrNoMemory (Run workers tries stats audit tell log checkpoint over script) result)
+    → ((workers tries : ℕ) (stats audit results tell : Bool) (log : Option (List ℕ)) (checkpoint : Bool) (over : Option ℕ) (script : Option (List ℕ))
+    → SaysRun rows workers tries stats audit results tell log checkpoint over script
+    → IsTaskOrNoMemory (Run workers tries stats audit results tell log checkpoint over script) result)
     → (wish : Wish) → name ≡ command_name wish → SaysWish rows wish → IsTaskOrNoMemory wish result
 wants_run name rows result is all (Exec r ns) named says = absurd (exec_not_run (sym named ∙ is))
 wants_run name rows result is all Asm named says = absurd (asm_not_run (sym named ∙ is))
 wants_run name rows result is all (Dis r) named says = absurd (dis_not_run (sym named ∙ is))
 wants_run name rows result is all Verify named says = absurd (verify_not_run (sym named ∙ is))
 wants_run name rows result is all (World log audit script) named says = absurd (world_not_run (sym named ∙ is))
-wants_run name rows result is all (Run workers tries stats audit tell log checkpoint over script) named says =
-    all workers tries stats audit tell log checkpoint over script says
+wants_run name rows result is all (Run workers tries stats audit results tell log checkpoint over script) named says =
+    all workers tries stats audit results tell log checkpoint over script says
 wants_run name rows result is all (Log script) named says = absurd (log_not_run (sym named ∙ is))
 
 pub wants_log : (name : List ℕ) (rows : List Row) (result : Result Task WordFault) → name ≡ codes "log"
@@ -145,7 +145,7 @@ wants_log name rows result is all Asm named says = absurd (asm_not_log (sym name
 wants_log name rows result is all (Dis r) named says = absurd (dis_not_log (sym named ∙ is))
 wants_log name rows result is all Verify named says = absurd (verify_not_log (sym named ∙ is))
 wants_log name rows result is all (World log audit script) named says = absurd (world_not_log (sym named ∙ is))
-wants_log name rows result is all (Run workers tries stats audit tell log checkpoint over script) named says = absurd (log_not_run (sym is ∙ named))
+wants_log name rows result is all (Run workers tries stats audit results tell log checkpoint over script) named says = absurd (log_not_run (sym is ∙ named))
 wants_log name rows result is all (Log wanted) named says = all wanted says
 
 -- ---- a log's file

@@ -41,6 +41,9 @@ option_rule name = record (new_rule name) { long = Some name; action = Some Set;
 abbrev pub stats_rule : Rule
 stats_rule = record (new_rule (codes "stats")) { long = Some (codes "stats"); action = Some SetTrue }
 
+abbrev pub results_rule : Rule
+results_rule = record (new_rule (codes "results")) { long = Some (codes "results"); action = Some SetTrue }
+
 abbrev pub tell_rule : Rule
 tell_rule = record (new_rule (codes "tell")) { long = Some (codes "tell"); action = Some SetTrue }
 
@@ -71,11 +74,11 @@ world_app = with_rule (with_rule (with_rule (with_rule (new_app (codes "world"))
 abbrev pub counted_app : App
 counted_app = with_rule (with_rule (new_app (codes "run")) (option_rule (codes "workers"))) (option_rule (codes "tries"))
 
--- run [--workers N] [--tries N] [--stats] [--audit] [--tell]
+-- run [--workers N] [--tries N] [--stats] [--audit] [--results] [--tell]
 abbrev pub told_app : App
-told_app = with_rule (with_rule (with_rule counted_app stats_rule) audit_rule) tell_rule
+told_app = with_rule (with_rule (with_rule (with_rule counted_app stats_rule) audit_rule) results_rule) tell_rule
 
--- run [--workers N] [--tries N] [--stats] [--audit] [--tell] [--log LOG]
+-- run [--workers N] [--tries N] [--stats] [--audit] [--results] [--tell] [--log LOG]
 abbrev pub kept_app : App
 kept_app = with_rule told_app (option_rule (codes "log"))
 
@@ -146,10 +149,11 @@ abbrev pub wants_checkpoint : Bool → Option ℕ → Bool
 wants_checkpoint checkpoint over = checkpoint || is_some over
 
 -- 4 workers and 3 tries, where nothing is said of them; a checkpoint is that of a log
-abbrev pub SaysRun : List Row → ℕ → ℕ → Bool → Bool → Bool → Option Text → Bool → Option ℕ → Option Text → Type 0
-SaysRun rows workers tries stats audit tell log checkpoint over script =
+abbrev pub SaysRun : List Row → ℕ → ℕ → Bool → Bool → Bool → Bool → Option Text → Bool → Option ℕ → Option Text → Type 0
+SaysRun rows workers tries stats audit results tell log checkpoint over script =
     SaysCount (first_of (codes "workers") rows) 4 workers × SaysCount (first_of (codes "tries") rows) 3 tries
-    × IsFlag stats (one_of (codes "stats") rows) × IsFlag audit (one_of (codes "audit") rows) × IsFlag tell (one_of (codes "tell") rows)
+    × IsFlag stats (one_of (codes "stats") rows) × IsFlag audit (one_of (codes "audit") rows)
+    × IsFlag results (one_of (codes "results") rows) × IsFlag tell (one_of (codes "tell") rows)
     × (first_of (codes "log") rows ≡ log) × IsFlag checkpoint (one_of (codes "checkpoint") rows)
     × SaysNumberIf (first_of (codes "checkpoint-over") rows) over × (first_of (codes "script") rows ≡ script)
     × (log ≡ None → wants_checkpoint checkpoint over ≡ false)
@@ -185,7 +189,7 @@ SaysWish rows (Dis raw) = IsFlag raw (one_of (codes "raw") rows)
 SaysWish rows Verify = Unit {0}
 SaysWish rows (World log audit script) =
     IsFlag log (one_of (codes "log") rows) × IsFlag audit (one_of (codes "audit") rows) × (first_of (codes "script") rows ≡ script)
-SaysWish rows (Run workers tries stats audit tell log checkpoint over script) = SaysRun rows workers tries stats audit tell log checkpoint over script
+SaysWish rows (Run workers tries stats audit results tell log checkpoint over script) = SaysRun rows workers tries stats audit results tell log checkpoint over script
 SaysWish rows (Log wanted) = SaysLog rows wanted
 
 -- the words are a command line of the program, and say this command with this file

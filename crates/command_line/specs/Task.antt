@@ -21,7 +21,7 @@ pub data Wish : Type 0 where
   Dis : (raw : Bool) → Wish
   Verify : Wish
   World : (log audit : Bool) (script : Option (List ℕ)) → Wish
-  Run : (workers tries : ℕ) (stats audit tell : Bool) (log : Option (List ℕ)) (checkpoint : Bool) (over : Option ℕ) (script : Option (List ℕ)) → Wish
+  Run : (workers tries : ℕ) (stats audit results tell : Bool) (log : Option (List ℕ)) (checkpoint : Bool) (over : Option ℕ) (script : Option (List ℕ)) → Wish
   Log : (wanted : LogWish) → Wish
 
 abbrev pub command_name : Wish → List ℕ
@@ -30,7 +30,7 @@ command_name Asm = codes "asm"
 command_name (Dis raw) = codes "dis"
 command_name Verify = codes "verify"
 command_name (World log audit script) = codes "world"
-command_name (Run workers tries stats audit tell log checkpoint over script) = codes "run"
+command_name (Run workers tries stats audit results tell log checkpoint over script) = codes "run"
 command_name (Log wanted) = codes "log"
 
 abbrev pub log_wish : LogTask → LogWish
@@ -45,8 +45,8 @@ wish_of task.Asm = Asm
 wish_of (task.Dis raw) = Dis raw
 wish_of task.Verify = Verify
 wish_of (task.World log audit script) = World log audit (option_map (λ path. path.now) script)
-wish_of (task.Run workers tries stats audit tell log checkpoint over script) =
-    Run workers tries stats audit tell (option_map (λ path. path.now) log) checkpoint over (option_map (λ path. path.now) script)
+wish_of (task.Run workers tries stats audit results tell log checkpoint over script) =
+    Run workers tries stats audit results tell (option_map (λ path. path.now) log) checkpoint over (option_map (λ path. path.now) script)
 wish_of (task.Log wanted) = Log (log_wish wanted)
 
 -- whether what FILE has is to be UTF-8: an object file isn't, beside which a script stands
@@ -56,10 +56,10 @@ reads_text Asm = true
 reads_text (Dis raw) = false
 reads_text Verify = true
 reads_text (World log audit script) = is_none script
-reads_text (Run workers tries stats audit tell log checkpoint over script) = is_none script
+reads_text (Run workers tries stats audit results tell log checkpoint over script) = is_none script
 reads_text (Log wanted) = false
 
 -- whether there may be something to tell on standard error: a run that is asked for its figures
 abbrev pub may_tell : Wish → Bool
-may_tell (Run workers tries stats audit tell log checkpoint over script) = stats
+may_tell (Run workers tries stats audit results tell log checkpoint over script) = stats
 may_tell other = false

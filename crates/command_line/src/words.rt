@@ -8,7 +8,7 @@ ghost use Rattle.command_line.specs.Wanted.{WantsOrNoMemory, IsTaskOrNoMemory, I
 ghost use Rattle.command_line.specs.Task.{Wish, LogWish, Run, Log, command_name, log_wish};
 ghost use Rattle.command_line.specs.Joining.LogWanted.{shown_wanted, audit_wanted};
 ghost use Rattle.command_line.specs.Said.{procd_app, exec_app, asm_app, dis_app, verify_app, world_app, kept_app, run_app, log_app};
-ghost use Rattle.command_line.specs.Said.{file_rule, raw_rule, log_rule, audit_rule, rows_rule, script_rule, option_rule, stats_rule, tell_rule, checkpoint_rule};
+ghost use Rattle.command_line.specs.Said.{file_rule, raw_rule, log_rule, audit_rule, rows_rule, script_rule, option_rule, stats_rule, results_rule, tell_rule, checkpoint_rule};
 ghost use Rattle.command_line.specs.Said.{Says, SaysWish, SaysRun, SaysLog, SaysPart, SaysCount, SaysNumberIf, SaysNumbers, AllNumbers, IsFlag, value_of, wants_checkpoint};
 ghost use Rattle.command_line.specs.Said.{IsWrong, IsNoCount, IsNoPart, IsUnfit};
 
@@ -43,7 +43,8 @@ pub enum Task<'a> {
     },
     /// Run the calls of a script by so many workers, and send each request so often at most. With
     /// `stats` the figures of the run are told on standard error; with `audit` what an audit finds is
-    /// printed behind the rows; with `tell` standard error is told of each answer as soon as it stands;
+    /// printed behind the rows; with `results` what the slots of each call that committed hold is printed
+    /// behind its line; with `tell` standard error is told of each answer as soon as it stands;
     /// `log` is the path of the file that keeps the log, if one does, which begins anew behind the last call with
     /// `checkpoint`, and where its file has more bytes than `over`. `script` is as of `World`.
     Run {
@@ -51,6 +52,7 @@ pub enum Task<'a> {
         tries: u64,
         stats: bool,
         audit: bool,
+        results: bool,
         tell: bool,
         log: Option<&'a str>,
         checkpoint: bool,
@@ -269,6 +271,19 @@ fn stats_arg<'a>(alloc: Global) -> Arg<'a>
         .help("Tell on standard error how many calls were answered how, and how many a second")
 }
 
+// --results
+fn results_arg<'a>(alloc: Global) -> Arg<'a>
+    ensures rule { rule_of result ≡ results_rule }
+    ensures local { result.global ≡ false }
+{
+    Arg::new(alloc, "results")
+        .long("results")
+        .action(ArgAction::SetTrue)
+        .help(
+            "Print behind each `call` line that committed what its slots hold, as `result 5 0 100`: the call, the slot, the value",
+        )
+}
+
 // --tell
 fn tell_arg<'a>(alloc: Global) -> Arg<'a>
     ensures rule { rule_of result ≡ tell_rule }
@@ -293,7 +308,7 @@ fn checkpoint_arg<'a>(alloc: Global) -> Arg<'a>
         .help("Write LOG anew behind the last call: the rows, and the log from there on")
 }
 
-// `run [--workers N] [--tries N] [--stats] [--audit] [--tell] [--log LOG]`
+// `run [--workers N] [--tries N] [--stats] [--audit] [--results] [--tell] [--log LOG]`
 fn kept_command<'a>(alloc: Global) -> Result<Command<'a>, AllocError>
     ensures app { IfOk result (λ c. app_of c ≡ kept_app) }
     ensures local { IfOk result (λ c. (out-Command c).has_globals ≡ false) }
@@ -321,6 +336,7 @@ fn kept_command<'a>(alloc: Global) -> Result<Command<'a>, AllocError>
         .arg(tries)?
         .arg(stats_arg(alloc))?
         .arg(audit_arg(alloc))?
+        .arg(results_arg(alloc))?
         .arg(tell_arg(alloc))?
         .arg(log)
 }
@@ -542,9 +558,9 @@ fn is_logless(log: Option<&str>, checkpoint: bool, over: Option<u64>) -> bool
 
 // How calls are to be run.
 fn run_task<'a>(matches: &ArgMatches<'a>) -> Result<Task<'a>, WordFault>
-    ensures task { (workers tries : ℕ) (stats audit tell : Bool) (log : Option (List ℕ)) (checkpoint : Bool) (over : Option ℕ)
-        (script : Option (List ℕ)) → SaysRun (rows_of (found_of matches.now)) workers tries stats audit tell log checkpoint over script
-        → IsTaskOrNoMemory (Run workers tries stats audit tell log checkpoint over script) result }
+    ensures task { (workers tries : ℕ) (stats audit results tell : Bool) (log : Option (List ℕ)) (checkpoint : Bool) (over : Option ℕ)
+        (script : Option (List ℕ)) → SaysRun (rows_of (found_of matches.now)) workers tries stats audit results tell log checkpoint over script
+        → IsTaskOrNoMemory (Run workers tries stats audit results tell log checkpoint over script) result }
     ensures wrong { IfOk result (λ task. ¬ IsUnfit (codes "run") (rows_of (found_of matches.now))) }
     ensures err { IfErr result IsWordFault }
 {
@@ -561,6 +577,7 @@ fn run_task<'a>(matches: &ArgMatches<'a>) -> Result<Task<'a>, WordFault>
         tries,
         stats: flag_of(matches, "stats"),
         audit: flag_of(matches, "audit"),
+        results: flag_of(matches, "results"),
         tell: flag_of(matches, "tell"),
         log,
         checkpoint,

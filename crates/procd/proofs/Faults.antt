@@ -57,7 +57,7 @@ read_fails Asm path err is told = absurd is
 read_fails (Dis raw) path err is told = absurd is
 read_fails Verify path err is told = absurd is
 read_fails (World log audit script) path err is told = script_fails script path err is told
-read_fails (Run workers tries stats audit tell log checkpoint over script) path err is told =
+read_fails (Run workers tries stats audit results tell log checkpoint over script) path err is told =
     elim is [ inl keeps ↦ inl (log_fails log path err keeps (inl told)) | inr beside ↦ inr (script_fails script path err beside told) ]
 read_fails (Log (Events part)) path err is told = absurd is
 read_fails (Log EventsAndRows) path err is told = absurd is
@@ -70,7 +70,7 @@ write_fails Asm path err is told = absurd is
 write_fails (Dis raw) path err is told = absurd is
 write_fails Verify path err is told = absurd is
 write_fails (World log audit script) path err is told = absurd is
-write_fails (Run workers tries stats audit tell log checkpoint over script) path err is told = inl (log_fails log path err is (inr told))
+write_fails (Run workers tries stats audit results tell log checkpoint over script) path err is told = inl (log_fails log path err is (inr told))
 write_fails (Log (Events part)) path err is told = absurd is
 write_fails (Log EventsAndRows) path err is told = absurd is
 write_fails (Log (Audit script)) path err is told = absurd is

@@ -80,30 +80,30 @@ sound_low : (sound : Bool) → (if sound then 0 else 1) ≤ 1
 sound_low true = omega arith
 sound_low false = omega arith
 
-calls_low : (Kept : Core → Renewal → Type 0) (checkpoints : Checkpoints) (start : Core) (dcs : List Store) (first calls : List Call) (workers tries : ℕ) (audit : Bool) (status : ℕ) (lines : List ℕ)
-    → IsCallsRun Kept checkpoints start dcs first calls workers tries audit status lines → status ≤ 1
-calls_low Kept checkpoints start dcs first calls workers tries audit status lines (Ran fit run) =
+calls_low : (Kept : Core → Renewal → Type 0) (checkpoints : Checkpoints) (start : Core) (dcs : List Store) (first calls : List Call) (workers tries : ℕ) (audit results : Bool) (status : ℕ) (lines : List ℕ)
+    → IsCallsRun Kept checkpoints start dcs first calls workers tries audit results status lines → status ≤ 1
+calls_low Kept checkpoints start dcs first calls workers tries audit results status lines (Ran fit run) =
     let is = run.printed.status_is in
     omega (arith, is, sound_low run.printed.sound)
-calls_low Kept checkpoints start dcs first calls workers tries audit status lines (Stopped fault when is line) = omega (arith, is)
+calls_low Kept checkpoints start dcs first calls workers tries audit results status lines (Stopped fault when is line) = omega (arith, is)
 
-run_low : (refusal : Option (List ℕ)) (contents : Contents) (workers tries : ℕ) (audit : Bool) (status : ℕ) (lines : List ℕ)
-    → IsRunBy refusal contents workers tries audit status lines → status ≤ 1
-run_low (Some refusal) contents workers tries audit status lines h = omega (arith, h.0)
-run_low None contents workers tries audit status lines h =
-    calls_low (λ _ _. Unit {0}) never (begun contents) (empty_stores contents) contents.first contents.calls workers tries audit status lines h
+run_low : (refusal : Option (List ℕ)) (contents : Contents) (workers tries : ℕ) (audit results : Bool) (status : ℕ) (lines : List ℕ)
+    → IsRunBy refusal contents workers tries audit results status lines → status ≤ 1
+run_low (Some refusal) contents workers tries audit results status lines h = omega (arith, h.0)
+run_low None contents workers tries audit results status lines h =
+    calls_low (λ _ _. Unit {0}) never (begun contents) (empty_stores contents) contents.first contents.calls workers tries audit results status lines h
 
-behind_low : (journal : Option FileJournal) (checkpoints : Checkpoints) (start : Core) (empties : List Store) (first calls : List Call) (workers tries : ℕ) (audit : Bool)
-    (status : ℕ) (lines : List ℕ) → IsLoggedRun journal checkpoints start empties first calls workers tries audit status lines → status ≤ 1
-behind_low journal checkpoints start empties first calls workers tries audit status lines (Refused why is) = omega (arith, is)
-behind_low journal checkpoints start empties first calls workers tries audit status lines (GoneOn b) =
-    calls_low (IsKeptSo journal checkpoints) checkpoints b.on.anew b.on.anew_dcs first calls workers tries audit status b.on.answers b.on.ran
+behind_low : (journal : Option FileJournal) (checkpoints : Checkpoints) (start : Core) (empties : List Store) (first calls : List Call) (workers tries : ℕ) (audit results : Bool)
+    (status : ℕ) (lines : List ℕ) → IsLoggedRun journal checkpoints start empties first calls workers tries audit results status lines → status ≤ 1
+behind_low journal checkpoints start empties first calls workers tries audit results status lines (Refused why is) = omega (arith, is)
+behind_low journal checkpoints start empties first calls workers tries audit results status lines (GoneOn b) =
+    calls_low (IsKeptSo journal checkpoints) checkpoints b.on.anew b.on.anew_dcs first calls workers tries audit results status b.on.answers b.on.ran
 
-logged_low : (journal : Option FileJournal) (checkpoints : Checkpoints) (refusal : Option (List ℕ)) (contents : Contents) (workers tries : ℕ) (audit : Bool)
-    (status : ℕ) (lines : List ℕ) → IsLoggedBy journal checkpoints refusal contents workers tries audit status lines → status ≤ 1
-logged_low journal checkpoints (Some refusal) contents workers tries audit status lines h = omega (arith, h.0)
-logged_low journal checkpoints None contents workers tries audit status lines h =
-    behind_low journal checkpoints (begun contents) (empty_stores contents) contents.first contents.calls workers tries audit status lines h
+logged_low : (journal : Option FileJournal) (checkpoints : Checkpoints) (refusal : Option (List ℕ)) (contents : Contents) (workers tries : ℕ) (audit results : Bool)
+    (status : ℕ) (lines : List ℕ) → IsLoggedBy journal checkpoints refusal contents workers tries audit results status lines → status ≤ 1
+logged_low journal checkpoints (Some refusal) contents workers tries audit results status lines h = omega (arith, h.0)
+logged_low journal checkpoints None contents workers tries audit results status lines h =
+    behind_low journal checkpoints (begun contents) (empty_stores contents) contents.first contents.calls workers tries audit results status lines h
 
 steps_low : (all : Bool) → status_of_steps all ≤ 1
 steps_low true = omega arith
@@ -157,16 +157,16 @@ world_of_low behind None text status lines h =
 world_of_low behind (Some path) file status lines h =
     let b = beginning command.World (Some file) h.0 in world_low b.refusal b.contents behind status lines h.1
 
-run_report_low : (checkpoints : Checkpoints) (workers tries : ℕ) (audit : Bool) (log : Option (List ℕ)) (b : Beginning) (status : ℕ) (lines : List ℕ)
-    → IsRunReport checkpoints workers tries audit log b status lines → status ≤ 1
-run_report_low checkpoints workers tries audit None b status lines h = run_low b.refusal b.contents workers tries audit status lines h
-run_report_low checkpoints workers tries audit (Some path) b status lines h = logged_low h.0 checkpoints b.refusal b.contents workers tries audit status lines h.1
+run_report_low : (checkpoints : Checkpoints) (workers tries : ℕ) (audit results : Bool) (log : Option (List ℕ)) (b : Beginning) (status : ℕ) (lines : List ℕ)
+    → IsRunReport checkpoints workers tries audit results log b status lines → status ≤ 1
+run_report_low checkpoints workers tries audit results None b status lines h = run_low b.refusal b.contents workers tries audit results status lines h
+run_report_low checkpoints workers tries audit results (Some path) b status lines h = logged_low h.0 checkpoints b.refusal b.contents workers tries audit results status lines h.1
 
-run_of_low : (checkpoints : Checkpoints) (workers tries : ℕ) (audit : Bool) (log script : Option (List ℕ)) (file : List ℕ) (status : ℕ) (lines : List ℕ)
-    → IsRunOf checkpoints workers tries audit log script file status lines → status ≤ 1
-run_of_low checkpoints workers tries audit log None text status lines h = run_report_low checkpoints workers tries audit log (beginning command.Run None text) status lines h
-run_of_low checkpoints workers tries audit log (Some path) file status lines h =
-    run_report_low checkpoints workers tries audit log (beginning command.Run (Some file) h.0) status lines h.1
+run_of_low : (checkpoints : Checkpoints) (workers tries : ℕ) (audit results : Bool) (log script : Option (List ℕ)) (file : List ℕ) (status : ℕ) (lines : List ℕ)
+    → IsRunOf checkpoints workers tries audit results log script file status lines → status ≤ 1
+run_of_low checkpoints workers tries audit results log None text status lines h = run_report_low checkpoints workers tries audit results log (beginning command.Run None text) status lines h
+run_of_low checkpoints workers tries audit results log (Some path) file status lines h =
+    run_report_low checkpoints workers tries audit results log (beginning command.Run (Some file) h.0) status lines h.1
 
 pub report_low : (wish : Wish) (text : List ℕ) (status : ℕ) (lines : List ℕ) → IsReport wish text status lines → status ≤ 1
 report_low (Exec raw numbers) text status lines h = omega (arith, h.2, execution_low h.0)
@@ -174,8 +174,8 @@ report_low Asm text status lines h = assembly_low (assembled text) status lines 
 report_low (Dis raw) text status lines h = disassembly_low raw text status lines h
 report_low Verify file status lines h = verification_low (is_elf file) file status lines h
 report_low (World log audit script) file status lines h = world_of_low (record { audit = audit; log = log }) script file status lines h
-report_low (Run workers tries stats audit tell log checkpoint over script) file status lines h =
-    run_of_low (record { at_end = checkpoint; over = over }) workers tries audit log script file status lines h
+report_low (Run workers tries stats audit results tell log checkpoint over script) file status lines h =
+    run_of_low (record { at_end = checkpoint; over = over }) workers tries audit results log script file status lines h
 report_low (Log (Events part)) text status lines h = listing_low part false text status lines h
 report_low (Log EventsAndRows) text status lines h = listing_low Whole true text status lines h
 report_low (Log (Picture path part)) text status lines h = picturing_low part text h.0 status lines h.1

@@ -33,20 +33,20 @@ IsTextFault bytes NotUtf8 = ¬ (IsUtf8 bytes)
 IsTextFault bytes Marked = take 3 bytes ≡ byte_order_mark
 
 -- a run whose log is kept, by some journal
-abbrev pub IsKeptRun : Checkpoints → ℕ → ℕ → Bool → Beginning → ℕ → List ℕ → Type 0
-IsKeptRun checkpoints workers tries audit b status lines =
-    (journal : Option FileJournal) × IsLogged journal checkpoints workers tries audit b status lines
+abbrev pub IsKeptRun : Checkpoints → ℕ → ℕ → Bool → Bool → Beginning → ℕ → List ℕ → Type 0
+IsKeptRun checkpoints workers tries audit results b status lines =
+    (journal : Option FileJournal) × IsLogged journal checkpoints workers tries audit results b status lines
 
-abbrev pub IsRunReport : Checkpoints → ℕ → ℕ → Bool → (log : Option (List ℕ)) → Beginning → ℕ → List ℕ → Type 0
-IsRunReport checkpoints workers tries audit None b status lines = IsRun workers tries audit b status lines
-IsRunReport checkpoints workers tries audit (Some path) b status lines = IsKeptRun checkpoints workers tries audit b status lines
+abbrev pub IsRunReport : Checkpoints → ℕ → ℕ → Bool → Bool → (log : Option (List ℕ)) → Beginning → ℕ → List ℕ → Type 0
+IsRunReport checkpoints workers tries audit results None b status lines = IsRun workers tries audit results b status lines
+IsRunReport checkpoints workers tries audit results (Some path) b status lines = IsKeptRun checkpoints workers tries audit results b status lines
 
 -- of a script; or of an object file, with what the script's file has
-abbrev pub IsRunOf : Checkpoints → ℕ → ℕ → Bool → (log script : Option (List ℕ)) → List ℕ → ℕ → List ℕ → Type 0
-IsRunOf checkpoints workers tries audit log None text status lines =
-    IsRunReport checkpoints workers tries audit log (beginning command.Run None text) status lines
-IsRunOf checkpoints workers tries audit log (Some path) file status lines =
-    (text : List ℕ) × IsRunReport checkpoints workers tries audit log (beginning command.Run (Some file) text) status lines
+abbrev pub IsRunOf : Checkpoints → ℕ → ℕ → Bool → Bool → (log script : Option (List ℕ)) → List ℕ → ℕ → List ℕ → Type 0
+IsRunOf checkpoints workers tries audit results log None text status lines =
+    IsRunReport checkpoints workers tries audit results log (beginning command.Run None text) status lines
+IsRunOf checkpoints workers tries audit results log (Some path) file status lines =
+    (text : List ℕ) × IsRunReport checkpoints workers tries audit results log (beginning command.Run (Some file) text) status lines
 
 abbrev pub IsWorldOf : Behind → (script : Option (List ℕ)) → List ℕ → ℕ → List ℕ → Type 0
 IsWorldOf behind None text status lines = IsWorld behind (beginning command.World None text) status lines
@@ -66,6 +66,6 @@ IsReport Asm text status lines = IsAssembly (assembled text) status lines
 IsReport (Dis raw) text status lines = IsDisassembly raw text status lines
 IsReport Verify file status lines = IsVerification (is_elf file) file status lines
 IsReport (World log audit script) file status lines = IsWorldOf (record { audit = audit; log = log }) script file status lines
-IsReport (Run workers tries stats audit tell log checkpoint over script) file status lines =
-    IsRunOf (record { at_end = checkpoint; over = over }) workers tries audit log script file status lines
+IsReport (Run workers tries stats audit results tell log checkpoint over script) file status lines =
+    IsRunOf (record { at_end = checkpoint; over = over }) workers tries audit results log script file status lines
 IsReport (Log wanted) file status lines = IsLogReport wanted file status lines

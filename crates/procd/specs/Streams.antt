@@ -78,7 +78,7 @@ LogFails (Some path) err = TellsUnread path err ⊎ TellsUnwritten path err
 -- a further file can't be read or written
 abbrev pub FurtherFails : Wish → Stream → Type 0
 FurtherFails (World log audit script) err = ScriptFails script err
-FurtherFails (Run workers tries stats audit tell log checkpoint over script) err = LogFails log err ⊎ ScriptFails script err
+FurtherFails (Run workers tries stats audit results tell log checkpoint over script) err = LogFails log err ⊎ ScriptFails script err
 FurtherFails (Log (Audit path)) err = TellsUnread path err
 FurtherFails (Log (Picture path part)) err = TellsUnwritten path err
 FurtherFails other err = ⊥

@@ -22,8 +22,8 @@ use log_part::Part;
 use object_file::is_elf;
 use report_texts::explanation::explanation;
 use report_texts::report::Report;
-use run_command::logged::{How, Unlogged, running_logged};
-use run_command::running::{Checkpoints, Listeners, Manner, running};
+use run_command::logged::{Unlogged, running_logged};
+use run_command::running::{Checkpoints, Listeners, Manner, RunOptions, running};
 use script_loading::loading::Source;
 use scripts::keyword::Command;
 use std::alloc::{AllocError, Global};
@@ -119,14 +119,15 @@ fn logged<'a, R: Files<File = File> + Clock + Threads + Wait + Sync>(
     alloc: Global,
     path: &'a str,
     source: Source,
-    how: How,
+    options: RunOptions,
 ) -> Result<Report, ReportFault<'a>>
-    ensures ok { IfOk result (λ r. IsKeptRun how.checkpoints how.manner.workers how.manner.tries how.manner.audit (beginning_of command.Run source.entry) r.status
+    ensures ok { IfOk result (λ r. IsKeptRun options.checkpoints options.manner.workers options.manner.tries
+        options.manner.audit options.manner.results (beginning_of command.Run source.entry) r.status
         (string_bytes r.lines)) }
     ensures fault { IfErr result (IsLogFault (Some path.entry.now)) }
     ensures text { IfErr result IsOfText }
 {
-    match running_logged(rt, alloc, path, source, how) {
+    match running_logged(rt, alloc, path, source, options) {
         Ok(ran) => Ok(ran.report),
         Err(Unlogged::Memory) => Err(ReportFault::Memory),
         Err(Unlogged::Unread(fault)) => Err(ReportFault::Unread(path, Some(Reason::File(fault)))),
@@ -142,17 +143,18 @@ fn run_report<'a, R: Files<File = File> + Clock + Threads + Wait + Sync>(
     rt: &R,
     alloc: Global,
     source: Source,
-    how: How,
+    options: RunOptions,
     log: Option<&'a str>,
 ) -> Result<Report, ReportFault<'a>>
-    ensures ok { IfOk result (λ r. IsRunReport how.checkpoints how.manner.workers how.manner.tries how.manner.audit (option_map (λ path. path.now) log.entry)
+    ensures ok { IfOk result (λ r. IsRunReport options.checkpoints options.manner.workers options.manner.tries
+        options.manner.audit options.manner.results (option_map (λ path. path.now) log.entry)
         (beginning_of command.Run source.entry) r.status (string_bytes r.lines)) }
     ensures log { IfErr result (IsLogFault (option_map (λ path. path.now) log.entry)) }
     ensures text { IfErr result IsOfText }
 {
     match log {
-        Some(path) => logged(rt, alloc, path, source, how),
-        None => match running(rt, alloc, source, how.manner, how.listeners) {
+        Some(path) => logged(rt, alloc, path, source, options),
+        None => match running(rt, alloc, source, options.manner, options.listeners) {
             Ok(report) => Ok(report),
             Err(AllocError) => Err(ReportFault::Memory),
         },
@@ -165,16 +167,17 @@ fn run_both<'a, R: Files<File = File> + Clock + Threads + Wait + Sync>(
     alloc: Global,
     file: &[u8],
     text: &str,
-    how: How,
+    options: RunOptions,
     log: Option<&'a str>,
 ) -> Result<Report, ReportFault<'a>>
-    ensures ok { IfOk result (λ r. IsRunReport how.checkpoints how.manner.workers how.manner.tries how.manner.audit (option_map (λ path. path.now) log.entry)
+    ensures ok { IfOk result (λ r. IsRunReport options.checkpoints options.manner.workers options.manner.tries
+        options.manner.audit options.manner.results (option_map (λ path. path.now) log.entry)
         (beginning command.Run (Some file.now) text.now) r.status (string_bytes r.lines)) }
     ensures log { IfErr result (IsLogFault (option_map (λ path. path.now) log.entry)) }
     ensures text { IfErr result IsOfText }
 {
     let object = Some(file);
-    run_report(rt, alloc, Source { object, text }, how, log)
+    run_report(rt, alloc, Source { object, text }, options, log)
 }
 
 // The same of the script that the file with this path has.
@@ -183,17 +186,18 @@ fn run_beside<'a, R: Files<File = File> + Clock + Threads + Wait + Sync>(
     alloc: Global,
     file: &[u8],
     path: &'a str,
-    how: How,
+    options: RunOptions,
     log: Option<&'a str>,
 ) -> Result<Report, ReportFault<'a>>
-    ensures ok { IfOk result (λ r. IsRunOf how.checkpoints how.manner.workers how.manner.tries how.manner.audit (option_map (λ path. path.now) log.entry)
+    ensures ok { IfOk result (λ r. IsRunOf options.checkpoints options.manner.workers options.manner.tries
+        options.manner.audit options.manner.results (option_map (λ path. path.now) log.entry)
         (Some path.entry.now) file.now r.status (string_bytes r.lines)) }
     ensures text { IfErr result IsOfText }
     ensures further { IfErr result (IsRunFault (option_map (λ path. path.now) log.entry) (Some path.entry.now)) }
 {
     let script = read_script(rt, alloc, path)?;
     match text_of(script.as_slice()) {
-        Ok(text) => run_both(rt, alloc, file, text, how, log),
+        Ok(text) => run_both(rt, alloc, file, text, options, log),
         Err(fault) => Err(ReportFault::Unread(path, Some(Reason::Text(fault)))),
     }
 }
@@ -203,17 +207,18 @@ fn run_script<'a, R: Files<File = File> + Clock + Threads + Wait + Sync>(
     rt: &R,
     alloc: Global,
     file: &[u8],
-    how: How,
+    options: RunOptions,
     log: Option<&'a str>,
 ) -> Result<Report, ReportFault<'a>>
-    ensures ok { IfOk result (λ r. IsRunReport how.checkpoints how.manner.workers how.manner.tries how.manner.audit (option_map (λ path. path.now) log.entry)
+    ensures ok { IfOk result (λ r. IsRunReport options.checkpoints options.manner.workers options.manner.tries
+        options.manner.audit options.manner.results (option_map (λ path. path.now) log.entry)
         (beginning command.Run None file.now) r.status (string_bytes r.lines)) }
     ensures log { IfErr result (IsLogFault (option_map (λ path. path.now) log.entry)) }
     ensures text { IfErr result (IsNoTextOf true file.now) }
 {
     let text = text_of(file)?;
     let source = Source { object: None, text };
-    run_report(rt, alloc, source, how, log)
+    run_report(rt, alloc, source, options, log)
 }
 
 // The report of a run of either.
@@ -222,17 +227,18 @@ fn run_of<'a, R: Files<File = File> + Clock + Threads + Wait + Sync>(
     alloc: Global,
     file: &[u8],
     script: Option<&'a str>,
-    how: How,
+    options: RunOptions,
     log: Option<&'a str>,
 ) -> Result<Report, ReportFault<'a>>
-    ensures ok { IfOk result (λ r. IsRunOf how.checkpoints how.manner.workers how.manner.tries how.manner.audit (option_map (λ path. path.now) log.entry)
+    ensures ok { IfOk result (λ r. IsRunOf options.checkpoints options.manner.workers options.manner.tries
+        options.manner.audit options.manner.results (option_map (λ path. path.now) log.entry)
         (option_map (λ path. path.now) script.entry) file.now r.status (string_bytes r.lines)) }
     ensures not_text { IfErr result (IsNoTextOf (is_none script.entry) file.now) }
     ensures further { IfErr result (IsRunFault (option_map (λ path. path.now) log.entry) (option_map (λ path. path.now) script.entry)) }
 {
     match script {
-        Some(path) => run_beside(rt, alloc, file, path, how, log),
-        None => run_script(rt, alloc, file, how, log),
+        Some(path) => run_beside(rt, alloc, file, path, options, log),
+        None => run_script(rt, alloc, file, options, log),
     }
 }
 
@@ -425,18 +431,20 @@ pub fn report_on<'a, R: Files<File = File> + Clock + Threads + Wait + Sync>(
             tries,
             stats,
             audit,
+            results,
             tell,
             log,
             checkpoint,
             over,
             script,
         } => {
-            let how = How {
+            let options = RunOptions {
                 manner: Manner {
                     workers: *workers,
                     tries: *tries,
                     stats: *stats,
                     audit: *audit,
+                    results: *results,
                 },
                 checkpoints: Checkpoints {
                     at_end: *checkpoint,
@@ -447,7 +455,7 @@ pub fn report_on<'a, R: Files<File = File> + Clock + Threads + Wait + Sync>(
                     each: tell.then_some(meanwhile.error),
                 },
             };
-            run_of(rt, alloc, text, *script, how, *log)
+            run_of(rt, alloc, text, *script, options, *log)
         }
         Task::Dis { raw } => Ok(disassembly(alloc, *raw, text)?),
         Task::Log(wanted) => log_report(rt, alloc, text, *wanted),

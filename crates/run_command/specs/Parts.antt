@@ -1,5 +1,5 @@
 -- Calls that are answered in parts, between which the log may begin anew.
-use Rattle.std.specs.Prelude.{◌≡◌, ℕ, List, [], ◌∷◌, ◌++◌, Option, Some, None, Bool, false, if◌then◌else◌}
+use Rattle.std.specs.Prelude.{◌≡◌, ℕ, List, [], ◌∷◌, ◌++◌, length, Option, Some, None, Bool, false, if◌then◌else◌, codes}
 use Rattle.data_component.specs.Store.{Store}
 use Rattle.scripts.specs.declared.script.Call as said
 use Rattle.tc_core.specs.Core.{Core}
@@ -12,68 +12,78 @@ use Rattle.run_command.specs.declared.answering.Halt.{Halt}
 use Rattle.run_command.specs.declared.parts.Stop.{Stop}
 use Rattle.run_command.specs.declared.parts.Stop.TheVariants.{Halted, Unreported as Untold}
 use Rattle.run_command.specs.Anew.{IsRenewal, IsHeeded}
+use Rattle.run_command.specs.AnswerLines.{answer_lines, call_lines}
 use Rattle.run_command.specs.Answered.{AreCallsOf, AreAnswered, AreServed}
 use Rattle.run_command.specs.Kept.{FileJournal, KeepsLog, HaltFits, UnreportedFits}
 
--- calls of the first list and then of the second one that were answered so, or a log that may have begun anew
+-- calls of the first list and then of the second one that were answered so, and their lines, or a log that may have begun anew
 pub data Stage : Type 0 where
-  Part : (first calls : List said.Call) → (first_answers other_answers : List Answer) → Stage
+  Part : (first calls : List said.Call) → (first_answers other_answers : List Answer) → (lines : List ℕ) → Stage
   Anew : Renewal → Stage
 
--- the calls that lines of both lists say were answered so on these data components
-pub record IsPart (c : Core) (dcs : List Store) (first calls : List said.Call) (first_answers other_answers : List Answer) (c' : Core) (dcs' : List Store)
-    : Type 0 where
+-- the calls that lines of both lists say were answered so on these data components, those of the second behind so many of that list; the
+-- lines of their answers, where it is wanted with what their slots hold by the state behind them
+pub record IsPart (results : Bool) (before : ℕ) (c : Core) (dcs : List Store) (first calls : List said.Call) (first_answers other_answers : List Answer)
+    (lines : List ℕ) (c' : Core) (dcs' : List Store) : Type 0 where
   pub first_calls : List Call
   pub first_are : AreCallsOf first first_calls
   pub other_calls : List Call
   pub others_are : AreCallsOf calls other_calls
   pub answered : AreAnswered c first_calls other_calls first_answers other_answers c'
   pub served : AreServed dcs dcs'
+  pub printed : lines ≡ answer_lines (codes "first") first_answers ++ call_lines results c'.procs c'.events before other_answers
 
-abbrev pub IsStage : Stage → Core → List Store → Core → List Store → Type 0
-IsStage (Part first calls first_answers other_answers) c dcs c' dcs' = IsPart c dcs first calls first_answers other_answers c' dcs'
-IsStage (Anew renewal) c dcs c' dcs' = IsRenewal c dcs c' dcs' renewal
-
--- the stages, the last of which stands first, lead from the one to the other
-abbrev pub Lead : List Stage → Core → List Store → Core → List Store → Type 0
-Lead [] c dcs c' dcs' = (c' ≡ c) × (dcs' ≡ dcs)
-Lead (stage ∷ stages) c dcs c' dcs' = (m : Core) × (ms : List Store) × Lead stages c dcs m ms × IsStage stage m ms c' dcs'
+abbrev pub IsStage : Bool → ℕ → Stage → Core → List Store → Core → List Store → Type 0
+IsStage results before (Part first calls first_answers other_answers lines) c dcs c' dcs' =
+    IsPart results before c dcs first calls first_answers other_answers lines c' dcs'
+IsStage results before (Anew renewal) c dcs c' dcs' = IsRenewal c dcs c' dcs' renewal
 
 -- ---- what was called and answered in all stages
 
 abbrev pub first_in : Stage → List said.Call
-first_in (Part first calls first_answers other_answers) = first
+first_in (Part first calls first_answers other_answers lines) = first
 first_in (Anew renewal) = []
 
 abbrev pub calls_in : Stage → List said.Call
-calls_in (Part first calls first_answers other_answers) = calls
+calls_in (Part first calls first_answers other_answers lines) = calls
 calls_in (Anew renewal) = []
 
 abbrev pub first_told : Stage → List Answer
-first_told (Part first calls first_answers other_answers) = first_answers
+first_told (Part first calls first_answers other_answers lines) = first_answers
 first_told (Anew renewal) = []
 
 abbrev pub calls_told : Stage → List Answer
-calls_told (Part first calls first_answers other_answers) = other_answers
+calls_told (Part first calls first_answers other_answers lines) = other_answers
 calls_told (Anew renewal) = []
+
+abbrev pub lines_of : Stage → List ℕ
+lines_of (Part first calls first_answers other_answers lines) = lines
+lines_of (Anew renewal) = []
 
 -- all of one kind, those of the last stage behind the others
 abbrev pub in_all : {X : Type 0} → (Stage → List X) → List Stage → List X
 in_all of [] = []
 in_all of (stage ∷ stages) = in_all of stages ++ of stage
 
--- these calls were answered so by stages that lead from the one to the other
-pub record HaveLed (c : Core) (dcs : List Store) (first calls : List said.Call) (first_answers other_answers : List Answer) (c' : Core)
-    (dcs' : List Store) (stages : List Stage) : Type 0 where
-  pub lead : Lead stages c dcs c' dcs'
+-- the stages, the last of which stands first, lead from the one to the other
+abbrev pub Lead : Bool → List Stage → Core → List Store → Core → List Store → Type 0
+Lead results [] c dcs c' dcs' = (c' ≡ c) × (dcs' ≡ dcs)
+Lead results (stage ∷ stages) c dcs c' dcs' =
+    (m : Core) × (ms : List Store) × Lead results stages c dcs m ms × IsStage results (length (in_all calls_told stages)) stage m ms c' dcs'
+
+-- these calls were answered so, with these lines, by stages that lead from the one to the other
+pub record HaveLed (results : Bool) (c : Core) (dcs : List Store) (first calls : List said.Call) (first_answers other_answers : List Answer)
+    (lines : List ℕ) (c' : Core) (dcs' : List Store) (stages : List Stage) : Type 0 where
+  pub lead : Lead results stages c dcs c' dcs'
   pub first_are : in_all first_in stages ≡ first
   pub calls_are : in_all calls_in stages ≡ calls
   pub first_told : in_all first_told stages ≡ first_answers
   pub calls_told : in_all calls_told stages ≡ other_answers
+  pub lines_are : in_all lines_of stages ≡ lines
 
 -- where the log isn't to begin anew between two parts there is one
-abbrev pub AreOne : Option ℕ → List said.Call → List said.Call → List Answer → List Answer → List Stage → Type 0
-AreOne over first calls first_answers other_answers stages = over ≡ None → stages ≡ Part first calls first_answers other_answers ∷ []
+abbrev pub AreOne : Option ℕ → List said.Call → List said.Call → List Answer → List Answer → List ℕ → List Stage → Type 0
+AreOne over first calls first_answers other_answers lines stages = over ≡ None → stages ≡ Part first calls first_answers other_answers lines ∷ []
 
 -- and where it isn't behind the last call either, it doesn't
 abbrev pub IsWanted : Checkpoints → Renewal → Type 0

@@ -1,5 +1,5 @@
 -- What the calls of a script print when workers run them, and the exit status.
-use Rattle.std.specs.Prelude.{◌≡◌, ℕ, Bool, true, false, if◌then◌else◌, List, ◌++◌, map, length, Option, Some, None, codes}
+use Rattle.std.specs.Prelude.{◌≡◌, ℕ, Bool, true, false, if◌then◌else◌, List, ◌++◌, map, length, Option, Some, None}
 use Rattle.std.specs.List.{list_any}
 use Rattle.data_component.specs.Store.{Store}
 use Rattle.scripts.specs.Reading.{Contents}
@@ -12,7 +12,7 @@ use Rattle.worker_pool.specs.declared.answer.Answer.TheVariants.{Refused}
 use Rattle.run_command.specs.declared.anew.Checkpoints.{Checkpoints}
 use Rattle.run_command.specs.declared.anew.Renewal.{Renewal}
 use Rattle.run_command.specs.declared.answering.Unbegun.{Unbegun}
-use Rattle.run_command.specs.AnswerLines.{answer_lines, fault_line}
+use Rattle.run_command.specs.AnswerLines.{fault_line}
 use Rattle.run_command.specs.Anew.{IsRenewal, renewal_line}
 use Rattle.run_command.specs.Parts.{Stage, HaveLed, AreOne, IsWanted}
 use Rattle.run_command.specs.Stops.{Stops}
@@ -29,42 +29,42 @@ is_want_of_memory other = false
 
 -- the lines of both lists' answers, none of which is want of memory, behind them what came of a log that may begin anew, and the rows of these
 -- data components, and behind these, where it is wanted, what an audit of them and of the log finds
-pub record AreLinesOf (last : Core) (dcs : List Store) (audit : Bool) (first_answers other_answers : List Answer) (renewal : Renewal)
+pub record AreLinesOf (last : Core) (dcs : List Store) (audit : Bool) (first_answers other_answers : List Answer) (told : List ℕ) (renewal : Renewal)
     (status : ℕ) (lines : List ℕ) : Type 0 where
   pub ample : (list_any is_want_of_memory first_answers ≡ false) × (list_any is_want_of_memory other_answers ≡ false)
   pub kept : List ℕ
-  pub rows : AddsRowLines dcs ((answer_lines (codes "first") first_answers ++ answer_lines (codes "call") other_answers)
-      ++ renewal_line last.events renewal) kept
+  pub rows : AddsRowLines dcs (told ++ renewal_line last.events renewal) kept
   pub sound : Bool
   pub found : AddsIf audit kept lines sound (AddsAudit last.procs last.events dcs kept lines sound)
   pub status_is : status ≡ (if sound then 0 else 1)
 
--- the calls that the lines say are run over these data components, in stages, and their answers and the rows behind them are printed; behind
--- the last call the log may begin anew; of the last state and of that log this is so
+-- the calls that the lines say are run over these data components, in stages, and their answers, where it is wanted with what slots hold, and
+-- the rows behind them are printed; behind the last call the log may begin anew; of the last state and of that log this is so
 pub record ArePrinted (Kept : Core → Renewal → Type 0) (checkpoints : Checkpoints) (start : Core) (dcs : List Store) (first calls : List said.Call)
-    (audit : Bool) (status : ℕ) (lines : List ℕ) : Type 0 where
+    (audit results : Bool) (status : ℕ) (lines : List ℕ) : Type 0 where
   pub first_answers : List Answer
   pub other_answers : List Answer
+  pub told : List ℕ
   pub behind : Core
   pub behind_dcs : List Store
   pub stages : List Stage
-  pub led : HaveLed start dcs first calls first_answers other_answers behind behind_dcs stages
-  pub one : AreOne checkpoints.over first calls first_answers other_answers stages
+  pub led : HaveLed results start dcs first calls first_answers other_answers told behind behind_dcs stages
+  pub one : AreOne checkpoints.over first calls first_answers other_answers told stages
   pub last : Core
   pub last_dcs : List Store
   pub renewal : Renewal
   pub renewed : IsRenewal behind behind_dcs last last_dcs renewal
   pub wanted : IsWanted checkpoints renewal
-  pub printed : AreLinesOf last last_dcs audit first_answers other_answers renewal status lines
+  pub printed : AreLinesOf last last_dcs audit first_answers other_answers told renewal status lines
   pub kept : Kept last renewal
 
 -- they are run, whatever they are answered, or it is printed why not
 pub data IsCallsRun (Kept : Core → Renewal → Type 0) (checkpoints : Checkpoints) (start : Core) (dcs : List Store) (first calls : List said.Call)
-    (workers tries : ℕ) (audit : Bool) (status : ℕ) (lines : List ℕ) : Type 0 where
-  Ran : InRange workers tries → ArePrinted Kept checkpoints start dcs first calls audit status lines
-      → IsCallsRun Kept checkpoints start dcs first calls workers tries audit status lines
+    (workers tries : ℕ) (audit results : Bool) (status : ℕ) (lines : List ℕ) : Type 0 where
+  Ran : InRange workers tries → ArePrinted Kept checkpoints start dcs first calls audit results status lines
+      → IsCallsRun Kept checkpoints start dcs first calls workers tries audit results status lines
   Stopped : (cause : Unbegun) → Stops workers tries cause → status ≡ 1 → fault_line cause ≡ Some lines
-      → IsCallsRun Kept checkpoints start dcs first calls workers tries audit status lines
+      → IsCallsRun Kept checkpoints start dcs first calls workers tries audit results status lines
 
 -- its procedures are loaded, and nothing has happened
 abbrev pub begun : Contents → Core
@@ -78,11 +78,11 @@ empty_stores c = map empty_store c.dcs
 abbrev pub never : Checkpoints
 never = record { at_end = false; over = None }
 
-abbrev pub IsRunBy : Option (List ℕ) → Contents → ℕ → ℕ → Bool → ℕ → List ℕ → Type 0
-IsRunBy (Some refusal) contents workers tries audit status lines = (status ≡ 1) × (lines ≡ refusal)
-IsRunBy None contents workers tries audit status lines =
-    IsCallsRun (λ _ _. Unit {0}) never (begun contents) (empty_stores contents) contents.first contents.calls workers tries audit status lines
+abbrev pub IsRunBy : Option (List ℕ) → Contents → ℕ → ℕ → Bool → Bool → ℕ → List ℕ → Type 0
+IsRunBy (Some refusal) contents workers tries audit results status lines = (status ≡ 1) × (lines ≡ refusal)
+IsRunBy None contents workers tries audit results status lines =
+    IsCallsRun (λ _ _. Unit {0}) never (begun contents) (empty_stores contents) contents.first contents.calls workers tries audit results status lines
 
 -- of a script that is refused no call is made
-abbrev pub IsRun : ℕ → ℕ → Bool → Beginning → ℕ → List ℕ → Type 0
-IsRun workers tries audit b status lines = IsRunBy b.refusal b.contents workers tries audit status lines
+abbrev pub IsRun : ℕ → ℕ → Bool → Bool → Beginning → ℕ → List ℕ → Type 0
+IsRun workers tries audit results b status lines = IsRunBy b.refusal b.contents workers tries audit results status lines

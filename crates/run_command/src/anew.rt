@@ -1,6 +1,6 @@
 //! `run --checkpoint`: the log begins anew, in a file that takes the place of the one that has all of it.
 
-ghost use Rattle.std.specs.Prelude.{◌≡◌, ◌≢◌, List, Some, None, is_some, true, false, IsTrue, IfOk, IfErr, string_bytes};
+ghost use Rattle.std.specs.Prelude.{◌≡◌, ◌≢◌, ◌++◌, List, Some, None, is_some, true, false, IsTrue, IfOk, IfErr, OnOk, string_bytes};
 ghost use Rattle.data_component.specs.Store.{Store};
 ghost use Rattle.tc_core.specs.Core.{Core};
 ghost use Rattle.tc_world.specs.Cutting.{IsUncut};
@@ -84,8 +84,8 @@ pub enum Renewal {
     Barred(Bar),
 }
 
-/// The line of what came of it.
-pub fn renewal_line(alloc: Global, renewal: Renewal, state: &TcState) -> Result<String, AllocError>
+// The line of what came of it.
+fn renewal_line(alloc: Global, renewal: Renewal, state: &TcState) -> Result<String, AllocError>
     ensures { IfOk result (λ s. string_bytes s ≡ renewal_line state.now.events renewal) }
 {
     match renewal {
@@ -104,6 +104,18 @@ pub fn renewal_line(alloc: Global, renewal: Renewal, state: &TcState) -> Result<
         }
         Renewal::Barred(Bar::InTheWay) => String::from_str(alloc, "no checkpoint LOG.new\n"),
     }
+}
+
+/// Adds the line of what came of it.
+pub fn write_renewal(
+    alloc: Global,
+    renewal: Renewal,
+    state: &TcState,
+    lines: &mut String,
+) -> Result<(), AllocError>
+    ensures { OnOk result (string_bytes lines.new ≡ string_bytes lines.old ++ renewal_line state.now.events renewal) }
+{
+    lines.push_str(renewal_line(alloc, renewal, state)?.as_str())
 }
 
 // Why a log that isn't cut goes on as it is.
@@ -221,29 +233,27 @@ fn write_anew<F: Files<File = File>>(
     alloc: Global,
     path: &str,
     beside: Beside,
-    journal: FileJournal,
+    journal: &mut FileJournal,
     log: &Log,
     dcs: &[Dc],
-) -> Result<FileJournal, Unreported>
-    ensures kept { IfOk result (λ new. HasBegunAnew dcs.now log.now.events new) }
-    ensures fault { IfErr result (UnreportedFits (Some journal)) }
+) -> Result<(), Unreported>
+    ensures kept { OnOk result (HasBegunAnew dcs.now log.now.events journal.new) }
+    ensures fault { IfErr result (UnreportedFits (Some journal.old)) }
 {
-    let written = write_beside(rt, alloc, path, beside, &journal, log, dcs);
-    let placed = match written {
-        Ok(new) => match new.device().take_place(rt, alloc, path, journal.device()) {
-            Ok(()) => Ok(new),
-            Err(error) => {
-                if let PlaceError::Kept(_) = error {
-                    new.device().give_up_place(rt, alloc, path);
-                }
-                drop(new);
-                Err(unplaced(error))
+    let new = write_beside(rt, alloc, path, beside, journal, log, dcs)?;
+    match new.device().take_place(rt, alloc, path, journal.device()) {
+        Ok(()) => {
+            *journal = new;
+            Ok(())
+        }
+        Err(error) => {
+            if let PlaceError::Kept(_) = error {
+                new.device().give_up_place(rt, alloc, path);
             }
-        },
-        Err(fault) => Err(fault),
-    };
-    drop(journal);
-    placed
+            drop(new);
+            Err(unplaced(error))
+        }
+    }
 }
 
 // Takes the file beside the log's away again.
@@ -266,26 +276,32 @@ fn begin_anew<F: Files<File = File>>(
     path: &str,
     state: &mut TcState,
     dcs: &mut Vec<Dc>,
-    journal: FileJournal,
-) -> Result<(FileJournal, Renewal), Unreported>
-    ensures goes { IfOk result (λ r. IsRenewal state.old dcs.old.items state.new dcs.new.items r.1) }
-    ensures kept { KeepsLog (Some journal) state.old.events → IfOk result (λ r. KeepsLog (Some r.0) state.new.events) }
-    ensures tried { IfOk result (λ r. r.1 ≡ Unwanted → ⊥) }
-    ensures fault { IfErr result (UnreportedFits (Some journal)) }
+    journal: &mut FileJournal,
+) -> Result<Renewal, Unreported>
+    ensures goes { IfOk result (IsRenewal state.old dcs.old.items state.new dcs.new.items) }
+    ensures kept { KeepsLog (Some journal.old) state.old.events → OnOk result (KeepsLog (Some journal.new) state.new.events) }
+    ensures tried { IfOk result (λ renewal. renewal ≡ Unwanted → ⊥) }
+    ensures fault { IfErr result (UnreportedFits (Some journal.old)) }
 {
-    let Some(beside) = open_beside(rt, alloc, path, &journal)? else {
-        return Ok((journal, Renewal::Barred(Bar::InTheWay)));
+    let Some(beside) = open_beside(rt, alloc, path, journal)? else {
+        return Ok(Renewal::Barred(Bar::InTheWay));
     };
     match cut(alloc, state, dcs) {
         Ok(()) => {
-            let log = state.log();
-            let journal = write_anew(rt, alloc, path, beside, journal, log, dcs.as_slice())?;
-            Ok((journal, Renewal::Begun))
+            write_anew(
+                rt,
+                alloc,
+                path,
+                beside,
+                journal,
+                state.log(),
+                dcs.as_slice(),
+            )?;
+            Ok(Renewal::Begun)
         }
         Err(why) => {
-            give_up(rt, alloc, path, beside, &journal);
-            let bar = bar_of(why)?;
-            Ok((journal, Renewal::Barred(bar)))
+            give_up(rt, alloc, path, beside, journal);
+            Ok(Renewal::Barred(bar_of(why)?))
         }
     }
 }
@@ -302,17 +318,6 @@ fn is_over(journal: &Option<FileJournal>, over: Option<u64>) -> bool
     }
 }
 
-// What calls are run on, of its parts.
-fn ground_of(state: TcState, dcs: Vec<Dc>, journal: Option<FileJournal>) -> Ground
-    ensures { (result.state ≡ state) × (result.dcs ≡ dcs) × (result.journal ≡ journal) }
-{
-    Ground {
-        state,
-        dcs,
-        journal,
-    }
-}
-
 /// Begins the log anew where there is a journal whose file has more bytes than this, if that is given, and nothing
 /// bars it: the file that has all of it stays where it is until the new one is synced, and a crash leaves the one
 /// or the other. `Err` ends the run: then the state has a log that no file has.
@@ -321,29 +326,21 @@ pub fn renew<F: Files<File = File>>(
     alloc: Global,
     path: &str,
     over: Option<u64>,
-    ground: Ground,
-) -> Result<(Ground, Renewal), Unreported>
-    ensures goes { IfOk result (λ r. IsRenewal ground.state ground.dcs.items r.0.state r.0.dcs.items r.1) }
-    ensures unwanted { IfOk result (λ r. over ≡ None → r.1 ≡ Unwanted) }
-    ensures heeded { IfOk result (λ r. IsHeeded r.0.journal over r.1) }
-    ensures needless { IfOk result (λ r. (IsOver ground.journal over → ⊥) → r.1 ≡ Unwanted) }
-    ensures kept { KeepsLog ground.journal ground.state.events → IfOk result (λ r. KeepsLog r.0.journal r.0.state.events) }
-    ensures same { IfOk result (λ r. is_some r.0.journal ≡ is_some ground.journal) }
-    ensures fault { IfErr result (UnreportedFits ground.journal) }
+    ground: &mut Ground,
+) -> Result<Renewal, Unreported>
+    ensures goes { IfOk result (IsRenewal ground.old.state ground.old.dcs.items ground.new.state ground.new.dcs.items) }
+    ensures unwanted { IfOk result (λ renewal. over ≡ None → renewal ≡ Unwanted) }
+    ensures heeded { IfOk result (IsHeeded ground.new.journal over) }
+    ensures needless { IfOk result (λ renewal. (IsOver ground.old.journal over → ⊥) → renewal ≡ Unwanted) }
+    ensures kept { KeepsLog ground.old.journal ground.old.state.events → OnOk result (KeepsLog ground.new.journal ground.new.state.events) }
+    ensures same { is_some ground.new.journal ≡ is_some ground.old.journal }
+    ensures fault { IfErr result (UnreportedFits ground.old.journal) }
 {
     if !is_over(&ground.journal, over) {
-        return Ok((ground, Renewal::Unwanted));
+        return Ok(Renewal::Unwanted);
     }
-    let Ground {
-        mut state,
-        mut dcs,
-        journal,
-    } = ground;
-    match journal {
-        Some(journal) => {
-            let (journal, renewal) = begin_anew(rt, alloc, path, &mut state, &mut dcs, journal)?;
-            Ok((ground_of(state, dcs, Some(journal)), renewal))
-        }
-        None => Ok((ground_of(state, dcs, None), Renewal::Unwanted)),
+    match &mut ground.journal {
+        Some(journal) => begin_anew(rt, alloc, path, &mut ground.state, &mut ground.dcs, journal),
+        None => Ok(Renewal::Unwanted),
     }
 }

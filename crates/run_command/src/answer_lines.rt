@@ -1,12 +1,16 @@
 //! The lines that say what calls were answered, and why none was begun.
 
-ghost use Rattle.std.specs.Prelude.{◌≡◌, ◌++◌, IfOk, OnOk, option_map, string_bytes};
+ghost use Rattle.std.specs.Prelude.{◌≡◌, ◌++◌, ◌≤◌, length, drop, IfOk, OnOk, option_map, string_bytes};
+ghost use Rattle.call_results.specs.Results.{slots_at_end};
 ghost use Rattle.run_command.specs.AnswerLines.{answer_text, answer_line, answer_lines, fault_line};
+ghost use Rattle.run_command.specs.AnswerLines.{slot_line, slot_lines, call_line, call_lines};
 
 use crate::answering::Unbegun;
-use state_lines::record_texts::record_text;
+use call_results::{SlotResult, logged_result, logged_slot_count};
+use state_lines::record_texts::{record_text, value_text};
 use state_lines::refusal_texts::refusal_text;
 use std::alloc::{AllocError, Global};
+use tc_core::state::TcState;
 use worker_pool::Answer;
 
 // What a call was answered.
@@ -55,6 +59,88 @@ pub fn write_answers(
     for (place, answer) in answers.iter().enumerate() {
         let line = answer_line(alloc, word, place, answer)?;
         lines.push_str(line.as_str())?;
+    }
+    Ok(())
+}
+
+// The line of what a slot of the call at this place of its list holds, where that is a record.
+fn slot_line(
+    alloc: Global,
+    place: usize,
+    slot: usize,
+    held: Option<SlotResult>,
+) -> Result<String, AllocError>
+    ensures { IfOk result (λ s. string_bytes s ≡ slot_line place slot held) }
+{
+    let Some(held) = held else {
+        return Ok(String::new(alloc));
+    };
+    if !held.is_there {
+        return Ok(String::new(alloc));
+    }
+    let value = value_text(alloc, &held.value)?;
+    format!(in alloc; "result {place} {slot} {value}\n")
+}
+
+// Adds these lines of each slot of the call whose end stands at a place of the log.
+fn write_slots(
+    alloc: Global,
+    state: &TcState,
+    place: usize,
+    end: usize,
+    lines: &mut String,
+) -> Result<(), AllocError>
+    ensures { OnOk result (string_bytes lines.new ≡ string_bytes lines.old
+        ++ slot_lines state.now.procs state.now.events place end (slots_at_end state.now.procs state.now.events end)) }
+{
+    state.known();
+    let procs = state.procs();
+    let log = state.log();
+    for slot in 0..logged_slot_count(procs, log, end) {
+        let held = logged_result(procs, log, end, slot);
+        let line = slot_line(alloc, place, slot, held)?;
+        lines.push_str(line.as_str())?;
+    }
+    Ok(())
+}
+
+// Adds the line of the call at this place of the second list, and behind it what its slots hold, where that is wanted.
+fn write_call(
+    alloc: Global,
+    results: bool,
+    state: &TcState,
+    place: usize,
+    answer: &Answer,
+    lines: &mut String,
+) -> Result<(), AllocError>
+    ensures { OnOk result (string_bytes lines.new ≡ string_bytes lines.old
+        ++ call_line results state.now.procs state.now.events place answer.now) }
+{
+    let line = answer_line(alloc, "call", place, answer)?;
+    lines.push_str(line.as_str())?;
+    match (results, answer) {
+        (true, Answer::Committed(end)) => write_slots(alloc, state, place, *end, lines),
+        _ => Ok(()),
+    }
+}
+
+/// Adds the lines of the second list's calls behind so many of these answers, by the state behind them. Where results are
+/// wanted, what its slots hold stands behind the line of each call that committed.
+pub fn write_calls(
+    alloc: Global,
+    results: bool,
+    state: &TcState,
+    answers: &[Answer],
+    before: usize,
+    lines: &mut String,
+) -> Result<(), AllocError>
+    requires { before ≤ length answers.now }
+    ensures { OnOk result (string_bytes lines.new ≡ string_bytes lines.old
+        ++ call_lines results state.now.procs state.now.events before (drop before answers.now)) }
+{
+    let (_, new) = answers.split_at(before);
+    for (index, answer) in new.iter().enumerate() {
+        write_call(alloc, results, state, before + index, answer, lines)?;
     }
     Ok(())
 }

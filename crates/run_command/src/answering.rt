@@ -1,7 +1,7 @@
 //! Both lists of a script's calls, answered while each data component runs in a thread of its own, and kept
 //! in a journal where there is one.
 
-ghost use Rattle.std.specs.Prelude.{◌≡◌, ℕ, List, [], length, true, None, Some, is_some, IfOk, IfErr, OnOk};
+ghost use Rattle.std.specs.Prelude.{◌≡◌, ◌++◌, ℕ, List, [], length, true, None, Some, is_some, IfOk, IfErr, OnOk};
 ghost use Rattle.data_component.specs.Store.{Store};
 ghost use Rattle.tc_core.specs.Core.{Core};
 ghost use Rattle.worker_pool.specs.Faults.{InRange};
@@ -13,6 +13,7 @@ ghost use Rattle.run_command.specs.Kept.{FileJournal as FileJournalValue, KeepsL
 ghost use Rattle.run_command.specs.Joining.Halts.{ListHalts};
 ghost use Rattle.run_command.specs.Joining.Servers.{ArePromised};
 
+use crate::anew::Ground;
 use crate::watching::{Waits, Watch};
 use data_component::dc::Dc;
 use disk_file::{DiskFile, FileFault};
@@ -30,13 +31,15 @@ use worker_pool::{
 };
 
 /// How the calls of a script are run: the second list by so many workers, each request sent so often
-/// at most; with the figures of that list as notes, and with an audit behind the rows.
+/// at most; with the figures of that list as notes, with an audit behind the rows, and with what slots of
+/// calls hold behind the calls' lines.
 #[derive(Clone, Copy, Debug)]
 pub struct Manner {
     pub workers: u64,
     pub tries: u64,
     pub stats: bool,
     pub audit: bool,
+    pub results: bool,
 }
 
 /// Calls of both lists of a script, and how they are run.
@@ -221,15 +224,84 @@ fn answer_list<R: Threads + Wait + Sync, G: Gate + Sync>(
     }
 }
 
-/// What the calls of both lists were answered, the state behind them, the journal that has kept its log, if
-/// there is one, and how long the calls of the second list took in all, if the clock can be read.
+/// What calls of both lists were answered, and how long those of the second list took in all, if the clock can be read.
+#[derive(Drop)]
+pub struct Answers {
+    pub first: Vec<Answer>,
+    pub calls: Vec<Answer>,
+    pub elapsed: Option<Duration>,
+}
+
+// Adds answers behind these.
+fn add(answers: &mut Vec<Answer>, more: Vec<Answer>) -> Result<(), AllocError>
+    ensures { OnOk result (answers.new.items ≡ answers.old.items ++ more.items) }
+{
+    if answers.is_empty() {
+        *answers = more;
+        return Ok(());
+    }
+    answers.extend_from_slice(more.as_slice())
+}
+
+// How long both took.
+fn both(one: Option<Duration>, other: Option<Duration>) -> Option<Duration> {
+    one?.checked_add(other?)
+}
+
+impl Answers {
+    /// None, in no time.
+    pub fn new(alloc: Global) -> Answers
+        ensures { (result.first.items ≡ []) × (result.calls.items ≡ []) }
+    {
+        Answers {
+            first: Vec::new(alloc),
+            calls: Vec::new(alloc),
+            elapsed: Some(Duration::ZERO),
+        }
+    }
+
+    /// Adds those of more calls behind them.
+    pub fn add(&mut self, more: Answers) -> Result<(), AllocError>
+        ensures first { OnOk result (self.new.first.items ≡ self.old.first.items ++ more.first.items) }
+        ensures calls { OnOk result (self.new.calls.items ≡ self.old.calls.items ++ more.calls.items) }
+    {
+        let Answers {
+            first,
+            calls,
+            elapsed,
+        } = more;
+        add(&mut self.first, first)?;
+        add(&mut self.calls, calls)?;
+        self.elapsed = both(self.elapsed, elapsed);
+        Ok(())
+    }
+}
+
+/// What calls of both lists were answered, the state behind them, and the journal that has kept its log, if there is
+/// one.
 #[derive(Drop)]
 pub struct Answered {
     pub state: TcState,
     pub journal: Option<FileJournal>,
-    pub first: Vec<Answer>,
-    pub calls: Vec<Answer>,
-    pub elapsed: Option<Duration>,
+    pub answers: Answers,
+}
+
+/// What they left, with the data components behind them, and their answers.
+pub fn with_dcs(answered: Answered, dcs: Vec<Dc>) -> (Ground, Answers)
+    ensures { (result.0.state ≡ answered.state) × (result.0.dcs ≡ dcs) × (result.0.journal ≡ answered.journal)
+        × (result.1 ≡ answered.answers) }
+{
+    let Answered {
+        state,
+        journal,
+        answers,
+    } = answered;
+    let ground = Ground {
+        state,
+        dcs,
+        journal,
+    };
+    (ground, answers)
 }
 
 // How long ago that was, if the clock can be read.
@@ -248,7 +320,7 @@ fn answer_all<R: Clock + Threads + Wait + Sync>(
     journal: Option<FileJournal>,
 ) -> Result<Answered, Halt>
     ensures answered { IfOk result (λ a. AreAnswered state workload.now.first.items workload.now.calls.items
-        a.first.items a.calls.items a.state) }
+        a.answers.first.items a.answers.calls.items a.state) }
     ensures kept { KeepsLog journal state.events → IfOk result (λ a. KeepsLog a.journal a.state.events) }
     ensures same { IfOk result (λ a. is_some a.journal ≡ is_some journal) }
     ensures range { IfOk result (λ _. InRange workload.now.manner.workers workload.now.manner.tries) }
@@ -274,12 +346,15 @@ fn answer_all<R: Clock + Threads + Wait + Sync>(
         answers: calls,
         journal,
     } = answer_list(rt, alloc, state, calls, all, link, &watch, journal)?;
-    Ok(Answered {
-        state,
-        journal,
+    let answers = Answers {
         first,
         calls,
         elapsed: since(rt, start),
+    };
+    Ok(Answered {
+        state,
+        journal,
+        answers,
     })
 }
 
@@ -368,7 +443,7 @@ pub fn answer_served<R: Clock + Threads + Wait + Sync>(
     journal: Option<FileJournal>,
 ) -> (Result<Answered, Halt>, Result<Vec<Dc>, AllocError>)
     ensures answered { IfOk result.0 (λ a. AreAnswered state workload.now.first.items workload.now.calls.items
-        a.first.items a.calls.items a.state) }
+        a.answers.first.items a.answers.calls.items a.state) }
     ensures kept { KeepsLog journal state.events → IfOk result.0 (λ a. KeepsLog a.journal a.state.events) }
     ensures same { IfOk result.0 (λ a. is_some a.journal ≡ is_some journal) }
     ensures range { IfOk result.0 (λ _. InRange workload.now.manner.workers workload.now.manner.tries) }
@@ -383,7 +458,7 @@ pub fn answer_served<R: Clock + Threads + Wait + Sync>(
         |scope| -> (Result<Answered, Halt>, Result<Vec<Dc>, AllocError>)
             requires { servers.items ≡ [] }
             ensures answered { IfOk result.0 (λ a. AreAnswered state workload.entry.now.first.items workload.entry.now.calls.items
-                a.first.items a.calls.items a.state) }
+                a.answers.first.items a.answers.calls.items a.state) }
             ensures kept { KeepsLog journal state.events → IfOk result.0 (λ a. KeepsLog a.journal a.state.events) }
             ensures same { IfOk result.0 (λ a. is_some a.journal ≡ is_some journal) }
             ensures range { IfOk result.0 (λ _. InRange workload.entry.now.manner.workers workload.entry.now.manner.tries) }

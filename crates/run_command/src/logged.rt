@@ -17,16 +17,17 @@ ghost use Rattle.tc_core.specs.Core.{loaded_in};
 ghost use Rattle.run_command.specs.LogLines.{IsOpenRefusal};
 ghost use Rattle.log_file.specs.Found.{base_in};
 ghost use Rattle.run_command.specs.Logged.{is_in_doubt, overfull, IsLogFor, IsLogRefusal, IsRunOn, IsLoggedRun, IsLogged};
-ghost use Rattle.run_command.specs.Anew.{renewal_line};
 ghost use Rattle.run_command.specs.Joining.Renewing.{IsRenewedFirst};
 ghost use Rattle.run_command.specs.Kept.{KeepsLog};
+ghost use Rattle.run_command.specs.Parts.{IsKeptSo};
+ghost use Rattle.run_command.specs.Running.{IsCallsRun};
 ghost use Rattle.run_command.specs.Joining.Opening.{IsOpened, IsOpening, IsUnfit, IsComing, IsGoingBack, IsBegun};
 
-use crate::anew::{Checkpoints, Ground, Renewal, renew, renewal_line};
+use crate::anew::{Ground, renew, write_renewal};
 use crate::answering::FileJournal;
 pub use crate::log_lines::kind_refusal;
 use crate::log_lines::{back_lines, back_refusal, open_refusal, other_refusal, overfull_refusal};
-use crate::running::{Calls, Listeners, Manner, Ran, Unreported, run_from};
+use crate::running::{Calls, Ran, RunOptions, Unreported, ground_and_calls, run_from};
 use base_records::{base_fault_line, begin as begin_with};
 use coming_back::{ComeBackFault, Resumed, come_back};
 use data_component::dc::Dc;
@@ -384,30 +385,15 @@ fn begin<F: Files<File = File>>(
     }
 }
 
-// The lines of a report behind these.
-fn behind(lines: String, ran: Ran) -> Result<Ran, Unlogged>
-    ensures { IfOk result (λ r. (r.journal ≡ ran.journal) × (r.report.status ≡ ran.report.status)
-        × (string_bytes r.report.lines ≡ string_bytes lines ++ string_bytes ran.report.lines)) }
+// Puts these lines before those of a report.
+fn put_before(alloc: Global, lines: &str, report: &mut Report) -> Result<(), Unlogged>
+    ensures { OnOk result ((report.new.status ≡ report.old.status)
+        × (string_bytes report.new.lines ≡ lines.now ++ string_bytes report.old.lines)) }
 {
-    let mut lines = lines;
-    let pushed = lines.push_str(ran.report.lines.as_str());
-    let Ran { report, journal } = ran;
-    let Report {
-        status,
-        lines: _,
-        notes,
-    } = report;
-    match pushed {
-        Ok(()) => Ok(Ran {
-            report: Report {
-                status,
-                lines,
-                notes,
-            },
-            journal,
-        }),
-        Err(AllocError) => Err(Unlogged::Memory),
-    }
+    let mut all = String::from_str(alloc, lines)?;
+    all.push_str(report.lines.as_str())?;
+    report.lines = all;
+    Ok(())
 }
 
 // Whether the log's file of this run still has its name.
@@ -429,81 +415,112 @@ fn why_unlogged(why: Unreported) -> Unlogged {
     }
 }
 
-// Adds the line of what came of it.
-fn add_renewal(
-    alloc: Global,
-    renewal: Renewal,
-    state: &TcState,
-    lines: &mut String,
-) -> Result<(), AllocError>
-    ensures { OnOk result (string_bytes lines.new ≡ string_bytes lines.old ++ renewal_line state.now.events renewal) }
-{
-    lines.push_str(renewal_line(alloc, renewal, state)?.as_str())
-}
-
 // Begins the log of what came back anew where its file has more bytes than this, and adds the line of that.
 fn renew_first<F: Files<File = File>>(
     rt: &F,
     alloc: Global,
     path: &str,
     over: Option<u64>,
-    ground: Ground,
-    lines: String,
-) -> Result<(Ground, String), Unlogged>
-    ensures renewed { IfOk result (IsRenewedFirst ground lines over) }
-    ensures kept { KeepsLog ground.journal ground.state.events → IfOk result (λ r. KeepsLog r.0.journal r.0.state.events) }
+    ground: &mut Ground,
+    lines: &mut String,
+) -> Result<(), Unlogged>
+    ensures renewed { OnOk result (IsRenewedFirst ground.old lines.old over ground.new lines.new) }
+    ensures kept { KeepsLog ground.old.journal ground.old.state.events → OnOk result (KeepsLog ground.new.journal ground.new.state.events) }
 {
-    let mut lines = lines;
     match renew(rt, alloc, path, over, ground) {
-        Ok((ground, renewal)) => {
-            add_renewal(alloc, renewal, &ground.state, &mut lines)?;
-            Ok((ground, lines))
-        }
+        Ok(renewal) => Ok(write_renewal(alloc, renewal, &ground.state, lines)?),
         Err(why) => Err(why_unlogged(why)),
     }
 }
 
-// Runs the calls from what came back.
+// The report behind these lines, where the log's file of this run still has its name.
+fn behind<F: Files<File = File>>(
+    rt: &F,
+    alloc: Global,
+    path: &str,
+    lines: &str,
+    ran: Ran,
+) -> Result<Ran, Unlogged>
+    ensures { IfOk result (λ r. (r.journal ≡ ran.journal) × (r.report.status ≡ ran.report.status)
+        × (string_bytes r.report.lines ≡ lines.now ++ string_bytes ran.report.lines)) }
+{
+    let mut ran = ran;
+    let put = match check_name(rt, path, &ran) {
+        Ok(()) => put_before(alloc, lines, &mut ran.report),
+        Err(why) => Err(why),
+    };
+    match put {
+        Ok(()) => Ok(ran),
+        Err(why) => {
+            drop(ran);
+            Err(why)
+        }
+    }
+}
+
+// Runs calls, and puts these lines before theirs.
+fn run_after<R: Files<File = File> + Clock + Threads + Wait + Sync>(
+    rt: &R,
+    alloc: Global,
+    path: &str,
+    ground: Ground,
+    calls: &Calls,
+    lines: &str,
+) -> Result<Ran, Unlogged>
+    ensures { KeepsLog ground.journal ground.state.events → IfOk result (λ r. (answers : List ℕ)
+        × IsCallsRun (IsKeptSo r.journal calls.now.options.checkpoints) calls.now.options.checkpoints ground.state ground.dcs.items
+        calls.now.first.items calls.now.calls.items calls.now.options.manner.workers calls.now.options.manner.tries
+        calls.now.options.manner.audit calls.now.options.manner.results r.report.status answers
+        × (string_bytes r.report.lines ≡ lines.now ++ answers)) }
+{
+    match run_from(rt, alloc, path, ground, calls) {
+        Ok(ran) => behind(rt, alloc, path, lines, ran),
+        Err(why) => Err(why_unlogged(why)),
+    }
+}
+
+// Runs calls on what came back, behind a log that may begin anew first, and puts these lines before theirs.
+fn run_on<R: Files<File = File> + Clock + Threads + Wait + Sync>(
+    rt: &R,
+    alloc: Global,
+    path: &str,
+    ground: Ground,
+    calls: &Calls,
+    lines: &mut String,
+) -> Result<Ran, Unlogged>
+    ensures { KeepsLog ground.journal ground.state.events → IfOk result (λ r.
+        IsRunOn r.journal calls.now.options.checkpoints ground.state ground.dcs.items calls.now.first.items calls.now.calls.items
+        calls.now.options.manner.workers calls.now.options.manner.tries calls.now.options.manner.audit calls.now.options.manner.results
+        r.report.status (string_bytes lines.old) (string_bytes r.report.lines)) }
+{
+    let mut ground = ground;
+    let over = calls.options.checkpoints.over;
+    match renew_first(rt, alloc, path, over, &mut ground, lines) {
+        Ok(()) => run_after(rt, alloc, path, ground, calls, lines.as_str()),
+        Err(why) => {
+            drop(ground);
+            Err(why)
+        }
+    }
+}
+
+// Runs the calls of a script that is loaded from what came back.
 fn run_back<R: Files<File = File> + Clock + Threads + Wait + Sync>(
     rt: &R,
     alloc: Global,
     path: &str,
     loaded: Loaded,
     back: Back,
-    how: How,
+    options: RunOptions,
 ) -> Result<Ran, Unlogged>
     ensures { KeepsLog (Some back.journal) loaded.state.events → IfOk result (λ r.
-        IsRunOn r.journal how.checkpoints loaded.state loaded.dcs.items loaded.first.items loaded.calls.items
-        how.manner.workers how.manner.tries how.manner.audit r.report.status (string_bytes back.lines) (string_bytes r.report.lines)) }
+        IsRunOn r.journal options.checkpoints loaded.state loaded.dcs.items loaded.first.items loaded.calls.items
+        options.manner.workers options.manner.tries options.manner.audit options.manner.results
+        r.report.status (string_bytes back.lines) (string_bytes r.report.lines)) }
 {
-    let Loaded {
-        state,
-        dcs,
-        steps: _,
-        first,
-        calls,
-    } = loaded;
-    let Back { journal, lines } = back;
-    let ground = Ground {
-        state,
-        dcs,
-        journal: Some(journal),
-    };
-    let (ground, lines) = renew_first(rt, alloc, path, how.checkpoints.over, ground, lines)?;
-    let calls = Calls {
-        first,
-        calls,
-        manner: how.manner,
-        checkpoints: how.checkpoints,
-        listeners: how.listeners,
-    };
-    match run_from(rt, alloc, path, ground, calls) {
-        Ok(ran) => {
-            check_name(rt, path, &ran)?;
-            behind(lines, ran)
-        }
-        Err(why) => Err(why_unlogged(why)),
-    }
+    let Back { journal, mut lines } = back;
+    let (ground, calls) = ground_and_calls(loaded, Some(journal), options);
+    run_on(rt, alloc, path, ground, &calls, &mut lines)
 }
 
 // Runs the calls of a script that is loaded behind what the log's file has.
@@ -512,11 +529,11 @@ fn run_behind<R: Files<File = File> + Clock + Threads + Wait + Sync>(
     alloc: Global,
     path: &str,
     loaded: Loaded,
-    how: How,
+    options: RunOptions,
 ) -> Result<Ran, Unlogged>
     requires { All HasOnlyRows loaded.dcs.items }
-    ensures { IfOk result (λ r. IsLoggedRun r.journal how.checkpoints loaded.state loaded.dcs.items loaded.first.items loaded.calls.items
-        how.manner.workers how.manner.tries how.manner.audit r.report.status (string_bytes r.report.lines)) }
+    ensures { IfOk result (λ r. IsLoggedRun r.journal options.checkpoints loaded.state loaded.dcs.items loaded.first.items loaded.calls.items
+        options.manner.workers options.manner.tries options.manner.audit options.manner.results r.report.status (string_bytes r.report.lines)) }
 {
     let mut loaded = loaded;
     match begin(
@@ -526,7 +543,7 @@ fn run_behind<R: Files<File = File> + Clock + Threads + Wait + Sync>(
         &mut loaded.state,
         loaded.dcs.as_mut_slice(),
     ) {
-        Ok(GoingBack::Back(back)) => run_back(rt, alloc, path, loaded, back, how),
+        Ok(GoingBack::Back(back)) => run_back(rt, alloc, path, loaded, back, options),
         Ok(GoingBack::Refused(report)) => {
             drop(loaded);
             Ok(Ran {
@@ -541,14 +558,6 @@ fn run_behind<R: Files<File = File> + Clock + Threads + Wait + Sync>(
     }
 }
 
-/// How the calls of a script are run whose log is kept.
-#[derive(Clone, Copy)]
-pub struct How {
-    pub manner: Manner,
-    pub checkpoints: Checkpoints,
-    pub listeners: Listeners,
-}
-
 /// Runs the calls of a script as [`running`](crate::running::running) does, and keeps the log in the file
 /// with this path, which is begun where it is missing or empty. Where it has a log, that is gone on from: the
 /// data components begin with its records, if it was cut, and are redone, transactions that were open are run to
@@ -561,13 +570,13 @@ pub fn running_logged<R: Files<File = File> + Clock + Threads + Wait + Sync>(
     alloc: Global,
     path: &str,
     source: Source,
-    how: How,
+    options: RunOptions,
 ) -> Result<Ran, Unlogged>
-    ensures { IfOk result (λ r. IsLogged r.journal how.checkpoints how.manner.workers how.manner.tries how.manner.audit
+    ensures { IfOk result (λ r. IsLogged r.journal options.checkpoints options.manner.workers options.manner.tries options.manner.audit options.manner.results
         (beginning_of command.Run source.entry) r.report.status (string_bytes r.report.lines)) }
 {
     match load_source(alloc, Command::Run, source)? {
-        Loading::Ready(loaded) => run_behind(rt, alloc, path, loaded, how),
+        Loading::Ready(loaded) => run_behind(rt, alloc, path, loaded, options),
         Loading::Refused(report) => Ok(Ran {
             report,
             journal: None,

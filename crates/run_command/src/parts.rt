@@ -1,41 +1,48 @@
 //! The calls of a script, answered in parts, between which the log may begin anew.
 
-ghost use Rattle.std.specs.Prelude.{◌≡◌, ◌++◌, ◌+◌, ◌≤◌, ◌<◌, ℕ, List, [], length, take, drop, None, is_some, IfOk, IfErr};
+ghost use Rattle.std.specs.Prelude.{◌≡◌, ◌++◌, ◌<◌, ℕ, List, [], length, None, Option, is_some, IfOk, IfErr, IsOkAnd, OnOk, codes, string_bytes};
 ghost use Rattle.worker_pool.specs.Faults.{InRange};
-ghost use Rattle.run_command.specs.Answered.{AreCallsOf};
-ghost use Rattle.run_command.specs.Kept.{KeepsLog, UnreportedFits};
-ghost use Rattle.run_command.specs.declared.anew.Renewal.{Renewal};
+ghost use Rattle.run_command.specs.AnswerLines.{answer_lines, call_lines};
+ghost use Rattle.run_command.specs.Answered.{AreCallsOf, AreAnswered, AreServed};
+ghost use Rattle.run_command.specs.Kept.{FileJournal as FileJournalValue, KeepsLog};
 ghost use Rattle.run_command.specs.declared.anew.Renewal.TheVariants.{Unwanted};
-ghost use Rattle.run_command.specs.Anew.{IsHeeded};
-ghost use Rattle.run_command.specs.Parts.{IsWanted, StopFits};
-ghost use Rattle.run_command.specs.Joining.Parts.{IsStep, IsRenewed, HasCome, HasEnded};
+ghost use Rattle.run_command.specs.declared.anew.Ground.{Ground as GroundValue};
+ghost use Rattle.run_command.specs.declared.anew.Renewal.{Renewal};
+ghost use Rattle.run_command.specs.Anew.{IsHeeded, IsRenewal};
+ghost use Rattle.run_command.specs.Parts.{StopFits};
+ghost use Rattle.run_command.specs.Joining.Parts.{IsStep, HasCome, HasEnded};
 
-use crate::anew::{Checkpoints, Ground, Renewal, renew};
-use crate::answering::{Answered, Halt, Manner, Rings, Unbegun, Workload, answer_served};
-use crate::running::{Unreported, calls_of};
-use crate::watching::{Listeners, Waits};
-use data_component::dc::Dc;
+use crate::anew::{Ground, Renewal, renew};
+use crate::answer_lines::{write_answers, write_calls};
+use crate::answering::{Answers, Halt, Manner, Rings, Workload, answer_served, with_dcs};
+use crate::running::{Calls, Unreported, calls_of};
+use crate::watching::Waits;
 use scripts::script;
 use std::alloc::{AllocError, Global};
 use std::fs::File;
 use std::rt::Files;
 use std::sync::Wait;
 use std::thread::Threads;
-use std::time::{Clock, Duration};
-use worker_pool::Answer;
+use std::time::Clock;
+use tc_core::state::TcState;
 
 // So many calls of the second list a part has, where the log may begin anew between two: what lies between two
 // checkpoints is in memory.
 const PART: usize = 65_536;
 
-/// How far calls have come: what they were run on, what they were answered, and how long those of the second list took
-/// in all, if the clock can be read.
+/// What calls were answered so far, and the lines of that.
 #[derive(Drop)]
-pub struct Progress {
+pub struct Told {
+    pub answers: Answers,
+    pub lines: String,
+}
+
+/// What calls came to: what they were run on, behind the last, what they were answered, and what came of the log then.
+#[derive(Drop)]
+pub struct Outcome {
     pub ground: Ground,
-    pub first: Vec<Answer>,
-    pub calls: Vec<Answer>,
-    pub elapsed: Option<Duration>,
+    pub told: Told,
+    pub renewal: Renewal,
 }
 
 /// Why calls have no report.
@@ -56,20 +63,6 @@ impl From<AllocError> for Stop {
 
     fn from(_: AllocError) -> Stop {
         Stop::Unreported(Unreported::Memory)
-    }
-}
-
-impl Progress {
-    // Nothing is answered.
-    fn new(alloc: Global, ground: Ground) -> Progress
-        ensures { (result.ground ≡ ground) × (result.first.items ≡ []) × (result.calls.items ≡ []) }
-    {
-        Progress {
-            ground,
-            first: Vec::new(alloc),
-            calls: Vec::new(alloc),
-            elapsed: Some(Duration::ZERO),
-        }
     }
 }
 
@@ -104,174 +97,188 @@ fn prepare(
     Ok((workload, rings))
 }
 
-// These answers, and more behind them.
-fn joined(answers: Vec<Answer>, more: Vec<Answer>) -> Result<Vec<Answer>, AllocError>
-    ensures { IfOk result (λ all. all.items ≡ answers.items ++ more.items) }
+// Answers calls on this ground, and hands back what they left with what they were answered.
+fn answer_on<R: Clock + Threads + Wait + Sync>(
+    rt: &R,
+    alloc: Global,
+    ground: Ground,
+    workload: &Workload,
+    waits: &Waits,
+    rings: Rings,
+) -> Result<(Ground, Answers), Stop>
+    ensures answered { IfOk result (λ r. AreAnswered ground.state workload.now.first.items workload.now.calls.items
+        r.1.first.items r.1.calls.items r.0.state) }
+    ensures served { IfOk result (λ r. AreServed ground.dcs.items r.0.dcs.items) }
+    ensures kept { KeepsLog ground.journal ground.state.events → IfOk result (λ r. KeepsLog r.0.journal r.0.state.events) }
+    ensures same { IfOk result (λ r. is_some r.0.journal ≡ is_some ground.journal) }
+    ensures range { IfOk result (λ _. InRange workload.now.manner.workers workload.now.manner.tries) }
+    ensures fault { IfErr result (StopFits ground.journal workload.now.manner.workers workload.now.manner.tries) }
 {
-    if answers.is_empty() {
-        return Ok(more);
-    }
-    let mut all = answers;
-    all.extend_from_slice(more.as_slice())?;
-    Ok(all)
-}
-
-// How long both took.
-fn both(one: Option<Duration>, other: Option<Duration>) -> Option<Duration> {
-    one?.checked_add(other?)
-}
-
-// What a part was answered, behind what was answered before it.
-fn joined_part(
-    answered: Answered,
-    dcs: Vec<Dc>,
-    first: Vec<Answer>,
-    calls: Vec<Answer>,
-    elapsed: Option<Duration>,
-) -> Result<Progress, AllocError>
-    ensures ground { IfOk result (λ p. (p.ground.state ≡ answered.state) × (p.ground.dcs ≡ dcs) × (p.ground.journal ≡ answered.journal)) }
-    ensures first { IfOk result (λ p. p.first.items ≡ first.items ++ answered.first.items) }
-    ensures calls { IfOk result (λ p. p.calls.items ≡ calls.items ++ answered.calls.items) }
-{
-    let Answered {
-        state,
-        journal,
-        first: first_answers,
-        calls: other_answers,
-        elapsed: more,
-    } = answered;
-    let ground = Ground {
+    let Ground {
         state,
         dcs,
         journal,
-    };
-    let first = joined(first, first_answers)?;
-    let calls = joined(calls, other_answers)?;
-    Ok(Progress {
-        ground,
-        first,
-        calls,
-        elapsed: both(elapsed, more),
-    })
+    } = ground;
+    let (answered, dcs) = answer_served(rt, alloc, state, dcs, workload, waits, rings, journal);
+    match answered {
+        Ok(answered) => match dcs {
+            Ok(dcs) => Ok(with_dcs(answered, dcs)),
+            Err(error) => {
+                drop(answered);
+                Err(Stop::from(error))
+            }
+        },
+        Err(halt) => {
+            drop(dcs);
+            Err(Stop::Halted(halt))
+        }
+    }
+}
+
+impl Told {
+    // Nothing.
+    fn new(alloc: Global) -> Told
+        ensures { (result.answers.first.items ≡ []) × (result.answers.calls.items ≡ []) × (string_bytes result.lines ≡ []) }
+    {
+        Told {
+            answers: Answers::new(alloc),
+            lines: String::new(alloc),
+        }
+    }
+
+    // Adds what more calls were answered, and their lines, by the state behind them.
+    fn add(
+        &mut self,
+        alloc: Global,
+        results: bool,
+        state: &TcState,
+        more: Answers,
+    ) -> Result<(), AllocError>
+        ensures first { OnOk result (self.new.answers.first.items ≡ self.old.answers.first.items ++ more.first.items) }
+        ensures calls { OnOk result (self.new.answers.calls.items ≡ self.old.answers.calls.items ++ more.calls.items) }
+        ensures lines { OnOk result (string_bytes self.new.lines ≡ string_bytes self.old.lines ++ (answer_lines (codes "first") more.first.items
+            ++ call_lines results state.now.procs state.now.events (length self.old.answers.calls.items) more.calls.items)) }
+    {
+        if write_answers(alloc, "first", more.first.as_slice(), &mut self.lines).is_err() {
+            drop(more);
+            return Err(AllocError);
+        }
+        let before = self.answers.calls.len();
+        self.answers.add(more)?;
+        write_calls(
+            alloc,
+            results,
+            state,
+            self.answers.calls.as_slice(),
+            before,
+            &mut self.lines,
+        )
+    }
+}
+
+// Adds what calls were answered, and hands back what they left.
+fn tell(
+    alloc: Global,
+    results: bool,
+    answered: Result<(Ground, Answers), Stop>,
+    told: &mut Told,
+) -> Result<Ground, Stop>
+    ensures ok { IfOk result (λ g. IsOkAnd answered (λ a. (g ≡ a.0)
+        × (told.new.answers.first.items ≡ told.old.answers.first.items ++ a.1.first.items)
+        × (told.new.answers.calls.items ≡ told.old.answers.calls.items ++ a.1.calls.items)
+        × (string_bytes told.new.lines ≡ string_bytes told.old.lines ++ (answer_lines (codes "first") a.1.first.items
+        ++ call_lines results g.state.procs g.state.events (length told.old.answers.calls.items) a.1.calls.items)))) }
+    ensures fault { (workers tries : ℕ) (journal : Option FileJournalValue) → IfErr answered (StopFits journal workers tries)
+        → IfErr result (StopFits journal workers tries) }
+{
+    let (ground, more) = answered?;
+    match told.add(alloc, results, &ground.state, more) {
+        Ok(()) => Ok(ground),
+        Err(error) => {
+            drop(ground);
+            Err(Stop::from(error))
+        }
+    }
 }
 
 // Answers one part more.
 fn answer_part<R: Clock + Threads + Wait + Sync>(
     rt: &R,
     alloc: Global,
-    progress: Progress,
+    ground: Ground,
     part: Part,
     manner: Manner,
     waits: &Waits,
-) -> Result<Progress, Stop>
-    ensures step { IfOk result (IsStep progress part.entry.first.now part.entry.calls.now) }
-    ensures kept { KeepsLog progress.ground.journal progress.ground.state.events
-        → IfOk result (λ p. KeepsLog p.ground.journal p.ground.state.events) }
-    ensures same { IfOk result (λ p. is_some p.ground.journal ≡ is_some progress.ground.journal) }
+    told: &mut Told,
+) -> Result<Ground, Stop>
+    ensures step { IfOk result (IsStep manner.results ground told.old part.entry.first.now part.entry.calls.now told.new) }
+    ensures kept { KeepsLog ground.journal ground.state.events → IfOk result (λ g. KeepsLog g.journal g.state.events) }
+    ensures same { IfOk result (λ g. is_some g.journal ≡ is_some ground.journal) }
     ensures range { IfOk result (λ _. InRange manner.workers manner.tries) }
-    ensures fault { IfErr result (StopFits progress.ground.journal manner.workers manner.tries) }
+    ensures fault { IfErr result (StopFits ground.journal manner.workers manner.tries) }
 {
-    let Progress {
-        ground,
-        first,
-        calls,
-        elapsed,
-    } = progress;
-    let Ground {
-        state,
-        dcs,
-        journal,
-    } = ground;
-    let (workload, rings) = prepare(alloc, part, dcs.len(), manner)?;
-    let (answered, dcs) = answer_served(rt, alloc, state, dcs, &workload, waits, rings, journal);
-    match answered {
-        Ok(answered) => Ok(joined_part(answered, dcs?, first, calls, elapsed)?),
-        Err(halt) => Err(Stop::Halted(halt)),
+    match prepare(alloc, part, ground.dcs.len(), manner) {
+        Ok((workload, rings)) => {
+            let answered = answer_on(rt, alloc, ground, &workload, waits, rings);
+            drop(workload);
+            tell(alloc, manner.results, answered, told)
+        }
+        Err(error) => {
+            drop(ground);
+            Err(Stop::from(error))
+        }
     }
 }
 
-// Begins the log anew between two parts, or behind the last, where that is wanted.
-fn renew_behind<F: Files<File = File>>(
-    rt: &F,
+// Begins the log anew between two parts, where that is wanted, and answers the next: what came of it is looked at behind
+// the last.
+fn answer_next<R: Files<File = File> + Clock + Threads + Wait + Sync>(
+    rt: &R,
     alloc: Global,
     path: &str,
     over: Option<u64>,
-    progress: Progress,
-) -> Result<(Progress, Renewal), Unreported>
-    ensures renewed { IfOk result (λ r. IsRenewed progress r.1 r.0) }
-    ensures unwanted { IfOk result (λ r. over ≡ None → r.1 ≡ Unwanted) }
-    ensures heeded { IfOk result (λ r. IsHeeded r.0.ground.journal over r.1) }
-    ensures kept { KeepsLog progress.ground.journal progress.ground.state.events
-        → IfOk result (λ r. KeepsLog r.0.ground.journal r.0.ground.state.events) }
-    ensures same { IfOk result (λ r. is_some r.0.ground.journal ≡ is_some progress.ground.journal) }
-    ensures fault { IfErr result (UnreportedFits progress.ground.journal) }
+    ground: Ground,
+    part: Part,
+    manner: Manner,
+    waits: &Waits,
+    told: &mut Told,
+) -> Result<Ground, Stop>
+    ensures step { IfOk result (λ g. (anew : GroundValue) × (renewal : Renewal)
+        × IsRenewal ground.state ground.dcs.items anew.state anew.dcs.items renewal × IsHeeded anew.journal over renewal
+        × IsStep manner.results anew told.old part.entry.first.now part.entry.calls.now told.new g) }
+    ensures kept { KeepsLog ground.journal ground.state.events → IfOk result (λ g. KeepsLog g.journal g.state.events) }
+    ensures same { IfOk result (λ g. is_some g.journal ≡ is_some ground.journal) }
+    ensures range { IfOk result (λ _. InRange manner.workers manner.tries) }
+    ensures fault { IfErr result (StopFits ground.journal manner.workers manner.tries) }
 {
-    let Progress {
-        ground,
-        first,
-        calls,
-        elapsed,
-    } = progress;
-    let (ground, renewal) = renew(rt, alloc, path, over, ground)?;
-    let progress = Progress {
-        ground,
-        first,
-        calls,
-        elapsed,
+    let mut ground = ground;
+    match renew(rt, alloc, path, over, &mut ground) {
+        Ok(_renewal) => answer_part(rt, alloc, ground, part, manner, waits, told),
+        Err(why) => {
+            drop(ground);
+            Err(Stop::Unreported(why))
+        }
+    }
+}
+
+// The first part: all calls, where the log isn't to begin anew between two.
+fn first_part<'a>(calls: &'a Calls) -> (Part<'a>, &'a [script::Call])
+    ensures first { result.0.first.now ≡ calls.now.first.items }
+    ensures calls { calls.now.calls.items ≡ result.0.calls.now ++ result.1.now }
+    ensures one { calls.now.options.checkpoints.over ≡ None → (result.0.calls.now ≡ calls.now.calls.items) × (result.1.now ≡ []) }
+{
+    let all = calls.calls.as_slice();
+    let most = match calls.options.checkpoints.over {
+        Some(_) => PART.min(all.len()),
+        None => all.len(),
     };
-    Ok((progress, renewal))
-}
-
-// The same between two parts: what came of it is looked at behind the last.
-fn renew_between<F: Files<File = File>>(
-    rt: &F,
-    alloc: Global,
-    path: &str,
-    over: Option<u64>,
-    progress: Progress,
-) -> Result<Progress, Stop>
-    ensures renewed { IfOk result (λ p. (renewal : Renewal) × IsRenewed progress renewal p) }
-    ensures kept { KeepsLog progress.ground.journal progress.ground.state.events
-        → IfOk result (λ p. KeepsLog p.ground.journal p.ground.state.events) }
-    ensures same { IfOk result (λ p. is_some p.ground.journal ≡ is_some progress.ground.journal) }
-    ensures fault { (workers tries : ℕ) → IfErr result (StopFits progress.ground.journal workers tries) }
-{
-    match renew_behind(rt, alloc, path, over, progress) {
-        Ok((progress, _renewal)) => Ok(progress),
-        Err(why) => Err(Stop::Unreported(why)),
-    }
-}
-
-/// Calls that are to be answered: both lists of a script, in what manner, where the file of their log lies, if they have
-/// one, and when that begins anew.
-#[derive(Clone, Copy)]
-pub struct Wish<'a> {
-    pub first: &'a [script::Call],
-    pub calls: &'a [script::Call],
-    pub manner: Manner,
-    pub path: &'a str,
-    pub checkpoints: Checkpoints,
-}
-
-impl<'a> Wish<'a> {
-    // The first part: all of them, where the log isn't to begin anew between two.
-    fn first_part(&self) -> (Part<'a>, &'a [script::Call])
-        ensures first { result.0.first.now ≡ self.now.first.now }
-        ensures calls { self.now.calls.now ≡ result.0.calls.now ++ result.1.now }
-        ensures one { self.now.checkpoints.over ≡ None → (result.0.calls.now ≡ self.now.calls.now) × (result.1.now ≡ []) }
-    {
-        let most = match self.checkpoints.over {
-            Some(_) => PART.min(self.calls.len()),
-            None => self.calls.len(),
-        };
-        let (calls, rest) = self.calls.split_at(most);
-        let part = Part {
-            first: self.first,
-            calls,
-            place: 0,
-        };
-        (part, rest)
-    }
+    let (calls_of_part, rest) = all.split_at(most);
+    let part = Part {
+        first: calls.first.as_slice(),
+        calls: calls_of_part,
+        place: 0,
+    };
+    (part, rest)
 }
 
 // The next part of those that are left, behind so many, and what is left then.
@@ -290,40 +297,91 @@ fn next_part<'a>(rest: &'a [script::Call], place: usize) -> (Part<'a>, &'a [scri
     (part, rest)
 }
 
+// Answers all calls, in parts between which the log begins anew where its file has grown.
+fn answer_all_parts<R: Files<File = File> + Clock + Threads + Wait + Sync>(
+    rt: &R,
+    alloc: Global,
+    path: &str,
+    ground: Ground,
+    calls: &Calls,
+    waits: &Waits,
+    told: &mut Told,
+) -> Result<Ground, Stop>
+    requires { (told.old.answers.first.items ≡ []) × (told.old.answers.calls.items ≡ []) × (string_bytes told.old.lines ≡ []) }
+    ensures come { IfOk result (HasCome calls.now.options.manner.results ground.state ground.dcs.items calls.now.options.checkpoints.over
+        calls.now.first.items calls.now.calls.items told.new) }
+    ensures kept { KeepsLog ground.journal ground.state.events → IfOk result (λ g. KeepsLog g.journal g.state.events) }
+    ensures same { IfOk result (λ g. is_some g.journal ≡ is_some ground.journal) }
+    ensures range { IfOk result (λ _. InRange calls.now.options.manner.workers calls.now.options.manner.tries) }
+    ensures fault { IfErr result (StopFits ground.journal calls.now.options.manner.workers calls.now.options.manner.tries) }
+{
+    let manner = calls.options.manner;
+    let over = calls.options.checkpoints.over;
+    let (part, mut rest) = first_part(calls);
+    let mut ground = answer_part(rt, alloc, ground, part, manner, waits, told)?;
+    'parts: while !rest.is_empty() {
+        let (part, behind) = next_part(rest, calls.calls.len() - rest.len());
+        ground = answer_next(rt, alloc, path, over, ground, part, manner, waits, told)?;
+        rest = behind;
+    }
+    Ok(ground)
+}
+
+// Begins the log anew behind the last call, where that is wanted.
+fn renew_last<F: Files<File = File>>(
+    rt: &F,
+    alloc: Global,
+    path: &str,
+    over: Option<u64>,
+    ground: Ground,
+    told: Told,
+) -> Result<Outcome, Stop>
+    ensures renewed { IfOk result (λ o. IsRenewal ground.state ground.dcs.items o.ground.state o.ground.dcs.items o.renewal) }
+    ensures told { IfOk result (λ o. o.told ≡ told) }
+    ensures unwanted { IfOk result (λ o. over ≡ None → o.renewal ≡ Unwanted) }
+    ensures heeded { IfOk result (λ o. IsHeeded o.ground.journal over o.renewal) }
+    ensures kept { KeepsLog ground.journal ground.state.events → IfOk result (λ o. KeepsLog o.ground.journal o.ground.state.events) }
+    ensures fault { (workers tries : ℕ) → IfErr result (StopFits ground.journal workers tries) }
+{
+    let mut ground = ground;
+    match renew(rt, alloc, path, over, &mut ground) {
+        Ok(renewal) => Ok(Outcome {
+            ground,
+            told,
+            renewal,
+        }),
+        Err(why) => {
+            drop(ground);
+            drop(told);
+            Err(Stop::Unreported(why))
+        }
+    }
+}
+
 /// Answers all calls, in parts between which the log begins anew where its file has grown, and once more behind the last.
-/// Says how far they have come, and what came of the log behind the last.
 pub fn answer_parts<R: Files<File = File> + Clock + Threads + Wait + Sync>(
     rt: &R,
     alloc: Global,
+    path: &str,
     ground: Ground,
-    wish: Wish,
+    calls: &Calls,
     waits: &Waits,
-) -> Result<(Progress, Renewal), Stop>
-    ensures ended { IfOk result (λ r. HasEnded ground.state ground.dcs.items wish.entry.first.now wish.entry.calls.now wish.entry.checkpoints r.0 r.1) }
-    ensures kept { KeepsLog ground.journal ground.state.events → IfOk result (λ r. KeepsLog r.0.ground.journal r.0.ground.state.events) }
-    ensures same { IfOk result (λ r. is_some r.0.ground.journal ≡ is_some ground.journal) }
-    ensures range { IfOk result (λ _. InRange wish.entry.manner.workers wish.entry.manner.tries) }
-    ensures fault { IfErr result (StopFits ground.journal wish.entry.manner.workers wish.entry.manner.tries) }
+) -> Result<Outcome, Stop>
+    ensures ended { IfOk result (HasEnded calls.now.options.manner.results ground.state ground.dcs.items
+        calls.now.first.items calls.now.calls.items calls.now.options.checkpoints) }
+    ensures kept { KeepsLog ground.journal ground.state.events → IfOk result (λ o. KeepsLog o.ground.journal o.ground.state.events) }
+    ensures range { IfOk result (λ _. InRange calls.now.options.manner.workers calls.now.options.manner.tries) }
+    ensures fault { IfErr result (StopFits ground.journal calls.now.options.manner.workers calls.now.options.manner.tries) }
 {
-    let manner = wish.manner;
-    let over = wish.checkpoints.over;
-    let (part, mut rest) = wish.first_part();
-    let begun = Progress::new(alloc, ground);
-    let mut progress = answer_part(rt, alloc, begun, part, manner, waits)?;
-    'parts: while !rest.is_empty() {
-        let (part, behind) = next_part(rest, wish.calls.len() - rest.len());
-        let renewed = renew_between(rt, alloc, wish.path, over, progress)?;
-        progress = answer_part(rt, alloc, renewed, part, manner, waits)?;
-        rest = behind;
-    }
-    match renew_behind(
-        rt,
-        alloc,
-        wish.path,
-        wish.checkpoints.over_at_end(),
-        progress,
-    ) {
-        Ok(ended) => Ok(ended),
-        Err(why) => Err(Stop::Unreported(why)),
+    let mut told = Told::new(alloc);
+    match answer_all_parts(rt, alloc, path, ground, calls, waits, &mut told) {
+        Ok(ground) => {
+            let over = calls.options.checkpoints.over_at_end();
+            renew_last(rt, alloc, path, over, ground, told)
+        }
+        Err(stop) => {
+            drop(told);
+            Err(stop)
+        }
     }
 }

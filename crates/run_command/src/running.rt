@@ -7,7 +7,7 @@ ghost use Rattle.script_loading.specs.Loading.{beginning_of};
 ghost use Rattle.scripts.specs.declared.keyword.Command.TheVariants as command;
 ghost use Rattle.scripts.specs.declared.script.Call.{Call as ScriptCall};
 ghost use Rattle.tc_core.specs.Admission.{call_of};
-ghost use Rattle.run_command.specs.AnswerLines.{answer_lines, fault_line};
+ghost use Rattle.run_command.specs.AnswerLines.{fault_line};
 ghost use Rattle.state_lines.specs.AuditLines.{AddsIf, AddsAudit};
 ghost use Rattle.state_lines.specs.RowLines.{AddsRowLines};
 ghost use Rattle.run_command.specs.Kept.{FileJournal as FileJournalValue, KeepsLog, UnreportedFits};
@@ -19,12 +19,12 @@ ghost use Rattle.run_command.specs.declared.parts.Stop.TheVariants.{Halted};
 ghost use Rattle.run_command.specs.Running.{is_want_of_memory, AreLinesOf, IsCallsRun, IsRun, never};
 
 pub use crate::anew::Checkpoints;
-use crate::anew::{Ground, Renewal, renewal_line};
-use crate::answer_lines::{fault_line, write_answers};
+use crate::anew::{Ground, Renewal, write_renewal};
+use crate::answer_lines::fault_line;
 pub use crate::answering::Manner;
-use crate::answering::{FileJournal, Halt, Unbegun};
+use crate::answering::{Answers, FileJournal, Halt, Unbegun};
 use crate::figures::{figures, full_dcs, longest_wait, rate};
-use crate::parts::{Progress, Stop, Wish, answer_parts};
+use crate::parts::{Outcome, Stop, Told, answer_parts};
 pub use crate::watching::Listeners;
 use crate::watching::Waits;
 use data_component::dc::Dc;
@@ -72,36 +72,22 @@ fn has_want_of_memory(answers: &[Answer]) -> bool
     answers.iter().any(|answer| matches!(answer, Answer::Refused(Refusal::Memory)))
 }
 
-// The lines of both lists' answers, behind them that of a log that may have begun anew, and those of the rows.
-fn run_lines(
-    alloc: Global,
-    first: &[Answer],
-    calls: &[Answer],
-    renewal: &str,
-    dcs: &[Dc],
-) -> Result<String, AllocError>
-    ensures { IfOk result (λ s. AddsRowLines dcs.now
-        ((answer_lines (codes "first") first.now ++ answer_lines (codes "call") calls.now) ++ renewal.now) (string_bytes s)) }
-{
-    let mut lines = String::new(alloc);
-    write_answers(alloc, "first", first, &mut lines)?;
-    write_answers(alloc, "call", calls, &mut lines)?;
-    lines.push_str(renewal)?;
-    write_all_rows(alloc, dcs, &mut lines)?;
-    Ok(lines)
-}
-
 // The figures of the second list, and which data components are full.
-fn notes(alloc: Global, progress: &Progress, longest: Duration) -> Result<String, AllocError> {
-    let calls = progress.calls.as_slice();
+fn notes(
+    alloc: Global,
+    answers: &Answers,
+    dcs: &[Dc],
+    longest: Duration,
+) -> Result<String, AllocError> {
+    let calls = answers.calls.as_slice();
     let mut notes = figures(alloc, calls)?;
-    if let Some(elapsed) = progress.elapsed {
+    if let Some(elapsed) = answers.elapsed {
         let rate = rate(alloc, calls.len(), elapsed)?;
         notes.push_str(rate.as_str())?;
         let wait = longest_wait(alloc, longest)?;
         notes.push_str(wait.as_str())?;
     }
-    let full = full_dcs(alloc, progress.ground.dcs.as_slice())?;
+    let full = full_dcs(alloc, dcs)?;
     notes.push_str(full.as_str())?;
     Ok(notes)
 }
@@ -124,32 +110,34 @@ fn write_found(
     write_audit(alloc, state.procs(), state.log(), dcs, lines)
 }
 
-// The report of calls that were run.
+// The report of calls that were run, whose lines these are.
 fn reported(
     alloc: Global,
-    progress: &Progress,
+    ground: &Ground,
+    answers: &Answers,
+    lines: String,
     renewal: Renewal,
     manner: Manner,
     longest: Duration,
 ) -> Result<Report, AllocError>
-    ensures { IfOk result (λ r. AreLinesOf progress.now.ground.state progress.now.ground.dcs.items manner.audit
-        progress.now.first.items progress.now.calls.items renewal r.status (string_bytes r.lines)) }
+    ensures { IfOk result (λ r. AreLinesOf ground.now.state ground.now.dcs.items manner.audit
+        answers.now.first.items answers.now.calls.items (string_bytes lines) renewal r.status (string_bytes r.lines)) }
 {
-    let first = progress.first.as_slice();
-    let calls = progress.calls.as_slice();
+    let first = answers.first.as_slice();
+    let calls = answers.calls.as_slice();
     if has_want_of_memory(first) || has_want_of_memory(calls) {
         return Err(AllocError);
     }
-    let state = &progress.ground.state;
-    let dcs = progress.ground.dcs.as_slice();
-    let renewed = renewal_line(alloc, renewal, state)?;
-    let mut lines = run_lines(alloc, first, calls, renewed.as_str(), dcs)?;
-    let sound = write_found(alloc, manner.audit, state, dcs, &mut lines)?;
+    let dcs = ground.dcs.as_slice();
+    let mut lines = lines;
+    write_renewal(alloc, renewal, &ground.state, &mut lines)?;
+    write_all_rows(alloc, dcs, &mut lines)?;
+    let sound = write_found(alloc, manner.audit, &ground.state, dcs, &mut lines)?;
     Ok(Report {
         status: u8::from(!sound),
         lines,
         notes: if manner.stats {
-            Some(notes(alloc, progress, longest)?)
+            Some(notes(alloc, answers, dcs, longest)?)
         } else {
             None
         },
@@ -196,17 +184,9 @@ impl From<AllocError> for Unreported {
 }
 
 // The journal that has kept the log, if there is one; all else goes.
-fn journal_of(progress: Progress) -> Option<FileJournal>
-    ensures { result ≡ progress.ground.journal }
+fn journal_of(ground: Ground) -> Option<FileJournal>
+    ensures { result ≡ ground.journal }
 {
-    let Progress {
-        ground,
-        first,
-        calls,
-        elapsed: _,
-    } = progress;
-    drop(first);
-    drop(calls);
     let Ground {
         state,
         dcs,
@@ -267,38 +247,54 @@ fn stopped_at(alloc: Global, waits: &Waits, stop: Stop) -> Result<Ran, Unreporte
     }
 }
 
-// Runs both lists of calls.
-fn run_wish<R: Files<File = File> + Clock + Threads + Wait + Sync>(
-    rt: &R,
-    alloc: Global,
-    ground: Ground,
-    wish: Wish,
-    waits: &Waits,
-) -> Result<Ran, Unreported>
-    ensures run { KeepsLog ground.journal ground.state.events → IfOk result (λ r. IsCallsRun (IsKeptSo r.journal wish.entry.checkpoints)
-        wish.entry.checkpoints ground.state ground.dcs.items wish.entry.first.now wish.entry.calls.now wish.entry.manner.workers wish.entry.manner.tries
-        wish.entry.manner.audit r.report.status (string_bytes r.report.lines)) }
-    ensures fault { IfErr result (UnreportedFits ground.journal) }
-{
-    let manner = wish.manner;
-    match answer_parts(rt, alloc, ground, wish, waits) {
-        Ok((progress, renewal)) => {
-            tell_end(waits, manner, progress.ground.dcs.as_slice());
-            let report = reported(alloc, &progress, renewal, manner, waits.longest());
-            with_journal(report, journal_of(progress))
-        }
-        Err(stop) => stopped_at(alloc, waits, stop),
-    }
+/// How the calls of a script are run, when its log begins anew, and who is told of the calls meanwhile.
+#[derive(Clone, Copy)]
+pub struct RunOptions {
+    pub manner: Manner,
+    pub checkpoints: Checkpoints,
+    pub listeners: Listeners,
 }
 
-/// What the calls of a loaded script are run with.
+/// Both lists of calls of a loaded script, and how they are run.
 #[derive(Drop)]
 pub struct Calls {
     pub first: Vec<script::Call>,
     pub calls: Vec<script::Call>,
-    pub manner: Manner,
-    pub checkpoints: Checkpoints,
-    pub listeners: Listeners,
+    pub options: RunOptions,
+}
+
+// Runs both lists of calls.
+fn run_calls<R: Files<File = File> + Clock + Threads + Wait + Sync>(
+    rt: &R,
+    alloc: Global,
+    path: &str,
+    ground: Ground,
+    calls: &Calls,
+    waits: &Waits,
+) -> Result<Ran, Unreported>
+    ensures run { KeepsLog ground.journal ground.state.events → IfOk result (λ r. IsCallsRun (IsKeptSo r.journal calls.now.options.checkpoints)
+        calls.now.options.checkpoints ground.state ground.dcs.items calls.now.first.items calls.now.calls.items
+        calls.now.options.manner.workers calls.now.options.manner.tries calls.now.options.manner.audit calls.now.options.manner.results
+        r.report.status (string_bytes r.report.lines)) }
+    ensures fault { IfErr result (UnreportedFits ground.journal) }
+{
+    match answer_parts(rt, alloc, path, ground, calls, waits) {
+        Ok(outcome) => {
+            let Outcome {
+                ground,
+                told,
+                renewal,
+            } = outcome;
+            let Told { answers, lines } = told;
+            let manner = calls.options.manner;
+            tell_end(waits, manner, ground.dcs.as_slice());
+            let longest = waits.longest();
+            let report = reported(alloc, &ground, &answers, lines, renewal, manner, longest);
+            drop(answers);
+            with_journal(report, journal_of(ground))
+        }
+        Err(stop) => stopped_at(alloc, waits, stop),
+    }
 }
 
 /// Runs the calls on this ground, and keeps the log where there is a journal, in the file of this path.
@@ -307,41 +303,40 @@ pub fn run_from<R: Files<File = File> + Clock + Threads + Wait + Sync>(
     alloc: Global,
     path: &str,
     ground: Ground,
-    calls: Calls,
+    calls: &Calls,
 ) -> Result<Ran, Unreported>
-    ensures run { KeepsLog ground.journal ground.state.events → IfOk result (λ r. IsCallsRun (IsKeptSo r.journal calls.checkpoints)
-        calls.checkpoints ground.state ground.dcs.items calls.first.items calls.calls.items calls.manner.workers calls.manner.tries
-        calls.manner.audit r.report.status (string_bytes r.report.lines)) }
+    ensures run { KeepsLog ground.journal ground.state.events → IfOk result (λ r. IsCallsRun (IsKeptSo r.journal calls.now.options.checkpoints)
+        calls.now.options.checkpoints ground.state ground.dcs.items calls.now.first.items calls.now.calls.items
+        calls.now.options.manner.workers calls.now.options.manner.tries calls.now.options.manner.audit calls.now.options.manner.results
+        r.report.status (string_bytes r.report.lines)) }
     ensures fault { IfErr result (UnreportedFits ground.journal) }
 {
-    let Calls {
-        first,
-        calls,
+    let RunOptions {
         manner,
-        checkpoints,
         listeners,
-    } = calls;
-    let waits = Waits::new(rt, alloc, calls.len(), manner.stats, listeners)?;
-    let wish = Wish {
-        first: first.as_slice(),
-        calls: calls.as_slice(),
-        manner,
-        path,
-        checkpoints,
-    };
-    run_wish(rt, alloc, ground, wish, &waits)
+        checkpoints: _,
+    } = calls.options;
+    match Waits::new(rt, alloc, calls.calls.len(), manner.stats, listeners) {
+        Ok(waits) => {
+            let ran = run_calls(rt, alloc, path, ground, calls, &waits);
+            drop(waits);
+            ran
+        }
+        Err(AllocError) => {
+            drop(ground);
+            Err(Unreported::Memory)
+        }
+    }
 }
 
-// Runs the calls of a script that is loaded, without a journal.
-fn run_loaded<R: Files<File = File> + Clock + Threads + Wait + Sync>(
-    rt: &R,
-    alloc: Global,
+/// What calls are run on, of a script that is loaded, with a journal if there is one, and its calls.
+pub fn ground_and_calls(
     loaded: Loaded,
-    manner: Manner,
-    listeners: Listeners,
-) -> Result<Report, AllocError>
-    ensures { IfOk result (λ r. IsCallsRun (λ _ _. Unit {0}) never loaded.state loaded.dcs.items loaded.first.items loaded.calls.items
-        manner.workers manner.tries manner.audit r.status (string_bytes r.lines)) }
+    journal: Option<FileJournal>,
+    options: RunOptions,
+) -> (Ground, Calls)
+    ensures ground { (result.0.state ≡ loaded.state) × (result.0.dcs ≡ loaded.dcs) × (result.0.journal ≡ journal) }
+    ensures calls { (result.1.first ≡ loaded.first) × (result.1.calls ≡ loaded.calls) × (result.1.options ≡ options) }
 {
     let Loaded {
         state,
@@ -353,16 +348,34 @@ fn run_loaded<R: Files<File = File> + Clock + Threads + Wait + Sync>(
     let ground = Ground {
         state,
         dcs,
-        journal: None,
+        journal,
     };
     let calls = Calls {
         first,
         calls,
+        options,
+    };
+    (ground, calls)
+}
+
+// Runs the calls of a script that is loaded, without a journal.
+fn run_loaded<R: Files<File = File> + Clock + Threads + Wait + Sync>(
+    rt: &R,
+    alloc: Global,
+    loaded: Loaded,
+    manner: Manner,
+    listeners: Listeners,
+) -> Result<Report, AllocError>
+    ensures { IfOk result (λ r. IsCallsRun (λ _ _. Unit {0}) never loaded.state loaded.dcs.items loaded.first.items loaded.calls.items
+        manner.workers manner.tries manner.audit manner.results r.status (string_bytes r.lines)) }
+{
+    let options = RunOptions {
         manner,
         checkpoints: Checkpoints::NONE,
         listeners,
     };
-    match run_from(rt, alloc, "", ground, calls) {
+    let (ground, calls) = ground_and_calls(loaded, None, options);
+    match run_from(rt, alloc, "", ground, &calls) {
         Ok(Ran { report, journal: _ }) => Ok(report),
         Err(Unreported::Memory) => Err(AllocError),
         Err(Unreported::NotKept(_)) => unreachable!(),
@@ -379,7 +392,7 @@ pub fn running<R: Files<File = File> + Clock + Threads + Wait + Sync>(
     manner: Manner,
     listeners: Listeners,
 ) -> Result<Report, AllocError>
-    ensures { IfOk result (λ r. IsRun manner.workers manner.tries manner.audit (beginning_of command.Run source.entry)
+    ensures { IfOk result (λ r. IsRun manner.workers manner.tries manner.audit manner.results (beginning_of command.Run source.entry)
         r.status (string_bytes r.lines)) }
 {
     match load_source(alloc, Command::Run, source)? {

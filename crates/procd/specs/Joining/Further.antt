@@ -10,13 +10,13 @@ use Rattle.procd.specs.declared.report.ReportFault.TheVariants.{NotText, Unread,
 -- the command reads the further file with this path
 abbrev pub Reads : Wish → List ℕ → Type 0
 Reads (World log audit script) path = script ≡ Some path
-Reads (Run workers tries stats audit tell log checkpoint over script) path = (log ≡ Some path) ⊎ (script ≡ Some path)
+Reads (Run workers tries stats audit results tell log checkpoint over script) path = (log ≡ Some path) ⊎ (script ≡ Some path)
 Reads (Log (Audit script)) path = script ≡ path
 Reads other path = ⊥
 
 -- it writes it
 abbrev pub Writes : Wish → List ℕ → Type 0
-Writes (Run workers tries stats audit tell log checkpoint over script) path = log ≡ Some path
+Writes (Run workers tries stats audit results tell log checkpoint over script) path = log ≡ Some path
 Writes (Log (Picture file part)) path = file ≡ path
 Writes other path = ⊥
 

@@ -5,11 +5,12 @@ use Rattle.std.specs.declared.alloc.Global.{Global}
 use Rattle.run_command.specs.declared.anew.Ground.{Ground}
 use Rattle.run_command.specs.declared.anew.Renewal.{Renewal}
 use Rattle.run_command.specs.declared.anew.Renewal.TheVariants.{Unwanted}
-use Rattle.run_command.specs.Anew.{IsRenewal, renewal_line}
+use Rattle.run_command.specs.Anew.{IsRenewal, IsHeeded, renewal_line}
 
--- it may have begun anew, and its line stands behind these
-pub record IsRenewedFirst (was : Ground) (lines : String Global) (over : Option ℕ) (r : Ground × String Global) : Type 0 where
+-- it has begun anew where it is to, or is barred, and its line stands behind these
+pub record IsRenewedFirst (was : Ground) (lines : String Global) (over : Option ℕ) (now : Ground) (all : String Global) : Type 0 where
   pub renewal : Renewal
-  pub renewed : IsRenewal was.state was.dcs.items r.0.state r.0.dcs.items renewal
+  pub renewed : IsRenewal was.state was.dcs.items now.state now.dcs.items renewal
   pub wanted : over ≡ None → renewal ≡ Unwanted
-  pub line : string_bytes r.1 ≡ string_bytes lines ++ renewal_line r.0.state.events renewal
+  pub heeded : IsHeeded now.journal over renewal
+  pub line : string_bytes all ≡ string_bytes lines ++ renewal_line now.state.events renewal

@@ -7,27 +7,27 @@ use Rattle.run_command.specs.Kept.{HaltFits}
 use Rattle.run_command.specs.Parts.{StopFits, IsKeptSo}
 use Rattle.run_command.specs.Running.{Stopped}
 use Rattle.run_command.proofs.RunLemmas.{ran_run}
-use Rattle.run_command.proofs.running.run_wish.Goals as goal
+use Rattle.run_command.proofs.running.run_calls.Goals as goal
 
 pub returns-in-Ok-clause-run : goal.returns-in-Ok-clause-run
 returns-in-Ok-clause-run g c = λ was.
     let ground = c.args.ground in
-    let wish = c.args.wish in
-    let m = wish.manner in
-    let p = c.in-Ok.progress in
-    let renewal = c.in-Ok.renewal in
+    let calls = c.args.calls.now in
+    let m = calls.options.manner in
+    let o = c.in-Ok.outcome in
     let it = c.in-Ok.ensures in
+    let checkpoints = calls.options.checkpoints in
     IfOk-weaker c.with_journal.result _ _ (λ r h.
     let journal = h.1 ∙ c.journal_of.ensures in
-    ran_run (IsKeptSo r.journal wish.checkpoints) wish.checkpoints ground.state ground.dcs.items wish.first.now wish.calls.now m.workers m.tries m.audit r.report.status (string_bytes r.report.lines) p renewal
-    it.range it.ended (rw h.0 at c.reported-report.ensures)
-    (subst (λ j. IsKeptSo j wish.checkpoints p.ground.state renewal) (sym journal) (it.kept was, it.ended.heeded)))
+    ran_run (IsKeptSo r.journal checkpoints) checkpoints ground.state ground.dcs.items calls.first.items calls.calls.items m.workers m.tries m.audit m.results
+    r.report.status (string_bytes r.report.lines) o it.range it.ended (rw h.0 at c.reported-report.ensures)
+    (subst (λ j. IsKeptSo j checkpoints o.ground.state o.renewal) (sym journal) (it.kept was, it.ended.heeded)))
     c.with_journal.ensures.ok
 
 pub returns-in-Err-clause-run : goal.returns-in-Err-clause-run
 returns-in-Err-clause-run g c = λ was.
     let journal = c.args.ground.journal in
-    let m = c.args.wish.manner in
+    let m = c.args.calls.now.options.manner in
     IfOk-weaker c.stopped_at.result _ _ (λ r h.
     let fits : HaltFits journal m.workers m.tries h.0 = subst (λ (stop : Stop). StopFits journal m.workers m.tries stop) h.1 c.in-Err.ensures.fault in
     Stopped h.2.cause (subst (λ (halt : Halt). HaltFits journal m.workers m.tries halt) h.2.is fits) h.2.status_is h.2.line)
@@ -35,5 +35,5 @@ returns-in-Err-clause-run g c = λ was.
 
 pub returns-in-Err-clause-fault : goal.returns-in-Err-clause-fault
 returns-in-Err-clause-fault g c =
-    let m = c.args.wish.manner in
+    let m = c.args.calls.now.options.manner in
     c.stopped_at.ensures.fault c.args.ground.journal m.workers m.tries c.in-Err.ensures.fault
