@@ -1,5 +1,5 @@
 """`run`: calls by workers, their answers and the rows."""
-from procedures import BAD, FOUR, GET, PUT
+from procedures import BAD, FOUR, GET, MOVE, PUT
 from .row import Row, refused, row
 
 # Each data component has room for another number of records.
@@ -161,6 +161,18 @@ result 4 0 x0b{7 * "00"}ff{55 * "00"}
 row 0/0/5 90
 """
 
+# One worker answers the first list: of each five calls the fourth, which wants a record that the third has, comes before the
+# fifth, which makes the other one. Several workers answer thousands of them the other way about.
+FIVES = range(0, 15_000, 3)
+FIRST = f"dc {3 * len(FIVES)} {16 * len(FIVES)}\n" + PUT + MOVE + "".join(
+    f"first put {key} 1\nfirst put {key + 1} 1\nfirst move {key} {key + 1} 1\nfirst move {key + 1} {key + 2} 1\nfirst put {key + 2} 7\n"
+    for key in FIVES)
+FIRST_ANSWERED = "".join(
+    f"first {5 * place + call} {answer}\n"
+    for place in range(len(FIVES))
+    for call, answer in enumerate(["committed", "committed", "committed", "aborted 1", "committed"])
+) + "".join(f"row 0/0/{key} 0\nrow 0/0/{key + 1} 2\nrow 0/0/{key + 2} 7\n" for key in FIVES)
+
 # Words, what stands behind the four procedures, and why that is refused.
 REFUSED = [
     ("run --workers 65 -", "call get 1\n", "G1 Workers"),
@@ -192,6 +204,7 @@ def rows(_program):
     yield Row("run --tell --workers 1 -".split(), every.encode(), EVERY_ANSWERED.encode(), 0, EVERY_TOLD.encode())
     yield row("run --results --workers 1 -", FOUR + RESULTS, RESULTS_PRINTED)
     yield row("run --results --audit --workers 1 -", FOUR + "call put 5 7\n", "call 0 committed\nresult 0 0 7\nrow 0/0/5 7\naudit ok ended 1 open 0\n")
+    yield row("run --workers 64 -", FIRST, FIRST_ANSWERED)
     yield from (refused(words, FOUR + rest, why) for words, rest, why in REFUSED)
     # a script is refused before a call is made
     yield refused("run -", "dc 1 1\nproc a 0\nexit\nend\ncall a\n", "line 4 F7 Verify V5 EmptyRegister slot 0")
