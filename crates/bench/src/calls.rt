@@ -2,12 +2,13 @@
 
 use crate::procedures::{move_one, put, state};
 use data_component::dc::Dc;
+use dc_links::{Link, LockedDcs, RingLink};
 use std::alloc::Global;
 use std::sync::Wait;
 use std::thread;
 use std::thread::Threads;
 use tc_core::state::Call;
-use worker_pool::{Link, LockedDcs, OpenGate, RingLink, run};
+use worker_pool::{OpenGate, run};
 
 /// How many records there are.
 pub const RECORDS: u64 = 1000;

@@ -3,10 +3,10 @@
 
 use access_slots::op::{News, Reply, Said, Wire};
 use data_component::dc::Dc;
+use dc_links::Link;
 use std::sync::atomic::{AtomicU64, Ordering};
 use std::sync::{Mutex, Wait};
 use std::{mem, thread};
-use worker_pool::Link;
 
 // One of so many wires finds that the data component has kept a checkpoint.
 const CHECKPOINTS: u64 = 1024;

@@ -12,8 +12,8 @@ use Rattle.log_file.specs.declared.file.LogFile.{LogFile}
 use Rattle.log_file.specs.declared.header.Header.{Header}
 use Rattle.log_file.specs.Bytes.{Rows, Batch, batch_bytes, payloads_of, rows_of}
 use Rattle.log_file.specs.Reading.{IsStart, IsBehind, AreBatches, Says}
-use Rattle.worker_pool.specs.declared.journal.NotKept.{NotKept}
-use Rattle.worker_pool.specs.declared.journal.NotKept.TheVariants.{Memory, Failed}
+use Rattle.journals.specs.declared.journal.NotKept.{NotKept}
+use Rattle.journals.specs.declared.journal.NotKept.TheVariants.{Memory, Failed}
 
 -- the file is on the disk: this header, a base where the log begins behind an earlier one, and then batches that have the rows of these events, the oldest first
 pub record HasWritten {D : Type 0} (seen : D → List ℕ) (may_leave : D → List ℕ → Type 0) (h : Header) (file : LogFile D)

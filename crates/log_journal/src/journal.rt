@@ -11,10 +11,10 @@ ghost use Rattle.log_journal.specs.Keeping.{HasWritten, HasWrittenBehind, IsLeft
 ghost use Rattle.log_journal.specs.Leaving.{left_now};
 
 use frame_file::{Device, DeviceError, FrameFault};
+use journals::{Journal, NotKept};
 use log_file::{BaseRow, Header, LogFile, OpenFault, Recovered, begins_anew, is_base};
 use std::alloc::Global;
 use tc_log::log::Log;
-use worker_pool::{Journal, NotKept};
 
 // Why events weren't kept.
 fn unkept(fault: FrameFault) -> NotKept

@@ -2,6 +2,7 @@
 
 use crate::test_pool::{are_committed, begun, is_same, two_locked_dcs, value_at};
 use crate::test_state::{calls_of, puts, state};
+use dc_links::LockedDcs;
 use samples::{MOVE, value};
 use std::alloc::Global;
 use std::process::Abort;
@@ -9,7 +10,7 @@ use std::sync::Wait;
 use std::thread::Threads;
 use tc_core::state::{Call, TcState};
 use tc_world::cutting::cut;
-use worker_pool::{LockedDcs, OpenGate, Report, run};
+use worker_pool::{OpenGate, Report, run};
 
 // The state behind these calls, all of which commit.
 fn behind<R: Threads + Wait + Sync + Abort>(

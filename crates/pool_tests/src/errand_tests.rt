@@ -4,12 +4,13 @@
 use crate::test_pool::{are_committed, first_answers, is_same, locked_dc};
 use crate::test_state::puts;
 use access_slots::op::{News, Reply, Wire};
+use dc_links::{Link, LockedDcs, Outstanding};
 use std::alloc::{AllocError, Global};
 use std::process::Abort;
 use std::sync::Wait;
 use std::sync::atomic::{AtomicU64, Ordering};
 use std::thread::Threads;
-use worker_pool::{Acknowledgement, Errand, Gate, Link, LockedDcs, Naming, OpenGate};
+use worker_pool::{Acknowledgement, Gate, Naming, OpenGate};
 
 // A link that knows the most wires that were carried together.
 #[derive(Drop)]
@@ -46,10 +47,10 @@ impl Link for Together {
         self.is_prompt
     }
 
-    fn carry_all<J: Naming, R: Wait>(&self, rt: &R, worker: usize, errands: &mut [Errand<J>]) {
-        let count = errands.iter().filter(|e| e.wire().is_some()).count();
+    fn carry_all<O: Outstanding, R: Wait>(&self, rt: &R, worker: usize, requests: &mut [O]) {
+        let count = requests.iter().filter(|r| r.wire().is_some()).count();
         self.most.fetch_max(count as u64, Ordering::SeqCst);
-        self.dcs.carry_all(rt, worker, errands);
+        self.dcs.carry_all(rt, worker, requests);
     }
 }
 

@@ -4,6 +4,8 @@
 use crate::test_pool::{answers_of, are_committed, is_same, locked_dc, state_of};
 use crate::test_state::{moves, puts, state};
 use access_slots::op::{News, Reply, Wire};
+use dc_links::{Link, LockedDcs};
+use journals::{Journal, MemoryJournal, NotKept};
 use std::alloc::{AllocError, Global};
 use std::process::Abort;
 use std::sync::Wait;
@@ -12,10 +14,7 @@ use std::thread;
 use std::thread::Threads;
 use tc_core::state::{Call, TcState};
 use tc_log::log::Log;
-use worker_pool::{
-    Acknowledgement, Answer, Gate, Journal, KeptFault, Link, LockedDcs, MemoryJournal, Naming,
-    NotKept, OpenGate, Report, run_kept,
-};
+use worker_pool::{Acknowledgement, Answer, Gate, KeptFault, Naming, OpenGate, Report, run_kept};
 
 // What journal, link and gate of one run tell each other.
 #[derive(Drop)]

@@ -3,6 +3,7 @@
 use crate::test_pool::{answers_behind_put, are_committed, first_answers, holds, locked_dc};
 use crate::test_state::{calls_of, moves};
 use access_slots::op::{News, Op, Reply, Said, Wire};
+use dc_links::{Link, LockedDcs};
 use samples::{GET, PUT, record, value};
 use std::alloc::{AllocError, Global};
 use std::mem;
@@ -10,7 +11,7 @@ use std::process::Abort;
 use std::sync::atomic::{AtomicU64, Ordering};
 use std::sync::{Mutex, Wait};
 use std::thread::Threads;
-use worker_pool::{Answer, Link, LockedDcs, OpenGate};
+use worker_pool::{Answer, OpenGate};
 
 // What a link does to the replies.
 #[derive(Clone, Copy, Debug)]

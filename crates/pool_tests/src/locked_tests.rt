@@ -4,9 +4,10 @@ use crate::test_pool::{are_committed, first_answers, is_same, two_locked_dcs};
 use crate::test_state::{PUT_BESIDE, calls_of};
 use access_slots::slot::Record;
 use data_component::dc::Dc;
+use dc_links::LockedDcs;
 use samples::{PUT, record, value};
 use std::process::Abort;
-use worker_pool::{LockedDcs, OpenGate};
+use worker_pool::OpenGate;
 
 // Sees that this component keeps one row: record 5 of its own, with this number.
 fn keeps(rt: &impl Abort, dc: &Dc, number: u16, kept: u64) {

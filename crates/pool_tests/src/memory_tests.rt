@@ -4,13 +4,14 @@
 use crate::test_pool::{answers_of, is_same, locked_dc, value_at};
 use crate::test_state::{loaded, puts, state};
 use access_slots::slot::Value;
+use dc_links::LockedDcs;
 use samples::value;
 use std::alloc::{AllocError, Global};
 use std::process::Abort;
 use std::sync::Wait;
 use std::thread::Threads;
 use tc_core::state::{Call, Refusal, TcState};
-use worker_pool::{Answer, LockedDcs, OpenGate, run};
+use worker_pool::{Answer, OpenGate, run};
 
 fn state_in_the_end(rt: &impl Abort, alloc: Global) -> TcState {
     match loaded(alloc) {

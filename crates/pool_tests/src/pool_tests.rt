@@ -7,6 +7,7 @@ use crate::test_pool::{
 };
 use crate::test_state::{NO_PROCEDURE, add_call, calls_of, moves, puts, state};
 use access_slots::op::{News, Reply, Wire};
+use dc_links::{Link, LockedDcs};
 use lock_table::table::Busy;
 use samples::{BAD, GET, MOVE, PUT, record};
 use std::alloc::{AllocError, Global};
@@ -16,9 +17,7 @@ use std::sync::{Mutex, Wait};
 use std::thread::Threads;
 use tc_core::state::{Call, Refusal, TcState};
 use tc_log::event::Event;
-use worker_pool::{
-    Acknowledgement, Answer, Gate, Link, LockedDcs, Naming, OpenGate, RunFault, run,
-};
+use worker_pool::{Acknowledgement, Answer, Gate, Naming, OpenGate, RunFault, run};
 
 fn one_moved<R: Threads + Wait + Sync + Abort>(rt: &R, alloc: Global, workers: usize) {
     let mut link = locked_dc(alloc, 4).expect(rt, "no link");

@@ -4,13 +4,14 @@ use crate::test_pool::{answers_of, are_committed, begun, behind_put, is_same};
 use crate::test_state::{PUT_BESIDE, calls_of, dc, moves, puts, state};
 use access_slots::op::{News, Reply, Wire};
 use data_component::dc::Dc;
+use dc_links::Link;
 use samples::record;
 use std::alloc::{AllocError, Global};
 use std::process::Abort;
 use std::sync::{Mutex, Wait};
 use std::thread::Threads;
 use tc_core::state::{Call, TcState};
-use worker_pool::{Answer, Link, OpenGate, run};
+use worker_pool::{Answer, OpenGate, run};
 
 // How often a request, or what is to be redone before it, is sent at most.
 const TRIES: u64 = 10;

@@ -8,6 +8,7 @@ use crate::test_state::{PUT_BESIDE, add_call, calls_of, dc, moves, state};
 use access_slots::op::{News, Op, Reply, Wire};
 use access_slots::slot::{Record, Value};
 use data_component::dc::Dc;
+use dc_links::{Link, RingLink};
 use samples::{PUT, record, value};
 use std::alloc::Global;
 use std::process::Abort;
@@ -15,9 +16,7 @@ use std::sync::Wait;
 use std::thread;
 use std::thread::Threads;
 use tc_core::state::{Call, TcState};
-use worker_pool::{
-    Acknowledgement, Answer, Gate, Link, Naming, OpenGate, Report, RingLink, RunFault, run,
-};
+use worker_pool::{Acknowledgement, Answer, Gate, Naming, OpenGate, Report, RunFault, run};
 
 // How many rows each component has room for.
 const ROWS: usize = 100;

@@ -3,6 +3,7 @@
 use crate::test_state::{calls_of, dc, state};
 use access_slots::slot::Value;
 use data_component::dc::Dc;
+use dc_links::{Link, LockedDcs};
 use samples::{PUT, record, value};
 use std::alloc::{AllocError, Global};
 use std::fmt::Debug;
@@ -12,7 +13,7 @@ use std::sync::atomic::{AtomicU64, Ordering};
 use std::thread;
 use std::thread::Threads;
 use tc_core::state::{Call, TcState};
-use worker_pool::{Answer, Gate, Link, LockedDcs, OpenGate, Report, RunFault, run};
+use worker_pool::{Answer, Gate, OpenGate, Report, RunFault, run};
 
 /// What was found is what was wanted. It stands here once, since the proof of each function that has an `assert_eq!`
 /// of its own takes as long again.

@@ -3,7 +3,7 @@ use Rattle.std.proofs.Common.{◌≡◌, ℕ, ◌<◌, ◌+◌, List, [], ◌∷
 use Rattle.std.proofs.lemmas.List.{drop-drop, length_push, get_or_append_left, get_or_push}
 use Rattle.std.proofs.lemmas.Option.{slice_get_within, get_or_from_slice_get}
 use Rattle.data_component.specs.Store.{Store}
-use Rattle.worker_pool.specs.Serving.{IsServed}
+use Rattle.dc_links.specs.Serving.{IsServed}
 use Rattle.run_command.specs.Joining.Servers.{Server, Promises, ArePromised}
 use Rattle.run_command.specs.Answered.{AreServed}
 

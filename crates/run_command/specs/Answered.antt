@@ -7,7 +7,7 @@ use Rattle.tc_core.specs.Admission.{call_of}
 use Rattle.tc_core.specs.Core.{Core}
 use Rattle.tc_core.specs.declared.state.Call.{Call}
 use Rattle.worker_pool.specs.Reports.{Reports}
-use Rattle.worker_pool.specs.Serving.{IsServed}
+use Rattle.dc_links.specs.Serving.{IsServed}
 use Rattle.worker_pool.specs.declared.answer.Answer.{Answer}
 
 -- the call that a line of the script says

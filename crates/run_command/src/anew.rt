@@ -14,6 +14,7 @@ use crate::answering::FileJournal;
 use crate::running::Unreported;
 use data_component::dc::Dc;
 use disk_file::{Beside, BesideError, DiskFile, FileFault, OpenError, PlaceError};
+use journals::NotKept;
 use log_file::{BaseRow, Header, may_be_left};
 use log_journal::LogJournal;
 use state_lines::refusal_texts::checkpoint_fault_text;
@@ -25,7 +26,6 @@ use tc_core::state::TcState;
 use tc_log::log::Log;
 use tc_world::cutting::cut;
 use tc_world::step::Illegal;
-use worker_pool::NotKept;
 
 /// When the log of a run begins anew.
 #[derive(Clone, Copy, Debug)]

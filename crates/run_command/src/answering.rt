@@ -16,7 +16,9 @@ ghost use Rattle.run_command.specs.Joining.Servers.{ArePromised};
 use crate::anew::Ground;
 use crate::watching::{Waits, Watch};
 use data_component::dc::Dc;
+use dc_links::{RingLink, ServedFrom};
 use disk_file::{DiskFile, FileFault};
+use journals::NotKept;
 use log_journal::LogJournal;
 use std::alloc::{AllocError, Global};
 use std::snapshot::Snapshot;
@@ -25,10 +27,7 @@ use std::thread;
 use std::thread::{PromisedHandle, Scope, Threads};
 use std::time::{Clock, Duration, Instant};
 use tc_core::state::{Call, TcState};
-use worker_pool::{
-    Answer, Gate, KeptFault, NotKept, OpenGate, Report, RingLink, RunFault, ServedFrom, run,
-    run_kept,
-};
+use worker_pool::{Answer, Gate, KeptFault, OpenGate, Report, RunFault, run, run_kept};
 
 /// How the calls of a script are run: the second list by so many workers, each request sent so often
 /// at most; with the figures of that list as notes, with an audit behind the rows, and with what slots of

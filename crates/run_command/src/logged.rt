@@ -33,6 +33,7 @@ use coming_back::{ComeBackFault, Resumed, come_back};
 use data_component::dc::Dc;
 use disk_file::{DiskFile, FileFault, OpenError};
 use frame_file::{DeviceError, FrameFault};
+use journals::NotKept;
 use log_file::{BaseRow, Header, LogFile, OpenFault};
 use log_journal::{LogJournal, Restored};
 use procedure_digest::header_of;
@@ -47,7 +48,6 @@ use std::thread::Threads;
 use std::time::Clock;
 use tc_core::state::TcState;
 use tc_log::log::Log;
-use worker_pool::NotKept;
 
 /// Why a run whose log is kept has no report.
 #[derive(Clone, Copy, Debug)]

@@ -5,8 +5,6 @@ pub mod GivenUp
 pub mod Refusing
 pub mod Steps
 pub mod Reported
-pub mod Serving
-pub mod Seated
 pub mod Carrying
 pub mod Known
 pub mod Handing

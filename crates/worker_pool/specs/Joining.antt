@@ -3,7 +3,6 @@ pub mod Handing
 pub mod Leaving
 pub mod Moves
 pub mod Ran
-pub mod Seated
 pub mod Seen
 pub mod Untried
 pub mod Ups

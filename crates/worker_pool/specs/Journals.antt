@@ -4,8 +4,8 @@ use Rattle.tc_log.specs.declared.event.Event.{Event}
 use Rattle.history.specs.Places.{Begins}
 use Rattle.transactions.specs.Legal.{Legal}
 use Rattle.tc_core.specs.Core.{Core}
-use Rattle.worker_pool.specs.declared.journal.NotKept.{NotKept as Why}
-use Rattle.worker_pool.specs.declared.journal.NotKept.TheVariants.{Memory}
+use Rattle.journals.specs.declared.journal.NotKept.{NotKept as Why}
+use Rattle.journals.specs.declared.journal.NotKept.TheVariants.{Memory}
 use Rattle.worker_pool.specs.declared.kept_run.KeptFault.{KeptFault}
 use Rattle.worker_pool.specs.declared.kept_run.KeptFault.TheVariants.{Unbegun, NotKept}
 use Rattle.worker_pool.specs.Answers.{StaysBut}

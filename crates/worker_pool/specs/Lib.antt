@@ -5,7 +5,6 @@ pub mod Doubts
 pub mod Reports
 pub mod Faults
 pub mod Journals
-pub mod Serving
 pub mod Wires
 pub mod Restarts
 pub mod Joining

@@ -1,7 +1,8 @@
 // Copies of events, which are written without the lock under which the events lie.
 
-ghost use Rattle.std.specs.Prelude.{◌≡◌, ◌++◌, ◌∷◌, reverse, OnOk};
+ghost use Rattle.std.specs.Prelude.{◌≡◌, reverse, OnOk};
 
+use journals::copy_events;
 use std::alloc::{AllocError, Global};
 use std::marker::Model;
 use tc_log::event::Event;
@@ -47,23 +48,4 @@ impl Batch {
         self.log.reserve(events.len())?;
         copy_events(self.alloc, events, &mut self.log)
     }
-}
-
-/// Adds copies of these events.
-pub(crate) fn copy_events(alloc: Global, events: &[Event], out: &mut Log) -> Result<(), AllocError>
-    ensures { OnOk result (reverse out.new.events ≡ reverse out.old.events ++ events.now) }
-{
-    'events: for event in events {
-        add(out, event.copied(alloc)?)?;
-    }
-    Ok(())
-}
-
-// One event more.
-fn add(out: &mut Log, event: Event) -> Result<(), AllocError>
-    ensures { OnOk result (out.new.events ≡ event ∷ out.old.events) }
-{
-    out.reserve(1)?;
-    out.push(event);
-    Ok(())
 }

@@ -1,12 +1,12 @@
 //! A wire on its way, as links see it.
 
-ghost use Rattle.std.specs.Prelude.{◌≡◌, true, Some, None, IfSome, IsSome};
-ghost use Rattle.access_slots.specs.Locks.{target};
+ghost use Rattle.std.specs.Prelude.{◌≡◌, Some, None, IfSome, IsSome};
 ghost use Rattle.worker_pool.specs.Wires.{WasInFlight};
 
 use crate::naming::Naming;
 use crate::sending::Sending;
 use access_slots::op::{News, Reply, Wire};
+use dc_links::Outstanding;
 
 /// A call's wire on its way to a data component, and what came back for it. It stays in its place from the
 /// call's first question to its answer.
@@ -38,13 +38,16 @@ impl<J: Naming> Errand<J> {
             news: None,
         }
     }
+}
+
+impl<J: Naming> Outstanding for Errand<J> {
+    ghost sent = { WasInFlight J.start };
 
     /// The wire, where it is to be carried: nothing came back for it. In a state of the run it was in flight.
     #[inline(always)]
-    pub fn wire(&self) -> Option<&Wire>
+    fn wire(&self) -> Option<&Wire>
         ensures wire { IfSome result (λ wire. wire.now ≡ self.now.sending.wire) }
         ensures brought { IsSome self.now.reply → result ≡ None }
-        ensures flight { IfSome result (λ wire. WasInFlight J.start wire.now) }
     {
         if self.is_carried || self.reply.is_some() {
             return None;
@@ -52,22 +55,9 @@ impl<J: Naming> Errand<J> {
         self.sending.in_flight()
     }
 
-    // The wire, where it is to be carried to the component with this number.
-    #[inline(always)]
-    pub(crate) fn wire_for(&self, number: usize) -> Option<&Wire>
-        ensures wire { IfSome result (λ wire. (wire.now ≡ self.now.sending.wire) × ((target wire.now.op).dc ≡ number)) }
-    {
-        let wire = self.wire()?;
-        if usize::from(wire.op.record().dc) == number {
-            Some(wire)
-        } else {
-            None
-        }
-    }
-
     /// Takes what came back for the wire.
     #[inline(always)]
-    pub fn bring(&mut self, reply: Reply)
+    fn bring(&mut self, reply: Reply)
         ensures { self.new ≡ record self.old { reply = Some reply } }
     {
         self.reply = Some(reply);

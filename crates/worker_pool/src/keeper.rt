@@ -12,9 +12,9 @@ use crate::acknowledgement::{Acknowledgement, Due};
 use crate::batch::Batch;
 use crate::desk::Desk;
 use crate::handed::{Count, Handed};
-use crate::journal::{Journal, NotKept};
 use crate::naming::Naming;
-use crate::waiting::acquire;
+use dc_links::acquire;
+use journals::{Journal, NotKept};
 use std::alloc::AllocError;
 use std::marker::{Model, PhantomData};
 use std::sync::atomic::{AtomicU64, Ordering};
@@ -106,7 +106,7 @@ impl<J: Naming, K: Journal> Model for Keeper<J, K> {
     ghost use Rattle.worker_pool.specs.Joining.Handing.{Shelf, HasAll, events_of};
     ghost use Rattle.worker_pool.specs.Joining.Leaving.{LeavesBehind};
     ghost use Rattle.worker_pool.specs.Journals.{IsUnkept};
-    ghost use Rattle.worker_pool.specs.declared.journal.NotKept.{NotKept as Why};
+    ghost use Rattle.journals.specs.declared.journal.NotKept.{NotKept as Why};
 
     ghost Value = { Shelf K };
 
@@ -128,7 +128,7 @@ impl<J: Naming, K: Journal> Keeper<J, K> {
     ghost use Rattle.worker_pool.specs.Joining.Leaving.{HasStood, LeavesBehind};
     ghost use Rattle.worker_pool.specs.Joining.Ran.{KeepsAll};
     ghost use Rattle.worker_pool.specs.Journals.{IsUnkept};
-    ghost use Rattle.worker_pool.specs.declared.journal.NotKept.{NotKept as Why};
+    ghost use Rattle.journals.specs.declared.journal.NotKept.{NotKept as Why};
 
     /// The journal of a run, or none, before anything is handed over. The log has so many events.
     pub fn new(

@@ -10,11 +10,12 @@ ghost use Rattle.worker_pool.specs.Journals.{HasKept, WasKept, IsLeftOfRun, Kept
 use crate::batch::Batch;
 use crate::desk::Desk;
 use crate::handed::Opened;
-use crate::journal::{Journal, NotKept};
 use crate::keeper::{Keeper, Keeping};
 use crate::naming::Naming;
-use crate::pool::{Gate, Link, Prepared, Ran, RunFault, prepare, run_over};
+use crate::pool::{Gate, Prepared, Ran, RunFault, prepare, run_over};
 use crate::report::Report;
+use dc_links::Link;
+use journals::{Journal, NotKept};
 use std::alloc::Global;
 use std::marker::Brand;
 use std::sync::Wait;

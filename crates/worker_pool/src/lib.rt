@@ -17,11 +17,9 @@
 //! why the call wasn't admitted. `specs/Reports.antt` has what is proved of a report.
 //!
 //! A [`Link`] of your own carries wires to data components elsewhere. It may lose, repeat, delay and
-//! change what it carries; the report stays true of the log. [`LockedDcs`] is the link to data
-//! components of this process that workers call themselves, and [`RingLink`] the one to components
-//! that have threads of their own. A [`Gate`] is told when a call is admitted, and of its answer by an
-//! [`Acknowledgement`]. [`run_kept`] keeps the log in a [`Journal`], and tells no answer before the log that it
-//! is true of is kept. Between two lists of calls the log of a report's state may begin anew: `tc_world::cutting::cut` does
+//! change what it carries; the report stays true of the log. `dc_links` has those to data components of this
+//! process. A [`Gate`] is told when a call is admitted, and of its answer by an [`Acknowledgement`]. [`run_kept`]
+//! keeps the log in a journal (`journals`), and tells no answer before the log that it is true of is kept. Between two lists of calls the log of a report's state may begin anew: `tc_world::cutting::cut` does
 //! it with data components of this process, `TcState::checkpoint` by the marks that others have kept.
 //! Its tests are those of `pool_tests`.
 #![tactic(auto)]
@@ -33,32 +31,21 @@ mod desk;
 mod errand;
 mod errands;
 mod handed;
-mod journal;
 mod keeper;
 mod kept_run;
 mod laws;
-mod locked_dcs;
-mod memory_journal;
 mod naming;
 mod pool;
 mod redos;
 mod report;
-mod ring;
-mod ring_link;
-mod seat;
 mod sending;
-mod served;
-mod waiting;
 
 pub use acknowledgement::Acknowledgement;
 pub use answer::{Answer, Progress};
+pub use dc_links::Link;
 pub use errand::Errand;
-pub use journal::{Journal, NotKept};
 pub use kept_run::{KeptFault, run_kept};
 pub use laws::carried_is_in_flight;
-pub use locked_dcs::LockedDcs;
-pub use memory_journal::MemoryJournal;
 pub use naming::Naming;
-pub use pool::{Gate, Link, OpenGate, RunFault, run};
+pub use pool::{Gate, OpenGate, RunFault, run};
 pub use report::Report;
-pub use ring_link::{RingLink, ServedFrom};

@@ -13,16 +13,14 @@ use crate::acknowledgement::{Acknowledgement, Due};
 use crate::answer::{Answer, Progress};
 use crate::batch::Batch;
 use crate::desk::{Desk, Next};
-use crate::errand::Errand;
 use crate::errands::Errands;
 use crate::handed::Opened;
-use crate::journal::{Journal, NoJournal, NotKept};
 use crate::keeper::{Keeper, Keeping, Stopped};
 use crate::naming::Naming;
 use crate::report::Report;
 use crate::sending::Sending;
-use crate::waiting::acquire;
-use access_slots::op::{News, Reply, Wire};
+use dc_links::{Link, WIRES_OF_A_WORKER, acquire};
+use journals::{Journal, NoJournal, NotKept};
 use std::alloc::{AllocError, Global};
 use std::marker::Brand;
 use std::sync::{Condvar, Mutex, Wait};
@@ -33,39 +31,6 @@ use tc_core::state::{Call, TcState};
 const MOST_WORKERS: usize = 64;
 
 const MOST_TRIES: u64 = 1000;
-
-// How many calls a worker has on their way at a time, where none of them waits for another.
-pub(crate) const AT_A_TIME: usize = 8;
-
-/// What carries a wire to its data component, and the reply back.
-pub trait Link {
-    /// What came back, if anything did. It is called without the lock, by several workers at once.
-    fn carry<R: Wait>(&self, rt: &R, worker: usize, wire: &Wire) -> Option<Reply>;
-
-    /// What the data component told of its last restart, if it is known of one. It is asked for after
-    /// each carry that brought no answer, without the lock, by several workers at once. It may give the
-    /// same news again.
-    fn news<R: Wait>(&self, rt: &R, worker: usize, dc: u16) -> Option<News>;
-
-    /// Whether the link never keeps a call waiting for long: then each of several workers has more than one
-    /// call on their way at a time, whose wires are carried together. Over another link it has one, so that
-    /// no call waits for another's wire.
-    fn is_prompt(&self) -> bool {
-        false
-    }
-
-    /// Carries the wires of several calls, and brings what came back for each: one after the other, where
-    /// the link knows no better.
-    fn carry_all<J: Naming, R: Wait>(&self, rt: &R, worker: usize, errands: &mut [Errand<J>]) {
-        for errand in errands {
-            if let Some(wire) = errand.wire() {
-                if let Some(reply) = self.carry(rt, worker, wire) {
-                    errand.bring(reply);
-                }
-            }
-        }
-    }
-}
 
 /// What is told of the calls, by their places in the list.
 pub trait Gate {
@@ -353,7 +318,7 @@ fn work<J: Naming, K: Journal, R: Wait, L: Link, G: Gate>(
 // wire, gate or journal, and where one worker is to run the calls one after the other.
 fn at_a_time<L: Link, G: Gate>(link: &L, gate: &G, is_kept: bool, workers: usize) -> usize {
     if workers > 1 && !is_kept && link.is_prompt() && gate.is_prompt() {
-        AT_A_TIME
+        WIRES_OF_A_WORKER
     } else {
         1
     }

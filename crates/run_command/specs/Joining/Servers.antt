@@ -2,7 +2,7 @@
 use Rattle.std.specs.Prelude.{◌≡◌, ℕ, ◌<◌, List, length, get_or}
 use Rattle.std.specs.declared.thread.PromisedHandle.{PromisedHandle}
 use Rattle.data_component.specs.Store.{Store}
-use Rattle.worker_pool.specs.declared.ring_link.ServedFrom.{ServedFrom}
+use Rattle.dc_links.specs.declared.ring_link.ServedFrom.{ServedFrom}
 
 abbrev pub Server : Type 0
 Server = PromisedHandle Store ServedFrom

@@ -3,7 +3,7 @@ use Rattle.std.specs.Prelude.{◌≡◌, ◌==◌, ◌+◌, ◌≤◌, ℕ, Bool
 use Rattle.logbook.specs.Pages.{Cell, Step, View, Book, Named}
 use Rattle.tc_log.specs.declared.event.Event.{Event}
 use Rattle.history.specs.Places.{Begins}
-use Rattle.worker_pool.specs.declared.journal.NotKept.{NotKept}
+use Rattle.journals.specs.declared.journal.NotKept.{NotKept}
 
 -- the events of these batches, in order
 abbrev pub events_of : List (List Event) → List Event

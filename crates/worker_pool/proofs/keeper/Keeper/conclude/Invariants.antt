@@ -1,5 +1,5 @@
 use Rattle.std.proofs.Common.{◌≡◌, Some}
-use Rattle.worker_pool.specs.declared.journal.NotKept.{NotKept}
+use Rattle.journals.specs.declared.journal.NotKept.{NotKept}
 use Rattle.worker_pool.proofs.keeper.Keeper.conclude.Given as goal
 
 abbrev pub invariant-loop : goal.invariant-loop

@@ -1,4 +1,0 @@
-use Rattle.worker_pool.proofs.seat.Seat.look.Given as goal
-
-abbrev pub invariant-loop : goal.invariant-loop
-invariant-loop l = Unit {0}
