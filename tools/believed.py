@@ -43,7 +43,7 @@ GROUPS = [
     ("recovery from a log alone, and from the records that one begins with", "coming_back base_records"),
     ("one at a time, audits", "serial audit tc_world.OneAtATime"),
     ("what a script says, and an object file's procedures for one", "scripts object_procedures"),
-    ("what workers report, acknowledgements, journals, data components that are served", "worker_pool"),
+    ("what workers report, acknowledgements, journals, data components that are served", "worker_pool dc_links"),
     ("a call through a frame of plain numbers", "embedding"),
     (
         "what the program prints, on both streams, and for which words",

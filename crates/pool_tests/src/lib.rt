@@ -1,4 +1,4 @@
-//! Tests of `worker_pool`, which would take as long again to prove with them:
+//! Tests of `worker_pool`, `dc_links` and `journals`, which would take as long again to prove with them:
 //!
 //! | Module | Tests |
 //! |---|---|
