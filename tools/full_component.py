@@ -8,6 +8,7 @@ Where the time grew with the square of the calls, the second run would take a hu
 where something was wrong.
 """
 import argparse
+import re
 import sys
 import time
 
@@ -30,6 +31,9 @@ def seconds_of(program, reads, faults):
         full = b"full dc 0 %d operations\n" % ROOM
         if ran.status != 0 or not ran.err.endswith(full):
             faults.append(f"{reads} reads: status {ran.status}, and {ran.err!r} doesn't end with {full!r}")
+        waits = re.search(rb"\np50 (\d+) us\np99 (\d+) us\nlongest wait (\d+) us\n", ran.err)
+        if waits is None or sorted(waits.groups(), key=int) != list(waits.groups()):
+            faults.append(f"{reads} reads: no rising p50, p99 and longest wait in {ran.err!r}")
         committed, doubted = ran.out.count(b" committed\n"), ran.out.count(b" in doubt ")
         if (committed, doubted) != (ROOM, reads - ROOM):
             faults.append(f"{reads} reads: {committed} committed and {doubted} in doubt")

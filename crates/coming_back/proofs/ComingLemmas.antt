@@ -98,7 +98,8 @@ begun_sound old h ds good legal of_rows only =
     (all_new h ds only of_rows.together)
 
 -- no mark is above that of the log
-pub begun_marks : (old : Core) (h : List Event) (ds : List Store) → Legal old.procs h → IsBegunTogether h ds → All HasOnlyRows ds → AreMarksLow (begins_again old h ds)
+pub begun_marks : (old : Core) (h : List Event) (ds : List Store) → Legal old.procs h → IsBegunTogether h ds
+    → All HasOnlyRows ds → AreMarksLow (begins_again old h ds)
 begun_marks old h ds legal together only = start_over_low (at_rest old ds) h (map restarted ds) legal (all_new h ds only together)
 
 -- each has nothing but its rows yet
@@ -106,22 +107,27 @@ pub all_begun : (ds : List Store) → All HasOnlyRows ds → All (λ (s : Store)
 all_begun [] all = All-nil (λ (s : Store). (s.list ≡ []) × (s.mark ≡ s.base_mark))
 all_begun (d ∷ ds) all =
     let only = all 0 d (omega arith) in
-    All-cons (λ (s : Store). (s.list ≡ []) × (s.mark ≡ s.base_mark)) (restarted d) (map restarted ds) (only.saved, only.saved_mark) (all_begun ds (λ k x low. all (suc k) x (omega (arith, low))))
+    All-cons (λ (s : Store). (s.list ≡ []) × (s.mark ≡ s.base_mark)) (restarted d) (map restarted ds)
+        (only.saved, only.saved_mark) (all_begun ds (λ k x low. all (suc k) x (omega (arith, low))))
 
 -- ---- each data component is known
 
 -- as the news tell it
-pub site_incarnation : (c : Core) (ds : List Store) (n : ℕ) (s : Store) → c.sites ≡ map site_noted (restart_notes ds) → slice_get ds n ≡ Some s → (site_at c.sites n).incarnation ≡ s.incarnation
+pub site_incarnation : (c : Core) (ds : List Store) (n : ℕ) (s : Store) → c.sites ≡ map site_noted (restart_notes ds)
+    → slice_get ds n ≡ Some s → (site_at c.sites n).incarnation ≡ s.incarnation
 site_incarnation c ds n s noted at =
     ap (λ (xs : List Site). (site_at xs n).incarnation) noted
-    ∙ ap (λ (o : Option Site). (site_by o).incarnation) (map_get site_noted (restart_notes ds) n (Restarted (news_of s)) (map_get (λ (x : Store). Restarted (news_of x)) ds n s at))
+    ∙ ap (λ (o : Option Site). (site_by o).incarnation)
+        (map_get site_noted (restart_notes ds) n (Restarted (news_of s))
+        (map_get (λ (x : Store). Restarted (news_of x)) ds n s at))
 
 -- and down, with its redo from the mark on
 pub site_down : (c : Core) (ds : List Store) (n : ℕ) (s : Store) → c.sites ≡ map site_noted (restart_notes ds) → slice_get ds n ≡ Some s
     → (site_at c.sites n).redo ≡ Some (record { mark = s.mark; redone = s.mark })
 site_down c ds n s noted at =
     ap (λ (xs : List Site). (site_at xs n).redo) noted
-    ∙ ap (λ (o : Option Site). (site_by o).redo) (map_get site_noted (restart_notes ds) n (Restarted (news_of s)) (map_get (λ (x : Store). Restarted (news_of x)) ds n s at))
+    ∙ ap (λ (o : Option Site). (site_by o).redo) (map_get site_noted (restart_notes ds) n (Restarted (news_of s))
+        (map_get (λ (x : Store). Restarted (news_of x)) ds n s at))
 
 known_at : (c d : Core) (ds es : List Store) → c.sites ≡ map site_noted (restart_notes ds) → Redoes c ds d es
     → ((n : ℕ) → n < length d.sites → (site_at d.sites n).redo ≡ None) → (n : ℕ) (s : Store) → slice_get es n ≡ Some s → IsKnown (at_rest d es) n s
@@ -131,8 +137,10 @@ known_at c d ds es noted redoes up n s at =
     let was = there ds n (omega (arith, short, many)) in
     let now = redoes.redone.each n was.0 was.1 in
     let same : now.now ≡ s = some_same now.now s (sym now.at ∙ at) in
-    let incarnation : s.incarnation ≡ was.0.incarnation = ap (λ (x : Store). x.incarnation) (sym same) ∙ served_incarnation (IsRedoFor n) was.0 now.now now.served in
-    let count : length c.sites ≡ length ds = ap length noted ∙ (length-map (restart_notes ds) site_noted ∙ length-map ds (λ (x : Store). Restarted (news_of x))) in
+    let incarnation : s.incarnation ≡ was.0.incarnation = ap (λ (x : Store). x.incarnation) (sym same)
+        ∙ served_incarnation (IsRedoFor n) was.0 now.now now.served in
+    let count : length c.sites ≡ length ds = ap length noted
+        ∙ (length-map (restart_notes ds) site_noted ∙ length-map ds (λ (x : Store). Restarted (news_of x))) in
     let more = redoes.count in
     record {
       up = up n (omega (arith, short, many, count, more));
@@ -153,7 +161,8 @@ still_at c d ds es goes known n s at =
     let was = there ds n (omega (arith, short, many)) in
     let now = goes.served.each n was.0 was.1 in
     let same : now.now ≡ s = some_same now.now s (sym now.at ∙ at) in
-    let incarnation : s.incarnation ≡ was.0.incarnation = ap (λ (x : Store). x.incarnation) (sym same) ∙ served_incarnation (IsFor n) was.0 now.now now.served in
+    let incarnation : s.incarnation ≡ was.0.incarnation = ap (λ (x : Store). x.incarnation) (sym same)
+        ∙ served_incarnation (IsFor n) was.0 now.now now.served in
     let it = known n was.0 was.1 in
     record {
       up = ap (λ (xs : List Site). (site_at xs n).redo) sites ∙ it.up;
@@ -167,7 +176,8 @@ known_still c d ds es goes known = λ n s at. still_at c d ds es goes known n s 
 -- ---- the state has the log
 
 pub has_log : (old c : Core) (h : List Event) (notes : List SiteNote) → c ≡ recovered old h notes → HasLog old h c
-has_log old c h notes is = is ∙ ap (λ (xs : List Site). let it : Core = record old { events = h; given_up = []; sites = xs } in it) (sym (ap (λ (x : Core). x.sites) is))
+has_log old c h notes is = is ∙ ap (λ (xs : List Site). let it : Core = record old
+    { events = h; given_up = []; sites = xs } in it) (sym (ap (λ (x : Core). x.sites) is))
 
 pub redone_log : (old c d : Core) (h : List Event) (ds es : List Store) → HasLog old h c → Redoes c ds d es → HasLog old h d
 redone_log old c d h ds es log redoes = redoes.core ∙ ap (λ (x : Core). let it : Core = record x { sites = d.sites } in it) log

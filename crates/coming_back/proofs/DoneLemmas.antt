@@ -51,7 +51,8 @@ none_later : (h : List Event) (d from more n : ℕ) → from + more < n → said
 none_later h d from zero n above = refl
 none_later h d from (suc more) n above = by (none_later h d from more n (omega (arith, above))) (done_at h d (from + suc more)) refl
   where
-    by : said_under (done_above h d from more) n ≡ None → (o : Option Answered) → done_at h d (from + suc more) ≡ o → said_under (list_of o ++ done_above h d from more) n ≡ None
+    by : said_under (done_above h d from more) n ≡ None → (o : Option Answered) → done_at h d (from + suc more) ≡ o
+        → said_under (list_of o ++ done_above h d from more) n ≡ None
     by rest None is = rest
     by rest (Some a) is =
         let number = done_number h d (from + suc more) a is in
@@ -78,7 +79,8 @@ next_list h d from redone a low above is none =
     ap (done_above h d from) top
     ∙ (ap (λ (o : Option Answered). list_of o ++ done_above h d from more) (ap (done_at h d) place ∙ is)
     ∙ ap (λ (l : List Performed). (a.number, a.op, a.said) ∷ l)
-    (skipped h d from (redone - from) (more - (redone - from)) more (omega (arith, low, above)) (λ k over under. none k (omega (arith, low, over)) (omega (arith, low, above, under)))))
+    (skipped h d from (redone - from) (more - (redone - from)) more (omega (arith, low, above))
+        (λ k over under. none k (omega (arith, low, over)) (omega (arith, low, above, under)))))
 
 none_beyond : (ps : List Checked) (h : List Event) → Legal ps h → (d k : ℕ) → given h < k → done_at h d k ≡ None
 none_beyond ps h legal d k above = by (done_at h d k) refl
@@ -91,7 +93,8 @@ none_beyond ps h legal d k above = by (done_at h d k) refl
 last_list : (ps : List Checked) (h : List Event) → Legal ps h → (d from redone : ℕ) → from ≤ redone → ((m : ℕ) → redone < m → done_at h d m ≡ None)
     → done_above h d from (given h - from) ≡ done_above h d from (redone - from)
 last_list ps h legal d from redone low none = elim (cases_lt redone (given h)) [
-  | inl more ↦ skipped h d from (redone - from) (given h - redone) (given h - from) (omega (arith, low, more)) (λ k over under. none k (omega (arith, low, over)))
+  | inl more ↦ skipped h d from (redone - from) (given h - redone) (given h - from) (omega (arith, low, more))
+      (λ k over under. none k (omega (arith, low, over)))
   | inr less ↦
       sym (skipped h d from (given h - from) (redone - from - (given h - from)) (redone - from) (omega (arith, low, less))
       (λ k over under. none_beyond ps h legal d k (omega (arith, over))))
@@ -110,10 +113,13 @@ if_heard true s t same = same
 if_heard false s t same = refl
 
 same_base : (s : Store) (x : Wire) → (performed s x).base_mark ≡ s.base_mark
-same_base s x = if_heard (s.incarnation == x.incarnation) s (store_by (marked s x.low_water) x.number x.op (fate_of s x)) (base_by (marked s x.low_water) x.number x.op (fate_of s x))
+same_base s x = if_heard (s.incarnation == x.incarnation) s
+    (store_by (marked s x.low_water) x.number x.op (fate_of s x))
+    (base_by (marked s x.low_water) x.number x.op (fate_of s x))
 
 -- the answer is the one that was logged, and its number is performed for the first time
-listed : (s : Store) (x : Wire) (z : Reply) (said : Said) → said_under s.list x.number ≡ None → replied s x ≡ Some z → z.said ≡ said → is_done said ≡ true → PerformCase s x
+listed : (s : Store) (x : Wire) (z : Reply) (said : Said) → said_under s.list x.number ≡ None → replied s x ≡ Some z
+    → z.said ≡ said → is_done said ≡ true → PerformCase s x
     → (performed s x).list ≡ (x.number, x.op, said) ∷ s.list
 listed s x z said none says_z same done (old r l) =
     let is : Old ≡ said = ap (λ (y : Reply). y.said) (some_same _ z (sym r ∙ says_z)) ∙ same in
@@ -145,7 +151,9 @@ done_behind c ds es n t z it at low list =
     (record {
       s = t;
       at = at;
-      to = subst (IsDoneTo c.events n t) (sym (ap (λ (s : Site). s.redo) (site_here c.sites n it.site again it.there) ∙ ap (redone_to z.number) it.down)) (low, list);
+      to = subst (IsDoneTo c.events n t)
+          (sym (ap (λ (s : Site). s.redo) (site_here c.sites n it.site again it.there)
+          ∙ ap (redone_to z.number) it.down)) (low, list);
     })
   where
     again : Site
@@ -155,7 +163,8 @@ so_far : (c : Core) (ds : List Store) (n : ℕ) (r : Redoing) (so : IsRedoneTo c
 so_far c ds n r so down = subst (IsDoneTo c.events n so.s) down so.to
 
 -- what is redone is the next of what was done
-pub redone_done : (n : ℕ) (c : Core) (x : Wire) (z : Reply) (ds es : List Store) → Legal c.procs c.events → redo.Send x ≡ redo_reply c n → Performs ds x (Some z) es
+pub redone_done : (n : ℕ) (c : Core) (x : Wire) (z : Reply) (ds es : List Store) → Legal c.procs c.events
+    → redo.Send x ≡ redo_reply c n → Performs ds x (Some z) es
     → IsRedone c n z → IsRedoneTo c ds n → IsRedoneTo (after_redone c n z.number) es n
 redone_done n c x z ds es legal is (Nowhere past none same) it so = absurd (let bad : Some z ≡ None = none in cc)
 redone_done n c x z ds es legal is (There p) it so =
@@ -163,7 +172,8 @@ redone_done n c x z ds es legal is (There p) it so =
     let wire : x ≡ redo_wire it.site.incarnation it.r.mark it.a =
     sent_as it.site.incarnation it.r.mark x it.a
     (is ∙ (ap (redo_at c n) it.there ∙ (ap (redo_by c n it.site.incarnation) it.down ∙ ap (sends_again it.site.incarnation it.r.mark) it.next))) in
-    let facts : IsToRedo c.events n it.r.redone (Some it.a) = subst (IsToRedo c.events n it.r.redone) it.next (to_redo_is c.procs c.events legal n it.r.redone) in
+    let facts : IsToRedo c.events n it.r.redone (Some it.a) = subst (IsToRedo c.events n it.r.redone) it.next
+        (to_redo_is c.procs c.events legal n it.r.redone) in
     let s : Store = p.s in
     let mine : s ≡ so.s = some_same s so.s (sym p.at ∙ (ap (slice_get ds) sent.dc ∙ so.at)) in
     let down : (site_at c.sites n).redo ≡ Some it.r = ap (λ (o : Option Site). (site_by o).redo) it.there ∙ it.down in
@@ -186,7 +196,8 @@ redone_done n c x z ds es legal is (There p) it so =
     ∙ (ap (λ (l : List Performed). (it.a.number, it.a.op, it.a.said) ∷ l) to.1
     ∙ sym (next_list c.events n s.base_mark it.r.redone it.a low above facts.1 facts.2)))) in
     done_behind c ds es n t z it
-    (subst (λ (k : ℕ). slice_get es k ≡ Some t) sent.dc (ap (λ (fs : List Store). slice_get fs (target x.op).dc) p.then_is ∙ set_same ds (target x.op).dc s t p.at))
+    (subst (λ (k : ℕ). slice_get es k ≡ Some t) sent.dc
+        (ap (λ (fs : List Store). slice_get fs (target x.op).dc) p.then_is ∙ set_same ds (target x.op).dc s t p.at))
     (let same = it.same_number in omega (arith, low, above, base, same))
     (subst (λ (m : ℕ). t.list ≡ done_above c.events n t.base_mark (m - t.base_mark)) (sym it.same_number)
     (subst (λ (b : ℕ). t.list ≡ done_above c.events n b (it.a.number - b)) (sym base) whole))
@@ -212,7 +223,8 @@ up_done c n incarnation mark redone s ds None legal at down next no_send so =
 up_site_done : (c : Core) (n : ℕ) (s : Site) (ds : List Store) (o : Option Redoing) → Legal c.procs c.events → s.redo ≡ o → slice_get c.sites n ≡ Some s
     → NoSend (redo_by c n s.incarnation o) → IsRedoneTo c ds n → IsRedoneTo (after_redo c n (redo_by c n s.incarnation o)) ds n
 up_site_done c n s ds None legal up at no_send so = so
-up_site_done c n s ds (Some r) legal down at no_send so = up_done c n s.incarnation r.mark r.redone s ds (to_redo c.events n r.redone) legal at down refl no_send so
+up_site_done c n s ds (Some r) legal down at no_send so = up_done c n s.incarnation r.mark r.redone s ds
+    (to_redo c.events n r.redone) legal at down refl no_send so
 
 up_at_done : (c : Core) (n : ℕ) (ds : List Store) (o : Option Site) → Legal c.procs c.events → slice_get c.sites n ≡ o → NoSend (redo_at c n o)
     → IsRedoneTo c ds n → IsRedoneTo (after_redo c n (redo_at c n o)) ds n
@@ -238,14 +250,16 @@ others_done c d ds es n e redoes other so = record {
 -- ---- from the beginning to the end
 
 -- a new data component that has restarted has nothing yet
-begun_done : (c : Core) (es : List Store) (n : ℕ) (s : Store) → c.sites ≡ map site_noted (restart_notes es) → slice_get es n ≡ Some s → s.list ≡ [] → s.mark ≡ s.base_mark
+begun_done : (c : Core) (es : List Store) (n : ℕ) (s : Store) → c.sites ≡ map site_noted (restart_notes es)
+    → slice_get es n ≡ Some s → s.list ≡ [] → s.mark ≡ s.base_mark
     → IsRedoneTo c es n
 begun_done c es n s noted at none mark =
     let gap : s.mark - s.base_mark ≡ 0 = omega (arith, mark) in
     record {
       s = s;
       at = at;
-      to = subst (λ (o : Option Redoing). IsDoneTo c.events n s o) (sym (site_down c es n s noted at)) (omega (arith, mark), none ∙ sym (ap (done_above c.events n s.base_mark) gap));
+      to = subst (λ (o : Option Redoing). IsDoneTo c.events n s o) (sym (site_down c es n s noted at))
+          (omega (arith, mark), none ∙ sym (ap (done_above c.events n s.base_mark) gap));
     }
 
 -- and where each is up in the end, all that was done

@@ -26,7 +26,8 @@ use Rattle.coming_back.proofs.SentLemmas.{sent_at}
 use Rattle.coming_back.proofs.RedoLemmas.{there}
 use Rattle.coming_back.proofs.ComingLemmas.{site_incarnation}
 
-pub silent_full : (c : Core) (n : ℕ) (x : Wire) (ds es : List Store) → Legal c.procs c.events → redo.Send x ≡ redo_reply c n → Performs ds x None es → IsMatched c ds n → IsFull es n
+pub silent_full : (c : Core) (n : ℕ) (x : Wire) (ds es : List Store) → Legal c.procs c.events
+    → redo.Send x ≡ redo_reply c n → Performs ds x None es → IsMatched c ds n → IsFull es n
 silent_full c n x ds es legal is (There it) matched =
     let sent = sent_at c n x (slice_get c.sites n) legal refl is in
     let same : it.s ≡ matched.s = some_same it.s matched.s (sym it.at ∙ (ap (slice_get ds) sent.dc ∙ matched.at)) in
@@ -34,8 +35,11 @@ silent_full c n x ds es legal is (There it) matched =
     let then : Store = performed it.s x in
     record {
       s = then;
-      at = subst (λ (k : ℕ). slice_get es k ≡ Some then) sent.dc (ap (λ (fs : List Store). slice_get fs (target x.op).dc) it.then_is ∙ set_same ds (target x.op).dc it.s then it.at);
-      full = full_by it.s (marked it.s x.low_water) x.number x.op (it.s.incarnation == x.incarnation) (fate_of it.s x) refl refl (eq-true _ _ heard) (sym it.said) (silent_room it.s x);
+      at = subst (λ (k : ℕ). slice_get es k ≡ Some then) sent.dc
+          (ap (λ (fs : List Store). slice_get fs (target x.op).dc) it.then_is
+          ∙ set_same ds (target x.op).dc it.s then it.at);
+      full = full_by it.s (marked it.s x.low_water) x.number x.op (it.s.incarnation == x.incarnation) (fate_of it.s x)
+          refl refl (eq-true _ _ heard) (sym it.said) (silent_room it.s x);
     }
 silent_full c n x ds es legal is (Nowhere past none same) matched =
     let sent = sent_at c n x (slice_get c.sites n) legal refl is in
@@ -54,10 +58,12 @@ down_there (s ∷ sites) zero down = omega arith
 down_there (s ∷ sites) (suc n) down = (let low = down_there sites n down in omega (arith, low))
 
 -- a data component that is down is there, and was of the incarnation of which the first news told
-pub matched_new : (c d : Core) (ds es : List Store) (n : ℕ) → c.sites ≡ map site_noted (restart_notes ds) → Redoes c ds d es → ((site_at d.sites n).redo ≡ None → ⊥) → IsMatched c ds n
+pub matched_new : (c d : Core) (ds es : List Store) (n : ℕ) → c.sites ≡ map site_noted (restart_notes ds)
+    → Redoes c ds d es → ((site_at d.sites n).redo ≡ None → ⊥) → IsMatched c ds n
 matched_new c d ds es n noted redoes down =
     let low = down_there d.sites n down in
     let same = redoes.count in
-    let count : length c.sites ≡ length ds = ap length noted ∙ (length-map (restart_notes ds) site_noted ∙ length-map ds (λ (x : Store). Restarted (news_of x))) in
+    let count : length c.sites ≡ length ds = ap length noted
+        ∙ (length-map (restart_notes ds) site_noted ∙ length-map ds (λ (x : Store). Restarted (news_of x))) in
     let s = there ds n (omega (arith, low, same, count)) in
     record { s = s.0; at = s.1; known = site_incarnation c ds n s.0 noted s.1 }

@@ -55,7 +55,8 @@ use Rattle.coming_back.proofs.NextLemmas.{is_asked, is_undone, asked_open, undon
 -- ---- one after another
 
 pub goes_same : (c : Core) (ds : List Store) → Goes c ds c ds
-goes_same c ds = record { core = refl; begins = record { later = []; is = refl }; count = refl; served = all_same IsFor ds; lived = λ start l. l; quiet = λ q. q }
+goes_same c ds = record { core = refl; begins = record { later = []; is = refl }; count = refl;
+    served = all_same IsFor ds; lived = λ start l. l; quiet = λ q. q }
 
 begins_then : (h g f : List Event) → Begins h g → Begins g f → Begins h f
 begins_then h g f a b = record { later = b.later ++ a.later; is = b.is ∙ (ap (λ (l : List Event). b.later ++ l) a.is ∙ sym (append_assoc b.later a.later h)) }
@@ -98,9 +99,11 @@ one_event t c e ds es own count stays_so served lived quiet = record {
 all_stay : (t : ℕ) (c d : Core) → d.given_up ≡ c.given_up → StaysGivenUp t c d
 all_stay t c d same u s r other is waits held = ap (holds r.number) same ∙ held
 
-pub ask_moves : (t : ℕ) (c : Core) (a : Asked) (ds : List Store) → a ≡ ask_reply c t → Legal (after_ask c a).procs (after_ask c a).events → AllGood c.procs → Moves t c ds (after_ask c a) ds
+pub ask_moves : (t : ℕ) (c : Core) (a : Asked) (ds : List Store) → a ≡ ask_reply c t
+    → Legal (after_ask c a).procs (after_ask c a).events → AllGood c.procs → Moves t c ds (after_ask c a) ds
 ask_moves t c (Request r) ds is legal good =
-    one_event t c (Ask r.txn r.number r.op) ds ds (is_asked c t r (sym is)).own refl (all_stay t c (after_ask c (Request r)) refl) (all_same IsFor ds) (ask_lived t c (Request r) ds is legal good)
+    one_event t c (Ask r.txn r.number r.op) ds ds (is_asked c t r (sym is)).own refl
+        (all_stay t c (after_ask c (Request r)) refl) (all_same IsFor ds) (ask_lived t c (Request r) ds is legal good)
     (quiet_later c (Ask r.txn r.number r.op) ds (asked_later c.procs c.events r.txn r.number r.op legal))
 ask_moves t c Undoing ds is legal good = moves_same t c ds
 ask_moves t c Over ds is legal good = moves_same t c ds
@@ -109,9 +112,11 @@ ask_moves t c (Waits n) ds is legal good = moves_same t c ds
 ask_moves t c Running ds is legal good = moves_same t c ds
 ask_moves t c Unknown ds is legal good = moves_same t c ds
 
-pub undo_moves : (t : ℕ) (c : Core) (a : Asked) (ds : List Store) → a ≡ undo_reply c t → Legal (after_undo c a).procs (after_undo c a).events → AllGood c.procs → Moves t c ds (after_undo c a) ds
+pub undo_moves : (t : ℕ) (c : Core) (a : Asked) (ds : List Store) → a ≡ undo_reply c t
+    → Legal (after_undo c a).procs (after_undo c a).events → AllGood c.procs → Moves t c ds (after_undo c a) ds
 undo_moves t c (Request r) ds is legal good =
-    one_event t c (Undo r.txn r.number r.op) ds ds (is_undone c t r (sym is)).own refl (all_stay t c (after_undo c (Request r)) refl) (all_same IsFor ds) (undo_lived t c (Request r) ds is legal good)
+    one_event t c (Undo r.txn r.number r.op) ds ds (is_undone c t r (sym is)).own refl
+        (all_stay t c (after_undo c (Request r)) refl) (all_same IsFor ds) (undo_lived t c (Request r) ds is legal good)
     (quiet_later c (Undo r.txn r.number r.op) ds (undone_later c.procs c.events r.txn r.number r.op legal))
 undo_moves t c Undoing ds is legal good = moves_same t c ds
 undo_moves t c Over ds is legal good = moves_same t c ds
@@ -124,7 +129,8 @@ pub end_moves : (t : ℕ) (c : Core) (o : Option Outcome) (ds : List Store) → 
     → Legal (after_end c t o).procs (after_end c t o).events → AllGood c.procs → Moves t c ds (after_end c t o) ds
 end_moves t c None ds is legal good = moves_same t c ds
 end_moves t c (Some o) ds is legal good =
-    one_event t c (End t o) ds ds refl refl (all_stay t c (after_end c t (Some o)) refl) (all_same IsFor ds) (end_lived t c (Some o) ds is legal good) (quiet_later c (End t o) ds (ended_later c.procs c.events t o legal))
+    one_event t c (End t o) ds ds refl refl (all_stay t c (after_end c t (Some o)) refl) (all_same IsFor ds)
+        (end_lived t c (Some o) ds is legal good) (quiet_later c (End t o) ds (ended_later c.procs c.events t o legal))
 
 -- ---- what is next
 
@@ -159,7 +165,8 @@ end_near t c (Some o) = ended_nearer c t o
 stands_here : (h : List Event) (e : Event) → StandsAt (e ∷ h) (length h) e
 stands_here h e = record { later = []; earlier = h; is = refl; count = refl }
 
-pub end_tells : (t : ℕ) (c : Core) (o : Option Outcome) (receipt : Receipt) → Ok receipt ≡ end_reply c t o → IsNextOf c.events (after_end c t o) t (then.Ended receipt)
+pub end_tells : (t : ℕ) (c : Core) (o : Option Outcome) (receipt : Receipt) → Ok receipt ≡ end_reply c t o
+    → IsNextOf c.events (after_end c t o) t (then.Ended receipt)
 end_tells t c None receipt is = absurd cc
 end_tells t c (Some o) receipt is =
     let this : Receipt = record { place = length c.events; txn = t; outcome = o } in
@@ -184,7 +191,8 @@ send_lived c r y ds es legal good here (Sent x is (There it)) start l = carried_
 send_lived c r y ds es legal good here (Sent x is (Nowhere past none same)) start l = stays_lived c ds es same start l
 send_lived c r y ds es legal good here (Unsent down is none same) start l = stays_lived c ds es same start l
 
-answer_lived : (c : Core) (r : Asking) (z : Reply) (ds es : List Store) → Legal c.procs c.events → AllGood c.procs → IsAnswer c r z → Legal c.procs (after_answer c r z.said).events
+answer_lived : (c : Core) (r : Asking) (z : Reply) (ds es : List Store) → Legal c.procs c.events → AllGood c.procs
+    → IsAnswer c r z → Legal c.procs (after_answer c r z.said).events
     → Sends c r ds (Some z) es → LivesOn (at_rest c ds) (at_rest (after_answer c r z.said) es)
 answer_lived c r z ds es legal good a legal' (Sent x is (There it)) start l = answered_lived c r x z ds es legal good is it a legal' start l
 answer_lived c r z ds es legal good a legal' (Sent x is (Nowhere past none same)) start l = absurd (let bad : Some z ≡ None = none in cc)
@@ -198,10 +206,12 @@ answer_stays c r said legal here u s q other is waits held =
     holds_others c.given_up r.number q.number differ ∙ held
 
 -- it is answered
-pub answer_moves : (c : Core) (r : Asking) (z : Reply) (ds es : List Store) → Legal c.procs c.events → AllGood c.procs → IsAnswer c r z → Legal c.procs (after_answer c r z.said).events
+pub answer_moves : (c : Core) (r : Asking) (z : Reply) (ds es : List Store) → Legal c.procs c.events → AllGood c.procs
+    → IsAnswer c r z → Legal c.procs (after_answer c r z.said).events
     → Sends c r ds (Some z) es → Moves r.txn c ds (after_answer c r z.said) es
 answer_moves c r z ds es legal good a legal' sends =
-    one_event r.txn c (Answer r.txn r.number z.said) ds es refl refl (answer_stays c r z.said legal (open_for c r z a)) (send_served c r (Some z) ds es sends) (answer_lived c r z ds es legal good a legal' sends)
+    one_event r.txn c (Answer r.txn r.number z.said) ds es refl refl (answer_stays c r z.said legal (open_for c r z a))
+        (send_served c r (Some z) ds es sends) (answer_lived c r z ds es legal good a legal' sends)
     (answered_quiet c r z ds es legal a legal' sends)
 
 pub answer_open : (c : Core) (r : Asking) (said : Said) → IsOpenHere c r → IsOpen (after_answer c r said) r.txn
@@ -233,10 +243,12 @@ give_up_moves t c n ds es served lived quiet = record {
   given_up = λ u s r other is waits held. kept_by (holds n c.given_up) n r.number c.given_up held;
 }
 
-pub given_up_moves : (c : Core) (r : Asking) (y : Option Reply) (ds es : List Store) → Legal c.procs c.events → AllGood c.procs → IsOpenHere c r → Sends c r ds y es
+pub given_up_moves : (c : Core) (r : Asking) (y : Option Reply) (ds es : List Store) → Legal c.procs c.events
+    → AllGood c.procs → IsOpenHere c r → Sends c r ds y es
     → ((z : Reply) → y ≡ Some z → IsAnswer c r z → ⊥) → Moves r.txn c ds (with_given_up c r.number) es
 given_up_moves c r y ds es legal good here sends refused =
-    give_up_moves r.txn c r.number ds es (send_served c r y ds es sends) (send_lived c r y ds es legal good here sends) (left_quiet c r y ds es legal here sends refused)
+    give_up_moves r.txn c r.number ds es (send_served c r y ds es sends) (send_lived c r y ds es legal good here sends)
+        (left_quiet c r y ds es legal here sends refused)
 
 same_next : (c d : Core) (t : ℕ) → d.procs ≡ c.procs → standing d.events t ≡ standing c.events t → next_at d t ≡ next_at c t
 unfolding next_at
@@ -290,7 +302,9 @@ begins_length : (first h : List Event) → Begins first h → length first ≤ l
 begins_length first h b = omega (arith, ap length b.is, length-append b.later first)
 
 resumed_since : (first mid : List Event) (e : Core) (x : Resumed) → Begins first mid → IsResumed mid e x → IsResumed first e x
-resumed_since first mid e (came.Ended receipt) begins ended = record { behind = (let low = begins_length first mid begins in omega (arith, low, ended.behind)); stands = ended.stands }
+resumed_since first mid e (came.Ended receipt) begins ended =
+    record { behind = (let low = begins_length first mid begins in omega (arith, low, ended.behind));
+    stands = ended.stands }
 resumed_since first mid e (came.InDoubt t n) begins left = left
 
 -- what came of it since a log is so since a beginning of that log, in which it was open
@@ -303,7 +317,8 @@ came_since c d e t x begins was then_open came_of = record {
 
 -- ---- what came of all
 
-left_stays : (t : ℕ) (c d : Core) (u n : ℕ) → u ≢ t → d.procs ≡ c.procs → standing d.events u ≡ standing c.events u → StaysGivenUp t c d → IsLeft c u n → IsLeft d u n
+left_stays : (t : ℕ) (c d : Core) (u n : ℕ) → u ≢ t → d.procs ≡ c.procs → standing d.events u ≡ standing c.events u
+    → StaysGivenUp t c d → IsLeft c u n → IsLeft d u n
 left_stays t c d u n other procs stands stays_so (GivenUp is held) =
     let w = waiting c u n is in
     let number : w.1.number ≡ n = w.4 in
@@ -312,8 +327,10 @@ left_stays t c d u n other procs stands stays_so (GivenUp is held) =
     ∙ stays_so u w.0 w.1 other w.2 w.3 (ap (λ (m : ℕ). holds m c.given_up) number ∙ held))
 left_stays t c d u n other procs stands stays_so (IsStuck is) = IsStuck (same_next c d u procs stands ∙ is)
 
-resumed_stays : (first : List Event) (t : ℕ) (c d : Core) (ds es : List Store) (x : Resumed) → Moves t c ds d es → serial_of x ≢ t → IsResumed first c x → IsResumed first d x
-resumed_stays first t c d ds es (came.Ended receipt) moves other ended = record { behind = ended.behind; stands = stays c.events d.events receipt.place _ moves.goes.begins ended.stands }
+resumed_stays : (first : List Event) (t : ℕ) (c d : Core) (ds es : List Store) (x : Resumed) → Moves t c ds d es
+    → serial_of x ≢ t → IsResumed first c x → IsResumed first d x
+resumed_stays first t c d ds es (came.Ended receipt) moves other ended =
+    record { behind = ended.behind; stands = stays c.events d.events receipt.place _ moves.goes.begins ended.stands }
 resumed_stays first t c d ds es (came.InDoubt u n) moves other left =
     left_stays t c d u n other (ap (λ (x : Core). x.procs) moves.goes.core) (moves.others u other) moves.given_up left
 
@@ -337,7 +354,8 @@ none_yet c ds legal =
       each = All-nil (IsOneOf c c (admitted_before c.events));
     }
 
-pub one_more : (c d e : Core) (ds es fs : List Store) (n : ℕ) (xs ys : List Resumed) → CameOfAll c ds d es n xs → Moves (suc n) d es e fs → CameOf d e (suc n) ys
+pub one_more : (c d e : Core) (ds es fs : List Store) (n : ℕ) (xs ys : List Resumed) → CameOfAll c ds d es n xs
+    → Moves (suc n) d es e fs → CameOf d e (suc n) ys
     → CameOfAll c ds e fs (suc n) (xs ++ ys)
 one_more c d e ds es fs n xs ys before moves came_of = record {
   goes = goes_then c d e ds es fs before.goes moves.goes;
@@ -346,7 +364,8 @@ one_more c d e ds es fs n xs ys before moves came_of = record {
       ∙ (ap (λ (l : List ℕ). l ++ map serial_of ys) before.serials
       ∙ ap (λ (l : List ℕ). open_to c.events n ++ l) (came_of.serials ∙ ap (serial_if (suc n)) (before.ahead (suc n) (omega arith))));
   doubts = doubts_join xs ys
-      ∙ (ap (λ (l : List ℕ). l ++ in_doubt ys) (before.doubts ∙ sym (open_same d.events e.events n (λ u low. moves.others u (λ same. absurd (omega (arith, low, same))))))
+      ∙ (ap (λ (l : List ℕ). l ++ in_doubt ys) (before.doubts
+          ∙ sym (open_same d.events e.events n (λ u low. moves.others u (λ same. absurd (omega (arith, low, same))))))
       ∙ ap (λ (l : List ℕ). open_to e.events n ++ l) came_of.doubts);
   each = All-append (IsOneOf c e (suc n)) xs ys
       (λ k x low.
@@ -363,12 +382,14 @@ pub room_left : (c d e : Core) (ds es : List Store) (n room : ℕ) (xs : List Re
 unfolding total
 room_left c d e ds es n room xs y before came_of within most =
     let many : length (map serial_of xs) ≡ length (open_to c.events n) = ap length before.serials in
-    let one : length (map serial_of (y ∷ [])) ≡ length (serial_if (suc n) (standing c.events (suc n))) = ap length (came_of.serials ∙ ap (serial_if (suc n)) (before.ahead (suc n) (omega arith))) in
+    let one : length (map serial_of (y ∷ [])) ≡ length (serial_if (suc n) (standing c.events (suc n))) = ap length
+        (came_of.serials ∙ ap (serial_if (suc n)) (before.ahead (suc n) (omega arith))) in
     let all = length-append (open_to c.events n) (serial_if (suc n) (standing c.events (suc n))) in
     let counted = count_to c.events (suc n) in
     let less = count_less c.events (suc n) (admitted c.events - suc n) in
     let last : suc n + (admitted c.events - suc n) ≡ admitted c.events = omega (arith, within) in
-    let less' : total_to each_one c.events (suc n) ≤ total_to each_one c.events (admitted c.events) = subst (λ (m : ℕ). total_to each_one c.events (suc n) ≤ total_to each_one c.events m) last less in
+    let less' : total_to each_one c.events (suc n) ≤ total_to each_one c.events (admitted c.events) = subst
+        (λ (m : ℕ). total_to each_one c.events (suc n) ≤ total_to each_one c.events m) last less in
     omega (arith, many, one, all, counted, less', most, length-map xs serial_of)
 
 pub all_done : (c d : Core) (ds es : List Store) (n : ℕ) (xs : List Resumed) → n ≡ admitted c.events → CameOfAll c ds d es n xs
@@ -386,18 +407,22 @@ some_open_by (Some s) some = (s, refl)
 pub some_open : (c : Core) (t u : ℕ) → u ≡ t → IsSome (standing c.events t) → IsOpen c u
 some_open c t u same some = (let it = some_open_by (standing c.events t) some in record { s = it.0; is = ap (standing c.events) same ∙ it.1 })
 
-pub room_for : (c d e : Core) (ds es : List Store) (n room : ℕ) (xs : List Resumed) (o : Option Resumed) → CameOfAll c ds d es n xs → CameOf d e (suc n) (option_to_list o)
+pub room_for : (c d e : Core) (ds es : List Store) (n room : ℕ) (xs : List Resumed) (o : Option Resumed)
+    → CameOfAll c ds d es n xs → CameOf d e (suc n) (option_to_list o)
     → suc n ≤ admitted c.events → total each_one c.events ≤ room → IsSome o → length xs < room
 room_for c d e ds es n room xs None before came_of within most some = absurd (let bad : false ≡ true = some in cc)
 room_for c d e ds es n room xs (Some y) before came_of within most some = room_left c d e ds es n room xs y before came_of within most
 
-pub one_more_at : (c d e : Core) (ds es fs : List Store) (n m : ℕ) (xs ys : List Resumed) → m ≡ suc n → CameOfAll c ds d es n xs → Moves m d es e fs → CameOf d e m ys
+pub one_more_at : (c d e : Core) (ds es fs : List Store) (n m : ℕ) (xs ys : List Resumed) → m ≡ suc n
+    → CameOfAll c ds d es n xs → Moves m d es e fs → CameOf d e m ys
     → CameOfAll c ds e fs m (xs ++ ys)
 one_more_at c d e ds es fs n m xs ys next before moves came_of =
     subst (λ (k : ℕ). CameOfAll c ds e fs k (xs ++ ys)) (sym next)
     (one_more c d e ds es fs n xs ys before (subst (λ (k : ℕ). Moves k d es e fs) next moves) (subst (λ (k : ℕ). CameOf d e k ys) next came_of))
 
-pub room_for_at : (c d e : Core) (ds es : List Store) (n m room : ℕ) (xs : List Resumed) (o : Option Resumed) → m ≡ suc n → CameOfAll c ds d es n xs → CameOf d e m (option_to_list o)
+pub room_for_at : (c d e : Core) (ds es : List Store) (n m room : ℕ) (xs : List Resumed) (o : Option Resumed)
+    → m ≡ suc n → CameOfAll c ds d es n xs → CameOf d e m (option_to_list o)
     → m ≤ admitted c.events → total each_one c.events ≤ room → IsSome o → length xs < room
 room_for_at c d e ds es n m room xs o next before came_of within most some =
-    room_for c d e ds es n room xs o before (subst (λ (k : ℕ). CameOf d e k (option_to_list o)) next came_of) (subst (λ (k : ℕ). k ≤ admitted c.events) next within) most some
+    room_for c d e ds es n room xs o before (subst (λ (k : ℕ). CameOf d e k (option_to_list o)) next came_of)
+        (subst (λ (k : ℕ). k ≤ admitted c.events) next within) most some

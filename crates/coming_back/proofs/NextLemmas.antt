@@ -43,7 +43,8 @@ fine_somewhere s Unfinished fine is = fine
 somewhere : (q : Checked) (args : List ℕ) (answers : List Said) → IsGood q → AreArguments q.decl args
     → Fitting q args answers → reached_of (stop_at q args answers) ≡ Nowhere → ⊥
 unfolding stop_at Fitting
-somewhere q args answers good takes fit is = fine_somewhere (plain q args) (reach (plain q args) answers) (good.safe.always args plain_bases answers plain_layout takes fit) is
+somewhere q args answers good takes fit is = fine_somewhere (plain q args) (reach (plain q args) answers)
+    (good.safe.always args plain_bases answers plain_layout takes fit) is
 
 no_next : (sent : Option Sent) (full : Bool) (left : Option Op) (tries last : ℕ) (at : Reached)
     → next_by sent full left tries last at ≡ None → at ≡ Nowhere
@@ -58,8 +59,10 @@ unfolding next_at
 has_next c t legal good still none =
     let s = still.s in
     let it = standing_sound c.procs good c.events legal t s still.is in
-    let nowhere : reached c.procs s ≡ Nowhere = no_next s.sent s.full (first_undo s.undo) s.tries s.last (reached c.procs s) (ap (next_in c.procs) (sym still.is) ∙ none) in
-    somewhere it.q s.call.args s.answers (good s.call.proc it.q it.loaded) it.takes it.fit (ap (λ (o : Option Checked). reached_by o s.call.args s.answers) (sym it.loaded) ∙ nowhere)
+    let nowhere : reached c.procs s ≡ Nowhere = no_next s.sent s.full (first_undo s.undo) s.tries s.last
+        (reached c.procs s) (ap (next_in c.procs) (sym still.is) ∙ none) in
+    somewhere it.q s.call.args s.answers (good s.call.proc it.q it.loaded) it.takes it.fit
+        (ap (λ (o : Option Checked). reached_by o s.call.args s.answers) (sym it.loaded) ∙ nowhere)
 
 -- ---- what `ask` answered
 
@@ -155,7 +158,8 @@ never_idle c t n is none = waits_in c.procs t n (standing c.events t) (asked_wai
 
 requested_by : (t : ℕ) (sent : Option Sent) (r : Asking) → Some r ≡ asking_by t sent → r.txn ≡ t
 requested_by t None r is = absurd cc
-requested_by t (Some s) r is = (let this : Asking = record { txn = t; number = s.number; op = s.op } in let same : r ≡ this = cc in ap (λ (x : Asking). x.txn) same)
+requested_by t (Some s) r is = (let this : Asking = record { txn = t; number = s.number; op = s.op } in let same :
+    r ≡ this = cc in ap (λ (x : Asking). x.txn) same)
 
 requested_in : (t : ℕ) (o : Option Standing) (r : Asking) → Some r ≡ asking_in t o → r.txn ≡ t
 requested_in t None r is = absurd cc
@@ -272,10 +276,12 @@ open_behind : (c : Core) (r : Asking) (e : Event) (s : Standing) (undoing : Bool
     → IsOpenHere (with_event c e) r
 open_behind c r e s undoing is waits = record { s = s; is = is; sent = sends_at r undoing; waits = waits; same_number = refl; same_op = refl }
 
-pub asked_stands : (c : Core) (t : ℕ) (r : Asking) → (it : IsAsked c t r) → standing (Ask r.txn r.number r.op ∷ c.events) t ≡ Some (asked r.number r.op it.can.s)
+pub asked_stands : (c : Core) (t : ℕ) (r : Asking) → (it : IsAsked c t r)
+    → standing (Ask r.txn r.number r.op ∷ c.events) t ≡ Some (asked r.number r.op it.can.s)
 asked_stands c t r it = standing-same (Ask r.txn r.number r.op) c.events t it.own ∙ rw it.can.is refl
 
-pub undone_stands : (c : Core) (t : ℕ) (r : Asking) → (it : IsUndone c t r) → standing (Undo r.txn r.number r.op ∷ c.events) t ≡ Some (undone r.number r.op it.can.s)
+pub undone_stands : (c : Core) (t : ℕ) (r : Asking) → (it : IsUndone c t r)
+    → standing (Undo r.txn r.number r.op ∷ c.events) t ≡ Some (undone r.number r.op it.can.s)
 undone_stands c t r it = standing-same (Undo r.txn r.number r.op) c.events t it.own ∙ rw it.can.is refl
 
 pub asked_open : (c : Core) (t : ℕ) (r : Asking) → IsAsked c t r → IsOpenHere (with_event c (Ask r.txn r.number r.op)) r
@@ -319,7 +325,8 @@ undone_nearer c t r legal good it =
     let was = left_here c.procs _ s it.can.is ∙ left_idle c.procs s it.can.idle in
     omega (arith, now, was, less_by_one (5 * calls c.procs s.call.proc) s.used few)
 
-pub answered_stands : (c : Core) (r : Asking) (said : Said) → (here : IsOpenHere c r) → standing (Answer r.txn r.number said ∷ c.events) r.txn ≡ Some (answered said here.s)
+pub answered_stands : (c : Core) (r : Asking) (said : Said) → (here : IsOpenHere c r)
+    → standing (Answer r.txn r.number said ∷ c.events) r.txn ≡ Some (answered said here.s)
 answered_stands c r said here = standing-same (Answer r.txn r.number said) c.events r.txn refl ∙ rw here.is refl
 
 left_sent : (ps : List Checked) (s : Standing) (sent : Sent) → s.sent ≡ Some sent → events_left ps s ≡ 2 * numbers_left ps s + 1 + 1
@@ -336,5 +343,6 @@ answered_nearer c r said here =
 pub ended_nearer : (c : Core) (t : ℕ) (o : Outcome) → left_of (with_event c (End t o)) t ≤ left_of c t
 unfolding left_of
 ended_nearer c t o =
-    let now : weighed (events_left c.procs) (standing (End t o ∷ c.events) t) ≡ 0 = ap (weighed (events_left c.procs)) (standing-same (End t o) c.events t refl) in
+    let now : weighed (events_left c.procs) (standing (End t o ∷ c.events) t) ≡ 0 = ap (weighed (events_left c.procs))
+        (standing-same (End t o) c.events t refl) in
     omega (arith, now)

@@ -126,7 +126,8 @@ if_heard true s t same = same
 if_heard false s t same = refl
 
 same_ops : (s : Store) (x : Wire) → (performed s x).ops ≡ s.ops
-same_ops s x = if_heard (s.incarnation == x.incarnation) s (store_by (marked s x.low_water) x.number x.op (fate_of s x)) (ops_by (marked s x.low_water) x.number x.op (fate_of s x))
+same_ops s x = if_heard (s.incarnation == x.incarnation) s (store_by (marked s x.low_water) x.number x.op (fate_of s x))
+    (ops_by (marked s x.low_water) x.number x.op (fate_of s x))
 
 no_shorter : (s : Store) (x : Wire) → PerformCase s x → length s.list ≤ length (performed s x).list
 no_shorter s x (old r l) = (let same = ap length l in omega (arith, same))
@@ -157,7 +158,8 @@ silent_case h s x none all (again said u r l) = absurd (none_some _ _ none r)
 silent_case h s x none all (news u r l) = absurd (none_some _ _ none r)
 
 -- a data component performed a wire whose mark is low
-stored : (c : Core) (ds es : List Store) (x : Wire) (y : Option Reply) (it : PerformsAt ds x y es) → x.low_water ≤ low_water c.events → AllOver c.events (performed it.s x).list
+stored : (c : Core) (ds es : List Store) (x : Wire) (y : Option Reply) (it : PerformsAt ds x y es)
+    → x.low_water ≤ low_water c.events → AllOver c.events (performed it.s x).list
     → IsQuiet c ds → IsQuiet c es
 stored c ds es x y it low over q = subst (IsQuiet c) (sym it.then_is) (record {
   each = λ d s at. each d s at;
@@ -219,7 +221,8 @@ few_here c r legal here =
     omega (arith, few, same)
 
 -- it is answered
-pub answered_quiet : (c : Core) (r : Asking) (z : Reply) (ds es : List Store) → Legal c.procs c.events → IsAnswer c r z → Legal c.procs (after_answer c r z.said).events
+pub answered_quiet : (c : Core) (r : Asking) (z : Reply) (ds es : List Store) → Legal c.procs c.events → IsAnswer c r z
+    → Legal c.procs (after_answer c r z.said).events
     → Sends c r ds (Some z) es → IsQuiet c ds → IsQuiet (after_answer c r z.said) es
 answered_quiet c r z ds es legal a legal' (Unsent down is none same) q = absurd (let bad : Some z ≡ None = none in cc)
 answered_quiet c r z ds es legal a legal' (Sent x is (Nowhere past none same)) q = absurd (let bad : Some z ≡ None = none in cc)
@@ -233,8 +236,10 @@ answered_quiet c r z ds es legal a legal' (Sent x is (There it)) q =
     let low = later.low in
     let q' : IsQuiet (with_event c e) ds = quiet_later c e ds later q in
     let few = few_here c r legal here in
-    let over : IsOver (e ∷ c.events) (x.number, x.op, says it.s x) = (omega (arith, few, number), if_some r.number x.number None (open_op c.events x.number) (sym number)) in
-    stored (with_event c e) ds es x (Some z) it (omega (arith, mark, low)) (over_case (e ∷ c.events) it.s x over (q'.each (target x.op).dc it.s it.at).list (perform_case it.s x)) q'
+    let over : IsOver (e ∷ c.events) (x.number, x.op, says it.s x) =
+        (omega (arith, few, number), if_some r.number x.number None (open_op c.events x.number) (sym number)) in
+    stored (with_event c e) ds es x (Some z) it (omega (arith, mark, low))
+        (over_case (e ∷ c.events) it.s x over (q'.each (target x.op).dc it.s it.at).list (perform_case it.s x)) q'
 
 -- ---- what is said to a number that is open
 
@@ -266,14 +271,16 @@ not_old a b n low above = by (nat_le a b)
     by true = grind (arith, nat_tests)
     by false = grind (arith, nat_tests)
 
-fresh_reply : (s : Store) (x : Wire) (z : Reply) → nat_le x.number (raised s.mark x.low_water) ≡ false → said_under s.list x.number ≡ None → replied s x ≡ Some z → IsSaid s x.number x.op z
+fresh_reply : (s : Store) (x : Wire) (z : Reply) → nat_le x.number (raised s.mark x.low_water) ≡ false
+    → said_under s.list x.number ≡ None → replied s x ≡ Some z → IsSaid s x.number x.op z
 fresh_reply s x z above none is = by (s.incarnation == x.incarnation) is
   where
     m : Store
     m = marked s x.low_water
 
     fresh : fate_of s x ≡ fate_of_new m x.redo x.op
-    fresh = ap (λ (b : Bool). if b then IsOld else fate_above (said_under s.list x.number) m x.redo x.op) above ∙ ap (λ (o : Option Said). fate_above o m x.redo x.op) none
+    fresh = ap (λ (b : Bool). if b then IsOld else fate_above (said_under s.list x.number) m x.redo x.op) above
+        ∙ ap (λ (o : Option Said). fate_above o m x.redo x.op) none
 
     by : (b : Bool) → (if b then reply_by s x.number (fate_of s x) else None) ≡ Some z → IsSaid s x.number x.op z
     by true e = reply_new s m x.number x.redo x.op z (ap (reply_by s x.number) (sym fresh) ∙ e)
@@ -296,7 +303,8 @@ none_under (Some said) never = absurd (never said refl)
 abbrev IsFullFor : Asking → List Store → Type 0
 IsFullFor r ds = (s : Store) → slice_get ds (target r.op).dc ≡ Some s → s.ops ≤ length s.list
 
-given_up_quiet : (c : Core) (r : Asking) (ds : List Store) → Legal c.procs c.events → IsOpenHere c r → IsFullFor r ds → IsQuiet c ds → IsQuiet (with_given_up c r.number) ds
+given_up_quiet : (c : Core) (r : Asking) (ds : List Store) → Legal c.procs c.events → IsOpenHere c r → IsFullFor r ds
+    → IsQuiet c ds → IsQuiet (with_given_up c r.number) ds
 given_up_quiet c r ds legal here full q = record {
   each = λ d s at. (let is = q.each d s at in record { up = is.up; known = is.known; mark = is.mark; saved_mark = is.saved_mark; list = is.list });
   given_up = λ m held. elim (cases_eq r.number m) [
@@ -315,7 +323,9 @@ pub left_quiet : (c : Core) (r : Asking) (y : Option Reply) (ds es : List Store)
     → ((z : Reply) → y ≡ Some z → IsAnswer c r z → ⊥) → IsQuiet c ds → IsQuiet (with_given_up c r.number) es
 left_quiet c r y ds es legal here (Unsent down is none same) refused q =
     subst (IsQuiet (with_given_up c r.number)) (sym same)
-    (given_up_quiet c r ds legal here (λ s at. absurd (none_sent c r (site_of c.sites r.op).incarnation (site_of c.sites r.op).redo down is (q.each (target r.op).dc s at).up)) q)
+    (given_up_quiet c r ds legal here
+        (λ s at. absurd (none_sent c r (site_of c.sites r.op).incarnation (site_of c.sites r.op).redo down is
+        (q.each (target r.op).dc s at).up)) q)
 left_quiet c r y ds es legal here (Sent x is (Nowhere past none same)) refused q =
     let wire = (wire_is c r (site_of c.sites r.op).incarnation (site_of c.sites r.op).redo x is).0 in
     let op : x.op ≡ r.op = ap (λ (w : Wire). w.op) wire in
@@ -381,11 +391,15 @@ left_quiet c r y ds es legal here (Sent x is (There it)) refused q = by y refl
     by None silence =
         let quiet : replied it.s x ≡ None = sym it.said ∙ silence in
         let t : Store = performed it.s x in
-        let q' : IsQuiet c es = stored c ds es x y it (omega (arith, low)) (silent_case c.events it.s x quiet (q.each (target x.op).dc it.s it.at).list (perform_case it.s x)) q in
+        let q' : IsQuiet c es = stored c ds es x y it (omega (arith, low))
+            (silent_case c.events it.s x quiet (q.each (target x.op).dc it.s it.at).list (perform_case it.s x)) q in
         let full : t.ops ≤ length t.list =
-        full_by it.s (marked it.s x.low_water) x.number x.op (it.s.incarnation == x.incarnation) (fate_of it.s x) refl refl (eq-true _ _ heard) quiet (silent_room it.s x) in
+        full_by it.s (marked it.s x.low_water) x.number x.op (it.s.incarnation == x.incarnation) (fate_of it.s x) refl
+            refl (eq-true _ _ heard) quiet (silent_room it.s x) in
         let there : slice_get es (target r.op).dc ≡ Some t =
-        subst (λ (o : Op). slice_get es (target o).dc ≡ Some t) op (ap (λ (fs : List Store). slice_get fs (target x.op).dc) it.then_is ∙ set_same ds (target x.op).dc it.s t it.at) in
+        subst (λ (o : Op). slice_get es (target o).dc ≡ Some t) op
+            (ap (λ (fs : List Store). slice_get fs (target x.op).dc) it.then_is
+            ∙ set_same ds (target x.op).dc it.s t it.at) in
         given_up_quiet c r es legal here (λ s is_there. subst (λ (z : Store). z.ops ≤ length z.list) (some_same t s (sym there ∙ is_there)) full) q'
 
 -- ---- where nothing was sent but what is redone

@@ -68,7 +68,8 @@ site_there sites n m t other = ap site_by (set_other sites n m t (λ same. other
 abbrev AreStill : ℕ → List Store → List Store → Type 0
 AreStill n ds es = (m : ℕ) → m ≢ n → slice_get es m ≡ slice_get ds m
 
-resited : (n : ℕ) (c : Core) (ds es : List Store) (s t : Site) → slice_get c.sites n ≡ Some s → t.incarnation ≡ s.incarnation → AreRedone ds es → AreStill n ds es
+resited : (n : ℕ) (c : Core) (ds es : List Store) (s t : Site) → slice_get c.sites n ≡ Some s
+    → t.incarnation ≡ s.incarnation → AreRedone ds es → AreStill n ds es
     → LivesOn (at_rest c ds) (at_rest (with_site c n t) es) → RedoesAt n c ds (with_site c n t) es
 resited n c ds es s t at same redone stores lived = record {
   redoes = record {
@@ -107,7 +108,8 @@ up_again_redoes : (n : ℕ) (c : Core) (ds : List Store) (o : Option Site) → s
 up_again_redoes n c ds None at lived = redoes_at_same n c ds
 up_again_redoes n c ds (Some s) at lived = resited n c ds ds s (record s { redo = None }) at refl (all_same IsRedoFor ds) (λ m other. refl) lived
 
-pub next_redoes : (n : ℕ) (c : Core) (ds : List Store) (a : Redo) → a ≡ redo_reply c n → Legal c.procs c.events → AllGood c.procs → RedoesAt n c ds (after_redo c n a) ds
+pub next_redoes : (n : ℕ) (c : Core) (ds : List Store) (a : Redo) → a ≡ redo_reply c n → Legal c.procs c.events
+    → AllGood c.procs → RedoesAt n c ds (after_redo c n a) ds
 next_redoes n c ds (redo.Send x) is legal good = redoes_at_same n c ds
 next_redoes n c ds redo.Finished is legal good = up_again_redoes n c ds (slice_get c.sites n) refl (next_lived n c ds redo.Finished is legal good)
 next_redoes n c ds redo.NotDown is legal good = redoes_at_same n c ds
@@ -172,35 +174,42 @@ performs_redone : (ds es : List Store) (x : Wire) (y : Option Reply) → x.redo 
 performs_redone ds es x y is (There it) = subst (AreRedone ds) (sym it.then_is) (all_once IsRedoFor ds x it.s (refl, is) it.at)
 performs_redone ds es x y is (Nowhere past none same) = subst (AreRedone ds) (sym same) (all_same IsRedoFor ds)
 
-performs_still : (n : ℕ) (c : Core) (x : Wire) (y : Option Reply) (ds es : List Store) → Legal c.procs c.events → redo.Send x ≡ redo_reply c n → Performs ds x y es → AreStill n ds es
+performs_still : (n : ℕ) (c : Core) (x : Wire) (y : Option Reply) (ds es : List Store) → Legal c.procs c.events
+    → redo.Send x ≡ redo_reply c n → Performs ds x y es → AreStill n ds es
 performs_still n c x y ds es legal is (There it) m other =
     let dc = (sent_at c n x (slice_get c.sites n) legal refl is).dc in
     ap (λ (fs : List Store). slice_get fs m) it.then_is ∙ set_other ds (target x.op).dc m (performed it.s x) (λ same. other (sym same ∙ dc))
 performs_still n c x y ds es legal is (Nowhere past none same) m other = ap (λ (fs : List Store). slice_get fs m) same
 
-performs_lived : (n : ℕ) (c : Core) (x : Wire) (y : Option Reply) (ds es : List Store) → Legal c.procs c.events → AllGood c.procs → redo.Send x ≡ redo_reply c n → Performs ds x y es
+performs_lived : (n : ℕ) (c : Core) (x : Wire) (y : Option Reply) (ds es : List Store) → Legal c.procs c.events
+    → AllGood c.procs → redo.Send x ≡ redo_reply c n → Performs ds x y es
     → LivesOn (at_rest c ds) (at_rest c es)
 performs_lived n c x y ds es legal good is (There it) start l = resent_lived n c x y ds es legal good is it start l
 performs_lived n c x y ds es legal good is (Nowhere past none same) start l = subst (λ (fs : List Store). Becomes start (at_rest c fs)) (sym same) l
 
 -- what is redone is performed, and nothing is taken in
-pub performed_redoes : (n : ℕ) (c : Core) (x : Wire) (y : Option Reply) (ds es : List Store) → Legal c.procs c.events → AllGood c.procs → redo.Send x ≡ redo_reply c n → Performs ds x y es
+pub performed_redoes : (n : ℕ) (c : Core) (x : Wire) (y : Option Reply) (ds es : List Store) → Legal c.procs c.events
+    → AllGood c.procs → redo.Send x ≡ redo_reply c n → Performs ds x y es
     → RedoesAt n c ds c es
 performed_redoes n c x y ds es legal good is performs =
-    redone_here n c ds es (performs_redone ds es x y (sent_is_redo c n x (slice_get c.sites n) is) performs) (performs_still n c x y ds es legal is performs) (performs_lived n c x y ds es legal good is performs)
+    redone_here n c ds es (performs_redone ds es x y (sent_is_redo c n x (slice_get c.sites n) is) performs)
+        (performs_still n c x y ds es legal is performs) (performs_lived n c x y ds es legal good is performs)
 
-taken_lived : (n : ℕ) (c : Core) (x : Wire) (z : Reply) (ds es : List Store) → Legal c.procs c.events → AllGood c.procs → redo.Send x ≡ redo_reply c n → Performs ds x (Some z) es
+taken_lived : (n : ℕ) (c : Core) (x : Wire) (z : Reply) (ds es : List Store) → Legal c.procs c.events → AllGood c.procs
+    → redo.Send x ≡ redo_reply c n → Performs ds x (Some z) es
     → IsRedone c n z → LivesOn (at_rest c ds) (at_rest (after_redone c n z.number) es)
 taken_lived n c x z ds es legal good is (There it) redone start l = redone_lived n c x z ds es legal good is it redone start l
 taken_lived n c x z ds es legal good is (Nowhere past none same) redone start l = absurd (let bad : Some z ≡ None = none in cc)
 
 -- and its reply is taken in
-pub redone_redoes : (n : ℕ) (c : Core) (x : Wire) (z : Reply) (ds es : List Store) → Legal c.procs c.events → AllGood c.procs → redo.Send x ≡ redo_reply c n → Performs ds x (Some z) es
+pub redone_redoes : (n : ℕ) (c : Core) (x : Wire) (z : Reply) (ds es : List Store) → Legal c.procs c.events
+    → AllGood c.procs → redo.Send x ≡ redo_reply c n → Performs ds x (Some z) es
     → IsRedone c n z → RedoesAt n c ds (after_redone c n z.number) es
 redone_redoes n c x z ds es legal good is performs it =
     let lived = taken_lived n c x z ds es legal good is performs it in
     subst (λ (o : Option Site). RedoesAt n c ds (redone_at c n z.number o) es) (sym it.there)
-    (resited n c ds es it.site (record it.site { redo = redone_to z.number it.site.redo }) it.there refl (performs_redone ds es x (Some z) (sent_is_redo c n x (slice_get c.sites n) is) performs)
+    (resited n c ds es it.site (record it.site { redo = redone_to z.number it.site.redo }) it.there refl
+        (performs_redone ds es x (Some z) (sent_is_redo c n x (slice_get c.sites n) is) performs)
     (performs_still n c x (Some z) ds es legal is performs)
     (subst (λ (o : Option Site). LivesOn (at_rest c ds) (at_rest (redone_at c n z.number o) es)) it.there lived))
 
@@ -208,7 +217,8 @@ redone_redoes n c x z ds es legal good is performs it =
 pub redone_nearer : (n : ℕ) (c : Core) (x : Reply) → Legal c.procs c.events → IsRedone c n x → left_to_redo (after_redone c n x.number) n < left_to_redo c n
 unfolding left_to_redo
 redone_nearer n c x legal it =
-    let facts : IsToRedo c.events n it.r.redone (Some it.a) = subst (IsToRedo c.events n it.r.redone) it.next (to_redo_is c.procs c.events legal n it.r.redone) in
+    let facts : IsToRedo c.events n it.r.redone (Some it.a) = subst (IsToRedo c.events n it.r.redone) it.next
+        (to_redo_is c.procs c.events legal n it.r.redone) in
     let top = answered_given c.procs c.events legal it.a.number it.a (answered_done c.events n it.a.number it.a facts.1) in
     let was : (site_at c.sites n).redo ≡ Some it.r = ap (λ (o : Option Site). (site_by o).redo) it.there ∙ it.down in
     let again : Site = record it.site { redo = redone_to x.number it.site.redo } in

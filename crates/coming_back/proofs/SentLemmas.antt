@@ -18,7 +18,8 @@ pub record IsSentTo (c : Core) (n : ℕ) (x : Wire) : Type 0 where
   pub dc : (target x.op).dc ≡ n
   pub incarnation : x.incarnation ≡ (site_at c.sites n).incarnation
 
-sent_by : (c : Core) (n : ℕ) (x : Wire) (s : Site) (o : Option Redoing) → Legal c.procs c.events → slice_get c.sites n ≡ Some s → s.redo ≡ o → redo.Send x ≡ redo_by c n s.incarnation o → IsSentTo c n x
+sent_by : (c : Core) (n : ℕ) (x : Wire) (s : Site) (o : Option Redoing) → Legal c.procs c.events
+    → slice_get c.sites n ≡ Some s → s.redo ≡ o → redo.Send x ≡ redo_by c n s.incarnation o → IsSentTo c n x
 sent_by c n x s None legal at down is = absurd cc
 sent_by c n x s (Some r) legal at down is = by (to_redo c.events n r.redone) refl is
   where

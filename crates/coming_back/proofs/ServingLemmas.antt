@@ -50,7 +50,8 @@ all_once Such ds x s such at = record { count = length-set ds (target x.op).dc (
           let same : s ≡ t = some_same s t (sym at ∙ (ap (slice_get ds) here ∙ there)) in
           record {
             now = performed s x;
-            at = subst (λ (k : ℕ). slice_get (slice_set ds (target x.op).dc (performed s x)) k ≡ Some (performed s x)) here (set_same ds (target x.op).dc s (performed s x) at);
+            at = subst (λ (k : ℕ). slice_get (slice_set ds (target x.op).dc (performed s x)) k ≡ Some (performed s x))
+                here (set_same ds (target x.op).dc s (performed s x) at);
             served = subst (λ (z : Store). IsServed (Such d) z (performed s x)) same (served_once (Such d) s x (subst (λ (k : ℕ). Such k x) here such));
           }
       | inr other ↦ record { now = t; at = set_other ds (target x.op).dc d (performed s x) other ∙ there; served = served_same (Such d) t }
@@ -79,7 +80,9 @@ if_heard true s t same = same
 if_heard false s t same = refl
 
 pub performed_by : (s : Store) (x : Wire) → (performed s x).incarnation ≡ s.incarnation
-performed_by s x = if_heard (s.incarnation == x.incarnation) s (store_by (marked s x.low_water) x.number x.op (fate_of s x)) (by_fate (marked s x.low_water) x.number x.op (fate_of s x))
+performed_by s x = if_heard (s.incarnation == x.incarnation) s
+    (store_by (marked s x.low_water) x.number x.op (fate_of s x))
+    (by_fate (marked s x.low_water) x.number x.op (fate_of s x))
 
 fold_by : (s : Store) (xs : List Wire) → (fold performed s xs).incarnation ≡ s.incarnation
 fold_by s [] = refl

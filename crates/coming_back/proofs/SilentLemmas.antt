@@ -10,7 +10,9 @@ use Rattle.data_component.specs.Store.{Store, marked, Fate, IsOld, Again, Silent
 no_room : (s : Store) (more : Bool) (o : Op) → fate_of_new s more o ≡ Silent → s.ops ≤ length s.list
 no_room s more o is = by (nat_lt (length s.list) s.ops) refl is
   where
-    by : (b : Bool) → nat_lt (length s.list) s.ops ≡ b → cond b (New (answer (has_room s.rows more s.base s.list) s.base s.list o)) Silent ≡ Silent → s.ops ≤ length s.list
+    by : (b : Bool) → nat_lt (length s.list) s.ops ≡ b
+        → cond b (New (answer (has_room s.rows more s.base s.list) s.base s.list o)) Silent ≡ Silent
+        → s.ops ≤ length s.list
     by true t e = absurd cc
     by false t e = grind (arith, nat_tests)
 
@@ -26,7 +28,8 @@ pub silent_room : (s : Store) (x : Wire) → fate_of s x ≡ Silent → s.ops �
 silent_room s x is =
     silent_above (said_under s.list x.number) (marked s x.low_water) x.redo x.op (silent_by (nat_le x.number (marked s x.low_water).mark) _ is)
 
-pub full_by : (s m : Store) (n : ℕ) (o : Op) (b : Bool) (f : Fate) → m.list ≡ s.list → m.ops ≡ s.ops → b ≡ true → cond b (reply_by s n f) None ≡ None → (f ≡ Silent → s.ops ≤ length s.list)
+pub full_by : (s m : Store) (n : ℕ) (o : Op) (b : Bool) (f : Fate) → m.list ≡ s.list → m.ops ≡ s.ops → b ≡ true
+    → cond b (reply_by s n f) None ≡ None → (f ≡ Silent → s.ops ≤ length s.list)
     → (cond b (store_by m n o f) s).ops ≤ length (cond b (store_by m n o f) s).list
 full_by s m n o false f list ops heard none room = absurd cc
 full_by s m n o true IsOld list ops heard none room = absurd cc

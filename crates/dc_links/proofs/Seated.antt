@@ -131,7 +131,8 @@ pub comes : (slots : ℕ) → Arrives IsSeat slots 0 (λ _. 1) (taken (step slot
 comes slots s is wide within = come (step slots 0 1 0 none) (Away, []) s is.owner is.holder is.word is.lies is.knows
 
 -- the owner rises, where it was free
-rise : (st : Step (Option Served)) (s : State (Option Served) Part) (own : ℕ) (began : Began) (owner : Owner) (holder : Option ℕ) → s.words ≡ word_of holder ∷ []
+rise : (st : Step (Option Served)) (s : State (Option Served) Part) (own : ℕ) (began : Began) (owner : Owner)
+    (holder : Option ℕ) → s.words ≡ word_of holder ∷ []
     → Lies (owned owner) holder s.homes → Views owner holder s.views → owner ≡ Some (own, began)
     → (new : Part) × (act : Act (Option Served)) × Valid s.homes [] act × IsSeat (stepped s 0 1 own [] new act)
     × risen st (sitting began) (slice_index s.words 0) (new, carried_after [] act)
@@ -176,7 +177,8 @@ rises slots own me began its =
     subst (λ (m : Standing). Allows IsSeat slots own m 0 (λ _. 1) (risen (step slots 0 1 0 none) m)) (sym its) (rises-as slots own began)
 
 -- nothing lies there while somebody has it in hands
-out : (began : Option Began) (holder : Option ℕ) (own : ℕ) (homes : List (maybe.Option (Option Served))) → holder ≡ Some own → Lies began holder homes → homes ≡ none ∷ []
+out : (began : Option Began) (holder : Option ℕ) (own : ℕ) (homes : List (maybe.Option (Option Served)))
+    → holder ≡ Some own → Lies began holder homes → homes ≡ none ∷ []
 out began holder own homes its lies = subst (λ (h : Option ℕ). Lies began h homes) its lies
 
 puts_back-as : (slots own : ℕ) (began : Option Began) (lying : Option Served) → IsOf began lying

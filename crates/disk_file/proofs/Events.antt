@@ -15,7 +15,8 @@ one_more events x = record { later = omega arith; nothing_else = λ t c le left.
     earlier t c (inr before) = inl before.1
 
 pub elapses_to : (events new : Events) (x : Event) → new ≡ x ∷ events → Elapses (length events) (length new) (LeftSince events) (LeftSince new) (MayLeave new)
-elapses_to events new x is = subst (λ (l : Events). Elapses (length events) (length l) (LeftSince events) (LeftSince l) (MayLeave l)) (sym is) (one_more events x)
+elapses_to events new x is = subst (λ (l : Events). Elapses (length events) (length l) (LeftSince events) (LeftSince l)
+    (MayLeave l)) (sym is) (one_more events x)
 
 pub elapses_same : (events : Events) → Elapses (length events) (length events) (LeftSince events) (LeftSince events) (MayLeave events)
 elapses_same events = record { later = omega arith; nothing_else = λ t c le left. inl left; keeps = λ t c le left. left }
@@ -53,10 +54,13 @@ synced events new fault is = subst (λ (l : Events). Only (written_by events) (M
 
 pub synced_within : (events new : Events) (fault : ℕ) → new ≡ record { call = Synced; fault = fault } ∷ events
     → (c : List ℕ) → MayLeave new c → MayLeave events c
-synced_within events new fault is c left = (let there : MayLeave (record { call = Synced; fault = fault } ∷ events) c = subst (λ (l : Events). MayLeave l c) is left in there.1)
+synced_within events new fault is c left = (let there : MayLeave (record { call = Synced; fault = fault } ∷ events) c =
+    subst (λ (l : Events). MayLeave l c) is left in there.1)
 
-pub unsynced_within : (events new : Events) (fault : ℕ) → new ≡ record { call = Unsynced; fault = fault } ∷ events → (c : List ℕ) → MayLeave new c → MayLeave events c
-unsynced_within events new fault is c left = (let there : MayLeave (record { call = Unsynced; fault = fault } ∷ events) c = subst (λ (l : Events). MayLeave l c) is left in there)
+pub unsynced_within : (events new : Events) (fault : ℕ) → new ≡ record { call = Unsynced; fault = fault } ∷ events
+    → (c : List ℕ) → MayLeave new c → MayLeave events c
+unsynced_within events new fault is c left = (let there : MayLeave (record { call = Unsynced; fault = fault } ∷ events)
+    c = subst (λ (l : Events). MayLeave l c) is left in there)
 
 -- nothing was cut off
 pub not_cut : (events : Events) (n : ℕ) → Follows (Cut n) (MayLeave events) (MayLeave events)

@@ -23,7 +23,8 @@ front_is (suc k) (x ∷ there) (w ∷ word) is =
     joined a b xs ys e f = cc
 
 left_front : (k : ℕ) (word there : List ℕ) → IsLeft word there → IsLeft word (take k there)
-left_front k word there left = ⊎_elim (λ (is : there ≡ take (length there) word). inl (front_is k there word is)) (λ (hole : there ≡ take (length there) (replicate 8 0)). inr (front_is k there (replicate 8 0) hole)) left
+left_front k word there left = ⊎_elim (λ (is : there ≡ take (length there) word). inl (front_is k there word is))
+    (λ (hole : there ≡ take (length there) (replicate 8 0)). inr (front_is k there (replicate 8 0) hole)) left
 
 commute : (m n : ℕ) (xs : List ℕ) → take m (take n xs) ≡ take n (take m xs)
 commute zero zero xs = refl
@@ -56,7 +57,9 @@ torn_front n k rest t = record {
       let enough : 16 ≤ k = omega (arith, long, within k rest) in
       let all : 16 ≤ length rest = omega (arith, long, no_longer k rest) in
       subst (λ (w : List ℕ). (from_le_bytes w64 w ≡ 0) ⊎ (length (take k rest) ≤ 24 + from_le_bytes w64 w)) (sym (second_word k rest enough))
-      (⊎_elim (λ (none : from_le_bytes w64 (word_at 1 rest) ≡ 0). inl none) (λ (le : length rest ≤ 24 + from_le_bytes w64 (word_at 1 rest)). inr (omega (arith, le, no_longer k rest))) (t.measured all));
+      (⊎_elim (λ (none : from_le_bytes w64 (word_at 1 rest) ≡ 0). inl none)
+          (λ (le : length rest ≤ 24 + from_le_bytes w64 (word_at 1 rest)). inr (omega (arith, le, no_longer k rest)))
+          (t.measured all));
 }
 
 pub nothing_torn : (n : ℕ) (rest : List ℕ) → length rest ≡ 0 → MayBeTorn n rest
@@ -79,21 +82,27 @@ zeros : from_le_bytes w64 (take 8 (replicate 8 0)) ≡ 0
 zeros = refl
 
 -- a whole word that is left says the length, or nothing
-says : (length_is : ℕ) (word : List ℕ) → length_is < 2 ^ 64 → length word ≡ 8 → IsLeft (to_le_bytes w64 length_is) word → (from_le_bytes w64 word ≡ 0) ⊎ (from_le_bytes w64 word ≡ length_is)
+says : (length_is : ℕ) (word : List ℕ) → length_is < 2 ^ 64 → length word ≡ 8 → IsLeft (to_le_bytes w64 length_is) word
+    → (from_le_bytes w64 word ≡ 0) ⊎ (from_le_bytes w64 word ≡ length_is)
 says m word small eight left =
     ⊎_elim
-    (λ (is : word ≡ take (length word) (to_le_bytes w64 m)). inr (ap (λ (w : List ℕ). from_le_bytes w64 w) (is ∙ ap (λ (k : ℕ). take k (to_le_bytes w64 m)) eight) ∙ from_le_bytes-to_le_bytes_8 m small))
-    (λ (hole : word ≡ take (length word) (replicate 8 0)). inl (ap (λ (w : List ℕ). from_le_bytes w64 w) (hole ∙ ap (λ (k : ℕ). take k (replicate 8 0)) eight) ∙ zeros))
+    (λ (is : word ≡ take (length word) (to_le_bytes w64 m)). inr
+        (ap (λ (w : List ℕ). from_le_bytes w64 w) (is ∙ ap (λ (k : ℕ). take k (to_le_bytes w64 m)) eight)
+        ∙ from_le_bytes-to_le_bytes_8 m small))
+    (λ (hole : word ≡ take (length word) (replicate 8 0)). inl
+        (ap (λ (w : List ℕ). from_le_bytes w64 w) (hole ∙ ap (λ (k : ℕ). take k (replicate 8 0)) eight) ∙ zeros))
     left
 
 eight_there : (tail : List ℕ) → 16 ≤ length tail → length (word_at 1 tail) ≡ 8
 eight_there tail long = length-take-le 8 (drop 8 tail) (omega (arith, long, length-drop 8 tail))
 
-pub left_torn : (n : ℕ) (p tail : List ℕ) → IsPayload p → length tail ≤ 24 + length p → ((k : ℕ) → IsLeft (word_at k (framed n p)) (word_at k tail)) → MayBeTorn n tail
+pub left_torn : (n : ℕ) (p tail : List ℕ) → IsPayload p → length tail ≤ 24 + length p
+    → ((k : ℕ) → IsLeft (word_at k (framed n p)) (word_at k tail)) → MayBeTorn n tail
 left_torn n p tail fits short words = record {
   numbered = subst (λ (w : List ℕ). IsLeft w (word_at 0 tail)) (first_word n p fits) (words 0);
   measured = λ long.
       let left = subst (λ (w : List ℕ). IsLeft w (word_at 1 tail)) (length_word n p fits) (words 1) in
-      ⊎_elim (λ (none : from_le_bytes w64 (word_at 1 tail) ≡ 0). inl none) (λ (is : from_le_bytes w64 (word_at 1 tail) ≡ length p). inr (omega (arith, is, short)))
+      ⊎_elim (λ (none : from_le_bytes w64 (word_at 1 tail) ≡ 0). inl none)
+          (λ (is : from_le_bytes w64 (word_at 1 tail) ≡ length p). inr (omega (arith, is, short)))
       (says (length p) (word_at 1 tail) fits (eight_there tail long) left);
 }

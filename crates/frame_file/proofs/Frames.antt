@@ -132,7 +132,8 @@ length-framed n p = omega (arith, length-append (head_bytes n p) p, length-head 
 pub frames_push : (n m : ℕ) (ps : List (List ℕ)) (p : List ℕ) → m ≡ n + length ps → frames_from n (ps ++ p ∷ []) ≡ frames_from n ps ++ framed m p
 frames_push n m [] p at = append-nil (framed n p) ∙ ap (λ (k : ℕ). framed k p) (omega (arith, at))
 frames_push n m (q ∷ ps) p at =
-    ap (λ (b : List ℕ). framed n q ++ b) (frames_push (n + 1) m ps p (omega (arith, at))) ∙ sym (append_assoc (framed n q) (frames_from (n + 1) ps) (framed m p))
+    ap (λ (b : List ℕ). framed n q ++ b) (frames_push (n + 1) m ps p (omega (arith, at)))
+        ∙ sym (append_assoc (framed n q) (frames_from (n + 1) ps) (framed m p))
 
 pub fit_push : (ps : List (List ℕ)) (p : List ℕ) → ArePayloads ps → IsPayload p → ArePayloads (ps ++ p ∷ [])
 fit_push [] p fit one = (one, tt)

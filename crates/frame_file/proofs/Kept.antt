@@ -34,17 +34,22 @@ Since past bytes t c = (c ≡ bytes) ⊎ HadBeen (drop t past) c
 pub elapses_same : (past : Contents) (bytes : List ℕ) → Elapses (length past) (length past) (Since past bytes) (Since past bytes) (λ c. c ≡ bytes)
 elapses_same past bytes = record { later = omega arith; nothing_else = λ t c le left. inl left; keeps = λ t c le left. left }
 
-elapses_push : (past : Contents) (v : Vec ℕ Global) (old new : List ℕ) → v.items ≡ old → Elapses (length past) (length (past ++ v ∷ [])) (Since past old) (Since (past ++ v ∷ []) new) (λ c. c ≡ new)
+elapses_push : (past : Contents) (v : Vec ℕ Global) (old new : List ℕ) → v.items ≡ old
+    → Elapses (length past) (length (past ++ v ∷ [])) (Since past old) (Since (past ++ v ∷ []) new) (λ c. c ≡ new)
 elapses_push past v old new is = record {
   later = omega (arith, length-append past (v ∷ []));
-  nothing_else = λ t c le left. ⊎_elim (λ now. inr now) (λ had. inl (was t c (adds (drop t past) v c (subst (λ (l : Contents). HadBeen l c) (drop_push t past v le) had)))) left;
-  keeps = λ t c le left. inr (subst (λ (l : Contents). HadBeen l c) (sym (drop_push t past v le)) (⊎_elim (λ now. newest (drop t past) v c (now ∙ sym is)) (keeps (drop t past) v c) left));
+  nothing_else = λ t c le left. ⊎_elim (λ now. inr now)
+      (λ had. inl (was t c (adds (drop t past) v c (subst (λ (l : Contents). HadBeen l c) (drop_push t past v le)
+      had)))) left;
+  keeps = λ t c le left. inr (subst (λ (l : Contents). HadBeen l c) (sym (drop_push t past v le))
+      (⊎_elim (λ now. newest (drop t past) v c (now ∙ sym is)) (keeps (drop t past) v c) left));
 }
   where
     was : (t : ℕ) (c : List ℕ) → HadBeen (drop t past) c ⊎ (c ≡ v.items) → Since past old t c
     was t c (inl had) = inr had
     was t c (inr new) = inl (new ∙ is)
 
-pub elapses_to : (past later : Contents) (v : Vec ℕ Global) (old new : List ℕ) → v.items ≡ old → later ≡ past ++ v ∷ [] → Elapses (length past) (length later) (Since past old) (Since later new) (λ c. c ≡ new)
+pub elapses_to : (past later : Contents) (v : Vec ℕ Global) (old new : List ℕ) → v.items ≡ old → later ≡ past ++ v ∷ []
+    → Elapses (length past) (length later) (Since past old) (Since later new) (λ c. c ≡ new)
 elapses_to past later v old new is same =
     subst (λ (l : Contents). Elapses (length past) (length l) (Since past old) (Since l new) (λ c. c ≡ new)) (sym same) (elapses_push past v old new is)

@@ -11,7 +11,8 @@ use Rattle.frame_file.proofs.Frames.{Goes, goes, frames_push, fit_push, length-f
 reads_goes : (file : List ℕ) (ps qs : List (List ℕ)) (a : Reads file ps) (b : Reads file qs) → Goes 0 ps qs a.rest b.rest
 reads_goes file ps qs a b = goes 0 (length qs) ps qs a.rest b.rest a.fit b.fit (omega arith) b.ends (sym a.is ∙ b.is)
 
-by_more : (ps qs more : List (List ℕ)) (a b : List ℕ) → ArePayloads qs → NoFrame (length ps) a → qs ≡ ps ++ more → a ≡ frames_from (0 + length ps) more ++ b → qs ≡ ps
+by_more : (ps qs more : List (List ℕ)) (a b : List ℕ) → ArePayloads qs → NoFrame (length ps) a → qs ≡ ps ++ more
+    → a ≡ frames_from (0 + length ps) more ++ b → qs ≡ ps
 by_more ps qs [] a b fit ends are left = are ∙ append-nil ps
 by_more ps qs (q ∷ more) a b fit ends are left =
     let fits = fits_in ps (subst ArePayloads are fit) in
@@ -66,7 +67,8 @@ pub cut_reads : (file c : List ℕ) (ps : List (List ℕ)) (end : ℕ) → Reads
 cut_reads file c ps end reads at cut =
     let n = length c - length (frames_from 0 ps) in
     let inside = end_inside file ps end reads at in
-    let enough : end ≤ length c = ⊎_elim (λ (le : end ≤ length c). le) (λ (same : c ≡ file). subst (λ (f : List ℕ). end ≤ length f) (sym same) inside) cut.no_shorter in
+    let enough : end ≤ length c = ⊎_elim (λ (le : end ≤ length c). le)
+        (λ (same : c ≡ file). subst (λ (f : List ℕ). end ≤ length f) (sym same) inside) cut.no_shorter in
     let whole : c ≡ frames_from 0 ps ++ take n reads.rest
     = sym cut.front ∙ (ap (λ (b : List ℕ). take (length c) b) reads.is ∙ take_past (frames_from 0 ps) reads.rest (length c) n (omega (arith, enough, at))) in
     record { rest = take n reads.rest; is = whole; fit = reads.fit; ends = front_none (length ps) n reads.rest reads.ends }
@@ -101,7 +103,8 @@ pub count_payloads : (vecs : List (Vec ℕ Global)) → length (payloads_in vecs
 count_payloads [] = refl
 count_payloads (v ∷ vecs) = ap suc (count_payloads vecs)
 
-all_on : (payload : List ℕ) (vecs new : List (Vec ℕ Global)) (v : Vec ℕ Global) → new ≡ vecs ++ v ∷ [] → v.items ≡ payload → payloads_in new ≡ payloads_in vecs ++ payload ∷ []
+all_on : (payload : List ℕ) (vecs new : List (Vec ℕ Global)) (v : Vec ℕ Global) → new ≡ vecs ++ v ∷ []
+    → v.items ≡ payload → payloads_in new ≡ payloads_in vecs ++ payload ∷ []
 all_on payload vecs new v grown is =
     ap payloads_in grown ∙ (payloads_push vecs v ∙ ap (λ (p : List ℕ). payloads_in vecs ++ p ∷ []) is)
 

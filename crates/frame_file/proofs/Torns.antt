@@ -49,7 +49,8 @@ module _ (ps : List (List ℕ)) (p : List ℕ) (fit : ArePayloads ps) where
   gone : (tail c : List ℕ) → c ≡ frames_from 0 ps ++ tail → (all : List (List ℕ)) (reads : Reads c all) → Goes 0 ps all tail reads.rest
   gone tail c is all reads = goes 0 (length all) ps all tail reads.rest fit reads.fit (omega arith) reads.ends (sym is ∙ reads.is)
 
-  ends : (tail rest c : List ℕ) (all more : List (List ℕ)) → length tail ≤ 24 + length p → MayBeTorn (length ps) tail → c ≡ frames_from 0 ps ++ tail → ArePayloads all
+  ends : (tail rest c : List ℕ) (all more : List (List ℕ)) → length tail ≤ 24 + length p → MayBeTorn (length ps) tail
+      → c ≡ frames_from 0 ps ++ tail → ArePayloads all
       → IsTold ps p c → all ≡ ps ++ more → tail ≡ frames_from (0 + length ps) more ++ rest → MayBeTorn (length all) rest
   ends tail rest c all [] short may is allfit told are left =
       let same : all ≡ ps = are ∙ append-nil ps in
@@ -76,7 +77,8 @@ module _ (ps : List (List ℕ)) (p : List ℕ) (fit : ArePayloads ps) where
 
   -- nothing is written yet
   pub whole : (c : List ℕ) → c ≡ frames_from 0 ps → IsBeforeOrAfter ps p c
-  whole c is = torn [] c (omega arith) (λ k. no_word (word_at k (framed (length ps) p)) k) (nothing_torn (length ps) [] refl) (is ∙ sym (append-nil (frames_from 0 ps)))
+  whole c is = torn [] c (omega arith) (λ k. no_word (word_at k (framed (length ps) p)) k)
+      (nothing_torn (length ps) [] refl) (is ∙ sym (append-nil (frames_from 0 ps)))
 
   -- the frame is being written
   pub append_crash : (bytes : List ℕ) (n : ℕ) (old new : List ℕ → Type 0) → IsPayload p → bytes ≡ framed n p → n ≡ length ps → Only (frames_from 0 ps) old

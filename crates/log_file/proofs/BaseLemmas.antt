@@ -147,7 +147,8 @@ pub none_above : (rows : Rows) (r : Row) → rows ≡ [] → Rise (rows ++ r ∷
 none_above rows r none = subst (λ (l : Rows). Rise (l ++ r ∷ [])) (sym none) tt
 
 -- the first that doesn't
-pub broken : (old all base : Rows) (i : ℕ) (d : Row) → i < length all → base ≡ old ++ take i all → (Rise (base ++ get_or all i d ∷ []) → ⊥) → Rise (old ++ all) → ⊥
+pub broken : (old all base : Rows) (i : ℕ) (d : Row) → i < length all → base ≡ old ++ take i all
+    → (Rise (base ++ get_or all i d ∷ []) → ⊥) → Rise (old ++ all) → ⊥
 broken old all base i d inside is never rise =
     let one = get_or all i d ∷ [] in
     let cut : old ++ all ≡ (base ++ one) ++ drop (i + 1) all
@@ -156,14 +157,16 @@ broken old all base i d inside is never rise =
     ∙ ap (λ (l : Rows). l ++ drop (i + 1) all) (sym (append_assoc old (take i all) one) ∙ ap (λ (l : Rows). l ++ one) (sym is))) in
     never (rise_front (base ++ one) (drop (i + 1) all) (subst Rise cut rise))
 
-pub grown : (old all base new : Rows) (i : ℕ) (d : Row) → i < length all → base ≡ old ++ take i all → new ≡ base ++ get_or all i d ∷ [] → new ≡ old ++ take (i + 1) all
+pub grown : (old all base new : Rows) (i : ℕ) (d : Row) → i < length all → base ≡ old ++ take i all
+    → new ≡ base ++ get_or all i d ∷ [] → new ≡ old ++ take (i + 1) all
 grown old all base new i d inside is push =
     let one = get_or all i d ∷ [] in
     push ∙ (ap (λ (l : Rows). l ++ one) is ∙ (append_assoc old (take i all) one ∙ ap (λ (l : Rows). old ++ l) (sym (take_more all i d inside))))
 
 -- ---- parts
 
-first_push : (k : ℕ) (before part : Rows) → length before ≡ 4096 * k → length part ≤ 4096 → first_parts (suc k) (before ++ part) ≡ first_parts k before ++ part ∷ []
+first_push : (k : ℕ) (before part : Rows) → length before ≡ 4096 * k → length part ≤ 4096
+    → first_parts (suc k) (before ++ part) ≡ first_parts k before ++ part ∷ []
 first_push zero [] part len few = ap (λ (p : Rows). p ∷ []) (take_all 4096 part few)
 first_push zero (x ∷ before) part len few = absurd (omega (arith, len))
 first_push (suc k) before part len few =
@@ -179,10 +182,12 @@ count_whole : (b m : ℕ) → b % 4096 ≡ 0 → m ≡ (b + 4095) / 4096 → b �
 count_whole b m whole is = omega (arith, whole, is)
 
 -- one part more behind whole ones
-pub parts_push : (before part : Rows) → length before % 4096 ≡ 0 → 0 < length part → length part ≤ 4096 → parts_of (before ++ part) ≡ parts_of before ++ part ∷ []
+pub parts_push : (before part : Rows) → length before % 4096 ≡ 0 → 0 < length part → length part ≤ 4096
+    → parts_of (before ++ part) ≡ parts_of before ++ part ∷ []
 parts_push before part whole some few =
     let k = (length before + 4095) / 4096 in
-    ap (λ (n : ℕ). first_parts n (before ++ part)) (count_push (length (before ++ part)) k (length before) (length part) whole some few (length-append before part) refl)
+    ap (λ (n : ℕ). first_parts n (before ++ part)) (count_push (length (before ++ part)) k (length before) (length part)
+        whole some few (length-append before part) refl)
     ∙ first_push k before part (count_whole (length before) k whole refl) few
 
 count_cons : (n m : ℕ) → 0 < n → m ≡ n - 4096 → (n + 4095) / 4096 ≡ suc ((m + 4095) / 4096)
@@ -228,7 +233,8 @@ parts_same a b x y are also len same =
 
 -- ---- one part more is read
 
-pub none_added : (count : ℕ) (p : List ℕ) (old part : Rows) → AreRows part → length part ≡ count → p ≡ part_bytes part → (Rise (old ++ part) → ⊥) → NoneAdded count p old
+pub none_added : (count : ℕ) (p : List ℕ) (old part : Rows) → AreRows part → length part ≡ count → p ≡ part_bytes part
+    → (Rise (old ++ part) → ⊥) → NoneAdded count p old
 none_added count p old part are size is never other also len rise same =
     never (subst (λ (l : Rows). Rise (old ++ l)) (part_same other part also are (len ∙ sym size) (sym same ∙ is)) rise)
 
@@ -289,7 +295,8 @@ stops count number payloads rest base was fewer at none = record {
 }
 
 -- the number of the frame behind those that were read
-pub frame_at : (payloads rest : List (List ℕ)) (base : Rows) (n m : ℕ) → payloads ≡ map part_bytes (parts_of base) ++ rest → n ≡ length payloads → m ≡ length rest
+pub frame_at : (payloads rest : List (List ℕ)) (base : Rows) (n m : ℕ)
+    → payloads ≡ map part_bytes (parts_of base) ++ rest → n ≡ length payloads → m ≡ length rest
     → n - m + 1 ≡ length (parts_of base) + 1
 frame_at payloads rest base n m is a b =
     omega (arith, a, b, ap length is, length-append (map part_bytes (parts_of base)) rest, length-map (parts_of base) part_bytes)
@@ -319,7 +326,8 @@ unfolding based_header_bytes
 count_back h m n few also same =
     let front = (front_bytes 2 h ++ h.digest) in
     let tails : to_le_bytes w64 m ≡ to_le_bytes w64 n
-    = sym (drop_at front (to_le_bytes w64 m) (length front) refl) ∙ (ap (λ (l : List ℕ). drop (length front) l) same ∙ drop_at front (to_le_bytes w64 n) (length front) refl) in
+    = sym (drop_at front (to_le_bytes w64 m) (length front) refl)
+        ∙ (ap (λ (l : List ℕ). drop (length front) l) same ∙ drop_at front (to_le_bytes w64 n) (length front) refl) in
     sym (from_le_bytes-to_le_bytes_8 m few) ∙ (ap (from_le_bytes w64) tails ∙ from_le_bytes-to_le_bytes_8 n also)
 
 length_front : (version : ℕ) (h : Header) → length (front_bytes version h) ≡ 32
@@ -346,7 +354,8 @@ unfolding based_header_bytes
 count_at h n k p few is at =
     let front = (front_bytes 2 h ++ h.digest) in
     let long : length front ≡ k = (let len = ap length is in omega (arith, at, len, length-append front (to_le_bytes w64 n))) in
-    ap (λ (l : List ℕ). from_le_bytes w64 (drop k l)) is ∙ (ap (from_le_bytes w64) (drop_at front (to_le_bytes w64 n) k long) ∙ from_le_bytes-to_le_bytes_8 n few)
+    ap (λ (l : List ℕ). from_le_bytes w64 (drop k l)) is
+        ∙ (ap (from_le_bytes w64) (drop_at front (to_le_bytes w64 n) k long) ∙ from_le_bytes-to_le_bytes_8 n few)
 
 pub short_count : (h : Header) (n : ℕ) (p : List ℕ) → length p < 8 → p ≡ based_header_bytes h n → ⊥
 short_count h n p short is = omega (arith, short, ap length is, length_based h n)

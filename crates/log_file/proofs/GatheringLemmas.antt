@@ -44,7 +44,8 @@ gathered_push dcs payloads p known after rows all g fits is noted grown =
     }
 
 -- one batch more is gathered
-pub gathered_more : (dcs : ℕ) (vecs : Vecs) (place : ℕ) (v : Vec ℕ Global) (p : List ℕ) (known after : List SiteNote) (rows all : List ℕ) (notes : List Note) (more : List ℕ)
+pub gathered_more : (dcs : ℕ) (vecs : Vecs) (place : ℕ) (v : Vec ℕ Global) (p : List ℕ) (known after : List SiteNote)
+    (rows all : List ℕ) (notes : List Note) (more : List ℕ)
     → place < length vecs → v ≡ get_or vecs place v → p ≡ v.items → AreGathered dcs (payloads_in (take place vecs)) known rows → IsBatch dcs (batch_in p)
     → p ≡ batch_bytes (batch_in p) → notes ≡ (batch_in p).notes → more ≡ (batch_in p).rows → after ≡ fold with_note known notes → all ≡ rows ++ more
     → AreGathered dcs (payloads_in (take (place + 1) vecs)) after all
@@ -61,12 +62,14 @@ all_gathered dcs vecs place known rows end g = subst (λ (vs : Vecs). AreGathere
 
 -- ---- the first that is no batch's
 
-sync_at : (dcs : ℕ) (batches : List Batch) → AreBatches dcs batches → (k : ℕ) (d : List ℕ) → k < length batches → IsSync dcs (get_or (map batch_bytes batches) k d)
+sync_at : (dcs : ℕ) (batches : List Batch) → AreBatches dcs batches → (k : ℕ) (d : List ℕ) → k < length batches
+    → IsSync dcs (get_or (map batch_bytes batches) k d)
 sync_at dcs [] are k d below = absurd (omega (arith, below))
 sync_at dcs (b ∷ batches) are zero d below = record { batch = b; fits = are.0; is = refl }
 sync_at dcs (b ∷ batches) are (suc k) d below = sync_at dcs batches are.1 k d (omega (arith, below))
 
-each_before : (dcs : ℕ) (vecs : Vecs) (place : ℕ) (known : List SiteNote) (rows : List ℕ) → place < length vecs → AreGathered dcs (payloads_in (take place vecs)) known rows
+each_before : (dcs : ℕ) (vecs : Vecs) (place : ℕ) (known : List SiteNote) (rows : List ℕ) → place < length vecs
+    → AreGathered dcs (payloads_in (take place vecs)) known rows
     → (k : ℕ) (d : List ℕ) → k < place → IsSync dcs (get_or (payloads_in vecs) k d)
 each_before dcs vecs place known rows inside g k d below =
     let all = payloads_in vecs in
@@ -77,7 +80,8 @@ each_before dcs vecs place known rows inside g k d below =
     = sym (get_or-take place all k d below) ∙ ap (λ (ps : List (List ℕ)). get_or ps k d) front in
     subst (IsSync dcs) (sym here) (sync_at dcs g.batches g.are k d (omega (arith, below, count, length-map g.batches batch_bytes)))
 
-pub first_none : (dcs : ℕ) (vecs : Vecs) (place : ℕ) (v : Vec ℕ Global) (p : List ℕ) (known : List SiteNote) (rows : List ℕ) → place < length vecs → v ≡ get_or vecs place v → p ≡ v.items
+pub first_none : (dcs : ℕ) (vecs : Vecs) (place : ℕ) (v : Vec ℕ Global) (p : List ℕ) (known : List SiteNote)
+    (rows : List ℕ) → place < length vecs → v ≡ get_or vecs place v → p ≡ v.items
     → AreGathered dcs (payloads_in (take place vecs)) known rows → (IsSync dcs p → ⊥) → IsFirstNoBatch dcs (payloads_in vecs) place
 first_none dcs vecs place v p known rows inside at same g never = record {
   inside = omega (arith, inside, length-map vecs items);
@@ -93,7 +97,8 @@ whole_sum a b c x y is = omega (arith, x, y, is)
 pub whole_rows : (dcs : ℕ) (batches : List Batch) → AreBatches dcs batches → length (rows_of batches) % 96 ≡ 0
 whole_rows dcs [] are = refl
 whole_rows dcs (b ∷ batches) are =
-    whole_sum (length b.rows) (length (rows_of batches)) (length (b.rows ++ rows_of batches)) are.0.whole (whole_rows dcs batches are.1) (length-append b.rows (rows_of batches))
+    whole_sum (length b.rows) (length (rows_of batches)) (length (b.rows ++ rows_of batches)) are.0.whole
+        (whole_rows dcs batches are.1) (length-append b.rows (rows_of batches))
 
 -- ---- what is noted
 

@@ -31,7 +31,8 @@ rest_same : (x y : List ℕ) (xs ys : List (List ℕ)) → x ∷ xs ≡ y ∷ ys
 rest_same x y xs ys same = cc
 
 -- batches whose payloads begin with those of others begin with them
-continue : (dcs : ℕ) (a b : List Batch) (more : List (List ℕ)) → AreBatches dcs a → AreBatches dcs b → map batch_bytes b ≡ map batch_bytes a ++ more → Continue a b
+continue : (dcs : ℕ) (a b : List Batch) (more : List (List ℕ)) → AreBatches dcs a → AreBatches dcs b
+    → map batch_bytes b ≡ map batch_bytes a ++ more → Continue a b
 continue dcs [] b more x y same = record { more = b; is = refl }
 continue dcs (p ∷ a) [] more x y same = absurd (let bad : [] ≡ batch_bytes p ∷ (map batch_bytes a ++ more) = same in cc)
 continue dcs (p ∷ a) (q ∷ b) more x y same =
@@ -74,7 +75,8 @@ read_as_written h base found batches known events written start are is printed s
     let there : ArePrinted written (rows_of says.batches) = subst (λ (bs : List Batch). ArePrinted written (rows_of bs)) same printed in
     (sym (says.only written is there), says.known_is ∙ ap (λ (bs : List Batch). last_known h.dcs (notes_of bs)) (sym same), sym both.0)
 
-pub legal_logs_are_read : (h : Header) (ps : List Checked) (base found : Option Rows) (log : List Event) (batches : List Batch) (known : List SiteNote) (events : List Event)
+pub legal_logs_are_read : (h : Header) (ps : List Checked) (base found : Option Rows) (log : List Event)
+    (batches : List Batch) (known : List SiteNote) (events : List Event)
     → AllTakeFew ps → Legal ps log → AreEvents (reverse log) → IsStart base → AreBatches h.dcs batches → rows_of batches ≡ flat_map printed (reverse log)
     → Says h (payloads_of h base batches) found known events → events ≡ reverse log
 legal_logs_are_read h ps base found log batches known events few legal is start are rows says =

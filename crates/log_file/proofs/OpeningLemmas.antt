@@ -36,20 +36,25 @@ pub never_empty : (h : Header) (payloads : List (List ℕ)) (fault : OpenFault) 
 never_empty h payloads fault some why is = some (subst (IsSayFault h payloads) is why)
 
 -- there is no frame, and the file is no beginning of this header's
-pub no_beginning : (h : Header) (file : List ℕ) (payloads : List (List ℕ)) → Reads file payloads → payloads ≡ [] → (IsBegun h file → ⊥) → IsOpenFault h file Other
+pub no_beginning : (h : Header) (file : List ℕ) (payloads : List (List ℕ)) → Reads file payloads → payloads ≡ []
+    → (IsBegun h file → ⊥) → IsOpenFault h file Other
 no_beginning h file payloads reads none differs = inr (subst (Reads file) none reads, differs)
 
-pub batches_few : (h : Header) (vecs rest : List (Vec ℕ Global)) (base : Option Rows) → payloads_in vecs ≡ front_of h base ++ payloads_in rest → length rest ≤ length vecs
+pub batches_few : (h : Header) (vecs rest : List (Vec ℕ Global)) (base : Option Rows)
+    → payloads_in vecs ≡ front_of h base ++ payloads_in rest → length rest ≤ length vecs
 batches_few h vecs rest base is =
-    omega (arith, ap length is, length-append (front_of h base) (payloads_in rest), length-map vecs (λ (v : Vec ℕ Global). v.items), length-map rest (λ (v : Vec ℕ Global). v.items))
+    omega (arith, ap length is, length-append (front_of h base) (payloads_in rest),
+        length-map vecs (λ (v : Vec ℕ Global). v.items), length-map rest (λ (v : Vec ℕ Global). v.items))
 
 -- how many frames stand in front of the batches
 pub front_long : (h : Header) (vecs rest : List (Vec ℕ Global)) (base : Option Rows) → payloads_in vecs ≡ front_of h base ++ payloads_in rest
     → length vecs - length rest ≡ length (front_of h base)
 front_long h vecs rest base is =
-    omega (arith, ap length is, length-append (front_of h base) (payloads_in rest), length-map vecs (λ (v : Vec ℕ Global). v.items), length-map rest (λ (v : Vec ℕ Global). v.items))
+    omega (arith, ap length is, length-append (front_of h base) (payloads_in rest),
+        length-map vecs (λ (v : Vec ℕ Global). v.items), length-map rest (λ (v : Vec ℕ Global). v.items))
 
-pub gather_fault : (h : Header) (payloads rest : List (List ℕ)) (base : Option Rows) (front : ℕ) (fault : OpenFault) → IsStart base → payloads ≡ front_of h base ++ rest
+pub gather_fault : (h : Header) (payloads rest : List (List ℕ)) (base : Option Rows) (front : ℕ) (fault : OpenFault)
+    → IsStart base → payloads ≡ front_of h base ++ rest
     → front ≡ length (front_of h base) → IsGatherFault h.dcs front rest fault → IsSayFault h payloads fault
 gather_fault h payloads rest base front (Frames fault) start is long why = why
 gather_fault h payloads rest base front Empty start is long why = absurd why
@@ -66,7 +71,8 @@ gather_fault h payloads rest base front (NoBatch number) start is long why = rec
 }
 gather_fault h payloads rest base front (Row place) start is long why = absurd why
 
-behind : (h : Header) (payloads rest : List (List ℕ)) (base : Option Rows) (batches : List Batch) → payloads ≡ front_of h base ++ rest → rest ≡ map batch_bytes batches
+behind : (h : Header) (payloads rest : List (List ℕ)) (base : Option Rows) (batches : List Batch)
+    → payloads ≡ front_of h base ++ rest → rest ≡ map batch_bytes batches
     → payloads ≡ payloads_of h base batches
 behind h payloads rest base batches is all = is ∙ ap (λ (ps : List (List ℕ)). front_of h base ++ ps) all
 
@@ -101,8 +107,10 @@ says h payloads rest base known rows events start is g printed only follows = re
 }
 
 -- the base is whole, and the events don't begin with a checkpoint
-pub no_checkpoint : (h : Header) (payloads rest : List (List ℕ)) (base : Option Rows) (known : List SiteNote) (rows : List ℕ) (events : List Event) (front : ℕ) → IsStart base
-    → payloads ≡ front_of h base ++ rest → AreGathered h.dcs rest known rows → ArePrinted events rows → front ≡ length (front_of h base) → IsNotBehind base events
+pub no_checkpoint : (h : Header) (payloads rest : List (List ℕ)) (base : Option Rows) (known : List SiteNote)
+    (rows : List ℕ) (events : List Event) (front : ℕ) → IsStart base
+    → payloads ≡ front_of h base ++ rest → AreGathered h.dcs rest known rows → ArePrinted events rows
+        → front ≡ length (front_of h base) → IsNotBehind base events
     → IsNoBase h payloads front
 no_checkpoint h payloads rest None known rows events front start is g printed long never = absurd never
 no_checkpoint h payloads rest (Some base) known rows events front start is g printed long never =
@@ -115,7 +123,8 @@ pub other : (h : Header) (payloads rest : List (List ℕ)) (first : List ℕ) �
     → ((rows : ℕ) → rows < 2 ^ 64 → first ≡ based_header_bytes h rows → ⊥) → IsSayFault h payloads Other
 other h payloads rest first is plain based = record { first = first; rest = rest; is = is; differs = no_head h first plain based }
   where
-    no_head : (h : Header) (first : List ℕ) → (first ≡ header_bytes h → ⊥) → ((rows : ℕ) → rows < 2 ^ 64 → first ≡ based_header_bytes h rows → ⊥) → IsHead h first → ⊥
+    no_head : (h : Header) (first : List ℕ) → (first ≡ header_bytes h → ⊥)
+        → ((rows : ℕ) → rows < 2 ^ 64 → first ≡ based_header_bytes h rows → ⊥) → IsHead h first → ⊥
     no_head h first plain based (inl is) = plain is
     no_head h first plain based (inr some) = based some.0 some.1 some.2
 
@@ -128,10 +137,12 @@ base_fault h payloads rest first count (NoBase number) small is head why = NoPar
 base_fault h payloads rest first count (NoBatch number) small is head why = absurd why
 base_fault h payloads rest first count (Row place) small is head why = absurd why
 
-pub plain_front : (h : Header) (payloads rest : List (List ℕ)) (first : List ℕ) → payloads ≡ first ∷ rest → first ≡ header_bytes h → payloads ≡ front_of h None ++ rest
+pub plain_front : (h : Header) (payloads rest : List (List ℕ)) (first : List ℕ) → payloads ≡ first ∷ rest
+    → first ≡ header_bytes h → payloads ≡ front_of h None ++ rest
 plain_front h payloads rest first is head = is ∙ ap (λ (p : List ℕ). p ∷ rest) head
 
-pub based_front : (h : Header) (payloads rest after : List (List ℕ)) (first : List ℕ) (count : ℕ) (base : Rows) → payloads ≡ first ∷ rest → first ≡ based_header_bytes h count
+pub based_front : (h : Header) (payloads rest after : List (List ℕ)) (first : List ℕ) (count : ℕ) (base : Rows)
+    → payloads ≡ first ∷ rest → first ≡ based_header_bytes h count
     → length base ≡ count → rest ≡ map part_bytes (parts_of base) ++ after → payloads ≡ front_of h (Some base) ++ after
 based_front h payloads rest after first count base is head long parts =
     is ∙ ap₂ (λ (p : List ℕ) (ps : List (List ℕ)). p ∷ ps) (head ∙ ap (based_header_bytes h) (sym long)) parts

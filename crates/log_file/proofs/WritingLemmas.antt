@@ -18,11 +18,13 @@ front_at before [] last after file left = record { before = before; payload = la
 front_at before (x ∷ xs) last after file left = record { before = before; payload = x; after = xs ++ last ∷ after; is = refl; left = left x }
 
 pub at_rest : {D : Type 0} (seen : D → List ℕ) (may_leave : D → List ℕ → Type 0) (moment : D → ℕ) (left_since : D → ℕ → List ℕ → Type 0) (file : FrameFile D)
-    (before xs : List (List ℕ)) (last : List ℕ) (after : List (List ℕ)) → ((c : List ℕ) → left_since file.device (moment file.device) c → may_leave file.device c)
+    (before xs : List (List ℕ)) (last : List ℕ) (after : List (List ℕ))
+        → ((c : List ℕ) → left_since file.device (moment file.device) c → may_leave file.device c)
     → IsSettled seen may_leave file before → LeavesOnly moment left_since file.device file.device (IsFront (before ++ (xs ++ last ∷ after)))
 at_rest seen may_leave moment left_since file before xs last after only_now settled =
     let only = subst (λ f. Only f (may_leave file.device)) settled.bytes settled.durable in
-    unmoved moment left_since file.device _ (λ c left. front_at before xs last after c (λ payload. whole before payload settled.fit c (only c (only_now c left))))
+    unmoved moment left_since file.device _ (λ c left. front_at before xs last after c
+        (λ payload. whole before payload settled.fit c (only c (only_now c left))))
 
 -- of all these parts those in front of the rest were written behind what stood there
 pub record Wrote {D : Type 0} (seen : D → List ℕ) (may_leave : D → List ℕ → Type 0) (moment : D → ℕ) (left_since : D → ℕ → List ℕ → Type 0)
@@ -55,7 +57,8 @@ split before parts x more behind p is =
     ap (λ (l : List (List ℕ)). before ++ (l ++ behind)) is
     ∙ (ap (λ (l : List (List ℕ)). before ++ l) (append_assoc parts (p ∷ more) behind) ∙ sym (append_assoc before parts (p ∷ (more ++ behind))))
 
-pub moved : {D : Type 0} (seen : D → List ℕ) (may_leave : D → List ℕ → Type 0) (moment : D → ℕ) (left_since : D → ℕ → List ℕ → Type 0) (old mid new : FrameFile D)
+pub moved : {D : Type 0} (seen : D → List ℕ) (may_leave : D → List ℕ → Type 0) (moment : D → ℕ)
+    (left_since : D → ℕ → List ℕ → Type 0) (old mid new : FrameFile D)
     (before : List (List ℕ)) (all rest : Rows) (p : List ℕ) → (was : Wrote seen may_leave moment left_since old mid before all rest) → 0 < length rest
     → p ≡ part_bytes (take 4096 rest) → LeavesOnly moment left_since mid.device new.device (IsBeforeOrAfter (before ++ was.parts) p)
     → (last : List ℕ) (after : List (List ℕ))
@@ -72,7 +75,8 @@ moved seen may_leave moment left_since old mid new before all rest p was some sa
       left = left;
     }))
 
-pub one_more : {D : Type 0} (seen : D → List ℕ) (may_leave : D → List ℕ → Type 0) (moment : D → ℕ) (left_since : D → ℕ → List ℕ → Type 0) (old mid new : FrameFile D)
+pub one_more : {D : Type 0} (seen : D → List ℕ) (may_leave : D → List ℕ → Type 0) (moment : D → ℕ)
+    (left_since : D → ℕ → List ℕ → Type 0) (old mid new : FrameFile D)
     (before : List (List ℕ)) (all rest : Rows) (p : List ℕ) → (was : Wrote seen may_leave moment left_since old mid before all rest) → 0 < length rest
     → p ≡ part_bytes (take 4096 rest) → LeavesOnly moment left_since mid.device new.device (IsBeforeOrAfter (before ++ was.parts) p)
     → IsSettled seen may_leave new ((before ++ was.parts) ++ p ∷ []) → Wrote seen may_leave moment left_since old new before all (drop 4096 rest)
@@ -87,7 +91,8 @@ pub no_rows : (rows : Rows) → length rows ≡ 0 → rows ≡ []
 no_rows [] none = refl
 no_rows (r ∷ rows) none = absurd (omega (arith, none))
 
-pub all_written : {D : Type 0} (seen : D → List ℕ) (may_leave : D → List ℕ → Type 0) (moment : D → ℕ) (left_since : D → ℕ → List ℕ → Type 0) (old new : FrameFile D)
+pub all_written : {D : Type 0} (seen : D → List ℕ) (may_leave : D → List ℕ → Type 0) (moment : D → ℕ)
+    (left_since : D → ℕ → List ℕ → Type 0) (old new : FrameFile D)
     (before : List (List ℕ)) (all rest : Rows) → Wrote seen may_leave moment left_since old new before all rest → rest ≡ []
     → IsSettled seen may_leave new (before ++ map part_bytes (parts_of all))
 all_written seen may_leave moment left_since old new before all rest was none =

@@ -54,8 +54,11 @@ written_push seen may_leave h file new before more rows was rows_are whole appen
       behind = behind_more was.base before more was.behind;
       batches = was.batches ++ b ∷ [];
       are = batches_push h.dcs was.batches b was.are (is_batch h.dcs rows whole);
-      settled = subst (IsSettled seen may_leave new.frames) (sym (payloads_push h was.base was.batches b)) (appended (payloads_of h was.base was.batches) was.settled);
-      rows = flat_map-append (λ (x : Batch). x.rows) was.batches (b ∷ []) ∙ (ap₂ (λ (l m : List ℕ). l ++ m) was.rows (append-one rows ∙ rows_are) ∙ sym (flat_map-append printed before more));
+      settled = subst (IsSettled seen may_leave new.frames) (sym (payloads_push h was.base was.batches b))
+          (appended (payloads_of h was.base was.batches) was.settled);
+      rows = flat_map-append (λ (x : Batch). x.rows) was.batches (b ∷ [])
+          ∙ (ap₂ (λ (l m : List ℕ). l ++ m) was.rows (append-one rows ∙ rows_are)
+          ∙ sym (flat_map-append printed before more));
     }
 
 -- a log that begins anew, in one batch behind the base
@@ -83,7 +86,8 @@ module _ {D : Type 0} (seen : D → List ℕ) (may_leave : D → List ℕ → Ty
       (only_now : (d : D) (left : List ℕ) → left_since d (moment d) left → may_leave d left) where
     -- nothing was written
     pub unwritten_leaves : LeavesOnly moment left_since file.frames.device file.frames.device (IsLeft h before more)
-    unwritten_leaves = started moment left_since file.frames.device (IsLeft h before more) (λ left since. left_now seen may_leave h file before more was left (only_now file.frames.device left since))
+    unwritten_leaves = started moment left_since file.frames.device (IsLeft h before more)
+        (λ left since. left_now seen may_leave h file before more was left (only_now file.frames.device left since))
 
     -- rows were
     pub written_leaves : (new : D) (rows : List ℕ) → rows ≡ flat_map printed more

@@ -15,7 +15,8 @@ use Rattle.log_file.specs.Reading.{IsStart, IsBehind, AreBatches, Says}
 use Rattle.journals.specs.declared.journal.NotKept.{NotKept}
 use Rattle.journals.specs.declared.journal.NotKept.TheVariants.{Memory, Failed}
 
--- the file is on the disk: this header, a base where the log begins behind an earlier one, and then batches that have the rows of these events, the oldest first
+-- the file is on the disk: this header, a base where the log begins behind an earlier one, and then batches that have
+-- the rows of these events, the oldest first
 pub record HasWritten {D : Type 0} (seen : D → List ℕ) (may_leave : D → List ℕ → Type 0) (h : Header) (file : LogFile D)
     (events : List Event) : Type 0 where
   pub base : Option Rows

@@ -80,7 +80,8 @@ sound_low : (sound : Bool) → (if sound then 0 else 1) ≤ 1
 sound_low true = omega arith
 sound_low false = omega arith
 
-calls_low : (Kept : Core → Renewal → Type 0) (checkpoints : Checkpoints) (start : Core) (dcs : List Store) (first calls : List Call) (workers tries : ℕ) (audit results : Bool) (status : ℕ) (lines : List ℕ)
+calls_low : (Kept : Core → Renewal → Type 0) (checkpoints : Checkpoints) (start : Core) (dcs : List Store)
+    (first calls : List Call) (workers tries : ℕ) (audit results : Bool) (status : ℕ) (lines : List ℕ)
     → IsCallsRun Kept checkpoints start dcs first calls workers tries audit results status lines → status ≤ 1
 calls_low Kept checkpoints start dcs first calls workers tries audit results status lines (Ran fit run) =
     let is = run.printed.status_is in
@@ -93,13 +94,15 @@ run_low (Some refusal) contents workers tries audit results status lines h = ome
 run_low None contents workers tries audit results status lines h =
     calls_low (λ _ _. Unit {0}) never (begun contents) (empty_stores contents) contents.first contents.calls workers tries audit results status lines h
 
-behind_low : (journal : Option FileJournal) (checkpoints : Checkpoints) (start : Core) (empties : List Store) (first calls : List Call) (workers tries : ℕ) (audit results : Bool)
+behind_low : (journal : Option FileJournal) (checkpoints : Checkpoints) (start : Core) (empties : List Store)
+    (first calls : List Call) (workers tries : ℕ) (audit results : Bool)
     (status : ℕ) (lines : List ℕ) → IsLoggedRun journal checkpoints start empties first calls workers tries audit results status lines → status ≤ 1
 behind_low journal checkpoints start empties first calls workers tries audit results status lines (Refused why is) = omega (arith, is)
 behind_low journal checkpoints start empties first calls workers tries audit results status lines (GoneOn b) =
     calls_low (IsKeptSo journal checkpoints) checkpoints b.on.anew b.on.anew_dcs first calls workers tries audit results status b.on.answers b.on.ran
 
-logged_low : (journal : Option FileJournal) (checkpoints : Checkpoints) (refusal : Option (List ℕ)) (contents : Contents) (workers tries : ℕ) (audit results : Bool)
+logged_low : (journal : Option FileJournal) (checkpoints : Checkpoints) (refusal : Option (List ℕ))
+    (contents : Contents) (workers tries : ℕ) (audit results : Bool)
     (status : ℕ) (lines : List ℕ) → IsLoggedBy journal checkpoints refusal contents workers tries audit results status lines → status ≤ 1
 logged_low journal checkpoints (Some refusal) contents workers tries audit results status lines h = omega (arith, h.0)
 logged_low journal checkpoints None contents workers tries audit results status lines h =
@@ -160,11 +163,13 @@ world_of_low behind (Some path) file status lines h =
 run_report_low : (checkpoints : Checkpoints) (workers tries : ℕ) (audit results : Bool) (log : Option (List ℕ)) (b : Beginning) (status : ℕ) (lines : List ℕ)
     → IsRunReport checkpoints workers tries audit results log b status lines → status ≤ 1
 run_report_low checkpoints workers tries audit results None b status lines h = run_low b.refusal b.contents workers tries audit results status lines h
-run_report_low checkpoints workers tries audit results (Some path) b status lines h = logged_low h.0 checkpoints b.refusal b.contents workers tries audit results status lines h.1
+run_report_low checkpoints workers tries audit results (Some path) b status lines h = logged_low h.0 checkpoints
+    b.refusal b.contents workers tries audit results status lines h.1
 
 run_of_low : (checkpoints : Checkpoints) (workers tries : ℕ) (audit results : Bool) (log script : Option (List ℕ)) (file : List ℕ) (status : ℕ) (lines : List ℕ)
     → IsRunOf checkpoints workers tries audit results log script file status lines → status ≤ 1
-run_of_low checkpoints workers tries audit results log None text status lines h = run_report_low checkpoints workers tries audit results log (beginning command.Run None text) status lines h
+run_of_low checkpoints workers tries audit results log None text status lines h = run_report_low checkpoints workers
+    tries audit results log (beginning command.Run None text) status lines h
 run_of_low checkpoints workers tries audit results log (Some path) file status lines h =
     run_report_low checkpoints workers tries audit results log (beginning command.Run (Some file) h.0) status lines h.1
 

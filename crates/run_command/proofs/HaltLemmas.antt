@@ -15,7 +15,8 @@ use Rattle.run_command.specs.declared.running.Unreported.TheVariants as unreport
 use Rattle.run_command.specs.Kept.{FileJournal, HaltFits, UnreportedFits}
 use Rattle.run_command.specs.Joining.Halts.{ListHalts}
 
-of_cause : (journal : Option FileJournal) (workers tries : ℕ) (f : RunFault) → FaultFits workers tries f → ListHalts journal workers tries (Unbegun (cause_of f))
+of_cause : (journal : Option FileJournal) (workers tries : ℕ) (f : RunFault) → FaultFits workers tries f
+    → ListHalts journal workers tries (Unbegun (cause_of f))
 of_cause journal workers tries (fault.Workers s) fits = fits
 of_cause journal workers tries (fault.Tries s) fits = fits
 of_cause journal workers tries (fault.Memory s) fits = fits

@@ -1,6 +1,7 @@
 -- How many calls were answered how, as lines.
-use Rattle.std.specs.Prelude.{ℕ, ◌+◌, ◌*◌, ◌/◌, ◌==◌, max, Bool, true, false, if◌then◌else◌, List, [], ◌∷◌, ◌++◌, length, count_by, codes, decimal}
+use Rattle.std.specs.Prelude.{ℕ, ◌+◌, ◌-◌, ◌*◌, ◌/◌, ◌==◌, max, get_or, Bool, true, false, if◌then◌else◌, List, [], ◌∷◌, ◌++◌, length, count_by, codes, decimal}
 use Rattle.data_component.specs.Store.{Store}
+use Rattle.run_command.specs.declared.figures.Latencies.{Latencies}
 use Rattle.worker_pool.specs.declared.answer.Answer.{Answer}
 use Rattle.worker_pool.specs.declared.answer.Answer.TheVariants.{Committed, Aborted, NoRoom, InDoubt, Blocked}
 
@@ -36,9 +37,19 @@ figure_lines answers =
 abbrev pub rate_line : ℕ → ℕ → List ℕ
 rate_line calls nanoseconds = codes "calls a second " ++ (decimal (calls * 1_000_000 / max (nanoseconds / 1_000) 1) ++ codes "\n")
 
--- how many microseconds the call took that took longest, of so many nanoseconds
-abbrev pub wait_line : ℕ → List ℕ
-wait_line nanoseconds = codes "longest wait " ++ (decimal (nanoseconds / 1_000) ++ codes " us\n")
+-- the least of rising numbers that all but one in so many aren't above (a percentile of nearest rank); 0 of none
+abbrev pub all_but : ℕ → List ℕ → ℕ
+all_but one_in rising = get_or rising (length rising - length rising / one_in - 1) 0
+
+-- how many nanoseconds calls took, of these in rising order: half of them no more, 99 in a hundred no more, none more
+abbrev pub latencies_of : List ℕ → Latencies
+latencies_of rising = record { half = all_but 2 rising; most = all_but 100 rising; longest = all_but 18_446_744_073_709_551_615 rising }
+
+-- the same in microseconds, a line each
+abbrev pub lines_of : Latencies → List ℕ
+lines_of l =
+    codes "p50 " ++ (decimal (l.half / 1_000) ++ (codes " us\np99 " ++ (decimal (l.most / 1_000) ++ (codes " us\nlongest wait "
+    ++ (decimal (l.longest / 1_000) ++ codes " us\n")))))
 
 -- a data component without room for a further operation: its number, and how many it has performed
 abbrev pub full_line : ℕ → Store → List ℕ

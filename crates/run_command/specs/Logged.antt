@@ -133,4 +133,5 @@ IsLoggedBy journal checkpoints None contents workers tries audit results status 
 
 -- of a script that is refused no file is opened
 abbrev pub IsLogged : Option FileJournal → Checkpoints → ℕ → ℕ → Bool → Bool → Beginning → ℕ → List ℕ → Type 0
-IsLogged journal checkpoints workers tries audit results b status lines = IsLoggedBy journal checkpoints b.refusal b.contents workers tries audit results status lines
+IsLogged journal checkpoints workers tries audit results b status lines = IsLoggedBy journal checkpoints b.refusal
+    b.contents workers tries audit results status lines

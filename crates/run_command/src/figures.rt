@@ -1,9 +1,9 @@
 //! The figures of a run: how many calls were answered how, how many a second, and which data components are full.
 
-ghost use Rattle.std.specs.Prelude.{◌≡◌, ◌++◌, IfOk, OnOk, count_by, string_bytes};
+ghost use Rattle.std.specs.Prelude.{◌≡◌, ◌<◌, ◌++◌, IfOk, OnOk, count_by, string_bytes};
 ghost use Rattle.std.specs.Duration.{as_nanos};
 ghost use Rattle.run_command.specs.Figures.{is_committed, is_aborted, is_in_doubt, is_blocked};
-ghost use Rattle.run_command.specs.Figures.{figure_line, figure_lines, rate_line, wait_line, full_line, full_lines};
+ghost use Rattle.run_command.specs.Figures.{figure_line, figure_lines, rate_line, all_but, latencies_of, lines_of, full_line, full_lines};
 
 use data_component::dc::Dc;
 use std::alloc::{AllocError, Global};
@@ -83,12 +83,49 @@ pub fn rate(alloc: Global, calls: usize, elapsed: Duration) -> Result<String, Al
     format!(in alloc; "calls a second {rate}\n")
 }
 
-/// The line of the longest time that a call took from its beginning to its answer.
-pub fn longest_wait(alloc: Global, longest: Duration) -> Result<String, AllocError>
-    ensures { IfOk result (λ s. string_bytes s ≡ wait_line (as_nanos longest)) }
+/// How many nanoseconds calls took from their beginning to their answer: half of them no more, 99 in a hundred no
+/// more, and the one that took longest; 0 of none.
+#[derive(Clone, Copy, Debug)]
+pub struct Latencies {
+    pub half: u64,
+    pub most: u64,
+    pub longest: u64,
+}
+
+// The least of rising numbers that all but one in so many aren't above (a percentile of nearest rank); 0 of none.
+fn all_but(one_in: usize, rising: &[u64]) -> u64
+    requires { 0 < one_in }
+    ensures { result ≡ all_but one_in rising.now }
 {
-    let micros = longest.as_micros();
-    format!(in alloc; "longest wait {micros} us\n")
+    let rank = rising.len() - rising.len() / one_in;
+    match rising.get(rank.saturating_sub(1)) {
+        Some(number) => *number,
+        None => 0,
+    }
+}
+
+/// The latencies of calls that took so many nanoseconds, in rising order.
+pub fn latencies(rising: &[u64]) -> Latencies
+    ensures { result ≡ latencies_of rising.now }
+{
+    Latencies {
+        half: all_but(2, rising),
+        most: all_but(100, rising),
+        longest: all_but(usize::MAX, rising),
+    }
+}
+
+/// A line for each latency, in microseconds.
+pub fn latency_lines(alloc: Global, latencies: Latencies) -> Result<String, AllocError>
+    ensures { IfOk result (λ s. string_bytes s ≡ lines_of latencies) }
+{
+    let Latencies {
+        half,
+        most,
+        longest,
+    } = latencies;
+    let (half, most, longest) = (half / 1_000, most / 1_000, longest / 1_000);
+    format!(in alloc; "p50 {half} us\np99 {most} us\nlongest wait {longest} us\n")
 }
 
 // The line of a data component that is full; nothing of one that has room.

@@ -23,7 +23,7 @@ use crate::anew::{Ground, Renewal, write_renewal};
 use crate::answer_lines::fault_line;
 pub use crate::answering::Manner;
 use crate::answering::{Answers, FileJournal, Halt, Unbegun};
-use crate::figures::{figures, full_dcs, longest_wait, rate};
+use crate::figures::{Latencies, figures, full_dcs, latency_lines, rate};
 use crate::parts::{Outcome, Stop, Told, answer_parts};
 pub use crate::watching::Listeners;
 use crate::watching::Waits;
@@ -40,7 +40,7 @@ use std::fs::File;
 use std::rt::Files;
 use std::sync::Wait;
 use std::thread::Threads;
-use std::time::{Clock, Duration};
+use std::time::Clock;
 use tc_core::state::{Call, Refusal, TcState};
 use worker_pool::Answer;
 
@@ -77,15 +77,17 @@ fn notes(
     alloc: Global,
     answers: &Answers,
     dcs: &[Dc],
-    longest: Duration,
+    latencies: Option<Latencies>,
 ) -> Result<String, AllocError> {
     let calls = answers.calls.as_slice();
     let mut notes = figures(alloc, calls)?;
     if let Some(elapsed) = answers.elapsed {
         let rate = rate(alloc, calls.len(), elapsed)?;
         notes.push_str(rate.as_str())?;
-        let wait = longest_wait(alloc, longest)?;
-        notes.push_str(wait.as_str())?;
+        if let Some(latencies) = latencies {
+            let lines = latency_lines(alloc, latencies)?;
+            notes.push_str(lines.as_str())?;
+        }
     }
     let full = full_dcs(alloc, dcs)?;
     notes.push_str(full.as_str())?;
@@ -118,7 +120,7 @@ fn reported(
     lines: String,
     renewal: Renewal,
     manner: Manner,
-    longest: Duration,
+    latencies: Option<Latencies>,
 ) -> Result<Report, AllocError>
     ensures { IfOk result (λ r. AreLinesOf ground.now.state ground.now.dcs.items manner.audit
         answers.now.first.items answers.now.calls.items (string_bytes lines) renewal r.status (string_bytes r.lines)) }
@@ -137,7 +139,7 @@ fn reported(
         status: u8::from(!sound),
         lines,
         notes: if manner.stats {
-            Some(notes(alloc, answers, dcs, longest)?)
+            Some(notes(alloc, answers, dcs, latencies)?)
         } else {
             None
         },
@@ -288,8 +290,8 @@ fn run_calls<R: Files<File = File> + Clock + Threads + Wait + Sync>(
             let Told { answers, lines } = told;
             let manner = calls.options.manner;
             tell_end(waits, manner, ground.dcs.as_slice());
-            let longest = waits.longest();
-            let report = reported(alloc, &ground, &answers, lines, renewal, manner, longest);
+            let latencies = waits.latencies();
+            let report = reported(alloc, &ground, &answers, lines, renewal, manner, latencies);
             drop(answers);
             with_journal(report, journal_of(ground))
         }

@@ -1,12 +1,12 @@
 //! How long the calls of a run wait for their answers, and what is told of them meanwhile.
 
 use crate::answer_lines::answer_line;
-use crate::figures::full_dcs;
+use crate::figures::{Latencies, full_dcs, latencies};
 use data_component::dc::Dc;
 use std::alloc::{AllocError, Global};
 use std::io::{Stderr, Write};
 use std::sync::atomic::{AtomicU64, Ordering};
-use std::time::{Clock, Duration, Instant};
+use std::time::{Clock, Instant};
 use worker_pool::{Acknowledgement, Answer, Gate, Naming};
 
 // A line of progress a second, in nanoseconds.
@@ -112,13 +112,18 @@ impl Waits {
         }
     }
 
-    /// The longest time that a call took from its beginning to its answer, once all are answered.
-    pub fn longest(&self) -> Duration {
-        let mut longest = 0;
+    /// How long the calls that began took to their answer, once all are answered. None where there is no memory to
+    /// sort them.
+    pub fn latencies(&self) -> Option<Latencies> {
+        let mut took = Vec::with_capacity(self.alloc, self.calls.len()).ok()?;
         for call in &self.calls {
-            longest = longest.max(call.load(Ordering::SeqCst));
+            let nanos = call.load(Ordering::SeqCst);
+            if nanos != 0 {
+                took.push(nanos).ok()?;
+            }
         }
-        Duration::from_nanos(longest)
+        took.sort_unstable();
+        Some(latencies(took.as_slice()))
     }
 }
 

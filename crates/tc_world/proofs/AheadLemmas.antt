@@ -188,12 +188,14 @@ logs w v e o p legal all goes =
     let c = with_event w.core e in
     behind p o (with_core w c) v (grown w c (legal_behind p o (with_core w c) v legal goes) (one_more w.core.events e) all) goes
 
-ends_told : (w v : Whole) (t : ℕ) (s : Option Standing) (e : Option Ending) (o : Outcome) → LegalCore v.core → AreTold w → ends_by w t s e ≡ Goes o v → AreTold v
+ends_told : (w v : Whole) (t : ℕ) (s : Option Standing) (e : Option Ending) (o : Outcome) → LegalCore v.core → AreTold w
+    → ends_by w t s e ≡ Goes o v → AreTold v
 ends_told w v t None e o legal all goes = absurd (stopped _ o v goes)
 ends_told w v t (Some s) None o legal all goes = absurd (stopped _ o v goes)
 ends_told w v t (Some s) (Some e) o legal all goes = logs w v (event.End t e) o _ legal all goes
 
-resends_told : (w v : Whole) (t : ℕ) (s : Option Standing) (o : Outcome) → standing w.core.events t ≡ s → LegalCore w.core → AreTold w → resends_by w t s ≡ Goes o v → AreTold v
+resends_told : (w v : Whole) (t : ℕ) (s : Option Standing) (o : Outcome) → standing w.core.events t ≡ s
+    → LegalCore w.core → AreTold w → resends_by w t s ≡ Goes o v → AreTold v
 resends_told w v t None o at legal all goes = absurd (stopped _ o v goes)
 resends_told w v t (Some s) o at legal all goes = by s.sent refl goes
   where
@@ -288,9 +290,11 @@ redoes_told w v d (Some t) o at legal low all goes = by t.redo refl goes
             let x = redo_wire t.incarnation r.mark a in
             let was = redone a next in
             behind _ o (with_copy w x) v
-            (copied w x (record { number = answered_given w.core.procs h legal a.number a was; mark = low_mark; redone = λ again. closed w.core.procs h a.number a legal was }) all) goes''
+            (copied w x (record { number = answered_given w.core.procs h legal a.number a was; mark = low_mark;
+                redone = λ again. closed w.core.procs h a.number a legal was }) all) goes''
         sends None next goes'' =
-            behind _ o (with_core w (after_redo w.core d redo.Finished)) v (subst (λ (y : Option Site). AreTold (with_core w (up_again w.core d y))) (sym at) all) goes''
+            behind _ o (with_core w (after_redo w.core d redo.Finished)) v
+                (subst (λ (y : Option Site). AreTold (with_core w (up_again w.core d y))) (sym at) all) goes''
 
 -- a crash and a cut aside
 abbrev GoesOn : Step → Type 0
@@ -326,19 +330,24 @@ own_notes : (low : ℕ) (w : Whole) → AreNoted low w (notes_of w)
 own_notes low w d = Noted (noted_at w.core.sites d)
 
 with_own : (first : List Event) (notes : List SiteNote) (w : Whole) → IsWritten first notes w → IsWritten first (notes_of w) w
-with_own first notes w s = record { begins = s.begins; sites = own_notes (low_water first) w; copies = s.copies; replies = s.replies; stores = s.stores; news = s.news; redo = s.redo }
+with_own first notes w s = record { begins = s.begins; sites = own_notes (low_water first) w; copies = s.copies;
+    replies = s.replies; stores = s.stores; news = s.news; redo = s.redo }
 
 abbrev IsWhole : Whole → Type 0
 IsWhole w = Tells (all_written w) w
 
 by_rest : (w : Whole) → Rest w.core.events w → AreTold w → IsWhole w
-by_rest w r all = record { begins = r.begins; sites = own_notes (low_water w.core.events) w; copies = all; replies = r.replies; stores = r.stores; news = r.news; redo = r.redo }
+by_rest w r all = record { begins = r.begins; sites = own_notes (low_water w.core.events) w; copies = all;
+    replies = r.replies; stores = r.stores; news = r.news; redo = r.redo }
 
-whole_step : (w v : Whole) (x : Step) (o : Outcome) → LegalCore w.core → LegalCore v.core → AreMarksLow w → is_forge x ≡ false → Steps w x o v → IsWhole w → IsWhole v
+whole_step : (w v : Whole) (x : Step) (o : Outcome) → LegalCore w.core → LegalCore v.core → AreMarksLow w
+    → is_forge x ≡ false → Steps w x o v → IsWhole w → IsWhole v
 whole_step w v (step.Crash n) o was legal low honest goes s =
     subst IsWhole (sym goes.next) (with_own _ (notes_of w) _ (again_written w (first_events n w.core.events) (notes_of w) goes.may.written))
-whole_step w v step.Cut o was legal low honest goes s = cut_written w v o w.core.events (notes_of w) (notes_of v) was goes s (own_notes (low_water v.core.events) v)
-whole_step w v x o was legal low honest goes s = by_rest v (whole_rest w v x o (notes_of w) legal goes honest tt s).1 (sent_told w v x o tt was legal low goes s.copies)
+whole_step w v step.Cut o was legal low honest goes s = cut_written w v o w.core.events (notes_of w) (notes_of v) was
+    goes s (own_notes (low_water v.core.events) v)
+whole_step w v x o was legal low honest goes s = by_rest v (whole_rest w v x o (notes_of w) legal goes honest tt s).1
+    (sent_told w v x o tt was legal low goes s.copies)
 
 lost_rest : (first : List Event) (w : Whole) (xs : List Wire) (rs : List Reply) (ns : List (ℕ × News)) → AreAmong rs w.replies → AreAmong ns w.news
     → Rest first w → Rest first (left_with xs rs ns w)
@@ -391,7 +400,8 @@ whole_by (StartsOver first dcs ∷ moves) w v l s (begins, new, olds, rest) =
     whole_by moves (start_over first dcs w) v (over_lived w first dcs begins new olds l) (over_whole w first dcs legal new) rest
 
 pub living_whole : (w : Whole) → HasLived w → IsWritten w.core.events (notes_of w) w
-living_whole w l = whole_by l.moves l.first w (fresh_lived l.first l.fresh l.good) (fresh_written l.first (notes_of l.first) l.fresh (own_notes (low_water l.first.core.events) l.first)) l.lives
+living_whole w l = whole_by l.moves l.first w (fresh_lived l.first l.fresh l.good)
+    (fresh_written l.first (notes_of l.first) l.fresh (own_notes (low_water l.first.core.events) l.first)) l.lives
 
 -- ---- an engine
 
@@ -431,7 +441,8 @@ first_is first h begins =
 
 pub told_may_crash : (p : Written) (w : Whole) → Tells p w → MayCrash (length p.events) w
 told_may_crash p w s = record {
-  inside = (let many = length-append s.begins.later p.events in let same : length w.core.events ≡ length (s.begins.later ++ p.events) = ap length s.begins.is in omega (arith, many, same));
+  inside = (let many = length-append s.begins.later p.events in let same : length w.core.events ≡ length
+      (s.begins.later ++ p.events) = ap length s.begins.is in omega (arith, many, same));
   written = subst (λ (h : List Event). IsWritten h (notes_of w) w) (sym (first_is p.events w.core.events s.begins)) (with_own p.events p.notes w s);
 }
 
@@ -572,7 +583,8 @@ module _ (xs : List Wire) where
   step_kept w v step.Cut o goes all = subst AreKept (sym goes.next) all
 
 -- an engine that is killed behind a step, before it writes on or carries what the step made
-pub unwritten_turn : (w v : Whole) (x : Step) (o : Outcome) (p : Written) → Known v.core → is_forge x ≡ false → ((n : ℕ) → x ≡ step.Crash n → ⊥) → (x ≡ step.Cut → ⊥)
+pub unwritten_turn : (w v : Whole) (x : Step) (o : Outcome) (p : Written) → Known v.core → is_forge x ≡ false
+    → ((n : ℕ) → x ≡ step.Crash n → ⊥) → (x ≡ step.Cut → ⊥)
     → Tells p w → Steps w x o v → AreNoted (low_water p.events) (left_with w.copies v.replies v.news v) p.notes
     → WritesAhead (Acts x p w.copies v.replies v.news ∷ []) p w p (left_with w.copies v.replies v.news v)
 unwritten_turn w v x o p known honest no_crash no_cut s steps noted = (

@@ -174,7 +174,8 @@ module _ (base other : Table) (same : (r : Record) → base r ≡ other r) where
   honest_same (End t ends ∷ h) honest = (tt, honest_same h honest.1)
   honest_same (Checkpoint before numbers ∷ h) honest = (tt, honest_same h honest.1)
 
-  pub beside_same : (lg : ℕ → Option Op) (fl : ℕ → Option Flight) (dn : List Performed) (d : ℕ) (list : List Performed) → Beside base lg fl dn d list → Beside other lg fl dn d list
+  pub beside_same : (lg : ℕ → Option Op) (fl : ℕ → Option Flight) (dn : List Performed) (d : ℕ) (list : List Performed)
+      → Beside base lg fl dn d list → Beside other lg fl dn d list
   beside_same lg fl dn d list b = record {
     entries = b.entries;
     once = b.once;

@@ -69,7 +69,8 @@ begun_none None is = refl
 begun_none (Some r) is = absurd (none_some _ (let x : Redoing = record { mark = r.mark; redone = r.mark } in x) is refl)
 
 -- its redo begins anew, above its mark
-begun_at : (low d : ℕ) (dcs : List Store) (t : Site) (o : Option Redoing) (r' : Redoing) → t.redo ≡ o → IsLow low o → begun_anew o ≡ Some r' → IsBegun low d dcs t r'
+begun_at : (low d : ℕ) (dcs : List Store) (t : Site) (o : Option Redoing) (r' : Redoing) → t.redo ≡ o → IsLow low o
+    → begun_anew o ≡ Some r' → IsBegun low d dcs t r'
 begun_at low d dcs t None r' here is_low is = absurd (none_some _ r' refl is)
 begun_at low d dcs t (Some r) r' here is_low is =
     let at : Redoing = record { mark = r.mark; redone = r.mark } in
@@ -112,7 +113,8 @@ noted_of : (low d : ℕ) (w : Whole) (t t' : Site) → IsLow low t.redo → IsNo
 noted_of low d w t t' is_low (Noted is) = subst (IsNotedOf low d w.dcs w.copies t) (sym is) (anew_is low d w t is_low)
 noted_of low d w t t' is_low (NotYetUp x) = not_yet low d w t t' x
 
-pub low_by : (low : ℕ) (sites : List Site) (d : ℕ) (o : Option Site) → slice_get sites d ≡ o → All (λ (t : Site). IsLow low t.redo) sites → IsLow low (site_by o).redo
+pub low_by : (low : ℕ) (sites : List Site) (d : ℕ) (o : Option Site) → slice_get sites d ≡ o
+    → All (λ (t : Site). IsLow low t.redo) sites → IsLow low (site_by o).redo
 low_by low sites d None at all = tt
 low_by low sites d (Some t) at all = all_at (λ (x : Site). IsLow low x.redo) sites d t at all
 
@@ -134,7 +136,8 @@ up_to_it first s is = record { list = λ k e at. all_at (λ (x : Performed). x.0
 
 -- ---- it comes back
 
-pub come_back_legal : (w : Whole) (first : List Event) (notes : List SiteNote) → Legal w.core.procs w.core.events → IsWritten first notes w → Legal w.core.procs first
+pub come_back_legal : (w : Whole) (first : List Event) (notes : List SiteNote) → Legal w.core.procs w.core.events
+    → IsWritten first notes w → Legal w.core.procs first
 come_back_legal w first notes legal written = legal_first w.core.procs written.begins.later first (subst (Legal w.core.procs) written.begins.is legal)
 
 -- the marks of redo that was noted are low
@@ -145,10 +148,12 @@ noted_low low d w t t' is_low (NotYetUp x) = subst (λ (z : Site). IsLow low z.r
 pub all_sites : (P : Site → Type 0) (sites : List Site) → ((d : ℕ) → P (site_at sites d)) → All P sites
 all_sites P sites each k x inside = subst P (ap site_by (read_in sites k x inside)) (each k)
 
-pub sites_low : (w : Whole) (first : List Event) (notes : List SiteNote) → IsWritten first notes w → All (λ (t : Site). IsLow (low_water first) t.redo) (map site_noted notes)
+pub sites_low : (w : Whole) (first : List Event) (notes : List SiteNote) → IsWritten first notes w
+    → All (λ (t : Site). IsLow (low_water first) t.redo) (map site_noted notes)
 sites_low w first notes written =
     all_sites (λ (t : Site). IsLow (low_water first) t.redo) (map site_noted notes) (λ d.
-    noted_low (low_water first) d w (site_at w.core.sites d) (site_at (map site_noted notes) d) (low_by (low_water first) w.core.sites d (slice_get w.core.sites d) refl written.redo) (written.sites d))
+    noted_low (low_water first) d w (site_at w.core.sites d) (site_at (map site_noted notes) d)
+        (low_by (low_water first) w.core.sites d (slice_get w.core.sites d) refl written.redo) (written.sites d))
 
 pub come_back_low : (w : Whole) (first : List Event) (notes : List SiteNote) → IsWritten first notes w → AreMarksLow (come_back first notes w)
 come_back_low w first notes written = record {
@@ -168,7 +173,8 @@ come_back_listed w first notes good legal written s =
       behind = behind;
       past = past_back;
       honest = honest_first s.base written.begins.later first (subst (HonestFrom s.base) written.begins.is s.honest);
-      ok = since_back (ok_back s.base (logged w.core.events) (open_op w.core.events) (done w.core.events) (given w.core.events) (logged first) (open_op first) (done first) (given first) (low_water first)
+      ok = since_back (ok_back s.base (logged w.core.events) (open_op w.core.events) (done w.core.events)
+          (given w.core.events) (logged first) (open_op first) (done first) (given first) (low_water first)
           w.core.sites (map site_noted notes) w.dcs (wires_since w) (replies_since w) w.news before over (λ d. noted_since d (noted d))
           (λ d y at. up_to_it first y (all_at (IsWrittenAt first) w.dcs d y at written.stores))
           (λ k x inside. rests first _ (all_above (λ (y : Wire). y.number) (begun w.core.events) (IsWrittenFor first) w.copies written.copies k x inside))
@@ -237,10 +243,13 @@ come_back_listed w first notes good legal written s =
         begun_first w.core.procs written.begins.later first (subst (Legal w.core.procs) written.begins.is legal) (omega (arith, there, above, whole)) in
         subst (λ (n : ℕ). BeginsBehind n x) (whole ∙ same) is
 
-    before : Earlier s.base (logged w.core.events) (open_op w.core.events) (done w.core.events) (given w.core.events) (logged first) (open_op first) (done first) (given first)
+    before : Earlier s.base (logged w.core.events) (open_op w.core.events) (done w.core.events) (given w.core.events)
+        (logged first) (open_op first) (done first) (given first)
     before =
-        subst (λ (h : List Event). Earlier s.base (logged h) (open_op h) (done h) (given h) (logged first) (open_op first) (done first) (given first)) (sym written.begins.is)
-        (earlier w.core.procs s.base written.begins.later first good (subst (Legal w.core.procs) written.begins.is legal) (subst (HonestFrom s.base) written.begins.is s.honest))
+        subst (λ (h : List Event). Earlier s.base (logged h) (open_op h) (done h) (given h) (logged first)
+            (open_op first) (done first) (given first)) (sym written.begins.is)
+        (earlier w.core.procs s.base written.begins.later first good
+            (subst (Legal w.core.procs) written.begins.is legal) (subst (HonestFrom s.base) written.begins.is s.honest))
 
     over : Over (open_op first) (given first) (low_water first)
     over = over_low w.core.procs first (come_back_legal w first notes legal written)
@@ -267,7 +276,8 @@ noted_at [] d = refl
 noted_at (t ∷ sites) zero = noted_by t.incarnation t.redo
 noted_at (t ∷ sites) (suc d) = noted_at sites d
 
-pub noted_more : (sites : List Site) (d : ℕ) → d < length sites → map note_of (take (d + 1) sites) ≡ map note_of (take d sites) ++ note_of (site_at sites d) ∷ []
+pub noted_more : (sites : List Site) (d : ℕ) → d < length sites
+    → map note_of (take (d + 1) sites) ≡ map note_of (take d sites) ++ note_of (site_at sites d) ∷ []
 noted_more sites d inside =
     ap (map note_of) (take_more sites d untold inside)
     ∙ (map-append note_of (take d sites) (slice_index_or sites d untold ∷ [])
@@ -277,4 +287,5 @@ noted_more sites d inside =
 pub notes_low : (low : ℕ) (w : Whole) → All (λ (t : Site). IsLow low t.redo) w.core.sites → All (λ (t : Site). IsLow low t.redo) (map site_noted (notes_of w))
 notes_low low w all =
     all_sites (λ (t : Site). IsLow low t.redo) (map site_noted (notes_of w)) (λ d.
-    subst (λ (t : Site). IsLow low t.redo) (sym (noted_at w.core.sites d)) (low_begun low (site_at w.core.sites d).redo (low_by low w.core.sites d (slice_get w.core.sites d) refl all)))
+    subst (λ (t : Site). IsLow low t.redo) (sym (noted_at w.core.sites d))
+        (low_begun low (site_at w.core.sites d).redo (low_by low w.core.sites d (slice_get w.core.sites d) refl all)))

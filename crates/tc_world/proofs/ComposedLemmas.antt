@@ -65,7 +65,8 @@ turn_same (Asks o) m w next next' same later = later o
 turn_same (Ends v) m w next next' same later = record { value = refl; table = same }
 turn_same Nowhere m w next next' same later = record { value = refl; table = same }
 
-run_same : (q : Checked) (args : List ℕ) (k : ℕ) (answers : List Said) (m w : Table) → ((r : Record) → m r ≡ w r) → SameRan (run k q args answers m) (run k q args answers w)
+run_same : (q : Checked) (args : List ℕ) (k : ℕ) (answers : List Said) (m w : Table) → ((r : Record) → m r ≡ w r)
+    → SameRan (run k q args answers m) (run k q args answers w)
 run_same q args zero answers m w same = record { value = refl; table = same }
 run_same q args (suc k) answers m w same =
     turn_same (reached_of (stop_at q args answers)) m w (λ o. run k q args (answers ++ told m o ∷ []) (applied o (told m o) m))
@@ -95,7 +96,8 @@ module _ (ps : List Checked) (base other : Table) (same : (r : Record) → base 
   serial_same (Answer t n said ∷ h) r = serial_same h r
   serial_same (Undo t n o ∷ h) r = serial_same h r
   serial_same (End t how ∷ h) r =
-      left_same how _ _ (serial_from ps base h) (serial_from ps other h) (call_same (open_call h t) (serial_from ps base h) (serial_from ps other h) (serial_same h)) (serial_same h) r
+      left_same how _ _ (serial_from ps base h) (serial_from ps other h)
+          (call_same (open_call h t) (serial_from ps base h) (serial_from ps other h) (serial_same h)) (serial_same h) r
   serial_same (Checkpoint before numbers ∷ h) r = serial_same h r
 
   end_by : (how : Ending) (a b : Ran) → SameRan a b → EndsAs how a → EndsAs how b
@@ -124,7 +126,8 @@ off_by false x y is = refl
 untouched : (base : Table) (list : List Performed) (r : Record) → ((k : ℕ) (e : Performed) → slice_get list k ≡ Some e → record_eq (target e.1) r ≡ false)
     → value_over base list r ≡ base r
 untouched base [] r none = refl
-untouched base (e ∷ list) r none = off_by (record_eq (target e.1) r) _ (value_over base list r) (none 0 e refl) ∙ untouched base list r (λ k x at. none (suc k) x at)
+untouched base (e ∷ list) r none = off_by (record_eq (target e.1) r) _ (value_over base list r) (none 0 e refl)
+    ∙ untouched base list r (λ k x at. none (suc k) x at)
 
 number_self : (x e : Performed) → x ≡ e → (x.0 == e.0) ≡ true
 number_self x e same = eq-true x.0 e.0 (ap (λ (y : Performed). y.0) same)
@@ -171,15 +174,18 @@ module _ (w v : Whole) (o : Outcome) (known : Known w.core) (s : IsListed w) (cu
       up : (site_at w.core.sites d).redo ≡ None
       up = up_all w.core.sites d cut.may.up
 
-      by : (b : Bool) → (x.incarnation == (site_at w.core.sites d).incarnation) ≡ b → Beside s.base (logged w.core.events) (open_op w.core.events) (done w.core.events) d x.list
+      by : (b : Bool) → (x.incarnation == (site_at w.core.sites d).incarnation) ≡ b
+          → Beside s.base (logged w.core.events) (open_op w.core.events) (done w.core.events) d x.list
       by true is =
           let now : (site_at w.core.sites d).incarnation ≡ x.incarnation = sym (equal x.incarnation (site_at w.core.sites d).incarnation is) in
           subst (Beside s.base (logged h) (open_op h) (done h) d) (sym (k.same now)) (k.up up)
       by false is =
-          let mark : x.mark ≡ given h = ap (λ (b : Bool). (if b then marked x (low_water h) else x).mark) (sym is) ∙ kept_mark w v.dcs known.legal cut.may cut.forgotten s d x at in
+          let mark : x.mark ≡ given h = ap (λ (b : Bool). (if b then marked x (low_water h) else x).mark) (sym is)
+              ∙ kept_mark w v.dcs known.legal cut.may cut.forgotten s d x at in
           behind_beside s.base (logged h) (open_op h) (done h) d x.list (log_facts w.core.procs s.base h known.good known.legal s.honest)
           (behind_end s.base (logged h) (open_op h) (done h) d (s.ok.v d) x.list k.cut k.behind)
-          (λ n q said logs dc was did. k.mark_to n q said logs dc was did (let few = logged_below w.core.procs h known.legal n q logs in omega (arith, few, mark)))
+          (λ n q said logs dc was did. k.mark_to n q said logs dc was did
+              (let few = logged_below w.core.procs h known.legal n q logs in omega (arith, few, mark)))
 
   there : (r : Record) (x : Store) → slice_get w.dcs r.dc ≡ Some x → base_of v.dcs r ≡ serial_from w.core.procs (base_of w.dcs) w.core.events r
   there r x at =
@@ -187,7 +193,8 @@ module _ (w v : Whole) (o : Outcome) (known : Known w.core) (s : IsListed w) (cu
       let rows : base_of v.dcs r ≡ row_of is.t.base r = ap (λ (u : Option Store). row_of (base_in u) r) is.at in
       let kept : value_in (kept_at (low_water h) w.core.sites r.dc x).base (kept_at (low_water h) w.core.sites r.dc x).list r ≡ value_in x.base x.list r
       = heard_values x (site_at w.core.sites r.dc).incarnation (low_water h) r in
-      let own : value_in x.base x.list r ≡ value_over (base_of w.dcs) x.list r = over_same (row_of x.base) (base_of w.dcs) x.list r (own_rows w.dcs r.dc x r at refl) in
+      let own : value_in x.base x.list r ≡ value_over (base_of w.dcs) x.list r = over_same (row_of x.base)
+          (base_of w.dcs) x.list r (own_rows w.dcs r.dc x r at refl) in
       let now = beside_same s.base (base_of w.dcs) based (logged h) (open_op h) (done h) r.dc x.list (beside r.dc x at) in
       let honest = honest_same s.base (base_of w.dcs) based h s.honest in
       rows ∙ (is.forgotten.values r ∙ (kept ∙ (own ∙ list_serial w.core.procs (base_of w.dcs) h r.dc x.list known.good known.legal honest now r refl (free r))))
@@ -205,7 +212,8 @@ module _ (w v : Whole) (o : Outcome) (known : Known w.core) (s : IsListed w) (cu
       let gone : base_of v.dcs r ≡ None = still (slice_get v.dcs r.dc) refl in
       let never : base_of w.dcs r ≡ None = ap (λ (u : Option Store). row_of (base_in u) r) none in
       let honest = honest_same s.base (base_of w.dcs) based h s.honest in
-      gone ∙ (sym never ∙ (sym (untouched (base_of w.dcs) (done h) r off) ∙ values_serial_from w.core.procs (base_of w.dcs) h known.good known.legal honest r (free r)))
+      gone ∙ (sym never ∙ (sym (untouched (base_of w.dcs) (done h) r off)
+          ∙ values_serial_from w.core.procs (base_of w.dcs) h known.good known.legal honest r (free r)))
     where
       still : (u : Option Store) → slice_get v.dcs r.dc ≡ u → base_of v.dcs r ≡ None
       still None at = ap (λ (z : Option Store). row_of (base_in z) r) at
@@ -247,7 +255,8 @@ module _ (w v : Whole) (o : Outcome) (known : Known w.core) (s : IsListed w) (cu
       long_ends w.core.procs (base_of w.dcs) h known.legal cut.may.rest later before
       (ends_same w.core.procs (base_of v.dcs) (serial_from w.core.procs (base_of w.dcs) h) cut_leaves (later ++ anew h) ends)
 
-pub living_leaves : (w v : Whole) (o : Outcome) → HasLived w → Cuts w o v → (r : Record) → base_of v.dcs r ≡ serial_from w.core.procs (base_of w.dcs) w.core.events r
+pub living_leaves : (w v : Whole) (o : Outcome) → HasLived w → Cuts w o v → (r : Record)
+    → base_of v.dcs r ≡ serial_from w.core.procs (base_of w.dcs) w.core.events r
 living_leaves w v o l cut r = cut_leaves w v o (living_known w l) (living_listed w l) cut r
 
 pub living_values : (w v : Whole) (o : Outcome) → HasLived w → Cuts w o v → (later : List Event) (r : Record)

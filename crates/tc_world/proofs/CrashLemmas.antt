@@ -167,14 +167,17 @@ pub record Looks (w : Whole) (n : ℕ) (rs : List Asking) (given' low' : ℕ) (e
   pub later : es ≡ reverse (later_events n w.core.events)
 
 pub looks : (w : Whole) (n : ℕ) (rs : List Asking) (given' low : ℕ) (first' es : List Event) → Legal w.core.procs w.core.events → AreWaiting rs w.core.events
-    → n ≤ length w.core.events → first' ≡ take n (reverse w.core.events) → es ≡ drop n (reverse w.core.events) → given' ≡ given_of (log_begun w.core.events) first'
+    → n ≤ length w.core.events → first' ≡ take n (reverse w.core.events) → es ≡ drop n (reverse w.core.events)
+        → given' ≡ given_of (log_begun w.core.events) first'
     → low ≡ low_left given' es rs → Looks w n rs given' low es
 looks w n rs given' low first' es legal waits inside front_is back_is given_by low_by = record {
   legal = legal;
   waits = waits;
   inside = inside;
   given = given_now;
-  low = low_by ∙ (ap (λ (k : ℕ). low_left k es rs) given_now ∙ (ap (λ (xs : List Event). low_left (given (first_events n h)) xs rs) later_now ∙ low_told w.core.procs h rs n legal waits));
+  low = low_by ∙ (ap (λ (k : ℕ). low_left k es rs) given_now
+      ∙ (ap (λ (xs : List Event). low_left (given (first_events n h)) xs rs) later_now
+      ∙ low_told w.core.procs h rs n legal waits));
   later = later_now;
 }
   where
@@ -184,11 +187,15 @@ looks w n rs given' low first' es legal waits inside front_is back_is given_by l
     given_now : given' ≡ given (first_events n h)
     given_now =
         given_by
-        ∙ (ap (given_of (log_begun h)) (front_is ∙ (ap (λ (x : List Event). take n (reverse x)) (sym (cut_is n h)) ∙ front (later_events n h) (first_events n h) n (first_many n h inside)))
-        ∙ (ap (λ (x : List Event). given_of (log_begun x) (reverse (first_events n h))) (sym (cut_is n h)) ∙ given_first w.core.procs (later_events n h) (first_events n h) (subst (Legal w.core.procs) (sym (cut_is n h)) legal)))
+        ∙ (ap (given_of (log_begun h)) (front_is ∙ (ap (λ (x : List Event). take n (reverse x)) (sym (cut_is n h))
+            ∙ front (later_events n h) (first_events n h) n (first_many n h inside)))
+        ∙ (ap (λ (x : List Event). given_of (log_begun x) (reverse (first_events n h))) (sym (cut_is n h))
+            ∙ given_first w.core.procs (later_events n h) (first_events n h)
+            (subst (Legal w.core.procs) (sym (cut_is n h)) legal)))
 
     later_now : es ≡ reverse (later_events n h)
-    later_now = back_is ∙ (ap (λ (x : List Event). drop n (reverse x)) (sym (cut_is n h)) ∙ back (later_events n h) (first_events n h) n (first_many n h inside))
+    later_now = back_is ∙ (ap (λ (x : List Event). drop n (reverse x)) (sym (cut_is n h))
+        ∙ back (later_events n h) (first_events n h) n (first_many n h inside))
 
 module _ (w : Whole) (n : ℕ) (rs : List Asking) (given' low : ℕ) (es : List Event) (x : Looks w n rs given' low es) where
   abbrev begun : List Event
@@ -219,7 +226,8 @@ module _ (w : Whole) (n : ℕ) (rs : List Asking) (given' low : ℕ) (es : List 
   pub news_so : (b : Bool) → (IsTrue b ↔ All (λ (y : ℕ × News). y.1.mark ≤ low) w.news) → IsTrue b ↔ All (λ (y : ℕ × News). y.1.mark ≤ low_water begun) w.news
   news_so b is = subst (λ (k : ℕ). IsTrue b ↔ All (λ (y : ℕ × News). y.1.mark ≤ k) w.news) x.low is
 
-  pub sites_so : (b : Bool) → (IsTrue b ↔ All (λ (t : Site). IsLow low t.redo) w.core.sites) → IsTrue b ↔ All (λ (t : Site). IsLow (low_water begun) t.redo) w.core.sites
+  pub sites_so : (b : Bool) → (IsTrue b ↔ All (λ (t : Site). IsLow low t.redo) w.core.sites)
+      → IsTrue b ↔ All (λ (t : Site). IsLow (low_water begun) t.redo) w.core.sites
   sites_so b is = subst (λ (k : ℕ). IsTrue b ↔ All (λ (t : Site). IsLow k t.redo) w.core.sites) x.low is
 
 -- ---- requests made again

@@ -158,7 +158,8 @@ set_count [] k x = refl
 set_count (y ∷ xs) zero x = refl
 set_count (y ∷ xs) (suc k) x = ap (λ (n : ℕ). suc n) (set_count xs k x)
 
-pub one_forgotten : (low : ℕ) (sites : List Site) (n : ℕ) (olds news : List Store) (s t : Store) → AreForgottenTo low sites n olds news → slice_get olds n ≡ Some s
+pub one_forgotten : (low : ℕ) (sites : List Site) (n : ℕ) (olds news : List Store) (s t : Store)
+    → AreForgottenTo low sites n olds news → slice_get olds n ≡ Some s
     → HasForgotten (kept_at low sites n s) t → AreForgottenTo low sites (n + 1) olds (slice_set news n t)
 one_forgotten low sites n olds news s t are at is = record {
   count = set_count news n t ∙ are.count;
@@ -181,7 +182,8 @@ one_forgotten low sites n olds news s t are at is = record {
       set_other news n d t other ∙ are.still d x at' (omega (arith, few));
 }
 
-pub all_forgotten : (low : ℕ) (sites : List Site) (n : ℕ) (olds news : List Store) → length olds ≤ n → AreForgottenTo low sites n olds news → AreForgotten low sites olds news
+pub all_forgotten : (low : ℕ) (sites : List Site) (n : ℕ) (olds news : List Store) → length olds ≤ n
+    → AreForgottenTo low sites n olds news → AreForgotten low sites olds news
 all_forgotten low sites n olds news all are = record {
   count = are.count;
   each = λ d s at. are.before d s at (let few = slice_get-short olds d s at in omega (arith, few, all));

@@ -42,8 +42,10 @@ same_admitted [] = refl
 same_admitted (e ∷ h) = refl
 
 -- behind it, how many were admitted and the number behind which the log begins
-pub cuts_so : (w : Whole) (ds : List Store) (c : Core) (low many behind : ℕ) → c ≡ cut_core w.core → MayCheckpoint w.core (kept_marks w) → low ≡ low_water w.core.events
-    → AreForgotten low c.sites w.dcs ds → many ≡ admitted c.events → behind ≡ begun c.events → Cuts w (outcome.Cut many behind) (record w { core = c; dcs = ds })
+pub cuts_so : (w : Whole) (ds : List Store) (c : Core) (low many behind : ℕ) → c ≡ cut_core w.core
+    → MayCheckpoint w.core (kept_marks w) → low ≡ low_water w.core.events
+    → AreForgotten low c.sites w.dcs ds → many ≡ admitted c.events → behind ≡ begun c.events
+        → Cuts w (outcome.Cut many behind) (record w { core = c; dcs = ds })
 cuts_so w ds c low many behind is may low_is are many_is behind_is = record {
   may = may;
   outcome =

@@ -63,7 +63,9 @@ upped_written rows ops = record {
   sites = sites;
   copies = All-nil (IsWrittenFor []);
   replies = All-nil (λ (x : Reply). x.number ≤ given []);
-  stores = All-cons (IsWrittenAt []) s [] (record { list = All-nil few; saved = All-nil few; mark = omega arith; saved_mark = omega arith }) (All-nil (IsWrittenAt []));
+  stores = All-cons (IsWrittenAt []) s []
+      (record { list = All-nil few; saved = All-nil few; mark = omega arith; saved_mark = omega arith })
+      (All-nil (IsWrittenAt []));
   news = All-nil (λ (x : ℕ × News). x.1.mark ≤ low_water []);
   redo = All-cons (λ (t : Site). IsLow (low_water []) t.redo) up [] tt (All-nil (λ (t : Site). IsLow (low_water []) t.redo));
 }
@@ -77,6 +79,8 @@ upped_written rows ops = record {
     few : Performed → Type 0
     few e = e.0 ≤ given []
 
-    sites : (d : ℕ) → IsNoted (low_water []) (upped_world rows ops) d (site_at (up ∷ []) d) (site_at (map site_noted (Restarted (record { incarnation = 1; mark = 0 }) ∷ [])) d)
-    sites zero = NotYetUp (record { up = refl; mark = 0; noted = refl; low = omega arith; there = (s, refl); again = λ k x inside. absurd (omega (arith, inside)) })
+    sites : (d : ℕ) → IsNoted (low_water []) (upped_world rows ops) d (site_at (up ∷ []) d)
+        (site_at (map site_noted (Restarted (record { incarnation = 1; mark = 0 }) ∷ [])) d)
+    sites zero = NotYetUp (record { up = refl; mark = 0; noted = refl; low = omega arith; there = (s, refl);
+        again = λ k x inside. absurd (omega (arith, inside)) })
     sites (suc d) = Noted refl

@@ -41,7 +41,8 @@ lives : (moves : List Move) (w v : Whole) → Sound w → Lives moves w v → So
 lives [] w v s is = subst Sound (sym is) s
 lives (Takes x ∷ moves) w v s (o, mid, steps, honest, legal, good, rest) =
     let known : Known mid.core = record { legal = legal; good = good } in
-    lives moves mid v (record { known = known; low = stay_low w mid x o s.known.legal legal steps s.low; listed = stay_listed w mid x o s.known known honest steps s.listed }) rest
+    lives moves mid v (record { known = known; low = stay_low w mid x o s.known.legal legal steps s.low;
+        listed = stay_listed w mid x o s.known known honest steps s.listed }) rest
 lives (Loses xs rs ns ∷ moves) w v s (wires, replies, news, rest) =
     lives moves (left_with xs rs ns w) v
     (record {
@@ -115,7 +116,8 @@ on (Crashes first notes ∷ moves) more u w v (written, rest) next = (written, o
 on (StartsOver first dcs ∷ moves) more u w v (begins, new, olds, rest) next = (begins, new, olds, on moves more (start_over first dcs u) w v rest next)
 
 lived_on : (w v : Whole) (m : Move) → HasLived w → Lives (m ∷ []) w v → HasLived v
-lived_on w v m l next = record { first = l.first; fresh = l.fresh; good = l.good; moves = l.moves ++ m ∷ []; lives = on l.moves (m ∷ []) l.first w v l.lives next }
+lived_on w v m l next = record { first = l.first; fresh = l.fresh; good = l.good; moves = l.moves ++ m ∷ [];
+    lives = on l.moves (m ∷ []) l.first w v l.lives next }
 
 pub fresh_lived : (w : Whole) → IsFresh w → AllGood w.core.procs → HasLived w
 fresh_lived w fresh good = record { first = w; fresh = fresh; good = good; moves = []; lives = refl }
@@ -123,13 +125,15 @@ fresh_lived w fresh good = record { first = w; fresh = fresh; good = good; moves
 pub step_lived : (w v : Whole) (x : Step) (o : Outcome) → Known v.core → is_forge x ≡ false → Steps w x o v → HasLived w → HasLived v
 step_lived w v x o known honest steps l = lived_on w v (Takes x) l (o, v, steps, honest, known.legal, known.good, refl)
 
-pub loss_lived : (w : Whole) (xs : List Wire) (rs : List Reply) (ns : List (ℕ × News)) → AreAmong xs w.copies → AreAmong rs w.replies → AreAmong ns w.news → HasLived w → HasLived (left_with xs rs ns w)
+pub loss_lived : (w : Whole) (xs : List Wire) (rs : List Reply) (ns : List (ℕ × News)) → AreAmong xs w.copies
+    → AreAmong rs w.replies → AreAmong ns w.news → HasLived w → HasLived (left_with xs rs ns w)
 loss_lived w xs rs ns wires replies news l = lived_on w (left_with xs rs ns w) (Loses xs rs ns) l (wires, replies, news, refl)
 
 pub crash_lived : (w : Whole) (first : List Event) (notes : List SiteNote) → IsWritten first notes w → HasLived w → HasLived (come_back first notes w)
 crash_lived w first notes written l = lived_on w (come_back first notes w) (Crashes first notes) l (written, refl)
 
-pub over_lived : (w : Whole) (first : List Event) (dcs : List Store) → Begins first w.core.events → All (IsNew first) dcs → StandFor dcs w.dcs → HasLived w → HasLived (start_over first dcs w)
+pub over_lived : (w : Whole) (first : List Event) (dcs : List Store) → Begins first w.core.events
+    → All (IsNew first) dcs → StandFor dcs w.dcs → HasLived w → HasLived (start_over first dcs w)
 over_lived w first dcs begins new olds l = lived_on w (start_over first dcs w) (StartsOver first dcs) l (begins, new, olds, refl)
 
 -- ---- from any world on
@@ -143,18 +147,22 @@ becomes_on start w v m b next = record { moves = b.moves ++ m ∷ []; lives = on
 pub step_becomes : (start w v : Whole) (x : Step) (o : Outcome) → Known v.core → is_forge x ≡ false → Steps w x o v → Becomes start w → Becomes start v
 step_becomes start w v x o known honest steps b = becomes_on start w v (Takes x) b (o, v, steps, honest, known.legal, known.good, refl)
 
-pub loss_becomes : (start w : Whole) (xs : List Wire) (rs : List Reply) (ns : List (ℕ × News)) → AreAmong xs w.copies → AreAmong rs w.replies → AreAmong ns w.news
+pub loss_becomes : (start w : Whole) (xs : List Wire) (rs : List Reply) (ns : List (ℕ × News)) → AreAmong xs w.copies
+    → AreAmong rs w.replies → AreAmong ns w.news
     → Becomes start w → Becomes start (left_with xs rs ns w)
 loss_becomes start w xs rs ns wires replies news b = becomes_on start w (left_with xs rs ns w) (Loses xs rs ns) b (wires, replies, news, refl)
 
 pub becomes_lived : (w v : Whole) → Becomes w v → HasLived w → HasLived v
-becomes_lived w v b l = record { first = l.first; fresh = l.fresh; good = l.good; moves = l.moves ++ b.moves; lives = on l.moves b.moves l.first w v l.lives b.lives }
+becomes_lived w v b l = record { first = l.first; fresh = l.fresh; good = l.good; moves = l.moves ++ b.moves;
+    lives = on l.moves b.moves l.first w v l.lives b.lives }
 
 -- marks stay low, whatever the answers are
 lives_low : (moves : List Move) (w v : Whole) → Legal w.core.procs w.core.events → AreMarksLow w → Lives moves w v → AreMarksLow v
 lives_low [] w v legal low is = subst AreMarksLow (sym is) low
-lives_low (Takes x ∷ moves) w v legal low (o, mid, steps, honest, legal', good, rest) = lives_low moves mid v legal' (stay_low w mid x o legal legal' steps low) rest
-lives_low (Loses xs rs ns ∷ moves) w v legal low (wires, replies, news, rest) = lives_low moves (left_with xs rs ns w) v legal (lost_low w xs rs ns wires news low) rest
+lives_low (Takes x ∷ moves) w v legal low (o, mid, steps, honest, legal', good, rest) = lives_low moves mid v legal'
+    (stay_low w mid x o legal legal' steps low) rest
+lives_low (Loses xs rs ns ∷ moves) w v legal low (wires, replies, news, rest) = lives_low moves (left_with xs rs ns w) v
+    legal (lost_low w xs rs ns wires news low) rest
 lives_low (Crashes first notes ∷ moves) w v legal low (written, rest) =
     lives_low moves (come_back first notes w) v (come_back_legal w first notes legal written) (come_back_low w first notes written) rest
 lives_low (StartsOver first dcs ∷ moves) w v legal low (begins, new, olds, rest) =

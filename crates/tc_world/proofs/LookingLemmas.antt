@@ -169,7 +169,8 @@ asking_is n (Some f) = refl
 asked_open : (rs : List Asking) (h : List Event) (n : ℕ) → AreWaiting rs h → list_any (λ (r : Asking). r.number == n) rs ≡ is_open h n
 asked_open rs h n w = asked_is rs n ∙ (ap is_asking (w.each n) ∙ asking_is n (open_op h n))
 
-pub left_is : (ps : List Checked) (later first : List Event) (rs : List Asking) (n : ℕ) → Legal ps (later ++ first) → AreWaiting rs (later ++ first) → n ≤ given first
+pub left_is : (ps : List Checked) (later first : List Event) (rs : List Asking) (n : ℕ) → Legal ps (later ++ first)
+    → AreWaiting rs (later ++ first) → n ≤ given first
     → is_left (reverse later) rs n ≡ is_open first n
 left_is ps later first rs n legal w low =
     ap (λ (b : Bool). b || list_any (answers n) (reverse later)) (asked_open rs (later ++ first) n w)
@@ -231,7 +232,8 @@ requests_less (r ∷ rs) low n is some = elim (cases_eq r.number n) [
       let le = requests_le rs (below_request low r) in
       let less = below_less low r.number (omega (arith, same, some)) in
       omega (arith, le, less, same)
-  | inr other ↦ requests_less rs (below_request low r) n (sym (ap (λ (b : Bool). b || list_any (λ (x : Asking). x.number == n) rs) (eq-false r.number n other)) ∙ is) some
+  | inr other ↦ requests_less rs (below_request low r) n
+      (sym (ap (λ (b : Bool). b || list_any (λ (x : Asking). x.number == n) rs) (eq-false r.number n other)) ∙ is) some
 ]
 
 event_above : (m low : ℕ) (e : Event) → m ≤ low → ((n : ℕ) → answers n e ≡ true → m < n) → m ≤ below_event low e
@@ -255,11 +257,13 @@ events_above (e ∷ es) m low le above =
     events_above es m (below_event low e) (event_above m low e le (λ n is. above n (or_left (answers n e) (list_any (answers n) es) is)))
     (λ n is. above n (or_right (answers n e) (list_any (answers n) es) is))
 
-requests_above : (rs : List Asking) (m low : ℕ) → m ≤ low → ((n : ℕ) → list_any (λ (r : Asking). r.number == n) rs ≡ true → m < n) → m ≤ fold below_request low rs
+requests_above : (rs : List Asking) (m low : ℕ) → m ≤ low
+    → ((n : ℕ) → list_any (λ (r : Asking). r.number == n) rs ≡ true → m < n) → m ≤ fold below_request low rs
 requests_above [] m low le above = le
 requests_above (r ∷ rs) m low le above =
     requests_above rs m (below_request low r)
-    (above_less m low r.number le (above r.number (or_left (r.number == r.number) (list_any (λ (x : Asking). x.number == r.number) rs) (eq-true r.number r.number refl))))
+    (above_less m low r.number le (above r.number (or_left (r.number == r.number)
+        (list_any (λ (x : Asking). x.number == r.number) rs) (eq-true r.number r.number refl))))
     (λ n is. above n (or_right (r.number == n) (list_any (λ (x : Asking). x.number == n) rs) is))
 
 flying : (o : Option Flight) → is_flight o ≡ true → (f : Flight) × (o ≡ Some f)
@@ -267,7 +271,8 @@ flying None is = absurd cc
 flying (Some f) is = (f, refl)
 
 -- where all up to m were answered in the first events, each number that is left open lies above
-left_above : (ps : List Checked) (later first : List Event) (rs : List Asking) (m n : ℕ) → Legal ps first → Legal ps (later ++ first) → AreWaiting rs (later ++ first)
+left_above : (ps : List Checked) (later first : List Event) (rs : List Asking) (m n : ℕ) → Legal ps first
+    → Legal ps (later ++ first) → AreWaiting rs (later ++ first)
     → AllAnswered first m → is_left (reverse later) rs n ≡ true → m < n
 left_above ps later first rs m n legal_now legal w all is = elim (cases_lt m n) [
   | inl less ↦ less
@@ -289,7 +294,8 @@ low_is ps later first rs legal_now legal w =
       };
       greatest = λ m all.
           events_above (reverse later) m (fold below_request (given first) rs)
-          (requests_above rs m (given first) all.given_out (λ n is. left_above ps later first rs m n legal_now legal w all (or_left _ (list_any (answers n) (reverse later)) is)))
+          (requests_above rs m (given first) all.given_out (λ n is. left_above ps later first rs m n legal_now legal w
+              all (or_left _ (list_any (answers n) (reverse later)) is)))
           (λ n is. left_above ps later first rs m n legal_now legal w all (or_right (list_any (λ (r : Asking). r.number == n) rs) _ is));
     })
   where
@@ -309,5 +315,7 @@ low_is ps later first rs legal_now legal w =
     by m some le false is = is
     by m some le true is =
         let left : is_left (reverse later) rs m ≡ true = left_is ps later first rs m legal w (omega (arith, le, few)) ∙ is in
-        let less : low < m = either (list_any (λ (r : Asking). r.number == m) rs) (list_any (answers m) (reverse later)) left (low < m) (asked_less m some) (λ here. events_less (reverse later) (fold below_request (given first) rs) m here some) in
+        let less : low < m = either (list_any (λ (r : Asking). r.number == m) rs) (list_any (answers m) (reverse later))
+            left (low < m) (asked_less m some) (λ here. events_less (reverse later)
+            (fold below_request (given first) rs) m here some) in
         absurd (omega (arith, le, less))

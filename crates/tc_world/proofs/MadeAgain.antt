@@ -94,42 +94,48 @@ record IsAsked (t : ℕ) (st : Option Standing) (r : Asking) : Type 0 where
 
 asked_by : (t : ℕ) (s : Standing) (o : Option Sent) (r : Asking) → s.sent ≡ o → sent_by t o ≡ Some r → IsAsked t (Some s) r
 asked_by t s None r waits e = absurd (none_some _ r refl e)
-asked_by t s (Some q) r waits e = record { s = s; q = q; is = refl; waits = waits; same = some_same r (let a : Asking = record { txn = t; number = q.number; op = q.op } in a) (sym e) }
+asked_by t s (Some q) r waits e = record { s = s; q = q; is = refl; waits = waits;
+    same = some_same r (let a : Asking = record { txn = t; number = q.number; op = q.op } in a) (sym e) }
 
 asked_of : (t : ℕ) (st : Option Standing) (r : Asking) → asking_in t st ≡ Some r → IsAsked t st r
 asked_of t None r e = absurd (none_some _ r refl e)
 asked_of t (Some s) r e = asked_by t s s.sent r refl e
 
 -- a transaction that waits for nothing has nothing in flight
-idle_has_none : (ps : List Checked) (h : List Event) (t : ℕ) → Legal ps h → asking_in t (standing h t) ≡ None → (n : ℕ) (f : Flight) → open_op h n ≡ Some f → f.txn ≢ t
+idle_has_none : (ps : List Checked) (h : List Event) (t : ℕ) → Legal ps h → asking_in t (standing h t) ≡ None
+    → (n : ℕ) (f : Flight) → open_op h n ≡ Some f → f.txn ≢ t
 idle_has_none ps h t legal none n f flies own =
     let a = awaited ps h legal n f flies in
     let here : standing h t ≡ Some a.s = ap (standing h) (sym own) ∙ a.is in
     none_some (asking_in t (standing h t)) _ none (ap (asking_in t) here ∙ ap (sent_by t) a.waits)
 
 -- one that waits has that in flight
-waiting_has_one : (ps : List Checked) (h : List Event) (t : ℕ) (r : Asking) → Legal ps h → IsAsked t (standing h t) r → (n : ℕ) (f : Flight) → open_op h n ≡ Some f → r.number ≢ n → f.txn ≢ t
+waiting_has_one : (ps : List Checked) (h : List Event) (t : ℕ) (r : Asking) → Legal ps h → IsAsked t (standing h t) r
+    → (n : ℕ) (f : Flight) → open_op h n ≡ Some f → r.number ≢ n → f.txn ≢ t
 waiting_has_one ps h t r legal x n f flies other own =
     let a = awaited ps h legal n f flies in
     let one : x.s ≡ a.s = some_same x.s a.s (sym x.is ∙ (ap (standing h) (sym own) ∙ a.is)) in
     let two : x.q ≡ a.r = some_same x.q a.r (sym x.waits ∙ (ap (λ (z : Standing). z.sent) one ∙ a.waits)) in
     other (ap (λ (z : Asking). z.number) x.same ∙ (ap (λ (z : Sent). z.number) two ∙ a.number))
 
-made_none : (ps : List Checked) (h : List Event) (rs : List Asking) (k : ℕ) → Legal ps h → AreMade rs h k → asking_in (k + 1) (standing h (k + 1)) ≡ None → AreMade rs h (k + 1)
+made_none : (ps : List Checked) (h : List Event) (rs : List Asking) (k : ℕ) → Legal ps h → AreMade rs h k
+    → asking_in (k + 1) (standing h (k + 1)) ≡ None → AreMade rs h (k + 1)
 made_none ps h rs k legal m none = record {
   each = λ n. m.each n ∙ still_up k n (open_op h n) (λ f is. idle_has_none ps h (k + 1) legal none n f is);
   once = m.once;
   few = (let few = m.few in omega (arith, few));
 }
 
-made_some : (ps : List Checked) (h : List Event) (rs : List Asking) (k : ℕ) (r : Asking) → Legal ps h → AreMade rs h k → IsAsked (k + 1) (standing h (k + 1)) r → AreMade (rs ++ r ∷ []) h (k + 1)
+made_some : (ps : List Checked) (h : List Event) (rs : List Asking) (k : ℕ) (r : Asking) → Legal ps h → AreMade rs h k
+    → IsAsked (k + 1) (standing h (k + 1)) r → AreMade (rs ++ r ∷ []) h (k + 1)
 made_some ps h rs k r legal m x =
     let f : Flight = flight (k + 1) x.q.op in
     let number : x.q.number ≡ r.number = sym (ap (λ (z : Asking). z.number) x.same) in
     let flies : open_op h r.number ≡ Some f = ap (open_op h) (sym number) ∙ (standing_flight ps h legal (k + 1) x.s x.q x.is x.waits).1 in
     let absent : request_of rs r.number ≡ None = m.each r.number ∙ (ap (asking_up_to k r.number) flies ∙ later k r.number f (omega arith)) in
     let it : asking r.number f ≡ r = ap (λ (j : ℕ). let a : Asking = record { txn = k + 1; number = j; op = x.q.op } in a) (sym number) ∙ sym x.same in
-    let there : asking_up_to (k + 1) r.number (open_op h r.number) ≡ Some r = ap (asking_up_to (k + 1) r.number) flies ∙ (made (k + 1) r.number f (omega arith) ∙ ap (λ (z : Asking). Some z) it) in
+    let there : asking_up_to (k + 1) r.number (open_op h r.number) ≡ Some r = ap (asking_up_to (k + 1) r.number) flies
+        ∙ (made (k + 1) r.number f (omega arith) ∙ ap (λ (z : Asking). Some z) it) in
     record {
       each = λ n. elim (cases_eq r.number n) [
         | inl same ↦ subst (λ (j : ℕ). request_of (rs ++ r ∷ []) j ≡ asking_up_to (k + 1) j (open_op h j)) same (push_new rs r absent ∙ sym there)
@@ -139,6 +145,7 @@ made_some ps h rs k r legal m x =
       few = (let few = m.few in let more : length (rs ++ r ∷ []) ≡ length rs + 1 = length-append rs (r ∷ []) in omega (arith, few, more));
     }
 
-pub one_made : (ps : List Checked) (h : List Event) (rs : List Asking) (k : ℕ) (o : Option Asking) → Legal ps h → AreMade rs h k → o ≡ asking_in (k + 1) (standing h (k + 1)) → AreMade (rs ++ option_to_list o) h (k + 1)
+pub one_made : (ps : List Checked) (h : List Event) (rs : List Asking) (k : ℕ) (o : Option Asking) → Legal ps h
+    → AreMade rs h k → o ≡ asking_in (k + 1) (standing h (k + 1)) → AreMade (rs ++ option_to_list o) h (k + 1)
 one_made ps h rs k None legal m is = subst (λ (xs : List Asking). AreMade xs h (k + 1)) (sym (append-nil rs)) (made_none ps h rs k legal m (sym is))
 one_made ps h rs k (Some r) legal m is = made_some ps h rs k r legal m (asked_of (k + 1) (standing h (k + 1)) r (sym is))

@@ -317,9 +317,11 @@ restarts_low w v d (Some s) o at low goes = by (nat_le (2 ^ 62) s.incarnation) g
     by false goes' =
         let is = (store_at w d s at low).1 in
         let mid = with_dcs w (slice_set w.dcs d (restarted s)) in
-        low_behind _ o (with_news mid d (news_of (restarted s))) v (newly_low mid d (news_of (restarted s)) is (stored_low w d (restarted s) (is, is) low)) goes'
+        low_behind _ o (with_news mid d (news_of (restarted s))) v
+            (newly_low mid d (news_of (restarted s)) is (stored_low w d (restarted s) (is, is) low)) goes'
 
-checkpoints_low : (w v : Whole) (d : ℕ) (s : Option Store) (o : Outcome) → slice_get w.dcs d ≡ s → AreMarksLow w → checkpoints_at w d s ≡ Goes o v → AreMarksLow v
+checkpoints_low : (w v : Whole) (d : ℕ) (s : Option Store) (o : Outcome) → slice_get w.dcs d ≡ s → AreMarksLow w
+    → checkpoints_at w d s ≡ Goes o v → AreMarksLow v
 checkpoints_low w v d None o at low goes = absurd (stopped _ o v goes)
 checkpoints_low w v d (Some s) o at low goes =
     let is = (store_at w d s at low).0 in
@@ -337,7 +339,8 @@ tells_low w v i (Some x) o at low goes = by (news_fault w.core x.0 x.1) goes
         let few = all_at (λ (y : ℕ × News). y.1.mark ≤ low_water w.core.events) w.news i x at low.news in
         low_behind _ o (with_core w (after_told w.core x.0 x.1)) v (known_low w x.0 (down_by x.1) few low) goes'
 
-redoes_low : (w v : Whole) (d : ℕ) (s : Option Site) (o : Outcome) → slice_get w.core.sites d ≡ s → AreMarksLow w → redoes_by w d (redo_at w.core d s) ≡ Goes o v → AreMarksLow v
+redoes_low : (w v : Whole) (d : ℕ) (s : Option Site) (o : Outcome) → slice_get w.core.sites d ≡ s → AreMarksLow w
+    → redoes_by w d (redo_at w.core d s) ≡ Goes o v → AreMarksLow v
 redoes_low w v d None o at low goes = absurd (stopped _ o v goes)
 redoes_low w v d (Some s) o at low goes = by s.redo refl goes
   where
@@ -372,7 +375,8 @@ cut_low w ds legal rest are low = record {
     marks d t at =
         let is = was_kept (low_water w.core.events) w.core.sites w.dcs ds d t are at in
         let to = forgotten_to (low_water w.core.events) (site_at w.core.sites d).incarnation is.s t is.forgotten in
-        let few = heard_low is.s (site_at w.core.sites d).incarnation (low_water w.core.events) (low_water w.core.events) (store_at w d is.s is.at low).0 (omega arith) in
+        let few = heard_low is.s (site_at w.core.sites d).incarnation (low_water w.core.events)
+            (low_water w.core.events) (store_at w d is.s is.at low).0 (omega arith) in
         let mark = to.mark_is in
         let saved = to.saved_mark in
         (omega (arith, mark, few), omega (arith, saved, few))
@@ -399,7 +403,8 @@ stay_low w v (step.Checkpoint d) o was legal goes low = checkpoints_low w v d (s
 stay_low w v (step.Tell i) o was legal goes low = tells_low w v i (slice_get w.news i) o refl low goes
 stay_low w v (step.Redo d) o was legal goes low = redoes_low w v d (slice_get w.core.sites d) o refl low goes
 stay_low w v step.Cut o was legal goes low = subst AreMarksLow (sym goes.next) (cut_low w v.dcs was goes.may.rest goes.forgotten low)
-stay_low w v (step.Crash n) o was legal goes low = subst AreMarksLow (sym goes.next) (come_back_low w (first_events n w.core.events) (notes_of w) goes.may.written)
+stay_low w v (step.Crash n) o was legal goes low = subst AreMarksLow (sym goes.next)
+    (come_back_low w (first_events n w.core.events) (notes_of w) goes.may.written)
 
 -- ---- a fresh world
 

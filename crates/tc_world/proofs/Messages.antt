@@ -65,7 +65,8 @@ no_txn_undoes w t none =
 pub ask_number : (t last : ℕ) (n : Option Next) (r : Asking) → asked_by t last n ≡ Request r → r.number ≡ last + 1
 ask_number t last None r e = absurd cc
 ask_number t last (Some (next.Waits n)) r e = absurd cc
-ask_number t last (Some (next.Asks o)) r e = (let this : Asking = record { txn = t; number = last + 1; op = o } in let same : this ≡ r = cc in sym (ap (λ (x : Asking). x.number) same))
+ask_number t last (Some (next.Asks o)) r e = (let this : Asking = record { txn = t; number = last + 1; op = o } in
+    let same : this ≡ r = cc in sym (ap (λ (x : Asking). x.number) same))
 ask_number t last (Some (next.Undoes o)) r e = absurd cc
 ask_number t last (Some (next.Stuck n)) r e = absurd cc
 ask_number t last (Some (next.Over o)) r e = absurd cc
@@ -74,7 +75,8 @@ pub undo_number : (t last : ℕ) (n : Option Next) (r : Asking) → undo_by t la
 undo_number t last None r e = absurd cc
 undo_number t last (Some (next.Waits n)) r e = absurd cc
 undo_number t last (Some (next.Asks o)) r e = absurd cc
-undo_number t last (Some (next.Undoes o)) r e = (let this : Asking = record { txn = t; number = last + 1; op = o } in let same : this ≡ r = cc in sym (ap (λ (x : Asking). x.number) same))
+undo_number t last (Some (next.Undoes o)) r e = (let this : Asking = record { txn = t; number = last + 1; op = o } in
+    let same : this ≡ r = cc in sym (ap (λ (x : Asking). x.number) same))
 undo_number t last (Some (next.Stuck n)) r e = absurd cc
 undo_number t last (Some (next.Over ending.Committed)) r e = absurd cc
 undo_number t last (Some (next.Over (ending.Aborted v))) r e = absurd cc
@@ -212,7 +214,8 @@ pub takes_stranger : (w : Whole) (rs : List Asking) (i k : ℕ) (r : Asking) (x 
     → (is_heard (site_of w.core.sites r.op) x && fits r.op x.said) ≡ false → IsNotTaken w (slice_get w.replies i) illegal.Stranger
 takes_stranger w rs i k r x waiting sent at same not_heard =
     subst (λ (y : Option Reply). IsNotTaken w y illegal.Stranger) (sym sent)
-    (refl, subst (λ (f : Option Flight). IsStrangeTo w x f) (sym (in_flight_there w rs k r x.number waiting at same)) (ap (takes_answer w (flight r.txn r.op) x) not_heard))
+    (refl, subst (λ (f : Option Flight). IsStrangeTo w x f) (sym (in_flight_there w rs k r x.number waiting at same))
+        (ap (takes_answer w (flight r.txn r.op) x) not_heard))
 
 pub takes_taken : (w : Whole) (rs : List Asking) (i k : ℕ) (r : Asking) (x : Reply) → AreWaiting rs w.core.events
     → slice_get w.replies i ≡ Some x → slice_get rs k ≡ Some r → r.number ≡ x.number
@@ -221,7 +224,8 @@ pub takes_taken : (w : Whole) (rs : List Asking) (i k : ℕ) (r : Asking) (x : R
 takes_taken w rs i k r x waiting sent at same heard =
     let number = ap (λ (n : ℕ). Goes (outcome.Took x.number) (with_core w (with_event w.core (Answer r.txn n x.said)))) (sym same) in
     subst (λ (y : Option Reply). TakesReply w y (outcome.Took x.number) (with_core w (after_answer w.core r x.said))) (sym sent)
-    (subst (λ (f : Option Flight). TakesBy w x f (outcome.Took x.number) (with_core w (after_answer w.core r x.said))) (sym (in_flight_there w rs k r x.number waiting at same))
+    (subst (λ (f : Option Flight). TakesBy w x f (outcome.Took x.number) (with_core w (after_answer w.core r x.said)))
+        (sym (in_flight_there w rs k r x.number waiting at same))
     (ap (takes_answer w (flight r.txn r.op) x) heard ∙ number))
 
 pub and_parts : (a b : Bool) → (a && b) ≡ true → (a ≡ true) × (b ≡ true)

@@ -55,7 +55,8 @@ above_among number n xs ys are k x at =
     let j = are is.place x is.at in
     above_in number n ys j.0 x j.1 is.above
 
-pub lost_low : (w : Whole) (xs : List Wire) (rs : List Reply) (ns : List (ℕ × News)) → AreAmong xs w.copies → AreAmong ns w.news → AreMarksLow w → AreMarksLow (left_with xs rs ns w)
+pub lost_low : (w : Whole) (xs : List Wire) (rs : List Reply) (ns : List (ℕ × News)) → AreAmong xs w.copies
+    → AreAmong ns w.news → AreMarksLow w → AreMarksLow (left_with xs rs ns w)
 lost_low w xs rs ns wires news low = record {
   copies = among_all (λ (x : Wire). x.low_water ≤ low_water w.core.events) xs w.copies wires low.copies;
   dcs = low.dcs;
@@ -64,7 +65,8 @@ lost_low w xs rs ns wires news low = record {
   redo = low.redo;
 }
 
-pub lost_listed : (w : Whole) (xs : List Wire) (rs : List Reply) (ns : List (ℕ × News)) → AreAmong xs w.copies → AreAmong rs w.replies → AreAmong ns w.news → IsListed w → IsListed (left_with xs rs ns w)
+pub lost_listed : (w : Whole) (xs : List Wire) (rs : List Reply) (ns : List (ℕ × News)) → AreAmong xs w.copies
+    → AreAmong rs w.replies → AreAmong ns w.news → IsListed w → IsListed (left_with xs rs ns w)
 lost_listed w xs rs ns wires replies news s = record {
   honest = s.honest;
   base = s.base;
@@ -77,7 +79,8 @@ lost_listed w xs rs ns wires replies news s = record {
         (above_among (λ (x : Wire). x.number) (begun w.core.events) xs w.copies wires) s.ok.copies;
     replies = among_all (ReplyOk (logged w.core.events) w.core.sites w.dcs s.ok.v) (replies_since (left_with xs rs ns w)) (replies_since w)
         (above_among (λ (x : Reply). x.number) (begun w.core.events) rs w.replies replies) s.ok.replies;
-    news = among_all (NewsOk s.base (logged w.core.events) (open_op w.core.events) (done w.core.events) (given w.core.events) w.core.sites w.dcs) ns w.news news s.ok.news;
+    news = among_all (NewsOk s.base (logged w.core.events) (open_op w.core.events) (done w.core.events)
+        (given w.core.events) w.core.sites w.dcs) ns w.news news s.ok.news;
     stores = s.ok.stores;
     said = s.ok.said;
     there = s.ok.there;
@@ -90,7 +93,8 @@ abbrev new_site : Store → Site
 new_site s = record { incarnation = s.incarnation; redo = Some (record { mark = s.mark; redone = s.mark }) }
 
 -- what is known of each is that it has restarted
-new_at : (dcs : List Store) (d : ℕ) (s : Store) → slice_get dcs d ≡ Some s → site_at (map site_noted (map (λ (x : Store). Restarted (news_of x)) dcs)) d ≡ new_site s
+new_at : (dcs : List Store) (d : ℕ) (s : Store) → slice_get dcs d ≡ Some s
+    → site_at (map site_noted (map (λ (x : Store). Restarted (news_of x)) dcs)) d ≡ new_site s
 new_at [] d s at = absurd (none_some _ s refl at)
 new_at (x ∷ dcs) zero s at = ap new_site (some_same x s at)
 new_at (x ∷ dcs) (suc d) s at = new_at dcs d s at
@@ -100,19 +104,22 @@ none_at [] d at = refl
 none_at (x ∷ dcs) zero at = absurd (none_some _ x at refl)
 none_at (x ∷ dcs) (suc d) at = none_at dcs d at
 
-pub start_over_low : (w : Whole) (first : List Event) (dcs : List Store) → Legal w.core.procs first → All (IsNew first) dcs → AreMarksLow (start_over first dcs w)
+pub start_over_low : (w : Whole) (first : List Event) (dcs : List Store) → Legal w.core.procs first
+    → All (IsNew first) dcs → AreMarksLow (start_over first dcs w)
 start_over_low w first dcs legal new = record {
   copies = λ k x inside. absurd (omega (arith, inside));
   dcs = λ k s inside. (let is = (new k s inside).mark in omega (arith, is, low));
   saved = λ k s inside. (let is = (new k s inside).saved_mark in omega (arith, is, low));
   news = λ k x inside. absurd (omega (arith, inside));
-  redo = all_sites (λ (t : Site). IsLow (low_water first) t.redo) (map site_noted (map (λ (x : Store). Restarted (news_of x)) dcs)) (λ d. by d (slice_get dcs d) refl);
+  redo = all_sites (λ (t : Site). IsLow (low_water first) t.redo)
+      (map site_noted (map (λ (x : Store). Restarted (news_of x)) dcs)) (λ d. by d (slice_get dcs d) refl);
 }
   where
     low : begun first ≤ low_water first
     low = begun_low w.core.procs first legal
 
-    by : (d : ℕ) (o : Option Store) → slice_get dcs d ≡ o → IsLow (low_water first) (site_at (map site_noted (map (λ (x : Store). Restarted (news_of x)) dcs)) d).redo
+    by : (d : ℕ) (o : Option Store) → slice_get dcs d ≡ o
+        → IsLow (low_water first) (site_at (map site_noted (map (λ (x : Store). Restarted (news_of x)) dcs)) d).redo
     by d None at = subst (IsLow (low_water first)) (sym (none_at dcs d at)) tt
     by d (Some s) at =
         let is = (all_at (IsNew first) dcs d s at new).mark in
@@ -159,7 +166,8 @@ new_listed w base first dcs legal honest based answered new =
     own d x r at here =
         ap (λ (u : Option Store). row_of (base_in u) r) (sym (subst (λ (k : ℕ). slice_get dcs k ≡ Some x) (sym here) at)) ∙ sym (based r)
 
-    there : (d : ℕ) (r : Redoing) → (site_at (map site_noted (map (λ (x : Store). Restarted (news_of x)) dcs)) d).redo ≡ Some r → (o : Option Store) → slice_get dcs d ≡ o
+    there : (d : ℕ) (r : Redoing) → (site_at (map site_noted (map (λ (x : Store). Restarted (news_of x)) dcs)) d).redo
+        ≡ Some r → (o : Option Store) → slice_get dcs d ≡ o
         → (x : Store) × (slice_get dcs d ≡ Some x)
     there d r down None at = absurd (none_some _ r (none_at dcs d at) down)
     there d r down (Some x) at = (x, at)
@@ -173,7 +181,9 @@ start_over_listed w first dcs good legal begins new olds s =
     let there = s.ok.said n o said (before.logs_on n o logs) (before.says_on n said was) in
     as_many dcs w.dcs (dc_of o) there.0 olds.count there.1) new
   where
-    before : Earlier s.base (logged w.core.events) (open_op w.core.events) (done w.core.events) (given w.core.events) (logged first) (open_op first) (done first) (given first)
+    before : Earlier s.base (logged w.core.events) (open_op w.core.events) (done w.core.events) (given w.core.events)
+        (logged first) (open_op first) (done first) (given first)
     before =
-        subst (λ (h : List Event). Earlier s.base (logged h) (open_op h) (done h) (given h) (logged first) (open_op first) (done first) (given first)) (sym begins.is)
+        subst (λ (h : List Event). Earlier s.base (logged h) (open_op h) (done h) (given h) (logged first)
+            (open_op first) (done first) (given first)) (sym begins.is)
         (earlier w.core.procs s.base begins.later first good (subst (Legal w.core.procs) begins.is legal) (subst (HonestFrom s.base) begins.is s.honest))

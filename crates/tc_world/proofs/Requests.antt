@@ -120,14 +120,17 @@ asking_none n o e = ap (asking_by n) e
 now_sent : (r : Asking) (m : ℕ) (before : Option Flight) → r.number ≡ m
     → Some r ≡ asking_by m (if r.number == m then Some (flight r.txn r.op) else before)
 now_sent r m before same =
-    let it : asking_by m (if r.number == m then Some (flight r.txn r.op) else before) ≡ asking_by m (Some (flight r.txn r.op)) = ap (asking_by m) (cond-true _ _ _ (eq-true r.number m same)) in
+    let it : asking_by m (if r.number == m then Some (flight r.txn r.op) else before) ≡ asking_by m
+        (Some (flight r.txn r.op)) = ap (asking_by m) (cond-true _ _ _ (eq-true r.number m same)) in
     ap (λ (k : ℕ). let a : Asking = record { txn = r.txn; number = k; op = r.op } in Some a) same ∙ sym it
 
 sent_each : (rs : List Asking) (h : List Event) (r : Asking) → AreWaiting rs h → open_op h r.number ≡ None → (m : ℕ)
     → request_of (rs ++ r ∷ []) m ≡ asking_by m (if r.number == m then Some (flight r.txn r.op) else open_op h m)
 sent_each rs h r w none m = elim (cases_eq r.number m) [
   | inl same ↦ ap (request_of (rs ++ r ∷ [])) (sym same) ∙ (push_new rs r (w.each r.number ∙ asking_none r.number _ none) ∙ now_sent r m (open_op h m) same)
-  | inr other ↦ push_other rs r m other ∙ (w.each m ∙ ap (asking_by m) (sym (cond-false _ (Some (flight r.txn r.op)) (open_op h m) (eq-false r.number m other))))
+  | inr other ↦ push_other rs r m other
+      ∙ (w.each m ∙ ap (asking_by m) (sym (cond-false _ (Some (flight r.txn r.op)) (open_op h m)
+      (eq-false r.number m other))))
 ]
 
 pub waiting_asked : (ps : List Checked) (rs : List Asking) (h : List Event) (r : Asking) → Legal ps h
@@ -146,7 +149,9 @@ answered_each : (rs : List Asking) (h : List Event) (k t : ℕ) (r : Asking) (sa
     → slice_get rs k ≡ Some r → (m : ℕ)
     → request_of (remove rs k) m ≡ asking_by m (open_op (Answer t r.number said ∷ h) m)
 answered_each rs h k t r said w at m = elim (cases_eq r.number m) [
-  | inl same ↦ ap (request_of (remove rs k)) (sym same) ∙ (removed_same rs k r w.once at ∙ sym (asking_none m _ (cond-true _ None (open_op h m) (eq-true r.number m same))))
+  | inl same ↦ ap (request_of (remove rs k)) (sym same)
+      ∙ (removed_same rs k r w.once at
+      ∙ sym (asking_none m _ (cond-true _ None (open_op h m) (eq-true r.number m same))))
   | inr other ↦ removed_other rs k r m at other ∙ (w.each m ∙ ap (asking_by m) (sym (cond-false _ None (open_op h m) (eq-false r.number m other))))
 ]
 

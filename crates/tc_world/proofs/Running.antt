@@ -23,7 +23,8 @@ abbrev pub AllHeld : Core → Type 0
 AllHeld c = (n : ℕ) (f : Flight) → open_op c.events n ≡ Some f → allows (held (decls c.procs) c.events f.txn (target f.op)) (is_read f.op) ≡ true
 
 abbrev pub AllCovered : Core → Type 0
-AllCovered c = (n : ℕ) (f : Flight) → InFlight c.events c.sites n f → allows (held_for (decls c.procs) (call_of c.events f.txn) (target f.op)) (is_read f.op) ≡ true
+AllCovered c = (n : ℕ) (f : Flight) → InFlight c.events c.sites n f
+    → allows (held_for (decls c.procs) (call_of c.events f.txn) (target f.op)) (is_read f.op) ≡ true
 
 abbrev pub AllApart : Core → Type 0
 AllApart c = (m n : ℕ) (f g : Flight) → InFlight c.events c.sites m f → InFlight c.events c.sites n g → m ≢ n → conflict f.op g.op ≡ false

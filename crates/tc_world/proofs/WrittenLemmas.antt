@@ -111,13 +111,17 @@ module _ (first : List Event) where
   copied w x r = record { begins = r.begins; replies = r.replies; stores = r.stores; news = r.news; redo = r.redo }
 
   stored : (w : Whole) (d : ℕ) (s : Store) → IsWrittenAt first s → Rest first w → Rest first (with_dcs w (slice_set w.dcs d s))
-  stored w d s is r = record { begins = r.begins; replies = r.replies; stores = All-set (IsWrittenAt first) w.dcs d s is r.stores; news = r.news; redo = r.redo }
+  stored w d s is r = record { begins = r.begins; replies = r.replies;
+      stores = All-set (IsWrittenAt first) w.dcs d s is r.stores; news = r.news; redo = r.redo }
 
   replied_to : (w : Whole) (x : Reply) → x.number ≤ given first → Rest first w → Rest first (with_reply w x)
-  replied_to w x few r = record { begins = r.begins; replies = All-push (λ (y : Reply). y.number ≤ given first) w.replies x r.replies few; stores = r.stores; news = r.news; redo = r.redo }
+  replied_to w x few r = record { begins = r.begins;
+      replies = All-push (λ (y : Reply). y.number ≤ given first) w.replies x r.replies few; stores = r.stores;
+      news = r.news; redo = r.redo }
 
   newly : (w : Whole) (d : ℕ) (n : News) → n.mark ≤ low_water first → Rest first w → Rest first (with_news w d n)
-  newly w d n few r = record { begins = r.begins; replies = r.replies; stores = r.stores; news = All-push (λ (x : ℕ × News). x.1.mark ≤ low_water first) w.news (d, n) r.news few; redo = r.redo }
+  newly w d n few r = record { begins = r.begins; replies = r.replies; stores = r.stores;
+      news = All-push (λ (x : ℕ × News). x.1.mark ≤ low_water first) w.news (d, n) r.news few; redo = r.redo }
 
   -- ---- what a data component is behind a wire
 
@@ -134,11 +138,13 @@ module _ (first : List Event) where
       by true = saved_by (marked s x.low_water) x.number x.op (fate_of s x)
       by false = refl
 
-  list_by : (s : Store) (x : Wire) → x.number ≤ given first → All (λ (e : Performed). e.0 ≤ given first) s.list → PerformCase s x → All (λ (e : Performed). e.0 ≤ given first) (performed s x).list
+  list_by : (s : Store) (x : Wire) → x.number ≤ given first → All (λ (e : Performed). e.0 ≤ given first) s.list
+      → PerformCase s x → All (λ (e : Performed). e.0 ≤ given first) (performed s x).list
   list_by s x few all (old r l) = subst (All (λ (e : Performed). e.0 ≤ given first)) (sym l) all
   list_by s x few all (silent r l) = subst (All (λ (e : Performed). e.0 ≤ given first)) (sym l) all
   list_by s x few all (again said u r l) = subst (All (λ (e : Performed). e.0 ≤ given first)) (sym l) all
-  list_by s x few all (news u r l) = subst (All (λ (e : Performed). e.0 ≤ given first)) (sym l) (All-cons (λ (e : Performed). e.0 ≤ given first) (x.number, x.op, says s x) s.list few all)
+  list_by s x few all (news u r l) = subst (All (λ (e : Performed). e.0 ≤ given first)) (sym l)
+      (All-cons (λ (e : Performed). e.0 ≤ given first) (x.number, x.op, says s x) s.list few all)
 
   performs_written : (s : Store) (x : Wire) → IsWrittenFor first x → IsWrittenAt first s → IsWrittenAt first (performed s x)
   performs_written s x ready is =
@@ -152,7 +158,8 @@ module _ (first : List Event) where
 
   -- ---- the steps
 
-  told_rest : (w v : Whole) (t : ℕ) (c : Core) (a : Asked) (o : Outcome) → Begins first c.events → c.sites ≡ w.core.sites → Rest first w → told w t c a ≡ Goes o v → Rest first v
+  told_rest : (w v : Whole) (t : ℕ) (c : Core) (a : Asked) (o : Outcome) → Begins first c.events
+      → c.sites ≡ w.core.sites → Rest first w → told w t c a ≡ Goes o v → Rest first v
   told_rest w v t c (reply.Request r) o begins same rest goes = by (wire_of c r) goes
     where
       by : (x : Result Wire Down) → sends_or_holds (with_core w c) r x ≡ Goes o v → Rest first v
@@ -200,24 +207,29 @@ module _ (first : List Event) where
       by None goes' = absurd (stopped _ o v goes')
       by (Some r) goes' = wires r.op (wire_of w.core (record { txn = t; number = r.number; op = r.op })) goes'
 
-  gets_rest : (w v : Whole) (x : Option Reply) (o : Outcome) → ((y : Reply) → x ≡ Some y → y.number ≤ given first) → Rest first w → gets_reply w x ≡ Goes o v → Rest first v
+  gets_rest : (w v : Whole) (x : Option Reply) (o : Outcome) → ((y : Reply) → x ≡ Some y → y.number ≤ given first)
+      → Rest first w → gets_reply w x ≡ Goes o v → Rest first v
   gets_rest w v None o few rest goes = behind _ o w v rest goes
   gets_rest w v (Some x) o few rest goes = behind _ o (with_reply w x) v (replied_to w x (few x refl) rest) goes
 
-  performs_rest : (w v : Whole) (x : Wire) (s : Option Store) (o : Outcome) → slice_get w.dcs (dc_of x) ≡ s → IsWrittenFor first x → Rest first w → performs_at w x s ≡ Goes o v → Rest first v
+  performs_rest : (w v : Whole) (x : Wire) (s : Option Store) (o : Outcome) → slice_get w.dcs (dc_of x) ≡ s
+      → IsWrittenFor first x → Rest first w → performs_at w x s ≡ Goes o v → Rest first v
   performs_rest w v x None o at ready rest goes = absurd (stopped _ o v goes)
   performs_rest w v x (Some s) o at ready rest goes =
       gets_rest (with_dcs w (slice_set w.dcs (dc_of x) (performed s x))) v (replied s x) o
       (λ y is. (let number = (reply_facts s x y is).number in let few = ready.number in omega (arith, number, few)))
       (stored w (dc_of x) (performed s x) (performs_written s x ready (all_at (IsWrittenAt first) w.dcs (dc_of x) s at rest.stores)) rest) goes
 
-  performs_copy_rest : (w v : Whole) (i : ℕ) (x : Option Wire) (o : Outcome) → slice_get w.copies i ≡ x → All (IsWrittenFor first) w.copies → Rest first w → performs_copy w x ≡ Goes o v → Rest first v
+  performs_copy_rest : (w v : Whole) (i : ℕ) (x : Option Wire) (o : Outcome) → slice_get w.copies i ≡ x
+      → All (IsWrittenFor first) w.copies → Rest first w → performs_copy w x ≡ Goes o v → Rest first v
   performs_copy_rest w v i None o at ready rest goes = absurd (stopped _ o v goes)
-  performs_copy_rest w v i (Some x) o at ready rest goes = performs_rest w v x (slice_get w.dcs (dc_of x)) o refl (all_at (IsWrittenFor first) w.copies i x at ready) rest goes
+  performs_copy_rest w v i (Some x) o at ready rest goes = performs_rest w v x (slice_get w.dcs (dc_of x)) o refl
+      (all_at (IsWrittenFor first) w.copies i x at ready) rest goes
 
   takes_answer_rest : (w v : Whole) (f : Flight) (x : Reply) (b : Bool) (o : Outcome) → Rest first w → takes_answer w f x b ≡ Goes o v → Rest first v
   takes_answer_rest w v f x false o rest goes = absurd (stopped _ o v goes)
-  takes_answer_rest w v f x true o rest goes = (let e = event.Answer f.txn x.number x.said in behind _ o (with_core w (with_event w.core e)) v (logs w e rest) goes)
+  takes_answer_rest w v f x true o rest goes = (let e = event.Answer f.txn x.number x.said in behind _ o
+      (with_core w (with_event w.core e)) v (logs w e rest) goes)
 
   takes_redo_rest : (w v : Whole) (x : Reply) (o : Outcome) → Rest first w → TakesRedo w x o v → Rest first v
   takes_redo_rest w v x o rest takes = subst (Rest first) (sym takes.next) (by (slice_get w.core.sites takes.dc) refl)
@@ -246,13 +258,18 @@ module _ (first : List Event) where
           let is = all_at (IsWrittenAt first) w.dcs d s at rest.stores in
           let mid = with_dcs w (slice_set w.dcs d (restarted s)) in
           behind _ o (with_news mid d (news_of (restarted s))) v
-          (newly mid d (news_of (restarted s)) is.saved_mark (stored w d (restarted s) (record { list = is.saved; saved = is.saved; mark = is.saved_mark; saved_mark = is.saved_mark }) rest)) goes'
+          (newly mid d (news_of (restarted s)) is.saved_mark
+              (stored w d (restarted s) (record { list = is.saved; saved = is.saved; mark = is.saved_mark;
+              saved_mark = is.saved_mark }) rest)) goes'
 
-  checkpoints_rest : (w v : Whole) (d : ℕ) (s : Option Store) (o : Outcome) → slice_get w.dcs d ≡ s → Rest first w → checkpoints_at w d s ≡ Goes o v → Rest first v
+  checkpoints_rest : (w v : Whole) (d : ℕ) (s : Option Store) (o : Outcome) → slice_get w.dcs d ≡ s → Rest first w
+      → checkpoints_at w d s ≡ Goes o v → Rest first v
   checkpoints_rest w v d None o at rest goes = absurd (stopped _ o v goes)
   checkpoints_rest w v d (Some s) o at rest goes =
       let is = all_at (IsWrittenAt first) w.dcs d s at rest.stores in
-      behind _ o (with_dcs w (slice_set w.dcs d (checkpointed s))) v (stored w d (checkpointed s) (record { list = is.list; saved = is.list; mark = is.mark; saved_mark = is.mark }) rest) goes
+      behind _ o (with_dcs w (slice_set w.dcs d (checkpointed s))) v
+          (stored w d (checkpointed s) (record { list = is.list; saved = is.list; mark = is.mark;
+          saved_mark = is.mark }) rest) goes
 
   tells_rest : (w v : Whole) (i : ℕ) (x : Option (ℕ × News)) (o : Outcome) → slice_get w.news i ≡ x → Rest first w → tells_news w x ≡ Goes o v → Rest first v
   tells_rest w v i None o at rest goes = absurd (stopped _ o v goes)
@@ -266,7 +283,8 @@ module _ (first : List Event) where
           let few = all_at (λ (y : ℕ × News). y.1.mark ≤ low_water first) w.news i x at rest.news in
           behind _ o (with_core w (after_told w.core x.0 x.1)) v (resited w x.0 (down_by x.1) few rest) goes'
 
-  redoes_rest : (w v : Whole) (d : ℕ) (t : Option Site) (o : Outcome) → slice_get w.core.sites d ≡ t → Rest first w → redoes_by w d (redo_at w.core d t) ≡ Goes o v → Rest first v
+  redoes_rest : (w v : Whole) (d : ℕ) (t : Option Site) (o : Outcome) → slice_get w.core.sites d ≡ t → Rest first w
+      → redoes_by w d (redo_at w.core d t) ≡ Goes o v → Rest first v
   redoes_rest w v d None o at rest goes = absurd (stopped _ o v goes)
   redoes_rest w v d (Some t) o at rest goes = by t.redo goes
     where
@@ -280,7 +298,8 @@ module _ (first : List Event) where
       by None goes' = absurd (stopped _ o v goes')
       by (Some r) goes' = sends r.mark (to_redo w.core.events d r.redone) goes'
 
-  crash_rest : (w : Whole) (n : ℕ) → Begins first (first_events n w.core.events) → Rest first w → Rest first (come_back (first_events n w.core.events) (notes_of w) w)
+  crash_rest : (w : Whole) (n : ℕ) → Begins first (first_events n w.core.events) → Rest first w
+      → Rest first (come_back (first_events n w.core.events) (notes_of w) w)
   crash_rest w n begins r = record {
     begins = begins;
     replies = r.replies;
@@ -295,8 +314,10 @@ module _ (first : List Event) where
   Stays step.Cut v = ⊥
   Stays other v = Unit {0}
 
-  pub stay_rest : (w v : Whole) (x : Step) (o : Outcome) → is_forge x ≡ false → Stays x v → All (IsWrittenFor first) w.copies → Steps w x o v → Rest first w → Rest first v
-  stay_rest w v (step.Admit call) o honest stays ready goes rest = subst (Rest first) (sym goes.next) (logs w (event.Admit (admitted w.core.events + 1) call.proc call.args.items) rest)
+  pub stay_rest : (w v : Whole) (x : Step) (o : Outcome) → is_forge x ≡ false → Stays x v
+      → All (IsWrittenFor first) w.copies → Steps w x o v → Rest first w → Rest first v
+  stay_rest w v (step.Admit call) o honest stays ready goes rest = subst (Rest first) (sym goes.next)
+      (logs w (event.Admit (admitted w.core.events + 1) call.proc call.args.items) rest)
   stay_rest w v (step.Ask t) o honest stays ready goes rest =
       let a = ask_reply w.core t in
       told_rest w v t (after_ask w.core a) a o (ask_begins w.core a rest.begins) (ask_sites w.core a) rest goes
@@ -313,17 +334,20 @@ module _ (first : List Event) where
   stay_rest w v (step.Tell i) o honest stays ready goes rest = tells_rest w v i (slice_get w.news i) o refl rest goes
   stay_rest w v (step.Redo d) o honest stays ready goes rest = redoes_rest w v d (slice_get w.core.sites d) o refl rest goes
   stay_rest w v step.Cut o honest stays ready goes rest = absurd stays
-  stay_rest w v (step.Crash n) o honest stays ready goes rest = subst (Rest first) (sym goes.next) (crash_rest w n (subst (λ (u : Whole). Begins first u.core.events) goes.next stays) rest)
+  stay_rest w v (step.Crash n) o honest stays ready goes rest = subst (Rest first) (sym goes.next)
+      (crash_rest w n (subst (λ (u : Whole). Begins first u.core.events) goes.next stays) rest)
 
 -- ---- more is written
 
 -- the mark doesn't fall along a log
 mark_more : (ps : List Checked) (later first : List Event) → Legal ps (later ++ first) → low_water first ≤ low_water (later ++ first)
 mark_more ps [] first legal = omega arith
-mark_more ps (e ∷ later) first legal = (let ih = mark_more ps later first legal.1 in let one = mark_rises ps (later ++ first) e legal.0 in omega (arith, ih, one))
+mark_more ps (e ∷ later) first legal = (let ih = mark_more ps later first legal.1 in let one = mark_rises ps
+    (later ++ first) e legal.0 in omega (arith, ih, one))
 
 -- nor does a number that was answered open again
-pub closed_sent : (top n m : ℕ) (f : Flight) (o : Option Flight) → n ≤ top → m ≡ top + 1 → is_flight o ≡ false → is_flight (if m == n then Some f else o) ≡ false
+pub closed_sent : (top n m : ℕ) (f : Flight) (o : Option Flight) → n ≤ top → m ≡ top + 1 → is_flight o ≡ false
+    → is_flight (if m == n then Some f else o) ≡ false
 closed_sent top n m f o low next closed = ap is_flight (if_none m n (Some f) o (omega (arith, low, next))) ∙ closed
 
 pub closed_answered : (n m : ℕ) (o : Option Flight) → is_flight o ≡ false → is_flight (if m == n then None else o) ≡ false
@@ -332,16 +356,20 @@ closed_answered n m o closed = elim (cases_eq m n) [
   | inr other ↦ ap is_flight (if_none m n None o other) ∙ closed
 ]
 
-closed_more : (ps : List Checked) (later first : List Event) (n : ℕ) → Legal ps (later ++ first) → n ≤ given first → is_open first n ≡ false → is_open (later ++ first) n ≡ false
+closed_more : (ps : List Checked) (later first : List Event) (n : ℕ) → Legal ps (later ++ first) → n ≤ given first
+    → is_open first n ≡ false → is_open (later ++ first) n ≡ false
 closed_more ps [] first n legal low closed = closed
 closed_more ps (event.Admit t p args ∷ later) first n legal low closed = closed_more ps later first n legal.1 low closed
 closed_more ps (event.Ask t m q ∷ later) first n legal low closed =
     let more = given_more ps later first legal.1 in
-    closed_sent (given (later ++ first)) n m (record { txn = t; op = q }) (open_op (later ++ first) n) (omega (arith, low, more)) legal.0.next (closed_more ps later first n legal.1 low closed)
-closed_more ps (event.Answer t m said ∷ later) first n legal low closed = closed_answered n m (open_op (later ++ first) n) (closed_more ps later first n legal.1 low closed)
+    closed_sent (given (later ++ first)) n m (record { txn = t; op = q }) (open_op (later ++ first) n)
+        (omega (arith, low, more)) legal.0.next (closed_more ps later first n legal.1 low closed)
+closed_more ps (event.Answer t m said ∷ later) first n legal low closed = closed_answered n m
+    (open_op (later ++ first) n) (closed_more ps later first n legal.1 low closed)
 closed_more ps (event.Undo t m q ∷ later) first n legal low closed =
     let more = given_more ps later first legal.1 in
-    closed_sent (given (later ++ first)) n m (record { txn = t; op = q }) (open_op (later ++ first) n) (omega (arith, low, more)) legal.0.next (closed_more ps later first n legal.1 low closed)
+    closed_sent (given (later ++ first)) n m (record { txn = t; op = q }) (open_op (later ++ first) n)
+        (omega (arith, low, more)) legal.0.next (closed_more ps later first n legal.1 low closed)
 closed_more ps (event.End t o ∷ later) first n legal low closed = closed_more ps later first n legal.1 low closed
 closed_more ps (event.Checkpoint before numbers ∷ later) first n legal low closed = closed_more ps later first n legal.1 low closed
 
@@ -361,9 +389,12 @@ low_more a b (Some r) le is = omega (arith, le, is)
 
 noted_more : (a b d : ℕ) (w : Whole) (t t' : Site) → a ≤ b → IsNoted a w d t t' → IsNoted b w d t t'
 noted_more a b d w t t' le (Noted is) = Noted is
-noted_more a b d w t t' le (NotYetUp x) = (let low = x.low in NotYetUp (record { up = x.up; mark = x.mark; noted = x.noted; low = omega (arith, low, le); there = x.there; again = x.again }))
+noted_more a b d w t t' le (NotYetUp x) = (let low = x.low in NotYetUp
+    (record { up = x.up; mark = x.mark; noted = x.noted; low = omega (arith, low, le); there = x.there;
+    again = x.again }))
 
-rest_more : (ps : List Checked) (first more : List Event) (v : Whole) → Legal ps more → Begins first more → Begins more v.core.events → Rest first v → Rest more v
+rest_more : (ps : List Checked) (first more : List Event) (v : Whole) → Legal ps more → Begins first more
+    → Begins more v.core.events → Rest first v → Rest more v
 rest_more ps first more v legal on in_log r =
     let legal' : Legal ps (on.later ++ first) = subst (Legal ps) on.is legal in
     let a : given first ≤ given more = subst (λ (h : List Event). given first ≤ given h) (sym on.is) (given_more ps on.later first legal') in
@@ -385,14 +416,17 @@ rest_more ps first more v legal on in_log r =
       redo = λ k x inside. low_more _ _ _ b (r.redo k x inside);
     }
 
-grown_rest : (ps : List Checked) (first more : List Event) (v : Whole) → Legal ps v.core.events → Begins first more → Begins more v.core.events → Rest first v → Rest more v
+grown_rest : (ps : List Checked) (first more : List Event) (v : Whole) → Legal ps v.core.events → Begins first more
+    → Begins more v.core.events → Rest first v → Rest more v
 grown_rest ps first more v legal on in_log r = rest_more ps first more v (legal_first ps in_log.later more (subst (Legal ps) in_log.is legal)) on in_log r
 
-pub more_written : (w : Whole) (first more : List Event) (notes : List SiteNote) → Legal w.core.procs w.core.events → Begins first more → Begins more w.core.events
+pub more_written : (w : Whole) (first more : List Event) (notes : List SiteNote) → Legal w.core.procs w.core.events
+    → Begins first more → Begins more w.core.events
     → IsWritten first notes w → IsWritten more notes w
 more_written w first more notes legal on in_log s =
     let legal' : Legal w.core.procs more = legal_first w.core.procs in_log.later more (subst (Legal w.core.procs) in_log.is legal) in
-    let b : low_water first ≤ low_water more = subst (λ (h : List Event). low_water first ≤ low_water h) (sym on.is) (mark_more w.core.procs on.later first (subst (Legal w.core.procs) on.is legal')) in
+    let b : low_water first ≤ low_water more = subst (λ (h : List Event). low_water first ≤ low_water h) (sym on.is)
+        (mark_more w.core.procs on.later first (subst (Legal w.core.procs) on.is legal')) in
     let r = rest_more w.core.procs first more w legal' on in_log (rest_of first notes w s) in
     record {
       begins = in_log;
@@ -423,9 +457,13 @@ cut_rest w v o first notes legal cut s =
         begins = record { later = []; is = refl };
         replies = by (λ (u : Whole). All (λ (x : Reply). x.number ≤ given u.core.events) u.replies)
             (λ k x inside. (let few = whole.replies k x inside in let same = same_given h in omega (arith, few, same)));
-        stores = by (λ (u : Whole). All (IsWrittenAt u.core.events) u.dcs) (λ d t inside. stored d _ (read_in v.dcs d t inside) (λ e x at. (all_at (IsWrittenAt h) w.dcs e x at whole.stores).mark));
-        news = by (λ (u : Whole). All (λ (x : ℕ × News). x.1.mark ≤ low_water u.core.events) u.news) (λ k x inside. (let few = whole.news k x inside in omega (arith, few, low)));
-        redo = by (λ (u : Whole). All (λ (t : Site). IsLow (low_water u.core.events) t.redo) u.core.sites) (λ d t inside. low_more _ _ _ (omega (arith, low)) (whole.redo d t inside));
+        stores = by (λ (u : Whole). All (IsWrittenAt u.core.events) u.dcs)
+            (λ d t inside. stored d _ (read_in v.dcs d t inside)
+            (λ e x at. (all_at (IsWrittenAt h) w.dcs e x at whole.stores).mark));
+        news = by (λ (u : Whole). All (λ (x : ℕ × News). x.1.mark ≤ low_water u.core.events) u.news)
+            (λ k x inside. (let few = whole.news k x inside in omega (arith, few, low)));
+        redo = by (λ (u : Whole). All (λ (t : Site). IsLow (low_water u.core.events) t.redo) u.core.sites)
+            (λ d t inside. low_more _ _ _ (omega (arith, low)) (whole.redo d t inside));
       },
       by (λ (u : Whole). All (IsWrittenFor u.core.events) u.copies) (λ k x inside. wire_anew w.core.procs h _ legal cut.may.rest (whole.copies k x inside)),
     )
@@ -468,7 +506,8 @@ begins_on a b c ab bc = record {
   is = bc.is ∙ (ap (λ (h : List Event). bc.later ++ h) ab.is ∙ sym (append_assoc bc.later ab.later a));
 }
 
-pub acted : (w v : Whole) (x : Step) (o : Outcome) (first more : List Event) (notes : List SiteNote) → Legal w.core.procs w.core.events → Legal v.core.procs v.core.events
+pub acted : (w v : Whole) (x : Step) (o : Outcome) (first more : List Event) (notes : List SiteNote)
+    → Legal w.core.procs w.core.events → Legal v.core.procs v.core.events
     → Steps w x o v → is_forge x ≡ false → Grows x first more v.core.events → IsWritten first notes w → Rest more v
 acted w v step.Cut o first more notes was legal goes honest grows s = subst (λ (h : List Event). Rest h v) (sym grows) (cut_rest w v o first notes was goes s).0
 acted w v (step.Crash n) o first more notes was legal goes honest grows s =

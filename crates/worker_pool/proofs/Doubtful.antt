@@ -194,9 +194,11 @@ doubt_by : (first : List Event) (c : Core) (call : Call) (t n : ℕ) (s : Standi
     → standing c.events t ≡ Some s → IsDoubtful c t n → Sends first c.events t n
 unfolding next_at
 doubt_by first c call t n s admitted is (waits it) =
-    waits_sent first c.events t n s (may_wait s.sent s.full (first_undo s.undo) s.tries s.last (reached c.procs s) n (ap (next_in c.procs) (sym is) ∙ it)) (spoke first c.events call t s admitted is)
+    waits_sent first c.events t n s (may_wait s.sent s.full (first_undo s.undo) s.tries s.last (reached c.procs s) n
+        (ap (next_in c.procs) (sym is) ∙ it)) (spoke first c.events call t s admitted is)
 doubt_by first c call t n s admitted is (stuck it) =
-    stuck_sent first c.events t n s (may_stick s.sent s.full (first_undo s.undo) s.tries s.last (reached c.procs s) n (ap (next_in c.procs) (sym is) ∙ it)) (spoke first c.events call t s admitted is)
+    stuck_sent first c.events t n s (may_stick s.sent s.full (first_undo s.undo) s.tries s.last (reached c.procs s) n
+        (ap (next_in c.procs) (sym is) ∙ it)) (spoke first c.events call t s admitted is)
 
 pub doubtful_sent : (first : List Event) (c : Core) (call : Call) (t n : ℕ) → IsAdmitted first c.events call t
     → IsOpen c.events t → IsDoubtful c t n → Sends first c.events t n
@@ -213,7 +215,8 @@ fine_somewhere s Unfinished fine is = fine
 somewhere : (q : Checked) (args : List ℕ) (answers : List Said) → IsGood q → AreArguments q.decl args
     → Fitting q args answers → reached_of (stop_at q args answers) ≡ Nowhere → ⊥
 unfolding stop_at Fitting
-somewhere q args answers good takes fit is = fine_somewhere (plain q args) (reach (plain q args) answers) (good.safe.always args plain_bases answers plain_layout takes fit) is
+somewhere q args answers good takes fit is = fine_somewhere (plain q args) (reach (plain q args) answers)
+    (good.safe.always args plain_bases answers plain_layout takes fit) is
 
 no_next : (sent : Option Sent) (full : Bool) (left : Option Op) (tries last : ℕ) (at : Reached)
     → next_by sent full left tries last at ≡ None → at ≡ Nowhere
@@ -228,8 +231,10 @@ unfolding next_at
 has_next c t legal good still none =
     let s = still.s in
     let it = standing_sound c.procs good c.events legal t s still.is in
-    let nowhere : reached c.procs s ≡ Nowhere = no_next s.sent s.full (first_undo s.undo) s.tries s.last (reached c.procs s) (ap (next_in c.procs) (sym still.is) ∙ none) in
-    somewhere it.q s.call.args s.answers (good s.call.proc it.q it.loaded) it.takes it.fit (ap (λ (o : Option Checked). reached_by o s.call.args s.answers) (sym it.loaded) ∙ nowhere)
+    let nowhere : reached c.procs s ≡ Nowhere = no_next s.sent s.full (first_undo s.undo) s.tries s.last
+        (reached c.procs s) (ap (next_in c.procs) (sym still.is) ∙ none) in
+    somewhere it.q s.call.args s.answers (good s.call.proc it.q it.loaded) it.takes it.fit
+        (ap (λ (o : Option Checked). reached_by o s.call.args s.answers) (sym it.loaded) ∙ nowhere)
 
 -- ---- what `ask` answered tells what is next
 

@@ -46,6 +46,8 @@ pub one_taken : (w mid v : Whole) (xs : List ScriptStep) (x : ScriptStep) (said 
 one_taken w mid v xs x said old lines new all now t last more same = record {
   told = t.told ++ said ∷ [];
   takes = takes_push w mid v xs t.told x said t.takes last;
-  lines = more ∙ (ap (λ (ls : List ℕ). ls ++ step_line said) t.lines ∙ (append_assoc old (step_lines t.told) (step_line said) ∙ ap (λ (ls : List ℕ). old ++ ls) (sym (lines_push t.told said))));
+  lines = more ∙ (ap (λ (ls : List ℕ). ls ++ step_line said) t.lines
+      ∙ (append_assoc old (step_lines t.told) (step_line said)
+      ∙ ap (λ (ls : List ℕ). old ++ ls) (sym (lines_push t.told said))));
   possible = same ∙ (ap (λ (b : Bool). b && is_ok said) t.possible ∙ sym (possible_push t.told said));
 }

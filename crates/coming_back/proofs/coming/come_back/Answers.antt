@@ -34,7 +34,8 @@ returns-clause-same c =
 
 pub returns-clause-known : goal.returns-clause-known
 returns-clause-known c =
-    known_still c.bring_back.new.state c.resume_all.new.state c.bring_back.new.dcs c.resume_all.new.dcs c.resume_all.ensures.goes c.in_ok-bring_back.ensures.known
+    known_still c.bring_back.new.state c.resume_all.new.state c.bring_back.new.dcs c.resume_all.new.dcs
+        c.resume_all.ensures.goes c.in_ok-bring_back.ensures.known
 
 pub returns-clause-served : goal.returns-clause-served
 returns-clause-served c =
@@ -48,7 +49,8 @@ went_on c d ds es goes = goes.lived (at_rest c ds) (becomes_same (at_rest c ds))
 pub returns-clause-lived : goal.returns-clause-lived
 returns-clause-lived c = λ w from.
     becomes_lived (at_rest c.bring_back.new.state c.bring_back.new.dcs) (at_rest c.resume_all.new.state c.resume_all.new.dcs)
-    (went_on c.bring_back.new.state c.resume_all.new.state c.bring_back.new.dcs c.resume_all.new.dcs c.resume_all.ensures.goes) (c.in_ok-bring_back.ensures.lived w from)
+    (went_on c.bring_back.new.state c.resume_all.new.state c.bring_back.new.dcs c.resume_all.new.dcs
+        c.resume_all.ensures.goes) (c.in_ok-bring_back.ensures.lived w from)
 
 pub returns-clause-one_at_a_time : goal.returns-clause-one_at_a_time
 returns-clause-one_at_a_time c = λ w from. living_serial (at_rest c.resume_all.new.state c.resume_all.new.dcs) (returns-clause-lived c w from)
@@ -91,4 +93,5 @@ pub returns-clause-full : goal.returns-clause-full
 returns-clause-full c = λ together.
     let b = c.in_ok-bring_back.ensures in
     (c.resume_all.ensures.goes.quiet
-    (quiet c.args.state.now c.bring_back.new.state c.args.log.now.events c.args.dcs.now c.bring_back.new.dcs b.legal b.log together c.requires b.becomes b.known b.done)).full
+    (quiet c.args.state.now c.bring_back.new.state c.args.log.now.events c.args.dcs.now c.bring_back.new.dcs b.legal
+        b.log together c.requires b.becomes b.known b.done)).full

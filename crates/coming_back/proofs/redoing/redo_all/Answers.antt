@@ -21,7 +21,8 @@ loop-dc-preserved c = record {
     | inl here ↦
         subst (λ (n : ℕ). IsRedoneTo c.redo.new.state c.redo.new.dcs n) (sym here)
         (c.in-Ok.ensures.done (subst (λ (n : ℕ). IsRedoneTo c.loop-dc.state c.loop-dc.dcs n) here (c.loop-dc.invariant.done d so)))
-    | inr other ↦ others_done c.loop-dc.state c.redo.new.state c.loop-dc.dcs c.redo.new.dcs c.loop-dc.dc d c.redo.ensures.redoes other (c.loop-dc.invariant.done d so)
+    | inr other ↦ others_done c.loop-dc.state c.redo.new.state c.loop-dc.dcs c.redo.new.dcs c.loop-dc.dc d
+        c.redo.ensures.redoes other (c.loop-dc.invariant.done d so)
   ];
   up = λ d low. elim (cases_eq d c.loop-dc.dc) [
     | inl here ↦ subst (λ (n : ℕ). (site_at c.redo.new.state.sites n).redo ≡ None) (sym here) c.in-Ok.ensures.up

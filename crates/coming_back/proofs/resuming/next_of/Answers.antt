@@ -22,7 +22,8 @@ returns-in-Request-clause-moves c = λ ds.
     let t = c.args.txn.serial in
     let e = c.ask-asked.ensures in
     subst (λ (x : Core). Moves t c.args.state.now ds x ds) (sym e.state)
-    (ask_moves t c.args.state.now c.ask-asked.result ds e.reply (subst (λ (x : Core). Legal x.procs x.events) e.state c.known-2.ensures.legal) c.known.ensures.good)
+    (ask_moves t c.args.state.now c.ask-asked.result ds e.reply
+        (subst (λ (x : Core). Legal x.procs x.events) e.state c.known-2.ensures.legal) c.known.ensures.good)
 
 pub returns-in-Request-clause-next : goal.returns-in-Request-clause-next
 returns-in-Request-clause-next c =
@@ -44,7 +45,8 @@ returns-in-Undoing-clause-moves c = λ ds.
     let e = c.ask-asked.ensures in
     moves_then t _ _ _ ds ds ds
     (subst (λ (x : Core). Moves t c.args.state.now ds x ds) (sym e.state)
-    (ask_moves t c.args.state.now c.ask-asked.result ds e.reply (subst (λ (x : Core). Legal x.procs x.events) e.state c.known-2.ensures.legal) c.known.ensures.good))
+    (ask_moves t c.args.state.now c.ask-asked.result ds e.reply
+        (subst (λ (x : Core). Legal x.procs x.events) e.state c.known-2.ensures.legal) c.known.ensures.good))
     (c.undo.ensures.moves ds)
 
 pub returns-in-Over-clause-moves : goal.returns-in-Over-clause-moves
@@ -53,5 +55,6 @@ returns-in-Over-clause-moves c = λ ds.
     let e = c.ask-asked.ensures in
     moves_then t _ _ _ ds ds ds
     (subst (λ (x : Core). Moves t c.args.state.now ds x ds) (sym e.state)
-    (ask_moves t c.args.state.now c.ask-asked.result ds e.reply (subst (λ (x : Core). Legal x.procs x.events) e.state c.known-2.ensures.legal) c.known.ensures.good))
+    (ask_moves t c.args.state.now c.ask-asked.result ds e.reply
+        (subst (λ (x : Core). Legal x.procs x.events) e.state c.known-2.ensures.legal) c.known.ensures.good))
     (c.end.ensures.moves ds)

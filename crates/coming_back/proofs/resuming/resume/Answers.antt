@@ -7,7 +7,8 @@ pub run-requires : goal.run-requires
 run-requires c = (let found = c.in-Some.ensures.found in some_open c.args.state.now c.args.serial c.in-Some.txn.serial found.0 found.1)
 
 pub returns-in-Some-clause-moves : goal.returns-in-Some-clause-moves
-returns-in-Some-clause-moves c = subst (λ (u : ℕ). Moves u c.args.state.now c.args.dcs.now c.run.new.state c.run.new.dcs) c.in-Some.ensures.found.0 c.run.ensures.moves
+returns-in-Some-clause-moves c = subst (λ (u : ℕ). Moves u c.args.state.now c.args.dcs.now c.run.new.state
+    c.run.new.dcs) c.in-Some.ensures.found.0 c.run.ensures.moves
 
 pub returns-in-Some-clause-came : goal.returns-in-Some-clause-came
 returns-in-Some-clause-came c = subst (λ (u : ℕ). CameOf c.args.state.now c.run.new.state u (c.run.result ∷ [])) c.in-Some.ensures.found.0 c.run.ensures.came

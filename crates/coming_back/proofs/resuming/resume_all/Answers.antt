@@ -7,7 +7,8 @@ use Rattle.coming_back.proofs.resuming.resume_all.Goals as goal
 
 pub loop-done-init : goal.loop-done-init
 loop-done-init c = record {
-  came = subst (λ (xs : List Resumed). CameOfAll c.args.state.now c.args.dcs.now c.args.state.now c.args.dcs.now c.admitted_before-done.result xs) (sym c.requires.none)
+  came = subst (λ (xs : List Resumed). CameOfAll c.args.state.now c.args.dcs.now c.args.state.now c.args.dcs.now
+      c.admitted_before-done.result xs) (sym c.requires.none)
       (subst (λ (n : ℕ). CameOfAll c.args.state.now c.args.dcs.now c.args.state.now c.args.dcs.now n []) (sym c.admitted_before-done.ensures)
       (none_yet c.args.state.now c.args.dcs.now c.known.ensures.legal));
   within =
@@ -26,13 +27,15 @@ push-requires c = λ some.
     let same = i.capacity in
     let many = c.loop-done.resumed.ok.0 in
     let short =
-    room_for_at _ _ _ _ _ c.loop-done.done (c.loop-done.done + 1) (vec_capacity c.loop-done.resumed) c.loop-done.resumed.items c.resume.result (add-one c.loop-done.done) i.came c.resume.ensures.came
+    room_for_at _ _ _ _ _ c.loop-done.done (c.loop-done.done + 1) (vec_capacity c.loop-done.resumed)
+        c.loop-done.resumed.items c.resume.result (add-one c.loop-done.done) i.came c.resume.ensures.came
     (omega (arith, low, all)) (omega (arith, room, same)) some in
     omega (arith, short, many)
 
 pub loop-done-preserved : goal.loop-done-preserved
 loop-done-preserved c = record {
-  came = subst (λ (xs : List Resumed). CameOfAll c.args.state.now c.args.dcs.now c.resume.new.state c.resume.new.dcs (c.loop-done.done + 1) xs) (sym c.push.ensures.items)
+  came = subst (λ (xs : List Resumed). CameOfAll c.args.state.now c.args.dcs.now c.resume.new.state c.resume.new.dcs
+      (c.loop-done.done + 1) xs) (sym c.push.ensures.items)
       (one_more_at _ _ _ _ _ _ c.loop-done.done (c.loop-done.done + 1) _ _ (add-one _) c.loop-done.invariant.came c.resume.ensures.moves c.resume.ensures.came);
   within = (let low = c.loop-done-test.true in let all = c.admitted-done-end.ensures in omega (arith, low, all));
   capacity = c.push.ensures.capacity ∙ c.loop-done.invariant.capacity;

@@ -12,7 +12,8 @@ returns-clause-moves c = λ ds.
     let t = c.args.txn.serial in
     let e = c.undo_next-asked.ensures in
     subst (λ (x : Core). Moves t c.args.state.now ds x ds) (sym e.state)
-    (undo_moves t c.args.state.now c.undo_next-asked.result ds e.reply (subst (λ (x : Core). Legal x.procs x.events) e.state c.known-2.ensures.legal) c.known.ensures.good)
+    (undo_moves t c.args.state.now c.undo_next-asked.result ds e.reply
+        (subst (λ (x : Core). Legal x.procs x.events) e.state c.known-2.ensures.legal) c.known.ensures.good)
 
 pub returns-clause-next : goal.returns-clause-next
 returns-clause-next c =

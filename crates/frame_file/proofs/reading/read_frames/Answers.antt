@@ -17,7 +17,9 @@ frames-preserved c =
     let vecs = c.frames.payloads.items in
     let v = c.in_ok-from_slice.field-0 in
     record {
-      so_far = read_on c.args.bytes.now c.frames.rest.now c.in-Some.after.now c.in-Some.payload.now c.len.result vecs c.push.new.self.items v c.frames.invariant.so_far c.in-Some.ensures.frame (search rules) (search rules) (search rules);
+      so_far = read_on c.args.bytes.now c.frames.rest.now c.in-Some.after.now c.in-Some.payload.now c.len.result vecs
+          c.push.new.self.items v c.frames.invariant.so_far c.in-Some.ensures.frame (search rules) (search rules)
+          (search rules);
       fit = fit_on c.in-Some.payload.now vecs c.push.new.self.items v c.frames.invariant.fit c.in-Some.ensures.fits (search rules) (search rules);
     }
 

@@ -34,4 +34,5 @@ returns-in-Ready c =
     let same : c.as_mut_slice.result.now ≡ c.in-Ready.loaded.dcs.items = search rules in
     let it = c.in-Ready.loaded in
     audit_is c.args.file.now (script_said command.Run c.args.script.now) it c.beside-report.result (rw c.in-Ready.is at c.in_ok-loaded.ensures)
-    (subst (λ (dcs : List Store). IfOk c.beside-report.result (λ r. IsBeside c.args.file.now it.state dcs r.status (string_bytes r.lines))) same c.beside-report.ensures)
+    (subst (λ (dcs : List Store). IfOk c.beside-report.result
+        (λ r. IsBeside c.args.file.now it.state dcs r.status (string_bytes r.lines))) same c.beside-report.ensures)

@@ -10,7 +10,8 @@ parts-preserved c =
     let cut : payloads_in c.parts.rest.now ≡ c.in-Some.payload.now.items ∷ payloads_in c.in-Some.after.now = search rules in
     let added : IsAdded c.min-size.result c.in-Some.payload.now.items c.parts.base.items c.add_part.new.base.items = search rules in
     record {
-      so_far = further c.args.count c.min-size.result (payloads_in c.args.payloads.now) (payloads_in c.parts.rest.now) (payloads_in c.in-Some.after.now) c.in-Some.payload.now.items
+      so_far = further c.args.count c.min-size.result (payloads_in c.args.payloads.now) (payloads_in c.parts.rest.now)
+          (payloads_in c.in-Some.after.now) c.in-Some.payload.now.items
           c.parts.base.items c.add_part.new.base.items c.parts.invariant.so_far (search rules) size cut added;
       left = search rules;
     }

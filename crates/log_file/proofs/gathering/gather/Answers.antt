@@ -21,8 +21,12 @@ batches-preserved c =
     let fits : IsBatch c.args.dcs (batch_in c.deref.result.now) = search rules in
     let is : c.deref.result.now ≡ batch_bytes (batch_in c.deref.result.now) = search rules in
     record {
-      gathered = gathered_more c.args.dcs c.args.payloads.now c.batches.place c.index-payloads-place.result c.deref.result.now c.batches.known.items c.take_notes.new.known.items c.batches.rows.items c.extend_from_slice.new.self.items
-          c.deref-in-batches.result.now c.in-Some.more.now c.batches-test.true c.index-payloads-place.is c.deref.ensures.value c.batches.invariant.gathered fits is (c.deref-in-batches.ensures.value ∙ notes) more c.take_notes.ensures.known
+      gathered = gathered_more c.args.dcs c.args.payloads.now c.batches.place c.index-payloads-place.result
+          c.deref.result.now c.batches.known.items c.take_notes.new.known.items c.batches.rows.items
+          c.extend_from_slice.new.self.items
+          c.deref-in-batches.result.now c.in-Some.more.now c.batches-test.true c.index-payloads-place.is
+              c.deref.ensures.value c.batches.invariant.gathered fits is (c.deref-in-batches.ensures.value ∙ notes) more
+              c.take_notes.ensures.known
           (search rules);
       len = c.take_notes.ensures.len ∙ c.batches.invariant.len;
     }

@@ -36,7 +36,8 @@ pub returns-in-Err-AuditAlone-clause-runs : goal.returns-in-Err-AuditAlone-claus
 returns-in-Err-AuditAlone-clause-runs g c = λ file wish says. absurd (rw c.in-Err-AuditAlone.field-0-is at (c.in-Err-AuditAlone.ensures.wanted file wish says))
 
 pub returns-in-Err-ScriptAlone-clause-runs : goal.returns-in-Err-ScriptAlone-clause-runs
-returns-in-Err-ScriptAlone-clause-runs g c = λ file wish says. absurd (rw c.in-Err-ScriptAlone.field-0-is at (c.in-Err-ScriptAlone.ensures.wanted file wish says))
+returns-in-Err-ScriptAlone-clause-runs g c = λ file wish says. absurd
+    (rw c.in-Err-ScriptAlone.field-0-is at (c.in-Err-ScriptAlone.ensures.wanted file wish says))
 
 pub returns-in-Err-TwoPurposes-clause-runs : goal.returns-in-Err-TwoPurposes-clause-runs
 returns-in-Err-TwoPurposes-clause-runs g c = λ file wish says.

@@ -13,7 +13,8 @@ loop-done-init c = (
 pub loop-done-preserved : goal.loop-done-preserved
 loop-done-preserved c = (
   subst (λ (rs : List Asking). AreMade rs c.args.state.now.events (c.loop-done.done + 1)) (sym c.push.ensures.items)
-      (one_made c.args.state.now.procs c.args.state.now.events c.loop-done.requests.items c.loop-done.done c.request_of.result c.known.ensures.legal c.loop-done.invariant.0 c.request_of.ensures),
+      (one_made c.args.state.now.procs c.args.state.now.events c.loop-done.requests.items c.loop-done.done
+          c.request_of.result c.known.ensures.legal c.loop-done.invariant.0 c.request_of.ensures),
   c.push.ensures.capacity ∙ c.loop-done.invariant.1,
 )
 
@@ -21,4 +22,5 @@ pub returns : goal.returns
 returns c =
     let all = c.admitted-done-end.ensures in
     let end = c.loop-done-test.false in
-    all_made c.args.state.now.procs c.args.state.now.events c.loop-done.requests.items c.loop-done.done c.known.ensures.legal (omega (arith, all, end)) c.loop-done.invariant.0
+    all_made c.args.state.now.procs c.args.state.now.events c.loop-done.requests.items c.loop-done.done
+        c.known.ensures.legal (omega (arith, all, end)) c.loop-done.invariant.0

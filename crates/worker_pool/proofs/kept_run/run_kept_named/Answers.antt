@@ -52,7 +52,8 @@ returns-clause-unkept g c =
 
 pub returns-clause-any_moment : goal.returns-clause-any_moment
 returns-clause-any_moment g c = λ events was.
-    leaves_only g.K.Journal.moment g.K.Journal.left_since g.J.Naming.start g.J.Naming.since g.J.Naming.past g.J.Naming.leaves events c.args.journal c.into_journal-journal.result
+    leaves_only g.K.Journal.moment g.K.Journal.left_since g.J.Naming.start g.J.Naming.since g.J.Naming.past
+        g.J.Naming.leaves events c.args.journal c.into_journal-journal.result
     c.requires.since c.requires.past_only (c.into_journal-journal.ensures.left events was)
 
 pub new-keeper-requires-clause-left : goal.new-keeper-requires-clause-left
@@ -63,8 +64,11 @@ new-keeper-requires-clause-left g c = λ events was.
       begins = record { later = []; is = refl };
       legal = subst (λ (s : Core). Legal s.procs s.events) c.requires.state c.known.ensures.legal;
     } in
-    leaves_first g.K.Journal.moment g.K.Journal.left_since start g.J.Naming.since g.J.Naming.past g.J.Naming.leaves events c.args.journal c.requires.since gone_on c.requires.past (λ left l.
-    c.requires.leaves events [] left ((g.met.K.Journal g.world.𝓛 g.world.𝓜 g.world.𝓡 ((λ s x. x), (λ x. x), (λ x. x), λ x. x)).kept_now c.args.journal events left (c.requires.before events was)
+    leaves_first g.K.Journal.moment g.K.Journal.left_since start g.J.Naming.since g.J.Naming.past g.J.Naming.leaves
+        events c.args.journal c.requires.since gone_on c.requires.past (λ left l.
+    c.requires.leaves events [] left
+        ((g.met.K.Journal g.world.𝓛 g.world.𝓜 g.world.𝓡 ((λ s x. x), (λ x. x), (λ x. x), λ x. x)).kept_now
+        c.args.journal events left (c.requires.before events was)
     (subst (λ (n : ℕ). g.K.Journal.left_since c.args.journal n left) c.requires.since l)))
 
 pub returns-in-Err-clause-any_moment : goal.returns-in-Err-clause-any_moment
@@ -75,7 +79,11 @@ returns-in-Err-clause-any_moment g c = λ events was.
       begins = record { later = []; is = refl };
       legal = subst (λ (s : Core). Legal s.procs s.events) c.requires.state c.known.ensures.legal;
     } in
-    leaves_only g.K.Journal.moment g.K.Journal.left_since start g.J.Naming.since g.J.Naming.past g.J.Naming.leaves events c.args.journal c.args.journal c.requires.since c.requires.past_only
-    (leaves_first g.K.Journal.moment g.K.Journal.left_since start g.J.Naming.since g.J.Naming.past g.J.Naming.leaves events c.args.journal c.requires.since gone_on c.requires.past (λ left l.
-    c.requires.leaves events [] left ((g.met.K.Journal g.world.𝓛 g.world.𝓜 g.world.𝓡 ((λ s x. x), (λ x. x), (λ x. x), λ x. x)).kept_now c.args.journal events left (c.requires.before events was)
+    leaves_only g.K.Journal.moment g.K.Journal.left_since start g.J.Naming.since g.J.Naming.past g.J.Naming.leaves
+        events c.args.journal c.args.journal c.requires.since c.requires.past_only
+    (leaves_first g.K.Journal.moment g.K.Journal.left_since start g.J.Naming.since g.J.Naming.past g.J.Naming.leaves
+        events c.args.journal c.requires.since gone_on c.requires.past (λ left l.
+    c.requires.leaves events [] left
+        ((g.met.K.Journal g.world.𝓛 g.world.𝓜 g.world.𝓡 ((λ s x. x), (λ x. x), (λ x. x), λ x. x)).kept_now
+        c.args.journal events left (c.requires.before events was)
     (subst (λ (n : ℕ). g.K.Journal.left_since c.args.journal n left) c.requires.since l))))

@@ -16,7 +16,9 @@ invariant_of-self g c =
       rw c.in-Ok.ensures.state (admitted_one g.J.Naming.start g.J.Naming.calls c.self.inside.state ss c.args.k c.in-Ok.txn c.args.call.now
           c.self.invariant.0 at c.requires.call c.in-Ok.ensures.admitted.takes c.in-Ok.ensures.ok),
       (λ bad. (cc)),
-      rw c.in-Ok.ensures.state (handed_more g.J.Naming.start c.self.inside.handed c.self.inside.copied c.self.inside.state (Admit c.in-Ok.txn.serial c.args.call.now.proc c.args.call.now.args.items) c.self.invariant.2),
+      rw c.in-Ok.ensures.state (handed_more g.J.Naming.start c.self.inside.handed c.self.inside.copied
+          c.self.inside.state (Admit c.in-Ok.txn.serial c.args.call.now.proc c.args.call.now.args.items)
+          c.self.invariant.2),
     )
 
 pub returns-in-Ok-clause-ok : goal.returns-in-Ok-clause-ok
@@ -28,4 +30,5 @@ returns-in-Ok-clause-ok g c =
 pub returns-in-Err-clause-refused : goal.returns-in-Err-clause-refused
 returns-in-Err-clause-refused g c =
     subst (λ (v : Seen). AdmitRefusalFits g.J.Naming.start v.state (call_of c.args.call.now) c.in-Err.refusal) c.self.view_is
-    (refused g.J.Naming.start c.self.inside.state (call_of c.args.call.now) c.in-Err.refusal c.self.invariant.0.stays c.known.ensures.good c.in-Err.ensures.refused)
+    (refused g.J.Naming.start c.self.inside.state (call_of c.args.call.now) c.in-Err.refusal c.self.invariant.0.stays
+        c.known.ensures.good c.in-Err.ensures.refused)

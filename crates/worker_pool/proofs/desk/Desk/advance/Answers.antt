@@ -25,7 +25,8 @@ unreachable-requires g c =
     let ss = c.self.inside.progress.items in
     let at : slice_get ss c.args.k ≡ Some (Begun c.in-Begun.txn) = ap (λ (v : Seen). slice_get v.progress c.args.k) c.self.view_is ∙ c.in-Begun.ensures in
     let begun = c.self.invariant.0.fits c.args.k (Begun c.in-Begun.txn) c.args.call.now at c.requires.call in
-    let goes : IsGoing c.ask.result = rw c.ask.ensures.reply (going c.self.inside.state c.in-Begun.txn.serial c.known.ensures.legal c.known.ensures.good begun.still) in
+    let goes : IsGoing c.ask.result = rw c.ask.ensures.reply
+        (going c.self.inside.state c.in-Begun.txn.serial c.known.ensures.legal c.known.ensures.good begun.still) in
     elim c.in-Running.is [
       | inl is ↦ subst IsGoing is goes
       | inr is ↦ subst IsGoing is goes
@@ -42,10 +43,12 @@ pub returns-in-Request-clause-known : goal.returns-in-Request-clause-known
 returns-in-Request-clause-known g c =
     let state = c.self.inside.state in
     subst (λ (v : Seen). StaysKnown v.state c.send.new.self.state) c.self.view_is
-    (known_then state c.ask.new.self c.send.new.self.state (ap (λ (s : Core). s.sites) c.ask.ensures.state ∙ asked_sites state c.ask.result) c.send.ensures.known)
+    (known_then state c.ask.new.self c.send.new.self.state
+        (ap (λ (s : Core). s.sites) c.ask.ensures.state ∙ asked_sites state c.ask.result) c.send.ensures.known)
 
 pub returns-in-Undoing-clause-known : goal.returns-in-Undoing-clause-known
 returns-in-Undoing-clause-known g c =
     let state = c.self.inside.state in
     subst (λ (v : Seen). StaysKnown v.state c.undo.new.self.state) c.self.view_is
-    (known_then state c.ask.new.self c.undo.new.self.state (ap (λ (s : Core). s.sites) c.ask.ensures.state ∙ asked_sites state c.ask.result) c.undo.ensures.known)
+    (known_then state c.ask.new.self c.undo.new.self.state
+        (ap (λ (s : Core). s.sites) c.ask.ensures.state ∙ asked_sites state c.ask.result) c.undo.ensures.known)

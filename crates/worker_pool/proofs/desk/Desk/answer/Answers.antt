@@ -5,4 +5,7 @@ use Rattle.worker_pool.proofs.desk.Desk.answer.Goals as goal
 pub invariant_of-self : goal.invariant_of-self
 invariant_of-self g c =
     let e = c.answer.ensures in
-    (heard g.J.Naming.start g.J.Naming.calls c.self.inside.state c.answer.new.self c.self.inside.progress.items c.args.request c.args.reply.said c.answer.result e.ok e.err c.self.invariant.0, (λ bad. (cc)), handed_heard g.J.Naming.start c.self.inside.handed c.self.inside.copied c.self.inside.state c.answer.new.self c.args.request c.args.reply.said c.answer.result e.ok e.err c.self.invariant.2)
+    (heard g.J.Naming.start g.J.Naming.calls c.self.inside.state c.answer.new.self c.self.inside.progress.items
+        c.args.request c.args.reply.said c.answer.result e.ok e.err c.self.invariant.0, (λ bad. (cc)),
+        handed_heard g.J.Naming.start c.self.inside.handed c.self.inside.copied c.self.inside.state c.answer.new.self
+        c.args.request c.args.reply.said c.answer.result e.ok e.err c.self.invariant.2)

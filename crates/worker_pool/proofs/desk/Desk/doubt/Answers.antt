@@ -11,7 +11,8 @@ invariant_of-self g c =
     let ss = c.self.inside.progress.items in
     let state = c.self.inside.state in
     let at : slice_get ss c.args.k ≡ Some (Begun c.args.txn) = ap (λ (v : Seen). slice_get v.progress c.args.k) c.self.view_is ∙ c.requires.begun in
-    let doubt : IsDoubtful state c.args.txn.serial c.args.number = subst (λ (v : Seen). IsDoubtful v.state c.args.txn.serial c.args.number) (sym c.self.view_is) c.requires.doubtful in
+    let doubt : IsDoubtful state c.args.txn.serial c.args.number = subst
+        (λ (v : Seen). IsDoubtful v.state c.args.txn.serial c.args.number) (sym c.self.view_is) c.requires.doubtful in
     let begun = c.self.invariant.0.fits c.args.k (Begun c.args.txn) c.args.call.now at c.requires.call in (
       told g.J.Naming.start g.J.Naming.calls state ss c.args.k (Begun c.args.txn) (Answered (InDoubt c.args.number) (Some c.args.txn)) c.args.call.now
           c.self.invariant.0 at c.requires.call (in_doubt_fits g.J.Naming.start state c.args.call.now c.args.txn c.args.number begun doubt) refl refl refl,

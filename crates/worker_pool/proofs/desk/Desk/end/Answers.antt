@@ -13,10 +13,12 @@ invariant_of-self g c =
     let ss = c.self.inside.progress.items in
     let state = c.self.inside.state in
     let at : slice_get ss c.args.k ≡ Some (Begun c.args.txn) = ap (λ (v : Seen). slice_get v.progress c.args.k) c.self.view_is ∙ c.requires.begun in (
-      rw c.answer_for-answer.ensures (ended_by g.J.Naming.start g.J.Naming.calls state c.end.new.self ss c.args.k c.args.txn c.args.call.now c.in-Ok.receipt (end_of state c.args.txn.serial)
+      rw c.answer_for-answer.ensures (ended_by g.J.Naming.start g.J.Naming.calls state c.end.new.self ss c.args.k
+          c.args.txn c.args.call.now c.in-Ok.receipt (end_of state c.args.txn.serial)
           c.self.invariant.0 at c.requires.call (sym c.in-Ok.is ∙ c.end.ensures.reply) c.end.ensures.state),
       (λ bad. (cc)),
-      rw c.end.ensures.state (handed_ended g.J.Naming.start c.self.inside.handed c.self.inside.copied c.self.inside.state c.args.txn.serial (end_of state c.args.txn.serial) c.self.invariant.2),
+      rw c.end.ensures.state (handed_ended g.J.Naming.start c.self.inside.handed c.self.inside.copied
+          c.self.inside.state c.args.txn.serial (end_of state c.args.txn.serial) c.self.invariant.2),
     )
 
 pub returns-clause-answered : goal.returns-clause-answered

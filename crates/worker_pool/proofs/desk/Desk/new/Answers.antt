@@ -6,7 +6,8 @@ use Rattle.worker_pool.proofs.desk.Desk.new.Goals as goal
 
 pub invariant_of-result : goal.invariant_of-result
 invariant_of-result g c =
-    let count : c.len-copied.result ≡ length g.J.Naming.start.events = c.len-copied.ensures ∙ (ap length c.log.ensures ∙ ap (λ (s : Core). length s.events) c.requires.start) in
+    let count : c.len-copied.result ≡ length g.J.Naming.start.events = c.len-copied.ensures
+        ∙ (ap length c.log.ensures ∙ ap (λ (s : Core). length s.events) c.requires.start) in
     rw (c.requires.start, c.requires.waiting, c.requires.handed) (
       opened g.J.Naming.start g.J.Naming.calls,
       (λ h. refl),

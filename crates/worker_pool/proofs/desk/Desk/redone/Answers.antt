@@ -9,9 +9,13 @@ use Rattle.worker_pool.proofs.desk.Desk.redone.Goals as goal
 pub invariant_of-self : goal.invariant_of-self
 invariant_of-self g c =
     let e = c.redone.ensures in (
-      redo_heard g.J.Naming.start g.J.Naming.calls c.self.inside.state c.redone.new.self c.self.inside.progress.items c.args.dc c.args.reply.now.number c.redone.result e.ok e.err (known_redone c.self.inside.state c.redone.new.self c.args.dc c.args.reply.now c.redone.result c.known.ensures.legal e.accepted e.ok e.err) c.self.invariant.0,
+      redo_heard g.J.Naming.start g.J.Naming.calls c.self.inside.state c.redone.new.self c.self.inside.progress.items
+          c.args.dc c.args.reply.now.number c.redone.result e.ok e.err
+          (known_redone c.self.inside.state c.redone.new.self c.args.dc c.args.reply.now c.redone.result
+          c.known.ensures.legal e.accepted e.ok e.err) c.self.invariant.0,
       (λ bad. (cc)),
-      handed_redone g.J.Naming.start c.self.inside.handed c.self.inside.copied c.self.inside.state c.redone.new.self c.args.dc c.args.reply.now.number c.redone.result e.ok e.err c.self.invariant.2,
+      handed_redone g.J.Naming.start c.self.inside.handed c.self.inside.copied c.self.inside.state c.redone.new.self
+          c.args.dc c.args.reply.now.number c.redone.result e.ok e.err c.self.invariant.2,
     )
 
 pub returns-clause-redone : goal.returns-clause-redone

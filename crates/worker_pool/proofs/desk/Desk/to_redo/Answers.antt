@@ -12,9 +12,11 @@ use Rattle.worker_pool.proofs.desk.Desk.to_redo.Goals.{in-Send, in-Finished}
 
 pub invariant_of-self : goal.invariant_of-self
 invariant_of-self g c = (
-  rw c.redo_next.ensures.state (redo_asked g.J.Naming.start g.J.Naming.calls c.self.inside.state c.self.inside.progress.items c.record.result.now.dc c.redo_next.result c.self.invariant.0),
+  rw c.redo_next.ensures.state (redo_asked g.J.Naming.start g.J.Naming.calls c.self.inside.state
+      c.self.inside.progress.items c.record.result.now.dc c.redo_next.result c.self.invariant.0),
   (λ bad. (cc)),
-  rw c.redo_next.ensures.state (handed_redo g.J.Naming.start c.self.inside.handed c.self.inside.copied c.self.inside.state c.record.result.now.dc c.redo_next.result c.self.invariant.2),
+  rw c.redo_next.ensures.state (handed_redo g.J.Naming.start c.self.inside.handed c.self.inside.copied
+      c.self.inside.state c.record.result.now.dc c.redo_next.result c.self.invariant.2),
 )
 
 pub returns-clause-up : goal.returns-clause-up

@@ -9,9 +9,13 @@ use Rattle.worker_pool.proofs.desk.Desk.told.Goals as goal
 pub invariant_of-self : goal.invariant_of-self
 invariant_of-self g c =
     let e = c.told-old.ensures in (
-      restart_told g.J.Naming.start g.J.Naming.calls c.self.inside.state c.told-old.new.self c.self.inside.progress.items c.args.dc c.args.news c.told-old.result e.ok e.err (known_told c.self.inside.state c.told-old.new.self c.args.dc c.args.news c.told-old.result e.taken e.ok e.err) c.self.invariant.0,
+      restart_told g.J.Naming.start g.J.Naming.calls c.self.inside.state c.told-old.new.self
+          c.self.inside.progress.items c.args.dc c.args.news c.told-old.result e.ok e.err
+          (known_told c.self.inside.state c.told-old.new.self c.args.dc c.args.news c.told-old.result e.taken e.ok
+          e.err) c.self.invariant.0,
       (λ bad. (cc)),
-      handed_told g.J.Naming.start c.self.inside.handed c.self.inside.copied c.self.inside.state c.told-old.new.self c.args.dc c.args.news c.told-old.result e.ok e.err c.self.invariant.2,
+      handed_told g.J.Naming.start c.self.inside.handed c.self.inside.copied c.self.inside.state c.told-old.new.self
+          c.args.dc c.args.news c.told-old.result e.ok e.err c.self.invariant.2,
     )
 
 pub returns-clause-told : goal.returns-clause-told

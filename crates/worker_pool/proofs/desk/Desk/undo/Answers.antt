@@ -13,11 +13,16 @@ use Rattle.worker_pool.proofs.Known.{known_then, undone_sites}
 use Rattle.worker_pool.proofs.desk.Desk.undo.Goals as goal
 
 pub invariant_of-self : goal.invariant_of-self
-invariant_of-self g c = (rw c.undo_next.ensures.state (undone g.J.Naming.start g.J.Naming.calls c.self.inside.state c.self.inside.progress.items c.undo_next.result c.self.invariant.0), (λ bad. (cc)), rw c.undo_next.ensures.state (handed_undone g.J.Naming.start c.self.inside.handed c.self.inside.copied c.self.inside.state c.undo_next.result c.self.invariant.2))
+invariant_of-self g c = (rw c.undo_next.ensures.state
+    (undone g.J.Naming.start g.J.Naming.calls c.self.inside.state c.self.inside.progress.items c.undo_next.result
+    c.self.invariant.0), (λ bad. (cc)), rw c.undo_next.ensures.state
+    (handed_undone g.J.Naming.start c.self.inside.handed c.self.inside.copied c.self.inside.state c.undo_next.result
+    c.self.invariant.2))
 
 pub unreachable-requires : goal.unreachable-requires
 unreachable-requires g c =
-    let undoing : ask_reply c.self.inside.state c.args.txn.serial ≡ Undoing = ap (λ (v : Seen). ask_reply v.state c.args.txn.serial) c.self.view_is ∙ c.requires.undoing in
+    let undoing : ask_reply c.self.inside.state c.args.txn.serial ≡ Undoing = ap
+        (λ (v : Seen). ask_reply v.state c.args.txn.serial) c.self.view_is ∙ c.requires.undoing in
     let sends : IsRequest c.undo_next.result = rw c.undo_next.ensures.reply (undo_sends c.self.inside.state c.args.txn.serial undoing) in
     elim c.in-Undoing.is [
       | inl is ↦ subst IsRequest is sends
@@ -32,7 +37,8 @@ unreachable-requires g c =
 
 pub unreachable-requires-in-Stuck : goal.unreachable-requires-in-Stuck
 unreachable-requires-in-Stuck g c =
-    let undoing : ask_reply c.self.inside.state c.args.txn.serial ≡ Undoing = ap (λ (v : Seen). ask_reply v.state c.args.txn.serial) c.self.view_is ∙ c.requires.undoing in
+    let undoing : ask_reply c.self.inside.state c.args.txn.serial ≡ Undoing = ap
+        (λ (v : Seen). ask_reply v.state c.args.txn.serial) c.self.view_is ∙ c.requires.undoing in
     let sends : IsRequest c.undo_next.result = rw c.undo_next.ensures.reply (undo_sends c.self.inside.state c.args.txn.serial undoing) in
     elim c.in-Stuck.is [
       | inl is ↦ subst IsRequest is.1 sends
@@ -51,4 +57,5 @@ returns-clause-known g c =
     let state = c.self.inside.state in
     let mid = c.undo_next.new.self in
     subst (λ (v : Seen). StaysKnown v.state c.send.new.self.state) c.self.view_is
-    (known_then state mid c.send.new.self.state (ap (λ (s : Core). s.sites) c.undo_next.ensures.state ∙ undone_sites state c.undo_next.result) c.send.ensures.known)
+    (known_then state mid c.send.new.self.state (ap (λ (s : Core). s.sites) c.undo_next.ensures.state
+        ∙ undone_sites state c.undo_next.result) c.send.ensures.known)

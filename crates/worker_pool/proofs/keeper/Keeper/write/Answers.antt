@@ -47,16 +47,19 @@ invariant_of-self-in-Err-1 g c =
           c.requires.stood handed (c.in-Err.ensures.any_moment (events ++ events_of before) (all events was))
           (c.self.invariant.4 (events ++ events_of before) batch)),
       (λ events more left it. c.self.invariant.4 events more left (c.in-Err.ensures.same events more left it)),
-      (λ why is. inl (journal, (let same : c.in-Err.fault ≡ why = cc is in subst (λ w. g.K.Journal.fails journal w c.keep.new.self) same c.in-Err.ensures.failed))),
+      (λ why is. inl (journal, (let same : c.in-Err.fault ≡ why = cc is in subst
+          (λ w. g.K.Journal.fails journal w c.keep.new.self) same c.in-Err.ensures.failed))),
     )
 
 pub returns-in-Ok-clause-all : goal.returns-in-Ok-clause-all
 returns-in-Ok-clause-all g c =
     let sound : c.self.inside.fault ≡ None = ap (λ (v : Shelf _). v.fault) c.self.view_is ∙ c.requires.sound in
     let handed : c.args.handed ≡ c.self.inside.handed ++ reverse c.log.result.now.events ∷ [] =
-    c.requires.handed ∙ (sym (ap (λ (v : Shelf _). v.handed ++ v.batch ∷ []) c.self.view_is) ∙ ap (λ (b : List Event). c.self.inside.handed ++ b ∷ []) (sym c.log.ensures)) in (
+    c.requires.handed ∙ (sym (ap (λ (v : Shelf _). v.handed ++ v.batch ∷ []) c.self.view_is)
+        ∙ ap (λ (b : List Event). c.self.inside.handed ++ b ∷ []) (sym c.log.ensures)) in (
       refl,
-      kept_more g.K.Journal.has_kept g.J.Naming.before c.self.inside.journal c.keep.new.self (reverse c.log.result.now.events) c.self.inside.handed c.args.handed
+      kept_more g.K.Journal.has_kept g.J.Naming.before c.self.inside.journal c.keep.new.self
+          (reverse c.log.result.now.events) c.self.inside.handed c.args.handed
           ((c.self.invariant.1 sound).0) c.in-Ok.ensures.kept handed,
     )
 
