@@ -1,8 +1,9 @@
 //! The program, over readers and writers that are handed in.
 
-ghost use Rattle.std.specs.Prelude.{◌≡◌, ◌++◌, ℕ, List, IfOk, IfSome, None, Some, Ok, true, false};
+ghost use Rattle.std.specs.Prelude.{◌≡◌, ◌++◌, ℕ, List, Option, IfOk, IfSome, None, Some, Ok, Err, true, false};
 ghost use Rattle.std.specs.Prelude.{codes, map, string_bytes};
 ghost use Rattle.command_line.specs.Said.{Says, IsWrong, shows};
+ghost use Rattle.command_line.specs.Wanted.{WantsOrNoMemory, IsWrongOrNoMemory};
 ghost use Rattle.procd.specs.Streams.{stream, TellsIf, IsKept, Begins, Ends, EndsOn, Runs, IsMisuse};
 ghost use Rattle.run_command.specs.LogLines.{kind_refusal};
 ghost use Rattle.procd.specs.Streams.{IsLog, IsRefusedBy, IsFaultLine, TellsUnread, TellsUnwritten, TellsNotPrinted, IsToldOrNoMemory};
@@ -168,11 +169,14 @@ fn run_text<F: Files<File = File> + Clock + Threads + Wait + Sync, W: Write, E: 
         ),
     };
     if let Err(error) = tell(out, report.lines.as_str()) {
+        drop(report);
         return cannot_write(alloc, err, error);
     }
     explain(alloc, meanwhile.terminal, &wanted.task, text, &report);
     tell_notes(err, wanted.task.may_tell(), &report);
-    report.status
+    let status = report.status;
+    drop(report);
+    status
 }
 
 // Reads all that is there, up to so many bytes, and does the task with it.
@@ -298,11 +302,11 @@ fn told_misuse<E: Write>(alloc: Global, error: &Error, err: &mut E) -> u8
 }
 
 // A command line that asks for help, or is wrong.
-fn misuse<W: Write, E: Write>(alloc: Global, error: Error, out: &mut W, err: &mut E) -> u8
-    ensures memory { kind_of error ≡ ErrorKind.OutOfMemory → (result ≡ 4)
+fn misuse<W: Write, E: Write>(alloc: Global, error: &Error, out: &mut W, err: &mut E) -> u8
+    ensures memory { kind_of error.now ≡ ErrorKind.OutOfMemory → (result ≡ 4)
         × (W.contents out.new ≡ W.contents out.old)
         × Begins (stream (E.contents err.old) (E.contents err.new)) (codes "memory\n") }
-    ensures refused { shows (kind_of error) ≡ false
+    ensures refused { shows (kind_of error.now) ≡ false
         → IsMisuse (stream (W.contents out.old) (W.contents out.new)) result }
     ensures wrong { result ≡ 2 → W.contents out.new ≡ W.contents out.old }
 {
@@ -310,7 +314,7 @@ fn misuse<W: Write, E: Write>(alloc: Global, error: Error, out: &mut W, err: &mu
         return no_memory(err);
     }
     if error.use_stderr() {
-        return told_misuse(alloc, &error, err);
+        return told_misuse(alloc, error, err);
     }
     match write!(out, "{error}") {
         Ok(()) => 0,
@@ -325,6 +329,55 @@ fn wrong_words<E: Write>(err: &mut E, text: &str) -> u8
         let _ = tell(err, part);
     }
     MISUSE
+}
+
+// Refuses a wrong command line, or shows the help that it asks for.
+fn refuse_words<W: Write, E: Write>(
+    alloc: Global,
+    fault: &WordFault,
+    out: &mut W,
+    err: &mut E,
+) -> u8
+    ensures runs { (file : List ℕ) (wish : Wish) (input : Option (List ℕ)) → WantsOrNoMemory file wish (Err fault.now)
+        → Runs file wish input (stream (W.contents out.old) (W.contents out.new))
+        (stream (E.contents err.old) (E.contents err.new)) result }
+    ensures misuse { IsWrongOrNoMemory (Err fault.now)
+        → IsMisuse (stream (W.contents out.old) (W.contents out.new)) result }
+    ensures wrong { result ≡ 2 → W.contents out.new ≡ W.contents out.old }
+{
+    match fault {
+        WordFault::Clap(error) => misuse(alloc, error, out, err),
+        WordFault::Memory => no_memory(err),
+        WordFault::NotNumber => {
+            wrong_words(
+                err,
+                "error: an ARG, N or P is no number of 64 bits in decimal",
+            )
+        }
+        WordFault::AuditAlone => wrong_words(
+            err,
+            "error: log --audit takes a SCRIPT as well: the one whose procedures the log was written for",
+        ),
+        WordFault::ScriptAlone => {
+            wrong_words(err, "error: log takes a SCRIPT with --audit alone")
+        }
+        WordFault::TwoPurposes => {
+            wrong_words(err, "error: log takes one of --rows, --audit and --picture")
+        }
+        WordFault::TwoParts => wrong_words(err, "error: log takes one of --from and --tail"),
+        WordFault::PartUnwanted => wrong_words(
+            err,
+            "error: log takes --from and --tail with neither --rows nor --audit",
+        ),
+        WordFault::CheckpointAlone => wrong_words(
+            err,
+            "error: run takes --checkpoint and --checkpoint-over with --log alone: what begins anew is its file",
+        ),
+        WordFault::NoCommand => wrong_words(
+            err,
+            "error: a command is missing: exec, asm, dis, verify, world, run or log",
+        ),
+    }
 }
 
 /// Says that a word of the command line isn't UTF-8, and answers the status for it.
@@ -363,37 +416,15 @@ pub fn program<
     ensures wrong { result ≡ 2 → W.contents out.new ≡ W.contents out.old }
 {
     match wanted_of(alloc, words) {
-        Ok(wanted) => run_wanted(rt, alloc, &wanted, input, out, err, meanwhile),
-        Err(WordFault::Clap(error)) => misuse(alloc, error, out, err),
-        Err(WordFault::Memory) => no_memory(err),
-        Err(WordFault::NotNumber) => {
-            wrong_words(
-                err,
-                "error: an ARG, N or P is no number of 64 bits in decimal",
-            )
+        Ok(wanted) => {
+            let status = run_wanted(rt, alloc, &wanted, input, out, err, meanwhile);
+            drop(wanted);
+            status
         }
-        Err(WordFault::AuditAlone) => wrong_words(
-            err,
-            "error: log --audit takes a SCRIPT as well: the one whose procedures the log was written for",
-        ),
-        Err(WordFault::ScriptAlone) => {
-            wrong_words(err, "error: log takes a SCRIPT with --audit alone")
+        Err(fault) => {
+            let status = refuse_words(alloc, &fault, out, err);
+            drop(fault);
+            status
         }
-        Err(WordFault::TwoPurposes) => {
-            wrong_words(err, "error: log takes one of --rows, --audit and --picture")
-        }
-        Err(WordFault::TwoParts) => wrong_words(err, "error: log takes one of --from and --tail"),
-        Err(WordFault::PartUnwanted) => wrong_words(
-            err,
-            "error: log takes --from and --tail with neither --rows nor --audit",
-        ),
-        Err(WordFault::CheckpointAlone) => wrong_words(
-            err,
-            "error: run takes --checkpoint and --checkpoint-over with --log alone: what begins anew is its file",
-        ),
-        Err(WordFault::NoCommand) => wrong_words(
-            err,
-            "error: a command is missing: exec, asm, dis, verify, world, run or log",
-        ),
     }
 }
