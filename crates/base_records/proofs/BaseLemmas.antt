@@ -49,7 +49,7 @@ begun_rows rows mark empties begun are only = all_by HasOnlyRows begun
     let old = there_is empties k (let count = are.count in let inside = slice_get_within begun k s at in omega (arith, count, inside)) in
     let one = are.each k old.0 old.1 in
     subst HasOnlyRows (same_Some (begun_with one.own mark old.0) s (sym one.at ∙ at))
-        (begun_one one.own mark old.0 (all_at HasOnlyRows empties k old.0 old.1 only)))
+    (begun_one one.own mark old.0 (all_at HasOnlyRows empties k old.0 old.1 only)))
 
 pub have_only_rows : (base : Option Rows) (events : List Event) (empties begun : List Store) → HaveBegun base events empties begun
     → All HasOnlyRows empties → All HasOnlyRows begun

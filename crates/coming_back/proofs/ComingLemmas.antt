@@ -108,7 +108,7 @@ all_begun [] all = All-nil (λ (s : Store). (s.list ≡ []) × (s.mark ≡ s.bas
 all_begun (d ∷ ds) all =
     let only = all 0 d (omega arith) in
     All-cons (λ (s : Store). (s.list ≡ []) × (s.mark ≡ s.base_mark)) (restarted d) (map restarted ds)
-        (only.saved, only.saved_mark) (all_begun ds (λ k x low. all (suc k) x (omega (arith, low))))
+    (only.saved, only.saved_mark) (all_begun ds (λ k x low. all (suc k) x (omega (arith, low))))
 
 -- ---- each data component is known
 
@@ -118,8 +118,8 @@ pub site_incarnation : (c : Core) (ds : List Store) (n : ℕ) (s : Store) → c.
 site_incarnation c ds n s noted at =
     ap (λ (xs : List Site). (site_at xs n).incarnation) noted
     ∙ ap (λ (o : Option Site). (site_by o).incarnation)
-        (map_get site_noted (restart_notes ds) n (Restarted (news_of s))
-        (map_get (λ (x : Store). Restarted (news_of x)) ds n s at))
+    (map_get site_noted (restart_notes ds) n (Restarted (news_of s))
+    (map_get (λ (x : Store). Restarted (news_of x)) ds n s at))
 
 -- and down, with its redo from the mark on
 pub site_down : (c : Core) (ds : List Store) (n : ℕ) (s : Store) → c.sites ≡ map site_noted (restart_notes ds) → slice_get ds n ≡ Some s
@@ -127,7 +127,7 @@ pub site_down : (c : Core) (ds : List Store) (n : ℕ) (s : Store) → c.sites �
 site_down c ds n s noted at =
     ap (λ (xs : List Site). (site_at xs n).redo) noted
     ∙ ap (λ (o : Option Site). (site_by o).redo) (map_get site_noted (restart_notes ds) n (Restarted (news_of s))
-        (map_get (λ (x : Store). Restarted (news_of x)) ds n s at))
+    (map_get (λ (x : Store). Restarted (news_of x)) ds n s at))
 
 known_at : (c d : Core) (ds es : List Store) → c.sites ≡ map site_noted (restart_notes ds) → Redoes c ds d es
     → ((n : ℕ) → n < length d.sites → (site_at d.sites n).redo ≡ None) → (n : ℕ) (s : Store) → slice_get es n ≡ Some s → IsKnown (at_rest d es) n s
@@ -138,9 +138,9 @@ known_at c d ds es noted redoes up n s at =
     let now = redoes.redone.each n was.0 was.1 in
     let same : now.now ≡ s = some_same now.now s (sym now.at ∙ at) in
     let incarnation : s.incarnation ≡ was.0.incarnation = ap (λ (x : Store). x.incarnation) (sym same)
-        ∙ served_incarnation (IsRedoFor n) was.0 now.now now.served in
+    ∙ served_incarnation (IsRedoFor n) was.0 now.now now.served in
     let count : length c.sites ≡ length ds = ap length noted
-        ∙ (length-map (restart_notes ds) site_noted ∙ length-map ds (λ (x : Store). Restarted (news_of x))) in
+    ∙ (length-map (restart_notes ds) site_noted ∙ length-map ds (λ (x : Store). Restarted (news_of x))) in
     let more = redoes.count in
     record {
       up = up n (omega (arith, short, many, count, more));
@@ -162,7 +162,7 @@ still_at c d ds es goes known n s at =
     let now = goes.served.each n was.0 was.1 in
     let same : now.now ≡ s = some_same now.now s (sym now.at ∙ at) in
     let incarnation : s.incarnation ≡ was.0.incarnation = ap (λ (x : Store). x.incarnation) (sym same)
-        ∙ served_incarnation (IsFor n) was.0 now.now now.served in
+    ∙ served_incarnation (IsFor n) was.0 now.now now.served in
     let it = known n was.0 was.1 in
     record {
       up = ap (λ (xs : List Site). (site_at xs n).redo) sites ∙ it.up;

@@ -80,7 +80,7 @@ next_list h d from redone a low above is none =
     ∙ (ap (λ (o : Option Answered). list_of o ++ done_above h d from more) (ap (done_at h d) place ∙ is)
     ∙ ap (λ (l : List Performed). (a.number, a.op, a.said) ∷ l)
     (skipped h d from (redone - from) (more - (redone - from)) more (omega (arith, low, above))
-        (λ k over under. none k (omega (arith, low, over)) (omega (arith, low, above, under)))))
+    (λ k over under. none k (omega (arith, low, over)) (omega (arith, low, above, under)))))
 
 none_beyond : (ps : List Checked) (h : List Event) → Legal ps h → (d k : ℕ) → given h < k → done_at h d k ≡ None
 none_beyond ps h legal d k above = by (done_at h d k) refl
@@ -173,7 +173,7 @@ redone_done n c x z ds es legal is (There p) it so =
     sent_as it.site.incarnation it.r.mark x it.a
     (is ∙ (ap (redo_at c n) it.there ∙ (ap (redo_by c n it.site.incarnation) it.down ∙ ap (sends_again it.site.incarnation it.r.mark) it.next))) in
     let facts : IsToRedo c.events n it.r.redone (Some it.a) = subst (IsToRedo c.events n it.r.redone) it.next
-        (to_redo_is c.procs c.events legal n it.r.redone) in
+    (to_redo_is c.procs c.events legal n it.r.redone) in
     let s : Store = p.s in
     let mine : s ≡ so.s = some_same s so.s (sym p.at ∙ (ap (slice_get ds) sent.dc ∙ so.at)) in
     let down : (site_at c.sites n).redo ≡ Some it.r = ap (λ (o : Option Site). (site_by o).redo) it.there ∙ it.down in
@@ -197,7 +197,7 @@ redone_done n c x z ds es legal is (There p) it so =
     ∙ sym (next_list c.events n s.base_mark it.r.redone it.a low above facts.1 facts.2)))) in
     done_behind c ds es n t z it
     (subst (λ (k : ℕ). slice_get es k ≡ Some t) sent.dc
-        (ap (λ (fs : List Store). slice_get fs (target x.op).dc) p.then_is ∙ set_same ds (target x.op).dc s t p.at))
+    (ap (λ (fs : List Store). slice_get fs (target x.op).dc) p.then_is ∙ set_same ds (target x.op).dc s t p.at))
     (let same = it.same_number in omega (arith, low, above, base, same))
     (subst (λ (m : ℕ). t.list ≡ done_above c.events n t.base_mark (m - t.base_mark)) (sym it.same_number)
     (subst (λ (b : ℕ). t.list ≡ done_above c.events n b (it.a.number - b)) (sym base) whole))

@@ -64,6 +64,6 @@ matched_new c d ds es n noted redoes down =
     let low = down_there d.sites n down in
     let same = redoes.count in
     let count : length c.sites ≡ length ds = ap length noted
-        ∙ (length-map (restart_notes ds) site_noted ∙ length-map ds (λ (x : Store). Restarted (news_of x))) in
+    ∙ (length-map (restart_notes ds) site_noted ∙ length-map ds (λ (x : Store). Restarted (news_of x))) in
     let s = there ds n (omega (arith, low, same, count)) in
     record { s = s.0; at = s.1; known = site_incarnation c ds n s.0 noted s.1 }

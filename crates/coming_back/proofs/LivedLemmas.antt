@@ -135,8 +135,8 @@ end_lived t c (Some o) ds is legal good start l =
     let w = at_rest c ds in
     let it = end_open c t o (sym is) in
     let goes : ends w t ≡ ends_by w t (Some it.0) (Some o) = ap
-        (λ (s : Option Standing). ends_by w t s (end_of w.core t)) it.1
-        ∙ ap (ends_by w t (Some it.0)) (same_end c t ∙ sym is) in
+    (λ (s : Option Standing). ends_by w t s (end_of w.core t)) it.1
+    ∙ ap (ends_by w t (Some it.0)) (same_end c t ∙ sym is) in
     step_becomes start w (with_core w (with_event w.core (event.End t o))) (step.End t) _ (record { legal = legal; good = good }) refl goes l
 
 -- ---- a wire that is performed
@@ -145,8 +145,8 @@ end_lived t c (Some o) ds is legal good start l =
 performed_lived : (start w : Whole) (x : Wire) (y : Option Reply) (es : List Store) → w.copies ≡ x ∷ [] → w.replies ≡ []
     → Known w.core → PerformsAt w.dcs x y es → Becomes start w
     → Becomes start (left_with [] [] [] (with_dcs w es))
-        × ((z : Reply) → y ≡ Some z → (v : Whole) × (v.core ≡ w.core) × (v.dcs ≡ es) × (v.replies ≡ z ∷ [])
-        × Becomes start v)
+    × ((z : Reply) → y ≡ Some z → (v : Whole) × (v.core ≡ w.core) × (v.dcs ≡ es) × (v.replies ≡ z ∷ [])
+    × Becomes start v)
 performed_lived start w x y es one none known it l = by (replied it.s x) refl
   where
     v : Whole
@@ -157,8 +157,8 @@ performed_lived start w x y es one none known it l = by (replied it.s x) refl
 
     by : (z : Option Reply) → replied it.s x ≡ z
         → Becomes start (left_with [] [] [] (with_dcs w es))
-            × ((u : Reply) → y ≡ Some u → (v : Whole) × (v.core ≡ w.core) × (v.dcs ≡ es) × (v.replies ≡ u ∷ [])
-            × Becomes start v)
+        × ((u : Reply) → y ≡ Some u → (v : Whole) × (v.core ≡ w.core) × (v.dcs ≡ es) × (v.replies ≡ u ∷ [])
+        × Becomes start v)
     by None is =
         let then : Whole = with_dcs w (slice_set w.dcs (target x.op).dc (performed it.s x)) in
         let lived = step_becomes start w then (step.Perform 0) outcome.Silent known refl (goes ∙ ap (gets_reply then) is) l in (
@@ -226,7 +226,7 @@ open_for c r z a = record { s = a.s; is = a.is; sent = a.sent; waits = a.waits; 
 -- and answered
 pub answered_lived : (c : Core) (r : Asking) (x : Wire) (z : Reply) (ds es : List Store) → Legal c.procs c.events → AllGood c.procs → wire_of c r ≡ Ok x
     → PerformsAt ds x (Some z) es → IsAnswer c r z → Legal c.procs (after_answer c r z.said).events → (start : Whole)
-        → Becomes start (at_rest c ds) → Becomes start (at_rest (after_answer c r z.said) es)
+    → Becomes start (at_rest c ds) → Becomes start (at_rest (after_answer c r z.said) es)
 answered_lived c r x z ds es legal good is it a legal' start l =
     let w = at_rest c ds in
     let known = still_known c legal good in
@@ -278,7 +278,7 @@ closed_by ps (event.Checkpoint a g ∷ h) legal n b is = closed_by ps h legal.1 
 redone_closed : (c : Core) (d : ℕ) (z : Reply) → Legal c.procs c.events → IsRedone c d z → open_op c.events z.number ≡ None
 redone_closed c d z legal it =
     let facts : IsToRedo c.events d it.r.redone (Some it.a) = subst (IsToRedo c.events d it.r.redone) it.next
-        (to_redo_is c.procs c.events legal d it.r.redone) in
+    (to_redo_is c.procs c.events legal d it.r.redone) in
     ap (open_op c.events) it.same_number ∙ closed_by c.procs c.events legal it.a.number it.a (answered_done c.events d it.a.number it.a facts.1)
 
 same_redo_at : (c : Core) (d : ℕ) (o : Option Site) → redo_at (still c) d o ≡ redo_at c d o
@@ -325,7 +325,7 @@ next_lived d c ds redo.Finished is legal good start l =
       good = subst AllGood (sym procs) good;
     }) in
     settled start w (with_core w after) (still (up_again c d (slice_get c.sites d))) ds same refl
-        (step_becomes start w (with_core w after) (step.Redo d) (outcome.Up d) known refl goes l)
+    (step_becomes start w (with_core w after) (step.Redo d) (outcome.Up d) known refl goes l)
   where
     up_events : (c : Core) (d : ℕ) (o : Option Site) → (up_again c d o).events ≡ c.events
     up_events c d None = refl
@@ -355,7 +355,7 @@ redone_lived d c x z ds es legal good is it redone start l =
     let known = still_known c legal good in
     let goes : redoes w d ≡ Goes (outcome.Redoing (length w.copies) x) (with_copy w x) = ap (redoes_by w d) (same_redo c d ∙ sym is) in
     let v = (performed_lived start (with_copy w x) x (Some z) es refl refl known it
-        (step_becomes start w (with_copy w x) (step.Redo d) _ known refl goes l)).1 z refl in
+    (step_becomes start w (with_copy w x) (step.Redo d) _ known refl goes l)).1 z refl in
     let core : v.0.core ≡ still c = v.1 in
     let after : Core = after_redone v.0.core d z.number in
     let same : after ≡ still (after_redone c d z.number) = ap (λ (e : Core). after_redone e d z.number) core ∙ same_after c d z.number (slice_get c.sites d) in
@@ -367,7 +367,7 @@ redone_lived d c x z ds es legal good is it redone start l =
     (record { dc = d; is = again; outcome = refl; next = refl })) in
     let known' : Known after = subst Known (sym same) (after_known c d z.number (slice_get c.sites d) legal good) in
     settled start v.0 (with_core v.0 after) (still (after_redone c d z.number)) es same v.2
-        (step_becomes start v.0 (with_core v.0 after) (step.Take 0) (outcome.Redone z.number) known' refl takes v.4)
+    (step_becomes start v.0 (with_core v.0 after) (step.Take 0) (outcome.Redone z.number) known' refl takes v.4)
   where
     after_known : (c : Core) (d n : ℕ) (o : Option Site) → Legal c.procs c.events → AllGood c.procs → Known (still (redone_at c d n o))
     after_known c d n None legal good = record { legal = legal; good = good }

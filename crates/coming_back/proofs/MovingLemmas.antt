@@ -55,8 +55,14 @@ use Rattle.coming_back.proofs.NextLemmas.{is_asked, is_undone, asked_open, undon
 -- ---- one after another
 
 pub goes_same : (c : Core) (ds : List Store) → Goes c ds c ds
-goes_same c ds = record { core = refl; begins = record { later = []; is = refl }; count = refl;
-    served = all_same IsFor ds; lived = λ start l. l; quiet = λ q. q }
+goes_same c ds = record {
+  core = refl;
+  begins = record { later = []; is = refl };
+  count = refl;
+  served = all_same IsFor ds;
+  lived = λ start l. l;
+  quiet = λ q. q;
+}
 
 begins_then : (h g f : List Event) → Begins h g → Begins g f → Begins h f
 begins_then h g f a b = record { later = b.later ++ a.later; is = b.is ∙ (ap (λ (l : List Event). b.later ++ l) a.is ∙ sym (append_assoc b.later a.later h)) }
@@ -103,7 +109,7 @@ pub ask_moves : (t : ℕ) (c : Core) (a : Asked) (ds : List Store) → a ≡ ask
     → Legal (after_ask c a).procs (after_ask c a).events → AllGood c.procs → Moves t c ds (after_ask c a) ds
 ask_moves t c (Request r) ds is legal good =
     one_event t c (Ask r.txn r.number r.op) ds ds (is_asked c t r (sym is)).own refl
-        (all_stay t c (after_ask c (Request r)) refl) (all_same IsFor ds) (ask_lived t c (Request r) ds is legal good)
+    (all_stay t c (after_ask c (Request r)) refl) (all_same IsFor ds) (ask_lived t c (Request r) ds is legal good)
     (quiet_later c (Ask r.txn r.number r.op) ds (asked_later c.procs c.events r.txn r.number r.op legal))
 ask_moves t c Undoing ds is legal good = moves_same t c ds
 ask_moves t c Over ds is legal good = moves_same t c ds
@@ -116,7 +122,7 @@ pub undo_moves : (t : ℕ) (c : Core) (a : Asked) (ds : List Store) → a ≡ un
     → Legal (after_undo c a).procs (after_undo c a).events → AllGood c.procs → Moves t c ds (after_undo c a) ds
 undo_moves t c (Request r) ds is legal good =
     one_event t c (Undo r.txn r.number r.op) ds ds (is_undone c t r (sym is)).own refl
-        (all_stay t c (after_undo c (Request r)) refl) (all_same IsFor ds) (undo_lived t c (Request r) ds is legal good)
+    (all_stay t c (after_undo c (Request r)) refl) (all_same IsFor ds) (undo_lived t c (Request r) ds is legal good)
     (quiet_later c (Undo r.txn r.number r.op) ds (undone_later c.procs c.events r.txn r.number r.op legal))
 undo_moves t c Undoing ds is legal good = moves_same t c ds
 undo_moves t c Over ds is legal good = moves_same t c ds
@@ -130,7 +136,7 @@ pub end_moves : (t : ℕ) (c : Core) (o : Option Outcome) (ds : List Store) → 
 end_moves t c None ds is legal good = moves_same t c ds
 end_moves t c (Some o) ds is legal good =
     one_event t c (End t o) ds ds refl refl (all_stay t c (after_end c t (Some o)) refl) (all_same IsFor ds)
-        (end_lived t c (Some o) ds is legal good) (quiet_later c (End t o) ds (ended_later c.procs c.events t o legal))
+    (end_lived t c (Some o) ds is legal good) (quiet_later c (End t o) ds (ended_later c.procs c.events t o legal))
 
 -- ---- what is next
 
@@ -211,7 +217,7 @@ pub answer_moves : (c : Core) (r : Asking) (z : Reply) (ds es : List Store) → 
     → Sends c r ds (Some z) es → Moves r.txn c ds (after_answer c r z.said) es
 answer_moves c r z ds es legal good a legal' sends =
     one_event r.txn c (Answer r.txn r.number z.said) ds es refl refl (answer_stays c r z.said legal (open_for c r z a))
-        (send_served c r (Some z) ds es sends) (answer_lived c r z ds es legal good a legal' sends)
+    (send_served c r (Some z) ds es sends) (answer_lived c r z ds es legal good a legal' sends)
     (answered_quiet c r z ds es legal a legal' sends)
 
 pub answer_open : (c : Core) (r : Asking) (said : Said) → IsOpenHere c r → IsOpen (after_answer c r said) r.txn
@@ -248,7 +254,7 @@ pub given_up_moves : (c : Core) (r : Asking) (y : Option Reply) (ds es : List St
     → ((z : Reply) → y ≡ Some z → IsAnswer c r z → ⊥) → Moves r.txn c ds (with_given_up c r.number) es
 given_up_moves c r y ds es legal good here sends refused =
     give_up_moves r.txn c r.number ds es (send_served c r y ds es sends) (send_lived c r y ds es legal good here sends)
-        (left_quiet c r y ds es legal here sends refused)
+    (left_quiet c r y ds es legal here sends refused)
 
 same_next : (c d : Core) (t : ℕ) → d.procs ≡ c.procs → standing d.events t ≡ standing c.events t → next_at d t ≡ next_at c t
 unfolding next_at
@@ -303,8 +309,10 @@ begins_length first h b = omega (arith, ap length b.is, length-append b.later fi
 
 resumed_since : (first mid : List Event) (e : Core) (x : Resumed) → Begins first mid → IsResumed mid e x → IsResumed first e x
 resumed_since first mid e (came.Ended receipt) begins ended =
-    record { behind = (let low = begins_length first mid begins in omega (arith, low, ended.behind));
-    stands = ended.stands }
+    record {
+      behind = (let low = begins_length first mid begins in omega (arith, low, ended.behind));
+      stands = ended.stands;
+    }
 resumed_since first mid e (came.InDoubt t n) begins left = left
 
 -- what came of it since a log is so since a beginning of that log, in which it was open
@@ -365,7 +373,7 @@ one_more c d e ds es fs n xs ys before moves came_of = record {
       ∙ ap (λ (l : List ℕ). open_to c.events n ++ l) (came_of.serials ∙ ap (serial_if (suc n)) (before.ahead (suc n) (omega arith))));
   doubts = doubts_join xs ys
       ∙ (ap (λ (l : List ℕ). l ++ in_doubt ys) (before.doubts
-          ∙ sym (open_same d.events e.events n (λ u low. moves.others u (λ same. absurd (omega (arith, low, same))))))
+      ∙ sym (open_same d.events e.events n (λ u low. moves.others u (λ same. absurd (omega (arith, low, same))))))
       ∙ ap (λ (l : List ℕ). open_to e.events n ++ l) came_of.doubts);
   each = All-append (IsOneOf c e (suc n)) xs ys
       (λ k x low.
@@ -383,13 +391,13 @@ unfolding total
 room_left c d e ds es n room xs y before came_of within most =
     let many : length (map serial_of xs) ≡ length (open_to c.events n) = ap length before.serials in
     let one : length (map serial_of (y ∷ [])) ≡ length (serial_if (suc n) (standing c.events (suc n))) = ap length
-        (came_of.serials ∙ ap (serial_if (suc n)) (before.ahead (suc n) (omega arith))) in
+    (came_of.serials ∙ ap (serial_if (suc n)) (before.ahead (suc n) (omega arith))) in
     let all = length-append (open_to c.events n) (serial_if (suc n) (standing c.events (suc n))) in
     let counted = count_to c.events (suc n) in
     let less = count_less c.events (suc n) (admitted c.events - suc n) in
     let last : suc n + (admitted c.events - suc n) ≡ admitted c.events = omega (arith, within) in
     let less' : total_to each_one c.events (suc n) ≤ total_to each_one c.events (admitted c.events) = subst
-        (λ (m : ℕ). total_to each_one c.events (suc n) ≤ total_to each_one c.events m) last less in
+    (λ (m : ℕ). total_to each_one c.events (suc n) ≤ total_to each_one c.events m) last less in
     omega (arith, many, one, all, counted, less', most, length-map xs serial_of)
 
 pub all_done : (c d : Core) (ds es : List Store) (n : ℕ) (xs : List Resumed) → n ≡ admitted c.events → CameOfAll c ds d es n xs
@@ -425,4 +433,4 @@ pub room_for_at : (c d e : Core) (ds es : List Store) (n m room : ℕ) (xs : Lis
     → m ≤ admitted c.events → total each_one c.events ≤ room → IsSome o → length xs < room
 room_for_at c d e ds es n m room xs o next before came_of within most some =
     room_for c d e ds es n room xs o before (subst (λ (k : ℕ). CameOf d e k (option_to_list o)) next came_of)
-        (subst (λ (k : ℕ). k ≤ admitted c.events) next within) most some
+    (subst (λ (k : ℕ). k ≤ admitted c.events) next within) most some

@@ -60,9 +60,9 @@ has_next c t legal good still none =
     let s = still.s in
     let it = standing_sound c.procs good c.events legal t s still.is in
     let nowhere : reached c.procs s ≡ Nowhere = no_next s.sent s.full (first_undo s.undo) s.tries s.last
-        (reached c.procs s) (ap (next_in c.procs) (sym still.is) ∙ none) in
+    (reached c.procs s) (ap (next_in c.procs) (sym still.is) ∙ none) in
     somewhere it.q s.call.args s.answers (good s.call.proc it.q it.loaded) it.takes it.fit
-        (ap (λ (o : Option Checked). reached_by o s.call.args s.answers) (sym it.loaded) ∙ nowhere)
+    (ap (λ (o : Option Checked). reached_by o s.call.args s.answers) (sym it.loaded) ∙ nowhere)
 
 -- ---- what `ask` answered
 
@@ -344,5 +344,5 @@ pub ended_nearer : (c : Core) (t : ℕ) (o : Outcome) → left_of (with_event c 
 unfolding left_of
 ended_nearer c t o =
     let now : weighed (events_left c.procs) (standing (End t o ∷ c.events) t) ≡ 0 = ap (weighed (events_left c.procs))
-        (standing-same (End t o) c.events t refl) in
+    (standing-same (End t o) c.events t refl) in
     omega (arith, now)

@@ -237,9 +237,9 @@ answered_quiet c r z ds es legal a legal' (Sent x is (There it)) q =
     let q' : IsQuiet (with_event c e) ds = quiet_later c e ds later q in
     let few = few_here c r legal here in
     let over : IsOver (e ∷ c.events) (x.number, x.op, says it.s x) =
-        (omega (arith, few, number), if_some r.number x.number None (open_op c.events x.number) (sym number)) in
+    (omega (arith, few, number), if_some r.number x.number None (open_op c.events x.number) (sym number)) in
     stored (with_event c e) ds es x (Some z) it (omega (arith, mark, low))
-        (over_case (e ∷ c.events) it.s x over (q'.each (target x.op).dc it.s it.at).list (perform_case it.s x)) q'
+    (over_case (e ∷ c.events) it.s x over (q'.each (target x.op).dc it.s it.at).list (perform_case it.s x)) q'
 
 -- ---- what is said to a number that is open
 
@@ -324,8 +324,8 @@ pub left_quiet : (c : Core) (r : Asking) (y : Option Reply) (ds es : List Store)
 left_quiet c r y ds es legal here (Unsent down is none same) refused q =
     subst (IsQuiet (with_given_up c r.number)) (sym same)
     (given_up_quiet c r ds legal here
-        (λ s at. absurd (none_sent c r (site_of c.sites r.op).incarnation (site_of c.sites r.op).redo down is
-        (q.each (target r.op).dc s at).up)) q)
+    (λ s at. absurd (none_sent c r (site_of c.sites r.op).incarnation (site_of c.sites r.op).redo down is
+    (q.each (target r.op).dc s at).up)) q)
 left_quiet c r y ds es legal here (Sent x is (Nowhere past none same)) refused q =
     let wire = (wire_is c r (site_of c.sites r.op).incarnation (site_of c.sites r.op).redo x is).0 in
     let op : x.op ≡ r.op = ap (λ (w : Wire). w.op) wire in
@@ -392,14 +392,14 @@ left_quiet c r y ds es legal here (Sent x is (There it)) refused q = by y refl
         let quiet : replied it.s x ≡ None = sym it.said ∙ silence in
         let t : Store = performed it.s x in
         let q' : IsQuiet c es = stored c ds es x y it (omega (arith, low))
-            (silent_case c.events it.s x quiet (q.each (target x.op).dc it.s it.at).list (perform_case it.s x)) q in
+        (silent_case c.events it.s x quiet (q.each (target x.op).dc it.s it.at).list (perform_case it.s x)) q in
         let full : t.ops ≤ length t.list =
         full_by it.s (marked it.s x.low_water) x.number x.op (it.s.incarnation == x.incarnation) (fate_of it.s x) refl
-            refl (eq-true _ _ heard) quiet (silent_room it.s x) in
+        refl (eq-true _ _ heard) quiet (silent_room it.s x) in
         let there : slice_get es (target r.op).dc ≡ Some t =
         subst (λ (o : Op). slice_get es (target o).dc ≡ Some t) op
-            (ap (λ (fs : List Store). slice_get fs (target x.op).dc) it.then_is
-            ∙ set_same ds (target x.op).dc it.s t it.at) in
+        (ap (λ (fs : List Store). slice_get fs (target x.op).dc) it.then_is
+        ∙ set_same ds (target x.op).dc it.s t it.at) in
         given_up_quiet c r es legal here (λ s is_there. subst (λ (z : Store). z.ops ≤ length z.list) (some_same t s (sym there ∙ is_there)) full) q'
 
 -- ---- where nothing was sent but what is redone

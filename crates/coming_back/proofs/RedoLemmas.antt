@@ -193,7 +193,7 @@ pub performed_redoes : (n : ℕ) (c : Core) (x : Wire) (y : Option Reply) (ds es
     → RedoesAt n c ds c es
 performed_redoes n c x y ds es legal good is performs =
     redone_here n c ds es (performs_redone ds es x y (sent_is_redo c n x (slice_get c.sites n) is) performs)
-        (performs_still n c x y ds es legal is performs) (performs_lived n c x y ds es legal good is performs)
+    (performs_still n c x y ds es legal is performs) (performs_lived n c x y ds es legal good is performs)
 
 taken_lived : (n : ℕ) (c : Core) (x : Wire) (z : Reply) (ds es : List Store) → Legal c.procs c.events → AllGood c.procs
     → redo.Send x ≡ redo_reply c n → Performs ds x (Some z) es
@@ -209,7 +209,7 @@ redone_redoes n c x z ds es legal good is performs it =
     let lived = taken_lived n c x z ds es legal good is performs it in
     subst (λ (o : Option Site). RedoesAt n c ds (redone_at c n z.number o) es) (sym it.there)
     (resited n c ds es it.site (record it.site { redo = redone_to z.number it.site.redo }) it.there refl
-        (performs_redone ds es x (Some z) (sent_is_redo c n x (slice_get c.sites n) is) performs)
+    (performs_redone ds es x (Some z) (sent_is_redo c n x (slice_get c.sites n) is) performs)
     (performs_still n c x (Some z) ds es legal is performs)
     (subst (λ (o : Option Site). LivesOn (at_rest c ds) (at_rest (redone_at c n z.number o) es)) it.there lived))
 
@@ -218,7 +218,7 @@ pub redone_nearer : (n : ℕ) (c : Core) (x : Reply) → Legal c.procs c.events 
 unfolding left_to_redo
 redone_nearer n c x legal it =
     let facts : IsToRedo c.events n it.r.redone (Some it.a) = subst (IsToRedo c.events n it.r.redone) it.next
-        (to_redo_is c.procs c.events legal n it.r.redone) in
+    (to_redo_is c.procs c.events legal n it.r.redone) in
     let top = answered_given c.procs c.events legal it.a.number it.a (answered_done c.events n it.a.number it.a facts.1) in
     let was : (site_at c.sites n).redo ≡ Some it.r = ap (λ (o : Option Site). (site_by o).redo) it.there ∙ it.down in
     let again : Site = record it.site { redo = redone_to x.number it.site.redo } in

@@ -58,8 +58,8 @@ torn_front n k rest t = record {
       let all : 16 ≤ length rest = omega (arith, long, no_longer k rest) in
       subst (λ (w : List ℕ). (from_le_bytes w64 w ≡ 0) ⊎ (length (take k rest) ≤ 24 + from_le_bytes w64 w)) (sym (second_word k rest enough))
       (⊎_elim (λ (none : from_le_bytes w64 (word_at 1 rest) ≡ 0). inl none)
-          (λ (le : length rest ≤ 24 + from_le_bytes w64 (word_at 1 rest)). inr (omega (arith, le, no_longer k rest)))
-          (t.measured all));
+      (λ (le : length rest ≤ 24 + from_le_bytes w64 (word_at 1 rest)). inr (omega (arith, le, no_longer k rest)))
+      (t.measured all));
 }
 
 pub nothing_torn : (n : ℕ) (rest : List ℕ) → length rest ≡ 0 → MayBeTorn n rest
@@ -87,10 +87,10 @@ says : (length_is : ℕ) (word : List ℕ) → length_is < 2 ^ 64 → length wor
 says m word small eight left =
     ⊎_elim
     (λ (is : word ≡ take (length word) (to_le_bytes w64 m)). inr
-        (ap (λ (w : List ℕ). from_le_bytes w64 w) (is ∙ ap (λ (k : ℕ). take k (to_le_bytes w64 m)) eight)
-        ∙ from_le_bytes-to_le_bytes_8 m small))
+    (ap (λ (w : List ℕ). from_le_bytes w64 w) (is ∙ ap (λ (k : ℕ). take k (to_le_bytes w64 m)) eight)
+    ∙ from_le_bytes-to_le_bytes_8 m small))
     (λ (hole : word ≡ take (length word) (replicate 8 0)). inl
-        (ap (λ (w : List ℕ). from_le_bytes w64 w) (hole ∙ ap (λ (k : ℕ). take k (replicate 8 0)) eight) ∙ zeros))
+    (ap (λ (w : List ℕ). from_le_bytes w64 w) (hole ∙ ap (λ (k : ℕ). take k (replicate 8 0)) eight) ∙ zeros))
     left
 
 eight_there : (tail : List ℕ) → 16 ≤ length tail → length (word_at 1 tail) ≡ 8
@@ -103,6 +103,6 @@ left_torn n p tail fits short words = record {
   measured = λ long.
       let left = subst (λ (w : List ℕ). IsLeft w (word_at 1 tail)) (length_word n p fits) (words 1) in
       ⊎_elim (λ (none : from_le_bytes w64 (word_at 1 tail) ≡ 0). inl none)
-          (λ (is : from_le_bytes w64 (word_at 1 tail) ≡ length p). inr (omega (arith, is, short)))
+      (λ (is : from_le_bytes w64 (word_at 1 tail) ≡ length p). inr (omega (arith, is, short)))
       (says (length p) (word_at 1 tail) fits (eight_there tail long) left);
 }

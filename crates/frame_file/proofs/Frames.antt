@@ -133,7 +133,7 @@ pub frames_push : (n m : ℕ) (ps : List (List ℕ)) (p : List ℕ) → m ≡ n 
 frames_push n m [] p at = append-nil (framed n p) ∙ ap (λ (k : ℕ). framed k p) (omega (arith, at))
 frames_push n m (q ∷ ps) p at =
     ap (λ (b : List ℕ). framed n q ++ b) (frames_push (n + 1) m ps p (omega (arith, at)))
-        ∙ sym (append_assoc (framed n q) (frames_from (n + 1) ps) (framed m p))
+    ∙ sym (append_assoc (framed n q) (frames_from (n + 1) ps) (framed m p))
 
 pub fit_push : (ps : List (List ℕ)) (p : List ℕ) → ArePayloads ps → IsPayload p → ArePayloads (ps ++ p ∷ [])
 fit_push [] p fit one = (one, tt)

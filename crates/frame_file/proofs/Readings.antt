@@ -68,7 +68,7 @@ cut_reads file c ps end reads at cut =
     let n = length c - length (frames_from 0 ps) in
     let inside = end_inside file ps end reads at in
     let enough : end ≤ length c = ⊎_elim (λ (le : end ≤ length c). le)
-        (λ (same : c ≡ file). subst (λ (f : List ℕ). end ≤ length f) (sym same) inside) cut.no_shorter in
+    (λ (same : c ≡ file). subst (λ (f : List ℕ). end ≤ length f) (sym same) inside) cut.no_shorter in
     let whole : c ≡ frames_from 0 ps ++ take n reads.rest
     = sym cut.front ∙ (ap (λ (b : List ℕ). take (length c) b) reads.is ∙ take_past (frames_from 0 ps) reads.rest (length c) n (omega (arith, enough, at))) in
     record { rest = take n reads.rest; is = whole; fit = reads.fit; ends = front_none (length ps) n reads.rest reads.ends }

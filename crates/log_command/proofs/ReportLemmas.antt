@@ -78,12 +78,12 @@ ready_begun contents script ready = ap (λ (c : Core). c.events) ready.state
 
 pub audit_is : {E : Type 0} (file : List ℕ) (r : Reading) (script : Script) (result : Result Report E) → (refusal_of r ≡ None) × IsReady r.contents script
     → IfOk result (λ x. IsBeside file script.state script.dcs.items x.status (string_bytes x.lines))
-        → IfOk result (λ x. IsAudit file r x.status (string_bytes x.lines))
+    → IfOk result (λ x. IsAudit file r x.status (string_bytes x.lines))
 audit_is file r script result ready beside =
     IfOk-weaker result _ _
     (λ x b. subst (λ (o : Option (List ℕ)). IsAuditBy o r.contents file x.status (string_bytes x.lines)) (sym ready.0)
     (subst (λ (dcs : List Store). IsBeside file (with_procedures (empty_core (length r.contents.dcs))
-        r.contents.procedures) dcs x.status (string_bytes x.lines)) ready.1.dcs
+    r.contents.procedures) dcs x.status (string_bytes x.lines)) ready.1.dcs
     (subst (λ (c : Core). IsBeside file c script.dcs.items x.status (string_bytes x.lines)) ready.1.state b)))
     beside
 
@@ -111,14 +111,14 @@ brought start back empties log dcs legal has known redone agreed = record {
 
 pub audited_is : {E : Type 0} (start back : Core) (empties begun : List Store) (s : Stored) (dcs : List Store) (result : Result Report E)
     → HaveBegun (base_in s.base) (reverse s.log.events) empties begun → AreBrought start begun s.log.events dcs
-        → HasLog start s.log.events back
-        → IfOk result (λ r. AreAuditLines back.procs s dcs r.status (string_bytes r.lines))
+    → HasLog start s.log.events back
+    → IfOk result (λ r. AreAuditLines back.procs s dcs r.status (string_bytes r.lines))
     → IfOk result (λ r. IsChecked start empties s r.status (string_bytes r.lines))
 audited_is start back empties begun s dcs result from are has found =
     IfOk-weaker result _ _
     (λ r f. Audited begun dcs from are
-        (subst (λ (ps : List Checked). AreAuditLines ps s dcs r.status (string_bytes r.lines))
-        (ap (λ (x : Core). x.procs) has) f)) found
+    (subst (λ (ps : List Checked). AreAuditLines ps s dcs r.status (string_bytes r.lines))
+    (ap (λ (x : Core). x.procs) has) f)) found
 
 pub of_log : (start : Core) (log : List Event) (count : ℕ) (back : Core) (dcs : List Store) (fault : ComeBackFault) → IsFaultOf start log count back dcs fault
     → start.events ≡ [] → count ≡ start.dcs → IsOfLog fault

@@ -65,11 +65,11 @@ notes_back (n ∷ notes) rest are =
     let more = flat_map note_bytes notes in
     let whole : (note_bytes n ++ more) ++ rest ≡ note_bytes n ++ (more ++ rest) = append_assoc (note_bytes n) more rest in
     let front : take 32 ((note_bytes n ++ more) ++ rest) ≡ note_bytes n = ap (λ (b : List ℕ). take 32 b) whole
-        ∙ take_at (note_bytes n) (more ++ rest) 32 (length_note n) in
+    ∙ take_at (note_bytes n) (more ++ rest) 32 (length_note n) in
     let back : drop 32 ((note_bytes n ++ more) ++ rest) ≡ more ++ rest = ap (λ (b : List ℕ). drop 32 b) whole
-        ∙ drop_at (note_bytes n) (more ++ rest) 32 (length_note n) in
+    ∙ drop_at (note_bytes n) (more ++ rest) 32 (length_note n) in
     ap₂ (λ (x : Note) (xs : List Note). x ∷ xs) (ap note_in front ∙ note_back n are.0)
-        (ap (λ (b : List ℕ). notes_in (length notes) b) back ∙ notes_back notes rest are.1)
+    (ap (λ (b : List ℕ). notes_in (length notes) b) back ∙ notes_back notes rest are.1)
 
 pub notes_push : (notes : List Note) (n : Note) → AreNotes notes → IsNote n → AreNotes (notes ++ n ∷ [])
 notes_push [] n are is = (is, tt)
@@ -106,7 +106,7 @@ pub batch_back : (b : Batch) → AreNotes b.notes → length b.notes < 2 ^ 64 �
 batch_back b are small =
     let more = flat_map note_bytes b.notes in
     let notes : notes_in (count_in (batch_bytes b)) (drop 8 (batch_bytes b)) ≡ b.notes = ap₂ notes_in
-        (count_back b small) (tail_back b) ∙ notes_back b.notes b.rows are in
+    (count_back b small) (tail_back b) ∙ notes_back b.notes b.rows are in
     let rows : drop (32 * count_in (batch_bytes b)) (drop 8 (batch_bytes b)) ≡ b.rows
     = ap₂ (λ (n : ℕ) (x : List ℕ). drop (32 * n) x) (count_back b small) (tail_back b) ∙ drop_at more b.rows (32 * length b.notes) (length_notes b.notes) in
     ap₂ batch_at notes rows

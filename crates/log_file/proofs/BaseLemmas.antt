@@ -187,7 +187,7 @@ pub parts_push : (before part : Rows) → length before % 4096 ≡ 0 → 0 < len
 parts_push before part whole some few =
     let k = (length before + 4095) / 4096 in
     ap (λ (n : ℕ). first_parts n (before ++ part)) (count_push (length (before ++ part)) k (length before) (length part)
-        whole some few (length-append before part) refl)
+    whole some few (length-append before part) refl)
     ∙ first_push k before part (count_whole (length before) k whole refl) few
 
 count_cons : (n m : ℕ) → 0 < n → m ≡ n - 4096 → (n + 4095) / 4096 ≡ suc ((m + 4095) / 4096)
@@ -327,7 +327,7 @@ count_back h m n few also same =
     let front = (front_bytes 2 h ++ h.digest) in
     let tails : to_le_bytes w64 m ≡ to_le_bytes w64 n
     = sym (drop_at front (to_le_bytes w64 m) (length front) refl)
-        ∙ (ap (λ (l : List ℕ). drop (length front) l) same ∙ drop_at front (to_le_bytes w64 n) (length front) refl) in
+    ∙ (ap (λ (l : List ℕ). drop (length front) l) same ∙ drop_at front (to_le_bytes w64 n) (length front) refl) in
     sym (from_le_bytes-to_le_bytes_8 m few) ∙ (ap (from_le_bytes w64) tails ∙ from_le_bytes-to_le_bytes_8 n also)
 
 length_front : (version : ℕ) (h : Header) → length (front_bytes version h) ≡ 32
@@ -355,7 +355,7 @@ count_at h n k p few is at =
     let front = (front_bytes 2 h ++ h.digest) in
     let long : length front ≡ k = (let len = ap length is in omega (arith, at, len, length-append front (to_le_bytes w64 n))) in
     ap (λ (l : List ℕ). from_le_bytes w64 (drop k l)) is
-        ∙ (ap (from_le_bytes w64) (drop_at front (to_le_bytes w64 n) k long) ∙ from_le_bytes-to_le_bytes_8 n few)
+    ∙ (ap (from_le_bytes w64) (drop_at front (to_le_bytes w64 n) k long) ∙ from_le_bytes-to_le_bytes_8 n few)
 
 pub short_count : (h : Header) (n : ℕ) (p : List ℕ) → length p < 8 → p ≡ based_header_bytes h n → ⊥
 short_count h n p short is = omega (arith, short, ap length is, length_based h n)

@@ -98,7 +98,7 @@ pub whole_rows : (dcs : ℕ) (batches : List Batch) → AreBatches dcs batches �
 whole_rows dcs [] are = refl
 whole_rows dcs (b ∷ batches) are =
     whole_sum (length b.rows) (length (rows_of batches)) (length (b.rows ++ rows_of batches)) are.0.whole
-        (whole_rows dcs batches are.1) (length-append b.rows (rows_of batches))
+    (whole_rows dcs batches are.1) (length-append b.rows (rows_of batches))
 
 -- ---- what is noted
 

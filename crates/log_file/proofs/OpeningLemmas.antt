@@ -43,15 +43,25 @@ no_beginning h file payloads reads none differs = inr (subst (Reads file) none r
 pub batches_few : (h : Header) (vecs rest : List (Vec ℕ Global)) (base : Option Rows)
     → payloads_in vecs ≡ front_of h base ++ payloads_in rest → length rest ≤ length vecs
 batches_few h vecs rest base is =
-    omega (arith, ap length is, length-append (front_of h base) (payloads_in rest),
-        length-map vecs (λ (v : Vec ℕ Global). v.items), length-map rest (λ (v : Vec ℕ Global). v.items))
+    omega (
+      arith,
+      ap length is,
+      length-append (front_of h base) (payloads_in rest),
+      length-map vecs (λ (v : Vec ℕ Global). v.items),
+      length-map rest (λ (v : Vec ℕ Global). v.items),
+    )
 
 -- how many frames stand in front of the batches
 pub front_long : (h : Header) (vecs rest : List (Vec ℕ Global)) (base : Option Rows) → payloads_in vecs ≡ front_of h base ++ payloads_in rest
     → length vecs - length rest ≡ length (front_of h base)
 front_long h vecs rest base is =
-    omega (arith, ap length is, length-append (front_of h base) (payloads_in rest),
-        length-map vecs (λ (v : Vec ℕ Global). v.items), length-map rest (λ (v : Vec ℕ Global). v.items))
+    omega (
+      arith,
+      ap length is,
+      length-append (front_of h base) (payloads_in rest),
+      length-map vecs (λ (v : Vec ℕ Global). v.items),
+      length-map rest (λ (v : Vec ℕ Global). v.items),
+    )
 
 pub gather_fault : (h : Header) (payloads rest : List (List ℕ)) (base : Option Rows) (front : ℕ) (fault : OpenFault)
     → IsStart base → payloads ≡ front_of h base ++ rest
@@ -110,7 +120,7 @@ says h payloads rest base known rows events start is g printed only follows = re
 pub no_checkpoint : (h : Header) (payloads rest : List (List ℕ)) (base : Option Rows) (known : List SiteNote)
     (rows : List ℕ) (events : List Event) (front : ℕ) → IsStart base
     → payloads ≡ front_of h base ++ rest → AreGathered h.dcs rest known rows → ArePrinted events rows
-        → front ≡ length (front_of h base) → IsNotBehind base events
+    → front ≡ length (front_of h base) → IsNotBehind base events
     → IsNoBase h payloads front
 no_checkpoint h payloads rest None known rows events front start is g printed long never = absurd never
 no_checkpoint h payloads rest (Some base) known rows events front start is g printed long never =

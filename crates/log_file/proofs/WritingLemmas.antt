@@ -19,12 +19,12 @@ front_at before (x ∷ xs) last after file left = record { before = before; payl
 
 pub at_rest : {D : Type 0} (seen : D → List ℕ) (may_leave : D → List ℕ → Type 0) (moment : D → ℕ) (left_since : D → ℕ → List ℕ → Type 0) (file : FrameFile D)
     (before xs : List (List ℕ)) (last : List ℕ) (after : List (List ℕ))
-        → ((c : List ℕ) → left_since file.device (moment file.device) c → may_leave file.device c)
+    → ((c : List ℕ) → left_since file.device (moment file.device) c → may_leave file.device c)
     → IsSettled seen may_leave file before → LeavesOnly moment left_since file.device file.device (IsFront (before ++ (xs ++ last ∷ after)))
 at_rest seen may_leave moment left_since file before xs last after only_now settled =
     let only = subst (λ f. Only f (may_leave file.device)) settled.bytes settled.durable in
     unmoved moment left_since file.device _ (λ c left. front_at before xs last after c
-        (λ payload. whole before payload settled.fit c (only c (only_now c left))))
+    (λ payload. whole before payload settled.fit c (only c (only_now c left))))
 
 -- of all these parts those in front of the rest were written behind what stood there
 pub record Wrote {D : Type 0} (seen : D → List ℕ) (may_leave : D → List ℕ → Type 0) (moment : D → ℕ) (left_since : D → ℕ → List ℕ → Type 0)

@@ -14,7 +14,7 @@ use std::thread;
 use std::thread::Threads;
 use tc_core::state::{Call, TcState};
 use tc_log::log::Log;
-use worker_pool::{Acknowledgement, Answer, Gate, KeptFault, Naming, OpenGate, Report, run_kept};
+use worker_pool::{Acknowledgement, Answer, Gate, KeptFault, OpenGate, Report, RunSpec, run_kept};
 
 // What journal, link and gate of one run tell each other.
 #[derive(Drop)]
@@ -103,7 +103,7 @@ impl Board {
 impl Gate for Board {
     fn begun(&self, _call: usize) {}
 
-    fn answered<J: Naming>(&self, acknowledgement: &Acknowledgement<J>) {
+    fn answered<J: RunSpec>(&self, acknowledgement: &Acknowledgement<J>) {
         if let Some(told) = self.told.get(acknowledgement.call()) {
             let kept = self.kept.load(Ordering::SeqCst);
             told.store(kept.saturating_add(1), Ordering::SeqCst);

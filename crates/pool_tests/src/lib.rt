@@ -4,7 +4,7 @@
 //! |---|---|
 //! | `pool_tests` | calls by workers, from one to many, their answers and their gate |
 //! | `link_tests` | links that lose, repeat, delay and change what they carry |
-//! | `errand_tests` | how many calls a worker has on their way at a time |
+//! | `outstanding_tests` | how many calls a worker has on their way at a time |
 //! | `locked_tests` | data components of this process, behind locks |
 //! | `ring_tests` | data components in threads of their own, behind rings |
 //! | `cut_tests` | lists of calls between which the log begins anew |
@@ -19,8 +19,6 @@
 #[cfg(test)]
 mod cut_tests;
 #[cfg(test)]
-mod errand_tests;
-#[cfg(test)]
 mod journal_tests;
 #[cfg(test)]
 mod link_tests;
@@ -30,6 +28,8 @@ mod locked_tests;
 mod log_journal_tests;
 #[cfg(test)]
 mod memory_tests;
+#[cfg(test)]
+mod outstanding_tests;
 #[cfg(test)]
 mod pool_tests;
 #[cfg(test)]

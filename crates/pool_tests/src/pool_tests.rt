@@ -17,7 +17,7 @@ use std::sync::{Mutex, Wait};
 use std::thread::Threads;
 use tc_core::state::{Call, Refusal, TcState};
 use tc_log::event::Event;
-use worker_pool::{Acknowledgement, Answer, Gate, Naming, OpenGate, RunFault, run};
+use worker_pool::{Acknowledgement, Answer, Gate, OpenGate, RunFault, RunSpec, run};
 
 fn one_moved<R: Threads + Wait + Sync + Abort>(rt: &R, alloc: Global, workers: usize) {
     let mut link = locked_dc(alloc, 4).expect(rt, "no link");
@@ -111,7 +111,7 @@ impl Gate for Counts {
         self.begun.fetch_add(1, Ordering::SeqCst);
     }
 
-    fn answered<J: Naming>(&self, _acknowledgement: &Acknowledgement<J>) {
+    fn answered<J: RunSpec>(&self, _acknowledgement: &Acknowledgement<J>) {
         self.answered.fetch_add(1, Ordering::SeqCst);
     }
 }
@@ -158,7 +158,7 @@ impl Told {
 impl Gate for Told {
     fn begun(&self, _call: usize) {}
 
-    fn answered<J: Naming>(&self, acknowledgement: &Acknowledgement<J>) {
+    fn answered<J: RunSpec>(&self, acknowledgement: &Acknowledgement<J>) {
         if let (Some(end), Answer::Committed(place)) = (
             self.ends.get(acknowledgement.call()),
             acknowledgement.answer(),
@@ -202,7 +202,7 @@ impl Gate for HoldsBegun {
         }
     }
 
-    fn answered<J: Naming>(&self, acknowledgement: &Acknowledgement<J>) {
+    fn answered<J: RunSpec>(&self, acknowledgement: &Acknowledgement<J>) {
         self.counts.answered(acknowledgement);
         self.hold.answered(acknowledgement.call());
     }
@@ -257,7 +257,7 @@ impl Link for HoldsCarry {
 impl Gate for HoldsCarry {
     fn begun(&self, _call: usize) {}
 
-    fn answered<J: Naming>(&self, acknowledgement: &Acknowledgement<J>) {
+    fn answered<J: RunSpec>(&self, acknowledgement: &Acknowledgement<J>) {
         self.hold.answered(acknowledgement.call());
     }
 }

@@ -16,7 +16,7 @@ use std::sync::Wait;
 use std::thread;
 use std::thread::Threads;
 use tc_core::state::{Call, TcState};
-use worker_pool::{Acknowledgement, Answer, Gate, Naming, OpenGate, Report, RunFault, run};
+use worker_pool::{Acknowledgement, Answer, Gate, OpenGate, Report, RunFault, RunSpec, run};
 
 // How many rows each component has room for.
 const ROWS: usize = 100;
@@ -156,7 +156,7 @@ impl Gate for Holds {
         }
     }
 
-    fn answered<J: Naming>(&self, acknowledgement: &Acknowledgement<J>) {
+    fn answered<J: RunSpec>(&self, acknowledgement: &Acknowledgement<J>) {
         self.hold.answered(acknowledgement.call());
     }
 }
@@ -224,7 +224,7 @@ impl Gate for Closes<'_> {
         }
     }
 
-    fn answered<J: Naming>(&self, _acknowledgement: &Acknowledgement<J>) {}
+    fn answered<J: RunSpec>(&self, _acknowledgement: &Acknowledgement<J>) {}
 }
 
 // What the calls come to over both components, where the link is closed under way.

@@ -57,7 +57,7 @@ all_served dcs back servers promised many as_many kept = record {
       let within : number < length servers = omega (arith, many, slice_get_within dcs number before was) in
       let k = kept number after within in
       let promises : Promises number (get_or dcs number before) k.0 = subst (Promises number (get_or dcs number before))
-          (sym k.1) (promised number k.0 before within) in
+      (sym k.1) (promised number k.0 before within) in
       let first : get_or dcs number before ≡ before = get_or_from_slice_get dcs number before before was in
       let last : get_or back number after ≡ after = get_or_from_slice_get back number after after is in
       kept_served number k.0 before after (promises.0, promises.1 ∙ first) (subst (IsServed k.0.promise.0 k.0.promise.1.value) last k.2);

@@ -7,7 +7,7 @@ use std::alloc::{AllocError, Global};
 use std::io::{Stderr, Write};
 use std::sync::atomic::{AtomicU64, Ordering};
 use std::time::{Clock, Instant};
-use worker_pool::{Acknowledgement, Answer, Gate, Naming};
+use worker_pool::{Acknowledgement, Answer, Gate, RunSpec};
 
 // A line of progress a second, in nanoseconds.
 const TOLD_EACH: u64 = 1_000_000_000;
@@ -166,7 +166,7 @@ impl<R: Clock> Gate for Watch<'_, R> {
         }
     }
 
-    fn answered<J: Naming>(&self, acknowledgement: &Acknowledgement<J>) {
+    fn answered<J: RunSpec>(&self, acknowledgement: &Acknowledgement<J>) {
         let call = self.place_of(acknowledgement.call());
         self.waits.tell_each(call, &acknowledgement.answer());
         let Some(now) = self.now() else {

@@ -290,11 +290,14 @@ redoes_told w v d (Some t) o at legal low all goes = by t.redo refl goes
             let x = redo_wire t.incarnation r.mark a in
             let was = redone a next in
             behind _ o (with_copy w x) v
-            (copied w x (record { number = answered_given w.core.procs h legal a.number a was; mark = low_mark;
-                redone = λ again. closed w.core.procs h a.number a legal was }) all) goes''
+            (copied w x (record {
+              number = answered_given w.core.procs h legal a.number a was;
+              mark = low_mark;
+              redone = λ again. closed w.core.procs h a.number a legal was;
+            }) all) goes''
         sends None next goes'' =
             behind _ o (with_core w (after_redo w.core d redo.Finished)) v
-                (subst (λ (y : Option Site). AreTold (with_core w (up_again w.core d y))) (sym at) all) goes''
+            (subst (λ (y : Option Site). AreTold (with_core w (up_again w.core d y))) (sym at) all) goes''
 
 -- a crash and a cut aside
 abbrev GoesOn : Step → Type 0
@@ -330,15 +333,29 @@ own_notes : (low : ℕ) (w : Whole) → AreNoted low w (notes_of w)
 own_notes low w d = Noted (noted_at w.core.sites d)
 
 with_own : (first : List Event) (notes : List SiteNote) (w : Whole) → IsWritten first notes w → IsWritten first (notes_of w) w
-with_own first notes w s = record { begins = s.begins; sites = own_notes (low_water first) w; copies = s.copies;
-    replies = s.replies; stores = s.stores; news = s.news; redo = s.redo }
+with_own first notes w s = record {
+  begins = s.begins;
+  sites = own_notes (low_water first) w;
+  copies = s.copies;
+  replies = s.replies;
+  stores = s.stores;
+  news = s.news;
+  redo = s.redo;
+}
 
 abbrev IsWhole : Whole → Type 0
 IsWhole w = Tells (all_written w) w
 
 by_rest : (w : Whole) → Rest w.core.events w → AreTold w → IsWhole w
-by_rest w r all = record { begins = r.begins; sites = own_notes (low_water w.core.events) w; copies = all;
-    replies = r.replies; stores = r.stores; news = r.news; redo = r.redo }
+by_rest w r all = record {
+  begins = r.begins;
+  sites = own_notes (low_water w.core.events) w;
+  copies = all;
+  replies = r.replies;
+  stores = r.stores;
+  news = r.news;
+  redo = r.redo;
+}
 
 whole_step : (w v : Whole) (x : Step) (o : Outcome) → LegalCore w.core → LegalCore v.core → AreMarksLow w
     → is_forge x ≡ false → Steps w x o v → IsWhole w → IsWhole v

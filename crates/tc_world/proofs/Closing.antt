@@ -62,12 +62,12 @@ asked_push (x ∷ rs) r n = elim (cases_eq x.number n) [
   | inl same ↦
       let t = eq-true x.number n same in
       ap is_request (cond-true _ (Some x) (request_of (rs ++ r ∷ []) n) t)
-          ∙ sym (ap (λ (o : Option Asking). is_request o || (r.number == n)) (cond-true _ (Some x) (request_of rs n) t))
+      ∙ sym (ap (λ (o : Option Asking). is_request o || (r.number == n)) (cond-true _ (Some x) (request_of rs n) t))
   | inr other ↦
       let t = eq-false x.number n other in
       ap is_request (cond-false _ (Some x) (request_of (rs ++ r ∷ []) n) t)
-          ∙ (asked_push rs r n ∙ sym (ap (λ (o : Option Asking). is_request o || (r.number == n))
-          (cond-false _ (Some x) (request_of rs n) t)))
+      ∙ (asked_push rs r n ∙ sym (ap (λ (o : Option Asking). is_request o || (r.number == n))
+      (cond-false _ (Some x) (request_of rs n) t)))
 ]
 
 asked_none : (rs : List Asking) (n : ℕ) → length rs ≡ 0 → is_asked rs n ≡ false
@@ -108,8 +108,14 @@ none_yet c d rs same legal w = subst (λ (x : Core). GivesUp x c rs) same (recor
 })
 
 open_still : (c d : Core) (r : Asking) → d.events ≡ c.events → IsOpenHere c r → IsOpenHere d r
-open_still c d r same o = record { s = o.s; is = ap (λ (h : List Event). standing h r.txn) same ∙ o.is; sent = o.sent;
-    waits = o.waits; same_number = o.same_number; same_op = o.same_op }
+open_still c d r same o = record {
+  s = o.s;
+  is = ap (λ (h : List Event). standing h r.txn) same ∙ o.is;
+  sent = o.sent;
+  waits = o.waits;
+  same_number = o.same_number;
+  same_op = o.same_op;
+}
 
 turned : (a e i : Bool) → ((a || e) || i) ≡ (a || (i || e))
 turned true e i = refl
@@ -135,11 +141,11 @@ one_more was now next left rest r g is gives =
       kept = kept_still was now next r.number g.kept same;
       given_up = λ n.
           let added : holds n next.given_up ≡ (holds n now.given_up || (r.number == n)) = ap
-              (λ (c : Core). holds n c.given_up) same ∙ holds_with r.number n now.given_up in
+          (λ (c : Core). holds n c.given_up) same ∙ holds_with r.number n now.given_up in
           let split : is_asked left n ≡ (is_asked rest n || (r.number == n)) = ap (λ (xs : List Asking). is_asked xs n) is ∙ asked_push rest r n in
           ap (λ (b : Bool). b || is_asked rest n) added
-              ∙ (turned (holds n now.given_up) (r.number == n) (is_asked rest n)
-              ∙ (sym (ap (λ (b : Bool). holds n now.given_up || b) split) ∙ g.given_up n));
+          ∙ (turned (holds n now.given_up) (r.number == n) (is_asked rest n)
+          ∙ (sym (ap (λ (b : Bool). holds n now.given_up || b) split) ∙ g.given_up n));
       open_yet = λ k q at. g.open_yet k q (ap (λ (xs : List Asking). slice_get xs k) is ∙ got_before rest r q k at);
     }
 

@@ -153,7 +153,7 @@ pub sites_low : (w : Whole) (first : List Event) (notes : List SiteNote) → IsW
 sites_low w first notes written =
     all_sites (λ (t : Site). IsLow (low_water first) t.redo) (map site_noted notes) (λ d.
     noted_low (low_water first) d w (site_at w.core.sites d) (site_at (map site_noted notes) d)
-        (low_by (low_water first) w.core.sites d (slice_get w.core.sites d) refl written.redo) (written.sites d))
+    (low_by (low_water first) w.core.sites d (slice_get w.core.sites d) refl written.redo) (written.sites d))
 
 pub come_back_low : (w : Whole) (first : List Event) (notes : List SiteNote) → IsWritten first notes w → AreMarksLow (come_back first notes w)
 come_back_low w first notes written = record {
@@ -247,9 +247,9 @@ come_back_listed w first notes good legal written s =
         (logged first) (open_op first) (done first) (given first)
     before =
         subst (λ (h : List Event). Earlier s.base (logged h) (open_op h) (done h) (given h) (logged first)
-            (open_op first) (done first) (given first)) (sym written.begins.is)
+        (open_op first) (done first) (given first)) (sym written.begins.is)
         (earlier w.core.procs s.base written.begins.later first good
-            (subst (Legal w.core.procs) written.begins.is legal) (subst (HonestFrom s.base) written.begins.is s.honest))
+        (subst (Legal w.core.procs) written.begins.is legal) (subst (HonestFrom s.base) written.begins.is s.honest))
 
     over : Over (open_op first) (given first) (low_water first)
     over = over_low w.core.procs first (come_back_legal w first notes legal written)
@@ -288,4 +288,4 @@ pub notes_low : (low : ℕ) (w : Whole) → All (λ (t : Site). IsLow low t.redo
 notes_low low w all =
     all_sites (λ (t : Site). IsLow low t.redo) (map site_noted (notes_of w)) (λ d.
     subst (λ (t : Site). IsLow low t.redo) (sym (noted_at w.core.sites d))
-        (low_begun low (site_at w.core.sites d).redo (low_by low w.core.sites d (slice_get w.core.sites d) refl all)))
+    (low_begun low (site_at w.core.sites d).redo (low_by low w.core.sites d (slice_get w.core.sites d) refl all)))

@@ -97,7 +97,7 @@ module _ (ps : List Checked) (base other : Table) (same : (r : Record) → base 
   serial_same (Undo t n o ∷ h) r = serial_same h r
   serial_same (End t how ∷ h) r =
       left_same how _ _ (serial_from ps base h) (serial_from ps other h)
-          (call_same (open_call h t) (serial_from ps base h) (serial_from ps other h) (serial_same h)) (serial_same h) r
+      (call_same (open_call h t) (serial_from ps base h) (serial_from ps other h) (serial_same h)) (serial_same h) r
   serial_same (Checkpoint before numbers ∷ h) r = serial_same h r
 
   end_by : (how : Ending) (a b : Ran) → SameRan a b → EndsAs how a → EndsAs how b
@@ -181,11 +181,11 @@ module _ (w v : Whole) (o : Outcome) (known : Known w.core) (s : IsListed w) (cu
           subst (Beside s.base (logged h) (open_op h) (done h) d) (sym (k.same now)) (k.up up)
       by false is =
           let mark : x.mark ≡ given h = ap (λ (b : Bool). (if b then marked x (low_water h) else x).mark) (sym is)
-              ∙ kept_mark w v.dcs known.legal cut.may cut.forgotten s d x at in
+          ∙ kept_mark w v.dcs known.legal cut.may cut.forgotten s d x at in
           behind_beside s.base (logged h) (open_op h) (done h) d x.list (log_facts w.core.procs s.base h known.good known.legal s.honest)
           (behind_end s.base (logged h) (open_op h) (done h) d (s.ok.v d) x.list k.cut k.behind)
           (λ n q said logs dc was did. k.mark_to n q said logs dc was did
-              (let few = logged_below w.core.procs h known.legal n q logs in omega (arith, few, mark)))
+          (let few = logged_below w.core.procs h known.legal n q logs in omega (arith, few, mark)))
 
   there : (r : Record) (x : Store) → slice_get w.dcs r.dc ≡ Some x → base_of v.dcs r ≡ serial_from w.core.procs (base_of w.dcs) w.core.events r
   there r x at =
@@ -194,7 +194,7 @@ module _ (w v : Whole) (o : Outcome) (known : Known w.core) (s : IsListed w) (cu
       let kept : value_in (kept_at (low_water h) w.core.sites r.dc x).base (kept_at (low_water h) w.core.sites r.dc x).list r ≡ value_in x.base x.list r
       = heard_values x (site_at w.core.sites r.dc).incarnation (low_water h) r in
       let own : value_in x.base x.list r ≡ value_over (base_of w.dcs) x.list r = over_same (row_of x.base)
-          (base_of w.dcs) x.list r (own_rows w.dcs r.dc x r at refl) in
+      (base_of w.dcs) x.list r (own_rows w.dcs r.dc x r at refl) in
       let now = beside_same s.base (base_of w.dcs) based (logged h) (open_op h) (done h) r.dc x.list (beside r.dc x at) in
       let honest = honest_same s.base (base_of w.dcs) based h s.honest in
       rows ∙ (is.forgotten.values r ∙ (kept ∙ (own ∙ list_serial w.core.procs (base_of w.dcs) h r.dc x.list known.good known.legal honest now r refl (free r))))
@@ -213,7 +213,7 @@ module _ (w v : Whole) (o : Outcome) (known : Known w.core) (s : IsListed w) (cu
       let never : base_of w.dcs r ≡ None = ap (λ (u : Option Store). row_of (base_in u) r) none in
       let honest = honest_same s.base (base_of w.dcs) based h s.honest in
       gone ∙ (sym never ∙ (sym (untouched (base_of w.dcs) (done h) r off)
-          ∙ values_serial_from w.core.procs (base_of w.dcs) h known.good known.legal honest r (free r)))
+      ∙ values_serial_from w.core.procs (base_of w.dcs) h known.good known.legal honest r (free r)))
     where
       still : (u : Option Store) → slice_get v.dcs r.dc ≡ u → base_of v.dcs r ≡ None
       still None at = ap (λ (z : Option Store). row_of (base_in z) r) at

@@ -168,7 +168,7 @@ pub record Looks (w : Whole) (n : ℕ) (rs : List Asking) (given' low' : ℕ) (e
 
 pub looks : (w : Whole) (n : ℕ) (rs : List Asking) (given' low : ℕ) (first' es : List Event) → Legal w.core.procs w.core.events → AreWaiting rs w.core.events
     → n ≤ length w.core.events → first' ≡ take n (reverse w.core.events) → es ≡ drop n (reverse w.core.events)
-        → given' ≡ given_of (log_begun w.core.events) first'
+    → given' ≡ given_of (log_begun w.core.events) first'
     → low ≡ low_left given' es rs → Looks w n rs given' low es
 looks w n rs given' low first' es legal waits inside front_is back_is given_by low_by = record {
   legal = legal;
@@ -188,10 +188,10 @@ looks w n rs given' low first' es legal waits inside front_is back_is given_by l
     given_now =
         given_by
         ∙ (ap (given_of (log_begun h)) (front_is ∙ (ap (λ (x : List Event). take n (reverse x)) (sym (cut_is n h))
-            ∙ front (later_events n h) (first_events n h) n (first_many n h inside)))
+        ∙ front (later_events n h) (first_events n h) n (first_many n h inside)))
         ∙ (ap (λ (x : List Event). given_of (log_begun x) (reverse (first_events n h))) (sym (cut_is n h))
-            ∙ given_first w.core.procs (later_events n h) (first_events n h)
-            (subst (Legal w.core.procs) (sym (cut_is n h)) legal)))
+        ∙ given_first w.core.procs (later_events n h) (first_events n h)
+        (subst (Legal w.core.procs) (sym (cut_is n h)) legal)))
 
     later_now : es ≡ reverse (later_events n h)
     later_now = back_is ∙ (ap (λ (x : List Event). drop n (reverse x)) (sym (cut_is n h))

@@ -68,7 +68,7 @@ module _ (w : Whole) (ds : List Store) (legal : Legal w.core.procs w.core.events
       let least : given h ≤ (kept_at low w.core.sites (0 + d) x).saved_mark = each_kept (given h) low w.core.sites 0 w.dcs may.kept_all d x at in
       let place : 0 + d ≡ d = omega arith in
       let least' : given h ≤ (heard x (site_at w.core.sites d).incarnation low).mark = subst
-          (λ (i : ℕ). given h ≤ (kept_at low w.core.sites i x).saved_mark) place least in
+      (λ (i : ℕ). given h ≤ (kept_at low w.core.sites i x).saved_mark) place least in
       let few : x.mark ≤ given h = (s.ok.stores d x at).mark_over.given_out in
       let most = heard_low x (site_at w.core.sites d).incarnation low (given h) few (computed_is h).all.given_out in
       omega (arith, least', most)

@@ -45,7 +45,7 @@ same_admitted (e ∷ h) = refl
 pub cuts_so : (w : Whole) (ds : List Store) (c : Core) (low many behind : ℕ) → c ≡ cut_core w.core
     → MayCheckpoint w.core (kept_marks w) → low ≡ low_water w.core.events
     → AreForgotten low c.sites w.dcs ds → many ≡ admitted c.events → behind ≡ begun c.events
-        → Cuts w (outcome.Cut many behind) (record w { core = c; dcs = ds })
+    → Cuts w (outcome.Cut many behind) (record w { core = c; dcs = ds })
 cuts_so w ds c low many behind is may low_is are many_is behind_is = record {
   may = may;
   outcome =

@@ -81,6 +81,12 @@ upped_written rows ops = record {
 
     sites : (d : ℕ) → IsNoted (low_water []) (upped_world rows ops) d (site_at (up ∷ []) d)
         (site_at (map site_noted (Restarted (record { incarnation = 1; mark = 0 }) ∷ [])) d)
-    sites zero = NotYetUp (record { up = refl; mark = 0; noted = refl; low = omega arith; there = (s, refl);
-        again = λ k x inside. absurd (omega (arith, inside)) })
+    sites zero = NotYetUp (record {
+      up = refl;
+      mark = 0;
+      noted = refl;
+      low = omega arith;
+      there = (s, refl);
+      again = λ k x inside. absurd (omega (arith, inside));
+    })
     sites (suc d) = Noted refl

@@ -121,18 +121,18 @@ asked ps base w e t n o legal next lg fl dn top k =
     let h = w.core.events in
     let new : (m : ℕ) (q : Op) → logged h m ≡ Some q → n ≢ m = (λ m q is. let b = logged_below ps h legal m q is in omega (arith, next, b)) in
     let now = ok_sent base (logged h) (open_op h) (done h) (given h) w.core.sites w.dcs (wires_since w)
-        (replies_since w) w.news n (flight t o) (omega (arith, next)) new
-        (λ m said is. done_logged ps h legal m said is) k in
+    (replies_since w) w.news n (flight t o) (omega (arith, next)) new
+    (λ m said is. done_logged ps h legal m said is) k in
     subst (λ (g : ℕ → Option Op). AreOk base g (open_op (e ∷ h)) (done (e ∷ h)) (given (e ∷ h)) w.core.sites w.dcs
-        (wires_since w) (replies_since w) w.news) (sym lg)
+    (wires_since w) (replies_since w) w.news) (sym lg)
     (subst (λ (g : ℕ → Option Flight). AreOk base (λ m. if n == m then Some o else logged h m) g (done (e ∷ h))
-        (given (e ∷ h)) w.core.sites w.dcs (wires_since w) (replies_since w) w.news) (sym fl)
+    (given (e ∷ h)) w.core.sites w.dcs (wires_since w) (replies_since w) w.news) (sym fl)
     (subst (λ (g : List Performed). AreOk base (λ m. if n == m then Some o else logged h m)
-        (λ m. if n == m then Some (flight t o) else open_op h m) g (given (e ∷ h)) w.core.sites w.dcs (wires_since w)
-        (replies_since w) w.news) (sym dn)
+    (λ m. if n == m then Some (flight t o) else open_op h m) g (given (e ∷ h)) w.core.sites w.dcs (wires_since w)
+    (replies_since w) w.news) (sym dn)
     (subst (λ (g : ℕ). AreOk base (λ m. if n == m then Some o else logged h m)
-        (λ m. if n == m then Some (flight t o) else open_op h m) (done h) g w.core.sites w.dcs (wires_since w)
-        (replies_since w) w.news) (sym top) now)))
+    (λ m. if n == m then Some (flight t o) else open_op h m) (done h) g w.core.sites w.dcs (wires_since w)
+    (replies_since w) w.news) (sym top) now)))
 
 abbrev pub IsCopy : Table → Whole → (ℕ → List Performed) → Wire → Type 0
 IsCopy base w v x = CopyOk base (logged w.core.events) (open_op w.core.events) (done w.core.events) (given w.core.events) w.core.sites w.dcs v x
@@ -149,7 +149,7 @@ copied w x legal s y =
       ok = subst (λ (xs : List Wire). AreOk s.base (logged w.core.events) (open_op w.core.events) (done w.core.events)
           (given w.core.events) w.core.sites w.dcs xs (replies_since w) w.news) (sym more)
           (ok_copy s.base (logged w.core.events) (open_op w.core.events) (done w.core.events) (given w.core.events)
-              w.core.sites w.dcs (wires_since w) (replies_since w) w.news x s.ok y);
+          w.core.sites w.dcs (wires_since w) (replies_since w) w.news x s.ok y);
     }
   where
     up : begun w.core.events < x.number
@@ -167,9 +167,14 @@ wire_ok base w v r f (Some redo) x legal logs flies up is = absurd cc
 wire_ok base w v r f None x legal logs flies up is =
     let y : Wire = wire_for w.core r (site_of w.core.sites r.op).incarnation in
     let same : y ≡ x = cc in
-    subst (IsCopy base w v) same (record { logs = logs; known = omega arith; ahead = λ z is less. refl;
-        over = over_low w.core.procs w.core.events legal; now = λ now. inl
-        (record { ordinary = refl; up = up; runs = inl (f, flies) }) })
+    subst (IsCopy base w v) same (record {
+      logs = logs;
+      known = omega arith;
+      ahead = λ z is less. refl;
+      over = over_low w.core.procs w.core.events legal;
+      now = λ now. inl
+          (record { ordinary = refl; up = up; runs = inl (f, flies) });
+    })
 
 sent_listed : (w v : Whole) (r : Asking) (f : Flight) (x : Result Wire Down) (o : Outcome) → Known v.core
     → x ≡ wire_of w.core r → logged w.core.events r.number ≡ Some r.op → open_op w.core.events r.number ≡ Some f
@@ -186,9 +191,15 @@ asks_listed w v t (reply.Request r) o known s goes = by (wire_of c r) refl goes
     c = with_event w.core (event.Ask r.txn r.number r.op)
 
     mid : Known c → IsListed (with_core w c)
-    mid now_known = record { honest = (tt, s.honest); base = s.base; based = s.based; behind = s.behind; past = s.past;
-        ok = asked w.core.procs s.base w (event.Ask r.txn r.number r.op) r.txn r.number r.op now_known.legal.1
-        now_known.legal.0.next refl refl refl (sym now_known.legal.0.next) s.ok }
+    mid now_known = record {
+      honest = (tt, s.honest);
+      base = s.base;
+      based = s.based;
+      behind = s.behind;
+      past = s.past;
+      ok = asked w.core.procs s.base w (event.Ask r.txn r.number r.op) r.txn r.number r.op now_known.legal.1
+          now_known.legal.0.next refl refl refl (sym now_known.legal.0.next) s.ok;
+    }
 
     logs : logged c.events r.number ≡ Some r.op
     logs = if_some r.number r.number (Some r.op) (logged w.core.events r.number) refl
@@ -215,9 +226,15 @@ undoes_listed w v t (reply.Request r) o known s goes = by (wire_of c r) refl goe
     c = with_event w.core (event.Undo r.txn r.number r.op)
 
     mid : Known c → IsListed (with_core w c)
-    mid now_known = record { honest = (tt, s.honest); base = s.base; based = s.based; behind = s.behind; past = s.past;
-        ok = asked w.core.procs s.base w (event.Undo r.txn r.number r.op) r.txn r.number r.op now_known.legal.1
-        now_known.legal.0.next refl refl refl (sym now_known.legal.0.next) s.ok }
+    mid now_known = record {
+      honest = (tt, s.honest);
+      base = s.base;
+      based = s.based;
+      behind = s.behind;
+      past = s.past;
+      ok = asked w.core.procs s.base w (event.Undo r.txn r.number r.op) r.txn r.number r.op now_known.legal.1
+          now_known.legal.0.next refl refl refl (sym now_known.legal.0.next) s.ok;
+    }
 
     logs : logged c.events r.number ≡ Some r.op
     logs = if_some r.number r.number (Some r.op) (logged w.core.events r.number) refl
@@ -241,8 +258,14 @@ ends_listed : (w v : Whole) (t : ℕ) (s : Option Standing) (e : Option Ending) 
 ends_listed w v t None e o kept goes = absurd (stopped _ o v goes)
 ends_listed w v t (Some s) None o kept goes = absurd (stopped _ o v goes)
 ends_listed w v t (Some s) (Some e) o kept goes = behind _ o (with_core w (with_event w.core (event.End t e))) v
-    (record { honest = (tt, kept.honest); base = kept.base; based = kept.based; behind = kept.behind; past = kept.past;
-    ok = kept.ok }) goes
+    (record {
+      honest = (tt, kept.honest);
+      base = kept.base;
+      based = kept.based;
+      behind = kept.behind;
+      past = kept.past;
+      ok = kept.ok;
+    }) goes
 
 resends_listed : (w v : Whole) (t : ℕ) (s : Option Standing) (o : Outcome) → Known v.core → standing w.core.events t ≡ s
     → IsListed w → resends_by w t s ≡ Goes o v → IsListed v
@@ -257,8 +280,8 @@ resends_listed w v t (Some s) o known is kept goes = by s.sent refl goes
         let flies = (standing_flight w.core.procs w.core.events was.legal t s r is waits).1 in
         let a : Asking = record { txn = t; number = r.number; op = r.op } in
         behind _ o (with_copy w x) v (copied w x was.legal kept
-            (wire_ok kept.base w kept.ok.v a (flight t r.op) (site_of w.core.sites r.op).redo x was.legal
-            (flight_logged w.core.events r.number (flight t r.op) flies) flies refl wire)) goes'
+        (wire_ok kept.base w kept.ok.v a (flight t r.op) (site_of w.core.sites r.op).redo x was.legal
+        (flight_logged w.core.events r.number (flight t r.op) flies) flies refl wire)) goes'
     wires r waits (Err down) wire goes' = absurd (stopped _ o v goes')
 
     by : (r : Option Sent) → s.sent ≡ r → resends_sent w t r ≡ Goes o v → IsListed v
@@ -286,7 +309,7 @@ replied_listed w x legal s y =
       ok = subst (λ (xs : List Reply). AreOk s.base (logged w.core.events) (open_op w.core.events) (done w.core.events)
           (given w.core.events) w.core.sites w.dcs (wires_since w) xs w.news) (sym more)
           (ok_reply s.base (logged w.core.events) (open_op w.core.events) (done w.core.events) (given w.core.events)
-              w.core.sites w.dcs (wires_since w) (replies_since w) w.news x s.ok y);
+          w.core.sites w.dcs (wires_since w) (replies_since w) w.news x s.ok y);
     }
   where
     more : replies_since (with_reply w x) ≡ replies_since w ++ x ∷ []
@@ -322,9 +345,16 @@ performs_at_listed : (w v : Whole) (x : Wire) (d : Option Store) (o : Outcome) �
     → IsListed v
 performs_at_listed w v x None o known at s y goes = absurd (stopped _ o v goes)
 performs_at_listed w v x (Some d) o known at s y goes = gets_listed (with_store w x d) v (replied d x) o was
-    (record { honest = s.honest; base = s.base; based = based_set s.base w.dcs (dc_of x.op) d (performed d x) at
-    (performed_base d x) s.based; behind = behind_set (begun w.core.events) w.dcs (dc_of x.op) d (performed d x) at
-    (performed_behind (begun w.core.events) d x) s.behind; past = s.past; ok = both.0 }) said goes
+    (record {
+      honest = s.honest;
+      base = s.base;
+      based = based_set s.base w.dcs (dc_of x.op) d (performed d x) at
+          (performed_base d x) s.based;
+      behind = behind_set (begun w.core.events) w.dcs (dc_of x.op) d (performed d x) at
+          (performed_behind (begun w.core.events) d x) s.behind;
+      past = s.past;
+      ok = both.0;
+    }) said goes
   where
     was : Known w.core
     was = gets_known (with_store w x d) v (replied d x) o known goes
@@ -347,8 +377,8 @@ performs_at_listed w v x (Some d) o known at s y goes = gets_listed (with_store 
     both = ok_stored s.base (logged w.core.events) (open_op w.core.events) (done w.core.events) (given w.core.events)
         w.core.sites w.dcs (wires_since w) (replies_since w) w.news j d (performed d x) becomes.u at s.ok
         (let same = becomes.incarnation in omega (arith, same)) becomes.grows
-            (λ less p to. subst (StandsTo (logged w.core.events) (done w.core.events) j p) (sym (becomes.lists less))
-            to) becomes.ok
+        (λ less p to. subst (StandsTo (logged w.core.events) (done w.core.events) j p) (sym (becomes.lists less))
+        to) becomes.ok
 
     said : (z : Reply) → replied d x ≡ Some z → ReplyOk (logged w.core.events) w.core.sites (slice_set w.dcs (dc_of x.op) (performed d x)) both.0.v z
     said z is =
@@ -406,7 +436,7 @@ up_by (Some r) b e = absurd cc
 took : (w : Whole) (f : Flight) (x : Reply) → Known (with_event w.core (event.Answer f.txn x.number x.said))
     → open_op w.core.events x.number ≡ Some f → is_heard (site_of w.core.sites f.op) x ≡ true → fits f.op x.said ≡ true
     → (s : IsListed w) → ReplyOk (logged w.core.events) w.core.sites w.dcs s.ok.v x
-        → IsListed (with_core w (with_event w.core (event.Answer f.txn x.number x.said)))
+    → IsListed (with_core w (with_event w.core (event.Answer f.txn x.number x.said)))
 took w f x known flies heard fit s y =
     let h = w.core.events in
     let legal = known.legal.1 in
@@ -416,8 +446,8 @@ took w f x known flies heard fit s y =
     let now : x.incarnation ≡ (site_at w.core.sites (dc_of f.op)).incarnation = sym (equal _ _ (both_right (is_up (site_of w.core.sites f.op).redo) _ heard)) in
     let at : slice_get w.dcs (dc_of f.op) ≡ Some y.s = subst (λ (o : Op). slice_get w.dcs (dc_of o) ≡ Some y.s) same y.at in
     let either : (x.said ≡ Old) ⊎ (said_under (s.ok.v (dc_of f.op)) x.number ≡ Some x.said) = subst
-        (λ (o : Op). (x.said ≡ Old) ⊎ (said_under (s.ok.v (dc_of o)) x.number ≡ Some x.said)) same
-        (y.now (now ∙ ap (λ (o : Op). (site_at w.core.sites (dc_of o)).incarnation) (sym same))) in
+    (λ (o : Op). (x.said ≡ Old) ⊎ (said_under (s.ok.v (dc_of o)) x.number ≡ Some x.said)) same
+    (y.now (now ∙ ap (λ (o : Op). (site_at w.core.sites (dc_of o)).incarnation) (sym same))) in
     let there : said_under (s.ok.v (dc_of f.op)) x.number ≡ Some x.said = elim either [
       | inl old ↦ absurd (let bad : false ≡ true = sym (old_never_fits f.op) ∙ (ap (fits f.op) (sym old) ∙ fit) in cc)
       | inr under ↦ under
@@ -434,9 +464,9 @@ took w f x known flies heard fit s y =
       ok = subst (λ (z : List Performed). AreOk s.base (logged h) (λ m. if x.number == m then None else open_op h m) z
           (given h) w.core.sites w.dcs (wires_since w) (replies_since w) w.news) (sym becomes)
           (ok_answered s.base (logged h) (open_op h) (done h) (given h) w.core.sites w.dcs (wires_since w)
-              (replies_since w) w.news x.number f x.said y.s flies logs fit
-              (flights w.core.procs h known.good legal x.number f flies)
-              (flight_absent w.core.procs h legal x.number f flies) at up s.ok there);
+          (replies_since w) w.news x.number f x.said y.s flies logs fit
+          (flights w.core.procs h known.good legal x.number f flies)
+          (flight_absent w.core.procs h legal x.number f flies) at up s.ok there);
     }
 
 takes_answer_listed : (w v : Whole) (f : Flight) (x : Reply) (b : Bool) (o : Outcome) → Known v.core
@@ -447,8 +477,8 @@ takes_answer_listed w v f x true o known flies fit s y goes =
     let e = event.Answer f.txn x.number x.said in
     let now_known = known_behind _ o (with_core w (with_event w.core e)) v known goes in
     behind _ o (with_core w (with_event w.core e)) v (took w f x now_known flies
-        (both_left (is_heard (site_of w.core.sites f.op) x) (fits f.op x.said) fit)
-        (both_right (is_heard (site_of w.core.sites f.op) x) (fits f.op x.said) fit) s y) goes
+    (both_left (is_heard (site_of w.core.sites f.op) x) (fits f.op x.said) fit)
+    (both_right (is_heard (site_of w.core.sites f.op) x) (fits f.op x.said) fit) s y) goes
 
 not_old : (said : Said) → is_done said ≡ true → said ≡ Old → ⊥
 not_old said did old = (let bad : true ≡ false = sym did ∙ ap is_done old in cc)
@@ -459,8 +489,8 @@ redone_listed : (w : Whole) (x : Reply) (d : ℕ) → Known w.core → (is : IsR
 redone_listed w x d known is s y =
     subst (λ (z : Option Site). IsListed (with_core w (redone_at w.core d x.number z))) (sym is.there)
     (subst (λ (z : Option Redoing). IsListed (with_core w
-        (with_site w.core d (record is.site { redo = redone_to x.number z })))) (sym is.down)
-        (record { honest = s.honest; base = s.base; based = s.based; behind = s.behind; past = s.past; ok = now_ok }))
+    (with_site w.core d (record is.site { redo = redone_to x.number z })))) (sym is.down)
+    (record { honest = s.honest; base = s.base; based = s.based; behind = s.behind; past = s.past; ok = now_ok }))
   where
     h : List Event
     h = w.core.events
@@ -495,8 +525,8 @@ redone_listed w x d known is s y =
     there : said_under (s.ok.v d) x.number ≡ Some is.a.said
     there =
         let now : x.incarnation ≡ (site_at w.core.sites (dc_of y.o)).incarnation = is.same_incarnation
-            ∙ (ap (λ (z : Site). z.incarnation) (sym site_is) ∙ ap (λ (i : ℕ). (site_at w.core.sites i).incarnation)
-            (sym here)) in
+        ∙ (ap (λ (z : Site). z.incarnation) (sym site_is) ∙ ap (λ (i : ℕ). (site_at w.core.sites i).incarnation)
+        (sym here)) in
         elim (y.now now) [
           | inl old ↦ absurd (not_old is.a.said did (sym is.same_answer ∙ old))
           | inr said ↦ subst (λ (i : ℕ). said_under (s.ok.v i) x.number ≡ Some x.said) here said ∙ ap (λ (z : Said). Some z) is.same_answer
@@ -531,7 +561,7 @@ redone_listed w x d known is s y =
         (replies_since w) w.news d is.site t' is.there refl (λ up. absurd (none_some _ is.r up is.down)) s.ok
         (λ r down. (y.s, subst (λ (i : ℕ). slice_get w.dcs i ≡ Some y.s) here y.at))
         (λ z ok. site_redone s.base (logged h) (open_op h) (done h) (given h) d z is.site (s.ok.v d) is.r x.number
-            is.a.op is.a.said is.down next rises there ok)
+        is.a.op is.a.said is.down next rises there ok)
 
 redone_above : (w : Whole) (x : Reply) (d : ℕ) → Known w.core → IsRedone w.core d x → begun w.core.events < x.number
 redone_above w x d known is =
@@ -565,7 +595,7 @@ takes_listed w v i (Some x) o known at s takes = by (open_op w.core.events x.num
         answers false fit goes = absurd (stopped _ o v goes)
         answers true fit goes =
             let now : Known (with_event w.core (event.Answer f.txn x.number x.said)) = known_behind _ o
-                (with_core w (with_event w.core (event.Answer f.txn x.number x.said))) v known goes in
+            (with_core w (with_event w.core (event.Answer f.txn x.number x.said))) v known goes in
             let up = logged_above w.core.procs w.core.events now.legal.1 x.number f.op (flight_logged w.core.events x.number f flies) in
             takes_answer_listed w v f x true o known flies fit s (heard w i x at s up) goes
 
@@ -580,12 +610,17 @@ checkpoints_listed w v d (Some x) o at s goes =
     let h = w.core.events in
     let site = site_checkpoint s.base (logged h) (open_op h) (done h) (given h) d x (site_at w.core.sites d) (s.ok.v d) (s.ok.stores d x at) in
     let both = ok_stored s.base (logged h) (open_op h) (done h) (given h) w.core.sites w.dcs (wires_since w)
-        (replies_since w) w.news d x (checkpointed x) (s.ok.v d) at s.ok (omega arith) (same_ghost w s d)
-        (λ less p to. to) site in
+    (replies_since w) w.news d x (checkpointed x) (s.ok.v d) at s.ok (omega arith) (same_ghost w s d)
+    (λ less p to. to) site in
     behind _ o (with_dcs w (slice_set w.dcs d (checkpointed x))) v
-        (record { honest = s.honest; base = s.base; based = based_set s.base w.dcs d x (checkpointed x) at refl s.based;
-        behind = behind_set (begun h) w.dcs d x (checkpointed x) at (checkpointed_behind (begun h) x) s.behind;
-        past = s.past; ok = both.0 }) goes
+    (record {
+      honest = s.honest;
+      base = s.base;
+      based = based_set s.base w.dcs d x (checkpointed x) at refl s.based;
+      behind = behind_set (begun h) w.dcs d x (checkpointed x) at (checkpointed_behind (begun h) x) s.behind;
+      past = s.past;
+      ok = both.0;
+    }) goes
 
 restarts_listed : (w v : Whole) (d : ℕ) (x : Option Store) (o : Outcome) → slice_get w.dcs d ≡ x → IsListed w → restarts_at w d x ≡ Goes o v → IsListed v
 restarts_listed w v d None o at s goes = absurd (stopped _ o v goes)
@@ -626,8 +661,8 @@ lt_true a b e = grind (arith, nat_tests)
 
 told_by : (w v : Whole) (x : ℕ × News) (t : Option Site) (o : Outcome) → slice_get w.core.sites x.0 ≡ t → (s : IsListed w)
     → NewsOk s.base (logged w.core.events) (open_op w.core.events) (done w.core.events) (given w.core.events)
-        w.core.sites w.dcs x → tells_unless w x.0 x.1 (news_fault_by (begun w.core.events) t x.1) ≡ Goes o v
-        → IsListed v
+    w.core.sites w.dcs x → tells_unless w x.0 x.1 (news_fault_by (begun w.core.events) t x.1) ≡ Goes o v
+    → IsListed v
 told_by w v x None o at s y goes = absurd (stopped _ o v goes)
 told_by w v x (Some t) o at s y goes = by (nat_lt t.incarnation x.1.incarnation) refl goes
   where
@@ -647,17 +682,23 @@ told_by w v x (Some t) o at s y goes = by (nat_lt t.incarnation x.1.incarnation)
             let later : t.incarnation < x.1.incarnation = lt_true t.incarnation x.1.incarnation less in
             let known : (site_at w.core.sites x.0).incarnation ≡ t.incarnation = ap (λ (z : Option Site). (site_by z).incarnation) at in
             behind _ o (with_core w (after_told w.core x.0 x.1)) v
-            (record { honest = s.honest; base = s.base; based = s.based; behind = s.behind; past = s.past;
-                ok = ok_told s.base (logged h) (open_op h) (done h) (given h) w.core.sites w.dcs (wires_since w)
-                (replies_since w) w.news x.0 x.1.incarnation x.1.mark y.s t at y.at later y.made
-                (y.later (omega (arith, known, later))) y.over s.ok }) goes'
+            (record {
+              honest = s.honest;
+              base = s.base;
+              based = s.based;
+              behind = s.behind;
+              past = s.past;
+              ok = ok_told s.base (logged h) (open_op h) (done h) (given h) w.core.sites w.dcs (wires_since w)
+                  (replies_since w) w.news x.0 x.1.incarnation x.1.mark y.s t at y.at later y.made
+                  (y.later (omega (arith, known, later))) y.over s.ok;
+            }) goes'
 
 tells_listed : (w v : Whole) (i : ℕ) (x : Option (ℕ × News)) (o : Outcome) → slice_get w.news i ≡ x → IsListed w → tells_news w x ≡ Goes o v → IsListed v
 tells_listed w v i None o at s goes = absurd (stopped _ o v goes)
 tells_listed w v i (Some x) o at s goes =
     told_by w v x (slice_get w.core.sites x.0) o refl s
     (all_at (NewsOk s.base (logged w.core.events) (open_op w.core.events) (done w.core.events) (given w.core.events)
-        w.core.sites w.dcs) w.news i x at s.ok.news) goes
+    w.core.sites w.dcs) w.news i x at s.ok.news) goes
 
 redoes_listed : (w v : Whole) (d : ℕ) (x : Option Site) (o : Outcome) → Known v.core → slice_get w.core.sites d ≡ x
     → IsListed w → redoes_by w d (redo_at w.core d x) ≡ Goes o v → IsListed v
@@ -716,18 +757,24 @@ redoes_listed w v d (Some x) o known at s goes = by x.redo refl goes
         sends None next goes'' =
             let t' : Site = record x { redo = None } in
             let was : Known w.core = known_up w d (slice_get w.core.sites d)
-                (known_behind _ o (with_core w (after_redo w.core d redo.Finished)) v known goes'') in
+            (known_behind _ o (with_core w (after_redo w.core d redo.Finished)) v known goes'') in
             let facts = log_facts w.core.procs s.base h was.good was.legal s.honest in
             let ok = ok_resited s.base (logged h) (open_op h) (done h) (given h) w.core.sites w.dcs (wires_since w)
-                (replies_since w) w.news d x t' at refl (λ up. refl) s.ok
+            (replies_since w) w.news d x t' at refl (λ up. refl) s.ok
             (λ q e. absurd (none_some _ q refl e))
             (λ z k. site_up s.base (logged h) (open_op h) (done h) (given h) d z x (s.ok.v d) r facts is
-                (λ n q said logs dc was' did. none_left w.core.procs h was.legal d r.redone next n q said logs dc was'
-                did) k) in
+            (λ n q said logs dc was' did. none_left w.core.procs h was.legal d r.redone next n q said logs dc was'
+            did) k) in
             behind _ o (with_core w (after_redo w.core d redo.Finished)) v
             (subst (λ (y : Option Site). IsListed (with_core w (up_again w.core d y))) (sym at)
-                (record { honest = s.honest; base = s.base; based = s.based; behind = s.behind; past = s.past;
-                ok = ok })) goes''
+            (record {
+              honest = s.honest;
+              base = s.base;
+              based = s.based;
+              behind = s.behind;
+              past = s.past;
+              ok = ok;
+            })) goes''
           where
             known_up : (w : Whole) (d : ℕ) (z : Option Site) → Known (up_again w.core d z) → Known w.core
             known_up w d None k = k

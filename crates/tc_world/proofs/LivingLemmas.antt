@@ -41,8 +41,11 @@ lives : (moves : List Move) (w v : Whole) → Sound w → Lives moves w v → So
 lives [] w v s is = subst Sound (sym is) s
 lives (Takes x ∷ moves) w v s (o, mid, steps, honest, legal, good, rest) =
     let known : Known mid.core = record { legal = legal; good = good } in
-    lives moves mid v (record { known = known; low = stay_low w mid x o s.known.legal legal steps s.low;
-        listed = stay_listed w mid x o s.known known honest steps s.listed }) rest
+    lives moves mid v (record {
+      known = known;
+      low = stay_low w mid x o s.known.legal legal steps s.low;
+      listed = stay_listed w mid x o s.known known honest steps s.listed;
+    }) rest
 lives (Loses xs rs ns ∷ moves) w v s (wires, replies, news, rest) =
     lives moves (left_with xs rs ns w) v
     (record {
@@ -116,8 +119,13 @@ on (Crashes first notes ∷ moves) more u w v (written, rest) next = (written, o
 on (StartsOver first dcs ∷ moves) more u w v (begins, new, olds, rest) next = (begins, new, olds, on moves more (start_over first dcs u) w v rest next)
 
 lived_on : (w v : Whole) (m : Move) → HasLived w → Lives (m ∷ []) w v → HasLived v
-lived_on w v m l next = record { first = l.first; fresh = l.fresh; good = l.good; moves = l.moves ++ m ∷ [];
-    lives = on l.moves (m ∷ []) l.first w v l.lives next }
+lived_on w v m l next = record {
+  first = l.first;
+  fresh = l.fresh;
+  good = l.good;
+  moves = l.moves ++ m ∷ [];
+  lives = on l.moves (m ∷ []) l.first w v l.lives next;
+}
 
 pub fresh_lived : (w : Whole) → IsFresh w → AllGood w.core.procs → HasLived w
 fresh_lived w fresh good = record { first = w; fresh = fresh; good = good; moves = []; lives = refl }
@@ -153,8 +161,13 @@ pub loss_becomes : (start w : Whole) (xs : List Wire) (rs : List Reply) (ns : Li
 loss_becomes start w xs rs ns wires replies news b = becomes_on start w (left_with xs rs ns w) (Loses xs rs ns) b (wires, replies, news, refl)
 
 pub becomes_lived : (w v : Whole) → Becomes w v → HasLived w → HasLived v
-becomes_lived w v b l = record { first = l.first; fresh = l.fresh; good = l.good; moves = l.moves ++ b.moves;
-    lives = on l.moves b.moves l.first w v l.lives b.lives }
+becomes_lived w v b l = record {
+  first = l.first;
+  fresh = l.fresh;
+  good = l.good;
+  moves = l.moves ++ b.moves;
+  lives = on l.moves b.moves l.first w v l.lives b.lives;
+}
 
 -- marks stay low, whatever the answers are
 lives_low : (moves : List Move) (w v : Whole) → Legal w.core.procs w.core.events → AreMarksLow w → Lives moves w v → AreMarksLow v

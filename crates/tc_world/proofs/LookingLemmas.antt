@@ -263,7 +263,7 @@ requests_above [] m low le above = le
 requests_above (r ∷ rs) m low le above =
     requests_above rs m (below_request low r)
     (above_less m low r.number le (above r.number (or_left (r.number == r.number)
-        (list_any (λ (x : Asking). x.number == r.number) rs) (eq-true r.number r.number refl))))
+    (list_any (λ (x : Asking). x.number == r.number) rs) (eq-true r.number r.number refl))))
     (λ n is. above n (or_right (r.number == n) (list_any (λ (x : Asking). x.number == n) rs) is))
 
 flying : (o : Option Flight) → is_flight o ≡ true → (f : Flight) × (o ≡ Some f)
@@ -295,7 +295,7 @@ low_is ps later first rs legal_now legal w =
       greatest = λ m all.
           events_above (reverse later) m (fold below_request (given first) rs)
           (requests_above rs m (given first) all.given_out (λ n is. left_above ps later first rs m n legal_now legal w
-              all (or_left _ (list_any (answers n) (reverse later)) is)))
+          all (or_left _ (list_any (answers n) (reverse later)) is)))
           (λ n is. left_above ps later first rs m n legal_now legal w all (or_right (list_any (λ (r : Asking). r.number == n) rs) _ is));
     })
   where
@@ -316,6 +316,6 @@ low_is ps later first rs legal_now legal w =
     by m some le true is =
         let left : is_left (reverse later) rs m ≡ true = left_is ps later first rs m legal w (omega (arith, le, few)) ∙ is in
         let less : low < m = either (list_any (λ (r : Asking). r.number == m) rs) (list_any (answers m) (reverse later))
-            left (low < m) (asked_less m some) (λ here. events_less (reverse later)
-            (fold below_request (given first) rs) m here some) in
+        left (low < m) (asked_less m some) (λ here. events_less (reverse later)
+        (fold below_request (given first) rs) m here some) in
         absurd (omega (arith, le, less))

@@ -94,8 +94,13 @@ record IsAsked (t : ℕ) (st : Option Standing) (r : Asking) : Type 0 where
 
 asked_by : (t : ℕ) (s : Standing) (o : Option Sent) (r : Asking) → s.sent ≡ o → sent_by t o ≡ Some r → IsAsked t (Some s) r
 asked_by t s None r waits e = absurd (none_some _ r refl e)
-asked_by t s (Some q) r waits e = record { s = s; q = q; is = refl; waits = waits;
-    same = some_same r (let a : Asking = record { txn = t; number = q.number; op = q.op } in a) (sym e) }
+asked_by t s (Some q) r waits e = record {
+  s = s;
+  q = q;
+  is = refl;
+  waits = waits;
+  same = some_same r (let a : Asking = record { txn = t; number = q.number; op = q.op } in a) (sym e);
+}
 
 asked_of : (t : ℕ) (st : Option Standing) (r : Asking) → asking_in t st ≡ Some r → IsAsked t st r
 asked_of t None r e = absurd (none_some _ r refl e)
@@ -135,7 +140,7 @@ made_some ps h rs k r legal m x =
     let absent : request_of rs r.number ≡ None = m.each r.number ∙ (ap (asking_up_to k r.number) flies ∙ later k r.number f (omega arith)) in
     let it : asking r.number f ≡ r = ap (λ (j : ℕ). let a : Asking = record { txn = k + 1; number = j; op = x.q.op } in a) (sym number) ∙ sym x.same in
     let there : asking_up_to (k + 1) r.number (open_op h r.number) ≡ Some r = ap (asking_up_to (k + 1) r.number) flies
-        ∙ (made (k + 1) r.number f (omega arith) ∙ ap (λ (z : Asking). Some z) it) in
+    ∙ (made (k + 1) r.number f (omega arith) ∙ ap (λ (z : Asking). Some z) it) in
     record {
       each = λ n. elim (cases_eq r.number n) [
         | inl same ↦ subst (λ (j : ℕ). request_of (rs ++ r ∷ []) j ≡ asking_up_to (k + 1) j (open_op h j)) same (push_new rs r absent ∙ sym there)

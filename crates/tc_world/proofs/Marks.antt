@@ -318,7 +318,7 @@ restarts_low w v d (Some s) o at low goes = by (nat_le (2 ^ 62) s.incarnation) g
         let is = (store_at w d s at low).1 in
         let mid = with_dcs w (slice_set w.dcs d (restarted s)) in
         low_behind _ o (with_news mid d (news_of (restarted s))) v
-            (newly_low mid d (news_of (restarted s)) is (stored_low w d (restarted s) (is, is) low)) goes'
+        (newly_low mid d (news_of (restarted s)) is (stored_low w d (restarted s) (is, is) low)) goes'
 
 checkpoints_low : (w v : Whole) (d : ℕ) (s : Option Store) (o : Outcome) → slice_get w.dcs d ≡ s → AreMarksLow w
     → checkpoints_at w d s ≡ Goes o v → AreMarksLow v
@@ -376,7 +376,7 @@ cut_low w ds legal rest are low = record {
         let is = was_kept (low_water w.core.events) w.core.sites w.dcs ds d t are at in
         let to = forgotten_to (low_water w.core.events) (site_at w.core.sites d).incarnation is.s t is.forgotten in
         let few = heard_low is.s (site_at w.core.sites d).incarnation (low_water w.core.events)
-            (low_water w.core.events) (store_at w d is.s is.at low).0 (omega arith) in
+        (low_water w.core.events) (store_at w d is.s is.at low).0 (omega arith) in
         let mark = to.mark_is in
         let saved = to.saved_mark in
         (omega (arith, mark, few), omega (arith, saved, few))

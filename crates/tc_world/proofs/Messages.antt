@@ -213,9 +213,11 @@ pub takes_stranger : (w : Whole) (rs : List Asking) (i k : ℕ) (r : Asking) (x 
     → slice_get w.replies i ≡ Some x → slice_get rs k ≡ Some r → r.number ≡ x.number
     → (is_heard (site_of w.core.sites r.op) x && fits r.op x.said) ≡ false → IsNotTaken w (slice_get w.replies i) illegal.Stranger
 takes_stranger w rs i k r x waiting sent at same not_heard =
-    subst (λ (y : Option Reply). IsNotTaken w y illegal.Stranger) (sym sent)
-    (refl, subst (λ (f : Option Flight). IsStrangeTo w x f) (sym (in_flight_there w rs k r x.number waiting at same))
-        (ap (takes_answer w (flight r.txn r.op) x) not_heard))
+    subst (λ (y : Option Reply). IsNotTaken w y illegal.Stranger) (sym sent) (
+      refl,
+      subst (λ (f : Option Flight). IsStrangeTo w x f) (sym (in_flight_there w rs k r x.number waiting at same))
+          (ap (takes_answer w (flight r.txn r.op) x) not_heard),
+    )
 
 pub takes_taken : (w : Whole) (rs : List Asking) (i k : ℕ) (r : Asking) (x : Reply) → AreWaiting rs w.core.events
     → slice_get w.replies i ≡ Some x → slice_get rs k ≡ Some r → r.number ≡ x.number
@@ -225,7 +227,7 @@ takes_taken w rs i k r x waiting sent at same heard =
     let number = ap (λ (n : ℕ). Goes (outcome.Took x.number) (with_core w (with_event w.core (Answer r.txn n x.said)))) (sym same) in
     subst (λ (y : Option Reply). TakesReply w y (outcome.Took x.number) (with_core w (after_answer w.core r x.said))) (sym sent)
     (subst (λ (f : Option Flight). TakesBy w x f (outcome.Took x.number) (with_core w (after_answer w.core r x.said)))
-        (sym (in_flight_there w rs k r x.number waiting at same))
+    (sym (in_flight_there w rs k r x.number waiting at same))
     (ap (takes_answer w (flight r.txn r.op) x) heard ∙ number))
 
 pub and_parts : (a b : Bool) → (a && b) ≡ true → (a ≡ true) × (b ≡ true)

@@ -185,5 +185,5 @@ start_over_listed w first dcs good legal begins new olds s =
         (logged first) (open_op first) (done first) (given first)
     before =
         subst (λ (h : List Event). Earlier s.base (logged h) (open_op h) (done h) (given h) (logged first)
-            (open_op first) (done first) (given first)) (sym begins.is)
+        (open_op first) (done first) (given first)) (sym begins.is)
         (earlier w.core.procs s.base begins.later first good (subst (Legal w.core.procs) begins.is legal) (subst (HonestFrom s.base) begins.is s.honest))

@@ -121,7 +121,7 @@ now_sent : (r : Asking) (m : ℕ) (before : Option Flight) → r.number ≡ m
     → Some r ≡ asking_by m (if r.number == m then Some (flight r.txn r.op) else before)
 now_sent r m before same =
     let it : asking_by m (if r.number == m then Some (flight r.txn r.op) else before) ≡ asking_by m
-        (Some (flight r.txn r.op)) = ap (asking_by m) (cond-true _ _ _ (eq-true r.number m same)) in
+    (Some (flight r.txn r.op)) = ap (asking_by m) (cond-true _ _ _ (eq-true r.number m same)) in
     ap (λ (k : ℕ). let a : Asking = record { txn = r.txn; number = k; op = r.op } in Some a) same ∙ sym it
 
 sent_each : (rs : List Asking) (h : List Event) (r : Asking) → AreWaiting rs h → open_op h r.number ≡ None → (m : ℕ)

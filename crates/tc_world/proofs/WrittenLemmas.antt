@@ -111,17 +111,31 @@ module _ (first : List Event) where
   copied w x r = record { begins = r.begins; replies = r.replies; stores = r.stores; news = r.news; redo = r.redo }
 
   stored : (w : Whole) (d : ℕ) (s : Store) → IsWrittenAt first s → Rest first w → Rest first (with_dcs w (slice_set w.dcs d s))
-  stored w d s is r = record { begins = r.begins; replies = r.replies;
-      stores = All-set (IsWrittenAt first) w.dcs d s is r.stores; news = r.news; redo = r.redo }
+  stored w d s is r = record {
+    begins = r.begins;
+    replies = r.replies;
+    stores = All-set (IsWrittenAt first) w.dcs d s is r.stores;
+    news = r.news;
+    redo = r.redo;
+  }
 
   replied_to : (w : Whole) (x : Reply) → x.number ≤ given first → Rest first w → Rest first (with_reply w x)
-  replied_to w x few r = record { begins = r.begins;
-      replies = All-push (λ (y : Reply). y.number ≤ given first) w.replies x r.replies few; stores = r.stores;
-      news = r.news; redo = r.redo }
+  replied_to w x few r = record {
+    begins = r.begins;
+    replies = All-push (λ (y : Reply). y.number ≤ given first) w.replies x r.replies few;
+    stores = r.stores;
+    news = r.news;
+    redo = r.redo;
+  }
 
   newly : (w : Whole) (d : ℕ) (n : News) → n.mark ≤ low_water first → Rest first w → Rest first (with_news w d n)
-  newly w d n few r = record { begins = r.begins; replies = r.replies; stores = r.stores;
-      news = All-push (λ (x : ℕ × News). x.1.mark ≤ low_water first) w.news (d, n) r.news few; redo = r.redo }
+  newly w d n few r = record {
+    begins = r.begins;
+    replies = r.replies;
+    stores = r.stores;
+    news = All-push (λ (x : ℕ × News). x.1.mark ≤ low_water first) w.news (d, n) r.news few;
+    redo = r.redo;
+  }
 
   -- ---- what a data component is behind a wire
 
@@ -259,8 +273,12 @@ module _ (first : List Event) where
           let mid = with_dcs w (slice_set w.dcs d (restarted s)) in
           behind _ o (with_news mid d (news_of (restarted s))) v
           (newly mid d (news_of (restarted s)) is.saved_mark
-              (stored w d (restarted s) (record { list = is.saved; saved = is.saved; mark = is.saved_mark;
-              saved_mark = is.saved_mark }) rest)) goes'
+          (stored w d (restarted s) (record {
+            list = is.saved;
+            saved = is.saved;
+            mark = is.saved_mark;
+            saved_mark = is.saved_mark;
+          }) rest)) goes'
 
   checkpoints_rest : (w v : Whole) (d : ℕ) (s : Option Store) (o : Outcome) → slice_get w.dcs d ≡ s → Rest first w
       → checkpoints_at w d s ≡ Goes o v → Rest first v
@@ -268,8 +286,12 @@ module _ (first : List Event) where
   checkpoints_rest w v d (Some s) o at rest goes =
       let is = all_at (IsWrittenAt first) w.dcs d s at rest.stores in
       behind _ o (with_dcs w (slice_set w.dcs d (checkpointed s))) v
-          (stored w d (checkpointed s) (record { list = is.list; saved = is.list; mark = is.mark;
-          saved_mark = is.mark }) rest) goes
+      (stored w d (checkpointed s) (record {
+        list = is.list;
+        saved = is.list;
+        mark = is.mark;
+        saved_mark = is.mark;
+      }) rest) goes
 
   tells_rest : (w v : Whole) (i : ℕ) (x : Option (ℕ × News)) (o : Outcome) → slice_get w.news i ≡ x → Rest first w → tells_news w x ≡ Goes o v → Rest first v
   tells_rest w v i None o at rest goes = absurd (stopped _ o v goes)
@@ -363,13 +385,13 @@ closed_more ps (event.Admit t p args ∷ later) first n legal low closed = close
 closed_more ps (event.Ask t m q ∷ later) first n legal low closed =
     let more = given_more ps later first legal.1 in
     closed_sent (given (later ++ first)) n m (record { txn = t; op = q }) (open_op (later ++ first) n)
-        (omega (arith, low, more)) legal.0.next (closed_more ps later first n legal.1 low closed)
+    (omega (arith, low, more)) legal.0.next (closed_more ps later first n legal.1 low closed)
 closed_more ps (event.Answer t m said ∷ later) first n legal low closed = closed_answered n m
     (open_op (later ++ first) n) (closed_more ps later first n legal.1 low closed)
 closed_more ps (event.Undo t m q ∷ later) first n legal low closed =
     let more = given_more ps later first legal.1 in
     closed_sent (given (later ++ first)) n m (record { txn = t; op = q }) (open_op (later ++ first) n)
-        (omega (arith, low, more)) legal.0.next (closed_more ps later first n legal.1 low closed)
+    (omega (arith, low, more)) legal.0.next (closed_more ps later first n legal.1 low closed)
 closed_more ps (event.End t o ∷ later) first n legal low closed = closed_more ps later first n legal.1 low closed
 closed_more ps (event.Checkpoint before numbers ∷ later) first n legal low closed = closed_more ps later first n legal.1 low closed
 
@@ -390,8 +412,14 @@ low_more a b (Some r) le is = omega (arith, le, is)
 noted_more : (a b d : ℕ) (w : Whole) (t t' : Site) → a ≤ b → IsNoted a w d t t' → IsNoted b w d t t'
 noted_more a b d w t t' le (Noted is) = Noted is
 noted_more a b d w t t' le (NotYetUp x) = (let low = x.low in NotYetUp
-    (record { up = x.up; mark = x.mark; noted = x.noted; low = omega (arith, low, le); there = x.there;
-    again = x.again }))
+    (record {
+      up = x.up;
+      mark = x.mark;
+      noted = x.noted;
+      low = omega (arith, low, le);
+      there = x.there;
+      again = x.again;
+    }))
 
 rest_more : (ps : List Checked) (first more : List Event) (v : Whole) → Legal ps more → Begins first more
     → Begins more v.core.events → Rest first v → Rest more v
@@ -426,7 +454,7 @@ pub more_written : (w : Whole) (first more : List Event) (notes : List SiteNote)
 more_written w first more notes legal on in_log s =
     let legal' : Legal w.core.procs more = legal_first w.core.procs in_log.later more (subst (Legal w.core.procs) in_log.is legal) in
     let b : low_water first ≤ low_water more = subst (λ (h : List Event). low_water first ≤ low_water h) (sym on.is)
-        (mark_more w.core.procs on.later first (subst (Legal w.core.procs) on.is legal')) in
+    (mark_more w.core.procs on.later first (subst (Legal w.core.procs) on.is legal')) in
     let r = rest_more w.core.procs first more w legal' on in_log (rest_of first notes w s) in
     record {
       begins = in_log;

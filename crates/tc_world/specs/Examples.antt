@@ -23,8 +23,17 @@ down_site = record { incarnation = 1; redo = Some (record { mark = 0; redone = 0
 abbrev pub upped_world : ℕ → ℕ → Whole
 upped_world rows ops = record {
   core = record { procs = []; names = []; dcs = 1; events = []; given_up = []; sites = (let t : Site = record { incarnation = 1; redo = None } in t) ∷ [] };
-  dcs = (let s : Store = record { base = []; base_mark = 0; list = []; mark = 0; saved = []; saved_mark = 0;
-      incarnation = 1; rows = rows; ops = ops } in s) ∷ [];
+  dcs = (let s : Store = record {
+    base = [];
+    base_mark = 0;
+    list = [];
+    mark = 0;
+    saved = [];
+    saved_mark = 0;
+    incarnation = 1;
+    rows = rows;
+    ops = ops;
+  } in s) ∷ [];
   copies = [];
   replies = [];
   news = [];

@@ -41,8 +41,8 @@ use Rattle.tc_core.specs.declared.state.Redo.TheVariants as redo
 use Rattle.worker_pool.specs.Joining.Ups.{IsUpFor}
 use Rattle.worker_pool.specs.Wires.{IsItsOwn, IsToRedo, IsOfRun, IsCarriedFor, IsInFlight, WasInFlight, OnItsWay}
 use Rattle.worker_pool.specs.Joining.Moves.{Sends, GoesOnSending, IsHeldBy}
-use Rattle.worker_pool.specs.declared.desk.Next.{Next as Then}
-use Rattle.worker_pool.specs.declared.desk.Next.TheVariants as then
+use Rattle.worker_pool.specs.declared.pool_state.Next.{Next as Then}
+use Rattle.worker_pool.specs.declared.pool_state.Next.TheVariants as then
 
 -- ---- where nothing is to be redone, the data component is up
 

@@ -195,10 +195,10 @@ doubt_by : (first : List Event) (c : Core) (call : Call) (t n : ℕ) (s : Standi
 unfolding next_at
 doubt_by first c call t n s admitted is (waits it) =
     waits_sent first c.events t n s (may_wait s.sent s.full (first_undo s.undo) s.tries s.last (reached c.procs s) n
-        (ap (next_in c.procs) (sym is) ∙ it)) (spoke first c.events call t s admitted is)
+    (ap (next_in c.procs) (sym is) ∙ it)) (spoke first c.events call t s admitted is)
 doubt_by first c call t n s admitted is (stuck it) =
     stuck_sent first c.events t n s (may_stick s.sent s.full (first_undo s.undo) s.tries s.last (reached c.procs s) n
-        (ap (next_in c.procs) (sym is) ∙ it)) (spoke first c.events call t s admitted is)
+    (ap (next_in c.procs) (sym is) ∙ it)) (spoke first c.events call t s admitted is)
 
 pub doubtful_sent : (first : List Event) (c : Core) (call : Call) (t n : ℕ) → IsAdmitted first c.events call t
     → IsOpen c.events t → IsDoubtful c t n → Sends first c.events t n
@@ -232,9 +232,9 @@ has_next c t legal good still none =
     let s = still.s in
     let it = standing_sound c.procs good c.events legal t s still.is in
     let nowhere : reached c.procs s ≡ Nowhere = no_next s.sent s.full (first_undo s.undo) s.tries s.last
-        (reached c.procs s) (ap (next_in c.procs) (sym still.is) ∙ none) in
+    (reached c.procs s) (ap (next_in c.procs) (sym still.is) ∙ none) in
     somewhere it.q s.call.args s.answers (good s.call.proc it.q it.loaded) it.takes it.fit
-        (ap (λ (o : Option Checked). reached_by o s.call.args s.answers) (sym it.loaded) ∙ nowhere)
+    (ap (λ (o : Option Checked). reached_by o s.call.args s.answers) (sym it.loaded) ∙ nowhere)
 
 -- ---- what `ask` answered tells what is next
 

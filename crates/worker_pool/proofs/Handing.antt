@@ -44,7 +44,7 @@ moved xs ys n = Unit {0}
 adds_goes : (log v : List (List Event)) (e : List Event) (old : ℕ) → length v ≡ old → IsPrefix v log
     → (b : Bool) → (length log == old) ≡ b
     → Goes IsCounted shown moved 0 (v, (no_nib, None)) (λ n. either (n == old) (old + 1) n)
-        (Adds (step 0 old (old + 1) e) (v, (no_nib, None))) ((length log, true) ∷ (0, true) ∷ []) log
+    (Adds (step 0 old (old + 1) e) (v, (no_nib, None))) ((length log, true) ∷ (0, true) ∷ []) log
 adds_goes log v e old len pre true is =
     let here : length log ≡ old = grind (arith, nat_tests) in
     let same : v ≡ log = prefix_whole v log pre (omega arith) in
@@ -74,8 +74,8 @@ pub adds_moves : (v : List (List Event)) (e : List Event) (old : ℕ) → length
     → Moves IsCounted shown moved 0 (v, (no_nib, None)) (λ n. either (n == old) (old + 1) n) (Adds (step 0 old (old + 1) e) (v, (no_nib, None)))
 adds_moves v e old len cs log kept pre away =
     let P : List Cell → Type 0 = λ c. (0 < length c) × ((cell c 0).1 ≡ true)
-        × Goes IsCounted shown moved 0 (v, (no_nib, None)) (λ n. either (n == old) (old + 1) n)
-        (Adds (step 0 old (old + 1) e) (v, (no_nib, None))) c log in
+    × Goes IsCounted shown moved 0 (v, (no_nib, None)) (λ n. either (n == old) (old + 1) n)
+    (Adds (step 0 old (old + 1) e) (v, (no_nib, None))) c log in
     subst P (sym kept.words) (omega arith, refl, adds_goes log v e old len pre (length log == old) refl)
 
 -- ---- the events of batches
@@ -166,7 +166,7 @@ handed_count first h bs is =
 pub handed_again : (first h : List Event) (bs : List (List Event)) → h ≡ reverse (events_of bs) ++ first → IsHanded first bs (length (reverse h)) h
 handed_again first h bs is = record { begins = record { later = []; is = is }; count_is = handed_count first h bs is }
 
--- the same of what a desk copies from its log
+-- the same of what the pool's state copies from its log
 pub handed_over : (first h evs behind : List Event) (bs known after : List (List Event)) (n : ℕ) → IsHanded first bs n h → bs ≡ known
     → evs ≡ reverse h → behind ≡ drop n evs → after ≡ known ++ behind ∷ [] → h ≡ reverse (events_of after) ++ first
 handed_over first h evs behind bs known after n x same evs_is behind_is after_is =

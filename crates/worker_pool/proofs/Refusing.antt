@@ -49,7 +49,7 @@ open_admitted (Admit u p args ∷ h) t call is =
           let same : record { proc = p; args = args } ≡ call = some_same _ call (rw (eq-true u t own) at is) in
           subst (λ (c : Call). WasAdmitted (Admit u p args ∷ h) t c) same
           (subst (λ (v : ℕ). WasAdmitted (Admit u p args ∷ h) v (record { proc = p; args = args })) own
-              (record { place = length h; at = stands_here h (Admit u p args) }))
+          (record { place = length h; at = stands_here h (Admit u p args) }))
       | inr other ↦ later_admitted h (Admit u p args) t call (open_admitted h t call (rw (eq-false u t other) at is))
     ]
 open_admitted (Ask u n o ∷ h) t call is = later_admitted h (Ask u n o) t call (open_admitted h t call is)
@@ -84,7 +84,7 @@ blocked_fits start c call b stays begins it blocked =
     let same : c.procs ≡ start.procs = ap (λ (s : Core). s.procs) stays in
     let holder = holding start c call b (open_call c.events b.holder) refl
     (subst (λ (ps : List Checked). excludes (locks_of (decls ps) call b.name)
-        (held_for (decls ps) (open_call c.events b.holder) b.name) ≡ true) same it.1.stands) in
+    (held_for (decls ps) (open_call c.events b.holder) b.name) ≡ true) same it.1.stands) in
     record {
       waits = refl;
       takes = takes_start start c call same it.0;

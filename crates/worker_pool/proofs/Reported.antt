@@ -59,8 +59,13 @@ told_count (p ∷ ps) (b ∷ answers) told =
     let rest : AreToldBy ps answers = cc in
     let it = told_one p b head in
     let here : ◌≡◌ {A = ℕ} (cond (has_place b) 1 0) (cond (is_placed p) 1 0) = ap {B = ℕ} (λ (x : Progress). cond (is_placed x) 1 0) (sym it.is) in
-    omega (arith, sum_by-cons (λ (x : Answer). cond (has_place x) 1 0) b answers,
-        sum_by-cons (λ (x : Progress). cond (is_placed x) 1 0) p ps, here, told_count ps answers rest)
+    omega (
+      arith,
+      sum_by-cons (λ (x : Answer). cond (has_place x) 1 0) b answers,
+      sum_by-cons (λ (x : Progress). cond (is_placed x) 1 0) p ps,
+      here,
+      told_count ps answers rest,
+    )
 
 record MappedAt (ps : List Progress) (k : ℕ) (o : Option ℕ) : Type 0 where
   p : Progress

@@ -49,8 +49,8 @@ use Rattle.worker_pool.specs.Kept.{ends, serial_of, txn_of, place_in, is_placed,
 use Rattle.worker_pool.specs.Joining.Seen.{IsAnswered, AnswersStay}
 use Rattle.worker_pool.specs.Joining.Moves.{MovesOn, IsAnsweredBy}
 use Rattle.worker_pool.specs.Acknowledged.{WasAnswered}
-use Rattle.worker_pool.specs.declared.desk.Next.{Next}
-use Rattle.worker_pool.specs.declared.desk.Next.TheVariants as next
+use Rattle.worker_pool.specs.declared.pool_state.Next.{Next}
+use Rattle.worker_pool.specs.declared.pool_state.Next.TheVariants as next
 use Rattle.worker_pool.proofs.Lists.{get_set, set_here, set_other, length_set, count_set}
 use Rattle.worker_pool.proofs.Placed.{stands_more, stands_here, stood, stands_within, begins_more, begins_length}
 use Rattle.worker_pool.specs.Doubts.{IsDoubtful}
@@ -77,8 +77,13 @@ is_admitted_more first h e c t a = record { place = a.place; at = behind_more fi
 ended_more : (start : Core) (h : List Event) (e : Event) (c : named.Call) (o : Option ℕ) (place : ℕ) (how : Outcome)
     → IsEnded start h c o place how → IsEnded start (e ∷ h) c o place how
 ended_more start h e c o place how it =
-    record { t = it.t; own = it.own; takes = it.takes; admitted = is_admitted_more start.events h e c it.t it.admitted;
-        ended = behind_more start.events h e place (End it.t how) it.ended }
+    record {
+      t = it.t;
+      own = it.own;
+      takes = it.takes;
+      admitted = is_admitted_more start.events h e c it.t it.admitted;
+      ended = behind_more start.events h e place (End it.t how) it.ended;
+    }
 
 refusal_more : (start : Core) (h : List Event) (e : Event) (c : named.Call) (why : Refusal)
     → IsMore h e → RefusalFits start h c why → RefusalFits start (e ∷ h) c why
@@ -148,9 +153,12 @@ answer_beside start now numbers sites c (Blocked b) o more it =
       waits = it.waits;
       takes = it.takes;
       then = it.then;
-      moment = record { stays = m.stays; begins = m.begins; goes_on = m.goes_on;
-          given_up = begin_then (still_given_up m.goes_on.later it.then.given_up) now.given_up numbers m.given_up more
-          };
+      moment = record {
+        stays = m.stays;
+        begins = m.begins;
+        goes_on = m.goes_on;
+        given_up = begin_then (still_given_up m.goes_on.later it.then.given_up) now.given_up numbers m.given_up more;
+      };
       blocked = it.blocked;
       first = it.first;
       other = it.other;
@@ -338,7 +346,7 @@ heard start calls old new ps r said (Err s) ok err keeps = rw err keeps
 -- no event, but more numbers given up, or something else known of data components
 beside : (start : Core) (calls : List Call) (old : Core) (ps : List Progress) (numbers : List ℕ) (sites : List Site)
     → BeginWith old.given_up numbers → StaysKnown old (record old { given_up = numbers; sites = sites })
-        → Keeps start calls old ps → Keeps start calls (record old { given_up = numbers; sites = sites }) ps
+    → Keeps start calls old ps → Keeps start calls (record old { given_up = numbers; sites = sites }) ps
 beside start calls old ps numbers sites more known keeps = record {
   stays = ap (λ (s : Core). record s { events = old.events; given_up = numbers; sites = sites }) keeps.stays;
   begins = keeps.begins;
@@ -451,8 +459,15 @@ admitted_one start calls state ps k t c keeps at of there is =
             let tu : t.serial ≡ u = cc in
             let pp : c.proc ≡ proc = cc in
             let aa : c.args.items ≡ args = cc in
-            record { k = k; progress = p'; at = set_here ps k Waiting p' at; own = ap (λ (n : ℕ). Some n) tu; c = c;
-                of = of; same = same_named (call_of c) proc args pp aa }
+            record {
+              k = k;
+              progress = p';
+              at = set_here ps k Waiting p' at;
+              own = ap (λ (n : ℕ). Some n) tu;
+              c = c;
+              of = of;
+              same = same_named (call_of c) proc args pp aa;
+            }
       ];
       below = λ i q place at' has. elim (get_set ps k i p' q at') [
         | inl x ↦ absurd (no_place p' place refl (ap place_in x.1 ∙ has))
@@ -519,7 +534,7 @@ ended start calls state ps k t o a c keeps at of fits' place =
       ends_placed =
           let m : count_by is_placed (set ps k p') + cond false 1 0 ≡ count_by is_placed ps + cond true 1 0 =
           subst (λ (b : Bool). count_by is_placed (set ps k p') + cond false 1 0 ≡ count_by is_placed ps + cond b 1 0)
-              (ap is_some place) (count_set is_placed ps k p p' at) in
+          (ap is_some place) (count_set is_placed ps k p p' at) in
           let old = keeps.ends_placed in
           omega arith;
     }
@@ -566,15 +581,20 @@ ended_by start calls old new ps k t c receipt (Some o) keeps at of reply is =
     let same : receipt ≡ record { place = length old.events; txn = t.serial; outcome = o } = cc in
     subst (λ (r : Receipt). Keeps start calls new (set ps k (Answered (answer_of r.outcome r.place) (Some t)))) (sym same)
     (subst (λ (s : Core). Keeps start calls s (set ps k (Answered (answer_of o (length old.events)) (Some t)))) (sym is)
-        (ended_one start calls old ps k t o c keeps at of))
+    (ended_one start calls old ps k t o c keeps at of))
 
 -- the answer of a transaction in doubt
 pub in_doubt_fits : (start : Core) (state : Core) (c : Call) (t : TxnId) (n : ℕ)
     → IsBegun start state.events (call_of c) t.serial → IsDoubtful state t.serial n
     → AnswerFits start state (call_of c) (InDoubt n) (Some t.serial)
 in_doubt_fits start state c t n begun doubt =
-    record { t = t.serial; own = refl; takes = begun.takes; admitted = begun.admitted;
-        sent = doubtful_sent start.events state (call_of c) t.serial n begun.admitted begun.still doubt }
+    record {
+      t = t.serial;
+      own = refl;
+      takes = begun.takes;
+      admitted = begun.admitted;
+      sent = doubtful_sent start.events state (call_of c) t.serial n begun.admitted begun.still doubt;
+    }
 
 -- ---- the beginning
 

@@ -4,12 +4,12 @@ ghost use Rattle.std.specs.Prelude.{◌≡◌, true, false};
 ghost use Rattle.worker_pool.specs.Acknowledged.{WasAnswered, IsKept};
 
 use crate::answer::Answer;
-use crate::naming::Naming;
 use crate::pool::Gate;
+use crate::run_spec::RunSpec;
 use std::marker::{Model, PhantomData};
 
-/// An answer that stands and isn't told yet. Desks alone can make it: it is true of a state of the run.
-pub struct Due<J: Naming> {
+/// An answer that stands and isn't told yet. The pool's state alone can make it: it is true of a state of the run.
+pub struct ReadyAnswer<J: RunSpec> {
     pub call: usize,
     pub answer: Answer,
     /// How many events the log had then.
@@ -17,7 +17,7 @@ pub struct Due<J: Naming> {
     pub of: PhantomData<J>,
 }
 
-impl<J: Naming> Model for Due<J> {
+impl<J: RunSpec> Model for ReadyAnswer<J> {
     ghost use Rattle.worker_pool.specs.Acknowledged.{Acknowledged, WasAnswered};
 
     ghost Value = { Acknowledged };
@@ -27,7 +27,7 @@ impl<J: Naming> Model for Due<J> {
     ghost invariant = { λ d. WasAnswered J.start J.calls d.call d.answer d.logged };
 }
 
-impl<J: Naming> Due<J> {
+impl<J: RunSpec> ReadyAnswer<J> {
     // What holding it says.
     fn known(&self)
         ensures { WasAnswered J.start J.calls self.now.call self.now.answer self.now.logged }
@@ -37,7 +37,7 @@ impl<J: Naming> Due<J> {
 
     /// Nobody is told of it.
     pub fn forget(self) {
-        let Due {
+        let ReadyAnswer {
             call: _,
             answer: _,
             logged: _,
@@ -48,50 +48,50 @@ impl<J: Naming> Due<J> {
 
 /// The acknowledgement of a call: its place in the list, and its answer, which stands. In a run with a journal
 /// all that the log had when the call was answered is kept. Runs alone make it, each of one call of its list.
-pub struct Acknowledgement<J: Naming> {
-    due: Due<J>,
+pub struct Acknowledgement<J: RunSpec> {
+    ready: ReadyAnswer<J>,
 }
 
-impl<J: Naming> Model for Acknowledgement<J> {
+impl<J: RunSpec> Model for Acknowledgement<J> {
     ghost use Rattle.std.specs.Prelude.{◌≡◌, true};
     ghost use Rattle.worker_pool.specs.Acknowledged.{Acknowledged, IsKept};
 
     ghost Value = { Acknowledged };
 
-    ghost view = { λ a. a.due };
+    ghost view = { λ a. a.ready };
 
-    ghost invariant = { λ a. J.keeps ≡ true → IsKept J.kept J.before J.start.events a.due.logged };
+    ghost invariant = { λ a. J.keeps ≡ true → IsKept J.kept J.before J.start.events a.ready.logged };
 }
 
-impl<J: Naming> Acknowledgement<J> {
+impl<J: RunSpec> Acknowledgement<J> {
     // In a run without a journal.
-    pub(crate) fn free(due: Due<J>) -> Acknowledgement<J>
+    pub(crate) fn free(ready: ReadyAnswer<J>) -> Acknowledgement<J>
         requires { J.keeps ≡ false }
-        ensures { result ≡ due }
+        ensures { result ≡ ready }
     {
-        Acknowledgement { due }
+        Acknowledgement { ready }
     }
 
     // Where the journal has kept as many events as the log had then.
-    pub(crate) fn kept(due: Due<J>) -> Acknowledgement<J>
-        requires { IsKept J.kept J.before J.start.events due.logged }
-        ensures { result ≡ due }
+    pub(crate) fn kept(ready: ReadyAnswer<J>) -> Acknowledgement<J>
+        requires { IsKept J.kept J.before J.start.events ready.logged }
+        ensures { result ≡ ready }
     {
-        Acknowledgement { due }
+        Acknowledgement { ready }
     }
 
     /// The call's place in the list.
     pub fn call(&self) -> usize
         ensures { result ≡ self.now.call }
     {
-        self.due.call
+        self.ready.call
     }
 
     /// The call's answer.
     pub fn answer(&self) -> Answer
         ensures { result ≡ self.now.answer }
     {
-        self.due.answer
+        self.ready.answer
     }
 
     /// What holding it says: the answer was true of the run when its log had so many events, and where the run
@@ -100,13 +100,13 @@ impl<J: Naming> Acknowledgement<J> {
         ensures answered { WasAnswered J.start J.calls self.now.call self.now.answer self.now.logged }
         ensures kept { J.keeps ≡ true → IsKept J.kept J.before J.start.events self.now.logged }
     {
-        self.due.known();
+        self.ready.known();
     }
 
     // Tells the gate.
     pub(crate) fn tell<G: Gate>(self, gate: &G) {
         gate.answered(&self);
-        let Acknowledgement { due } = self;
-        due.forget();
+        let Acknowledgement { ready } = self;
+        ready.forget();
     }
 }

@@ -1,4 +1,4 @@
-// What was handed over to be kept. A desk and who keeps its events lie under two locks, and of what lies
+// What was handed over to be kept. The pool's state and who keeps its events lie under two locks, and of what lies
 // under a lock only its type tells: so both hold what they know of one history, which only grows, of what
 // was handed over. The history is in proofs alone. What stands for it when the program runs is the number
 // of batches in it.
@@ -8,7 +8,7 @@ ghost use mathlib.Core.List.{IsPrefix};
 ghost use Rattle.worker_pool.specs.Joining.Handing.{head_of};
 
 use crate::batch::Batch;
-use crate::naming::Naming;
+use crate::run_spec::RunSpec;
 use logbook::{Gain, Offer, Plain, Play, Rule, Seen, Start, Word};
 use std::marker::{Model, PhantomData};
 
@@ -77,7 +77,7 @@ impl Opened {
     }
 
     /// The run's history, of which nothing is seen since there is nothing.
-    pub fn named<J: Naming>(self) -> (Count<J>, Handed<J>)
+    pub fn named<J: RunSpec>(self) -> (Count<J>, Handed<J>)
         requires { self.seen.book ≡ J.book }
         ensures { result.1 ≡ [] }
     {
@@ -98,7 +98,7 @@ impl Opened {
 
 /// How many batches were handed over.
 #[derive(Drop)]
-pub struct Count<J: Naming> {
+pub struct Count<J: RunSpec> {
     head: Word<Batch, u64, Counted>,
     of: PhantomData<J>,
     ghost head_is: { head ≡ head_of J.book },
@@ -106,13 +106,13 @@ pub struct Count<J: Naming> {
 
 /// The batches that were handed over, as far as its holder knows. Contracts see them as lists of events.
 #[derive(Drop)]
-pub struct Handed<J: Naming> {
+pub struct Handed<J: RunSpec> {
     batches: u64,
     seen: Seen<Batch, u64, Counted>,
     of: PhantomData<J>,
 }
 
-impl<J: Naming> Model for Handed<J> {
+impl<J: RunSpec> Model for Handed<J> {
     ghost use Rattle.std.specs.Prelude.{◌≡◌, List, length};
     ghost use Rattle.tc_log.specs.declared.event.Event.{Event};
 
@@ -123,7 +123,7 @@ impl<J: Naming> Model for Handed<J> {
     ghost invariant = { λ f. (f.batches ≡ length f.seen.log) × (f.seen.book ≡ J.book) };
 }
 
-impl<J: Naming> Handed<J> {
+impl<J: RunSpec> Handed<J> {
     /// A copy.
     pub fn again(&self) -> Handed<J>
         ensures { result ≡ self.now }

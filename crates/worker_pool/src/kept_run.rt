@@ -8,12 +8,12 @@ ghost use Rattle.worker_pool.specs.Reports.{Reports};
 ghost use Rattle.worker_pool.specs.Journals.{HasKept, WasKept, IsLeftOfRun, KeptFaultFits, IsUnkeptBy, kept_state_of};
 
 use crate::batch::Batch;
-use crate::desk::Desk;
+use crate::group_commit::{GroupCommit, GroupCommitLock};
 use crate::handed::Opened;
-use crate::keeper::{Keeper, Keeping};
-use crate::naming::Naming;
 use crate::pool::{Gate, Prepared, Ran, RunFault, prepare, run_over};
+use crate::pool_state::PoolState;
 use crate::report::Report;
+use crate::run_spec::RunSpec;
 use dc_links::Link;
 use journals::{Journal, NotKept};
 use std::alloc::Global;
@@ -46,7 +46,7 @@ impl KeptFault {
 
 // The run under a name for its first state, its calls and what its journal had kept.
 fn run_kept_named<
-    J: Naming + Send + Sync,
+    J: RunSpec + Send + Sync,
     K: Journal + Send,
     R: Threads + Wait + Sync,
     L: Link + Sync,
@@ -94,13 +94,21 @@ fn run_kept_named<
     } = prepared;
     let events = state.log().len();
     let batch = Batch::new(alloc);
-    let keeper = Keeper::new(journal, true, count, handed.again(), events, batch);
-    let desk = Desk::new(state, progress, tries, handed);
-    let keeping = Keeping::new(keeper, true);
-    let (keeper, ran) = run_over(
-        rt, alloc, desk, keeping, calls, answers, workers, link, gate,
+    let group_commit = GroupCommit::new(journal, true, count, handed.again(), events, batch);
+    let pool_state = PoolState::new(state, progress, tries, handed);
+    let commit_lock = GroupCommitLock::new(group_commit, true);
+    let (group_commit, ran) = run_over(
+        rt,
+        alloc,
+        pool_state,
+        commit_lock,
+        calls,
+        answers,
+        workers,
+        link,
+        gate,
     );
-    let journal = keeper.into_journal();
+    let journal = group_commit.into_journal();
     let ran = match ran {
         Ran::Done(report) => Ok(report),
         Ran::NoThread(state) => Err(KeptFault::Unbegun(RunFault::NoThread(state))),

@@ -26,26 +26,26 @@
 
 mod acknowledgement;
 mod answer;
+mod attempt;
 mod batch;
-mod desk;
-mod errand;
-mod errands;
+mod group_commit;
 mod handed;
-mod keeper;
 mod kept_run;
 mod laws;
-mod naming;
+mod outstanding_call;
+mod outstanding_calls;
 mod pool;
-mod redos;
+mod pool_state;
+mod redo_budget;
 mod report;
-mod sending;
+mod run_spec;
 
 pub use acknowledgement::Acknowledgement;
 pub use answer::{Answer, Progress};
 pub use dc_links::Link;
-pub use errand::Errand;
 pub use kept_run::{KeptFault, run_kept};
 pub use laws::carried_is_in_flight;
-pub use naming::Naming;
+pub use outstanding_call::OutstandingCall;
 pub use pool::{Gate, OpenGate, RunFault, run};
 pub use report::Report;
+pub use run_spec::RunSpec;

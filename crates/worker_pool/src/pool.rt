@@ -9,16 +9,16 @@ ghost use Rattle.worker_pool.specs.Journals.{HasGoneOn};
 ghost use Rattle.worker_pool.specs.Faults.{state_of, InRange, WorkersFit, TriesFit, FaultFits};
 ghost use Rattle.worker_pool.specs.Joining.Ran.{RanFits, RanKeeps, KeepsAll};
 
-use crate::acknowledgement::{Acknowledgement, Due};
+use crate::acknowledgement::{Acknowledgement, ReadyAnswer};
 use crate::answer::{Answer, Progress};
+use crate::attempt::Attempt;
 use crate::batch::Batch;
-use crate::desk::{Desk, Next};
-use crate::errands::Errands;
+use crate::group_commit::{GroupCommit, GroupCommitLock, Stopped};
 use crate::handed::Opened;
-use crate::keeper::{Keeper, Keeping, Stopped};
-use crate::naming::Naming;
+use crate::outstanding_calls::OutstandingCalls;
+use crate::pool_state::{Next, PoolState};
 use crate::report::Report;
-use crate::sending::Sending;
+use crate::run_spec::RunSpec;
 use dc_links::{Link, WIRES_OF_A_WORKER, acquire};
 use journals::{Journal, NoJournal, NotKept};
 use std::alloc::{AllocError, Global};
@@ -39,7 +39,7 @@ pub trait Gate {
 
     /// A call's answer stands, and in a run with a journal the log that it is true of is kept. It is called
     /// once, without the lock. A call that isn't tried, since memory ran out before it, is told to nobody.
-    fn answered<J: Naming>(&self, acknowledgement: &Acknowledgement<J>);
+    fn answered<J: RunSpec>(&self, acknowledgement: &Acknowledgement<J>);
 
     /// Whether the gate never keeps a worker for long: then, over a prompt link, each of several workers has
     /// more than one call on their way at a time.
@@ -54,7 +54,7 @@ pub struct OpenGate;
 impl Gate for OpenGate {
     fn begun(&self, _call: usize) {}
 
-    fn answered<J: Naming>(&self, _acknowledgement: &Acknowledgement<J>) {}
+    fn answered<J: RunSpec>(&self, _acknowledgement: &Acknowledgement<J>) {}
 
     fn is_prompt(&self) -> bool {
         true
@@ -97,61 +97,63 @@ struct Worker<'a, L, G> {
 }
 
 // Tells an answer as soon as what it names is kept, where no other worker is left.
-fn conclude_alone<J: Naming, K: Journal, R: Wait, G: Gate>(
+fn conclude_alone<J: RunSpec, K: Journal, R: Wait, G: Gate>(
     rt: &R,
-    desk: &mut Desk<J>,
-    due: Due<J>,
+    pool_state: &mut PoolState<J>,
+    ready: ReadyAnswer<J>,
     gate: &G,
-    keeper: &mut Keeper<J, K>,
+    group_commit: &mut GroupCommit<J, K>,
 ) -> Result<(), Stopped<J>>
-    ensures same { desk.new ≡ desk.old }
-    ensures stopped { IfErr result (λ stopped. keeper.new.fault ≡ Some stopped.why) }
+    ensures same { pool_state.new ≡ pool_state.old }
+    ensures stopped { IfErr result (λ stopped. group_commit.new.fault ≡ Some stopped.why) }
 {
-    keeper.conclude_alone(rt, desk, due)?.tell(gate);
+    group_commit
+        .conclude_alone(rt, pool_state, ready)?
+        .tell(gate);
     Ok(())
 }
 
 // Runs a call to its answer, where no other worker is left.
-fn finish<J: Naming, K: Journal, R: Wait, L: Link, G: Gate>(
+fn finish<J: RunSpec, K: Journal, R: Wait, L: Link, G: Gate>(
     rt: &R,
-    desk: &mut Desk<J>,
+    pool_state: &mut PoolState<J>,
     k: usize,
     call: &Call,
     worker: &Worker<L, G>,
-    keeper: &mut Keeper<J, K>,
+    group_commit: &mut GroupCommit<J, K>,
 ) -> Result<(), Stopped<J>>
     requires { slice_get J.calls k ≡ Some call.now }
-    ensures answered { IsAnswered desk.new.progress k × AnswersStay desk.old.progress desk.new.progress }
-    ensures stopped { IfErr result (λ stopped. keeper.new.fault ≡ Some stopped.why) }
+    ensures answered { IsAnswered pool_state.new.progress k × AnswersStay pool_state.old.progress pool_state.new.progress }
+    ensures stopped { IfErr result (λ stopped. group_commit.new.fault ≡ Some stopped.why) }
 {
-    let mut sending = Sending::none();
-    let mut next = desk.advance(k, call, &mut sending);
+    let mut attempt = Attempt::none();
+    let mut next = pool_state.advance(k, call, &mut attempt);
     for _ in rt.forever() {
         next = match next {
             Next::Over => {
-                desk.abandon(sending);
-                let due = desk.due(k, call);
-                return conclude_alone(rt, desk, due, worker.gate, keeper);
+                pool_state.abandon(attempt);
+                let ready = pool_state.ready(k, call);
+                return conclude_alone(rt, pool_state, ready, worker.gate, group_commit);
             }
             Next::LeftOut => {
-                desk.abandon(sending);
+                pool_state.abandon(attempt);
                 return Ok(());
             }
             Next::Begun => {
                 worker.gate.begun(k);
-                desk.advance(k, call, &mut sending)
+                pool_state.advance(k, call, &mut attempt)
             }
             Next::Busy => {
                 thread::yield_now();
-                desk.advance(k, call, &mut sending)
+                pool_state.advance(k, call, &mut attempt)
             }
-            Next::Carry => match worker.link.carry(rt, worker.number, sending.wire()) {
-                Some(reply) => desk.hear(k, call, &mut sending, &reply),
+            Next::Carry => match worker.link.carry(rt, worker.number, attempt.wire()) {
+                Some(reply) => pool_state.hear(k, call, &mut attempt, &reply),
                 None => Next::Unanswered,
             },
             Next::Unanswered => {
-                let news = worker.link.news(rt, worker.number, sending.dc());
-                desk.go_on_unanswered(k, call, &mut sending, news)
+                let news = worker.link.news(rt, worker.number, attempt.dc());
+                pool_state.go_on_unanswered(k, call, &mut attempt, news)
             }
         };
     }
@@ -159,46 +161,46 @@ fn finish<J: Naming, K: Journal, R: Wait, L: Link, G: Gate>(
 }
 
 // Runs every call that has no answer to its answer: first those that were begun.
-fn finish_all<J: Naming, K: Journal, R: Wait, L: Link, G: Gate>(
+fn finish_all<J: RunSpec, K: Journal, R: Wait, L: Link, G: Gate>(
     rt: &R,
-    desk: &mut Desk<J>,
+    pool_state: &mut PoolState<J>,
     calls: &[Call],
     worker: &Worker<L, G>,
-    keeper: &mut Keeper<J, K>,
+    group_commit: &mut GroupCommit<J, K>,
 ) -> Result<(), Stopped<J>>
     requires { calls.now ≡ J.calls }
-    ensures answered { OnOk result ((k : ℕ) → k < length calls.now → IsAnswered desk.new.progress k) }
-    ensures stopped { IfErr result (λ stopped. keeper.new.fault ≡ Some stopped.why) }
+    ensures answered { OnOk result ((k : ℕ) → k < length calls.now → IsAnswered pool_state.new.progress k) }
+    ensures stopped { IfErr result (λ stopped. group_commit.new.fault ≡ Some stopped.why) }
 {
     for (k, call) in calls.iter().enumerate() {
-        if desk.is_begun(k) {
-            finish(rt, desk, k, call, worker, keeper)?;
+        if pool_state.is_begun(k) {
+            finish(rt, pool_state, k, call, worker, group_commit)?;
         }
     }
     for (k, call) in calls.iter().enumerate() {
-        if !desk.is_answered(k) {
-            finish(rt, desk, k, call, worker, keeper)?;
+        if !pool_state.is_answered(k) {
+            finish(rt, pool_state, k, call, worker, group_commit)?;
         }
     }
     Ok(())
 }
 
 // The same, in a run that didn't stop before, and then keeps what is left of the log.
-fn finish_and_keep<J: Naming, K: Journal, R: Wait, L: Link, G: Gate>(
+fn finish_and_keep<J: RunSpec, K: Journal, R: Wait, L: Link, G: Gate>(
     rt: &R,
-    desk: &mut Desk<J>,
+    pool_state: &mut PoolState<J>,
     calls: &[Call],
     worker: &Worker<L, G>,
-    keeper: &mut Keeper<J, K>,
+    group_commit: &mut GroupCommit<J, K>,
 ) -> Result<(), Stopped<J>>
     requires { calls.now ≡ J.calls }
-    ensures answered { OnOk result ((k : ℕ) → k < length calls.now → IsAnswered desk.new.progress k) }
-    ensures kept { OnOk result (J.keeps ≡ true → KeepsAll K.has_kept J.before J.start.events desk.new.state.events keeper.new) }
-    ensures stopped { IfErr result (λ stopped. keeper.new.fault ≡ Some stopped.why) }
+    ensures answered { OnOk result ((k : ℕ) → k < length calls.now → IsAnswered pool_state.new.progress k) }
+    ensures kept { OnOk result (J.keeps ≡ true → KeepsAll K.has_kept J.before J.start.events pool_state.new.state.events group_commit.new) }
+    ensures stopped { IfErr result (λ stopped. group_commit.new.fault ≡ Some stopped.why) }
 {
-    keeper.check()?;
-    finish_all(rt, desk, calls, worker, keeper)?;
-    keeper.keep_rest(rt, desk)
+    group_commit.check()?;
+    finish_all(rt, pool_state, calls, worker, group_commit)?;
+    group_commit.keep_rest(rt, pool_state)
 }
 
 fn all_waiting(alloc: Global, count: usize) -> Result<Vec<Progress>, AllocError>
@@ -214,90 +216,90 @@ fn room_for(alloc: Global, count: usize) -> Result<Vec<Answer>, AllocError>
 }
 
 // The lock, what tells of transactions that leave the way, and the run's journal, which is under a lock of
-// its own. Nobody waits for the journal who holds the desk.
-struct Pool<J: Naming, K: Journal> {
-    desk: Mutex<Desk<J>>,
+// its own. Nobody waits for the journal who holds the pool's state.
+struct Pool<J: RunSpec, K: Journal> {
+    state: Mutex<PoolState<J>>,
     freed: Condvar,
-    keeping: Keeping<J, K>,
+    commit_lock: GroupCommitLock<J, K>,
 }
 
 // Tells an answer as soon as what it names is kept. Where it can't be the run stops, and who waits for a
 // change is woken to see that.
-fn conclude<J: Naming, K: Journal, R: Wait, G: Gate>(
+fn conclude<J: RunSpec, K: Journal, R: Wait, G: Gate>(
     rt: &R,
     pool: &Pool<J, K>,
-    due: Due<J>,
+    ready: ReadyAnswer<J>,
     gate: &G,
 ) {
-    match pool.keeping.conclude(rt, &pool.desk, due) {
+    match pool.commit_lock.conclude(rt, &pool.state, ready) {
         Some(acknowledgement) => acknowledgement.tell(gate),
         None => {
-            drop(acquire(rt, &pool.desk));
+            drop(acquire(rt, &pool.state));
             pool.freed.notify_all();
         }
     }
 }
 
-// Under one taking of the lock, the desk hears what came back, and calls are taken up. Where all that is left
-// has another transaction in its way, waits for a change. Whether anything is on its way then, or due.
+// Under one taking of the lock, the pool's state hears what came back, and calls are taken up. Where all that is left
+// has another transaction in its way, waits for a change. Whether anything is on its way then, or ready.
 #[inline(always)]
-fn settle<J: Naming, K: Journal, R: Wait>(
+fn settle<J: RunSpec, K: Journal, R: Wait>(
     rt: &R,
     pool: &Pool<J, K>,
     calls: &[Call],
-    errands: &mut Errands<J>,
+    outstanding_calls: &mut OutstandingCalls<J>,
 ) -> bool
     requires { calls.now ≡ J.calls }
 {
-    let mut desk = acquire(rt, &pool.desk);
-    errands.hear(&mut *desk, calls);
+    let mut pool_state = acquire(rt, &pool.state);
+    outstanding_calls.hear(&mut *pool_state, calls);
     for _ in rt.forever() {
-        errands.take_up(&mut *desk, calls);
-        if !errands.is_idle() {
-            drop(desk);
-            if errands.is_due() {
+        outstanding_calls.take_up(&mut *pool_state, calls);
+        if !outstanding_calls.is_idle() {
+            drop(pool_state);
+            if outstanding_calls.is_ready() {
                 pool.freed.notify_all();
             }
             return true;
         }
-        if !errands.is_waiting() || pool.keeping.is_stopped() {
+        if !outstanding_calls.is_waiting() || pool.commit_lock.is_stopped() {
             return false;
         }
-        desk = pool.freed.wait(rt, desk);
+        pool_state = pool.freed.wait(rt, pool_state);
     }
     unreachable!()
 }
 
 // Runs calls, each to its answer, until none is left or the run stops. Gate, link and journal are called
 // without the lock.
-fn serve<J: Naming, K: Journal, R: Wait, L: Link, G: Gate>(
+fn serve<J: RunSpec, K: Journal, R: Wait, L: Link, G: Gate>(
     rt: &R,
     pool: &Pool<J, K>,
     calls: &[Call],
     worker: &Worker<L, G>,
-    errands: &mut Errands<J>,
+    outstanding_calls: &mut OutstandingCalls<J>,
 )
     requires { calls.now ≡ J.calls }
 {
     for _ in rt.forever() {
-        if pool.keeping.is_stopped() || !settle(rt, pool, calls, errands) {
+        if pool.commit_lock.is_stopped() || !settle(rt, pool, calls, outstanding_calls) {
             return;
         }
-        errands.tell_begun(worker.gate);
-        while let Some(due) = errands.next_due() {
-            conclude(rt, pool, due, worker.gate);
+        outstanding_calls.tell_begun(worker.gate);
+        while let Some(ready) = outstanding_calls.next_ready() {
+            conclude(rt, pool, ready, worker.gate);
         }
-        if pool.keeping.is_stopped() {
+        if pool.commit_lock.is_stopped() {
             return;
         }
-        errands.carry(rt, worker.number, worker.link);
+        outstanding_calls.carry(rt, worker.number, worker.link);
     }
     unreachable!()
 }
 
 // What a worker does: it takes calls until none is left, or the run stops. Where there is no memory for its
-// errands, it takes none, and others do.
-fn work<J: Naming, K: Journal, R: Wait, L: Link, G: Gate>(
+// outstanding calls, it takes none, and others do.
+fn work<J: RunSpec, K: Journal, R: Wait, L: Link, G: Gate>(
     rt: &R,
     alloc: Global,
     pool: &Pool<J, K>,
@@ -306,12 +308,12 @@ fn work<J: Naming, K: Journal, R: Wait, L: Link, G: Gate>(
 )
     requires { calls.now ≡ J.calls }
 {
-    let mut errands = Errands::new(alloc);
-    if errands.reserve(worker.most).is_ok() {
-        serve(rt, pool, calls, worker, &mut errands);
+    let mut outstanding_calls = OutstandingCalls::new(alloc);
+    if outstanding_calls.reserve(worker.most).is_ok() {
+        serve(rt, pool, calls, worker, &mut outstanding_calls);
     }
-    let mut desk = acquire(rt, &pool.desk);
-    errands.close(&mut *desk);
+    let mut pool_state = acquire(rt, &pool.state);
+    outstanding_calls.close(&mut *pool_state);
 }
 
 // How many calls each of so many workers has on their way at a time: one where a call could wait for another's
@@ -326,7 +328,7 @@ fn at_a_time<L: Link, G: Gate>(link: &L, gate: &G, is_kept: bool, workers: usize
 
 // Starts the workers and joins them. Answers how many were started.
 fn work_all<
-    J: Naming + Send + Sync,
+    J: RunSpec + Send + Sync,
     K: Journal + Send,
     R: Threads + Wait + Sync,
     L: Link + Sync,
@@ -342,7 +344,7 @@ fn work_all<
 ) -> usize
     requires { calls.now ≡ J.calls }
 {
-    let most = at_a_time(link, gate, pool.keeping.is_kept(), workers);
+    let most = at_a_time(link, gate, pool.commit_lock.is_kept(), workers);
     thread::scope(
         thread::scope_env(),
         rt,
@@ -441,9 +443,9 @@ pub(crate) enum Ran {
     Stopped(NotKept, TcState),
 }
 
-// The run from the desk on, and the journal behind it.
+// The run from the pool's state on, and the journal behind it.
 pub(crate) fn run_over<
-    J: Naming + Send + Sync,
+    J: RunSpec + Send + Sync,
     K: Journal + Send,
     R: Threads + Wait + Sync,
     L: Link + Sync,
@@ -451,14 +453,14 @@ pub(crate) fn run_over<
 >(
     rt: &R,
     alloc: Global,
-    desk: Desk<J>,
-    keeping: Keeping<J, K>,
+    pool_state: PoolState<J>,
+    commit_lock: GroupCommitLock<J, K>,
     calls: &[Call],
     answers: Vec<Answer>,
     workers: usize,
     link: &L,
     gate: &G,
-) -> (Keeper<J, K>, Ran)
+) -> (GroupCommit<J, K>, Ran)
     requires calls { calls.now ≡ J.calls }
     requires empty { answers.items ≡ [] }
     requires room { length J.calls ≤ vec_capacity answers }
@@ -466,21 +468,21 @@ pub(crate) fn run_over<
     ensures kept { RanKeeps K.has_kept J.before J.start.events J.keeps result.1 result.0 }
 {
     let pool = Pool {
-        desk: Mutex::new(desk),
+        state: Mutex::new(pool_state),
         freed: Condvar::new(),
-        keeping,
+        commit_lock,
     };
     let started = work_all(rt, alloc, &pool, calls, workers, link, gate);
     let Pool {
-        desk,
+        state,
         freed: _,
-        keeping,
+        commit_lock,
     } = pool;
-    let desk = desk.into_inner();
-    let mut keeper = keeping.into_keeper();
-    if started == 0 && !desk.is_touched() {
-        let ran = Ran::NoThread(desk.into_state());
-        return (keeper, ran);
+    let pool_state = state.into_inner();
+    let mut group_commit = commit_lock.into_group_commit();
+    if started == 0 && !pool_state.is_touched() {
+        let ran = Ran::NoThread(pool_state.into_state());
+        return (group_commit, ran);
     }
     let worker = Worker {
         number: 0,
@@ -488,40 +490,40 @@ pub(crate) fn run_over<
         gate,
         most: 1,
     };
-    let ran = finished(rt, desk, calls, answers, &worker, &mut keeper);
-    (keeper, ran)
+    let ran = finished(rt, pool_state, calls, answers, &worker, &mut group_commit);
+    (group_commit, ran)
 }
 
 // The report, once each call that has no answer yet has one, and all is kept.
-fn finished<J: Naming, K: Journal, R: Wait, L: Link, G: Gate>(
+fn finished<J: RunSpec, K: Journal, R: Wait, L: Link, G: Gate>(
     rt: &R,
-    mut desk: Desk<J>,
+    mut pool_state: PoolState<J>,
     calls: &[Call],
     answers: Vec<Answer>,
     worker: &Worker<L, G>,
-    keeper: &mut Keeper<J, K>,
+    group_commit: &mut GroupCommit<J, K>,
 ) -> Ran
     requires calls { calls.now ≡ J.calls }
     requires empty { answers.items ≡ [] }
     requires room { length J.calls ≤ vec_capacity answers }
     ensures ran { RanFits J.start J.calls J.keeps result }
-    ensures kept { RanKeeps K.has_kept J.before J.start.events J.keeps result keeper.new }
+    ensures kept { RanKeeps K.has_kept J.before J.start.events J.keeps result group_commit.new }
 {
-    match finish_and_keep(rt, &mut desk, calls, worker, keeper) {
-        Ok(()) => Ran::Done(desk.close(answers)),
-        Err(stopped) => Ran::Stopped(stopped.why, halted_by(desk, stopped)),
+    match finish_and_keep(rt, &mut pool_state, calls, worker, group_commit) {
+        Ok(()) => Ran::Done(pool_state.close(answers)),
+        Err(stopped) => Ran::Stopped(stopped.why, halted_by(pool_state, stopped)),
     }
 }
 
 // The state of a run that stops.
-fn halted_by<J: Naming>(desk: Desk<J>, _stopped: Stopped<J>) -> TcState
+fn halted_by<J: RunSpec>(pool_state: PoolState<J>, _stopped: Stopped<J>) -> TcState
     ensures { (J.keeps ≡ true) × HasGoneOn J.start result }
 {
-    desk.halted()
+    pool_state.halted()
 }
 
 // The run without a journal, under a name for its first state and its calls.
-fn run_named<J: Naming + Send + Sync, R: Threads + Wait + Sync, L: Link + Sync, G: Gate + Sync>(
+fn run_named<J: RunSpec + Send + Sync, R: Threads + Wait + Sync, L: Link + Sync, G: Gate + Sync>(
     rt: &R,
     alloc: Global,
     state: TcState,
@@ -549,13 +551,21 @@ fn run_named<J: Naming + Send + Sync, R: Threads + Wait + Sync, L: Link + Sync, 
     } = prepare(alloc, state, calls, workers, tries)?;
     let events = state.log().len();
     let batch = Batch::new(alloc);
-    let keeper = Keeper::new(NoJournal, false, count, handed.again(), events, batch);
-    let desk = Desk::new(state, progress, tries, handed);
-    let keeping = Keeping::new(keeper, false);
-    let (keeper, ran) = run_over(
-        rt, alloc, desk, keeping, calls, answers, workers, link, gate,
+    let group_commit = GroupCommit::new(NoJournal, false, count, handed.again(), events, batch);
+    let pool_state = PoolState::new(state, progress, tries, handed);
+    let commit_lock = GroupCommitLock::new(group_commit, false);
+    let (group_commit, ran) = run_over(
+        rt,
+        alloc,
+        pool_state,
+        commit_lock,
+        calls,
+        answers,
+        workers,
+        link,
+        gate,
     );
-    let _journal = keeper.into_journal();
+    let _journal = group_commit.into_journal();
     match ran {
         Ran::Done(report) => Ok(report),
         Ran::NoThread(state) => Err(RunFault::NoThread(state)),

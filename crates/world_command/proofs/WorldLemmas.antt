@@ -26,7 +26,7 @@ left_as core whole dcs behind all stepped status lines same left =
 stepped_from : (contents : Contents) (loaded : Loaded) (behind : Behind) (all : Bool) (start end : Whole) (stepped lines : List ℕ) (status : ℕ)
     → IsReady contents loaded
     → start ≡ record { core = loaded.state; dcs = loaded.dcs.items; copies = []; replies = []; news = [] }
-        → AreTaken start loaded.steps.items end [] stepped all
+    → AreTaken start loaded.steps.items end [] stepped all
     → IsLeft end.core end.dcs behind all stepped status lines → IsStepped contents behind status lines
 stepped_from contents loaded behind all start end stepped lines status ready is taken left =
     let begins : start ≡ begun contents = is ∙ ap₂ unsent ready.state ready.dcs in
@@ -43,7 +43,7 @@ pub stepped_report : {E : Type 0} (told result : Result Report E) (loaded : Load
     (start end : Whole) (stepped : List ℕ) (core : Core) (dcs : List Store)
     → told ≡ result → dcs ≡ end.dcs → core ≡ record end.core { given_up = core.given_up }
     → start ≡ record { core = loaded.state; dcs = loaded.dcs.items; copies = []; replies = []; news = [] }
-        → AreTaken start loaded.steps.items end [] stepped all
+    → AreTaken start loaded.steps.items end [] stepped all
     → IfOk result (λ r. IsLeft core dcs behind all stepped r.status (string_bytes r.lines)) → IfOk told (Reported loaded behind)
 stepped_report told (Ok r) loaded behind all start end stepped core dcs told_is dcs_are core_is is taken left =
     let here = left_as core end.core dcs behind all stepped r.status (string_bytes r.lines) core_is left in

@@ -1,4 +1,4 @@
--- What a desk hands over to be kept: how batches of it are counted, and where they stand in the log.
+-- What the pool's state hands over to be kept: how batches of it are counted, and where they stand in the log.
 use Rattle.std.specs.Prelude.{◌≡◌, ◌==◌, ◌+◌, ◌≤◌, ℕ, Bool, true, List, [], ◌∷◌, ◌++◌, length, reverse, Option, MatchBool}
 use Rattle.logbook.specs.Pages.{Cell, Step, View, Book, Named}
 use Rattle.tc_log.specs.declared.event.Event.{Event}

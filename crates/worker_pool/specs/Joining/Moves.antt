@@ -2,8 +2,8 @@
 use Rattle.std.specs.Prelude.{◌≡◌, ℕ, List, Option, None, IsSome}
 use Rattle.tc_core.specs.Core.{Core, Asking}
 use Rattle.worker_pool.specs.declared.answer.Progress.{Progress}
-use Rattle.worker_pool.specs.declared.desk.Next.{Next}
-use Rattle.worker_pool.specs.declared.desk.Next.TheVariants.{Begun, Carry, Unanswered, Busy, Over, LeftOut}
+use Rattle.worker_pool.specs.declared.pool_state.Next.{Next}
+use Rattle.worker_pool.specs.declared.pool_state.Next.TheVariants.{Begun, Carry, Unanswered, Busy, Over, LeftOut}
 use Rattle.worker_pool.specs.Joining.Seen.{IsAnswered, AnswersStay}
 use Rattle.worker_pool.specs.Wires.{OnItsWay, IsSentBy}
 

@@ -52,14 +52,14 @@ pub returns-in-Ok-clause-serial : goal.returns-in-Ok-clause-serial
 returns-in-Ok-clause-serial c = λ of_rows.
     sound_serial (at_rest c.redo_all.new.state c.redo_all.new.dcs)
     (becomes_sound (begins_again c.args.state.now c.args.log.now.events c.args.dcs.now)
-        (at_rest c.redo_all.new.state c.redo_all.new.dcs) (returns-in-Ok-clause-becomes c)
+    (at_rest c.redo_all.new.state c.redo_all.new.dcs) (returns-in-Ok-clause-becomes c)
     (begun_sound c.args.state.now c.args.log.now.events c.args.dcs.now c.known.ensures.good c.in_ok-begin_again.ensures.legal of_rows c.requires))
 
 pub returns-in-Ok-clause-audited : goal.returns-in-Ok-clause-audited
 returns-in-Ok-clause-audited c = λ of_rows.
     sound_agreed (at_rest c.redo_all.new.state c.redo_all.new.dcs)
     (becomes_sound (begins_again c.args.state.now c.args.log.now.events c.args.dcs.now)
-        (at_rest c.redo_all.new.state c.redo_all.new.dcs) (returns-in-Ok-clause-becomes c)
+    (at_rest c.redo_all.new.state c.redo_all.new.dcs) (returns-in-Ok-clause-becomes c)
     (begun_sound c.args.state.now c.args.log.now.events c.args.dcs.now c.known.ensures.good c.in_ok-begin_again.ensures.legal of_rows c.requires))
     (returns-in-Ok-clause-known c)
 
@@ -94,7 +94,7 @@ returns-in-Ok-clause-done c =
     let back = c.begin_again.new in
     let ok = c.in_ok-begin_again.ensures.ok in
     let events : c.redo_all.new.state.events ≡ c.args.log.now.events = ap (λ (x : Core). x.events)
-        c.redo_all.ensures.redoes.core ∙ ap (λ (x : Core). x.events) ok in
+    c.redo_all.ensures.redoes.core ∙ ap (λ (x : Core). x.events) ok in
     subst (λ (h : List Event). EachHasWhatWasDone h c.redo_all.new.dcs) events
     (each_done back.state c.redo_all.new.state back.dcs c.redo_all.new.dcs (ap (λ (x : Core). x.sites) ok)
     (subst (All (λ (s : Store). (s.list ≡ []) × (s.mark ≡ s.base_mark))) (sym c.begin_again.ensures.dcs) (all_begun c.args.dcs.now c.requires))

@@ -35,7 +35,7 @@ returns-clause-same c =
 pub returns-clause-known : goal.returns-clause-known
 returns-clause-known c =
     known_still c.bring_back.new.state c.resume_all.new.state c.bring_back.new.dcs c.resume_all.new.dcs
-        c.resume_all.ensures.goes c.in_ok-bring_back.ensures.known
+    c.resume_all.ensures.goes c.in_ok-bring_back.ensures.known
 
 pub returns-clause-served : goal.returns-clause-served
 returns-clause-served c =
@@ -50,7 +50,7 @@ pub returns-clause-lived : goal.returns-clause-lived
 returns-clause-lived c = λ w from.
     becomes_lived (at_rest c.bring_back.new.state c.bring_back.new.dcs) (at_rest c.resume_all.new.state c.resume_all.new.dcs)
     (went_on c.bring_back.new.state c.resume_all.new.state c.bring_back.new.dcs c.resume_all.new.dcs
-        c.resume_all.ensures.goes) (c.in_ok-bring_back.ensures.lived w from)
+    c.resume_all.ensures.goes) (c.in_ok-bring_back.ensures.lived w from)
 
 pub returns-clause-one_at_a_time : goal.returns-clause-one_at_a_time
 returns-clause-one_at_a_time c = λ w from. living_serial (at_rest c.resume_all.new.state c.resume_all.new.dcs) (returns-clause-lived c w from)
@@ -94,4 +94,4 @@ returns-clause-full c = λ together.
     let b = c.in_ok-bring_back.ensures in
     (c.resume_all.ensures.goes.quiet
     (quiet c.args.state.now c.bring_back.new.state c.args.log.now.events c.args.dcs.now c.bring_back.new.dcs b.legal
-        b.log together c.requires b.becomes b.known b.done)).full
+    b.log together c.requires b.becomes b.known b.done)).full

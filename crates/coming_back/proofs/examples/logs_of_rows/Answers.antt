@@ -37,8 +37,11 @@ returns-clause-inserted c table key rows ops v =
     record {
       together = together (Answer 1 1 (Done None) ∷ Ask 1 1 o ∷ []) rows ops refl;
       honest = (inl refl, (tt, tt));
-      there = λ n p said logs was. (empty rows ops, subst
-          (λ (q : Op). slice_get (empty rows ops ∷ []) (dc_of q) ≡ Some (empty rows ops)) (its_own o p n logs) refl);
+      there = λ n p said logs was. (
+        empty rows ops,
+        subst
+            (λ (q : Op). slice_get (empty rows ops ∷ []) (dc_of q) ≡ Some (empty rows ops)) (its_own o p n logs) refl,
+      );
     }
 
 pub returns-clause-there_already : goal.returns-clause-there_already

@@ -41,7 +41,7 @@ returns-in-None-clause-redoes c =
     let k = c.known.ensures in
     subst (λ (x : Core). RedoesAt c.args.dc c.args.state.now c.args.dcs.now x c.perform.new.dcs) (sym c.in-Send.ensures.state)
     (performed_redoes c.args.dc c.args.state.now c.in-Send.wire c.perform.result c.args.dcs.now c.perform.new.dcs
-        k.legal k.good c.in-Send.ensures.reply c.perform.ensures)
+    k.legal k.good c.in-Send.ensures.reply c.perform.ensures)
 
 pub returns-in-None-clause-down : goal.returns-in-None-clause-down
 returns-in-None-clause-down c = λ none.
@@ -51,49 +51,49 @@ returns-in-None-clause-down c = λ none.
 pub returns-in-None-clause-full : goal.returns-in-None-clause-full
 returns-in-None-clause-full c = λ is matched.
     silent_full c.args.state.now c.args.dc c.in-Send.wire c.args.dcs.now c.perform.new.dcs c.known.ensures.legal
-        c.in-Send.ensures.reply c.in-None.ensures matched
+    c.in-Send.ensures.reply c.in-None.ensures matched
 
 pub returns-in-Ok-clause-redoes : goal.returns-in-Ok-clause-redoes
 returns-in-Ok-clause-redoes c =
     let k = c.known.ensures in
     let same : c.redo_next.new.self ≡ c.args.state.now = c.in-Send.ensures.state in
     let it : IsRedone c.args.state.now c.args.dc c.in-Some.reply = subst
-        (λ (x : Core). IsRedone x c.args.dc c.in-Some.reply) same (c.in-Ok.ensures.accepted.0 refl) in
+    (λ (x : Core). IsRedone x c.args.dc c.in-Some.reply) same (c.in-Ok.ensures.accepted.0 refl) in
     let after : c.redone.new.self ≡ after_redone c.args.state.now c.args.dc c.in-Some.reply.number = c.in-Ok.ensures.ok
-        ∙ ap (λ (x : Core). after_redone x c.args.dc c.in-Some.reply.number) same in
+    ∙ ap (λ (x : Core). after_redone x c.args.dc c.in-Some.reply.number) same in
     subst (λ (x : Core). RedoesAt c.args.dc c.args.state.now c.args.dcs.now x c.perform.new.dcs) (sym after)
     (redone_redoes c.args.dc c.args.state.now c.in-Send.wire c.in-Some.reply c.args.dcs.now c.perform.new.dcs k.legal
-        k.good c.in-Send.ensures.reply c.in-Some.ensures it)
+    k.good c.in-Send.ensures.reply c.in-Some.ensures it)
 
 pub returns-in-Ok-clause-done : goal.returns-in-Ok-clause-done
 returns-in-Ok-clause-done c = λ so.
     let k = c.known.ensures in
     let same : c.redo_next.new.self ≡ c.args.state.now = c.in-Send.ensures.state in
     let it : IsRedone c.args.state.now c.args.dc c.in-Some.reply = subst
-        (λ (x : Core). IsRedone x c.args.dc c.in-Some.reply) same (c.in-Ok.ensures.accepted.0 refl) in
+    (λ (x : Core). IsRedone x c.args.dc c.in-Some.reply) same (c.in-Ok.ensures.accepted.0 refl) in
     let after : c.redone.new.self ≡ after_redone c.args.state.now c.args.dc c.in-Some.reply.number = c.in-Ok.ensures.ok
-        ∙ ap (λ (x : Core). after_redone x c.args.dc c.in-Some.reply.number) same in
+    ∙ ap (λ (x : Core). after_redone x c.args.dc c.in-Some.reply.number) same in
     subst (λ (x : Core). IsRedoneTo x c.perform.new.dcs c.args.dc) (sym after)
     (redone_done c.args.dc c.args.state.now c.in-Send.wire c.in-Some.reply c.args.dcs.now c.perform.new.dcs k.legal
-        c.in-Send.ensures.reply c.in-Some.ensures it so)
+    c.in-Send.ensures.reply c.in-Some.ensures it so)
 
 pub returns-in-Ok-clause-nearer : goal.returns-in-Ok-clause-nearer
 returns-in-Ok-clause-nearer c = λ done.
     let k = c.known.ensures in
     let same : c.redo_next.new.self ≡ c.args.state.now = c.in-Send.ensures.state in
     let it : IsRedone c.args.state.now c.args.dc c.in-Some.reply = subst
-        (λ (x : Core). IsRedone x c.args.dc c.in-Some.reply) same (c.in-Ok.ensures.accepted.0 refl) in
+    (λ (x : Core). IsRedone x c.args.dc c.in-Some.reply) same (c.in-Ok.ensures.accepted.0 refl) in
     let after : c.redone.new.self ≡ after_redone c.args.state.now c.args.dc c.in-Some.reply.number = c.in-Ok.ensures.ok
-        ∙ ap (λ (x : Core). after_redone x c.args.dc c.in-Some.reply.number) same in
+    ∙ ap (λ (x : Core). after_redone x c.args.dc c.in-Some.reply.number) same in
     subst (λ (x : Core). left_to_redo x c.args.dc < left_to_redo c.args.state.now c.args.dc) (sym after)
-        (redone_nearer c.args.dc c.args.state.now c.in-Some.reply k.legal it)
+    (redone_nearer c.args.dc c.args.state.now c.in-Some.reply k.legal it)
 
 pub returns-in-Err-clause-redoes : goal.returns-in-Err-clause-redoes
 returns-in-Err-clause-redoes c =
     let k = c.known.ensures in
     subst (λ (x : Core). RedoesAt c.args.dc c.args.state.now c.args.dcs.now x c.perform.new.dcs) (sym (c.in-Err.ensures.err ∙ c.in-Send.ensures.state))
     (performed_redoes c.args.dc c.args.state.now c.in-Send.wire c.perform.result c.args.dcs.now c.perform.new.dcs
-        k.legal k.good c.in-Send.ensures.reply c.perform.ensures)
+    k.legal k.good c.in-Send.ensures.reply c.perform.ensures)
 
 pub returns-in-Err-clause-down : goal.returns-in-Err-clause-down
 returns-in-Err-clause-down c = λ none.

@@ -32,7 +32,7 @@ returns-in-Ok-clause-moves c =
     let a : IsAnswer c.args.state.now r c.in-Some.reply = c.in-Ok.ensures.accepted.0 refl in
     subst (λ (x : Core). Moves r.txn c.args.state.now c.args.dcs.now x c.send.new.dcs) (sym e)
     (answer_moves c.args.state.now r c.in-Some.reply c.args.dcs.now c.send.new.dcs k.legal k.good a
-        (subst (λ (x : Core). Legal x.procs x.events) e c.known-2.ensures.legal) c.in-Some.ensures)
+    (subst (λ (x : Core). Legal x.procs x.events) e c.known-2.ensures.legal) c.in-Some.ensures)
 
 pub returns-in-Ok-clause-nearer : goal.returns-in-Ok-clause-nearer
 returns-in-Ok-clause-nearer c =
@@ -54,7 +54,7 @@ returns-in-Err-clause-moves c =
     let own : q ≡ r = c.in-Err.ensures.back in
     let same : c.answer-answered.new.self ≡ c.args.state.now = c.in-Err.ensures.err in
     let here : IsOpenHere c.answer-answered.new.self q = subst (λ (x : Core). IsOpenHere x q) (sym same)
-        (subst (λ (x : Asking). IsOpenHere c.args.state.now x) (sym own) c.requires) in
+    (subst (λ (x : Asking). IsOpenHere c.args.state.now x) (sym own) c.requires) in
     let e : c.give_up-in-Err.new.self ≡ with_given_up c.args.state.now r.number =
     c.give_up-in-Err.ensures.open_here here
     ∙ (ap (λ (x : Core). with_given_up x q.number) same ∙ ap (λ (x : Asking). with_given_up c.args.state.now x.number) own) in
@@ -72,7 +72,7 @@ returns-in-Err-clause-left c =
     let own : q ≡ r = c.in-Err.ensures.back in
     let same : c.answer-answered.new.self ≡ c.args.state.now = c.in-Err.ensures.err in
     let here : IsOpenHere c.answer-answered.new.self q = subst (λ (x : Core). IsOpenHere x q) (sym same)
-        (subst (λ (x : Asking). IsOpenHere c.args.state.now x) (sym own) c.requires) in
+    (subst (λ (x : Asking). IsOpenHere c.args.state.now x) (sym own) c.requires) in
     let e : c.give_up-in-Err.new.self ≡ with_given_up c.args.state.now r.number =
     c.give_up-in-Err.ensures.open_here here
     ∙ (ap (λ (x : Core). with_given_up x q.number) same ∙ ap (λ (x : Asking). with_given_up c.args.state.now x.number) own) in

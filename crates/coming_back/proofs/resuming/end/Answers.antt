@@ -13,7 +13,7 @@ returns-clause-moves c = λ ds.
     let e = c.end-ended.ensures.state in
     subst (λ (x : Core). Moves t c.args.state.now ds x ds) (sym e)
     (end_moves t c.args.state.now (end_of c.args.state.now t) ds refl
-        (subst (λ (x : Core). Legal x.procs x.events) e c.known-2.ensures.legal) c.known.ensures.good)
+    (subst (λ (x : Core). Legal x.procs x.events) e c.known-2.ensures.legal) c.known.ensures.good)
 
 pub returns-clause-next : goal.returns-clause-next
 returns-clause-next c =

@@ -23,7 +23,7 @@ returns-in-Request-clause-moves c = λ ds.
     let e = c.ask-asked.ensures in
     subst (λ (x : Core). Moves t c.args.state.now ds x ds) (sym e.state)
     (ask_moves t c.args.state.now c.ask-asked.result ds e.reply
-        (subst (λ (x : Core). Legal x.procs x.events) e.state c.known-2.ensures.legal) c.known.ensures.good)
+    (subst (λ (x : Core). Legal x.procs x.events) e.state c.known-2.ensures.legal) c.known.ensures.good)
 
 pub returns-in-Request-clause-next : goal.returns-in-Request-clause-next
 returns-in-Request-clause-next c =
@@ -46,7 +46,7 @@ returns-in-Undoing-clause-moves c = λ ds.
     moves_then t _ _ _ ds ds ds
     (subst (λ (x : Core). Moves t c.args.state.now ds x ds) (sym e.state)
     (ask_moves t c.args.state.now c.ask-asked.result ds e.reply
-        (subst (λ (x : Core). Legal x.procs x.events) e.state c.known-2.ensures.legal) c.known.ensures.good))
+    (subst (λ (x : Core). Legal x.procs x.events) e.state c.known-2.ensures.legal) c.known.ensures.good))
     (c.undo.ensures.moves ds)
 
 pub returns-in-Over-clause-moves : goal.returns-in-Over-clause-moves
@@ -56,5 +56,5 @@ returns-in-Over-clause-moves c = λ ds.
     moves_then t _ _ _ ds ds ds
     (subst (λ (x : Core). Moves t c.args.state.now ds x ds) (sym e.state)
     (ask_moves t c.args.state.now c.ask-asked.result ds e.reply
-        (subst (λ (x : Core). Legal x.procs x.events) e.state c.known-2.ensures.legal) c.known.ensures.good))
+    (subst (λ (x : Core). Legal x.procs x.events) e.state c.known-2.ensures.legal) c.known.ensures.good))
     (c.end.ensures.moves ds)

@@ -28,7 +28,7 @@ push-requires c = λ some.
     let many = c.loop-done.resumed.ok.0 in
     let short =
     room_for_at _ _ _ _ _ c.loop-done.done (c.loop-done.done + 1) (vec_capacity c.loop-done.resumed)
-        c.loop-done.resumed.items c.resume.result (add-one c.loop-done.done) i.came c.resume.ensures.came
+    c.loop-done.resumed.items c.resume.result (add-one c.loop-done.done) i.came c.resume.ensures.came
     (omega (arith, low, all)) (omega (arith, room, same)) some in
     omega (arith, short, many)
 

@@ -13,7 +13,7 @@ returns-clause-moves c = λ ds.
     let e = c.undo_next-asked.ensures in
     subst (λ (x : Core). Moves t c.args.state.now ds x ds) (sym e.state)
     (undo_moves t c.args.state.now c.undo_next-asked.result ds e.reply
-        (subst (λ (x : Core). Legal x.procs x.events) e.state c.known-2.ensures.legal) c.known.ensures.good)
+    (subst (λ (x : Core). Legal x.procs x.events) e.state c.known-2.ensures.legal) c.known.ensures.good)
 
 pub returns-clause-next : goal.returns-clause-next
 returns-clause-next c =

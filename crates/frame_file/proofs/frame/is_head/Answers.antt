@@ -30,7 +30,7 @@ returns c = (
       let one : take 8 c.args.head.now ≡ to_le_bytes w64 c.args.number = search rules in
       let two : take 8 (drop 8 c.args.head.now) ≡ to_le_bytes w64 (length c.args.payload.now) = search rules in
       let seen : take (length c.args.head.now - 16) (drop 16 c.args.head.now) ≡ to_le_bytes w64
-          (checksum c.args.number c.args.payload.now) = search (rules, yes) in
+      (checksum c.args.number c.args.payload.now) = search (rules, yes) in
       let three = sym (take_rest c.args.head.now 16) ∙ seen in
       head_parts c.args.number c.args.payload.now c.args.head.now one two three,
   λ is.

@@ -35,4 +35,4 @@ returns-in-Ready c =
     let it = c.in-Ready.loaded in
     audit_is c.args.file.now (script_said command.Run c.args.script.now) it c.beside-report.result (rw c.in-Ready.is at c.in_ok-loaded.ensures)
     (subst (λ (dcs : List Store). IfOk c.beside-report.result
-        (λ r. IsBeside c.args.file.now it.state dcs r.status (string_bytes r.lines))) same c.beside-report.ensures)
+    (λ r. IsBeside c.args.file.now it.state dcs r.status (string_bytes r.lines))) same c.beside-report.ensures)

@@ -26,7 +26,7 @@ returns-in-Ok c =
     let dcs = c.bring_back.new.dcs in
     let are = brought start back c.begin.new.dcs s.log.events dcs it.legal it.log it.known it.redone it.agreed in
     let found = subst (λ (l : Loaded). IfOk c.audited.result
-        (λ r. AreAuditLines l.codes s dcs r.status (string_bytes r.lines))) c.procs.ensures c.audited.ensures in
+    (λ r. AreAuditLines l.codes s dcs r.status (string_bytes r.lines))) c.procs.ensures c.audited.ensures in
     audited_is start back c.args.dcs.now c.begin.new.dcs s dcs c.audited.result (rw c.in_default.is at c.in_ok-fault.ensures.begun) are it.log found
 
 pub unfit-requires : goal.unfit-requires
@@ -34,7 +34,7 @@ unfit-requires c =
     let s = c.args.stored.now in
     let count = begun_count (base_in s.base) (reverse s.log.events) c.args.dcs.now c.begin.new.dcs (rw c.in_default.is at c.in_ok-fault.ensures.begun) in
     of_log c.args.state.now s.log.events _ c.bring_back.new.state c.bring_back.new.dcs c.in-Err.fault
-        c.in-Err.ensures.fault c.requires.begun (count ∙ c.requires.count)
+    c.in-Err.ensures.fault c.requires.begun (count ∙ c.requires.count)
 
 pub returns-in-Err : goal.returns-in-Err
 returns-in-Err c =

@@ -9,10 +9,10 @@ pub returns-in_ok-args-in-Admit : goal.returns-in_ok-args-in-Admit
 returns-in_ok-args-in-Admit c =
     let text = string_bytes c.in_ok-args-in-Admit.args in
     let written : IfOk c.format.result (λ s. string_bytes s ≡ admit_text c.args.place c.in-Admit.txn c.in-Admit.proc
-        (string_bytes c.in_ok-args-in-Admit.args)) = search rules in
+    (string_bytes c.in_ok-args-in-Admit.args)) = search rules in
     IfOk-weaker c.format.result _ _
     (λ s is. admit_is c.args.place c.in-Admit.txn c.in-Admit.proc c.in-Admit.args c.args.event.now text (string_bytes s)
-        c.in-Admit.is c.in_ok-args-in-Admit.ensures is) written
+    c.in-Admit.is c.in_ok-args-in-Admit.ensures is) written
 
 pub returns-in-Checkpoint : goal.returns-in-Checkpoint
 returns-in-Checkpoint c =

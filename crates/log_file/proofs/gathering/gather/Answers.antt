@@ -25,8 +25,8 @@ batches-preserved c =
           c.deref.result.now c.batches.known.items c.take_notes.new.known.items c.batches.rows.items
           c.extend_from_slice.new.self.items
           c.deref-in-batches.result.now c.in-Some.more.now c.batches-test.true c.index-payloads-place.is
-              c.deref.ensures.value c.batches.invariant.gathered fits is (c.deref-in-batches.ensures.value ∙ notes) more
-              c.take_notes.ensures.known
+          c.deref.ensures.value c.batches.invariant.gathered fits is (c.deref-in-batches.ensures.value ∙ notes) more
+          c.take_notes.ensures.known
           (search rules);
       len = c.take_notes.ensures.len ∙ c.batches.invariant.len;
     }

@@ -15,7 +15,7 @@ returns-then-not-may_follow-clause-fault c =
     let starts : IsStart (base_in c.in_ok-base.base) = search rules in
     let is : payloads_in c.args.payloads.now ≡ front_of c.args.header.now (base_in c.in_ok-base.base) ++ payloads_in c.in_ok-base.batches.now = search rules in
     let g : AreGathered c.args.header.now.dcs (payloads_in c.in_ok-base.batches.now)
-        c.in_ok-gathered.gathered.known.items c.in_ok-gathered.gathered.rows.items = search rules in
+    c.in_ok-gathered.gathered.known.items c.in_ok-gathered.gathered.rows.items = search rules in
     let printed = subst (λ (r : List ℕ). ArePrinted (reverse c.in_ok-log.log.events) r) c.deref.ensures.value c.in_ok-log.ensures.printed in
     no_checkpoint h (payloads_in c.args.payloads.now) (payloads_in c.in_ok-base.batches.now) (base_in c.in_ok-base.base) c.in_ok-gathered.gathered.known.items
     c.in_ok-gathered.gathered.rows.items events _ starts is g printed (front_long h c.args.payloads.now c.in_ok-base.batches.now (base_in c.in_ok-base.base) is)

@@ -15,7 +15,7 @@ returns c =
       | then-is_numbered w ↦
           let numbered : are_left (to_le_bytes w64 0 ++ to_le_bytes w64 72) bytes ≡ true = sym c.are_left-is_numbered.ensures ∙ w.if-is_numbered.true in
           let same : c.are_left-is_headed.result ≡ headed = c.are_left-is_headed.ensures
-              ∙ ap₂ are_left (c.deref.ensures.value ∙ c.in_ok-front.ensures) c.behind.ensures in
+          ∙ ap₂ are_left (c.deref.ensures.value ∙ c.in_ok-front.ensures) c.behind.ensures in
           w.result-is ∙ (same ∙ sym (ap (λ (b : Bool). b && headed) numbered))
       | else-is_numbered w ↦
           let numbered = sym c.are_left-is_numbered.ensures ∙ w.if-is_numbered.false in

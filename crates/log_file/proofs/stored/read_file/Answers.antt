@@ -12,5 +12,5 @@ returns-in_err-base-clause-fault c =
     let why : IsSayFault c.in_ok-header.header (payloads_in c.in_ok-found.found.payloads.items) c.in_err-base.field-0.0 = search rules in
     let unread : IsFileFault c.args.bytes.now c.in_err-base.field-0.0
     = say_fault c.in_ok-header.header c.args.bytes.now (payloads_in c.in_ok-found.found.payloads.items)
-        c.in_err-base.field-0.0 c.in_ok-found.ensures.found.reads begins why in
+    c.in_err-base.field-0.0 c.in_ok-found.ensures.found.reads begins why in
     search rules

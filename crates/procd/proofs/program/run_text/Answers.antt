@@ -13,7 +13,7 @@ returns g c =
     let written : Gets (stream (g.W.Write.contents c.args.out.now) (g.W.Write.contents c.tell.new.to)) lines = search rules in
     let told : TellsIf (may_tell (wish_of c.args.wanted.now.task)) (stream (g.E.Write.contents c.args.err.now) (g.E.Write.contents c.tell_notes.new.err))
     = subst (λ (b : Bool). TellsIf b (stream (g.E.Write.contents c.args.err.now)
-        (g.E.Write.contents c.tell_notes.new.err))) c.may_tell.ensures c.tell_notes.ensures in
+    (g.E.Write.contents c.tell_notes.new.err))) c.may_tell.ensures c.tell_notes.ensures in
     inr (inr (inr (inr (lines, said, written, told))))
 
 pub returns-in-Err : goal.returns-in-Err

@@ -12,7 +12,7 @@ returns-in-Ok-kept-clause-kept g c =
     let base = c.in_ok-base.base.items in
     let written = rw c.in-Ok-kept.is at c.begin_anew-new.ensures.kept in
     let of_base = subst (λ (b : Rows). HasWrittenBehind disk_bytes left_of c.header-header.result.now (Some b) new.file
-        events) c.as_slice.ensures.value written in
+    events) c.as_slice.ensures.value written in
     record {
       base = base;
       rows = c.in_ok-base.ensures;

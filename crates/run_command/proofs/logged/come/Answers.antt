@@ -28,16 +28,16 @@ come_back-requires c =
 pub returns-in-Err : goal.returns-in-Err
 returns-in-Err c = λ file is was.
     let begins : HaveBegun (base_in c.args.base.now) (reverse c.args.log.now.events) c.args.dcs.now c.begin.new.dcs = rw
-        c.in_default.is at c.in_ok-fault.ensures.begun in
+    c.in_default.is at c.in_ok-fault.ensures.begun in
     IfOk-weaker c.unfit.result _ _ (λ x h. unfit_comes c.args.state.now c.args.dcs.now file (base_in c.args.base.now)
-        c.args.log.now.events c.begin.new.dcs c.come_back.new.state c.come_back.new.dcs c.args.journal.now
-        c.in-Err.fault x is begins c.in-Err.ensures.fault h)
+    c.args.log.now.events c.begin.new.dcs c.come_back.new.state c.come_back.new.dcs c.args.journal.now
+    c.in-Err.fault x is begins c.in-Err.ensures.fault h)
     c.unfit.ensures
 
 pub returns-in-Some-overfull : goal.returns-in-Some-overfull
 returns-in-Some-overfull c = λ file is was.
     let begins : HaveBegun (base_in c.args.base.now) (reverse c.args.log.now.events) c.args.dcs.now c.begin.new.dcs = rw
-        c.in_default.is at c.in_ok-fault.ensures.begun in
+    c.in_default.is at c.in_ok-fault.ensures.begun in
     let came : HasComeBack c.args.state.now c.begin.new.dcs c.args.log.now.events c.come_back.new.state c.come_back.new.dcs c.in-Ok.resumed.items = record {
       legal = c.in-Ok.ensures.legal;
       begins = c.in-Ok.ensures.begins;
@@ -49,11 +49,11 @@ returns-in-Some-overfull c = λ file is was.
       each = c.in-Ok.ensures.each;
     } in
     overfull_comes c.args.state.now c.args.dcs.now file (base_in c.args.base.now) c.args.log.now.events c.begin.new.dcs
-        c.come_back.new.state c.come_back.new.dcs c.in-Ok.resumed.items c.args.journal.now
+    c.come_back.new.state c.come_back.new.dcs c.in-Ok.resumed.items c.args.journal.now
     c.refusal-in-Some-overfull.result c.in-Some-overfull.dc is begins came
-        (subst (λ (rs : List Resumed). overfull c.come_back.new.dcs rs ≡ Some c.in-Some-overfull.dc)
+    (subst (λ (rs : List Resumed). overfull c.come_back.new.dcs rs ≡ Some c.in-Some-overfull.dc)
     c.as_slice.ensures.value (sym (rw c.in-Some-overfull.is at c.overfull.ensures)))
-        (ap string_bytes c.refusal-in-Some-overfull.ensures.1 ∙ c.in_ok-overfull_refusal.ensures)
+    (ap string_bytes c.refusal-in-Some-overfull.ensures.1 ∙ c.in_ok-overfull_refusal.ensures)
     c.refusal-in-Some-overfull.ensures.0
 
 pub returns : goal.returns

@@ -15,7 +15,7 @@ returns-in-Ok-Back g c =
     let options = c.args.options in
     let same : c.as_mut_slice.result.now ≡ loaded.dcs.items = search rules in
     let to = subst (λ (dcs : List Store). IsBackTo loaded.state dcs c.begin.new.state c.begin.new.dcs c.in-Ok-Back.back)
-        same (rw c.in-Ok-Back.field-0-is at c.in-Ok-Back.ensures) in
+    same (rw c.in-Ok-Back.field-0-is at c.in-Ok-Back.ensures) in
     let from = to.from in
     let b = from.is_back in
     let len : loaded.dcs.len ≡ length loaded.dcs.items = search rules in
@@ -40,8 +40,8 @@ returns-in-Ok-Back g c =
           loaded.first.items loaded.calls.items options.manner.workers options.manner.tries options.manner.audit
           options.manner.results r.report.status lines (string_bytes r.report.lines)) b.lines
           (subst (λ (dcs : List Store). IsRunOn r.journal options.checkpoints c.begin.new.state dcs loaded.first.items
-              loaded.calls.items options.manner.workers options.manner.tries options.manner.audit options.manner.results
-              r.report.status (string_bytes c.in-Ok-Back.back.lines) (string_bytes r.report.lines)) whole h);
+          loaded.calls.items options.manner.workers options.manner.tries options.manner.audit options.manner.results
+          r.report.status (string_bytes c.in-Ok-Back.back.lines) (string_bytes r.report.lines)) whole h);
     })) (c.run_back.ensures b.kept)
 
 pub returns-in-Ok-Refused : goal.returns-in-Ok-Refused

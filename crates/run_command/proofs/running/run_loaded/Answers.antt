@@ -12,10 +12,10 @@ returns-in-Ok g c =
     let it = c.ground_and_calls-ground.ensures in
     let ground = c.ground_and_calls-ground.result.0 in
     let kept : KeepsLog ground.journal ground.state.events = subst
-        (λ (journal : Option FileJournal). KeepsLog journal ground.state.events) (sym it.ground.2) tt in
+    (λ (journal : Option FileJournal). KeepsLog journal ground.state.events) (sym it.ground.2) tt in
     let m = c.args.manner in
     let r = c.in-Ok.field-0 in
     run_weaker (IsKeptSo r.journal never) (λ _ _. Unit {0}) (λ last renewal kept. tt) never loaded.state
-        loaded.dcs.items loaded.first.items loaded.calls.items m.workers m.tries m.audit m.results r.report.status
-        (string_bytes r.report.lines)
+    loaded.dcs.items loaded.first.items loaded.calls.items m.workers m.tries m.audit m.results r.report.status
+    (string_bytes r.report.lines)
     (rw (it.ground.0, it.ground.1, it.calls.0, it.calls.1, it.calls.2) at (c.in-Ok.ensures.run kept))

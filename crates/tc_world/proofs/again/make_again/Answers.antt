@@ -14,7 +14,7 @@ pub loop-done-preserved : goal.loop-done-preserved
 loop-done-preserved c = (
   subst (λ (rs : List Asking). AreMade rs c.args.state.now.events (c.loop-done.done + 1)) (sym c.push.ensures.items)
       (one_made c.args.state.now.procs c.args.state.now.events c.loop-done.requests.items c.loop-done.done
-          c.request_of.result c.known.ensures.legal c.loop-done.invariant.0 c.request_of.ensures),
+      c.request_of.result c.known.ensures.legal c.loop-done.invariant.0 c.request_of.ensures),
   c.push.ensures.capacity ∙ c.loop-done.invariant.1,
 )
 
@@ -23,4 +23,4 @@ returns c =
     let all = c.admitted-done-end.ensures in
     let end = c.loop-done-test.false in
     all_made c.args.state.now.procs c.args.state.now.events c.loop-done.requests.items c.loop-done.done
-        c.known.ensures.legal (omega (arith, all, end)) c.loop-done.invariant.0
+    c.known.ensures.legal (omega (arith, all, end)) c.loop-done.invariant.0

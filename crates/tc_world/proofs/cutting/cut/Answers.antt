@@ -34,8 +34,8 @@ pub returns-in-Err-clause-why : goal.returns-in-Err-clause-why
 returns-in-Err-clause-why c =
     let state = c.args.state.now in
     let marks : c.as_slice-3.result.now ≡ marks_from (low_water state.events) state.sites 0 c.args.dcs.now.items =
-        c.as_slice-3.ensures.value ∙ (c.in_ok-marks.ensures
-        ∙ ap (marks_from (low_water state.events) state.sites 0) c.as_slice-2.ensures.value) in
+    c.as_slice-3.ensures.value ∙ (c.in_ok-marks.ensures
+    ∙ ap (marks_from (low_water state.events) state.sites 0) c.as_slice-2.ensures.value) in
     subst (λ (ms : List ℕ). IsCheckpointFault state ms c.in-Err.fault) marks c.in-Err.ensures.fault
 
 pub forget_all-requires-clause-fits : goal.forget_all-requires-clause-fits
@@ -47,11 +47,11 @@ forget_all-requires-clause-kept c = λ d s at.
     let state = c.args.state.now in
     let dcs = c.args.dcs.now.items in
     let marks : c.as_slice-3.result.now ≡ marks_from (low_water state.events) state.sites 0 dcs =
-        c.as_slice-3.ensures.value ∙ (c.in_ok-marks.ensures
-        ∙ ap (marks_from (low_water state.events) state.sites 0) c.as_slice-2.ensures.value) in
+    c.as_slice-3.ensures.value ∙ (c.in_ok-marks.ensures
+    ∙ ap (marks_from (low_water state.events) state.sites 0) c.as_slice-2.ensures.value) in
     let may : MayCheckpoint state (marks_from (low_water state.events) state.sites 0 dcs) = subst (MayCheckpoint state) marks c.in-Ok.ensures.may in
     subst (λ (x : Core). c.low_water-low_water.result ≤ (kept_by c.low_water-low_water.result
-        (site_at x.sites d).incarnation s).saved_mark) (sym c.in-Ok.ensures.ok)
+    (site_at x.sites d).incarnation s).saved_mark) (sym c.in-Ok.ensures.ok)
     (subst (λ (n : ℕ). n ≤ (kept_by n (site_at state.sites d).incarnation s).saved_mark) (sym c.low_water-low_water.ensures) (low_kept state dcs may d s at))
 
 pub returns-clause-cut : goal.returns-clause-cut
@@ -60,8 +60,8 @@ returns-clause-cut c =
     let dcs = c.args.dcs.now.items in
     let new = c.forget_all.new.dcs.items in
     let marks : c.as_slice-3.result.now ≡ marks_from (low_water state.events) state.sites 0 dcs =
-        c.as_slice-3.ensures.value ∙ (c.in_ok-marks.ensures
-        ∙ ap (marks_from (low_water state.events) state.sites 0) c.as_slice-2.ensures.value) in
+    c.as_slice-3.ensures.value ∙ (c.in_ok-marks.ensures
+    ∙ ap (marks_from (low_water state.events) state.sites 0) c.as_slice-2.ensures.value) in
     record {
       may = subst (MayCheckpoint state) marks c.in-Ok.ensures.may;
       forgotten =

@@ -42,4 +42,4 @@ pub returns : goal.returns
 returns c =
     let all = c.len-d-end.ensures in
     all_forgotten c.args.low_water c.args.state.now.sites c.loop-d.d c.args.dcs.now.items c.loop-d.dcs.items
-        (omega (arith, c.loop-d-test.false, all)) c.loop-d.invariant
+    (omega (arith, c.loop-d-test.false, all)) c.loop-d.invariant

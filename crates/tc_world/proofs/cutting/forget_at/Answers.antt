@@ -26,6 +26,10 @@ returns c = λ e there.
     let d : Store = c.index_mut.result.now in
     let at : slice_get ds c.args.d ≡ Some d = slice_get_read ds (length ds) c.args.d d refl c.requires.there c.index_mut.ensures.value in
     let same : d ≡ e = some_same d e (sym at ∙ there) in
-    record { t = c.forget.new.dc; is = refl; forgotten = subst
-        (λ (s : Store). HasForgotten (kept_by c.args.low_water c.args.incarnation s) c.forget.new.dc) same
-        c.forget.ensures }
+    record {
+      t = c.forget.new.dc;
+      is = refl;
+      forgotten = subst
+          (λ (s : Store). HasForgotten (kept_by c.args.low_water c.args.incarnation s) c.forget.new.dc) same
+          c.forget.ensures;
+    }

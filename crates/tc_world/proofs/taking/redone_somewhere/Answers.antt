@@ -20,7 +20,7 @@ loop-dc-preserved c =
         | inl here ↦
             let mine : IsRedone c.loop-dc.state c.loop-dc.dc c.args.reply.now
             = subst (λ (s : Core). IsRedone s c.loop-dc.dc c.args.reply.now) (sym same)
-                (subst (λ (i : ℕ). IsRedone c.args.state.now i c.args.reply.now) here is) in
+            (subst (λ (i : ℕ). IsRedone c.args.state.now i c.args.reply.now) here is) in
             let bad : false ≡ true = c.in-Err.ensures.accepted.1 mine in
             absurd cc
         | inr other ↦ c.loop-dc.invariant.1 d (omega (arith, below, other)) is

@@ -21,22 +21,27 @@ given_in-given-requires c = (let few = begun_few _ _ c.known.ensures.legal in le
 pub returns-then-are_news_told : goal.returns-then-are_news_told
 returns-then-are_news_told c =
     let h = c.args.state.now.events in
-    let w : Whole = record { core = c.args.state.now; dcs = c.args.dcs.now; copies = c.args.copies.now;
-        replies = c.args.replies.now; news = c.args.news.now } in
+    let w : Whole = record {
+      core = c.args.state.now;
+      dcs = c.args.dcs.now;
+      copies = c.args.copies.now;
+      replies = c.args.replies.now;
+      news = c.args.news.now;
+    } in
     let log : c.events-log.result.now ≡ reverse h = c.events-log.ensures ∙ ap reverse c.log.ensures in
     let inside : c.args.events ≤ length h = omega (arith, c.if-events-log.false, ap (length {A = Event}) log, length-reverse h) in
     let x = looks w c.args.events c.args.requests.now c.given_in-given.result c.low_left-low_water.result
-        c.split_at.result.0.now c.split_at.result.1.now c.known.ensures.legal c.requires inside
+    c.split_at.result.0.now c.split_at.result.1.now c.known.ensures.legal c.requires inside
     (c.split_at.ensures.front ∙ ap (take c.args.events) log) (c.split_at.ensures.back ∙ ap (drop c.args.events) log)
-        (c.given_in-given.ensures ∙ ap (λ (b : ℕ). given_of b c.split_at.result.0.now) c.begun.ensures)
-        c.low_left-low_water.ensures in
+    (c.given_in-given.ensures ∙ ap (λ (b : ℕ). given_of b c.split_at.result.0.now) c.begun.ensures)
+    c.low_left-low_water.ensures in
     let first = first_events c.args.events h in
     let copies : Type 0 = All (IsWrittenFor first) w.copies in
     let replies : Type 0 = All (λ (y : Reply). y.number ≤ given first) w.replies in
     let stores : Type 0 = All (IsWrittenAt first) w.dcs in
     let news : Type 0 = All (λ (y : ℕ × News). y.1.mark ≤ low_water first) w.news in
     let one : IsTrue c.are_wires_told.result ↔ copies = copies_so w c.args.events c.args.requests.now _ _ _ x
-        c.are_wires_told.result c.are_wires_told.ensures in
+    c.are_wires_told.result c.are_wires_told.ensures in
     let two : IsTrue c.if-are_wires_told.value ↔ (copies × replies) = elim c.if-are_wires_told.branch [
       | then-are_wires_told b ↦ both_so c.if-are_wires_told.value b.are_replies_told.result copies replies b.value-is
           (one.0 b.if-are_wires_told.true) (replies_so w c.args.events c.args.requests.now _ _ _ x
@@ -67,22 +72,27 @@ returns-then-are_news_told c =
 pub returns-else-are_news_told : goal.returns-else-are_news_told
 returns-else-are_news_told c =
     let h = c.args.state.now.events in
-    let w : Whole = record { core = c.args.state.now; dcs = c.args.dcs.now; copies = c.args.copies.now;
-        replies = c.args.replies.now; news = c.args.news.now } in
+    let w : Whole = record {
+      core = c.args.state.now;
+      dcs = c.args.dcs.now;
+      copies = c.args.copies.now;
+      replies = c.args.replies.now;
+      news = c.args.news.now;
+    } in
     let log : c.events-log.result.now ≡ reverse h = c.events-log.ensures ∙ ap reverse c.log.ensures in
     let inside : c.args.events ≤ length h = omega (arith, c.if-events-log.false, ap (length {A = Event}) log, length-reverse h) in
     let x = looks w c.args.events c.args.requests.now c.given_in-given.result c.low_left-low_water.result
-        c.split_at.result.0.now c.split_at.result.1.now c.known.ensures.legal c.requires inside
+    c.split_at.result.0.now c.split_at.result.1.now c.known.ensures.legal c.requires inside
     (c.split_at.ensures.front ∙ ap (take c.args.events) log) (c.split_at.ensures.back ∙ ap (drop c.args.events) log)
-        (c.given_in-given.ensures ∙ ap (λ (b : ℕ). given_of b c.split_at.result.0.now) c.begun.ensures)
-        c.low_left-low_water.ensures in
+    (c.given_in-given.ensures ∙ ap (λ (b : ℕ). given_of b c.split_at.result.0.now) c.begun.ensures)
+    c.low_left-low_water.ensures in
     let first = first_events c.args.events h in
     let copies : Type 0 = All (IsWrittenFor first) w.copies in
     let replies : Type 0 = All (λ (y : Reply). y.number ≤ given first) w.replies in
     let stores : Type 0 = All (IsWrittenAt first) w.dcs in
     let news : Type 0 = All (λ (y : ℕ × News). y.1.mark ≤ low_water first) w.news in
     let one : IsTrue c.are_wires_told.result ↔ copies = copies_so w c.args.events c.args.requests.now _ _ _ x
-        c.are_wires_told.result c.are_wires_told.ensures in
+    c.are_wires_told.result c.are_wires_told.ensures in
     let two : IsTrue c.if-are_wires_told.value ↔ (copies × replies) = elim c.if-are_wires_told.branch [
       | then-are_wires_told b ↦ both_so c.if-are_wires_told.value b.are_replies_told.result copies replies b.value-is
           (one.0 b.if-are_wires_told.true) (replies_so w c.args.events c.args.requests.now _ _ _ x

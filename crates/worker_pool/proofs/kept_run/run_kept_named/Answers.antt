@@ -11,20 +11,20 @@ use Rattle.worker_pool.proofs.kept_run.run_kept_named.Goals.{in-Done, in-NoThrea
 
 pub returns-clause-report : goal.returns-clause-report
 returns-clause-report g c =
-    let Fits : Ran → Type 0 = λ ran. RanFits g.J.Naming.start g.J.Naming.calls g.J.Naming.keeps ran in
+    let Fits : Ran → Type 0 = λ ran. RanFits g.J.RunSpec.start g.J.RunSpec.calls g.J.RunSpec.keeps ran in
     elim c.match-ran.branch [
-      | in-Done w ↦ rw w.ran-is (subst Fits w.in-Done.is c.run_over-keeper.ensures.ran)
+      | in-Done w ↦ rw w.ran-is (subst Fits w.in-Done.is c.run_over-group_commit.ensures.ran)
       | in-NoThread w ↦ rw w.ran-is tt
       | in-Stopped w ↦ rw w.ran-is tt
     ]
 
 pub returns-clause-kept : goal.returns-clause-kept
 returns-clause-kept g c =
-    let Keeps : Ran → Type 0 = λ ran. RanKeeps g.K.Journal.has_kept g.J.Naming.before g.J.Naming.start.events g.J.Naming.keeps ran c.run_over-keeper.result.0 in
+    let Keeps : Ran → Type 0 = λ ran. RanKeeps g.K.Journal.has_kept g.J.RunSpec.before g.J.RunSpec.start.events g.J.RunSpec.keeps ran c.run_over-group_commit.result.0 in
     elim c.match-ran.branch [
-      | in-Done w ↦ let all = subst Keeps w.in-Done.is c.run_over-keeper.ensures.kept c.requires.keeps in
+      | in-Done w ↦ let all = subst Keeps w.in-Done.is c.run_over-group_commit.ensures.kept c.requires.keeps in
           rw w.ran-is (record {
-            behind = events_of c.run_over-keeper.result.0.handed;
+            behind = events_of c.run_over-group_commit.result.0.handed;
             log = all.log;
             kept = λ events before. rw c.into_journal-journal.ensures.same (all.kept events before);
           })
@@ -34,56 +34,56 @@ returns-clause-kept g c =
 
 pub returns-clause-which : goal.returns-clause-which
 returns-clause-which g c =
-    let Fits : Ran → Type 0 = λ ran. RanFits g.J.Naming.start g.J.Naming.calls g.J.Naming.keeps ran in
+    let Fits : Ran → Type 0 = λ ran. RanFits g.J.RunSpec.start g.J.RunSpec.calls g.J.RunSpec.keeps ran in
     elim c.match-ran.branch [
       | in-Done w ↦ rw w.ran-is c.in-Ok.ensures.which
-      | in-NoThread w ↦ rw w.ran-is (subst Fits w.in-NoThread.is c.run_over-keeper.ensures.ran, c.in-Ok.ensures.which)
-      | in-Stopped w ↦ rw w.ran-is (c.in-Ok.ensures.which, (subst Fits w.in-Stopped.is c.run_over-keeper.ensures.ran).1)
+      | in-NoThread w ↦ rw w.ran-is (subst Fits w.in-NoThread.is c.run_over-group_commit.ensures.ran, c.in-Ok.ensures.which)
+      | in-Stopped w ↦ rw w.ran-is (c.in-Ok.ensures.which, (subst Fits w.in-Stopped.is c.run_over-group_commit.ensures.ran).1)
     ]
 
 pub returns-clause-unkept : goal.returns-clause-unkept
 returns-clause-unkept g c =
-    let Keeps : Ran → Type 0 = λ ran. RanKeeps g.K.Journal.has_kept g.J.Naming.before g.J.Naming.start.events g.J.Naming.keeps ran c.run_over-keeper.result.0 in
+    let Keeps : Ran → Type 0 = λ ran. RanKeeps g.K.Journal.has_kept g.J.RunSpec.before g.J.RunSpec.start.events g.J.RunSpec.keeps ran c.run_over-group_commit.result.0 in
     elim c.match-ran.branch [
       | in-Done w ↦ rw w.ran-is tt
       | in-NoThread w ↦ rw w.ran-is tt
-      | in-Stopped w ↦ rw w.ran-is (c.into_journal-journal.ensures.unkept w.in-Stopped.why (subst Keeps w.in-Stopped.is c.run_over-keeper.ensures.kept))
+      | in-Stopped w ↦ rw w.ran-is (c.into_journal-journal.ensures.unkept w.in-Stopped.why (subst Keeps w.in-Stopped.is c.run_over-group_commit.ensures.kept))
     ]
 
 pub returns-clause-any_moment : goal.returns-clause-any_moment
 returns-clause-any_moment g c = λ events was.
-    leaves_only g.K.Journal.moment g.K.Journal.left_since g.J.Naming.start g.J.Naming.since g.J.Naming.past
-        g.J.Naming.leaves events c.args.journal c.into_journal-journal.result
+    leaves_only g.K.Journal.moment g.K.Journal.left_since g.J.RunSpec.start g.J.RunSpec.since g.J.RunSpec.past
+    g.J.RunSpec.leaves events c.args.journal c.into_journal-journal.result
     c.requires.since c.requires.past_only (c.into_journal-journal.ensures.left events was)
 
-pub new-keeper-requires-clause-left : goal.new-keeper-requires-clause-left
-new-keeper-requires-clause-left g c = λ events was.
-    let start = g.J.Naming.start in
+pub new-group_commit-requires-clause-left : goal.new-group_commit-requires-clause-left
+new-group_commit-requires-clause-left g c = λ events was.
+    let start = g.J.RunSpec.start in
     let gone_on : HasGoneOn start start = record {
       stays = refl;
       begins = record { later = []; is = refl };
       legal = subst (λ (s : Core). Legal s.procs s.events) c.requires.state c.known.ensures.legal;
     } in
-    leaves_first g.K.Journal.moment g.K.Journal.left_since start g.J.Naming.since g.J.Naming.past g.J.Naming.leaves
-        events c.args.journal c.requires.since gone_on c.requires.past (λ left l.
+    leaves_first g.K.Journal.moment g.K.Journal.left_since start g.J.RunSpec.since g.J.RunSpec.past g.J.RunSpec.leaves
+    events c.args.journal c.requires.since gone_on c.requires.past (λ left l.
     c.requires.leaves events [] left
-        ((g.met.K.Journal g.world.𝓛 g.world.𝓜 g.world.𝓡 ((λ s x. x), (λ x. x), (λ x. x), λ x. x)).kept_now
-        c.args.journal events left (c.requires.before events was)
+    ((g.met.K.Journal g.world.𝓛 g.world.𝓜 g.world.𝓡 ((λ s x. x), (λ x. x), (λ x. x), λ x. x)).kept_now
+    c.args.journal events left (c.requires.before events was)
     (subst (λ (n : ℕ). g.K.Journal.left_since c.args.journal n left) c.requires.since l)))
 
 pub returns-in-Err-clause-any_moment : goal.returns-in-Err-clause-any_moment
 returns-in-Err-clause-any_moment g c = λ events was.
-    let start = g.J.Naming.start in
+    let start = g.J.RunSpec.start in
     let gone_on : HasGoneOn start start = record {
       stays = refl;
       begins = record { later = []; is = refl };
       legal = subst (λ (s : Core). Legal s.procs s.events) c.requires.state c.known.ensures.legal;
     } in
-    leaves_only g.K.Journal.moment g.K.Journal.left_since start g.J.Naming.since g.J.Naming.past g.J.Naming.leaves
-        events c.args.journal c.args.journal c.requires.since c.requires.past_only
-    (leaves_first g.K.Journal.moment g.K.Journal.left_since start g.J.Naming.since g.J.Naming.past g.J.Naming.leaves
-        events c.args.journal c.requires.since gone_on c.requires.past (λ left l.
+    leaves_only g.K.Journal.moment g.K.Journal.left_since start g.J.RunSpec.since g.J.RunSpec.past g.J.RunSpec.leaves
+    events c.args.journal c.args.journal c.requires.since c.requires.past_only
+    (leaves_first g.K.Journal.moment g.K.Journal.left_since start g.J.RunSpec.since g.J.RunSpec.past g.J.RunSpec.leaves
+    events c.args.journal c.requires.since gone_on c.requires.past (λ left l.
     c.requires.leaves events [] left
-        ((g.met.K.Journal g.world.𝓛 g.world.𝓜 g.world.𝓡 ((λ s x. x), (λ x. x), (λ x. x), λ x. x)).kept_now
-        c.args.journal events left (c.requires.before events was)
+    ((g.met.K.Journal g.world.𝓛 g.world.𝓜 g.world.𝓡 ((λ s x. x), (λ x. x), (λ x. x), λ x. x)).kept_now
+    c.args.journal events left (c.requires.before events was)
     (subst (λ (n : ℕ). g.K.Journal.left_since c.args.journal n left) c.requires.since l))))

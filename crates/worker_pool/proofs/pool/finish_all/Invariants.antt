@@ -6,4 +6,4 @@ abbrev pub invariant-loop-k : goal.invariant-loop-k
 invariant-loop-k g l = Unit {0}
 
 abbrev pub invariant-loop-k-2 : goal.invariant-loop-k-2
-invariant-loop-k-2 g l = (i : ℕ) → i < l.k → IsAnswered l.desk.progress i
+invariant-loop-k-2 g l = (i : ℕ) → i < l.k → IsAnswered l.pool_state.progress i

@@ -1,7 +1,7 @@
 use Rattle.worker_pool.proofs.pool.serve.Given as goal
 
-abbrev pub invariant-loop-due : goal.invariant-loop-due
-invariant-loop-due g l = Unit {0}
+abbrev pub invariant-loop-ready : goal.invariant-loop-ready
+invariant-loop-ready g l = Unit {0}
 
-abbrev pub decreases-loop-due : goal.decreases-loop-due
-decreases-loop-due g l = l.errands
+abbrev pub decreases-loop-ready : goal.decreases-loop-ready
+decreases-loop-ready g l = l.outstanding_calls

@@ -21,11 +21,15 @@ loop-line-preserved c =
     let more = take_more steps i x below ∙ ap (λ (y : ScriptStep). take i steps ++ y ∷ []) (sym c.line-item.is) in
     let answers = answered c.loop-line.world c.in_ok-step.step said v c.step-told.ensures.ok c.step-told.ensures.err c.step-told.ensures.why in
     let line : AnswersLine c.loop-line.world x said v =
-    record { step = c.in_ok-step.step; says = c.in_ok-step.ensures; answers = answers;
-        memory = sym c.is_want_of_memory.ensures ∙ c.if-is_want_of_memory.false } in
+    record {
+      step = c.in_ok-step.step;
+      says = c.in_ok-step.ensures;
+      answers = answers;
+      memory = sym c.is_want_of_memory.ensures ∙ c.if-is_want_of_memory.false;
+    } in
     let lines : new ≡ string_bytes c.loop-line.lines ++ step_line said = search rules in
     let all = c.loop-line.all && c.is_ok-all.result in
     let possible = ap (λ (b : Bool). c.loop-line.all && b) c.is_ok-all.ensures.value in
     let taken = one_taken w c.loop-line.world v (take i steps) x said old (string_bytes c.loop-line.lines) new
-        c.loop-line.all all c.loop-line.invariant line lines possible in
+    c.loop-line.all all c.loop-line.invariant line lines possible in
     subst (λ (xs : List ScriptStep). AreTaken w xs v old new all) (sym more) taken

@@ -23,7 +23,7 @@ returns c = elim c.match-taken.branch [
       let end = c.take_steps-taken.new.world in
       let stepped = string_bytes c.take_steps-taken.new.lines in
       let by_slice = subst (λ (xs : List ScriptStep). AreTaken start xs end (string_bytes c.new-lines.result) stepped
-          w.in-Ok.all) c.as_slice.ensures.value w.in-Ok.ensures in
+      w.in-Ok.all) c.as_slice.ensures.value w.in-Ok.ensures in
       let taken = subst (λ (old : List ℕ). AreTaken start c.args.loaded.steps.items end old stepped w.in-Ok.all) c.new-lines.ensures.bytes by_slice in
       let dcs = w.as_slice-in-Ok.ensures.value ∙ c.close-state.ensures.dcs in
       stepped_report c.match-taken.report w.report_of-report.result c.args.loaded c.args.behind w.in-Ok.all start end stepped

@@ -7,4 +7,4 @@ use Rattle.disk_file.proofs.disk.DiskFileDevice.cut.Goals as goal
 pub returns-in_err-keep-clause-crash : goal.returns-in_err-keep-clause-crash
 returns-in_err-keep-clause-crash c =
     subst (λ (l : Events). Follows (Cut c.args.len) (MayLeave c.args.self.now.calls) (MayLeave l))
-        (sym c.keep.ensures.calls) (not_cut c.args.self.now.calls c.args.len)
+    (sym c.keep.ensures.calls) (not_cut c.args.self.now.calls c.args.len)

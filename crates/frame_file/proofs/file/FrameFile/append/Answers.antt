@@ -13,7 +13,7 @@ returns-in_default-clause-any_moment g c payloads settled =
     let P = IsBeforeOrAfter payloads p in
     let only = subst (λ f. Only f (g.D.Device.may_leave c.args.self.now.device)) settled.bytes settled.durable in
     let at_start = started g.D.Device.moment g.D.Device.left_since c.args.self.now.device P
-        (λ f left. whole payloads p settled.fit f (only f (g.met.D.Device.only_now c.args.self.now.device f left))) in
+    (λ f left. whole payloads p settled.fit f (only f (g.met.D.Device.only_now c.args.self.now.device f left))) in
     at_start
 
 pub returns-in_err-frame-clause-any_moment : goal.returns-in_err-frame-clause-any_moment
@@ -22,7 +22,7 @@ returns-in_err-frame-clause-any_moment g c payloads settled =
     let P = IsBeforeOrAfter payloads p in
     let only = subst (λ f. Only f (g.D.Device.may_leave c.args.self.now.device)) settled.bytes settled.durable in
     let at_start = started g.D.Device.moment g.D.Device.left_since c.args.self.now.device P
-        (λ f left. whole payloads p settled.fit f (only f (g.met.D.Device.only_now c.args.self.now.device f left))) in
+    (λ f left. whole payloads p settled.fit f (only f (g.met.D.Device.only_now c.args.self.now.device f left))) in
     at_start
 
 pub returns-in_err-write_frame-clause-any_moment : goal.returns-in_err-write_frame-clause-any_moment
@@ -31,7 +31,7 @@ returns-in_err-write_frame-clause-any_moment g c payloads settled =
     let P = IsBeforeOrAfter payloads p in
     let only = subst (λ f. Only f (g.D.Device.may_leave c.args.self.now.device)) settled.bytes settled.durable in
     let at_start = started g.D.Device.moment g.D.Device.left_since c.args.self.now.device P
-        (λ f left. whole payloads p settled.fit f (only f (g.met.D.Device.only_now c.args.self.now.device f left))) in
+    (λ f left. whole payloads p settled.fit f (only f (g.met.D.Device.only_now c.args.self.now.device f left))) in
     at_start
 
 pub returns-in_err-append-clause-any_moment : goal.returns-in_err-append-clause-any_moment
@@ -40,13 +40,13 @@ returns-in_err-append-clause-any_moment g c payloads settled =
     let P = IsBeforeOrAfter payloads p in
     let only = subst (λ f. Only f (g.D.Device.may_leave c.args.self.now.device)) settled.bytes settled.durable in
     let at_start = started g.D.Device.moment g.D.Device.left_since c.args.self.now.device P
-        (λ f left. whole payloads p settled.fit f (only f (g.met.D.Device.only_now c.args.self.now.device f left))) in
+    (λ f left. whole payloads p settled.fit f (only f (g.met.D.Device.only_now c.args.self.now.device f left))) in
     let bytes_are : c.deref.result.now ≡ framed c.args.self.now.count p = search rules in
     let after : (f : List ℕ) → g.D.Device.may_leave c.append.new.self f
-        → P f = append_crash payloads p settled.fit c.deref.result.now c.args.self.now.count _ _ (search rules)
-        bytes_are settled.count only c.append.ensures.crash in
+    → P f = append_crash payloads p settled.fit c.deref.result.now c.args.self.now.count _ _ (search rules)
+    bytes_are settled.count only c.append.ensures.crash in
     let behind = goes_on g.D.Device.moment g.D.Device.left_since c.args.self.now.device c.args.self.now.device
-        c.append.new.self P _ at_start c.append.ensures.time after in
+    c.append.new.self P _ at_start c.append.ensures.time after in
     behind
 
 pub returns-in_err-sync-clause-any_moment : goal.returns-in_err-sync-clause-any_moment
@@ -55,15 +55,15 @@ returns-in_err-sync-clause-any_moment g c payloads settled =
     let P = IsBeforeOrAfter payloads p in
     let only = subst (λ f. Only f (g.D.Device.may_leave c.args.self.now.device)) settled.bytes settled.durable in
     let at_start = started g.D.Device.moment g.D.Device.left_since c.args.self.now.device P
-        (λ f left. whole payloads p settled.fit f (only f (g.met.D.Device.only_now c.args.self.now.device f left))) in
+    (λ f left. whole payloads p settled.fit f (only f (g.met.D.Device.only_now c.args.self.now.device f left))) in
     let bytes_are : c.deref.result.now ≡ framed c.args.self.now.count p = search rules in
     let after : (f : List ℕ) → g.D.Device.may_leave c.append.new.self f
-        → P f = append_crash payloads p settled.fit c.deref.result.now c.args.self.now.count _ _ (search rules)
-        bytes_are settled.count only c.append.ensures.crash in
+    → P f = append_crash payloads p settled.fit c.deref.result.now c.args.self.now.count _ _ (search rules)
+    bytes_are settled.count only c.append.ensures.crash in
     let behind = goes_on g.D.Device.moment g.D.Device.left_since c.args.self.now.device c.args.self.now.device
-        c.append.new.self P _ at_start c.append.ensures.time after in
+    c.append.new.self P _ at_start c.append.ensures.time after in
     let kept = goes_on g.D.Device.moment g.D.Device.left_since c.args.self.now.device c.append.new.self c.sync.new.self
-        P _ behind c.sync.ensures.time (λ f now. after f (c.sync.ensures.crash f now)) in
+    P _ behind c.sync.ensures.time (λ f now. after f (c.sync.ensures.crash f now)) in
     kept
 
 pub returns-clause-any_moment : goal.returns-clause-any_moment
@@ -72,15 +72,15 @@ returns-clause-any_moment g c payloads settled =
     let P = IsBeforeOrAfter payloads p in
     let only = subst (λ f. Only f (g.D.Device.may_leave c.args.self.now.device)) settled.bytes settled.durable in
     let at_start = started g.D.Device.moment g.D.Device.left_since c.args.self.now.device P
-        (λ f left. whole payloads p settled.fit f (only f (g.met.D.Device.only_now c.args.self.now.device f left))) in
+    (λ f left. whole payloads p settled.fit f (only f (g.met.D.Device.only_now c.args.self.now.device f left))) in
     let bytes_are : c.deref.result.now ≡ framed c.args.self.now.count p = search rules in
     let after : (f : List ℕ) → g.D.Device.may_leave c.append.new.self f
-        → P f = append_crash payloads p settled.fit c.deref.result.now c.args.self.now.count _ _ (search rules)
-        bytes_are settled.count only c.append.ensures.crash in
+    → P f = append_crash payloads p settled.fit c.deref.result.now c.args.self.now.count _ _ (search rules)
+    bytes_are settled.count only c.append.ensures.crash in
     let behind = goes_on g.D.Device.moment g.D.Device.left_since c.args.self.now.device c.args.self.now.device
-        c.append.new.self P _ at_start c.append.ensures.time after in
+    c.append.new.self P _ at_start c.append.ensures.time after in
     let kept = goes_on g.D.Device.moment g.D.Device.left_since c.args.self.now.device c.append.new.self c.sync.new.self
-        P _ behind c.sync.ensures.time (λ f now. after f (c.sync.ensures.crash f now)) in
+    P _ behind c.sync.ensures.time (λ f now. after f (c.sync.ensures.crash f now)) in
     kept
 
 -- and then it is on the disk

@@ -11,14 +11,14 @@ returns-in_err-cut-clause-any_moment g c =
     let P : List ℕ → Type 0 = ReadsAs file in
     let here : (f : List ℕ) → g.D.Device.may_leave c.args.self.now.device f → P f = λ f now. same_reads_as file f (c.requires.settled f now) in
     let at_start = started g.D.Device.moment g.D.Device.left_since c.args.self.now.device P
-        (λ f left. here f (g.met.D.Device.only_now c.args.self.now.device f left)) in
+    (λ f left. here f (g.met.D.Device.only_now c.args.self.now.device f left)) in
     let after : (f : List ℕ) → g.D.Device.may_leave c.cut.new.self f → P f = λ f now.
     let from = c.cut.ensures.crash f now in
     let was = c.requires.settled from.0 from.1 in
     cut_reads_as file f (payloads_in c.args.found.now.payloads.items) c.args.found.now.end c.requires.found.reads
-        c.requires.found.end (subst (λ d. Cut c.args.found.now.end d f) was from.2) in
+    c.requires.found.end (subst (λ d. Cut c.args.found.now.end d f) was from.2) in
     let cut = goes_on g.D.Device.moment g.D.Device.left_since c.args.self.now.device c.args.self.now.device
-        c.cut.new.self P _ at_start c.cut.ensures.time after in
+    c.cut.new.self P _ at_start c.cut.ensures.time after in
     cut
 
 pub returns-in_err-sync-clause-any_moment : goal.returns-in_err-sync-clause-any_moment
@@ -27,16 +27,16 @@ returns-in_err-sync-clause-any_moment g c =
     let P : List ℕ → Type 0 = ReadsAs file in
     let here : (f : List ℕ) → g.D.Device.may_leave c.args.self.now.device f → P f = λ f now. same_reads_as file f (c.requires.settled f now) in
     let at_start = started g.D.Device.moment g.D.Device.left_since c.args.self.now.device P
-        (λ f left. here f (g.met.D.Device.only_now c.args.self.now.device f left)) in
+    (λ f left. here f (g.met.D.Device.only_now c.args.self.now.device f left)) in
     let after : (f : List ℕ) → g.D.Device.may_leave c.cut.new.self f → P f = λ f now.
     let from = c.cut.ensures.crash f now in
     let was = c.requires.settled from.0 from.1 in
     cut_reads_as file f (payloads_in c.args.found.now.payloads.items) c.args.found.now.end c.requires.found.reads
-        c.requires.found.end (subst (λ d. Cut c.args.found.now.end d f) was from.2) in
+    c.requires.found.end (subst (λ d. Cut c.args.found.now.end d f) was from.2) in
     let cut = goes_on g.D.Device.moment g.D.Device.left_since c.args.self.now.device c.args.self.now.device
-        c.cut.new.self P _ at_start c.cut.ensures.time after in
+    c.cut.new.self P _ at_start c.cut.ensures.time after in
     goes_on g.D.Device.moment g.D.Device.left_since c.args.self.now.device c.cut.new.self c.sync.new.self P _ cut
-        c.sync.ensures.time (λ f now. after f (c.sync.ensures.crash f now))
+    c.sync.ensures.time (λ f now. after f (c.sync.ensures.crash f now))
 
 pub returns-clause-any_moment : goal.returns-clause-any_moment
 returns-clause-any_moment g c =
@@ -44,21 +44,21 @@ returns-clause-any_moment g c =
     let P : List ℕ → Type 0 = ReadsAs file in
     let here : (f : List ℕ) → g.D.Device.may_leave c.args.self.now.device f → P f = λ f now. same_reads_as file f (c.requires.settled f now) in
     let at_start = started g.D.Device.moment g.D.Device.left_since c.args.self.now.device P
-        (λ f left. here f (g.met.D.Device.only_now c.args.self.now.device f left)) in
+    (λ f left. here f (g.met.D.Device.only_now c.args.self.now.device f left)) in
     let after : (f : List ℕ) → g.D.Device.may_leave c.cut.new.self f → P f = λ f now.
     let from = c.cut.ensures.crash f now in
     let was = c.requires.settled from.0 from.1 in
     cut_reads_as file f (payloads_in c.args.found.now.payloads.items) c.args.found.now.end c.requires.found.reads
-        c.requires.found.end (subst (λ d. Cut c.args.found.now.end d f) was from.2) in
+    c.requires.found.end (subst (λ d. Cut c.args.found.now.end d f) was from.2) in
     let cut = goes_on g.D.Device.moment g.D.Device.left_since c.args.self.now.device c.args.self.now.device
-        c.cut.new.self P _ at_start c.cut.ensures.time after in
+    c.cut.new.self P _ at_start c.cut.ensures.time after in
     goes_on g.D.Device.moment g.D.Device.left_since c.args.self.now.device c.cut.new.self c.sync.new.self P _ cut
-        c.sync.ensures.time (λ f now. after f (c.sync.ensures.crash f now))
+    c.sync.ensures.time (λ f now. after f (c.sync.ensures.crash f now))
 
 pub cut-requires-clause-inside : goal.cut-requires-clause-inside
 cut-requires-clause-inside g c =
     end_inside (g.D.Device.seen c.args.self.now.device) (payloads_in c.args.found.now.payloads.items)
-        c.args.found.now.end c.requires.found.reads c.requires.found.end
+    c.args.found.now.end c.requires.found.reads c.requires.found.end
 
 pub returns-clause-settled : goal.returns-clause-settled
 returns-clause-settled g c =

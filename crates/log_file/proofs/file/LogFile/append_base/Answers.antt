@@ -28,7 +28,7 @@ parts-preserved g c =
           (let was = c.parts.invariant.wrote before settled in
           subst (λ (r : Rows). Wrote d.seen d.may_leave d.moment d.left_since c.args.self.now.frames c.append.new.self before c.args.base.now r) (sym behind)
           (one_more d.seen d.may_leave d.moment d.left_since c.args.self.now.frames c.parts.self.frames
-              c.append.new.self before c.args.base.now rest c.deref.result.now was some payload
+          c.append.new.self before c.args.base.now rest c.deref.result.now was some payload
           (c.append.ensures.any_moment _ was.settled) (c.in_ok-append.ensures.acknowledged _ was.settled)));
       later = omega (arith, later, more);
     }
@@ -51,7 +51,7 @@ returns-in_err-append-clause-any_moment g c before after last settled =
     let payload : c.deref.result.now ≡ part_bytes (take 4096 c.parts.rest.now) = c.deref.ensures.value ∙ (c.in_ok-payload.ensures ∙ ap part_bytes part) in
     let was = c.parts.invariant.wrote before settled in
     moved d.seen d.may_leave d.moment d.left_since c.args.self.now.frames c.parts.self.frames c.append.new.self before
-        c.args.base.now c.parts.rest.now c.deref.result.now was some payload
+    c.args.base.now c.parts.rest.now c.deref.result.now was some payload
     (c.append.ensures.any_moment _ was.settled) last after
 
 pub returns-in_err-append-clause-failed : goal.returns-in_err-append-clause-failed
@@ -66,7 +66,7 @@ returns-clause-acknowledged g c before settled =
     let zero : length c.parts.rest.now ≡ 0 = search rules in
     let none : c.parts.rest.now ≡ [] = no_rows c.parts.rest.now zero in
     all_written d.seen d.may_leave d.moment d.left_since c.args.self.now.frames c.parts.self.frames before
-        c.args.base.now c.parts.rest.now (c.parts.invariant.wrote before settled) none
+    c.args.base.now c.parts.rest.now (c.parts.invariant.wrote before settled) none
 
 pub returns-clause-any_moment : goal.returns-clause-any_moment
 returns-clause-any_moment g c before after last settled = (c.parts.invariant.wrote before settled).left last after

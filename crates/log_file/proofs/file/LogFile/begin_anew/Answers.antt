@@ -25,7 +25,7 @@ returns-in_err-append-clause-any_moment g c settled =
     let is : c.deref.result.now ≡ based_header_bytes c.args.header.now (length c.args.base.now) = c.deref.ensures.value ∙ c.in_ok-payload.ensures in
     let P = IsFront (head ∷ (parts ++ row ∷ [])) in
     let time = subst (λ (p : List ℕ). LeavesOnly d.moment d.left_since old c.append.new.self.device
-        (IsBeforeOrAfter [] p)) is (c.append.ensures.any_moment [] settled) in
+    (IsBeforeOrAfter [] p)) is (c.append.ensures.any_moment [] settled) in
     weaker d.moment d.left_since old c.append.new.self.device (IsBeforeOrAfter [] head) P time
     (λ f left. record { before = []; payload = head; after = parts ++ row ∷ []; is = refl; left = left })
 

@@ -20,7 +20,7 @@ returns-in-Ok-append-clause-kept g c = λ before was.
 pub returns-in_default-clause-any_moment : goal.returns-in_default-clause-any_moment
 returns-in_default-clause-any_moment g c = λ before was.
     unwritten_leaves g.D.Device.seen g.D.Device.may_leave c.args.self.now.header c.args.self.now.file before
-        (drop c.args.place (reverse c.args.log.now.events)) was g.D.Device.moment
+    (drop c.args.place (reverse c.args.log.now.events)) was g.D.Device.moment
     g.D.Device.left_since g.met.D.Device.only_now
 
 pub returns-in-Ok-append-clause-any_moment : goal.returns-in-Ok-append-clause-any_moment
@@ -29,8 +29,8 @@ returns-in-Ok-append-clause-any_moment g c = λ before was.
     let device = c.args.self.now.file.frames.device in
     let new = c.append.new.self.frames.device in
     written_leaves g.D.Device.seen g.D.Device.may_leave c.args.self.now.header c.args.self.now.file before
-        (drop c.args.place (reverse c.args.log.now.events)) was g.D.Device.moment
+    (drop c.args.place (reverse c.args.log.now.events)) was g.D.Device.moment
     g.D.Device.left_since g.met.D.Device.only_now new rows c.in-Ok.ensures.bytes (λ payloads settled.
     subst (λ (r : List ℕ). LeavesOnly g.D.Device.moment g.D.Device.left_since device new
-        (IsBeforeOrAfter payloads (batch_bytes (of_rows r)))) c.deref.ensures.value
+    (IsBeforeOrAfter payloads (batch_bytes (of_rows r)))) c.deref.ensures.value
     (c.in-Ok-append.ensures.any_moment payloads settled))

@@ -10,8 +10,8 @@ loop-request-init c = none_yet c.self.inside.state c.args.self.core c.self.insid
 pub loop-request-preserved : goal.loop-request-preserved
 loop-request-preserved c =
     one_more c.args.self.core c.loop-request.state c.give_up-number.new.self c.loop-request.requests.items
-        c.pop.new.self.items c.in-Some.request c.loop-request.invariant c.in-Some.ensures.items
-        c.give_up-number.ensures.open_here
+    c.pop.new.self.items c.in-Some.request c.loop-request.invariant c.in-Some.ensures.items
+    c.give_up-number.ensures.open_here
 
 pub returns-clause-kept : goal.returns-clause-kept
 returns-clause-kept c = c.loop-request.invariant.kept

@@ -1,0 +1,7 @@
+use Rattle.worker_pool.proofs.outstanding_calls.forget_all.Given as goal
+
+abbrev pub invariant-loop-ready : goal.invariant-loop-ready
+invariant-loop-ready g l = Unit {0}
+
+abbrev pub decreases-loop-ready : goal.decreases-loop-ready
+decreases-loop-ready g l = goal.left-loop-ready g l

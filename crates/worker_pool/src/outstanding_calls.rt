@@ -1,0 +1,355 @@
+// The calls that a worker has on their way.
+
+ghost use Rattle.std.specs.Prelude.{◌≡◌, ◌+◌, ◌<◌, ◌≤◌, Some, None, IfSome, slice_get, vec_len, vec_capacity};
+ghost use Rattle.access_slots.specs.Locks.{target};
+ghost use Rattle.worker_pool.specs.Joining.Moves.{IsAnsweredBy};
+ghost use Rattle.worker_pool.specs.Restarts.{AreKnown};
+
+use crate::acknowledgement::ReadyAnswer;
+use crate::outstanding_call::OutstandingCall;
+use crate::pool::Gate;
+use crate::pool_state::{Next, PoolState};
+use crate::run_spec::RunSpec;
+use dc_links::Link;
+use std::alloc::{AllocError, Global};
+use std::marker::Model;
+use std::sync::Wait;
+use tc_core::state::Call;
+
+/// The calls that a worker has on their way, so many at most.
+pub struct OutstandingCalls<J: RunSpec> {
+    // Those whose wires are carried next, each in its place until it is over.
+    away: Vec<OutstandingCall<J>>,
+    // Answers that stand, and are ready.
+    over: Vec<ReadyAnswer<J>>,
+    // A call with another transaction in its way.
+    waiting: Option<usize>,
+    most: usize,
+}
+
+impl<J: RunSpec> Model for OutstandingCalls<J> {
+    ghost use Rattle.std.specs.Prelude.{◌+◌, ◌≤◌, ℕ, vec_len, vec_capacity};
+
+    ghost Value = { ℕ };
+
+    ghost view = { λ e. vec_len e.away + vec_len e.over };
+
+    ghost invariant = { λ e. (vec_len e.away + vec_len e.over ≤ e.most) × (e.most ≤ vec_capacity e.away) × (e.most ≤ vec_capacity e.over) };
+}
+
+// What becomes of an outstanding call behind a step of its call.
+enum Course<J: RunSpec> {
+    // Its wire is to be carried.
+    Carry,
+    // Something came back that doesn't answer its wire, or nothing did.
+    Unanswered,
+    // Its call has to wait.
+    Waits,
+    // Nothing more is done for its call.
+    Over,
+    // The same, and its answer is ready.
+    Answered(ReadyAnswer<J>),
+}
+
+// What a step of a call leads to.
+#[inline(always)]
+fn course_of<J: RunSpec>(pool_state: &PoolState<J>, k: usize, call: &Call, next: Next) -> Course<J>
+    requires call { slice_get J.calls k ≡ Some call.now }
+    requires answered { IsAnsweredBy pool_state.now.progress k next }
+{
+    match next {
+        Next::Carry => Course::Carry,
+        Next::Unanswered => Course::Unanswered,
+        Next::Begun | Next::Busy => Course::Waits,
+        Next::Over => Course::Answered(pool_state.ready(k, call)),
+        Next::LeftOut => Course::Over,
+    }
+}
+
+// The first step of a call, and the next one where it was admitted.
+#[inline(always)]
+#[tactic(auto, using(crate::proofs::Steps::answered_by))]
+fn first_steps<J: RunSpec>(
+    pool_state: &mut PoolState<J>,
+    call: &Call,
+    outstanding: &mut OutstandingCall<J>,
+) -> Next
+    requires call { slice_get J.calls outstanding.old.call ≡ Some call.now }
+    requires none { outstanding.old.attempt.request ≡ None }
+    ensures answered { IsAnsweredBy pool_state.new.progress outstanding.old.call result }
+    ensures call { outstanding.new.call ≡ outstanding.old.call }
+{
+    match pool_state.advance(outstanding.call, call, &mut outstanding.attempt) {
+        Next::Begun => {
+            outstanding.is_begun = true;
+            pool_state.advance(outstanding.call, call, &mut outstanding.attempt)
+        }
+        next => next,
+    }
+}
+
+// The first steps of a call: one that is admitted goes on at once.
+#[inline(always)]
+fn begin<J: RunSpec>(
+    pool_state: &mut PoolState<J>,
+    call: &Call,
+    outstanding: &mut OutstandingCall<J>,
+) -> Course<J>
+    requires call { slice_get J.calls outstanding.old.call ≡ Some call.now }
+    requires none { outstanding.old.attempt.request ≡ None }
+{
+    let next = first_steps(pool_state, call, outstanding);
+    course_of(pool_state, outstanding.call, call, next)
+}
+
+// The step of a call that what came back leads to, or that nothing did.
+#[inline(always)]
+#[tactic(auto, using(crate::proofs::Steps::answered_by))]
+fn next_step<J: RunSpec>(
+    pool_state: &mut PoolState<J>,
+    call: &Call,
+    outstanding: &mut OutstandingCall<J>,
+) -> Next
+    requires { slice_get J.calls outstanding.old.call ≡ Some call.now }
+    ensures answered { IsAnsweredBy pool_state.new.progress outstanding.old.call result }
+    ensures call { outstanding.new.call ≡ outstanding.old.call }
+    ensures told { outstanding.old.reply ≡ None
+        → IfSome outstanding.old.news (AreKnown pool_state.old.state pool_state.new.state (target outstanding.old.attempt.wire.op).dc) }
+{
+    match &outstanding.reply {
+        Some(reply) => pool_state.hear(outstanding.call, call, &mut outstanding.attempt, reply),
+        None => pool_state.go_on_unanswered(
+            outstanding.call,
+            call,
+            &mut outstanding.attempt,
+            outstanding.news,
+        ),
+    }
+}
+
+#[inline(always)]
+fn go_on<J: RunSpec>(
+    pool_state: &mut PoolState<J>,
+    call: &Call,
+    outstanding: &mut OutstandingCall<J>,
+) -> Course<J>
+    requires { slice_get J.calls outstanding.old.call ≡ Some call.now }
+    ensures told { outstanding.old.reply ≡ None
+        → IfSome outstanding.old.news (AreKnown pool_state.old.state pool_state.new.state (target outstanding.old.attempt.wire.op).dc) }
+{
+    let next = next_step(pool_state, call, outstanding);
+    outstanding.reply = None;
+    course_of(pool_state, outstanding.call, call, next)
+}
+
+// The next step of an outstanding call's call, which is one of these.
+#[inline(always)]
+fn step<J: RunSpec>(
+    pool_state: &mut PoolState<J>,
+    calls: &[Call],
+    outstanding: &mut OutstandingCall<J>,
+) -> Course<J>
+    requires { calls.now ≡ J.calls }
+{
+    match calls.get(outstanding.call) {
+        Some(call) => go_on(pool_state, call, outstanding),
+        None => Course::Waits,
+    }
+}
+
+// Gives an outstanding call's request up, if it has one, without going on with its call.
+fn abandon<J: RunSpec>(pool_state: &mut PoolState<J>, outstanding: OutstandingCall<J>) {
+    let OutstandingCall {
+        call: _,
+        is_begun: _,
+        attempt,
+        is_carried: _,
+        reply: _,
+        news: _,
+    } = outstanding;
+    pool_state.abandon(attempt);
+}
+
+// Gives the requests of these outstanding calls up.
+fn abandon_all<J: RunSpec>(
+    pool_state: &mut PoolState<J>,
+    mut outstanding_calls: Vec<OutstandingCall<J>>,
+) {
+    while let Some(outstanding) = outstanding_calls.pop() {
+        abandon(pool_state, outstanding);
+    }
+    outstanding_calls.destroy_empty();
+}
+
+// Answers that are told to nobody.
+fn forget_all<J: RunSpec>(mut over: Vec<ReadyAnswer<J>>) {
+    while let Some(ready) = over.pop() {
+        ready.forget();
+    }
+    over.destroy_empty();
+}
+
+// The call that waits, or the next one that no worker has taken.
+#[inline(always)]
+fn next_call<J: RunSpec>(
+    waiting: &mut Option<usize>,
+    pool_state: &mut PoolState<J>,
+) -> Option<usize> {
+    match waiting.take() {
+        Some(k) => Some(k),
+        None => pool_state.take(),
+    }
+}
+
+// What becomes of an outstanding call behind a step of its call: whether its call has to wait. One that is over
+// leaves its place.
+#[inline(always)]
+fn settle<J: RunSpec>(
+    away: &mut Vec<OutstandingCall<J>>,
+    over: &mut Vec<ReadyAnswer<J>>,
+    pool_state: &mut PoolState<J>,
+    at: usize,
+    course: Course<J>,
+) -> bool
+    requires there { at < vec_len away.old }
+    requires room { vec_len over.old < vec_capacity over.old }
+    ensures one { vec_len away.new + vec_len over.new ≤ vec_len away.old + vec_len over.old }
+    ensures left { at ≤ vec_len away.new }
+    ensures away { vec_capacity away.new ≡ vec_capacity away.old }
+    ensures over { vec_capacity over.new ≡ vec_capacity over.old }
+{
+    match course {
+        Course::Carry => away[at].is_carried = false,
+        Course::Unanswered => away[at].is_carried = true,
+        Course::Answered(ready) => {
+            over.push_reserved(ready);
+            abandon(pool_state, away.swap_remove(at));
+        }
+        Course::Over => abandon(pool_state, away.swap_remove(at)),
+        Course::Waits => {
+            abandon(pool_state, away.swap_remove(at));
+            return true;
+        }
+    }
+    false
+}
+
+impl<J: RunSpec> OutstandingCalls<J> {
+    /// No call, and no room for one. It takes no memory.
+    pub fn new(alloc: Global) -> OutstandingCalls<J>
+        ensures { result ≡ 0 }
+    {
+        OutstandingCalls {
+            away: Vec::new(alloc),
+            over: Vec::new(alloc),
+            waiting: None,
+            most: 0,
+        }
+    }
+
+    /// Makes room for so many calls in all.
+    pub fn reserve(&mut self, most: usize) -> Result<(), AllocError>
+        requires { self.old ≤ most }
+    {
+        self.away.reserve(most)?;
+        self.over.reserve(most)?;
+        self.most = most;
+        Ok(())
+    }
+
+    /// The pool's state hears what came of each wire that was carried.
+    #[inline(always)]
+    pub fn hear(&mut self, pool_state: &mut PoolState<J>, calls: &[Call])
+        requires { calls.now ≡ J.calls }
+    {
+        let mut at = self.away.len();
+        'outstanding_calls: while at > 0 {
+            at -= 1;
+            let outstanding = &mut self.away[at];
+            let k = outstanding.call;
+            let course = step(pool_state, calls, outstanding);
+            if settle(&mut self.away, &mut self.over, pool_state, at, course) {
+                self.waiting = Some(k);
+            }
+        }
+    }
+
+    /// Takes calls up while there is room, and none of them waits.
+    pub fn take_up(&mut self, pool_state: &mut PoolState<J>, calls: &[Call])
+        requires { calls.now ≡ J.calls }
+    {
+        'taking: for _ in 0..self.most {
+            if self.away.len() + self.over.len() >= self.most {
+                return;
+            }
+            let Some(k) = next_call(&mut self.waiting, pool_state) else {
+                return;
+            };
+            let Some(call) = calls.get(k) else {
+                return;
+            };
+            let mut outstanding = OutstandingCall::new(k);
+            let course = begin(pool_state, call, &mut outstanding);
+            let at = self.away.len();
+            self.away.push_reserved(outstanding);
+            if settle(&mut self.away, &mut self.over, pool_state, at, course) {
+                self.waiting = Some(k);
+                return;
+            }
+        }
+    }
+
+    /// Whether nothing is on its way and no answer is ready.
+    pub fn is_idle(&self) -> bool {
+        self.away.is_empty() && self.over.is_empty()
+    }
+
+    /// Whether a call has a transaction in its way.
+    pub fn is_waiting(&self) -> bool {
+        self.waiting.is_some()
+    }
+
+    /// Whether an answer is ready.
+    pub fn is_ready(&self) -> bool {
+        !self.over.is_empty()
+    }
+
+    /// An answer that is ready.
+    pub fn next_ready(&mut self) -> Option<ReadyAnswer<J>>
+        ensures { IfSome result (λ ready. self.new + 1 ≡ self.old) }
+    {
+        self.over.pop()
+    }
+
+    /// Tells the gate which calls were admitted since it was told last.
+    pub fn tell_begun<G: Gate>(&mut self, gate: &G) {
+        for outstanding in &mut self.away {
+            if outstanding.is_begun {
+                gate.begun(outstanding.call);
+                outstanding.is_begun = false;
+            }
+        }
+    }
+
+    /// Carries the wires, and asks for news where no answer came.
+    pub fn carry<R: Wait, L: Link>(&mut self, rt: &R, worker: usize, link: &L) {
+        link.carry_all(rt, worker, self.away.as_mut_slice());
+        for outstanding in &mut self.away {
+            if outstanding.reply.is_none() {
+                outstanding.news = link.news(rt, worker, outstanding.attempt.dc());
+            }
+        }
+    }
+
+    /// Gives all requests up.
+    pub fn close(self, pool_state: &mut PoolState<J>) {
+        let OutstandingCalls {
+            away,
+            over,
+            waiting: _,
+            most: _,
+        } = self;
+        abandon_all(pool_state, away);
+        forget_all(over);
+    }
+}
