@@ -1,4 +1,4 @@
-// Bounded queues with a bell, through which threads hand one another messages.
+// Bounded queues with an event count, through which threads hand one another messages.
 
 ghost use Rattle.std.specs.Prelude.{◌≡◌, ◌<◌, ℕ, [], ◌∷◌, None, IfErr};
 ghost use Rattle.crossbeam_queue.specs.Fifo.{Admits, Held, Learns, Pops};
@@ -15,91 +15,91 @@ const LOOKS: u32 = 2_000;
 
 // What those who sleep at a queue listen to.
 #[derive(Drop)]
-struct Bell {
-    rings: AtomicU64,
+struct EventCount {
+    signals: AtomicU64,
     sleepers: AtomicU64,
 }
 
-impl Bell {
-    fn new() -> Bell {
-        Bell {
-            rings: AtomicU64::new(0),
+impl EventCount {
+    fn new() -> EventCount {
+        EventCount {
+            signals: AtomicU64::new(0),
             sleepers: AtomicU64::new(0),
         }
     }
 
-    // How often it was rung, as far as a sleep compares it.
-    fn rung(&self) -> u32 {
-        (self.rings.load(Ordering::SeqCst) & 0xffff_ffff) as u32
+    // How often it was signalled, as far as a sleep compares it.
+    fn signalled(&self) -> u32 {
+        (self.signals.load(Ordering::SeqCst) & 0xffff_ffff) as u32
     }
 
     // Whoever sleeps is to look again.
-    fn ring(&self) {
-        self.rings.fetch_add(1, Ordering::SeqCst);
-        self.rings.wake_all();
+    fn signal(&self) {
+        self.signals.fetch_add(1, Ordering::SeqCst);
+        self.signals.wake_all();
     }
 
     // The same behind a message, and left out where nobody sleeps: who counts itself as a sleeper looks at the
     // queue once more before it sleeps.
-    fn ring_for_sleepers(&self) {
+    fn signal_sleepers(&self) {
         if self.sleepers.load(Ordering::SeqCst) != 0 {
-            self.ring();
+            self.signal();
         }
     }
 }
 
-// How somebody waits at a bell: it looks, since most waits are shorter than it takes to sleep and to be woken, and then
-// sleeps. To let others run between looks would have it wait for their turns where processors are busy; to sleep was
-// measured to be faster there.
+// How somebody waits at an event count: it looks, since most waits are shorter than it takes to sleep and to be
+// woken, and then sleeps. To let others run between looks would have it wait for their turns where processors are
+// busy; to sleep was measured to be faster there.
 #[derive(Drop)]
 struct Waiter<'a> {
-    bell: &'a Bell,
+    event_count: &'a EventCount,
     looks: u32,
     // Whether it counts as a sleeper.
     is_counted: bool,
 }
 
 impl Waiter<'_> {
-    // Waits for a moment behind a look that found nothing, where the bell had been rung so often before that
+    // Waits for a moment behind a look that found nothing, where it had been signalled so often before that
     // look.
-    fn wait<R: Wait>(&mut self, rt: &R, rung: u32) {
+    fn wait<R: Wait>(&mut self, rt: &R, signalled: u32) {
         if self.looks < LOOKS {
             self.looks += 1;
             hint::spin_loop();
         } else if !self.is_counted {
             self.is_counted = true;
-            self.bell.sleepers.fetch_add(1, Ordering::SeqCst);
+            self.event_count.sleepers.fetch_add(1, Ordering::SeqCst);
         } else {
-            self.bell.rings.park(rt, rung);
+            self.event_count.signals.park(rt, signalled);
         }
     }
 
     // It waits no longer.
     fn leave(self) {
         if self.is_counted {
-            self.bell.sleepers.fetch_sub(1, Ordering::SeqCst);
+            self.event_count.sleepers.fetch_sub(1, Ordering::SeqCst);
         }
     }
 }
 
-// A queue of messages, whose bell is rung at each. A link's queues are `Free`. What is said here of a
+// A queue of messages, whose event count is signalled at each. A link's queues are `Free`. What is said here of a
 // queue that was found empty is said under any rule `P`: so it can't be had but by a look at the queue.
 #[derive(Drop)]
 pub struct Ring<T, V, P: Protocol<T, V>> {
     queue: RuledArrayQueue<T, V, P>,
-    bell: Bell,
+    event_count: EventCount,
 }
 
 impl<T: Drop, V, P: Protocol<T, V>> Ring<T, V, P> {
-    // A ring of so many places.
-    pub fn new(alloc: Global, places: usize) -> Result<Ring<T, V, P>, AllocError>
-        requires places { 0 < places }
+    // A ring of this capacity.
+    pub fn new(alloc: Global, capacity: usize) -> Result<Ring<T, V, P>, AllocError>
+        requires capacity { 0 < capacity }
         requires rule { P.holds [] (P.first ∷ []) }
     {
-        let (queue, _) = RuledArrayQueue::ruled(alloc, places)?;
+        let (queue, _) = RuledArrayQueue::ruled(alloc, capacity)?;
         Ok(Ring {
             queue,
-            bell: Bell::new(),
+            event_count: EventCount::new(),
         })
     }
 
@@ -116,31 +116,31 @@ impl<T: Drop, V, P: Protocol<T, V>> Ring<T, V, P> {
         ensures empty { result ≡ None → Held 0 (M.fact P.first) }
     {
         let mut waiter = Waiter {
-            bell: &self.bell,
+            event_count: &self.event_count,
             looks: 0,
             is_counted: false,
         };
         for _ in rt.forever() {
-            let rung = self.bell.rung();
+            let signalled = self.event_count.signalled();
             let is_closed = closed.load(Ordering::SeqCst) != 0;
             let found = self.queue.pop_as::<M, R>(rt, &mut self.queue.pass());
             if found.is_some() || is_closed {
                 waiter.leave();
                 return found;
             }
-            waiter.wait(rt, rung);
+            waiter.wait(rt, signalled);
         }
         unreachable!()
     }
 
     // Whether somebody sleeps until a message comes.
     pub fn has_sleeper(&self) -> bool {
-        self.bell.sleepers.load(Ordering::SeqCst) != 0
+        self.event_count.sleepers.load(Ordering::SeqCst) != 0
     }
 
     // Has whoever waits look again.
     pub fn wake(&self) {
-        self.bell.ring();
+        self.event_count.signal();
     }
 }
 
@@ -151,7 +151,7 @@ impl<T: Drop> Ring<T, (), Free> {
     {
         self.queue
             .push_as::<Free, R>(rt, &mut self.queue.pass(), message)?;
-        self.bell.ring_for_sleepers();
+        self.event_count.signal_sleepers();
         Ok(())
     }
 }

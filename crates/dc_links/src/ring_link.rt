@@ -18,28 +18,28 @@ use std::sync::Wait;
 use std::sync::atomic::{AtomicU64, Ordering};
 use std::thread::Promise;
 
-// A worker has so many wires on their way at most, and a note comes for each; the other places are for those
+// A worker has so many wires on their way at most, and a completion comes for each; there is room besides for those
 // of wires that were left behind.
-const NOTES: usize = 2 * WIRES_OF_A_WORKER;
+const COMPLETIONS: usize = 2 * WIRES_OF_A_WORKER;
 
 // A wire, with the worker that sent it.
 #[derive(Clone, Copy, Drop)]
-struct Parcel {
+struct Envelope {
     worker: usize,
     wire: Wire,
 }
 
 // What became of the wire of this number: its reply, or silence.
 #[derive(Drop)]
-struct Note {
+struct Completion {
     number: u64,
     reply: Option<Reply>,
     ghost same: { ForSome reply (λ r. r.number ≡ number) },
 }
 
-type Inbox = Ring<Parcel, (), Free>;
+type Inbox = Ring<Envelope, (), Free>;
 
-type Notes = Ring<Note, (), Free>;
+type Completions = Ring<Completion, (), Free>;
 
 /// What a thread that serves a component promises of the component that it hands back: it is the one
 /// with this number and of this kind at first, which performed wires for it and nothing else.
@@ -50,14 +50,14 @@ impl Promise<Dc> for ServedFrom {
     ghost kept_by = { λ p dc. IsServed p.0 p.1.value dc };
 }
 
-// A component's place: its seat, and the inbox for the wires of those who don't find it idle.
+// A component's endpoint: its seat, and the inbox for the wires of those who don't find it idle.
 #[derive(Drop)]
-struct Place {
+struct Endpoint {
     inbox: Inbox,
     seat: Seat,
 }
 
-impl Place {
+impl Endpoint {
     // What the component does with a wire, where the thread that serves it sleeps and the component is free.
     // One that is awake is soon there, and works beside the worker.
     fn perform_idle(&self, wire: &Wire) -> Option<Option<Reply>>
@@ -77,15 +77,15 @@ impl Place {
 
     // Puts a wire into the inbox. Whether that was done: not where it is full.
     fn send<R: Wait>(&self, rt: &R, worker: usize, wire: &Wire) -> bool {
-        let parcel = Parcel {
+        let envelope = Envelope {
             worker,
             wire: *wire,
         };
-        self.inbox.put(rt, parcel).is_ok()
+        self.inbox.put(rt, envelope).is_ok()
     }
 
-    // Puts the requests' wires that are for the component, which has this number, into the inbox. How many notes
-    // will come for them.
+    // Puts the requests' wires that are for the component, which has this number, into the inbox. How many
+    // completions will come for them.
     fn send_all<O: Outstanding, R: Wait>(
         &self,
         rt: &R,
@@ -106,7 +106,7 @@ impl Place {
 }
 
 /// A link to data components that run in threads of their own, numbered from 0: a worker puts a wire
-/// into the component's inbox and waits for the note that comes back. Where the component's thread sleeps,
+/// into the component's inbox and waits for the completion that comes back. Where the component's thread sleeps,
 /// the worker has the component perform the wire there and then.
 ///
 /// ```
@@ -120,36 +120,36 @@ impl Place {
 /// ```
 ///
 /// Each component is to be served by one thread, and each worker's number used by one thread at a
-/// time: two that share a number would take one another's notes.
+/// time: two that share a number would take one another's completions.
 #[derive(Drop)]
 pub struct RingLink {
-    places: Vec<Place>,
-    notes: Vec<Notes>,
+    endpoints: Vec<Endpoint>,
+    completions: Vec<Completions>,
     closed: AtomicU64,
 }
 
-// So many places with empty seats, whose inboxes have room for all wires that workers have on their way.
-fn places(alloc: Global, dcs: usize, workers: usize) -> Result<Vec<Place>, AllocError>
+// So many endpoints with empty seats, whose inboxes have room for all wires that workers have on their way.
+fn endpoints(alloc: Global, dcs: usize, workers: usize) -> Result<Vec<Endpoint>, AllocError>
     requires { (0 < workers) × (workers ≤ 64) }
-    ensures { IfOk result (λ places. vec_len places ≡ dcs) }
+    ensures { IfOk result (λ endpoints. vec_len endpoints ≡ dcs) }
 {
-    let mut places = Vec::with_capacity(alloc, dcs)?;
+    let mut endpoints = Vec::with_capacity(alloc, dcs)?;
     for dc in 0..dcs {
-        places.push(Place {
+        endpoints.push(Endpoint {
             inbox: Ring::new(alloc, WIRES_OF_A_WORKER * workers)?,
             seat: Seat::empty(alloc)?,
         })?;
     }
-    Ok(places)
+    Ok(endpoints)
 }
 
-// A ring of notes for each worker.
-fn rings_of_notes(alloc: Global, workers: usize) -> Result<Vec<Notes>, AllocError>
+// A ring of completions for each worker.
+fn rings_of_completions(alloc: Global, workers: usize) -> Result<Vec<Completions>, AllocError>
     ensures { IfOk result (λ rings. vec_len rings ≡ workers) }
 {
     let mut rings = Vec::with_capacity(alloc, workers)?;
     for worker in 0..workers {
-        rings.push(Ring::new(alloc, NOTES)?)?;
+        rings.push(Ring::new(alloc, COMPLETIONS)?)?;
     }
     Ok(rings)
 }
@@ -158,31 +158,31 @@ impl RingLink {
     /// Rings for so many components and 1 to 64 workers. Nothing is made where memory is refused.
     pub fn new(alloc: Global, dcs: usize, workers: usize) -> Result<RingLink, AllocError>
         requires { (1 ≤ workers) × (workers ≤ 64) }
-        ensures { IfOk result (λ link. (vec_len link.places ≡ dcs) × (vec_len link.notes ≡ workers)) }
+        ensures { IfOk result (λ link. (vec_len link.endpoints ≡ dcs) × (vec_len link.completions ≡ workers)) }
     {
         Ok(RingLink {
-            places: places(alloc, dcs, workers)?,
-            notes: rings_of_notes(alloc, workers)?,
+            endpoints: endpoints(alloc, dcs, workers)?,
+            completions: rings_of_completions(alloc, workers)?,
             closed: AtomicU64::new(0),
         })
     }
 
-    /// Has this component perform the wires of its inbox, and puts a note of each, silence too, into the
+    /// Has this component perform the wires of its inbox, and puts a completion of each, silence too, into the
     /// ring of the worker that sent it. While the thread sleeps for want of wires, workers have the component
     /// perform theirs. Hands it back once the link is closed and the inbox was found empty; at once
     /// where there is no inbox of this number, and where another thread serves a component under it. A thread
     /// that is started with [`ServedFrom`] for a promise tells at its join where what it hands back comes from.
     pub fn serve<R: Wait>(&self, rt: &R, number: usize, dc: Dc) -> Dc
         ensures served { IsServed number dc result }
-        ensures absent { vec_len self.now.places ≤ number → result ≡ dc }
+        ensures absent { vec_len self.now.endpoints ≤ number → result ≡ dc }
     {
-        let Some(place) = self.places.get(number) else {
+        let Some(endpoint) = self.endpoints.get(number) else {
             return dc;
         };
-        match place.seat.sit(rt, number, dc) {
+        match endpoint.seat.sit(rt, number, dc) {
             Ok(pass) => {
-                self.serve_inbox::<(), Free, Free, R>(rt, &place.inbox, &place.seat);
-                place.seat.leave(rt, pass)
+                self.serve_inbox::<(), Free, Free, R>(rt, &endpoint.inbox, &endpoint.seat);
+                endpoint.seat.leave(rt, pass)
             }
             Err(dc) => dc,
         }
@@ -190,35 +190,35 @@ impl RingLink {
 
     // Has the component of this seat perform the wires of an inbox until that is closed and empty: at one moment
     // of the call it was.
-    fn serve_inbox<V, P: Protocol<Parcel, V>, M: Outcome<Parcel, V> + Lesson<Parcel, V>, R: Wait>(
-        &self,
-        rt: &R,
-        inbox: &Ring<Parcel, V, P>,
-        seat: &Seat,
-    )
+    fn serve_inbox<
+        V,
+        P: Protocol<Envelope, V>,
+        M: Outcome<Envelope, V> + Lesson<Envelope, V>,
+        R: Wait,
+    >(&self, rt: &R, inbox: &Ring<Envelope, V, P>, seat: &Seat)
         requires admits { Admits P.holds P.first }
         requires pops { (pass : ℕ) → Pops P.holds pass P.first (M.then P.first) }
         requires learns { (pass : ℕ) → Learns P.holds pass P.first (M.fact P.first) }
         ensures empty { Held 0 (M.fact P.first) }
     {
         for _ in rt.forever() {
-            let Some(parcel) = inbox.take::<M, R>(rt, &self.closed) else {
+            let Some(envelope) = inbox.take::<M, R>(rt, &self.closed) else {
                 return;
             };
-            let note = Note {
-                number: parcel.wire.number,
-                reply: seat.perform(rt, &parcel.wire),
+            let completion = Completion {
+                number: envelope.wire.number,
+                reply: seat.perform(rt, &envelope.wire),
             };
-            self.hand_back(rt, parcel.worker, note);
+            self.hand_back(rt, envelope.worker, completion);
         }
         unreachable!()
     }
 
-    // Puts a note into a worker's ring. It is lost where the ring is full of notes that the worker
+    // Puts a completion into a worker's ring. It is lost where the ring is full of completions that the worker
     // doesn't wait for.
-    fn hand_back<R: Wait>(&self, rt: &R, worker: usize, note: Note) {
-        if let Some(notes) = self.notes.get(worker) {
-            let _ = notes.put(rt, note);
+    fn hand_back<R: Wait>(&self, rt: &R, worker: usize, completion: Completion) {
+        if let Some(completions) = self.completions.get(worker) {
+            let _ = completions.put(rt, completion);
         }
     }
 
@@ -226,11 +226,11 @@ impl RingLink {
     /// from now on is lost. To close again changes nothing.
     pub fn close(&self) {
         self.closed.store(1, Ordering::SeqCst);
-        for place in &self.places {
-            place.inbox.wake();
+        for endpoint in &self.endpoints {
+            endpoint.inbox.wake();
         }
-        for notes in &self.notes {
-            notes.wake();
+        for completions in &self.completions {
+            completions.wake();
         }
     }
 
@@ -238,32 +238,32 @@ impl RingLink {
         self.closed.load(Ordering::SeqCst) != 0
     }
 
-    // Waits for the note of this number, and drops those of others.
-    fn reply_to<R: Wait>(&self, rt: &R, notes: &Notes, number: u64) -> Option<Reply>
+    // Waits for the completion of this number, and drops those of others.
+    fn reply_to<R: Wait>(&self, rt: &R, completions: &Completions, number: u64) -> Option<Reply>
         ensures { IfSome result (λ reply. reply.number ≡ number) }
     {
         for _ in rt.forever() {
-            let note = notes.take::<Free, R>(rt, &self.closed)?;
-            if note.number == number {
-                return note.reply;
+            let completion = completions.take::<Free, R>(rt, &self.closed)?;
+            if completion.number == number {
+                return completion.reply;
             }
         }
         unreachable!()
     }
 
-    // Waits for so many notes, and brings the requests what they reply.
+    // Waits for so many completions, and brings the requests what they reply.
     fn bring_all<O: Outstanding, R: Wait>(
         &self,
         rt: &R,
-        notes: &Notes,
+        completions: &Completions,
         count: usize,
         requests: &mut [O],
     ) {
         for _ in 0..count {
-            let Some(note) = notes.take::<Free, R>(rt, &self.closed) else {
+            let Some(completion) = completions.take::<Free, R>(rt, &self.closed) else {
                 return;
             };
-            if let Some(reply) = note.reply {
+            if let Some(reply) = completion.reply {
                 bring(requests, reply);
             }
         }
@@ -274,22 +274,22 @@ impl Link for RingLink {
     /// What the wire's component replies. Nothing where there is no such component or no such
     /// worker, where the inbox is full, and where the link is closed, also while it waits.
     fn carry<R: Wait>(&self, rt: &R, worker: usize, wire: &Wire) -> Option<Reply>
-        ensures absent { vec_len self.now.places ≤ (target wire.now.op).dc → result ≡ None }
-        ensures stranger { vec_len self.now.notes ≤ worker → result ≡ None }
+        ensures absent { vec_len self.now.endpoints ≤ (target wire.now.op).dc → result ≡ None }
+        ensures stranger { vec_len self.now.completions ≤ worker → result ≡ None }
         ensures number { IfSome result (λ reply. reply.number ≡ wire.now.number) }
     {
-        let notes = self.notes.get(worker)?;
-        let place = self.places.get(usize::from(wire.op.record().dc))?;
+        let completions = self.completions.get(worker)?;
+        let endpoint = self.endpoints.get(usize::from(wire.op.record().dc))?;
         if self.is_closed() {
             return None;
         }
-        if let Some(said) = place.perform_idle(wire) {
+        if let Some(said) = endpoint.perform_idle(wire) {
             return said;
         }
-        if !place.send(rt, worker, wire) {
+        if !endpoint.send(rt, worker, wire) {
             return None;
         }
-        self.reply_to(rt, notes, wire.number)
+        self.reply_to(rt, completions, wire.number)
     }
 
     /// Nothing: no component of this process restarts.
@@ -307,25 +307,25 @@ impl Link for RingLink {
     }
 
     /// The wires for components whose threads sleep are performed by them there and then; all others are put
-    /// into the inboxes before the first note is waited for.
+    /// into the inboxes before the first completion is waited for.
     fn carry_all<O: Outstanding, R: Wait>(&self, rt: &R, worker: usize, requests: &mut [O]) {
-        let Some(notes) = self.notes.get(worker) else {
+        let Some(completions) = self.completions.get(worker) else {
             return;
         };
         if self.is_closed() {
             return;
         }
         let mut sent = 0usize;
-        for (number, place) in self.places.iter().enumerate() {
+        for (number, endpoint) in self.endpoints.iter().enumerate() {
             if requests
                 .iter()
                 .any(|request| wire_for(request, number).is_some())
-                && !place.perform_all_idle(requests)
+                && !endpoint.perform_all_idle(requests)
             {
-                sent = sent.saturating_add(place.send_all(rt, worker, number, requests));
+                sent = sent.saturating_add(endpoint.send_all(rt, worker, number, requests));
             }
         }
-        self.bring_all(rt, notes, sent, requests);
+        self.bring_all(rt, completions, sent, requests);
     }
 }
 
