@@ -181,6 +181,38 @@ fn unopened(alloc: Global, error: OpenError) -> Result<Report, Unlogged>
     }
 }
 
+// Reads a file of these bytes as a log's, and begins it where it is empty; none where something is to be cut off, and
+// there is no place for it.
+fn read_log(
+    alloc: Global,
+    file: DiskFile,
+    header: Header,
+    bytes: &[u8],
+) -> Result<Option<Opening>, Unlogged>
+    requires bytes { bytes.now ≡ disk_bytes file }
+    requires settled { Only (disk_bytes file) (left_of file) }
+    ensures { (start : Core) → header ≡ header_of (loaded_in start)
+        → IfOk result (λ o. IfSome o (λ x. (empties : List Store) → IsOpening start empties x)) }
+{
+    let mut file = LogFile::new(file);
+    match LogJournal::begin(alloc, &mut file, &header, bytes) {
+        Ok(Restored { base, log }) => {
+            let dropped = file.device().cut_off();
+            Ok(Some(Opening::Open(Opened {
+                journal: LogJournal::over(alloc, file, header),
+                base,
+                log,
+                dropped,
+            })))
+        }
+        Err(fault) => {
+            let opening = refused(alloc, &fault, &header, bytes, file.device());
+            drop(file);
+            opening
+        }
+    }
+}
+
 // Opens the log's file of a state in which nothing has happened, and begins it where it is empty; none where
 // something is to be cut off, and there is no place for it.
 fn try_log<F: Files<File = File>>(
@@ -193,22 +225,13 @@ fn try_log<F: Files<File = File>>(
     ensures { IfOk result (λ o. IfSome o (λ x. (empties : List Store) → IsOpening state.now empties x)) }
 {
     let header = header_of(alloc, state.procs())?;
-    let (file, bytes) = match open_file(rt, alloc, path, place) {
-        Ok(opened) => opened,
-        Err(error) => return Ok(Some(Opening::Refused(unopened(alloc, error)?))),
-    };
-    let mut file = LogFile::new(file);
-    match LogJournal::begin(alloc, &mut file, &header, &bytes) {
-        Ok(Restored { base, log }) => {
-            let dropped = file.device().cut_off();
-            Ok(Some(Opening::Open(Opened {
-                journal: LogJournal::over(alloc, file, header),
-                base,
-                log,
-                dropped,
-            })))
+    match open_file(rt, alloc, path, place) {
+        Ok((file, bytes)) => {
+            let opening = read_log(alloc, file, header, &bytes);
+            drop(bytes);
+            opening
         }
-        Err(fault) => refused(alloc, &fault, &header, &bytes, file.device()),
+        Err(error) => Ok(Some(Opening::Refused(unopened(alloc, error)?))),
     }
 }
 

@@ -46,6 +46,7 @@ impl<J: RunSpec> Outstanding for OutstandingCall<J> {
     /// The wire, where it is to be carried: nothing came back for it. In a state of the run it was in flight.
     #[inline(always)]
     fn wire(&self) -> Option<&Wire>
+        ensures sent { IfSome result (λ wire. WasInFlight J.start wire.now) }
         ensures wire { IfSome result (λ wire. wire.now ≡ self.now.attempt.wire) }
         ensures brought { IsSome self.now.reply → result ≡ None }
     {
