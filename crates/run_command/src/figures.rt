@@ -104,14 +104,16 @@ fn all_but(one_in: usize, rising: &[u64]) -> u64
     }
 }
 
-/// The latencies of calls that took so many nanoseconds, in rising order.
-pub fn latencies(rising: &[u64]) -> Latencies
-    ensures { result ≡ latencies_of rising.now }
-{
-    Latencies {
-        half: all_but(2, rising),
-        most: all_but(100, rising),
-        longest: all_but(usize::MAX, rising),
+impl Latencies {
+    /// Those of calls that took so many nanoseconds, in rising order.
+    pub fn of(rising: &[u64]) -> Latencies
+        ensures { result ≡ latencies_of rising.now }
+    {
+        Latencies {
+            half: all_but(2, rising),
+            most: all_but(100, rising),
+            longest: all_but(usize::MAX, rising),
+        }
     }
 }
 

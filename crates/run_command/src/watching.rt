@@ -1,7 +1,7 @@
 //! How long the calls of a run wait for their answers, and what is told of them meanwhile.
 
 use crate::answer_lines::answer_line;
-use crate::figures::{Latencies, full_dcs, latencies};
+use crate::figures::{Latencies, full_dcs};
 use data_component::dc::Dc;
 use std::alloc::{AllocError, Global};
 use std::io::{Stderr, Write};
@@ -123,7 +123,7 @@ impl Waits {
             }
         }
         took.sort_unstable();
-        Some(latencies(took.as_slice()))
+        Some(Latencies::of(took.as_slice()))
     }
 }
 
