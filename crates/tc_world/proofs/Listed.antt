@@ -120,19 +120,15 @@ asked : (ps : List Checked) (base : Table) (w : Whole) (e : Event) (t n : ℕ) (
 asked ps base w e t n o legal next lg fl dn top k =
     let h = w.core.events in
     let new : (m : ℕ) (q : Op) → logged h m ≡ Some q → n ≢ m = (λ m q is. let b = logged_below ps h legal m q is in omega (arith, next, b)) in
-    let now = ok_sent base (logged h) (open_op h) (done h) (given h) w.core.sites w.dcs (wires_since w)
-    (replies_since w) w.news n (flight t o) (omega (arith, next)) new
-    (λ m said is. done_logged ps h legal m said is) k in
-    subst (λ (g : ℕ → Option Op). AreOk base g (open_op (e ∷ h)) (done (e ∷ h)) (given (e ∷ h)) w.core.sites w.dcs
-    (wires_since w) (replies_since w) w.news) (sym lg)
-    (subst (λ (g : ℕ → Option Flight). AreOk base (λ m. if n == m then Some o else logged h m) g (done (e ∷ h))
-    (given (e ∷ h)) w.core.sites w.dcs (wires_since w) (replies_since w) w.news) (sym fl)
-    (subst (λ (g : List Performed). AreOk base (λ m. if n == m then Some o else logged h m)
-    (λ m. if n == m then Some (flight t o) else open_op h m) g (given (e ∷ h)) w.core.sites w.dcs (wires_since w)
-    (replies_since w) w.news) (sym dn)
-    (subst (λ (g : ℕ). AreOk base (λ m. if n == m then Some o else logged h m)
-    (λ m. if n == m then Some (flight t o) else open_op h m) (done h) g w.core.sites w.dcs (wires_since w)
-    (replies_since w) w.news) (sym top) now)))
+    let now = ok_sent base (logged h) (open_op h) (done h) (given h) w.core.sites w.dcs (wires_since w) (replies_since w) w.news n (flight t o)
+    (omega (arith, next)) new (λ m said is. done_logged ps h legal m said is) k in
+    subst (λ (g : ℕ → Option Op). AreOk base g (open_op (e ∷ h)) (done (e ∷ h)) (given (e ∷ h)) w.core.sites w.dcs (wires_since w) (replies_since w) w.news) (sym lg)
+    (subst (λ (g : ℕ → Option Flight). AreOk base (λ m. if n == m then Some o else logged h m) g (done (e ∷ h)) (given (e ∷ h)) w.core.sites w.dcs
+    (wires_since w) (replies_since w) w.news) (sym fl)
+    (subst (λ (g : List Performed). AreOk base (λ m. if n == m then Some o else logged h m) (λ m. if n == m then Some (flight t o) else open_op h m) g
+    (given (e ∷ h)) w.core.sites w.dcs (wires_since w) (replies_since w) w.news) (sym dn)
+    (subst (λ (g : ℕ). AreOk base (λ m. if n == m then Some o else logged h m) (λ m. if n == m then Some (flight t o) else open_op h m) (done h) g
+    w.core.sites w.dcs (wires_since w) (replies_since w) w.news) (sym top) now)))
 
 abbrev pub IsCopy : Table → Whole → (ℕ → List Performed) → Wire → Type 0
 IsCopy base w v x = CopyOk base (logged w.core.events) (open_op w.core.events) (done w.core.events) (given w.core.events) w.core.sites w.dcs v x
@@ -144,12 +140,11 @@ copied w x legal s y =
       base = s.base;
       based = s.based;
       behind = s.behind;
-      past = pushed (λ (z : Wire). z.number ≤ begun w.core.events → z.low_water ≤ begun w.core.events) w.copies x s.past
-          (λ old. absurd (omega (arith, up, old)));
-      ok = subst (λ (xs : List Wire). AreOk s.base (logged w.core.events) (open_op w.core.events) (done w.core.events)
-          (given w.core.events) w.core.sites w.dcs xs (replies_since w) w.news) (sym more)
-          (ok_copy s.base (logged w.core.events) (open_op w.core.events) (done w.core.events) (given w.core.events)
-          w.core.sites w.dcs (wires_since w) (replies_since w) w.news x s.ok y);
+      past = pushed (λ (z : Wire). z.number ≤ begun w.core.events → z.low_water ≤ begun w.core.events) w.copies x s.past (λ old. absurd (omega (arith, up, old)));
+      ok = subst (λ (xs : List Wire). AreOk s.base (logged w.core.events) (open_op w.core.events) (done w.core.events) (given w.core.events)
+          w.core.sites w.dcs xs (replies_since w) w.news) (sym more)
+          (ok_copy s.base (logged w.core.events) (open_op w.core.events) (done w.core.events) (given w.core.events) w.core.sites w.dcs (wires_since w)
+          (replies_since w) w.news x s.ok y);
     }
   where
     up : begun w.core.events < x.number
@@ -159,9 +154,8 @@ copied w x legal s y =
     more = above_more (λ (z : Wire). z.number) (begun w.core.events) w.copies x up
 
 -- the wire of an open number
-wire_ok : (base : Table) (w : Whole) (v : ℕ → List Performed) (r : Asking) (f : Flight) (redo : Option Redoing)
-    (x : Wire) → Legal w.core.procs w.core.events → logged w.core.events r.number ≡ Some r.op
-    → open_op w.core.events r.number ≡ Some f
+wire_ok : (base : Table) (w : Whole) (v : ℕ → List Performed) (r : Asking) (f : Flight) (redo : Option Redoing) (x : Wire)
+    → Legal w.core.procs w.core.events → logged w.core.events r.number ≡ Some r.op → open_op w.core.events r.number ≡ Some f
     → (site_of w.core.sites r.op).redo ≡ redo → Ok x ≡ wire_by w.core r (site_of w.core.sites r.op).incarnation redo → IsCopy base w v x
 wire_ok base w v r f (Some redo) x legal logs flies up is = absurd cc
 wire_ok base w v r f None x legal logs flies up is =
@@ -172,13 +166,11 @@ wire_ok base w v r f None x legal logs flies up is =
       known = omega arith;
       ahead = λ z is less. refl;
       over = over_low w.core.procs w.core.events legal;
-      now = λ now. inl
-          (record { ordinary = refl; up = up; runs = inl (f, flies) });
+      now = λ now. inl (record { ordinary = refl; up = up; runs = inl (f, flies) });
     })
 
-sent_listed : (w v : Whole) (r : Asking) (f : Flight) (x : Result Wire Down) (o : Outcome) → Known v.core
-    → x ≡ wire_of w.core r → logged w.core.events r.number ≡ Some r.op → open_op w.core.events r.number ≡ Some f
-    → IsListed w → sends_or_holds w r x ≡ Goes o v → IsListed v
+sent_listed : (w v : Whole) (r : Asking) (f : Flight) (x : Result Wire Down) (o : Outcome) → Known v.core → x ≡ wire_of w.core r
+    → logged w.core.events r.number ≡ Some r.op → open_op w.core.events r.number ≡ Some f → IsListed w → sends_or_holds w r x ≡ Goes o v → IsListed v
 sent_listed w v r f (Ok x) o known is logs flies s goes =
     let was = known_behind _ o (with_copy w x) v known goes in
     behind _ o (with_copy w x) v (copied w x was.legal s (wire_ok s.base w s.ok.v r f (site_of w.core.sites r.op).redo x was.legal logs flies refl is)) goes
@@ -197,8 +189,8 @@ asks_listed w v t (reply.Request r) o known s goes = by (wire_of c r) refl goes
       based = s.based;
       behind = s.behind;
       past = s.past;
-      ok = asked w.core.procs s.base w (event.Ask r.txn r.number r.op) r.txn r.number r.op now_known.legal.1
-          now_known.legal.0.next refl refl refl (sym now_known.legal.0.next) s.ok;
+      ok = asked w.core.procs s.base w (event.Ask r.txn r.number r.op) r.txn r.number r.op now_known.legal.1 now_known.legal.0.next refl refl refl
+          (sym now_known.legal.0.next) s.ok;
     }
 
     logs : logged c.events r.number ≡ Some r.op
@@ -208,10 +200,8 @@ asks_listed w v t (reply.Request r) o known s goes = by (wire_of c r) refl goes
     flies = if_some r.number r.number (Some (flight r.txn r.op)) (open_op w.core.events r.number) refl
 
     by : (x : Result Wire Down) → x ≡ wire_of c r → sends_or_holds (with_core w c) r x ≡ Goes o v → IsListed v
-    by (Ok x) is goes' = sent_listed (with_core w c) v r (flight r.txn r.op) (Ok x) o known is logs flies
-        (mid (known_behind _ o (with_copy (with_core w c) x) v known goes')) goes'
-    by (Err down) is goes' = sent_listed (with_core w c) v r (flight r.txn r.op) (Err down) o known is logs flies
-        (mid (known_behind _ o (with_core w c) v known goes')) goes'
+    by (Ok x) is goes' = sent_listed (with_core w c) v r (flight r.txn r.op) (Ok x) o known is logs flies (mid (known_behind _ o (with_copy (with_core w c) x) v known goes')) goes'
+    by (Err down) is goes' = sent_listed (with_core w c) v r (flight r.txn r.op) (Err down) o known is logs flies (mid (known_behind _ o (with_core w c) v known goes')) goes'
 asks_listed w v t reply.Undoing o known s goes = behind _ o w v s goes
 asks_listed w v t reply.Over o known s goes = behind _ o w v s goes
 asks_listed w v t (reply.Stuck n) o known s goes = behind _ o w v s goes
@@ -232,8 +222,8 @@ undoes_listed w v t (reply.Request r) o known s goes = by (wire_of c r) refl goe
       based = s.based;
       behind = s.behind;
       past = s.past;
-      ok = asked w.core.procs s.base w (event.Undo r.txn r.number r.op) r.txn r.number r.op now_known.legal.1
-          now_known.legal.0.next refl refl refl (sym now_known.legal.0.next) s.ok;
+      ok = asked w.core.procs s.base w (event.Undo r.txn r.number r.op) r.txn r.number r.op now_known.legal.1 now_known.legal.0.next refl refl refl
+          (sym now_known.legal.0.next) s.ok;
     }
 
     logs : logged c.events r.number ≡ Some r.op
@@ -243,10 +233,8 @@ undoes_listed w v t (reply.Request r) o known s goes = by (wire_of c r) refl goe
     flies = if_some r.number r.number (Some (flight r.txn r.op)) (open_op w.core.events r.number) refl
 
     by : (x : Result Wire Down) → x ≡ wire_of c r → sends_or_holds (with_core w c) r x ≡ Goes o v → IsListed v
-    by (Ok x) is goes' = sent_listed (with_core w c) v r (flight r.txn r.op) (Ok x) o known is logs flies
-        (mid (known_behind _ o (with_copy (with_core w c) x) v known goes')) goes'
-    by (Err down) is goes' = sent_listed (with_core w c) v r (flight r.txn r.op) (Err down) o known is logs flies
-        (mid (known_behind _ o (with_core w c) v known goes')) goes'
+    by (Ok x) is goes' = sent_listed (with_core w c) v r (flight r.txn r.op) (Ok x) o known is logs flies (mid (known_behind _ o (with_copy (with_core w c) x) v known goes')) goes'
+    by (Err down) is goes' = sent_listed (with_core w c) v r (flight r.txn r.op) (Err down) o known is logs flies (mid (known_behind _ o (with_core w c) v known goes')) goes'
 undoes_listed w v t reply.Undoing o known s goes = behind _ o w v s goes
 undoes_listed w v t reply.Over o known s goes = behind _ o w v s goes
 undoes_listed w v t (reply.Stuck n) o known s goes = behind _ o w v s goes
@@ -258,23 +246,14 @@ ends_listed : (w v : Whole) (t : ℕ) (s : Option Standing) (e : Option Ending) 
 ends_listed w v t None e o kept goes = absurd (stopped _ o v goes)
 ends_listed w v t (Some s) None o kept goes = absurd (stopped _ o v goes)
 ends_listed w v t (Some s) (Some e) o kept goes = behind _ o (with_core w (with_event w.core (event.End t e))) v
-    (record {
-      honest = (tt, kept.honest);
-      base = kept.base;
-      based = kept.based;
-      behind = kept.behind;
-      past = kept.past;
-      ok = kept.ok;
-    }) goes
+    (record { honest = (tt, kept.honest); base = kept.base; based = kept.based; behind = kept.behind; past = kept.past; ok = kept.ok }) goes
 
-resends_listed : (w v : Whole) (t : ℕ) (s : Option Standing) (o : Outcome) → Known v.core → standing w.core.events t ≡ s
-    → IsListed w → resends_by w t s ≡ Goes o v → IsListed v
+resends_listed : (w v : Whole) (t : ℕ) (s : Option Standing) (o : Outcome) → Known v.core → standing w.core.events t ≡ s → IsListed w → resends_by w t s ≡ Goes o v → IsListed v
 resends_listed w v t None o known is kept goes = absurd (stopped _ o v goes)
 resends_listed w v t (Some s) o known is kept goes = by s.sent refl goes
   where
-    wires : (r : Sent) → s.sent ≡ Some r → (x : Result Wire Down)
-        → x ≡ wire_of w.core (record { txn = t; number = r.number; op = r.op }) → resends_wire w r.op x ≡ Goes o v
-        → IsListed v
+    wires : (r : Sent) → s.sent ≡ Some r → (x : Result Wire Down) → x ≡ wire_of w.core (record { txn = t; number = r.number; op = r.op })
+        → resends_wire w r.op x ≡ Goes o v → IsListed v
     wires r waits (Ok x) wire goes' =
         let was = known_behind _ o (with_copy w x) v known goes' in
         let flies = (standing_flight w.core.procs w.core.events was.legal t s r is waits).1 in
@@ -306,10 +285,10 @@ replied_listed w x legal s y =
       based = s.based;
       behind = s.behind;
       past = s.past;
-      ok = subst (λ (xs : List Reply). AreOk s.base (logged w.core.events) (open_op w.core.events) (done w.core.events)
-          (given w.core.events) w.core.sites w.dcs (wires_since w) xs w.news) (sym more)
-          (ok_reply s.base (logged w.core.events) (open_op w.core.events) (done w.core.events) (given w.core.events)
-          w.core.sites w.dcs (wires_since w) (replies_since w) w.news x s.ok y);
+      ok = subst (λ (xs : List Reply). AreOk s.base (logged w.core.events) (open_op w.core.events) (done w.core.events) (given w.core.events)
+          w.core.sites w.dcs (wires_since w) xs w.news) (sym more)
+          (ok_reply s.base (logged w.core.events) (open_op w.core.events) (done w.core.events) (given w.core.events) w.core.sites w.dcs
+          (wires_since w) (replies_since w) w.news x s.ok y);
     }
   where
     more : replies_since (with_reply w x) ≡ replies_since w ++ x ∷ []
@@ -324,34 +303,29 @@ old_reply w x old s =
       based = s.based;
       behind = s.behind;
       past = s.past;
-      ok = subst (λ (xs : List Reply). AreOk s.base (logged w.core.events) (open_op w.core.events) (done w.core.events)
-          (given w.core.events) w.core.sites w.dcs (wires_since w) xs w.news)
+      ok = subst (λ (xs : List Reply). AreOk s.base (logged w.core.events) (open_op w.core.events) (done w.core.events) (given w.core.events)
+          w.core.sites w.dcs (wires_since w) xs w.news)
           (sym (above_same (λ (z : Reply). z.number) (begun w.core.events) w.replies x old)) s.ok;
     }
 
 gets_listed : (w v : Whole) (x : Option Reply) (o : Outcome) → Known w.core → (s : IsListed w)
-    → ((y : Reply) → x ≡ Some y → ReplyOk (logged w.core.events) w.core.sites w.dcs s.ok.v y)
-    → gets_reply w x ≡ Goes o v → IsListed v
+    → ((y : Reply) → x ≡ Some y → ReplyOk (logged w.core.events) w.core.sites w.dcs s.ok.v y) → gets_reply w x ≡ Goes o v → IsListed v
 gets_listed w v None o known s said goes = behind _ o w v s goes
 gets_listed w v (Some x) o known s said goes = behind _ o (with_reply w x) v (replied_listed w x known.legal s (said x refl)) goes
 
-gets_old : (w v : Whole) (x : Option Reply) (o : Outcome) → ((y : Reply) → x ≡ Some y → y.number ≤ begun w.core.events)
-    → IsListed w → gets_reply w x ≡ Goes o v → IsListed v
+gets_old : (w v : Whole) (x : Option Reply) (o : Outcome) → ((y : Reply) → x ≡ Some y → y.number ≤ begun w.core.events) → IsListed w → gets_reply w x ≡ Goes o v → IsListed v
 gets_old w v None o old s goes = behind _ o w v s goes
 gets_old w v (Some x) o old s goes = behind _ o (with_reply w x) v (old_reply w x (old x refl) s) goes
 
-performs_at_listed : (w v : Whole) (x : Wire) (d : Option Store) (o : Outcome) → Known v.core
-    → slice_get w.dcs (dc_of x.op) ≡ d → (s : IsListed w) → IsCopy s.base w s.ok.v x → performs_at w x d ≡ Goes o v
-    → IsListed v
+performs_at_listed : (w v : Whole) (x : Wire) (d : Option Store) (o : Outcome) → Known v.core → slice_get w.dcs (dc_of x.op) ≡ d → (s : IsListed w)
+    → IsCopy s.base w s.ok.v x → performs_at w x d ≡ Goes o v → IsListed v
 performs_at_listed w v x None o known at s y goes = absurd (stopped _ o v goes)
 performs_at_listed w v x (Some d) o known at s y goes = gets_listed (with_store w x d) v (replied d x) o was
     (record {
       honest = s.honest;
       base = s.base;
-      based = based_set s.base w.dcs (dc_of x.op) d (performed d x) at
-          (performed_base d x) s.based;
-      behind = behind_set (begun w.core.events) w.dcs (dc_of x.op) d (performed d x) at
-          (performed_behind (begun w.core.events) d x) s.behind;
+      based = based_set s.base w.dcs (dc_of x.op) d (performed d x) at (performed_base d x) s.based;
+      behind = behind_set (begun w.core.events) w.dcs (dc_of x.op) d (performed d x) at (performed_behind (begun w.core.events) d x) s.behind;
       past = s.past;
       ok = both.0;
     }) said goes
@@ -365,20 +339,18 @@ performs_at_listed w v x (Some d) o known at s y goes = gets_listed (with_store 
     facts : LogFacts s.base (logged w.core.events) (open_op w.core.events) (done w.core.events)
     facts = log_facts w.core.procs s.base w.core.events was.good was.legal s.honest
 
-    becomes : Becomes s.base (logged w.core.events) (open_op w.core.events) (done w.core.events) (given w.core.events)
-        (dc_of x.op) d (performed d x) (site_at w.core.sites (dc_of x.op)) (s.ok.v (dc_of x.op))
-    becomes = performs_ok s.base (logged w.core.events) (open_op w.core.events) (done w.core.events)
-        (given w.core.events) d (site_at w.core.sites j) (s.ok.v j) x facts
-        (λ m g is. flight_logged w.core.events m g is) y.logs y.known (y.ahead d at) y.over y.now (s.ok.stores j d at)
+    becomes : Becomes s.base (logged w.core.events) (open_op w.core.events) (done w.core.events) (given w.core.events) (dc_of x.op) d (performed d x)
+        (site_at w.core.sites (dc_of x.op)) (s.ok.v (dc_of x.op))
+    becomes = performs_ok s.base (logged w.core.events) (open_op w.core.events) (done w.core.events) (given w.core.events) d (site_at w.core.sites j)
+        (s.ok.v j) x facts (λ m g is. flight_logged w.core.events m g is) y.logs y.known (y.ahead d at) y.over y.now (s.ok.stores j d at)
 
-    both : (l : AreOk s.base (logged w.core.events) (open_op w.core.events) (done w.core.events) (given w.core.events)
-        w.core.sites (slice_set w.dcs (dc_of x.op) (performed d x)) (wires_since w) (replies_since w) w.news)
+    both : (l : AreOk s.base (logged w.core.events) (open_op w.core.events) (done w.core.events) (given w.core.events) w.core.sites
+        (slice_set w.dcs (dc_of x.op) (performed d x)) (wires_since w) (replies_since w) w.news)
         × (l.v ≡ (λ i. if dc_of x.op == i then becomes.u else s.ok.v i))
-    both = ok_stored s.base (logged w.core.events) (open_op w.core.events) (done w.core.events) (given w.core.events)
-        w.core.sites w.dcs (wires_since w) (replies_since w) w.news j d (performed d x) becomes.u at s.ok
+    both = ok_stored s.base (logged w.core.events) (open_op w.core.events) (done w.core.events) (given w.core.events) w.core.sites w.dcs
+        (wires_since w) (replies_since w) w.news j d (performed d x) becomes.u at s.ok
         (let same = becomes.incarnation in omega (arith, same)) becomes.grows
-        (λ less p to. subst (StandsTo (logged w.core.events) (done w.core.events) j p) (sym (becomes.lists less))
-        to) becomes.ok
+        (λ less p to. subst (StandsTo (logged w.core.events) (done w.core.events) j p) (sym (becomes.lists less)) to) becomes.ok
 
     said : (z : Reply) → replied d x ≡ Some z → ReplyOk (logged w.core.events) w.core.sites (slice_set w.dcs (dc_of x.op) (performed d x)) both.0.v z
     said z is =
@@ -401,9 +373,8 @@ performs_at_listed w v x (Some d) o known at s y goes = gets_listed (with_store 
             inr (ap (λ (l : List Performed). said_under l z.number) (ghost_is ∙ sym list) ∙ under)
 
 -- one of a number from before the log began changes nothing
-performs_old : (w v : Whole) (x : Wire) (d : Option Store) (o : Outcome) → slice_get w.dcs (dc_of x.op) ≡ d
-    → x.number ≤ begun w.core.events → x.low_water ≤ begun w.core.events → IsListed w → performs_at w x d ≡ Goes o v
-    → IsListed v
+performs_old : (w v : Whole) (x : Wire) (d : Option Store) (o : Outcome) → slice_get w.dcs (dc_of x.op) ≡ d → x.number ≤ begun w.core.events
+    → x.low_water ≤ begun w.core.events → IsListed w → performs_at w x d ≡ Goes o v → IsListed v
 performs_old w v x None o at old low s goes = absurd (stopped _ o v goes)
 performs_old w v x (Some d) o at old low s goes =
     let same : performed d x ≡ d = past_performed (begun w.core.events) d x (s.behind (dc_of x.op) d at) old low in
@@ -411,8 +382,7 @@ performs_old w v x (Some d) o at old low s goes =
     gets_old w v (replied d x) o (λ y is. (let number = (reply_facts d x y is).number in omega (arith, number, old))) s
     (subst (λ (xs : List Store). gets_reply (with_dcs w xs) (replied d x) ≡ Goes o v) stays goes)
 
-performs_copy_listed : (w v : Whole) (i : ℕ) (x : Option Wire) (o : Outcome) → Known v.core → slice_get w.copies i ≡ x
-    → IsListed w → performs_copy w x ≡ Goes o v → IsListed v
+performs_copy_listed : (w v : Whole) (i : ℕ) (x : Option Wire) (o : Outcome) → Known v.core → slice_get w.copies i ≡ x → IsListed w → performs_copy w x ≡ Goes o v → IsListed v
 performs_copy_listed w v i None o known at s goes = absurd (stopped _ o v goes)
 performs_copy_listed w v i (Some x) o known at s goes = elim (cases_lt (begun w.core.events) x.number) [
   | inl up ↦
@@ -433,10 +403,9 @@ up_by : (redo : Option Redoing) (b : Bool) → (is_up redo && b) ≡ true → re
 up_by None b e = refl
 up_by (Some r) b e = absurd cc
 
-took : (w : Whole) (f : Flight) (x : Reply) → Known (with_event w.core (event.Answer f.txn x.number x.said))
-    → open_op w.core.events x.number ≡ Some f → is_heard (site_of w.core.sites f.op) x ≡ true → fits f.op x.said ≡ true
-    → (s : IsListed w) → ReplyOk (logged w.core.events) w.core.sites w.dcs s.ok.v x
-    → IsListed (with_core w (with_event w.core (event.Answer f.txn x.number x.said)))
+took : (w : Whole) (f : Flight) (x : Reply) → Known (with_event w.core (event.Answer f.txn x.number x.said)) → open_op w.core.events x.number ≡ Some f
+    → is_heard (site_of w.core.sites f.op) x ≡ true → fits f.op x.said ≡ true
+    → (s : IsListed w) → ReplyOk (logged w.core.events) w.core.sites w.dcs s.ok.v x → IsListed (with_core w (with_event w.core (event.Answer f.txn x.number x.said)))
 took w f x known flies heard fit s y =
     let h = w.core.events in
     let legal = known.legal.1 in
@@ -461,16 +430,15 @@ took w f x known flies heard fit s y =
       based = s.based;
       behind = s.behind;
       past = s.past;
-      ok = subst (λ (z : List Performed). AreOk s.base (logged h) (λ m. if x.number == m then None else open_op h m) z
-          (given h) w.core.sites w.dcs (wires_since w) (replies_since w) w.news) (sym becomes)
-          (ok_answered s.base (logged h) (open_op h) (done h) (given h) w.core.sites w.dcs (wires_since w)
-          (replies_since w) w.news x.number f x.said y.s flies logs fit
-          (flights w.core.procs h known.good legal x.number f flies)
-          (flight_absent w.core.procs h legal x.number f flies) at up s.ok there);
+      ok = subst (λ (z : List Performed). AreOk s.base (logged h) (λ m. if x.number == m then None else open_op h m) z (given h) w.core.sites w.dcs
+          (wires_since w) (replies_since w) w.news) (sym becomes)
+          (ok_answered s.base (logged h) (open_op h) (done h) (given h) w.core.sites w.dcs (wires_since w) (replies_since w) w.news x.number f x.said
+          y.s flies logs fit (flights w.core.procs h known.good legal x.number f flies) (flight_absent w.core.procs h legal x.number f flies) at
+          up s.ok there);
     }
 
-takes_answer_listed : (w v : Whole) (f : Flight) (x : Reply) (b : Bool) (o : Outcome) → Known v.core
-    → open_op w.core.events x.number ≡ Some f → (is_heard (site_of w.core.sites f.op) x && fits f.op x.said) ≡ b
+takes_answer_listed : (w v : Whole) (f : Flight) (x : Reply) (b : Bool) (o : Outcome) → Known v.core → open_op w.core.events x.number ≡ Some f
+    → (is_heard (site_of w.core.sites f.op) x && fits f.op x.said) ≡ b
     → (s : IsListed w) → ReplyOk (logged w.core.events) w.core.sites w.dcs s.ok.v x → takes_answer w f x b ≡ Goes o v → IsListed v
 takes_answer_listed w v f x false o known flies fit s y goes = absurd (stopped _ o v goes)
 takes_answer_listed w v f x true o known flies fit s y goes =
@@ -484,12 +452,10 @@ not_old : (said : Said) → is_done said ≡ true → said ≡ Old → ⊥
 not_old said did old = (let bad : true ≡ false = sym did ∙ ap is_done old in cc)
 
 redone_listed : (w : Whole) (x : Reply) (d : ℕ) → Known w.core → (is : IsRedone w.core d x) → (s : IsListed w)
-    → ReplyOk (logged w.core.events) w.core.sites w.dcs s.ok.v x
-    → IsListed (with_core w (after_redone w.core d x.number))
+    → ReplyOk (logged w.core.events) w.core.sites w.dcs s.ok.v x → IsListed (with_core w (after_redone w.core d x.number))
 redone_listed w x d known is s y =
     subst (λ (z : Option Site). IsListed (with_core w (redone_at w.core d x.number z))) (sym is.there)
-    (subst (λ (z : Option Redoing). IsListed (with_core w
-    (with_site w.core d (record is.site { redo = redone_to x.number z })))) (sym is.down)
+    (subst (λ (z : Option Redoing). IsListed (with_core w (with_site w.core d (record is.site { redo = redone_to x.number z })))) (sym is.down)
     (record { honest = s.honest; base = s.base; based = s.based; behind = s.behind; past = s.past; ok = now_ok }))
   where
     h : List Event
@@ -525,8 +491,7 @@ redone_listed w x d known is s y =
     there : said_under (s.ok.v d) x.number ≡ Some is.a.said
     there =
         let now : x.incarnation ≡ (site_at w.core.sites (dc_of y.o)).incarnation = is.same_incarnation
-        ∙ (ap (λ (z : Site). z.incarnation) (sym site_is) ∙ ap (λ (i : ℕ). (site_at w.core.sites i).incarnation)
-        (sym here)) in
+        ∙ (ap (λ (z : Site). z.incarnation) (sym site_is) ∙ ap (λ (i : ℕ). (site_at w.core.sites i).incarnation) (sym here)) in
         elim (y.now now) [
           | inl old ↦ absurd (not_old is.a.said did (sym is.same_answer ∙ old))
           | inr said ↦ subst (λ (i : ℕ). said_under (s.ok.v i) x.number ≡ Some x.said) here said ∙ ap (λ (z : Said). Some z) is.same_answer
@@ -555,13 +520,11 @@ redone_listed w x d known is s y =
         ]
 
     now_ok : AreOk s.base (logged w.core.events) (open_op w.core.events) (done w.core.events) (given w.core.events)
-        (slice_set w.core.sites d (record is.site { redo = Some (record is.r { redone = x.number }) })) w.dcs
-        (wires_since w) (replies_since w) w.news
-    now_ok = ok_resited s.base (logged h) (open_op h) (done h) (given h) w.core.sites w.dcs (wires_since w)
-        (replies_since w) w.news d is.site t' is.there refl (λ up. absurd (none_some _ is.r up is.down)) s.ok
+        (slice_set w.core.sites d (record is.site { redo = Some (record is.r { redone = x.number }) })) w.dcs (wires_since w) (replies_since w) w.news
+    now_ok = ok_resited s.base (logged h) (open_op h) (done h) (given h) w.core.sites w.dcs (wires_since w) (replies_since w) w.news d is.site t'
+        is.there refl (λ up. absurd (none_some _ is.r up is.down)) s.ok
         (λ r down. (y.s, subst (λ (i : ℕ). slice_get w.dcs i ≡ Some y.s) here y.at))
-        (λ z ok. site_redone s.base (logged h) (open_op h) (done h) (given h) d z is.site (s.ok.v d) is.r x.number
-        is.a.op is.a.said is.down next rises there ok)
+        (λ z ok. site_redone s.base (logged h) (open_op h) (done h) (given h) d z is.site (s.ok.v d) is.r x.number is.a.op is.a.said is.down next rises there ok)
 
 redone_above : (w : Whole) (x : Reply) (d : ℕ) → Known w.core → IsRedone w.core d x → begun w.core.events < x.number
 redone_above w x d known is =
@@ -571,8 +534,8 @@ redone_above w x d known is =
     let so = answered_so w.core.procs h known.legal is.a.number is.a (redo_is w.core.procs h known.legal w.core.sites d is.a under).answered_so in
     logged_above w.core.procs h known.legal x.number is.a.op (ap (logged h) is.same_number ∙ so.0)
 
-heard : (w : Whole) (i : ℕ) (x : Reply) → slice_get w.replies i ≡ Some x → (s : IsListed w)
-    → begun w.core.events < x.number → ReplyOk (logged w.core.events) w.core.sites w.dcs s.ok.v x
+heard : (w : Whole) (i : ℕ) (x : Reply) → slice_get w.replies i ≡ Some x → (s : IsListed w) → begun w.core.events < x.number
+    → ReplyOk (logged w.core.events) w.core.sites w.dcs s.ok.v x
 heard w i x at s up =
     let here = above_in (λ (z : Reply). z.number) (begun w.core.events) w.replies i x at up in
     all_at (ReplyOk (logged w.core.events) w.core.sites w.dcs s.ok.v) (replies_since w) here.0 x here.1 s.ok.replies
@@ -609,9 +572,8 @@ checkpoints_listed w v d None o at s goes = absurd (stopped _ o v goes)
 checkpoints_listed w v d (Some x) o at s goes =
     let h = w.core.events in
     let site = site_checkpoint s.base (logged h) (open_op h) (done h) (given h) d x (site_at w.core.sites d) (s.ok.v d) (s.ok.stores d x at) in
-    let both = ok_stored s.base (logged h) (open_op h) (done h) (given h) w.core.sites w.dcs (wires_since w)
-    (replies_since w) w.news d x (checkpointed x) (s.ok.v d) at s.ok (omega arith) (same_ghost w s d)
-    (λ less p to. to) site in
+    let both = ok_stored s.base (logged h) (open_op h) (done h) (given h) w.core.sites w.dcs (wires_since w) (replies_since w) w.news d x
+    (checkpointed x) (s.ok.v d) at s.ok (omega arith) (same_ghost w s d) (λ less p to. to) site in
     behind _ o (with_dcs w (slice_set w.dcs d (checkpointed x))) v
     (record {
       honest = s.honest;
@@ -632,11 +594,10 @@ restarts_listed w v d (Some x) o at s goes = by (nat_le (2 ^ 62) x.incarnation) 
     was : SiteOk s.base (logged w.core.events) (open_op w.core.events) (done w.core.events) (given w.core.events) d x (site_at w.core.sites d) (s.ok.v d)
     was = s.ok.stores d x at
 
-    both : (l : AreOk s.base (logged w.core.events) (open_op w.core.events) (done w.core.events) (given w.core.events)
-        w.core.sites (slice_set w.dcs d (restarted x)) (wires_since w) (replies_since w) w.news)
-        × (l.v ≡ (λ i. if d == i then s.ok.v d else s.ok.v i))
-    both = ok_stored s.base (logged h) (open_op h) (done h) (given h) w.core.sites w.dcs (wires_since w)
-        (replies_since w) w.news d x (restarted x) (s.ok.v d) at s.ok (omega arith) (same_ghost w s d)
+    both : (l : AreOk s.base (logged w.core.events) (open_op w.core.events) (done w.core.events) (given w.core.events) w.core.sites
+        (slice_set w.dcs d (restarted x)) (wires_since w) (replies_since w) w.news) × (l.v ≡ (λ i. if d == i then s.ok.v d else s.ok.v i))
+    both = ok_stored s.base (logged h) (open_op h) (done h) (given h) w.core.sites w.dcs (wires_since w) (replies_since w) w.news d x (restarted x)
+        (s.ok.v d) at s.ok (omega arith) (same_ghost w s d)
         (λ less p to. subst (StandsTo (logged h) (done h) d p) (was.idle less) to)
         (site_restart s.base (logged h) (open_op h) (done h) (given h) d x (site_at w.core.sites d) (s.ok.v d) was)
 
@@ -651,8 +612,7 @@ restarts_listed w v d (Some x) o at s goes = by (nat_le (2 ^ 62) x.incarnation) 
           based = based_set s.base w.dcs d x (restarted x) at refl s.based;
           behind = behind_set (begun h) w.dcs d x (restarted x) at (restarted_behind (begun h) x) s.behind;
           past = s.past;
-          ok = ok_news s.base (logged h) (open_op h) (done h) (given h) w.core.sites (slice_set w.dcs d (restarted x))
-              (wires_since w) (replies_since w) w.news n both.0
+          ok = ok_news s.base (logged h) (open_op h) (done h) (given h) w.core.sites (slice_set w.dcs d (restarted x)) (wires_since w) (replies_since w) w.news n both.0
               (record { s = restarted x; at = set_same w.dcs d x (restarted x) at; over = was.saved_over; made = omega arith; later = λ less. was.saved_to });
         }) goes'
 
@@ -660,9 +620,8 @@ lt_true : (a b : ℕ) → nat_lt a b ≡ true → a < b
 lt_true a b e = grind (arith, nat_tests)
 
 told_by : (w v : Whole) (x : ℕ × News) (t : Option Site) (o : Outcome) → slice_get w.core.sites x.0 ≡ t → (s : IsListed w)
-    → NewsOk s.base (logged w.core.events) (open_op w.core.events) (done w.core.events) (given w.core.events)
-    w.core.sites w.dcs x → tells_unless w x.0 x.1 (news_fault_by (begun w.core.events) t x.1) ≡ Goes o v
-    → IsListed v
+    → NewsOk s.base (logged w.core.events) (open_op w.core.events) (done w.core.events) (given w.core.events) w.core.sites w.dcs x
+    → tells_unless w x.0 x.1 (news_fault_by (begun w.core.events) t x.1) ≡ Goes o v → IsListed v
 told_by w v x None o at s y goes = absurd (stopped _ o v goes)
 told_by w v x (Some t) o at s y goes = by (nat_lt t.incarnation x.1.incarnation) refl goes
   where
@@ -670,13 +629,11 @@ told_by w v x (Some t) o at s y goes = by (nat_lt t.incarnation x.1.incarnation)
     h = w.core.events
 
     by : (b : Bool) → nat_lt t.incarnation x.1.incarnation ≡ b
-        → tells_unless w x.0 x.1 (if b then lost_fault (begun w.core.events) x.1 else Some fault.OldNews) ≡ Goes o v
-        → IsListed v
+        → tells_unless w x.0 x.1 (if b then lost_fault (begun w.core.events) x.1 else Some fault.OldNews) ≡ Goes o v → IsListed v
     by false less goes' = absurd (stopped _ o v goes')
     by true less goes' = taken (nat_lt x.1.mark (begun w.core.events)) less goes'
       where
-        taken : (b : Bool) → nat_lt t.incarnation x.1.incarnation ≡ true
-            → tells_unless w x.0 x.1 (if b then Some fault.Forgotten else None) ≡ Goes o v → IsListed v
+        taken : (b : Bool) → nat_lt t.incarnation x.1.incarnation ≡ true → tells_unless w x.0 x.1 (if b then Some fault.Forgotten else None) ≡ Goes o v → IsListed v
         taken true less goes' = absurd (stopped _ o v goes')
         taken false less goes' =
             let later : t.incarnation < x.1.incarnation = lt_true t.incarnation x.1.incarnation less in
@@ -688,20 +645,18 @@ told_by w v x (Some t) o at s y goes = by (nat_lt t.incarnation x.1.incarnation)
               based = s.based;
               behind = s.behind;
               past = s.past;
-              ok = ok_told s.base (logged h) (open_op h) (done h) (given h) w.core.sites w.dcs (wires_since w)
-                  (replies_since w) w.news x.0 x.1.incarnation x.1.mark y.s t at y.at later y.made
-                  (y.later (omega (arith, known, later))) y.over s.ok;
+              ok = ok_told s.base (logged h) (open_op h) (done h) (given h) w.core.sites w.dcs (wires_since w) (replies_since w) w.news x.0
+                  x.1.incarnation x.1.mark y.s t at y.at later y.made (y.later (omega (arith, known, later))) y.over s.ok;
             }) goes'
 
 tells_listed : (w v : Whole) (i : ℕ) (x : Option (ℕ × News)) (o : Outcome) → slice_get w.news i ≡ x → IsListed w → tells_news w x ≡ Goes o v → IsListed v
 tells_listed w v i None o at s goes = absurd (stopped _ o v goes)
 tells_listed w v i (Some x) o at s goes =
     told_by w v x (slice_get w.core.sites x.0) o refl s
-    (all_at (NewsOk s.base (logged w.core.events) (open_op w.core.events) (done w.core.events) (given w.core.events)
-    w.core.sites w.dcs) w.news i x at s.ok.news) goes
+    (all_at (NewsOk s.base (logged w.core.events) (open_op w.core.events) (done w.core.events) (given w.core.events) w.core.sites w.dcs) w.news i x at s.ok.news) goes
 
-redoes_listed : (w v : Whole) (d : ℕ) (x : Option Site) (o : Outcome) → Known v.core → slice_get w.core.sites d ≡ x
-    → IsListed w → redoes_by w d (redo_at w.core d x) ≡ Goes o v → IsListed v
+redoes_listed : (w v : Whole) (d : ℕ) (x : Option Site) (o : Outcome) → Known v.core → slice_get w.core.sites d ≡ x → IsListed w
+    → redoes_by w d (redo_at w.core d x) ≡ Goes o v → IsListed v
 redoes_listed w v d None o known at s goes = absurd (stopped _ o v goes)
 redoes_listed w v d (Some x) o known at s goes = by x.redo refl goes
   where
@@ -718,8 +673,7 @@ redoes_listed w v d (Some x) o known at s goes = by x.redo refl goes
         store : (z : Store) × (slice_get w.dcs d ≡ Some z)
         store = s.ok.there d r down
 
-        site : SiteOk s.base (logged w.core.events) (open_op w.core.events) (done w.core.events) (given w.core.events) d
-            store.0 (site_at w.core.sites d) (s.ok.v d)
+        site : SiteOk s.base (logged w.core.events) (open_op w.core.events) (done w.core.events) (given w.core.events) d store.0 (site_at w.core.sites d) (s.ok.v d)
         site = s.ok.stores d store.0 store.1
 
         sends : (a : Option Answered) → to_redo w.core.events d r.redone ≡ a → redoes_by w d (sends_again x.incarnation r.mark a) ≡ Goes o v → IsListed v
@@ -739,8 +693,7 @@ redoes_listed w v d (Some x) o known at s goes = by x.redo refl goes
               logs = so.0;
               known = subst (λ (i : ℕ). x.incarnation ≤ (site_at w.core.sites i).incarnation) (sym dc)
                   (let e = ap (λ (z : Option Site). (site_by z).incarnation) at in omega (arith, e));
-              ahead = λ z is less. subst (λ (i : ℕ). x.incarnation ≡ (site_at w.core.sites i).incarnation) (sym dc)
-                  (sym (ap (λ (z : Option Site). (site_by z).incarnation) at));
+              ahead = λ z is less. subst (λ (i : ℕ). x.incarnation ≡ (site_at w.core.sites i).incarnation) (sym dc) (sym (ap (λ (z : Option Site). (site_by z).incarnation) at));
               over = redone.told_over;
               now = λ now. inr (record {
                 redo = refl;
@@ -756,25 +709,15 @@ redoes_listed w v d (Some x) o known at s goes = by x.redo refl goes
             })) goes''
         sends None next goes'' =
             let t' : Site = record x { redo = None } in
-            let was : Known w.core = known_up w d (slice_get w.core.sites d)
-            (known_behind _ o (with_core w (after_redo w.core d redo.Finished)) v known goes'') in
+            let was : Known w.core = known_up w d (slice_get w.core.sites d) (known_behind _ o (with_core w (after_redo w.core d redo.Finished)) v known goes'') in
             let facts = log_facts w.core.procs s.base h was.good was.legal s.honest in
-            let ok = ok_resited s.base (logged h) (open_op h) (done h) (given h) w.core.sites w.dcs (wires_since w)
-            (replies_since w) w.news d x t' at refl (λ up. refl) s.ok
+            let ok = ok_resited s.base (logged h) (open_op h) (done h) (given h) w.core.sites w.dcs (wires_since w) (replies_since w) w.news d x t' at refl (λ up. refl) s.ok
             (λ q e. absurd (none_some _ q refl e))
             (λ z k. site_up s.base (logged h) (open_op h) (done h) (given h) d z x (s.ok.v d) r facts is
-            (λ n q said logs dc was' did. none_left w.core.procs h was.legal d r.redone next n q said logs dc was'
-            did) k) in
+            (λ n q said logs dc was' did. none_left w.core.procs h was.legal d r.redone next n q said logs dc was' did) k) in
             behind _ o (with_core w (after_redo w.core d redo.Finished)) v
             (subst (λ (y : Option Site). IsListed (with_core w (up_again w.core d y))) (sym at)
-            (record {
-              honest = s.honest;
-              base = s.base;
-              based = s.based;
-              behind = s.behind;
-              past = s.past;
-              ok = ok;
-            })) goes''
+            (record { honest = s.honest; base = s.base; based = s.based; behind = s.behind; past = s.past; ok = ok })) goes''
           where
             known_up : (w : Whole) (d : ℕ) (z : Option Site) → Known (up_again w.core d z) → Known w.core
             known_up w d None k = k
@@ -828,8 +771,7 @@ one_at_a_time w known s =
     }
   where
     cut : (d : ℕ) (x : Store) → slice_get w.dcs d ≡ Some x → Behind s.base (logged w.core.events) (open_op w.core.events) (done w.core.events) d x.list
-    cut d x at = (let k = s.ok.stores d x at in behind_end s.base (logged w.core.events) (open_op w.core.events)
-        (done w.core.events) d (s.ok.v d) x.list k.cut k.behind)
+    cut d x at = (let k = s.ok.stores d x at in behind_end s.base (logged w.core.events) (open_op w.core.events) (done w.core.events) d (s.ok.v d) x.list k.cut k.behind)
 
 -- and where each is, an audit finds nothing
 pub agrees : (w : Whole) → Known w.core → IsListed w → EachIsKnown w → IsAgreed w.core.procs w.core.events w.dcs

@@ -17,11 +17,12 @@
 //! why the call wasn't admitted. `specs/Reports.antt` has what is proved of a report.
 //!
 //! A [`Link`] of your own carries wires to data components elsewhere. It may lose, repeat, delay and
-//! change what it carries; the report stays true of the log. `dc_links` has those to data components of this
-//! process. A [`Gate`] is told when a call is admitted, and of its answer by an [`Acknowledgement`]. [`run_kept`]
-//! keeps the log in a journal (`journals`), and tells no answer before the log that it is true of is kept. Between two lists of calls the log of a report's state may begin anew: `tc_world::cutting::cut` does
-//! it with data components of this process, `TcState::checkpoint` by the marks that others have kept.
-//! Its tests are those of `pool_tests`.
+//! change what it carries; the report stays true of the log. `dc_links` has those to data components of
+//! this process. A [`Gate`] is told when a call is admitted, and of its answer by an [`Acknowledgement`].
+//! [`run_kept`] keeps the log in a journal (`journals`), and tells no answer before the log that it is true
+//! of is kept. Between two lists of calls the log of a report's state may begin anew:
+//! `tc_world::cutting::cut` does it with data components of this process, `TcState::checkpoint` by the
+//! marks that others have kept. Its tests are those of `pool_tests`.
 #![tactic(auto)]
 
 mod acknowledgement;

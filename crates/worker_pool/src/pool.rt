@@ -584,8 +584,9 @@ fn run_named<J: RunSpec + Send + Sync, R: Threads + Wait + Sync, L: Link + Sync,
 /// A worker takes the next call and admits it; where another transaction stands in its way, it waits
 /// until one ends, falls in doubt or is stuck, and tries again, unless all that stand in its way are
 /// in doubt or stuck. One worker runs the calls one after the other. Of several, each has up to eight calls
-/// on their way at a time, if link and gate are prompt, and else one. A state that is handed in with open transactions, which no call runs, may so
-/// make `run` wait for ever. Nothing is sent and no gate is told while the lock is held.
+/// on their way at a time, if link and gate are prompt, and else one. A state that is handed in with open
+/// transactions, which no call runs, may so make `run` wait for ever. Nothing is sent and no gate is told
+/// while the lock is held.
 pub fn run<R: Threads + Wait + Sync, L: Link + Sync, G: Gate + Sync>(
     rt: &R,
     alloc: Global,
