@@ -1,5 +1,17 @@
-//! `bench`: each hot path as often as it is told to, and how much was done. It prints counts alone,
-//! so that its output is the same every time; how long it takes is measured from outside.
+//! `bench`: runs each hot path as often as it is told to. It prints counts alone, the same every time; how
+//! long it takes is measured from outside. Without words it says which it takes.
+//!
+//! ```
+//! $ bench numbers 100 1000
+//! count 1100
+//! ```
+//!
+//! `code` prints `slots N instructions N refused N wrong N`: `wrong` are runs with another answer or count.
+//! A workload is a line of words apart by tabs: a name, the code as hex text, how many arguments there are,
+//! the arguments, the answer, a number that isn't read, and how many instructions are executed.
+//!
+//! `damaged` prints `truncations N changes N beginnings N refused N wrong N`: `beginnings` are read as the
+//! events in front of the fault, `refused` with the damaged frame, `wrong` are all others.
 #![tactic(auto)]
 
 mod audits;

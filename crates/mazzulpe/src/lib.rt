@@ -2,6 +2,14 @@
 //!
 //! Between calls the engine is the caller's memory: it begins with the frame, which the caller reads
 //! and writes as it likes, and the rest is left alone.
+//!
+//! ```
+//! mz_frame *engine = aligned_alloc(16, (mazzulpe_size() + 15) / 16 * 16);
+//! mazzulpe_open(engine);
+//! engine->what = 1; /* START_TC of embedding/src/call.rt */
+//! uint32_t code = mazzulpe_call(engine);
+//! mazzulpe_close(engine);
+//! ```
 #![tactic(auto)]
 
 ghost use Rattle.std.specs.Prelude.{◌≡◌};

@@ -1,4 +1,15 @@
 //! `procd`: a transaction component that runs verified BPF procedures.
+//!
+//! ```
+//! $ procd verify examples/bank/bank.o
+//! deposit accepted 18
+//! move accepted 29
+//! balance accepted 7
+//! ```
+//!
+//! `command_line` says what the words ask for. A command makes a whole `Report` of its file's text, and only
+//! then are its lines written, so where memory runs out nothing is printed. What `program` ensures begins
+//! with the words; `main` hands them on. `docs/FORMATS.md` has all lines and statuses.
 #![tactic(auto)]
 
 mod program;
