@@ -3,7 +3,7 @@
 //!
 //! ```text
 //! let mut file = LogFile::new(device);
-//! let found = file.open(alloc, &header)?;          // its base, log and notes, for `TcState::recover`
+//! let found = file.open(alloc, &header, &bytes)?;  // its base, log and notes, for `TcState::recover`
 //! file.create(alloc, &header)?;                    // instead, where `open` answered that it is empty
 //! file.begin_anew(alloc, &header, &base, &row)?;   // or this, for a log that goes on behind an earlier one
 //! let rows = log.print_from(alloc, written)?;      // the events that aren't in the file yet

@@ -1,7 +1,7 @@
 //! A journal of workers that keeps a transaction component's log in a file: what is kept is on the disk.
 //!
 //! ```text
-//! let (journal, restored) = LogJournal::open(alloc, device, header)?;   // begun, if the file is empty
+//! let (journal, restored) = LogJournal::open(alloc, device, header, &bytes)?; // begun, if the file is empty
 //! let (journal, ran) = run_kept(&rt, alloc, state, calls, 4, 3, &link, &gate, journal);
 //! ```
 //!

@@ -3,7 +3,8 @@
 //!
 //! ```
 //! let behind = Behind { audit: false, log: false };
-//! let report = world(alloc, behind, "dc 8 64\nproc put 2\n..end\nadmit put 5 100\nask 1\n")?;
+//! let text = "dc 8 64\nproc put 2\n..end\nadmit put 5 100\nask 1\n";
+//! let report = world(alloc, behind, Source { object: None, text })?;
 //! // `admitted 1`, `sent 0 number 1 insert 0/0/5 100 low 0`; status 1 where a step wasn't possible
 //! ```
 #![tactic(auto)]
