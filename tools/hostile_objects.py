@@ -25,7 +25,7 @@ SAYING_LINES = [".debug_line", ".debug_line_str", ".rel.debug_line", ".symtab"]
 # A script beside it, what `run` prints then, and its refusals.
 SCRIPT = "dc 8 100\ndc 8 100\ncall seven\ncall get 5\n"
 RUN = rf"({CALL}\n)*"
-RUN_REFUSED = rf"refused (object ({FAULT}|[a-z0-9_]{{1,32}} ({CODE}|F7 Verify {VIOLATION}|F8 DcUnknown))|line [34] F4 NameUnknown)\n"
+RUN_REFUSED = rf"refused (object ({FAULT}|[a-z0-9_]{{1,32}} (({CODE}|F7 Verify {VIOLATION})({PLACE})?|F8 DcUnknown))|line [34] F4 NameUnknown)\n"
 
 
 def changed(data, values):

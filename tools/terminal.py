@@ -3,9 +3,9 @@
 
 usage: tools/terminal.py [--procd PATH]
 
-Of a script that is refused, the word that is at fault; of an object file's procedures, how they are mended; of a long run,
-how many calls are answered, of how many, and how many a second; SIGINT and SIGTERM end a run at once, with nothing on
-standard output. The expected lines are written by hand. A line for each that is otherwise, and one with the count; the
+Of a script that is refused, the word that is at fault; of an object file's procedures, which line of C is at fault and
+how it is mended; of a long run, how many calls are answered, of how many, and how many a second; SIGINT and SIGTERM end
+a run at once, with nothing on standard output. The expected lines are written by hand. A line for each that is otherwise, and one with the count; the
 status is 1 where one was.
 """
 import argparse
@@ -96,6 +96,9 @@ CURED = [
     (with_lines(unit((0, 3))), "get V10 MaybeNull slot 2 bad.c:3\n", f"get: {TESTED}\n"),
     (object_of(named(b"seven") + named(b"used", WITH_FIELD)), "seven accepted 2\nused E5 UnusedField slot 1\n", ""),
 ]
+# A source with a line of 300 letters, one that would erase the terminal, and none at all; what is told of its lines 1 to 5.
+SOURCE = b"int x;\n\treturn\x1b[2J*p;\n" + b"x" * 300 + b"\n\xc3\xa4\n"
+QUOTED = ["int x;", " return?[2J*p;", "x" * 200, "\u00e4", None]
 
 
 def on_terminal(words, given):
@@ -142,6 +145,36 @@ def cures(procd):
             yield f"verify of {wanted[0]!r}: {ended}"
 
 
+def told_of_line(procd, folder, line, source):
+    """What a terminal is told of a procedure whose refused slot comes from this line of `bad.c` in the folder, which has the source."""
+    with open(f"{folder}/bad.o", "wb") as it:
+        it.write(with_lines(unit((0, line))))
+    with open(f"{folder}/calls.txt", "w", encoding="utf-8") as it:
+        it.write("dc 1 1\n")
+    with open(f"{folder}/bad.c", "wb") as it:
+        it.write(source)
+    for words in (["verify", "bad.o"], ["run", "bad.o", "calls.txt"], ["world", "bad.o", "calls.txt"]):
+        yield on_terminal([procd, words[0], *(f"{folder}/{word}" for word in words[1:])], b"")[2]
+
+
+def quotes(procd):
+    """Each line of a source that a terminal isn't shown as it should be."""
+    with tempfile.TemporaryDirectory() as folder:
+        for number, line in enumerate(QUOTED, 1):
+            quoted = "" if line is None else f"{folder}/bad.c:{number}: {line}\n"
+            for told in told_of_line(procd, folder, number, SOURCE):
+                if told != f"{quoted}get: {TESTED}\n":
+                    yield f"line {number}: {told!r}"
+        for told in told_of_line(procd, folder, 1, b"\xff\n"):
+            if told != f"get: {TESTED}\n":
+                yield f"a source that is no text: {told!r}"
+        os.remove(f"{folder}/bad.c")
+        os.mkfifo(f"{folder}/bad.c")
+        _, _, told = on_terminal([procd, "verify", f"{folder}/bad.o"], b"")
+        if told != f"get: {TESTED}\n":
+            yield f"a pipe in the place of a source: {told!r}"
+
+
 def progress(procd):
     """A long run, where it told no progress or told it otherwise."""
     calls = "".join(f"call put {call % 60000} 1\n" for call in range(CALLS))
@@ -185,11 +218,11 @@ def main():
     parser = argparse.ArgumentParser(description=__doc__, formatter_class=argparse.RawDescriptionHelpFormatter)
     parser.add_argument("--procd", default=str(PROCD), help="the program (that of crates/procd/out)")
     procd = parser.parse_args().procd
-    wrong = [*refusals(procd), *cures(procd), *progress(procd), *signals(procd)]
+    wrong = [*refusals(procd), *cures(procd), *quotes(procd), *progress(procd), *signals(procd)]
     for line in wrong:
         print(f"terminal: {line}")
     ended = "wrong" if wrong else "nothing wrong"
-    print(f"terminal: {len(REFUSED)} refusals, {len(CURED)} cures, progress of {CALLS:,} calls, 2 signals, {ended}")
+    print(f"terminal: {len(REFUSED)} refusals, {len(CURED)} cures, {len(QUOTED) + 2} sources, progress of {CALLS:,} calls, 2 signals, {ended}")
     sys.exit(1 if wrong else 0)
 
 

@@ -127,6 +127,7 @@ FILES += [
 
 USED = object_of(named(b"seven") + named(b"used", MOV_7 + bytes.fromhex("9500000001000000")))
 UNSAFE = object_of(named(b"seven") + named(b"get", UNTESTED, READS))
+SAFE_AND_NOT = object_of(named(b"seven") + GET, units=BOTH_TOLD)
 FAR = object_of(named(b"seven") + named(b"get", TESTED, taking(1, (1, 0, 2, 0))))
 
 # Object files, the scripts beside them, what `run` prints, and the status.
@@ -150,8 +151,15 @@ RUNS = [
     # what the verifier refuses comes before the faults of lines
     (UNSAFE, "dc 1 1\nfly\n", "refused object get F7 Verify V10 MaybeNull slot 2\n", 1),
     (UNSAFE, "dc 1 1\nproc a 0\nexit\nend\n", "refused object get F7 Verify V10 MaybeNull slot 2\n", 1),
+    # a slot's line of the source stands behind it, of the object file's procedures alone
+    (SAFE_AND_NOT, "dc 1 1\n", "refused object get F7 Verify V10 MaybeNull slot 2 bad.c:7\n", 1),
+    (SAFE_AND_NOT, "dc 1 1\nproc get 0\nexit\nend\n", "refused object get F7 Verify V10 MaybeNull slot 2 bad.c:7\n", 1),
+    (object_of(named(b"seven"), units=[(TOLD, 1, 0)]), "dc 1 1\nproc a 0\nexit\nend\n", "refused line 4 F7 Verify V5 EmptyRegister slot 0\n", 1),
+    (with_lines(unit((24, 3))), "dc 1 1\n", "refused object get F7 Verify V10 MaybeNull slot 2\n", 1),
     # before all that come those of the object file
     (USED, "fly\n", "refused object used E5 UnusedField slot 1\n", 1),
+    (object_of(named(b"used", WITH_FIELD), units=[(TOLD, 1, 0)]), "fly\n", "refused object used E5 UnusedField slot 1 bad.c:4\n", 1),
+    (object_of(named(b"cut", SEVEN[:-1]), units=[(TOLD, 1, 0)]), "fly\n", "refused object cut E2 Length\n", 1),
     (object_of(named(b"Seven")), "fly\n", "refused object BadName section 1\n", 1),
     (PLAIN[:-1], "dc 1 1\n", "refused object NoTable\n", 1),
     (b"dc 1 1\n", "dc 1 1\n", "refused object NotElf\n", 1),
@@ -162,6 +170,7 @@ WORLDS = [
     (TWO, STEPS, "admitted 1\nsent 0 number 1 read 0/0/5 low 0\nreply 0 number 1 absent\ntook number 1\nover 1\nended 1 committed at 3\n", 0),
     (TWO, "dc 1 1\ncall seven\n", "refused line 2 F1 BadLine\n", 1),
     (UNSAFE, STEPS, "refused object get F7 Verify V10 MaybeNull slot 2\n", 1),
+    (SAFE_AND_NOT, STEPS, "refused object get F7 Verify V10 MaybeNull slot 2 bad.c:7\n", 1),
     (FAR, STEPS, "refused object get F8 DcUnknown\n", 1),
 ]
 

@@ -1,39 +1,42 @@
 -- The procedures of an object file as those of a script, or the line that says why there are none.
-use Rattle.std.specs.Prelude.{◌≡◌, ℕ, List, ◌++◌, None, Result, Ok, Err, codes, string_bytes}
+use Rattle.std.specs.Prelude.{◌≡◌, ℕ, List, ◌++◌, Option, None, Result, Ok, Err, codes, string_bytes}
 use Rattle.bpf_encoding.specs.declared.decode.DecodeFault.{DecodeFault}
 use Rattle.bpf_encoding.specs.declared.insn.Place.{Place}
+use Rattle.object_file.specs.LineSections.{LineBytes, line_sections_said}
 use Rattle.report_texts.specs.FaultNames.{fault_name}
 use Rattle.scripts.specs.declared.script.Procedure.{Procedure}
 use Rattle.object_procedures.specs.Each.{each}
 use Rattle.object_procedures.specs.Finding.{found_in}
 use Rattle.object_procedures.specs.Refusal.{object_refusal}
+use Rattle.object_procedures.specs.SourcePlaces.{fault_text}
 use Rattle.object_procedures.specs.declared.finding.Found.{Found}
 use Rattle.object_procedures.specs.declared.finding.ObjectRefusal.{ObjectRefusal}
 use Rattle.object_procedures.specs.declared.given.Ungiven.{Ungiven}
 use Rattle.object_procedures.specs.declared.given.Ungiven.TheVariants.{Refused, Memory}
 
-abbrev pub code_refusal : List ℕ → DecodeFault → List ℕ
-code_refusal name fault = codes "refused object " ++ (name ++ (codes " " ++ (fault_name fault ++ codes "\n")))
+-- its name and the fault, and at the end the line of the slot that is at fault, where the file says it
+abbrev pub code_refusal : List ℕ → DecodeFault → (place : List ℕ) → List ℕ
+code_refusal name fault place = codes "refused object " ++ (name ++ (codes " " ++ (fault_name fault ++ (place ++ codes "\n"))))
 
-abbrev pub given_by : Result (List Place) DecodeFault → Found → Result Procedure (List ℕ)
-given_by (Ok code) f = Ok (record { name = f.name; decl = f.decl; code = code; line = None })
-given_by (Err fault) f = Err (code_refusal f.name fault)
+abbrev pub given_by : Option LineBytes → Result (List Place) DecodeFault → Found → Result Procedure (List ℕ)
+given_by lines (Ok code) f = Ok (record { name = f.name; decl = f.decl; code = code; line = None })
+given_by lines (Err fault) f = Err (code_refusal f.name fault (fault_text lines f.section fault))
 
 -- its bytes are code
-abbrev pub given_of : Found → Result Procedure (List ℕ)
-given_of f = given_by f.code f
+abbrev pub given_of : Option LineBytes → Found → Result Procedure (List ℕ)
+given_of lines f = given_by lines f.code f
 
 -- all of them, or the line of the first whose bytes aren't code
-abbrev pub all_given : List Found → Result (List Procedure) (List ℕ)
-all_given found = each given_of found
+abbrev pub all_given : Option LineBytes → List Found → Result (List Procedure) (List ℕ)
+all_given lines found = each (given_of lines) found
 
-abbrev pub given_after : Result (List Found) ObjectRefusal → Result (List Procedure) (List ℕ)
-given_after (Ok found) = all_given found
-given_after (Err why) = Err (object_refusal why)
+abbrev pub given_after : Option LineBytes → Result (List Found) ObjectRefusal → Result (List Procedure) (List ℕ)
+given_after lines (Ok found) = all_given lines found
+given_after lines (Err why) = Err (object_refusal why)
 
 -- what the file has, in the order of its sections
 abbrev pub given_in : List ℕ → Result (List Procedure) (List ℕ)
-given_in file = given_after (found_in file)
+given_in file = given_after (line_sections_said file) (found_in file)
 
 -- the report has this line, want of memory aside
 abbrev pub IsStop : {A : Type 0} → Result A (List ℕ) → Ungiven → Type 0

@@ -1,11 +1,16 @@
 //! The procedures of an object file as those of a script, for commands that run them.
 
 ghost use Rattle.std.specs.Prelude.{◌≡◌, IfOk, IfErr, Ok, string_bytes};
+ghost use Rattle.std.specs.Option.{option_map};
+ghost use Rattle.object_file.specs.LineSections.{line_bytes};
 ghost use Rattle.object_procedures.specs.Given.{code_refusal, given_of, all_given, given_in, IsStop, Gives};
+ghost use Rattle.object_procedures.specs.SourcePlaces.{fault_text};
 
 use crate::finding::{FindError, Found, find};
 use crate::refusal::refusal;
+use crate::source_place::Origin;
 use bpf_encoding::decode::DecodeFault;
+use object_file::{LineSections, line_sections};
 use report_texts::fault_names::fault_name;
 use report_texts::report::Report;
 use scripts::script::Procedure;
@@ -40,28 +45,39 @@ impl<T: Drop> From<AllocFailed<T>> for Ungiven {
     }
 }
 
-// The report of a procedure of this name whose bytes aren't code.
-fn code_refusal(alloc: Global, name: &str, fault: &DecodeFault) -> Result<Report, AllocError>
-    ensures lines { IfOk result (λ r. string_bytes r.lines ≡ code_refusal name.now fault.now) }
+// The report of a procedure whose bytes aren't code.
+fn code_refusal(
+    alloc: Global,
+    name: &str,
+    fault: &DecodeFault,
+    origin: &Origin<'_>,
+) -> Result<Report, AllocError>
+    ensures lines { IfOk result (λ r. string_bytes r.lines
+        ≡ code_refusal name.now fault.now (fault_text (option_map line_bytes origin.now.lines) origin.now.section fault.now)) }
     ensures status { IfOk result (λ r. r.status ≡ 1) }
 {
+    let place = origin.fault_text(alloc, fault)?;
     let fault = fault_name(alloc, fault)?;
     Ok(Report {
         status: 1,
-        lines: format!(in alloc; "refused object {name} {fault}\n")?,
+        lines: format!(in alloc; "refused object {name} {fault}{place}\n")?,
         notes: None,
     })
 }
 
 // The procedure of a script that this one is.
-fn given_of<'a>(alloc: Global, found: Found<'a>) -> Result<Procedure<'a>, Ungiven>
-    ensures { Gives (given_of found.entry) result }
+fn given_of<'a>(
+    alloc: Global,
+    lines: Option<LineSections<'a>>,
+    found: Found<'a>,
+) -> Result<Procedure<'a>, Ungiven>
+    ensures { Gives (given_of (option_map line_bytes lines.entry) found.entry) result }
 {
     let Found {
         name,
         decl,
         code,
-        ..
+        section,
     } = found;
     match code {
         Ok(code) => Ok(Procedure {
@@ -70,18 +86,26 @@ fn given_of<'a>(alloc: Global, found: Found<'a>) -> Result<Procedure<'a>, Ungive
             code,
             line: None,
         }),
-        Err(fault) => Err(Ungiven::Refused(code_refusal(alloc, name.as_str(), &fault)?)),
+        Err(fault) => {
+            let origin = Origin { lines, section };
+            let report = code_refusal(alloc, name.as_str(), &fault, &origin)?;
+            Err(Ungiven::Refused(report))
+        }
     }
 }
 
 // The same of all.
-fn all_given<'a>(alloc: Global, found: Vec<Found<'a>>) -> Result<Vec<Procedure<'a>>, Ungiven>
-    ensures ok { IfOk result (λ given. all_given found.entry.items ≡ Ok given.items) }
-    ensures err { IfErr result (IsStop (all_given found.entry.items)) }
+fn all_given<'a>(
+    alloc: Global,
+    lines: Option<LineSections<'a>>,
+    found: Vec<Found<'a>>,
+) -> Result<Vec<Procedure<'a>>, Ungiven>
+    ensures ok { IfOk result (λ given. all_given (option_map line_bytes lines.entry) found.entry.items ≡ Ok given.items) }
+    ensures err { IfErr result (IsStop (all_given (option_map line_bytes lines.entry) found.entry.items)) }
 {
     let mut given = Vec::new(alloc);
     'found: for one in found {
-        given.push(given_of(alloc, one)?)?;
+        given.push(given_of(alloc, lines, one)?)?;
     }
     Ok(given)
 }
@@ -94,7 +118,7 @@ pub fn given<'a>(alloc: Global, file: &'a [u8]) -> Result<Vec<Procedure<'a>>, Un
     ensures err { IfErr result (IsStop (given_in file.entry.now)) }
 {
     match find(alloc, file) {
-        Ok(found) => all_given(alloc, found),
+        Ok(found) => all_given(alloc, line_sections(alloc, file)?, found),
         Err(FindError::Refused(why)) => Err(Ungiven::Refused(refusal(alloc, why)?)),
         Err(FindError::Memory) => Err(Ungiven::Memory),
     }

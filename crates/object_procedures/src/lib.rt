@@ -11,4 +11,6 @@
 
 pub mod finding;
 pub mod given;
+pub mod named_place;
 pub mod refusal;
+pub mod source_place;

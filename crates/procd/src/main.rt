@@ -12,6 +12,7 @@
 //! with the words; `main` hands them on. `docs/FORMATS.md` has all lines and statuses.
 #![tactic(auto)]
 
+mod explaining;
 mod program;
 mod reading;
 mod report;

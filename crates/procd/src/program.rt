@@ -10,8 +10,9 @@ ghost use Rattle.procd.specs.Streams.{IsLog, IsRefusedBy, IsFaultLine, TellsUnre
 ghost use Rattle.command_line.specs.Task.{Wish, wish_of};
 ghost use Rattle.clap.specs.Words.{kind_of};
 
+use crate::explaining::explain;
 use crate::reading::{MOST_BYTES, ReadFault, Reason, most_of, read_all};
-use crate::report::{Meanwhile, ReportFault, explain, report_on};
+use crate::report::{Meanwhile, ReportFault, report_on};
 use crate::writing::tell;
 use clap::Error;
 use clap::error::ErrorKind;
@@ -172,7 +173,9 @@ fn run_text<F: Files<File = File> + Clock + Threads + Wait + Sync, W: Write, E: 
         drop(report);
         return cannot_write(alloc, err, error);
     }
-    explain(alloc, meanwhile.terminal, &wanted.task, text, &report);
+    if let Some(terminal) = meanwhile.terminal {
+        explain(rt, alloc, terminal, wanted, text, report.status);
+    }
     tell_notes(err, wanted.task.may_tell(), &report);
     let status = report.status;
     drop(report);

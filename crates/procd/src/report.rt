@@ -20,15 +20,13 @@ use log_command::listing::listing;
 use log_command::picturing::{Pictured, picturing};
 use log_part::Part;
 use object_file::is_elf;
-use report_texts::explanation::explanation;
 use report_texts::report::Report;
 use run_command::logged::{Unlogged, running_logged};
 use run_command::running::{Checkpoints, Listeners, Manner, RunOptions, running};
 use script_loading::loading::Source;
-use scripts::keyword::Command;
 use std::alloc::{AllocError, Global};
 use std::fs::{self, File};
-use std::io::{Stderr, Write};
+use std::io::Stderr;
 use std::rt::Files;
 use std::sync::Wait;
 use std::thread::Threads;
@@ -367,37 +365,6 @@ fn log_report<'a, R: Files>(
         LogTask::EventsAndRows => Ok(listing(alloc, file, Part::Whole, true)?),
         LogTask::Audit(script) => audit_report(rt, alloc, file, script),
         LogTask::Picture(path, part) => picture_report(rt, alloc, file, path, part),
-    }
-}
-
-// The command of a task whose file is a script.
-fn script_command(task: &Task) -> Option<Command> {
-    match task {
-        Task::Verify => Some(Command::Verify),
-        Task::World { script: None, .. } => Some(Command::World),
-        Task::Run { script: None, .. } => Some(Command::Run),
-        _ => None,
-    }
-}
-
-/// Says on a terminal, behind this report, what is wrong with a script that was refused for a bad line or a bad number,
-/// and how refused procedures of an object file are mended.
-pub fn explain(alloc: Global, terminal: Option<Stderr>, task: &Task, text: &[u8], report: &Report) {
-    let (Some(mut terminal), Some(command)) = (terminal, script_command(task)) else {
-        return;
-    };
-    if let (Task::Verify, Some(cures)) = (task, &report.notes) {
-        let _ = terminal.write_all(cures.as_bytes());
-        return;
-    }
-    let Ok(text) = text_of(text) else {
-        return;
-    };
-    if report.status == 0 || is_elf(text.as_bytes()) {
-        return;
-    }
-    if let Ok(Some(line)) = explanation(alloc, command, text) {
-        let _ = terminal.write_all(line.as_bytes());
     }
 }
 

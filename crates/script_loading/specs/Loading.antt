@@ -8,6 +8,7 @@ use Rattle.verifier.specs.Checked.{Checked}
 use Rattle.verifier.specs.Verdict.{verdict}
 use Rattle.data_component.specs.Store.{Store, empty}
 use Rattle.object_procedures.specs.Given.{given_in}
+use Rattle.object_procedures.specs.NamedPlaces.{named_place}
 use Rattle.scripts.specs.Reading.{Contents, Reading, only_procedures, said_behind, script_said}
 use Rattle.scripts.specs.declared.keyword.Command.{Command}
 use Rattle.scripts.specs.declared.reading.Fault.{Fault}
@@ -31,27 +32,32 @@ abbrev pub place_name : Option ℕ → List ℕ → List ℕ
 place_name (Some line) name = codes "line " ++ decimal line
 place_name None name = codes "object " ++ name
 
-abbrev pub unverified_line : Procedure → ℕ → Violation → List ℕ
-unverified_line p slot violation =
-    codes "refused " ++ (place_name p.line p.name ++ (codes " F7 Verify " ++ (violation_name violation
-    ++ (codes " slot " ++ (decimal slot ++ codes "\n")))))
+-- the line of the source that a slot of a procedure comes from: of one of the object file, where that says it
+abbrev pub place_behind : Option (List ℕ) → Option ℕ → List ℕ → ℕ → List ℕ
+place_behind (Some object) None name slot = named_place object name slot
+place_behind object line name slot = []
 
-abbrev pub unverified_by : Procedure → Option (ℕ × Violation) → Option (List ℕ)
-unverified_by p None = None
-unverified_by p (Some (slot, violation)) = Some (unverified_line p slot violation)
+abbrev pub unverified_line : Option (List ℕ) → (line : Option ℕ) → (name : List ℕ) → ℕ → Violation → List ℕ
+unverified_line object line name slot violation =
+    codes "refused " ++ (place_name line name ++ (codes " F7 Verify " ++ (violation_name violation
+    ++ (codes " slot " ++ (decimal slot ++ (place_behind object line name slot ++ codes "\n"))))))
 
--- the line of what the verifier finds first
-abbrev pub unverified : Procedure → Option (List ℕ)
-unverified p = unverified_by p (verdict p.decl p.code)
+abbrev pub unverified_by : Option (List ℕ) → Procedure → Option (ℕ × Violation) → Option (List ℕ)
+unverified_by object p None = None
+unverified_by object p (Some (slot, violation)) = Some (unverified_line object p.line p.name slot violation)
+
+-- the line of what the verifier finds first in a procedure of a script, or of the object file beside it
+abbrev pub unverified : Option (List ℕ) → Procedure → Option (List ℕ)
+unverified object p = unverified_by object p (verdict p.decl p.code)
 
 abbrev pub or_later : Option (List ℕ) → Option (List ℕ) → Option (List ℕ)
 or_later (Some line) later = Some line
 or_later None later = later
 
 -- of the first procedure that is refused
-abbrev pub first_unverified : List Procedure → Option (List ℕ)
-first_unverified [] = None
-first_unverified (p ∷ ps) = or_later (unverified p) (first_unverified ps)
+abbrev pub first_unverified : Option (List ℕ) → List Procedure → Option (List ℕ)
+first_unverified object [] = None
+first_unverified object (p ∷ ps) = or_later (unverified object p) (first_unverified object ps)
 
 -- it is the one that is refused; want of memory may come at any
 abbrev pub IsUnloaded : Option (List ℕ) → Unloaded → Type 0
@@ -66,8 +72,12 @@ refusal_by None (Some fault) = Some (script_refusal fault)
 refusal_by None None = None
 
 -- the first procedure that is refused goes before the text's fault, which stands behind it
+abbrev pub refusal_beside : Option (List ℕ) → Reading → Option (List ℕ)
+refusal_beside object r = refusal_by (first_unverified object r.contents.procedures) r.fault
+
+-- of a script alone
 abbrev pub refusal_of : Reading → Option (List ℕ)
-refusal_of r = refusal_by (first_unverified r.contents.procedures) r.fault
+refusal_of r = refusal_beside None r
 
 -- ---- an object file with a script
 
@@ -82,13 +92,13 @@ abbrev pub fault_or_line : Option Fault → List ℕ → List ℕ
 fault_or_line (Some fault) line = script_refusal fault
 fault_or_line None line = line
 
-abbrev pub refusal_after : Option Procedure → Reading → Option (List ℕ)
-refusal_after None r = refusal_of r
-refusal_after (Some p) r = Some (fault_or_line r.fault (unknown_dc_line p.name))
+abbrev pub refusal_after : List ℕ → Option Procedure → Reading → Option (List ℕ)
+refusal_after object None r = refusal_beside (Some object) r
+refusal_after object (Some p) r = Some (fault_or_line r.fault (unknown_dc_line p.name))
 
 -- the first procedure with such a slot, unless the script has a fault of its own; else as without an object file
-abbrev pub refusal_behind : Reading → Option (List ℕ)
-refusal_behind r = refusal_after (find (reaches_past (length r.contents.dcs)) r.contents.procedures) r
+abbrev pub refusal_behind : List ℕ → Reading → Option (List ℕ)
+refusal_behind object r = refusal_after object (find (reaches_past (length r.contents.dcs)) r.contents.procedures) r
 
 -- what a command begins with, or why it isn't begun
 pub record Beginning : Type 0 where
@@ -98,17 +108,17 @@ pub record Beginning : Type 0 where
 abbrev pub of_script : Reading → Beginning
 of_script r = record { refusal = refusal_of r; contents = r.contents }
 
-abbrev pub of_both : Reading → Beginning
-of_both r = record { refusal = refusal_behind r; contents = r.contents }
+abbrev pub of_both : List ℕ → Reading → Beginning
+of_both object r = record { refusal = refusal_behind object r; contents = r.contents }
 
-abbrev pub beginning_by : Command → Result (List Procedure) (List ℕ) → List ℕ → Beginning
-beginning_by command (Ok given) text = of_both (said_behind command given text)
-beginning_by command (Err line) text = record { refusal = Some line; contents = only_procedures [] }
+abbrev pub beginning_by : Command → List ℕ → Result (List Procedure) (List ℕ) → List ℕ → Beginning
+beginning_by command object (Ok given) text = of_both object (said_behind command given text)
+beginning_by command object (Err line) text = record { refusal = Some line; contents = only_procedures [] }
 
 -- of a script alone, or of one with an object file, whose procedures are there as if they stood behind its data components
 abbrev pub beginning : Command → Option (List ℕ) → List ℕ → Beginning
 beginning command None text = of_script (script_said command text)
-beginning command (Some file) text = beginning_by command (given_in file) text
+beginning command (Some file) text = beginning_by command file (given_in file) text
 
 abbrev pub beginning_of : Command → Source → Beginning
 beginning_of command source = beginning command (option_map (λ file. file.now) source.object) source.text.now
@@ -144,8 +154,11 @@ abbrev pub IsLoadingBy : Option (List ℕ) → Contents → Loading → Type 0
 IsLoadingBy refusal contents (Ready loaded) = (refusal ≡ None) × IsReady contents loaded
 IsLoadingBy refusal contents (Refused report) = (refusal ≡ Some (string_bytes report.lines)) × (report.status ≡ 1)
 
+abbrev pub IsLoadingBeside : Option (List ℕ) → Reading → Loading → Type 0
+IsLoadingBeside object r loading = IsLoadingBy (refusal_beside object r) r.contents loading
+
 abbrev pub IsLoading : Reading → Loading → Type 0
-IsLoading r loading = IsLoadingBy (refusal_of r) r.contents loading
+IsLoading r loading = IsLoadingBeside None r loading
 
 -- the same of a script that may come with an object file
 abbrev pub IsLoadingOf : Beginning → Loading → Type 0

@@ -3,15 +3,15 @@
 ghost use Rattle.std.specs.Prelude.{◌≡◌, [], ◌∷◌, ◌++◌, length, map, option_map, None, IfOk, IfErr, OnOk, codes, decimal, string_bytes};
 ghost use Rattle.std.specs.List.{find};
 ghost use Rattle.scripts.specs.Reading.{parsed_of, said_behind, script_said};
-ghost use Rattle.report_texts.specs.FaultNames.{violation_name};
 ghost use Rattle.report_texts.specs.ScriptRefusal.{script_refusal};
 ghost use Rattle.script_loading.specs.Joining.Loads.{IsReadied, IsRefusal};
-ghost use Rattle.script_loading.specs.Loading.{place_name, unverified, first_unverified, IsUnloaded};
-ghost use Rattle.script_loading.specs.Loading.{name_of, with_procedures, empty_core, empty_store, IsLoading, IsLoadingOf};
+ghost use Rattle.script_loading.specs.Loading.{place_name, place_behind, unverified_line, unverified, first_unverified, IsUnloaded};
+ghost use Rattle.script_loading.specs.Loading.{name_of, with_procedures, empty_core, empty_store, IsLoading, IsLoadingBeside, IsLoadingOf};
 ghost use Rattle.script_loading.specs.Loading.{reaches_past, unknown_dc_line, fault_or_line, of_both, beginning_of};
 
 use data_component::dc::Dc;
 use object_procedures::given::{Ungiven, given};
+use object_procedures::named_place::named_place;
 use register_kinds::kind::Violation;
 use report_texts::fault_names::violation_name;
 use report_texts::report::Report;
@@ -77,30 +77,56 @@ fn place_name(alloc: Global, line: Option<usize>, name: &str) -> Result<String, 
     }
 }
 
-// The report of a procedure that the verifier refuses.
+// The line of the source that a slot of a procedure comes from, where the procedure stands at no line of the text and
+// the object file says it.
+fn place_behind(
+    alloc: Global,
+    object: Option<&[u8]>,
+    line: Option<usize>,
+    name: &str,
+    slot: usize,
+) -> Result<String, AllocError>
+    ensures { IfOk result (λ s. string_bytes s ≡ place_behind (option_map (λ file. file.now) object.entry) line name.now slot) }
+{
+    match (object, line) {
+        (Some(file), None) => named_place(alloc, file, name, slot),
+        _ => Ok(String::new(alloc)),
+    }
+}
+
+// The report of a procedure of this name, which the verifier refuses at a slot.
 fn unverified_report(
     alloc: Global,
-    place: &str,
+    object: Option<&[u8]>,
+    line: Option<usize>,
+    name: &str,
     slot: usize,
     violation: Violation,
 ) -> Result<Report, AllocError>
-    ensures lines { IfOk result (λ r. string_bytes r.lines ≡ codes "refused " ++ (place.now ++ (codes " F7 Verify "
-        ++ (violation_name violation ++ (codes " slot " ++ (decimal slot ++ codes "\n")))))) }
+    ensures lines { IfOk result (λ r. string_bytes r.lines
+        ≡ unverified_line (option_map (λ file. file.now) object.entry) line name.now slot violation) }
     ensures status { IfOk result (λ r. r.status ≡ 1) }
 {
+    let place = place_name(alloc, line, name)?;
+    let behind = place_behind(alloc, object, line, name, slot)?;
     let violation = violation_name(violation);
     Ok(Report {
         status: 1,
-        lines: format!(in alloc; "refused {place} F7 Verify {violation} slot {slot}\n")?,
+        lines: format!(in alloc; "refused {place} F7 Verify {violation} slot {slot}{behind}\n")?,
         notes: None,
     })
 }
 
 // Verifies one procedure more, and loads it.
-fn load_one(alloc: Global, state: &mut TcState, procedure: Procedure) -> Result<(), Unloaded>
-    ensures verified { OnOk result (unverified procedure.entry ≡ None) }
+fn load_one(
+    alloc: Global,
+    object: Option<&[u8]>,
+    state: &mut TcState,
+    procedure: Procedure,
+) -> Result<(), Unloaded>
+    ensures verified { OnOk result (unverified (option_map (λ file. file.now) object.entry) procedure.entry ≡ None) }
     ensures ok { OnOk result (state.new ≡ with_procedures state.old (procedure.entry ∷ [])) }
-    ensures err { IfErr result (IsUnloaded (unverified procedure.entry)) }
+    ensures err { IfErr result (IsUnloaded (unverified (option_map (λ file. file.now) object.entry) procedure.entry)) }
 {
     let Procedure {
         name,
@@ -114,8 +140,8 @@ fn load_one(alloc: Global, state: &mut TcState, procedure: Procedure) -> Result<
             Err(_) => Err(Unloaded::Memory),
         },
         Err(VerifyFault::At(slot, violation)) => {
-            let place = place_name(alloc, line, name.as_str())?;
-            let report = unverified_report(alloc, place.as_str(), slot, violation)?;
+            let name = name.as_str();
+            let report = unverified_report(alloc, object, line, name, slot, violation)?;
             Err(Unloaded::Refused(report))
         }
         Err(VerifyFault::Memory) => Err(Unloaded::Memory),
@@ -123,28 +149,38 @@ fn load_one(alloc: Global, state: &mut TcState, procedure: Procedure) -> Result<
 }
 
 // Loads the procedures in their order, up to the first that the verifier refuses.
-fn load_all(alloc: Global, state: &mut TcState, procedures: Vec<Procedure>) -> Result<(), Unloaded>
-    ensures verified { OnOk result (first_unverified procedures.entry.items ≡ None) }
+fn load_all(
+    alloc: Global,
+    object: Option<&[u8]>,
+    state: &mut TcState,
+    procedures: Vec<Procedure>,
+) -> Result<(), Unloaded>
+    ensures verified { OnOk result (first_unverified (option_map (λ file. file.now) object.entry) procedures.entry.items ≡ None) }
     ensures ok { OnOk result (state.new ≡ with_procedures state.old procedures.entry.items) }
-    ensures err { IfErr result (IsUnloaded (first_unverified procedures.entry.items)) }
+    ensures err { IfErr result (IsUnloaded (first_unverified (option_map (λ file. file.now) object.entry) procedures.entry.items)) }
 {
     'procedures: for procedure in procedures {
-        load_one(alloc, state, procedure)?;
+        load_one(alloc, object, state, procedure)?;
     }
     Ok(())
 }
 
 // The state of so many data components with these procedures.
-fn state_of(alloc: Global, dcs: usize, procedures: Vec<Procedure>) -> Result<TcState, Unloaded>
-    ensures verified { OnOk result (first_unverified procedures.entry.items ≡ None) }
+fn state_of(
+    alloc: Global,
+    object: Option<&[u8]>,
+    dcs: usize,
+    procedures: Vec<Procedure>,
+) -> Result<TcState, Unloaded>
+    ensures verified { OnOk result (first_unverified (option_map (λ file. file.now) object.entry) procedures.entry.items ≡ None) }
     ensures ok { IfOk result (λ s. s ≡ with_procedures (empty_core dcs) procedures.entry.items) }
-    ensures err { IfErr result (IsUnloaded (first_unverified procedures.entry.items)) }
+    ensures err { IfErr result (IsUnloaded (first_unverified (option_map (λ file. file.now) object.entry) procedures.entry.items)) }
 {
     let Ok(dcs) = u16::try_from(dcs) else {
         return Err(Unloaded::Memory);
     };
     let mut state = TcState::new(alloc, dcs)?;
-    match load_all(alloc, &mut state, procedures) {
+    match load_all(alloc, object, &mut state, procedures) {
         Ok(()) => Ok(state),
         Err(unloaded) => {
             drop(state);
@@ -197,9 +233,9 @@ fn ready(
     }
 }
 
-// Verifies and loads what was read, and makes its data components.
-fn load_read(alloc: Global, parsed: Parsed) -> Result<Loading, AllocError>
-    ensures { IfOk result (IsLoading (parsed_of parsed.entry)) }
+// Verifies and loads what was read, perhaps behind the procedures of an object file, and makes its data components.
+fn load_read(alloc: Global, object: Option<&[u8]>, parsed: Parsed) -> Result<Loading, AllocError>
+    ensures { IfOk result (IsLoadingBeside (option_map (λ file. file.now) object.entry) (parsed_of parsed.entry)) }
 {
     let Parsed { script, fault } = parsed;
     let Script {
@@ -209,7 +245,7 @@ fn load_read(alloc: Global, parsed: Parsed) -> Result<Loading, AllocError>
         first,
         calls,
     } = script;
-    match state_of(alloc, dcs.len(), procedures) {
+    match state_of(alloc, object, dcs.len(), procedures) {
         Ok(state) => match fault {
             None => ready(alloc, state, dcs.as_slice(), steps, first, calls),
             Some(fault) => {
@@ -227,7 +263,7 @@ fn load_read(alloc: Global, parsed: Parsed) -> Result<Loading, AllocError>
 pub fn load(alloc: Global, command: Command, text: &str) -> Result<Loading, AllocError>
     ensures { IfOk result (IsLoading (script_said command text.now)) }
 {
-    load_read(alloc, parse(alloc, command, text)?)
+    load_read(alloc, None, parse(alloc, command, text)?)
 }
 
 // Whether a slot of the procedure is of a data component that there isn't.
@@ -267,26 +303,28 @@ fn refused_access(alloc: Global, fault: Option<Fault>, name: &str) -> Result<Loa
     }
 }
 
-// Reads, verifies and loads a script with these procedures.
+// Reads, verifies and loads a script with these procedures of an object file.
 fn load_behind<'a>(
     alloc: Global,
     command: Command,
+    object: &'a [u8],
     given: Vec<Procedure<'a>>,
     text: &'a str,
 ) -> Result<Loading, AllocError>
-    ensures { IfOk result (IsLoadingOf (of_both (said_behind command given.entry.items text.now))) }
+    ensures { IfOk result (IsLoadingOf (of_both object.now (said_behind command given.entry.items text.now))) }
 {
     let parsed = parse_behind(alloc, command, given, text)?;
     let dcs = parsed.script.dcs.len();
     match first_past(dcs, parsed.script.procedures.as_slice()) {
         Some(name) => refused_access(alloc, parsed.fault, name),
-        None => load_read(alloc, parsed),
+        None => load_read(alloc, Some(object), parsed),
     }
 }
 
 /// The same of a script that may come with an object file, whose procedures are then there as if they stood behind the
 /// script's data components. Refused with the object file's fault; else, where a procedure has a slot of a data component
-/// that there isn't, with the script's own fault or with that; else as a script is.
+/// that there isn't, with the script's own fault or with that; else as a script is, with the line of C behind a slot of
+/// the object file's where that says it.
 pub fn load_source(alloc: Global, command: Command, source: Source) -> Result<Loading, AllocError>
     ensures { IfOk result (IsLoadingOf (beginning_of command source.entry)) }
 {
@@ -294,7 +332,7 @@ pub fn load_source(alloc: Global, command: Command, source: Source) -> Result<Lo
         return load(alloc, command, source.text);
     };
     match given(alloc, file) {
-        Ok(given) => load_behind(alloc, command, given, source.text),
+        Ok(given) => load_behind(alloc, command, file, given, source.text),
         Err(Ungiven::Refused(report)) => Ok(Loading::Refused(report)),
         Err(Ungiven::Memory) => Err(AllocError),
     }

@@ -1,40 +1,27 @@
 -- What `verify` prints of an object file, and its exit status.
 use Rattle.std.specs.Prelude.{◌≡◌, ℕ, Bool, true, false, if◌then◌else◌, List, [], ◌++◌, is_some}
-use Rattle.std.specs.Prelude.{Option, Some, None, Result, Ok, Err, codes}
+use Rattle.std.specs.Prelude.{Option, Result, Ok, Err, codes}
 use Rattle.std.specs.List.{flat_map, list_any}
 use Rattle.bpf_encoding.specs.declared.decode.DecodeFault.{DecodeFault}
-use Rattle.bpf_encoding.specs.declared.decode.DecodeFault.TheVariants.{WideCut, UnusedField, Undefined, OutsideProfile}
 use Rattle.bpf_encoding.specs.declared.insn.Place.{Place}
 use Rattle.object_file.specs.LineSections.{LineBytes, line_sections_said}
 use Rattle.object_procedures.specs.Finding.{found_in}
 use Rattle.object_procedures.specs.Refusal.{object_refusal}
+use Rattle.object_procedures.specs.SourcePlaces.{slot_text, fault_text}
 use Rattle.object_procedures.specs.declared.finding.Found.{Found}
 use Rattle.object_procedures.specs.declared.finding.ObjectRefusal.{ObjectRefusal}
 use Rattle.report_texts.specs.FaultNames.{fault_name}
 use Rattle.verifier.specs.Verdict.{verdict}
-use Rattle.text_commands.specs.SourcePlaces.{slot_text}
 use Rattle.text_commands.specs.Verification.{verdict_line, verification_lines, verification_status}
 
--- the slot that a fault of decoding names
-abbrev pub fault_slot : DecodeFault → Option ℕ
-fault_slot (WideCut slot) = Some slot
-fault_slot (UnusedField slot) = Some slot
-fault_slot (Undefined slot) = Some slot
-fault_slot (OutsideProfile slot which) = Some slot
-fault_slot _ = None
-
-abbrev pub said_of : (ℕ → List ℕ) → Option ℕ → List ℕ
-said_of said None = []
-said_of said (Some slot) = said slot
-
-abbrev pub line_by_code : Result (List Place) DecodeFault → (ℕ → List ℕ) → Found → List ℕ
-line_by_code (Ok code) said f = verdict_line (verdict f.decl code) said f.name code
-line_by_code (Err fault) said f = (((f.name ++ codes " ") ++ fault_name fault) ++ said_of said (fault_slot fault)) ++ codes "\n"
+abbrev pub line_by_code : Option LineBytes → Result (List Place) DecodeFault → Found → List ℕ
+line_by_code lines (Ok code) f = verdict_line (verdict f.decl code) (slot_text lines f.section) f.name code
+line_by_code lines (Err fault) f = (((f.name ++ codes " ") ++ fault_name fault) ++ fault_text lines f.section fault) ++ codes "\n"
 
 -- its line: as of a procedure of a script, or the first fault of its code; a slot's line of the source, where the file says it, stands at
 -- its end
 abbrev pub found_line : Option LineBytes → Found → List ℕ
-found_line lines f = line_by_code f.code (slot_text lines f.section) f
+found_line lines f = line_by_code lines f.code f
 
 abbrev pub refused_by_code : Result (List Place) DecodeFault → Found → Bool
 refused_by_code (Ok code) f = is_some (verdict f.decl code)

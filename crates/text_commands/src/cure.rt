@@ -1,9 +1,9 @@
 //! How code that the verifier refuses is mended in C.
 
 use register_kinds::kind::Violation;
-use std::alloc::{AllocError, Global};
 
-fn cure_of(violation: Violation) -> &'static str {
+/// What to do about this violation in a procedure of an object file.
+pub(crate) fn cure_of(violation: Violation) -> &'static str {
     match violation {
         Violation::Backward => "unroll the loop with #pragma unroll, or write it out",
         Violation::OutOfCode | Violation::FallsOff => {
@@ -26,14 +26,4 @@ fn cure_of(violation: Violation) -> &'static str {
         Violation::ModeTooWeak => "declare the slot by WRITES",
         Violation::PointerReturned => "return a number and no address",
     }
-}
-
-/// A line that says how this violation in a procedure of an object file is mended.
-pub(crate) fn cure_line(
-    alloc: Global,
-    name: &str,
-    violation: Violation,
-) -> Result<String, AllocError> {
-    let cure = cure_of(violation);
-    format!(in alloc; "{name}: {cure}\n")
 }

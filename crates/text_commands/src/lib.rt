@@ -16,5 +16,5 @@ mod cure;
 pub mod execute;
 pub mod lines;
 pub mod object_verification;
-mod source_place;
+pub mod refused;
 pub mod verification;

@@ -5,13 +5,12 @@ ghost use Rattle.std.specs.List.{flat_map, list_any};
 ghost use Rattle.std.specs.Option.{option_map};
 ghost use Rattle.object_file.specs.LineSections.{line_bytes};
 ghost use Rattle.verifier.specs.Verdict.{verdict};
-ghost use Rattle.text_commands.specs.SourcePlaces.{slot_text};
+ghost use Rattle.object_procedures.specs.SourcePlaces.{slot_text};
 ghost use Rattle.text_commands.specs.Verification.{verdict_line, procedure_line, is_refused, verification_lines, verification_status};
 
-use crate::cure::cure_line;
-use crate::source_place::Origin;
 use access_slots::decl::Decl;
 use bpf_encoding::code::Code;
+use object_procedures::source_place::Origin;
 use report_texts::fault_names::violation_name;
 use report_texts::report::Report;
 use report_texts::script_refusal::refusal;
@@ -26,8 +25,6 @@ use verifier::verify::{VerifyFault, verify};
 pub(crate) struct Said {
     pub line: String,
     pub is_refused: bool,
-    /// How C is mended that the verifier refuses, in a line; else nothing.
-    pub cure: String,
 }
 
 /// What the verifier says of code under this name.
@@ -47,7 +44,6 @@ pub(crate) fn verdict_line(
         Ok(_) => Ok(Said {
             line: format!(in alloc; "{name} accepted {slots}\n")?,
             is_refused: false,
-            cure: String::new(alloc),
         }),
         Err(VerifyFault::At(slot, violation)) => {
             let why = violation_name(violation);
@@ -55,7 +51,6 @@ pub(crate) fn verdict_line(
             Ok(Said {
                 line: format!(in alloc; "{name} {why} slot {slot}{place}\n")?,
                 is_refused: true,
-                cure: cure_line(alloc, name, violation)?,
             })
         }
         Err(VerifyFault::Memory) => Err(AllocError),

@@ -4,8 +4,9 @@ ghost use Rattle.std.specs.Prelude.{◌≡◌, ◌<◌, ◌≤◌, IfOk, None, s
 ghost use Rattle.std.specs.Option.{option_map};
 ghost use Rattle.object_file.specs.LineSections.{line_bytes};
 ghost use Rattle.source_lines.specs.Lines.{shown_line};
-ghost use Rattle.text_commands.specs.SourcePlaces.{shown_byte, file_text, place_text, slot_text};
+ghost use Rattle.object_procedures.specs.SourcePlaces.{shown_byte, file_text, place_text, slot_line, slot_text, fault_slot, fault_text};
 
+use bpf_encoding::decode::DecodeFault;
 use object_file::LineSections;
 use source_lines::{Place, SourceLine, line_at};
 use std::alloc::{AllocError, Global};
@@ -15,7 +16,7 @@ const SLOT: u64 = 8;
 
 /// A section of code, with the line table of its file, if there is one.
 #[derive(Clone, Copy)]
-pub(crate) struct Origin<'a> {
+pub struct Origin<'a> {
     pub lines: Option<LineSections<'a>>,
     pub section: usize,
 }
@@ -53,9 +54,23 @@ fn place_text(alloc: Global, line: Option<SourceLine<'_>>) -> Result<String, All
     format!(in alloc; " {file}:{line}")
 }
 
-impl Origin<'_> {
+// The slot that a fault of decoding names.
+fn fault_slot(fault: &DecodeFault) -> Option<usize>
+    ensures { result ≡ fault_slot fault.now }
+{
+    match *fault {
+        DecodeFault::WideCut(slot)
+        | DecodeFault::UnusedField(slot)
+        | DecodeFault::Undefined(slot)
+        | DecodeFault::OutsideProfile(slot, _) => Some(slot),
+        DecodeFault::NoCode | DecodeFault::Length | DecodeFault::TooLong | DecodeFault::Memory =>
+            None,
+    }
+}
+
+impl<'a> Origin<'a> {
     /// Of code that isn't of an object file.
-    pub(crate) fn none() -> Origin<'static>
+    pub fn none() -> Origin<'static>
         ensures { result.lines ≡ None }
     {
         Origin {
@@ -64,17 +79,32 @@ impl Origin<'_> {
         }
     }
 
-    /// What is printed of the line of a slot.
-    pub(crate) fn slot_text(&self, alloc: Global, slot: usize) -> Result<String, AllocError>
-        ensures { IfOk result (λ s. string_bytes s ≡ slot_text (option_map line_bytes self.now.lines) self.now.section slot) }
+    /// The line of a slot.
+    pub fn line(&self, slot: usize) -> Option<SourceLine<'a>>
+        ensures { option_map shown_line result ≡ slot_line (option_map line_bytes self.now.lines) self.now.section slot }
     {
-        let Some(lines) = &self.lines else {
-            return Ok(String::new(alloc));
-        };
+        let lines = self.lines?;
         let place = Place {
             section: self.section,
             address: (slot as u64).wrapping_mul(SLOT),
         };
-        place_text(alloc, line_at(lines, place))
+        line_at(&lines, place)
+    }
+
+    /// What is printed of the line of a slot.
+    pub fn slot_text(&self, alloc: Global, slot: usize) -> Result<String, AllocError>
+        ensures { IfOk result (λ s. string_bytes s ≡ slot_text (option_map line_bytes self.now.lines) self.now.section slot) }
+    {
+        place_text(alloc, self.line(slot))
+    }
+
+    /// What is printed of the line of the slot that a fault of the section's bytes names, if it names one.
+    pub fn fault_text(&self, alloc: Global, fault: &DecodeFault) -> Result<String, AllocError>
+        ensures { IfOk result (λ s. string_bytes s ≡ fault_text (option_map line_bytes self.now.lines) self.now.section fault.now) }
+    {
+        match fault_slot(fault) {
+            Some(slot) => self.slot_text(alloc, slot),
+            None => Ok(String::new(alloc)),
+        }
     }
 }

@@ -1,0 +1,160 @@
+//! What a terminal is told behind a report: what is wrong with a script, and which lines of C the verifier refuses.
+
+use crate::reading::{most_of, read_all, text_of};
+use command_line::words::{Task, Wanted};
+use disk_file::FileKind;
+use object_file::is_elf;
+use report_texts::explanation::explanation;
+use scripts::keyword::Command;
+use source_lines::SourceLine;
+use std::alloc::{AllocError, Global};
+use std::fs::{self, File};
+use std::io::{Stderr, Write};
+use std::rt::Files;
+use text_commands::refused::{RefusedProcedure, refused_procedures};
+
+/// Characters that are shown of a line of C, at most.
+const MOST_SHOWN: usize = 200;
+
+/// Bytes of a file of C that is looked into, at most.
+const MOST_SOURCE: u64 = 16 << 20;
+
+// The command of a task whose file is a script.
+fn script_command(task: &Task) -> Option<Command> {
+    match task {
+        Task::Verify => Some(Command::Verify),
+        Task::World { script: None, .. } => Some(Command::World),
+        Task::Run { script: None, .. } => Some(Command::Run),
+        _ => None,
+    }
+}
+
+// Whether the file of a task may be an object file.
+fn takes_object(task: &Task) -> bool {
+    matches!(
+        task,
+        Task::Verify
+            | Task::World {
+                script: Some(_),
+                ..
+            }
+            | Task::Run {
+                script: Some(_),
+                ..
+            }
+    )
+}
+
+// The text of a file of C, where there is one of this path, and of no more bytes than are looked into.
+fn source_text<R: Files<File = File>>(rt: &R, alloc: Global, path: &str) -> Option<Vec<u8>> {
+    let known = fs::metadata(rt, path).ok()?;
+    if FileKind::of(&known.file_type()).is_some() || known.len() > MOST_SOURCE {
+        return None;
+    }
+    let mut file = File::open(rt, path).ok()?;
+    let most = most_of(&file);
+    read_all(alloc, &mut file, most).ok()
+}
+
+// The folder of a path, with the slash behind it.
+fn folder_of(path: &str) -> &str {
+    match path.rsplit_once('/') {
+        Some((folder, _)) => &path[..folder.len() + 1],
+        None => "",
+    }
+}
+
+// A line as a terminal shows it: what might move its cursor is a question mark.
+fn shown(alloc: Global, line: &str) -> Result<String, AllocError> {
+    let mut text = String::new(alloc);
+    for char in line.chars().take(MOST_SHOWN) {
+        let char = match char {
+            '\t' => ' ',
+            char if char.is_control() => '?',
+            char => char,
+        };
+        text.push(char)?;
+    }
+    Ok(text)
+}
+
+// The line of this number, from 1.
+fn numbered(text: &str, number: u64) -> Option<&str> {
+    let place = usize::try_from(number.checked_sub(1)?).ok()?;
+    text.lines().nth(place)
+}
+
+// The file, the number and the text of a line of C, of a file beside the object file.
+fn quoted<R: Files<File = File>>(
+    rt: &R,
+    alloc: Global,
+    object: &str,
+    at: &SourceLine<'_>,
+) -> Option<String> {
+    let (folder, name, number) = (folder_of(object), text_of(at.file).ok()?, at.line);
+    let path = format!(in alloc; "{folder}{name}").ok()?;
+    let bytes = source_text(rt, alloc, path.as_str())?;
+    let line = numbered(text_of(bytes.as_slice()).ok()?, number)?;
+    let line = shown(alloc, line).ok()?;
+    format!(in alloc; "{path}:{number}: {line}\n").ok()
+}
+
+// Says of a refused procedure which line of C it is, and how it is mended.
+fn explain_procedure<R: Files<File = File>>(
+    rt: &R,
+    alloc: Global,
+    terminal: &mut Stderr,
+    object: &str,
+    refused: &RefusedProcedure<'_>,
+) {
+    if let Some(at) = &refused.line
+        && let Some(line) = quoted(rt, alloc, object, at)
+    {
+        let _ = terminal.write_all(line.as_bytes());
+    }
+    let (name, cure) = (refused.name.as_str(), refused.cure);
+    let _ = write!(terminal, "{name}: {cure}\n");
+}
+
+// The same of each procedure of an object file that the verifier refuses.
+fn explain_object<R: Files<File = File>>(
+    rt: &R,
+    alloc: Global,
+    terminal: &mut Stderr,
+    object: &str,
+    file: &[u8],
+) {
+    let Ok(refused) = refused_procedures(alloc, file) else {
+        return;
+    };
+    for procedure in &refused {
+        explain_procedure(rt, alloc, terminal, object, procedure);
+    }
+}
+
+/// Says on a terminal, behind a report of this status, what is wrong with a script that was refused for a bad line or a bad
+/// number, and of refused procedures of an object file which lines of C they are, and how they are mended.
+pub fn explain<R: Files<File = File>>(
+    rt: &R,
+    alloc: Global,
+    mut terminal: Stderr,
+    wanted: &Wanted,
+    file: &[u8],
+    status: u8,
+) {
+    if status == 0 {
+        return;
+    }
+    if is_elf(file) {
+        if takes_object(&wanted.task) {
+            explain_object(rt, alloc, &mut terminal, wanted.file, file);
+        }
+        return;
+    }
+    let (Some(command), Ok(text)) = (script_command(&wanted.task), text_of(file)) else {
+        return;
+    };
+    if let Ok(Some(line)) = explanation(alloc, command, text) {
+        let _ = terminal.write_all(line.as_bytes());
+    }
+}
