@@ -16,14 +16,14 @@ static inline __attribute__((always_inline)) u64 deposited(u64 amount) {
 
 /* deposit_here ACCOUNT AMOUNT: opens the account at data component 0 where there is none. */
 ACCESSES(deposit_here, TAKES(2), WRITES(0, 0, ARGUMENT(0)))
-PROCEDURE(deposit_here) {
-    return deposited(args[1]);
+PROCEDURE_OF(deposit_here, account, amount) {
+    return deposited(args->amount);
 }
 
 /* deposit_there ACCOUNT AMOUNT: the same at data component 1. */
 ACCESSES(deposit_there, TAKES(2), WRITES(1, 0, ARGUMENT(0)))
-PROCEDURE(deposit_there) {
-    return deposited(args[1]);
+PROCEDURE_OF(deposit_there, account, amount) {
+    return deposited(args->amount);
 }
 
 static inline __attribute__((always_inline)) u64 moved(u64 amount) {
@@ -43,19 +43,19 @@ static inline __attribute__((always_inline)) u64 moved(u64 amount) {
 
 /* move FROM TO AMOUNT: from an account at data component 0 to one at data component 1. */
 ACCESSES(move, TAKES(3), WRITES(0, 0, ARGUMENT(0)), WRITES(1, 0, ARGUMENT(1)))
-PROCEDURE(move) {
-    return moved(args[2]);
+PROCEDURE_OF(move, from, to, amount) {
+    return moved(args->amount);
 }
 
 /* move_back FROM TO AMOUNT: the other way. */
 ACCESSES(move_back, TAKES(3), WRITES(1, 0, ARGUMENT(0)), WRITES(0, 0, ARGUMENT(1)))
-PROCEDURE(move_back) {
-    return moved(args[2]);
+PROCEDURE_OF(move_back, from, to, amount) {
+    return moved(args->amount);
 }
 
 /* touch ACCOUNT: adds 1, and then aborts, so that the addition is undone by the former value. */
 ACCESSES(touch, TAKES(1), WRITES(0, 0, ARGUMENT(0)))
-PROCEDURE(touch) {
+PROCEDURE_OF(touch, account) {
     u64 *account = record_read(0);
     if (!account)
         return UNKNOWN_ACCOUNT;
@@ -66,26 +66,26 @@ PROCEDURE(touch) {
 
 /* move_here FROM TO AMOUNT: between two accounts at data component 0, of which the second may be opened by it. */
 ACCESSES(move_here, TAKES(3), WRITES(0, 0, ARGUMENT(0)), WRITES(0, 0, ARGUMENT(1)))
-PROCEDURE(move_here) {
+PROCEDURE_OF(move_here, from, to, amount) {
     u64 *from = record_read(0);
     if (!from)
         return UNKNOWN_ACCOUNT;
-    if (from[0] < args[2])
+    if (from[0] < args->amount)
         return TOO_LITTLE;
-    from[0] -= args[2];
+    from[0] -= args->amount;
     record_update(0);
     u64 *to = record_read(1);
     if (to) {
-        to[0] += args[2];
+        to[0] += args->amount;
         return record_update(1);
     }
     to = record_buffer(1);
-    to[0] = args[2];
+    to[0] = args->amount;
     return record_insert(1);
 }
 
 /* balances HERE THERE: reads an account at each data component, as they stand together, and commits: mz_result has both records. */
 ACCESSES(balances, TAKES(2), READS(0, 0, ARGUMENT(0)), READS(1, 0, ARGUMENT(1)))
-PROCEDURE(balances) {
+PROCEDURE_OF(balances, here, there) {
     return record_read(0) && record_read(1) ? 0 : UNKNOWN_ACCOUNT;
 }
