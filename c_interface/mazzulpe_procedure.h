@@ -18,7 +18,7 @@ typedef unsigned long long u64;
 #define PROCEDURE(name) __attribute__((section("procedure/" #name))) u64 name(const u64 *args)
 
 /* The same with names for its arguments, 1 at least: PROCEDURE_OF(move, from, to, amount) reads args->from. Compiled with -g, the
- * calls that mz_skeleton makes for C have these names too. */
+ * calls that mz_skeleton makes have these names too. */
 #define PROCEDURE_OF(name, ...) \
     struct arguments_##name { u64 __VA_ARGS__; }; \
     __attribute__((section("procedure/" #name))) u64 name(const struct arguments_##name *args)

@@ -390,6 +390,9 @@ pub enum NotAdmitted {
     Refused(Refusal),
 }
 
+/// A procedure of an object file that is refused: why, its name, and the slot.
+pub type Unloaded = (Refusal, String, u64);
+
 /// An event of the log.
 #[derive(Clone, Debug)]
 pub enum Event {

@@ -39,3 +39,30 @@ PROCEDURE(nothing) {
     (void)args;
     return 0;
 }
+
+/* Words of Rust, and what a pattern there would be. */
+ACCESSES(match, TAKES(5), READS(0, 7, ARGUMENT(0)), READS(0, 7, ARGUMENT(1)))
+PROCEDURE_OF(match, type, self, DCS, None, _) {
+    return args->type + args->self + args->DCS + args->None + args->_;
+}
+
+static inline __attribute__((always_inline)) void inserted(u64 slot) {
+    record_buffer(slot)[0] = slot + 1;
+    record_insert(slot);
+}
+
+/* Records of one key: in two tables, at two data components, and one of them by two slots; a fixed one, and another that is called so.
+ * Each slot holds something else in the end. */
+ACCESSES(many, TAKES(2), WRITES(0, 1, ARGUMENT(0)), WRITES(0, 2, ARGUMENT(0)), WRITES(1, 2, ARGUMENT(0)), READS(1, 3, ARGUMENT(0)),
+         WRITES(1, 3, ARGUMENT(0)), WRITES(0, 1, KEY(9)), WRITES(0, 2, ARGUMENT(1)))
+PROCEDURE_OF(many, key, slot5) {
+    inserted(0);
+    inserted(1);
+    inserted(2);
+    inserted(4);
+    inserted(5);
+    inserted(6);
+    record_read(3);
+    record_buffer(4)[0] = 50;
+    return args->key == args->slot5;
+}

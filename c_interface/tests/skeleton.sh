@@ -1,5 +1,6 @@
 #!/bin/sh
-# What mz_skeleton prints of arguments, and what it refuses, by name and place: status, standard error, and nothing printed.
+# What mz_skeleton calls functions, arguments and access slots, and what it refuses, by name and place: status, standard error, and
+# nothing printed.
 #
 # usage: skeleton.sh FOLDER: of what `make check` built
 set -e
@@ -22,13 +23,15 @@ refuses() {
     fi
 }
 
-# compiled NAME: the procedures of standard input as NAME.o
+# compiled NAME [WORD..]: the procedures of standard input as NAME.o
 compiled() {
-    { echo '#include "mazzulpe_procedure.h"'; cat; } | "$clang" -target bpf -O2 -mcpu=v2 -I"$here" -x c -c - -o "$1.o"
+    object=$1.o
+    shift
+    { echo '#include "mazzulpe_procedure.h"'; cat; } | "$clang" -target bpf -O2 -mcpu=v2 "$@" -I"$here" -x c -c - -o "$object"
 }
 
-grep -E '^static inline mz_code named_[a-z]+\(' "$built/named.h" > prototypes
-diff "$here/tests/named.expected" prototypes || wrong=1
+grep -E '^static inline mz_code named_|^/\* As mz_result' "$built/named.h" | diff "$here/tests/named.expected" - || wrong=1
+grep -E '^pub (fn|const) |^/// As \[`Tc::result' "$built/named.rs" | diff "$here/tests/named_rust.expected" - || wrong=1
 
 echo 'no object' > text.o
 : > empty.o
@@ -56,31 +59,69 @@ compiled bare << 'C'
 PROCEDURE(bare) { return 0; }
 C
 refuses 1 'bare.o: bare has no access slots in the file (ACCESSES)' bare.o
-for name in open dcs; do
+for name in open dcs DCS; do
     compiled own << C
 ACCESSES($name, TAKES(0))
 PROCEDURE($name) { return 0; }
 C
-    refuses 1 "own.o: $name is a name of the header itself" own.o
+    [ $name = DCS ] || refuses 1 "own.o: $name is a name of the skeleton itself" own.o
+    [ $name = dcs ] || refuses 1 "own.o: $name is a name of the skeleton itself" --rust own.o
 done
+# What would have one name: with the blocked one of another procedure, an access slot with a procedure, with another procedure's and
+# with its own procedure's; and where a word has _ behind it.
 compiled own << 'C'
 ACCESSES(move, TAKES(0))
 PROCEDURE(move) { return 0; }
 ACCESSES(move_blocked, TAKES(0))
 PROCEDURE(move_blocked) { return 1; }
 C
-refuses 1 'own.o: move_blocked is a name of the header itself' own.o
+refuses 1 'own.o: move_blocked is called own_move_blocked, as another function is' own.o
+refuses 1 'own.o: move_blocked is called move_blocked, as another function is' --rust own.o
+compiled own -g << 'C'
+ACCESSES(move_from, TAKES(0))
+PROCEDURE(move_from) { return 0; }
+ACCESSES(move, TAKES(2), WRITES(0, 0, ARGUMENT(1)), WRITES(0, 0, ARGUMENT(0)))
+PROCEDURE_OF(move, from, to) { return 1; }
+C
+refuses 1 'own.o: move access slot 1 is called other_move_from, as another function is' own.o other
+refuses 1 'own.o: move access slot 1 is called move_from, as another function is' --rust own.o
+compiled own -g << 'C'
+ACCESSES(pay, TAKES(1), READS(0, 0, ARGUMENT(0)))
+PROCEDURE_OF(pay, in_all) { return 0; }
+ACCESSES(pay_in, TAKES(2), READS(0, 0, ARGUMENT(0)), READS(0, 0, ARGUMENT(1)))
+PROCEDURE_OF(pay_in, here, all) { return 1; }
+C
+refuses 1 'own.o: pay_in access slot 1 is called own_pay_in_all, as another function is' own.o
+compiled own -g << 'C'
+ACCESSES(many, TAKES(2), READS(0, 2, ARGUMENT(0)), READS(0, 1, ARGUMENT(0)), READS(0, 0, ARGUMENT(1)))
+PROCEDURE_OF(many, key, key_1) { return 0; }
+C
+refuses 1 'own.o: many access slot 1 is called own_many_key_1, as another function is' own.o
+compiled static << 'C'
+ACCESSES(cast, TAKES(0))
+PROCEDURE(cast) { return 0; }
+ACCESSES(cast_, TAKES(0))
+PROCEDURE(cast_) { return 1; }
+ACCESSES(move, TAKES(0))
+PROCEDURE(move) { return 2; }
+ACCESSES(move_, TAKES(0))
+PROCEDURE(move_) { return 3; }
+C
+refuses 1 'static.o: cast_ is called static_cast_, as another function is' static.o
+refuses 1 'static.o: move_ is called move_, as another function is' --rust static.o
 sed 's/procedure\/far/procedure\/f\x1b-/; s/accesses\/far/accesses\/f\x1b-/' slots.o > odd.o
 sed -i 's/\xff\xff\x00\x00\x02\x00/\x00\x00\x00\x00\x02\x00/' odd.o
-refuses 1 'odd.o: f?- is no name in C' odd.o
-status=0
-"$built/mz_skeleton" "$built/named.o" > /dev/full 2> told || status=$?
-[ "$status" -eq 3 ] && [ "$(cat told)" = 'mz_skeleton: cannot write' ] || { echo "skeleton: NOT so of a full disk: $status"; wrong=1; }
+refuses 1 'odd.o: f?- is no name in C or Rust' odd.o
+for rust in '' --rust; do
+    status=0
+    "$built/mz_skeleton" $rust "$built/named.o" > /dev/full 2> told || status=$?
+    [ "$status" -eq 3 ] && [ "$(cat told)" = 'mz_skeleton: cannot write' ] || { echo "skeleton: NOT so of a full disk: $status"; wrong=1; }
+done
 # Each length of a file that is cut: refused, or with fewer sections behind what is loaded.
 size=$(wc -c < "$built/bank.o")
 for length in $(seq 0 "${STEP:-61}" "$((size - 1))"); do
     head -c "$length" "$built/bank.o" > cut.o
     refuses 1 'cut.o: not a whole object file with procedures for BPF' cut.o
 done
-[ "$wrong" -eq 0 ] && echo "skeleton: names of arguments; what isn't such a file is refused by name and place"
+[ "$wrong" -eq 0 ] && echo "skeleton: names of functions, arguments and slots; what isn't such a file is refused by name and place"
 exit "$wrong"

@@ -1,4 +1,5 @@
-/* Calls by the headers that mz_skeleton makes: what they log is what calls by name and number log, with each argument in its place. */
+/* Calls by the headers that mz_skeleton makes: what they log is what calls by name and number log, with each argument in its place;
+ * and what their access slots hold by name is what they hold by number. */
 #include "bank.h"
 #include "named.h"
 #include "named_again.h"
@@ -34,6 +35,72 @@ static void in_the_way(void) {
     SEEN(named_put(typed, 8, 2, NULL, NULL, NULL) == MZ_BAD_ARGUMENT && named_put(NULL, 8, 2, &txn, NULL, NULL) == MZ_BAD_ARGUMENT);
 }
 
+static mz_carried carry(void *dcs, const mz_wire *wire, mz_reply *reply, mz_news *news) {
+    (void)news;
+    return mz_dc_perform(((mz_dc **)dcs)[wire->record.dc], wire, reply) == MZ_OK ? MZ_REPLIED : MZ_LOST;
+}
+
+typedef mz_code read_slot(mz_tc *tc, uint64_t txn, uint8_t value[MZ_VALUE], int *there);
+
+/* Whether a slot by its name holds what the slot of this number does: so much, in a record that is there or isn't. */
+static void holds(read_slot *named, uint64_t slot, uint64_t amount, int is_there) {
+    uint8_t value[MZ_VALUE], same[MZ_VALUE];
+    int there = 7, same_there = 8;
+    memset(value, 7, sizeof value);
+    memset(same, 8, sizeof same);
+    SEEN(named(typed, txn, value, &there) == MZ_OK && mz_result(typed, txn, slot, same, &same_there) == MZ_OK);
+    SEEN(!memcmp(value, same, MZ_VALUE) && there == same_there && mz_little(value, 8) == amount && there == is_there);
+}
+
+/* Runs the call that was admitted last up to its end. */
+static void over(mz_dc **dcs, mz_code admitted) {
+    mz_next stopped = MZ_STUCK;
+    SEEN(admitted == MZ_OK && mz_run_until_over(typed, txn, carry, dcs, 1, &stopped) == MZ_OK && stopped == MZ_OVER);
+}
+
+static void ended(mz_outcome outcome) {
+    mz_receipt receipt;
+    memset(&receipt, 0, sizeof receipt);
+    SEEN(mz_end(typed, txn, &receipt) == MZ_OK && receipt.outcome == outcome);
+}
+
+/* Both balances behind a transfer, and one of an account that isn't there. */
+static void by_slot_name(mz_dc **dcs) {
+    uint8_t value[MZ_VALUE] = {0};
+    int there = 7;
+    over(dcs, bank_deposit_here(typed, 101, 100, &txn, NULL, NULL));
+    holds(bank_deposit_here_account, 0, 100, 1);
+    ended(MZ_COMMITTED);
+    over(dcs, bank_deposit_there(typed, 102, 7, &txn, NULL, NULL));
+    ended(MZ_COMMITTED);
+    SEEN(bank_move(typed, 101, 102, 30, &txn, NULL, NULL) == MZ_OK && bank_move_from(typed, txn, value, &there) == MZ_NOT_OVER);
+    over(dcs, MZ_OK);
+    holds(bank_move_from, 0, 70, 1);
+    holds(bank_move_to, 1, 37, 1);
+    ended(MZ_COMMITTED);
+    SEEN(bank_move_from(typed, txn, value, &there) == MZ_NO_TXN && bank_move_from(NULL, txn, value, &there) == MZ_BAD_ARGUMENT);
+    over(dcs, bank_balances(typed, 101, 102, &txn, NULL, NULL));
+    holds(bank_balances_here, 0, 70, 1);
+    holds(bank_balances_there, 1, 37, 1);
+    ended(MZ_COMMITTED);
+    over(dcs, bank_balances(typed, 101, 103, &txn, NULL, NULL));
+    holds(bank_balances_there, 1, 0, 0);
+    ended(MZ_ABORTED);
+}
+
+/* Each slot of a procedure, which hold different numbers. */
+static void many_slots(mz_dc **dcs) {
+    over(dcs, named_many(typed, 7, 8, &txn, NULL, NULL));
+    holds(named_many_key_1, 0, 1, 1);
+    holds(named_many_key_0_2, 1, 2, 1);
+    holds(named_many_key_1_2, 2, 3, 1);
+    holds(named_many_key_1_3_3, 3, 5, 1);
+    holds(named_many_key_1_3_4, 4, 50, 1);
+    holds(named_many_slot5_1, 5, 6, 1);
+    holds(named_many_slot5_2, 6, 7, 1);
+    ended(MZ_COMMITTED);
+}
+
 int main(void) {
     static const uint64_t args[] = {11, 12, 13, 14, 15, 16, 17, 18};
     mz_code code;
@@ -41,6 +108,7 @@ int main(void) {
     typed = mz_tc_new(bank_dcs, &code);
     by_name = mz_tc_new(2, &code);
     mz_tc *small = mz_tc_new(named_dcs - 1, &code);
+    mz_dc *dcs[2] = {mz_dc_new(10, 100, &code), mz_dc_new(10, 100, &code)};
     SEEN(bank_dcs == 2 && named_dcs == 2);
     SEEN(named_put(typed, 1, 2, &txn, NULL, NULL) == MZ_NO_PROCEDURE);
     SEEN(bank_open(typed) == MZ_OK && named_open(typed) == MZ_OK && named_open(typed) == MZ_NAME_TAKEN);
@@ -53,8 +121,12 @@ int main(void) {
     admitted(named_half(typed, 11, 12, 13, 14, &txn, NULL, NULL), "half", args, 4);
     admitted(again_plain(typed, 11, &txn, NULL, NULL), "plain", args, 1);
     admitted(named_nothing(typed, &txn, NULL, NULL), "nothing", NULL, 0);
+    admitted(named_match(typed, 11, 12, 13, 14, 15, &txn, NULL, NULL), "match", args, 5);
     in_the_way();
-    printf("typed calls: %s\n", failures ? "NOT as calls by name" : "as calls by name");
+    by_slot_name(dcs);
+    many_slots(dcs);
+    printf("typed calls: %s\n", failures ? "NOT as calls by name" : "as calls by name, and slots by name as by number");
+    for (int dc = 0; dc < 2; dc++) mz_dc_free(dcs[dc]);
     mz_tc_free(typed);
     mz_tc_free(by_name);
     mz_tc_free(small);

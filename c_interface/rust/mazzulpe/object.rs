@@ -1,9 +1,8 @@
 //! Procedures straight from the object file that clang makes of C for BPF, as `mazzulpe_object.h` documents them.
 
-use super::{BAD_OBJECT, DC_UNKNOWN, Key, MEMORY, NAME_TAKEN, NO_PROCEDURE, NOT_TEXT, Program, Refusal, Slot, Tc};
-
-/// A procedure that is refused: why, its name, and the slot.
-pub type Unloaded = (Refusal, String, u64);
+use super::{
+    BAD_OBJECT, DC_UNKNOWN, Key, MEMORY, NAME_TAKEN, NO_PROCEDURE, NOT_TEXT, Program, Refusal, Slot, Tc, Unloaded,
+};
 
 /// A section with its name.
 struct Section<'a> {
