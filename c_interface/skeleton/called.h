@@ -15,13 +15,13 @@ static const char *const c_words[] = {
     "typeof_unqual", "union", "unsigned", "using", "virtual", "void", "volatile", "wchar_t", "while", "xor", "xor_eq", NULL};
 static const char *const c_own[] = {"tc", "txn", "record", "holder", "blocked", "args", "procedure", "code", NULL};
 
-/* Refusal is what the module takes of mazzulpe.rs that has its name among functions too. */
+/* Refusal, a tuple structure that the module uses, has its name among functions too. */
 static const char *const rust_words[] = {
     "_", "Refusal", "Self", "abstract", "as", "async", "await", "become", "box", "break", "const", "continue", "crate", "do", "dyn",
     "else", "enum", "extern", "false", "final", "fn", "for", "gen", "if", "impl", "in", "let", "loop", "macro", "match", "mod",
     "move", "mut", "override", "priv", "pub", "ref", "return", "self", "static", "struct", "super", "trait", "true", "try", "type",
     "typeof", "unsafe", "unsized", "use", "virtual", "where", "while", "yield", NULL};
-/* An argument of the name of a constant or of a variant would be a pattern of it. */
+/* The name of a constant or of a variant is no new name where an argument stands; what reads a slot `blocked` would be as BLOCKED is. */
 static const char *const rust_own[] = {"tc", "blocked", "procedure", "DCS", "Err", "None", "Ok", "Some", NULL};
 
 static const language in_c = {c_words, c_own, "dcs"}, in_rust = {rust_words, rust_own, "DCS"};
@@ -54,7 +54,7 @@ static void name_argument(procedure *it, unsigned i, const char *name, const lan
 
 /* ---- access slots */
 
-/* What the name of an access slot says: the key of its record, also the table, also the data component, and its own number. */
+/* What the name of an access slot says: the key of its record; with it the table; the data component; the slot's number. */
 enum { WITH_KEY, WITH_TABLE, WITH_DC, WITH_NUMBER };
 
 /* The name of access slot i that says so much. */
@@ -112,7 +112,7 @@ static int refused_name(const skeleton *of, const procedure *it, unsigned what, 
     return refused(of, it->is.name, why);
 }
 
-/* Whether the functions of two procedures, or of one, have names of their own; an access slot is refused in the first place. */
+/* Whether the functions of two procedures, or of one, have names of their own. Of an access slot and another one the slot is refused. */
 static int are_apart(const skeleton *of, const procedure *it, const procedure *other) {
     char name[FUNCTION], others[FUNCTION];
     for (unsigned i = 0; i < FUNCTIONS; i++)

@@ -8,7 +8,7 @@
  * file's, or with NAME in `mz_skeleton FILE NAME`. Arguments have the names of the structure that the procedure takes
  * (PROCEDURE_OF, compiled with -g), else arg0, arg1 and on. An access slot is called as the argument that is its record's key,
  * or slotN where that is fixed; where two of a procedure would be called so, with _TABLE behind it, else _DC_TABLE, else
- * _DC_TABLE_SLOT.
+ * _DC_TABLE_SLOT. Words of the language have _ behind them.
  *
  * Status 1: the file isn't an object file of procedures, or one of these is refused, as standard error says; 2: the
  * words are wrong; 3: a file can't be read or written; 4: memory. Nothing is printed then. */
@@ -74,13 +74,14 @@ static int read_procedures(skeleton *it) {
 
 /* What is printed is called so, or as the file up to its first dot; in C functions begin with it. */
 static int take_name(skeleton *it, const char *given) {
+    static const char *const of_library[] = {"mz", "mazzulpe", NULL};
     const char *slash = strrchr(it->path, '/');
     const char *from = given ? given : slash ? slash + 1 : it->path;
     size_t length = given ? strlen(given) : strcspn(from, ".");
     if (length <= MZ_NAME) memcpy(it->name, from, length);
     if (it->in == &in_c) snprintf(it->prefix, sizeof it->prefix, "%s_", it->name);
-    if (length <= MZ_NAME && is_name(it->name) && strcmp(it->name, "mz")) return 0;
-    fprintf(stderr, "mz_skeleton: no name in C, or the library's: `mz_skeleton FILE NAME` says another one\n");
+    if (length <= MZ_NAME && is_name(it->name) && !is_in(of_library, it->name)) return 0;
+    fprintf(stderr, "mz_skeleton: no name in C or Rust, or the library's: `mz_skeleton FILE NAME` says another one\n");
     return MISUSE;
 }
 

@@ -13,8 +13,8 @@ typedef struct {
     char arguments[MZ_ARGS][ARGUMENT], slots[MZ_SLOTS][SLOT];
 } procedure;
 
-/* A language: its words, which name nothing; what no argument is called besides, since what is printed has it; and what the count
- * of data components is called. A list ends with NULL. */
+/* A language: the words that are no names in it, the names that functions need themselves and no argument has, each list up to NULL;
+ * and what the count of data components is called. */
 typedef struct { const char *const *words, *const *own, *dcs; } language;
 
 /* A file, and what is printed of it: the names of functions begin with `prefix`, and `dcs` data components are spoken of. */

@@ -39,8 +39,10 @@ refuses 1 'text.o: not a whole object file with procedures for BPF' text.o
 refuses 1 'empty.o: not a whole object file with procedures for BPF' empty.o
 refuses 3 'cannot read there.o' there.o
 refuses 3 'cannot read .' . folder
-refuses 2 'no name in C, or the library'"'"'s: `mz_skeleton FILE NAME` says another one' 2nd.o
-refuses 2 'no name in C, or the library'"'"'s: `mz_skeleton FILE NAME` says another one' empty.o mz
+another='no name in C or Rust, or the library'"'"'s: `mz_skeleton FILE NAME` says another one'
+refuses 2 "$another" 2nd.o
+refuses 2 "$another" empty.o mz
+refuses 2 "$another" --rust mazzulpe.o
 compiled none < /dev/null
 refuses 1 'none.o: no procedure in it (a section procedure/NAME)' none.o
 compiled one << 'C'
