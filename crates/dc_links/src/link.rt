@@ -54,6 +54,12 @@ pub trait Link {
         false
     }
 
+    /// What came back for the wire, where its component performs it there and then, and nobody is kept waiting for
+    /// long. It is called under the lock, by one worker at a time. Where nothing came back the wire is carried.
+    fn perform_at_once<R: Wait>(&self, _rt: &R, _wire: &Wire) -> Option<Reply> {
+        None
+    }
+
     /// Carries the wires of several calls, at most [`WIRES_OF_A_WORKER`], and brings what came back for each: one
     /// after the other, where the link knows no better.
     fn carry_all<O: Outstanding, R: Wait>(&self, rt: &R, worker: usize, requests: &mut [O]) {

@@ -84,6 +84,14 @@ impl Link for LockedDcs {
         true
     }
 
+    /// What the wire's component replies; nothing where there is no such component.
+    fn perform_at_once<R: Wait>(&self, rt: &R, wire: &Wire) -> Option<Reply>
+        ensures absent { vec_len self.now.dcs ≤ (target wire.now.op).dc → result ≡ None }
+        ensures number { IfSome result (λ reply. reply.number ≡ wire.now.number) }
+    {
+        self.carry(rt, 0, wire)
+    }
+
     /// Each component's lock is taken once for all wires that are for it.
     fn carry_all<O: Outstanding, R: Wait>(&self, rt: &R, _worker: usize, requests: &mut [O]) {
         for (number, dc) in self.dcs.iter().enumerate() {

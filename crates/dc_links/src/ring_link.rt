@@ -306,6 +306,20 @@ impl Link for RingLink {
         true
     }
 
+    /// What the wire's component replies, where its thread sleeps and it is free. Nothing where there is no such
+    /// component, and where the link is closed.
+    fn perform_at_once<R: Wait>(&self, _rt: &R, wire: &Wire) -> Option<Reply>
+        ensures absent { vec_len self.now.endpoints ≤ (target wire.now.op).dc → result ≡ None }
+        ensures number { IfSome result (λ reply. reply.number ≡ wire.now.number) }
+    {
+        if self.is_closed() {
+            return None;
+        }
+        self.endpoints
+            .get(usize::from(wire.op.record().dc))?
+            .perform_idle(wire)?
+    }
+
     /// The wires for components whose threads sleep are performed by them there and then; all others are put
     /// into the inboxes before the first completion is waited for.
     fn carry_all<O: Outstanding, R: Wait>(&self, rt: &R, worker: usize, requests: &mut [O]) {
