@@ -5,6 +5,7 @@
 //! | `pool_tests` | calls by workers, from one to many, their answers and their gate |
 //! | `link_tests` | links that lose, repeat, delay and change what they carry |
 //! | `outstanding_tests` | how many calls a worker has on their way at a time |
+//! | `at_once_tests` | links that perform at once |
 //! | `locked_tests` | data components of this process, behind locks |
 //! | `ring_tests` | data components in threads of their own, behind rings |
 //! | `cut_tests` | lists of calls between which the log begins anew |
@@ -16,6 +17,8 @@
 //! `rt test pool_tests` proves and runs these; `tools/requests.py` runs them with memory refused.
 #![tactic(auto)]
 
+#[cfg(test)]
+mod at_once_tests;
 #[cfg(test)]
 mod cut_tests;
 #[cfg(test)]

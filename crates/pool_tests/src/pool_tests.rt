@@ -84,13 +84,13 @@ fn refused_calls(rt: HostRuntime) {
 
 // Counts the calls that it is told of as begun and as answered.
 #[derive(Drop)]
-struct Counts {
+pub(crate) struct Counts {
     begun: AtomicU64,
     answered: AtomicU64,
 }
 
 impl Counts {
-    fn new() -> Counts {
+    pub(crate) fn new() -> Counts {
         Counts {
             begun: AtomicU64::new(0),
             answered: AtomicU64::new(0),
@@ -98,7 +98,7 @@ impl Counts {
     }
 
     // How many were begun, and how many answered.
-    fn told(&self) -> (u64, u64) {
+    pub(crate) fn told(&self) -> (u64, u64) {
         (
             self.begun.load(Ordering::SeqCst),
             self.answered.load(Ordering::SeqCst),

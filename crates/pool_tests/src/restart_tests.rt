@@ -46,6 +46,8 @@ impl Restarting {
 #[derive(Drop)]
 struct Restarts {
     number: u16,
+    // Whether it performs at once too.
+    is_at_once: bool,
     dc: Mutex<Restarting>,
 }
 
@@ -54,13 +56,14 @@ impl Restarts {
     // carries.
     fn new(
         alloc: Global,
-        number: u16,
+        (number, is_at_once): (u16, bool),
         rows: usize,
         restart_at: u64,
         checkpoint_at: u64,
     ) -> Result<Restarts, AllocError> {
         Ok(Restarts {
             number,
+            is_at_once,
             dc: Mutex::new(Restarting {
                 dc: dc(alloc, rows)?,
                 carried: 0,
@@ -87,6 +90,13 @@ impl Link for Restarts {
             return None;
         }
         self.dc.lock(rt).news
+    }
+
+    fn perform_at_once<R: Wait>(&self, rt: &R, wire: &Wire) -> Option<Reply> {
+        if !self.is_at_once {
+            return None;
+        }
+        self.dc.lock(rt).perform(wire)
     }
 }
 
@@ -132,8 +142,13 @@ fn has_restarted<R: Wait + Abort>(rt: &R, link: &Restarts) {
     assert!(rt; link.incarnation(rt) > 1);
 }
 
-fn eight_moved<R: Threads + Wait + Sync + Abort>(rt: &R, alloc: Global, workers: usize) {
-    let link = Restarts::new(alloc, 0, 4, 7, 5).expect(rt, "no link");
+fn eight_moved<R: Threads + Wait + Sync + Abort>(
+    rt: &R,
+    alloc: Global,
+    is_at_once: bool,
+    workers: usize,
+) {
+    let link = Restarts::new(alloc, (0, is_at_once), 4, 7, 5).expect(rt, "no link");
     let calls = moves(rt, alloc, 1, 8);
     let state = behind_put(rt, alloc, &link);
     let answers = answers(rt, alloc, state, calls.as_slice(), workers, &link);
@@ -147,15 +162,23 @@ fn eight_moved<R: Threads + Wait + Sync + Abort>(rt: &R, alloc: Global, workers:
 // `put 5 100`.
 #[test]
 fn eight_moves_over_restarts(rt: HostRuntime) {
-    eight_moved(&rt, rt.alloc(), 1);
-    eight_moved(&rt, rt.alloc(), 2);
-    eight_moved(&rt, rt.alloc(), 8);
+    eight_moved(&rt, rt.alloc(), false, 1);
+    eight_moved(&rt, rt.alloc(), false, 2);
+    eight_moved(&rt, rt.alloc(), false, 8);
+}
+
+// The same where wires are performed at once: none while the component is down.
+#[test]
+fn eight_moves_at_once_over_restarts(rt: HostRuntime) {
+    eight_moved(&rt, rt.alloc(), true, 1);
+    eight_moved(&rt, rt.alloc(), true, 2);
+    eight_moved(&rt, rt.alloc(), true, 8);
 }
 
 // Eight workers send and redo beside one another: two hundred calls, each of a key of its own.
 #[test]
 fn eight_workers_over_restarts(rt: HostRuntime) {
-    let link = Restarts::new(rt.alloc(), 0, 200, 37, 11).expect(&rt, "no link");
+    let link = Restarts::new(rt.alloc(), (0, false), 200, 37, 11).expect(&rt, "no link");
     let calls = puts(rt.alloc(), 200, 1).expect(&rt, "no calls");
     let state = state(&rt, rt.alloc());
     let answers = answers(&rt, rt.alloc(), state, calls.as_slice(), 8, &link);
@@ -167,12 +190,11 @@ fn eight_workers_over_restarts(rt: HostRuntime) {
 
 // News of the second component are asked for where it is silent, and reach it: a restart at every third carry, and
 // a checkpoint behind each, so that `put` commits each time.
-#[test]
-fn news_of_the_component_that_restarted(rt: HostRuntime) {
-    let link = Restarts::new(rt.alloc(), 1, 4, 3, 1).expect(&rt, "no link");
+fn puts_beside<R: Threads + Wait + Sync + Abort>(rt: &R, alloc: Global, is_at_once: bool) {
+    let link = Restarts::new(alloc, (1, is_at_once), 4, 3, 1).expect(rt, "no link");
     let calls = calls_of(
-        &rt,
-        rt.alloc(),
+        rt,
+        alloc,
         &[
             (PUT_BESIDE, &[5, 1]),
             (PUT_BESIDE, &[6, 2]),
@@ -180,11 +202,17 @@ fn news_of_the_component_that_restarted(rt: HostRuntime) {
             (PUT_BESIDE, &[8, 4]),
         ],
     );
-    let state = state(&rt, rt.alloc());
-    let answers = answers(&rt, rt.alloc(), state, calls.as_slice(), 1, &link);
-    are_committed(&rt, answers.as_slice(), 4);
-    has_restarted(&rt, &link);
+    let state = state(rt, alloc);
+    let answers = answers(rt, alloc, state, calls.as_slice(), 1, &link);
+    are_committed(rt, answers.as_slice(), 4);
+    has_restarted(rt, &link);
     drop(answers);
     drop(calls);
     drop(link);
+}
+
+#[test]
+fn news_of_the_component_that_restarted(rt: HostRuntime) {
+    puts_beside(&rt, rt.alloc(), false);
+    puts_beside(&rt, rt.alloc(), true);
 }

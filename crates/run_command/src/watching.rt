@@ -186,6 +186,11 @@ impl<R: Clock> Gate for Watch<'_, R> {
         }
     }
 
+    // Only times are noted where a call is begun.
+    fn is_silent(&self) -> bool {
+        self.waits.calls.is_empty()
+    }
+
     // Nobody waits for it but where something is written.
     fn is_prompt(&self) -> bool {
         self.waits.listeners.each.is_none() && self.waits.listeners.terminal.is_none()

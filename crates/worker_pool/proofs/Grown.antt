@@ -7,6 +7,7 @@ use Rattle.tc_log.specs.declared.event.Event.TheVariants.{End}
 use Rattle.tc_log.specs.declared.event.Outcome.{Outcome}
 use Rattle.access_slots.specs.declared.op.News.{News}
 use Rattle.history.specs.Places.{Begins}
+use Rattle.tc_core.specs.AtOnce.{HasRunAtOnce}
 use Rattle.tc_core.specs.Core.{Core, Asking}
 use Rattle.tc_core.specs.Replies.{after_ask, after_undo, after_answer, after_end, with_event}
 use Rattle.tc_core.specs.Redo.{after_told, after_redo, after_redone}
@@ -17,6 +18,7 @@ use Rattle.tc_core.specs.declared.state.Stranger.{Stranger}
 use Rattle.tc_core.specs.declared.state.Stranger2.{Stranger2}
 use Rattle.worker_pool.specs.Kept.{Keeps}
 use Rattle.worker_pool.specs.Joining.Handing.{IsHanded}
+use Rattle.worker_pool.proofs.AtOnceLemmas.{keeps_run}
 use Rattle.worker_pool.proofs.Placed.{begins_more}
 use Rattle.worker_pool.proofs.Steps.{opened, asked, undone, heard}
 use Rattle.worker_pool.proofs.Carrying.{redo_logs_nothing, told_logs_nothing, redone_logs_nothing}
@@ -34,6 +36,10 @@ module _ (start : Core) (bs : List (List Event)) (n : ℕ) (old : Core) where
 
   pub handed_asked : (reply : Asked) → IsHanded start.events bs n old.events → IsHanded start.events bs n (after_ask old reply).events
   handed_asked reply it = goes_on (after_ask old reply) (asked old [] old [] reply (nothing old)).begins it
+
+  pub handed_run : (t : ℕ) (now : Core) (reply : Asked) → HasRunAtOnce t old now reply → IsHanded start.events bs n old.events
+      → IsHanded start.events bs n now.events
+  handed_run t now reply ran it = goes_on now (keeps_run old [] [] t old now reply ran (nothing old)).begins it
 
   pub handed_undone : (reply : Asked) → IsHanded start.events bs n old.events → IsHanded start.events bs n (after_undo old reply).events
   handed_undone reply it = goes_on (after_undo old reply) (undone old [] old [] reply (nothing old)).begins it

@@ -7,6 +7,7 @@ pub mod Steps
 pub mod Reported
 pub mod Carrying
 pub mod Known
+pub mod AtOnceLemmas
 pub mod Handing
 pub mod Leaving
 pub mod Grown

@@ -333,7 +333,7 @@ undone start calls state ps (Waits n) keeps = keeps
 undone start calls state ps Running keeps = keeps
 undone start calls state ps Unknown keeps = keeps
 
-answered : (start : Core) (calls : List Call) (state : Core) (ps : List Progress) (r : Asking) (said : _)
+pub answered : (start : Core) (calls : List Call) (state : Core) (ps : List Progress) (r : Asking) (said : _)
     → Keeps start calls state ps → Keeps start calls (after_answer state r said) ps
 answered start calls state ps r said keeps = grown start calls state ps (Answers r.txn r.number said) (quiet_answer state.events r.txn r.number said) keeps
 

@@ -18,7 +18,8 @@
 //!
 //! A [`Link`] of your own carries wires to data components elsewhere. It may lose, repeat, delay and
 //! change what it carries; the report stays true of the log. `dc_links` has those to data components of
-//! this process. A [`Gate`] is told when a call is admitted, and of its answer by an [`Acknowledgement`].
+//! this process. A [`Gate`] is told when a call is admitted, and of its answer by an [`Acknowledgement`]. Where it
+//! is silent about the first, a link may perform wires at once, under the lock (`Link::perform_at_once`).
 //! [`run_kept`] keeps the log in a journal (`journals`), and tells no answer before the log that it is true
 //! of is kept. Between two lists of calls the log of a report's state may begin anew:
 //! `tc_world::cutting::cut` does it with data components of this process, `TcState::checkpoint` by the
@@ -35,6 +36,7 @@ mod kept_run;
 mod laws;
 mod outstanding_call;
 mod outstanding_calls;
+mod performing;
 mod pool;
 mod pool_state;
 mod redo_budget;

@@ -7,6 +7,7 @@ ghost use Rattle.worker_pool.specs.Restarts.{AreKnown};
 
 use crate::acknowledgement::ReadyAnswer;
 use crate::outstanding_call::OutstandingCall;
+use crate::performing::RunPerformer;
 use crate::pool::Gate;
 use crate::pool_state::{Next, PoolState};
 use crate::run_spec::RunSpec;
@@ -69,20 +70,21 @@ fn course_of<J: RunSpec>(pool_state: &PoolState<J>, k: usize, call: &Call, next:
 // The first step of a call, and the next one where it was admitted.
 #[inline(always)]
 #[tactic(auto, using(crate::proofs::Steps::answered_by))]
-fn first_steps<J: RunSpec>(
+fn first_steps<J: RunSpec, P: RunPerformer<J>>(
     pool_state: &mut PoolState<J>,
     call: &Call,
     outstanding: &mut OutstandingCall<J>,
+    performer: &P,
 ) -> Next
     requires call { slice_get J.calls outstanding.old.call ≡ Some call.now }
     requires none { outstanding.old.attempt.request ≡ None }
     ensures answered { IsAnsweredBy pool_state.new.progress outstanding.old.call result }
     ensures call { outstanding.new.call ≡ outstanding.old.call }
 {
-    match pool_state.advance(outstanding.call, call, &mut outstanding.attempt) {
+    match pool_state.advance(outstanding.call, call, &mut outstanding.attempt, performer) {
         Next::Begun => {
             outstanding.is_begun = true;
-            pool_state.advance(outstanding.call, call, &mut outstanding.attempt)
+            pool_state.advance(outstanding.call, call, &mut outstanding.attempt, performer)
         }
         next => next,
     }
@@ -90,25 +92,27 @@ fn first_steps<J: RunSpec>(
 
 // The first steps of a call: one that is admitted goes on at once.
 #[inline(always)]
-fn begin<J: RunSpec>(
+fn begin<J: RunSpec, P: RunPerformer<J>>(
     pool_state: &mut PoolState<J>,
     call: &Call,
     outstanding: &mut OutstandingCall<J>,
+    performer: &P,
 ) -> Course<J>
     requires call { slice_get J.calls outstanding.old.call ≡ Some call.now }
     requires none { outstanding.old.attempt.request ≡ None }
 {
-    let next = first_steps(pool_state, call, outstanding);
+    let next = first_steps(pool_state, call, outstanding, performer);
     course_of(pool_state, outstanding.call, call, next)
 }
 
 // The step of a call that what came back leads to, or that nothing did.
 #[inline(always)]
 #[tactic(auto, using(crate::proofs::Steps::answered_by))]
-fn next_step<J: RunSpec>(
+fn next_step<J: RunSpec, P: RunPerformer<J>>(
     pool_state: &mut PoolState<J>,
     call: &Call,
     outstanding: &mut OutstandingCall<J>,
+    performer: &P,
 ) -> Next
     requires { slice_get J.calls outstanding.old.call ≡ Some call.now }
     ensures answered { IsAnsweredBy pool_state.new.progress outstanding.old.call result }
@@ -117,42 +121,51 @@ fn next_step<J: RunSpec>(
         → IfSome outstanding.old.news (AreKnown pool_state.old.state pool_state.new.state (target outstanding.old.attempt.wire.op).dc) }
 {
     match &outstanding.reply {
-        Some(reply) => pool_state.hear(outstanding.call, call, &mut outstanding.attempt, reply),
+        Some(reply) => pool_state.hear(
+            outstanding.call,
+            call,
+            &mut outstanding.attempt,
+            reply,
+            performer,
+        ),
         None => pool_state.go_on_unanswered(
             outstanding.call,
             call,
             &mut outstanding.attempt,
             outstanding.news,
+            performer,
         ),
     }
 }
 
 #[inline(always)]
-fn go_on<J: RunSpec>(
+fn go_on<J: RunSpec, P: RunPerformer<J>>(
     pool_state: &mut PoolState<J>,
     call: &Call,
     outstanding: &mut OutstandingCall<J>,
+    performer: &P,
 ) -> Course<J>
     requires { slice_get J.calls outstanding.old.call ≡ Some call.now }
     ensures told { outstanding.old.reply ≡ None
         → IfSome outstanding.old.news (AreKnown pool_state.old.state pool_state.new.state (target outstanding.old.attempt.wire.op).dc) }
 {
-    let next = next_step(pool_state, call, outstanding);
+    let next = next_step(pool_state, call, outstanding, performer);
     outstanding.reply = None;
     course_of(pool_state, outstanding.call, call, next)
 }
 
 // The next step of an outstanding call's call, which is one of these.
 #[inline(always)]
-fn step<J: RunSpec>(
+fn step<J: RunSpec, P: RunPerformer<J>>(
     pool_state: &mut PoolState<J>,
     calls: &[Call],
     outstanding: &mut OutstandingCall<J>,
+    performer: &P,
 ) -> Course<J>
     requires { calls.now ≡ J.calls }
 {
     match calls.get(outstanding.call) {
-        Some(call) => go_on(pool_state, call, outstanding),
+        Some(call) => go_on(pool_state, call, outstanding, performer),
         None => Course::Waits,
     }
 }
@@ -259,7 +272,12 @@ impl<J: RunSpec> OutstandingCalls<J> {
 
     /// The pool's state hears what came of each wire that was carried.
     #[inline(always)]
-    pub fn hear(&mut self, pool_state: &mut PoolState<J>, calls: &[Call])
+    pub fn hear<P: RunPerformer<J>>(
+        &mut self,
+        pool_state: &mut PoolState<J>,
+        calls: &[Call],
+        performer: &P,
+    )
         requires { calls.now ≡ J.calls }
     {
         let mut at = self.away.len();
@@ -267,7 +285,7 @@ impl<J: RunSpec> OutstandingCalls<J> {
             at -= 1;
             let outstanding = &mut self.away[at];
             let k = outstanding.call;
-            let course = step(pool_state, calls, outstanding);
+            let course = step(pool_state, calls, outstanding, performer);
             if settle(&mut self.away, &mut self.over, pool_state, at, course) {
                 self.waiting = Some(k);
             }
@@ -275,7 +293,12 @@ impl<J: RunSpec> OutstandingCalls<J> {
     }
 
     /// Takes calls up while there is room, and none of them waits.
-    pub fn take_up(&mut self, pool_state: &mut PoolState<J>, calls: &[Call])
+    pub fn take_up<P: RunPerformer<J>>(
+        &mut self,
+        pool_state: &mut PoolState<J>,
+        calls: &[Call],
+        performer: &P,
+    )
         requires { calls.now ≡ J.calls }
     {
         'taking: for _ in 0..self.most {
@@ -289,7 +312,7 @@ impl<J: RunSpec> OutstandingCalls<J> {
                 return;
             };
             let mut outstanding = OutstandingCall::new(k);
-            let course = begin(pool_state, call, &mut outstanding);
+            let course = begin(pool_state, call, &mut outstanding, performer);
             let at = self.away.len();
             self.away.push_reserved(outstanding);
             if settle(&mut self.away, &mut self.over, pool_state, at, course) {

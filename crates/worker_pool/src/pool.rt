@@ -16,6 +16,7 @@ use crate::batch::Batch;
 use crate::group_commit::{GroupCommit, GroupCommitLock, Stopped};
 use crate::handed::Opened;
 use crate::outstanding_calls::OutstandingCalls;
+use crate::performing::{AtOnce, RunPerformer};
 use crate::pool_state::{Next, PoolState};
 use crate::report::Report;
 use crate::run_spec::RunSpec;
@@ -34,12 +35,19 @@ const MOST_TRIES: u64 = 1000;
 
 /// What is told of the calls, by their places in the list.
 pub trait Gate {
-    /// The call was admitted. It is called once, without the lock, before anything is sent for it.
+    /// The call was admitted. It is called once, without the lock, before anything is sent for it. A gate that is silent
+    /// may be told later, or never.
     fn begun(&self, call: usize);
 
     /// A call's answer stands, and in a run with a journal the log that it is true of is kept. It is called
     /// once, without the lock. A call that isn't tried, since memory ran out before it, is told to nobody.
     fn answered<J: RunSpec>(&self, acknowledgement: &Acknowledgement<J>);
+
+    /// Whether the gate does nothing where a call is begun. Then, over a link that performs at once, a call is run
+    /// under one taking of the lock, as far as the link performs.
+    fn is_silent(&self) -> bool {
+        false
+    }
 
     /// Whether the gate never keeps a worker for long: then, over a prompt link, each of several workers has
     /// more than one call on their way at a time.
@@ -55,6 +63,10 @@ impl Gate for OpenGate {
     fn begun(&self, _call: usize) {}
 
     fn answered<J: RunSpec>(&self, _acknowledgement: &Acknowledgement<J>) {}
+
+    fn is_silent(&self) -> bool {
+        true
+    }
 
     fn is_prompt(&self) -> bool {
         true
@@ -127,7 +139,8 @@ fn finish<J: RunSpec, K: Journal, R: Wait, L: Link, G: Gate>(
     ensures stopped { IfErr result (λ stopped. group_commit.new.fault ≡ Some stopped.why) }
 {
     let mut attempt = Attempt::none();
-    let mut next = pool_state.advance(k, call, &mut attempt);
+    let performer = AtOnce::new(rt, worker.link, false);
+    let mut next = pool_state.advance(k, call, &mut attempt, &performer);
     for _ in rt.forever() {
         next = match next {
             Next::Over => {
@@ -141,19 +154,19 @@ fn finish<J: RunSpec, K: Journal, R: Wait, L: Link, G: Gate>(
             }
             Next::Begun => {
                 worker.gate.begun(k);
-                pool_state.advance(k, call, &mut attempt)
+                pool_state.advance(k, call, &mut attempt, &performer)
             }
             Next::Busy => {
                 thread::yield_now();
-                pool_state.advance(k, call, &mut attempt)
+                pool_state.advance(k, call, &mut attempt, &performer)
             }
             Next::Carry => match worker.link.carry(rt, worker.number, attempt.wire()) {
-                Some(reply) => pool_state.hear(k, call, &mut attempt, &reply),
+                Some(reply) => pool_state.hear(k, call, &mut attempt, &reply, &performer),
                 None => Next::Unanswered,
             },
             Next::Unanswered => {
                 let news = worker.link.news(rt, worker.number, attempt.dc());
-                pool_state.go_on_unanswered(k, call, &mut attempt, news)
+                pool_state.go_on_unanswered(k, call, &mut attempt, news, &performer)
             }
         };
     }
@@ -243,18 +256,19 @@ fn conclude<J: RunSpec, K: Journal, R: Wait, G: Gate>(
 // Under one taking of the lock, the pool's state hears what came back, and calls are taken up. Where all that is left
 // has another transaction in its way, waits for a change. Whether anything is on its way then, or ready.
 #[inline(always)]
-fn settle<J: RunSpec, K: Journal, R: Wait>(
+fn settle<J: RunSpec, K: Journal, R: Wait, P: RunPerformer<J>>(
     rt: &R,
     pool: &Pool<J, K>,
     calls: &[Call],
     outstanding_calls: &mut OutstandingCalls<J>,
+    performer: &P,
 ) -> bool
     requires { calls.now ≡ J.calls }
 {
     let mut pool_state = acquire(rt, &pool.state);
-    outstanding_calls.hear(&mut *pool_state, calls);
+    outstanding_calls.hear(&mut *pool_state, calls, performer);
     for _ in rt.forever() {
-        outstanding_calls.take_up(&mut *pool_state, calls);
+        outstanding_calls.take_up(&mut *pool_state, calls, performer);
         if !outstanding_calls.is_idle() {
             drop(pool_state);
             if outstanding_calls.is_ready() {
@@ -281,8 +295,11 @@ fn serve<J: RunSpec, K: Journal, R: Wait, L: Link, G: Gate>(
 )
     requires { calls.now ≡ J.calls }
 {
+    let performer = AtOnce::new(rt, worker.link, worker.gate.is_silent());
     for _ in rt.forever() {
-        if pool.commit_lock.is_stopped() || !settle(rt, pool, calls, outstanding_calls) {
+        if pool.commit_lock.is_stopped()
+            || !settle(rt, pool, calls, outstanding_calls, &performer)
+        {
             return;
         }
         outstanding_calls.tell_begun(worker.gate);
@@ -585,8 +602,8 @@ fn run_named<J: RunSpec + Send + Sync, R: Threads + Wait + Sync, L: Link + Sync,
 /// until one ends, falls in doubt or is stuck, and tries again, unless all that stand in its way are
 /// in doubt or stuck. One worker runs the calls one after the other. Of several, each has up to eight calls
 /// on their way at a time, if link and gate are prompt, and else one. A state that is handed in with open
-/// transactions, which no call runs, may so make `run` wait for ever. Nothing is sent and no gate is told
-/// while the lock is held.
+/// transactions, which no call runs, may so make `run` wait for ever. Nothing is carried and no gate is told
+/// while the lock is held; where the gate is silent, the link may perform at once what a call asks.
 pub fn run<R: Threads + Wait + Sync, L: Link + Sync, G: Gate + Sync>(
     rt: &R,
     alloc: Global,

@@ -2,25 +2,26 @@
 // to be kept.
 
 ghost use Rattle.std.specs.Prelude.{◌≡◌, ◌↔◌, ◌+◌, ◌<◌, ◌≤◌, ◌++◌, ◌∷◌, true, List, ℕ, [], length, drop, replicate, reverse, Some, None, slice_get, OnOk, OnErr, IfOk, IfErr, IfSome, IfNone, IsSome, IsTrue, vec_capacity, map, false};
+ghost use Rattle.tc_core.specs.AtOnce.{HasRunAtOnce};
 ghost use Rattle.tc_core.specs.Core.{Core, Asking};
 ghost use Rattle.tc_core.specs.Replies.{ask_reply, after_ask, end_of};
-ghost use Rattle.tc_log.specs.declared.event.Outcome.{Outcome};
 ghost use Rattle.tc_core.specs.Admission.{call_of, IsRefused};
 ghost use Rattle.tc_core.specs.GivingUp.{IsOpenHere};
 ghost use Rattle.access_slots.specs.Locks.{target};
-ghost use Rattle.worker_pool.specs.Answers.{answer_of, place_of, AnswerFits, AdmitRefusalFits};
+ghost use Rattle.worker_pool.specs.Answers.{place_of, AnswerFits, AdmitRefusalFits};
 ghost use Rattle.worker_pool.specs.Doubts.{IsDoubtful, IsGoing};
 ghost use Rattle.worker_pool.specs.Joining.Ups.{IsUpFor};
 ghost use Rattle.worker_pool.specs.Joining.Untried.{IsUntried};
 ghost use Rattle.worker_pool.specs.Wires.{IsItsOwn, IsToRedo, IsOfRun, IsSentBy};
 ghost use Rattle.worker_pool.specs.Restarts.{StaysKnown, AreKnown, IsKnownRedone};
-ghost use Rattle.worker_pool.specs.Joining.Seen.{IsAnswered, AreToldBy};
+ghost use Rattle.worker_pool.specs.Joining.Seen.{IsAnswered};
 
 use crate::acknowledgement::ReadyAnswer;
-use crate::answer::{Answer, Progress};
+use crate::answer::{Answer, Progress, answer_for, answers_of};
 use crate::attempt::{Attempt, is_sent_for};
 use crate::batch::Batch;
 use crate::handed::{Count, Handed};
+use crate::performing::RunPerformer;
 use crate::report::Report;
 use crate::run_spec::RunSpec;
 use access_slots::op::{News, Reply, Wire};
@@ -29,10 +30,9 @@ use std::alloc::AllocError;
 use std::marker::{Model, PhantomData};
 use tc_core::procs::Procs;
 use tc_core::state::{
-    Asked, Call, Down, NotOver, Receipt, Redo, Refusal, Request, Stranger, Stranger2, TcState,
-    TxnId,
+    Asked, Call, Down, NotOver, Redo, Refusal, Request, Stranger, Stranger2, TcState, TxnId,
 };
-use tc_log::event::{Event, Outcome};
+use tc_log::event::Event;
 
 /// What is to be done for a call without the lock.
 pub enum Next {
@@ -448,9 +448,37 @@ impl<J: RunSpec> PoolState<J> {
         }
     }
 
-    /// The next step of a call, whatever was done for it before. What is to be carried is written into
-    /// `attempt`, where nothing is on its way.
-    pub fn advance(&mut self, k: usize, call: &Call, attempt: &mut Attempt<J>) -> Next
+    // What a transaction asks once all was answered that is answered at once.
+    #[inline(always)]
+    fn run_at_once<P: RunPerformer<J>>(
+        &mut self,
+        k: usize,
+        call: &Call,
+        txn: TxnId,
+        performer: &P,
+    ) -> Asked
+        requires call { slice_get J.calls k ≡ Some call.now }
+        requires begun { slice_get self.old.progress k ≡ Some (Progress.Begun txn) }
+        ensures ran { HasRunAtOnce txn.serial self.old.state self.new.state result }
+        ensures goes { IsGoing result }
+        ensures sites { self.new.state.sites ≡ self.old.state.sites }
+        ensures same { self.new.progress ≡ self.old.progress }
+    {
+        self.touched = true;
+        let asked = self.state.run_at_once(txn, performer);
+        self.state.known();
+        asked
+    }
+
+    /// The next step of a call, whatever was done for it before: as far as its questions are performed at once.
+    /// What is to be carried is written into `attempt`, where nothing is on its way.
+    pub fn advance<P: RunPerformer<J>>(
+        &mut self,
+        k: usize,
+        call: &Call,
+        attempt: &mut Attempt<J>,
+        performer: &P,
+    ) -> Next
         requires call { slice_get J.calls k ≡ Some call.now }
         requires none { attempt.old.request ≡ None }
         ensures moves { MovesOn self.old.progress self.new.progress k result }
@@ -463,9 +491,7 @@ impl<J: RunSpec> PoolState<J> {
             Progress::Answered(..) => return Next::Over,
             Progress::Begun(txn) => txn,
         };
-        self.touched = true;
-        self.state.known();
-        match self.state.ask(txn) {
+        match self.run_at_once(k, call, txn, performer) {
             Asked::Request(request) => {
                 self.send(request, attempt);
                 Next::Carry
@@ -517,7 +543,13 @@ impl<J: RunSpec> PoolState<J> {
     }
 
     // Gives a request up, and goes on with its call.
-    fn go_on_without(&mut self, k: usize, call: &Call, attempt: &mut Attempt<J>) -> Next
+    fn go_on_without<P: RunPerformer<J>>(
+        &mut self,
+        k: usize,
+        call: &Call,
+        attempt: &mut Attempt<J>,
+        performer: &P,
+    ) -> Next
         requires call { slice_get J.calls k ≡ Some call.now }
         ensures moves { MovesOn self.old.progress self.new.progress k result }
         ensures held { IsHeldBy result attempt.new.request }
@@ -527,7 +559,7 @@ impl<J: RunSpec> PoolState<J> {
         if let Some(request) = attempt.take() {
             self.give_up(request);
         }
-        self.advance(k, call, attempt)
+        self.advance(k, call, attempt, performer)
     }
 
     // Takes in that an operation is redone.
@@ -562,7 +594,14 @@ impl<J: RunSpec> PoolState<J> {
     /// Takes in what came back for what was carried. The call goes on where that answers it; a stranger
     /// counts as no answer. What is redone is redone at the data component that it was carried to.
     #[inline(always)]
-    pub fn hear(&mut self, k: usize, call: &Call, attempt: &mut Attempt<J>, reply: &Reply) -> Next
+    pub fn hear<P: RunPerformer<J>>(
+        &mut self,
+        k: usize,
+        call: &Call,
+        attempt: &mut Attempt<J>,
+        reply: &Reply,
+        performer: &P,
+    ) -> Next
         requires call { slice_get J.calls k ≡ Some call.now }
         ensures moves { MovesOn self.old.progress self.new.progress k result }
         ensures held { IsHeldBy result attempt.new.request }
@@ -571,13 +610,13 @@ impl<J: RunSpec> PoolState<J> {
             → IsKnownRedone self.old.state self.new.state (target attempt.old.wire.op).dc reply.now }
     {
         if attempt.wire().redo {
-            return self.hear_redo(k, call, attempt, reply);
+            return self.hear_redo(k, call, attempt, reply, performer);
         }
         let Some(request) = attempt.take() else {
-            return self.advance(k, call, attempt);
+            return self.advance(k, call, attempt, performer);
         };
         match self.answer(request, *reply) {
-            Ok(()) => self.advance(k, call, attempt),
+            Ok(()) => self.advance(k, call, attempt, performer),
             Err(Stranger { request }) => {
                 attempt.put_back(request);
                 Next::Unanswered
@@ -586,7 +625,14 @@ impl<J: RunSpec> PoolState<J> {
     }
 
     // The same for what is redone.
-    fn hear_redo(&mut self, k: usize, call: &Call, attempt: &mut Attempt<J>, reply: &Reply) -> Next
+    fn hear_redo<P: RunPerformer<J>>(
+        &mut self,
+        k: usize,
+        call: &Call,
+        attempt: &mut Attempt<J>,
+        reply: &Reply,
+        performer: &P,
+    ) -> Next
         requires call { slice_get J.calls k ≡ Some call.now }
         ensures moves { MovesOn self.old.progress self.new.progress k result }
         ensures held { IsHeldBy result attempt.new.request }
@@ -596,12 +642,18 @@ impl<J: RunSpec> PoolState<J> {
         if attempt.is_held() && self.redone(attempt.dc(), reply).is_err() {
             return Next::Unanswered;
         }
-        self.carry_on(k, call, attempt)
+        self.carry_on(k, call, attempt, performer)
     }
 
     // What is carried for a request next. Where what is to be redone first was sent as often as it may
     // be, the request is given up. Nothing is carried for one that its transaction doesn't wait for.
-    fn carry_on(&mut self, k: usize, call: &Call, attempt: &mut Attempt<J>) -> Next
+    fn carry_on<P: RunPerformer<J>>(
+        &mut self,
+        k: usize,
+        call: &Call,
+        attempt: &mut Attempt<J>,
+        performer: &P,
+    ) -> Next
         requires call { slice_get J.calls k ≡ Some call.now }
         ensures moves { MovesOn self.old.progress self.new.progress k result }
         ensures held { IsHeldBy result attempt.new.request }
@@ -609,27 +661,28 @@ impl<J: RunSpec> PoolState<J> {
         ensures known { StaysKnown self.old.state self.new.state }
     {
         let Some(request) = attempt.take() else {
-            return self.advance(k, call, attempt);
+            return self.advance(k, call, attempt, performer);
         };
         if !self.is_open(&request) {
             self.give_up(request);
-            return self.advance(k, call, attempt);
+            return self.advance(k, call, attempt, performer);
         }
         self.carry(request, attempt);
         if attempt.is_spent() {
-            return self.go_on_without(k, call, attempt);
+            return self.go_on_without(k, call, attempt, performer);
         }
         Next::Carry
     }
 
     /// Goes on where nothing came back that answers what was carried, with the news that the link has. A
     /// request is sent again, with the low-water mark of now, as often as is left, and then given up.
-    pub fn go_on_unanswered(
+    pub fn go_on_unanswered<P: RunPerformer<J>>(
         &mut self,
         k: usize,
         call: &Call,
         attempt: &mut Attempt<J>,
         news: Option<News>,
+        performer: &P,
     ) -> Next
         requires call { slice_get J.calls k ≡ Some call.now }
         ensures moves { MovesOn self.old.progress self.new.progress k result }
@@ -639,9 +692,9 @@ impl<J: RunSpec> PoolState<J> {
     {
         self.hear_news(attempt, news);
         if attempt.is_last() {
-            return self.go_on_without(k, call, attempt);
+            return self.go_on_without(k, call, attempt, performer);
         }
-        self.carry_on(k, call, attempt)
+        self.carry_on(k, call, attempt, performer)
     }
 
     /// Whether the call was begun and isn't answered.
@@ -727,33 +780,6 @@ fn untried(procs: &Procs, call: &Call) -> Refusal
         return Refusal::ArgumentCount;
     }
     Refusal::Memory
-}
-
-// The answers of these calls, in order.
-fn answers_of(progress: &[Progress], mut answers: Vec<Answer>) -> Vec<Answer>
-    requires answered { (k : ℕ) → k < length progress.now → IsAnswered progress.now k }
-    requires empty { answers.items ≡ [] }
-    requires room { length progress.now ≤ vec_capacity answers }
-    ensures { AreToldBy progress.now result.items }
-{
-    for p in progress {
-        match *p {
-            Progress::Answered(answer, _) => answers.push_reserved(answer),
-            Progress::Waiting | Progress::Begun(_) => unreachable!(),
-        }
-    }
-    answers
-}
-
-#[inline(always)]
-fn answer_for(receipt: Receipt) -> Answer
-    ensures { result ≡ answer_of receipt.outcome receipt.place }
-{
-    match receipt.outcome {
-        Outcome::Committed => Answer::Committed(receipt.place),
-        Outcome::Aborted(value) => Answer::Aborted(value, receipt.place),
-        Outcome::NoRoom => Answer::NoRoom(receipt.place),
-    }
 }
 
 // Copies of the events from this place on.

@@ -2,7 +2,7 @@ use Rattle.std.proofs.Common.{◌≡◌, ◌∙◌, true, false, sym, ap, inl, i
 use Rattle.std.proofs.lemmas.Option.{get_or_from_slice_get}
 use Rattle.worker_pool.specs.declared.answer.Progress.TheVariants.{Waiting, Answered}
 use Rattle.worker_pool.proofs.Steps.{is_answered}
-use Rattle.worker_pool.proofs.pool_state.answers_of.Goals as goal
+use Rattle.worker_pool.proofs.answer.answers_of.Goals as goal
 
 pub unreachable-requires : goal.unreachable-requires
 unreachable-requires c =
