@@ -39,6 +39,7 @@ pub struct DiskFile {
     dropped: Option<File>,
     cut_off: usize,
     kept: Record,
+    syncs: u64,
     // why the last call failed that did
     failure: Option<FileFault>,
 }
@@ -75,6 +76,7 @@ impl DiskFile {
             dropped: None,
             cut_off: 0,
             kept: Record::new(),
+            syncs: 0,
             failure: None,
         }
     }
@@ -107,6 +109,19 @@ impl DiskFile {
         self.kept.note(&[KEPT, 0, 0], end);
         self.cut_off = self.cut_off.saturating_add(end.len());
         Ok(())
+    }
+
+    /// From now on, the syncs of the file whose place it is to take are counted as its own.
+    pub(crate) fn count_from(&mut self, old: &DiskFile)
+        ensures bytes { disk_bytes self.new ≡ disk_bytes self.old }
+        ensures left { Only (disk_bytes self.old) (left_of self.old) → Only (disk_bytes self.new) (left_of self.new) }
+    {
+        self.syncs = self.syncs.saturating_add(old.syncs);
+    }
+
+    /// How often it was synced since it was opened, with the files whose places it and they took.
+    pub fn syncs(&self) -> u64 {
+        self.syncs
     }
 
     /// The open file.
@@ -205,6 +220,7 @@ impl Device for DiskFile {
 
     fn sync(&mut self) -> Result<(), DeviceError> {
         let len = self.calls.len();
+        self.syncs = self.syncs.saturating_add(1);
         if let Err(fault) = self.put_on_disk() {
             self.calls.note(&[UNSYNCED, 1, 0], &[], len);
             self.failure = Some(fault);

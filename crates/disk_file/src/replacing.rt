@@ -97,7 +97,9 @@ impl Beside {
         let changed = file.set_len(0).and_then(|()| take_owner(&file, old.file()));
         changed.map_err(OpenError::Unwritten)?;
         sync_with_folder(rt, alloc, name.as_str(), &file)?;
-        Ok(DiskFile::settled(file, &[]))
+        let mut emptied = DiskFile::settled(file, &[]);
+        emptied.count_from(old);
+        Ok(emptied)
     }
 }
 
