@@ -11,6 +11,7 @@
 //! | `cut_tests` | lists of calls between which the log begins anew |
 //! | `journal_tests` | runs whose log is kept in a journal |
 //! | `log_journal_tests` | runs whose log is kept in a file |
+//! | `stage_tests` | what a gate is told of a call on its way |
 //! | `restart_tests` | data components that restart while calls run |
 //! | `memory_tests` | runs that are refused memory |
 //!
@@ -39,6 +40,8 @@ mod pool_tests;
 mod restart_tests;
 #[cfg(test)]
 mod ring_tests;
+#[cfg(test)]
+mod stage_tests;
 #[cfg(test)]
 mod test_pool;
 #[cfg(test)]

@@ -276,8 +276,16 @@ fn two_calls_at_once_by_a_link(rt: HostRuntime) {
 
 // Loses every wire, and counts them.
 #[derive(Drop)]
-struct Loses {
+pub(crate) struct Loses {
     carried: AtomicU64,
+}
+
+impl Loses {
+    pub(crate) fn new() -> Loses {
+        Loses {
+            carried: AtomicU64::new(0),
+        }
+    }
 }
 
 impl Link for Loses {
@@ -303,9 +311,7 @@ fn are_lost(rt: &impl Abort, answers: &[Answer]) {
 
 #[test]
 fn in_doubt_after_three_carries_and_blocked(rt: HostRuntime) {
-    let link = Loses {
-        carried: AtomicU64::new(0),
-    };
+    let link = Loses::new();
     let gate = Counts::new();
     let calls = calls_of(&rt, rt.alloc(), &[(PUT, &[5, 1]), (PUT, &[5, 2])]);
     let answers = first_answers(&rt, rt.alloc(), calls, 1, &link, &gate);

@@ -6,6 +6,7 @@ ghost use Rattle.worker_pool.specs.Acknowledged.{WasAnswered, IsKept};
 use crate::answer::Answer;
 use crate::pool::Gate;
 use crate::run_spec::RunSpec;
+use crate::stage::Stage;
 use std::marker::{Model, PhantomData};
 
 /// An answer that stands and isn't told yet. The pool's state alone can make it: it is true of a state of the run.
@@ -14,6 +15,8 @@ pub struct ReadyAnswer<J: RunSpec> {
     pub answer: Answer,
     /// How many events the log had then.
     pub logged: usize,
+    /// Whether the call was admitted, and the gate isn't told of that yet.
+    pub is_begun: bool,
     pub of: PhantomData<J>,
 }
 
@@ -41,8 +44,17 @@ impl<J: RunSpec> ReadyAnswer<J> {
             call: _,
             answer: _,
             logged: _,
+            is_begun: _,
             of: _,
         } = self;
+    }
+
+    /// Tells the gate that the call has come so far.
+    pub fn tell_stage<G: Gate>(&self, gate: &G) {
+        if self.is_begun {
+            gate.begun(self.call);
+        }
+        gate.reaches(self.call, Stage::Answered);
     }
 }
 

@@ -18,8 +18,9 @@
 //!
 //! A [`Link`] of your own carries wires to data components elsewhere. It may lose, repeat, delay and
 //! change what it carries; the report stays true of the log. `dc_links` has those to data components of
-//! this process. A [`Gate`] is told when a call is admitted, and of its answer by an [`Acknowledgement`]. Where it
-//! is silent about the first, a link may perform wires at once, under the lock (`Link::perform_at_once`).
+//! this process. A [`Gate`] is told when a call is admitted, which [`Stage`] it reaches, and of its answer by an
+//! [`Acknowledgement`]. Where it is silent about all but the last, a link may perform wires at once, under the lock
+//! (`Link::perform_at_once`).
 //! [`run_kept`] keeps the log in a journal (`journals`), and tells no answer before the log that it is true
 //! of is kept. Between two lists of calls the log of a report's state may begin anew:
 //! `tc_world::cutting::cut` does it with data components of this process, `TcState::checkpoint` by the
@@ -42,6 +43,7 @@ mod pool_state;
 mod redo_budget;
 mod report;
 mod run_spec;
+mod stage;
 
 pub use acknowledgement::Acknowledgement;
 pub use answer::{Answer, Progress};
@@ -52,3 +54,4 @@ pub use outstanding_call::OutstandingCall;
 pub use pool::{Gate, OpenGate, RunFault, run};
 pub use report::Report;
 pub use run_spec::RunSpec;
+pub use stage::Stage;

@@ -15,6 +15,8 @@ pub struct OutstandingCall<J: RunSpec> {
     // Whether the call was admitted, and the gate isn't told of it yet.
     pub(crate) is_begun: bool,
     pub(crate) attempt: Attempt<J>,
+    // Whether its wire is carried since nothing came back that answers the one before.
+    pub(crate) is_again: bool,
     // Whether something came back for the wire that doesn't answer it.
     pub(crate) is_carried: bool,
     pub(crate) reply: Option<Reply>,
@@ -33,6 +35,7 @@ impl<J: RunSpec> OutstandingCall<J> {
             call,
             is_begun: false,
             attempt: Attempt::none(),
+            is_again: false,
             is_carried: false,
             reply: None,
             news: None,

@@ -11,11 +11,20 @@ use crate::performing::RunPerformer;
 use crate::pool::Gate;
 use crate::pool_state::{Next, PoolState};
 use crate::run_spec::RunSpec;
-use dc_links::Link;
+use crate::stage::Stage;
+use dc_links::{Link, Outstanding};
 use std::alloc::{AllocError, Global};
 use std::marker::Model;
 use std::sync::Wait;
 use tc_core::state::Call;
+
+// A call that no wire is on its way for, since it isn't admitted.
+#[derive(Clone, Copy)]
+struct WaitingCall {
+    call: usize,
+    // Whether the gate was told that it waits.
+    is_told: bool,
+}
 
 /// The calls that a worker has on their way, so many at most.
 pub struct OutstandingCalls<J: RunSpec> {
@@ -24,7 +33,7 @@ pub struct OutstandingCalls<J: RunSpec> {
     // Answers that stand, and are ready.
     over: Vec<ReadyAnswer<J>>,
     // A call with another transaction in its way.
-    waiting: Option<usize>,
+    waiting: Option<WaitingCall>,
     most: usize,
 }
 
@@ -149,7 +158,9 @@ fn go_on<J: RunSpec, P: RunPerformer<J>>(
     ensures told { outstanding.old.reply ≡ None
         → IfSome outstanding.old.news (AreKnown pool_state.old.state pool_state.new.state (target outstanding.old.attempt.wire.op).dc) }
 {
+    let is_again = outstanding.reply.is_none();
     let next = next_step(pool_state, call, outstanding, performer);
+    outstanding.is_again = is_again;
     outstanding.reply = None;
     course_of(pool_state, outstanding.call, call, next)
 }
@@ -176,6 +187,7 @@ fn abandon<J: RunSpec>(pool_state: &mut PoolState<J>, outstanding: OutstandingCa
         call: _,
         is_begun: _,
         attempt,
+        is_again: _,
         is_carried: _,
         reply: _,
         news: _,
@@ -205,13 +217,17 @@ fn forget_all<J: RunSpec>(mut over: Vec<ReadyAnswer<J>>) {
 // The call that waits, or the next one that no worker has taken.
 #[inline(always)]
 fn next_call<J: RunSpec>(
-    waiting: &mut Option<usize>,
+    waiting: &mut Option<WaitingCall>,
     pool_state: &mut PoolState<J>,
-) -> Option<usize> {
-    match waiting.take() {
-        Some(k) => Some(k),
-        None => pool_state.take(),
+) -> Option<WaitingCall> {
+    if let Some(waiting) = waiting.take() {
+        return Some(waiting);
     }
+    let call = pool_state.take()?;
+    Some(WaitingCall {
+        call,
+        is_told: false,
+    })
 }
 
 // What becomes of an outstanding call behind a step of its call: whether its call has to wait. One that is over
@@ -234,7 +250,8 @@ fn settle<J: RunSpec>(
     match course {
         Course::Carry => away[at].is_carried = false,
         Course::Unanswered => away[at].is_carried = true,
-        Course::Answered(ready) => {
+        Course::Answered(mut ready) => {
+            ready.is_begun = away[at].is_begun;
             over.push_reserved(ready);
             abandon(pool_state, away.swap_remove(at));
         }
@@ -287,7 +304,10 @@ impl<J: RunSpec> OutstandingCalls<J> {
             let k = outstanding.call;
             let course = step(pool_state, calls, outstanding, performer);
             if settle(&mut self.away, &mut self.over, pool_state, at, course) {
-                self.waiting = Some(k);
+                self.waiting = Some(WaitingCall {
+                    call: k,
+                    is_told: false,
+                });
             }
         }
     }
@@ -305,18 +325,18 @@ impl<J: RunSpec> OutstandingCalls<J> {
             if self.away.len() + self.over.len() >= self.most {
                 return;
             }
-            let Some(k) = next_call(&mut self.waiting, pool_state) else {
+            let Some(next) = next_call(&mut self.waiting, pool_state) else {
                 return;
             };
-            let Some(call) = calls.get(k) else {
+            let Some(call) = calls.get(next.call) else {
                 return;
             };
-            let mut outstanding = OutstandingCall::new(k);
+            let mut outstanding = OutstandingCall::new(next.call);
             let course = begin(pool_state, call, &mut outstanding, performer);
             let at = self.away.len();
             self.away.push_reserved(outstanding);
             if settle(&mut self.away, &mut self.over, pool_state, at, course) {
-                self.waiting = Some(k);
+                self.waiting = Some(next);
                 return;
             }
         }
@@ -344,6 +364,21 @@ impl<J: RunSpec> OutstandingCalls<J> {
         self.over.pop()
     }
 
+    /// Whether a call has a transaction in its way, and the gate isn't told of that yet.
+    pub fn has_new_wait(&self) -> bool {
+        matches!(self.waiting, Some(WaitingCall { is_told: false, .. }))
+    }
+
+    /// Tells the gate of that.
+    pub fn tell_waiting<G: Gate>(&mut self, gate: &G) {
+        if let Some(waiting) = &mut self.waiting {
+            if !waiting.is_told {
+                gate.reaches(waiting.call, Stage::Waiting);
+                waiting.is_told = true;
+            }
+        }
+    }
+
     /// Tells the gate which calls were admitted since it was told last.
     pub fn tell_begun<G: Gate>(&mut self, gate: &G) {
         for outstanding in &mut self.away {
@@ -354,10 +389,28 @@ impl<J: RunSpec> OutstandingCalls<J> {
         }
     }
 
+    // Tells the gate whose wires are carried.
+    fn tell_carried<G: Gate>(&self, gate: &G) {
+        for outstanding in &self.away {
+            if outstanding.wire().is_some() {
+                let stage = if outstanding.is_again {
+                    Stage::CarriedAgain
+                } else {
+                    Stage::Carried
+                };
+                gate.reaches(outstanding.call, stage);
+            }
+        }
+    }
+
     /// Carries the wires, and asks for news where no answer came.
-    pub fn carry<R: Wait, L: Link>(&mut self, rt: &R, worker: usize, link: &L) {
+    pub fn carry<R: Wait, L: Link, G: Gate>(&mut self, rt: &R, worker: usize, link: &L, gate: &G) {
+        self.tell_carried(gate);
         link.carry_all(rt, worker, self.away.as_mut_slice());
         for outstanding in &mut self.away {
+            if !outstanding.is_carried {
+                gate.reaches(outstanding.call, Stage::Back);
+            }
             if outstanding.reply.is_none() {
                 outstanding.news = link.news(rt, worker, outstanding.attempt.dc());
             }

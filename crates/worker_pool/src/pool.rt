@@ -20,6 +20,8 @@ use crate::performing::{AtOnce, RunPerformer};
 use crate::pool_state::{Next, PoolState};
 use crate::report::Report;
 use crate::run_spec::RunSpec;
+use crate::stage::Stage;
+use access_slots::op::{Reply, Wire};
 use dc_links::{Link, WIRES_OF_A_WORKER, acquire};
 use journals::{Journal, NoJournal, NotKept};
 use std::alloc::{AllocError, Global};
@@ -39,11 +41,15 @@ pub trait Gate {
     /// may be told later, or never.
     fn begun(&self, call: usize);
 
+    /// A call came to a stage of its way. It is called without the lock, of each wait once. A gate that is silent is
+    /// told of some stages, or of none; where no other worker is left, nobody is told of waits.
+    fn reaches(&self, _call: usize, _stage: Stage) {}
+
     /// A call's answer stands, and in a run with a journal the log that it is true of is kept. It is called
     /// once, without the lock. A call that isn't tried, since memory ran out before it, is told to nobody.
     fn answered<J: RunSpec>(&self, acknowledgement: &Acknowledgement<J>);
 
-    /// Whether the gate does nothing where a call is begun. Then, over a link that performs at once, a call is run
+    /// Whether the gate does nothing where a call is begun or reaches a stage. Then, over a link that performs at once, a call is run
     /// under one taking of the lock, as far as the link performs.
     fn is_silent(&self) -> bool {
         false
@@ -125,6 +131,20 @@ fn conclude_alone<J: RunSpec, K: Journal, R: Wait, G: Gate>(
     Ok(())
 }
 
+// Carries a call's wire, where no other worker is left.
+fn carry_alone<R: Wait, L: Link, G: Gate>(
+    rt: &R,
+    k: usize,
+    wire: &Wire,
+    stage: Stage,
+    worker: &Worker<L, G>,
+) -> Option<Reply> {
+    worker.gate.reaches(k, stage);
+    let reply = worker.link.carry(rt, worker.number, wire);
+    worker.gate.reaches(k, Stage::Back);
+    reply
+}
+
 // Runs a call to its answer, where no other worker is left.
 fn finish<J: RunSpec, K: Journal, R: Wait, L: Link, G: Gate>(
     rt: &R,
@@ -140,12 +160,14 @@ fn finish<J: RunSpec, K: Journal, R: Wait, L: Link, G: Gate>(
 {
     let mut attempt = Attempt::none();
     let performer = AtOnce::new(rt, worker.link, false);
+    let mut carried = Stage::Carried;
     let mut next = pool_state.advance(k, call, &mut attempt, &performer);
     for _ in rt.forever() {
         next = match next {
             Next::Over => {
                 pool_state.abandon(attempt);
                 let ready = pool_state.ready(k, call);
+                worker.gate.reaches(k, Stage::Answered);
                 return conclude_alone(rt, pool_state, ready, worker.gate, group_commit);
             }
             Next::LeftOut => {
@@ -160,11 +182,15 @@ fn finish<J: RunSpec, K: Journal, R: Wait, L: Link, G: Gate>(
                 thread::yield_now();
                 pool_state.advance(k, call, &mut attempt, &performer)
             }
-            Next::Carry => match worker.link.carry(rt, worker.number, attempt.wire()) {
-                Some(reply) => pool_state.hear(k, call, &mut attempt, &reply, &performer),
+            Next::Carry => match carry_alone(rt, k, attempt.wire(), carried, worker) {
+                Some(reply) => {
+                    carried = Stage::Carried;
+                    pool_state.hear(k, call, &mut attempt, &reply, &performer)
+                }
                 None => Next::Unanswered,
             },
             Next::Unanswered => {
+                carried = Stage::CarriedAgain;
                 let news = worker.link.news(rt, worker.number, attempt.dc());
                 pool_state.go_on_unanswered(k, call, &mut attempt, news, &performer)
             }
@@ -254,14 +280,16 @@ fn conclude<J: RunSpec, K: Journal, R: Wait, G: Gate>(
 }
 
 // Under one taking of the lock, the pool's state hears what came back, and calls are taken up. Where all that is left
-// has another transaction in its way, waits for a change. Whether anything is on its way then, or ready.
+// has another transaction in its way, waits for a change, once the gate is told. Whether anything is on its way then, or
+// ready.
 #[inline(always)]
-fn settle<J: RunSpec, K: Journal, R: Wait, P: RunPerformer<J>>(
+fn settle<J: RunSpec, K: Journal, R: Wait, P: RunPerformer<J>, G: Gate>(
     rt: &R,
     pool: &Pool<J, K>,
     calls: &[Call],
     outstanding_calls: &mut OutstandingCalls<J>,
     performer: &P,
+    gate: &G,
 ) -> bool
     requires { calls.now ≡ J.calls }
 {
@@ -279,7 +307,13 @@ fn settle<J: RunSpec, K: Journal, R: Wait, P: RunPerformer<J>>(
         if !outstanding_calls.is_waiting() || pool.commit_lock.is_stopped() {
             return false;
         }
-        pool_state = pool.freed.wait(rt, pool_state);
+        if !gate.is_silent() && outstanding_calls.has_new_wait() {
+            drop(pool_state);
+            outstanding_calls.tell_waiting(gate);
+            pool_state = acquire(rt, &pool.state);
+        } else {
+            pool_state = pool.freed.wait(rt, pool_state);
+        }
     }
     unreachable!()
 }
@@ -298,18 +332,20 @@ fn serve<J: RunSpec, K: Journal, R: Wait, L: Link, G: Gate>(
     let performer = AtOnce::new(rt, worker.link, worker.gate.is_silent());
     for _ in rt.forever() {
         if pool.commit_lock.is_stopped()
-            || !settle(rt, pool, calls, outstanding_calls, &performer)
+            || !settle(rt, pool, calls, outstanding_calls, &performer, worker.gate)
         {
             return;
         }
+        outstanding_calls.tell_waiting(worker.gate);
         outstanding_calls.tell_begun(worker.gate);
         while let Some(ready) = outstanding_calls.next_ready() {
+            ready.tell_stage(worker.gate);
             conclude(rt, pool, ready, worker.gate);
         }
         if pool.commit_lock.is_stopped() {
             return;
         }
-        outstanding_calls.carry(rt, worker.number, worker.link);
+        outstanding_calls.carry(rt, worker.number, worker.link, worker.gate);
     }
     unreachable!()
 }

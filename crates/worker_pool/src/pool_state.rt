@@ -442,6 +442,7 @@ impl<J: RunSpec> PoolState<J> {
                 call: k,
                 answer,
                 logged,
+                is_begun: false,
                 of: PhantomData,
             },
             Progress::Waiting | Progress::Begun(_) => unreachable!(),
