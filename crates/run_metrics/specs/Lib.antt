@@ -1,0 +1,4 @@
+pub mod Outcomes
+pub mod Phases
+pub mod Exposition
+pub mod Spans
