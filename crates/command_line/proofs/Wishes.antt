@@ -11,9 +11,9 @@ use Rattle.std.specs.List.{list_any}
 use Rattle.clap.specs.Matches.{subcommand_name_of}
 use Rattle.clap.specs.declared.parser.matches.ArgMatches.{ArgMatches}
 use Rattle.clap.specs.declared.parser.matches.ArgMatches.TheViews.{out-ArgMatches}
-use Rattle.command_line.specs.Said.{AllNumbers, IsNoCount, IsNoPart, IsUnfit, Argument, Workers, Tries, Bytes, Logless, Alone, Both, Drawn, NoPart, Parted, IsWrong, Refused, NoCommand, Unfit, procd_app, shows}
+use Rattle.command_line.specs.Said.{AllNumbers, IsNoCount, IsNoPart, IsUnfit, Argument, Workers, Tries, Bytes, Logless, Alone, Both, Drawn, Followed, NoPart, Parted, IsWrong, Refused, NoCommand, Unfit, procd_app, shows}
 use Rattle.command_line.specs.Said.{IsFlag, SaysCount, SaysLog, SaysNumber, SaysNumberIf, SaysNumbers, SaysPart, SaysPartOf, SaysRun, SaysWish, value_of}
-use Rattle.command_line.specs.Task.{LogWish, Events, EventsAndRows, Audit, Picture}
+use Rattle.command_line.specs.Task.{LogWish, Events, EventsAndRows, Follow, Audit, Picture}
 use Rattle.command_line.specs.Joining.LogWanted.{shown_wanted, audit_wanted}
 use Rattle.log_part.specs.declared.part.Part.{Part}
 use Rattle.log_part.specs.declared.part.Part.TheVariants.{Whole, From, Last}
@@ -96,7 +96,7 @@ wants_exec name rows raw numbers is flag all Asm named says = absurd (exec_not_a
 wants_exec name rows raw numbers is flag all (Dis r) named says = absurd (exec_not_dis (sym is ∙ named))
 wants_exec name rows raw numbers is flag all Verify named says = absurd (exec_not_verify (sym is ∙ named))
 wants_exec name rows raw numbers is flag all (World log audit script) named says = absurd (exec_not_world (sym is ∙ named))
-wants_exec name rows raw numbers is flag all (Run workers tries stats audit results tell log checkpoint over script) named says = absurd (exec_not_run (sym is ∙ named))
+wants_exec name rows raw numbers is flag all (Run workers tries stats audit results tell metrics trace log checkpoint over script) named says = absurd (exec_not_run (sym is ∙ named))
 wants_exec name rows raw numbers is flag all (Log script) named says = absurd (exec_not_log (sym is ∙ named))
 
 pub wants_dis : (name : List ℕ) (rows : List Row) (raw : Bool) → name ≡ codes "dis" → ((r : Bool) → IsFlag r (one_of (codes "raw") rows) → raw ≡ r)
@@ -106,7 +106,7 @@ wants_dis name rows raw is flag Asm named says = absurd (asm_not_dis (sym named 
 wants_dis name rows raw is flag (Dis r) named says = ap Dis (flag r says)
 wants_dis name rows raw is flag Verify named says = absurd (dis_not_verify (sym is ∙ named))
 wants_dis name rows raw is flag (World log audit script) named says = absurd (dis_not_world (sym is ∙ named))
-wants_dis name rows raw is flag (Run workers tries stats audit results tell log checkpoint over script) named says = absurd (dis_not_run (sym is ∙ named))
+wants_dis name rows raw is flag (Run workers tries stats audit results tell metrics trace log checkpoint over script) named says = absurd (dis_not_run (sym is ∙ named))
 wants_dis name rows raw is flag (Log script) named says = absurd (dis_not_log (sym is ∙ named))
 
 pub wants_world : (name : List ℕ) (rows : List Row) (log audit : Bool) (script : Option (List ℕ)) → name ≡ codes "world"
@@ -120,21 +120,21 @@ wants_world name rows log audit script is flag other path (Dis r) named says = a
 wants_world name rows log audit script is flag other path Verify named says = absurd (verify_not_world (sym named ∙ is))
 wants_world name rows log audit script is flag other path (World l a s) named says =
     ap₂ (λ (x y : Bool). World x y script) (flag l says.0) (other a says.1) ∙ ap (λ (o : Option (List ℕ)). World l a o) (path ∙ says.2)
-wants_world name rows log audit script is flag other path (Run workers tries stats a results tell kept checkpoint over beside) named says = absurd (world_not_run (sym is ∙ named))
+wants_world name rows log audit script is flag other path (Run workers tries stats a results tell metrics trace kept checkpoint over beside) named says = absurd (world_not_run (sym is ∙ named))
 wants_world name rows log audit script is flag other path (Log beside) named says = absurd (world_not_log (sym is ∙ named))
 
 pub wants_run : (name : List ℕ) (rows : List Row) (result : Result Task WordFault) → name ≡ codes "run"
-    → ((workers tries : ℕ) (stats audit results tell : Bool) (log : Option (List ℕ)) (checkpoint : Bool) (over : Option ℕ) (script : Option (List ℕ))
-    → SaysRun rows workers tries stats audit results tell log checkpoint over script
-    → IsTaskOrNoMemory (Run workers tries stats audit results tell log checkpoint over script) result)
+    → ((workers tries : ℕ) (stats audit results tell : Bool) (metrics trace log : Option (List ℕ)) (checkpoint : Bool) (over : Option ℕ) (script : Option (List ℕ))
+    → SaysRun rows workers tries stats audit results tell metrics trace log checkpoint over script
+    → IsTaskOrNoMemory (Run workers tries stats audit results tell metrics trace log checkpoint over script) result)
     → (wish : Wish) → name ≡ command_name wish → SaysWish rows wish → IsTaskOrNoMemory wish result
 wants_run name rows result is all (Exec r ns) named says = absurd (exec_not_run (sym named ∙ is))
 wants_run name rows result is all Asm named says = absurd (asm_not_run (sym named ∙ is))
 wants_run name rows result is all (Dis r) named says = absurd (dis_not_run (sym named ∙ is))
 wants_run name rows result is all Verify named says = absurd (verify_not_run (sym named ∙ is))
 wants_run name rows result is all (World log audit script) named says = absurd (world_not_run (sym named ∙ is))
-wants_run name rows result is all (Run workers tries stats audit results tell log checkpoint over script) named says =
-    all workers tries stats audit results tell log checkpoint over script says
+wants_run name rows result is all (Run workers tries stats audit results tell metrics trace log checkpoint over script) named says =
+    all workers tries stats audit results tell metrics trace log checkpoint over script says
 wants_run name rows result is all (Log script) named says = absurd (log_not_run (sym named ∙ is))
 
 pub wants_log : (name : List ℕ) (rows : List Row) (result : Result Task WordFault) → name ≡ codes "log"
@@ -145,17 +145,17 @@ wants_log name rows result is all Asm named says = absurd (asm_not_log (sym name
 wants_log name rows result is all (Dis r) named says = absurd (dis_not_log (sym named ∙ is))
 wants_log name rows result is all Verify named says = absurd (verify_not_log (sym named ∙ is))
 wants_log name rows result is all (World log audit script) named says = absurd (world_not_log (sym named ∙ is))
-wants_log name rows result is all (Run workers tries stats audit results tell log checkpoint over script) named says = absurd (log_not_run (sym is ∙ named))
+wants_log name rows result is all (Run workers tries stats audit results tell metrics trace log checkpoint over script) named says = absurd (log_not_run (sym is ∙ named))
 wants_log name rows result is all (Log wanted) named says = all wanted says
 
 -- ---- a log's file
 
--- a script's path, and the flags of an audit and of rows, with the file of a picture and a part
-abbrev log_wanted : Option Text → Bool → Bool → Option Text → Part → Option LogWish
-log_wanted None true base picture part = None
-log_wanted None false base picture part = shown_wanted base picture part
-log_wanted (Some script) false base picture part = None
-log_wanted (Some script) true base picture part = audit_wanted base picture part script
+-- the path of a file of procedures, the flags of an audit, of rows and of following, the file of a picture, a part, and a script's path
+abbrev pub log_wanted : Option Text → Bool → Bool → Bool → Option Text → Part → Option Text → Option LogWish
+log_wanted None true base follow picture part script = None
+log_wanted None false base follow picture part script = shown_wanted base follow picture part
+log_wanted (Some source) false base follow picture part script = None
+log_wanted (Some source) true base follow picture part script = audit_wanted (base || (follow || is_some picture)) part source script
 
 part_same : (from tail : Option Text) (a b : Part) → SaysPart from tail a → SaysPart from tail b → a ≡ b
 part_same None None a b is_a is_b = is_a ∙ sym is_b
@@ -178,22 +178,29 @@ whole_only (Some text) None says some = let differs = says.1 in absurd (cc)
 whole_only None (Some text) says some = let differs = says.1 in absurd (cc)
 whole_only (Some text) (Some other) says some = says
 
--- rows are of the whole log, and stand beside no picture
-rows_alone : (picture : Option Text) (part : Part) (wanted : LogWish) → shown_wanted true picture part ≡ Some wanted
-    → (picture ≡ None) × (part ≡ Whole)
-rows_alone (Some path) part wanted e = absurd (cc)
-rows_alone None Whole wanted e = (refl, refl)
-rows_alone None (From place) wanted e = absurd (cc)
-rows_alone None (Last count) wanted e = absurd (cc)
+-- rows are of the whole log, and stand beside no picture and where it isn't followed
+rows_alone : (follow : Bool) (picture : Option Text) (part : Part) (wanted : LogWish) → shown_wanted true follow picture part ≡ Some wanted
+    → (follow ≡ false) × (picture ≡ None) × (part ≡ Whole)
+rows_alone follow (Some path) part wanted e = absurd (cc)
+rows_alone true None part wanted e = absurd (cc)
+rows_alone false None Whole wanted e = (refl, refl, refl)
+rows_alone false None (From place) wanted e = absurd (cc)
+rows_alone false None (Last count) wanted e = absurd (cc)
 
--- and so is an audit, and stands beside neither
-audit_alone : (base : Bool) (picture : Option Text) (part : Part) (script : Text) (wanted : LogWish)
-    → audit_wanted base picture part script ≡ Some wanted → (base ≡ false) × (picture ≡ None) × (part ≡ Whole)
-audit_alone true picture part script wanted e = absurd (cc)
-audit_alone false (Some path) part script wanted e = absurd (cc)
-audit_alone false None Whole script wanted e = (refl, refl, refl)
-audit_alone false None (From place) script wanted e = absurd (cc)
-audit_alone false None (Last count) script wanted e = absurd (cc)
+-- no picture is made of a log that is followed
+follow_alone : (base : Bool) (picture : Option Text) (part : Part) (wanted : LogWish) → shown_wanted base true picture part ≡ Some wanted
+    → picture ≡ None
+follow_alone true (Some path) part wanted e = absurd (cc)
+follow_alone false (Some path) part wanted e = absurd (cc)
+follow_alone base None part wanted e = refl
+
+-- an audit is of the whole log as well, and stands beside nothing else that shows it
+audit_alone : (shown : Bool) (part : Part) (source : Text) (script : Option Text) (wanted : LogWish)
+    → audit_wanted shown part source script ≡ Some wanted → (shown ≡ false) × (part ≡ Whole)
+audit_alone true part source script wanted e = absurd (cc)
+audit_alone false Whole source script wanted e = (refl, refl)
+audit_alone false (From place) source script wanted e = absurd (cc)
+audit_alone false (Last count) source script wanted e = absurd (cc)
 
 true_false : true ≡ false → ⊥
 true_false e = cc
@@ -201,58 +208,80 @@ true_false e = cc
 none_true : (o : Option Text) → o ≡ None → is_some o ≡ true → ⊥
 none_true o none some = true_false (sym some ∙ ap is_some none)
 
+none_so : (o : Option Text) → is_some o ≡ false → o ≡ None
+none_so None e = refl
+none_so (Some text) e = absurd (true_false e)
+
 -- what is said of a log says no wrong part
 pub log_parted : (rows : List Row) (wanted : LogWish) → SaysLog rows wanted → ¬ IsNoPart (first_of (codes "from") rows) (first_of (codes "tail") rows)
-log_parted rows (Events p) says = part_said _ _ p says.4
-log_parted rows EventsAndRows says = part_said _ _ Whole says.4
-log_parted rows (Audit path) says = part_said _ _ Whole says.4
-log_parted rows (Picture path p) says = part_said _ _ p says.4
+log_parted rows (Events p) says = part_said _ _ p says.5
+log_parted rows EventsAndRows says = part_said _ _ Whole says.5
+log_parted rows (Follow p) says = part_said _ _ p says.5
+log_parted rows (Audit source script) says = part_said _ _ Whole says.0.5
+log_parted rows (Picture path p) says = part_said _ _ p says.5
 
-module _ (rows : List Row) (base audit : Bool) (script picture : Option Text) (part : Part)
+module _ (rows : List Row) (base audit follow : Bool) (source picture : Option Text) (part : Part)
     (asks : (b : Bool) → IsFlag b (one_of (codes "rows") rows) → base ≡ b)
-    (audits : (a : Bool) → IsFlag a (one_of (codes "audit") rows) → audit ≡ a) (is : script ≡ first_of (codes "script") rows)
+    (audits : (a : Bool) → IsFlag a (one_of (codes "audit") rows) → audit ≡ a)
+    (follows : (f : Bool) → IsFlag f (one_of (codes "follow") rows) → follow ≡ f) (is : source ≡ first_of (codes "source") rows)
     (drawn : picture ≡ first_of (codes "picture") rows) (parted : SaysPartOf rows part) where
-  pub log_said : (wanted : LogWish) → SaysLog rows wanted → log_wanted script audit base picture part ≡ Some wanted
+  pub log_said : (wanted : LogWish) → SaysLog rows wanted
+      → log_wanted source audit base follow picture part (first_of (codes "script") rows) ≡ Some wanted
   log_said (Events p) says =
-      rw (is ∙ says.2, audits false says.1, asks false says.0, drawn ∙ says.3, part_same _ _ part p parted says.4) refl
+      rw (is ∙ says.3, audits false says.1, asks false says.0, follows false says.2, drawn ∙ says.4, part_same _ _ part p parted says.5) refl
   log_said EventsAndRows says =
-      rw (is ∙ says.2, audits false says.1, asks true says.0, drawn ∙ says.3, part_same _ _ part Whole parted says.4) refl
-  log_said (Audit path) says =
-      rw (is ∙ says.2, audits true says.1, asks false says.0, drawn ∙ says.3, part_same _ _ part Whole parted says.4) refl
+      rw (is ∙ says.3, audits false says.1, asks true says.0, follows false says.2, drawn ∙ says.4, part_same _ _ part Whole parted says.5) refl
+  log_said (Follow p) says =
+      rw (is ∙ says.3, audits false says.1, asks false says.0, follows true says.2, drawn ∙ says.4, part_same _ _ part p parted says.5) refl
+  log_said (Audit path script) says =
+      rw (is ∙ says.0.3, audits true says.0.1, asks false says.0.0, follows false says.0.2, drawn ∙ says.0.4, part_same _ _ part Whole parted says.0.5, says.1) refl
   log_said (Picture path p) says =
-      rw (is ∙ says.2, audits false says.1, asks false says.0, drawn ∙ says.3, part_same _ _ part p parted says.4) refl
+      rw (is ∙ says.3, audits false says.1, asks false says.0, follows false says.2, drawn ∙ says.4, part_same _ _ part p parted says.5) refl
 
   -- where what is asked for stands beside nothing else, nothing is unfit
-  log_fits : is_some script ≡ audit → (audit ≡ true → base ≡ false)
-      → ((base ≡ true) ⊎ (audit ≡ true) → (picture ≡ None) × (part ≡ Whole)) → ¬ IsUnfit (codes "log") rows
-  log_fits same one alone (Argument exec none) = exec_not_log (sym exec)
-  log_fits same one alone (Workers run none) = log_not_run run
-  log_fits same one alone (Tries run none) = log_not_run run
-  log_fits same one alone (Bytes run none) = log_not_run run
-  log_fits same one alone (Logless run none wanted) = log_not_run run
-  log_fits same one alone (Alone log a flag unequal) = unequal (ap is_some (sym is) ∙ (same ∙ audits a flag))
-  log_fits same one alone (Both log asked audited) = true_false (sym (asks true asked) ∙ one (audits true audited))
-  log_fits same one alone (Drawn log some whole) =
-      let none = (alone (elim whole [ inl asked ↦ inl (asks true asked) | inr audited ↦ inr (audits true audited) ])).0 in
+  log_fits : is_some source ≡ audit → (audit ≡ true → base ≡ false)
+      → ((base ≡ true) ⊎ (audit ≡ true) → (follow ≡ false) × (picture ≡ None) × (part ≡ Whole)) → (follow ≡ true → picture ≡ None)
+      → ¬ IsUnfit (codes "log") rows
+  log_fits same one alone undrawn (Argument exec none) = exec_not_log (sym exec)
+  log_fits same one alone undrawn (Workers run none) = log_not_run run
+  log_fits same one alone undrawn (Tries run none) = log_not_run run
+  log_fits same one alone undrawn (Bytes run none) = log_not_run run
+  log_fits same one alone undrawn (Logless run none wanted) = log_not_run run
+  log_fits same one alone undrawn (Alone log a flag unequal) = unequal (ap is_some (sym is) ∙ (same ∙ audits a flag))
+  log_fits same one alone undrawn (Both log asked audited) = true_false (sym (asks true asked) ∙ one (audits true audited))
+  log_fits same one alone undrawn (Drawn log some whole) =
+      let none = (alone (elim whole [ inl asked ↦ inl (asks true asked) | inr audited ↦ inr (audits true audited) ])).1 in
       none_true picture none (ap is_some drawn ∙ some)
-  log_fits same one alone (NoPart log none) = part_said _ _ part parted none
-  log_fits same one alone (Parted log some whole) =
-      let all = (alone (elim whole [ inl asked ↦ inl (asks true asked) | inr audited ↦ inr (audits true audited) ])).1 in
+  log_fits same one alone undrawn (Followed log followed beside) =
+      elim beside [
+        | inl whole ↦
+            let not = (alone (elim whole [ inl asked ↦ inl (asks true asked) | inr audited ↦ inr (audits true audited) ])).0 in
+            true_false (sym (follows true followed) ∙ not)
+        | inr some ↦ none_true picture (undrawn (follows true followed)) (ap is_some drawn ∙ some)
+      ]
+  log_fits same one alone undrawn (NoPart log none) = part_said _ _ part parted none
+  log_fits same one alone undrawn (Parted log some whole) =
+      let all = (alone (elim whole [ inl asked ↦ inl (asks true asked) | inr audited ↦ inr (audits true audited) ])).2 in
       whole_only _ _ (subst (SaysPartOf rows) all parted) some
 
-  pub shown_fits : (wanted : LogWish) → script ≡ None → audit ≡ false → shown_wanted base picture part ≡ Some wanted → ¬ IsUnfit (codes "log") rows
-  shown_fits wanted no_script no_audit shown =
-      log_fits (ap is_some no_script ∙ sym no_audit) (λ yes. absurd (true_false (sym yes ∙ no_audit)))
+  pub shown_fits : (wanted : LogWish) → source ≡ None → audit ≡ false → shown_wanted base follow picture part ≡ Some wanted
+      → ¬ IsUnfit (codes "log") rows
+  shown_fits wanted no_source no_audit shown =
+      log_fits (ap is_some no_source ∙ sym no_audit) (λ yes. absurd (true_false (sym yes ∙ no_audit)))
       (λ either. elim either [
-        | inl asked ↦ rows_alone picture part wanted (subst (λ (b : Bool). shown_wanted b picture part ≡ Some wanted) asked shown)
+        | inl asked ↦ rows_alone follow picture part wanted (subst (λ (b : Bool). shown_wanted b follow picture part ≡ Some wanted) asked shown)
         | inr audited ↦ absurd (true_false (sym audited ∙ no_audit))
       ])
+      (λ followed. follow_alone base picture part wanted (subst (λ (f : Bool). shown_wanted base f picture part ≡ Some wanted) followed shown))
 
-  pub audit_fits : (path : Text) (wanted : LogWish) → script ≡ Some path → audit ≡ true → audit_wanted base picture part path ≡ Some wanted
-      → ¬ IsUnfit (codes "log") rows
-  audit_fits path wanted there audited found =
-      let alone = audit_alone base picture part path wanted found in
-      log_fits (ap is_some there ∙ sym audited) (λ _. alone.0) (λ _. (alone.1, alone.2))
+  pub audit_fits : (path : Text) (shown : Bool) (script : Option Text) (wanted : LogWish) → source ≡ Some path → audit ≡ true
+      → shown ≡ (base || (follow || is_some picture)) → audit_wanted shown part path script ≡ Some wanted → ¬ IsUnfit (codes "log") rows
+  audit_fits path shown script wanted there audited shows_so found =
+      let alone = audit_alone shown part path script wanted found in
+      let first = or_parts base (follow || is_some picture) (sym shows_so ∙ alone.0) in
+      let second = or_parts follow (is_some picture) first.1 in
+      let undrawn = none_so picture second.1 in
+      log_fits (ap is_some there ∙ sym audited) (λ _. first.0) (λ _. (second.0, undrawn, alone.1)) (λ _. undrawn)
 
 composed : {A B C : Type 0} (g : A → B) (f : B → C) (o : Option A) → option_map (λ a. f (g a)) o ≡ option_map f (option_map g o)
 composed g f None = refl
@@ -331,6 +360,7 @@ lacks_nothing name rows not_exec not_run not_log (Logless run none wanted) = not
 lacks_nothing name rows not_exec not_run not_log (Alone log audit flag unequal) = not_log log
 lacks_nothing name rows not_exec not_run not_log (Both log asked audit) = not_log log
 lacks_nothing name rows not_exec not_run not_log (Drawn log some whole) = not_log log
+lacks_nothing name rows not_exec not_run not_log (Followed log followed beside) = not_log log
 lacks_nothing name rows not_exec not_run not_log (NoPart log none) = not_log log
 lacks_nothing name rows not_exec not_run not_log (Parted log some whole) = not_log log
 
@@ -344,6 +374,7 @@ lacks_no_argument name rows is all (Logless run none wanted) = exec_not_run (sym
 lacks_no_argument name rows is all (Alone log audit flag unequal) = exec_not_log (sym is ∙ log)
 lacks_no_argument name rows is all (Both log asked audit) = exec_not_log (sym is ∙ log)
 lacks_no_argument name rows is all (Drawn log some whole) = exec_not_log (sym is ∙ log)
+lacks_no_argument name rows is all (Followed log followed beside) = exec_not_log (sym is ∙ log)
 lacks_no_argument name rows is all (NoPart log none) = exec_not_log (sym is ∙ log)
 lacks_no_argument name rows is all (Parted log some whole) = exec_not_log (sym is ∙ log)
 
@@ -360,6 +391,7 @@ lacks_no_count rows workers tries bytes logged (Logless run none wanted) = logge
 lacks_no_count rows workers tries bytes logged (Alone log audit flag unequal) = log_not_run (sym log)
 lacks_no_count rows workers tries bytes logged (Both log asked audit) = log_not_run (sym log)
 lacks_no_count rows workers tries bytes logged (Drawn log some whole) = log_not_run (sym log)
+lacks_no_count rows workers tries bytes logged (Followed log followed beside) = log_not_run (sym log)
 lacks_no_count rows workers tries bytes logged (NoPart log none) = log_not_run (sym log)
 lacks_no_count rows workers tries bytes logged (Parted log some whole) = log_not_run (sym log)
 

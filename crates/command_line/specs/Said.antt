@@ -9,7 +9,7 @@ use Rattle.clap.specs.declared.error.kind.ErrorKind.TheVariants as kind
 use Rattle.clap.specs.declared.builder.ArgAction.TheVariants.{Set, SetTrue, Append}
 use Rattle.std.specs.Str.Parse.{IsNumeral, digits_value, without_leading_plus}
 use Rattle.command_line.specs.Task.{Wish, Exec, Asm, Dis, Verify, World, Run, Log, command_name}
-use Rattle.command_line.specs.Task.{LogWish, Events, EventsAndRows, Audit, Picture}
+use Rattle.command_line.specs.Task.{LogWish, Events, EventsAndRows, Follow, Audit, Picture}
 use Rattle.log_part.specs.declared.part.Part.{Part}
 use Rattle.log_part.specs.declared.part.Part.TheVariants.{Whole, From, Last}
 
@@ -30,6 +30,12 @@ file_rule = record (new_rule (codes "file")) { required = true; action = Some Se
 
 abbrev pub arg_rule : Rule
 arg_rule = record (new_rule (codes "arg")) { action = Some Append; value_names = 1 }
+
+abbrev pub follow_rule : Rule
+follow_rule = record (new_rule (codes "follow")) { long = Some (codes "follow"); action = Some SetTrue }
+
+abbrev pub source_rule : Rule
+source_rule = record (new_rule (codes "source")) { action = Some Set; value_names = 1 }
 
 abbrev pub script_rule : Rule
 script_rule = record (new_rule (codes "script")) { action = Some Set; value_names = 1 }
@@ -78,25 +84,25 @@ counted_app = with_rule (with_rule (new_app (codes "run")) (option_rule (codes "
 abbrev pub told_app : App
 told_app = with_rule (with_rule (with_rule (with_rule counted_app stats_rule) audit_rule) results_rule) tell_rule
 
--- run [--workers N] [--tries N] [--stats] [--audit] [--results] [--tell] [--log LOG]
+-- and behind it [--metrics PROM] [--trace JSON] [--log LOG]
 abbrev pub kept_app : App
-kept_app = with_rule told_app (option_rule (codes "log"))
+kept_app = with_rule (with_rule (with_rule told_app (option_rule (codes "metrics"))) (option_rule (codes "trace"))) (option_rule (codes "log"))
 
 -- and behind it [--checkpoint] [--checkpoint-over BYTES] FILE [SCRIPT]
 abbrev pub run_app : App
 run_app = with_rule (with_rule (with_rule (with_rule kept_app checkpoint_rule) (option_rule (codes "checkpoint-over"))) file_rule) script_rule
 
--- log [--rows] [--audit] [--picture SVG]
+-- log [--rows] [--audit] [--follow] [--picture SVG]
 abbrev pub drawn_app : App
-drawn_app = with_rule (with_rule (with_rule (new_app (codes "log")) rows_rule) audit_rule) (option_rule (codes "picture"))
+drawn_app = with_rule (with_rule (with_rule (with_rule (new_app (codes "log")) rows_rule) audit_rule) follow_rule) (option_rule (codes "picture"))
 
--- log [--rows] [--audit] [--picture SVG] [--from P] [--tail N]
+-- log [--rows] [--audit] [--follow] [--picture SVG] [--from P] [--tail N]
 abbrev pub parted_app : App
 parted_app = with_rule (with_rule drawn_app (option_rule (codes "from"))) (option_rule (codes "tail"))
 
--- log [--rows] [--audit] [--picture SVG] [--from P] [--tail N] FILE [SCRIPT]
+-- log [--rows] [--audit] [--follow] [--picture SVG] [--from P] [--tail N] FILE [SOURCE] [SCRIPT]
 abbrev pub log_app : App
-log_app = with_rule (with_rule parted_app file_rule) script_rule
+log_app = with_rule (with_rule (with_rule parted_app file_rule) source_rule) script_rule
 
 -- the commands that take code
 abbrev pub code_app : App
@@ -149,11 +155,12 @@ abbrev pub wants_checkpoint : Bool → Option ℕ → Bool
 wants_checkpoint checkpoint over = checkpoint || is_some over
 
 -- 4 workers and 3 tries, where nothing is said of them; a checkpoint is that of a log
-abbrev pub SaysRun : List Row → ℕ → ℕ → Bool → Bool → Bool → Bool → Option Text → Bool → Option ℕ → Option Text → Type 0
-SaysRun rows workers tries stats audit results tell log checkpoint over script =
+abbrev pub SaysRun : List Row → (workers tries : ℕ) → (stats audit results tell : Bool) → (metrics trace log : Option Text) → Bool → Option ℕ → Option Text → Type 0
+SaysRun rows workers tries stats audit results tell metrics trace log checkpoint over script =
     SaysCount (first_of (codes "workers") rows) 4 workers × SaysCount (first_of (codes "tries") rows) 3 tries
     × IsFlag stats (one_of (codes "stats") rows) × IsFlag audit (one_of (codes "audit") rows)
     × IsFlag results (one_of (codes "results") rows) × IsFlag tell (one_of (codes "tell") rows)
+    × (first_of (codes "metrics") rows ≡ metrics) × (first_of (codes "trace") rows ≡ trace)
     × (first_of (codes "log") rows ≡ log) × IsFlag checkpoint (one_of (codes "checkpoint") rows)
     × SaysNumberIf (first_of (codes "checkpoint-over") rows) over × (first_of (codes "script") rows ≡ script)
     × (log ≡ None → wants_checkpoint checkpoint over ≡ false)
@@ -168,18 +175,21 @@ SaysPart (Some text) (Some other) part = ⊥
 abbrev pub SaysPartOf : List Row → Part → Type 0
 SaysPartOf rows part = SaysPart (first_of (codes "from") rows) (first_of (codes "tail") rows) part
 
--- whether the rows with which it begins are asked for, whether an audit is, the script, the file of a picture, and the part of its events
-abbrev pub SaysOfLog : List Row → (base audit : Bool) → (script picture : Option Text) → Part → Type 0
-SaysOfLog rows base audit script picture part =
-    IsFlag base (one_of (codes "rows") rows) × IsFlag audit (one_of (codes "audit") rows) × (first_of (codes "script") rows ≡ script)
-    × (first_of (codes "picture") rows ≡ picture) × SaysPartOf rows part
+-- whether the rows with which it begins are asked for, whether an audit is, whether it is followed, the first file of procedures, the file
+-- of a picture, and the part of its events
+abbrev pub SaysOfLog : List Row → (base audit follow : Bool) → (source picture : Option Text) → Part → Type 0
+SaysOfLog rows base audit follow source picture part =
+    IsFlag base (one_of (codes "rows") rows) × IsFlag audit (one_of (codes "audit") rows) × IsFlag follow (one_of (codes "follow") rows)
+    × (first_of (codes "source") rows ≡ source) × (first_of (codes "picture") rows ≡ picture) × SaysPartOf rows part
 
--- a script where an audit is asked for, and else none; rows, an audit or a picture, and a part of the events with neither rows nor an audit
+-- files of procedures where an audit is asked for, and else none; rows, an audit, a picture, or what comes, and a part of the events with
+-- neither rows nor an audit
 abbrev pub SaysLog : List Row → LogWish → Type 0
-SaysLog rows (Events part) = SaysOfLog rows false false None None part
-SaysLog rows EventsAndRows = SaysOfLog rows true false None None Whole
-SaysLog rows (Audit script) = SaysOfLog rows false true (Some script) None Whole
-SaysLog rows (Picture path part) = SaysOfLog rows false false None (Some path) part
+SaysLog rows (Events part) = SaysOfLog rows false false false None None part
+SaysLog rows EventsAndRows = SaysOfLog rows true false false None None Whole
+SaysLog rows (Follow part) = SaysOfLog rows false false true None None part
+SaysLog rows (Audit source script) = SaysOfLog rows false true false (Some source) None Whole × (first_of (codes "script") rows ≡ script)
+SaysLog rows (Picture path part) = SaysOfLog rows false false false None (Some path) part
 
 -- what a command's rows say
 abbrev pub SaysWish : List Row → Wish → Type 0
@@ -189,7 +199,7 @@ SaysWish rows (Dis raw) = IsFlag raw (one_of (codes "raw") rows)
 SaysWish rows Verify = Unit {0}
 SaysWish rows (World log audit script) =
     IsFlag log (one_of (codes "log") rows) × IsFlag audit (one_of (codes "audit") rows) × (first_of (codes "script") rows ≡ script)
-SaysWish rows (Run workers tries stats audit results tell log checkpoint over script) = SaysRun rows workers tries stats audit results tell log checkpoint over script
+SaysWish rows (Run workers tries stats audit results tell metrics trace log checkpoint over script) = SaysRun rows workers tries stats audit results tell metrics trace log checkpoint over script
 SaysWish rows (Log wanted) = SaysLog rows wanted
 
 -- the words are a command line of the program, and say this command with this file
@@ -226,7 +236,7 @@ abbrev pub IsOfWhole : List Row → Type 0
 IsOfWhole rows = IsFlag true (one_of (codes "rows") rows) ⊎ IsFlag true (one_of (codes "audit") rows)
 
 -- what is to be a number isn't one, an audit has no script, or a script no audit; rows are asked for beside an audit, or a picture or a
--- part of the events beside one of these; or a checkpoint without a log
+-- part of the events beside one of these; a log is followed beside one of these or a picture; or a checkpoint without a log
 pub data IsUnfit (name : Text) (rows : List Row) : Type 0 where
   Argument : name ≡ codes "exec" → ¬ AllNumbers (unwrap_or (all_of (codes "arg") rows) []) → IsUnfit name rows
   Workers : name ≡ codes "run" → IsNoCount (first_of (codes "workers") rows) → IsUnfit name rows
@@ -235,9 +245,11 @@ pub data IsUnfit (name : Text) (rows : List Row) : Type 0 where
   Logless : name ≡ codes "run" → first_of (codes "log") rows ≡ None
       → IsFlag true (one_of (codes "checkpoint") rows) ⊎ (is_some (first_of (codes "checkpoint-over") rows) ≡ true) → IsUnfit name rows
   Alone : name ≡ codes "log" → (audit : Bool) → IsFlag audit (one_of (codes "audit") rows)
-      → is_some (first_of (codes "script") rows) ≢ audit → IsUnfit name rows
+      → is_some (first_of (codes "source") rows) ≢ audit → IsUnfit name rows
   Both : name ≡ codes "log" → IsFlag true (one_of (codes "rows") rows) → IsFlag true (one_of (codes "audit") rows) → IsUnfit name rows
   Drawn : name ≡ codes "log" → is_some (first_of (codes "picture") rows) ≡ true → IsOfWhole rows → IsUnfit name rows
+  Followed : name ≡ codes "log" → IsFlag true (one_of (codes "follow") rows)
+      → IsOfWhole rows ⊎ (is_some (first_of (codes "picture") rows) ≡ true) → IsUnfit name rows
   NoPart : name ≡ codes "log" → IsNoPart (first_of (codes "from") rows) (first_of (codes "tail") rows) → IsUnfit name rows
   Parted : name ≡ codes "log" → (is_some (first_of (codes "from") rows) ≡ true) ⊎ (is_some (first_of (codes "tail") rows) ≡ true)
       → IsOfWhole rows → IsUnfit name rows

@@ -6,12 +6,14 @@ use Rattle.command_line.specs.declared.words.LogTask.{LogTask}
 use Rattle.command_line.specs.declared.words.LogTask.TheVariants as of_log
 use Rattle.log_part.specs.declared.part.Part.{Part}
 
--- what is wanted of a log's file: some of its events are printed, or all and the rows with which it begins; an audit beside the script of
--- a path; or a picture of some of its events, in a file of a path
+-- what is wanted of a log's file: some of its events are printed, also with those that come, or all and the rows with which it begins; an
+-- audit beside the script of a path, or the object file of one and the script of the other; or a picture of some of its events, in a file of
+-- a path
 pub data LogWish : Type 0 where
   Events : (part : Part) → LogWish
   EventsAndRows : LogWish
-  Audit : (script : List ℕ) → LogWish
+  Follow : (part : Part) → LogWish
+  Audit : (source : List ℕ) (script : Option (List ℕ)) → LogWish
   Picture : (path : List ℕ) (part : Part) → LogWish
 
 -- a command, but for its file
@@ -21,7 +23,7 @@ pub data Wish : Type 0 where
   Dis : (raw : Bool) → Wish
   Verify : Wish
   World : (log audit : Bool) (script : Option (List ℕ)) → Wish
-  Run : (workers tries : ℕ) (stats audit results tell : Bool) (log : Option (List ℕ)) (checkpoint : Bool) (over : Option ℕ) (script : Option (List ℕ)) → Wish
+  Run : (workers tries : ℕ) (stats audit results tell : Bool) (metrics trace log : Option (List ℕ)) (checkpoint : Bool) (over : Option ℕ) (script : Option (List ℕ)) → Wish
   Log : (wanted : LogWish) → Wish
 
 abbrev pub command_name : Wish → List ℕ
@@ -30,13 +32,14 @@ command_name Asm = codes "asm"
 command_name (Dis raw) = codes "dis"
 command_name Verify = codes "verify"
 command_name (World log audit script) = codes "world"
-command_name (Run workers tries stats audit results tell log checkpoint over script) = codes "run"
+command_name (Run workers tries stats audit results tell metrics trace log checkpoint over script) = codes "run"
 command_name (Log wanted) = codes "log"
 
 abbrev pub log_wish : LogTask → LogWish
 log_wish (of_log.Events part) = Events part
 log_wish of_log.EventsAndRows = EventsAndRows
-log_wish (of_log.Audit script) = Audit script.now
+log_wish (of_log.Follow part) = Follow part
+log_wish (of_log.Audit source script) = Audit source.now (option_map (λ path. path.now) script)
 log_wish (of_log.Picture path part) = Picture path.now part
 
 abbrev pub wish_of : Task → Wish
@@ -45,8 +48,9 @@ wish_of task.Asm = Asm
 wish_of (task.Dis raw) = Dis raw
 wish_of task.Verify = Verify
 wish_of (task.World log audit script) = World log audit (option_map (λ path. path.now) script)
-wish_of (task.Run workers tries stats audit results tell log checkpoint over script) =
-    Run workers tries stats audit results tell (option_map (λ path. path.now) log) checkpoint over (option_map (λ path. path.now) script)
+wish_of (task.Run workers tries stats audit results tell metrics trace log checkpoint over script) =
+    Run workers tries stats audit results tell (option_map (λ path. path.now) metrics) (option_map (λ path. path.now) trace)
+    (option_map (λ path. path.now) log) checkpoint over (option_map (λ path. path.now) script)
 wish_of (task.Log wanted) = Log (log_wish wanted)
 
 -- whether what FILE has is to be UTF-8: an object file isn't, beside which a script stands
@@ -56,10 +60,10 @@ reads_text Asm = true
 reads_text (Dis raw) = false
 reads_text Verify = true
 reads_text (World log audit script) = is_none script
-reads_text (Run workers tries stats audit results tell log checkpoint over script) = is_none script
+reads_text (Run workers tries stats audit results tell metrics trace log checkpoint over script) = is_none script
 reads_text (Log wanted) = false
 
 -- whether there may be something to tell on standard error: a run that is asked for its figures
 abbrev pub may_tell : Wish → Bool
-may_tell (Run workers tries stats audit results tell log checkpoint over script) = stats
+may_tell (Run workers tries stats audit results tell metrics trace log checkpoint over script) = stats
 may_tell other = false

@@ -2,7 +2,7 @@
 //!
 //! ```
 //! let wanted = wanted_of(alloc, &["procd", "world", "--log", "-"])?;
-//! // wanted.file is "-", wanted.task is Task::World { log: true, audit: false }
+//! // wanted.file is "-", wanted.task is Task::World { log: true, audit: false, script: None }
 //! ```
 #![tactic(auto)]
 

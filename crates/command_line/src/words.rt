@@ -1,14 +1,14 @@
 //! The command line.
 
-ghost use Rattle.std.specs.Prelude.{◌≡◌, ℕ, Bool, List, Option, [], true, false, Some, map, unwrap_or, IfOk, IfErr, IfSome, is_none, ◌&&◌, option_map, codes};
+ghost use Rattle.std.specs.Prelude.{◌≡◌, ℕ, Bool, List, Option, [], true, false, Some, map, unwrap_or, IfOk, IfErr, IfSome, is_none, is_some, ◌&&◌, ◌||◌, option_map, codes};
 ghost use Rattle.clap.specs.Words.{App, Row, app_of, with_subcommand, rule_of, kind_of, subcommand_of};
 ghost use Rattle.clap.specs.Words.{subcommand_rows_of, takes, rows_of, found_of, first_of, one_of, all_of, fault_of, FailsBy};
 ghost use Rattle.clap.specs.declared.builder.command.Command.TheViews.{out-Command};
 ghost use Rattle.command_line.specs.Wanted.{WantsOrNoMemory, IsTaskOrNoMemory, IsNumbersOrNoMemory, IsWordFault, IsWrongOrNoMemory};
 ghost use Rattle.command_line.specs.Task.{Wish, LogWish, Run, Log, command_name, log_wish};
 ghost use Rattle.command_line.specs.Joining.LogWanted.{shown_wanted, audit_wanted};
-ghost use Rattle.command_line.specs.Said.{procd_app, exec_app, asm_app, dis_app, verify_app, world_app, kept_app, run_app, log_app};
-ghost use Rattle.command_line.specs.Said.{file_rule, raw_rule, log_rule, audit_rule, rows_rule, script_rule, option_rule, stats_rule, results_rule, tell_rule, checkpoint_rule};
+ghost use Rattle.command_line.specs.Said.{procd_app, exec_app, asm_app, dis_app, verify_app, world_app, told_app, kept_app, run_app, log_app};
+ghost use Rattle.command_line.specs.Said.{file_rule, raw_rule, log_rule, audit_rule, rows_rule, follow_rule, source_rule, script_rule, option_rule, stats_rule, results_rule, tell_rule, checkpoint_rule};
 ghost use Rattle.command_line.specs.Said.{Says, SaysWish, SaysRun, SaysLog, SaysPart, SaysCount, SaysNumberIf, SaysNumbers, AllNumbers, IsFlag, value_of, wants_checkpoint};
 ghost use Rattle.command_line.specs.Said.{IsWrong, IsNoCount, IsNoPart, IsUnfit};
 
@@ -45,6 +45,7 @@ pub enum Task<'a> {
     /// `stats` the figures of the run are told on standard error; with `audit` what an audit finds is
     /// printed behind the rows; with `results` what the slots of each call that committed hold is printed
     /// behind its line; with `tell` standard error is told of each answer as soon as it stands;
+    /// `metrics` and `trace` are the paths of the files that tell of the run, while it lasts and behind it;
     /// `log` is the path of the file that keeps the log, if one does, which begins anew behind the last call with
     /// `checkpoint`, and where its file has more bytes than `over`. `script` is as of `World`.
     Run {
@@ -54,6 +55,8 @@ pub enum Task<'a> {
         audit: bool,
         results: bool,
         tell: bool,
+        metrics: Option<&'a str>,
+        trace: Option<&'a str>,
         log: Option<&'a str>,
         checkpoint: bool,
         over: Option<u64>,
@@ -70,8 +73,14 @@ pub enum LogTask<'a> {
     Events(Part),
     /// Print its events, and behind them the records with which data components begin.
     EventsAndRows,
-    /// Audit it, with the script of this path, whose procedures it was written for.
-    Audit(&'a str),
+    /// Print these of its events, and each further one as soon as it is found.
+    Follow(Part),
+    /// Audit it, with the script of the path `source`, whose procedures it was written for; or, with a `script`, its
+    /// path, with the object file of the path `source` that has procedures for that.
+    Audit {
+        source: &'a str,
+        script: Option<&'a str>,
+    },
     /// Draw these of its events into a new file of this path.
     Picture(&'a str, Part),
 }
@@ -115,7 +124,7 @@ pub enum WordFault {
     AuditAlone,
     /// `log` with a script, but without `--audit`.
     ScriptAlone,
-    /// `log` with two of `--rows`, `--audit` and `--picture`.
+    /// `log` with two of `--rows`, `--audit`, `--picture` and `--follow`.
     TwoPurposes,
     /// `log` with `--from` and with `--tail`.
     TwoParts,
@@ -268,7 +277,9 @@ fn stats_arg<'a>(alloc: Global) -> Arg<'a>
     Arg::new(alloc, "stats")
         .long("stats")
         .action(ArgAction::SetTrue)
-        .help("Tell on standard error how many calls were answered how, and how many a second")
+        .help(
+            "Tell on standard error how many calls were answered how, of each procedure too, how many a second, and how long they took",
+        )
 }
 
 // --results
@@ -308,9 +319,9 @@ fn checkpoint_arg<'a>(alloc: Global) -> Arg<'a>
         .help("Write LOG anew behind the last call: the rows, and the log from there on")
 }
 
-// `run [--workers N] [--tries N] [--stats] [--audit] [--results] [--tell] [--log LOG]`
-fn kept_command<'a>(alloc: Global) -> Result<Command<'a>, AllocError>
-    ensures app { IfOk result (λ c. app_of c ≡ kept_app) }
+// `run [--workers N] [--tries N] [--stats] [--audit] [--results] [--tell]`
+fn told_command<'a>(alloc: Global) -> Result<Command<'a>, AllocError>
+    ensures app { IfOk result (λ c. app_of c ≡ told_app) }
     ensures local { IfOk result (λ c. (out-Command c).has_globals ≡ false) }
 {
     let workers = option_arg(
@@ -325,20 +336,39 @@ fn kept_command<'a>(alloc: Global) -> Result<Command<'a>, AllocError>
         "N",
         "How often a request is sent at most: 1 to 1000, or 3 where it isn't said",
     );
-    let log = option_arg(
-        alloc,
-        "log",
-        "LOG",
-        "A file that keeps the log: what it has is gone on from, and each answer waits for it",
-    );
     Command::new(alloc, "run")
         .arg(workers)?
         .arg(tries)?
         .arg(stats_arg(alloc))?
         .arg(audit_arg(alloc))?
         .arg(results_arg(alloc))?
-        .arg(tell_arg(alloc))?
-        .arg(log)
+        .arg(tell_arg(alloc))
+}
+
+// The same with `[--metrics PROM] [--trace JSON] [--log LOG]` behind it.
+fn kept_command<'a>(alloc: Global) -> Result<Command<'a>, AllocError>
+    ensures app { IfOk result (λ c. app_of c ≡ kept_app) }
+    ensures local { IfOk result (λ c. (out-Command c).has_globals ≡ false) }
+{
+    let metrics = option_arg(
+        alloc,
+        "metrics",
+        "PROM",
+        "A file for Prometheus, written anew each second while the run lasts: how many calls were answered how, and how long they took",
+    );
+    let trace = option_arg(
+        alloc,
+        "trace",
+        "JSON",
+        "A file for a browser's trace viewer, written behind the last call: when each call began and was answered",
+    );
+    let log = option_arg(
+        alloc,
+        "log",
+        "LOG",
+        "A file that keeps the log: what it has is gone on from, and each answer waits for it",
+    );
+    told_command(alloc)?.arg(metrics)?.arg(trace)?.arg(log)
 }
 
 // The same with `[--checkpoint] [--checkpoint-over BYTES] FILE [SCRIPT]` behind it.
@@ -370,7 +400,31 @@ fn rows_arg<'a>(alloc: Global) -> Arg<'a>
         .help("Print the rows as well with which a log begins that was cut, behind its events")
 }
 
-// `log [--rows] [--audit] [--picture SVG] [--from P] [--tail N] FILE [SCRIPT]`
+// --follow
+fn follow_arg<'a>(alloc: Global) -> Arg<'a>
+    ensures rule { rule_of result ≡ follow_rule }
+    ensures local { result.global ≡ false }
+{
+    Arg::new(alloc, "follow")
+        .long("follow")
+        .action(ArgAction::SetTrue)
+        .help("Go on, and print each further event as soon as it stands in the file")
+}
+
+// [SOURCE]
+fn source_arg<'a>(alloc: Global) -> Arg<'a>
+    ensures rule { rule_of result ≡ source_rule }
+    ensures local { result.global ≡ false }
+{
+    Arg::new(alloc, "source")
+        .action(ArgAction::Set)
+        .value_name("SOURCE")
+        .help(
+            "With --audit, the script whose procedures the log was written for, or with SCRIPT an object file for BPF with procedures: a path",
+        )
+}
+
+// `log [--rows] [--audit] [--follow] [--picture SVG] [--from P] [--tail N] FILE [SOURCE] [SCRIPT]`
 fn log_command<'a>(alloc: Global) -> Result<Command<'a>, AllocError>
     ensures app { IfOk result (λ c. app_of c ≡ log_app) }
     ensures local { IfOk result (λ c. (out-Command c).has_globals ≡ false) }
@@ -388,18 +442,16 @@ fn log_command<'a>(alloc: Global) -> Result<Command<'a>, AllocError>
         "Only the events from place P on, from 0; of a picture the first ones there",
     );
     let tail = option_arg(alloc, "tail", "N", "Only the last N events");
-    let script = script_arg(
-        alloc,
-        "With --audit, the script whose procedures the log was written for: a path",
-    );
     Command::new(alloc, "log")
         .arg(rows_arg(alloc))?
         .arg(audit_arg(alloc))?
+        .arg(follow_arg(alloc))?
         .arg(picture)?
         .arg(from)?
         .arg(tail)?
         .arg(file_arg(alloc, "The log's file: a path, or - for standard input"))?
-        .arg(script)
+        .arg(source_arg(alloc))?
+        .arg(script_arg(alloc, BESIDE_HELP))
 }
 
 // Adds a subcommand, once it is made, with what its help begins with.
@@ -558,9 +610,9 @@ fn is_logless(log: Option<&str>, checkpoint: bool, over: Option<u64>) -> bool
 
 // How calls are to be run.
 fn run_task<'a>(matches: &ArgMatches<'a>) -> Result<Task<'a>, WordFault>
-    ensures task { (workers tries : ℕ) (stats audit results tell : Bool) (log : Option (List ℕ)) (checkpoint : Bool) (over : Option ℕ)
-        (script : Option (List ℕ)) → SaysRun (rows_of (found_of matches.now)) workers tries stats audit results tell log checkpoint over script
-        → IsTaskOrNoMemory (Run workers tries stats audit results tell log checkpoint over script) result }
+    ensures task { (workers tries : ℕ) (stats audit results tell : Bool) (metrics trace log : Option (List ℕ)) (checkpoint : Bool) (over : Option ℕ)
+        (script : Option (List ℕ)) → SaysRun (rows_of (found_of matches.now)) workers tries stats audit results tell metrics trace log checkpoint over script
+        → IsTaskOrNoMemory (Run workers tries stats audit results tell metrics trace log checkpoint over script) result }
     ensures wrong { IfOk result (λ task. ¬ IsUnfit (codes "run") (rows_of (found_of matches.now))) }
     ensures err { IfErr result IsWordFault }
 {
@@ -579,6 +631,8 @@ fn run_task<'a>(matches: &ArgMatches<'a>) -> Result<Task<'a>, WordFault>
         audit: flag_of(matches, "audit"),
         results: flag_of(matches, "results"),
         tell: flag_of(matches, "tell"),
+        metrics: text_of(matches, "metrics"),
+        trace: text_of(matches, "trace"),
         log,
         checkpoint,
         over,
@@ -606,38 +660,48 @@ fn part_of(matches: &ArgMatches) -> Result<Part, WordFault>
 // What is to be done with a log's file, where no audit is asked for.
 fn shown_task<'a>(
     rows: bool,
+    follow: bool,
     picture: Option<&'a str>,
     part: Part,
 ) -> Result<LogTask<'a>, WordFault>
-    ensures ok { IfOk result (λ task. shown_wanted rows (option_map (λ path. path.now) picture.entry) part ≡ Some (log_wish task)) }
-    ensures err { IfErr result (λ e. IsWordFault e × (shown_wanted rows (option_map (λ path. path.now) picture.entry) part ≡ None)) }
+    ensures ok { IfOk result (λ task. shown_wanted rows follow (option_map (λ path. path.now) picture.entry) part ≡ Some (log_wish task)) }
+    ensures err { IfErr result (λ e. IsWordFault e × (shown_wanted rows follow (option_map (λ path. path.now) picture.entry) part ≡ None)) }
 {
     match picture {
-        Some(_) if rows => Err(WordFault::TwoPurposes),
+        Some(_) if rows || follow => Err(WordFault::TwoPurposes),
         Some(path) => Ok(LogTask::Picture(path, part)),
+        None if rows && follow => Err(WordFault::TwoPurposes),
+        None if follow => Ok(LogTask::Follow(part)),
         None if !rows => Ok(LogTask::Events(part)),
         None if part == Part::Whole => Ok(LogTask::EventsAndRows),
         None => Err(WordFault::PartUnwanted),
     }
 }
 
-// An audit of a log's file.
-fn audit_task<'a>(
-    rows: bool,
-    picture: Option<&'a str>,
-    part: Part,
-    script: &'a str,
-) -> Result<LogTask<'a>, WordFault>
-    ensures ok { IfOk result (λ task. audit_wanted rows (option_map (λ path. path.now) picture.entry) part script.entry.now ≡ Some (log_wish task)) }
-    ensures err { IfErr result (λ e. IsWordFault e × (audit_wanted rows (option_map (λ path. path.now) picture.entry) part script.entry.now ≡ None)) }
+// Whether a log's file is to be shown.
+fn is_shown(rows: bool, follow: bool, picture: Option<&str>) -> bool
+    ensures { result ≡ (rows || (follow || is_some (option_map (λ path. path.now) picture.entry))) }
 {
-    if rows || picture.is_some() {
+    rows || follow || picture.is_some()
+}
+
+// An audit of a log's file, where nothing else is asked for that shows it.
+fn audit_task<'a>(
+    shown: bool,
+    part: Part,
+    source: &'a str,
+    script: Option<&'a str>,
+) -> Result<LogTask<'a>, WordFault>
+    ensures ok { IfOk result (λ task. audit_wanted shown part source.entry.now (option_map (λ path. path.now) script.entry) ≡ Some (log_wish task)) }
+    ensures err { IfErr result (λ e. IsWordFault e × (audit_wanted shown part source.entry.now (option_map (λ path. path.now) script.entry) ≡ None)) }
+{
+    if shown {
         return Err(WordFault::TwoPurposes);
     }
     if part != Part::Whole {
         return Err(WordFault::PartUnwanted);
     }
-    Ok(LogTask::Audit(script))
+    Ok(LogTask::Audit { source, script })
 }
 
 // What is to be done with a log's file.
@@ -648,13 +712,18 @@ fn log_task<'a>(matches: &ArgMatches<'a>) -> Result<Task<'a>, WordFault>
 {
     let rows = flag_of(matches, "rows");
     let audit = flag_of(matches, "audit");
+    let follow = flag_of(matches, "follow");
     let picture = text_of(matches, "picture");
     let part = part_of(matches)?;
-    match text_of(matches, "script") {
+    match text_of(matches, "source") {
         None if audit => Err(WordFault::AuditAlone),
-        None => Ok(Task::Log(shown_task(rows, picture, part)?)),
+        None => Ok(Task::Log(shown_task(rows, follow, picture, part)?)),
         Some(_) if !audit => Err(WordFault::ScriptAlone),
-        Some(script) => Ok(Task::Log(audit_task(rows, picture, part, script)?)),
+        Some(source) => {
+            let shown = is_shown(rows, follow, picture);
+            let script = text_of(matches, "script");
+            Ok(Task::Log(audit_task(shown, part, source, script)?))
+        }
     }
 }
 

@@ -12,7 +12,7 @@ pub enum Part {
 
 impl Part {
     ghost use Rattle.std.specs.Prelude.{◌≡◌, ◌≤◌};
-    ghost use Rattle.log_part.specs.Part.{first_of, at_most};
+    ghost use Rattle.log_part.specs.Part.{first_of, begin_of, at_most};
 
     /// The place of the first of them in a log of so many events; that of its end, where there is none.
     pub fn first(self, count: usize) -> usize
@@ -23,6 +23,16 @@ impl Part {
             Part::Whole => 0,
             Part::From(place) => (count as u64).min(place) as usize,
             Part::Last(wanted) => (count as u64).saturating_sub(wanted) as usize,
+        }
+    }
+
+    /// The place from which on they are wanted of a log that has so many events, and goes on: it may lie behind its end.
+    pub fn begin(self, count: usize) -> usize
+        ensures { result ≡ begin_of self count }
+    {
+        match self {
+            Part::From(place) => place as usize,
+            Part::Whole | Part::Last(_) => self.first(count),
         }
     }
 
