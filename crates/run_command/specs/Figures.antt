@@ -1,7 +1,10 @@
 -- How many calls were answered how, as lines.
-use Rattle.std.specs.Prelude.{ℕ, ◌+◌, ◌-◌, ◌*◌, ◌/◌, ◌==◌, max, get_or, Bool, true, false, if◌then◌else◌, List, [], ◌∷◌, ◌++◌, length, count_by, codes, decimal}
+use Rattle.std.specs.Prelude.{ℕ, zero, suc, ◌+◌, ◌-◌, ◌*◌, ◌/◌, ◌==◌, max, get_or, Bool, true, false, if◌then◌else◌, List, [], ◌∷◌, ◌++◌, length, count_by, filter, map, zip, slice_get, unwrap_or, codes, decimal}
 use Rattle.data_component.specs.Store.{Store}
+use Rattle.scripts.specs.declared.script.Call.{Call}
+use Rattle.tc_core.specs.Loaded.{Loaded}
 use Rattle.run_command.specs.declared.figures.Latencies.{Latencies}
+use Rattle.run_metrics.specs.declared.exposition.Delays.{Delays}
 use Rattle.worker_pool.specs.declared.answer.Answer.{Answer}
 use Rattle.worker_pool.specs.declared.answer.Answer.TheVariants.{Committed, Aborted, NoRoom, InDoubt, Blocked}
 
@@ -33,6 +36,42 @@ figure_lines answers =
     ++ figure_line (codes "aborted") (count_by is_aborted answers) ++ figure_line (codes "in doubt") (count_by is_in_doubt answers)
     ++ figure_line (codes "blocked") (count_by is_blocked answers)
 
+-- the answers of the calls of the procedure with this number
+abbrev pub answers_of : ℕ → List Call → List Answer → List Answer
+answers_of number calls answers =
+    map (λ (pair : Call × Answer). pair.1) (filter (λ (pair : Call × Answer). pair.0.procedure == number) (zip calls answers))
+
+-- how many calls the procedure of this name had, and how many of them were answered how
+abbrev pub done_text : List ℕ → List Answer → List ℕ
+done_text name answers =
+    codes "procedure " ++ (name ++ (codes " " ++ (decimal (length answers) ++ (codes " committed " ++ (decimal (count_by is_committed answers)
+    ++ (codes " aborted " ++ decimal (count_by is_aborted answers)))))))
+
+abbrev pub undone_text : List Answer → List ℕ
+undone_text answers =
+    codes " in doubt " ++ (decimal (count_by is_in_doubt answers) ++ (codes " blocked " ++ (decimal (count_by is_blocked answers) ++ codes "\n")))
+
+-- the line of that; none where it wasn't called
+abbrev pub procedure_line : List ℕ → List Answer → List ℕ
+procedure_line name answers = if length answers == 0 then [] else done_text name answers ++ undone_text answers
+
+abbrev pub name_at : List (List ℕ) → ℕ → List ℕ
+name_at names number = unwrap_or (slice_get names number) []
+
+-- a line for each procedure that was called, of those with numbers below this
+abbrev pub procedure_lines_below : ℕ → List (List ℕ) → List Call → List Answer → List ℕ
+procedure_lines_below zero names calls answers = []
+procedure_lines_below (suc number) names calls answers =
+    procedure_lines_below number names calls answers ++ procedure_line (name_at names number) (answers_of number calls answers)
+
+-- of all that are loaded
+abbrev pub procedure_lines : Loaded → List Call → List Answer → List ℕ
+procedure_lines l calls answers = procedure_lines_below (length l.codes) l.names calls answers
+
+-- how often the file that keeps the log was synced, and its bytes
+abbrev pub log_figures : (syncs bytes : ℕ) → List ℕ
+log_figures syncs bytes = codes "syncs " ++ (decimal syncs ++ (codes "\nlog bytes " ++ (decimal bytes ++ codes "\n")))
+
 -- how many of so many calls were answered in a second, when all took so many nanoseconds
 abbrev pub rate_line : ℕ → ℕ → List ℕ
 rate_line calls nanoseconds = codes "calls a second " ++ (decimal (calls * 1_000_000 / max (nanoseconds / 1_000) 1) ++ codes "\n")
@@ -50,6 +89,10 @@ abbrev pub lines_of : Latencies → List ℕ
 lines_of l =
     codes "p50 " ++ (decimal (l.half / 1_000) ++ (codes " us\np99 " ++ (decimal (l.most / 1_000) ++ (codes " us\nlongest wait "
     ++ (decimal (l.longest / 1_000) ++ codes " us\n")))))
+
+-- how many calls had to wait for a lock, and how many wires were sent again
+abbrev pub delay_lines : Delays → List ℕ
+delay_lines d = codes "waits for locks " ++ (decimal d.lock_waits ++ (codes "\nresends " ++ (decimal d.resends ++ codes "\n")))
 
 -- a data component without room for a further operation: its number, and how many it has performed
 abbrev pub full_line : ℕ → Store → List ℕ

@@ -1,5 +1,6 @@
 pub mod AnswerLines
 pub mod Figures
+pub mod Outcomes
 pub mod Stops
 pub mod Kept
 pub mod Anew

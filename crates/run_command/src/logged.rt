@@ -537,8 +537,8 @@ fn run_back<R: Files<File = File> + Clock + Threads + Wait + Sync>(
     options: RunOptions,
 ) -> Result<Ran, Unlogged>
     ensures { KeepsLog (Some back.journal) loaded.state.events → IfOk result (λ r.
-        IsRunOn r.journal options.checkpoints loaded.state loaded.dcs.items loaded.first.items loaded.calls.items
-        options.manner.workers options.manner.tries options.manner.audit options.manner.results
+        IsRunOn r.journal options.entry.checkpoints loaded.state loaded.dcs.items loaded.first.items loaded.calls.items
+        options.entry.manner.workers options.entry.manner.tries options.entry.manner.audit options.entry.manner.results
         r.report.status (string_bytes back.lines) (string_bytes r.report.lines)) }
 {
     let Back { journal, mut lines } = back;
@@ -555,8 +555,8 @@ fn run_behind<R: Files<File = File> + Clock + Threads + Wait + Sync>(
     options: RunOptions,
 ) -> Result<Ran, Unlogged>
     requires { All HasOnlyRows loaded.dcs.items }
-    ensures { IfOk result (λ r. IsLoggedRun r.journal options.checkpoints loaded.state loaded.dcs.items loaded.first.items loaded.calls.items
-        options.manner.workers options.manner.tries options.manner.audit options.manner.results r.report.status (string_bytes r.report.lines)) }
+    ensures { IfOk result (λ r. IsLoggedRun r.journal options.entry.checkpoints loaded.state loaded.dcs.items loaded.first.items loaded.calls.items
+        options.entry.manner.workers options.entry.manner.tries options.entry.manner.audit options.entry.manner.results r.report.status (string_bytes r.report.lines)) }
 {
     let mut loaded = loaded;
     match begin(
@@ -595,7 +595,7 @@ pub fn running_logged<R: Files<File = File> + Clock + Threads + Wait + Sync>(
     source: Source,
     options: RunOptions,
 ) -> Result<Ran, Unlogged>
-    ensures { IfOk result (λ r. IsLogged r.journal options.checkpoints options.manner.workers options.manner.tries options.manner.audit options.manner.results
+    ensures { IfOk result (λ r. IsLogged r.journal options.entry.checkpoints options.entry.manner.workers options.entry.manner.tries options.entry.manner.audit options.entry.manner.results
         (beginning_of command.Run source.entry) r.report.status (string_bytes r.report.lines)) }
 {
     match load_source(alloc, Command::Run, source)? {

@@ -23,7 +23,9 @@ use crate::anew::{Ground, Renewal, write_renewal};
 use crate::answer_lines::fault_line;
 pub use crate::answering::Manner;
 use crate::answering::{Answers, FileJournal, Halt, Unbegun};
-use crate::figures::{Latencies, figures, full_dcs, latency_lines, rate};
+use crate::figures::{
+    Watched, delay_lines, figures, full_dcs, latency_lines, log_figures, procedure_lines, rate,
+};
 use crate::parts::{Outcome, Stop, Told, answer_parts};
 pub use crate::watching::Listeners;
 use crate::watching::Waits;
@@ -72,24 +74,41 @@ fn has_want_of_memory(answers: &[Answer]) -> bool
     answers.iter().any(|answer| matches!(answer, Answer::Refused(Refusal::Memory)))
 }
 
-// The figures of the second list, and which data components are full.
+// What is told of how long calls of the second list took.
+fn time_lines(alloc: Global, answers: &Answers, watched: Watched) -> Result<String, AllocError> {
+    let Some(elapsed) = answers.elapsed else {
+        return Ok(String::new(alloc));
+    };
+    let mut lines = rate(alloc, answers.calls.len(), elapsed)?;
+    if let Some(latencies) = watched.latencies {
+        let latencies = latency_lines(alloc, latencies)?;
+        lines.push_str(latencies.as_str())?;
+    }
+    Ok(lines)
+}
+
+// The figures of the second list and of the log's file, and which data components are full.
 fn notes(
     alloc: Global,
+    ground: &Ground,
+    calls: &[script::Call],
     answers: &Answers,
-    dcs: &[Dc],
-    latencies: Option<Latencies>,
+    watched: Watched,
 ) -> Result<String, AllocError> {
-    let calls = answers.calls.as_slice();
-    let mut notes = figures(alloc, calls)?;
-    if let Some(elapsed) = answers.elapsed {
-        let rate = rate(alloc, calls.len(), elapsed)?;
-        notes.push_str(rate.as_str())?;
-        if let Some(latencies) = latencies {
-            let lines = latency_lines(alloc, latencies)?;
-            notes.push_str(lines.as_str())?;
-        }
+    let answered = answers.calls.as_slice();
+    let mut notes = figures(alloc, answered)?;
+    let procedures = procedure_lines(alloc, ground.state.procs(), calls, answered)?;
+    notes.push_str(procedures.as_str())?;
+    let times = time_lines(alloc, answers, watched)?;
+    notes.push_str(times.as_str())?;
+    let delays = delay_lines(alloc, watched.delays)?;
+    notes.push_str(delays.as_str())?;
+    if let Some(journal) = &ground.journal {
+        let device = journal.device();
+        let log = log_figures(alloc, device.syncs(), device.len())?;
+        notes.push_str(log.as_str())?;
     }
-    let full = full_dcs(alloc, dcs)?;
+    let full = full_dcs(alloc, ground.dcs.as_slice())?;
     notes.push_str(full.as_str())?;
     Ok(notes)
 }
@@ -116,11 +135,12 @@ fn write_found(
 fn reported(
     alloc: Global,
     ground: &Ground,
+    said: &[script::Call],
     answers: &Answers,
     lines: String,
     renewal: Renewal,
     manner: Manner,
-    latencies: Option<Latencies>,
+    watched: Watched,
 ) -> Result<Report, AllocError>
     ensures { IfOk result (λ r. AreLinesOf ground.now.state ground.now.dcs.items manner.audit
         answers.now.first.items answers.now.calls.items (string_bytes lines) renewal r.status (string_bytes r.lines)) }
@@ -139,7 +159,7 @@ fn reported(
         status: u8::from(!sound),
         lines,
         notes: if manner.stats {
-            Some(notes(alloc, answers, dcs, latencies)?)
+            Some(notes(alloc, ground, said, answers, watched)?)
         } else {
             None
         },
@@ -228,12 +248,19 @@ fn unanswered(alloc: Global, halt: Halt) -> Result<Ran, Unreported>
     }
 }
 
-// Ends what is told of calls while they last, with which data components are full, unless that stands among the
-// figures.
-fn tell_end(waits: &Waits, manner: Manner, dcs: &[Dc]) {
+// Ends what is told of calls while they last: with the metrics, the trace and, unless that stands among the figures, which
+// data components are full.
+fn tell_end(waits: &Waits, calls: &Calls, answers: &Answers, ground: &Ground) {
     waits.end();
-    if !manner.stats {
-        waits.tell_full(dcs);
+    let journal = ground.journal.as_ref();
+    waits.write_metrics(journal.map(|journal| journal.device().syncs()));
+    waits.write_trace(
+        ground.state.procs(),
+        calls.calls.as_slice(),
+        answers.calls.as_slice(),
+    );
+    if !calls.options.manner.stats {
+        waits.tell_full(ground.dcs.as_slice());
     }
 }
 
@@ -251,18 +278,18 @@ fn stopped_at(alloc: Global, waits: &Waits, stop: Stop) -> Result<Ran, Unreporte
 
 /// How the calls of a script are run, when its log begins anew, and who is told of the calls meanwhile.
 #[derive(Clone, Copy)]
-pub struct RunOptions {
+pub struct RunOptions<'a> {
     pub manner: Manner,
     pub checkpoints: Checkpoints,
-    pub listeners: Listeners,
+    pub listeners: Listeners<'a>,
 }
 
 /// Both lists of calls of a loaded script, and how they are run.
 #[derive(Drop)]
-pub struct Calls {
+pub struct Calls<'a> {
     pub first: Vec<script::Call>,
     pub calls: Vec<script::Call>,
-    pub options: RunOptions,
+    pub options: RunOptions<'a>,
 }
 
 // Runs both lists of calls.
@@ -289,13 +316,19 @@ fn run_calls<R: Files<File = File> + Clock + Threads + Wait + Sync>(
             } = outcome;
             let Told { answers, lines } = told;
             let manner = calls.options.manner;
-            tell_end(waits, manner, ground.dcs.as_slice());
-            let latencies = waits.latencies();
-            let report = reported(alloc, &ground, &answers, lines, renewal, manner, latencies);
+            tell_end(waits, calls, &answers, &ground);
+            let watched = waits.watched();
+            let said = calls.calls.as_slice();
+            let report = reported(
+                alloc, &ground, said, &answers, lines, renewal, manner, watched,
+            );
             drop(answers);
             with_journal(report, journal_of(ground))
         }
-        Err(stop) => stopped_at(alloc, waits, stop),
+        Err(stop) => {
+            waits.write_metrics(None);
+            stopped_at(alloc, waits, stop)
+        }
     }
 }
 
@@ -318,8 +351,14 @@ pub fn run_from<R: Files<File = File> + Clock + Threads + Wait + Sync>(
         listeners,
         checkpoints: _,
     } = calls.options;
-    match Waits::new(rt, alloc, calls.calls.len(), manner.stats, listeners) {
+    let log = if ground.journal.is_some() {
+        Some(path)
+    } else {
+        None
+    };
+    match Waits::new(rt, alloc, calls.calls.len(), manner.stats, listeners, log) {
         Ok(waits) => {
+            waits.begin();
             let ran = run_calls(rt, alloc, path, ground, calls, &waits);
             drop(waits);
             ran
@@ -332,13 +371,13 @@ pub fn run_from<R: Files<File = File> + Clock + Threads + Wait + Sync>(
 }
 
 /// What calls are run on, of a script that is loaded, with a journal if there is one, and its calls.
-pub fn ground_and_calls(
+pub fn ground_and_calls<'a>(
     loaded: Loaded,
     journal: Option<FileJournal>,
-    options: RunOptions,
-) -> (Ground, Calls)
+    options: RunOptions<'a>,
+) -> (Ground, Calls<'a>)
     ensures ground { (result.0.state ≡ loaded.state) × (result.0.dcs ≡ loaded.dcs) × (result.0.journal ≡ journal) }
-    ensures calls { (result.1.first ≡ loaded.first) × (result.1.calls ≡ loaded.calls) × (result.1.options ≡ options) }
+    ensures calls { (result.1.first ≡ loaded.first) × (result.1.calls ≡ loaded.calls) × (result.1.options ≡ options.entry) }
 {
     let Loaded {
         state,
