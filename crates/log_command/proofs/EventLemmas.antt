@@ -9,7 +9,7 @@ use Rattle.log_command.specs.EventLines.{arguments_text, event_line, event_lines
 further : (place n : ℕ) → place + 1 + n ≡ place + suc n
 further place n = omega arith
 
-event_lines-append : (place : ℕ) (xs ys : List Event) → event_lines place (xs ++ ys) ≡ event_lines place xs ++ event_lines (place + length xs) ys
+pub event_lines-append : (place : ℕ) (xs ys : List Event) → event_lines place (xs ++ ys) ≡ event_lines place xs ++ event_lines (place + length xs) ys
 event_lines-append place [] ys = ap (λ (n : ℕ). event_lines n ys) (sym (add-zero place))
 event_lines-append place (x ∷ xs) ys =
     ap (λ (l : List ℕ). event_line place x ++ l)

@@ -1,2 +1,4 @@
 pub mod EventLemmas
+pub mod FollowLemmas
+pub mod FurtherLemmas
 pub mod ReportLemmas

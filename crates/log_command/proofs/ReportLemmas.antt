@@ -26,9 +26,9 @@ use Rattle.coming_back.specs.Coming.{HasOnlyRows, at_rest, ComesFrom}
 use Rattle.coming_back.specs.Faults.{HasLog, IsFaultOf}
 use Rattle.procedure_digest.specs.Header.{header_of}
 use Rattle.procedure_digest.specs.Difference.{other_line}
-use Rattle.scripts.specs.Reading.{Contents, Reading}
+use Rattle.scripts.specs.Reading.{Contents}
 use Rattle.scripts.specs.declared.script.Dc.{Dc}
-use Rattle.script_loading.specs.Loading.{refusal_of, with_procedures, empty_core, empty_store, IsReady}
+use Rattle.script_loading.specs.Loading.{Beginning, with_procedures, empty_core, empty_store, IsReady}
 use Rattle.script_loading.specs.declared.loading.Loaded.{Loaded as Script}
 use Rattle.log_part.specs.declared.part.Part.{Part}
 use Rattle.base_records.specs.declared.beginning.BaseFault.{BaseFault}
@@ -76,15 +76,15 @@ ready_count contents script ready =
 pub ready_begun : (contents : Contents) (script : Script) → IsReady contents script → script.state.events ≡ []
 ready_begun contents script ready = ap (λ (c : Core). c.events) ready.state
 
-pub audit_is : {E : Type 0} (file : List ℕ) (r : Reading) (script : Script) (result : Result Report E) → (refusal_of r ≡ None) × IsReady r.contents script
+pub audit_is : {E : Type 0} (file : List ℕ) (b : Beginning) (script : Script) (result : Result Report E) → (b.refusal ≡ None) × IsReady b.contents script
     → IfOk result (λ x. IsBeside file script.state script.dcs.items x.status (string_bytes x.lines))
-    → IfOk result (λ x. IsAudit file r x.status (string_bytes x.lines))
-audit_is file r script result ready beside =
+    → IfOk result (λ x. IsAudit file b x.status (string_bytes x.lines))
+audit_is file b script result ready beside =
     IfOk-weaker result _ _
-    (λ x b. subst (λ (o : Option (List ℕ)). IsAuditBy o r.contents file x.status (string_bytes x.lines)) (sym ready.0)
-    (subst (λ (dcs : List Store). IsBeside file (with_procedures (empty_core (length r.contents.dcs))
-    r.contents.procedures) dcs x.status (string_bytes x.lines)) ready.1.dcs
-    (subst (λ (c : Core). IsBeside file c script.dcs.items x.status (string_bytes x.lines)) ready.1.state b)))
+    (λ x is. subst (λ (o : Option (List ℕ)). IsAuditBy o b.contents file x.status (string_bytes x.lines)) (sym ready.0)
+    (subst (λ (dcs : List Store). IsBeside file (with_procedures (empty_core (length b.contents.dcs))
+    b.contents.procedures) dcs x.status (string_bytes x.lines)) ready.1.dcs
+    (subst (λ (c : Core). IsBeside file c script.dcs.items x.status (string_bytes x.lines)) ready.1.state is)))
     beside
 
 -- ---- data components that begin with the rows with which the log begins, and are brought to where it left them

@@ -1,4 +1,5 @@
 pub mod EventLines
+pub mod Following
 pub mod LogReport
 pub mod PictureReport
 pub mod Joining

@@ -24,8 +24,8 @@ use Rattle.coming_back.specs.Coming.{at_rest, ComesFrom}
 use Rattle.coming_back.specs.Faults.{HasLog, IsFaultOf}
 use Rattle.procedure_digest.specs.Header.{header_of}
 use Rattle.procedure_digest.specs.Difference.{other_line}
-use Rattle.scripts.specs.Reading.{Contents, Reading}
-use Rattle.script_loading.specs.Loading.{refusal_of, with_procedures, empty_core, empty_store}
+use Rattle.scripts.specs.Reading.{Contents}
+use Rattle.script_loading.specs.Loading.{Beginning, with_procedures, empty_core, empty_store}
 use Rattle.state_lines.specs.AuditLines.{AddsAudit}
 use Rattle.state_lines.specs.RowLines.{row_lines}
 use Rattle.base_records.specs.declared.beginning.BaseFault.{BaseFault}
@@ -135,6 +135,6 @@ IsAuditBy (Some refusal) contents file status lines = (status ≡ 1) × (lines �
 IsAuditBy None contents file status lines =
     IsBeside file (with_procedures (empty_core (length contents.dcs)) contents.procedures) (map empty_store contents.dcs) status lines
 
--- where the script is refused, the file isn't looked at
-abbrev pub IsAudit : List ℕ → Reading → ℕ → List ℕ → Type 0
-IsAudit file r status lines = IsAuditBy (refusal_of r) r.contents file status lines
+-- where the script or the object file with it is refused, the log's file isn't looked at
+abbrev pub IsAudit : List ℕ → Beginning → ℕ → List ℕ → Type 0
+IsAudit file b status lines = IsAuditBy b.refusal b.contents file status lines

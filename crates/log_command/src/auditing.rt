@@ -1,9 +1,9 @@
-//! `log --audit`: whether a file is a log of a script's procedures, and data components that are redone
-//! from it agree with it.
+//! `log --audit`: whether a file is a log of the procedures of a script, or of an object file with one, and data components
+//! that are redone from it agree with it.
 
 ghost use Rattle.std.specs.Prelude.{◌≡◌, [], length, IfOk, string_bytes};
 ghost use Rattle.std.specs.List.{All};
-ghost use Rattle.scripts.specs.Reading.{script_said};
+ghost use Rattle.script_loading.specs.Loading.{beginning_of};
 ghost use Rattle.scripts.specs.declared.keyword.Command.TheVariants as command;
 ghost use Rattle.coming_back.specs.Coming.{HasOnlyRows};
 ghost use Rattle.log_command.specs.LogReport.{AreAuditLines, IsUnfit, IsChecked, IsBeside, IsAudit};
@@ -16,7 +16,7 @@ use data_component::dc::Dc;
 use log_file::{Stored, read_file};
 use procedure_digest::header_of;
 use report_texts::report::Report;
-use script_loading::loading::{Loading, load};
+use script_loading::loading::{Loading, Source, load_source};
 use scripts::keyword::Command;
 use state_lines::audit_lines::write_audit;
 use std::alloc::{AllocError, Global};
@@ -95,13 +95,13 @@ fn beside(
     }
 }
 
-/// Whether a file is a log of this script's procedures, each event allowed behind the ones before it,
-/// and what an audit finds of it and of the script's data components, which begin with the rows with which
-/// it does, and are redone from it: nothing is sent for transactions that are open.
-pub fn auditing(alloc: Global, file: &[u8], script: &str) -> Result<Report, AllocError>
-    ensures { IfOk result (λ r. IsAudit file.now (script_said command.Run script.now) r.status (string_bytes r.lines)) }
+/// Whether a file is a log of these procedures, each event allowed behind the ones before it, and what an audit finds of
+/// it and of the script's data components, which begin with the rows with which it does, and are redone from it: nothing
+/// is sent for transactions that are open.
+pub fn auditing(alloc: Global, file: &[u8], source: Source) -> Result<Report, AllocError>
+    ensures { IfOk result (λ r. IsAudit file.now (beginning_of command.Run source.entry) r.status (string_bytes r.lines)) }
 {
-    match load(alloc, Command::Run, script)? {
+    match load_source(alloc, Command::Run, source)? {
         Loading::Ready(loaded) => {
             let mut loaded = loaded;
             let report = beside(alloc, &mut loaded.state, loaded.dcs.as_mut_slice(), file);
