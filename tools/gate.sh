@@ -52,6 +52,8 @@ tools/hostile.py files
 tools/foreign_files.py --files 500
 tools/cut_logs.py --files 500
 tools/moved_files.py
+tools/followed_logs.py
+tools/watched_runs.py
 tools/full_component.py
 said=$(crates/bench/out/bench damaged 50) && echo "a log's file with one fault: $said" && [ "${said##* }" = 0 ]
 END

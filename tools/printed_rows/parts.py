@@ -1,4 +1,4 @@
-"""`log --from`, `--tail` and `--picture`: parts of a log's events, and the files that pictures are not written to."""
+"""`log --from`, `--tail`, `--follow` and `--picture`: parts of a log's events, and the files that pictures are not written to."""
 import atexit
 import pathlib
 import tempfile
@@ -10,7 +10,7 @@ from .row import Row
 WHOLE = frames(OWN, batch(*ROWS[:7]), batch(*ROWS[7:]))
 COUNT = len(ROWS)
 MOST = 2**64 - 1
-ONE = b"error: log takes one of --rows, --audit and --picture"
+ONE = b"error: log takes one of --rows, --audit, --picture and --follow"
 PARTS = b"error: log takes one of --from and --tail"
 UNWANTED = b"error: log takes --from and --tail with neither --rows nor --audit"
 NUMBER = b"error: an ARG, N or P is no number of 64 bits in decimal"
@@ -25,6 +25,12 @@ WRONG = [
     (["--rows", "--picture", "{svg}"], [], ONE),
     (["--audit", "--picture", "{svg}"], ["script"], ONE),
     (["--rows", "--audit", "--picture", "{svg}"], ["script"], ONE),
+    (["--rows", "--follow"], [], ONE),
+    (["--audit", "--follow"], ["script"], ONE),
+    (["--picture", "{svg}", "--follow"], [], ONE),
+    (["--follow", "--from", "1", "--tail", "1"], [], PARTS),
+    (["--follow"], ["script"], b"error: log takes a SCRIPT with --audit alone"),
+    (["--audit"], ["object", "script", "more"], b"error: "),
     (["--picture", "{svg}"], ["script"], b"error: log takes a SCRIPT with --audit alone"),
     (["--audit", "--tail", "1"], [], b"error: log --audit takes a SCRIPT as well"),
     (["--from", "x"], [], NUMBER),
@@ -44,7 +50,8 @@ def listed(first):
 def part_rows():
     """Listings of parts."""
     for place in [0, 1, 7, COUNT - 1, COUNT, COUNT + 1, MOST]:
-        yield Row(["log", "--from", str(place), "-"], WHOLE, listed(place), 0)
+        for words in ["--from"], ["--follow", "--from"]:
+            yield Row(["log", *words, str(place), "-"], WHOLE, listed(place), 0)
     for wanted in [0, 1, 12, COUNT - 1, COUNT, COUNT + 1, MOST]:
         yield Row(["log", "--tail", str(wanted), "-"], WHOLE, listed(COUNT - wanted), 0)
     torn = frames(OWN, batch(ENDED, ENDED)) + b"\2"

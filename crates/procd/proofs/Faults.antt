@@ -3,11 +3,13 @@ use Rattle.std.proofs.Common.{arith, ◌≡◌, ℕ, List, Option, Some, None, B
 use Rattle.std.specs.Prelude.{IfSome, ◌≤◌, ◌⊎◌}
 use Rattle.disk_file.specs.declared.opening.FileKind.{FileKind}
 use Rattle.run_command.specs.LogLines.{kind_refusal}
-use Rattle.procd.specs.Streams.{Stream, IsKept, Begins, Ends, EndsOn, Runs, IsLog, IsRefusedBy, FurtherFails, ScriptFails, LogFails}
+use Rattle.log_part.specs.declared.part.Part.{Part}
+use Rattle.procd.specs.Streams.{Stream, stream, IsKept, Begins, Ends, EndsOn, Runs, IsLog, IsRefusedBy, FurtherFails, ScriptFails, LogFails, followed_part}
+use Rattle.procd.specs.Streams.{IsFollowed, StopsBehind, Refused, RefusedInPart, NotPrinted, NotRead, OutOfMemory}
 use Rattle.procd.specs.Streams.{TellsUnread, TellsUnwritten, IsToldOrNoMemory}
 use Rattle.procd.specs.Joining.Further.{Reads, Writes}
 use Rattle.command_line.specs.Task.{Wish, Exec, Asm, Dis, Verify, World, Run, Log}
-use Rattle.command_line.specs.Task.{Events, EventsAndRows, Audit, Picture}
+use Rattle.command_line.specs.Task.{Events, EventsAndRows, Follow, Audit, Picture}
 use Rattle.procd.proofs.Statuses.{report_low}
 
 -- some text that is there to be read
@@ -31,18 +33,22 @@ module _ (file : List ℕ) (wish : Wish) (input : Option (List ℕ)) (out err : 
       ]
 
   pub no_memory_runs : status ≡ 4 → IsKept out → Begins err (codes "memory\n") → Runs file wish input out err status
-  no_memory_runs is kept told = inl (known input, (λ e. known_is input), inr (inl (is, kept, told)))
+  no_memory_runs is kept told = inl (known input, (λ e. known_is input), inr (inl (is, kept, told)), inr (inr (is, kept, told)))
 
-  -- what is read is standard input, or a file; or it isn't a file of bytes
-  pub read_runs : EndsOn file wish input out err status → Runs file wish input out err status
-  read_runs h = inl (h.0, (λ _. h.1), h.2)
+  -- what is read is standard input, or a file; or it isn't a file of bytes, or it is followed
+  pub read_runs : file ≡ codes "-" → EndsOn file wish input out err status → Runs file wish input out err status
+  read_runs same h = inl (h.0, (λ _. h.1), h.2, inr (inl same))
 
-  pub opened_runs : ¬ (file ≡ codes "-") → EndsOn file wish None out err status → Runs file wish input out err status
-  opened_runs differs h = inl (h.0, (λ is. absurd (differs is)), h.2)
+  pub opened_runs : ¬ (file ≡ codes "-") → followed_part wish ≡ None → EndsOn file wish None out err status → Runs file wish input out err status
+  opened_runs differs whole h = inl (h.0, (λ is. absurd (differs is)), h.2, inl whole)
 
   pub kind_runs : ¬ (file ≡ codes "-") → IsLog wish → (kind : FileKind) → IsRefusedBy (kind_refusal kind) out err status
       → Runs file wish input out err status
-  kind_runs differs log kind refused = inr (differs, (log, (kind, refused)))
+  kind_runs differs log kind refused = inr (differs, inl (log, (kind, refused)))
+
+  pub followed_runs : ¬ (file ≡ codes "-") → (part : Part) → followed_part wish ≡ Some part → IsFollowed file part out err status
+      → Runs file wish input out err status
+  followed_runs differs part is followed = inr (differs, inr (part, is, followed))
 
 -- a further file that isn't read is told, and so is one that isn't written
 script_fails : (script : Option (List ℕ)) (path : List ℕ) (err : Stream) → script ≡ Some path → TellsUnread path err → ScriptFails script err
@@ -57,11 +63,16 @@ read_fails Asm path err is told = absurd is
 read_fails (Dis raw) path err is told = absurd is
 read_fails Verify path err is told = absurd is
 read_fails (World log audit script) path err is told = script_fails script path err is told
-read_fails (Run workers tries stats audit results tell log checkpoint over script) path err is told =
+read_fails (Run workers tries stats audit results tell metrics trace log checkpoint over script) path err is told =
     elim is [ inl keeps ↦ inl (log_fails log path err keeps (inl told)) | inr beside ↦ inr (script_fails script path err beside told) ]
 read_fails (Log (Events part)) path err is told = absurd is
 read_fails (Log EventsAndRows) path err is told = absurd is
-read_fails (Log (Audit script)) path err is told = subst (λ (s : List ℕ). FurtherFails (Log (Audit s)) err) (sym is) told
+read_fails (Log (Follow part)) path err is told = absurd is
+read_fails (Log (Audit source script)) path err is told =
+    elim is [
+      | inl same ↦ inl (subst (λ (s : List ℕ). TellsUnread s err) (sym same) told)
+      | inr beside ↦ inr (script_fails script path err beside told)
+    ]
 read_fails (Log (Picture file part)) path err is told = absurd is
 
 write_fails : (wish : Wish) (path : List ℕ) (err : Stream) → Writes wish path → TellsUnwritten path err → FurtherFails wish err
@@ -70,10 +81,11 @@ write_fails Asm path err is told = absurd is
 write_fails (Dis raw) path err is told = absurd is
 write_fails Verify path err is told = absurd is
 write_fails (World log audit script) path err is told = absurd is
-write_fails (Run workers tries stats audit results tell log checkpoint over script) path err is told = inl (log_fails log path err is (inr told))
+write_fails (Run workers tries stats audit results tell metrics trace log checkpoint over script) path err is told = inl (log_fails log path err is (inr told))
 write_fails (Log (Events part)) path err is told = absurd is
 write_fails (Log EventsAndRows) path err is told = absurd is
-write_fails (Log (Audit script)) path err is told = absurd is
+write_fails (Log (Follow part)) path err is told = absurd is
+write_fails (Log (Audit source script)) path err is told = absurd is
 write_fails (Log (Picture file part)) path err is told = subst (λ (s : List ℕ). FurtherFails (Log (Picture s part)) err) (sym is) told
 
 module _ (file : List ℕ) (wish : Wish) (text : List ℕ) (out err : Stream) (status : ℕ) where
@@ -139,11 +151,21 @@ refused_otherwise line out err status h is =
       ]
     ]
 
+stopped_otherwise : (path printed : List ℕ) (out err : Stream) (status : ℕ) → StopsBehind path printed out err status → status ≡ 2 → ⊥
+stopped_otherwise path printed out err status (Refused file lines unread gets kept) is = not_one status unread.status_is is
+stopped_otherwise path printed out err status (RefusedInPart file lines meant unread three begins told) is = not_three status three is
+stopped_otherwise path printed out err status (NotPrinted three begins told) is = not_three status three is
+stopped_otherwise path printed out err status (NotRead three gets told) is = not_three status three is
+stopped_otherwise path printed out err status (OutOfMemory four gets told) is = not_four status four is
+
 -- a command never ends as a wrong command line does
 pub never_wrong : (file : List ℕ) (wish : Wish) (input : Option (List ℕ)) (out err : Stream) (status : ℕ)
     → Runs file wish input out err status → status ≡ 2 → ⊥
 never_wrong file wish input out err status h is =
     elim h [
       | inl read ↦ ends_otherwise file wish read.0 out err status read.2 is
-      | inr kind ↦ refused_otherwise (kind_refusal kind.1.1.0) out err status kind.1.1.1 is
+      | inr named ↦ elim named.1 [
+        | inl kind ↦ refused_otherwise (kind_refusal kind.1.0) out err status kind.1.1 is
+        | inr followed ↦ stopped_otherwise file followed.2.printed out (stream followed.2.told err.new) status followed.2.stops is
+      ]
     ]

@@ -1,3 +1,4 @@
 pub mod Statuses
 pub mod Streaming
 pub mod Faults
+pub mod FollowEnds

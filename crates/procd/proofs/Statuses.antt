@@ -5,7 +5,7 @@ use Rattle.std.specs.Prelude.{Result, Ok, Err, ◌≤◌, ◌&&◌, if◌then◌
 use Rattle.text_commands.specs.Execution.{status_of}
 use Rattle.report_texts.specs.Hex.{Hex, hex_of}
 use Rattle.command_line.specs.Task.{Wish, Exec, Asm, Dis, Verify, World, Run, Log}
-use Rattle.command_line.specs.Task.{Events, EventsAndRows, Audit, Picture}
+use Rattle.command_line.specs.Task.{Events, EventsAndRows, Follow, Audit, Picture}
 use Rattle.log_part.specs.declared.part.Part.{Part}
 use Rattle.log_part.specs.declared.part.Part.TheVariants.{Whole}
 use Rattle.std.specs.List.{list_any}
@@ -35,7 +35,7 @@ use Rattle.scripts.specs.declared.script.Procedure.{Procedure}
 use Rattle.data_component.specs.Store.{Store}
 use Rattle.tc_core.specs.Core.{Core}
 use Rattle.text_commands.specs.Verification.{is_refused, status_by_fault, status_of_reading}
-use Rattle.procd.specs.Report.{IsReport, IsRunReport, IsRunOf, IsWorldOf}
+use Rattle.procd.specs.Report.{IsReport, IsRunReport, IsRunOf, IsWorldOf, IsAuditBeside}
 use Rattle.text_commands.specs.CodeReport.{IsAssembly, IsDisassembly, IsDisassemblyOf, IsHexDisassembly}
 use Rattle.bpf_asm.specs.Lines.{assembled}
 use Rattle.bpf_asm.specs.declared.assemble.AsmFault.{AsmFault}
@@ -173,16 +173,21 @@ run_of_low checkpoints workers tries audit results log None text status lines h 
 run_of_low checkpoints workers tries audit results log (Some path) file status lines h =
     run_report_low checkpoints workers tries audit results log (beginning command.Run (Some file) h.0) status lines h.1
 
+beside_audit_low : (object : Option (List ℕ)) (file : List ℕ) (status : ℕ) (lines : List ℕ) → IsAuditBeside object file status lines → status ≤ 1
+beside_audit_low object file status lines h =
+    let b = beginning command.Run object h.0 in audit_low b.refusal b.contents file status lines h.1
+
 pub report_low : (wish : Wish) (text : List ℕ) (status : ℕ) (lines : List ℕ) → IsReport wish text status lines → status ≤ 1
 report_low (Exec raw numbers) text status lines h = omega (arith, h.2, execution_low h.0)
 report_low Asm text status lines h = assembly_low (assembled text) status lines h
 report_low (Dis raw) text status lines h = disassembly_low raw text status lines h
 report_low Verify file status lines h = verification_low (is_elf file) file status lines h
 report_low (World log audit script) file status lines h = world_of_low (record { audit = audit; log = log }) script file status lines h
-report_low (Run workers tries stats audit results tell log checkpoint over script) file status lines h =
+report_low (Run workers tries stats audit results tell metrics trace log checkpoint over script) file status lines h =
     run_of_low (record { at_end = checkpoint; over = over }) workers tries audit results log script file status lines h
 report_low (Log (Events part)) text status lines h = listing_low part false text status lines h
 report_low (Log EventsAndRows) text status lines h = listing_low Whole true text status lines h
 report_low (Log (Picture path part)) text status lines h = picturing_low part text h.0 status lines h.1
-report_low (Log (Audit path)) text status lines h =
-    let r = script_said command.Run h.0 in audit_low (refusal_of r) r.contents text status lines h.1
+report_low (Log (Follow part)) text status lines h = listing_low part false text status lines h
+report_low (Log (Audit source None)) text status lines h = beside_audit_low None text status lines h
+report_low (Log (Audit source (Some script))) text status lines h = beside_audit_low (Some h.0) text status lines h.1

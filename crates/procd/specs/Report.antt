@@ -5,9 +5,8 @@ use Rattle.procd.specs.declared.reading.TextFault.{TextFault}
 use Rattle.procd.specs.declared.reading.TextFault.TheVariants.{NotUtf8, Marked}
 use Rattle.bpf_asm.specs.Lines.{assembled}
 use Rattle.command_line.specs.Task.{Wish, Exec, Asm, Dis, Verify, World, Run, Log}
-use Rattle.command_line.specs.Task.{LogWish, Events, EventsAndRows, Audit, Picture}
+use Rattle.command_line.specs.Task.{LogWish, Events, EventsAndRows, Follow, Audit, Picture}
 use Rattle.log_part.specs.declared.part.Part.TheVariants.{Whole}
-use Rattle.scripts.specs.Reading.{script_said}
 use Rattle.script_loading.specs.Loading.{Beginning, beginning}
 use Rattle.scripts.specs.declared.keyword.Command.TheVariants as command
 use Rattle.text_commands.specs.CodeReport.{IsExecution, IsAssembly, IsDisassembly}
@@ -52,12 +51,19 @@ abbrev pub IsWorldOf : Behind → (script : Option (List ℕ)) → List ℕ → 
 IsWorldOf behind None text status lines = IsWorld behind (beginning command.World None text) status lines
 IsWorldOf behind (Some path) file status lines = (text : List ℕ) × IsWorld behind (beginning command.World (Some file) text) status lines
 
--- what is printed of a log's file, of a picture of it, or of an audit beside what the script's file has
+-- what an audit finds of a log's file beside what a script's file has, and an object file, if there is one
+abbrev pub IsAuditBeside : (object : Option (List ℕ)) → List ℕ → ℕ → List ℕ → Type 0
+IsAuditBeside object file status lines = (text : List ℕ) × IsAudit file (beginning command.Run object text) status lines
+
+-- what is printed of a log's file, of a picture of it, or of an audit beside a script, or an object file and a script; one that is followed
+-- and has an end is listed
 abbrev pub IsLogReport : LogWish → List ℕ → ℕ → List ℕ → Type 0
 IsLogReport (Events part) file status lines = IsListing part false file status lines
 IsLogReport EventsAndRows file status lines = IsListing Whole true file status lines
+IsLogReport (Follow part) file status lines = IsListing part false file status lines
 IsLogReport (Picture path part) file status lines = (svg : Option (List ℕ)) × IsPicturing part file svg status lines
-IsLogReport (Audit path) file status lines = (script : List ℕ) × IsAudit file (script_said command.Run script) status lines
+IsLogReport (Audit source None) file status lines = IsAuditBeside None file status lines
+IsLogReport (Audit source (Some script)) file status lines = (object : List ℕ) × IsAuditBeside (Some object) file status lines
 
 -- what a command prints of a text, and its exit status
 abbrev pub IsReport : Wish → List ℕ → ℕ → List ℕ → Type 0
@@ -66,6 +72,6 @@ IsReport Asm text status lines = IsAssembly (assembled text) status lines
 IsReport (Dis raw) text status lines = IsDisassembly raw text status lines
 IsReport Verify file status lines = IsVerification (is_elf file) file status lines
 IsReport (World log audit script) file status lines = IsWorldOf (record { audit = audit; log = log }) script file status lines
-IsReport (Run workers tries stats audit results tell log checkpoint over script) file status lines =
+IsReport (Run workers tries stats audit results tell metrics trace log checkpoint over script) file status lines =
     IsRunOf (record { at_end = checkpoint; over = over }) workers tries audit results log script file status lines
 IsReport (Log wanted) file status lines = IsLogReport wanted file status lines

@@ -1,10 +1,14 @@
 -- What a run gives for a command line: the exit status, and what stands on standard output and standard error.
-use Rattle.std.specs.Prelude.{◌≡◌, ◌⊎◌, ℕ, Bool, true, false, List, ◌++◌, take, Option, Some, None, IfSome, Result, Ok, Err, codes}
+use Rattle.std.specs.Prelude.{◌≡◌, ◌⊎◌, ℕ, Bool, true, false, List, [], ◌∷◌, ◌++◌, take, Option, Some, None, IfSome, Result, Ok, Err, codes}
 use Rattle.std.specs.Io.KnownBytes.{Appends}
 use Rattle.disk_file.specs.declared.opening.FileKind.{FileKind}
 use Rattle.run_command.specs.LogLines.{kind_refusal}
+use Rattle.log_part.specs.declared.part.Part.{Part}
+use Rattle.log_command.specs.declared.following.Seam.{Seam}
+use Rattle.log_command.specs.LogReport.{IsUnread}
+use Rattle.log_command.specs.Following.{AreLines, seam_line}
 use Rattle.procd.specs.Report.{IsReport}
-use Rattle.command_line.specs.Task.{Wish, World, Run, Log, Audit, Picture, may_tell}
+use Rattle.command_line.specs.Task.{Wish, World, Run, Log, Follow, Audit, Picture, may_tell}
 
 -- what a stream held before and holds afterwards, where that is known
 pub record Stream : Type 0 where
@@ -78,8 +82,8 @@ LogFails (Some path) err = TellsUnread path err ⊎ TellsUnwritten path err
 -- a further file can't be read or written
 abbrev pub FurtherFails : Wish → Stream → Type 0
 FurtherFails (World log audit script) err = ScriptFails script err
-FurtherFails (Run workers tries stats audit results tell log checkpoint over script) err = LogFails log err ⊎ ScriptFails script err
-FurtherFails (Log (Audit path)) err = TellsUnread path err
+FurtherFails (Run workers tries stats audit results tell metrics trace log checkpoint over script) err = LogFails log err ⊎ ScriptFails script err
+FurtherFails (Log (Audit source script)) err = TellsUnread source err ⊎ ScriptFails script err
 FurtherFails (Log (Picture path part)) err = TellsUnwritten path err
 FurtherFails other err = ⊥
 
@@ -126,11 +130,50 @@ IsRefusedBy line out err status =
 abbrev pub IsNotAFile : Wish → Stream → Stream → ℕ → Type 0
 IsNotAFile wish out err status = IsLog wish × ((kind : FileKind) × IsRefusedBy (kind_refusal kind) out err status)
 
--- the same of a file, which may be standard input; or it isn't one
+-- the first bytes of lines that say what wasn't seen between two logs, so many of each
+abbrev pub seam_parts : List (Seam × ℕ) → List ℕ
+seam_parts [] = []
+seam_parts (part ∷ parts) = take part.1 (seam_line part.0) ++ seam_parts parts
+
+-- nothing else is written
+abbrev pub TellsSeams : Stream → Type 0
+TellsSeams err = (parts : List (Seam × ℕ)) × Gets err (seam_parts parts)
+
+-- what is written behind these lines of events, where no more come: the refusal of a file that isn't read as a log, why it can't be read or
+-- standard output be written, or that memory ran out
+pub data StopsBehind (path printed : List ℕ) (out err : Stream) (status : ℕ) : Type 0 where
+  Refused : (file lines : List ℕ) → IsUnread file status lines → Gets out (printed ++ lines) → IsKept err
+      → StopsBehind path printed out err status
+  RefusedInPart : (file lines : List ℕ) (meant : ℕ) → IsUnread file meant lines → status ≡ 3 → Begins out (printed ++ lines)
+      → TellsNotPrinted err → StopsBehind path printed out err status
+  NotPrinted : status ≡ 3 → Begins out printed → TellsNotPrinted err → StopsBehind path printed out err status
+  NotRead : status ≡ 3 → Gets out printed → TellsUnread path err → StopsBehind path printed out err status
+  OutOfMemory : status ≡ 4 → Gets out printed → Begins err (codes "memory\n") → StopsBehind path printed out err status
+
+-- the lines of a log's events from a part on, also of those that came, and what was told meanwhile of what wasn't seen; it doesn't end by itself
+pub record IsFollowed (path : List ℕ) (part : Part) (out err : Stream) (status : ℕ) : Type 0 where
+  pub printed : List ℕ
+  pub are : AreLines part printed
+  pub told : Option (List ℕ)
+  pub seams : TellsSeams (stream err.old told)
+  pub stops : StopsBehind path printed out (stream told err.new) status
+
+-- from which part of its events on a log is followed, if it is
+abbrev pub followed_part : Wish → Option Part
+followed_part (Log (Follow part)) = Some part
+followed_part other = None
+
+-- a log that is followed is read to an end only from standard input, if there is memory for the command line
+abbrev pub IsReadSo : List ℕ → Wish → Stream → Stream → ℕ → Type 0
+IsReadSo file wish out err status = (followed_part wish ≡ None) ⊎ ((file ≡ codes "-") ⊎ IsMemoryFault out err status)
+
+-- what a file has is done, which may be standard input; it isn't a file; or it is followed
 abbrev pub Runs : List ℕ → Wish → Option (List ℕ) → Stream → Stream → ℕ → Type 0
 Runs file wish input out err status =
-    ((text : List ℕ) × (file ≡ codes "-" → IfSome input (λ known. text ≡ known)) × Ends file wish text out err status)
-    ⊎ ((¬ (file ≡ codes "-")) × IsNotAFile wish out err status)
+    ((text : List ℕ) × (file ≡ codes "-" → IfSome input (λ known. text ≡ known)) × Ends file wish text out err status
+    × IsReadSo file wish out err status)
+    ⊎ ((¬ (file ≡ codes "-")) × (IsNotAFile wish out err status
+    ⊎ ((part : Part) × (followed_part wish ≡ Some part) × IsFollowed file part out err status)))
 
 -- nothing is written to standard output, and the status says that the command line is wrong, or that memory ran out
 abbrev pub IsMisuse : Stream → ℕ → Type 0

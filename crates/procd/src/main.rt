@@ -8,11 +8,13 @@
 //! ```
 //!
 //! `command_line` says what the words ask for. A command makes a whole `Report` of its file's text, and only
-//! then are its lines written, so where memory runs out nothing is printed. What `program` ensures begins
-//! with the words; `main` hands them on. `docs/FORMATS.md` has all lines and statuses.
+//! then are its lines written, so where memory runs out nothing is printed; those of a followed log's events
+//! alone are written as they come. What `program` ensures begins with the words; `main` hands them on.
+//! `docs/FORMATS.md` has all lines and statuses.
 #![tactic(auto)]
 
 mod explaining;
+mod following;
 mod program;
 mod reading;
 mod report;
@@ -42,6 +44,7 @@ fn main(rt: HostRuntime) -> ExitCode {
     let meanwhile = Meanwhile {
         terminal: err.is_terminal().then_some(err),
         error: err,
+        system: rt,
     };
     ExitCode::from(program(
         &rt,

@@ -4,20 +4,22 @@ ghost use Rattle.std.specs.Prelude.{◌≡◌, ◌++◌, ℕ, List, Option, IfOk
 ghost use Rattle.std.specs.Prelude.{codes, map, string_bytes};
 ghost use Rattle.command_line.specs.Said.{Says, IsWrong, shows};
 ghost use Rattle.command_line.specs.Wanted.{WantsOrNoMemory, IsWrongOrNoMemory};
-ghost use Rattle.procd.specs.Streams.{stream, TellsIf, IsKept, Begins, Ends, EndsOn, Runs, IsMisuse};
+ghost use Rattle.procd.specs.Streams.{stream, TellsIf, IsKept, Begins, Ends, EndsOn, Runs, IsMisuse, followed_part};
 ghost use Rattle.run_command.specs.LogLines.{kind_refusal};
-ghost use Rattle.procd.specs.Streams.{IsLog, IsRefusedBy, IsFaultLine, TellsUnread, TellsUnwritten, TellsNotPrinted, IsToldOrNoMemory};
+ghost use Rattle.procd.specs.Streams.{IsLog, IsFollowed, IsRefusedBy, IsFaultLine, TellsUnread, TellsUnwritten, TellsNotPrinted, IsToldOrNoMemory};
 ghost use Rattle.command_line.specs.Task.{Wish, wish_of};
 ghost use Rattle.clap.specs.Words.{kind_of};
 
 use crate::explaining::explain;
+use crate::following::{End, follow};
 use crate::reading::{MOST_BYTES, ReadFault, Reason, most_of, read_all};
 use crate::report::{Meanwhile, ReportFault, report_on};
 use crate::writing::tell;
 use clap::Error;
 use clap::error::ErrorKind;
-use command_line::words::{Task, Wanted, WordFault, wanted_of};
+use command_line::words::{LogTask, Task, Wanted, WordFault, wanted_of};
 use disk_file::FileKind;
+use log_part::Part;
 use report_texts::report::Report;
 use run_command::logged::kind_refusal;
 use std::alloc::{AllocError, Global};
@@ -253,6 +255,39 @@ fn refuse_kind<W: Write, E: Write>(alloc: Global, kind: FileKind, out: &mut W, e
     }
 }
 
+// Lists the events of a log's file, and those that come, as long as that can be done.
+fn run_on<F: Files<File = File> + Clock + Wait, W: Write, E: Write>(
+    rt: &F,
+    alloc: Global,
+    path: &str,
+    part: Part,
+    out: &mut W,
+    err: &mut E,
+) -> u8
+    ensures { IsFollowed path.now part (stream (W.contents out.old) (W.contents out.new))
+        (stream (E.contents err.old) (E.contents err.new)) result }
+{
+    match follow(rt, alloc, path, part, out, err) {
+        End::Refused(report) => match tell(out, report.lines.as_str()) {
+            Ok(()) => report.status,
+            Err(error) => cannot_write(alloc, err, error),
+        },
+        End::Unread(reason) => cannot_read(alloc, err, path, Some(&reason)),
+        End::Unwritten(error) => cannot_write(alloc, err, error),
+        End::Memory => no_memory(err),
+    }
+}
+
+// From which part of its events on a log is followed, if it is.
+fn followed_part(task: &Task) -> Option<Part>
+    ensures { result ≡ followed_part (wish_of task.now) }
+{
+    match task {
+        Task::Log(LogTask::Follow(part)) => Some(*part),
+        _ => None,
+    }
+}
+
 // Does what the words want.
 fn run_wanted<F: Files<File = File> + Clock + Threads + Wait + Sync, R: Read, W: Write, E: Write>(
     rt: &F,
@@ -270,8 +305,11 @@ fn run_wanted<F: Files<File = File> + Clock + Threads + Wait + Sync, R: Read, W:
     if wanted.file == "-" {
         return run_input(rt, alloc, wanted, input, MOST_BYTES, out, err, meanwhile);
     }
-    match kind_of_log(rt, wanted) {
-        Some(kind) => refuse_kind(alloc, kind, out, err),
+    if let Some(kind) = kind_of_log(rt, wanted) {
+        return refuse_kind(alloc, kind, out, err);
+    }
+    match followed_part(&wanted.task) {
+        Some(part) => run_on(rt, alloc, wanted.file, part, out, err),
         None => run_file(rt, alloc, wanted, out, err, meanwhile),
     }
 }
@@ -365,7 +403,10 @@ fn refuse_words<W: Write, E: Write>(
             wrong_words(err, "error: log takes a SCRIPT with --audit alone")
         }
         WordFault::TwoPurposes => {
-            wrong_words(err, "error: log takes one of --rows, --audit and --picture")
+            wrong_words(
+                err,
+                "error: log takes one of --rows, --audit, --picture and --follow",
+            )
         }
         WordFault::TwoParts => wrong_words(err, "error: log takes one of --from and --tail"),
         WordFault::PartUnwanted => wrong_words(

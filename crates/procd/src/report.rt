@@ -6,7 +6,7 @@ ghost use Rattle.text_commands.specs.ObjectVerification.{IsVerification};
 ghost use Rattle.script_loading.specs.Loading.{beginning, beginning_of};
 ghost use Rattle.world_command.specs.WorldReport.{IsWorld};
 ghost use Rattle.scripts.specs.declared.keyword.Command.TheVariants as command;
-ghost use Rattle.procd.specs.Report.{IsReport, IsKeptRun, IsRunReport, IsRunOf, IsWorldOf, IsLogReport};
+ghost use Rattle.procd.specs.Report.{IsReport, IsKeptRun, IsRunReport, IsRunOf, IsWorldOf, IsLogReport, IsAuditBeside};
 ghost use Rattle.procd.specs.Joining.Further.{IsScriptFault, IsLogFault, IsTaskFault, IsNoTextOf, IsOfText, IsOfFile, wants_text};
 ghost use Rattle.procd.specs.Joining.Further.{IsBesideFault, IsRunFault};
 ghost use Rattle.procd.specs.Joining.Further.{IsPictureFault};
@@ -43,6 +43,8 @@ pub struct Meanwhile {
     /// The terminal, if standard error is one.
     pub terminal: Option<Stderr>,
     pub error: Stderr,
+    /// What writes files from the threads of a run.
+    pub system: HostRuntime,
 }
 
 /// Why there is no report.
@@ -50,7 +52,7 @@ pub struct Meanwhile {
 pub enum ReportFault<'a> {
     /// What was read is no text.
     NotText(TextFault),
-    /// The further file with this path can't be read, and why: a run's log, or the script beside a log or an object file.
+    /// The further file with this path can't be read, and why: a run's log, or what stands beside a log or an object file.
     Unread(&'a str, Option<Reason>),
     /// The file with this path, which is to keep a run's log or a picture, can't be written, and why.
     Unwritten(&'a str, Option<Reason>),
@@ -79,7 +81,7 @@ impl From<AllocError> for ReportFault<'_> {
     }
 }
 
-// All that the script's file has.
+// All that the file of a script or of an object file has.
 fn read_script<'a, R: Files>(
     rt: &R,
     alloc: Global,
@@ -119,8 +121,8 @@ fn logged<'a, R: Files<File = File> + Clock + Threads + Wait + Sync>(
     source: Source,
     options: RunOptions,
 ) -> Result<Report, ReportFault<'a>>
-    ensures ok { IfOk result (λ r. IsKeptRun options.checkpoints options.manner.workers options.manner.tries
-        options.manner.audit options.manner.results (beginning_of command.Run source.entry) r.status
+    ensures ok { IfOk result (λ r. IsKeptRun options.entry.checkpoints options.entry.manner.workers options.entry.manner.tries
+        options.entry.manner.audit options.entry.manner.results (beginning_of command.Run source.entry) r.status
         (string_bytes r.lines)) }
     ensures fault { IfErr result (IsLogFault (Some path.entry.now)) }
     ensures text { IfErr result IsOfText }
@@ -144,8 +146,8 @@ fn run_report<'a, R: Files<File = File> + Clock + Threads + Wait + Sync>(
     options: RunOptions,
     log: Option<&'a str>,
 ) -> Result<Report, ReportFault<'a>>
-    ensures ok { IfOk result (λ r. IsRunReport options.checkpoints options.manner.workers options.manner.tries
-        options.manner.audit options.manner.results (option_map (λ path. path.now) log.entry)
+    ensures ok { IfOk result (λ r. IsRunReport options.entry.checkpoints options.entry.manner.workers options.entry.manner.tries
+        options.entry.manner.audit options.entry.manner.results (option_map (λ path. path.now) log.entry)
         (beginning_of command.Run source.entry) r.status (string_bytes r.lines)) }
     ensures log { IfErr result (IsLogFault (option_map (λ path. path.now) log.entry)) }
     ensures text { IfErr result IsOfText }
@@ -168,8 +170,8 @@ fn run_both<'a, R: Files<File = File> + Clock + Threads + Wait + Sync>(
     options: RunOptions,
     log: Option<&'a str>,
 ) -> Result<Report, ReportFault<'a>>
-    ensures ok { IfOk result (λ r. IsRunReport options.checkpoints options.manner.workers options.manner.tries
-        options.manner.audit options.manner.results (option_map (λ path. path.now) log.entry)
+    ensures ok { IfOk result (λ r. IsRunReport options.entry.checkpoints options.entry.manner.workers options.entry.manner.tries
+        options.entry.manner.audit options.entry.manner.results (option_map (λ path. path.now) log.entry)
         (beginning command.Run (Some file.now) text.now) r.status (string_bytes r.lines)) }
     ensures log { IfErr result (IsLogFault (option_map (λ path. path.now) log.entry)) }
     ensures text { IfErr result IsOfText }
@@ -187,8 +189,8 @@ fn run_beside<'a, R: Files<File = File> + Clock + Threads + Wait + Sync>(
     options: RunOptions,
     log: Option<&'a str>,
 ) -> Result<Report, ReportFault<'a>>
-    ensures ok { IfOk result (λ r. IsRunOf options.checkpoints options.manner.workers options.manner.tries
-        options.manner.audit options.manner.results (option_map (λ path. path.now) log.entry)
+    ensures ok { IfOk result (λ r. IsRunOf options.entry.checkpoints options.entry.manner.workers options.entry.manner.tries
+        options.entry.manner.audit options.entry.manner.results (option_map (λ path. path.now) log.entry)
         (Some path.entry.now) file.now r.status (string_bytes r.lines)) }
     ensures text { IfErr result IsOfText }
     ensures further { IfErr result (IsRunFault (option_map (λ path. path.now) log.entry) (Some path.entry.now)) }
@@ -208,8 +210,8 @@ fn run_script<'a, R: Files<File = File> + Clock + Threads + Wait + Sync>(
     options: RunOptions,
     log: Option<&'a str>,
 ) -> Result<Report, ReportFault<'a>>
-    ensures ok { IfOk result (λ r. IsRunReport options.checkpoints options.manner.workers options.manner.tries
-        options.manner.audit options.manner.results (option_map (λ path. path.now) log.entry)
+    ensures ok { IfOk result (λ r. IsRunReport options.entry.checkpoints options.entry.manner.workers options.entry.manner.tries
+        options.entry.manner.audit options.entry.manner.results (option_map (λ path. path.now) log.entry)
         (beginning command.Run None file.now) r.status (string_bytes r.lines)) }
     ensures log { IfErr result (IsLogFault (option_map (λ path. path.now) log.entry)) }
     ensures text { IfErr result (IsNoTextOf true file.now) }
@@ -228,8 +230,8 @@ fn run_of<'a, R: Files<File = File> + Clock + Threads + Wait + Sync>(
     options: RunOptions,
     log: Option<&'a str>,
 ) -> Result<Report, ReportFault<'a>>
-    ensures ok { IfOk result (λ r. IsRunOf options.checkpoints options.manner.workers options.manner.tries
-        options.manner.audit options.manner.results (option_map (λ path. path.now) log.entry)
+    ensures ok { IfOk result (λ r. IsRunOf options.entry.checkpoints options.entry.manner.workers options.entry.manner.tries
+        options.entry.manner.audit options.entry.manner.results (option_map (λ path. path.now) log.entry)
         (option_map (λ path. path.now) script.entry) file.now r.status (string_bytes r.lines)) }
     ensures not_text { IfErr result (IsNoTextOf (is_none script.entry) file.now) }
     ensures further { IfErr result (IsRunFault (option_map (λ path. path.now) log.entry) (option_map (λ path. path.now) script.entry)) }
@@ -295,22 +297,42 @@ fn world_of<'a, R: Files>(
     }
 }
 
-// What an audit finds of a log's file beside the script of this path.
-fn audit_report<'a, R: Files>(
+// What an audit finds of a log's file beside the script of this path, and an object file, if there is one.
+fn audit_beside<'a, R: Files>(
     rt: &R,
     alloc: Global,
     file: &[u8],
+    object: Option<&[u8]>,
     path: &'a str,
 ) -> Result<Report, ReportFault<'a>>
-    ensures ok { IfOk result (λ r. IsLogReport (Audit path.entry.now) file.now r.status (string_bytes r.lines)) }
+    ensures ok { IfOk result (λ r. IsAuditBeside (option_map (λ object. object.now) object.entry) file.now r.status (string_bytes r.lines)) }
     ensures text { IfErr result IsOfText }
     ensures script { IfErr result (IsScriptFault path.entry.now) }
 {
     let script = read_script(rt, alloc, path)?;
     match text_of(script.as_slice()) {
-        Ok(script) => Ok(auditing(alloc, file, script)?),
+        Ok(text) => Ok(auditing(alloc, file, Source { object, text })?),
         Err(fault) => Err(ReportFault::Unread(path, Some(Reason::Text(fault)))),
     }
+}
+
+// The same of a script, or of an object file and the script of a second path.
+fn audit_report<'a, R: Files>(
+    rt: &R,
+    alloc: Global,
+    file: &[u8],
+    source: &'a str,
+    script: Option<&'a str>,
+) -> Result<Report, ReportFault<'a>>
+    ensures ok { IfOk result (λ r. IsLogReport (Audit source.entry.now (option_map (λ path. path.now) script.entry)) file.now r.status (string_bytes r.lines)) }
+    ensures text { IfErr result IsOfText }
+    ensures script { IfErr result (IsTaskFault (Log (Audit source.entry.now (option_map (λ path. path.now) script.entry)))) }
+{
+    let Some(script) = script else {
+        return audit_beside(rt, alloc, file, None, source);
+    };
+    let object = read_script(rt, alloc, source)?;
+    audit_beside(rt, alloc, file, Some(object.as_slice()), script)
 }
 
 // Writes a new file; what is begun of one that isn't written whole is taken away.
@@ -361,9 +383,10 @@ fn log_report<'a, R: Files>(
     ensures script { IfErr result (IsTaskFault (Log (log_wish wanted.entry))) }
 {
     match wanted {
-        LogTask::Events(part) => Ok(listing(alloc, file, part, false)?),
+        // What is read here has an end: standard input.
+        LogTask::Events(part) | LogTask::Follow(part) => Ok(listing(alloc, file, part, false)?),
         LogTask::EventsAndRows => Ok(listing(alloc, file, Part::Whole, true)?),
-        LogTask::Audit(script) => audit_report(rt, alloc, file, script),
+        LogTask::Audit { source, script } => audit_report(rt, alloc, file, source, script),
         LogTask::Picture(path, part) => picture_report(rt, alloc, file, path, part),
     }
 }
@@ -400,6 +423,8 @@ pub fn report_on<'a, R: Files<File = File> + Clock + Threads + Wait + Sync>(
             audit,
             results,
             tell,
+            metrics,
+            trace,
             log,
             checkpoint,
             over,
@@ -420,6 +445,9 @@ pub fn report_on<'a, R: Files<File = File> + Clock + Threads + Wait + Sync>(
                 listeners: Listeners {
                     terminal: meanwhile.terminal,
                     each: tell.then_some(meanwhile.error),
+                    metrics: *metrics,
+                    trace: *trace,
+                    system: meanwhile.system,
                 },
             };
             run_of(rt, alloc, text, *script, options, *log)

@@ -1,5 +1,5 @@
--- Why there is no report: no text was read, or a further file isn't read or written, which keeps a run's log, is a script beside FILE or is
--- to have a picture.
+-- Why there is no report: no text was read, or a further file isn't read or written, which keeps a run's log, has procedures beside FILE or
+-- is to have a picture.
 use Rattle.std.specs.Prelude.{◌≡◌, ◌⊎◌, true, Bool, not, List, ℕ, Option, Some}
 use Rattle.procd.specs.Report.{IsTextFault}
 use Rattle.command_line.specs.Task.{Wish, Verify, World, Run, Log, Audit, Picture, reads_text}
@@ -10,13 +10,13 @@ use Rattle.procd.specs.declared.report.ReportFault.TheVariants.{NotText, Unread,
 -- the command reads the further file with this path
 abbrev pub Reads : Wish → List ℕ → Type 0
 Reads (World log audit script) path = script ≡ Some path
-Reads (Run workers tries stats audit results tell log checkpoint over script) path = (log ≡ Some path) ⊎ (script ≡ Some path)
-Reads (Log (Audit script)) path = script ≡ path
+Reads (Run workers tries stats audit results tell metrics trace log checkpoint over script) path = (log ≡ Some path) ⊎ (script ≡ Some path)
+Reads (Log (Audit source script)) path = (source ≡ path) ⊎ (script ≡ Some path)
 Reads other path = ⊥
 
 -- it writes it
 abbrev pub Writes : Wish → List ℕ → Type 0
-Writes (Run workers tries stats audit results tell log checkpoint over script) path = log ≡ Some path
+Writes (Run workers tries stats audit results tell metrics trace log checkpoint over script) path = log ≡ Some path
 Writes (Log (Picture file part)) path = file ≡ path
 Writes other path = ⊥
 
