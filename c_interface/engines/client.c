@@ -1,0 +1,298 @@
+#define _GNU_SOURCE
+#include "client.h"
+#include "gate.h"
+#include "kept_notes.h"
+#include "mazzulpe_object.h"
+#include "storage.h"
+
+enum { TRIES = 3, TARGETS = 20, OPENING = 1 << 30, EVENTS = 10, PATIENCE = 60000, REST = 2000 };
+enum { DEPOSIT_HERE, DEPOSIT_THERE, MOVE, TOUCH, BALANCES, PROCEDURES };
+
+static const char *const names[PROCEDURES] = {"deposit_here", "deposit_there", "move", "touch", "balances"};
+
+typedef struct {
+    pthread_mutex_t lock; /* of all but what has its own */
+    pthread_mutex_t syncing;
+    uint64_t synced;      /* bytes of the log that are on the disk */
+    const plan *plan;
+    mz_tc *tc;
+    gate gate;
+    kept_log log;
+    kept_notes notes;
+    char log_path[512], notes_path[512];
+    uint64_t procedures[PROCEDURES], done, anew;
+    int is_anew; /* a checkpoint is being made */
+    unsigned drawn;
+} client;
+
+typedef struct { client *client; uint64_t number; } worker;
+
+static uint64_t microseconds(void) {
+    struct timespec t;
+    clock_gettime(CLOCK_MONOTONIC, &t);
+    return (uint64_t)t.tv_sec * 1000000 + (uint64_t)t.tv_nsec / 1000;
+}
+
+/* ---- calls, under the lock */
+
+/* What is written of the log comes to the disk, without the lock. Who waits for another's turn finds its own done by it. */
+static void sync_log(client *e) {
+    uint64_t until = (uint64_t)lseek(e->log.file, 0, SEEK_END);
+    pthread_mutex_unlock(&e->lock);
+    pthread_mutex_lock(&e->syncing);
+    if (e->synced < until) {
+        uint64_t all = (uint64_t)lseek(e->log.file, 0, SEEK_END);
+        if (fdatasync(e->log.file) || (e->log.beside >= 0 && fdatasync(e->log.beside))) die("fdatasync", MZ_OK);
+        e->synced = all;
+    }
+    pthread_mutex_unlock(&e->syncing);
+    pthread_mutex_lock(&e->lock);
+}
+
+static void write_ahead(client *e) {
+    log_keep(&e->log);
+    notes_keep(&e->notes);
+    if (e->plan->synced) sync_log(e);
+}
+
+/* Lets the lock go while the wire is carried. */
+static mz_carried carry(void *context, const mz_wire *wire, mz_reply *reply, mz_news *news) {
+    client *e = (client *)context;
+    const mz_wire mine = *wire;
+    if (!e->plan->unwritten) write_ahead(e);
+    int is_lost = e->plan->losing && (e->drawn = e->drawn * 1103515245u + 12345u) >> 28 == 0;
+    e->plan->seen->redone += (uint64_t)mine.redo;
+    pthread_mutex_unlock(&e->lock);
+    mz_carried carried = storage_carry(&mine, reply, news);
+    pthread_mutex_lock(&e->lock);
+    e->plan->seen->restarts += carried == MZ_RESTARTED;
+    return is_lost && carried == MZ_REPLIED ? MZ_LOST : carried;
+}
+
+static void rest(client *e) {
+    pthread_mutex_unlock(&e->lock);
+    usleep(REST);
+    pthread_mutex_lock(&e->lock);
+}
+
+/* Runs an admitted transaction until it is over, however long its data components are away. */
+static void run(client *e, uint64_t txn) {
+    mz_next stopped = MZ_WAITS;
+    while (stopped != MZ_OVER) {
+        mz_code c = mz_run_until_over(e->tc, txn, carry, e, TRIES, &stopped);
+        if (c != MZ_OK || stopped == MZ_STUCK) die("a call", c);
+        if (stopped != MZ_OVER) rest(e);
+    }
+}
+
+static mz_receipt end(client *e, uint64_t txn) {
+    mz_receipt receipt;
+    mz_code c = mz_end(e->tc, txn, &receipt);
+    if (c != MZ_OK) die("mz_end", c);
+    write_ahead(e);
+    gate_ended(&e->gate);
+    return receipt;
+}
+
+static uint64_t admit(client *e, int which, const uint64_t *args, size_t count) {
+    uint64_t txn = 0;
+    for (;;) {
+        gate_pass(&e->gate);
+        mz_code c = mz_admit(e->tc, e->procedures[which], args, count, &txn, NULL, NULL);
+        if (c == MZ_OK) return txn;
+        if (c != MZ_BUSY) die(names[which], c);
+        pthread_cond_wait(&e->gate.ended, &e->lock);
+    }
+}
+
+static mz_outcome call(client *e, int which, const uint64_t *args, size_t count) {
+    uint64_t began = microseconds(), txn = admit(e, which, args, count);
+    run(e, txn);
+    mz_outcome outcome = end(e, txn).outcome;
+    uint64_t took = microseconds() - began;
+    if (took > e->plan->seen->longest) e->plan->seen->longest = took;
+    return outcome;
+}
+
+/* What is in an account, by a call; 0 where there is none. Account 0 of data component 0 is the first that is opened. */
+static int is_there(client *e, uint16_t dc, uint64_t account, uint64_t *balance) {
+    const uint64_t args[] = {dc ? 0 : account, dc ? account : 0};
+    uint8_t value[MZ_VALUE];
+    int there = 0;
+    uint64_t txn = admit(e, BALANCES, args, 2);
+    run(e, txn);
+    mz_code c = mz_result(e->tc, txn, dc, value, &there);
+    if (c != MZ_OK) die("mz_result", c);
+    end(e, txn);
+    *balance = there ? mz_little(value, 8) : 0;
+    return there;
+}
+
+/* ---- checkpoints */
+
+/* Each data component keeps the mark, without the lock: the gate is closed, and nothing is open. */
+static int is_kept(client *e, uint64_t mark) {
+    int kept = 1;
+    for (uint16_t d = 0; kept && d < DCS; d++) {
+        uint64_t incarnation = 0;
+        mz_site(e->tc, d, &incarnation, NULL);
+        pthread_mutex_unlock(&e->lock);
+        kept = storage_keep(d, incarnation, mark);
+        pthread_mutex_lock(&e->lock);
+    }
+    return kept;
+}
+
+/* Behind the closed gate. 0 where a data component is away: the log goes on as it was. */
+static int begins_anew(client *e) {
+    uint64_t mark = mz_low_water(e->tc);
+    if (!is_kept(e, mark) || mz_checkpoint(e->tc, mark) != MZ_OK) return 0;
+    notes_keep(&e->notes);
+    pthread_mutex_lock(&e->syncing);
+    log_begin(&e->log);
+    pthread_mutex_unlock(&e->syncing);
+    return 1;
+}
+
+/* The log's new file takes the old one's place; admissions go on meanwhile. */
+static void swap_files(client *e) {
+    pthread_mutex_unlock(&e->lock);
+    log_sync(&e->log);
+    pthread_mutex_lock(&e->lock);
+    pthread_mutex_lock(&e->syncing);
+    log_swap(&e->log);
+    e->synced = 0;
+    pthread_mutex_unlock(&e->syncing);
+    e->plan->seen->checkpoints++;
+}
+
+/* By a thread with nothing open. */
+static void checkpoint(client *e) {
+    mz_open by;
+    e->is_anew = 1;
+    if (gate_close(&e->gate, e->tc, PATIENCE, &by) == MZ_OK) {
+        int begun = begins_anew(e);
+        gate_open(&e->gate);
+        if (begun) swap_files(e);
+    }
+    e->is_anew = 0;
+    e->anew = e->done;
+}
+
+static void *transfers(void *context) {
+    worker *w = (worker *)context;
+    client *e = w->client;
+    seen *s = e->plan->seen;
+    pthread_mutex_lock(&e->lock);
+    for (uint64_t turn = s->told[w->number]; !s->last || e->done < e->plan->transfers; turn++) {
+        const uint64_t args[] = {w->number, (turn * 7919 + w->number) % TARGETS, 1};
+        if (call(e, MOVE, args, 3) != MZ_COMMITTED) die("a transfer", MZ_OK);
+        s->told[w->number]++;
+        e->done++;
+        if (e->plan->losing && turn % 2) call(e, TOUCH, args, 1);
+        if (e->plan->between && !e->is_anew && e->done - e->anew > e->plan->between) checkpoint(e);
+    }
+    pthread_mutex_unlock(&e->lock);
+    return context;
+}
+
+/* ---- its life */
+
+/* What was open when it died goes on to its end. */
+static void end_open(client *e) {
+    mz_open open;
+    mz_asked asked;
+    for (uint64_t place = 0; mz_open_from(e->tc, place, &open) == MZ_OK; place = open.place + 1) {
+        mz_code c = mz_retake(e->tc, open.txn, &asked);
+        if (c != MZ_OK && c != MZ_NOTHING_OPEN) die("mz_retake", c);
+        run(e, open.txn);
+        end(e, open.txn);
+        e->plan->seen->came_back++;
+    }
+    if (mz_open_count(e->tc)) die("an open transaction didn't come back", MZ_OK);
+}
+
+/* Those that no earlier life has opened. */
+static void open_accounts(client *e) {
+    uint64_t balance;
+    for (uint64_t a = 0; a < e->plan->threads; a++)
+        if (!is_there(e, 0, a, &balance)) call(e, DEPOSIT_HERE, (uint64_t[]){a, OPENING}, 2);
+    for (uint64_t a = 0; a < TARGETS; a++)
+        if (!is_there(e, 1, a, &balance)) call(e, DEPOSIT_THERE, (uint64_t[]){a, 0}, 2);
+    e->plan->seen->opened = 1;
+}
+
+static void come_back(client *e) {
+    size_t count = 0, place = 0;
+    uint8_t *rows = log_read(&e->log, &count);
+    notes_read(&e->notes, e->tc, e->notes_path);
+    mz_code c = mz_recover(e->tc, rows, count, e->notes.notes, DCS, &place);
+    if (c != MZ_OK) die("mz_recover", c);
+    free(rows);
+    end_open(e);
+    if (!e->plan->seen->opened) open_accounts(e);
+}
+
+/* Whether no transfer that was told is lost, none was made twice, and the sum stays. An untold one for each thread may
+ * have been made before it was killed. */
+static int is_right(client *e, uint64_t untold) {
+    uint64_t sum = 0, balance = 0;
+    seen *s = e->plan->seen;
+    for (uint64_t t = 0; t < e->plan->threads; t++) {
+        if (!is_there(e, 0, t, &balance) || balance > OPENING) return 0;
+        uint64_t made = OPENING - balance;
+        if (made < s->told[t] || made > s->told[t] + untold) return 0;
+        s->told[t] = made;
+        sum += balance;
+    }
+    for (uint64_t a = 0; a < TARGETS; a++) sum += is_there(e, 1, a, &balance) ? balance : 0;
+    return sum == e->plan->threads * OPENING;
+}
+
+static void loaded(client *e, const plan *p) {
+    mz_code c;
+    e->plan = p;
+    e->drawn = (unsigned)getpid();
+    e->tc = mz_tc_new(DCS, &c);
+    if (!e->tc) die("mz_tc_new", c);
+    if (!storage_open(p->folder)) die(p->folder, MZ_MEMORY);
+    snprintf(e->log_path, sizeof e->log_path, "%s/log", p->folder);
+    snprintf(e->notes_path, sizeof e->notes_path, "%s/notes", p->folder);
+    log_open(&e->log, e->tc, e->log_path);
+    c = mz_load_object_file(e->tc, p->object, NULL, NULL);
+    for (int k = 0; c == MZ_OK && k < PROCEDURES; k++) c = mz_find(e->tc, names[k], &e->procedures[k]);
+    if (c != MZ_OK) die(p->object, c);
+    pthread_mutex_init(&e->lock, NULL);
+    pthread_mutex_init(&e->syncing, NULL);
+    if (gate_new(&e->gate, &e->lock)) die("gate_new", MZ_OK);
+}
+
+static int is_right_under_lock(client *e, uint64_t untold) {
+    pthread_mutex_lock(&e->lock);
+    int right = is_right(e, untold);
+    pthread_mutex_unlock(&e->lock);
+    return right;
+}
+
+int client_live(const plan *p) {
+    static client e;
+    pthread_t threads[THREADS];
+    worker workers[THREADS];
+    loaded(&e, p);
+    pthread_mutex_lock(&e.lock);
+    come_back(&e);
+    pthread_mutex_unlock(&e.lock);
+    if (!is_right_under_lock(&e, 1)) return 3;
+    for (uint64_t t = 0; t < p->threads; t++) {
+        workers[t] = (worker){&e, t};
+        if (pthread_create(&threads[t], NULL, transfers, &workers[t])) die("a thread", MZ_OK);
+    }
+    for (uint64_t t = 0; t < p->threads; t++) pthread_join(threads[t], NULL);
+    return is_right_under_lock(&e, 0) ? 0 : 3;
+}
+
+uint64_t transfers_told(const plan *p) {
+    uint64_t told = 0;
+    for (uint64_t t = 0; t < p->threads; t++) told += p->seen->told[t];
+    return told;
+}

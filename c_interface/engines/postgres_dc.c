@@ -1,0 +1,276 @@
+#include "postgres_dc.h"
+#include "places.h"
+#include <endian.h>
+#include <libpq-fe.h>
+#include <stdio.h>
+
+enum { RAISE_BEHIND = 200 }; /* so many numbers are forgotten in one step */
+
+/* A number is locked before it is looked for, so a copy that comes at the same time waits for the first one's answer. What
+ * is known of the number, the mark and the incarnation are of one snapshot. */
+static const char schema[] =
+    "begin; set local synchronous_commit = on; set local client_min_messages = warning;"
+    "select pg_advisory_xact_lock(28027, 1);"
+    "create schema if not exists mz;"
+    "create table if not exists mz.records (tab int4, key int8, value bytea not null, primary key (tab, key)) with (fillfactor = 70);"
+    "create table if not exists mz.performed (number int8 primary key, said int4 not null, value bytea);"
+    "create table if not exists mz.component (session int8 not null, mark int8 not null, incarnation int8 not null);"
+    "create unlogged table if not exists mz.alive (incarnation int8 not null);"
+    /* One above all earlier ones, also where the stored one was lost with the rest, and durable before it is told. */
+    "create or replace function mz.begin_incarnation(known int8) returns void language plpgsql as $$ begin"
+    "  perform pg_advisory_xact_lock(28027, 0);"
+    "  if exists (select 1 from mz.component join mz.alive using (incarnation) where incarnation >= known) then return; end if;"
+    "  perform set_config('synchronous_commit', 'on', true);"
+    "  delete from mz.alive;"
+    "  update mz.component set incarnation = greatest(incarnation, known) + 1;"
+    "  insert into mz.alive select incarnation from mz.component;"
+    "end $$;"
+    /* What was performed for another transaction component is forgotten: its numbers began with 1 too. */
+    "create or replace function mz.begin_session(new_session int8) returns void language plpgsql as $$ begin"
+    "  if exists (select 1 from mz.component where session = new_session) then return; end if;"
+    "  perform pg_advisory_xact_lock(28027, 0);"
+    "  if exists (select 1 from mz.component where session = new_session) then return; end if;"
+    "  perform set_config('synchronous_commit', 'on', true);"
+    "  delete from mz.component; delete from mz.alive; delete from mz.performed;"
+    "  insert into mz.component values (new_session, 0, 0); insert into mz.alive values (0);"
+    "end $$;"
+    /* A wire of another incarnation raises nothing: what is under its mark may be lost here, and is redone first. */
+    "create or replace function mz.raise_mark(w_session int8, w_incarnation int8, w_mark int8) returns bool language plpgsql as $$ begin"
+    "  update mz.component c set mark = greatest(c.mark, w_mark) where c.session = w_session and c.incarnation = w_incarnation"
+    "    and exists (select 1 from mz.alive a where a.incarnation = c.incarnation);"
+    "  if not found then return false; end if;"
+    "  delete from mz.performed where number <= w_mark;"
+    "  return true;"
+    "end $$;"
+    /* said: as mz_said; 0 is news; null is no answer. */
+    "create or replace function mz.perform(w_session int8, w_incarnation int8, w_number int8, w_op int4, w_tab int4, w_key int8,"
+    "  w_value bytea, out said int4, out was bytea, out now_incarnation int8, out now_mark int8) language plpgsql as $$"
+    "declare is_alive bool; is_there bool; is_ours bool; begin"
+    "  perform pg_advisory_xact_lock(28026, (w_number & 2147483647)::int4);"
+    "  select c.session = w_session, c.mark, c.incarnation, a.incarnation is not null, p.said, p.value"
+    "    into is_ours, now_mark, now_incarnation, is_alive, said, was"
+    "    from mz.component c left join mz.alive a on a.incarnation = c.incarnation left join mz.performed p on p.number = w_number;"
+    "  if not is_ours then said := null; return; end if;"
+    "  if not is_alive or w_incarnation > now_incarnation then"
+    "    perform mz.begin_incarnation(w_incarnation);"
+    "    select mark, incarnation into now_mark, now_incarnation from mz.component;"
+    "  end if;"
+    "  if now_incarnation <> w_incarnation then said := 0; return; end if;"
+    "  if w_number <= now_mark then said := 8; return; end if;"
+    "  if said is not null then return; end if;"
+    "  select value into was from mz.records where tab = w_tab and key = w_key;"
+    "  is_there := found;"
+    "  if w_op = 1 then said := case when is_there then 1 else 2 end;"
+    "  elsif w_op = 2 then"
+    "    said := case when is_there then 5 else 3 end; was := null;"
+    "    if not is_there then insert into mz.records values (w_tab, w_key, w_value); end if;"
+    "  elsif not is_there then said := 6;"
+    "  else"
+    "    said := 4;"
+    "    if w_op = 3 then update mz.records set value = w_value where tab = w_tab and key = w_key;"
+    "    else delete from mz.records where tab = w_tab and key = w_key; end if;"
+    "  end if;"
+    "  insert into mz.performed values (w_number, said, was);"
+    "end $$;"
+    /* Eight bytes of a value, from this one on, as the number that a procedure has there. */
+    "create or replace function mz.word(value bytea, at int4) returns int8 immutable strict language sql as"
+    "  $$ select bit_or(get_byte(value, at + i)::int8 << 8 * i) from generate_series(0, 7) i $$;"
+    "commit";
+
+struct postgres_dc {
+    char *words;
+    uint64_t session;
+    _Atomic uint64_t raised; /* the mark that was told last */
+    postgres_dc_durable durable;
+    places places;
+    PGconn *connections[PLACES];
+};
+
+static void keep_quiet(void *context, const PGresult *notice) {
+    (void)context;
+    (void)notice;
+}
+
+/* What the server says of itself while it starts or ends is no fault of a statement. */
+static void name_fault(const PGresult *r) {
+    const char *state = PQresultErrorField(r, PG_DIAG_SQLSTATE);
+    if (state && strncmp(state, "57P", 3)) fprintf(stderr, "postgres %s: %s\n", state, PQresultErrorField(r, PG_DIAG_MESSAGE_PRIMARY));
+}
+
+static int executed(PGconn *c, const char *sql) {
+    PGresult *r = PQexec(c, sql);
+    ExecStatusType status = PQresultStatus(r);
+    if (status == PGRES_FATAL_ERROR) name_fault(r);
+    PQclear(r);
+    return status == PGRES_COMMAND_OK || status == PGRES_TUPLES_OK;
+}
+
+static int is_prepared(PGconn *c, const char *name, const char *sql) {
+    PGresult *r = PQprepare(c, name, sql, 0, NULL);
+    int ok = PQresultStatus(r) == PGRES_COMMAND_OK;
+    if (!ok) name_fault(r);
+    PQclear(r);
+    return ok;
+}
+
+static int has_tables(PGconn *c) {
+    PGresult *r = PQexec(c, "select to_regclass('mz.alive') is not null");
+    int has = PQresultStatus(r) == PGRES_TUPLES_OK && PQgetvalue(r, 0, 0)[0] == 't';
+    PQclear(r);
+    return has;
+}
+
+static int is_begun(const postgres_dc *dc, PGconn *c) {
+    char begin[80];
+    snprintf(begin, sizeof begin, "select mz.begin_session(%lld)", (long long)dc->session);
+    return PQstatus(c) == CONNECTION_OK && (has_tables(c) || executed(c, schema)) && executed(c, begin) &&
+           executed(c, dc->durable == POSTGRES_DC_LATER ? "set synchronous_commit = off" : "set synchronous_commit = on") &&
+           is_prepared(c, "perform", "select * from mz.perform($1, $2, $3, $4, $5, $6, $7)") &&
+           is_prepared(c, "raise", "select mz.raise_mark($1, $2, $3)") &&
+           is_prepared(c, "keep", "select mz.raise_mark($1, $2, $3) from set_config('synchronous_commit', 'on', true)");
+}
+
+/* The connection of a place, made anew where it broke; or NULL. */
+static PGconn *connection(postgres_dc *dc, int place) {
+    PGconn **c = &dc->connections[place];
+    if (*c && PQstatus(*c) == CONNECTION_OK) return *c;
+    PQfinish(*c);
+    *c = PQconnectdb(dc->words);
+    PQsetNoticeReceiver(*c, keep_quiet, NULL);
+    if (is_begun(dc, *c)) return *c;
+    PQfinish(*c);
+    return *c = NULL;
+}
+
+/* ---- values in the binary format */
+
+typedef struct { const char *at[7]; int length[7]; uint64_t big[7]; int count; } words;
+
+static void put_number(words *w, uint64_t n, int bytes) {
+    w->big[w->count] = bytes == 8 ? htobe64(n) : htobe32((uint32_t)n);
+    w->at[w->count] = (const char *)&w->big[w->count];
+    w->length[w->count++] = bytes;
+}
+
+static void put_bytes(words *w, const uint8_t *bytes, int length) {
+    w->at[w->count] = (const char *)bytes;
+    w->length[w->count++] = length;
+}
+
+static uint64_t number_of(const PGresult *r, int column) {
+    uint64_t n = 0;
+    memcpy(&n, PQgetvalue(r, 0, column), sizeof n);
+    return be64toh(n);
+}
+
+/* One row in the binary format, or NULL. */
+static PGresult *row_of(PGconn *c, const char *prepared, const words *w) {
+    static const int binary[] = {1, 1, 1, 1, 1, 1, 1};
+    PGresult *r = PQexecPrepared(c, prepared, w->count, w->at, w->length, binary, 1);
+    if (PQresultStatus(r) == PGRES_TUPLES_OK && PQntuples(r) == 1) return r;
+    if (PQresultStatus(r) == PGRES_FATAL_ERROR) name_fault(r);
+    PQclear(r);
+    return NULL;
+}
+
+static int raised(const postgres_dc *dc, PGconn *c, const char *prepared, uint64_t incarnation, uint64_t mark) {
+    words w = {.count = 0};
+    put_number(&w, dc->session, 8);
+    put_number(&w, incarnation, 8);
+    put_number(&w, mark, 8);
+    PGresult *r = row_of(c, prepared, &w);
+    int is_raised = r && PQgetvalue(r, 0, 0)[0];
+    PQclear(r);
+    return is_raised;
+}
+
+/* ---- the wire */
+
+static mz_carried told(const PGresult *r, const mz_wire *w, mz_reply *reply, mz_news *news) {
+    if (PQgetisnull(r, 0, 0)) return MZ_LOST;
+    int said = PQgetvalue(r, 0, 0)[3];
+    news->incarnation = number_of(r, 2);
+    news->mark = number_of(r, 3);
+    if (!said) return MZ_RESTARTED;
+    memset(reply, 0, sizeof *reply);
+    reply->number = w->number;
+    reply->incarnation = w->incarnation;
+    reply->said = (mz_said)said;
+    if (PQgetlength(r, 0, 1) == MZ_VALUE) memcpy(reply->value, PQgetvalue(r, 0, 1), MZ_VALUE);
+    return MZ_REPLIED;
+}
+
+static mz_carried performed(postgres_dc *dc, PGconn *c, const mz_wire *wire, mz_reply *reply, mz_news *news) {
+    words w = {.count = 0};
+    if (wire->low_water > dc->raised + RAISE_BEHIND && raised(dc, c, "raise", wire->incarnation, wire->low_water))
+        dc->raised = wire->low_water;
+    put_number(&w, dc->session, 8);
+    put_number(&w, wire->incarnation, 8);
+    put_number(&w, wire->number, 8);
+    put_number(&w, wire->op, 4);
+    put_number(&w, wire->record.table, 4);
+    put_number(&w, wire->record.key, 8);
+    put_bytes(&w, wire->value, MZ_VALUE);
+    PGresult *r = row_of(c, "perform", &w);
+    mz_carried carried = r ? told(r, wire, reply, news) : MZ_LOST;
+    PQclear(r);
+    return carried;
+}
+
+mz_carried postgres_dc_perform(postgres_dc *dc, const mz_wire *wire, mz_reply *reply, mz_news *news) {
+    int place = place_take(&dc->places);
+    PGconn *c = connection(dc, place);
+    mz_carried carried = c ? performed(dc, c, wire, reply, news) : MZ_LOST;
+    place_give(&dc->places, place);
+    return carried;
+}
+
+int postgres_dc_keep(postgres_dc *dc, uint64_t incarnation, uint64_t mark) {
+    int place = place_take(&dc->places);
+    PGconn *c = connection(dc, place);
+    int is_kept = c && raised(dc, c, "keep", incarnation, mark);
+    place_give(&dc->places, place);
+    return is_kept;
+}
+
+int postgres_dc_execute(postgres_dc *dc, const char *sql) {
+    int place = place_take(&dc->places);
+    PGconn *c = connection(dc, place);
+    int is_done = c && executed(c, sql);
+    place_give(&dc->places, place);
+    return is_done;
+}
+
+int postgres_dc_put_back(postgres_dc *dc) { return postgres_dc_execute(dc, "delete from mz.alive"); }
+
+int postgres_dc_word(postgres_dc *dc, uint16_t table, uint64_t key, int64_t *word) {
+    char sql[128];
+    snprintf(sql, sizeof sql, "select mz.word(value, 0) from mz.records where tab = %u and key = %lld", table, (long long)key);
+    int place = place_take(&dc->places);
+    PGconn *c = connection(dc, place);
+    PGresult *r = c ? PQexec(c, sql) : NULL;
+    int found = PQresultStatus(r) == PGRES_TUPLES_OK ? PQntuples(r) : -1;
+    if (found == 1) *word = strtoll(PQgetvalue(r, 0, 0), NULL, 10);
+    PQclear(r);
+    place_give(&dc->places, place);
+    return found;
+}
+
+postgres_dc *postgres_dc_open(const char *words, uint64_t session, postgres_dc_durable durable) {
+    postgres_dc *dc = calloc(1, sizeof *dc);
+    if (!dc || !(dc->words = strdup(words))) {
+        free(dc);
+        return NULL;
+    }
+    dc->session = session;
+    dc->durable = durable;
+    places_new(&dc->places);
+    return dc;
+}
+
+void postgres_dc_close(postgres_dc *dc) {
+    if (!dc) return;
+    for (int i = 0; i < PLACES; i++) PQfinish(dc->connections[i]);
+    free(dc->words);
+    free(dc);
+}

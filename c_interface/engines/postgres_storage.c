@@ -1,0 +1,163 @@
+/* Two PostgreSQL servers with asynchronous commit, so that a kill loses, and redo restores. Their files aren't synced to
+ * the disk, which matters to a loss of power alone. PG_BIN is the folder of postgres and initdb. */
+#define _GNU_SOURCE
+#include "storage.h"
+#include "postgres_dc.h"
+#include "processes.h"
+#include <sys/shm.h>
+#include <sys/stat.h>
+
+enum { SESSION = 1, ANSWERS_WITHIN = 30000 };
+
+const unsigned servers_live = 1500000;
+
+static struct { char folder[300], output[320]; pid_t pid; } servers[DCS];
+static postgres_dc *components[DCS];
+static const struct passwd *owner; /* who runs the servers: PostgreSQL refuses root */
+
+/* What is made wrong, by SQL alone. */
+static const struct { const char *name, *sql; } controls[] = {
+    {"forgetful",
+     "create function mz.forget() returns trigger language plpgsql as $$ begin return null; end $$;"
+     "create trigger forget before insert on mz.performed for each row execute function mz.forget()"},
+    {"untold",
+     "create or replace function mz.begin_incarnation(known int8) returns void language sql as"
+     " $$ insert into mz.alive select incarnation from mz.component $$"},
+    {"raised",
+     "create or replace function mz.raise_mark(w_session int8, w_incarnation int8, w_mark int8) returns bool language plpgsql as $$ begin"
+     "  update mz.component set mark = greatest(mark, w_mark);"
+     "  delete from mz.performed where number <= w_mark; return true; end $$"},
+    {"at_start",
+     "create table mz.started as select pg_postmaster_start_time() as at;"
+     "create or replace function mz.begin_incarnation(known int8) returns void language plpgsql as $$ begin"
+     "  perform pg_advisory_xact_lock(28027, 0); perform set_config('synchronous_commit', 'on', true);"
+     "  if (select at from mz.started) <> pg_postmaster_start_time() then"
+     "    update mz.component set incarnation = greatest(incarnation, known) + 1; end if;"
+     "  update mz.started set at = pg_postmaster_start_time(); delete from mz.alive;"
+     "  insert into mz.alive select incarnation from mz.component; end $$"},
+};
+
+int storage_open(const char *folder) {
+    char words[400];
+    for (int d = 0; d < DCS; d++) {
+        snprintf(words, sizeof words, "host=%s port=%d user=postgres dbname=postgres", folder, 5432 + d);
+        components[d] = postgres_dc_open(words, SESSION, POSTGRES_DC_LATER);
+        if (!components[d]) return 0;
+    }
+    return 1;
+}
+
+mz_carried storage_carry(const mz_wire *wire, mz_reply *reply, mz_news *news) {
+    return postgres_dc_perform(components[wire->record.dc], wire, reply, news);
+}
+
+int storage_keep(uint16_t dc, uint64_t incarnation, uint64_t mark) {
+    return postgres_dc_keep(components[dc], incarnation, mark);
+}
+
+/* ---- the servers */
+
+static const char *program(char *room, size_t bytes, const char *name) {
+    const char *folder = getenv("PG_BIN");
+    snprintf(room, bytes, "%s%s%s", folder ? folder : "", folder ? "/" : "", name);
+    return room;
+}
+
+/* Processes of a server that was killed live on for a moment, and bar the next one: as long as they hold its memory. */
+static void await_its_processes(int i) {
+    char path[320], line[200] = "";
+    int key, id = -1;
+    snprintf(path, sizeof path, "%s/postmaster.pid", servers[i].folder);
+    FILE *f = fopen(path, "r");
+    for (int k = 0; f && k < 7 && fgets(line, sizeof line, f); k++) continue;
+    if (f) fclose(f);
+    if (sscanf(line, "%d %d", &key, &id) != 2) return;
+    struct shmid_ds held;
+    while (shmctl(id, IPC_STAT, &held) == 0 && held.shm_nattch > 0) usleep(2000);
+}
+
+static void start(int i) {
+    char name[300], port[16], sockets[320];
+    snprintf(port, sizeof port, "%d", 5432 + i);
+    snprintf(sockets, sizeof sockets, "%s", servers[i].folder);
+    *strrchr(sockets, '/') = 0;
+    await_its_processes(i);
+    const char *words[] = {program(name, sizeof name, "postgres"), "-D", servers[i].folder, "-k", sockets, "-p", port,
+                           "-c", "listen_addresses=", "-c", "fsync=off", "-c", "shared_buffers=16MB", "-c", "max_connections=40",
+                           "-c", "log_min_messages=fatal", "-c", "log_min_error_statement=panic", NULL};
+    servers[i].pid = process_begin(words, servers[i].output, owner);
+}
+
+static int is_made(const char *folder, int i) {
+    char name[300];
+    snprintf(servers[i].folder, sizeof servers[i].folder, "%s/%d", folder, i);
+    snprintf(servers[i].output, sizeof servers[i].output, "%s/%d.said", folder, i);
+    const char *made[] = {program(name, sizeof name, "initdb"), "-D", servers[i].folder, "-A", "trust", "-U", "postgres",
+                          "--no-sync", "--no-instructions", NULL};
+    const char *copied[] = {"cp", "-a", servers[0].folder, servers[i].folder, NULL};
+    return process_runs(i ? copied : made, servers[i].output, i ? NULL : owner);
+}
+
+static int is_wrong_as(const char *control) {
+    for (size_t k = 0; k < sizeof controls / sizeof *controls; k++)
+        if (!strcmp(controls[k].name, control))
+            return postgres_dc_execute(components[0], controls[k].sql) && postgres_dc_execute(components[1], controls[k].sql);
+    fprintf(stderr, "PostgreSQL has no control %s\n", control);
+    return 0;
+}
+
+int servers_begin(const char *folder, const char *control) {
+    owner = geteuid() ? NULL : getpwnam("postgres");
+    if (!geteuid() && (!owner || chown(folder, owner->pw_uid, owner->pw_gid))) return 0;
+    for (int i = 0; i < DCS; i++)
+        if (!is_made(folder, i)) {
+            fprintf(stderr, "no server: %s\n", servers[i].output);
+            return 0;
+        }
+    servers_start();
+    if (!storage_open(folder)) return 0;
+    for (int i = 0; i < DCS; i++)
+        for (int waited = 0; !postgres_dc_execute(components[i], "select 1"); waited += 20) {
+            if (waited > ANSWERS_WITHIN) return 0;
+            usleep(20000);
+        }
+    int is_right = !control || is_wrong_as(control);
+    for (int i = 0; i < DCS; i++) postgres_dc_close(components[i]);
+    return is_right;
+}
+
+/* A process of the server that serves somebody, or 0. */
+static pid_t serving(int i) {
+    char path[80], title[32] = "";
+    pid_t found = 0, child;
+    snprintf(path, sizeof path, "/proc/%d/task/%d/children", (int)servers[i].pid, (int)servers[i].pid);
+    FILE *children = fopen(path, "r");
+    while (children && !found && fscanf(children, "%d", &child) == 1) {
+        snprintf(path, sizeof path, "/proc/%d/cmdline", (int)child);
+        FILE *f = fopen(path, "r");
+        if (f && fgets(title, sizeof title, f) && !strncmp(title, "postgres: postgres ", 19)) found = child;
+        if (f) fclose(f);
+    }
+    if (children) fclose(children);
+    return found;
+}
+
+/* The server, which loses its last commits; or, each third time, a process of it alone: then it recovers, and loses as well. */
+unsigned servers_kill(uint16_t dc, unsigned drawn) {
+    pid_t one = drawn % 3 ? 0 : serving(dc);
+    return one ? kill(one, SIGKILL) == 0 : servers_lose(dc);
+}
+
+unsigned servers_lose(uint16_t dc) {
+    process_kill(servers[dc].pid);
+    start(dc);
+    return 1;
+}
+
+void servers_end(void) {
+    for (int i = 0; i < DCS; i++) process_kill(servers[i].pid);
+}
+
+void servers_start(void) {
+    for (int i = 0; i < DCS; i++) start(i);
+}

@@ -1,0 +1,42 @@
+/* What client.c, killed_bank.c and tried_storage.c want of an engine that people run: postgres_storage.c, etcd_storage.c
+ * and sqlite_storage.c give it. */
+#ifndef STORAGE_H
+#define STORAGE_H
+
+#include "mazzulpe.h"
+
+enum { DCS = 2 };
+
+/* ---- the way to its servers, of the client */
+
+/* 0 where there is no memory. The servers may be down. */
+int storage_open(const char *folder);
+
+/* Carries a wire, from several threads at once. */
+mz_carried storage_carry(const mz_wire *wire, mz_reply *reply, mz_news *news);
+
+/* Makes all that a data component has done durable, with this low-water mark, for good. 0 where nobody answered, or it isn't
+ * this incarnation any more. */
+int storage_keep(uint16_t dc, uint64_t incarnation, uint64_t mark);
+
+/* ---- its servers, of the parent */
+
+/* Within so many microseconds one is killed. */
+extern const unsigned servers_live;
+
+/* Makes them in this folder, starts them, and waits until they answer. `control`: NULL, or the name of what is made wrong there.
+ * 0, with the reason on standard error, where that fails. */
+int servers_begin(const char *folder, const char *control);
+
+/* Ends one of a data component by SIGKILL, and starts it again. How many were killed. */
+unsigned servers_kill(uint16_t dc, unsigned drawn);
+
+/* Ends those of a data component by SIGKILL; what came behind its last storage_keep is lost, or so much of it as may be; and
+ * starts them. */
+unsigned servers_lose(uint16_t dc);
+
+/* Ends them all by SIGKILL; and starts them. */
+void servers_end(void);
+void servers_start(void);
+
+#endif
