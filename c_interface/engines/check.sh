@@ -1,7 +1,9 @@
 #!/bin/sh
 # check.sh NAME KILLS [CONTROL]..: the bank over this engine (build/killed_NAME) with so many SIGKILLs of its client, of its
-# servers and of both, and an outage of OUTAGE seconds; then each control, which has to be seen to lose.
+# servers and of both, and an outage of OUTAGE seconds; then each control, which has to be seen to lose: at the first loss that
+# is seen it ends.
 set -e
+until_lost=100
 name=$1
 kills=$2
 shift 2
@@ -23,15 +25,15 @@ for who in client servers both; do
     fi
     echo "$name, $who: $(cat "$folder/said")"
 done
-if ! bank outage "${OUTAGE:-2}"; then
+if ! bank outage "${OUTAGE:-1}"; then
     echo "$name, outage: MONEY LOST OR MADE: $(cat "$folder/said" "$folder/faults")"
     exit 1
 fi
-echo "$name, outage of ${OUTAGE:-2} s: $(cat "$folder/said")"
+echo "$name, outage of ${OUTAGE:-1} s: $(cat "$folder/said")"
 for control in "$@"; do
     who=both
     test "$control" = unwritten && who=client
-    if bank $who "$kills" "$control"; then
+    if bank $who $until_lost "$control"; then
         echo "$name, $control: it lost nothing, so that this control shows NOTHING"
         exit 1
     fi

@@ -1,10 +1,10 @@
-#define _GNU_SOURCE
 #include "client.h"
 #include "gate.h"
 #include "kept_notes.h"
 #include "mazzulpe_object.h"
 #include "storage.h"
 
+/* EVENTS: of a transfer. */
 enum { TRIES = 3, TARGETS = 20, OPENING = 1 << 30, EVENTS = 10, PATIENCE = 60000, REST = 2000 };
 enum { DEPOSIT_HERE, DEPOSIT_THERE, MOVE, TOUCH, BALANCES, PROCEDURES };
 
@@ -20,7 +20,7 @@ typedef struct {
     kept_log log;
     kept_notes notes;
     char log_path[512], notes_path[512];
-    uint64_t procedures[PROCEDURES], done, anew;
+    uint64_t procedures[PROCEDURES], done;
     int is_anew; /* a checkpoint is being made */
     unsigned drawn;
 } client;
@@ -176,7 +176,6 @@ static void checkpoint(client *e) {
         if (begun) swap_files(e);
     }
     e->is_anew = 0;
-    e->anew = e->done;
 }
 
 static void *transfers(void *context) {
@@ -190,7 +189,7 @@ static void *transfers(void *context) {
         s->told[w->number]++;
         e->done++;
         if (e->plan->losing && turn % 2) call(e, TOUCH, args, 1);
-        if (e->plan->between && !e->is_anew && e->done - e->anew > e->plan->between) checkpoint(e);
+        if (e->plan->between && !e->is_anew && mz_log_length(e->tc) > e->plan->between * EVENTS) checkpoint(e);
     }
     pthread_mutex_unlock(&e->lock);
     return context;
@@ -255,7 +254,7 @@ static void loaded(client *e, const plan *p) {
     e->drawn = (unsigned)getpid();
     e->tc = mz_tc_new(DCS, &c);
     if (!e->tc) die("mz_tc_new", c);
-    if (!storage_open(p->folder)) die(p->folder, MZ_MEMORY);
+    if (!storage_open(p->folder, SESSION)) die(p->folder, MZ_MEMORY);
     snprintf(e->log_path, sizeof e->log_path, "%s/log", p->folder);
     snprintf(e->notes_path, sizeof e->notes_path, "%s/notes", p->folder);
     log_open(&e->log, e->tc, e->log_path);
@@ -283,11 +282,13 @@ int client_live(const plan *p) {
     come_back(&e);
     pthread_mutex_unlock(&e.lock);
     if (!is_right_under_lock(&e, 1)) return 3;
+    uint64_t began = microseconds();
     for (uint64_t t = 0; t < p->threads; t++) {
         workers[t] = (worker){&e, t};
         if (pthread_create(&threads[t], NULL, transfers, &workers[t])) die("a thread", MZ_OK);
     }
     for (uint64_t t = 0; t < p->threads; t++) pthread_join(threads[t], NULL);
+    p->seen->took = microseconds() - began;
     return is_right_under_lock(&e, 0) ? 0 : 3;
 }
 

@@ -13,7 +13,8 @@ enum { THREADS = 16 };
 /* What lives of a client and their parent share. */
 typedef struct {
     volatile uint64_t told[THREADS]; /* transfers of which the thread was told that they committed */
-    volatile uint64_t checkpoints, came_back, restarts, redone, longest; /* longest: a call, in microseconds */
+    volatile uint64_t checkpoints, came_back, restarts, redone;
+    volatile uint64_t longest, took; /* a call; the transfers of the last life: in microseconds */
     volatile int opened, last;       /* last: it ends once it has made `transfers` more */
 } seen;
 

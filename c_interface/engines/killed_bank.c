@@ -7,7 +7,6 @@
  * was made twice, the sum isn't right, a transaction that was open doesn't come back, or no call gets on.
  *
  * CONTROL: `unwritten`, the client writes nothing ahead; or what the storage makes wrong. Then 1 is what has to be seen. */
-#define _GNU_SOURCE
 #include "client.h"
 #include "killed.h"
 #include "storage.h"
@@ -15,7 +14,7 @@
 #include <sys/prctl.h>
 #include <time.h>
 
-enum { LAST = 400, OUTAGE = 1000, BETWEEN = 500, CLIENT_LIVES = 120000, PATIENCE = 60, PATIENCE_WITH_CONTROL = 10 };
+enum { LAST = 400, OUTAGE = 1000, BETWEEN = 200, CLIENT_LIVES = 120000, PATIENCE = 60, PATIENCE_WITH_CONTROL = 5 };
 
 typedef enum { OF_CLIENT = 1, OF_SERVERS = 2, OF_BOTH = 3 } whose;
 

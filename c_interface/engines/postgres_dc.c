@@ -81,6 +81,7 @@ struct postgres_dc {
     char *words;
     uint64_t session;
     _Atomic uint64_t raised; /* the mark that was told last */
+    _Atomic int is_begun;    /* the session: once, so that who comes later isn't driven out */
     postgres_dc_durable durable;
     places places;
     PGconn *connections[PLACES];
@@ -120,10 +121,15 @@ static int has_tables(PGconn *c) {
     return has;
 }
 
-static int is_begun(const postgres_dc *dc, PGconn *c) {
+static int is_begun(postgres_dc *dc, PGconn *c) {
     char begin[80];
+    if (dc->is_begun) return 1;
     snprintf(begin, sizeof begin, "select mz.begin_session(%lld)", (long long)dc->session);
-    return PQstatus(c) == CONNECTION_OK && (has_tables(c) || executed(c, schema)) && executed(c, begin) &&
+    return dc->is_begun = (has_tables(c) || executed(c, schema)) && executed(c, begin);
+}
+
+static int is_ready(postgres_dc *dc, PGconn *c) {
+    return PQstatus(c) == CONNECTION_OK && is_begun(dc, c) &&
            executed(c, dc->durable == POSTGRES_DC_LATER ? "set synchronous_commit = off" : "set synchronous_commit = on") &&
            is_prepared(c, "perform", "select * from mz.perform($1, $2, $3, $4, $5, $6, $7)") &&
            is_prepared(c, "raise", "select mz.raise_mark($1, $2, $3)") &&
@@ -137,7 +143,7 @@ static PGconn *connection(postgres_dc *dc, int place) {
     PQfinish(*c);
     *c = PQconnectdb(dc->words);
     PQsetNoticeReceiver(*c, keep_quiet, NULL);
-    if (is_begun(dc, *c)) return *c;
+    if (is_ready(dc, *c)) return *c;
     PQfinish(*c);
     return *c = NULL;
 }
@@ -239,21 +245,6 @@ int postgres_dc_execute(postgres_dc *dc, const char *sql) {
     int is_done = c && executed(c, sql);
     place_give(&dc->places, place);
     return is_done;
-}
-
-int postgres_dc_put_back(postgres_dc *dc) { return postgres_dc_execute(dc, "delete from mz.alive"); }
-
-int postgres_dc_word(postgres_dc *dc, uint16_t table, uint64_t key, int64_t *word) {
-    char sql[128];
-    snprintf(sql, sizeof sql, "select mz.word(value, 0) from mz.records where tab = %u and key = %lld", table, (long long)key);
-    int place = place_take(&dc->places);
-    PGconn *c = connection(dc, place);
-    PGresult *r = c ? PQexec(c, sql) : NULL;
-    int found = PQresultStatus(r) == PGRES_TUPLES_OK ? PQntuples(r) : -1;
-    if (found == 1) *word = strtoll(PQgetvalue(r, 0, 0), NULL, 10);
-    PQclear(r);
-    place_give(&dc->places, place);
-    return found;
 }
 
 postgres_dc *postgres_dc_open(const char *words, uint64_t session, postgres_dc_durable durable) {

@@ -7,8 +7,8 @@
  * unlogged table, which PostgreSQL empties whenever it recovers, of a killed server process too. Where it is empty, what
  * is answered next is news of another incarnation.
  *
- * Behind a copy that was put back by hand while the server was shut down call postgres_dc_put_back. A dump, a base
- * backup and a promoted replica need nothing: mz.alive is empty there (pg_dump --no-unlogged-table-data). */
+ * Where a copy of a server that was shut down is put back by hand, mz.alive is as it was: delete from mz.alive, before the
+ * first wire. A base backup and a promoted replica need nothing, nor does a dump with --no-unlogged-table-data. */
 #ifndef POSTGRES_DC_H
 #define POSTGRES_DC_H
 
@@ -20,8 +20,9 @@ typedef struct postgres_dc postgres_dc;
 typedef enum { POSTGRES_DC_LATER, POSTGRES_DC_AT_ONCE } postgres_dc_durable;
 
 /* For the database of these connection words of libpq. It connects with the first wire, and anew where it has to, and
- * makes its tables where there are none. `session` names the transaction component: what was performed for another one is
- * forgotten, and its wires are no more answered. Several threads may use it at once. NULL: no memory. */
+ * makes its tables where there are none. `session` names the transaction component: what was performed for an earlier one
+ * is forgotten, and its wires are no more answered. Several threads may use it at once. NULL: no memory. Where the way to the
+ * server may break without a word, give tcp_user_timeout and connect_timeout among the words. */
 postgres_dc *postgres_dc_open(const char *words, uint64_t session, postgres_dc_durable durable);
 void postgres_dc_close(postgres_dc *dc);
 
@@ -33,12 +34,6 @@ mz_carried postgres_dc_perform(postgres_dc *dc, const mz_wire *wire, mz_reply *r
 /* Hears a low-water mark, under which nothing is open, and brings all to the disk, with it. 0 where nobody answered, or
  * it isn't this incarnation any more: then it is to be redone first. */
 int postgres_dc_keep(postgres_dc *dc, uint64_t incarnation, uint64_t mark);
-
-/* The database was put back from a copy: it begins another incarnation with the next wire. 0 where nobody answered. */
-int postgres_dc_put_back(postgres_dc *dc);
-
-/* The first eight bytes of a record as a number: 1, or 0 where there is no such record, or -1. */
-int postgres_dc_word(postgres_dc *dc, uint16_t table, uint64_t key, int64_t *word);
 
 /* Executes statements of SQL. 0 where that failed. */
 int postgres_dc_execute(postgres_dc *dc, const char *sql);

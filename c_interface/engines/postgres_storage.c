@@ -1,15 +1,15 @@
-/* Two PostgreSQL servers with asynchronous commit, so that a kill loses, and redo restores. Their files aren't synced to
- * the disk, which matters to a loss of power alone. PG_BIN is the folder of postgres and initdb. */
-#define _GNU_SOURCE
+/* Two PostgreSQL servers with asynchronous commit, so that a kill loses, and redo restores. PG_BIN is the folder of
+ * postgres and initdb. */
 #include "storage.h"
 #include "postgres_dc.h"
 #include "processes.h"
 #include <sys/shm.h>
 #include <sys/stat.h>
 
-enum { SESSION = 1, ANSWERS_WITHIN = 30000 };
+enum { ANSWERS_WITHIN = 30000 };
 
 const unsigned servers_live = 1500000;
+int servers_synced;
 
 static struct { char folder[300], output[320]; pid_t pid; } servers[DCS];
 static postgres_dc *components[DCS];
@@ -37,11 +37,11 @@ static const struct { const char *name, *sql; } controls[] = {
      "  insert into mz.alive select incarnation from mz.component; end $$"},
 };
 
-int storage_open(const char *folder) {
+int storage_open(const char *folder, uint64_t session) {
     char words[400];
     for (int d = 0; d < DCS; d++) {
         snprintf(words, sizeof words, "host=%s port=%d user=postgres dbname=postgres", folder, 5432 + d);
-        components[d] = postgres_dc_open(words, SESSION, POSTGRES_DC_LATER);
+        components[d] = postgres_dc_open(words, session, POSTGRES_DC_LATER);
         if (!components[d]) return 0;
     }
     return 1;
@@ -83,7 +83,7 @@ static void start(int i) {
     *strrchr(sockets, '/') = 0;
     await_its_processes(i);
     const char *words[] = {program(name, sizeof name, "postgres"), "-D", servers[i].folder, "-k", sockets, "-p", port,
-                           "-c", "listen_addresses=", "-c", "fsync=off", "-c", "shared_buffers=16MB", "-c", "max_connections=40",
+                           "-c", "listen_addresses=", "-c", servers_synced ? "fsync=on" : "fsync=off", "-c", "shared_buffers=16MB", "-c", "max_connections=40",
                            "-c", "log_min_messages=fatal", "-c", "log_min_error_statement=panic", NULL};
     servers[i].pid = process_begin(words, servers[i].output, owner);
 }
@@ -115,7 +115,7 @@ int servers_begin(const char *folder, const char *control) {
             return 0;
         }
     servers_start();
-    if (!storage_open(folder)) return 0;
+    if (!storage_open(folder, SESSION)) return 0;
     for (int i = 0; i < DCS; i++)
         for (int waited = 0; !postgres_dc_execute(components[i], "select 1"); waited += 20) {
             if (waited > ANSWERS_WITHIN) return 0;

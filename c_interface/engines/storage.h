@@ -5,12 +5,12 @@
 
 #include "mazzulpe.h"
 
-enum { DCS = 2 };
+enum { DCS = 2, SESSION = 1 }; /* SESSION: of a client that comes back from its log, in each life */
 
 /* ---- the way to its servers, of the client */
 
-/* 0 where there is no memory. The servers may be down. */
-int storage_open(const char *folder);
+/* `session` names the transaction component. 0 where there is no memory. The servers may be down. */
+int storage_open(const char *folder, uint64_t session);
 
 /* Carries a wire, from several threads at once. */
 mz_carried storage_carry(const mz_wire *wire, mz_reply *reply, mz_news *news);
@@ -23,6 +23,9 @@ int storage_keep(uint16_t dc, uint64_t incarnation, uint64_t mark);
 
 /* Within so many microseconds one is killed. */
 extern const unsigned servers_live;
+
+/* 1: what they write is synced to the disk; 0: it outlives a kill, and not a loss of power. To be set before servers_begin. */
+extern int servers_synced;
 
 /* Makes them in this folder, starts them, and waits until they answer. `control`: NULL, or the name of what is made wrong there.
  * 0, with the reason on standard error, where that fails. */

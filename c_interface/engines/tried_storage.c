@@ -4,6 +4,8 @@
 #include "processes.h"
 #include "storage.h"
 
+enum { COMES_BACK_WITHIN = 60000 };
+
 struct component {
     uint64_t incarnation; /* the greatest of a wire */
     unsigned kills;
@@ -14,7 +16,7 @@ component *component_open(const char *folder) {
     component *c = (component *)calloc(1, sizeof *c);
     if (!c) return NULL;
     snprintf(c->folder, sizeof c->folder, "%s", folder);
-    return servers_begin(folder, getenv("CONTROL")) && storage_open(folder) ? c : NULL;
+    return servers_begin(folder, getenv("CONTROL")) && storage_open(folder, SESSION) ? c : NULL;
 }
 
 void component_close(component *c) {
@@ -34,7 +36,24 @@ mz_carried component_carry(component *c, const mz_wire *wire, mz_reply *reply, m
 
 int component_checkpoint(component *c) { return storage_keep(0, c->incarnation, 0); }
 
-int component_kill(component *c, int loses) { return (loses ? servers_lose(0) : servers_kill(0, c->kills++)) > 0; }
+/* Number 0 is old at every mark. */
+static int answers(component *c) {
+    const mz_wire probe = {.incarnation = __atomic_load_n(&c->incarnation, __ATOMIC_SEQ_CST), .op = MZ_READ};
+    mz_reply reply;
+    mz_news news;
+    return storage_carry(&probe, &reply, &news) != MZ_LOST;
+}
+
+/* It is waited for, since it is killed more often than a server can start. */
+int component_kill(component *c, int loses) {
+    if (loses) servers_lose(0);
+    else servers_kill(0, c->kills++);
+    for (int waited = 0; waited < COMES_BACK_WITHIN; waited += 2) {
+        if (answers(c)) return 1;
+        usleep(2000);
+    }
+    return 0;
+}
 
 void component_fill(component *c, int full) {
     (void)c;

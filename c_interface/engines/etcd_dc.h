@@ -1,0 +1,36 @@
+/* A data component over an etcd cluster (3.4 or later): one etcd transaction a wire, which every member agrees on before it is
+ * answered. A cluster replicates and doesn't grow: data that outgrow one take a further one, as a further data component.
+ *
+ *   component   the session and the incarnation, 16 hex digits each, and the cluster's id
+ *   mark        the low-water mark, 16 hex digits
+ *   r/TTTT/KKKKKKKKKKKKKKKK   a record
+ *   p/NNNNNNNNNNNNNNNN        what was answered to number N: a digit, by mz_said
+ *
+ * A former value isn't kept under its number: etcd keeps what was, and the value is the record's at the revision before the
+ * one in which the number was put. What is older than each kept number is given up (compaction).
+ *
+ * A cluster that is restored from a snapshot has another id, so it is another incarnation, and tells. Give each restore
+ * an --initial-cluster-token of its own: with the same members and token the id is the same, and nobody is told. */
+#ifndef ETCD_DC_H
+#define ETCD_DC_H
+
+#include "mazzulpe.h"
+
+typedef struct etcd_dc etcd_dc;
+
+/* For the cluster of these members, "host:port,..". It connects with the first wire, and to the next member where one
+ * doesn't answer. `session` names the transaction component: what was performed for an earlier one is forgotten, and its
+ * wires are no more performed. Several threads may use it at once. NULL: no memory. */
+etcd_dc *etcd_dc_open(const char *members, uint64_t session);
+void etcd_dc_close(etcd_dc *dc);
+
+/* MZ_REPLIED and the reply; MZ_RESTARTED and the news, where the wire is for another incarnation, and nothing is done;
+ * MZ_LOST where nobody answered, as without a majority or within 3 seconds, or etcd refused, which is
+ * named on standard error: send the wire again. */
+mz_carried etcd_dc_perform(etcd_dc *dc, const mz_wire *wire, mz_reply *reply, mz_news *news);
+
+/* Hears a low-water mark, under which nothing is open. What was answered is kept by a majority anyway: take a snapshot
+ * behind this, and it has the mark. 0 where nobody answered, or it isn't this incarnation any more. */
+int etcd_dc_keep(etcd_dc *dc, uint64_t incarnation, uint64_t mark);
+
+#endif

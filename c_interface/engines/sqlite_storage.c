@@ -1,0 +1,200 @@
+/* Two SQLite files, each served by a process of its own on a socket. One that is killed loses nothing; one whose file is put
+ * back from the copy that storage_keep took does, and begins the incarnation that a file beside it says. */
+#include "storage.h"
+#include "places.h"
+#include "processes.h"
+#include "sqlite_dc.h"
+#include <poll.h>
+#include <sys/socket.h>
+#include <sys/un.h>
+
+enum { PATH = 90, CALLERS = 32 };
+
+/* keep: what is meant is storage_keep, with wire.low_water as the mark. */
+typedef struct { mz_wire wire; int keep; } asked;
+typedef struct { mz_carried carried; int kept; mz_reply reply; mz_news news; } answered;
+
+const unsigned servers_live = 200000;
+int servers_synced;
+
+static struct {
+    char file[PATH], copy[PATH], socket[PATH], losses[PATH];
+    pid_t pid;
+    places places;
+    int callers[PLACES]; /* of the client; -1 where there is none */
+} servers[DCS];
+
+static int is_forgetful, is_untold;
+
+/* ---- the way to them */
+
+int storage_open(const char *folder, uint64_t session) {
+    (void)folder;
+    (void)session;
+    for (int d = 0; d < DCS; d++) {
+        places_new(&servers[d].places);
+        for (int i = 0; i < PLACES; i++) servers[d].callers[i] = -1;
+    }
+    return 1;
+}
+
+static int called(int dc) {
+    struct sockaddr_un at = {.sun_family = AF_UNIX};
+    int fd = socket(AF_UNIX, SOCK_SEQPACKET | SOCK_CLOEXEC, 0);
+    memcpy(at.sun_path, servers[dc].socket, PATH);
+    if (fd >= 0 && connect(fd, (struct sockaddr *)&at, sizeof at) == 0) return fd;
+    close(fd);
+    return -1;
+}
+
+/* 0 where nobody answered. */
+static int is_answered(int dc, const asked *ask, answered *answer) {
+    int place = place_take(&servers[dc].places), *fd = &servers[dc].callers[place];
+    if (*fd < 0) *fd = called(dc);
+    int is = *fd >= 0 && send(*fd, ask, sizeof *ask, MSG_NOSIGNAL) == sizeof *ask && recv(*fd, answer, sizeof *answer, 0) == sizeof *answer;
+    if (!is && *fd >= 0) {
+        close(*fd);
+        *fd = -1;
+    }
+    place_give(&servers[dc].places, place);
+    return is;
+}
+
+mz_carried storage_carry(const mz_wire *wire, mz_reply *reply, mz_news *news) {
+    const asked ask = {.wire = *wire};
+    answered answer;
+    if (!is_answered(wire->record.dc, &ask, &answer)) return MZ_LOST;
+    *reply = answer.reply;
+    *news = answer.news;
+    return answer.carried;
+}
+
+int storage_keep(uint16_t dc, uint64_t incarnation, uint64_t mark) {
+    const asked ask = {.wire = {.incarnation = incarnation, .low_water = mark}, .keep = 1};
+    answered answer;
+    return is_answered(dc, &ask, &answer) && answer.kept;
+}
+
+/* ---- a server */
+
+/* In this incarnation: brings all to the disk with the mark, and takes the copy. */
+static int is_kept(sqlite_dc *dc, int d, const mz_wire *mark, uint64_t incarnation) {
+    char beside[PATH + 8];
+    snprintf(beside, sizeof beside, "%s.new", servers[d].copy);
+    return mark->incarnation == incarnation && sqlite_dc_keep(dc, mark->low_water) && sqlite_dc_copy(dc, beside) &&
+           rename(beside, servers[d].copy) == 0;
+}
+
+static int losses(int d) {
+    int count = 0;
+    FILE *f = fopen(servers[d].losses, "r");
+    if (f && fscanf(f, "%d", &count) != 1) count = 0;
+    if (f) fclose(f);
+    return count;
+}
+
+/* The file, in the incarnation that so many losses make. */
+static sqlite_dc *opened(int d, uint64_t incarnation) {
+    mz_news news;
+    sqlite_dc *dc = sqlite_dc_open(servers[d].file, SESSION, SQLITE_DC_AT_KEEP);
+    if (!dc || !sqlite_dc_put_back(dc, incarnation, &news)) _exit(1);
+    if (is_forgetful) sqlite_dc_forget_answers(dc);
+    return dc;
+}
+
+static int listening(int d) {
+    struct sockaddr_un at = {.sun_family = AF_UNIX};
+    int fd = socket(AF_UNIX, SOCK_SEQPACKET | SOCK_CLOEXEC, 0);
+    memcpy(at.sun_path, servers[d].socket, PATH);
+    unlink(servers[d].socket);
+    if (fd < 0 || bind(fd, (struct sockaddr *)&at, sizeof at) || listen(fd, CALLERS)) _exit(1);
+    return fd;
+}
+
+/* Answers a caller; 0 where it is gone. */
+static int served(sqlite_dc *dc, int d, int fd, uint64_t incarnation) {
+    asked ask;
+    answered answer;
+    memset(&answer, 0, sizeof answer);
+    if (recv(fd, &ask, sizeof ask, 0) != sizeof ask) return 0;
+    if (ask.keep) answer.kept = is_kept(dc, d, &ask.wire, incarnation);
+    else answer.carried = sqlite_dc_perform(dc, &ask.wire, &answer.reply, &answer.news);
+    return send(fd, &answer, sizeof answer, MSG_NOSIGNAL) == sizeof answer;
+}
+
+static void serve(int d) {
+    uint64_t incarnation = is_untold ? 0 : (uint64_t)losses(d);
+    sqlite_dc *dc = opened(d, incarnation);
+    struct pollfd at[CALLERS + 1] = {{listening(d), POLLIN, 0}};
+    int count = 1;
+    for (; poll(at, (nfds_t)count, -1) > 0;) {
+        for (int i = count; i-- > 1;)
+            if (at[i].revents && !served(dc, d, at[i].fd, incarnation)) {
+                close(at[i].fd);
+                at[i] = at[--count];
+            }
+        if (at[0].revents && count <= CALLERS) at[count++] = (struct pollfd){accept(at[0].fd, NULL, NULL), POLLIN, 0};
+    }
+    _exit(1);
+}
+
+/* ---- the servers */
+
+static void start(int d) {
+    fflush(stdout);
+    servers[d].pid = fork();
+    if (servers[d].pid) return;
+    prctl(PR_SET_PDEATHSIG, SIGKILL);
+    serve(d);
+}
+
+unsigned servers_kill(uint16_t dc, unsigned drawn) {
+    (void)drawn;
+    process_kill(servers[dc].pid);
+    start(dc);
+    return 1;
+}
+
+/* One more loss stands beside the file before the copy is in its place. Where no copy was taken yet nothing is lost. */
+unsigned servers_lose(uint16_t dc) {
+    process_kill(servers[dc].pid);
+    if (access(servers[dc].copy, R_OK) == 0) {
+        int count = losses(dc) + 1;
+        FILE *f = fopen(servers[dc].losses, "w");
+        if (!f || fprintf(f, "%d\n", count) < 0 || fclose(f)) exit(2);
+        const char *copied[] = {"cp", servers[dc].copy, servers[dc].file, NULL};
+        const char *removed[] = {"sh", "-c", "rm -f \"$0\"-wal \"$0\"-shm", servers[dc].file, NULL};
+        if (!process_runs(removed, "/dev/null", NULL) || !process_runs(copied, "/dev/null", NULL)) exit(2);
+    }
+    start(dc);
+    return 1;
+}
+
+int servers_begin(const char *folder, const char *control) {
+    is_forgetful = control && !strcmp(control, "forgetful");
+    is_untold = control && !strcmp(control, "untold");
+    if (control && !is_forgetful && !is_untold) {
+        fprintf(stderr, "SQLite has no control %s\n", control);
+        return 0;
+    }
+    for (int d = 0; d < DCS; d++)
+        if (snprintf(servers[d].file, PATH, "%s/%d.db", folder, d) >= PATH - 8) {
+            fprintf(stderr, "too long a name: %s\n", folder);
+            return 0;
+        }
+    for (int d = 0; d < DCS; d++) {
+        snprintf(servers[d].copy, PATH, "%s/%d.copy", folder, d);
+        snprintf(servers[d].socket, PATH, "%s/%d.sock", folder, d);
+        snprintf(servers[d].losses, PATH, "%s/%d.losses", folder, d);
+    }
+    servers_start();
+    return 1;
+}
+
+void servers_end(void) {
+    for (int d = 0; d < DCS; d++) process_kill(servers[d].pid);
+}
+
+void servers_start(void) {
+    for (int d = 0; d < DCS; d++) start(d);
+}
