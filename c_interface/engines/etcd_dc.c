@@ -38,7 +38,8 @@ static const char *coded_record(char to[ETCD_TEXT], const mz_record *r) {
 /* What stands under `component`. */
 static const char *coded_component(char to[ETCD_TEXT], uint64_t session, uint64_t incarnation, const char *life) {
     char text[KEY + LIFE];
-    return etcd_coded(to, text, (size_t)snprintf(text, sizeof text, "%016llx%016llx%s", (unsigned long long)session, (unsigned long long)incarnation, life));
+    const unsigned long long numbers[] = {session, incarnation};
+    return etcd_coded(to, text, (size_t)snprintf(text, sizeof text, "%016llx%016llx%s", numbers[0], numbers[1], life));
 }
 
 typedef struct { uint64_t session, incarnation; char life[LIFE]; int is_there; } standing;
@@ -90,7 +91,8 @@ static int is_begun(etcd_dc *dc, connection *c, const standing *was, uint64_t in
 }
 
 /* Whether this is the cluster, in the session, that it was. Another cluster, or one that knows less than the wire, has
- * lost: it is the next incarnation, above the greater of what is stored and what is known, before anything is answered. */
+ * lost: it is the next incarnation, above the greater of what is stored and what is known, before anything is answered. So
+ * is one that knows nothing of the session: it is new, or lost all. */
 static int is_known(etcd_dc *dc, connection *c, uint64_t known) {
     if (c->to.fd < 0) c->is_known = 0;
     for (int tries = 0; !c->is_known && tries < 3; tries++) {
@@ -101,8 +103,8 @@ static int is_known(etcd_dc *dc, connection *c, uint64_t known) {
         if (dc->is_begun && s.is_there && !is_ours) return 0;
         c->is_known = is_ours && !strcmp(s.life, c->life) && s.incarnation >= known;
         dc->is_begun |= c->is_known;
-        uint64_t next = (known > s.incarnation ? known : s.incarnation) + 1;
-        if (!c->is_known && !is_begun(dc, c, &s, is_ours ? next : 0)) return 0;
+        uint64_t greatest = is_ours && s.incarnation > known ? s.incarnation : known;
+        if (!c->is_known && !is_begun(dc, c, &s, greatest + 1)) return 0;
     }
     return c->is_known;
 }

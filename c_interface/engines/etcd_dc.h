@@ -29,8 +29,9 @@ void etcd_dc_close(etcd_dc *dc);
  * named on standard error: send the wire again. */
 mz_carried etcd_dc_perform(etcd_dc *dc, const mz_wire *wire, mz_reply *reply, mz_news *news);
 
-/* Hears a low-water mark, under which nothing is open. What was answered is kept by a majority anyway: take a snapshot
- * behind this, and it has the mark. 0 where nobody answered, or it isn't this incarnation any more. */
+/* Hears a low-water mark, under which nothing is open. 0 where nobody answered, or it isn't this incarnation any more. What
+ * was answered is kept by a majority anyway. Where clusters are restored from snapshots, the log may begin anew behind: this,
+ * a snapshot, the snapshot in its place, and this again, so that it is one of this incarnation. */
 int etcd_dc_keep(etcd_dc *dc, uint64_t incarnation, uint64_t mark);
 
 #endif

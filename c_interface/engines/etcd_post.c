@@ -87,8 +87,9 @@ static int has_body(etcd_connection *c, int *status) {
     c->length = 0;
     c->in[0] = 0;
     while (has_more(c)) {
-        char *head = strstr(c->in, "\r\n\r\n"), *length = strcasestr(c->in, "Content-Length: "), *body = head + 4;
+        char *head = strstr(c->in, "\r\n\r\n"), *length = strcasestr(c->in, "Content-Length: "), *body;
         if (!head) continue;
+        body = head + 4;
         int is_whole = length && length < head ? strlen(body) >= strtoul(length + 16, NULL, 10) : is_unchunked(body);
         if (!is_whole) continue;
         *status = atoi(c->in + strlen("HTTP/1.1 "));
@@ -100,7 +101,8 @@ static int has_body(etcd_connection *c, int *status) {
 
 etcd_status etcd_post(etcd_connection *c, const char *path, const char *body) {
     char head[200];
-    int status = 0, length = snprintf(head, sizeof head, "POST /v3/%s HTTP/1.1\r\nHost: etcd\r\nContent-Length: %zu\r\n\r\n", path, strlen(body));
+    int status = 0;
+    int length = snprintf(head, sizeof head, "POST /v3/%s HTTP/1.1\r\nHost: etcd\r\nContent-Length: %zu\r\n\r\n", path, strlen(body));
     if (!etcd_connected(c)) return ETCD_LOST;
     int is_answered = is_sent(c->fd, head, (size_t)length) && is_sent(c->fd, body, strlen(body)) && has_body(c, &status);
     if (is_answered && status == 200) return ETCD_DONE;

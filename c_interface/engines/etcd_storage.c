@@ -44,19 +44,26 @@ mz_carried storage_carry(const mz_wire *wire, mz_reply *reply, mz_news *news) {
 }
 
 /* A member's snapshot has what it has heard of: a read that all agree on comes before it. */
-int storage_keep(uint16_t dc, uint64_t incarnation, uint64_t mark) {
-    char at[TEXT], to[TEXT], beside[TEXT], output[TEXT];
-    if (!etcd_dc_keep(components[dc], incarnation, mark)) return 0;
-    text(to, "%s/%d.snapshot", at_folder, dc);
-    text(beside, "%s.new", to);
+static int is_saved(uint16_t dc, const char *beside) {
+    char at[TEXT], output[TEXT];
     text(output, "%s/said", at_folder);
     for (int m = 0; m < MEMBERS; m++) {
         text(at, "http://127.0.0.1:%d", port(dc, m, 0));
         const char *read[] = {"etcdctl", "--endpoints", at, "get", "mark", NULL};
         const char *save[] = {"etcdctl", "--endpoints", at, "snapshot", "save", beside, NULL};
-        if (process_runs(read, output, NULL) && process_runs(save, output, NULL)) return rename(beside, to) == 0;
+        if (process_runs(read, output, NULL) && process_runs(save, output, NULL)) return 1;
     }
     return 0;
+}
+
+/* A snapshot is good if the mark was heard by this incarnation before it was taken, and behind it the incarnation is the same
+ * still: else it may be one of a cluster that has just been restored. It is in its place by then, for who restores next. */
+int storage_keep(uint16_t dc, uint64_t incarnation, uint64_t mark) {
+    char to[TEXT], beside[TEXT];
+    text(to, "%s/%d.snapshot", at_folder, dc);
+    text(beside, "%s/%d.snapshot.new", at_folder, dc);
+    return etcd_dc_keep(components[dc], incarnation, mark) && is_saved(dc, beside) && rename(beside, to) == 0 &&
+           etcd_dc_keep(components[dc], incarnation, mark);
 }
 
 /* ---- the servers */
@@ -124,6 +131,14 @@ static void forget_for_ever(void) {
         for (int d = 0; d < DCS; d++) (void)etcd_post(&to[d], "kv/deleterange", "{\"key\":\"cC8=\",\"range_end\":\"cDA=\"}");
 }
 
+/* Number 0 is old at every mark. */
+static int answers(int dc) {
+    const mz_wire probe = {.op = MZ_READ};
+    mz_reply reply;
+    mz_news news;
+    return etcd_dc_perform(components[dc], &probe, &reply, &news) != MZ_LOST;
+}
+
 int servers_begin(const char *folder, const char *control) {
     int is_forgetful = control && !strcmp(control, "forgetful");
     is_untold = control && !strcmp(control, "untold");
@@ -137,7 +152,7 @@ int servers_begin(const char *folder, const char *control) {
     servers_start();
     if (!storage_open(folder, SESSION)) return 0;
     for (int d = 0; d < DCS; d++)
-        for (int waited = 0; !etcd_dc_keep(components[d], 0, 0); waited += 20) {
+        for (int waited = 0; !answers(d); waited += 20) {
             if (waited > ANSWERS_WITHIN) return 0;
             usleep(20000);
         }

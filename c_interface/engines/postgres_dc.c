@@ -25,14 +25,15 @@ static const char schema[] =
     "  update mz.component set incarnation = greatest(incarnation, known) + 1;"
     "  insert into mz.alive select incarnation from mz.component;"
     "end $$;"
-    /* What was performed for another transaction component is forgotten: its numbers began with 1 too. */
+    /* What was performed for another transaction component is forgotten: its numbers began with 1 too. mz.alive is empty, so
+     * that an incarnation begins: a database that knows nothing of the session is new, or lost all. */
     "create or replace function mz.begin_session(new_session int8) returns void language plpgsql as $$ begin"
     "  if exists (select 1 from mz.component where session = new_session) then return; end if;"
     "  perform pg_advisory_xact_lock(28027, 0);"
     "  if exists (select 1 from mz.component where session = new_session) then return; end if;"
     "  perform set_config('synchronous_commit', 'on', true);"
     "  delete from mz.component; delete from mz.alive; delete from mz.performed;"
-    "  insert into mz.component values (new_session, 0, 0); insert into mz.alive values (0);"
+    "  insert into mz.component values (new_session, 0, 0);"
     "end $$;"
     /* A wire of another incarnation raises nothing: what is under its mark may be lost here, and is redone first. */
     "create or replace function mz.raise_mark(w_session int8, w_incarnation int8, w_mark int8) returns bool language plpgsql as $$ begin"

@@ -14,7 +14,7 @@
 /* Starts a program with these words, the first of which is the program, by this user if it is given. This file is its
  * output, and it ends with who started it. */
 static inline pid_t process_begin(const char *const *words, const char *output, const struct passwd *user) {
-    pid_t pid = fork();
+    pid_t starter = getpid(), pid = fork();
     if (pid < 0) {
         perror("fork");
         exit(1);
@@ -23,7 +23,7 @@ static inline pid_t process_begin(const char *const *words, const char *output, 
     int file = open(output, O_WRONLY | O_CREAT | O_APPEND | O_CLOEXEC, 0666);
     if (file < 0 || dup2(file, 1) < 0 || dup2(file, 2) < 0) _exit(125);
     if (user && (setgid(user->pw_gid) || setuid(user->pw_uid))) _exit(126);
-    prctl(PR_SET_PDEATHSIG, SIGKILL);
+    if (prctl(PR_SET_PDEATHSIG, SIGKILL) || getppid() != starter) _exit(124);
     execvp(words[0], (char *const *)words);
     perror(words[0]);
     _exit(127);
