@@ -5,6 +5,7 @@
  *     try_component SECONDS [SEED]
  *
  * Its status is 1, and it says what was seen, where the component breaks a rule. */
+#define _GNU_SOURCE 1
 #include "component.h"
 #include <pthread.h>
 #include <stdio.h>
@@ -28,7 +29,8 @@ static _Atomic int ended;
 static uint64_t last_number, open_number[WORKERS], known, told; /* told: the greatest low-water mark of a wire */
 static uint64_t carried_count, restarts, redone_count, checkpoints;
 static pthread_mutex_t state = PTHREAD_MUTEX_INITIALIZER;
-static pthread_rwlock_t site = PTHREAD_RWLOCK_INITIALIZER; /* held for writing where nothing is carried */
+/* Held for writing where nothing is carried. Who wants that goes before further wires, also where an engine answers late. */
+static pthread_rwlock_t site = PTHREAD_RWLOCK_WRITER_NONRECURSIVE_INITIALIZER_NP;
 
 static const char *const op_name[] = {"", "read", "insert", "update", "delete"};
 static const char *const said_name[] = {"nothing", "value", "absent", "done", "done-was", "duplicate", "missing", "no-room", "old"};
