@@ -26,6 +26,7 @@ from trying import Program
 WAIT = 20  # so many seconds a line may take
 QUIET = 0.7  # so many seconds nothing comes where nothing is to come: three looks
 CALLS = 3000
+EVENTFUL = 100  # a frame of more bytes has events
 PLACE, CHECKPOINT = re.compile(rb"(\d+) "), re.compile(rb"0 checkpoint (\d+) (\d+)\n")
 ADMIT, UNSEEN = re.compile(rb"\d+ admit (\d+) "), re.compile(rb"unseen (\d+) transactions (\d+) numbers\n")
 
@@ -200,14 +201,18 @@ def ends_of_frames(data):
 def half_a_frame(program):
     """A frame that is written in two parts, with a pause between in which its beginning is looked at."""
     data = log_of(program, "halves", script_of(0, 3), script_of(3, 3)).read_bytes()
-    start, end = ends_of_frames(data)[-2:]
+    ends = ends_of_frames(data)
+    start, end = [pair for pair in zip(ends, ends[1:]) if pair[1] - pair[0] > EVENTFUL][-1]
+    before, behind = (events_of(program, program.file(data[:cut])) for cut in (start, end))
+    if before == behind:
+        yield "half a frame: it has no event"
     for cut in (start + 1, (start + end) // 2, end - 1):
         path = pathlib.Path(program.file(data[:cut]))
         with Follower(program, path) as follower:
-            yield from follower.prints(events_of(program, path), f"half a frame, {cut - start} of {end - start} bytes")
+            yield from follower.prints(before, f"half a frame, {cut - start} of {end - start} bytes")
             with open(path, "ab") as log:
-                log.write(data[cut:])
-            yield from follower.prints(events_of(program, path), f"a frame behind its first {cut - start} bytes")
+                log.write(data[cut:end])
+            yield from follower.prints(behind, f"a frame behind its first {cut - start} bytes")
 
 
 def damaged(program):

@@ -196,6 +196,17 @@ def rows(_program):
         yield Row(logged, PLAIN, f"{out}call 0 aborted 7\n".encode(), 0)
     yield Row(logged, TWO, b"refused log Other procedures 1 script 2\n", 1)
     yield Row(logged, object_of(named(b"seven", MOV_7 + SEVEN)), b"refused log Other digest\n", 1)
+    given, other = pathlib.Path(folder.name, "given"), pathlib.Path(folder.name, "other")
+    given.write_bytes(PLAIN)
+    other.write_bytes(TWO)
+    missing = b"cannot read no-such-file: no such file or directory\n"
+    audit = ["log", "--audit", str(log)]
+    yield Row([*audit, str(given), str(script)], b"", b"audit ok ended 2 open 0\n", 0)
+    yield Row([*audit, str(other), str(script)], b"", b"refused log Other procedures 1 script 2\n", 1)
+    yield Row([*audit, "no-such-file", str(script)], b"", b"", 3, missing)
+    yield Row([*audit, str(given), "no-such-file"], b"", b"", 3, missing)
+    yield Row([*audit, str(given)], b"", b"", 3, b"cannot read %b: it isn't UTF-8\n" % str(given).encode())
+    yield Row([*audit, str(script), str(given)], b"", b"", 3, b"cannot read %b: it isn't UTF-8\n" % str(given).encode())
     for command in ("run", "world"):
         yield Row([command, "-", "no-such-script"], TWO, b"", 3, b"cannot read no-such-script: no such file or directory\n")
         why = b"it begins with a byte order mark (U+FEFF); save it as UTF-8 without one"
