@@ -46,6 +46,7 @@ tools/explore.py --audit --seconds 20
 tools/believed.py
 tools/printed.py
 tools/line_tables.py
+tools/same_verdicts.py
 tools/without_kit.py
 tools/terminal.py
 tools/hostile.py files
