@@ -1,4 +1,4 @@
-//! Tests of the crates below the transaction component. They call public functions alone, and cost less
+//! Tests of crates below the transaction component. They call public functions alone, and cost less
 //! here than where each crate is proved a second time for its tests:
 //!
 //! | Module | Tests |
@@ -9,8 +9,6 @@
 //! | `event_tests` | `tc_log`: the bytes of events |
 //! | `picture_tests` | `log_picture`: transactions, lanes, numbers, records, and what is drawn |
 //! | `store_tests` | `data_component`: each answer, repeated and late wires, restarts |
-//! | `verdict_tests` | `verifier`: small and random code beside the plain passes, and procedures |
-//! | `refusal_tests` | `verifier`: what is refused, at which slot and why, and what lies beside it |
 //! | `frame_tests` | `frame_file`: each truncation and each changed byte of a file |
 //! | `disk_tests` | `disk_file`: a file of the system |
 //! | `object_tests` | `object_file`: an object of clang's, each fault, and each changed byte |
@@ -18,7 +16,7 @@
 //!
 //! What they compare stands in `checks`.
 //!
-//! `component_tests` has tests that need `samples` or the transaction component.
+//! `code_tests` has those of `verifier`, `component_tests` those that need `samples` or the transaction component.
 #![tactic(auto)]
 
 #[cfg(test)]
@@ -42,12 +40,6 @@ mod picture_tests;
 #[cfg(test)]
 mod plain_table;
 #[cfg(test)]
-mod plain_verify;
-#[cfg(test)]
-mod refusal_tests;
-#[cfg(test)]
 mod slot_tests;
 #[cfg(test)]
 mod store_tests;
-#[cfg(test)]
-mod verdict_tests;

@@ -6,7 +6,7 @@
 //! let ways = transfer(&insn, &kinds, &decl)?;                 // the kinds behind it, on each of its ways
 //! ```
 //!
-//! (`verifier` goes through code by `effect_of`, slot by slot, and `plain_verify` of `lower_tests` by a row of kinds for each slot.)
+//! (`verifier` goes through code by `effect_of`, slot by slot, and `plain_verify` of `code_tests` by a row of kinds for each slot.)
 #![tactic(auto)]
 
 pub mod effect;

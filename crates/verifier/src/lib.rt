@@ -8,7 +8,7 @@
 //! ```
 //!
 //! (`procedure` of `samples` does so with five procedures. Its tests are `verdict_tests` and `refusal_tests`
-//! of `lower_tests`, which hold `verify` beside passes that know no more than they need to.)
+//! of `code_tests`, which hold `verify` beside passes that know no more than they need to.)
 #![tactic(auto)]
 
 mod first_pass;
