@@ -26,6 +26,15 @@ struct WaitingCall {
     is_told: bool,
 }
 
+/// How many calls a worker has on their way.
+#[derive(Clone, Copy)]
+pub struct MostCalls {
+    /// With a wire that is carried.
+    pub away: usize,
+    /// With those that one taking of the pool's lock brought to their end.
+    pub in_all: usize,
+}
+
 /// The calls that a worker has on their way, so many at most.
 pub struct OutstandingCalls<J: RunSpec> {
     // Those whose wires are carried next, each in its place until it is over.
@@ -34,7 +43,7 @@ pub struct OutstandingCalls<J: RunSpec> {
     over: Vec<ReadyAnswer<J>>,
     // A call with another transaction in its way.
     waiting: Option<WaitingCall>,
-    most: usize,
+    most: MostCalls,
 }
 
 impl<J: RunSpec> Model for OutstandingCalls<J> {
@@ -44,7 +53,8 @@ impl<J: RunSpec> Model for OutstandingCalls<J> {
 
     ghost view = { λ e. vec_len e.away + vec_len e.over };
 
-    ghost invariant = { λ e. (vec_len e.away + vec_len e.over ≤ e.most) × (e.most ≤ vec_capacity e.away) × (e.most ≤ vec_capacity e.over) };
+    ghost invariant = { λ e. (vec_len e.away ≤ e.most.away) × (vec_len e.away + vec_len e.over ≤ e.most.in_all)
+        × (e.most.away ≤ vec_capacity e.away) × (e.most.in_all ≤ vec_capacity e.over) };
 }
 
 // What becomes of an outstanding call behind a step of its call.
@@ -243,6 +253,7 @@ fn settle<J: RunSpec>(
     requires there { at < vec_len away.old }
     requires room { vec_len over.old < vec_capacity over.old }
     ensures one { vec_len away.new + vec_len over.new ≤ vec_len away.old + vec_len over.old }
+    ensures fewer { vec_len away.new ≤ vec_len away.old }
     ensures left { at ≤ vec_len away.new }
     ensures away { vec_capacity away.new ≡ vec_capacity away.old }
     ensures over { vec_capacity over.new ≡ vec_capacity over.old }
@@ -273,16 +284,17 @@ impl<J: RunSpec> OutstandingCalls<J> {
             away: Vec::new(alloc),
             over: Vec::new(alloc),
             waiting: None,
-            most: 0,
+            most: MostCalls { away: 0, in_all: 0 },
         }
     }
 
-    /// Makes room for so many calls in all.
-    pub fn reserve(&mut self, most: usize) -> Result<(), AllocError>
-        requires { self.old ≤ most }
+    /// Makes room for so many calls.
+    pub fn reserve(&mut self, most: MostCalls) -> Result<(), AllocError>
+        requires away { self.old ≤ most.away }
+        requires in_all { self.old ≤ most.in_all }
     {
-        self.away.reserve(most)?;
-        self.over.reserve(most)?;
+        self.away.reserve(most.away)?;
+        self.over.reserve(most.in_all)?;
         self.most = most;
         Ok(())
     }
@@ -321,8 +333,10 @@ impl<J: RunSpec> OutstandingCalls<J> {
     )
         requires { calls.now ≡ J.calls }
     {
-        'taking: for _ in 0..self.most {
-            if self.away.len() + self.over.len() >= self.most {
+        'taking: for _ in 0..self.most.in_all {
+            if self.away.len() >= self.most.away
+                || self.away.len() + self.over.len() >= self.most.in_all
+            {
                 return;
             }
             let Some(next) = next_call(&mut self.waiting, pool_state) else {

@@ -15,7 +15,7 @@ use crate::attempt::Attempt;
 use crate::batch::Batch;
 use crate::group_commit::{GroupCommit, GroupCommitLock, Stopped};
 use crate::handed::Opened;
-use crate::outstanding_calls::OutstandingCalls;
+use crate::outstanding_calls::{MostCalls, OutstandingCalls};
 use crate::performing::{AtOnce, RunPerformer};
 use crate::pool_state::{Next, PoolState};
 use crate::report::Report;
@@ -34,6 +34,11 @@ use tc_core::state::{Call, TcState};
 const MOST_WORKERS: usize = 64;
 
 const MOST_TRIES: u64 = 1000;
+
+const ONE_CALL: MostCalls = MostCalls { away: 1, in_all: 1 };
+
+// So many calls end within one taking of the pool's lock, which takes some 0.1 ms then.
+const CALLS_OF_A_TAKING: usize = 64;
 
 /// What is told of the calls, by their places in the list.
 pub trait Gate {
@@ -111,7 +116,7 @@ struct Worker<'a, L, G> {
     number: usize,
     link: &'a L,
     gate: &'a G,
-    most: usize,
+    most: MostCalls,
 }
 
 // Tells an answer as soon as what it names is kept, where no other worker is left.
@@ -370,12 +375,14 @@ fn work<J: RunSpec, K: Journal, R: Wait, L: Link, G: Gate>(
 }
 
 // How many calls each of so many workers has on their way at a time: one where a call could wait for another's
-// wire, gate or journal, and where one worker is to run the calls one after the other.
-fn at_a_time<L: Link, G: Gate>(link: &L, gate: &G, is_kept: bool, workers: usize) -> usize {
-    if workers > 1 && !is_kept && link.is_prompt() && gate.is_prompt() {
-        WIRES_OF_A_WORKER
-    } else {
-        1
+// wire, gate or journal. One worker carries one call's wires after the other's.
+fn at_a_time<L: Link, G: Gate>(link: &L, gate: &G, is_kept: bool, workers: usize) -> MostCalls {
+    if is_kept || !link.is_prompt() || !gate.is_prompt() {
+        return ONE_CALL;
+    }
+    MostCalls {
+        away: if workers > 1 { WIRES_OF_A_WORKER } else { 1 },
+        in_all: CALLS_OF_A_TAKING,
     }
 }
 
@@ -541,7 +548,7 @@ pub(crate) fn run_over<
         number: 0,
         link,
         gate,
-        most: 1,
+        most: ONE_CALL,
     };
     let ran = finished(rt, pool_state, calls, answers, &worker, &mut group_commit);
     (group_commit, ran)
@@ -639,7 +646,8 @@ fn run_named<J: RunSpec + Send + Sync, R: Threads + Wait + Sync, L: Link + Sync,
 /// in doubt or stuck. One worker runs the calls one after the other. Of several, each has up to eight calls
 /// on their way at a time, if link and gate are prompt, and else one. A state that is handed in with open
 /// transactions, which no call runs, may so make `run` wait for ever. Nothing is carried and no gate is told
-/// while the lock is held; where the gate is silent, the link may perform at once what a call asks.
+/// while the lock is held; where the gate is silent, the link may perform at once what a call asks: of up to
+/// 64 calls, if both are prompt, before the lock is let go.
 pub fn run<R: Threads + Wait + Sync, L: Link + Sync, G: Gate + Sync>(
     rt: &R,
     alloc: Global,
