@@ -199,6 +199,17 @@ impl Numbers {
         Ok(self.last)
     }
 
+    /// Gives out the next number, which is answered already: none more is open.
+    #[inline(always)]
+    pub fn pass(&mut self)
+        requires { self.old.last < 2 ^ 62 }
+        ensures last { self.new.last ≡ self.old.last + 1 }
+        ensures pending { self.new.pending ≡ self.old.pending }
+        ensures room { self.new.room ≡ self.old.room }
+    {
+        self.last += 1;
+    }
+
     /// Whether the number was given out and isn't answered.
     pub fn is_open(&self, number: u64) -> bool
         ensures { result ≡ holds number self.now.pending }

@@ -1,4 +1,5 @@
 -- Definitions that only join bodies to those beside this folder: no contract that others see speaks of them.
+pub mod Answering
 pub mod Beginning
 pub mod Boxes
 pub mod Follows

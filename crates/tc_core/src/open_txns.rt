@@ -324,6 +324,21 @@ impl OpenTxns {
         self.txns[key].hear(code, said);
     }
 
+    /// The transaction at a key asks this under this number, and takes in at once what was said to it.
+    #[inline(always)]
+    pub fn hear_at_once(&mut self, key: usize, code: &Verified, number: u64, op: &Op, said: &Said)
+        requires key { ContainsKey self.old key }
+        requires idle { (tx : TxValue) → get self.old key ≡ Some tx → tx.sent ≡ None }
+        requires left { (tx : TxValue) → get self.old key ≡ Some tx → 1 ≤ tx.left }
+        requires hears { (tx : TxValue) → get self.old key ≡ Some tx →
+            (s : Standing) × MayHear code.now (asking_under number op.now tx) s said.now }
+        ensures updates { (tx : TxValue) → get self.old key ≡ Some tx →
+            Heard code.now self.old self.new key (asking_under number op.now tx) said.now }
+        ensures len { slab_len self.new ≡ slab_len self.old }
+    {
+        self.txns[key].hear_at_once(code, number, op, said);
+    }
+
     /// The transaction at a key is in doubt.
     pub fn doubt(&mut self, key: usize)
         requires { ContainsKey self.old key }

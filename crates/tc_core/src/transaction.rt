@@ -269,6 +269,27 @@ impl Tx {
     }
 }
 
+impl Tx {
+    /// It asks this under this number, and takes in at once what was said to it: as it is behind [`Tx::send`]
+    /// and [`Tx::hear`].
+    #[inline(always)]
+    pub fn hear_at_once(&mut self, code: &Verified, number: u64, op: &Op, said: &Said)
+        requires idle { self.old.sent ≡ None }
+        requires left { 1 ≤ self.old.left }
+        requires hears { (s : Standing) × MayHear code.now (asking_under number op.now self.old) s said.now }
+        ensures keeps { (s : Standing) → MayHear code.now (asking_under number op.now self.old) s said.now
+            → Keeps code.now self.new (answered said.now s) }
+        ensures serial { self.new.serial ≡ self.old.serial }
+        ensures certain { self.new.in_doubt ≡ false }
+    {
+        self.last = number;
+        self.left -= 1;
+        self.in_doubt = false;
+        wrote(&mut self.undo, op, said);
+        self.told(code, said);
+    }
+}
+
 // How it ends that has nothing else to do.
 #[inline(always)]
 fn over(next: NextStep<'_>) -> Option<Outcome>
