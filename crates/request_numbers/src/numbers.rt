@@ -207,7 +207,8 @@ impl Numbers {
         ensures pending { self.new.pending ≡ self.old.pending }
         ensures room { self.new.room ≡ self.old.room }
     {
-        self.last += 1;
+        let number = self.last + 1;
+        self.last = number;
     }
 
     /// Whether the number was given out and isn't answered.
