@@ -133,6 +133,7 @@ impl Dc {
     }
 
     // The mark rises, or stays.
+    #[inline(always)]
     fn raise(&mut self, low_water: u64)
         ensures { self.new ≡ marked self.old low_water }
     {
@@ -141,6 +142,7 @@ impl Dc {
     }
 
     // Performs an operation where the mark is raised.
+    #[inline(always)]
     fn perform_marked(&mut self, number: u64, redo: bool, op: &Op) -> Option<Reply>
         ensures reply { result ≡ reply_by self.old number (fate self.old number redo op.now) }
         ensures store { self.new ≡ store_by self.old number op.now (fate self.old number redo op.now) }
@@ -155,6 +157,7 @@ impl Dc {
     }
 
     // What this incarnation says to a number.
+    #[inline(always)]
     fn reply(&self, number: u64, said: Said) -> Reply
         ensures { result ≡ record { number = number; incarnation = self.now.incarnation; said = said } }
     {
@@ -177,6 +180,7 @@ impl Dc {
     }
 
     // Performs an operation under a number above the mark that wasn't performed.
+    #[inline(always)]
     fn perform_new(&mut self, number: u64, redo: bool, op: &Op) -> Option<Reply>
         requires above { self.old.mark < number }
         requires fresh { said_under self.old.list number ≡ None }

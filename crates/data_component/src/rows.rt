@@ -143,6 +143,7 @@ pub(crate) fn value_of<'a>(rows: &'a [Row], record: &Record) -> Option<&'a Value
     }
 }
 
+#[inline(always)]
 #[tactic(auto, using(crate::proofs::Changing::read_at, crate::proofs::Changing::read_missing))]
 fn read(rows: &[Row], hints: &mut Hints, record: &Record) -> Said
     requires { SortedRows rows.now }
@@ -190,6 +191,7 @@ fn insert(
     }
 }
 
+#[inline(always)]
 #[tactic(auto, using(crate::proofs::Changing::update_missing, crate::proofs::Changing::update_put))]
 fn update(rows: &mut Vec<Row>, hints: &mut Hints, record: &Record, value: &Value) -> Said
     requires { SortedRows rows.old.items }
@@ -218,6 +220,7 @@ fn delete(rows: &mut Vec<Row>, hints: &mut Hints, record: &Record) -> Said
 }
 
 /// Performs the operation, where a further record has room or not. The vector has room for one.
+#[inline(always)]
 pub(crate) fn perform(rows: &mut Vec<Row>, hints: &mut Hints, has_room: bool, op: &Op) -> Said
     requires sorted { SortedRows rows.old.items }
     requires room { length rows.old.items < vec_capacity rows.old }

@@ -62,6 +62,7 @@ impl LockedDcs {
 
 impl Link for LockedDcs {
     /// What the wire's component replies; nothing where there is no such component.
+    #[inline(always)]
     fn carry<R: Wait>(&self, rt: &R, _worker: usize, wire: &Wire) -> Option<Reply>
         ensures absent { vec_len self.now.dcs ≤ (target wire.now.op).dc → result ≡ None }
         ensures number { IfSome result (λ reply. reply.number ≡ wire.now.number) }
