@@ -40,6 +40,7 @@ GROUPS = [
     ("a log's file, a file of the system, whose log it is, a journal over it", "log_file disk_file procedure_digest log_journal"),
     ("the steps of a world", "tc_world"),
     ("crashes of the transaction component", "tc_world.Recovery tc_world.Lives tc_world.Ahead"),
+    ("an engine that writes its log's file ahead", "engine_recovery"),
     ("recovery from a log alone, and from the records that one begins with", "coming_back base_records"),
     ("one at a time, audits", "serial audit tc_world.OneAtATime"),
     ("what a script says, and an object file's procedures for one", "scripts object_procedures"),

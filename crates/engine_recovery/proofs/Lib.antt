@@ -1,0 +1,5 @@
+pub mod MemoryLemmas
+pub mod ReadingLemmas
+pub mod TurnLemmas
+pub mod BatchLemmas
+pub mod ExampleLemmas
