@@ -1,12 +1,13 @@
 -- A batch of all that is new, behind a file that tells of all.
-use Rattle.std.proofs.Common.{◌≡◌, ℕ, suc, true, false, List, [], ◌∷◌, ◌++◌, length, reverse, length-append, append_assoc, refl, sym, ◌∙◌, ap, ap₂, subst, arith, Option, Some, None}
-use Rattle.std.specs.Prelude.{replicate, slice_set}
+use Rattle.std.proofs.Common.{◌≡◌, ℕ, suc, true, false, List, [], ◌∷◌, ◌++◌, length, reverse, length-append, append-nil, append_assoc, refl, sym, ◌∙◌, ap, ap₂, subst, arith, Option, Some, None}
+use Rattle.std.specs.Prelude.{◌^◌, ◌<◌, replicate, slice_set}
 use Rattle.std.specs.List.{fold}
 use Rattle.std.proofs.Math.Seq.{set-append_seam}
 use Rattle.std.proofs.lemmas.List.{reverse-append, flat_map_more}
 use Rattle.std.proofs.lemmas.List.Concat.{flat_map-append}
 use Rattle.std.proofs.lemmas.List.Sums.{fold-append}
 use Rattle.tc_log.specs.declared.event.Event.{Event}
+use Rattle.tc_log.specs.declared.event.Event.TheVariants.{Checkpoint}
 use Rattle.tc_log.specs.Printed.{printed}
 use Rattle.tc_log.specs.Reading.{HaveRows, ArePrinted, AreEvents}
 use Rattle.tc_core.specs.declared.recovery.SiteNote.{SiteNote}
@@ -14,7 +15,7 @@ use Rattle.tc_core.specs.declared.recovery.SiteNote.TheVariants.{Untold}
 use Rattle.log_file.specs.declared.header.Header.{Header}
 use Rattle.log_file.specs.declared.note.Note.{Note}
 use Rattle.log_file.specs.Bytes.{Rows, Batch, notes_of as notes_in, rows_of}
-use Rattle.log_file.specs.Reading.{IsBehind, begins_anew, with_note, last_known}
+use Rattle.log_file.specs.Reading.{IsBehind, IsBatch, begins_anew, with_note, last_known}
 use Rattle.log_file.proofs.GatheringLemmas.{batches_push}
 use Rattle.tc_world.specs.Whole.{Whole}
 use Rattle.tc_world.specs.Recovery.{notes_of}
@@ -72,6 +73,27 @@ since h f w v b t s = record {
         ap (λ (ns : List Note). fold with_note start ns) (sym (flat_map_more (λ (x : Batch). x.notes) [] f.batches b))
         ∙ (fold-append with_note start (notes_in f.batches) b.notes
         ∙ (ap (λ (known : List SiteNote). fold with_note known b.notes) t.notes ∙ s.notes))
+
+-- ---- a file that begins anew
+
+abbrev file_anew : Batch → Contents
+file_anew b = record { base = Some []; batches = b ∷ [] }
+
+pub anew_tells : (h : Header) (v : Whole) (before numbers : ℕ) (b : Batch) → v.core.events ≡ Checkpoint before numbers ∷ [] → before < 2 ^ 64
+    → numbers < 2 ^ 64 → IsBatch h.dcs b → b.rows ≡ printed (Checkpoint before numbers) → last_known h.dcs b.notes ≡ notes_of v
+    → FileTells h (file_anew b) (all_written v)
+anew_tells h v before numbers b is small less fits rows notes =
+    subst (λ (es : List Event). FileTells h (file_anew b) (record { events = es; notes = notes_of v })) (sym is) (record {
+      starts = record { rows = tt; rise = tt; count = omega arith };
+      behind = refl;
+      are = (fits, tt);
+      numbers = ((small, less), tt);
+      rows = record {
+        rows = (refl, tt);
+        prints = ap (λ (r : List ℕ). r ++ []) (sym rows);
+      };
+      notes = ap (last_known h.dcs) (append-nil b.notes) ∙ notes;
+    })
 
 -- ---- notes of all data components
 

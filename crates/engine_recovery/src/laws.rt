@@ -1,8 +1,9 @@
 // Laws of an engine that writes its log's file ahead.
 
-ghost use Rattle.std.specs.Prelude.{◌≡◌, ◌≢◌, ◌⊎◌, [], ◌∷◌, ℕ, List, false, length, reverse};
+ghost use Rattle.std.specs.Prelude.{◌≡◌, ◌≢◌, ◌⊎◌, ◌<◌, ◌^◌, [], ◌∷◌, ℕ, List, Some, false, length, reverse};
 ghost use Rattle.std.specs.List.{fold, flat_map};
 ghost use Rattle.tc_log.specs.declared.event.Event.{Event as EventValue};
+ghost use Rattle.tc_log.specs.declared.event.Event.TheVariants.{Checkpoint};
 ghost use Rattle.tc_log.specs.Printed.{printed};
 ghost use Rattle.tc_log.specs.Reading.{AreEvents};
 ghost use Rattle.verifier.specs.Checked.{Checked};
@@ -15,11 +16,11 @@ ghost use Rattle.frame_file.specs.Reading.{Reads};
 ghost use Rattle.tc_core.specs.declared.recovery.SiteNote.{SiteNote};
 ghost use Rattle.log_file.specs.declared.header.Header.{Header};
 ghost use Rattle.log_file.specs.Bytes.{Batch, notes_of as notes_in, rows_of};
-ghost use Rattle.log_file.specs.Reading.{IsStart, IsBehind, AreBatches, with_note, last_known};
+ghost use Rattle.log_file.specs.Reading.{IsStart, IsBehind, IsBatch, AreBatches, with_note, last_known};
 ghost use Rattle.tc_world.specs.Whole.{Whole};
 ghost use Rattle.tc_world.specs.Steps.{Steps};
 ghost use Rattle.tc_world.specs.OneAtATime.{is_forge, EachIsKnown, IsOneAtATime};
-ghost use Rattle.tc_world.specs.Recovery.{come_back, MayCrash};
+ghost use Rattle.tc_world.specs.Recovery.{come_back, notes_of, MayCrash};
 ghost use Rattle.tc_world.specs.Lives.{HasLived};
 ghost use Rattle.tc_world.specs.Ahead.{Written, all_written, Tells};
 ghost use Rattle.tc_world.specs.declared.step.Step.{Step as StepValue};
@@ -76,6 +77,10 @@ pub fn may_write_ahead()
         (record { file = f; written = all_written w; world = w }) (record { file = written_on y f; written = all_written v; world = v }) }
     ensures batch { (h : Header) (f : Contents) (w v : Whole) (b : Batch) → FileTells h f (all_written w) → TellsSince h.dcs w v b
         → FileTells h (appended f (b ∷ [])) (all_written v) }
+    // Behind a cut a new file suffices, of no base records and one batch with the Checkpoint's row and what is known.
+    ensures anew { (h : Header) (v : Whole) (before numbers : ℕ) (b : Batch) → v.core.events ≡ Checkpoint before numbers ∷ []
+        → before < 2 ^ 64 → numbers < 2 ^ 64 → IsBatch h.dcs b → b.rows ≡ printed (Checkpoint before numbers)
+        → last_known h.dcs b.notes ≡ notes_of v → FileTells h (record { base = Some []; batches = b ∷ [] }) (all_written v) }
     // There are such notes: those of all data components.
     ensures notes { (known notes : List SiteNote) → length known ≡ length notes → fold with_note known (noted_from 0 notes) ≡ notes }
 {}

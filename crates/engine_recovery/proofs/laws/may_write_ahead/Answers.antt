@@ -1,4 +1,4 @@
-use Rattle.engine_recovery.proofs.BatchLemmas.{all_noted, since}
+use Rattle.engine_recovery.proofs.BatchLemmas.{all_noted, since, anew_tells}
 use Rattle.engine_recovery.proofs.TurnLemmas.{telling, whole_engine, whole_turn}
 use Rattle.engine_recovery.proofs.laws.may_write_ahead.Goals as goal
 
@@ -14,6 +14,9 @@ returns-clause-met c h f y w v x o lived goes honest no_crash legal good tells =
 
 pub returns-clause-batch : goal.returns-clause-batch
 returns-clause-batch c h f w v b tells new = since h f w v b tells new
+
+pub returns-clause-anew : goal.returns-clause-anew
+returns-clause-anew c h v before numbers b is small less fits rows notes = anew_tells h v before numbers b is small less fits rows notes
 
 pub returns-clause-notes : goal.returns-clause-notes
 returns-clause-notes c known notes same = all_noted known notes same
