@@ -22,7 +22,7 @@ fn write_notes(out: &mut Vec<u8>, notes: &[Note]) -> Result<(), AllocError>
 
 /// The bytes of these notes and rows.
 #[tactic(auto, unfolding(crate::specs::Bytes::batch_bytes))]
-pub(crate) fn batch_bytes(alloc: Global, notes: &[Note], rows: &[u8]) -> Result<Vec<u8>, AllocError>
+pub fn batch_bytes(alloc: Global, notes: &[Note], rows: &[u8]) -> Result<Vec<u8>, AllocError>
     ensures { IfOk result (λ bytes. bytes.items ≡ batch_bytes (record { notes = notes.now; rows = rows.now })) }
 {
     let mut out = Vec::new(alloc);

@@ -22,8 +22,8 @@ pub(crate) struct Gathered {
     pub rows: Vec<u8>,
 }
 
-// Each note in turn says what is known of its data component from then on.
-fn take_notes(known: &mut Vec<SiteNote>, notes: &[Note])
+/// Each note in turn says what is known of its data component from then on.
+pub fn take_notes(known: &mut Vec<SiteNote>, notes: &[Note])
     requires { All (λ (n : NoteValue). n.dc < length known.old.items) notes.now }
     ensures known { known.new.items ≡ fold with_note known.old.items notes.now }
     ensures len { length known.new.items ≡ length known.old.items }

@@ -62,7 +62,7 @@ pub(crate) fn based_front_bytes(alloc: Global, header: &Header) -> Result<Vec<u8
 
 /// The header's 64 bytes, of layout 1.
 #[tactic(auto, unfolding(crate::specs::Bytes::header_bytes))]
-pub(crate) fn header_bytes(alloc: Global, header: &Header) -> Result<Vec<u8>, AllocError>
+pub fn header_bytes(alloc: Global, header: &Header) -> Result<Vec<u8>, AllocError>
     ensures { IfOk result (λ bytes. bytes.items ≡ header_bytes header.now) }
 {
     laid_out(alloc, PLAIN, header)
@@ -70,11 +70,7 @@ pub(crate) fn header_bytes(alloc: Global, header: &Header) -> Result<Vec<u8>, Al
 
 /// The header's 72 bytes, of layout 2, with so many base records.
 #[tactic(auto, unfolding(crate::specs::Bytes::based_header_bytes))]
-pub(crate) fn based_header_bytes(
-    alloc: Global,
-    header: &Header,
-    rows: u64,
-) -> Result<Vec<u8>, AllocError>
+pub fn based_header_bytes(alloc: Global, header: &Header, rows: u64) -> Result<Vec<u8>, AllocError>
     ensures { IfOk result (λ bytes. bytes.items ≡ based_header_bytes header.now rows) }
 {
     let mut out = based_front_bytes(alloc, header)?;

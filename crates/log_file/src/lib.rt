@@ -28,13 +28,15 @@ mod replacement;
 mod stored;
 
 pub use base::{BaseRow, is_base};
+pub use batch::batch_bytes;
 pub use file::LogFile;
-pub use header::{BASED_FRONT, Header};
+pub use gathering::take_notes;
+pub use header::{BASED_FRONT, Header, based_header_bytes, header_bytes};
 pub use laws::{
     acknowledged_are_read, crashes_are_read, crashes_may_be_left, headers_tell,
     legal_logs_are_read, read_as_written,
 };
 pub use note::Note;
-pub use reading::{OpenFault, Recovered, begins_anew};
+pub use reading::{OpenFault, Recovered, begins_anew, read_own};
 pub use replacement::may_be_left;
 pub use stored::{Stored, read_file};

@@ -174,7 +174,7 @@ pub(crate) fn read_log(
 
 /// What a file's frames say; none where it is empty, or the beginning of this header's
 /// frame.
-pub(crate) fn read_own(
+pub fn read_own(
     alloc: Global,
     header: &Header,
     bytes: &[u8],
