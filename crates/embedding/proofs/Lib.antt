@@ -3,3 +3,4 @@ pub mod Parts
 pub mod RunningLemmas
 pub mod AdmittedLemmas
 pub mod KeptLemmas
+pub mod FilingLemmas

@@ -4,14 +4,14 @@ use Rattle.data_component.specs.Store.{Store}
 use Rattle.embedding.specs.declared.frame.Frame.{Frame}
 use Rattle.embedding.specs.declared.engine.Body.{Body}
 use Rattle.embedding.specs.declared.engine.Body.TheVariants.{Empty, Tc, Dc, Code}
-use Rattle.embedding.specs.declared.tc_part.TcPart.{TcPart}
+use Rattle.embedding.specs.declared.filed_part.FiledPart.{FiledPart}
 use Rattle.embedding.specs.Keeping.{IsKept}
 use Rattle.embedding.specs.declared.code_part.CodePart.{CodePart}
 use Rattle.embedding.specs.Programs.{IsRun}
-use Rattle.embedding.specs.Serving.{IsServed}
+use Rattle.embedding.specs.Filing.{IsFiled}
 use Rattle.embedding.specs.Calling.{Serves, Keeps, Runs}
 
-abbrev part_or : TcPart → Body → TcPart
+abbrev part_or : FiledPart → Body → FiledPart
 part_or other Empty = other
 part_or other (Tc part) = part
 part_or other (Dc dc) = other
@@ -23,9 +23,9 @@ store_or other (Tc part) = other
 store_or other (Dc store) = store
 store_or other (Code part) = other
 
-pub served_on : (was part now : TcPart) (f f' : Frame) (code : ℕ) → Tc was ≡ Tc part → IsServed was f code now f' → Serves part f code (Tc now) f'
+pub served_on : (was part now : FiledPart) (f f' : Frame) (code : ℕ) → Tc was ≡ Tc part → IsFiled was f code now f' → Serves part f code (Tc now) f'
 served_on was part now f f' code same served =
-    record { part' = now; is = refl; served = subst (λ (p : TcPart). IsServed p f code now f') (ap (part_or was) same) served }
+    record { part' = now; is = refl; served = subst (λ (p : FiledPart). IsFiled p f code now f') (ap (part_or was) same) served }
 
 pub kept_on : (was store now : Store) (f f' : Frame) (code : ℕ) → Dc was ≡ Dc store → IsKept was f code now f' → Keeps store f code (Dc now) f'
 kept_on was store now f f' code same kept =

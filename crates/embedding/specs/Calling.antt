@@ -5,7 +5,7 @@ use Rattle.transactions.specs.InFlight.{untold}
 use Rattle.embedding.specs.Gathering.{HasNothing}
 use Rattle.embedding.specs.Keeping.{IsKept}
 use Rattle.embedding.specs.Programs.{IsRun}
-use Rattle.embedding.specs.Serving.{IsServed}
+use Rattle.embedding.specs.Filing.{IsFiled}
 use Rattle.embedding.specs.Sound.{IsSound}
 use Rattle.embedding.specs.declared.call.TheConstants.{START_TC, START_DC, START_CODE}
 use Rattle.embedding.specs.declared.codes.TheConstants.{BAD_FRAME, MEMORY, NO_SUCH_CALL}
@@ -14,22 +14,24 @@ use Rattle.embedding.specs.declared.engine.Engine.{Engine}
 use Rattle.embedding.specs.declared.engine.Body.{Body}
 use Rattle.embedding.specs.declared.engine.Body.TheVariants.{Empty, Tc, Dc, Code}
 use Rattle.embedding.specs.declared.frame.Frame.{Frame}
-use Rattle.embedding.specs.declared.tc_part.TcPart.{TcPart}
+use Rattle.embedding.specs.declared.filed_part.FiledPart.{FiledPart}
 
 -- ---- beginning
 
 -- a transaction component in which nothing has happened
 pub record BeginsTc (f : Frame) (body : Body) : Type 0 where
-  pub part : TcPart
+  pub part : FiledPart
   pub is : body ≡ Tc part
   pub few : f.word ≤ 65535
-  pub dcs : part.state.dcs ≡ f.word
-  pub procs : (part.state.procs ≡ []) × (part.state.names ≡ [])
-  pub events : part.state.events ≡ []
-  pub given_up : part.state.given_up ≡ []
-  pub sites : part.state.sites ≡ replicate f.word untold
-  pub requests : part.requests.items ≡ []
-  pub gathered : HasNothing part.gathered
+  pub dcs : part.part.state.dcs ≡ f.word
+  pub procs : (part.part.state.procs ≡ []) × (part.part.state.names ≡ [])
+  pub events : part.part.state.events ≡ []
+  pub given_up : part.part.state.given_up ≡ []
+  pub sites : part.part.state.sites ≡ replicate f.word untold
+  pub requests : part.part.requests.items ≡ []
+  pub gathered : HasNothing part.part.gathered
+  pub file : part.file.header ≡ None
+  pub prepared : part.prepared ≡ []
 
 pub data WhyNoTc (f : Frame) (code : ℕ) : Type 0 where
   TooMany : code ≡ BAD_FRAME → 65535 < f.word → WhyNoTc f code
@@ -78,11 +80,11 @@ pub record Begins (f : Frame) (code : ℕ) (body : Body) : Type 0 where
 
 -- ---- going on
 
--- a transaction component stays one, and is served
-pub record Serves (part : TcPart) (f : Frame) (code : ℕ) (body : Body) (f' : Frame) : Type 0 where
-  pub part' : TcPart
+-- a transaction component stays one, and it and its log's file are served
+pub record Serves (part : FiledPart) (f : Frame) (code : ℕ) (body : Body) (f' : Frame) : Type 0 where
+  pub part' : FiledPart
   pub is : body ≡ Tc part'
-  pub served : IsServed part f code part' f'
+  pub served : IsFiled part f code part' f'
 
 -- a data component stays one, and does what it is told
 pub record Keeps (store : Store) (f : Frame) (code : ℕ) (body : Body) (f' : Frame) : Type 0 where
@@ -99,6 +101,6 @@ pub record Runs (part : CodePart) (f : Frame) (code : ℕ) (body : Body) (f' : F
 pub record IsCalled (before : Engine) (code : ℕ) (after : Engine) : Type 0 where
   pub sound : IsSound after
   pub begun : before.body ≡ Empty → Begins before.frame code after.body
-  pub served : (part : TcPart) → before.body ≡ Tc part → Serves part before.frame code after.body after.frame
+  pub served : (part : FiledPart) → before.body ≡ Tc part → Serves part before.frame code after.body after.frame
   pub kept : (store : Store) → before.body ≡ Dc store → Keeps store before.frame code after.body after.frame
   pub run : (part : CodePart) → before.body ≡ Code part → Runs part before.frame code after.body after.frame

@@ -13,6 +13,13 @@ use Rattle.tc_core.specs.declared.recovery.RecoverFault.{RecoverFault}
 use Rattle.tc_core.specs.declared.recovery.RecoverFault.TheVariants as recover
 use Rattle.tc_core.specs.declared.state.NewsFault.{NewsFault}
 use Rattle.tc_core.specs.declared.state.NewsFault.TheVariants as news
+use Rattle.engine_log.specs.declared.ahead.AheadFault.{AheadFault}
+use Rattle.engine_log.specs.declared.ahead.AheadFault.TheVariants as ahead
+use Rattle.engine_log.specs.declared.back.BackFault.{BackFault}
+use Rattle.engine_log.specs.declared.back.BackFault.TheVariants as back
+use Rattle.frame_file.specs.declared.reading.FrameFault.TheVariants as frames
+use Rattle.log_file.specs.declared.reading.OpenFault.{OpenFault}
+use Rattle.log_file.specs.declared.reading.OpenFault.TheVariants as opening
 use Rattle.tc_log.specs.declared.read.LogFault.{LogFault}
 use Rattle.tc_log.specs.declared.read.LogFault.TheVariants as read
 
@@ -109,3 +116,42 @@ recover_place recover.DcCount = 0
 recover_place (recover.Unfit (check.LogIllegal place)) = place
 recover_place (recover.Unfit check.Memory) = 0
 recover_place (recover.Forgotten dc) = dc
+
+-- F3, F6; W5
+abbrev pub ahead_number : AheadFault → ℕ
+ahead_number ahead.Memory = 0x5705
+ahead_number ahead.Others = 0x4603
+ahead_number ahead.Full = 0x4606
+
+-- F1, F2, F4, F5, L2; W5
+abbrev pub open_number : OpenFault → ℕ
+open_number (opening.Frames (frames.Damaged frame)) = 0x4601
+open_number (opening.Frames (frames.Device error)) = 0x5705
+open_number (opening.Frames frames.Full) = 0x5705
+open_number opening.Empty = 0x4602
+open_number opening.Other = 0x4602
+open_number (opening.NoBase frame) = 0x4604
+open_number (opening.NoBatch frame) = 0x4605
+open_number (opening.Row row) = 0x4c02
+
+-- the frame or the row
+abbrev pub open_place : OpenFault → ℕ
+open_place (opening.Frames (frames.Damaged frame)) = frame
+open_place (opening.Frames (frames.Device error)) = 0
+open_place (opening.Frames frames.Full) = 0
+open_place opening.Empty = 0
+open_place opening.Other = 0
+open_place (opening.NoBase frame) = frame
+open_place (opening.NoBatch frame) = frame
+open_place (opening.Row row) = row
+
+-- F3, F7
+abbrev pub back_number : BackFault → ℕ
+back_number (back.Unread fault) = open_number fault
+back_number back.Others = 0x4603
+back_number back.Records = 0x4607
+
+abbrev pub back_place : BackFault → ℕ
+back_place (back.Unread fault) = open_place fault
+back_place back.Others = 0
+back_place back.Records = 0

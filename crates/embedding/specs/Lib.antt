@@ -3,6 +3,7 @@ pub mod Frames
 pub mod Gathering
 pub mod Telling
 pub mod Serving
+pub mod Filing
 pub mod Keeping
 pub mod Running
 pub mod Programs

@@ -10,7 +10,7 @@ use Rattle.tc_core.specs.Core.{Core}
 use Rattle.embedding.specs.declared.engine.Engine.{Engine}
 use Rattle.embedding.specs.declared.engine.Body.{Body}
 use Rattle.embedding.specs.declared.engine.Body.TheVariants.{Tc}
-use Rattle.embedding.specs.declared.tc_part.TcPart.{TcPart}
+use Rattle.embedding.specs.declared.filed_part.FiledPart.{FiledPart}
 
 -- The log is legal, each operation in flight is covered by the locks of its transaction's call, which are held where its number is
 -- open, and no two conflict.
@@ -24,7 +24,7 @@ pub record IsSoundCore (core : Core) : Type 0 where
       → m ≢ n → conflict f.op g.op ≡ false
 
 abbrev pub IsSoundBody : Body → Type 0
-IsSoundBody body = (part : TcPart) → body ≡ Tc part → IsSoundCore part.state
+IsSoundBody body = (part : FiledPart) → body ≡ Tc part → IsSoundCore part.part.state
 
 abbrev pub IsSound : Engine → Type 0
 IsSound engine = IsSoundBody engine.body

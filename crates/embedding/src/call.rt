@@ -107,3 +107,11 @@ pub const REDO_BEHIND: u32 = 61;
 
 /// And what a slot of a call holds, whose run has ended.
 pub const RESULT: u32 = 62;
+
+/// And its log's file: what has to be written behind the file's end, which is handed out piece by piece, and the way
+/// back from the file's bytes, which come in as code does.
+pub const FILE_AHEAD: u32 = 63;
+
+pub const FILE_BYTES: u32 = 64;
+
+pub const FILE_BACK: u32 = 65;

@@ -3,9 +3,13 @@
 ghost use Rattle.std.specs.Prelude.{◌≡◌, ◌≢◌};
 ghost use Rattle.embedding.specs.Codes.{decode_number, decode_place, violation_number, decl_number, decl_place, news_number, checkpoint_number};
 ghost use Rattle.embedding.specs.Codes.{read_number, read_place, recover_number, recover_place};
+ghost use Rattle.embedding.specs.Codes.{ahead_number, open_number, open_place, back_number, back_place};
 
 use access_slots::decl::DeclFault;
 use bpf_encoding::decode::DecodeFault;
+use engine_log::{AheadFault, BackFault};
+use frame_file::FrameFault;
+use log_file::OpenFault;
 use register_kinds::kind::Violation;
 use tc_core::beginning::CheckpointFault;
 use tc_core::checking::CheckFault;
@@ -65,6 +69,20 @@ pub const ROW_LENGTH: u32 = 0x4c01;
 pub const NO_EVENT: u32 = 0x4c02;
 /// U1: an event may not stand behind the ones before it.
 pub const LOG_ILLEGAL: u32 = 0x5501;
+/// F1: the frame isn't whole, and what stands there is no end that a crash left.
+pub const FILE_DAMAGED: u32 = 0x4601;
+/// F2: the file is no log.
+pub const FILE_FOREIGN: u32 = 0x4602;
+/// F3: the file is the log of other procedures, or of another number of data components.
+pub const FILE_OTHERS: u32 = 0x4603;
+/// F4: the frame is no part of a base.
+pub const FILE_NO_BASE: u32 = 0x4604;
+/// F5: the frame is no batch.
+pub const FILE_NO_BATCH: u32 = 0x4605;
+/// F6: the file has 2^64 - 1 frames.
+pub const FILE_FULL: u32 = 0x4606;
+/// F7: the file begins with records of data components.
+pub const FILE_RECORDS: u32 = 0x4607;
 /// P1: the name is taken.
 pub const NAME_TAKEN: u32 = 0x5001;
 /// P2: a slot names a data component that isn't there.
@@ -176,5 +194,46 @@ pub fn recover_code(fault: RecoverFault) -> (u32, u64)
         RecoverFault::Unfit(CheckFault::LogIllegal(place)) => (LOG_ILLEGAL, place as u64),
         RecoverFault::Unfit(CheckFault::Memory) => (MEMORY, 0),
         RecoverFault::Forgotten(dc) => (FORGOTTEN, dc as u64),
+    }
+}
+
+/// F3, F6 or W5.
+pub fn ahead_code(fault: AheadFault) -> u32
+    ensures refused { result ≢ 0 }
+    ensures number { result ≡ ahead_number fault }
+{
+    match fault {
+        AheadFault::Memory => MEMORY,
+        AheadFault::Others => FILE_OTHERS,
+        AheadFault::Full => FILE_FULL,
+    }
+}
+
+// F1, F2, F4, F5, L2 or W5, and the frame or the row.
+fn open_code(fault: OpenFault) -> (u32, u64)
+    ensures refused { result.0 ≢ 0 }
+    ensures number { result.0 ≡ open_number fault }
+    ensures place { result.1 ≡ open_place fault }
+{
+    match fault {
+        OpenFault::Frames(FrameFault::Damaged(frame)) => (FILE_DAMAGED, frame),
+        OpenFault::Frames(FrameFault::Device(_) | FrameFault::Full) => (MEMORY, 0),
+        OpenFault::Empty | OpenFault::Other => (FILE_FOREIGN, 0),
+        OpenFault::NoBase(frame) => (FILE_NO_BASE, frame as u64),
+        OpenFault::NoBatch(frame) => (FILE_NO_BATCH, frame as u64),
+        OpenFault::Row(row) => (NO_EVENT, row as u64),
+    }
+}
+
+/// Those of a file that isn't read, F3 or F7, and the frame or the row.
+pub fn back_code(fault: BackFault) -> (u32, u64)
+    ensures refused { result.0 ≢ 0 }
+    ensures number { result.0 ≡ back_number fault }
+    ensures place { result.1 ≡ back_place fault }
+{
+    match fault {
+        BackFault::Unread(fault) => open_code(fault),
+        BackFault::Others => (FILE_OTHERS, 0),
+        BackFault::Records => (FILE_RECORDS, 0),
     }
 }

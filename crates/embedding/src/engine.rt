@@ -5,13 +5,13 @@ ghost use Rattle.data_component.specs.Store.{Store};
 ghost use Rattle.embedding.specs.Sound.{IsSoundBody};
 ghost use Rattle.embedding.specs.Calling.{IsCalled, Begins, BegunBy, UnbegunBy, Serves, Keeps, Runs};
 ghost use Rattle.embedding.specs.declared.code_part.CodePart.{CodePart as Program};
-ghost use Rattle.embedding.specs.declared.tc_part.TcPart.{TcPart as Part};
+ghost use Rattle.embedding.specs.declared.filed_part.FiledPart.{FiledPart as Part};
 ghost use Rattle.embedding.specs.declared.engine.Body.TheVariants.{Tc as IsTc, Dc as IsDc, Code as IsCode};
 
 use crate::code_part::CodePart;
 use crate::codes::{BAD_FRAME, DONE, MEMORY, NO_SUCH_CALL};
+use crate::filed_part::FiledPart;
 use crate::frame::Frame;
-use crate::tc_part::TcPart;
 use crate::{call, dc_part};
 use data_component::dc::Dc;
 use std::alloc::Global;
@@ -21,7 +21,7 @@ use std::mem;
 pub enum Body {
     /// Not started.
     Empty,
-    Tc(TcPart),
+    Tc(FiledPart),
     Dc(Dc),
     Code(CodePart),
 }
@@ -75,7 +75,7 @@ fn started(alloc: Global, frame: &Frame) -> Result<Body, u32>
             if frame.word > 65535 {
                 return Err(BAD_FRAME);
             }
-            match TcPart::new(alloc, frame.word as u16) {
+            match FiledPart::new(alloc, frame.word as u16) {
                 Ok(part) => Ok(Body::Tc(part)),
                 Err(_) => Err(MEMORY),
             }

@@ -187,6 +187,13 @@ impl Gathered {
         Log::read(self.alloc, self.bytes.as_slice())
     }
 
+    /// The bytes.
+    pub fn bytes(&self) -> &[u8]
+        ensures { result.now ≡ self.now.bytes.items }
+    {
+        self.bytes.as_slice()
+    }
+
     /// The notes.
     pub fn notes(&self) -> &[SiteNote]
         ensures { result.now ≡ self.now.notes.items }

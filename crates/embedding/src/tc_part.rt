@@ -1,7 +1,7 @@
 // A transaction component behind a frame.
 
 ghost use Rattle.std.specs.Prelude.{◌≡◌, ◌≢◌, ◌<◌, ◌≤◌, ⊤, [], ◌∷◌, length, take, vec_len, vec_capacity, slice_get, Some, None, IfOk, OnOk};
-ghost use Rattle.std.specs.Prelude.{IfErr, IfSome, IfNone, replicate};
+ghost use Rattle.std.specs.Prelude.{IfErr, OnErr, IfSome, IfNone, replicate};
 ghost use Rattle.transactions.specs.InFlight.{untold};
 ghost use Rattle.transactions.specs.Room.{each_one, total};
 ghost use Rattle.transactions.specs.Standing.{standing};
@@ -17,6 +17,9 @@ ghost use Rattle.embedding.specs.Serving.{KeepsRequests, Hears, WhyNotHeard, Red
 ghost use Rattle.embedding.specs.Serving.{SaysBlocked, ShowsEvent, WhyNoEvent, ShowsSite, IsServed, IsRequestOf, HasNoRequest, Recovers};
 ghost use Rattle.embedding.specs.Serving.{WhyNotRecovered, Retakes, WhyNotRetaken, NoneIsOpen, ShowsOpen, SaysHeld, SaysAwaited, NoneWaits};
 ghost use Rattle.embedding.specs.Serving.{ShowsWaiting, HasNoLock, ShowsLock, ShowsResult, WhyNoResult};
+ghost use Rattle.log_file.specs.Reading.{IsBegun as IsUnwritten};
+ghost use Rattle.engine_log.specs.Back.{IsBack, IsBackFault};
+ghost use Rattle.embedding.specs.Filing.{own_header, ComesBack, WhyNotBack};
 
 use crate::codes::{
     self, BAD_FRAME, DONE, DOWN, MEMORY, NO_DC, NO_PLACE, NO_SUCH_CALL, NO_TXN, NOT_OVER,
@@ -27,6 +30,7 @@ use crate::gathered::Gathered;
 use crate::opened::{first_open, first_waiting, locks_at, open_in};
 use crate::{call, telling};
 use call_results::{slot_count, slot_result};
+use engine_log::{Back, BackFault, EngineLog};
 use std::alloc::{AllocError, Global};
 use tc_core::state::{Call, Request, Stranger, TcState};
 use transactions::{Sent, all_covered, all_in_flight_covered, none_in_flight_conflict};
@@ -170,6 +174,53 @@ impl TcPart {
                 code
             }
         }
+    }
+
+    /// What happened, and what is known of data components.
+    pub fn state(&self) -> &TcState
+        ensures { result.now ≡ self.now.state }
+    {
+        &self.state
+    }
+
+    /// What the file says whose bytes were handed in.
+    pub fn file(&self) -> Result<Option<Back>, BackFault>
+        ensures begun { IfOk result (λ o. IfNone o (IsUnwritten (own_header self.now.state) self.now.gathered.bytes.items)) }
+        ensures back { IfOk result (λ o. IfSome o (IsBack (own_header self.now.state) self.now.gathered.bytes.items)) }
+        ensures fault { IfErr result (IsBackFault (own_header self.now.state) self.now.gathered.bytes.items) }
+    {
+        EngineLog::read(self.alloc, &self.state, self.gathered.bytes())
+    }
+
+    /// Comes back from what a file says; then nothing is handed in any more. Else the code, and the place.
+    pub fn come_back(&mut self, back: &Back) -> Result<(), (u32, u64)>
+        ensures done { OnOk result (ComesBack self.old back.now self.new) }
+        ensures why { IfErr result (λ r. WhyNotBack self.old back.now r.0 r.1) }
+        ensures code { IfErr result (λ r. r.0 ≢ 0) }
+        ensures refused { OnErr result (self.new.state ≡ self.old.state) }
+        ensures taken { OnOk result (HasNothing self.new.gathered) }
+        ensures gathered { OnErr result (IsAsGathered self.old.gathered self.new.gathered) }
+        ensures kept { KeepsRequests self.old self.new }
+    {
+        if telling::make_room_for(&mut self.requests, open_in(&back.log)).is_err() {
+            return Err((MEMORY, 0));
+        }
+        match self.state.recover(&back.log, back.file.notes()) {
+            Ok(()) => {
+                self.forget();
+                Ok(())
+            }
+            Err(fault) => Err(codes::recover_code(fault)),
+        }
+    }
+
+    /// Forgets what was handed in.
+    pub fn forget(&mut self)
+        ensures gathered { HasNothing self.new.gathered }
+        ensures state { self.new.state ≡ self.old.state }
+        ensures kept { KeepsRequests self.old self.new }
+    {
+        let _done = self.gathered.clear();
     }
 
     fn call_of(&self, frame: &Frame) -> Result<Call, u32>

@@ -12,7 +12,7 @@ const READS: [u8; 32] = [
 ];
 
 // Makes this call.
-fn made(engine: &mut Engine, what: u32) -> u32 {
+pub(crate) fn made(engine: &mut Engine, what: u32) -> u32 {
     engine.frame.what = what;
     engine::serve(engine)
 }
@@ -28,7 +28,7 @@ fn hand_in(engine: &mut Engine) -> bool {
 }
 
 // A transaction component with one data component and this procedure as `r`.
-fn loaded(engine: &mut Engine) -> bool {
+pub(crate) fn loaded(engine: &mut Engine) -> bool {
     engine.frame.word = 1;
     let begun = made(engine, call::START_TC) == DONE && hand_in(engine);
     engine.frame.word = 1;
@@ -38,7 +38,7 @@ fn loaded(engine: &mut Engine) -> bool {
 }
 
 // The same, whose call for record 7 has come to its question.
-fn asked(engine: &mut Engine) -> bool {
+pub(crate) fn asked(engine: &mut Engine) -> bool {
     let loaded = loaded(engine);
     engine.frame.word = 0;
     engine.frame.count = 1;
@@ -47,7 +47,7 @@ fn asked(engine: &mut Engine) -> bool {
 }
 
 // A value that is no answer to a read, an answer, and the answer again.
-fn answered(engine: &mut Engine) -> [u32; 3] {
+pub(crate) fn answered(engine: &mut Engine) -> [u32; 3] {
     engine.frame.kind = 3;
     let unfit = made(engine, call::ANSWER);
     engine.frame.kind = 2;
@@ -126,7 +126,7 @@ fn a_result_is_told(rt: HostRuntime) -> Result<(), Fail> {
 }
 
 // The data component restarts: what its news and the request behind them are answered.
-fn told(engine: &mut Engine) -> [u32; 2] {
+pub(crate) fn told(engine: &mut Engine) -> [u32; 2] {
     engine.frame.incarnation = 1;
     engine.frame.low_water = 0;
     [made(engine, call::TOLD), made(engine, call::WIRE)]
@@ -180,7 +180,7 @@ fn recovered(engine: &mut Engine) -> [u32; 2] {
 }
 
 // The open transaction: its kind, number and key.
-fn found(engine: &mut Engine) -> (u32, u32, u64, u64) {
+pub(crate) fn found(engine: &mut Engine) -> (u32, u32, u64, u64) {
     engine.frame.place = 0;
     let found = made(engine, call::OPEN_FROM);
     (

@@ -16,6 +16,8 @@ returns-in-Ok-clause-ok c = begun_as c.args.frame.now (Tc c.in-Ok.part) 1 c.in-1
       sites = c.in-Ok.ensures.sites;
       requests = c.in-Ok.ensures.requests;
       gathered = c.in-Ok.ensures.gathered;
+      file = c.in-Ok.ensures.file;
+      prepared = c.in-Ok.ensures.prepared;
     })
 
 pub returns-in-3-clause-ok : goal.returns-in-3-clause-ok
