@@ -15,7 +15,7 @@
 //!
 //! The functions have no body: each is a law, told by its contract. The definitions are in `specs/`:
 //! `Telling` says what a file tells, `Engine` what happens to an engine, and `Since` which batch tells of all
-//! that is new.
+//! that is new. (`engine_tests` of `world_tests` has a test.)
 #![tactic(auto)]
 
 mod examples;

@@ -15,8 +15,8 @@ use transactions::Site;
 
 const RECORD: usize = 96;
 
-// What is noted of a data component: a redo begins anew, above its mark.
-fn note_of(site: Site) -> SiteNote {
+/// What is noted of a data component: a redo begins anew, above its mark.
+pub(crate) fn note_of(site: Site) -> SiteNote {
     match site.redo {
         None => SiteNote::Up(site.incarnation),
         Some(redo) => SiteNote::Restarted(News {
@@ -73,7 +73,8 @@ fn is_up(world: &mut World) {
     }
 }
 
-fn all_end(world: &mut World) {
+/// What was open ends, once the data component is up.
+pub(crate) fn all_end(world: &mut World) {
     is_up(world);
     for txn in 1..=world.state().admitted() {
         ends(world, txn);

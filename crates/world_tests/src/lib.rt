@@ -1,4 +1,4 @@
-//! Tests of `tc_world`, `coming_back` and `audit`, which would take as long again to prove with them:
+//! Tests of `tc_world`, `coming_back`, `engine_recovery` and `audit`, which would take as long again to prove with them:
 //!
 //! | Module | Tests |
 //! |---|---|
@@ -8,6 +8,7 @@
 //! | `crash_tests` | `tc_world`: a transaction component that comes back from its log |
 //! | `coming_back_tests` | `coming_back`: a state and new data components from each beginning of a log |
 //! | `base_tests` | both: worlds that begin with rows, behind a Checkpoint |
+//! | `engine_tests` | `engine_recovery`: an engine that is killed while it appends to its log's file |
 //! | `cut_tests` | `tc_world`: a log that is truncated |
 //! | `memory_tests` | `tc_world`: steps that are refused memory |
 //! | `audit_tests` | `audit`: short logs and what it says of them |
@@ -29,6 +30,8 @@ mod coming_back_tests;
 mod crash_tests;
 #[cfg(test)]
 mod cut_tests;
+#[cfg(test)]
+mod engine_tests;
 #[cfg(test)]
 mod memory_tests;
 #[cfg(test)]
