@@ -13,10 +13,12 @@ static uint64_t drawn(uint64_t below) {
     return (x >> 11) % below;
 }
 
-/* The log of an earlier transaction component, and how often one came back from it. */
-static uint8_t rows[64][MZ_EVENT_BYTES];
+/* The log of an earlier transaction component, as rows and as a file's bytes, and how often one came back from each. */
+static uint8_t rows[64][MZ_EVENT_BYTES], file_bytes[1 << 14];
 static uint64_t row_count;
-static long back;
+static size_t file_size;
+static int is_filed; /* what happens to this one is kept as a file: no frame of noise takes a part of that */
+static long back, back_from_file;
 
 static void keep_rows(mz_tc *tc) {
     for (row_count = 0; row_count < 64 && mz_log_bytes(tc, row_count, rows[row_count]) == MZ_OK;) row_count++;
@@ -29,13 +31,36 @@ static void come_back(mz_tc *tc) {
     back += mz_recover(tc, rows, (size_t)drawn(row_count + 1), notes, 2, NULL) == MZ_OK;
 }
 
+static void keep_file(mz_tc *tc) {
+    uint8_t piece[256];
+    uint64_t prepared = 0;
+    size_t count = 0;
+    if (!is_filed || mz_file_ahead(tc, &prepared) != MZ_OK) return;
+    for (file_size = 0; mz_file_bytes(tc, piece, &count) == MZ_OK && count; file_size += count) {
+        if (file_size + count > sizeof file_bytes) return;
+        memcpy(file_bytes + file_size, piece, count);
+    }
+}
+
+/* From a beginning of these bytes, or from some that are changed. */
+static void come_back_from_file(mz_tc *tc) {
+    uint64_t whole = 0;
+    if (file_size && drawn(4) == 0) file_bytes[drawn(file_size)] ^= (uint8_t)(1 + drawn(255));
+    size_t count = drawn(4) ? file_size : (size_t)drawn(file_size + 1);
+    if (mz_file_back(tc, file_bytes, count, &whole, NULL) != MZ_OK) return;
+    if (whole > count) exit(3);
+    back_from_file += whole != 0;
+}
+
 static mz_head *begun(void) {
     mz_code c;
     char refused[MZ_NAME + 1];
     if (drawn(4)) {
         mz_tc *tc = mz_tc_new(2, &c);
         if (!tc || mz_load_object_file(tc, "build/bank.o", refused, NULL) != MZ_OK) exit(2);
-        if (drawn(2)) come_back(tc);
+        uint64_t from = drawn(4);
+        if (from == 0) come_back(tc);
+        if (from == 1) come_back_from_file(tc);
         return (mz_head *)(void *)tc;
     }
     if (drawn(2)) return (mz_head *)(void *)mz_dc_new(50, 200, &c);
@@ -60,7 +85,8 @@ static void changed(mz_frame *f) {
     static const uint32_t whats[] = {20, 20, 20, 22, 22, 22, 23, 23, 24, 25, 25, 25, 25, 26, 27, 27, 28, 29,
                                      30, 31, 32, 33, 33, 34, 34, 35, 36, 40, 40, 40, 41, 42, 43, 44, 45, 46,
                                      47, 48, 49, 10, 11, 12, 13, 14, 21, 50, 51, 52, 52, 0,  1,  99, 15, 16, 37, 37,
-                                     38, 38, 38, 39, 39, 60, 60, 61, 61, 62, 62, 62};
+                                     38, 38, 38, 39, 39, 60, 60, 61, 61, 62, 62, 62,
+                                     63, 63, 64, 64, 64, 65};
     if (drawn(2)) f->txn = 1 + drawn(6);
     if (drawn(3) == 0) f->kind = (uint32_t)drawn(9);
     if (drawn(3) == 0) f->op = (uint32_t)drawn(6);
@@ -78,6 +104,7 @@ static void changed(mz_frame *f) {
     if (drawn(40) == 0)
         for (uint8_t *at = (uint8_t *)f, *end = at + sizeof *f; at < end; at++) *at = (uint8_t)drawn(256);
     f->what = whats[drawn(sizeof whats / sizeof *whats)];
+    if (is_filed && f->what >= MZ_CALL_FILE_AHEAD && f->what <= MZ_CALL_FILE_BACK) f->what = MZ_CALL_ASK;
     if ((f->what == 13 || f->what == 50) && drawn(2)) {
         uint32_t what = f->what;
         hand_in(f);
@@ -116,8 +143,12 @@ int main(int argc, char **argv) {
     mz_head *head = NULL;
     for (long i = 0; i < calls; i++) {
         if (i % 500 == 0) {
-            if (head && head->kind == MZ_KIND_TC) keep_rows((mz_tc *)(void *)head);
+            if (head && head->kind == MZ_KIND_TC) {
+                keep_rows((mz_tc *)(void *)head);
+                keep_file((mz_tc *)(void *)head);
+            }
             if (head) mz_free(head, head->kind);
+            is_filed = drawn(2) != 0;
             head = begun();
             if (!head) return 2;
         }
@@ -127,7 +158,7 @@ int main(int argc, char **argv) {
         done += mazzulpe_call(f) == MZ_OK;
     }
     if (head) mz_free(head, head->kind);
-    printf("%ld calls by random frames, %ld done; %ld broken objects, %ld loaded; %ld logs came back\n", calls, done,
-           calls / 50, loaded, back);
+    printf("%ld calls by random frames, %ld done; %ld broken objects, %ld loaded; %ld logs came back, %ld from a file\n", calls, done,
+           calls / 50, loaded, back, back_from_file);
     return 0;
 }

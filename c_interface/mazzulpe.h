@@ -118,6 +118,16 @@ typedef uint32_t mz_code;
 #define MZ_ROW_LENGTH MZ_CODE('L', 1)         /* the rows aren't 96 bytes each; mz_recover never says it */
 #define MZ_NO_EVENT MZ_CODE('L', 2)           /* a row is no event's */
 #define MZ_LOG_ILLEGAL MZ_CODE('U', 1)        /* an event may not stand behind the ones before it */
+#define MZ_DAMAGED MZ_CODE('F', 1)            /* the file of a log is damaged */
+#define MZ_NO_LOG MZ_CODE('F', 2)             /* the file is no log's */
+#define MZ_OTHER_PROCEDURES MZ_CODE('F', 3)   /* the log of other procedures, or of another number of data components */
+#define MZ_NO_BASE MZ_CODE('F', 4)            /* a log's file has no whole base */
+#define MZ_NO_BATCH MZ_CODE('F', 5)           /* a frame of a log's file is no batch */
+#define MZ_FRAMES_SPENT MZ_CODE('F', 6)       /* a log's file has 2^64 - 1 frames */
+#define MZ_HAS_RECORDS MZ_CODE('F', 7)        /* a log's file begins with records, which no engine's does */
+#define MZ_LOG_FAILED MZ_CODE('F', 8)         /* mazzulpe_log.h: the file can't be read, written or synced */
+#define MZ_LOG_IN_USE MZ_CODE('F', 9)         /* mazzulpe_log.h: another has opened it */
+#define MZ_NO_SESSION MZ_CODE('F', 10)        /* mazzulpe_log.h: FILE.session isn't there */
 #define MZ_NAME_TAKEN MZ_CODE('P', 1)
 #define MZ_DC_UNKNOWN MZ_CODE('P', 2)         /* an access slot names a data component that isn't there */
 /* 'E' 1 to 7: the bytes are no code; 'S' 1 to 3: the access slots are no declaration; 'V' 1 to 14: the
@@ -146,6 +156,7 @@ typedef struct {
     mz_op op;
     mz_record record;
     uint8_t value[MZ_VALUE]; /* of an insert or an update; zeros else */
+    uint64_t session;        /* whose number it is, of the transaction components over the same storage (mz_session) */
 } mz_wire;
 
 typedef enum {
@@ -224,7 +235,8 @@ enum {
     MZ_CALL_PERFORM = 40, MZ_CALL_RESTART, MZ_CALL_GET, MZ_CALL_ROWS, MZ_CALL_ROW, MZ_CALL_MARK,
     MZ_CALL_CHECKPOINT, MZ_CALL_INCARNATION, MZ_CALL_HEAR_MARK, MZ_CALL_FORGET,
     MZ_CALL_VERIFY = 50, MZ_CALL_RUN, MZ_CALL_RESUME,
-    MZ_CALL_WAITING_FROM = 60, MZ_CALL_REDO_BEHIND, MZ_CALL_RESULT
+    MZ_CALL_WAITING_FROM = 60, MZ_CALL_REDO_BEHIND, MZ_CALL_RESULT,
+    MZ_CALL_FILE_AHEAD, MZ_CALL_FILE_BYTES, MZ_CALL_FILE_BACK
 };
 
 /* What a handle points to; behind it comes the library's part, which begins with the frame. */
@@ -234,7 +246,7 @@ typedef struct {
     uint32_t busy;       /* with MZ_DEBUG: 1 while a call is on its way */
     uint64_t object;     /* of a transaction component: the digest of the object file that MZ_MEMORY cut off */
     uint64_t of_object;  /* and how many of its procedures are loaded */
-    uint64_t spare_too;  /* so that what comes behind is aligned to 16 */
+    uint64_t session;    /* of a transaction component: which one it is */
 } mz_head;
 
 enum { MZ_KIND_TC = 0x4d5a5443, MZ_KIND_DC = 0x4d5a4443, MZ_KIND_PROGRAM = 0x4d5a5052, MZ_KIND_CLOSED = 0x4d5a0000 };
@@ -338,10 +350,11 @@ static inline void mz_put_wire(mz_frame *f, const mz_wire *w) {
     memcpy(f->value, w->value, MZ_VALUE);
 }
 
-static inline void mz_get_wire(const mz_frame *f, mz_wire *w) {
+static inline void mz_get_wire(mz_frame *f, mz_wire *w) {
     w->number = f->number;
     w->low_water = f->low_water;
     w->incarnation = f->incarnation;
+    w->session = mz_head_of(f)->session;
     w->redo = f->redo != 0;
     w->op = (mz_op)f->op;
     mz_get_record(f, &w->record);
@@ -928,6 +941,74 @@ static inline mz_code mz_recover(mz_tc *tc, const void *rows, size_t count, cons
     return mz_leave(f, c);
 }
 
+/* ---- its log as the bytes of a file */
+
+/* The file's format is the one of `procd run --log` (docs/FORMATS.md), which `procd log` reads. mazzulpe_log.h writes
+ * such a file. By these three calls an engine does it over a device of its own: before a wire is carried, and before
+ * anybody is told how a call ended, what mz_file_ahead has prepared has to be in the file for good. */
+
+/* Prepares what has to be behind the file's end: at first its beginning, and then what has happened, with what is known
+ * of data components. *count is how many bytes lie prepared; 0: nothing has to be written. Behind mz_checkpoint it is
+ * the whole content of a new file: carry nothing and tell nobody until that has taken the old one's place for good.
+ * MZ_OTHER_PROCEDURES: procedures were loaded since the file was begun; mz_checkpoint begins one for them. MZ_FRAMES_SPENT. */
+static inline mz_code mz_file_ahead(mz_tc *tc, uint64_t *count) {
+    mz_frame *f;
+    mz_code c = mz_enter(tc, MZ_KIND_TC, count != NULL, &f);
+    if (c != MZ_OK) return c;
+    c = mz_make(f, MZ_CALL_FILE_AHEAD);
+    if (c == MZ_OK) *count = f->word;
+    return mz_leave(f, c);
+}
+
+/* Hands out the next bytes of what is prepared, at most 256, once: they belong to the file, one behind the other. *count
+ * is 0 where none is left. */
+static inline mz_code mz_file_bytes(mz_tc *tc, uint8_t bytes[256], size_t *count) {
+    mz_frame *f;
+    mz_code c = mz_enter(tc, MZ_KIND_TC, bytes && count, &f);
+    if (c != MZ_OK) return c;
+    c = mz_make(f, MZ_CALL_FILE_BYTES);
+    if (c == MZ_OK) memcpy(bytes, f->bytes, *count = f->count);
+    return mz_leave(f, c);
+}
+
+/* Comes back from the bytes of a file, as mz_recover does from rows and notes: the same procedures have to be loaded, in
+ * the same order. So many of the bytes, *whole, are whole: cut off what is behind them, the end that a crash left, and
+ * write on there. 0: there is nothing to come back from, and mz_file_ahead begins a file.
+ *
+ * Refused, with *place (which may be NULL): MZ_BEGUN; MZ_DAMAGED, MZ_NO_BASE, MZ_NO_BATCH at a frame; MZ_NO_LOG;
+ * MZ_OTHER_PROCEDURES; MZ_HAS_RECORDS; MZ_NO_EVENT, MZ_LOG_ILLEGAL at an event; MZ_FORGOTTEN of a data component. */
+static inline mz_code mz_file_back(mz_tc *tc, const void *bytes, size_t count, uint64_t *whole, uint64_t *place) {
+    mz_frame *f;
+    mz_code c = mz_enter(tc, MZ_KIND_TC, (bytes || !count) && whole, &f);
+    if (c != MZ_OK) return c;
+    f->place = 0;
+    c = mz_hand_in_bytes(f, bytes, count);
+    if (c == MZ_OK) c = mz_make(f, MZ_CALL_FILE_BACK);
+    if (c == MZ_OK) *whole = f->word;
+    else if (place) *place = f->place;
+    if (c != MZ_OK) mz_make(f, MZ_CALL_CLEAR);
+    return mz_leave(f, c);
+}
+
+/* Which transaction component this is, of which log: each wire has it, since the numbers of another one begin with 1 as
+ * well. 0 until it is set; mz_log_open sets the one that is beside the file. */
+static inline uint64_t mz_session(mz_tc *tc) {
+    mz_frame *f;
+    if (mz_enter(tc, MZ_KIND_TC, 1, &f) != MZ_OK) return 0;
+    uint64_t session = mz_head_of(f)->session;
+    mz_leave(f, MZ_OK);
+    return session;
+}
+
+/* Sets it: once, before the first wire, a number that no other transaction component over the same storage has had. */
+static inline mz_code mz_set_session(mz_tc *tc, uint64_t session) {
+    mz_frame *f;
+    mz_code c = mz_enter(tc, MZ_KIND_TC, 1, &f);
+    if (c != MZ_OK) return c;
+    mz_head_of(f)->session = session;
+    return mz_leave(f, c);
+}
+
 /* ---- whole calls */
 
 /* What became of a wire that a function of yours carried. */
@@ -1284,6 +1365,16 @@ static inline const char *mz_code_text(mz_code code) {
     case MZ_ROW_LENGTH: return "RowLength";
     case MZ_NO_EVENT: return "NoEvent";
     case MZ_LOG_ILLEGAL: return "LogIllegal";
+    case MZ_DAMAGED: return "Damaged";
+    case MZ_NO_LOG: return "NoLog";
+    case MZ_OTHER_PROCEDURES: return "OtherProcedures";
+    case MZ_NO_BASE: return "NoBase";
+    case MZ_NO_BATCH: return "NoBatch";
+    case MZ_FRAMES_SPENT: return "FramesSpent";
+    case MZ_HAS_RECORDS: return "HasRecords";
+    case MZ_LOG_FAILED: return "LogFailed";
+    case MZ_LOG_IN_USE: return "LogInUse";
+    case MZ_NO_SESSION: return "NoSession";
     case MZ_NAME_TAKEN: return "NameTaken";
     case MZ_DC_UNKNOWN: return "DcUnknown";
     }

@@ -228,7 +228,7 @@ static void operate(int worker, unsigned key, mz_op op, unsigned *seed) {
     pthread_mutex_lock(&model[key].lock);
     pthread_mutex_lock(&state);
     if (last_number + 1 >= NUMBERS) ended = 1;
-    mz_wire w = {last_number + 1, 0, 0, 0, op, {0, 0, key}, {0}};
+    mz_wire w = {last_number + 1, 0, 0, 0, op, {0, 0, key}, {0}, 1};
     if (op == MZ_INSERT || op == MZ_UPDATE) memset(w.value, (int)(w.number * 7 + key), MZ_VALUE);
     if (!ended) {
         last_number = open_number[worker] = w.number;

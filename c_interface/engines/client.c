@@ -1,6 +1,6 @@
 #include "client.h"
 #include "gate.h"
-#include "kept_notes.h"
+#include "mazzulpe_log.h"
 #include "mazzulpe_object.h"
 #include "storage.h"
 
@@ -11,21 +11,23 @@ enum { DEPOSIT_HERE, DEPOSIT_THERE, MOVE, TOUCH, BALANCES, PROCEDURES };
 static const char *const names[PROCEDURES] = {"deposit_here", "deposit_there", "move", "touch", "balances"};
 
 typedef struct {
-    pthread_mutex_t lock; /* of all but what has its own */
-    pthread_mutex_t syncing;
-    uint64_t synced;      /* bytes of the log that are on the disk */
+    pthread_mutex_t lock; /* of all but the log's syncs */
     const plan *plan;
     mz_tc *tc;
     gate gate;
-    kept_log log;
-    kept_notes notes;
-    char log_path[512], notes_path[512];
+    mz_log *log;
+    char log_path[512];
     uint64_t procedures[PROCEDURES], done;
     int is_anew; /* a checkpoint is being made */
     unsigned drawn;
 } client;
 
 typedef struct { client *client; uint64_t number; } worker;
+
+static void die(const char *what, mz_code code) {
+    fprintf(stderr, "%s: %s\n", what, mz_code_text(code));
+    exit(1);
+}
 
 static uint64_t microseconds(void) {
     struct timespec t;
@@ -35,24 +37,16 @@ static uint64_t microseconds(void) {
 
 /* ---- calls, under the lock */
 
-/* What is written of the log comes to the disk, without the lock. Who waits for another's turn finds its own done by it. */
-static void sync_log(client *e) {
-    uint64_t until = (uint64_t)lseek(e->log.file, 0, SEEK_END);
-    pthread_mutex_unlock(&e->lock);
-    pthread_mutex_lock(&e->syncing);
-    if (e->synced < until) {
-        uint64_t all = (uint64_t)lseek(e->log.file, 0, SEEK_END);
-        if (fdatasync(e->log.file) || (e->log.beside >= 0 && fdatasync(e->log.beside))) die("fdatasync", MZ_OK);
-        e->synced = all;
-    }
-    pthread_mutex_unlock(&e->syncing);
-    pthread_mutex_lock(&e->lock);
-}
-
+/* What has happened is in the log's file, and on the disk, without the lock, where that is wanted. */
 static void write_ahead(client *e) {
-    log_keep(&e->log);
-    notes_keep(&e->notes);
-    if (e->plan->synced) sync_log(e);
+    uint64_t until;
+    mz_code c = mz_log_write(e->log, &until);
+    if (c == MZ_OK && e->plan->synced) {
+        pthread_mutex_unlock(&e->lock);
+        c = mz_log_sync(e->log, until);
+        pthread_mutex_lock(&e->lock);
+    }
+    if (c != MZ_OK) die("the log", c);
 }
 
 /* Lets the lock go while the wire is carried. */
@@ -146,24 +140,9 @@ static int is_kept(client *e, uint64_t mark) {
 /* Behind the closed gate. 0 where a data component is away: the log goes on as it was. */
 static int begins_anew(client *e) {
     uint64_t mark = mz_low_water(e->tc);
-    if (!is_kept(e, mark) || mz_checkpoint(e->tc, mark) != MZ_OK) return 0;
-    notes_keep(&e->notes);
-    pthread_mutex_lock(&e->syncing);
-    log_begin(&e->log);
-    pthread_mutex_unlock(&e->syncing);
-    return 1;
-}
-
-/* The log's new file takes the old one's place; admissions go on meanwhile. */
-static void swap_files(client *e) {
-    pthread_mutex_unlock(&e->lock);
-    log_sync(&e->log);
-    pthread_mutex_lock(&e->lock);
-    pthread_mutex_lock(&e->syncing);
-    log_swap(&e->log);
-    e->synced = 0;
-    pthread_mutex_unlock(&e->syncing);
-    e->plan->seen->checkpoints++;
+    mz_code c = is_kept(e, mark) ? mz_log_checkpoint(e->log, mark) : MZ_BEHIND;
+    if (c == MZ_LOG_FAILED) die("the log", c);
+    return c == MZ_OK;
 }
 
 /* By a thread with nothing open. */
@@ -171,9 +150,8 @@ static void checkpoint(client *e) {
     mz_open by;
     e->is_anew = 1;
     if (gate_close(&e->gate, e->tc, PATIENCE, &by) == MZ_OK) {
-        int begun = begins_anew(e);
+        e->plan->seen->checkpoints += (uint64_t)begins_anew(e);
         gate_open(&e->gate);
-        if (begun) swap_files(e);
     }
     e->is_anew = 0;
 }
@@ -222,12 +200,10 @@ static void open_accounts(client *e) {
 }
 
 static void come_back(client *e) {
-    size_t count = 0, place = 0;
-    uint8_t *rows = log_read(&e->log, &count);
-    notes_read(&e->notes, e->tc, e->notes_path);
-    mz_code c = mz_recover(e->tc, rows, count, e->notes.notes, DCS, &place);
-    if (c != MZ_OK) die("mz_recover", c);
-    free(rows);
+    mz_log_found found;
+    mz_code c = mz_log_open(e->tc, e->log_path, &e->log, &found);
+    if (c != MZ_OK) die(e->log_path, c);
+    if (!storage_open(e->plan->folder, mz_session(e->tc))) die(e->plan->folder, MZ_MEMORY);
     end_open(e);
     if (!e->plan->seen->opened) open_accounts(e);
 }
@@ -254,15 +230,11 @@ static void loaded(client *e, const plan *p) {
     e->drawn = (unsigned)getpid();
     e->tc = mz_tc_new(DCS, &c);
     if (!e->tc) die("mz_tc_new", c);
-    if (!storage_open(p->folder, SESSION)) die(p->folder, MZ_MEMORY);
     snprintf(e->log_path, sizeof e->log_path, "%s/log", p->folder);
-    snprintf(e->notes_path, sizeof e->notes_path, "%s/notes", p->folder);
-    log_open(&e->log, e->tc, e->log_path);
     c = mz_load_object_file(e->tc, p->object, NULL, NULL);
     for (int k = 0; c == MZ_OK && k < PROCEDURES; k++) c = mz_find(e->tc, names[k], &e->procedures[k]);
     if (c != MZ_OK) die(p->object, c);
     pthread_mutex_init(&e->lock, NULL);
-    pthread_mutex_init(&e->syncing, NULL);
     if (gate_new(&e->gate, &e->lock)) die("gate_new", MZ_OK);
 }
 

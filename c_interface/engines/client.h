@@ -1,6 +1,6 @@
 /* An engine that may be killed at any moment, over servers that may be as well (storage.h): threads move amounts between
- * accounts at two data components. Its log and what it notes of them are in files before a wire is carried and before
- * anybody is told how a call ended, and it comes back from them. Where nobody answers it waits, and gives nothing up.
+ * accounts at two data components. Its log is in a file (mazzulpe_log.h) before a wire is carried and before anybody is told
+ * how a call ended, and it comes back from that. Where nobody answers it waits, and gives nothing up.
  *
  * Thread t takes 1 from account t at data component 0 by each transfer, so what is gone there is how many it has made. */
 #ifndef CLIENT_H

@@ -5,7 +5,7 @@
 
 #include "mazzulpe.h"
 
-enum { DCS = 2, SESSION = 1 }; /* SESSION: of a client that comes back from its log, in each life */
+enum { DCS = 2, SESSION = 1 }; /* SESSION: of whoever has no log */
 
 /* ---- the way to its servers, of the client */
 

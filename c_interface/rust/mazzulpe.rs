@@ -4,6 +4,7 @@
 //!
 //! A handle is `Send` and not `Sync`: put it into a `Mutex` to share it.
 
+pub mod log;
 mod object;
 mod running;
 
@@ -81,6 +82,9 @@ mod call {
     pub const WAITING_FROM: u32 = 60;
     pub const REDO_BEHIND: u32 = 61;
     pub const RESULT: u32 = 62;
+    pub const FILE_AHEAD: u32 = 63;
+    pub const FILE_BYTES: u32 = 64;
+    pub const FILE_BACK: u32 = 65;
 }
 
 unsafe extern "C" {
@@ -140,6 +144,18 @@ pub const NOTE_COUNT: Refusal = code('R', 2);
 pub const ROW_LENGTH: Refusal = code('L', 1);
 pub const NO_EVENT: Refusal = code('L', 2);
 pub const LOG_ILLEGAL: Refusal = code('U', 1);
+/// The file of a log is damaged.
+pub const DAMAGED: Refusal = code('F', 1);
+pub const NO_LOG: Refusal = code('F', 2);
+pub const OTHER_PROCEDURES: Refusal = code('F', 3);
+pub const NO_BASE: Refusal = code('F', 4);
+pub const NO_BATCH: Refusal = code('F', 5);
+pub const FRAMES_SPENT: Refusal = code('F', 6);
+pub const HAS_RECORDS: Refusal = code('F', 7);
+/// [`log::Log`] has failed before.
+pub const LOG_FAILED: Refusal = code('F', 8);
+pub const LOG_IN_USE: Refusal = code('F', 9);
+pub const NO_SESSION: Refusal = code('F', 10);
 pub const NAME_TAKEN: Refusal = code('P', 1);
 pub const DC_UNKNOWN: Refusal = code('P', 2);
 
@@ -201,6 +217,16 @@ impl Refusal {
             ROW_LENGTH => "RowLength",
             NO_EVENT => "NoEvent",
             LOG_ILLEGAL => "LogIllegal",
+            DAMAGED => "Damaged",
+            NO_LOG => "NoLog",
+            OTHER_PROCEDURES => "OtherProcedures",
+            NO_BASE => "NoBase",
+            NO_BATCH => "NoBatch",
+            FRAMES_SPENT => "FramesSpent",
+            HAS_RECORDS => "HasRecords",
+            LOG_FAILED => "LogFailed",
+            LOG_IN_USE => "LogInUse",
+            NO_SESSION => "NoSession",
             NAME_TAKEN => "NameTaken",
             DC_UNKNOWN => "DcUnknown",
             Refusal(code) => match (code >> 8) as u8 {
@@ -256,6 +282,8 @@ pub struct Wire {
     /// It was answered before, and may be lost.
     pub redo: bool,
     pub op: Op,
+    /// Whose number it is, of the transaction components over the same storage ([`Tc::session`]).
+    pub session: u64,
 }
 
 #[derive(Clone, Copy, Debug)]
@@ -468,6 +496,7 @@ pub struct Stop {
 /// Room that the library has made a handle of.
 struct Handle {
     frame: NonNull<Frame>,
+    session: u64,
 }
 
 // SAFETY: a handle has no ties to the thread that made it, and the library proves its state `Send`.
@@ -489,7 +518,7 @@ impl Handle {
         let frame = NonNull::new(room.cast::<Frame>()).ok_or(MEMORY)?;
         // SAFETY: it is room for an engine, aligned as it has to be, and nobody else's.
         unsafe { mazzulpe_open(frame.as_ptr()) };
-        let mut handle = Handle { frame };
+        let mut handle = Handle { frame, session: 0 };
         handle.frame().word = word;
         handle.frame().place = place;
         handle.call(what)?;
@@ -570,6 +599,13 @@ impl Handle {
         self.call(call::RECOVER)
     }
 
+    /// A refusal and its place; what was handed in is forgotten.
+    fn refused_at(&mut self, refusal: Refusal) -> (Refusal, u64) {
+        let place = self.frame().place;
+        self.call(call::CLEAR).expect("a call that is never refused");
+        (refusal, place)
+    }
+
     fn put_record(&mut self, record: &Record) {
         let f = self.frame();
         (f.dc, f.table, f.key) = (record.dc, record.table, record.key);
@@ -587,9 +623,9 @@ impl Handle {
     }
 
     fn wire(&mut self) -> Wire {
-        let op = self.op();
+        let (op, session) = (self.op(), self.session);
         let f = self.frame();
-        Wire { number: f.number, low_water: f.low_water, incarnation: f.incarnation, redo: f.redo != 0, op }
+        Wire { number: f.number, low_water: f.low_water, incarnation: f.incarnation, redo: f.redo != 0, op, session }
     }
 
     fn put_wire(&mut self, wire: &Wire) {
@@ -879,11 +915,41 @@ impl Tc {
     pub fn recover(&mut self, rows: &[[u8; 96]], notes: &[Note]) -> Result<(), (Refusal, u64)> {
         self.frame().place = 0;
         let recovered = self.handle.recover(rows, notes);
-        recovered.map_err(|refusal| {
-            let place = self.frame().place;
-            self.handle.call(call::CLEAR).expect("a call that is never refused");
-            (refusal, place)
-        })
+        recovered.map_err(|refusal| self.handle.refused_at(refusal))
+    }
+
+    /// Prepares what has to be behind the end of the log's file, and says how many bytes lie prepared.
+    pub fn file_ahead(&mut self) -> Result<u64, Refusal> {
+        self.handle.call(call::FILE_AHEAD)?;
+        Ok(self.frame().word)
+    }
+
+    /// Puts the next of these bytes, at most 256, behind those of `bytes`, once, and says how many.
+    pub fn file_bytes(&mut self, bytes: &mut Vec<u8>) -> Result<usize, Refusal> {
+        self.handle.call(call::FILE_BYTES)?;
+        let f = self.frame();
+        let count = f.count as usize;
+        bytes.extend_from_slice(&f.bytes[..count]);
+        Ok(count)
+    }
+
+    /// Comes back from the bytes of a log's file; so many of them are whole, and the rest is to be cut off. On a refusal also the
+    /// frame, the event or the data component.
+    pub fn file_back(&mut self, bytes: &[u8]) -> Result<u64, (Refusal, u64)> {
+        self.frame().place = 0;
+        let back = self.handle.hand_in_bytes(bytes).and_then(|()| self.handle.call(call::FILE_BACK));
+        back.map_err(|refusal| self.handle.refused_at(refusal))?;
+        Ok(self.frame().word)
+    }
+
+    /// Which transaction component this is, of those over the same storage: each wire has it. 0 until it is set.
+    pub fn session(&mut self) -> u64 {
+        self.handle.session
+    }
+
+    /// Sets it: once, before the first wire, a number that no other one has had. [`log::Log::open`] does.
+    pub fn set_session(&mut self, session: u64) {
+        self.handle.session = session;
     }
 
     /// How many events the log has.

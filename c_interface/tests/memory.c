@@ -64,11 +64,10 @@ static mz_carried carry(void *context, const mz_wire *wire, mz_reply *reply, mz_
 
 enum { OPEN = 5 };
 
-/* The log of five deposits, each with its first request open. */
-static size_t left_open(uint8_t rows[][MZ_EVENT_BYTES]) {
+/* Five deposits, each with its first request open. */
+static mz_tc *with_open(void) {
     mz_code code;
     mz_asked asked;
-    size_t count = 0;
     uint64_t txn = 0;
     mz_tc *tc = mz_tc_new(2, &code);
     SEEN(mz_load_object_file(tc, "build/bank.o", NULL, NULL) == MZ_OK);
@@ -76,6 +75,13 @@ static size_t left_open(uint8_t rows[][MZ_EVENT_BYTES]) {
         const uint64_t args[] = {i, 10};
         SEEN(mz_admit(tc, 0, args, 2, &txn, NULL, NULL) == MZ_OK && mz_ask(tc, txn, &asked) == MZ_OK);
     }
+    return tc;
+}
+
+/* Their log. */
+static size_t left_open(uint8_t rows[][MZ_EVENT_BYTES]) {
+    size_t count = 0;
+    mz_tc *tc = with_open();
     while (mz_log_bytes(tc, count, rows[count]) == MZ_OK) count++;
     mz_tc_free(tc);
     return count;
@@ -108,6 +114,51 @@ static int back_at(long n, const void *rows, size_t count) {
     return cut_off;
 }
 
+enum { FILE_BYTES = 88 + 24 + 8 + 2 * OPEN * MZ_EVENT_BYTES }; /* a header, and a frame without notes */
+
+/* The file of their log, made with each growth from the n-th on refused and then none; 0 where none was. */
+static int ahead_at(long n, uint8_t *bytes) {
+    uint64_t prepared = 0;
+    size_t count = 0, piece = 0;
+    mz_tc *tc = with_open();
+    left = n;
+    mz_code code = mz_file_ahead(tc, &prepared);
+    left = -1;
+    int cut_off = code != MZ_OK;
+    if (cut_off) SEEN(code == MZ_MEMORY && prepared == 0 && mz_file_ahead(tc, &prepared) == MZ_OK);
+    SEEN(prepared == FILE_BYTES);
+    for (left = 0; count < prepared; count += piece) SEEN(mz_file_bytes(tc, bytes + count, &piece) == MZ_OK);
+    left = -1;
+    mz_tc_free(tc);
+    return cut_off;
+}
+
+/* The way back from it, refused so. */
+static int back_from_file_at(long n, const uint8_t *bytes) {
+    mz_code code;
+    uint64_t whole = 0;
+    mz_tc *tc = mz_tc_new(2, &code);
+    SEEN(mz_load_object_file(tc, "build/bank.o", NULL, NULL) == MZ_OK);
+    left = n;
+    code = mz_file_back(tc, bytes, FILE_BYTES, &whole, NULL);
+    left = -1;
+    int cut_off = code != MZ_OK;
+    if (cut_off) SEEN(code == MZ_MEMORY && mz_log_length(tc) == 0 && mz_open_count(tc) == 0);
+    if (cut_off) SEEN(mz_file_back(tc, bytes, FILE_BYTES, &whole, NULL) == MZ_OK);
+    SEEN(whole == FILE_BYTES && mz_log_length(tc) == 2 * OPEN && mz_open_count(tc) == OPEN);
+    mz_tc_free(tc);
+    return cut_off;
+}
+
+static void files(void) {
+    static uint8_t bytes[FILE_BYTES + 256];
+    long refusals = 0;
+    while (ahead_at(refusals, bytes)) refusals++;
+    SEEN(refusals > 2);
+    for (refusals = 0; back_from_file_at(refusals, bytes);) refusals++;
+    SEEN(refusals > 10);
+}
+
 int main(void) {
     mz_code code;
     uint64_t place;
@@ -125,6 +176,7 @@ int main(void) {
     long refusals = 0;
     while (back_at(refusals, rows, count)) refusals++;
     SEEN(count == 2 * OPEN && refusals > 10);
+    files();
     printf("memory: %s\n", failures ? "NOT as it has to be" : "whole, or goes on");
     return failures != 0;
 }

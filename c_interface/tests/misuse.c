@@ -21,7 +21,7 @@ static void tc_refuses(mz_tc *tc, mz_code code) {
     mz_receipt receipt;
     mz_next stopped;
     mz_event event;
-    uint8_t bytes[MZ_EVENT_BYTES], value[MZ_VALUE];
+    uint8_t bytes[MZ_EVENT_BYTES], value[MZ_VALUE], piece[256];
     mz_open open;
     mz_lock lock;
     mz_note note = {0, 0, 0};
@@ -47,6 +47,9 @@ static void tc_refuses(mz_tc *tc, mz_code code) {
     SEEN(mz_last_number(tc) == 0);
     SEEN(mz_noted(tc, 0, &note) == code);
     SEEN(mz_recover(tc, NULL, 0, &note, 1, &number) == code);
+    SEEN(mz_file_ahead(tc, &number) == code && mz_file_bytes(tc, piece, &count) == code);
+    SEEN(mz_file_back(tc, NULL, 0, &number, NULL) == code);
+    SEEN(mz_session(tc) == 0 && mz_set_session(tc, 1) == code);
     SEEN(mz_checkpoint(tc, 0) == code);
     SEEN(mz_site(tc, 0, &number, &flag) == code);
     SEEN(mz_told(tc, 0, &news) == code);

@@ -32,7 +32,7 @@ static void marked(char *are_calls, int from, int to) {
 
 static void begins(void) {
     char tc[100] = {0}, dc[100] = {0}, program[100] = {0};
-    marked(tc, 10, 39), tc[17] = tc[18] = tc[19] = 0, marked(tc, 60, 62);
+    marked(tc, 10, 39), tc[17] = tc[18] = tc[19] = 0, marked(tc, 60, 65);
     marked(dc, 40, 49);
     marked(program, 10, 12), marked(program, 50, 52);
     void *handle = begun(MZ_CALL_START_TC, 65535, 0, MZ_OK);
@@ -224,6 +224,34 @@ static void a_tc(void) {
     mz_free(other, MZ_KIND_TC);
 }
 
+/* The bytes of a log's file: begun, handed out once, and no way back behind that. */
+static void a_file(void) {
+    void *tc = begun(MZ_CALL_START_TC, 1, 0, MZ_OK);
+    mz_frame *f = frame_of(tc);
+    memcpy(f->bytes, "0123456789abcdef", f->count = 16);
+    SAYS(MZ_OK, BYTES);
+    SAYS(MZ_NO_LOG, FILE_BACK);
+    SAYS(MZ_OK, CLEAR);
+    SAYS(MZ_OK, FILE_BACK);
+    SEEN(f->word == 0);
+    SAYS(MZ_OK, FILE_AHEAD);
+    SEEN(f->word == 88);
+    SAYS(MZ_OK, FILE_AHEAD);
+    SEEN(f->word == 88);
+    SAYS(MZ_BEGUN, FILE_BACK);
+    SAYS(MZ_OK, FILE_BYTES);
+    SEEN(f->count == 88 && mz_little(f->bytes, 8) == 0 && mz_little(f->bytes + 8, 8) == 64);
+    SAYS(MZ_OK, FILE_BYTES);
+    SEEN(f->count == 0);
+    SAYS(MZ_OK, FILE_AHEAD);
+    SEEN(f->word == 0);
+    handed_in(f);
+    f->count = 1, f->bytes[0] = 'p', f->word = 1;
+    SAYS(MZ_OK, LOAD);
+    SAYS(MZ_OTHER_PROCEDURES, FILE_AHEAD);
+    mz_free(tc, MZ_KIND_TC);
+}
+
 static void a_dc(void) {
     void *dc = begun(MZ_CALL_START_DC, 10, 10, MZ_OK);
     mz_frame *f = frame_of(dc);
@@ -286,6 +314,7 @@ static void a_program(void) {
 int main(void) {
     begins();
     a_tc();
+    a_file();
     a_dc();
     a_program();
     printf("refusals: %s\n", failures ? "NOT as they have to be" : "as the header says, and no memory is wanted");

@@ -1,0 +1,387 @@
+/* mazzulpe_log.h: the log of a transaction component in a file, for engines that have no log of their own.
+ *
+ *     mz_log_open(tc, "bank.log", &log, NULL)   behind the procedures: comes back from the file, or begins it
+ *     mz_log_write(log, &until)                 under the lock of tc: behind the calls that ask, answer and end
+ *     mz_log_sync(log, until)                   without it: before a wire is carried, and before anyone is told
+ *     mz_log_close(log)
+ *
+ * An engine that does so, and is killed anywhere, comes back to what it has carried and told. Behind mz_log_open carry
+ * on as behind mz_recover: mz_redo of each data component that is down, mz_open_from, mz_retake, mz_run.
+ *
+ * ONE SYNC SERVES ALL THREADS that wait for one. mz_log_keep does both calls, where there is one thread.
+ *
+ * THE FILE has the format of `procd run --log`: `procd log FILE` lists it (docs/FORMATS.md). Who opens it has it alone.
+ * Beside it stand FILE.session, with the number that mz_session answers, made with the log, FILE.new while the log begins
+ * anew, and FILE.dropped, with ends that a crash left and that were cut off. A file that isn't this log is refused, and
+ * left as it is.
+ *
+ * A WRITE OR A SYNC THAT FAILS is final: what the file has then isn't known. Each later call is MZ_LOG_FAILED. Tell nobody,
+ * close, and open it again in another process.
+ *
+ * A DEVICE OF YOUR OWN takes the file's place by mz_log_over. This header needs POSIX: with
+ * -std=c99 compile with -D_GNU_SOURCE too. */
+#ifndef MAZZULPE_LOG_H
+#define MAZZULPE_LOG_H
+
+#include "mazzulpe.h"
+#include <errno.h>
+#include <fcntl.h>
+#include <pthread.h>
+#include <stdio.h>
+#include <sys/file.h>
+#include <sys/stat.h>
+#include <unistd.h>
+
+#ifdef __cplusplus
+extern "C" {
+#endif
+
+/* Where a log's bytes are kept. Each function answers 0, or something else where it failed, which is final. */
+typedef struct {
+    void *context;
+    /* Puts these bytes behind the others. */
+    int (*append)(void *context, const void *bytes, size_t count);
+    /* What was put there outlives a loss of power from now on. */
+    int (*sync)(void *context);
+    /* These bytes take the place of all others, for good: a crash finds the former or these. */
+    int (*replace)(void *context, const void *bytes, size_t count);
+    /* Gives it back. It may be NULL. */
+    void (*close)(void *context);
+} mz_device;
+
+/* What mz_log_open found: the log's events, how many bytes were cut off, and the place of a refusal. */
+typedef struct { uint64_t events, dropped, place; } mz_log_found;
+
+/* ---- inside */
+
+typedef struct {
+    mz_tc *tc;
+    mz_device device;
+    uint8_t *room;             /* what is handed out at once */
+    size_t size;
+    uint64_t written, synced;  /* bytes that the device got since it was opened; so many of them stay */
+    int failed, busy;          /* busy: a thread is in the device's sync or replace */
+    pthread_mutex_t lock;      /* of synced and busy; nobody holds it for long */
+    pthread_cond_t done;       /* busy is over */
+} mz_log;
+
+static inline mz_code mz_log_failed(mz_log *log) {
+    __atomic_store_n(&log->failed, 1, __ATOMIC_SEQ_CST);
+    return MZ_LOG_FAILED;
+}
+
+/* All that is prepared, in log->room. */
+static inline mz_code mz_log_take(mz_log *log, size_t *count) {
+    uint64_t prepared = 0;
+    size_t piece = 0;
+    *count = 0;
+    mz_code c = mz_file_ahead(log->tc, &prepared);
+    if (c != MZ_OK) return c;
+    if (prepared + 256 > log->size) {
+        size_t size = (size_t)prepared * 2 + 256;
+        uint8_t *room = (uint8_t *)realloc(log->room, size);
+        if (!room) return MZ_MEMORY;
+        log->room = room;
+        log->size = size;
+    }
+    while (c == MZ_OK && *count < prepared) {
+        c = mz_file_bytes(log->tc, log->room + *count, &piece);
+        *count += piece;
+    }
+    return c;
+}
+
+/* Whether it is a file from its first frame on, which has the number 0. */
+static inline int mz_log_begins(const mz_log *log, size_t count) { return count >= 8 && !mz_little(log->room, 8); }
+
+static inline mz_code mz_log_append(mz_log *log, size_t count) {
+    if (log->device.append(log->device.context, log->room, count)) return mz_log_failed(log);
+    __atomic_store_n(&log->written, log->written + count, __ATOMIC_SEQ_CST);
+    return MZ_OK;
+}
+
+/* Behind the device's sync or replace, which failed or made so much stay: whoever waits looks again. */
+static inline mz_code mz_log_done(mz_log *log, int failed, uint64_t synced) {
+    mz_code c = failed ? mz_log_failed(log) : MZ_OK;
+    pthread_mutex_lock(&log->lock);
+    if (c == MZ_OK) log->synced = synced;
+    log->busy = 0;
+    pthread_cond_broadcast(&log->done);
+    pthread_mutex_unlock(&log->lock);
+    return c;
+}
+
+static inline mz_code mz_log_replace(mz_log *log, size_t count) {
+    pthread_mutex_lock(&log->lock);
+    while (log->busy) pthread_cond_wait(&log->done, &log->lock);
+    log->busy = 1;
+    pthread_mutex_unlock(&log->lock);
+    int failed = log->device.replace(log->device.context, log->room, count);
+    __atomic_store_n(&log->written, log->written + count, __ATOMIC_SEQ_CST);
+    return mz_log_done(log, failed, log->written);
+}
+
+/* ---- a log over a device */
+
+/* A log over a device whose bytes, none perhaps, mz_file_back has come back from, and which ends behind those that are
+ * whole. NULL where there is no memory. */
+static inline mz_log *mz_log_over(mz_tc *tc, const mz_device *device) {
+    mz_log *log = (mz_log *)calloc(1, sizeof *log);
+    if (!log) return NULL;
+    log->tc = tc;
+    log->device = *device;
+    if (!pthread_mutex_init(&log->lock, NULL) && !pthread_cond_init(&log->done, NULL)) return log;
+    free(log);
+    return NULL;
+}
+
+/* Gives it back, with the device. What was written and not synced may be lost. */
+static inline void mz_log_close(mz_log *log) {
+    if (!log) return;
+    if (log->device.close) log->device.close(log->device.context);
+    pthread_cond_destroy(&log->done);
+    pthread_mutex_destroy(&log->lock);
+    free(log->room);
+    free(log);
+}
+
+/* Writes what has happened, under the lock of the transaction component. mz_log_sync of *until makes it stay, with all
+ * that was written before. Behind mz_checkpoint a new file takes the old one's place, which takes two syncs. MZ_LOG_FAILED;
+ * MZ_MEMORY, MZ_OTHER_PROCEDURES, MZ_FRAMES_SPENT: nothing was written, and nothing that has happened may be carried or told. */
+static inline mz_code mz_log_write(mz_log *log, uint64_t *until) {
+    size_t count;
+    if (!log || !until) return MZ_BAD_ARGUMENT;
+    if (__atomic_load_n(&log->failed, __ATOMIC_SEQ_CST)) return MZ_LOG_FAILED;
+    mz_code c = mz_log_take(log, &count);
+    if (c == MZ_OK && count) c = mz_log_begins(log, count) ? mz_log_replace(log, count) : mz_log_append(log, count);
+    *until = log->written;
+    return c;
+}
+
+/* What mz_log_write has written up to there stays. Call it without the lock of the transaction component. One thread syncs at
+ * a time, what all have written by then; who waits finds its own done by that, or does the next. MZ_LOG_FAILED. */
+static inline mz_code mz_log_sync(mz_log *log, uint64_t until) {
+    int is_ours = 0, failed = 0;
+    if (!log) return MZ_BAD_ARGUMENT;
+    pthread_mutex_lock(&log->lock);
+    while (!(failed = __atomic_load_n(&log->failed, __ATOMIC_SEQ_CST)) && log->synced < until && log->busy)
+        pthread_cond_wait(&log->done, &log->lock);
+    if (!failed && log->synced < until) is_ours = log->busy = 1;
+    pthread_mutex_unlock(&log->lock);
+    if (!is_ours) return failed ? MZ_LOG_FAILED : MZ_OK;
+    uint64_t all = __atomic_load_n(&log->written, __ATOMIC_SEQ_CST);
+    return mz_log_done(log, log->device.sync(log->device.context), all);
+}
+
+/* Writes what has happened and makes it stay. */
+static inline mz_code mz_log_keep(mz_log *log) {
+    uint64_t until;
+    mz_code c = mz_log_write(log, &until);
+    return c == MZ_OK ? mz_log_sync(log, until) : c;
+}
+
+/* mz_checkpoint, and the file begins anew: under the lock, with nothing open, where storage has kept this mark for good.
+ * Refused as mz_checkpoint and mz_log_write; where the latter is, the next mz_log_write does the rest. */
+static inline mz_code mz_log_checkpoint(mz_log *log, uint64_t kept) {
+    uint64_t until;
+    if (!log) return MZ_BAD_ARGUMENT;
+    if (__atomic_load_n(&log->failed, __ATOMIC_SEQ_CST)) return MZ_LOG_FAILED;
+    mz_code c = mz_checkpoint(log->tc, kept);
+    return c == MZ_OK ? mz_log_write(log, &until) : c;
+}
+
+/* ---- inside: a file of the system as a device */
+
+typedef struct { int file; char *path, *beside; } mz_log_file;
+
+static inline void mz_log_path(mz_log_file *f, const char *ending) {
+    sprintf(f->beside, "%s%s", f->path, ending);
+}
+
+static inline int mz_log_put(int file, const void *bytes, size_t count) {
+    const char *at = (const char *)bytes;
+    while (count) {
+        ssize_t n = write(file, at, count);
+        if (n < 0 && errno == EINTR) continue;
+        if (n <= 0) return -1;
+        at += n;
+        count -= (size_t)n;
+    }
+    return 0;
+}
+
+static inline int mz_log_file_append(void *context, const void *bytes, size_t count) {
+    return mz_log_put(((mz_log_file *)context)->file, bytes, count);
+}
+
+static inline int mz_log_file_sync(void *context) { return fdatasync(((mz_log_file *)context)->file); }
+
+/* What is new in the file's folder stays. */
+static inline int mz_log_folder_sync(mz_log_file *f) {
+    mz_log_path(f, "");
+    char *end = strrchr(f->beside, '/');
+    if (end) end[end == f->beside] = 0;
+    int folder = open(end ? f->beside : ".", O_RDONLY | O_DIRECTORY | O_CLOEXEC);
+    int failed = folder < 0 || fsync(folder);
+    if (folder >= 0) close(folder);
+    return failed;
+}
+
+/* A file with these bytes, for good: FILE.new, which is renamed to FILE with this ending. -1, or the file, at its end. */
+static inline int mz_log_renamed(mz_log_file *f, const char *ending, const void *bytes, size_t count) {
+    mz_log_path(f, ".new");
+    int file = open(f->beside, O_RDWR | O_CREAT | O_TRUNC | O_APPEND | O_CLOEXEC, 0644);
+    if (file < 0) return -1;
+    size_t length = strlen(f->path) + strlen(ending) + 1;
+    char *to = (char *)malloc(length);
+    int done = to && snprintf(to, length, "%s%s", f->path, ending) >= 0 && !flock(file, LOCK_EX | LOCK_NB) &&
+               !mz_log_put(file, bytes, count) && !fsync(file) && !rename(f->beside, to) && !mz_log_folder_sync(f);
+    free(to);
+    if (done) return file;
+    close(file);
+    return -1;
+}
+
+static inline int mz_log_file_replace(void *context, const void *bytes, size_t count) {
+    mz_log_file *f = (mz_log_file *)context;
+    int file = mz_log_renamed(f, "", bytes, count);
+    if (file < 0) return -1;
+    close(f->file);
+    f->file = file;
+    return 0;
+}
+
+static inline void mz_log_file_close(void *context) {
+    mz_log_file *f = (mz_log_file *)context;
+    if (f->file >= 0) close(f->file);
+    free(f->path);
+    free(f->beside);
+    free(f);
+}
+
+/* Whether the open file is the plain file at the path, and nobody else's: one that it was renamed away from isn't. */
+static inline mz_code mz_log_file_own(const mz_log_file *f) {
+    struct stat is, there;
+    if (fstat(f->file, &is)) return MZ_LOG_FAILED;
+    if (!S_ISREG(is.st_mode)) return MZ_NO_LOG;
+    if (flock(f->file, LOCK_EX | LOCK_NB)) return errno == EWOULDBLOCK ? MZ_LOG_IN_USE : MZ_LOG_FAILED;
+    if (stat(f->path, &there)) return MZ_LOG_FAILED;
+    return is.st_ino == there.st_ino && is.st_dev == there.st_dev ? MZ_OK : MZ_LOG_IN_USE;
+}
+
+/* A file that nobody else has; MZ_MEMORY, MZ_LOG_IN_USE, MZ_NO_LOG, MZ_LOG_FAILED. */
+static inline mz_code mz_log_file_open(const char *path, mz_log_file **file) {
+    mz_log_file *f = (mz_log_file *)calloc(1, sizeof *f);
+    if (!f) return MZ_MEMORY;
+    f->path = strdup(path);
+    f->beside = (char *)malloc(strlen(path) + 16);
+    f->file = f->path && f->beside ? open(path, O_RDWR | O_CREAT | O_APPEND | O_CLOEXEC | O_NONBLOCK, 0644) : -1;
+    mz_code c = !f->path || !f->beside ? MZ_MEMORY : f->file < 0 ? MZ_LOG_FAILED : MZ_OK;
+    if (c == MZ_OK) c = mz_log_file_own(f);
+    if (c == MZ_OK) *file = f;
+    else mz_log_file_close(f);
+    return c;
+}
+
+/* All bytes of a file. MZ_MEMORY, MZ_LOG_FAILED. */
+static inline mz_code mz_log_read(int file, uint8_t **bytes, size_t *count) {
+    off_t length = lseek(file, 0, SEEK_END);
+    if (length < 0) return MZ_LOG_FAILED;
+    *bytes = (uint8_t *)malloc((size_t)length + 1);
+    if (!*bytes) return MZ_MEMORY;
+    for (*count = 0; *count < (size_t)length;) {
+        ssize_t n = pread(file, *bytes + *count, (size_t)length - *count, (off_t)*count);
+        if (n < 0 && errno == EINTR) continue;
+        if (n <= 0) return MZ_LOG_FAILED;
+        *count += (size_t)n;
+    }
+    return MZ_OK;
+}
+
+/* The number in FILE.session: 16 hexadecimal digits and a line's end. */
+static inline mz_code mz_log_session(mz_log_file *f, uint64_t *session) {
+    char text[18] = "", *end = text;
+    mz_log_path(f, ".session");
+    int file = open(f->beside, O_RDONLY | O_CLOEXEC);
+    if (file < 0) return errno == ENOENT ? MZ_NO_SESSION : MZ_LOG_FAILED;
+    ssize_t n = read(file, text, 17);
+    close(file);
+    if (n == 17) *session = strtoull(text, &end, 16);
+    return n == 17 && end == text + 16 && *end == '\n' && *session ? MZ_OK : MZ_NO_SESSION;
+}
+
+/* A number that nobody had, into FILE.session. */
+static inline mz_code mz_log_new_session(mz_log_file *f, uint64_t *session) {
+    char text[18];
+    int from = open("/dev/urandom", O_RDONLY | O_CLOEXEC);
+    if (from < 0) return MZ_LOG_FAILED;
+    ssize_t n = read(from, session, sizeof *session);
+    close(from);
+    if (n != (ssize_t)sizeof *session) return MZ_LOG_FAILED;
+    *session |= 1;
+    snprintf(text, sizeof text, "%016llx\n", (unsigned long long)*session);
+    int file = mz_log_renamed(f, ".session", text, 17);
+    if (file < 0) return MZ_LOG_FAILED;
+    close(file);
+    return MZ_OK;
+}
+
+/* Cuts the file behind its whole frames; what is cut off is put behind FILE.dropped first. */
+static inline mz_code mz_log_cut(mz_log_file *f, const uint8_t *bytes, size_t count, size_t whole) {
+    if (whole == count) return MZ_OK;
+    mz_log_path(f, ".dropped");
+    int file = open(f->beside, O_WRONLY | O_CREAT | O_APPEND | O_CLOEXEC, 0644);
+    int done = file >= 0 && !mz_log_put(file, bytes + whole, count - whole) && !fsync(file) && !mz_log_folder_sync(f);
+    if (file >= 0) close(file);
+    return done && !ftruncate(f->file, (off_t)whole) && !fsync(f->file) ? MZ_OK : MZ_LOG_FAILED;
+}
+
+/* Comes back from what the file has, and says so; a log without its session is refused before anything is done. */
+static inline mz_code mz_log_come_back(mz_log_file *f, mz_tc *tc, mz_log_found *found) {
+    enum { FIRST_FRAME = 88 };
+    uint8_t *bytes = NULL;
+    uint64_t whole = 0, session = 0;
+    size_t count = 0;
+    mz_code c = mz_log_read(f->file, &bytes, &count), named = mz_log_session(f, &session);
+    if (c == MZ_OK && count >= FIRST_FRAME) c = named;
+    if (c == MZ_OK) c = mz_file_back(tc, bytes, count, &whole, &found->place);
+    if (c == MZ_OK) c = mz_log_cut(f, bytes, count, (size_t)whole);
+    found->dropped = c == MZ_OK ? count - whole : 0;
+    found->events = c == MZ_OK ? mz_log_length(tc) : 0;
+    if (c == MZ_OK && !whole) c = mz_log_new_session(f, &session);
+    free(bytes);
+    return c == MZ_OK ? mz_set_session(tc, session) : c;
+}
+
+/* ---- a log in a file */
+
+/* Opens the log of a transaction component in which nothing has happened, behind its procedures: comes back from the
+ * file, as mz_file_back does, or begins it where it is empty or not there. *found, which may be NULL, says what was there.
+ * Refused: as mz_file_back, the file as it was; MZ_LOG_IN_USE, MZ_NO_SESSION; MZ_NO_LOG: also where it is no plain
+ * file; MZ_LOG_FAILED, and MZ_MEMORY: tc may have come back, so begin with another. */
+static inline mz_code mz_log_open(mz_tc *tc, const char *path, mz_log **log, mz_log_found *found) {
+    mz_log_found was = {0, 0, 0};
+    mz_log_file *f = NULL;
+    if (!tc || !path || !log) return MZ_BAD_ARGUMENT;
+    *log = NULL;
+    mz_code c = mz_log_file_open(path, &f);
+    if (c != MZ_OK) return c;
+    const mz_device device = {f, mz_log_file_append, mz_log_file_sync, mz_log_file_replace, mz_log_file_close};
+    c = mz_log_come_back(f, tc, &was);
+    if (found) *found = was;
+    if (c == MZ_OK && !(*log = mz_log_over(tc, &device))) c = MZ_MEMORY;
+    if (c != MZ_OK) {
+        mz_log_file_close(f);
+        return c;
+    }
+    c = mz_log_keep(*log);
+    if (c == MZ_OK) return c;
+    mz_log_close(*log);
+    *log = NULL;
+    return c;
+}
+
+#ifdef __cplusplus
+}
+#endif
+#endif

@@ -1,0 +1,183 @@
+//! A bank with a log in a file: four threads put money in, it dies in the middle of a call, and the next life comes back from
+//! the file, torn as it is, over the storage that outlived it. It says what it saw.
+#[allow(dead_code)]
+mod mazzulpe;
+
+use mazzulpe::log::{Device, Log, LogError};
+use mazzulpe::{Carried, Dc, LOG_FAILED, LOG_IN_USE, NO_SESSION, Next, Outcome, Ran, Refusal, Tc, Wire};
+use std::fs;
+use std::io;
+use std::path::Path;
+use std::sync::Mutex;
+use std::sync::atomic::{AtomicU64, Ordering::Relaxed};
+
+const THREADS: u64 = 4;
+const EACH: u64 = 50;
+
+type Failed = Box<dyn std::error::Error>;
+
+impl std::fmt::Display for LogError {
+    fn fmt(&self, f: &mut std::fmt::Formatter<'_>) -> std::fmt::Result {
+        write!(f, "{self:?}")
+    }
+}
+
+impl std::error::Error for LogError {}
+
+fn told(refusal: Refusal) -> Failed {
+    format!("{refusal:?}").into()
+}
+
+fn started() -> Result<Tc, Failed> {
+    let mut tc = Tc::new(2).map_err(told)?;
+    tc.load_object(&fs::read("build/bank.o")?).map_err(|it| format!("{it:?}"))?;
+    Ok(tc)
+}
+
+/// Storage that outlives the transaction component, and what it was sent.
+struct Storage {
+    dcs: [Mutex<Dc>; 2],
+    sessions: Mutex<Vec<u64>>,
+}
+
+impl Storage {
+    fn carry(&self, wire: &Wire) -> Carried {
+        let mut sessions = self.sessions.lock().unwrap();
+        if !sessions.contains(&wire.session) {
+            sessions.push(wire.session);
+        }
+        let mut dc = self.dcs[usize::from(wire.op.record().dc)].lock().unwrap();
+        dc.perform(wire).map_or(Carried::Lost, Carried::Replied)
+    }
+}
+
+/// A deposit to its end: what is to be written ahead is synced without the lock.
+fn deposit<D: Device>(tc: &Mutex<Tc>, log: &Log<D>, storage: &Storage, account: u64) -> Result<Outcome, Failed> {
+    let txn = {
+        let mut tc = tc.lock().unwrap();
+        let procedure = tc.find("deposit_here").map_err(told)?;
+        tc.admit(procedure, &[account, 1]).map_err(|it| format!("{it:?}"))?
+    };
+    loop {
+        let (next, until) = {
+            let mut tc = tc.lock().unwrap();
+            let next = tc.ask(txn).map_err(told)?;
+            (next, log.write(&mut tc)?)
+        };
+        log.sync(until)?;
+        match next {
+            Next::Request(wire) => {
+                let Carried::Replied(reply) = storage.carry(&wire) else { return Err("nobody answers".into()) };
+                tc.lock().unwrap().answer(txn, &reply).map_err(told)?;
+            }
+            _ => break,
+        }
+    }
+    let (receipt, until) = {
+        let mut tc = tc.lock().unwrap();
+        (tc.end(txn).map_err(told)?, log.write(&mut tc)?)
+    };
+    log.sync(until)?;
+    Ok(receipt.outcome)
+}
+
+fn lives(path: &Path, storage: &Storage) -> Result<(), Failed> {
+    let mut tc = started()?;
+    let (log, found) = Log::open(&mut tc, path)?;
+    println!("begun: {found:?}");
+    let tc = Mutex::new(tc);
+    let committed = AtomicU64::new(0);
+    std::thread::scope(|scope| {
+        for account in 0..THREADS {
+            let (tc, log, committed) = (&tc, &log, &committed);
+            scope.spawn(move || {
+                for _ in 0..EACH {
+                    let outcome = deposit(tc, log, storage, account).unwrap();
+                    committed.fetch_add(u64::from(matches!(outcome, Outcome::Committed)), Relaxed);
+                }
+            });
+        }
+    });
+    println!("{} committed", committed.load(Relaxed));
+    // A wire is carried, and nobody takes the reply.
+    let mut tc = tc.lock().unwrap();
+    let procedure = tc.find("deposit_here").map_err(told)?;
+    let txn = tc.admit(procedure, &[0, 1]).map_err(|it| format!("{it:?}"))?;
+    let Next::Request(wire) = tc.ask(txn).map_err(told)? else { return Err("nothing is asked".into()) };
+    log.keep(&mut tc)?;
+    storage.carry(&wire);
+    Ok(())
+}
+
+/// A frame has its number, its length and a checksum, 8 bytes each, and then so many bytes. How many there are.
+fn frames(mut bytes: &[u8]) -> u64 {
+    let mut count = 0;
+    while let Some(length) = bytes.get(8..16) {
+        let length = u64::from_le_bytes(length.try_into().expect("8 bytes"));
+        bytes = &bytes[24 + length as usize..];
+        count += 1;
+    }
+    count
+}
+
+fn comes_back(path: &Path, storage: &Storage) -> Result<(), Failed> {
+    let mut bytes = fs::read(path)?;
+    let torn = frames(&bytes).to_le_bytes();
+    bytes.extend_from_slice(&torn);
+    fs::write(path, &bytes)?;
+    let mut tc = started()?;
+    let (log, found) = Log::open(&mut tc, path)?;
+    println!("back: {found:?}, {} open", tc.open_count());
+    let open = tc.open_from(0).map_err(told)?;
+    tc.retake(open.txn).map_err(told)?;
+    let ran = tc.run(open.txn, 3, |wire| storage.carry(wire)).map_err(told)?;
+    log.keep(&mut tc)?;
+    println!("{}", if matches!(ran, Ran::Over(_)) { "the open one ended" } else { "the open one is open" });
+    println!("sessions: {}", storage.sessions.lock().unwrap().len());
+    let low_water = tc.low_water();
+    log.checkpoint(&mut tc, low_water)?;
+    let other = Log::open(&mut started()?, path).map(|_| ());
+    println!("opened twice: {}", matches!(other, Err(LogError::Refused(LOG_IN_USE, 0))));
+    drop(log);
+    fs::remove_file(path.with_extension("log.session"))?;
+    let other = Log::open(&mut started()?, path).map(|_| ());
+    println!("without its session: {}", matches!(other, Err(LogError::Refused(NO_SESSION, 0))));
+    Ok(())
+}
+
+/// A device whose sync fails.
+struct Failing;
+
+impl Device for Failing {
+    fn append(&self, _bytes: &[u8]) -> io::Result<()> {
+        Ok(())
+    }
+
+    fn sync(&self) -> io::Result<()> {
+        Err(io::Error::other("no disk"))
+    }
+
+    fn replace(&self, _bytes: &[u8]) -> io::Result<()> {
+        Ok(())
+    }
+}
+
+fn fails(storage: &Storage) -> Result<(), Failed> {
+    let (tc, log) = (Mutex::new(started()?), Log::over(Failing));
+    log.keep(&mut tc.lock().unwrap())?;
+    let first = deposit(&tc, &log, storage, 9).is_err();
+    let again = log.keep(&mut tc.lock().unwrap());
+    println!("a sync that fails: {first}, {}", matches!(again, Err(LogError::Refused(LOG_FAILED, 0))));
+    Ok(())
+}
+
+fn main() -> Result<(), Failed> {
+    let folder = std::env::temp_dir().join(format!("mazzulpe-rust-{}", std::process::id()));
+    fs::create_dir(&folder)?;
+    let path = folder.join("bank.log");
+    let dc = || Dc::new(100, 10000).map(Mutex::new).map_err(told);
+    let storage = Storage { dcs: [dc()?, dc()?], sessions: Mutex::new(Vec::new()) };
+    let seen = lives(&path, &storage).and_then(|()| comes_back(&path, &storage)).and_then(|()| fails(&storage));
+    fs::remove_dir_all(&folder)?;
+    seen
+}

@@ -1,0 +1,295 @@
+//! The log of a transaction component in a file, as `mazzulpe_log.h` documents it, in the format of `procd run --log`.
+//!
+//! ```text
+//! let (log, found) = Log::open(&mut tc, Path::new("bank.log"))?; // behind the procedures
+//! let until = log.write(&mut tc)?;  // under the lock of tc: behind the calls that ask, answer and end
+//! log.sync(until)?;                 // without it: before a wire is carried, and before anyone is told
+//! ```
+
+use super::{LOG_FAILED, LOG_IN_USE, MEMORY, NO_LOG, NO_SESSION, Refusal, Tc};
+use std::ffi::OsString;
+use std::fs::{File, OpenOptions, TryLockError, rename};
+use std::io::{self, Read, Write};
+use std::os::unix::fs::MetadataExt;
+use std::path::{Path, PathBuf};
+use std::sync::atomic::{AtomicBool, AtomicU64, Ordering::SeqCst};
+use std::sync::{Arc, Condvar, Mutex, MutexGuard};
+
+/// So many bytes a log's first frame has at least.
+const FIRST_FRAME: usize = 88;
+
+/// Where a log's bytes are kept. What fails once is final.
+pub trait Device {
+    /// Puts these bytes behind the others.
+    fn append(&self, bytes: &[u8]) -> io::Result<()>;
+    /// What was put there outlives a loss of power from now on.
+    fn sync(&self) -> io::Result<()>;
+    /// These bytes take the place of all others, for good: a crash finds the former or these.
+    fn replace(&self, bytes: &[u8]) -> io::Result<()>;
+}
+
+#[derive(Debug)]
+pub enum LogError {
+    /// Not done, at this frame, event or data component.
+    Refused(Refusal, u64),
+    /// The file can't be read, written or synced.
+    Failed(io::Error),
+}
+
+impl From<Refusal> for LogError {
+    fn from(refusal: Refusal) -> LogError {
+        LogError::Refused(refusal, 0)
+    }
+}
+
+impl From<io::Error> for LogError {
+    fn from(error: io::Error) -> LogError {
+        LogError::Failed(error)
+    }
+}
+
+/// What [`Log::open`] found: the log's events, and how many bytes were cut off.
+#[derive(Clone, Copy, Debug, PartialEq, Eq)]
+pub struct Found {
+    pub events: u64,
+    pub dropped: u64,
+}
+
+/// How far the device is; `busy`: a thread is in its sync or replace.
+struct Progress {
+    synced: u64,
+    busy: bool,
+}
+
+pub struct Log<D: Device = LogFile> {
+    device: D,
+    written: AtomicU64,
+    failed: AtomicBool,
+    progress: Mutex<Progress>,
+    done: Condvar,
+}
+
+/// The bytes that are prepared.
+fn prepared(tc: &mut Tc) -> Result<Vec<u8>, Refusal> {
+    let count = tc.file_ahead()? as usize;
+    let mut bytes = Vec::new();
+    bytes.try_reserve(count + 256).map_err(|_| MEMORY)?;
+    while bytes.len() < count {
+        tc.file_bytes(&mut bytes)?;
+    }
+    Ok(bytes)
+}
+
+impl<D: Device> Log<D> {
+    /// Over a device whose bytes [`Tc::file_back`] has come back from, and which ends behind those that are whole.
+    pub fn over(device: D) -> Log<D> {
+        Log {
+            device,
+            written: AtomicU64::new(0),
+            failed: AtomicBool::new(false),
+            progress: Mutex::new(Progress { synced: 0, busy: false }),
+            done: Condvar::new(),
+        }
+    }
+
+    fn locked(&self) -> MutexGuard<'_, Progress> {
+        self.progress.lock().expect("nobody panics under it")
+    }
+
+    fn is_whole(&self) -> Result<(), Refusal> {
+        if self.failed.load(SeqCst) { Err(LOG_FAILED) } else { Ok(()) }
+    }
+
+    /// What the device answered, kept in mind where it failed.
+    fn seen(&self, answered: io::Result<()>) -> Result<(), LogError> {
+        if answered.is_err() {
+            self.failed.store(true, SeqCst);
+        }
+        Ok(answered?)
+    }
+
+    /// Behind the device's sync or replace: whoever waits looks again.
+    fn ended(&self, answered: io::Result<()>, synced: u64) -> Result<(), LogError> {
+        let seen = self.seen(answered);
+        let mut progress = self.locked();
+        if seen.is_ok() {
+            progress.synced = synced;
+        }
+        progress.busy = false;
+        self.done.notify_all();
+        seen
+    }
+
+    fn replace(&self, bytes: &[u8], written: u64) -> Result<(), LogError> {
+        let mut progress = self.done.wait_while(self.locked(), |it| it.busy).expect("nobody panics under it");
+        progress.busy = true;
+        drop(progress);
+        self.ended(self.device.replace(bytes), written)
+    }
+
+    /// Writes what has happened, under the lock of the transaction component; [`Log::sync`] of the number makes it stay. Behind a
+    /// checkpoint a new file takes the old one's place.
+    pub fn write(&self, tc: &mut Tc) -> Result<u64, LogError> {
+        self.is_whole()?;
+        let bytes = prepared(tc)?;
+        let written = self.written.load(SeqCst) + bytes.len() as u64;
+        if bytes.starts_with(&[0; 8]) {
+            self.replace(&bytes, written)?;
+        } else if !bytes.is_empty() {
+            self.seen(self.device.append(&bytes))?;
+        }
+        self.written.store(written, SeqCst);
+        Ok(written)
+    }
+
+    /// What was written up to there stays. One thread syncs at a time, what all have written by then; who waits finds its own
+    /// done by that, or does the next.
+    pub fn sync(&self, until: u64) -> Result<(), LogError> {
+        let wait = |it: &mut Progress| it.busy && it.synced < until && !self.failed.load(SeqCst);
+        let mut progress = self.done.wait_while(self.locked(), wait).expect("nobody panics under it");
+        self.is_whole()?;
+        if progress.synced >= until {
+            return Ok(());
+        }
+        progress.busy = true;
+        drop(progress);
+        let all = self.written.load(SeqCst);
+        self.ended(self.device.sync(), all)
+    }
+
+    /// Writes what has happened and makes it stay.
+    pub fn keep(&self, tc: &mut Tc) -> Result<(), LogError> {
+        let until = self.write(tc)?;
+        self.sync(until)
+    }
+
+    /// [`Tc::checkpoint`], and the file begins anew.
+    pub fn checkpoint(&self, tc: &mut Tc, kept: u64) -> Result<(), LogError> {
+        self.is_whole()?;
+        tc.checkpoint(kept)?;
+        self.write(tc).map(|_| ())
+    }
+}
+
+/// A file that nobody else has.
+pub struct LogFile {
+    path: PathBuf,
+    file: Mutex<Arc<File>>,
+}
+
+fn beside(path: &Path, ending: &str) -> PathBuf {
+    let mut name = OsString::from(path);
+    name.push(ending);
+    PathBuf::from(name)
+}
+
+fn sync_folder(path: &Path) -> io::Result<()> {
+    let folder = path.parent().filter(|it| !it.as_os_str().is_empty()).unwrap_or(Path::new("."));
+    File::open(folder)?.sync_all()
+}
+
+fn locked(file: &File) -> Result<(), LogError> {
+    match file.try_lock() {
+        Ok(()) => Ok(()),
+        Err(TryLockError::WouldBlock) => Err(LOG_IN_USE.into()),
+        Err(TryLockError::Error(error)) => Err(error.into()),
+    }
+}
+
+/// A file with these bytes, for good: PATH.new, which is renamed to `to`.
+fn renamed(path: &Path, to: &Path, bytes: &[u8]) -> io::Result<File> {
+    let new = beside(path, ".new");
+    let mut file = OpenOptions::new().read(true).write(true).create(true).truncate(true).open(&new)?;
+    file.try_lock()?;
+    file.write_all(bytes)?;
+    file.sync_all()?;
+    rename(&new, to)?;
+    sync_folder(to)?;
+    Ok(file)
+}
+
+/// The number in PATH.session, if it is there.
+fn session_of(path: &Path) -> Option<u64> {
+    let text = std::fs::read_to_string(beside(path, ".session")).ok()?;
+    let digits = text.strip_suffix('\n').filter(|it| it.len() == 16)?;
+    u64::from_str_radix(digits, 16).ok().filter(|&it| it != 0)
+}
+
+/// A number that nobody had, into PATH.session.
+fn new_session(path: &Path) -> io::Result<u64> {
+    let mut bytes = [0; 8];
+    File::open("/dev/urandom")?.read_exact(&mut bytes)?;
+    let session = u64::from_le_bytes(bytes) | 1;
+    renamed(path, &beside(path, ".session"), format!("{session:016x}\n").as_bytes())?;
+    Ok(session)
+}
+
+/// Cuts the file behind its whole frames; what is cut off is put behind PATH.dropped first.
+fn cut(path: &Path, file: &File, bytes: &[u8], whole: usize) -> io::Result<()> {
+    if whole == bytes.len() {
+        return Ok(());
+    }
+    let mut dropped = OpenOptions::new().append(true).create(true).open(beside(path, ".dropped"))?;
+    dropped.write_all(&bytes[whole..])?;
+    dropped.sync_all()?;
+    sync_folder(path)?;
+    file.set_len(whole as u64)?;
+    file.sync_all()
+}
+
+impl LogFile {
+    fn open(path: &Path) -> Result<File, LogError> {
+        // (a FIFO, a folder or a device isn't opened)
+        if std::fs::metadata(path).is_ok_and(|it| !it.is_file()) {
+            return Err(NO_LOG.into());
+        }
+        let file = OpenOptions::new().read(true).append(true).create(true).open(path)?;
+        locked(&file)?;
+        let (is, there) = (file.metadata()?, std::fs::metadata(path)?);
+        if (is.dev(), is.ino()) == (there.dev(), there.ino()) { Ok(file) } else { Err(LOG_IN_USE.into()) }
+    }
+
+    fn file(&self) -> Arc<File> {
+        Arc::clone(&self.file.lock().expect("nobody panics under it"))
+    }
+}
+
+impl Device for LogFile {
+    fn append(&self, bytes: &[u8]) -> io::Result<()> {
+        (&*self.file()).write_all(bytes)
+    }
+
+    fn sync(&self) -> io::Result<()> {
+        self.file().sync_data()
+    }
+
+    fn replace(&self, bytes: &[u8]) -> io::Result<()> {
+        let file = renamed(&self.path, &self.path, bytes)?;
+        *self.file.lock().expect("nobody panics under it") = Arc::new(file);
+        Ok(())
+    }
+}
+
+impl Log<LogFile> {
+    /// Opens the log of a transaction component in which nothing has happened, behind its procedures: comes back from the
+    /// file, or begins it where it is empty or not there. A file that is refused stays as it was.
+    pub fn open(tc: &mut Tc, path: &Path) -> Result<(Log, Found), LogError> {
+        let file = LogFile::open(path)?;
+        let mut bytes = Vec::new();
+        (&file).read_to_end(&mut bytes)?;
+        let session = session_of(path);
+        if session.is_none() && bytes.len() >= FIRST_FRAME {
+            return Err(NO_SESSION.into());
+        }
+        let whole = tc.file_back(&bytes).map_err(|(refusal, place)| LogError::Refused(refusal, place))? as usize;
+        cut(path, &file, &bytes, whole)?;
+        tc.set_session(match session.filter(|_| whole > 0) {
+            Some(session) => session,
+            None => new_session(path)?,
+        });
+        let found = Found { events: tc.log_length(), dropped: (bytes.len() - whole) as u64 };
+        let log = Log::over(LogFile { path: path.to_path_buf(), file: Mutex::new(Arc::new(file)) });
+        log.keep(tc)?;
+        Ok((log, found))
+    }
+}

@@ -1,0 +1,325 @@
+/* A bank over mazzulpe_log.h. Its file is cut at one length in STEP (97) and changed in one byte in STEP, and opened again:
+ * what was synced is there, or the file is refused and left as it was. It begins anew in the midst. Then what can't be
+ * opened, devices that fail, and threads that share syncs.
+ *
+ *     test_log [STEP] */
+#define _GNU_SOURCE
+#include "mazzulpe_log.h"
+#include "mazzulpe_object.h"
+#include "seen.h"
+
+enum { DCS = 2, CALLS = 12, HALF = 6, MOST_FRAMES = 200, THREADS = 8, TURNS = 50, SYNC = 4000, TRIES = 3 };
+
+/* lock: the transaction component's, where threads share it; it is let go while the log is synced. */
+typedef struct { mz_tc *tc; mz_dc *dcs[DCS]; mz_log *log; pthread_mutex_t *lock; } bank;
+
+static char folder[256], path[280], other[280];
+
+static mz_tc *started(void) {
+    mz_code c;
+    mz_tc *tc = mz_tc_new(DCS, &c);
+    if (!tc || mz_load_object_file(tc, "build/bank.o", NULL, NULL) != MZ_OK) exit(2);
+    return tc;
+}
+
+static mz_code kept(bank *b) {
+    uint64_t until;
+    mz_code c = mz_log_write(b->log, &until);
+    if (c != MZ_OK) return c;
+    if (b->lock) pthread_mutex_unlock(b->lock);
+    c = mz_log_sync(b->log, until);
+    if (b->lock) pthread_mutex_lock(b->lock);
+    return c;
+}
+
+static mz_carried carry(void *context, const mz_wire *wire, mz_reply *reply, mz_news *news) {
+    bank *b = (bank *)context;
+    const mz_wire mine = *wire;
+    (void)news;
+    SEEN(mine.session == mz_session(b->tc) && mine.session);
+    if (kept(b) != MZ_OK) return MZ_LOST;
+    return mz_dc_perform(b->dcs[mine.record.dc], &mine, reply) == MZ_OK ? MZ_REPLIED : MZ_LOST;
+}
+
+/* A call to its end, which is in the log then; 0 where the log fails. */
+static int called(bank *b, const char *name, const uint64_t *args, size_t count) {
+    uint64_t procedure = 0, txn = 0;
+    mz_receipt receipt;
+    mz_next stopped;
+    SEEN(mz_find(b->tc, name, &procedure) == MZ_OK && mz_admit(b->tc, procedure, args, count, &txn, NULL, NULL) == MZ_OK);
+    SEEN(mz_run(b->tc, txn, carry, b, TRIES, &receipt, &stopped) == MZ_OK);
+    return stopped == MZ_OVER && kept(b) == MZ_OK;
+}
+
+static int called_next(bank *b, int call) {
+    const uint64_t account = (uint64_t)(call % 3), deposit[] = {account, 100}, move[] = {account, account, 7};
+    return call < 3 ? called(b, "deposit_here", deposit, 2)
+         : call < 6 ? called(b, "deposit_there", deposit, 2) : called(b, "move", move, 3);
+}
+
+static void opened(bank *b, const char *at, mz_log_found *found) {
+    mz_code c;
+    memset(b, 0, sizeof *b);
+    b->tc = started();
+    for (int d = 0; d < DCS; d++) b->dcs[d] = mz_dc_new(100, 1000, &c);
+    SEEN(mz_log_open(b->tc, at, &b->log, found) == MZ_OK && mz_session(b->tc));
+}
+
+static void closed(bank *b) {
+    mz_log_close(b->log);
+    for (int d = 0; d < DCS; d++) mz_dc_free(b->dcs[d]);
+    mz_tc_free(b->tc);
+}
+
+/* ---- files */
+
+typedef struct { uint8_t bytes[1 << 16]; size_t count; } content;
+
+static void content_of(const char *at, content *c) {
+    FILE *file = fopen(at, "rb");
+    c->count = file ? fread(c->bytes, 1, sizeof c->bytes, file) : 0;
+    if (file) fclose(file);
+}
+
+static void written(const char *at, const void *bytes, size_t count) {
+    FILE *file = fopen(at, "wb");
+    if (!file || fwrite(bytes, 1, count, file) != count || fclose(file)) exit(2);
+}
+
+static const char *beside(const char *at, const char *ending) {
+    static char name[320];
+    snprintf(name, sizeof name, "%s%s", at, ending);
+    return name;
+}
+
+static int is_content(const char *at, const void *bytes, size_t count) {
+    static content now;
+    content_of(at, &now);
+    return now.count == count && !memcmp(now.bytes, bytes, count);
+}
+
+/* What a file of these bytes is opened as, in a new life. */
+static mz_code reopened(const void *bytes, size_t count, mz_log_found *found) {
+    mz_tc *tc = started();
+    mz_log *log;
+    written(other, bytes, count);
+    mz_code c = mz_log_open(tc, other, &log, found);
+    SEEN((c == MZ_OK) == (log != NULL));
+    if (log) mz_log_close(log);
+    mz_tc_free(tc);
+    return c;
+}
+
+/* ---- one life, with what had to stay at each moment */
+
+static struct { size_t length; uint64_t events; } synced[MOST_FRAMES];
+static size_t syncs, begun, step = 97; /* begun: so long a file has its beginning, which comes to be at once */
+
+static void lived(content *whole, int cuts) {
+    bank b;
+    mz_log_found found;
+    struct stat is;
+    opened(&b, path, &found);
+    SEEN(found.events == 0 && found.dropped == 0 && !stat(path, &is));
+    syncs = 0;
+    begun = (size_t)is.st_size;
+    for (int call = 0; call < CALLS; call++) {
+        if (cuts && call == HALF) {
+            uint64_t mark = mz_low_water(b.tc);
+            SEEN(mz_log_checkpoint(b.log, mark) == MZ_OK && mz_log_length(b.tc) == 1 && !stat(path, &is));
+            syncs = 0;
+            begun = (size_t)is.st_size;
+        }
+        SEEN(called_next(&b, call) && !stat(path, &is));
+        synced[syncs].length = (size_t)is.st_size;
+        synced[syncs++].events = mz_log_length(b.tc);
+    }
+    content_of(path, whole);
+    closed(&b);
+}
+
+/* Cut at some lengths: what is there are whole frames, all that was synced by then; what was cut off lies beside. */
+static void cut(const content *whole) {
+    static content left;
+    for (size_t length = begun; length <= whole->count; length += step) {
+        mz_log_found found;
+        size_t kept = 0;
+        unlink(beside(other, ".dropped"));
+        SEEN(reopened(whole->bytes, length, &found) == MZ_OK);
+        for (size_t k = 0; k < syncs; k++) kept = synced[k].length <= length ? (size_t)synced[k].events : kept;
+        content_of(other, &left);
+        SEEN(found.events >= kept && left.count + found.dropped == length && !memcmp(left.bytes, whole->bytes, left.count));
+        SEEN(!found.dropped || is_content(beside(other, ".dropped"), whole->bytes + left.count, (size_t)found.dropped));
+    }
+}
+
+/* A byte changed: refused and as it was, but for the last frame, which is torn then. */
+static void changed(content *whole, size_t last) {
+    for (size_t at = 0; at < whole->count; at += step) {
+        mz_log_found found;
+        whole->bytes[at] ^= 0x55;
+        mz_code c = reopened(whole->bytes, whole->count, &found);
+        SEEN(c == MZ_OK ? at >= last && found.dropped == whole->count - last : is_content(other, whole->bytes, whole->count));
+        SEEN(c == MZ_OK || c == MZ_DAMAGED || c == MZ_NO_LOG || c == MZ_OTHER_PROCEDURES);
+        whole->bytes[at] ^= 0x55;
+    }
+}
+
+/* Where the last frame begins: frames are a number, a length and a checksum of 8 bytes each, and so many bytes. */
+static size_t last_frame(const content *whole) {
+    size_t last = 0;
+    for (size_t at = 0; at < whole->count; at += 24 + (size_t)mz_little(whole->bytes + at + 8, 8)) last = at;
+    return last;
+}
+
+static void goes_on(const content *whole) {
+    bank b;
+    mz_log_found found;
+    uint64_t session;
+    written(path, whole->bytes, whole->count);
+    opened(&b, path, &found);
+    session = mz_session(b.tc);
+    SEEN(found.events == synced[syncs - 1].events && mz_open_count(b.tc) == 0);
+    for (int d = 0; d < DCS; d++) mz_dc_hear_mark(b.dcs[d], 0, mz_low_water(b.tc));
+    SEEN(called_next(&b, 0));
+    closed(&b);
+    opened(&b, path, &found);
+    SEEN(found.events == synced[syncs - 1].events + 6 && mz_session(b.tc) == session);
+    closed(&b);
+}
+
+/* ---- what can't be opened */
+
+static mz_code refused(mz_tc *tc, const char *at) {
+    mz_log *log = NULL;
+    mz_code c = mz_log_open(tc, at, &log, NULL);
+    SEEN(!log && mz_log_length(tc) == 0);
+    return c;
+}
+
+static void not_opened(const content *whole) {
+    static const char text[] = "This is a text, and no log of any transaction component; it is longer than a header's frame is.";
+    mz_code c;
+    mz_tc *tc = started(), *empty = mz_tc_new(DCS, &c);
+    mz_log *log;
+    written(other, text, sizeof text);
+    SEEN(refused(tc, other) == MZ_NO_LOG && is_content(other, text, sizeof text));
+    written(other, whole->bytes, whole->count);
+    SEEN(refused(empty, other) == MZ_OTHER_PROCEDURES);
+    unlink(beside(other, ".session"));
+    SEEN(refused(tc, other) == MZ_NO_SESSION && is_content(other, whole->bytes, whole->count));
+    SEEN(refused(NULL, path) == MZ_BAD_ARGUMENT && mz_log_open(tc, NULL, &log, NULL) == MZ_BAD_ARGUMENT);
+    SEEN(mz_log_keep(NULL) == MZ_BAD_ARGUMENT && mz_log_sync(NULL, 0) == MZ_BAD_ARGUMENT);
+    SEEN(mz_log_checkpoint(NULL, 0) == MZ_BAD_ARGUMENT);
+    mz_log_close(NULL);
+    SEEN(refused(tc, folder) == MZ_LOG_FAILED && refused(tc, "/dev/null") == MZ_NO_LOG);
+    SEEN(refused(tc, beside(folder, "/no/such/folder")) == MZ_LOG_FAILED);
+    SEEN(mz_log_open(tc, path, &log, NULL) == MZ_OK && refused(empty, path) == MZ_LOG_IN_USE);
+    mz_log_close(log);
+    mz_tc_free(tc);
+    mz_tc_free(empty);
+}
+
+/* ---- devices: of memory, that fail at their nth call, and whose syncs are counted */
+
+typedef struct { long calls, fails_at, syncs; size_t kept; long wait; } device;
+
+static int fails(device *d) { return __atomic_add_fetch(&d->calls, 1, __ATOMIC_SEQ_CST) == d->fails_at; }
+
+static int put(void *context, const void *bytes, size_t count) {
+    device *d = (device *)context;
+    (void)bytes;
+    d->kept += count;
+    return fails(d);
+}
+
+static int sync_all(void *context) {
+    device *d = (device *)context;
+    d->syncs++;
+    if (d->wait) usleep((unsigned)d->wait);
+    return fails(d);
+}
+
+static void over(bank *b, device *d) {
+    const mz_device device = {d, put, sync_all, put, NULL};
+    mz_code c;
+    memset(b, 0, sizeof *b);
+    b->tc = started();
+    for (int dc = 0; dc < DCS; dc++) b->dcs[dc] = mz_dc_new(100, 100000, &c);
+    b->log = mz_log_over(b->tc, &device);
+    if (!b->log) exit(2);
+    mz_set_session(b->tc, 1);
+}
+
+/* Behind the first failure each call is refused, and nothing more reaches the device. */
+static void device_that_fails(void) {
+    for (long at = 1, ended = 0; !ended; at++) {
+        device d = {0, at, 0, 0, 0};
+        bank b;
+        uint64_t until;
+        int call = 0;
+        over(&b, &d);
+        while (call < CALLS && called_next(&b, call)) call++;
+        ended = call == CALLS;
+        SEEN(ended ? d.calls < at : d.calls == at);
+        SEEN(ended || (mz_log_write(b.log, &until) == MZ_LOG_FAILED && mz_log_sync(b.log, 0) == MZ_LOG_FAILED));
+        SEEN(ended || (mz_log_checkpoint(b.log, 0) == MZ_LOG_FAILED && d.calls == at));
+        closed(&b);
+    }
+}
+
+/* ---- threads that share syncs: each deposit waits for three, of SYNC microseconds */
+
+typedef struct { bank *bank; uint64_t account; } worker;
+
+static void *deposits(void *context) {
+    worker *w = (worker *)context;
+    const uint64_t args[] = {w->account, 1};
+    pthread_mutex_lock(w->bank->lock);
+    for (int turn = 0; turn < TURNS; turn++) SEEN(called(w->bank, "deposit_here", args, 2));
+    pthread_mutex_unlock(w->bank->lock);
+    return NULL;
+}
+
+static void shared_syncs(void) {
+    device d = {0, 0, 0, 0, SYNC};
+    pthread_mutex_t lock = PTHREAD_MUTEX_INITIALIZER;
+    pthread_t threads[THREADS];
+    worker workers[THREADS];
+    bank b;
+    over(&b, &d);
+    b.lock = &lock;
+    for (uint64_t t = 0; t < THREADS; t++) {
+        workers[t] = (worker){&b, t};
+        if (pthread_create(&threads[t], NULL, deposits, &workers[t])) exit(2);
+    }
+    for (int t = 0; t < THREADS; t++) pthread_join(threads[t], NULL);
+    SEEN(d.syncs * 2 < THREADS * TURNS * 3);
+    printf("log: %d threads, %llu events, %ld syncs; ", THREADS, (unsigned long long)mz_log_length(b.tc), d.syncs);
+    closed(&b);
+}
+
+int main(int count, char **words) {
+    static content whole;
+    if (count > 1) step = strtoul(words[1], NULL, 10);
+    const char *room = getenv("TMPDIR");
+    snprintf(folder, sizeof folder, "%s/mazzulpe-log-XXXXXX", room ? room : P_tmpdir);
+    if (!mkdtemp(folder)) return 2;
+    snprintf(path, sizeof path, "%s/log", folder);
+    snprintf(other, sizeof other, "%s/other", folder);
+    for (int cuts = 0; cuts < 2; cuts++) {
+        unlink(path);
+        lived(&whole, cuts);
+        written(beside(other, ".session"), "00000000000000ff\n", 17);
+        cut(&whole);
+        changed(&whole, last_frame(&whole));
+        goes_on(&whole);
+    }
+    not_opened(&whole);
+    device_that_fails();
+    shared_syncs();
+    printf("files cut and changed, one place in %zu\n", step);
+    fflush(stdout);
+    if (failures) return 1;
+    return execlp("rm", "rm", "-r", folder, (char *)NULL);
+}
