@@ -66,7 +66,8 @@ rising_choice false false a r m l locks rest less eq above h later = (above, (le
 
 rising_above : (a r : Record) (m : Mode) (locks : List Lock) → record_less a r ≡ true → RisingFrom a locks → RisingFrom a (added r m locks)
 rising_above a r m [] above h = (above, tt)
-rising_above a r m (l ∷ locks) above h = rising_choice (before r l) (record_eq l.«record» r) a r m l locks (added r m locks) refl refl above h (λ less. rising_above l.«record» r m locks less h.1)
+rising_above a r m (l ∷ locks) above h = rising_choice (before r l) (record_eq l.«record» r) a r m l locks (added r m
+    locks) refl refl above h (λ less. rising_above l.«record» r m locks less h.1)
 
 first_choice : (b e : Bool) (r : Record) (m : Mode) (l : Lock) (locks rest : List Lock) → before r l ≡ b
     → record_eq l.«record» r ≡ e → Rising (l ∷ locks) → (before r l ≡ true → RisingFrom l.«record» rest)

@@ -114,7 +114,8 @@ by_letter : (t : List ℕ) (b : Bool) → has 0 114 t ≡ b
 by_letter t b is = ap (λ (x : Bool). if x then and_then (register_said t) in_register else and_then (number_said t) in_slot) is
 
 pub source_back : (s : Source) → IsOperand (source_operand s) → source_said (operand_text (source_operand s)) ≡ Ok s
-source_back (source.Imm n) fits = by_letter (operand_text (Number n)) false (number_no_register n (within32 n fits)) ∙ ap (λ (r : Result ℤ LineFault). and_then r in_slot) (number_back n (within32 n fits))
+source_back (source.Imm n) fits = by_letter (operand_text (Number n)) false (number_no_register n (within32 n fits)) ∙
+    ap (λ (r : Result ℤ LineFault). and_then r in_slot) (number_back n (within32 n fits))
 source_back (source.Reg r) fits = by_letter (register_name r) true (is_register r) ∙ ap (λ (x : Result Register LineFault). and_then x in_register) (register_back r)
 
 no_sign : (r : Register) → list_all (λ b. not (is_sign b)) (register_name r) ≡ true
@@ -147,7 +148,9 @@ address_back r z fits =
     let at = sign_at r z in
     let apart : (position_or_len is_sign t == length t) ≡ false = grind (arith, nat_tests, at, length-append (register_name r) (offset_text z), some_offset z) in
     ap₂ (λ (b : Bool) (k : ℕ). if b then Err fault.Operands else address k t) apart at
-    ∙ ap₂ (λ (base offset : List ℕ). and_then (register_said base) (λ r'. and_then (jump_said (2 ^ 15) offset) (λ z'. Ok (r', z')))) (take-append_seam (register_name r) (offset_text z)) (drop-append_seam (register_name r) (offset_text z))
+    ∙ ap₂ (λ (base offset : List ℕ). and_then (register_said base) (λ r'. and_then (jump_said (2 ^ 15) offset) (λ z'. Ok
+    (r', z')))) (take-append_seam (register_name r) (offset_text z)) (drop-append_seam (register_name r) (offset_text
+    z))
     ∙ ap (λ (x : Result Register LineFault). and_then x (λ r'. and_then (jump_said (2 ^ 15) (offset_text z)) (λ z'. Ok (r', z')))) (register_back r)
     ∙ ap (λ (x : Result ℤ LineFault). and_then x (λ z'. Ok (r, z'))) (jump_back (2 ^ 15) z half16 (within16 z fits))
 
@@ -188,7 +191,9 @@ plain_of t solid = second (nat_lt 0 (length t)) (list_all is_plain t) solid
 memory_solid : (r : Register) (z : ℤ) → FitsSigned w16 z → is_solid (operand_text (Memory r z)) ≡ true
 memory_solid r z fits =
     let inner = register_name r ++ offset_text z in
-    let plain : list_all is_plain inner ≡ true = list_all-append is_plain (register_name r) (offset_text z) ∙ ap₂ (λ (a b : Bool). a && b) (plain_of (register_name r) (register_solid r)) (offset_plain (2 ^ 15) z half16 (within16 z fits)) in
+    let plain : list_all is_plain inner ≡ true = list_all-append is_plain (register_name r) (offset_text z) ∙ ap₂ (λ (a
+    b : Bool). a && b) (plain_of (register_name r) (register_solid r)) (offset_plain (2 ^ 15) z half16 (within16 z
+    fits)) in
     solid_by ((91 ∷ inner) ++ (93 ∷ [])) (omega (arith, length-append (91 ∷ inner) (93 ∷ []))) (list_all-append is_plain (91 ∷ inner) (93 ∷ []) ∙ ap (λ (b : Bool). b && true) plain)
 
 pub operand_solid : (o : Operand) → IsOperand o → is_solid (operand_text o) ≡ true

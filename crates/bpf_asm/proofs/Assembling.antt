@@ -38,7 +38,9 @@ places_from-append false xs ys = refl
 
 pub places_of-append : (before after : List Insn) → places_of (before ++ after) ≡ places_of before ++ places_of after
 places_of-append [] after = refl
-places_of-append (i ∷ before) after = ap (λ (ps : List Place). place.Insn i ∷ places_from (is_wide i) ps) (places_of-append before after) ∙ ap (λ (ps : List Place). place.Insn i ∷ ps) (places_from-append (is_wide i) (places_of before) (places_of after))
+places_of-append (i ∷ before) after = ap (λ (ps : List Place). place.Insn i ∷ places_from (is_wide i) ps)
+    (places_of-append before after) ∙ ap (λ (ps : List Place). place.Insn i ∷ ps) (places_from-append (is_wide i)
+    (places_of before) (places_of after))
 
 pub slots_more : (before : List Insn) (i : Insn) → length (places_of (before ++ i ∷ [])) ≡ length (places_of before) + length (places_of (i ∷ []))
 slots_more before i = ap length (places_of-append before (i ∷ [])) ∙ length-append (places_of before) (places_of (i ∷ []))
@@ -60,13 +62,16 @@ going_on ls number slots k line said before total is here same h =
 pub too_long : (number slots : ℕ) (i : Insn) (before : List Insn) (rest : ℕ → Result (List Insn) AsmFault) (total : Result (List Insn) AsmFault)
     → 4096 < slots + length (places_of (i ∷ [])) → prefixed before (by_line number slots (Ok (Some i)) rest) ≡ total → total ≡ Err (TooLong number)
 too_long number slots i before rest total many h =
-    sym h ∙ ap (λ (b : Bool). prefixed before (if b then Err (TooLong number) else first_then i (rest (slots + length (places_of (i ∷ [])))))) (lt-ltb 4096 (slots + length (places_of (i ∷ []))) many)
+    sym h ∙ ap (λ (b : Bool). prefixed before (if b then Err (TooLong number) else first_then i (rest (slots + length
+    (places_of (i ∷ [])))))) (lt-ltb 4096 (slots + length (places_of (i ∷ []))) many)
 
 pub one_more : (number slots : ℕ) (i : Insn) (before : List Insn) (rest : ℕ → Result (List Insn) AsmFault) (total : Result (List Insn) AsmFault)
-    → slots + length (places_of (i ∷ [])) ≤ 4096 → prefixed before (by_line number slots (Ok (Some i)) rest) ≡ total → prefixed (before ++ i ∷ []) (rest (slots + length (places_of (i ∷ [])))) ≡ total
+    → slots + length (places_of (i ∷ [])) ≤ 4096 → prefixed before (by_line number slots (Ok (Some i)) rest) ≡ total →
+    prefixed (before ++ i ∷ []) (rest (slots + length (places_of (i ∷ [])))) ≡ total
 one_more number slots i before rest total few h =
     sym (prefixed_first before i (rest (slots + length (places_of (i ∷ [])))))
-    ∙ sym (ap (λ (b : Bool). prefixed before (if b then Err (TooLong number) else first_then i (rest (slots + length (places_of (i ∷ [])))))) (le-ltb 4096 (slots + length (places_of (i ∷ []))) few))
+    ∙ sym (ap (λ (b : Bool). prefixed before (if b then Err (TooLong number) else first_then i (rest (slots + length
+    (places_of (i ∷ [])))))) (le-ltb 4096 (slots + length (places_of (i ∷ []))) few))
     ∙ h
 
 pub at_end : (ls : List (List ℕ)) (number slots k : ℕ) (before : List Insn) (total : Result (List Insn) AsmFault) → number ≡ k → k ≡ length ls

@@ -20,7 +20,8 @@ before_at byte text i inside here before =
 
 pub before_none : (byte : ℕ) (text : List ℕ) → ((k : ℕ) → k < length text → get_or text k 0 ≢ byte) → text ≡ before_first (λ b. b == byte) text
 before_none byte text none =
-    sym (ap (λ (n : ℕ). take n text) (position_or_len_is (λ b. b == byte) text (length text) 0 (omega arith) (λ k below. ne_eqb _ _ (none k below)) (λ lt. absurd (omega (arith, lt)))) ∙ take-whole text)
+    sym (ap (λ (n : ℕ). take n text) (position_or_len_is (λ b. b == byte) text (length text) 0 (omega arith) (λ k below.
+    ne_eqb _ _ (none k below)) (λ lt. absurd (omega (arith, lt)))) ∙ take-whole text)
 
 pub first_at : (test : ℕ → Bool) (text : List ℕ) (i : ℕ) → i < length text → test (get_or text i 0) ≡ true
     → ((k : ℕ) → k < i → test (get_or text k 0) ≡ false) → position_or_len test text ≡ i
@@ -42,7 +43,8 @@ three_more (a ∷ b ∷ d ∷ more) text few = absurd (omega (arith, few))
 -- one operand more
 pub put_more : (texts : List (Bor (List ℕ))) (count : ℕ) (parts : List (Bor (List ℕ))) (part trimmed : Bor (List ℕ))
     → count ≡ length parts → count < 3 → trimmed.now ≡ trim part.now
-    → map (λ t. t.now) texts ≡ first_three (map trim (map (λ t. t.now) parts)) → map (λ t. t.now) (slice_set texts count trimmed) ≡ first_three (map trim (map (λ t. t.now) (parts ++ part ∷ [])))
+    → map (λ t. t.now) texts ≡ first_three (map trim (map (λ t. t.now) parts)) → map (λ t. t.now) (slice_set texts count
+    trimmed) ≡ first_three (map trim (map (λ t. t.now) (parts ++ part ∷ [])))
 put_more texts count parts part trimmed at few is same =
     let now : Bor (List ℕ) → List ℕ = λ t. t.now in
     let before = map trim (map now parts) in

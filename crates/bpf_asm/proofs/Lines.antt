@@ -132,10 +132,12 @@ all_fit (place.Insn i ∷ places) fits = (fits.0, all_fit places fits.1)
 all_fit (place.Second ∷ places) fits = all_fit places fits.1
 
 line_no_newline : (i : Insn) → AreOperands (parts_of i) → All (λ b. (b == 10) ≡ false) (line_of i)
-line_no_newline i fits = subst (All (λ b. (b == 10) ≡ false)) (sym (written i)) (no_newline (mnemonic_name (parts_of i).mnemonic) (texts_of (parts_of i)) (mnemonic_solid (parts_of i).mnemonic) (texts_solid (parts_of i) fits))
+line_no_newline i fits = subst (All (λ b. (b == 10) ≡ false)) (sym (written i)) (no_newline (mnemonic_name (parts_of
+    i).mnemonic) (texts_of (parts_of i)) (mnemonic_solid (parts_of i).mnemonic) (texts_solid (parts_of i) fits))
 
 stays : (i : Insn) → AreOperands (parts_of i) → strip_carriage_return (line_of i) ≡ line_of i
-stays i fits = ap strip_carriage_return (written i) ∙ line_stays (mnemonic_name (parts_of i).mnemonic) (texts_of (parts_of i)) (mnemonic_solid (parts_of i).mnemonic) (texts_solid (parts_of i) fits) ∙ sym (written i)
+stays i fits = ap strip_carriage_return (written i) ∙ line_stays (mnemonic_name (parts_of i).mnemonic) (texts_of
+    (parts_of i)) (mnemonic_solid (parts_of i).mnemonic) (texts_solid (parts_of i) fits) ∙ sym (written i)
 
 parts_of_text : (places : List Place) → AllOperands places → slice_split (λ b. b == 10) (text_of places) ≡ map line_of (insns_in places) ++ ([] ∷ [])
 parts_of_text [] fits = refl

@@ -11,4 +11,5 @@ pub in_parts : (text stem suffix : List ℕ)
     → bytes_eq text (stem ++ suffix) ≡ (bytes_eq (take (length stem) text) stem && bytes_eq (drop (length stem) text) suffix)
 in_parts text [] suffix = refl
 in_parts [] (s ∷ stem) suffix = refl
-in_parts (t ∷ text) (s ∷ stem) suffix = ap (λ (b : Bool). (t == s) && b) (in_parts text stem suffix) ∙ and-assoc (t == s) (bytes_eq (take (length stem) text) stem) (bytes_eq (drop (length stem) text) suffix)
+in_parts (t ∷ text) (s ∷ stem) suffix = ap (λ (b : Bool). (t == s) && b) (in_parts text stem suffix) ∙ and-assoc (t ==
+    s) (bytes_eq (take (length stem) text) stem) (bytes_eq (drop (length stem) text) suffix)

@@ -119,11 +119,13 @@ by_offset_sign text a b x y =
 pub jump_back : (half : ℕ) (z : ℤ) → half ≤ 2 ^ 31 → IsWithin half z → jump_said half (offset_text z) ≡ Ok z
 jump_back half (pos n) most low =
     ap (λ (r : Named). and_then r (within half))
-    (by_offset_sign (43 ∷ decimal n) false true (has_first 45 43 (decimal n)) (has_first 43 43 (decimal n)) ∙ ap (λ (r : Result ℕ LineFault). and_then r positive) (numeral_back n (omega (arith, low, most))))
+    (by_offset_sign (43 ∷ decimal n) false true (has_first 45 43 (decimal n)) (has_first 43 43 (decimal n)) ∙ ap (λ (r :
+    Result ℕ LineFault). and_then r positive) (numeral_back n (omega (arith, low, most))))
     ∙ within_pos half n low
 jump_back half (negsuc n) most low =
     ap (λ (r : Named). and_then r (within half))
-    (by_offset_sign (45 ∷ decimal (suc n)) true (has 0 43 (45 ∷ decimal (suc n))) (has_first 45 45 (decimal (suc n))) refl ∙ ap (λ (r : Result ℕ LineFault). and_then r negative) (numeral_back (suc n) (omega (arith, low, most))))
+    (by_offset_sign (45 ∷ decimal (suc n)) true (has 0 43 (45 ∷ decimal (suc n))) (has_first 45 45 (decimal (suc n)))
+    refl ∙ ap (λ (r : Result ℕ LineFault). and_then r negative) (numeral_back (suc n) (omega (arith, low, most))))
     ∙ within_neg half n low
 
 -- ---- hexadecimal numbers

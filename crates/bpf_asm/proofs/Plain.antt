@@ -135,7 +135,8 @@ module _ (test : ℕ → Bool) (plain : (b : ℕ) → is_plain b ≡ true → te
 
   all_more : (ts : List (List ℕ)) → AllSolid ts → list_all test (more_text ts) ≡ true
   all_more [] solid = refl
-  all_more (t ∷ ts) solid = both (test 44) (list_all test (32 ∷ (t ++ more_text ts))) comma (both (test 32) (list_all test (t ++ more_text ts)) space (all-append t (more_text ts) (all_solid t solid.0) (all_more ts solid.1)))
+  all_more (t ∷ ts) solid = both (test 44) (list_all test (32 ∷ (t ++ more_text ts))) comma (both (test 32) (list_all
+      test (t ++ more_text ts)) space (all-append t (more_text ts) (all_solid t solid.0) (all_more ts solid.1)))
 
   all_tail : (ts : List (List ℕ)) → AllSolid ts → list_all test (tail_text ts) ≡ true
   all_tail [] solid = refl
@@ -193,7 +194,8 @@ rest_of_line name ts solid = ap (λ (k : ℕ). drop k (name ++ tail_text ts)) (w
 
 no_commas : (t : List ℕ) → list_all is_plain t ≡ true → All (λ b. (b == 44) ≡ false) t
 no_commas [] plain = All-nil (λ b. (b == 44) ≡ false)
-no_commas (x ∷ xs) plain = All-cons (λ b. (b == 44) ≡ false) x xs (not_comma x (both_left (is_plain x) (list_all is_plain xs) plain)) (no_commas xs (both_right (is_plain x) (list_all is_plain xs) plain))
+no_commas (x ∷ xs) plain = All-cons (λ b. (b == 44) ≡ false) x xs (not_comma x (both_left (is_plain x) (list_all
+    is_plain xs) plain)) (no_commas xs (both_right (is_plain x) (list_all is_plain xs) plain))
 
 split_line : (t : List ℕ) (ts : List (List ℕ)) → is_solid t ≡ true → AllSolid ts
     → slice_split (λ b. b == 44) (32 ∷ (t ++ more_text ts)) ≡ (32 ∷ t) ∷ map (λ u. 32 ∷ u) ts
@@ -221,7 +223,8 @@ some_rest : (t : List ℕ) (ts : List (List ℕ)) → is_solid t ≡ true → Al
 some_rest [] ts solid others = absurd (false≢true solid)
 some_rest (x ∷ xs) ts solid others =
     let plain = solid_all (x ∷ xs) solid in
-    ap is_empty (trim_indented x (xs ++ more_text ts) (not_blank x (both_left (is_plain x) (list_all is_plain xs) plain)) (not_blank (last_or x (xs ++ more_text ts)) (ends_solid x xs ts plain others)))
+    ap is_empty (trim_indented x (xs ++ more_text ts) (not_blank x (both_left (is_plain x) (list_all is_plain xs)
+    plain)) (not_blank (last_or x (xs ++ more_text ts)) (ends_solid x xs ts plain others)))
     ∙ not_empty x (xs ++ more_text ts)
 
 no_operands : operand_texts [] ≡ []
@@ -247,7 +250,8 @@ not_true false h = refl
 All-from_test : (test : ℕ → Bool) (xs : List ℕ) → list_all (λ b. not (test b)) xs ≡ true → All (λ b. test b ≡ false) xs
 All-from_test test [] all = All-nil (λ b. test b ≡ false)
 All-from_test test (x ∷ xs) all =
-    All-cons (λ b. test b ≡ false) x xs (not_true (test x) (both_left (not (test x)) (list_all (λ b. not (test b)) xs) all)) (All-from_test test xs (both_right (not (test x)) (list_all (λ b. not (test b)) xs) all))
+    All-cons (λ b. test b ≡ false) x xs (not_true (test x) (both_left (not (test x)) (list_all (λ b. not (test b)) xs)
+    all)) (All-from_test test xs (both_right (not (test x)) (list_all (λ b. not (test b)) xs) all))
 
 pub no_newline : (name : List ℕ) (ts : List (List ℕ)) → is_solid name ≡ true → AllSolid ts → All (λ b. (b == 10) ≡ false) (name ++ tail_text ts)
 no_newline name ts solid others = All-from_test (λ b. b == 10) (name ++ tail_text ts) (all_line (λ b. not (b == 10)) not_newline refl refl name ts solid others)

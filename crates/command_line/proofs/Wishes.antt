@@ -11,7 +11,29 @@ use Rattle.std.specs.List.{list_any}
 use Rattle.clap.specs.Matches.{subcommand_name_of}
 use Rattle.clap.specs.declared.parser.matches.ArgMatches.{ArgMatches}
 use Rattle.clap.specs.declared.parser.matches.ArgMatches.TheViews.{out-ArgMatches}
-use Rattle.command_line.specs.Said.{AllNumbers, IsNoCount, IsNoPart, IsUnfit, Argument, Workers, Tries, Bytes, Logless, Alone, Both, Drawn, Followed, NoPart, Parted, IsWrong, Refused, NoCommand, Unfit, procd_app, shows}
+use Rattle.command_line.specs.Said.{
+  AllNumbers,
+  IsNoCount,
+  IsNoPart,
+  IsUnfit,
+  Argument,
+  Workers,
+  Tries,
+  Bytes,
+  Logless,
+  Alone,
+  Both,
+  Drawn,
+  Followed,
+  NoPart,
+  Parted,
+  IsWrong,
+  Refused,
+  NoCommand,
+  Unfit,
+  procd_app,
+  shows,
+}
 use Rattle.command_line.specs.Said.{IsFlag, SaysCount, SaysLog, SaysNumber, SaysNumberIf, SaysNumbers, SaysPart, SaysPartOf, SaysRun, SaysWish, value_of}
 use Rattle.command_line.specs.Task.{LogWish, Events, EventsAndRows, Follow, Audit, Picture}
 use Rattle.command_line.specs.Joining.LogWanted.{shown_wanted, audit_wanted}

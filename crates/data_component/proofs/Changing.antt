@@ -53,11 +53,13 @@ read_missing has_room rows r i at sorted = read_absent has_room rows r at.missin
 
 pub insert_duplicate : (has_room : Bool) (rows : Rows) (r : Record) (v : List ℕ) (i : ℕ) → IsFoundAt rows r i
     → SortedRows rows → Performs has_room rows rows (Insert r v) Duplicate
-insert_duplicate has_room rows r v i at sorted = stays has_room rows (Insert r v) Duplicate (ap (λ (o : Option (List ℕ)). said_to_insert o has_room) (sym (at.value (r, v)))) (λ was. refl) refl sorted
+insert_duplicate has_room rows r v i at sorted = stays has_room rows (Insert r v) Duplicate (ap (λ (o : Option (List
+    ℕ)). said_to_insert o has_room) (sym (at.value (r, v)))) (λ was. refl) refl sorted
 
 pub insert_no_room : (has_room : Bool) (rows : Rows) (r : Record) (v : List ℕ) (i : ℕ) → IsMissingAt rows r i
     → has_room ≡ false → SortedRows rows → Performs has_room rows rows (Insert r v) NoRoom
-insert_no_room has_room rows r v i at full sorted = stays has_room rows (Insert r v) NoRoom (ap₂ (λ (o : Option (List ℕ)) (b : Bool). said_to_insert o b) (sym at.missing) (sym full)) (λ was. refl) refl sorted
+insert_no_room has_room rows r v i at full sorted = stays has_room rows (Insert r v) NoRoom (ap₂ (λ (o : Option (List
+    ℕ)) (b : Bool). said_to_insert o b) (sym at.missing) (sym full)) (λ was. refl) refl sorted
 
 pub update_missing : (has_room : Bool) (rows : Rows) (r : Record) (v : List ℕ) (i : ℕ) → IsMissingAt rows r i
     → SortedRows rows → Performs has_room rows rows (Update r v) Missing
@@ -161,7 +163,8 @@ found_there rows r i d sorted at inside same =
     record {
       inside = inside;
       is = at;
-      value = λ e. seen (Some (slice_index_or rows i d)) rows r i sorted at stands ∙ cond-true _ _ _ same ∙ ap (λ (x : Record × List ℕ). Some x.1) (sym (get_or_from_slice_get rows i (slice_index_or rows i d) e stands));
+      value = λ e. seen (Some (slice_index_or rows i d)) rows r i sorted at stands ∙ cond-true _ _ _ same ∙ ap (λ (x :
+          Record × List ℕ). Some x.1) (sym (get_or_from_slice_get rows i (slice_index_or rows i d) e stands));
     }
 
 pub missing_there : (rows : Rows) (r : Record) (i : ℕ) (d : Record × List ℕ) → SortedRows rows → i ≡ row_place rows r

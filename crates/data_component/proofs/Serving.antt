@@ -194,7 +194,8 @@ higher_mark kept mark high performed up are = record { sorted = are.sorted; with
 
 pub keeps_more : (redo room : Bool) (table new base : Rows) (performed : List Performed) (kept : Kept) (mark limit ops n : ℕ) (o : Op) (said : Said)
     → Keeps table base performed kept mark limit ops → mark < n → said_under (reverse performed) n ≡ None
-    → length performed < ops → room ≡ (redo || nat_lt (length table) limit) → Performs room table new o said → Keeps new base (performed ++ (n, o, said) ∷ []) (kept_more kept n (length performed)) mark limit ops
+    → length performed < ops → room ≡ (redo || nat_lt (length table) limit) → Performs room table new o said → Keeps new
+    base (performed ++ (n, o, said) ∷ []) (kept_more kept n (length performed)) mark limit ops
 keeps_more redo room table new base performed kept mark limit ops n o said was above fresh inside is does =
     let list = reverse performed in
     let more = sym (pushed (n, o, said) performed) in
@@ -236,7 +237,9 @@ right_cut limit k base performed right =
 
 pub keeps_next : (redo room : Bool) (table new base : Rows) (performed longer : List Performed) (kept more : Kept) (mark limit ops n : ℕ) (o : Op) (said : Said) (place : ℕ)
     → Keeps table base performed kept mark limit ops → mark < n → said_under (reverse performed) n ≡ None
-    → length performed < ops → room ≡ (redo || nat_lt (length table) limit) → Performs room table new o said → longer ≡ performed ++ (n, o, said) ∷ [] → more ≡ insert kept (kept_place kept n) (n, place) → place ≡ length performed → Keeps new base longer more mark limit ops
+    → length performed < ops → room ≡ (redo || nat_lt (length table) limit) → Performs room table new o said → longer ≡
+    performed ++ (n, o, said) ∷ [] → more ≡ insert kept (kept_place kept n) (n, place) → place ≡ length performed →
+    Keeps new base longer more mark limit ops
 keeps_next redo room table new base performed longer kept more mark limit ops n o said place was above fresh inside is does grown put at =
     let whole = put ∙ ap (λ (i : ℕ). insert kept (kept_place kept n) (n, i)) at in
     subst (λ (l : List Performed). Keeps new base l more mark limit ops) (sym grown)

@@ -1,5 +1,30 @@
 -- What a store that has forgotten some of its oldest operations still says.
-use Rattle.std.proofs.Common.{arith, ◌≡◌, ℕ, ◌+◌, ◌<◌, ◌≤◌, Bool, true, false, if◌then◌else◌, nat_lt, nat_le, List, [], ◌∷◌, ◌++◌, length, sym, refl, ap, subst, ◌∙◌, inl, inr}
+use Rattle.std.proofs.Common.{
+  arith,
+  ◌≡◌,
+  ℕ,
+  ◌+◌,
+  ◌<◌,
+  ◌≤◌,
+  Bool,
+  true,
+  false,
+  if◌then◌else◌,
+  nat_lt,
+  nat_le,
+  List,
+  [],
+  ◌∷◌,
+  ◌++◌,
+  length,
+  sym,
+  refl,
+  ap,
+  subst,
+  ◌∙◌,
+  inl,
+  inr,
+}
 use Rattle.std.specs.Prelude.{Option, Some, None, ◌==◌, ◌&&◌, ◌||◌}
 use Rattle.std.proofs.lemmas.Bool.{cond-true, cond-false, cases_lt}
 use Rattle.std.proofs.lemmas.Bool.Decides.{nat_tests}
@@ -12,7 +37,29 @@ use Rattle.access_slots.specs.declared.op.Wire.{Wire}
 use Rattle.access_slots.specs.Locks.{record_eq, target}
 use Rattle.data_component.specs.Performed.{Performed, RecordValue, left, value_in, counted, said_to, count, answer, has_room, said_under, all_at_most}
 use Rattle.data_component.specs.Sorted.{Rows, row_of}
-use Rattle.data_component.specs.Store.{Store, Fate, IsOld, Again, Silent, New, raised, marked, fate_of_new, fate_above, fate, fate_of, reply_by, store_by, replied, performed, checkpointed, restarted, heard, may_forget, HasForgotten}
+use Rattle.data_component.specs.Store.{
+  Store,
+  Fate,
+  IsOld,
+  Again,
+  Silent,
+  New,
+  raised,
+  marked,
+  fate_of_new,
+  fate_above,
+  fate,
+  fate_of,
+  reply_by,
+  store_by,
+  replied,
+  performed,
+  checkpointed,
+  restarted,
+  heard,
+  may_forget,
+  HasForgotten,
+}
 use Rattle.data_component.specs.Shortened.{lengthened, IsShortOf}
 
 -- ---- numbers

@@ -1,5 +1,31 @@
 -- What a crash leaves while a frame is being written.
-use Rattle.std.proofs.Common.{◌≡◌, ◌⊎◌, inl, inr, ℕ, zero, suc, ◌+◌, ◌*◌, ◌≤◌, List, [], ◌∷◌, ◌++◌, length, take, drop, refl, sym, ◌∙◌, ap, subst, arith, append_assoc, length-append}
+use Rattle.std.proofs.Common.{
+  ◌≡◌,
+  ◌⊎◌,
+  inl,
+  inr,
+  ℕ,
+  zero,
+  suc,
+  ◌+◌,
+  ◌*◌,
+  ◌≤◌,
+  List,
+  [],
+  ◌∷◌,
+  ◌++◌,
+  length,
+  take,
+  drop,
+  refl,
+  sym,
+  ◌∙◌,
+  ap,
+  subst,
+  arith,
+  append_assoc,
+  length-append,
+}
 use Rattle.std.proofs.lemmas.List.{append-nil}
 use Rattle.frame_file.specs.Device.{Only, Follows, Torn, word_at, IsLeft}
 use Rattle.frame_file.specs.Frame.{framed, frames_from, IsPayload, ArePayloads, MayBeTorn}

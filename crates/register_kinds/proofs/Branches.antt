@@ -93,6 +93,8 @@ module _ (s : Setting) (is : IsSetting s) (ks : Kinds) (c : Config) (all : AllFi
 
   pub branch_fits : (width : Width) (condition : Condition) (source : Source) (b : ℕ) → value_of c source ≡ Some b
       → FitsWay s (branch_ways (null_test width condition source) (kind_at ks r) r ks) (is_taken (is_64 width) condition a b) c
-  branch_fits Bits64 Equal (Imm n) b e = subst (λ (x : ℕ). FitsWay s (branch_ways (null_if_zero n true) (kind_at ks r) r ks) (eqb a x) c) (some_is (extended n) b e) (equal_by n (int_eq n (pos 0)) refl)
-  branch_fits Bits64 NotEqual (Imm n) b e = subst (λ (x : ℕ). FitsWay s (branch_ways (null_if_zero n false) (kind_at ks r) r ks) (not (eqb a x)) c) (some_is (extended n) b e) (unequal_by n (int_eq n (pos 0)) refl)
+  branch_fits Bits64 Equal (Imm n) b e = subst (λ (x : ℕ). FitsWay s (branch_ways (null_if_zero n true) (kind_at ks r) r
+      ks) (eqb a x) c) (some_is (extended n) b e) (equal_by n (int_eq n (pos 0)) refl)
+  branch_fits Bits64 NotEqual (Imm n) b e = subst (λ (x : ℕ). FitsWay s (branch_ways (null_if_zero n false) (kind_at ks
+      r) r ks) (not (eqb a x)) c) (some_is (extended n) b e) (unequal_by n (int_eq n (pos 0)) refl)
   branch_fits width condition source b e = plain (kind_at ks r) _

@@ -76,7 +76,8 @@ helper_cases (pos (suc (suc (suc zero)))) h P p1 p2 p3 p4 p5 = p3
 helper_cases (pos (suc (suc (suc (suc zero))))) h P p1 p2 p3 p4 p5 = p4
 helper_cases (pos (suc (suc (suc (suc (suc zero)))))) h P p1 p2 p3 p4 p5 = p5
 helper_cases (pos (suc (suc (suc (suc (suc (suc n))))))) h P p1 p2 p3 p4 p5 =
-    let few : suc (suc (suc (suc (suc (suc n))))) ≤ 5 = (let t = (both (leb 1 (suc (suc (suc (suc (suc (suc n))))))) (leb (suc (suc (suc (suc (suc (suc n)))))) 5) h).1 in grind (arith, nat_tests)) in
+    let few : suc (suc (suc (suc (suc (suc n))))) ≤ 5 = (let t = (both (leb 1 (suc (suc (suc (suc (suc (suc n)))))))
+    (leb (suc (suc (suc (suc (suc (suc n)))))) 5) h).1 in grind (arith, nat_tests)) in
     absurd (omega (arith, few))
 helper_cases (negsuc n) h P p1 p2 p3 p4 p5 = absurd cc
 
@@ -144,7 +145,8 @@ module _ (s : Setting) (is : IsSetting s) (ks : Kinds) (c : Config) (all : AllFi
   writable : (helper : ℤ) (k : ℕ) (slot : Slot) (o : Op) → suffices slot.mode helper ≡ true
       → (writes slot.mode || false) ≡ suffices slot.mode helper
       → (writes slot.mode ≡ true → IsBySlot s.args (Some slot) o) → slice_get s.program.decl.slots k ≡ Some slot
-      → ((a : Said) → fits o a ≡ true → WentOn s c.place c.taken (Call helper) ways (answered s k (counted c) a)) → IsSound s c.place c.taken (Call helper) ways (cond (writes slot.mode) (Ask k o (counted c)) (Trap ReadOnlySlot))
+      → ((a : Said) → fits o a ≡ true → WentOn s c.place c.taken (Call helper) ways (answered s k (counted c) a)) →
+      IsSound s c.place c.taken (Call helper) ways (cond (writes slot.mode) (Ask k o (counted c)) (Trap ReadOnlySlot))
   writable helper k slot o enough is_or by here later =
       let w : writes slot.mode ≡ true = or_false (writes slot.mode) (is_or ∙ enough) in
       subst (λ (t : Bool). IsSound s c.place c.taken (Call helper) ways (cond t (Ask k o (counted c)) (Trap ReadOnlySlot))) (sym w)

@@ -80,7 +80,8 @@ narrowed s ks registers r k all f = record { at = λ q. elim (cases_eq q r) [ in
         elim (cases_lt r (length ks.registers)) [
           | inl lt ↦ subst (λ (n : ℕ). Fits s (kind_at (with_kind ks r k) n) (slice_index_or registers n None)) (sym same)
               (subst (λ (x : Kind). Fits s x (slice_index_or registers r None)) (sym (get_or-set_same ks.registers r k Empty lt)) f)
-          | inr le ↦ subst (λ (x : Kind). Fits s x (slice_index_or registers q None)) (sym (get_or_past (slice_set ks.registers r k) q Empty (omega (arith, length-set ks.registers r k, le, same)))) tt
+          | inr le ↦ subst (λ (x : Kind). Fits s x (slice_index_or registers q None)) (sym (get_or_past (slice_set
+              ks.registers r k) q Empty (omega (arith, length-set ks.registers r k, le, same)))) tt
         ]
 
 pub put_fits : (s : Setting) (ks : Kinds) (registers : List (Option ℕ)) (r : ℕ) (k : Kind) (v : Option ℕ)

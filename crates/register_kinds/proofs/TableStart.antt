@@ -26,7 +26,8 @@ abbrev pub starts : Kinds
 starts =
     record {
       registers =
-          Empty ∷ Args (pos 0) ∷ Number ∷ Const 5 ∷ Stack (pos 496) ∷ MaybeBuffer 0 ∷ Buffer 1 (pos 8) ∷ Const 18446744073709551615 ∷ Const 4294967301 ∷ Number ∷ Stack (pos 512) ∷ [];
+          Empty ∷ Args (pos 0) ∷ Number ∷ Const 5 ∷ Stack (pos 496) ∷ MaybeBuffer 0 ∷ Buffer 1 (pos 8) ∷ Const
+          18446744073709551615 ∷ Const 4294967301 ∷ Number ∷ Stack (pos 512) ∷ [];
     }
 
 abbrev pub does : Insn → Result Ways Violation
@@ -56,7 +57,10 @@ splits r next jump = Ok (record { next = Some (with_register r next); jump = Som
 abbrev pub returns : Kind → Result Ways Violation
 returns kind =
     Ok (record {
-      next = Some (record { registers = kind ∷ Empty ∷ Empty ∷ Empty ∷ Empty ∷ Empty ∷ Buffer 1 (pos 8) ∷ Const 18446744073709551615 ∷ Const 4294967301 ∷ Number ∷ Stack (pos 512) ∷ [] });
+      next = Some (record {
+        registers = kind ∷ Empty ∷ Empty ∷ Empty ∷ Empty ∷ Empty ∷ Buffer 1 (pos 8) ∷ Const
+            18446744073709551615 ∷ Const 4294967301 ∷ Number ∷ Stack (pos 512) ∷ [];
+      });
       jump = None;
     })
 

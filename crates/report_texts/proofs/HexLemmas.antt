@@ -12,7 +12,8 @@ hex_from-blank at b (d ∷ rest) h = ap (λ (t : Bool). cond t (hex_from (suc at
 hex_from-pair : (at b d : ℕ) (rest : List ℕ) (o : Option ℕ) → is_blank b ≡ false → pair_of b d ≡ o
     → hex_from at (b ∷ d ∷ rest) ≡ or_not_hex at o (hex_from (suc (suc at)) rest)
 hex_from-pair at b d rest o h e =
-    ap (λ (t : Bool). cond t (hex_from (suc at) (d ∷ rest)) (or_not_hex at (pair_of b d) (hex_from (suc (suc at)) rest))) h ∙ ap (λ (p : Option ℕ). or_not_hex at p (hex_from (suc (suc at)) rest)) e
+    ap (λ (t : Bool). cond t (hex_from (suc at) (d ∷ rest)) (or_not_hex at (pair_of b d) (hex_from (suc (suc at))
+    rest))) h ∙ ap (λ (p : Option ℕ). or_not_hex at p (hex_from (suc (suc at)) rest)) e
 
 said_before-append : (before : List ℕ) (byte : ℕ) (h : Hex) → said_before (before ++ byte ∷ []) h ≡ said_before before (said_first byte h)
 said_before-append before byte (Ok bytes) = ap (λ (bs : List ℕ). Ok bs) (append_assoc before (byte ∷ []) bytes)

@@ -75,7 +75,8 @@ alone x xs solid whole =
     let solid_all : All (λ b. is_blank b ≡ false) text = each_solid text (λ k lt. fails_before_first is_blank text k 0 (omega (arith, n, lt))) in
     ap (filter is_some_word) (slice_split_none is_blank text solid_all)
     ∙ one_word x xs []
-    ∙ ap₂ (λ (w r : List ℕ). w ∷ filter is_some_word (slice_split is_blank r)) (sym (ap (λ (k : ℕ). take k text) n ∙ take-length text)) (sym (ap (λ (k : ℕ). drop k text) n ∙ drop-length text))
+    ∙ ap₂ (λ (w r : List ℕ). w ∷ filter is_some_word (slice_split is_blank r)) (sym (ap (λ (k : ℕ). take k text) n ∙
+    take-length text)) (sym (ap (λ (k : ℕ). drop k text) n ∙ drop-length text))
 
 first_solid : (x : ℕ) (xs : List ℕ) → is_blank x ≡ false → words_of (x ∷ xs) ≡ word_of (x ∷ xs) ∷ words_of (rest_of (x ∷ xs))
 first_solid x xs solid =

@@ -65,7 +65,8 @@ unfolding head_bytes number_bytes
 seen_back c = refl
 
 cells_back : (c : Cells) → Fit c → cells_in (cells_bytes c) ≡ c
-cells_back c fit = seen_back c ∙ same_cells c.kind c.sub _ c.dc _ c.table _ c.txn _ c.word _ c.key c.body (dc_back c fit.dc) (table_back c fit.table) (txn_back c fit.txn) (word_back c fit.word) (key_back c fit.key)
+cells_back c fit = seen_back c ∙ same_cells c.kind c.sub _ c.dc _ c.table _ c.txn _ c.word _ c.key c.body (dc_back c
+    fit.dc) (table_back c fit.table) (txn_back c fit.txn) (word_back c fit.word) (key_back c fit.key)
 
 -- no record stands in it
 plain_fits : (c : Cells) → c.dc ≡ 0 → c.table ≡ 0 → c.key ≡ 0 → c.txn < 2 ^ 64 → c.word < 2 ^ 64 → Fit c
@@ -207,7 +208,8 @@ pub one_more : (events : List Event) (e : Event) (bytes : List ℕ) (place : ℕ
     → ArePrinted (events ++ e ∷ []) (take (96 * (place + 1)) bytes)
 one_more events e bytes place so_far row is = record {
   rows = rows_append events e so_far.rows row;
-  prints = flat_map-append printed events (e ∷ []) ∙ ap₂ (λ (xs ys : List ℕ). xs ++ ys) so_far.prints (append-nil (printed e) ∙ is) ∙ sym (take-add (96 * place) 96 bytes) ∙ ap (λ (n : ℕ). take n bytes) (next place);
+  prints = flat_map-append printed events (e ∷ []) ∙ ap₂ (λ (xs ys : List ℕ). xs ++ ys) so_far.prints (append-nil
+      (printed e) ∙ is) ∙ sym (take-add (96 * place) 96 bytes) ∙ ap (λ (n : ℕ). take n bytes) (next place);
 }
 
 pub none_printed : (bytes : List ℕ) → ArePrinted [] (take (96 * 0) bytes)

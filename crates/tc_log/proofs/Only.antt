@@ -115,7 +115,8 @@ pub seen_further : (events new : List Event) (e : Event) (bytes rest front : Lis
 seen_further events new e bytes rest front place seen count grown left cut long few is =
     let at = length-take-le (96 * place) bytes few in
     let joined : take (96 * place) bytes ++ front ≡ take (96 * (place + 1)) bytes =
-    ap (λ (b : List ℕ). take (96 * place) bytes ++ b) (cut ∙ ap (λ (b : List ℕ). take 96 b) left) ∙ sym (take-add (96 * place) 96 bytes) ∙ ap (λ (n : ℕ). take n bytes) (one_further place) in
+    ap (λ (b : List ℕ). take (96 * place) bytes ++ b) (cut ∙ ap (λ (b : List ℕ). take 96 b) left) ∙ sym (take-add (96 *
+    place) 96 bytes) ∙ ap (λ (n : ℕ). take n bytes) (one_further place) in
     subst (λ (es : List Event). AreSeen es (take (96 * (place + 1)) bytes)) (sym grown)
     (subst (AreSeen (events ++ e ∷ [])) joined (seen_append events e (take (96 * place) bytes) front (omega (arith, at, count)) seen is long))
   where

@@ -47,7 +47,8 @@ pub held_grows : (ps : List Checked) (q : Checked) (h : List Event) → Legal ps
     → held (decls (ps ++ q ∷ [])) h t r ≡ held (decls ps) h t r
 held_grows ps q [] legal t r = refl
 held_grows ps q (Admit u p args ∷ h) legal t r =
-    held_choice ps q (u == t) (Some (record { proc = p; args = args })) (open_call h t) r (locks_grow ps q legal.0.q (record { proc = p; args = args }) r legal.0.loaded) (held_grows ps q h legal.1 t r)
+    held_choice ps q (u == t) (Some (record { proc = p; args = args })) (open_call h t) r (locks_grow ps q legal.0.q
+    (record { proc = p; args = args }) r legal.0.loaded) (held_grows ps q h legal.1 t r)
 held_grows ps q (Ask u n o ∷ h) legal t r = held_grows ps q h legal.1 t r
 held_grows ps q (Answer u n said ∷ h) legal t r = held_grows ps q h legal.1 t r
 held_grows ps q (Undo u n o ∷ h) legal t r = held_grows ps q h legal.1 t r
@@ -70,7 +71,8 @@ module _ (ps : List Checked) (q : Checked) (good : AllGood ps) where
       let a = legal.0 in
       let call : Call = record { proc = p; args = args } in
       let free : Compatible (held (decls (ps ++ q ∷ [])) h) (locks_of (decls (ps ++ q ∷ [])) call) = (λ r u.
-      ap (λ (m : Option Mode). excludes m (held (decls (ps ++ q ∷ [])) h u r)) (locks_grow ps q a.q call r a.loaded) ∙ (ap (excludes (locks_of (decls ps) call r)) (held_grows ps q h legal.1 u r) ∙ a.free r u)) in
+      ap (λ (m : Option Mode). excludes m (held (decls (ps ++ q ∷ [])) h u r)) (locks_grow ps q a.q call r a.loaded) ∙
+      (ap (excludes (locks_of (decls ps) call r)) (held_grows ps q h legal.1 u r) ∙ a.free r u)) in
       (record { next = a.next; q = a.q; loaded = get_grows ps q a.q p a.loaded; takes = a.takes; free = free }, legal_grows h legal.1)
   legal_grows (Ask t n o ∷ h) legal =
       let a = legal.0 in
@@ -79,8 +81,19 @@ module _ (ps : List Checked) (q : Checked) (good : AllGood ps) where
       let a = legal.0 in
       (record { s = a.s; is = a.is; r = a.r; waits = a.waits; number = a.number; fit = a.fit }, legal_grows h legal.1)
   legal_grows (Undo t n o ∷ h) legal =
-      let a = legal.0 in
-      (record { s = a.s; is = a.is; idle = a.idle; stopped = ap (is_stopped a.s.full) (reached_grows h legal.1 t a.s a.is) ∙ a.stopped; top = a.top; few = a.few; next = a.next }, legal_grows h legal.1)
+      let a = legal.0 in (
+        record {
+          s = a.s;
+          is = a.is;
+          idle = a.idle;
+          stopped = ap (is_stopped a.s.full) (reached_grows h legal.1 t a.s
+              a.is) ∙ a.stopped;
+          top = a.top;
+          few = a.few;
+          next = a.next;
+        },
+        legal_grows h legal.1,
+      )
   legal_grows (End t outcome ∷ h) legal =
       let a = legal.0 in
       (record { s = a.s; is = a.is; idle = a.idle; ends = ap (ending a.s.full (first_undo a.s.undo)) (reached_grows h legal.1 t a.s a.is) ∙ a.ends }, legal_grows h legal.1)

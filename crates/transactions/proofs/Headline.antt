@@ -149,7 +149,19 @@ sent_awaits : (h : List Event) (e : Event) (u n m : ℕ) (o : Op) (b : Bool) (f 
     → Some (flight u o) ≡ Some f → m ≡ n → standing (e ∷ h) u ≡ Some s' → s'.sent ≡ sent_as m o b → Awaits (e ∷ h) n f
 sent_awaits h e u n m o b f s' own same number is sent =
     let it = some_same (flight u o) f same in
-    record { s = s'; is = ap (standing (e ∷ h)) (sym (ap (λ (x : Flight). x.txn) it)) ∙ is; r = record { number = m; op = o; undoing = b }; waits = sent; number = number; op = ap (λ (x : Flight). x.op) it }
+    record {
+      s = s';
+      is = ap (standing (e ∷ h)) (sym (ap (λ (x : Flight). x.txn) it)) ∙ is;
+      r = record {
+        number = m;
+        op
+            = o;
+        undoing = b;
+      };
+      waits = sent;
+      number = number;
+      op = ap (λ (x : Flight). x.op) it;
+    }
 
 still_awaits : (h : List Event) (e : Event) (n : ℕ) (f : Flight) → txn_of e ≢ f.txn → Awaits h n f → Awaits (e ∷ h) n f
 still_awaits h e n f other a = record { s = a.s; is = standing-other e h f.txn other ∙ a.is; r = a.r; waits = a.waits; number = a.number; op = a.op }
@@ -170,7 +182,8 @@ awaited ps (Admit u p args ∷ h) legal n f is =
 awaited ps (Ask u m o ∷ h) legal n f is =
     let a = legal.0 in
     elim (cases_eq m n) [
-      | inl same ↦ sent_awaits h (Ask u m o) u n m o false f (asked m o a.s) refl (sym (cond-true _ _ _ (eq-true m n same)) ∙ is) same (standing-same (Ask u m o) h u refl ∙ ap (moved (Ask u m o)) a.is) refl
+      | inl same ↦ sent_awaits h (Ask u m o) u n m o false f (asked m o a.s) refl (sym (cond-true _ _ _ (eq-true m n
+          same)) ∙ is) same (standing-same (Ask u m o) h u refl ∙ ap (moved (Ask u m o)) a.is) refl
       | inr differ ↦
           let ih = awaited ps h legal.1 n f (sym (cond-false _ _ _ (eq-false m n differ)) ∙ is) in
           still_awaits h (Ask u m o) n f (idle_other h u n f a.s a.is a.idle ih) ih
@@ -178,7 +191,8 @@ awaited ps (Ask u m o ∷ h) legal n f is =
 awaited ps (Undo u m o ∷ h) legal n f is =
     let a = legal.0 in
     elim (cases_eq m n) [
-      | inl same ↦ sent_awaits h (Undo u m o) u n m o true f (undone m o a.s) refl (sym (cond-true _ _ _ (eq-true m n same)) ∙ is) same (standing-same (Undo u m o) h u refl ∙ ap (moved (Undo u m o)) a.is) refl
+      | inl same ↦ sent_awaits h (Undo u m o) u n m o true f (undone m o a.s) refl (sym (cond-true _ _ _ (eq-true m n
+          same)) ∙ is) same (standing-same (Undo u m o) h u refl ∙ ap (moved (Undo u m o)) a.is) refl
       | inr differ ↦
           let ih = awaited ps h legal.1 n f (sym (cond-false _ _ _ (eq-false m n differ)) ∙ is) in
           still_awaits h (Undo u m o) n f (idle_other h u n f a.s a.is a.idle ih) ih
@@ -209,7 +223,8 @@ pub flight_covered : (ps : List Checked) (h : List Event) → AllGood ps → Leg
 flight_covered ps h good legal n f is =
     let a = awaited ps h legal n f is in
     let within = (standing_sound ps good h legal f.txn a.s a.is).within a.r a.waits in
-    let mine : allows (held (decls ps) h f.txn (target a.r.op)) (is_read a.r.op) ≡ true = ap (λ (m : Option Mode). allows m (is_read a.r.op)) (held_is ps h f.txn a.s (target a.r.op) a.is) ∙ within in
+    let mine : allows (held (decls ps) h f.txn (target a.r.op)) (is_read a.r.op) ≡ true = ap (λ (m : Option Mode).
+    allows m (is_read a.r.op)) (held_is ps h f.txn a.s (target a.r.op) a.is) ∙ within in
     subst (λ (x : Op). allows (held (decls ps) h f.txn (target x)) (is_read x) ≡ true) a.op mine
 
 both_read : (a b : Option Mode) (ra rb : Bool) → allows a ra ≡ true → allows b rb ≡ true → excludes a b ≡ false → not (ra && rb) ≡ false
@@ -239,5 +254,6 @@ flights_apart ps h good legal m n f g is are differ = by (record_eq (target f.op
     by true e =
         let same = eq_is (target f.op) (target g.op) e in
         let one = flight_covered ps h good legal m f is in
-        let two : allows (held (decls ps) h g.txn (target f.op)) (is_read g.op) ≡ true = ap (λ (r : Record). allows (held (decls ps) h g.txn r) (is_read g.op)) same ∙ flight_covered ps h good legal n g are in
+        let two : allows (held (decls ps) h g.txn (target f.op)) (is_read g.op) ≡ true = ap (λ (r : Record). allows
+        (held (decls ps) h g.txn r) (is_read g.op)) same ∙ flight_covered ps h good legal n g are in
         both_read _ _ (is_read f.op) (is_read g.op) one two (held_apart ps h legal f.txn g.txn (target f.op) other)

@@ -99,5 +99,9 @@ may_end None false left tries last (Ends v) o is = by (v == 0) refl is
     by : (b : Bool) → (v == 0) ≡ b
         → Some (cond b (next.Over outcome.Committed) (ends_or_undoes left tries last (outcome.Aborted v))) ≡ Some (next.Over o)
         → MayEnd None false left (Ends v) o
-    by true t h = record { idle = refl; ends = ap (λ (b : Bool). cond b (Some outcome.Committed) (ending_with left (outcome.Aborted v))) t ∙ (let same : outcome.Committed ≡ o = cc in ap (λ (x : Outcome). Some x) same) }
+    by true t h = record {
+      idle = refl;
+      ends = ap (λ (b : Bool). cond b (Some outcome.Committed) (ending_with left
+          (outcome.Aborted v))) t ∙ (let same : outcome.Committed ≡ o = cc in ap (λ (x : Outcome). Some x) same);
+    }
     by false t h = record { idle = refl; ends = ap (λ (b : Bool). cond b (Some outcome.Committed) (ending_with left (outcome.Aborted v))) t ∙ over left tries last (outcome.Aborted v) o h }

@@ -39,7 +39,15 @@ answers_to : (f : Option Flight) (n : ℕ) (said : Said) (a : Answered) → with
 answers_to None n said a is = absurd cc
 answers_to (Some f) n said a is =
     let e = some_same _ a is in
-    record { flight = f; is = refl; txn = sym (ap (λ (x : Answered). x.txn) e); number = sym (ap (λ (x : Answered). x.number) e); op = sym (ap (λ (x : Answered). x.op) e); same = sym (ap (λ (x : Answered). x.said) e) }
+    record {
+      flight = f;
+      is = refl;
+      txn = sym (ap (λ (x : Answered). x.txn) e);
+      number = sym (ap (λ (x : Answered).
+          x.number) e);
+      op = sym (ap (λ (x : Answered). x.op) e);
+      same = sym (ap (λ (x : Answered). x.said) e);
+    }
 
 pub flight_given : (ps : List Checked) (h : List Event) → Legal ps h → (n : ℕ) (f : Flight) → open_op h n ≡ Some f → n ≤ given h
 flight_given ps h legal n f is =

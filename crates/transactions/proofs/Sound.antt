@@ -177,7 +177,17 @@ reached_at ps s q at loaded is = ap (λ (x : Option Checked). reached_by x s.cal
 -- the standing that was answered, where what it waits for is given
 abbrev answered_to : Option Sent → Said → Standing → Standing
 answered_to r said s =
-    record { call = s.call; answers = answers_after r said s.answers; sent = None; full = full_after r said s.full; undo = undo_after r said s.undo; tries = tries_after r said s.tries; used = s.used; last = s.last }
+    record {
+      call = s.call;
+      answers = answers_after r said s.answers;
+      sent = None;
+      full = full_after r said s.full;
+      undo
+          = undo_after r said s.undo;
+      tries = tries_after r said s.tries;
+      used = s.used;
+      last = s.last;
+    }
 
 pub sound_answered : (ps : List Checked) (s : Standing) (r : Sent) (said : Said) → s.sent ≡ Some r
     → fits r.op said ≡ true → Sound ps s → Sound ps (answered said s)

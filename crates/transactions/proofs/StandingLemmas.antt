@@ -117,7 +117,8 @@ each_standing P ps admit ask answer undo (Answer u n said ∷ h) legal t s is =
       | inl same ↦
           let a = legal.0 in
           let was : standing h t ≡ Some a.s = ap (standing h) (sym same) ∙ a.is in
-          subst P (some_same _ s (sym (standing-same (Answer u n said) h t same ∙ ap (moved (Answer u n said)) was) ∙ is)) (answer h u n said a (each_standing P ps admit ask answer undo h legal.1 t a.s was))
+          subst P (some_same _ s (sym (standing-same (Answer u n said) h t same ∙ ap (moved (Answer u n said)) was) ∙
+          is)) (answer h u n said a (each_standing P ps admit ask answer undo h legal.1 t a.s was))
       | inr other ↦ each_standing P ps admit ask answer undo h legal.1 t s (sym (standing-other (Answer u n said) h t other) ∙ is)
     ]
 each_standing P ps admit ask answer undo (Undo u n o ∷ h) legal t s is =

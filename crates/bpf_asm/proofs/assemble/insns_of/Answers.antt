@@ -13,8 +13,15 @@ pub lines-preserved-in-Ok-None : goal.lines-preserved-in-Ok-None
 lines-preserved-in-Ok-None c =
     let i = c.lines.invariant in
     let t = YieldsList-turn (YieldsList-from_lines c.args.text.now (cc)) c.lines.yielded _ c.lines.yielded_by _ _ c.in-Some.line c.in-Some.is c.next.ensures.steps in
-    let n = length_push c.lines.yielded c.in-Some.line in
-    (tt, tt, omega (arith, i.2, n), i.3, i.4, going_on (lines c.args.text.now) c.lines.number c.lines.slots (length c.lines.yielded) c.in-Some.line.now (Ok None) c.lines.insns.items _ i.2 t (search rules) i.5)
+    let n = length_push c.lines.yielded c.in-Some.line in (
+      tt,
+      tt,
+      omega (arith, i.2, n),
+      i.3,
+      i.4,
+      going_on (lines c.args.text.now) c.lines.number c.lines.slots (length
+          c.lines.yielded) c.in-Some.line.now (Ok None) c.lines.insns.items _ i.2 t (search rules) i.5,
+    )
 
 pub returns-in-Err-clause-err : goal.returns-in-Err-clause-err
 returns-in-Err-clause-err c =
@@ -27,7 +34,8 @@ returns-then-slots-gt-MOST_SLOTS-clause-err c =
     let i = c.lines.invariant in
     let t = YieldsList-turn (YieldsList-from_lines c.args.text.now (cc)) c.lines.yielded _ c.lines.yielded_by _ _ c.in-Some.line c.in-Some.is c.next.ensures.steps in
     let on = going_on (lines c.args.text.now) c.lines.number c.lines.slots (length c.lines.yielded) c.in-Some.line.now (Ok (Some c.in-Ok-Some.insn)) c.lines.insns.items _ i.2 t (search rules) i.5 in
-    too_long (c.lines.number + 1) c.lines.slots c.in-Ok-Some.insn c.lines.insns.items (later (lines c.args.text.now) c.lines.number) _ (omega (arith, c.if-slots-gt-MOST_SLOTS.true, c.slots-slots.ensures.value)) on
+    too_long (c.lines.number + 1) c.lines.slots c.in-Ok-Some.insn c.lines.insns.items (later (lines c.args.text.now)
+    c.lines.number) _ (omega (arith, c.if-slots-gt-MOST_SLOTS.true, c.slots-slots.ensures.value)) on
 
 pub lines-preserved : goal.lines-preserved
 lines-preserved c =

@@ -14,7 +14,10 @@ cut_up rest some = ap (λ (b : Bool). if b then [] else map trim (slice_split (�
 pub returns-then-count-eq3-clause-none : goal.returns-then-count-eq3-clause-none
 returns-then-count-eq3-clause-none c =
     let rest = c.args.rest.now in
-    let t = YieldsList-turn (YieldsList-from_slice_split _ (λ b. b == 44) rest (cc) (cc) (cc) (λ x b q k. search (rules, tests))) c.parts.yielded _ c.parts.yielded_by _ _ c.in-Some.part c.in-Some.is c.next.ensures.steps in
+    let t = YieldsList-turn (YieldsList-from_slice_split _ (λ b. b == 44) rest (cc) (cc) (cc) (λ x b q k. search (
+      rules,
+      tests,
+    ))) c.parts.yielded _ c.parts.yielded_by _ _ c.in-Some.part c.in-Some.is c.next.ensures.steps in
     let some : is_empty (trim rest) ≡ false = search (rules, tests) in
     let n = ap length (cut_up rest some) ∙ length-map (slice_split (λ b. b == 44) rest) trim in
     omega (arith, t.0, n, c.parts.invariant.2)
@@ -30,7 +33,10 @@ parts-preserved c =
 pub returns-clause-some : goal.returns-clause-some
 returns-clause-some c =
     let rest = c.args.rest.now in
-    let t = YieldsList-end (YieldsList-from_slice_split _ (λ b. b == 44) rest (cc) (cc) (cc) (λ x b q k. search (rules, tests))) c.parts.yielded _ c.parts.yielded_by _ _ c.in-None.is c.next.ensures.steps in
+    let t = YieldsList-end (YieldsList-from_slice_split _ (λ b. b == 44) rest (cc) (cc) (cc) (λ x b q k. search (
+      rules,
+      tests,
+    ))) c.parts.yielded _ c.parts.yielded_by _ _ c.in-None.is c.next.ensures.steps in
     let some : is_empty (trim rest) ≡ false = search (rules, tests) in
     let i = c.parts.invariant in
     let cut = cut_up rest some in

@@ -25,5 +25,6 @@ returns-clause-says c =
     let is = c.places-place-items.ensures.value in
     let written = string_bytes c.loop-place.text in
     let text : written ≡ text_of c.args.code.now =
-    sym (append-nil written) ∙ ap (λ (t : List ℕ). written ++ t) (sym (at_drop_all text_of items c.loop-place.place-index c.loop-place-test.false)) ∙ c.loop-place.invariant.0 ∙ ap text_of is in
+    sym (append-nil written) ∙ ap (λ (t : List ℕ). written ++ t) (sym (at_drop_all text_of items
+    c.loop-place.place-index c.loop-place-test.false)) ∙ c.loop-place.invariant.0 ∙ ap text_of is in
     ap assembled text ∙ assembled_again c.args.code.now c.places-place-items.ensures.code (subst AllOperands is fits)

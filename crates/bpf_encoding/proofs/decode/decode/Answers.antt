@@ -8,7 +8,8 @@ pub places_of-requires : goal.places_of-requires
 places_of-requires c = (length c.args.bytes.now / 8, omega arith)
 
 pub returns-in_err-places-clause-only : goal.returns-in_err-places-clause-only
-returns-in_err-places-clause-only c = λ places spells. let p = err_from_is_err_and c.from_residual.result c.from_residual.ensures.1 in rw (p.1, p.2) (only_memory c.args.bytes.now places _ spells c.in_err-places.ensures.err)
+returns-in_err-places-clause-only c = λ places spells. let p = err_from_is_err_and c.from_residual.result
+    c.from_residual.ensures.1 in rw (p.1, p.2) (only_memory c.args.bytes.now places _ spells c.in_err-places.ensures.err)
 
 pub invariant_of-result : goal.invariant_of-result
 invariant_of-result c = let some : 0 < length c.args.bytes.now = grind (arith, nat_tests) in

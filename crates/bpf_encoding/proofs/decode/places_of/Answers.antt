@@ -52,7 +52,9 @@ returns-in-None-clause-fields c =
     let l = c.loop-at in
     let n : length c.args.bytes.now / 8 - l.at ≡ 0 = omega arith in
     let none : due_fields l.due ≡ [] = ap due_fields c.in-None.is in
-    sym (append-nil (fields_of_code l.places.items)) ∙ ap (λ (fs : List Fields). fields_of_code l.places.items ++ fs) (sym none) ∙ sym (append-nil _) ∙ ap (λ (k : ℕ). (fields_of_code l.places.items ++ due_fields l.due) ++ slots_from k l.rest.now) (sym n) ∙ l.invariant.fields
+    sym (append-nil (fields_of_code l.places.items)) ∙ ap (λ (fs : List Fields). fields_of_code l.places.items ++ fs)
+    (sym none) ∙ sym (append-nil _) ∙ ap (λ (k : ℕ). (fields_of_code l.places.items ++ due_fields l.due) ++ slots_from
+    k l.rest.now) (sym n) ∙ l.invariant.fields
 
 pub returns-in-None-clause-named : goal.returns-in-None-clause-named
 returns-in-None-clause-named c =
@@ -73,4 +75,5 @@ returns-in-Some-clause-err c =
     let l = c.loop-at in
     let n : length c.args.bytes.now / 8 - l.at ≡ 0 = omega arith in
     let at_end : l.at - 1 ≡ c.saturating_sub.result = omega arith in
-    sym l.invariant.faults ∙ ap (λ (k : ℕ). first_fault (is_some l.due) l.at (slots_from k l.rest.now)) n ∙ ap (λ (o : Option Due). first_fault (is_some o) l.at []) c.in-Some.is ∙ ap (λ (k : ℕ). Some (WideCut k)) at_end
+    sym l.invariant.faults ∙ ap (λ (k : ℕ). first_fault (is_some l.due) l.at (slots_from k l.rest.now)) n ∙ ap (λ (o :
+    Option Due). first_fault (is_some o) l.at []) c.in-Some.is ∙ ap (λ (k : ℕ). Some (WideCut k)) at_end

@@ -11,10 +11,13 @@ loop-place-preserved c =
     let eight : length c.to_bytes.result ≡ 8 = search rules in
     rw (c.in_ok-extend_from_slice.ensures.items, c.high_behind-high.ensures) (record {
       long = omega (arith, length-append l.bytes.items c.to_bytes.result, l.invariant.long, eight);
-      slots = slots_go_on l.place-index c.places-places.result.now _ l.bytes.items c.to_bytes.result l.high _ c.loop-place-test.true l.invariant.long eight (c.to_bytes.ensures ∙ c.slot_at.ensures.fields) l.invariant.slots;
+      slots = slots_go_on l.place-index c.places-places.result.now _ l.bytes.items c.to_bytes.result l.high _
+          c.loop-place-test.true l.invariant.long eight (c.to_bytes.ensures ∙ c.slot_at.ensures.fields) l.invariant.slots;
     })
 
 pub returns : goal.returns
 returns c =
     let l = c.loop-place in
-    rw (sym c.places-places.ensures.value) (written_is_spelled l.place-index l.bytes.items c.places-places.result.now l.high c.loop-place-test.false l.auto.place-index-end l.invariant.long (rw c.places-places.ensures.value c.places-places.ensures.code) l.invariant.slots)
+    rw (sym c.places-places.ensures.value) (written_is_spelled l.place-index l.bytes.items c.places-places.result.now
+    l.high c.loop-place-test.false l.auto.place-index-end l.invariant.long (rw c.places-places.ensures.value
+    c.places-places.ensures.code) l.invariant.slots)

@@ -15,10 +15,13 @@ performed-preserved c = record {
   fits = few_behind c.perform.new.rows.items c.args.base.now c.args.performed.now.items (c.performed.place + 1) (omega (arith, inside)) rows_now;
   kept = elim c.if-number-mark.branch [
     | then-number-mark w ↦
-        kept_next c.args.row_limit c.args.base.now c.performed.kept.items c.if-number-mark.kept.items c.args.mark c.args.performed.now.items c.performed.place c.performed.place c.at-number.result.0 c.at-number.result
+        kept_next c.args.row_limit c.args.base.now c.performed.kept.items c.if-number-mark.kept.items c.args.mark
+        c.args.performed.now.items c.performed.place c.performed.place c.at-number.result.0 c.at-number.result
         inside c.requires.right c.performed.invariant.kept (ap (λ (e : Performed). e.0) is) w.if-number-mark.true (ap (λ v. v.items) w.kept-is ∙ w.keep.ensures.items) refl
     | else-number-mark w ↦
-        rw (w.kept-is) (kept_still c.performed.kept.items c.args.mark c.args.performed.now.items c.performed.place c.at-number.result.0 c.at-number.result inside c.performed.invariant.kept (ap (λ (e : Performed). e.0) is) w.if-number-mark.false)
+        rw (w.kept-is) (kept_still c.performed.kept.items c.args.mark c.args.performed.now.items c.performed.place
+        c.at-number.result.0 c.at-number.result inside c.performed.invariant.kept (ap (λ (e : Performed). e.0) is)
+        w.if-number-mark.false)
   ];
   rows_room = (let same = c.perform.ensures.capacity in let before = c.performed.invariant.rows_room in omega (arith, same, before));
   kept_room = elim c.if-number-mark.branch [

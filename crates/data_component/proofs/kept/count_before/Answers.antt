@@ -9,4 +9,6 @@ returns-clause-value c =
     let kept = c.args.kept.now in
     let key = c.args.number in
     place_is number_eq nat_lt numbers key kept c.partition_point.result c.partition_point.ensures.bound
-    (IsPartitionPoint-from_clause (below number_eq nat_lt numbers key) kept c.partition_point.result c.partition_point.ensures.partitioned (partitioned number_eq nat_lt numbers key kept c.requires) (λ a r f' k. search rules))
+    (IsPartitionPoint-from_clause (below number_eq nat_lt numbers key) kept c.partition_point.result
+    c.partition_point.ensures.partitioned (partitioned number_eq nat_lt numbers key kept c.requires) (λ a r f' k.
+    search rules))

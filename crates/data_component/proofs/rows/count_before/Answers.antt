@@ -10,4 +10,6 @@ returns-clause-value c =
     let rows = c.args.rows.now in
     let key = c.args.«record».now in
     place_is record_eq record_less records key rows c.partition_point.result c.partition_point.ensures.bound
-    (IsPartitionPoint-from_clause (below record_eq record_less records key) rows c.partition_point.result c.partition_point.ensures.partitioned (partitioned record_eq record_less records key rows c.requires) (λ a r f' k. search rules))
+    (IsPartitionPoint-from_clause (below record_eq record_less records key) rows c.partition_point.result
+    c.partition_point.ensures.partitioned (partitioned record_eq record_less records key rows c.requires) (λ a r f' k.
+    search rules))

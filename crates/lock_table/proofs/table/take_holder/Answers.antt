@@ -16,8 +16,12 @@ leave-held-requires-clause-row c =
     let m = c.args.records.now in
     let k = c.args.lock.now.«record» in
     let links = c.args.links.now in
-    let h = c.requires.held.0 in
-    (λ t. is_some (h t), row_of h (get record_eq m k) c.index.result.now (before_at links k) (behind_at links k) c.requires.held.1 (sym c.in-Some.ensures.value ∙ c.index.ensures), c.requires.held.2)
+    let h = c.requires.held.0 in (
+      λ t. is_some (h t),
+      row_of h (get record_eq m k) c.index.result.now (before_at links k) (behind_at links k)
+          c.requires.held.1 (sym c.in-Some.ensures.value ∙ c.index.ensures),
+      c.requires.held.2,
+    )
 
 pub returns-then-ends-clause-held : goal.returns-then-ends-clause-held
 returns-then-ends-clause-held c = λ h is there.

@@ -15,7 +15,8 @@ returns-clause-bytes c =
     let args = c.args.args.now in
     let all = take_all c.numbers.arg-index args c.numbers-test.false in
     on_ok_weaker c.write_zeros.result
-    (λ h. written c.args.out.now.items _ _ (flat_map (to_le_bytes w64) args) (replicate (64 - 8 * length args) 0) _ (c.numbers.invariant ∙ ap (λ (xs : List ℕ). c.args.out.now.items ++ flat_map (to_le_bytes w64) xs) all) h refl)
+    (λ h. written c.args.out.now.items _ _ (flat_map (to_le_bytes w64) args) (replicate (64 - 8 * length args) 0) _
+    (c.numbers.invariant ∙ ap (λ (xs : List ℕ). c.args.out.now.items ++ flat_map (to_le_bytes w64) xs) all) h refl)
     c.write_zeros.ensures
 
 longer : (old new args : List ℕ) → new ≡ old ++ args_bytes args → length args ≤ 8 → length new ≡ length old + 64

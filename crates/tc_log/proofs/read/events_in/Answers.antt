@@ -8,10 +8,15 @@ use Rattle.tc_log.proofs.read.events_in.Goals as goal
 pub records-preserved : goal.records-preserved
 records-preserved c = record {
   rest = rest_further c.args.bytes.now c.records.rest.now c.split_at.result.1.now c.records.place c.records.invariant.rest (search rules);
-  events = printed_further c.records.events.items c.push.new.self.items c.in-Some.event c.args.bytes.now c.records.rest.now c.split_at.result.0.now c.records.place c.records.invariant.events (search rules) c.records.invariant.rest (search rules) (search rules) (search rules);
-  before = read_further c.in-Some.event c.args.bytes.now c.records.rest.now c.split_at.result.0.now c.records.place c.records.invariant.before c.records.invariant.rest (search rules) (search rules) (search rules) (search rules);
+  events = printed_further c.records.events.items c.push.new.self.items c.in-Some.event c.args.bytes.now
+      c.records.rest.now c.split_at.result.0.now c.records.place c.records.invariant.events (search rules)
+      c.records.invariant.rest (search rules) (search rules) (search rules);
+  before = read_further c.in-Some.event c.args.bytes.now c.records.rest.now c.split_at.result.0.now c.records.place
+      c.records.invariant.before c.records.invariant.rest (search rules) (search rules) (search rules) (search rules);
   count = search rules;
-  seen = seen_further c.records.events.items c.push.new.self.items c.in-Some.event c.args.bytes.now c.records.rest.now c.split_at.result.0.now c.records.place c.records.invariant.seen c.records.invariant.count (search rules) c.records.invariant.rest
+  seen = seen_further c.records.events.items c.push.new.self.items c.in-Some.event c.args.bytes.now c.records.rest.now
+      c.split_at.result.0.now c.records.place c.records.invariant.seen c.records.invariant.count (search rules)
+      c.records.invariant.rest
       (search rules) (search rules) (search rules) (search rules);
 }
 

@@ -28,7 +28,8 @@ slots-preserved c =
     let kept = c.slots.invariant in
     let new : c.add.new.self ≡ added (record_of args s) s.mode locks = c.add.ensures ∙ ap (λ (r : Record). added r s.mode locks) c.record.ensures in
     let more = take_more items i _ c.slots-test.true in (
-      subst (AreLocksOf args (take (i + 1) items)) (sym new) (subst (λ (ss : List Slot). AreLocksOf args ss (added (record_of args s) s.mode locks)) (sym more) (locks_more args (take i items) s locks kept.0 kept.1)),
+      subst (AreLocksOf args (take (i + 1) items)) (sym new) (subst (λ (ss : List Slot). AreLocksOf args ss (added
+          (record_of args s) s.mode locks)) (sym more) (locks_more args (take i items) s locks kept.0 kept.1)),
       subst Rising (sym new) (rising_added (record_of args s) s.mode locks kept.1),
       omega (arith, ap length new, one_more (record_of args s) s.mode locks, kept.2),
     )

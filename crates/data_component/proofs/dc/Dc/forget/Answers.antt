@@ -15,7 +15,8 @@ returns-then-not-are_at_most-clause-told c =
     let length_is = c.len.ensures in
     let all : c.self.inside.saved ≡ length c.self.inside.performed.items = omega (arith, whole, length_is) in
     sym c.if-not-are_at_most.true ∙ c.are_at_most.ensures
-    ∙ tells c.self.inside.base.items c.self.inside.base_mark c.self.inside.performed.items c.self.inside.performed.items c.self.inside.mark c.self.inside.saved c.self.inside.saved_mark c.self.inside.incarnation
+    ∙ tells c.self.inside.base.items c.self.inside.base_mark c.self.inside.performed.items c.self.inside.performed.items
+    c.self.inside.mark c.self.inside.saved c.self.inside.saved_mark c.self.inside.incarnation
     c.self.inside.row_limit c.self.inside.op_limit refl all few
     ∙ ap may_forget c.self.view_is
 
@@ -29,6 +30,7 @@ returns-clause-told c =
     let length_is = c.len.ensures in
     let all : c.self.inside.saved ≡ length c.self.inside.performed.items = omega (arith, whole, length_is) in
     sym c.if-not-are_at_most.false ∙ c.are_at_most.ensures
-    ∙ tells c.self.inside.base.items c.self.inside.base_mark c.self.inside.performed.items c.self.inside.performed.items c.self.inside.mark c.self.inside.saved c.self.inside.saved_mark c.self.inside.incarnation
+    ∙ tells c.self.inside.base.items c.self.inside.base_mark c.self.inside.performed.items c.self.inside.performed.items
+    c.self.inside.mark c.self.inside.saved c.self.inside.saved_mark c.self.inside.incarnation
     c.self.inside.row_limit c.self.inside.op_limit refl all few
     ∙ ap may_forget c.self.view_is

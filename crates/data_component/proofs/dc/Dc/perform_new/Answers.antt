@@ -5,13 +5,20 @@ use Rattle.data_component.proofs.dc.Dc.perform_new.Goals as goal
 
 pub invariant_of-self : goal.invariant_of-self
 invariant_of-self c = (
-  keeps_next c.args.redo _ c.self.inside.rows.items c.perform-said.new.rows.items c.self.inside.base.items c.self.inside.performed.items c.note.new.performed.items c.self.inside.kept.items c.keep.new.kept.items c.self.inside.mark c.self.inside.row_limit c.self.inside.op_limit
+  keeps_next c.args.redo _ c.self.inside.rows.items c.perform-said.new.rows.items c.self.inside.base.items
+      c.self.inside.performed.items c.note.new.performed.items c.self.inside.kept.items c.keep.new.kept.items
+      c.self.inside.mark c.self.inside.row_limit c.self.inside.op_limit
       c.args.number c.args.op.now c.perform-said.result c.len-2.result
       c.self.invariant.0 (search rules) (search rules) (search rules) (search rules) c.perform-said.ensures.performs c.note.ensures.items c.keep.ensures.items (search rules),
   search rules,
   search rules,
   search rules,
-  (let inside = c.self.invariant.4 in let more = ap length c.note.ensures.items in omega (arith, inside, more, length-append c.self.inside.performed.items ((c.args.number, c.args.op.now, c.perform-said.result) ∷ []))),
+  (let inside = c.self.invariant.4 in let more = ap length c.note.ensures.items in omega (
+    arith,
+    inside,
+    more,
+    length-append c.self.inside.performed.items ((c.args.number, c.args.op.now, c.perform-said.result) ∷ []),
+  )),
   search rules,
   search rules,
   search rules,
