@@ -37,7 +37,7 @@ GROUPS = [
     ("the transaction component's calls, what its state keeps, what a call's slots hold", "tc_core call_results"),
     ("the procedures of an object file, the lines of its source", "object_file source_lines"),
     ("a file that a crash may cut short", "frame_file"),
-    ("a log's file, a file of the system, whose log it is, a journal over it", "log_file disk_file procedure_digest log_journal"),
+    ("a log's file, a file of the system, whose log it is, a journal over it, an engine's", "log_file disk_file procedure_digest log_journal engine_log"),
     ("the steps of a world", "tc_world"),
     ("crashes of the transaction component", "tc_world.Recovery tc_world.Lives tc_world.Ahead"),
     ("an engine that writes its log's file ahead", "engine_recovery"),
