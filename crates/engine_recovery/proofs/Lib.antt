@@ -3,3 +3,4 @@ pub mod ReadingLemmas
 pub mod TurnLemmas
 pub mod BatchLemmas
 pub mod ExampleLemmas
+pub mod HandedLemmas

@@ -2,6 +2,7 @@
 -- what data components are sent).
 use Rattle.std.specs.Prelude.{◌≡◌, ℕ, List, ◌++◌, Option, reverse}
 use Rattle.tc_log.specs.Reading.{ArePrinted, AreEvents}
+use Rattle.frame_file.specs.Frame.{frames_from}
 use Rattle.frame_file.specs.Reading.{Reads}
 use Rattle.log_file.specs.declared.header.Header.{Header}
 use Rattle.log_file.specs.Bytes.{Rows, Batch, payloads_of, notes_of, rows_of}
@@ -36,3 +37,14 @@ pub record IsRead (h : Header) (bytes : List ℕ) (f : Contents) (p : Written) :
   pub reads : Reads bytes (payloads_in h f)
   pub says : Says h (payloads_in h f) f.base p.notes (reverse p.events)
   pub batches : says.batches ≡ f.batches
+
+-- the bytes are a file's frames, one behind another, and it tells that this was written
+pub record IsFileOf (h : Header) (bytes : List ℕ) (p : Written) : Type 0 where
+  pub file : Contents
+  pub is : bytes ≡ frames_from 0 (payloads_in h file)
+  pub tells : FileTells h file p
+
+-- some file is read of the bytes, which says that this was written
+pub record IsReadAs (h : Header) (bytes : List ℕ) (p : Written) : Type 0 where
+  pub file : Contents
+  pub read : IsRead h bytes file p

@@ -1,6 +1,6 @@
 // Laws of an engine that writes its log's file ahead.
 
-ghost use Rattle.std.specs.Prelude.{◌≡◌, ◌≢◌, ◌⊎◌, ◌<◌, ◌^◌, [], ◌∷◌, ℕ, List, Some, false, length, reverse};
+ghost use Rattle.std.specs.Prelude.{◌≡◌, ◌≢◌, ◌⊎◌, ◌<◌, ◌^◌, [], ◌∷◌, ℕ, List, Some, false, length, map, reverse};
 ghost use Rattle.std.specs.List.{fold, flat_map};
 ghost use Rattle.tc_log.specs.declared.event.Event.{Event as EventValue};
 ghost use Rattle.tc_log.specs.declared.event.Event.TheVariants.{Checkpoint};
@@ -26,7 +26,12 @@ ghost use Rattle.tc_world.specs.Ahead.{Written, all_written, Tells};
 ghost use Rattle.tc_world.specs.declared.step.Step.{Step as StepValue};
 ghost use Rattle.tc_world.specs.declared.step.Step.TheVariants as step;
 ghost use Rattle.tc_world.specs.declared.step.Outcome.{Outcome as OutcomeValue};
-ghost use Rattle.engine_recovery.specs.Telling.{Contents, payloads_in, appended, FileTells, IsRead};
+ghost use Rattle.engine_log.specs.Notes.{known_of};
+ghost use Rattle.engine_log.specs.Handing.{HasHandedOut};
+ghost use Rattle.engine_log.specs.Back.{IsBack};
+ghost use Rattle.engine_log.specs.declared.ahead.EngineLog.{EngineLog};
+ghost use Rattle.engine_log.specs.declared.back.Back.{Back};
+ghost use Rattle.engine_recovery.specs.Telling.{Contents, payloads_in, appended, FileTells, IsRead, IsFileOf, IsReadAs};
 ghost use Rattle.engine_recovery.specs.Engine.{Engine, MayBeKilled, Writing, written_on, TakesInMemory, IsBeingWritten, IsCutShort, Turn, Goes, Turns};
 ghost use Rattle.engine_recovery.specs.Since.{TellsSince, noted_from};
 
@@ -83,4 +88,16 @@ pub fn may_write_ahead()
         → last_known h.dcs b.notes ≡ notes_of v → FileTells h (record { base = Some []; batches = b ∷ [] }) (all_written v) }
     // There are such notes: those of all data components.
     ensures notes { (known notes : List SiteNote) → length known ≡ length notes → fold with_note known (noted_from 0 notes) ≡ notes }
+{}
+
+/// An engine that writes what `engine_log` hands out has such a file: what was handed out of a legal log, put together, is a
+/// file that tells of just this log and of what was noted last, which with the whole log is all that is known; and what
+/// `EngineLog::read` takes of a file's bytes is what is read of them.
+pub fn handed_out_tells()
+    ensures told { (h : Header) (l : EngineLog) (ps : List Checked) (log : List EventValue) (bytes : List ℕ) → AllTakeFew ps → Legal ps log
+        → AreEvents (reverse log) → HasHandedOut l bytes (reverse log) → l.header ≡ Some h
+        → IsFileOf h bytes (record { events = log; notes = l.notes.items }) }
+    ensures known { (w : Whole) → map known_of w.core.sites ≡ notes_of w }
+    ensures read { (h : Header) (bytes : List ℕ) (b : Back) → IsBack h bytes b
+        → IsReadAs h bytes (record { events = b.log.events; notes = b.file.notes.items }) }
 {}

@@ -22,4 +22,4 @@ mod examples;
 mod laws;
 
 pub use examples::{engines_that_do_not, files_that_tell};
-pub use laws::{files_are_read, killed_anywhere, may_write_ahead};
+pub use laws::{files_are_read, handed_out_tells, killed_anywhere, may_write_ahead};
