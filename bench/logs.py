@@ -4,7 +4,7 @@ file, and how long the disk takes for a sync.
 
 usage: bench/logs.py [--procd PATH] [--folder FOLDER] [--rounds N] [--moves N]
 
-`procd run --log` begins a log, puts a thousand records and makes the moves; what it says is `calls a second` of these.
+`procd run --log` begins a log, puts a thousand records and makes the moves; only these count (transfers.py).
 SQLite does the same in a new file by as many threads, each with a connection and prepared statements of its own, in
 transactions that begin as writing ones (`BEGIN IMMEDIATE`) and wait for one another, with `journal_mode=WAL` and
 `synchronous=FULL`, so that a commit is on the disk before it is told: bench/baseline/sqlite.rs, which `rustc -O` builds
@@ -21,7 +21,7 @@ import subprocess
 import tempfile
 import time
 
-from transfers import PROCD, build_sqlite, moves_a_second, script
+from transfers import PROCD, Scripts, build_sqlite, moves_a_second
 
 WORKERS = (1, 4, 16, 64)
 SIZES = (96, 4096)
@@ -30,11 +30,7 @@ SYNCS = 100
 
 def procd(program, folder, workers, moves):
     """Moves a second of a run that keeps its log."""
-    text, log = folder / "script.txt", folder / "calls.log"
-    text.write_text(script(moves))
-    rate = moves_a_second(program, text, workers, moves, "--log", log)
-    log.unlink()
-    return rate
+    return moves_a_second(program, Scripts(folder, moves), workers, folder / "calls.log")
 
 
 def sqlite(program, folder, workers, moves):

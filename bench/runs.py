@@ -1,14 +1,13 @@
 #!/usr/bin/env python3
-"""How many moves between two records a second `procd run` makes by 1, 2 and 4 workers, with nothing else on the
+"""How many moves between two records a second `procd run` makes by 1, 2, 4 and 16 workers, with nothing else on the
 processors, and with two other busy processes for each of them, beside SQLite with its rows in memory.
 
 usage: bench/runs.py [--procd PATH] [--rounds N] [--moves N]
 
-What `procd run --stats` says is `calls a second` of a script's moves, so its loading doesn't count; SQLite makes as many
-by one thread with prepared statements, and keeps no log: bench/baseline/sqlite.rs, which `rustc -O` builds over the
-system's library. All are done in turns, one of twenty moves on busy processors; a figure is the median of the rounds,
-with the least and the most. The ratio behind it is that to SQLite on quiet processors, and of busy ones that to the same
-run on quiet ones.
+Loading the script doesn't count (transfers.py). SQLite makes as many by one thread with prepared statements, and keeps no
+log: bench/baseline/sqlite.rs, which `rustc -O` builds over the system's library. All are done in turns, one of four moves
+on busy processors; a figure is the median of the rounds, with the least and the most. The ratio behind it is that to SQLite
+on quiet processors, and of busy ones that to the same run on quiet ones.
 """
 import argparse
 import contextlib
@@ -19,11 +18,11 @@ import subprocess
 import sys
 import tempfile
 
-from transfers import PROCD, build_sqlite, moves_a_second, script
+from transfers import PROCD, Scripts, build_sqlite, moves_a_second
 
-WORKERS = (1, 2, 4)
+WORKERS = (1, 2, 4, 16)
 BUSY = 2  # processes a processor
-FEWER = 20  # of so many moves one is made on busy processors
+FEWER = 4  # of so many moves one is made on busy processors
 
 
 @contextlib.contextmanager
@@ -51,17 +50,14 @@ def spread(figures):
 
 def measured(options, folder, peer):
     """Each round's figures: of SQLite, and of runs on quiet processors and on busy ones by workers."""
-    text, short = folder / "script.txt", folder / "short.txt"
-    fewer = options.moves // FEWER
-    text.write_text(script(options.moves))
-    short.write_text(script(fewer))
+    whole, short = Scripts(folder, options.moves), Scripts(folder, options.moves // FEWER)
     theirs, rates = [], {workers: ([], []) for workers in WORKERS}
     for _ in range(options.rounds):
         theirs.append(sqlite(peer, options.moves))
         for workers, (quiet, among_others) in rates.items():
-            quiet.append(moves_a_second(options.procd, text, workers, options.moves))
+            quiet.append(moves_a_second(options.procd, whole, workers))
             with busy():
-                among_others.append(moves_a_second(options.procd, short, workers, fewer))
+                among_others.append(moves_a_second(options.procd, short, workers))
     return theirs, rates
 
 

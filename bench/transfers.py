@@ -1,10 +1,10 @@
-"""A script of moves between two records at random, how many of them a second `procd run` says that it made, and SQLite to
-set beside it."""
+"""A script of moves between two records at random, how many of them a second `procd run` makes, and SQLite to set beside
+it."""
 import pathlib
 import random
-import re
 import subprocess
 import sys
+import time
 
 TOP = pathlib.Path(__file__).resolve().parent.parent
 sys.path.append(str(TOP / "tools"))
@@ -25,14 +25,46 @@ def script(moves):
     return "".join(lines)
 
 
-def moves_a_second(program, text, workers, moves, *more):
-    """What a run of the script says, each of whose moves has to commit."""
-    words = [program, "run", *more, "--stats", "--workers", str(workers), text]
+class Scripts:
+    """A script of so many moves and one of none, in files."""
+
+    def __init__(self, folder, moves):
+        self.moves, self.with_moves, self.without = moves, folder / f"{moves}.txt", folder / "none.txt"
+        self.with_moves.write_text(script(moves))
+        self.without.write_text(script(0))
+
+
+def took(words, status):
+    """Seconds of a command that ends so, and what it printed."""
+    began = time.perf_counter()
     ran = subprocess.run(words, stdin=subprocess.DEVNULL, capture_output=True, text=True)
-    told = dict(line.rsplit(" ", 1) for line in ran.stderr.splitlines() if re.fullmatch(r"[a-z ]+ \d+", line))
-    if ran.returncode or told.get("committed") != str(moves):
-        sys.exit(f"{program} ended with {ran.returncode}: {ran.stderr}")
-    return float(told["calls a second"])
+    seconds = time.perf_counter() - began
+    if ran.returncode != status:
+        sys.exit(f"{words[0]} ended with {ran.returncode}: {ran.stderr or ran.stdout}")
+    return seconds, ran.stdout
+
+
+def moves_a_second(program, scripts, workers, log=None):
+    """How many of the moves, each of which has to commit, are made a second: by how much longer the run takes than one of
+    none, where one that is refused once its script is loaded (by no workers) takes off what it takes longer to load."""
+
+    def running(text):
+        words = [program, "run", "--workers", str(workers), text]
+        if log is None:
+            return took(words, 0)
+        ran = took([*words, "--log", log], 0)
+        log.unlink()
+        return ran
+
+    def loading(text):
+        return took([program, "run", "--workers", "0", text], 1)[0]
+
+    seconds, printed = running(scripts.with_moves)
+    committed = sum(line.startswith("call ") and line.endswith(" committed") for line in printed.splitlines())
+    if committed != scripts.moves:
+        sys.exit(f"{program} committed {committed} of {scripts.moves} moves")
+    seconds -= running(scripts.without)[0]
+    return scripts.moves / (seconds - (loading(scripts.with_moves) - loading(scripts.without)))
 
 
 def build_sqlite(peer):
