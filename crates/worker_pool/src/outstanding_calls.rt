@@ -1,6 +1,6 @@
 // The calls that a worker has on their way.
 
-ghost use Rattle.std.specs.Prelude.{◌≡◌, ◌+◌, ◌<◌, ◌≤◌, Some, None, IfSome, slice_get, vec_len, vec_capacity};
+ghost use Rattle.std.specs.Prelude.{◌≡◌, ◌+◌, ◌<◌, ◌≤◌, true, Some, None, IfSome, length, slice_get, vec_len, vec_capacity};
 ghost use Rattle.access_slots.specs.Locks.{target};
 ghost use Rattle.worker_pool.specs.Joining.Moves.{IsAnsweredBy};
 ghost use Rattle.worker_pool.specs.Restarts.{AreKnown};
@@ -26,23 +26,34 @@ struct WaitingCall {
     is_told: bool,
 }
 
-/// How many calls a worker has on their way.
+/// How many calls a worker has at a time.
 #[derive(Clone, Copy)]
 pub struct MostCalls {
-    /// With a wire that is carried.
+    /// With a wire that is to be carried or on its way.
     pub away: usize,
-    /// With those that one taking of the pool's lock brought to their end.
-    pub in_all: usize,
+    /// With another transaction in their way.
+    pub waiting: usize,
+    /// That are taken up under one taking of the pool's lock, or gone on with, or that end.
+    pub of_a_taking: usize,
 }
 
 /// The calls that a worker has on their way, so many at most.
 pub struct OutstandingCalls<J: RunSpec> {
-    // Those whose wires are carried next, each in its place until it is over.
+    // Those whose wires are to be carried or on their way, each in its place until it is over. Another call has
+    // the place then.
     away: Vec<OutstandingCall<J>>,
+    // The places of calls whose wires are to be carried since the link was called last.
+    ready: Vec<usize>,
+    // The places of calls for which something came back, or nothing will.
+    back: Vec<usize>,
+    // The places where no call is.
+    free: Vec<usize>,
     // Answers that stand, and are ready.
     over: Vec<ReadyAnswer<J>>,
-    // A call with another transaction in its way.
-    waiting: Option<WaitingCall>,
+    // Calls with another transaction in their way, in the order in which they were taken up.
+    waiting: Vec<WaitingCall>,
+    // Whether there was room for more calls when as many were taken up as in a taking may be.
+    is_cut: bool,
     most: MostCalls,
 }
 
@@ -53,8 +64,11 @@ impl<J: RunSpec> Model for OutstandingCalls<J> {
 
     ghost view = { λ e. vec_len e.away + vec_len e.over };
 
-    ghost invariant = { λ e. (vec_len e.away ≤ e.most.away) × (vec_len e.away + vec_len e.over ≤ e.most.in_all)
-        × (e.most.away ≤ vec_capacity e.away) × (e.most.in_all ≤ vec_capacity e.over) };
+    ghost invariant = { λ e. (vec_len e.away ≤ e.most.away) × (vec_len e.over ≤ e.most.of_a_taking)
+        × (vec_len e.ready + vec_len e.back + vec_len e.free ≤ vec_len e.away)
+        × (e.most.away ≤ vec_capacity e.away) × (e.most.away ≤ vec_capacity e.ready)
+        × (e.most.away ≤ vec_capacity e.back) × (e.most.away ≤ vec_capacity e.free)
+        × (e.most.of_a_taking ≤ vec_capacity e.over) × (e.most.waiting ≤ vec_capacity e.waiting) };
 }
 
 // What becomes of an outstanding call behind a step of its call.
@@ -109,19 +123,38 @@ fn first_steps<J: RunSpec, P: RunPerformer<J>>(
     }
 }
 
-// The first steps of a call: one that is admitted goes on at once.
+// The first steps of a call, which has this place from now on: one that is admitted goes on at once.
 #[inline(always)]
-fn begin<J: RunSpec, P: RunPerformer<J>>(
+fn start<J: RunSpec, P: RunPerformer<J>>(
     pool_state: &mut PoolState<J>,
+    k: usize,
     call: &Call,
     outstanding: &mut OutstandingCall<J>,
     performer: &P,
 ) -> Course<J>
-    requires call { slice_get J.calls outstanding.old.call ≡ Some call.now }
-    requires none { outstanding.old.attempt.request ≡ None }
+    requires { slice_get J.calls k ≡ Some call.now }
 {
+    pool_state.release(&mut outstanding.attempt);
+    outstanding.restart(k);
     let next = first_steps(pool_state, call, outstanding, performer);
-    course_of(pool_state, outstanding.call, call, next)
+    course_of(pool_state, k, call, next)
+}
+
+// The same of the call with this number, which is one of these.
+#[inline(always)]
+fn begin<J: RunSpec, P: RunPerformer<J>>(
+    pool_state: &mut PoolState<J>,
+    calls: &[Call],
+    k: usize,
+    outstanding: &mut OutstandingCall<J>,
+    performer: &P,
+) -> Course<J>
+    requires { calls.now ≡ J.calls }
+{
+    match calls.get(k) {
+        Some(call) => start(pool_state, k, call, outstanding, performer),
+        None => Course::Over,
+    }
 }
 
 // The step of a call that what came back leads to, or that nothing did.
@@ -168,10 +201,8 @@ fn go_on<J: RunSpec, P: RunPerformer<J>>(
     ensures told { outstanding.old.reply ≡ None
         → IfSome outstanding.old.news (AreKnown pool_state.old.state pool_state.new.state (target outstanding.old.attempt.wire.op).dc) }
 {
-    let is_again = outstanding.reply.is_none();
+    outstanding.is_again = outstanding.reply.is_none();
     let next = next_step(pool_state, call, outstanding, performer);
-    outstanding.is_again = is_again;
-    outstanding.reply = None;
     course_of(pool_state, outstanding.call, call, next)
 }
 
@@ -196,10 +227,13 @@ fn abandon<J: RunSpec>(pool_state: &mut PoolState<J>, outstanding: OutstandingCa
     let OutstandingCall {
         call: _,
         is_begun: _,
-        attempt,
         is_again: _,
-        is_carried: _,
+        is_free: _,
+        is_submitted: _,
+        is_unanswered: _,
+        is_news_due: _,
         reply: _,
+        attempt,
         news: _,
     } = outstanding;
     pool_state.abandon(attempt);
@@ -224,55 +258,212 @@ fn forget_all<J: RunSpec>(mut over: Vec<ReadyAnswer<J>>) {
     over.destroy_empty();
 }
 
-// The call that waits, or the next one that no worker has taken.
+// The call in this place of those that wait, or else the next one that no worker has taken, if one more may wait.
 #[inline(always)]
 fn next_call<J: RunSpec>(
-    waiting: &mut Option<WaitingCall>,
+    waiting: &[WaitingCall],
+    at: usize,
+    most: usize,
     pool_state: &mut PoolState<J>,
-) -> Option<WaitingCall> {
-    if let Some(waiting) = waiting.take() {
-        return Some(waiting);
+) -> Option<usize>
+    ensures { IfSome result (λ k. length waiting.now ≤ at → length waiting.now < most) }
+{
+    match waiting.get(at) {
+        Some(waiting) => Some(waiting.call),
+        None if waiting.len() < most => pool_state.take(),
+        None => None,
     }
-    let call = pool_state.take()?;
-    Some(WaitingCall {
-        call,
-        is_told: false,
-    })
 }
 
-// What becomes of an outstanding call behind a step of its call: whether its call has to wait. One that is over
-// leaves its place.
+// Notes whether a call has to wait that waited in this place, or behind them all did not yet wait. The next place to
+// look at.
+#[inline(always)]
+fn note(waiting: &mut Vec<WaitingCall>, at: usize, call: usize, waits: bool) -> usize
+    requires { vec_len waiting.old ≤ at → vec_len waiting.old < vec_capacity waiting.old }
+    ensures { vec_capacity waiting.new ≡ vec_capacity waiting.old }
+{
+    if at >= waiting.len() {
+        if waits {
+            waiting.push_reserved(WaitingCall {
+                call,
+                is_told: false,
+            });
+        }
+        return waiting.len();
+    }
+    if waits {
+        return at + 1;
+    }
+    waiting.remove(at);
+    at
+}
+
+// What becomes of a call's place behind a step of the call.
+#[derive(Clone, Copy)]
+enum Settled {
+    // Its wire is to be carried.
+    Ready,
+    // Nothing came back that answers its wire.
+    Back,
+    // The call is over.
+    Free,
+    // The same, since it has to wait.
+    Waits,
+}
+
+// Settles what a step of an outstanding call leads to.
 #[inline(always)]
 fn settle<J: RunSpec>(
-    away: &mut Vec<OutstandingCall<J>>,
+    outstanding: &mut OutstandingCall<J>,
     over: &mut Vec<ReadyAnswer<J>>,
-    pool_state: &mut PoolState<J>,
-    at: usize,
     course: Course<J>,
-) -> bool
-    requires there { at < vec_len away.old }
+) -> Settled
     requires room { vec_len over.old < vec_capacity over.old }
-    ensures one { vec_len away.new + vec_len over.new ≤ vec_len away.old + vec_len over.old }
-    ensures fewer { vec_len away.new ≤ vec_len away.old }
-    ensures left { at ≤ vec_len away.new }
-    ensures away { vec_capacity away.new ≡ vec_capacity away.old }
+    ensures one { vec_len over.new ≤ vec_len over.old + 1 }
     ensures over { vec_capacity over.new ≡ vec_capacity over.old }
 {
     match course {
-        Course::Carry => away[at].is_carried = false,
-        Course::Unanswered => away[at].is_carried = true,
-        Course::Answered(mut ready) => {
-            ready.is_begun = away[at].is_begun;
-            over.push_reserved(ready);
-            abandon(pool_state, away.swap_remove(at));
+        Course::Carry => {
+            outstanding.ready();
+            Settled::Ready
         }
-        Course::Over => abandon(pool_state, away.swap_remove(at)),
+        Course::Unanswered => {
+            outstanding.unanswered();
+            Settled::Back
+        }
+        Course::Answered(mut ready) => {
+            ready.is_begun = outstanding.is_begun;
+            outstanding.is_free = true;
+            over.push_reserved(ready);
+            Settled::Free
+        }
+        Course::Over => {
+            outstanding.is_free = true;
+            Settled::Free
+        }
         Course::Waits => {
-            abandon(pool_state, away.swap_remove(at));
-            return true;
+            outstanding.is_free = true;
+            Settled::Waits
         }
     }
-    false
+}
+
+// Puts a place among those that it belongs to now.
+#[inline(always)]
+fn put(
+    place: usize,
+    settled: Settled,
+    ready: &mut Vec<usize>,
+    back: &mut Vec<usize>,
+    free: &mut Vec<usize>,
+)
+    requires ready { vec_len ready.old < vec_capacity ready.old }
+    requires back { vec_len back.old < vec_capacity back.old }
+    requires free { vec_len free.old < vec_capacity free.old }
+    ensures one { vec_len ready.new + vec_len back.new + vec_len free.new ≡ vec_len ready.old + vec_len back.old + vec_len free.old + 1 }
+    ensures more { vec_len back.old ≤ vec_len back.new }
+    ensures ready { vec_capacity ready.new ≡ vec_capacity ready.old }
+    ensures back { vec_capacity back.new ≡ vec_capacity back.old }
+    ensures free { vec_capacity free.new ≡ vec_capacity free.old }
+{
+    match settled {
+        Settled::Ready => ready.push_reserved(place),
+        Settled::Back => back.push_reserved(place),
+        Settled::Free | Settled::Waits => free.push_reserved(place),
+    }
+}
+
+// Whether there is a place for one more call, where there are so many places, so many of them free, and so many at most.
+#[inline(always)]
+const fn has_room(places: usize, free: usize, most: usize) -> bool
+    ensures { result ≡ true → free ≡ 0 → places < most }
+{
+    free > 0 || places < most
+}
+
+// A free place, or a new one behind the others. There are so many at most.
+#[inline(always)]
+fn place<J: RunSpec>(
+    away: &mut Vec<OutstandingCall<J>>,
+    free: &mut Vec<usize>,
+    most: usize,
+) -> usize
+    requires room { vec_len free.old ≡ 0 → vec_len away.old < most }
+    requires most { (vec_len away.old ≤ most) × (most ≤ vec_capacity away.old) }
+    ensures most { vec_len away.new ≤ most }
+    ensures one { vec_len away.new + vec_len free.old ≡ vec_len away.old + vec_len free.new + 1 }
+    ensures away { vec_capacity away.new ≡ vec_capacity away.old }
+    ensures free { vec_capacity free.new ≡ vec_capacity free.old }
+{
+    match free.pop() {
+        Some(place) => place,
+        None => {
+            away.push_reserved(OutstandingCall::new());
+            away.len() - 1
+        }
+    }
+}
+
+// Tells the gate which calls in these places were admitted since it was told last.
+fn tell_begun<J: RunSpec, G: Gate>(away: &mut [OutstandingCall<J>], places: &[usize], gate: &G) {
+    for place in places {
+        if let Some(outstanding) = away.get_mut(*place) {
+            if outstanding.is_begun {
+                gate.begun(outstanding.call);
+                outstanding.is_begun = false;
+            }
+        }
+    }
+}
+
+// Tells the gate that the wires of the calls in these places are carried.
+fn tell_carried<J: RunSpec, G: Gate>(away: &[OutstandingCall<J>], places: &[usize], gate: &G) {
+    for place in places {
+        if let Some(outstanding) = away.get(*place) {
+            gate.reaches(outstanding.call, outstanding.stage());
+        }
+    }
+}
+
+// The places of calls for which something came back, or nothing will, of which the gate is told; and the free ones.
+fn collect<J: RunSpec, G: Gate>(
+    away: &[OutstandingCall<J>],
+    back: &mut Vec<usize>,
+    free: &mut Vec<usize>,
+    gate: &G,
+)
+    requires none { (vec_len back.old ≡ 0) × (vec_len free.old ≡ 0) }
+    requires room { (length away.now ≤ vec_capacity back.old) × (length away.now ≤ vec_capacity free.old) }
+    ensures each { vec_len back.new + vec_len free.new ≤ length away.now }
+    ensures back { vec_capacity back.new ≡ vec_capacity back.old }
+    ensures free { vec_capacity free.new ≡ vec_capacity free.old }
+{
+    'collecting: for (place, outstanding) in away.iter().enumerate() {
+        if outstanding.is_free {
+            free.push_reserved(place);
+        } else if outstanding.is_back() {
+            gate.reaches(outstanding.call, Stage::Back);
+            back.push_reserved(place);
+        }
+    }
+}
+
+// Asks for news of the components from which no answer came to the calls in these places.
+fn ask_news<J: RunSpec, R: Wait, L: Link>(
+    rt: &R,
+    worker: usize,
+    link: &L,
+    away: &mut [OutstandingCall<J>],
+    places: &[usize],
+) {
+    for place in places {
+        if let Some(outstanding) = away.get_mut(*place) {
+            if outstanding.is_news_due {
+                outstanding.is_news_due = false;
+                outstanding.news = link.news(rt, worker, outstanding.attempt.dc());
+            }
+        }
+    }
 }
 
 impl<J: RunSpec> OutstandingCalls<J> {
@@ -282,25 +473,35 @@ impl<J: RunSpec> OutstandingCalls<J> {
     {
         OutstandingCalls {
             away: Vec::new(alloc),
+            ready: Vec::new(alloc),
+            back: Vec::new(alloc),
+            free: Vec::new(alloc),
             over: Vec::new(alloc),
-            waiting: None,
-            most: MostCalls { away: 0, in_all: 0 },
+            waiting: Vec::new(alloc),
+            is_cut: false,
+            most: MostCalls {
+                away: 0,
+                waiting: 0,
+                of_a_taking: 0,
+            },
         }
     }
 
-    /// Makes room for so many calls.
+    /// Makes room for so many calls, where there is none yet.
     pub fn reserve(&mut self, most: MostCalls) -> Result<(), AllocError>
-        requires away { self.old ≤ most.away }
-        requires in_all { self.old ≤ most.in_all }
+        requires { self.old ≡ 0 }
     {
         self.away.reserve(most.away)?;
-        self.over.reserve(most.in_all)?;
+        self.ready.reserve(most.away)?;
+        self.back.reserve(most.away)?;
+        self.free.reserve(most.away)?;
+        self.over.reserve(most.of_a_taking)?;
+        self.waiting.reserve(most.waiting)?;
         self.most = most;
         Ok(())
     }
 
-    /// The pool's state hears what came of each wire that was carried.
-    #[inline(always)]
+    /// Hears what came back, of so many calls as one taking of the lock goes on with.
     pub fn hear<P: RunPerformer<J>>(
         &mut self,
         pool_state: &mut PoolState<J>,
@@ -309,22 +510,29 @@ impl<J: RunSpec> OutstandingCalls<J> {
     )
         requires { calls.now ≡ J.calls }
     {
-        let mut at = self.away.len();
-        'outstanding_calls: while at > 0 {
-            at -= 1;
-            let outstanding = &mut self.away[at];
-            let k = outstanding.call;
-            let course = step(pool_state, calls, outstanding, performer);
-            if settle(&mut self.away, &mut self.over, pool_state, at, course) {
-                self.waiting = Some(WaitingCall {
-                    call: k,
-                    is_told: false,
-                });
+        let mut left = self.back.len();
+        'hearing: for _ in 0..self.most.of_a_taking {
+            if left == 0 || self.over.len() >= self.most.of_a_taking {
+                return;
             }
+            left -= 1;
+            let place = self.back.swap_remove(left);
+            let Some(outstanding) = self.away.get_mut(place) else {
+                return;
+            };
+            let course = step(pool_state, calls, outstanding, performer);
+            let settled = settle(outstanding, &mut self.over, course);
+            put(
+                place,
+                settled,
+                &mut self.ready,
+                &mut self.back,
+                &mut self.free,
+            );
         }
     }
 
-    /// Takes calls up while there is room, and none of them waits.
+    /// Takes calls up while there is room, first those that waited, and so many others as one taking of the lock does.
     pub fn take_up<P: RunPerformer<J>>(
         &mut self,
         pool_state: &mut PoolState<J>,
@@ -333,37 +541,45 @@ impl<J: RunSpec> OutstandingCalls<J> {
     )
         requires { calls.now ≡ J.calls }
     {
-        'taking: for _ in 0..self.most.in_all {
-            if self.away.len() >= self.most.away
-                || self.away.len() + self.over.len() >= self.most.in_all
-            {
+        self.is_cut = false;
+        let mut at = 0;
+        'taking: for _ in 0..self.waiting.len().saturating_add(self.most.of_a_taking) {
+            if !has_room(self.away.len(), self.free.len(), self.most.away) {
                 return;
             }
-            let Some(next) = next_call(&mut self.waiting, pool_state) else {
-                return;
-            };
-            let Some(call) = calls.get(next.call) else {
-                return;
-            };
-            let mut outstanding = OutstandingCall::new(next.call);
-            let course = begin(pool_state, call, &mut outstanding, performer);
-            let at = self.away.len();
-            self.away.push_reserved(outstanding);
-            if settle(&mut self.away, &mut self.over, pool_state, at, course) {
-                self.waiting = Some(next);
-                return;
+            if self.over.len() >= self.most.of_a_taking {
+                break;
             }
+            let next = next_call(self.waiting.as_slice(), at, self.most.waiting, pool_state);
+            let Some(k) = next else {
+                return;
+            };
+            let place = place(&mut self.away, &mut self.free, self.most.away);
+            let Some(outstanding) = self.away.get_mut(place) else {
+                return;
+            };
+            let course = begin(pool_state, calls, k, outstanding, performer);
+            let settled = settle(outstanding, &mut self.over, course);
+            put(
+                place,
+                settled,
+                &mut self.ready,
+                &mut self.back,
+                &mut self.free,
+            );
+            at = note(&mut self.waiting, at, k, matches!(settled, Settled::Waits));
         }
+        self.is_cut = has_room(self.away.len(), self.free.len(), self.most.away);
     }
 
-    /// Whether nothing is on its way and no answer is ready.
+    /// Whether no call has a wire, and no answer is ready.
     pub fn is_idle(&self) -> bool {
-        self.away.is_empty() && self.over.is_empty()
+        self.free.len() == self.away.len() && self.over.is_empty()
     }
 
     /// Whether a call has a transaction in its way.
     pub fn is_waiting(&self) -> bool {
-        self.waiting.is_some()
+        !self.waiting.is_empty()
     }
 
     /// Whether an answer is ready.
@@ -380,12 +596,12 @@ impl<J: RunSpec> OutstandingCalls<J> {
 
     /// Whether a call has a transaction in its way, and the gate isn't told of that yet.
     pub fn has_new_wait(&self) -> bool {
-        matches!(self.waiting, Some(WaitingCall { is_told: false, .. }))
+        self.waiting.iter().any(|waiting| !waiting.is_told)
     }
 
     /// Tells the gate of that.
     pub fn tell_waiting<G: Gate>(&mut self, gate: &G) {
-        if let Some(waiting) = &mut self.waiting {
+        for waiting in &mut self.waiting {
             if !waiting.is_told {
                 gate.reaches(waiting.call, Stage::Waiting);
                 waiting.is_told = true;
@@ -395,48 +611,50 @@ impl<J: RunSpec> OutstandingCalls<J> {
 
     /// Tells the gate which calls were admitted since it was told last.
     pub fn tell_begun<G: Gate>(&mut self, gate: &G) {
-        for outstanding in &mut self.away {
-            if outstanding.is_begun {
-                gate.begun(outstanding.call);
-                outstanding.is_begun = false;
-            }
-        }
+        tell_begun(self.away.as_mut_slice(), self.ready.as_slice(), gate);
     }
 
-    // Tells the gate whose wires are carried.
-    fn tell_carried<G: Gate>(&self, gate: &G) {
-        for outstanding in &self.away {
-            if outstanding.wire().is_some() {
-                let stage = if outstanding.is_again {
-                    Stage::CarriedAgain
-                } else {
-                    Stage::Carried
-                };
-                gate.reaches(outstanding.call, stage);
-            }
-        }
+    // Finds the calls for which something came back, or nothing will, and tells the gate; and the free places.
+    fn collect<G: Gate>(&mut self, gate: &G) {
+        self.ready.clear();
+        self.back.clear();
+        self.free.clear();
+        collect(self.away.as_slice(), &mut self.back, &mut self.free, gate);
     }
 
-    /// Carries the wires, and asks for news where no answer came.
-    pub fn carry<R: Wait, L: Link, G: Gate>(&mut self, rt: &R, worker: usize, link: &L, gate: &G) {
-        self.tell_carried(gate);
-        link.carry_all(rt, worker, self.away.as_mut_slice());
-        for outstanding in &mut self.away {
-            if !outstanding.is_carried {
-                gate.reaches(outstanding.call, Stage::Back);
-            }
-            if outstanding.reply.is_none() {
-                outstanding.news = link.news(rt, worker, outstanding.attempt.dc());
-            }
+    /// Has the link take the wires that are to be carried and give what came back, and asks for news where no answer
+    /// came. It is waited for only where nothing else is to be done: what came back before is heard first.
+    pub fn exchange<R: Wait, L: Link, G: Gate>(
+        &mut self,
+        rt: &R,
+        worker: usize,
+        link: &L,
+        gate: &G,
+    ) {
+        if self.back.is_empty() && self.free.len() < self.away.len() {
+            tell_carried(self.away.as_slice(), self.ready.as_slice(), gate);
+            link.exchange(rt, worker, self.away.as_mut_slice(), !self.is_cut);
+            self.collect(gate);
         }
+        ask_news(
+            rt,
+            worker,
+            link,
+            self.away.as_mut_slice(),
+            self.back.as_slice(),
+        );
     }
 
     /// Gives all requests up.
     pub fn close(self, pool_state: &mut PoolState<J>) {
         let OutstandingCalls {
             away,
+            ready: _,
+            back: _,
+            free: _,
             over,
             waiting: _,
+            is_cut: _,
             most: _,
         } = self;
         abandon_all(pool_state, away);

@@ -22,7 +22,7 @@ use crate::report::Report;
 use crate::run_spec::RunSpec;
 use crate::stage::Stage;
 use access_slots::op::{Reply, Wire};
-use dc_links::{Link, WIRES_OF_A_WORKER, acquire};
+use dc_links::{Link, acquire};
 use journals::{Journal, NoJournal, NotKept};
 use std::alloc::{AllocError, Global};
 use std::marker::Brand;
@@ -35,9 +35,13 @@ const MOST_WORKERS: usize = 64;
 
 const MOST_TRIES: u64 = 1000;
 
-const ONE_CALL: MostCalls = MostCalls { away: 1, in_all: 1 };
+const ONE_CALL: MostCalls = MostCalls {
+    away: 1,
+    waiting: 1,
+    of_a_taking: 1,
+};
 
-// So many calls end within one taking of the pool's lock, which takes some 0.1 ms then.
+// So many calls are taken up, gone on with and end within one taking of the pool's lock, which takes some 0.1 ms then.
 const CALLS_OF_A_TAKING: usize = 64;
 
 /// What is told of the calls, by their places in the list.
@@ -60,7 +64,7 @@ pub trait Gate {
         false
     }
 
-    /// Whether the gate never keeps a worker for long: then, over a prompt link, each of several workers has
+    /// Whether the gate never keeps a worker for long, also not where it is told of an answer: then a worker may have
     /// more than one call on their way at a time.
     fn is_prompt(&self) -> bool {
         false
@@ -350,7 +354,7 @@ fn serve<J: RunSpec, K: Journal, R: Wait, L: Link, G: Gate>(
         if pool.commit_lock.is_stopped() {
             return;
         }
-        outstanding_calls.carry(rt, worker.number, worker.link, worker.gate);
+        outstanding_calls.exchange(rt, worker.number, worker.link, worker.gate);
     }
     unreachable!()
 }
@@ -375,14 +379,18 @@ fn work<J: RunSpec, K: Journal, R: Wait, L: Link, G: Gate>(
 }
 
 // How many calls each of so many workers has on their way at a time: one where a call could wait for another's
-// wire, gate or journal. One worker carries one call's wires after the other's.
+// gate, and over a prompt link for another's journal. One worker carries one call's wires after the other's over a prompt
+// link.
 fn at_a_time<L: Link, G: Gate>(link: &L, gate: &G, is_kept: bool, workers: usize) -> MostCalls {
-    if is_kept || !link.is_prompt() || !gate.is_prompt() {
+    let window = link.window().max(1);
+    let is_prompt = link.is_prompt();
+    if !gate.is_prompt() || (is_prompt && is_kept) || (!is_prompt && window == 1) {
         return ONE_CALL;
     }
     MostCalls {
-        away: if workers > 1 { WIRES_OF_A_WORKER } else { 1 },
-        in_all: CALLS_OF_A_TAKING,
+        away: if is_prompt && workers == 1 { 1 } else { window },
+        waiting: if is_prompt { 1 } else { CALLS_OF_A_TAKING },
+        of_a_taking: CALLS_OF_A_TAKING,
     }
 }
 
@@ -643,11 +651,18 @@ fn run_named<J: RunSpec + Send + Sync, R: Threads + Wait + Sync, L: Link + Sync,
 ///
 /// A worker takes the next call and admits it; where another transaction stands in its way, it waits
 /// until one ends, falls in doubt or is stuck, and tries again, unless all that stand in its way are
-/// in doubt or stuck. One worker runs the calls one after the other. Of several, each has up to eight calls
-/// on their way at a time, if link and gate are prompt, and else one. A state that is handed in with open
-/// transactions, which no call runs, may so make `run` wait for ever. Nothing is carried and no gate is told
-/// while the lock is held; where the gate is silent, the link may perform at once what a call asks: of up to
-/// 64 calls, if both are prompt, before the lock is let go.
+/// in doubt or stuck. A state that is handed in with open transactions, which no call runs, may so make `run` wait for
+/// ever. Nothing is carried and no gate is told while the lock is held; where the gate is silent, the link may perform
+/// at once what a call asks: of up to 64 calls, if both are prompt, before the lock is let go.
+///
+/// A worker has as many calls on their way as the link's window says, if the gate is prompt. Else it has one, so that
+/// none waits for another's gate: a silent gate too is told of answers. Over a prompt link the window is eight, but one
+/// for a single worker, which runs the calls one after the other, and in a run with a journal. Over another link it is
+/// one unless the link can leave wires on their way ([`Link::exchange`]). Then a worker goes on with a call as soon as
+/// something came back for it, with up to 64 under one taking of the lock, and sends nothing again that is on its way.
+/// Up to 64 calls with a transaction in their way are laid aside for others, and tried again whenever something came
+/// back to their worker. It ends once all that is on its way came back or is lost. With a journal a call may wait until
+/// what others logged is kept.
 pub fn run<R: Threads + Wait + Sync, L: Link + Sync, G: Gate + Sync>(
     rt: &R,
     alloc: Global,

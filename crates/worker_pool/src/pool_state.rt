@@ -543,6 +543,17 @@ impl<J: RunSpec> PoolState<J> {
         }
     }
 
+    /// The same in place: nothing is on its way then.
+    #[inline(always)]
+    pub fn release(&mut self, attempt: &mut Attempt<J>)
+        ensures none { attempt.new.request ≡ None }
+        ensures same { self.new.progress ≡ self.old.progress }
+    {
+        if let Some(request) = attempt.take() {
+            self.give_up(request);
+        }
+    }
+
     // Gives a request up, and goes on with its call.
     fn go_on_without<P: RunPerformer<J>>(
         &mut self,

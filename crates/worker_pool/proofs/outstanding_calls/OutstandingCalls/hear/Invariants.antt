@@ -1,11 +1,12 @@
 use Rattle.std.proofs.Common.{◌≤◌, ◌+◌, vec_len, vec_capacity}
 use Rattle.worker_pool.proofs.outstanding_calls.OutstandingCalls.hear.Given as goal
 
-abbrev pub invariant-outstanding_calls : goal.invariant-outstanding_calls
-invariant-outstanding_calls g l = (l.at ≤ vec_len l.self-inside.away)
+abbrev pub invariant-hearing : goal.invariant-hearing
+invariant-hearing g l = (l.left ≤ vec_len l.self-inside.back)
     × (vec_len l.self-inside.away ≤ l.self-inside.most.away)
-    × (vec_len l.self-inside.away + vec_len l.self-inside.over ≤ l.self-inside.most.in_all)
-    × (l.self-inside.most.away ≤ vec_capacity l.self-inside.away) × (l.self-inside.most.in_all ≤ vec_capacity l.self-inside.over)
-
-abbrev pub decreases-outstanding_calls : goal.decreases-outstanding_calls
-decreases-outstanding_calls g l = l.at
+    × (vec_len l.self-inside.over ≤ l.self-inside.most.of_a_taking)
+    × (vec_len l.self-inside.ready + vec_len l.self-inside.back + vec_len l.self-inside.free ≤ vec_len l.self-inside.away)
+    × (l.self-inside.most.away ≤ vec_capacity l.self-inside.away) × (l.self-inside.most.away ≤ vec_capacity l.self-inside.ready)
+    × (l.self-inside.most.away ≤ vec_capacity l.self-inside.back) × (l.self-inside.most.away ≤ vec_capacity l.self-inside.free)
+    × (l.self-inside.most.of_a_taking ≤ vec_capacity l.self-inside.over)
+    × (l.self-inside.most.waiting ≤ vec_capacity l.self-inside.waiting)
