@@ -378,17 +378,20 @@ fn work<J: RunSpec, K: Journal, R: Wait, L: Link, G: Gate>(
     outstanding_calls.close(&mut *pool_state);
 }
 
-// How many calls each of so many workers has on their way at a time: one where a call could wait for another's
-// gate, and over a prompt link for another's journal. One worker carries one call's wires after the other's over a prompt
-// link.
+// How many calls each of so many workers has on their way at a time: one where a call could wait for another's wire or
+// gate. Over a prompt link one worker, and each in a run with a journal, carries one call's wires after the other's.
 fn at_a_time<L: Link, G: Gate>(link: &L, gate: &G, is_kept: bool, workers: usize) -> MostCalls {
     let window = link.window().max(1);
     let is_prompt = link.is_prompt();
-    if !gate.is_prompt() || (is_prompt && is_kept) || (!is_prompt && window == 1) {
+    if !gate.is_prompt() || (!is_prompt && window == 1) {
         return ONE_CALL;
     }
     MostCalls {
-        away: if is_prompt && workers == 1 { 1 } else { window },
+        away: if is_prompt && (is_kept || workers == 1) {
+            1
+        } else {
+            window
+        },
         waiting: if is_prompt { 1 } else { CALLS_OF_A_TAKING },
         of_a_taking: CALLS_OF_A_TAKING,
     }
