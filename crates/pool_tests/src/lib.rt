@@ -5,6 +5,7 @@
 //! | `pool_tests` | calls by workers, from one to many, their answers and their gate |
 //! | `link_tests` | links that lose, repeat, delay and change what they carry |
 //! | `outstanding_tests` | how many calls a worker has on their way at a time |
+//! | `window_tests` | links that leave wires on their way |
 //! | `at_once_tests` | links that perform at once |
 //! | `locked_tests` | data components of this process, behind locks |
 //! | `ring_tests` | data components in threads of their own, behind rings |
@@ -22,6 +23,8 @@
 mod at_once_tests;
 #[cfg(test)]
 mod cut_tests;
+#[cfg(test)]
+mod delays;
 #[cfg(test)]
 mod journal_tests;
 #[cfg(test)]
@@ -46,3 +49,5 @@ mod stage_tests;
 mod test_pool;
 #[cfg(test)]
 mod test_state;
+#[cfg(test)]
+mod window_tests;
