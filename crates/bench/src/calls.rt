@@ -56,9 +56,9 @@ pub fn link(alloc: Global, calls: u64) -> Option<LockedDcs> {
     LockedDcs::new(alloc, dcs).ok()
 }
 
-// A thousand records are put over the link, and then so many calls move 1 between two of them, by so
-// many workers. How many transactions have ended.
-fn moved<R: Threads + Wait + Sync, L: Link + Sync>(
+/// A thousand records are put over the link, and then so many calls move 1 between two of them, by so
+/// many workers. How many transactions have ended.
+pub fn moved<R: Threads + Wait + Sync, L: Link + Sync>(
     rt: &R,
     alloc: Global,
     workers: u64,

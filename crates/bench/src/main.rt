@@ -26,18 +26,21 @@ mod log;
 mod numbers;
 mod procedures;
 mod redo;
+mod slow;
 mod steps;
 mod store;
 mod storm;
 mod weather;
 
 use code::{Done, read_workload};
+use slow::Calls;
 use std::alloc::Global;
 use std::env;
 use std::io::{Read, Write};
 use std::process::ExitCode;
 use std::sync::Wait;
 use std::thread::Threads;
+use std::time::Clock;
 use weather::{Weather, Weathered};
 
 const USAGE: &str = "usage:
@@ -63,6 +66,9 @@ const USAGE: &str = "usage:
                                        is audited beside their data component TIMES
   bench calls WORKERS CALLS            CALLS move an amount between two of 1000 records, by WORKERS at once
   bench rings WORKERS CALLS            the same over a data component in a thread of its own
+  bench slow WORKERS CALLS WINDOW      CALLS put a record each, over a link that takes a millisecond, by WORKERS with WINDOW
+                                       calls on their way each
+  bench slow-moves WORKERS CALLS WINDOW  the same of CALLS that move an amount between two of 1000 records
   bench storm SEED WORKERS CALLS       the same over a link that loses, repeats, delays, forges and answers late, to a
                                        data component that keeps checkpoints and restarts, and an audit of it
   bench trace SEED WORKERS CALLS       the same, and the events of its log, 192 hex digits each
@@ -109,7 +115,7 @@ fn weathered(alloc: Global, weathered: &Weathered) -> Option<String> {
 }
 
 // What one command did.
-fn line_of<R: Threads + Wait + Sync>(
+fn line_of<R: Threads + Wait + Sync + Clock>(
     rt: &R,
     alloc: Global,
     words: &[String],
@@ -140,6 +146,8 @@ fn line_of<R: Threads + Wait + Sync>(
         "audits" => checks::repeat_audits(alloc, first, second, number(words, 4)?)?,
         "calls" => calls::repeat(rt, alloc, first, second)?,
         "rings" => calls::repeat_served(rt, alloc, first, second)?,
+        "slow" => slow::repeat(rt, alloc, Calls::Puts, (first, second), number(words, 4)?)?,
+        "slow-moves" => slow::repeat(rt, alloc, Calls::Moves, (first, second), number(words, 4)?)?,
         word => {
             let calls = number(words, 4)?;
             let ended = weather::repeat(rt, alloc, Weather::of_word(word)?, first, second, calls)?;
