@@ -111,6 +111,28 @@ impl Gate for Board {
     }
 }
 
+// Tells the board of answers, and never keeps a worker for long.
+#[derive(Drop)]
+struct PromptGate<'a> {
+    board: &'a Board,
+}
+
+impl Gate for PromptGate<'_> {
+    fn begun(&self, _call: usize) {}
+
+    fn answered<J: RunSpec>(&self, acknowledgement: &Acknowledgement<J>) {
+        Gate::answered(self.board, acknowledgement);
+    }
+
+    fn is_silent(&self) -> bool {
+        true
+    }
+
+    fn is_prompt(&self) -> bool {
+        true
+    }
+}
+
 // Carries by another link, and counts what it carried.
 #[derive(Drop)]
 struct Counted<'a> {
@@ -278,6 +300,41 @@ fn one_keep_for_several_answers(rt: HostRuntime) {
     is_same(&rt, board.were_kept(answers.as_slice()), true);
     assert!(&rt; board.keeps.load(Ordering::SeqCst) < 9);
     is_same(&rt, board.late.load(Ordering::SeqCst), 0);
+    drop(board);
+}
+
+// Calls that end under one taking of the lock are kept by one keep, also of one worker alone; the other is the last.
+#[test]
+fn one_keep_for_the_calls_of_a_taking(rt: HostRuntime) {
+    let alloc = rt.alloc();
+    let calls = new_puts(&rt, alloc);
+    let board = new_board(&rt, alloc, 8, 0);
+    let gate = PromptGate { board: &board };
+    let link = locked_dc(alloc, 8).expect(&rt, "no components");
+    let journal = Watched {
+        memory: MemoryJournal::new(alloc),
+        board: &board,
+        failure: NO_FAILURE,
+    };
+    let state = state(&rt, alloc);
+    let (journal, ran) = run_kept(
+        &rt,
+        alloc,
+        state,
+        calls.as_slice(),
+        1,
+        3,
+        &link,
+        &gate,
+        journal,
+    );
+    drop(calls);
+    drop(link);
+    is_same(&rt, journal.memory.events().len(), 32);
+    drop(journal);
+    is_same(&rt, ending(ran), ("a report", 32));
+    is_same(&rt, board.answered(), 8);
+    is_same(&rt, board.keeps.load(Ordering::SeqCst), 2);
     drop(board);
 }
 
