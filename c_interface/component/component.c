@@ -18,7 +18,8 @@ enum {
     HEARS_OTHER_INCARNATION, /* a wire of another incarnation raises its mark */
     DOES_OTHER_INCARNATION,  /* a wire of another incarnation is performed */
     FULL_ANSWERS,            /* where it is full it answers that the record isn't there */
-    FULL_KEEPS_NOT           /* where it is full it performs, and doesn't keep the number */
+    FULL_KEEPS_NOT,          /* where it is full it performs, and doesn't keep the number */
+    CUTS_RECORDS_ALONE       /* its records are cut back, and its numbers aren't: what is sent again is left out */
 };
 
 enum { RECORDS = 256, NUMBERS = 1 << 18 };
@@ -151,6 +152,7 @@ int component_kill(component *c, int loses) {
     if (is_wrong(KEEPS_APART))
         for (int i = 0; i < 4; i++) c->now.answers[c->now.last[i] % NUMBERS].kept = 0;
     if (!loses) return 1;
+    if (is_wrong(CUTS_RECORDS_ALONE)) memcpy(c->kept.answers, c->now.answers, sizeof c->now.answers);
     c->now = c->kept;
     if (is_wrong(TELLS_THE_LOST_MARK)) c->now.mark = mark;
     if (is_wrong(COUNTS_WHAT_IT_LOST)) c->incarnation = c->at_checkpoint;
