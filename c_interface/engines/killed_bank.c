@@ -14,14 +14,13 @@
 #include <sys/prctl.h>
 #include <time.h>
 
-enum { LAST = 400, OUTAGE = 1000, BETWEEN = 200, CLIENT_LIVES = 120000, PATIENCE = 60, PATIENCE_WITH_CONTROL = 5 };
+enum { LAST = 400, OUTAGE = 1000, BETWEEN = 200, CLIENT_LIVES = 120000, PATIENCE = 60 };
 
 typedef enum { OF_CLIENT = 1, OF_SERVERS = 2, OF_BOTH = 3 } whose;
 
 static struct { uint64_t kills, client, servers; } count;
 static pid_t client;
 static plan p;
-static uint64_t patience; /* in seconds */
 
 static void begin_client(void) {
     fflush(stdout);
@@ -44,7 +43,7 @@ static const char *ended_as(int status) {
 static int gets_beyond(uint64_t told) {
     time_t began = time(NULL);
     while (transfers_told(&p) <= told && !has_ended(client)) {
-        if (seconds_long(began) > patience) return 0;
+        if (seconds_long(began) > PATIENCE) return 0;
         usleep(2000);
     }
     return 1;
@@ -57,7 +56,7 @@ static const char *end_of_client(void) {
     for (time_t began = time(NULL); !has_ended(client); usleep(2000)) {
         if (transfers_told(&p) > told) began = time(NULL);
         told = transfers_told(&p);
-        if (seconds_long(began) > patience) return "no call gets on";
+        if (seconds_long(began) > PATIENCE) return "no call gets on";
     }
     waitpid(client, &status, 0);
     client = 0;
@@ -118,7 +117,6 @@ int main(int argc, char **argv) {
     }
     p = (plan){.object = argv[1], .folder = argv[2], .threads = strtoull(argv[3], NULL, 10), .transfers = LAST, .between = BETWEEN,
                .losing = 1, .seen = (seen *)shared_by_lives(sizeof(seen))};
-    patience = control ? PATIENCE_WITH_CONTROL : PATIENCE;
     p.unwritten = control && !strcmp(control, "unwritten");
     if (p.threads < 1 || p.threads > THREADS || !servers_begin(p.folder, p.unwritten ? NULL : control)) return 2;
     if (!strcmp(argv[4], "outage")) wrong = outlasted((unsigned)atoi(argv[5]));

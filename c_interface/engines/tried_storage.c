@@ -4,11 +4,11 @@
 #include "processes.h"
 #include "storage.h"
 
-enum { COMES_BACK_WITHIN = 60000 };
+enum { COMES_BACK_WITHIN = 60000, BETWEEN_KILLS = 30 };
 
 struct component {
     uint64_t incarnation; /* the greatest of a wire */
-    unsigned kills;
+    unsigned kills, answered; /* answered: replies since the last kill */
     char folder[300];
 };
 
@@ -31,7 +31,9 @@ mz_carried component_carry(component *c, const mz_wire *wire, mz_reply *reply, m
     while (wire->incarnation > known &&
            !__atomic_compare_exchange_n(&c->incarnation, &known, wire->incarnation, 0, __ATOMIC_SEQ_CST, __ATOMIC_SEQ_CST))
         continue;
-    return storage_carry(wire, reply, news);
+    mz_carried carried = storage_carry(wire, reply, news);
+    __atomic_add_fetch(&c->answered, carried == MZ_REPLIED, __ATOMIC_SEQ_CST);
+    return carried;
 }
 
 int component_checkpoint(component *c) { return storage_keep(0, c->incarnation, 0); }
@@ -44,8 +46,11 @@ static int answers(component *c) {
     return storage_carry(&probe, &reply, &news) != MZ_LOST;
 }
 
-/* It is waited for, since it is killed more often than a server can start. */
+/* It is waited for, since it is killed more often than a server can start; and spared until it has done something that
+ * can be lost, which takes a while on a busy machine. */
 int component_kill(component *c, int loses) {
+    if (__atomic_load_n(&c->answered, __ATOMIC_SEQ_CST) < BETWEEN_KILLS) return 1;
+    __atomic_store_n(&c->answered, 0, __ATOMIC_SEQ_CST);
     if (loses) servers_lose(0);
     else servers_kill(0, c->kills++);
     for (int waited = 0; waited < COMES_BACK_WITHIN; waited += 2) {
