@@ -3,6 +3,7 @@
 use crate::procedures::{move_one, put, state};
 use data_component::dc::Dc;
 use dc_links::{Link, LockedDcs, RingLink};
+use journals::NoJournal;
 use std::alloc::Global;
 use std::sync::Wait;
 use std::thread;
@@ -68,10 +69,21 @@ pub fn moved<R: Threads + Wait + Sync, L: Link + Sync>(
     let puts = puts(alloc, RECORDS)?;
     let moves = moves(alloc, calls)?;
     let state = state(alloc)?;
-    let before = run(rt, alloc, state, puts.as_slice(), 1, 3, link, &OpenGate).ok()?;
+    let (_, ran) = run(
+        rt,
+        alloc,
+        state,
+        puts.as_slice(),
+        1,
+        3,
+        link,
+        &OpenGate,
+        NoJournal,
+    );
+    let before = ran.ok()?;
     let workers = workers as usize;
     let first = before.ends() as u64;
-    let after = run(
+    let (_, ran) = run(
         rt,
         alloc,
         before.state,
@@ -80,8 +92,9 @@ pub fn moved<R: Threads + Wait + Sync, L: Link + Sync>(
         3,
         link,
         &OpenGate,
-    )
-    .ok()?;
+        NoJournal,
+    );
+    let after = ran.ok()?;
     let second = after.ends() as u64;
     drop(after);
     first.checked_add(second)

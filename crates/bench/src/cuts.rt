@@ -3,6 +3,7 @@
 use crate::storm::Storm;
 use crate::weather::{Behind, Ended, TRIES, events, left_by};
 use data_component::dc::Dc;
+use journals::NoJournal;
 use std::alloc::Global;
 use std::sync::Wait;
 use std::thread::Threads;
@@ -50,8 +51,10 @@ fn run_part<R: Threads + Wait + Sync>(
         ended,
         earlier,
     } = behind;
-    let report = run(rt, alloc, state, calls, workers, TRIES, storm, &OpenGate).ok()?;
-    Some(left_by(report, ended, earlier))
+    let (_, ran) = run(
+        rt, alloc, state, calls, workers, TRIES, storm, &OpenGate, NoJournal,
+    );
+    Some(left_by(ran.ok()?, ended, earlier))
 }
 
 /// Runs the calls over the storm in parts, between two of which the log begins anew where no transaction is open and

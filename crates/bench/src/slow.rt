@@ -5,6 +5,7 @@ use crate::procedures::state;
 use access_slots::op::{News, Reply, Wire};
 use data_component::dc::Dc;
 use dc_links::{Link, Outstanding, bring_to};
+use journals::NoJournal;
 use std::alloc::{AllocError, Global};
 use std::collections::VecDeque;
 use std::sync::atomic::{AtomicU64, Ordering};
@@ -218,7 +219,7 @@ fn put_all<R: Threads + Wait + Sync>(
     let puts = puts(alloc, calls)?;
     let state = state(alloc)?;
     let workers = workers as usize;
-    let ran = run(
+    let (_, ran) = run(
         rt,
         alloc,
         state,
@@ -227,6 +228,7 @@ fn put_all<R: Threads + Wait + Sync>(
         3,
         link,
         &OpenGate,
+        NoJournal,
     );
     let report = ran.ok()?;
     let ended = report.ends() as u64;

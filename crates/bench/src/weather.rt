@@ -6,6 +6,7 @@ use crate::cuts::run_parts;
 use crate::procedures::state;
 use crate::storm::{Calm, Regular, Storm};
 use data_component::dc::Dc;
+use journals::NoJournal;
 use std::alloc::Global;
 use std::sync::Wait;
 use std::sync::atomic::AtomicU64;
@@ -142,7 +143,7 @@ fn put_all<R: Threads + Wait + Sync>(
     puts: &[Call],
     storm: &Storm,
 ) -> Option<Report> {
-    run(
+    let (_, ran) = run(
         rt,
         alloc,
         state(alloc)?,
@@ -151,8 +152,9 @@ fn put_all<R: Threads + Wait + Sync>(
         1,
         &Calm { storm },
         &OpenGate,
-    )
-    .ok()
+        NoJournal,
+    );
+    ran.ok()
 }
 
 /// What a report leaves, behind calls that ended so and logs that were cut.
@@ -177,15 +179,19 @@ fn run_all<R: Threads + Wait + Sync>(
     storm: &mut Storm,
     weather: Weather,
 ) -> Option<Behind> {
-    let ran = match weather {
+    let (_, ran) = match weather {
         Weather::Cut => return run_parts(rt, alloc, state, calls, workers, storm),
         Weather::Regular => {
             let carried = AtomicU64::new(0);
             let link = Regular { storm, carried };
-            run(rt, alloc, state, calls, workers, TRIES, &link, &OpenGate)
+            run(
+                rt, alloc, state, calls, workers, TRIES, &link, &OpenGate, NoJournal,
+            )
         }
         Weather::Storm | Weather::Traced => {
-            run(rt, alloc, state, calls, workers, TRIES, storm, &OpenGate)
+            run(
+                rt, alloc, state, calls, workers, TRIES, storm, &OpenGate, NoJournal,
+            )
         }
     };
     Some(left_by(ran.ok()?, Ended::default(), String::new(alloc)))

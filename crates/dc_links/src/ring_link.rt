@@ -111,11 +111,11 @@ impl Endpoint {
 ///
 /// ```
 /// let link = RingLink::new(alloc, 1, 4)?;
-/// let (report, dc) = thread::scope(thread::scope_env(), rt, |scope| {
+/// let (ran, dc) = thread::scope(thread::scope_env(), rt, |scope| {
 ///     let server = scope.spawn(|| link.serve(rt, 0, dc))?;
-///     let report = run(rt, alloc, state, calls, 4, 3, &link, &OpenGate);
+///     let (_, ran) = run(rt, alloc, state, calls, 4, 3, &link, &OpenGate, NoJournal);
 ///     link.close();
-///     (report, server.join(rt))
+///     (ran, server.join(rt))
 /// });
 /// ```
 ///

@@ -27,9 +27,12 @@ impl From<AllocError> for NotKept {
 
 /// What keeps the events of a log where they outlast the run, as a file does.
 pub trait Journal {
-    ghost use Rattle.std.specs.Prelude.{ℕ, List, []};
+    ghost use Rattle.std.specs.Prelude.{ℕ, Bool, List, []};
     ghost use Rattle.tc_log.specs.declared.event.Event.{Event};
     ghost use Rattle.journals.specs.declared.journal.NotKept.{NotKept as Why};
+
+    /// Whether it keeps anything.
+    ghost keeps: { Self → Bool };
 
     /// It has kept these events, the oldest first. Which events are kept in a file is for the journal to
     /// say: they needn't be a function of the journal itself.
@@ -49,6 +52,10 @@ pub trait Journal {
     /// It may say so why events weren't kept, by a call that found it as the first and left it as the second.
     ghost fails: { Self → Why → Self → Type 0 };
 
+    /// Whether it keeps anything. One that doesn't isn't asked to.
+    fn keeps(&self) -> bool
+        ensures { result ≡ keeps self.now };
+
     /// Keeps these events behind those that it has kept. At Ok a crash doesn't lose them. It is called by one
     /// worker at a time, and no lock but the journal's own is held.
     fn keep(&mut self, events: &Log) -> Result<(), NotKept>
@@ -59,18 +66,23 @@ pub trait Journal {
             → LeavesOnly moment left_since self.old self.new (leaves self.old before (reverse events.now.events)) }
         ensures same { (before more : List EventValue) (left : List ℕ) → leaves self.new before more left → leaves self.old before more left }
         // It doesn't give up by itself.
-        ensures failed { IfErr result (λ why. fails self.old why self.new) };
+        ensures failed { IfErr result (λ why. fails self.old why self.new) }
+        ensures goes_on { keeps self.new ≡ keeps self.old };
 
     /// A crash at this moment leaves what is kept.
     ghost kept_now: { (journal : Self) (events : List Event) (left : List ℕ) → has_kept journal events
         → left_since journal (moment journal) left → leaves journal events [] left };
 }
 
-/// No journal. It keeps nothing, and a run without one doesn't ask it to.
+/// No journal. It keeps nothing.
 #[derive(Clone, Copy)]
 pub struct NoJournal;
 
 impl Journal for NoJournal {
+    ghost use Rattle.std.specs.Prelude.{false};
+
+    ghost keeps = { λ journal. false };
+
     ghost has_kept = { λ journal events. ⊥ };
 
     ghost moment = { λ journal. 0 };
@@ -82,6 +94,10 @@ impl Journal for NoJournal {
     ghost fails = { λ before why after. Unit {0} };
 
     ghost kept_now = { λ journal events left kept now. now };
+
+    fn keeps(&self) -> bool {
+        false
+    }
 
     fn keep(&mut self, _events: &Log) -> Result<(), NotKept> {
         Err(NotKept::Failed)

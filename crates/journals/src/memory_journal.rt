@@ -47,6 +47,10 @@ impl MemoryJournal {
 }
 
 impl Journal for MemoryJournal {
+    ghost use Rattle.std.specs.Prelude.{true};
+
+    ghost keeps = { λ journal. true };
+
     ghost has_kept = { λ journal events. journal ≡ events };
 
     ghost moment = { λ journal. 0 };
@@ -58,6 +62,10 @@ impl Journal for MemoryJournal {
     ghost fails = { λ before why after. why ≡ Memory };
 
     ghost kept_now = { λ journal events left kept now. now };
+
+    fn keeps(&self) -> bool {
+        true
+    }
 
     fn keep(&mut self, events: &Log) -> Result<(), NotKept> {
         match copy_events(self.alloc, events.events(), &mut self.log) {

@@ -197,6 +197,10 @@ impl<D: Device + Drop> LogJournal<D> {
 }
 
 impl<D: Device + Drop> Journal for LogJournal<D> {
+    ghost use Rattle.std.specs.Prelude.{true};
+
+    ghost keeps = { λ journal. true };
+
     ghost has_kept = { λ journal events. HasWritten D.seen D.may_leave journal.header journal.file events };
 
     ghost moment = { λ journal. D.moment journal.file.frames.device };
@@ -209,6 +213,10 @@ impl<D: Device + Drop> Journal for LogJournal<D> {
 
     ghost kept_now = { λ journal events left kept now. left_now D.seen D.may_leave journal.header journal.file events [] kept left
         (D.only_now journal.file.frames.device left now) };
+
+    fn keeps(&self) -> bool {
+        true
+    }
 
     fn keep(&mut self, events: &Log) -> Result<(), NotKept> {
         self.keep_from(events, 0)

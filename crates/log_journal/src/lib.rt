@@ -2,7 +2,7 @@
 //!
 //! ```text
 //! let (journal, restored) = LogJournal::open(alloc, device, header, &bytes)?; // begun, if the file is empty
-//! let (journal, ran) = run_kept(&rt, alloc, state, calls, 4, 3, &link, &gate, journal);
+//! let (journal, ran) = run(&rt, alloc, state, calls, 4, 3, &link, &gate, journal);
 //! ```
 //!
 //! (`log_journal_tests` of `pool_tests` has the tests.)

@@ -3,6 +3,7 @@
 use crate::test_pool::{are_committed, begun, is_same, two_locked_dcs, value_at};
 use crate::test_state::{calls_of, puts, state};
 use dc_links::LockedDcs;
+use journals::NoJournal;
 use samples::{MOVE, value};
 use std::alloc::Global;
 use std::process::Abort;
@@ -22,7 +23,7 @@ fn behind<R: Threads + Wait + Sync + Abort>(
     link: &LockedDcs,
 ) -> TcState {
     let count = calls.len();
-    let ran = run(
+    let (_, ran) = run(
         rt,
         alloc,
         state,
@@ -31,6 +32,7 @@ fn behind<R: Threads + Wait + Sync + Abort>(
         3,
         link,
         &OpenGate,
+        NoJournal,
     );
     drop(calls);
     let Report { state, answers } = begun(rt, ran);

@@ -14,7 +14,7 @@ use std::thread;
 use std::thread::Threads;
 use tc_core::state::{Call, TcState};
 use tc_log::log::Log;
-use worker_pool::{Acknowledgement, Answer, Gate, KeptFault, OpenGate, Report, RunSpec, run_kept};
+use worker_pool::{Acknowledgement, Answer, Gate, OpenGate, Report, RunFault, RunSpec, run};
 
 // What journal, link and gate of one run tell each other.
 #[derive(Drop)]
@@ -174,7 +174,9 @@ struct Watched<'a> {
 }
 
 impl Journal for Watched<'_> {
-    ghost use Rattle.std.specs.Prelude.{◌≡◌};
+    ghost use Rattle.std.specs.Prelude.{◌≡◌, true};
+
+    ghost keeps = { λ journal. true };
 
     ghost has_kept = { λ journal events. journal.memory ≡ events };
 
@@ -187,6 +189,10 @@ impl Journal for Watched<'_> {
     ghost fails = { λ before why after. Unit {0} };
 
     ghost kept_now = { λ journal events left kept now. now };
+
+    fn keeps(&self) -> bool {
+        true
+    }
 
     fn keep(&mut self, events: &Log) -> Result<(), NotKept> {
         let before = self.board.keeps.fetch_add(1, Ordering::SeqCst);
@@ -211,7 +217,7 @@ fn ran_over<R: Threads + Wait + Sync + Abort>(
     calls: &[Call],
     (workers, failure): (usize, Failure),
     board: &Board,
-) -> (usize, Result<Report, KeptFault>) {
+) -> (usize, Result<Report, RunFault>) {
     let link = Counted {
         dcs: locked_dc(alloc, 8).expect(rt, "no components"),
         board,
@@ -222,7 +228,7 @@ fn ran_over<R: Threads + Wait + Sync + Abort>(
         board,
         failure,
     };
-    let (journal, ran) = run_kept(rt, alloc, state, calls, workers, 3, &link, board, journal);
+    let (journal, ran) = run(rt, alloc, state, calls, workers, 3, &link, board, journal);
     let kept = journal.memory.events().len();
     drop(journal);
     drop(link);
@@ -317,7 +323,7 @@ fn one_keep_for_the_calls_of_a_taking(rt: HostRuntime) {
         failure: NO_FAILURE,
     };
     let state = state(&rt, alloc);
-    let (journal, ran) = run_kept(
+    let (journal, ran) = run(
         &rt,
         alloc,
         state,
@@ -353,11 +359,11 @@ fn word_of(why: NotKept) -> &'static str {
 }
 
 // How a run ended, and how many events the log of its state has.
-fn ending(ran: Result<Report, KeptFault>) -> (&'static str, usize) {
+fn ending(ran: Result<Report, RunFault>) -> (&'static str, usize) {
     match ran {
         Ok(report) => ("a report", events_of(state_of(report))),
-        Err(KeptFault::NotKept(why, state)) => (word_of(why), events_of(state)),
-        Err(KeptFault::Unbegun(fault)) => ("not begun", events_of(fault.into_state())),
+        Err(RunFault::NotKept(why, state)) => (word_of(why), events_of(state)),
+        Err(fault) => ("not begun", events_of(fault.into_state())),
     }
 }
 
@@ -403,7 +409,7 @@ fn journal_of_a_run_that_does_not_begin(rt: HostRuntime) {
     let link = locked_dc(rt.alloc(), 1).expect(&rt, "no link");
     let (alloc, state) = (rt.alloc(), state(&rt, rt.alloc()));
     let journal = MemoryJournal::new(alloc);
-    let (journal, ran) = run_kept(&rt, alloc, state, &[], 65, 3, &link, &OpenGate, journal);
+    let (journal, ran) = run(&rt, alloc, state, &[], 65, 3, &link, &OpenGate, journal);
     is_same(&rt, journal.events().len(), 0);
     drop(journal);
     is_same(&rt, ending(ran), ("not begun", 0));

@@ -15,7 +15,7 @@ use std::sync::Wait;
 use std::thread::Threads;
 use tc_log::event::Event;
 use tc_log::log::Log;
-use worker_pool::{KeptFault, OpenGate, Report, run_kept};
+use worker_pool::{OpenGate, Report, RunFault, run};
 
 const HEADER: Header = Header {
     dcs: 2,
@@ -54,12 +54,7 @@ fn bytes_of(rt: &impl Abort, alloc: Global, journal: LogJournal<Memory>) -> Vec<
 }
 
 // The log as it is printed, once so many calls are committed.
-fn rows_of(
-    rt: &impl Abort,
-    alloc: Global,
-    calls: usize,
-    ran: Result<Report, KeptFault>,
-) -> Vec<u8> {
+fn rows_of(rt: &impl Abort, alloc: Global, calls: usize, ran: Result<Report, RunFault>) -> Vec<u8> {
     match ran {
         Ok(report) => {
             are_committed(rt, report.answers.as_slice(), calls);
@@ -83,7 +78,7 @@ fn kept<R: Threads + Wait + Sync + Abort>(
     let link = locked_dc(alloc, 8).expect(rt, "no link");
     let calls = puts(alloc, 3, 1).expect(rt, "no calls");
     let (state, journal) = (state(rt, alloc), new_journal(rt, alloc));
-    let (journal, ran) = run_kept(
+    let (journal, ran) = run(
         rt,
         alloc,
         state,

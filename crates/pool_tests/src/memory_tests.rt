@@ -5,6 +5,7 @@ use crate::test_pool::{answers_of, is_same, locked_dc, value_at};
 use crate::test_state::{loaded, puts, state};
 use access_slots::slot::Value;
 use dc_links::LockedDcs;
+use journals::NoJournal;
 use samples::value;
 use std::alloc::{AllocError, Global};
 use std::process::Abort;
@@ -44,7 +45,10 @@ fn begun<R: Threads + Wait + Sync>(
     workers: usize,
     link: &LockedDcs,
 ) -> Result<Vec<Answer>, TcState> {
-    match run(rt, alloc, state, calls, workers, 3, link, &OpenGate) {
+    let (_, ran) = run(
+        rt, alloc, state, calls, workers, 3, link, &OpenGate, NoJournal,
+    );
+    match ran {
         Ok(report) => Ok(answers_of(report)),
         Err(fault) => Err(fault.into_state()),
     }

@@ -8,6 +8,7 @@ use crate::test_pool::{
 use crate::test_state::{NO_PROCEDURE, add_call, calls_of, moves, puts, state};
 use access_slots::op::{News, Reply, Wire};
 use dc_links::{Link, LockedDcs};
+use journals::NoJournal;
 use lock_table::table::Busy;
 use samples::{BAD, GET, MOVE, PUT, record};
 use std::alloc::{AllocError, Global};
@@ -411,7 +412,17 @@ fn moved_and_aborted<R: Threads + Wait + Sync + Abort>(
 ) -> TcState {
     let calls = moves_and_aborts(rt, alloc);
     let state = state(rt, alloc);
-    let ran = run(rt, alloc, state, calls.as_slice(), 4, 4, link, &OpenGate);
+    let (_, ran) = run(
+        rt,
+        alloc,
+        state,
+        calls.as_slice(),
+        4,
+        4,
+        link,
+        &OpenGate,
+        NoJournal,
+    );
     drop(calls);
     state_of(begun(rt, ran))
 }
@@ -450,7 +461,18 @@ fn faults<R: Threads + Wait + Sync + Abort>(
     link: &LockedDcs,
     (workers, tries, fault): (usize, u64, &'static str),
 ) -> TcState {
-    match run(rt, alloc, state, &[], workers, tries, link, &OpenGate) {
+    let (_, ran) = run(
+        rt,
+        alloc,
+        state,
+        &[],
+        workers,
+        tries,
+        link,
+        &OpenGate,
+        NoJournal,
+    );
+    match ran {
         Err(found) => {
             is_same(rt, name(&found), fault);
             found.into_state()

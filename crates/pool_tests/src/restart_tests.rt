@@ -5,6 +5,7 @@ use crate::test_state::{PUT_BESIDE, calls_of, dc, moves, puts, state};
 use access_slots::op::{News, Reply, Wire};
 use data_component::dc::Dc;
 use dc_links::Link;
+use journals::NoJournal;
 use samples::record;
 use std::alloc::{AllocError, Global};
 use std::process::Abort;
@@ -109,7 +110,9 @@ fn answers<R: Threads + Wait + Sync + Abort>(
     workers: usize,
     link: &Restarts,
 ) -> Vec<Answer> {
-    let ran = run(rt, alloc, state, calls, workers, TRIES, link, &OpenGate);
+    let (_, ran) = run(
+        rt, alloc, state, calls, workers, TRIES, link, &OpenGate, NoJournal,
+    );
     answers_of(begun(rt, ran))
 }
 

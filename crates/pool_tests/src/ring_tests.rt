@@ -9,6 +9,7 @@ use access_slots::op::{News, Op, Reply, Wire};
 use access_slots::slot::{Record, Value};
 use data_component::dc::Dc;
 use dc_links::{Link, RingLink};
+use journals::NoJournal;
 use samples::{PUT, record, value};
 use std::alloc::Global;
 use std::process::Abort;
@@ -32,7 +33,7 @@ fn run_and_close<R: Threads + Wait + Sync, L: Link + Sync, G: Gate + Sync>(
     link: &L,
     gate: &G,
 ) -> Result<Report, RunFault> {
-    let ran = run(rt, alloc, state, calls, workers, 3, link, gate);
+    let (_, ran) = run(rt, alloc, state, calls, workers, 3, link, gate, NoJournal);
     rings.close();
     ran
 }

@@ -4,6 +4,7 @@ use crate::test_state::{calls_of, dc, state};
 use access_slots::slot::Value;
 use data_component::dc::Dc;
 use dc_links::{Link, LockedDcs};
+use journals::NoJournal;
 use samples::{PUT, record, value};
 use std::alloc::{AllocError, Global};
 use std::fmt::Debug;
@@ -81,7 +82,7 @@ pub(crate) fn answers<R: Threads + Wait + Sync + Abort, L: Link + Sync, G: Gate 
     link: &L,
     gate: &G,
 ) -> Vec<Answer> {
-    let ran = run(rt, alloc, state, calls, workers, 3, link, gate);
+    let (_, ran) = run(rt, alloc, state, calls, workers, 3, link, gate, NoJournal);
     answers_of(begun(rt, ran))
 }
 
@@ -108,7 +109,17 @@ pub(crate) fn behind_put<R: Threads + Wait + Sync + Abort, L: Link + Sync>(
 ) -> TcState {
     let first = calls_of(rt, alloc, &[(PUT, &[5, 100])]);
     let state = state(rt, alloc);
-    let ran = run(rt, alloc, state, first.as_slice(), 1, 3, link, &OpenGate);
+    let (_, ran) = run(
+        rt,
+        alloc,
+        state,
+        first.as_slice(),
+        1,
+        3,
+        link,
+        &OpenGate,
+        NoJournal,
+    );
     drop(first);
     let report = begun(rt, ran);
     is_same(rt, report.ends(), 1);

@@ -6,16 +6,14 @@ use crate::test_pool::{
     value_at,
 };
 use crate::test_state::{add_call, moves, puts, state};
-use journals::{Journal, MemoryJournal, NotKept};
+use journals::{Journal, MemoryJournal, NoJournal, NotKept};
 use samples::{PUT, value};
 use std::alloc::Global;
 use std::process::Abort;
 use std::sync::Wait;
 use std::thread::Threads;
 use tc_log::log::Log;
-use worker_pool::{
-    Acknowledgement, Answer, Gate, KeptFault, OpenGate, Report, RunSpec, run, run_kept,
-};
+use worker_pool::{Acknowledgement, Answer, Gate, OpenGate, Report, RunFault, RunSpec, run};
 
 // A link with so many wires of a worker on their way at most, and room for so many rows.
 fn delays(rt: &impl Abort, alloc: Global, weather: Weather, window: usize, rows: usize) -> Delays {
@@ -122,7 +120,7 @@ fn put_in_storm<R: Threads + Wait + Sync + Abort>(rt: &R, alloc: Global, workers
     let mut link = delays(rt, alloc, Weather::Storm, 100, 300);
     let calls = puts(alloc, 300, 1).expect(rt, "no calls");
     let state = state(rt, alloc);
-    let ran = run(
+    let (_, ran) = run(
         rt,
         alloc,
         state,
@@ -131,6 +129,7 @@ fn put_in_storm<R: Threads + Wait + Sync + Abort>(rt: &R, alloc: Global, workers
         20,
         &link,
         &OpenGate,
+        NoJournal,
     );
     drop(calls);
     let answers = answers_of(begun(rt, ran));
@@ -176,7 +175,9 @@ struct KeepsAFew {
 }
 
 impl Journal for KeepsAFew {
-    ghost use Rattle.std.specs.Prelude.{◌≡◌};
+    ghost use Rattle.std.specs.Prelude.{◌≡◌, true};
+
+    ghost keeps = { λ journal. true };
 
     ghost has_kept = { λ journal events. journal.memory ≡ events };
 
@@ -189,6 +190,10 @@ impl Journal for KeepsAFew {
     ghost fails = { λ before why after. Unit {0} };
 
     ghost kept_now = { λ journal events left kept now. now };
+
+    fn keeps(&self) -> bool {
+        true
+    }
 
     fn keep(&mut self, events: &Log) -> Result<(), NotKept> {
         if self.left == 0 {
@@ -213,7 +218,7 @@ fn kept<R: Threads + Wait + Sync + Abort>(
         memory: MemoryJournal::new(alloc),
         left,
     };
-    let (journal, ran) = run_kept(
+    let (journal, ran) = run(
         rt,
         alloc,
         state,
@@ -231,7 +236,7 @@ fn kept<R: Threads + Wait + Sync + Abort>(
 }
 
 // How many events the log of a report's state has.
-fn logged(ran: Result<Report, KeptFault>) -> Option<usize> {
+fn logged(ran: Result<Report, RunFault>) -> Option<usize> {
     match ran {
         Ok(report) => {
             let state = state_of(report);

@@ -1,32 +1,61 @@
 -- Why one list of calls has no answers, and so why both lists haven't.
-use Rattle.std.proofs.Common.{◌≡◌, ℕ, true, false, Option, Some, None, refl, sym, subst, inl, inr, arith}
+use Rattle.std.proofs.Common.{◌≡◌, ℕ, List, reverse, true, false, Option, Some, None, refl, sym, subst, inl, inr, arith}
 use Rattle.std.specs.Prelude.{is_some}
+use Rattle.tc_log.specs.declared.event.Event.{Event}
+use Rattle.tc_core.specs.Core.{Core}
 use Rattle.disk_file.specs.declared.fault.FileFault.{FileFault}
-use Rattle.worker_pool.specs.declared.pool.RunFault.{RunFault}
-use Rattle.worker_pool.specs.declared.pool.RunFault.TheVariants as fault
+use Rattle.disk_file.specs.Disk.{disk_bytes, left_of}
+use Rattle.log_journal.specs.Keeping.{HasWritten}
+use Rattle.journals.specs.declared.journal.NotKept.TheVariants as why
+use Rattle.journals.specs.Optional.{any_has, any_keeps}
+use Rattle.worker_pool.specs.declared.running.RunFault.{RunFault}
+use Rattle.worker_pool.specs.declared.running.RunFault.TheVariants as fault
 use Rattle.worker_pool.specs.Faults.{FaultFits, InRange}
+use Rattle.worker_pool.specs.Journals.{HasKept}
 use Rattle.run_command.specs.declared.answering.Halt.{Halt}
 use Rattle.run_command.specs.declared.answering.Halt.TheVariants.{Unbegun, NotKept, Memory as NoMemory}
-use Rattle.run_command.specs.declared.answering.Unbegun.{Unbegun as Cause}
 use Rattle.run_command.specs.declared.answering.Unbegun.TheVariants.{Workers, Tries, Memory, NoThread}
-use Rattle.run_command.specs.Stops.{cause_of}
 use Rattle.run_command.specs.declared.running.Unreported.{Unreported}
 use Rattle.run_command.specs.declared.running.Unreported.TheVariants as unreported
-use Rattle.run_command.specs.Kept.{FileJournal, HaltFits, UnreportedFits}
-use Rattle.run_command.specs.Joining.Halts.{ListHalts}
+use Rattle.run_command.specs.Kept.{FileJournal, KeepsLog, HaltFits, UnreportedFits}
+use Rattle.run_command.specs.Joining.Halts.{ListHalts, halt_of}
+use Rattle.run_command.proofs.RunLemmas.{turned}
 
-of_cause : (journal : Option FileJournal) (workers tries : ℕ) (f : RunFault) → FaultFits workers tries f
-    → ListHalts journal workers tries (Unbegun (cause_of f))
-of_cause journal workers tries (fault.Workers s) fits = fits
-of_cause journal workers tries (fault.Tries s) fits = fits
-of_cause journal workers tries (fault.Memory s) fits = fits
-of_cause journal workers tries (fault.NoThread s) fits = fits
+not_both : true ≡ false → ⊥
+not_both bad = cc bad
 
--- a run that wasn't begun
-pub unbegun_list : (journal : Option FileJournal) (workers tries : ℕ) (f : RunFault) (cause : Cause) → cause ≡ cause_of f → FaultFits workers tries f
-    → ListHalts journal workers tries (Unbegun cause)
-unbegun_list journal workers tries f cause is fits =
-    subst (λ (c : Cause). ListHalts journal workers tries (Unbegun c)) (sym is) (of_cause journal workers tries f fits)
+-- it is there in the end as it was in the beginning
+pub still_there : (journal now : Option FileJournal) → any_keeps (λ (j : FileJournal). true) now ≡ any_keeps (λ (j : FileJournal). true) journal
+    → is_some now ≡ is_some journal
+still_there None None same = refl
+still_there None (Some n) same = same
+still_there (Some j) None same = same
+still_there (Some j) (Some n) same = refl
+
+-- and has kept the log behind what it had
+pub keeps_on : (journal now : Option FileJournal) (first last : List Event)
+    → (any_keeps (λ (j : FileJournal). true) journal ≡ true
+    → HasKept (any_has (λ (j : FileJournal) (events : List Event). HasWritten disk_bytes left_of j.header j.file events))
+    (any_has (λ (j : FileJournal) (events : List Event). HasWritten disk_bytes left_of j.header j.file events) journal) now first last)
+    → any_keeps (λ (j : FileJournal). true) now ≡ any_keeps (λ (j : FileJournal). true) journal → KeepsLog journal first → KeepsLog now last
+keeps_on None None first last kept same was = tt
+keeps_on None (Some n) first last kept same was = absurd (not_both same)
+keeps_on (Some j) None first last kept same was = absurd (not_both (sym same))
+keeps_on (Some j) (Some n) first last kept same was =
+    let k = kept refl in
+    subst (HasWritten disk_bytes left_of n.header n.file) (turned first k.behind last k.log) (k.kept (reverse first) was)
+
+-- how a run's fault is told fits
+pub list_halts : (journal : Option FileJournal) (start : Core) (workers tries : ℕ) (f : RunFault) (failure : Option FileFault)
+    → FaultFits start (any_keeps (λ (j : FileJournal). true) journal) workers tries f → ListHalts journal workers tries (halt_of f failure)
+list_halts journal start workers tries (fault.Workers s) failure fits = fits.1
+list_halts journal start workers tries (fault.Tries s) failure fits = (fits.1, fits.2)
+list_halts journal start workers tries (fault.Memory s) failure fits = fits.1
+list_halts journal start workers tries (fault.NoThread s) failure fits = fits.1
+list_halts None start workers tries (fault.NotKept why.Failed s) failure fits = absurd (not_both (sym fits.0))
+list_halts None start workers tries (fault.NotKept why.Memory s) failure fits = absurd (not_both (sym fits.0))
+list_halts (Some j) start workers tries (fault.NotKept why.Failed s) failure fits = fits.1
+list_halts (Some j) start workers tries (fault.NotKept why.Memory s) failure fits = fits.1
 
 zero_one : (n : ℕ) → n ≡ 1 → n ≡ 0 → ⊥
 zero_one n one none = omega (arith, one, none)

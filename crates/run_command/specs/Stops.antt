@@ -1,8 +1,6 @@
 -- Why no call of a run is begun.
 use Rattle.std.specs.Prelude.{◌≡◌, ◌⊎◌, ℕ, ◌<◌}
 use Rattle.worker_pool.specs.Faults.{TriesFit}
-use Rattle.worker_pool.specs.declared.pool.RunFault.{RunFault}
-use Rattle.worker_pool.specs.declared.pool.RunFault.TheVariants as fault
 use Rattle.run_command.specs.declared.answering.Unbegun.{Unbegun}
 use Rattle.run_command.specs.declared.answering.Unbegun.TheVariants.{Workers, Tries, Memory, NoThread}
 
@@ -12,10 +10,3 @@ Stops workers tries Tries = (tries ≡ 0) ⊎ (1000 < tries)
 Stops workers tries Workers = TriesFit tries × ((workers ≡ 0) ⊎ (64 < workers))
 Stops workers tries Memory = TriesFit tries
 Stops workers tries NoThread = TriesFit tries
-
--- why, without the state
-abbrev pub cause_of : RunFault → Unbegun
-cause_of (fault.Workers state) = Workers
-cause_of (fault.Tries state) = Tries
-cause_of (fault.Memory state) = Memory
-cause_of (fault.NoThread state) = NoThread

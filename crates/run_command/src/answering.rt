@@ -1,16 +1,14 @@
 //! Both lists of a script's calls, answered while each data component runs in a thread of its own, and kept
 //! in a journal where there is one.
 
-ghost use Rattle.std.specs.Prelude.{◌≡◌, ◌++◌, ℕ, List, [], length, true, None, Some, is_some, IfOk, IfErr, OnOk};
+ghost use Rattle.std.specs.Prelude.{◌≡◌, ◌++◌, ℕ, List, [], length, is_some, IfOk, IfErr, OnOk};
 ghost use Rattle.data_component.specs.Store.{Store};
-ghost use Rattle.tc_core.specs.Core.{Core};
 ghost use Rattle.worker_pool.specs.Faults.{InRange};
-ghost use Rattle.worker_pool.specs.Journals.{KeptFaultFits};
 ghost use Rattle.worker_pool.specs.Reports.{Reports};
 ghost use Rattle.run_command.specs.Answered.{AreAnswered, AreServed};
-ghost use Rattle.run_command.specs.Stops.{Stops, cause_of};
-ghost use Rattle.run_command.specs.Kept.{FileJournal as FileJournalValue, KeepsLog, HaltFits};
-ghost use Rattle.run_command.specs.Joining.Halts.{ListHalts};
+ghost use Rattle.run_command.specs.Stops.{Stops};
+ghost use Rattle.run_command.specs.Kept.{KeepsLog, HaltFits};
+ghost use Rattle.run_command.specs.Joining.Halts.{ListHalts, halt_of};
 ghost use Rattle.run_command.specs.Joining.Servers.{ArePromised};
 
 use crate::anew::Ground;
@@ -27,7 +25,7 @@ use std::thread;
 use std::thread::{PromisedHandle, Scope, Threads};
 use std::time::{Clock, Duration, Instant};
 use tc_core::state::{Call, TcState};
-use worker_pool::{Answer, Gate, KeptFault, OpenGate, Report, RunFault, run, run_kept};
+use worker_pool::{Answer, Gate, OpenGate, Report, RunFault, run};
 
 /// How the calls of a script are run: the second list by so many workers, each request sent so often
 /// at most; with the figures of that list as notes, with an audit behind the rows, and with what slots of
@@ -73,36 +71,28 @@ pub enum Halt {
 /// A journal in a file.
 pub type FileJournal = LogJournal<DiskFile>;
 
-// Why a run wasn't begun; the state that it hands back goes.
-fn cause(fault: RunFault) -> Unbegun
-    ensures { result ≡ cause_of fault }
-{
-    let cause = match &fault {
-        RunFault::Workers(_) => Unbegun::Workers,
-        RunFault::Tries(_) => Unbegun::Tries,
-        RunFault::Memory(_) => Unbegun::Memory,
-        RunFault::NoThread(_) => Unbegun::NoThread,
-    };
-    drop(fault.into_state());
-    cause
+// What the file of a journal says of a keep that failed.
+fn failure_of(journal: &Option<FileJournal>) -> Option<FileFault> {
+    match journal {
+        None => None,
+        Some(journal) => journal.device().failure(),
+    }
 }
 
-// Why a run whose log is kept has no report, where its file says this of it; the state that it hands back goes.
-fn halted(fault: KeptFault, failure: Option<FileFault>) -> Halt
-    ensures { (journal : FileJournalValue) (start : Core) (workers tries : ℕ) → KeptFaultFits start workers tries fault
-        → ListHalts (Some journal) workers tries result }
+// Why a run has no report, where its journal's file says this of it; the state that it hands back goes.
+fn halted(fault: RunFault, failure: Option<FileFault>) -> Halt
+    ensures { result ≡ halt_of fault failure }
 {
-    match fault {
-        KeptFault::Unbegun(fault) => Halt::Unbegun(cause(fault)),
-        KeptFault::NotKept(NotKept::Failed, state) => {
-            drop(state);
-            Halt::NotKept(failure)
-        }
-        KeptFault::NotKept(NotKept::Memory, state) => {
-            drop(state);
-            Halt::Memory
-        }
-    }
+    let halt = match &fault {
+        RunFault::Workers(_) => Halt::Unbegun(Unbegun::Workers),
+        RunFault::Tries(_) => Halt::Unbegun(Unbegun::Tries),
+        RunFault::Memory(_) => Halt::Unbegun(Unbegun::Memory),
+        RunFault::NoThread(_) => Halt::Unbegun(Unbegun::NoThread),
+        RunFault::NotKept(NotKept::Failed, _) => Halt::NotKept(failure),
+        RunFault::NotKept(NotKept::Memory, _) => Halt::Memory,
+    };
+    drop(fault.into_state());
+    halt
 }
 
 // One list of calls that was answered.
@@ -132,74 +122,6 @@ struct Crew {
     tries: u64,
 }
 
-// Answers one list of calls.
-fn answer_unkept<R: Threads + Wait + Sync, G: Gate + Sync>(
-    rt: &R,
-    alloc: Global,
-    state: TcState,
-    calls: &[Call],
-    crew: Crew,
-    link: &RingLink,
-    gate: &G,
-) -> Result<Listed, Halt>
-    ensures report { IfOk result (λ l. Reports state calls.now l.state l.answers.items) }
-    ensures journal { IfOk result (λ l. l.journal ≡ None) }
-    ensures range { IfOk result (λ _. InRange crew.workers crew.tries) }
-    ensures fault { IfErr result (ListHalts None crew.workers crew.tries) }
-{
-    match run(
-        rt,
-        alloc,
-        state,
-        calls,
-        crew.workers,
-        crew.tries,
-        link,
-        gate,
-    ) {
-        Ok(report) => Ok(listed_in(report, None)),
-        Err(fault) => Err(Halt::Unbegun(cause(fault))),
-    }
-}
-
-// The same, and keeps the log in a journal.
-fn answer_kept<R: Threads + Wait + Sync, G: Gate + Sync>(
-    rt: &R,
-    alloc: Global,
-    state: TcState,
-    calls: &[Call],
-    crew: Crew,
-    link: &RingLink,
-    gate: &G,
-    journal: FileJournal,
-) -> Result<Listed, Halt>
-    ensures report { IfOk result (λ l. Reports state calls.now l.state l.answers.items) }
-    ensures kept { KeepsLog (Some journal) state.events → IfOk result (λ l. KeepsLog l.journal l.state.events) }
-    ensures journal { IfOk result (λ l. is_some l.journal ≡ true) }
-    ensures range { IfOk result (λ _. InRange crew.workers crew.tries) }
-    ensures fault { IfErr result (ListHalts (Some journal) crew.workers crew.tries) }
-{
-    let (journal, ran) = run_kept(
-        rt,
-        alloc,
-        state,
-        calls,
-        crew.workers,
-        crew.tries,
-        link,
-        gate,
-        journal,
-    );
-    match ran {
-        Ok(report) => Ok(listed_in(report, Some(journal))),
-        Err(fault) => {
-            let failure = journal.device().failure();
-            drop(journal);
-            Err(halted(fault, failure))
-        }
-    }
-}
-
 // Answers one list of calls, and keeps the log where there is a journal.
 fn answer_list<R: Threads + Wait + Sync, G: Gate + Sync>(
     rt: &R,
@@ -217,9 +139,24 @@ fn answer_list<R: Threads + Wait + Sync, G: Gate + Sync>(
     ensures range { IfOk result (λ _. InRange crew.workers crew.tries) }
     ensures fault { IfErr result (ListHalts journal crew.workers crew.tries) }
 {
-    match journal {
-        None => answer_unkept(rt, alloc, state, calls, crew, link, gate),
-        Some(journal) => answer_kept(rt, alloc, state, calls, crew, link, gate, journal),
+    let (journal, ran) = run(
+        rt,
+        alloc,
+        state,
+        calls,
+        crew.workers,
+        crew.tries,
+        link,
+        gate,
+        journal,
+    );
+    match ran {
+        Ok(report) => Ok(listed_in(report, journal)),
+        Err(fault) => {
+            let failure = failure_of(&journal);
+            drop(journal);
+            Err(halted(fault, failure))
+        }
     }
 }
 

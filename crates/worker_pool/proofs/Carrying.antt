@@ -17,7 +17,7 @@ use Rattle.transactions.specs.declared.Redoing.{Redoing}
 use Rattle.transactions.specs.declared.Site.{Site}
 use Rattle.transactions.specs.declared.Next.{Next}
 use Rattle.transactions.specs.declared.Next.TheVariants as next
-use Rattle.transactions.specs.InFlight.{site_by, site_of, site_at, to_redo_by, under_redo, IsOpenAtSite, IsUnderRedo, Open, Again}
+use Rattle.transactions.specs.InFlight.{site_by, site_of, to_redo_by, under_redo, IsOpenAtSite, IsUnderRedo, Open, Again}
 use Rattle.transactions.specs.Legal.{Legal}
 use Rattle.transactions.specs.Next.{next_in}
 use Rattle.transactions.specs.Standing.{Standing, standing, moved, asked, undone as undone_by}
@@ -31,8 +31,7 @@ use Rattle.tc_core.specs.Recovery.{sent_in}
 use Rattle.tc_core.specs.Lent.{wire_for, wire_by, wire_of}
 use Rattle.tc_core.specs.Replies.{next_at, asked_by, ask_reply, after_ask, undone, undo_by, undo_reply, after_undo}
 use Rattle.tc_core.specs.Redo.{redo_wire, redo_reply, redo_at, redo_by, sends_again, up_again, after_redo, after_told, redone_at, after_redone}
-use Rattle.tc_core.specs.declared.state.Asked.{Asked}
-use Rattle.tc_core.specs.declared.state.Asked.TheVariants.{Request, Undoing, Over, Stuck, Waits, Running, Unknown}
+use Rattle.tc_core.specs.declared.state.Asked.TheVariants.{Request}
 use Rattle.tc_core.specs.declared.state.Down.{Down}
 use Rattle.tc_core.specs.declared.state.NewsFault.{NewsFault}
 use Rattle.tc_core.specs.declared.state.Stranger2.{Stranger2}

@@ -1,5 +1,5 @@
 -- What a crash leaves of the journal of a run.
-use Rattle.std.proofs.Common.{◌≡◌, ◌∙◌, ◌≤◌, ◌⊎◌, ◌++◌, ◌∷◌, [], ℕ, List, reverse, refl, sym, ap, subst, inl, inr, ⊎_elim, arith, append-nil}
+use Rattle.std.proofs.Common.{◌≡◌, ◌∙◌, ◌++◌, ◌∷◌, [], ℕ, List, reverse, refl, sym, ap, subst, inl, inr, ⊎_elim, arith, append-nil}
 use Rattle.tc_log.specs.declared.event.Event.{Event}
 use Rattle.tc_core.specs.Core.{Core}
 use Rattle.frame_file.specs.Device.{LeavesOnly}

@@ -11,3 +11,4 @@ pub mod AtOnceLemmas
 pub mod Handing
 pub mod Leaving
 pub mod Grown
+pub mod Unbegun

@@ -1,4 +1,4 @@
--- What a journal has kept behind a run, and why a run with one ends without a report.
+-- What a journal has kept behind a run, and why it didn't keep what it was given.
 use Rattle.std.specs.Prelude.{◌≡◌, ◌⊎◌, ℕ, List, ◌++◌, reverse}
 use Rattle.tc_log.specs.declared.event.Event.{Event}
 use Rattle.history.specs.Places.{Begins}
@@ -6,10 +6,7 @@ use Rattle.transactions.specs.Legal.{Legal}
 use Rattle.tc_core.specs.Core.{Core}
 use Rattle.journals.specs.declared.journal.NotKept.{NotKept as Why}
 use Rattle.journals.specs.declared.journal.NotKept.TheVariants.{Memory}
-use Rattle.worker_pool.specs.declared.kept_run.KeptFault.{KeptFault}
-use Rattle.worker_pool.specs.declared.kept_run.KeptFault.TheVariants.{Unbegun, NotKept}
 use Rattle.worker_pool.specs.Answers.{StaysBut}
-use Rattle.worker_pool.specs.Faults.{state_of, InRange, FaultFits}
 
 -- behind whatever the journal had kept before it has kept what the log has behind the first one, the oldest event first. A log is read
 -- with its newest event first
@@ -41,21 +38,6 @@ pub record IsLeftOfRun (leaves : List Event → List Event → List ℕ → Type
   pub log : Begins (reverse (kept ++ more) ++ start.events) then.events
   pub is_left : leaves (before ++ kept) more left
 
--- the state that is handed back
-abbrev pub kept_state_of : KeptFault → Core
-kept_state_of (Unbegun fault) = state_of fault
-kept_state_of (NotKept why now) = now
-
--- when each fault comes, and what is known of the state that is handed back
-abbrev pub KeptFaultFits : Core → ℕ → ℕ → KeptFault → Type 0
-KeptFaultFits start workers tries (Unbegun fault) = (state_of fault ≡ start) × FaultFits workers tries fault
-KeptFaultFits start workers tries (NotKept why now) = InRange workers tries × HasGoneOn start now
-
 -- why something wasn't kept: the journal said so, in the call that left it as it is, or there was no memory for copies of the events
 abbrev pub IsUnkept : {K : Type 0} → (K → Why → K → Type 0) → K → Why → Type 0
 IsUnkept {K} fails journal why = ((was : K) × fails was why journal) ⊎ (why ≡ Memory)
-
--- what is known of the journal that is handed back
-abbrev pub IsUnkeptBy : {K : Type 0} → (K → Why → K → Type 0) → K → KeptFault → Type 0
-IsUnkeptBy fails journal (Unbegun fault) = Unit {0}
-IsUnkeptBy fails journal (NotKept why now) = IsUnkept fails journal why

@@ -118,7 +118,8 @@ impl<J: RunSpec, K: Journal> Model for GroupCommit<J, K> {
         × ((events : List Event) → J.before events
         → LeavesBehind K.moment K.left_since J.start J.since J.past J.leaves events k.journal)
         × ((events more : List Event) (left : List ℕ) → K.leaves k.journal events more left → J.leaves events more left)
-        × ((why : Why) → k.fault ≡ Some why → IsUnkept K.fails k.journal why) };
+        × ((why : Why) → k.fault ≡ Some why → IsUnkept K.fails k.journal why)
+        × (K.keeps k.journal ≡ J.keeps) };
 }
 
 impl<J: RunSpec, K: Journal> GroupCommit<J, K> {
@@ -140,6 +141,7 @@ impl<J: RunSpec, K: Journal> GroupCommit<J, K> {
         batch: Batch,
     ) -> GroupCommit<J, K>
         requires keeps { keeps ≡ J.keeps }
+        requires goes_on { K.keeps journal ≡ J.keeps }
         requires before { (events : List EventValue) → J.before events → K.has_kept journal events }
         requires kept { (journal : K) (events : List EventValue) → K.has_kept journal events → J.kept events }
         requires handed { handed ≡ [] }
@@ -345,6 +347,7 @@ impl<J: RunSpec, K: Journal> GroupCommit<J, K> {
         ensures left { (events : List EventValue) → J.before events
             → LeavesBehind K.moment K.left_since J.start J.since J.past J.leaves events result }
         ensures unkept { (why : Why) → self.fault ≡ Some why → IsUnkept K.fails result why }
+        ensures goes_on { K.keeps result ≡ J.keeps }
     {
         let GroupCommit {
             journal,

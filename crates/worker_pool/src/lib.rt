@@ -2,7 +2,8 @@
 //!
 //! ```
 //! let link = LockedDcs::new(alloc, dcs)?;
-//! let report = match run(&rt, alloc, state, calls.as_slice(), 4, 3, &link, &OpenGate) {
+//! let (_, ran) = run(&rt, alloc, state, calls.as_slice(), 4, 3, &link, &OpenGate, NoJournal);
+//! let report = match ran {
 //!     Ok(report) => report,
 //!     Err(fault) => return again_with(fault.into_state()),
 //! };
@@ -21,8 +22,8 @@
 //! this process. A [`Gate`] is told when a call is admitted, which [`Stage`] it reaches, and of its answer by an
 //! [`Acknowledgement`]. Where it is silent about all but the last, a link may perform wires at once, under the lock
 //! (`Link::perform_at_once`).
-//! [`run_kept`] keeps the log in a journal (`journals`), and tells no answer before the log that it is true
-//! of is kept. Between two lists of calls the log of a report's state may begin anew:
+//! A run keeps its log in a journal (`journals`), and tells no answer before the log that it is true of is
+//! kept; with `NoJournal` it keeps nothing. Between two lists of calls the log of a report's state may begin anew:
 //! `tc_world::cutting::cut` does it with data components of this process, `TcState::checkpoint` by the
 //! marks that others have kept. Its tests are those of `pool_tests`.
 #![tactic(auto)]
@@ -33,7 +34,6 @@ mod attempt;
 mod batch;
 mod group_commit;
 mod handed;
-mod kept_run;
 mod laws;
 mod outstanding_call;
 mod outstanding_calls;
@@ -43,15 +43,16 @@ mod pool_state;
 mod redo_budget;
 mod report;
 mod run_spec;
+mod running;
 mod stage;
 
 pub use acknowledgement::Acknowledgement;
 pub use answer::{Answer, Progress};
 pub use dc_links::Link;
-pub use kept_run::{KeptFault, run_kept};
 pub use laws::carried_is_in_flight;
 pub use outstanding_call::OutstandingCall;
-pub use pool::{Gate, OpenGate, RunFault, run};
+pub use pool::{Gate, OpenGate};
 pub use report::Report;
 pub use run_spec::RunSpec;
+pub use running::{RunFault, run};
 pub use stage::Stage;

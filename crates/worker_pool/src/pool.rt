@@ -1,20 +1,14 @@
 // Workers over one lock.
 
-ghost use Rattle.tc_log.specs.declared.event.Event.{Event as EventValue};
-ghost use Rattle.std.specs.Prelude.{◌≡◌, ◌⊎◌, ◌<◌, ◌≤◌, ℕ, List, [], true, false, length, Some, slice_get, IfOk, IfErr, OnOk, replicate, vec_capacity, MatchResult};
-ghost use Rattle.tc_core.specs.Core.{Core};
+ghost use Rattle.std.specs.Prelude.{◌≡◌, ◌<◌, ◌≤◌, ℕ, [], true, length, Some, slice_get, IfErr, OnOk, vec_capacity};
 ghost use Rattle.worker_pool.specs.Joining.Seen.{IsAnswered, AnswersStay};
-ghost use Rattle.worker_pool.specs.Reports.{Reports};
 ghost use Rattle.worker_pool.specs.Journals.{HasGoneOn};
-ghost use Rattle.worker_pool.specs.Faults.{state_of, InRange, WorkersFit, TriesFit, FaultFits};
 ghost use Rattle.worker_pool.specs.Joining.Ran.{RanFits, RanKeeps, KeepsAll};
 
 use crate::acknowledgement::{Acknowledgement, ReadyAnswer};
-use crate::answer::{Answer, Progress};
+use crate::answer::Answer;
 use crate::attempt::Attempt;
-use crate::batch::Batch;
 use crate::group_commit::{GroupCommit, GroupCommitLock, Stopped};
-use crate::handed::Opened;
 use crate::outstanding_calls::{MostCalls, OutstandingCalls};
 use crate::performing::{AtOnce, RunPerformer};
 use crate::pool_state::{Next, PoolState};
@@ -23,17 +17,12 @@ use crate::run_spec::RunSpec;
 use crate::stage::Stage;
 use access_slots::op::{Reply, Wire};
 use dc_links::{Link, acquire};
-use journals::{Journal, NoJournal, NotKept};
-use std::alloc::{AllocError, Global};
-use std::marker::Brand;
+use journals::{Journal, NotKept};
+use std::alloc::Global;
 use std::sync::{Condvar, Mutex, Wait};
 use std::thread;
 use std::thread::Threads;
 use tc_core::state::{Call, TcState};
-
-const MOST_WORKERS: usize = 64;
-
-const MOST_TRIES: u64 = 1000;
 
 const ONE_CALL: MostCalls = MostCalls {
     away: 1,
@@ -85,32 +74,6 @@ impl Gate for OpenGate {
 
     fn is_prompt(&self) -> bool {
         true
-    }
-}
-
-/// Why no call was begun, in the order in which it is looked for. Each hands the state back, as it
-/// was handed in.
-#[derive(Drop)]
-pub enum RunFault {
-    /// G1: the number of workers isn't 1 to 64.
-    Workers(TcState),
-    /// G2: the number of tries isn't 1 to 1,000.
-    Tries(TcState),
-    /// G3: there is no memory for the answers.
-    Memory(TcState),
-    /// G4: no worker could be started.
-    NoThread(TcState),
-}
-
-impl RunFault {
-    /// The state that was handed in.
-    pub fn into_state(self) -> TcState
-        ensures { result ≡ state_of self }
-    {
-        match self {
-            RunFault::Workers(state) | RunFault::Tries(state) => state,
-            RunFault::Memory(state) | RunFault::NoThread(state) => state,
-        }
     }
 }
 
@@ -249,18 +212,6 @@ fn finish_and_keep<J: RunSpec, K: Journal, R: Wait, L: Link, G: Gate>(
     group_commit.check()?;
     finish_all(rt, pool_state, calls, worker, group_commit)?;
     group_commit.keep_rest(rt, pool_state)
-}
-
-fn all_waiting(alloc: Global, count: usize) -> Result<Vec<Progress>, AllocError>
-    ensures { IfOk result (λ v. v.items ≡ replicate count Progress.Waiting) }
-{
-    vec![in alloc; Progress::Waiting; count]
-}
-
-fn room_for(alloc: Global, count: usize) -> Result<Vec<Answer>, AllocError>
-    ensures { IfOk result (λ v. (v.items ≡ []) × (count ≤ vec_capacity v)) }
-{
-    Vec::with_capacity(alloc, count)
 }
 
 // The lock, what tells of transactions that leave the way, and the run's journal, which is under a lock of
@@ -449,62 +400,6 @@ fn work_all<
     )
 }
 
-// Whether so many workers can be started.
-fn are_workers(workers: usize) -> bool
-    ensures yes { result ≡ true → WorkersFit workers }
-    ensures no { result ≡ false → (workers ≡ 0) ⊎ (64 < workers) }
-{
-    (1..=MOST_WORKERS).contains(&workers)
-}
-
-// Whether a request can be sent so often.
-fn are_tries(tries: u64) -> bool
-    ensures yes { result ≡ true → TriesFit tries }
-    ensures no { result ≡ false → (tries ≡ 0) ⊎ (1000 < tries) }
-{
-    (1..=MOST_TRIES).contains(&tries)
-}
-
-// What a run takes with it.
-pub(crate) struct Prepared {
-    pub(crate) state: TcState,
-    pub(crate) answers: Vec<Answer>,
-    pub(crate) progress: Vec<Progress>,
-}
-
-// The state, and room for what becomes of each call.
-pub(crate) fn prepare(
-    alloc: Global,
-    state: TcState,
-    calls: &[Call],
-    workers: usize,
-    tries: u64,
-) -> Result<Prepared, RunFault>
-    ensures state { IfOk result (λ p. p.state ≡ state) }
-    ensures answers { IfOk result (λ p. (p.answers.items ≡ []) × (length calls.now ≤ vec_capacity p.answers)) }
-    ensures progress { IfOk result (λ p. p.progress.items ≡ replicate (length calls.now) Progress.Waiting) }
-    ensures fault { IfErr result (λ f. state_of f ≡ state) }
-    ensures which { MatchResult result (λ _. InRange workers tries) (λ f. FaultFits workers tries f) }
-{
-    if !are_workers(workers) {
-        return Err(RunFault::Workers(state));
-    }
-    if !are_tries(tries) {
-        return Err(RunFault::Tries(state));
-    }
-    let Ok(answers) = room_for(alloc, calls.len()) else {
-        return Err(RunFault::Memory(state));
-    };
-    let Ok(progress) = all_waiting(alloc, calls.len()) else {
-        return Err(RunFault::Memory(state));
-    };
-    Ok(Prepared {
-        state,
-        answers,
-        progress,
-    })
-}
-
 // What came of a run.
 pub(crate) enum Ran {
     Done(Report),
@@ -591,104 +486,4 @@ fn halted_by<J: RunSpec>(pool_state: PoolState<J>, _stopped: Stopped<J>) -> TcSt
     ensures { (J.keeps ≡ true) × HasGoneOn J.start result }
 {
     pool_state.halted()
-}
-
-// The run without a journal, under a name for its first state and its calls.
-fn run_named<J: RunSpec + Send + Sync, R: Threads + Wait + Sync, L: Link + Sync, G: Gate + Sync>(
-    rt: &R,
-    alloc: Global,
-    state: TcState,
-    calls: &[Call],
-    workers: usize,
-    tries: u64,
-    link: &L,
-    gate: &G,
-    opened: Opened,
-) -> Result<Report, RunFault>
-    requires state { state ≡ J.start }
-    requires calls { calls.now ≡ J.calls }
-    requires keeps { J.keeps ≡ false }
-    requires before { (events : List EventValue) → J.before events → ⊥ }
-    requires book { opened.seen.book ≡ J.book }
-    ensures report { IfOk result (λ r. Reports J.start J.calls r.state r.answers.items) }
-    ensures fault { IfErr result (λ f. state_of f ≡ J.start) }
-    ensures which { MatchResult result (λ _. InRange workers tries) (λ f. FaultFits workers tries f) }
-{
-    let (count, handed) = opened.named::<J>();
-    let Prepared {
-        state,
-        answers,
-        progress,
-    } = prepare(alloc, state, calls, workers, tries)?;
-    let events = state.log().len();
-    let batch = Batch::new(alloc);
-    let group_commit = GroupCommit::new(NoJournal, false, count, handed.again(), events, batch);
-    let pool_state = PoolState::new(state, progress, tries, handed);
-    let commit_lock = GroupCommitLock::new(group_commit, false);
-    let (group_commit, ran) = run_over(
-        rt,
-        alloc,
-        pool_state,
-        commit_lock,
-        calls,
-        answers,
-        workers,
-        link,
-        gate,
-    );
-    let _journal = group_commit.into_journal();
-    match ran {
-        Ran::Done(report) => Ok(report),
-        Ran::NoThread(state) => Err(RunFault::NoThread(state)),
-        Ran::Stopped(..) => unreachable!(),
-    }
-}
-
-/// Runs the calls by so many workers, each call to its answer, and a request that isn't answered is
-/// sent so often at most.
-///
-/// Behind each carry that isn't answered a worker asks the link for news of the data component. Once a
-/// restart is told, nothing is sent there until what was done above the checkpoint's mark is redone;
-/// each worker that wants to send something there redoes it, one number after the other, and sends each
-/// so often at most. Where a number isn't redone by then, the worker gives its own request up.
-///
-/// A worker takes the next call and admits it; where another transaction stands in its way, it waits
-/// until one ends, falls in doubt or is stuck, and tries again, unless all that stand in its way are
-/// in doubt or stuck. A state that is handed in with open transactions, which no call runs, may so make `run` wait for
-/// ever. Nothing is carried and no gate is told while the lock is held; where the gate is silent, the link may perform
-/// at once what a call asks: of up to 64 calls, if both are prompt, before the lock is let go.
-///
-/// A worker has as many calls on their way as the link's window says, if the gate is prompt. Else it has one, so that
-/// none waits for another's gate: a silent gate too is told of answers. Over a prompt link the window is eight, but one
-/// for a single worker, which runs the calls one after the other, and in a run with a journal. Over another link it is
-/// one unless the link can leave wires on their way ([`Link::exchange`]). Then a worker goes on with a call as soon as
-/// something came back for it, with up to 64 under one taking of the lock, and sends nothing again that is on its way.
-/// Up to 64 calls with a transaction in their way are laid aside for others, and tried again whenever something came
-/// back to their worker. It ends once all that is on its way came back or is lost. With a journal a call may wait until
-/// what others logged is kept.
-pub fn run<R: Threads + Wait + Sync, L: Link + Sync, G: Gate + Sync>(
-    rt: &R,
-    alloc: Global,
-    state: TcState,
-    calls: &[Call],
-    workers: usize,
-    tries: u64,
-    link: &L,
-    gate: &G,
-) -> Result<Report, RunFault>
-    ensures report { IfOk result (λ r. Reports state calls.now r.state r.answers.items) }
-    ensures fault { IfErr result (λ f. state_of f ≡ state) }
-    ensures which { MatchResult result (λ _. InRange workers tries) (λ f. FaultFits workers tries f) }
-{
-    run_named::<Brand, R, L, G>(
-        rt,
-        alloc,
-        state,
-        calls,
-        workers,
-        tries,
-        link,
-        gate,
-        Opened::new(),
-    )
 }

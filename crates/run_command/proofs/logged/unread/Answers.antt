@@ -1,4 +1,4 @@
-use Rattle.std.proofs.Common.{List, ℕ, ap, sym, subst, inr}
+use Rattle.std.proofs.Common.{ap, sym, subst, inr}
 use Rattle.std.specs.Prelude.{string_bytes}
 use Rattle.run_command.specs.LogLines.{IsOtherRefusal}
 use Rattle.run_command.proofs.logged.unread.Goals as goal

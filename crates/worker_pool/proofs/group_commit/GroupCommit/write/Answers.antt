@@ -26,6 +26,7 @@ invariant_of-self g c =
           (c.self.invariant.4 (events ++ events_of before) batch)),
       (λ events more left it. c.self.invariant.4 events more left (c.in-Ok.ensures.same events more left it)),
       (λ why is. absurd (cc (sound, is))),
+      c.in-Ok.ensures.goes_on ∙ c.self.invariant.6,
     )
 
 pub invariant_of-self-in-Err-1 : goal.invariant_of-self-in-Err-1
@@ -52,6 +53,7 @@ invariant_of-self-in-Err-1 g c =
         (let same : c.in-Err.fault ≡ why = cc is in subst
             (λ w. g.K.Journal.fails journal w c.keep.new.self) same c.in-Err.ensures.failed),
       )),
+      c.in-Err.ensures.goes_on ∙ c.self.invariant.6,
     )
 
 pub returns-in-Ok-clause-all : goal.returns-in-Ok-clause-all

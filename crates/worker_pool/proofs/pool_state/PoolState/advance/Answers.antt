@@ -1,4 +1,4 @@
-use Rattle.std.proofs.Common.{◌≡◌, subst, inl, inr}
+use Rattle.std.proofs.Common.{subst, inl, inr}
 use Rattle.tc_core.specs.AtOnce.{HasRunAtOnce}
 use Rattle.tc_core.specs.declared.state.Asked.{Asked}
 use Rattle.worker_pool.specs.Doubts.{IsGoing}

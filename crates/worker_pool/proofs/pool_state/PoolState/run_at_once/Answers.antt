@@ -1,5 +1,4 @@
 use Rattle.std.proofs.Common.{◌≡◌, ◌∙◌, Some, slice_get, ap}
-use Rattle.worker_pool.specs.Doubts.{IsGoing}
 use Rattle.worker_pool.specs.Joining.Seen.{Seen}
 use Rattle.worker_pool.specs.declared.answer.Progress.TheVariants.{Begun}
 use Rattle.worker_pool.proofs.AtOnceLemmas.{keeps_then, keeps_run, run_sites, all_flew, legal_then, good_then}

@@ -1,12 +1,11 @@
-use Rattle.std.proofs.Common.{true}
 use Rattle.worker_pool.specs.Journals.{WasKept}
-use Rattle.worker_pool.proofs.kept_run.run_kept.Given as goal
+use Rattle.worker_pool.proofs.running.run.Given as goal
 
-abbrev pub ghosts-run_kept_named : goal.ghosts-run_kept_named
-ghosts-run_kept_named g a = record {
+abbrev pub ghosts-run_named : goal.ghosts-run_named
+ghosts-run_named g a = record {
   start = a.state;
   calls = a.calls.now;
-  keeps = true;
+  keeps = g.K.Journal.keeps a.journal;
   before = g.K.Journal.has_kept a.journal;
   kept = λ events. WasKept g.K.Journal.has_kept events;
   since = g.K.Journal.moment a.journal;

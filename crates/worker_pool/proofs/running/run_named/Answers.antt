@@ -1,13 +1,15 @@
-use Rattle.std.proofs.Common.{ℕ, [], refl, subst}
+use Rattle.std.proofs.Common.{ℕ, [], false, refl, subst}
 use Rattle.transactions.specs.Legal.{Legal}
 use Rattle.tc_core.specs.Core.{Core}
 use Rattle.worker_pool.specs.declared.pool.Ran.{Ran}
 use Rattle.worker_pool.specs.Joining.Handing.{events_of}
 use Rattle.worker_pool.specs.Joining.Ran.{RanFits, RanKeeps}
+use Rattle.worker_pool.specs.Faults.{FaultFits}
 use Rattle.worker_pool.specs.Journals.{HasGoneOn}
 use Rattle.worker_pool.proofs.Leaving.{leaves_first, leaves_only}
-use Rattle.worker_pool.proofs.kept_run.run_kept_named.Goals as goal
-use Rattle.worker_pool.proofs.kept_run.run_kept_named.Goals.{in-Done, in-NoThread, in-Stopped}
+use Rattle.worker_pool.proofs.Unbegun.{unbegun, unasked}
+use Rattle.worker_pool.proofs.running.run_named.Goals as goal
+use Rattle.worker_pool.proofs.running.run_named.Goals.{in-Done, in-NoThread, in-Stopped}
 
 pub returns-clause-report : goal.returns-clause-report
 returns-clause-report g c =
@@ -19,10 +21,10 @@ returns-clause-report g c =
     ]
 
 pub returns-clause-kept : goal.returns-clause-kept
-returns-clause-kept g c =
+returns-clause-kept g c = λ keeps.
     let Keeps : Ran → Type 0 = λ ran. RanKeeps g.K.Journal.has_kept g.J.RunSpec.before g.J.RunSpec.start.events g.J.RunSpec.keeps ran c.run_over-group_commit.result.0 in
     elim c.match-ran.branch [
-      | in-Done w ↦ let all = subst Keeps w.in-Done.is c.run_over-group_commit.ensures.kept c.requires.keeps in
+      | in-Done w ↦ let all = subst Keeps w.in-Done.is c.run_over-group_commit.ensures.kept keeps in
           rw w.ran-is (record {
             behind = events_of c.run_over-group_commit.result.0.handed;
             log = all.log;
@@ -38,8 +40,18 @@ returns-clause-which g c =
     elim c.match-ran.branch [
       | in-Done w ↦ rw w.ran-is c.in-Ok.ensures.which
       | in-NoThread w ↦ rw w.ran-is (subst Fits w.in-NoThread.is c.run_over-group_commit.ensures.ran, c.in-Ok.ensures.which)
-      | in-Stopped w ↦ rw w.ran-is (c.in-Ok.ensures.which, (subst Fits w.in-Stopped.is c.run_over-group_commit.ensures.ran).1)
+      | in-Stopped w ↦ let stopped = subst Fits w.in-Stopped.is c.run_over-group_commit.ensures.ran in
+          rw w.ran-is (stopped.0, c.in-Ok.ensures.which, stopped.1)
     ]
+
+pub returns-in-Err-clause-which : goal.returns-in-Err-clause-which
+returns-in-Err-clause-which g c =
+    let fits = subst (λ (s : Core). FaultFits s false c.args.workers c.args.tries c.in-Err.fault) c.requires.state c.in-Err.ensures.which in
+    unbegun g.J.RunSpec.start g.J.RunSpec.keeps c.args.workers c.args.tries c.in-Err.fault fits
+
+pub returns-in-Err-clause-unkept : goal.returns-in-Err-clause-unkept
+returns-in-Err-clause-unkept g c =
+    unasked g.K.Journal.fails c.args.journal c.args.state c.args.workers c.args.tries c.in-Err.fault c.in-Err.ensures.which
 
 pub returns-clause-unkept : goal.returns-clause-unkept
 returns-clause-unkept g c =
