@@ -29,6 +29,7 @@ GROUPS = [
     ("the verdict on code, what an accepted one promises, its flat form", "verifier"),
     ("where a machine stands, what it keeps and gives", "interpreter"),
     ("which locks are held, and what is in the way", "lock_table"),
+    ("which data components no procedure joins", "partitions"),
     ("request numbers, the low-water mark", "request_numbers"),
     ("events and their bytes", "tc_log"),
     ("what a log says: locks, operations, redo; one that begins anew", "history"),
@@ -48,7 +49,7 @@ GROUPS = [
     ("a call through a frame of plain numbers", "embedding"),
     (
         "what the program prints, on both streams, and for which words",
-        "command_line report_texts text_commands script_loading state_lines world_command run_metrics run_command log_picture log_part log_command procd",
+        "command_line report_texts text_commands script_loading state_lines world_command run_metrics run_command partitioned_run log_picture log_part log_command procd",
     ),
 ]
 

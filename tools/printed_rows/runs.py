@@ -173,6 +173,87 @@ FIRST_ANSWERED = "".join(
     for call, answer in enumerate(["committed", "committed", "committed", "aborted 1", "committed"])
 ) + "".join(f"row 0/0/{key} 0\nrow 0/0/{key + 1} 2\nrow 0/0/{key + 2} 7\n" for key in FIVES)
 
+# Components 0 and 2 are joined by a procedure, 1 and 3 are alone, and nobody calls what is of 3. One procedure has no slot, which is of
+# component 0's partition.
+APART = """\
+dc 9 90
+dc 1 90
+dc 9 90
+dc 9 90
+proc both 1
+slot write 2 0 $0
+slot write 0 0 $0
+  mov r1, 0
+  call 2
+  mov r1, 1
+  call 2
+  exit
+end
+proc alone 1
+slot write 1 0 $0
+  mov r1, 0
+  call 2
+  exit
+end
+proc other 1
+slot write 3 0 $0
+  mov r1, 0
+  call 2
+  exit
+end
+proc none 0
+  mov r0, 7
+  exit
+end
+first alone 5
+first both 5
+call alone 6
+call both 6
+call none
+call alone 5
+call both 5
+call both 1
+"""
+
+APART_PRINTED = """\
+first 0 committed
+first 1 committed
+call 0 noroom
+call 1 committed
+call 2 aborted 7
+call 3 aborted 1
+call 4 aborted 1
+call 5 committed
+row 0/0/1 0
+row 0/0/5 0
+row 0/0/6 0
+row 1/0/5 0
+row 2/0/1 0
+row 2/0/5 0
+row 2/0/6 0
+"""
+
+# Each partition with calls has a log of its own, by the order of their first components.
+APART_AUDITS = """\
+audit ok ended 5 open 0
+audit ok ended 3 open 0
+"""
+
+# A procedure that joins all: one partition has all calls.
+JOINED = """\
+proc all 1
+slot read 0 0 $0
+slot read 1 0 $0
+slot read 2 0 $0
+slot read 3 0 $0
+  mov r0, 0
+  exit
+end
+"""
+
+# What is of one log goes with no partitions.
+BESIDE_PARTITIONS = ["--stats", "--results", "--tell", "--metrics m", "--trace t", "--log l", "--log l --checkpoint", "--log l --checkpoint-over 1"]
+
 # Words, what stands behind the four procedures, and why that is refused.
 REFUSED = [
     ("run --workers 65 -", "call get 1\n", "G1 Workers"),
@@ -184,6 +265,9 @@ REFUSED = [
     ("run -", "checkpoint 0\n", "line 61 F1 BadLine"),
     ("run -", "crash 0\n", "line 61 F1 BadLine"),
     ("run -", "call get 1\nfirst get 1\n", "line 62 F9 Order"),
+    ("run --partitions --workers 65 -", "call get 1\n", "G1 Workers"),
+    ("run --partitions --workers 0 --tries 0 -", "call get 1\n", "G2 Tries"),
+    ("run --partitions -", "call get 1\nfirst get 1\n", "line 62 F9 Order"),
 ]
 
 
@@ -206,6 +290,15 @@ def rows(_program):
     yield row("run --results --audit --workers 1 -", FOUR + "call put 5 7\n", "call 0 committed\nresult 0 0 7\nrow 0/0/5 7\naudit ok ended 1 open 0\n")
     yield row("run --workers 64 -", FIRST, FIRST_ANSWERED)
     yield from (refused(words, FOUR + rest, why) for words, rest, why in REFUSED)
+    joined = APART.replace("first alone", JOINED + "first alone", 1)
+    for words in ["", "--partitions --workers 1 ", "--partitions ", "--partitions --workers 64 "]:
+        yield row(f"run {words}-", APART, APART_PRINTED)
+        yield row(f"run {words}-", joined, APART_PRINTED)
+        yield row(f"run {words}-", FOUR + EIGHT_MOVES, EIGHT_COMMITTED)
+        yield row(f"run {words}-", "dc 1 1\nproc a 0\nmov r0, 0\nexit\nend\n", "")
+    yield row("run --partitions --audit -", APART, APART_PRINTED + APART_AUDITS)
+    yield row("run --partitions --audit -", joined, APART_PRINTED + "audit ok ended 8 open 0\n")
+    yield from (Row(f"run --partitions {more} -".split(), APART.encode(), b"", 2, b"error: run takes --partitions") for more in BESIDE_PARTITIONS)
     # a script is refused before a call is made
     yield refused("run -", "dc 1 1\nproc a 0\nexit\nend\ncall a\n", "line 4 F7 Verify V5 EmptyRegister slot 0")
     yield refused("run -", "dc 1 1\nproc a 0\nmov r0, 0\nexit\nend\ncall b\n", "line 6 F4 NameUnknown")

@@ -21,6 +21,7 @@ use Rattle.command_line.specs.Said.{
   Tries,
   Bytes,
   Logless,
+  Beside,
   Alone,
   Both,
   Drawn,
@@ -34,12 +35,13 @@ use Rattle.command_line.specs.Said.{
   procd_app,
   shows,
 }
-use Rattle.command_line.specs.Said.{IsFlag, SaysCount, SaysLog, SaysNumber, SaysNumberIf, SaysNumbers, SaysPart, SaysPartOf, SaysRun, SaysWish, value_of}
+use Rattle.command_line.specs.Said.{IsFlag, SaysCount, SaysLog, SaysNumber, SaysNumberIf, SaysNumbers, SaysPart, SaysPartOf, SaysRun, SaysPartitioned, SaysMore, SaysNoMore, SaysWish, value_of}
+use Rattle.command_line.specs.Said.{Stats, Results, Tell, Metrics, Trace, Kept, Checkpoint, Over}
 use Rattle.command_line.specs.Task.{LogWish, Events, EventsAndRows, Follow, Audit, Picture}
 use Rattle.command_line.specs.Joining.LogWanted.{shown_wanted, audit_wanted}
 use Rattle.log_part.specs.declared.part.Part.{Part}
 use Rattle.log_part.specs.declared.part.Part.TheVariants.{Whole, From, Last}
-use Rattle.command_line.specs.Task.{Wish, Exec, Asm, Dis, Verify, World, Run, Log, command_name}
+use Rattle.command_line.specs.Task.{Wish, Exec, Asm, Dis, Verify, World, Run, Partitioned, Log, command_name}
 use Rattle.command_line.specs.Wanted.{IsTaskOrNoMemory}
 use Rattle.command_line.specs.declared.words.Task.{Task}
 use Rattle.command_line.specs.declared.words.WordFault.{WordFault}
@@ -119,6 +121,7 @@ wants_exec name rows raw numbers is flag all (Dis r) named says = absurd (exec_n
 wants_exec name rows raw numbers is flag all Verify named says = absurd (exec_not_verify (sym is ∙ named))
 wants_exec name rows raw numbers is flag all (World log audit script) named says = absurd (exec_not_world (sym is ∙ named))
 wants_exec name rows raw numbers is flag all (Run workers tries stats audit results tell metrics trace log checkpoint over script) named says = absurd (exec_not_run (sym is ∙ named))
+wants_exec name rows raw numbers is flag all (Partitioned workers tries a s) named says = absurd (exec_not_run (sym is ∙ named))
 wants_exec name rows raw numbers is flag all (Log script) named says = absurd (exec_not_log (sym is ∙ named))
 
 pub wants_dis : (name : List ℕ) (rows : List Row) (raw : Bool) → name ≡ codes "dis" → ((r : Bool) → IsFlag r (one_of (codes "raw") rows) → raw ≡ r)
@@ -129,6 +132,7 @@ wants_dis name rows raw is flag (Dis r) named says = ap Dis (flag r says)
 wants_dis name rows raw is flag Verify named says = absurd (dis_not_verify (sym is ∙ named))
 wants_dis name rows raw is flag (World log audit script) named says = absurd (dis_not_world (sym is ∙ named))
 wants_dis name rows raw is flag (Run workers tries stats audit results tell metrics trace log checkpoint over script) named says = absurd (dis_not_run (sym is ∙ named))
+wants_dis name rows raw is flag (Partitioned workers tries a s) named says = absurd (dis_not_run (sym is ∙ named))
 wants_dis name rows raw is flag (Log script) named says = absurd (dis_not_log (sym is ∙ named))
 
 pub wants_world : (name : List ℕ) (rows : List Row) (log audit : Bool) (script : Option (List ℕ)) → name ≡ codes "world"
@@ -143,21 +147,25 @@ wants_world name rows log audit script is flag other path Verify named says = ab
 wants_world name rows log audit script is flag other path (World l a s) named says =
     ap₂ (λ (x y : Bool). World x y script) (flag l says.0) (other a says.1) ∙ ap (λ (o : Option (List ℕ)). World l a o) (path ∙ says.2)
 wants_world name rows log audit script is flag other path (Run workers tries stats a results tell metrics trace kept checkpoint over beside) named says = absurd (world_not_run (sym is ∙ named))
+wants_world name rows log audit script is flag other path (Partitioned workers tries a s) named says = absurd (world_not_run (sym is ∙ named))
 wants_world name rows log audit script is flag other path (Log beside) named says = absurd (world_not_log (sym is ∙ named))
 
 pub wants_run : (name : List ℕ) (rows : List Row) (result : Result Task WordFault) → name ≡ codes "run"
     → ((workers tries : ℕ) (stats audit results tell : Bool) (metrics trace log : Option (List ℕ)) (checkpoint : Bool) (over : Option ℕ) (script : Option (List ℕ))
     → SaysRun rows workers tries stats audit results tell metrics trace log checkpoint over script
     → IsTaskOrNoMemory (Run workers tries stats audit results tell metrics trace log checkpoint over script) result)
+    → ((workers tries : ℕ) (audit : Bool) (script : Option (List ℕ)) → SaysPartitioned rows workers tries audit script
+    → IsTaskOrNoMemory (Partitioned workers tries audit script) result)
     → (wish : Wish) → name ≡ command_name wish → SaysWish rows wish → IsTaskOrNoMemory wish result
-wants_run name rows result is all (Exec r ns) named says = absurd (exec_not_run (sym named ∙ is))
-wants_run name rows result is all Asm named says = absurd (asm_not_run (sym named ∙ is))
-wants_run name rows result is all (Dis r) named says = absurd (dis_not_run (sym named ∙ is))
-wants_run name rows result is all Verify named says = absurd (verify_not_run (sym named ∙ is))
-wants_run name rows result is all (World log audit script) named says = absurd (world_not_run (sym named ∙ is))
-wants_run name rows result is all (Run workers tries stats audit results tell metrics trace log checkpoint over script) named says =
+wants_run name rows result is all divides (Exec r ns) named says = absurd (exec_not_run (sym named ∙ is))
+wants_run name rows result is all divides Asm named says = absurd (asm_not_run (sym named ∙ is))
+wants_run name rows result is all divides (Dis r) named says = absurd (dis_not_run (sym named ∙ is))
+wants_run name rows result is all divides Verify named says = absurd (verify_not_run (sym named ∙ is))
+wants_run name rows result is all divides (World log audit script) named says = absurd (world_not_run (sym named ∙ is))
+wants_run name rows result is all divides (Run workers tries stats audit results tell metrics trace log checkpoint over script) named says =
     all workers tries stats audit results tell metrics trace log checkpoint over script says
-wants_run name rows result is all (Log script) named says = absurd (log_not_run (sym named ∙ is))
+wants_run name rows result is all divides (Partitioned workers tries audit script) named says = divides workers tries audit script says
+wants_run name rows result is all divides (Log script) named says = absurd (log_not_run (sym named ∙ is))
 
 pub wants_log : (name : List ℕ) (rows : List Row) (result : Result Task WordFault) → name ≡ codes "log"
     → ((wanted : LogWish) → SaysLog rows wanted → IsTaskOrNoMemory (Log wanted) result)
@@ -168,6 +176,7 @@ wants_log name rows result is all (Dis r) named says = absurd (dis_not_log (sym 
 wants_log name rows result is all Verify named says = absurd (verify_not_log (sym named ∙ is))
 wants_log name rows result is all (World log audit script) named says = absurd (world_not_log (sym named ∙ is))
 wants_log name rows result is all (Run workers tries stats audit results tell metrics trace log checkpoint over script) named says = absurd (log_not_run (sym is ∙ named))
+wants_log name rows result is all (Partitioned workers tries a s) named says = absurd (log_not_run (sym is ∙ named))
 wants_log name rows result is all (Log wanted) named says = all wanted says
 
 -- ---- a log's file
@@ -224,7 +233,7 @@ audit_alone false Whole source script wanted e = (refl, refl)
 audit_alone false (From place) source script wanted e = absurd (cc)
 audit_alone false (Last count) source script wanted e = absurd (cc)
 
-true_false : true ≡ false → ⊥
+pub true_false : true ≡ false → ⊥
 true_false e = cc
 
 none_true : (o : Option Text) → o ≡ None → is_some o ≡ true → ⊥
@@ -269,6 +278,7 @@ module _ (rows : List Row) (base audit follow : Bool) (source picture : Option T
   log_fits same one alone undrawn (Tries run none) = log_not_run run
   log_fits same one alone undrawn (Bytes run none) = log_not_run run
   log_fits same one alone undrawn (Logless run none wanted) = log_not_run run
+  log_fits same one alone undrawn (Beside run flag more) = log_not_run run
   log_fits same one alone undrawn (Alone log a flag unequal) = unequal (ap is_some (sym is) ∙ (same ∙ audits a flag))
   log_fits same one alone undrawn (Both log asked audited) = true_false (sym (asks true asked) ∙ one (audits true audited))
   log_fits same one alone undrawn (Drawn log some whole) =
@@ -355,6 +365,11 @@ both_true a b c one other = rw (one, other) (or_true b)
 first_true : (a b c : Bool) → a ≡ true → b ≡ true → (a && (b || c)) ≡ true
 first_true a b c one other = rw (one, other) refl
 
+-- nor where none is asked for
+pub no_checkpoint : (b checkpoint : Bool) (over : Option ℕ) → checkpoint ≡ false → over ≡ None → (b && (checkpoint || is_some over)) ≡ false
+no_checkpoint true checkpoint over not none = rw (not, none) refl
+no_checkpoint false checkpoint over not none = refl
+
 -- no checkpoint is asked for without a log
 pub logged_so : {X : Type 0} (f : X → Text) (rows : List Row) (log : Option X) (checkpoint : Bool) (over : Option ℕ)
     → option_map f log ≡ first_of (codes "log") rows
@@ -371,6 +386,51 @@ logged_so f rows log checkpoint over log_is flag says not none wanted =
           true_false (sym yes ∙ not)
     ]
 
+-- whether something is asked for that is of one log
+module _ (rows : List Row) (stats results tell checkpoint : Bool) (metrics trace log over : Option Text) (set there : Bool)
+    (stats_is : (b : Bool) → IsFlag b (one_of (codes "stats") rows) → stats ≡ b)
+    (results_is : (b : Bool) → IsFlag b (one_of (codes "results") rows) → results ≡ b)
+    (tell_is : (b : Bool) → IsFlag b (one_of (codes "tell") rows) → tell ≡ b)
+    (checkpoint_is : (b : Bool) → IsFlag b (one_of (codes "checkpoint") rows) → checkpoint ≡ b)
+    (metrics_is : metrics ≡ first_of (codes "metrics") rows) (trace_is : trace ≡ first_of (codes "trace") rows)
+    (log_is : log ≡ first_of (codes "log") rows) (over_is : over ≡ first_of (codes "checkpoint-over") rows)
+    (set_is : set ≡ (stats || (results || (tell || checkpoint))))
+    (there_is : there ≡ (set || (is_some metrics || (is_some trace || (is_some log || is_some over))))) where
+  pub says_none : SaysNoMore rows → there ≡ false
+  says_none says =
+      rw (
+        there_is,
+        set_is,
+        stats_is false says.0,
+        results_is false says.1,
+        tell_is false says.2,
+        metrics_is ∙ says.3,
+        trace_is ∙ says.4,
+        log_is ∙ says.5,
+        checkpoint_is false says.6,
+        over_is ∙ says.7,
+      ) refl
+
+  pub says_some : there ≡ false → SaysMore rows → ⊥
+  says_some off more =
+      let both = or_parts set (is_some metrics || (is_some trace || (is_some log || is_some over))) (sym there_is ∙ off) in
+      let first = or_parts stats (results || (tell || checkpoint)) (sym set_is ∙ both.0) in
+      let second = or_parts results (tell || checkpoint) first.1 in
+      let third = or_parts tell checkpoint second.1 in
+      let fourth = or_parts (is_some metrics) (is_some trace || (is_some log || is_some over)) both.1 in
+      let fifth = or_parts (is_some trace) (is_some log || is_some over) fourth.1 in
+      let sixth = or_parts (is_some log) (is_some over) fifth.1 in
+      elim more [
+        | Stats flag ↦ true_false (sym (stats_is true flag) ∙ first.0)
+        | Results flag ↦ true_false (sym (results_is true flag) ∙ second.0)
+        | Tell flag ↦ true_false (sym (tell_is true flag) ∙ third.0)
+        | Metrics some ↦ true_false (sym some ∙ (ap is_some (sym metrics_is) ∙ fourth.0))
+        | Trace some ↦ true_false (sym some ∙ (ap is_some (sym trace_is) ∙ fifth.0))
+        | Kept some ↦ true_false (sym some ∙ (ap is_some (sym log_is) ∙ sixth.0))
+        | Checkpoint flag ↦ true_false (sym (checkpoint_is true flag) ∙ third.1)
+        | Over some ↦ true_false (sym some ∙ (ap is_some (sym over_is) ∙ sixth.1))
+      ]
+
 -- only these three commands have more to say than a file and flags
 pub lacks_nothing : (name : Text) (rows : List Row) → (name ≡ codes "exec" → ⊥) → (name ≡ codes "run" → ⊥) → (name ≡ codes "log" → ⊥)
     → ¬ IsUnfit name rows
@@ -379,6 +439,7 @@ lacks_nothing name rows not_exec not_run not_log (Workers run none) = not_run ru
 lacks_nothing name rows not_exec not_run not_log (Tries run none) = not_run run
 lacks_nothing name rows not_exec not_run not_log (Bytes run none) = not_run run
 lacks_nothing name rows not_exec not_run not_log (Logless run none wanted) = not_run run
+lacks_nothing name rows not_exec not_run not_log (Beside run flag more) = not_run run
 lacks_nothing name rows not_exec not_run not_log (Alone log audit flag unequal) = not_log log
 lacks_nothing name rows not_exec not_run not_log (Both log asked audit) = not_log log
 lacks_nothing name rows not_exec not_run not_log (Drawn log some whole) = not_log log
@@ -393,6 +454,7 @@ lacks_no_argument name rows is all (Workers run none) = exec_not_run (sym is ∙
 lacks_no_argument name rows is all (Tries run none) = exec_not_run (sym is ∙ run)
 lacks_no_argument name rows is all (Bytes run none) = exec_not_run (sym is ∙ run)
 lacks_no_argument name rows is all (Logless run none wanted) = exec_not_run (sym is ∙ run)
+lacks_no_argument name rows is all (Beside run flag more) = exec_not_run (sym is ∙ run)
 lacks_no_argument name rows is all (Alone log audit flag unequal) = exec_not_log (sym is ∙ log)
 lacks_no_argument name rows is all (Both log asked audit) = exec_not_log (sym is ∙ log)
 lacks_no_argument name rows is all (Drawn log some whole) = exec_not_log (sym is ∙ log)
@@ -404,18 +466,19 @@ pub lacks_no_count : (rows : List Row) → ¬ IsNoCount (first_of (codes "worker
     → ¬ IsNoCount (first_of (codes "checkpoint-over") rows)
     → (first_of (codes "log") rows ≡ None
     → IsFlag true (one_of (codes "checkpoint") rows) ⊎ (is_some (first_of (codes "checkpoint-over") rows) ≡ true) → ⊥)
-    → ¬ IsUnfit (codes "run") rows
-lacks_no_count rows workers tries bytes logged (Argument exec none) = exec_not_run (sym exec)
-lacks_no_count rows workers tries bytes logged (Workers run none) = workers none
-lacks_no_count rows workers tries bytes logged (Tries run none) = tries none
-lacks_no_count rows workers tries bytes logged (Bytes run none) = bytes none
-lacks_no_count rows workers tries bytes logged (Logless run none wanted) = logged none wanted
-lacks_no_count rows workers tries bytes logged (Alone log audit flag unequal) = log_not_run (sym log)
-lacks_no_count rows workers tries bytes logged (Both log asked audit) = log_not_run (sym log)
-lacks_no_count rows workers tries bytes logged (Drawn log some whole) = log_not_run (sym log)
-lacks_no_count rows workers tries bytes logged (Followed log followed beside) = log_not_run (sym log)
-lacks_no_count rows workers tries bytes logged (NoPart log none) = log_not_run (sym log)
-lacks_no_count rows workers tries bytes logged (Parted log some whole) = log_not_run (sym log)
+    → (IsFlag true (one_of (codes "partitions") rows) → ¬ SaysMore rows) → ¬ IsUnfit (codes "run") rows
+lacks_no_count rows workers tries bytes logged alone (Argument exec none) = exec_not_run (sym exec)
+lacks_no_count rows workers tries bytes logged alone (Workers run none) = workers none
+lacks_no_count rows workers tries bytes logged alone (Tries run none) = tries none
+lacks_no_count rows workers tries bytes logged alone (Bytes run none) = bytes none
+lacks_no_count rows workers tries bytes logged alone (Logless run none wanted) = logged none wanted
+lacks_no_count rows workers tries bytes logged alone (Beside run flag more) = alone flag more
+lacks_no_count rows workers tries bytes logged alone (Alone log audit flag unequal) = log_not_run (sym log)
+lacks_no_count rows workers tries bytes logged alone (Both log asked audit) = log_not_run (sym log)
+lacks_no_count rows workers tries bytes logged alone (Drawn log some whole) = log_not_run (sym log)
+lacks_no_count rows workers tries bytes logged alone (Followed log followed beside) = log_not_run (sym log)
+lacks_no_count rows workers tries bytes logged alone (NoPart log none) = log_not_run (sym log)
+lacks_no_count rows workers tries bytes logged alone (Parted log some whole) = log_not_run (sym log)
 
 pub asm_lacks_nothing : (name : Text) (rows : List Row) → name ≡ codes "asm" → ¬ IsUnfit name rows
 asm_lacks_nothing name rows is = lacks_nothing name rows (λ e. exec_not_asm (sym e ∙ is)) (λ e. asm_not_run (sym is ∙ e)) (λ e. asm_not_log (sym is ∙ e))

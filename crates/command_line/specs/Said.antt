@@ -8,7 +8,7 @@ use Rattle.clap.specs.declared.error.kind.ErrorKind.{ErrorKind}
 use Rattle.clap.specs.declared.error.kind.ErrorKind.TheVariants as kind
 use Rattle.clap.specs.declared.builder.ArgAction.TheVariants.{Set, SetTrue, Append}
 use Rattle.std.specs.Str.Parse.{IsNumeral, digits_value, without_leading_plus}
-use Rattle.command_line.specs.Task.{Wish, Exec, Asm, Dis, Verify, World, Run, Log, command_name}
+use Rattle.command_line.specs.Task.{Wish, Exec, Asm, Dis, Verify, World, Run, Partitioned, Log, command_name}
 use Rattle.command_line.specs.Task.{LogWish, Events, EventsAndRows, Follow, Audit, Picture}
 use Rattle.log_part.specs.declared.part.Part.{Part}
 use Rattle.log_part.specs.declared.part.Part.TheVariants.{Whole, From, Last}
@@ -56,6 +56,9 @@ tell_rule = record (new_rule (codes "tell")) { long = Some (codes "tell"); actio
 abbrev pub checkpoint_rule : Rule
 checkpoint_rule = record (new_rule (codes "checkpoint")) { long = Some (codes "checkpoint"); action = Some SetTrue }
 
+abbrev pub partitions_rule : Rule
+partitions_rule = record (new_rule (codes "partitions")) { long = Some (codes "partitions"); action = Some SetTrue }
+
 -- exec [--raw] FILE [ARG]...
 abbrev pub exec_app : App
 exec_app = with_rule (with_rule (with_rule (new_app (codes "exec")) raw_rule) file_rule) arg_rule
@@ -85,8 +88,12 @@ abbrev pub told_app : App
 told_app = with_rule (with_rule (with_rule (with_rule counted_app stats_rule) audit_rule) results_rule) tell_rule
 
 -- and behind it [--metrics PROM] [--trace JSON] [--log LOG]
+abbrev pub logged_app : App
+logged_app = with_rule (with_rule (with_rule told_app (option_rule (codes "metrics"))) (option_rule (codes "trace"))) (option_rule (codes "log"))
+
+-- and behind it [--partitions]
 abbrev pub kept_app : App
-kept_app = with_rule (with_rule (with_rule told_app (option_rule (codes "metrics"))) (option_rule (codes "trace"))) (option_rule (codes "log"))
+kept_app = with_rule logged_app partitions_rule
 
 -- and behind it [--checkpoint] [--checkpoint-over BYTES] FILE [SCRIPT]
 abbrev pub run_app : App
@@ -154,7 +161,7 @@ SaysNumberIf (Some text) n = SaysNumber text × (n ≡ Some (value_of text))
 abbrev pub wants_checkpoint : Bool → Option ℕ → Bool
 wants_checkpoint checkpoint over = checkpoint || is_some over
 
--- 4 workers and 3 tries, where nothing is said of them; a checkpoint is that of a log
+-- 4 workers and 3 tries, where nothing is said of them; a checkpoint is that of a log, and nothing is partitioned
 abbrev pub SaysRun : List Row → (workers tries : ℕ) → (stats audit results tell : Bool) → (metrics trace log : Option Text) → Bool → Option ℕ → Option Text → Type 0
 SaysRun rows workers tries stats audit results tell metrics trace log checkpoint over script =
     SaysCount (first_of (codes "workers") rows) 4 workers × SaysCount (first_of (codes "tries") rows) 3 tries
@@ -163,7 +170,32 @@ SaysRun rows workers tries stats audit results tell metrics trace log checkpoint
     × (first_of (codes "metrics") rows ≡ metrics) × (first_of (codes "trace") rows ≡ trace)
     × (first_of (codes "log") rows ≡ log) × IsFlag checkpoint (one_of (codes "checkpoint") rows)
     × SaysNumberIf (first_of (codes "checkpoint-over") rows) over × (first_of (codes "script") rows ≡ script)
-    × (log ≡ None → wants_checkpoint checkpoint over ≡ false)
+    × (log ≡ None → wants_checkpoint checkpoint over ≡ false) × IsFlag false (one_of (codes "partitions") rows)
+
+-- nothing is asked for that is of one log
+abbrev pub SaysNoMore : List Row → Type 0
+SaysNoMore rows =
+    IsFlag false (one_of (codes "stats") rows) × IsFlag false (one_of (codes "results") rows) × IsFlag false (one_of (codes "tell") rows)
+    × (first_of (codes "metrics") rows ≡ None) × (first_of (codes "trace") rows ≡ None) × (first_of (codes "log") rows ≡ None)
+    × IsFlag false (one_of (codes "checkpoint") rows) × (first_of (codes "checkpoint-over") rows ≡ None)
+
+-- something is
+pub data SaysMore (rows : List Row) : Type 0 where
+  Stats : IsFlag true (one_of (codes "stats") rows) → SaysMore rows
+  Results : IsFlag true (one_of (codes "results") rows) → SaysMore rows
+  Tell : IsFlag true (one_of (codes "tell") rows) → SaysMore rows
+  Metrics : is_some (first_of (codes "metrics") rows) ≡ true → SaysMore rows
+  Trace : is_some (first_of (codes "trace") rows) ≡ true → SaysMore rows
+  Kept : is_some (first_of (codes "log") rows) ≡ true → SaysMore rows
+  Checkpoint : IsFlag true (one_of (codes "checkpoint") rows) → SaysMore rows
+  Over : is_some (first_of (codes "checkpoint-over") rows) ≡ true → SaysMore rows
+
+-- what a run by partitions takes, which has no log that is told of or kept
+abbrev pub SaysPartitioned : List Row → (workers tries : ℕ) → (audit : Bool) → (script : Option Text) → Type 0
+SaysPartitioned rows workers tries audit script =
+    SaysCount (first_of (codes "workers") rows) 4 workers × SaysCount (first_of (codes "tries") rows) 3 tries
+    × IsFlag audit (one_of (codes "audit") rows) × (first_of (codes "script") rows ≡ script)
+    × IsFlag true (one_of (codes "partitions") rows) × SaysNoMore rows
 
 -- from which place on, or how many at the end: one of both at most, and the whole log where neither is said
 abbrev pub SaysPart : (from tail : Option Text) → Part → Type 0
@@ -200,6 +232,7 @@ SaysWish rows Verify = Unit {0}
 SaysWish rows (World log audit script) =
     IsFlag log (one_of (codes "log") rows) × IsFlag audit (one_of (codes "audit") rows) × (first_of (codes "script") rows ≡ script)
 SaysWish rows (Run workers tries stats audit results tell metrics trace log checkpoint over script) = SaysRun rows workers tries stats audit results tell metrics trace log checkpoint over script
+SaysWish rows (Partitioned workers tries audit script) = SaysPartitioned rows workers tries audit script
 SaysWish rows (Log wanted) = SaysLog rows wanted
 
 -- the words are a command line of the program, and say this command with this file
@@ -236,7 +269,8 @@ abbrev pub IsOfWhole : List Row → Type 0
 IsOfWhole rows = IsFlag true (one_of (codes "rows") rows) ⊎ IsFlag true (one_of (codes "audit") rows)
 
 -- what is to be a number isn't one, an audit has no script, or a script no audit; rows are asked for beside an audit, or a picture or a
--- part of the events beside one of these; a log is followed beside one of these or a picture; or a checkpoint without a log
+-- part of the events beside one of these; a log is followed beside one of these or a picture; a checkpoint without a log; or partitions beside
+-- what is of one log
 pub data IsUnfit (name : Text) (rows : List Row) : Type 0 where
   Argument : name ≡ codes "exec" → ¬ AllNumbers (unwrap_or (all_of (codes "arg") rows) []) → IsUnfit name rows
   Workers : name ≡ codes "run" → IsNoCount (first_of (codes "workers") rows) → IsUnfit name rows
@@ -244,6 +278,7 @@ pub data IsUnfit (name : Text) (rows : List Row) : Type 0 where
   Bytes : name ≡ codes "run" → IsNoCount (first_of (codes "checkpoint-over") rows) → IsUnfit name rows
   Logless : name ≡ codes "run" → first_of (codes "log") rows ≡ None
       → IsFlag true (one_of (codes "checkpoint") rows) ⊎ (is_some (first_of (codes "checkpoint-over") rows) ≡ true) → IsUnfit name rows
+  Beside : name ≡ codes "run" → IsFlag true (one_of (codes "partitions") rows) → SaysMore rows → IsUnfit name rows
   Alone : name ≡ codes "log" → (audit : Bool) → IsFlag audit (one_of (codes "audit") rows)
       → is_some (first_of (codes "source") rows) ≢ audit → IsUnfit name rows
   Both : name ≡ codes "log" → IsFlag true (one_of (codes "rows") rows) → IsFlag true (one_of (codes "audit") rows) → IsUnfit name rows

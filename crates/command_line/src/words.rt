@@ -5,11 +5,11 @@ ghost use Rattle.clap.specs.Words.{App, Row, app_of, with_subcommand, rule_of, k
 ghost use Rattle.clap.specs.Words.{subcommand_rows_of, takes, rows_of, found_of, first_of, one_of, all_of, fault_of, FailsBy};
 ghost use Rattle.clap.specs.declared.builder.command.Command.TheViews.{out-Command};
 ghost use Rattle.command_line.specs.Wanted.{WantsOrNoMemory, IsTaskOrNoMemory, IsNumbersOrNoMemory, IsWordFault, IsWrongOrNoMemory};
-ghost use Rattle.command_line.specs.Task.{Wish, LogWish, Run, Log, command_name, log_wish};
+ghost use Rattle.command_line.specs.Task.{Wish, LogWish, Run, Partitioned, Log, command_name, log_wish};
 ghost use Rattle.command_line.specs.Joining.LogWanted.{shown_wanted, audit_wanted};
 ghost use Rattle.command_line.specs.Said.{procd_app, exec_app, asm_app, dis_app, verify_app, world_app, told_app, kept_app, run_app, log_app};
-ghost use Rattle.command_line.specs.Said.{file_rule, raw_rule, log_rule, audit_rule, rows_rule, follow_rule, source_rule, script_rule, option_rule, stats_rule, results_rule, tell_rule, checkpoint_rule};
-ghost use Rattle.command_line.specs.Said.{Says, SaysWish, SaysRun, SaysLog, SaysPart, SaysCount, SaysNumberIf, SaysNumbers, AllNumbers, IsFlag, value_of, wants_checkpoint};
+ghost use Rattle.command_line.specs.Said.{file_rule, raw_rule, log_rule, audit_rule, rows_rule, follow_rule, source_rule, script_rule, option_rule, stats_rule, results_rule, tell_rule, checkpoint_rule, partitions_rule};
+ghost use Rattle.command_line.specs.Said.{Says, SaysWish, SaysRun, SaysPartitioned, SaysMore, SaysNoMore, SaysLog, SaysPart, SaysCount, SaysNumberIf, SaysNumbers, AllNumbers, IsFlag, value_of, wants_checkpoint};
 ghost use Rattle.command_line.specs.Said.{IsWrong, IsNoCount, IsNoPart, IsUnfit};
 
 use clap::error::ErrorKind;
@@ -60,6 +60,14 @@ pub enum Task<'a> {
         log: Option<&'a str>,
         checkpoint: bool,
         over: Option<u64>,
+        script: Option<&'a str>,
+    },
+    /// Run the calls of a script, those of each partition of its data components apart, by so many workers in all. The rest is
+    /// as of `Run`.
+    Partitioned {
+        workers: u64,
+        tries: u64,
+        audit: bool,
         script: Option<&'a str>,
     },
     /// Read a log's file.
@@ -132,6 +140,8 @@ pub enum WordFault {
     PartUnwanted,
     /// `run --checkpoint` or `--checkpoint-over` without `--log`.
     CheckpointAlone,
+    /// `run --partitions` beside what is of one log.
+    PartitionsBeside,
     NoCommand,
     Memory,
 }
@@ -319,6 +329,19 @@ fn checkpoint_arg<'a>(alloc: Global) -> Arg<'a>
         .help("Write LOG anew behind the last call: the rows, and the log from there on")
 }
 
+// --partitions
+fn partitions_arg<'a>(alloc: Global) -> Arg<'a>
+    ensures rule { rule_of result ≡ partitions_rule }
+    ensures local { result.global ≡ false }
+{
+    Arg::new(alloc, "partitions")
+        .long("partitions")
+        .action(ArgAction::SetTrue)
+        .help(
+            "Run calls apart whose data components no procedure joins, each part by some of the workers and with a log of its own",
+        )
+}
+
 // `run [--workers N] [--tries N] [--stats] [--audit] [--results] [--tell]`
 fn told_command<'a>(alloc: Global) -> Result<Command<'a>, AllocError>
     ensures app { IfOk result (λ c. app_of c ≡ told_app) }
@@ -345,7 +368,7 @@ fn told_command<'a>(alloc: Global) -> Result<Command<'a>, AllocError>
         .arg(tell_arg(alloc))
 }
 
-// The same with `[--metrics PROM] [--trace JSON] [--log LOG]` behind it.
+// The same with `[--metrics PROM] [--trace JSON] [--log LOG] [--partitions]` behind it.
 fn kept_command<'a>(alloc: Global) -> Result<Command<'a>, AllocError>
     ensures app { IfOk result (λ c. app_of c ≡ kept_app) }
     ensures local { IfOk result (λ c. (out-Command c).has_globals ≡ false) }
@@ -368,7 +391,11 @@ fn kept_command<'a>(alloc: Global) -> Result<Command<'a>, AllocError>
         "LOG",
         "A file that keeps the log: what it has is gone on from, and each answer waits for it",
     );
-    told_command(alloc)?.arg(metrics)?.arg(trace)?.arg(log)
+    told_command(alloc)?
+        .arg(metrics)?
+        .arg(trace)?
+        .arg(log)?
+        .arg(partitions_arg(alloc))
 }
 
 // The same with `[--checkpoint] [--checkpoint-over BYTES] FILE [SCRIPT]` behind it.
@@ -608,11 +635,75 @@ fn is_logless(log: Option<&str>, checkpoint: bool, over: Option<u64>) -> bool
     log.is_none() && (checkpoint || over.is_some())
 }
 
+// Whether that is so, or one of these options is there.
+fn is_any_there(
+    is_set: bool,
+    metrics: Option<&str>,
+    trace: Option<&str>,
+    log: Option<&str>,
+    over: Option<&str>,
+) -> bool
+    ensures { result ≡ (is_set || (is_some (option_map (λ s. s.now) metrics.entry) || (is_some (option_map (λ s. s.now) trace.entry)
+        || (is_some (option_map (λ s. s.now) log.entry) || is_some (option_map (λ s. s.now) over.entry))))) }
+{
+    is_set || metrics.is_some() || trace.is_some() || log.is_some() || over.is_some()
+}
+
+// Whether one of these is so.
+fn is_any_set(stats: bool, results: bool, tell: bool, checkpoint: bool) -> bool
+    ensures { result ≡ (stats || (results || (tell || checkpoint))) }
+{
+    stats || results || tell || checkpoint
+}
+
+// Whether something is asked for that is of one log: figures, times and answers of all calls as they come, what its places
+// hold, and its file.
+fn says_more(matches: &ArgMatches) -> bool
+    ensures silent { SaysNoMore (rows_of (found_of matches.now)) → result ≡ false }
+    ensures more { result ≡ false → ¬ SaysMore (rows_of (found_of matches.now)) }
+{
+    let stats = flag_of(matches, "stats");
+    let results = flag_of(matches, "results");
+    let tell = flag_of(matches, "tell");
+    let checkpoint = flag_of(matches, "checkpoint");
+    let metrics = text_of(matches, "metrics");
+    let trace = text_of(matches, "trace");
+    let file = text_of(matches, "log");
+    let over = text_of(matches, "checkpoint-over");
+    let is_set = is_any_set(stats, results, tell, checkpoint);
+    is_any_there(is_set, metrics, trace, file, over)
+}
+
+// How calls are to be run apart.
+fn partitioned_task<'a>(
+    matches: &ArgMatches<'a>,
+    workers: u64,
+    tries: u64,
+) -> Result<Task<'a>, WordFault>
+    ensures task { (audit : Bool) (script : Option (List ℕ)) → SaysPartitioned (rows_of (found_of matches.now)) workers tries audit script
+        → IsTaskOrNoMemory (Partitioned workers tries audit script) result }
+    ensures wrong { IfOk result (λ task. ¬ SaysMore (rows_of (found_of matches.now))) }
+    ensures err { IfErr result IsWordFault }
+{
+    if says_more(matches) {
+        return Err(WordFault::PartitionsBeside);
+    }
+    Ok(Task::Partitioned {
+        workers,
+        tries,
+        audit: flag_of(matches, "audit"),
+        script: text_of(matches, "script"),
+    })
+}
+
 // How calls are to be run.
 fn run_task<'a>(matches: &ArgMatches<'a>) -> Result<Task<'a>, WordFault>
     ensures task { (workers tries : ℕ) (stats audit results tell : Bool) (metrics trace log : Option (List ℕ)) (checkpoint : Bool) (over : Option ℕ)
         (script : Option (List ℕ)) → SaysRun (rows_of (found_of matches.now)) workers tries stats audit results tell metrics trace log checkpoint over script
         → IsTaskOrNoMemory (Run workers tries stats audit results tell metrics trace log checkpoint over script) result }
+    ensures partitioned { (workers tries : ℕ) (audit : Bool) (script : Option (List ℕ))
+        → SaysPartitioned (rows_of (found_of matches.now)) workers tries audit script
+        → IsTaskOrNoMemory (Partitioned workers tries audit script) result }
     ensures wrong { IfOk result (λ task. ¬ IsUnfit (codes "run") (rows_of (found_of matches.now))) }
     ensures err { IfErr result IsWordFault }
 {
@@ -623,6 +714,9 @@ fn run_task<'a>(matches: &ArgMatches<'a>) -> Result<Task<'a>, WordFault>
     let log = text_of(matches, "log");
     if is_logless(log, checkpoint, over) {
         return Err(WordFault::CheckpointAlone);
+    }
+    if flag_of(matches, "partitions") {
+        return partitioned_task(matches, workers, tries);
     }
     Ok(Task::Run {
         workers,

@@ -6,6 +6,7 @@
 //! | `slot_tests` | `access_slots`: lock sets, conflicts, declarations |
 //! | `number_tests` | `request_numbers`: numbers that are answered in another order |
 //! | `lock_tests` | `lock_table`: waits and releases, and all answers beside those of a plain table |
+//! | `partition_tests` | `partitions`: the finest partitions, how workers are spread |
 //! | `event_tests` | `tc_log`: the bytes of events |
 //! | `picture_tests` | `log_picture`: transactions, lanes, numbers, records, and what is drawn |
 //! | `store_tests` | `data_component`: each answer, repeated and late wires, restarts |
@@ -35,6 +36,8 @@ mod lock_tests;
 mod number_tests;
 #[cfg(test)]
 mod object_tests;
+#[cfg(test)]
+mod partition_tests;
 #[cfg(test)]
 mod picture_tests;
 #[cfg(test)]

@@ -8,7 +8,7 @@ use Rattle.procd.specs.Streams.{Stream, stream, IsKept, Begins, Ends, EndsOn, Ru
 use Rattle.procd.specs.Streams.{IsFollowed, StopsBehind, Refused, RefusedInPart, NotPrinted, NotRead, OutOfMemory}
 use Rattle.procd.specs.Streams.{TellsUnread, TellsUnwritten, IsToldOrNoMemory}
 use Rattle.procd.specs.Joining.Further.{Reads, Writes}
-use Rattle.command_line.specs.Task.{Wish, Exec, Asm, Dis, Verify, World, Run, Log}
+use Rattle.command_line.specs.Task.{Wish, Exec, Asm, Dis, Verify, World, Run, Partitioned, Log}
 use Rattle.command_line.specs.Task.{Events, EventsAndRows, Follow, Audit, Picture}
 use Rattle.procd.proofs.Statuses.{report_low}
 
@@ -65,6 +65,7 @@ read_fails Verify path err is told = absurd is
 read_fails (World log audit script) path err is told = script_fails script path err is told
 read_fails (Run workers tries stats audit results tell metrics trace log checkpoint over script) path err is told =
     elim is [ inl keeps ↦ inl (log_fails log path err keeps (inl told)) | inr beside ↦ inr (script_fails script path err beside told) ]
+read_fails (Partitioned workers tries audit script) path err is told = script_fails script path err is told
 read_fails (Log (Events part)) path err is told = absurd is
 read_fails (Log EventsAndRows) path err is told = absurd is
 read_fails (Log (Follow part)) path err is told = absurd is
@@ -82,6 +83,7 @@ write_fails (Dis raw) path err is told = absurd is
 write_fails Verify path err is told = absurd is
 write_fails (World log audit script) path err is told = absurd is
 write_fails (Run workers tries stats audit results tell metrics trace log checkpoint over script) path err is told = inl (log_fails log path err is (inr told))
+write_fails (Partitioned workers tries audit script) path err is told = absurd is
 write_fails (Log (Events part)) path err is told = absurd is
 write_fails (Log EventsAndRows) path err is told = absurd is
 write_fails (Log (Follow part)) path err is told = absurd is

@@ -4,7 +4,7 @@ use Rattle.std.specs.Str.{IsUtf8}
 use Rattle.procd.specs.declared.reading.TextFault.{TextFault}
 use Rattle.procd.specs.declared.reading.TextFault.TheVariants.{NotUtf8, Marked}
 use Rattle.bpf_asm.specs.Lines.{assembled}
-use Rattle.command_line.specs.Task.{Wish, Exec, Asm, Dis, Verify, World, Run, Log}
+use Rattle.command_line.specs.Task.{Wish, Exec, Asm, Dis, Verify, World, Run, Partitioned, Log}
 use Rattle.command_line.specs.Task.{LogWish, Events, EventsAndRows, Follow, Audit, Picture}
 use Rattle.log_part.specs.declared.part.Part.TheVariants.{Whole}
 use Rattle.script_loading.specs.Loading.{Beginning, beginning}
@@ -19,6 +19,7 @@ use Rattle.run_command.specs.declared.anew.Checkpoints.{Checkpoints}
 use Rattle.run_command.specs.Kept.{FileJournal}
 use Rattle.run_command.specs.Running.{IsRun}
 use Rattle.run_command.specs.Logged.{IsLogged}
+use Rattle.partitioned_run.specs.Partitioned.{IsPartitionedRun}
 use Rattle.log_command.specs.LogReport.{IsListing, IsAudit}
 use Rattle.log_command.specs.PictureReport.{IsPicturing}
 
@@ -47,6 +48,11 @@ IsRunOf checkpoints workers tries audit results log None text status lines =
 IsRunOf checkpoints workers tries audit results log (Some path) file status lines =
     (text : List ℕ) × IsRunReport checkpoints workers tries audit results log (beginning command.Run (Some file) text) status lines
 
+abbrev pub IsPartitionedOf : ℕ → ℕ → Bool → (script : Option (List ℕ)) → List ℕ → ℕ → List ℕ → Type 0
+IsPartitionedOf workers tries audit None text status lines = IsPartitionedRun workers tries audit (beginning command.Run None text) status lines
+IsPartitionedOf workers tries audit (Some path) file status lines =
+    (text : List ℕ) × IsPartitionedRun workers tries audit (beginning command.Run (Some file) text) status lines
+
 abbrev pub IsWorldOf : Behind → (script : Option (List ℕ)) → List ℕ → ℕ → List ℕ → Type 0
 IsWorldOf behind None text status lines = IsWorld behind (beginning command.World None text) status lines
 IsWorldOf behind (Some path) file status lines = (text : List ℕ) × IsWorld behind (beginning command.World (Some file) text) status lines
@@ -74,4 +80,5 @@ IsReport Verify file status lines = IsVerification (is_elf file) file status lin
 IsReport (World log audit script) file status lines = IsWorldOf (record { audit = audit; log = log }) script file status lines
 IsReport (Run workers tries stats audit results tell metrics trace log checkpoint over script) file status lines =
     IsRunOf (record { at_end = checkpoint; over = over }) workers tries audit results log script file status lines
+IsReport (Partitioned workers tries audit script) file status lines = IsPartitionedOf workers tries audit script file status lines
 IsReport (Log wanted) file status lines = IsLogReport wanted file status lines

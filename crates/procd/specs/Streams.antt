@@ -8,7 +8,7 @@ use Rattle.log_command.specs.declared.following.Seam.{Seam}
 use Rattle.log_command.specs.LogReport.{IsUnread}
 use Rattle.log_command.specs.Following.{AreLines, seam_line}
 use Rattle.procd.specs.Report.{IsReport}
-use Rattle.command_line.specs.Task.{Wish, World, Run, Log, Follow, Audit, Picture, may_tell}
+use Rattle.command_line.specs.Task.{Wish, World, Run, Partitioned, Log, Follow, Audit, Picture, may_tell}
 
 -- what a stream held before and holds afterwards, where that is known
 pub record Stream : Type 0 where
@@ -83,6 +83,7 @@ LogFails (Some path) err = TellsUnread path err ⊎ TellsUnwritten path err
 abbrev pub FurtherFails : Wish → Stream → Type 0
 FurtherFails (World log audit script) err = ScriptFails script err
 FurtherFails (Run workers tries stats audit results tell metrics trace log checkpoint over script) err = LogFails log err ⊎ ScriptFails script err
+FurtherFails (Partitioned workers tries audit script) err = ScriptFails script err
 FurtherFails (Log (Audit source script)) err = TellsUnread source err ⊎ ScriptFails script err
 FurtherFails (Log (Picture path part)) err = TellsUnwritten path err
 FurtherFails other err = ⊥

@@ -24,7 +24,9 @@ fn script_command(task: &Task) -> Option<Command> {
     match task {
         Task::Verify => Some(Command::Verify),
         Task::World { script: None, .. } => Some(Command::World),
-        Task::Run { script: None, .. } => Some(Command::Run),
+        Task::Run { script: None, .. } | Task::Partitioned { script: None, .. } => Some(
+            Command::Run,
+        ),
         _ => None,
     }
 }
@@ -39,6 +41,10 @@ fn takes_object(task: &Task) -> bool {
                 ..
             }
             | Task::Run {
+                script: Some(_),
+                ..
+            }
+            | Task::Partitioned {
                 script: Some(_),
                 ..
             }

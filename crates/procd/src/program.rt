@@ -417,6 +417,10 @@ fn refuse_words<W: Write, E: Write>(
             err,
             "error: run takes --checkpoint and --checkpoint-over with --log alone: what begins anew is its file",
         ),
+        WordFault::PartitionsBeside => wrong_words(
+            err,
+            "error: run takes --partitions with none of --stats, --results, --tell, --metrics, --trace, --log, --checkpoint and --checkpoint-over: no log has all calls",
+        ),
         WordFault::NoCommand => wrong_words(
             err,
             "error: a command is missing: exec, asm, dis, verify, world, run or log",

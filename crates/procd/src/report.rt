@@ -6,7 +6,8 @@ ghost use Rattle.text_commands.specs.ObjectVerification.{IsVerification};
 ghost use Rattle.script_loading.specs.Loading.{beginning, beginning_of};
 ghost use Rattle.world_command.specs.WorldReport.{IsWorld};
 ghost use Rattle.scripts.specs.declared.keyword.Command.TheVariants as command;
-ghost use Rattle.procd.specs.Report.{IsReport, IsKeptRun, IsRunReport, IsRunOf, IsWorldOf, IsLogReport, IsAuditBeside};
+ghost use Rattle.partitioned_run.specs.Partitioned.{IsPartitionedRun};
+ghost use Rattle.procd.specs.Report.{IsReport, IsKeptRun, IsRunReport, IsRunOf, IsPartitionedOf, IsWorldOf, IsLogReport, IsAuditBeside};
 ghost use Rattle.procd.specs.Joining.Further.{IsScriptFault, IsLogFault, IsTaskFault, IsNoTextOf, IsOfText, IsOfFile, wants_text};
 ghost use Rattle.procd.specs.Joining.Further.{IsBesideFault, IsRunFault};
 ghost use Rattle.procd.specs.Joining.Further.{IsPictureFault};
@@ -20,6 +21,7 @@ use log_command::listing::listing;
 use log_command::picturing::{Pictured, picturing};
 use log_part::Part;
 use object_file::is_elf;
+use partitioned_run::running::running_partitioned;
 use report_texts::report::Report;
 use run_command::logged::{Unlogged, running_logged};
 use run_command::running::{Checkpoints, Listeners, Manner, RunOptions, running};
@@ -45,6 +47,19 @@ pub struct Meanwhile {
     pub error: Stderr,
     /// What writes files from the threads of a run.
     pub system: HostRuntime,
+}
+
+impl Meanwhile {
+    // Who is told of the calls of a run where nothing more is asked for.
+    fn listeners<'a>(&self) -> Listeners<'a> {
+        Listeners {
+            terminal: self.terminal,
+            each: None,
+            metrics: None,
+            trace: None,
+            system: self.system,
+        }
+    }
 }
 
 /// Why there is no report.
@@ -239,6 +254,81 @@ fn run_of<'a, R: Files<File = File> + Clock + Threads + Wait + Sync>(
     match script {
         Some(path) => run_beside(rt, alloc, file, path, options, log),
         None => run_script(rt, alloc, file, options, log),
+    }
+}
+
+// The report of a run by partitions of a script with the procedures of an object file.
+fn partitioned_both<R: Clock + Threads + Wait + Sync>(
+    rt: &R,
+    alloc: Global,
+    file: &[u8],
+    text: &str,
+    manner: Manner,
+    listeners: Listeners,
+) -> Result<Report, AllocError>
+    ensures { IfOk result (λ r. IsPartitionedRun manner.workers manner.tries manner.audit (beginning command.Run (Some file.now) text.now)
+        r.status (string_bytes r.lines)) }
+{
+    let object = Some(file);
+    running_partitioned(rt, alloc, Source { object, text }, manner, listeners)
+}
+
+// The same of the script that the file with this path has.
+fn partitioned_beside<'a, R: Files<File = File> + Clock + Threads + Wait + Sync>(
+    rt: &R,
+    alloc: Global,
+    file: &[u8],
+    path: &'a str,
+    manner: Manner,
+    listeners: Listeners,
+) -> Result<Report, ReportFault<'a>>
+    ensures ok { IfOk result (λ r. IsPartitionedOf manner.workers manner.tries manner.audit (Some path.entry.now) file.now
+        r.status (string_bytes r.lines)) }
+    ensures text { IfErr result IsOfText }
+    ensures script { IfErr result (IsScriptFault path.entry.now) }
+{
+    let script = read_script(rt, alloc, path)?;
+    match text_of(script.as_slice()) {
+        Ok(text) => Ok(partitioned_both(rt, alloc, file, text, manner, listeners)?),
+        Err(fault) => Err(ReportFault::Unread(path, Some(Reason::Text(fault)))),
+    }
+}
+
+// The report of a run by partitions of the script that the file has.
+fn partitioned_script<'a, R: Clock + Threads + Wait + Sync>(
+    rt: &R,
+    alloc: Global,
+    file: &[u8],
+    manner: Manner,
+    listeners: Listeners,
+) -> Result<Report, ReportFault<'a>>
+    ensures ok { IfOk result (λ r. IsPartitionedRun manner.workers manner.tries manner.audit (beginning command.Run None file.now)
+        r.status (string_bytes r.lines)) }
+    ensures not_text { IfErr result (IsNoTextOf true file.now) }
+    ensures further { IfErr result IsOfFile }
+{
+    let text = text_of(file)?;
+    let source = Source { object: None, text };
+    Ok(running_partitioned(rt, alloc, source, manner, listeners)?)
+}
+
+// The report of a run by partitions of either.
+fn partitioned_of<'a, R: Files<File = File> + Clock + Threads + Wait + Sync>(
+    rt: &R,
+    alloc: Global,
+    file: &[u8],
+    script: Option<&'a str>,
+    manner: Manner,
+    listeners: Listeners,
+) -> Result<Report, ReportFault<'a>>
+    ensures ok { IfOk result (λ r. IsPartitionedOf manner.workers manner.tries manner.audit (option_map (λ path. path.now) script.entry)
+        file.now r.status (string_bytes r.lines)) }
+    ensures not_text { IfErr result (IsNoTextOf (is_none script.entry) file.now) }
+    ensures further { IfErr result (IsBesideFault (option_map (λ path. path.now) script.entry)) }
+{
+    match script {
+        Some(path) => partitioned_beside(rt, alloc, file, path, manner, listeners),
+        None => partitioned_script(rt, alloc, file, manner, listeners),
     }
 }
 
@@ -443,14 +533,28 @@ pub fn report_on<'a, R: Files<File = File> + Clock + Threads + Wait + Sync>(
                     over: *over,
                 },
                 listeners: Listeners {
-                    terminal: meanwhile.terminal,
                     each: tell.then_some(meanwhile.error),
                     metrics: *metrics,
                     trace: *trace,
-                    system: meanwhile.system,
+                    ..meanwhile.listeners()
                 },
             };
             run_of(rt, alloc, text, *script, options, *log)
+        }
+        Task::Partitioned {
+            workers,
+            tries,
+            audit,
+            script,
+        } => {
+            let manner = Manner {
+                workers: *workers,
+                tries: *tries,
+                stats: false,
+                audit: *audit,
+                results: false,
+            };
+            partitioned_of(rt, alloc, text, *script, manner, meanwhile.listeners())
         }
         Task::Dis { raw } => Ok(disassembly(alloc, *raw, text)?),
         Task::Log(wanted) => log_report(rt, alloc, text, *wanted),

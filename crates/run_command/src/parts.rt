@@ -97,8 +97,8 @@ fn prepare(
     Ok((workload, rings))
 }
 
-// Answers calls on this ground, and hands back what they left with what they were answered.
-fn answer_on<R: Clock + Threads + Wait + Sync>(
+/// Answers calls on this ground, and hands back what they left with what they were answered.
+pub fn answer_on<R: Clock + Threads + Wait + Sync>(
     rt: &R,
     alloc: Global,
     ground: Ground,

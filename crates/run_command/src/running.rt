@@ -18,17 +18,18 @@ ghost use Rattle.run_command.specs.declared.answering.Halt.{Halt as HaltValue};
 ghost use Rattle.run_command.specs.declared.parts.Stop.TheVariants.{Halted};
 ghost use Rattle.run_command.specs.Running.{is_want_of_memory, AreLinesOf, IsCallsRun, IsRun, never};
 
-pub use crate::anew::Checkpoints;
-use crate::anew::{Ground, Renewal, write_renewal};
+pub use crate::anew::{Checkpoints, Ground};
+use crate::anew::{Renewal, write_renewal};
 use crate::answer_lines::fault_line;
-pub use crate::answering::Manner;
-use crate::answering::{Answers, FileJournal, Halt, Unbegun};
+pub use crate::answer_lines::write_answers;
+use crate::answering::FileJournal;
+pub use crate::answering::{Answers, Halt, Manner, Rings, Unbegun, Workload};
 use crate::figures::{
     Watched, delay_lines, figures, full_dcs, latency_lines, log_figures, procedure_lines, rate,
 };
-use crate::parts::{Outcome, Stop, Told, answer_parts};
-pub use crate::watching::Listeners;
-use crate::watching::Waits;
+use crate::parts::{Outcome, Told, answer_parts};
+pub use crate::parts::{Stop, answer_on};
+pub use crate::watching::{Listeners, Waits};
 use data_component::dc::Dc;
 use disk_file::FileFault;
 use report_texts::report::Report;
@@ -46,8 +47,8 @@ use std::time::Clock;
 use tc_core::state::{Call, Refusal, TcState};
 use worker_pool::Answer;
 
-// The call that a line of the script says.
-fn call_of(alloc: Global, said: &script::Call) -> Result<Call, AllocError>
+/// The call that a line of the script says.
+pub fn call_of(alloc: Global, said: &script::Call) -> Result<Call, AllocError>
     ensures { IfOk result (λ call. call_of call ≡ said_call said.now) }
 {
     Ok(Call {
@@ -67,8 +68,8 @@ pub fn calls_of(alloc: Global, said: &[script::Call]) -> Result<Vec<Call>, Alloc
     Ok(calls)
 }
 
-// Whether a call was refused for want of memory.
-fn has_want_of_memory(answers: &[Answer]) -> bool
+/// Whether a call was refused for want of memory.
+pub fn has_want_of_memory(answers: &[Answer]) -> bool
     ensures { result ≡ list_any is_want_of_memory answers.now }
 {
     answers.iter().any(|answer| matches!(answer, Answer::Refused(Refusal::Memory)))
@@ -113,9 +114,9 @@ fn notes(
     Ok(notes)
 }
 
-// Adds the line of an audit of a log and of these components, where one is wanted, and answers
-// whether nothing is wrong.
-fn write_found(
+/// Adds the line of an audit of a log and of these components, where one is wanted, and answers
+/// whether nothing is wrong.
+pub fn write_found(
     alloc: Global,
     audit: bool,
     state: &TcState,
@@ -166,8 +167,8 @@ fn reported(
     })
 }
 
-// The report of calls none of which was begun.
-fn stopped(alloc: Global, fault: Unbegun) -> Result<Report, AllocError>
+/// The report of calls none of which was begun.
+pub fn stopped(alloc: Global, fault: Unbegun) -> Result<Report, AllocError>
     ensures lines { IfOk result (λ r. fault_line fault ≡ Some (string_bytes r.lines)) }
     ensures status { IfOk result (λ r. r.status ≡ 1) }
 {

@@ -21,6 +21,9 @@ use Rattle.report_texts.specs.ScriptRefusal.{script_refusal}
 use Rattle.script_loading.specs.declared.loading.Source.{Source}
 use Rattle.script_loading.specs.declared.loading.Unloaded.{Unloaded}
 use Rattle.script_loading.specs.declared.loading.Unloaded.TheVariants as unloaded
+use Rattle.script_loading.specs.declared.loading.Accepted.{Accepted as AcceptedScript}
+use Rattle.script_loading.specs.declared.loading.Acceptance.{Acceptance}
+use Rattle.script_loading.specs.declared.loading.Acceptance.TheVariants as acceptance
 use Rattle.script_loading.specs.declared.loading.Loaded.{Loaded}
 use Rattle.script_loading.specs.declared.loading.Loading.{Loading}
 use Rattle.script_loading.specs.declared.loading.Loading.TheVariants.{Ready, Refused}
@@ -142,6 +145,27 @@ empty_core dcs = record { procs = []; names = []; dcs = dcs; events = []; given_
 abbrev pub empty_store : Dc → Store
 empty_store dc = empty dc.rows dc.ops
 
+-- all procedures are verified, and loaded in their order
+pub record IsAccepted (object : Option (List ℕ)) (contents : Contents) (a : AcceptedScript) : Type 0 where
+  pub verified : first_unverified object contents.procedures ≡ None
+  pub state : a.state ≡ with_procedures (empty_core (length contents.dcs)) contents.procedures
+  pub dcs : a.script.dcs.items ≡ contents.dcs
+  pub procedures : a.script.procedures.items ≡ contents.procedures
+  pub steps : a.script.steps.items ≡ contents.steps
+  pub first : a.script.first.items ≡ contents.first
+  pub calls : a.script.calls.items ≡ contents.calls
+
+abbrev pub IsAcceptanceBy : Option (List ℕ) → Option (List ℕ) → Contents → Acceptance → Type 0
+IsAcceptanceBy object refusal contents (acceptance.Accepted a) = (refusal ≡ None) × IsAccepted object contents a
+IsAcceptanceBy object refusal contents (acceptance.Refused report) = (refusal ≡ Some (string_bytes report.lines)) × (report.status ≡ 1)
+
+abbrev pub IsAcceptanceBeside : Option (List ℕ) → Reading → Acceptance → Type 0
+IsAcceptanceBeside object r a = IsAcceptanceBy object (refusal_beside object r) r.contents a
+
+-- of a script that may come with this object file
+abbrev pub IsAcceptanceOf : Option (List ℕ) → Beginning → Acceptance → Type 0
+IsAcceptanceOf object b a = IsAcceptanceBy object b.refusal b.contents a
+
 -- all procedures are loaded in their order, and the data components are empty
 pub record IsReady (contents : Contents) (loaded : Loaded) : Type 0 where
   pub state : loaded.state ≡ with_procedures (empty_core (length contents.dcs)) contents.procedures
@@ -154,11 +178,8 @@ abbrev pub IsLoadingBy : Option (List ℕ) → Contents → Loading → Type 0
 IsLoadingBy refusal contents (Ready loaded) = (refusal ≡ None) × IsReady contents loaded
 IsLoadingBy refusal contents (Refused report) = (refusal ≡ Some (string_bytes report.lines)) × (report.status ≡ 1)
 
-abbrev pub IsLoadingBeside : Option (List ℕ) → Reading → Loading → Type 0
-IsLoadingBeside object r loading = IsLoadingBy (refusal_beside object r) r.contents loading
-
 abbrev pub IsLoading : Reading → Loading → Type 0
-IsLoading r loading = IsLoadingBeside None r loading
+IsLoading r loading = IsLoadingBy (refusal_of r) r.contents loading
 
 -- the same of a script that may come with an object file
 abbrev pub IsLoadingOf : Beginning → Loading → Type 0

@@ -9,4 +9,5 @@
 //! ```
 #![tactic(auto)]
 
+mod copies;
 pub mod loading;

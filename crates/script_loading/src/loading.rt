@@ -1,14 +1,16 @@
 //! From a script's text to what its steps or calls begin with.
 
-ghost use Rattle.std.specs.Prelude.{◌≡◌, [], ◌∷◌, ◌++◌, length, map, option_map, None, IfOk, IfErr, OnOk, codes, decimal, string_bytes};
+ghost use Rattle.std.specs.Prelude.{◌≡◌, [], ◌∷◌, ◌++◌, length, map, option_map, Some, None, IfOk, IfErr, OnOk, codes, decimal, string_bytes};
 ghost use Rattle.std.specs.List.{find};
 ghost use Rattle.scripts.specs.Reading.{parsed_of, said_behind, script_said};
 ghost use Rattle.report_texts.specs.ScriptRefusal.{script_refusal};
 ghost use Rattle.script_loading.specs.Joining.Loads.{IsReadied, IsRefusal};
 ghost use Rattle.script_loading.specs.Loading.{place_name, place_behind, unverified_line, unverified, first_unverified, IsUnloaded};
-ghost use Rattle.script_loading.specs.Loading.{name_of, with_procedures, empty_core, empty_store, IsLoading, IsLoadingBeside, IsLoadingOf};
+ghost use Rattle.script_loading.specs.Loading.{name_of, with_procedures, empty_core, empty_store, IsLoading, IsLoadingOf};
 ghost use Rattle.script_loading.specs.Loading.{reaches_past, unknown_dc_line, fault_or_line, of_both, beginning_of};
+ghost use Rattle.script_loading.specs.Loading.{IsAcceptanceBeside, IsAcceptanceOf};
 
+use crate::copies::{code_again, decl_again};
 use data_component::dc::Dc;
 use object_procedures::given::{Ungiven, given};
 use object_procedures::named_place::named_place;
@@ -57,6 +59,22 @@ pub struct Loaded {
     pub steps: Vec<Step>,
     pub first: Vec<Call>,
     pub calls: Vec<Call>,
+}
+
+/// A script that isn't refused, as it was read, with the state that its procedures are loaded in. Of the script further
+/// states and data components are made, by [`state_of`] and [`empty_dcs`].
+#[derive(Drop)]
+pub struct Accepted<'a> {
+    pub script: Script<'a>,
+    pub state: TcState,
+}
+
+/// What a script comes to before it has data components.
+#[derive(Drop)]
+pub enum Acceptance<'a> {
+    Accepted(Accepted<'a>),
+    /// As below.
+    Refused(Report),
 }
 
 /// What a script comes to before its first step or call.
@@ -122,25 +140,22 @@ fn load_one(
     alloc: Global,
     object: Option<&[u8]>,
     state: &mut TcState,
-    procedure: Procedure,
+    procedure: &Procedure,
 ) -> Result<(), Unloaded>
-    ensures verified { OnOk result (unverified (option_map (λ file. file.now) object.entry) procedure.entry ≡ None) }
-    ensures ok { OnOk result (state.new ≡ with_procedures state.old (procedure.entry ∷ [])) }
-    ensures err { IfErr result (IsUnloaded (unverified (option_map (λ file. file.now) object.entry) procedure.entry)) }
+    ensures verified { OnOk result (unverified (option_map (λ file. file.now) object.entry) procedure.now ≡ None) }
+    ensures ok { OnOk result (state.new ≡ with_procedures state.old (procedure.now ∷ [])) }
+    ensures err { IfErr result (IsUnloaded (unverified (option_map (λ file. file.now) object.entry) procedure.now)) }
 {
-    let Procedure {
-        name,
-        decl,
-        code,
-        line,
-    } = procedure;
+    let name = procedure.name.as_str();
+    let decl = decl_again(&procedure.decl);
+    let code = code_again(alloc, &procedure.code)?;
     match verify(alloc, code, decl) {
-        Ok(verified) => match state.load(name.as_str(), verified) {
+        Ok(verified) => match state.load(name, verified) {
             Ok(_) => Ok(()),
             Err(_) => Err(Unloaded::Memory),
         },
         Err(VerifyFault::At(slot, violation)) => {
-            let name = name.as_str();
+            let line = procedure.line;
             let report = unverified_report(alloc, object, line, name, slot, violation)?;
             Err(Unloaded::Refused(report))
         }
@@ -153,11 +168,11 @@ fn load_all(
     alloc: Global,
     object: Option<&[u8]>,
     state: &mut TcState,
-    procedures: Vec<Procedure>,
+    procedures: &[Procedure],
 ) -> Result<(), Unloaded>
-    ensures verified { OnOk result (first_unverified (option_map (λ file. file.now) object.entry) procedures.entry.items ≡ None) }
-    ensures ok { OnOk result (state.new ≡ with_procedures state.old procedures.entry.items) }
-    ensures err { IfErr result (IsUnloaded (first_unverified (option_map (λ file. file.now) object.entry) procedures.entry.items)) }
+    ensures verified { OnOk result (first_unverified (option_map (λ file. file.now) object.entry) procedures.now ≡ None) }
+    ensures ok { OnOk result (state.new ≡ with_procedures state.old procedures.now) }
+    ensures err { IfErr result (IsUnloaded (first_unverified (option_map (λ file. file.now) object.entry) procedures.now)) }
 {
     'procedures: for procedure in procedures {
         load_one(alloc, object, state, procedure)?;
@@ -165,16 +180,17 @@ fn load_all(
     Ok(())
 }
 
-// The state of so many data components with these procedures.
-fn state_of(
+/// The state of so many data components with copies of these procedures, perhaps of an object file, where nothing has
+/// happened, or the report of the first that the verifier refuses.
+pub fn state_of(
     alloc: Global,
     object: Option<&[u8]>,
     dcs: usize,
-    procedures: Vec<Procedure>,
+    procedures: &[Procedure],
 ) -> Result<TcState, Unloaded>
-    ensures verified { OnOk result (first_unverified (option_map (λ file. file.now) object.entry) procedures.entry.items ≡ None) }
-    ensures ok { IfOk result (λ s. s ≡ with_procedures (empty_core dcs) procedures.entry.items) }
-    ensures err { IfErr result (IsUnloaded (first_unverified (option_map (λ file. file.now) object.entry) procedures.entry.items)) }
+    ensures verified { OnOk result (first_unverified (option_map (λ file. file.now) object.entry) procedures.now ≡ None) }
+    ensures ok { IfOk result (λ s. s ≡ with_procedures (empty_core dcs) procedures.now) }
+    ensures err { IfErr result (IsUnloaded (first_unverified (option_map (λ file. file.now) object.entry) procedures.now)) }
 {
     let Ok(dcs) = u16::try_from(dcs) else {
         return Err(Unloaded::Memory);
@@ -189,8 +205,8 @@ fn state_of(
     }
 }
 
-// The data components, empty.
-fn empty_dcs(alloc: Global, dcs: &[script::Dc]) -> Result<Vec<Dc>, AllocError>
+/// The data components, empty.
+pub fn empty_dcs(alloc: Global, dcs: &[script::Dc]) -> Result<Vec<Dc>, AllocError>
     ensures { IfOk result (λ made. made.items ≡ map empty_store dcs.now) }
 {
     let mut made = Vec::with_capacity(alloc, dcs.len())?;
@@ -201,69 +217,38 @@ fn empty_dcs(alloc: Global, dcs: &[script::Dc]) -> Result<Vec<Dc>, AllocError>
 }
 
 // Nothing is loaded, since the text has this fault.
-fn refused_text(alloc: Global, fault: Fault) -> Result<Loading, AllocError>
+fn refused_text<'a>(alloc: Global, fault: Fault) -> Result<Acceptance<'a>, AllocError>
     ensures { IfOk result (IsRefusal (script_refusal fault)) }
 {
-    Ok(Loading::Refused(refusal(alloc, fault)?))
+    Ok(Acceptance::Refused(refusal(alloc, fault)?))
 }
 
-// What the steps and calls begin with.
-fn ready(
+// Verifies and loads what was read, perhaps behind the procedures of an object file.
+fn accept_read<'a>(
     alloc: Global,
-    state: TcState,
-    dcs: &[script::Dc],
-    steps: Vec<Step>,
-    first: Vec<Call>,
-    calls: Vec<Call>,
-) -> Result<Loading, AllocError>
-    ensures { IfOk result (IsReadied state dcs.now steps.items first.items calls.items) }
-{
-    match empty_dcs(alloc, dcs) {
-        Ok(dcs) => Ok(Loading::Ready(Loaded {
-            state,
-            dcs,
-            steps,
-            first,
-            calls,
-        })),
-        Err(AllocError) => {
-            drop(state);
-            Err(AllocError)
-        }
-    }
-}
-
-// Verifies and loads what was read, perhaps behind the procedures of an object file, and makes its data components.
-fn load_read(alloc: Global, object: Option<&[u8]>, parsed: Parsed) -> Result<Loading, AllocError>
-    ensures { IfOk result (IsLoadingBeside (option_map (λ file. file.now) object.entry) (parsed_of parsed.entry)) }
+    object: Option<&[u8]>,
+    parsed: Parsed<'a>,
+) -> Result<Acceptance<'a>, AllocError>
+    ensures { IfOk result (IsAcceptanceBeside (option_map (λ file. file.now) object.entry) (parsed_of parsed.entry)) }
 {
     let Parsed { script, fault } = parsed;
-    let Script {
-        dcs,
-        procedures,
-        steps,
-        first,
-        calls,
-    } = script;
-    match state_of(alloc, object, dcs.len(), procedures) {
+    match state_of(
+        alloc,
+        object,
+        script.dcs.len(),
+        script.procedures.as_slice(),
+    ) {
         Ok(state) => match fault {
-            None => ready(alloc, state, dcs.as_slice(), steps, first, calls),
+            None => Ok(Acceptance::Accepted(Accepted { script, state })),
             Some(fault) => {
                 drop(state);
+                drop(script);
                 refused_text(alloc, fault)
             }
         },
-        Err(Unloaded::Refused(report)) => Ok(Loading::Refused(report)),
+        Err(Unloaded::Refused(report)) => Ok(Acceptance::Refused(report)),
         Err(Unloaded::Memory) => Err(AllocError),
     }
-}
-
-/// Reads a text as a script of this command, verifies and loads its procedures, and makes its
-/// data components.
-pub fn load(alloc: Global, command: Command, text: &str) -> Result<Loading, AllocError>
-    ensures { IfOk result (IsLoading (script_said command text.now)) }
-{
-    load_read(alloc, None, parse(alloc, command, text)?)
 }
 
 // Whether a slot of the procedure is of a data component that there isn't.
@@ -290,12 +275,16 @@ fn first_past<'a>(dcs: usize, procedures: &[Procedure<'a>]) -> Option<&'a str>
 }
 
 // Nothing is loaded: the text has this fault, or else the procedure of this name of the object file such a slot.
-fn refused_access(alloc: Global, fault: Option<Fault>, name: &str) -> Result<Loading, AllocError>
+fn refused_access<'a>(
+    alloc: Global,
+    fault: Option<Fault>,
+    name: &str,
+) -> Result<Acceptance<'a>, AllocError>
     ensures { IfOk result (IsRefusal (fault_or_line fault (unknown_dc_line name.now))) }
 {
     match fault {
         Some(fault) => refused_text(alloc, fault),
-        None => Ok(Loading::Refused(Report {
+        None => Ok(Acceptance::Refused(Report {
             status: 1,
             lines: format!(in alloc; "refused object {name} F8 DcUnknown\n")?,
             notes: None,
@@ -304,36 +293,84 @@ fn refused_access(alloc: Global, fault: Option<Fault>, name: &str) -> Result<Loa
 }
 
 // Reads, verifies and loads a script with these procedures of an object file.
-fn load_behind<'a>(
+fn accept_behind<'a>(
     alloc: Global,
     command: Command,
     object: &'a [u8],
     given: Vec<Procedure<'a>>,
     text: &'a str,
-) -> Result<Loading, AllocError>
-    ensures { IfOk result (IsLoadingOf (of_both object.now (said_behind command given.entry.items text.now))) }
+) -> Result<Acceptance<'a>, AllocError>
+    ensures { IfOk result (IsAcceptanceOf (Some object.now) (of_both object.now (said_behind command given.entry.items text.now))) }
 {
     let parsed = parse_behind(alloc, command, given, text)?;
     let dcs = parsed.script.dcs.len();
     match first_past(dcs, parsed.script.procedures.as_slice()) {
         Some(name) => refused_access(alloc, parsed.fault, name),
-        None => load_read(alloc, Some(object), parsed),
+        None => accept_read(alloc, Some(object), parsed),
     }
 }
 
-/// The same of a script that may come with an object file, whose procedures are then there as if they stood behind the
-/// script's data components. Refused with the object file's fault; else, where a procedure has a slot of a data component
-/// that there isn't, with the script's own fault or with that; else as a script is, with the line of C behind a slot of
-/// the object file's where that says it.
+/// Reads a text as a script of this command, and verifies and loads its procedures. It may come with an object file, whose
+/// procedures are then there as if they stood behind the script's data components. Refused with the object file's fault;
+/// else, where a procedure has a slot of a data component that there isn't, with the script's own fault or with that; else
+/// as a script is, with the line of C behind a slot of the object file's where that says it.
+pub fn accept_source<'a>(
+    alloc: Global,
+    command: Command,
+    source: Source<'a>,
+) -> Result<Acceptance<'a>, AllocError>
+    ensures { IfOk result (IsAcceptanceOf (option_map (λ file. file.now) source.entry.object) (beginning_of command source.entry)) }
+{
+    let Some(file) = source.object else {
+        return accept_read(alloc, None, parse(alloc, command, source.text)?);
+    };
+    match given(alloc, file) {
+        Ok(given) => accept_behind(alloc, command, file, given, source.text),
+        Err(Ungiven::Refused(report)) => Ok(Acceptance::Refused(report)),
+        Err(Ungiven::Memory) => Err(AllocError),
+    }
+}
+
+// What the steps and calls begin with.
+fn ready(alloc: Global, accepted: Accepted) -> Result<Loading, AllocError>
+    ensures { IfOk result (IsReadied accepted.entry) }
+{
+    let Accepted { script, state } = accepted;
+    let Script {
+        dcs,
+        procedures: _,
+        steps,
+        first,
+        calls,
+    } = script;
+    match empty_dcs(alloc, dcs.as_slice()) {
+        Ok(dcs) => Ok(Loading::Ready(Loaded {
+            state,
+            dcs,
+            steps,
+            first,
+            calls,
+        })),
+        Err(AllocError) => {
+            drop(state);
+            Err(AllocError)
+        }
+    }
+}
+
+/// The same, and makes the data components.
 pub fn load_source(alloc: Global, command: Command, source: Source) -> Result<Loading, AllocError>
     ensures { IfOk result (IsLoadingOf (beginning_of command source.entry)) }
 {
-    let Some(file) = source.object else {
-        return load(alloc, command, source.text);
-    };
-    match given(alloc, file) {
-        Ok(given) => load_behind(alloc, command, file, given, source.text),
-        Err(Ungiven::Refused(report)) => Ok(Loading::Refused(report)),
-        Err(Ungiven::Memory) => Err(AllocError),
+    match accept_source(alloc, command, source)? {
+        Acceptance::Accepted(accepted) => ready(alloc, accepted),
+        Acceptance::Refused(report) => Ok(Loading::Refused(report)),
     }
+}
+
+/// The same of a script with no object file.
+pub fn load(alloc: Global, command: Command, text: &str) -> Result<Loading, AllocError>
+    ensures { IfOk result (IsLoading (script_said command text.now)) }
+{
+    load_source(alloc, command, Source { object: None, text })
 }

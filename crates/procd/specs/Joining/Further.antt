@@ -2,7 +2,7 @@
 -- is to have a picture.
 use Rattle.std.specs.Prelude.{◌≡◌, ◌⊎◌, true, Bool, not, List, ℕ, Option, Some}
 use Rattle.procd.specs.Report.{IsTextFault}
-use Rattle.command_line.specs.Task.{Wish, Verify, World, Run, Log, Audit, Picture, reads_text}
+use Rattle.command_line.specs.Task.{Wish, Verify, World, Run, Partitioned, Log, Audit, Picture, reads_text}
 use Rattle.object_file.specs.Elf.{is_elf}
 use Rattle.procd.specs.declared.report.ReportFault.{ReportFault}
 use Rattle.procd.specs.declared.report.ReportFault.TheVariants.{NotText, Unread, Unwritten, Memory}
@@ -11,6 +11,7 @@ use Rattle.procd.specs.declared.report.ReportFault.TheVariants.{NotText, Unread,
 abbrev pub Reads : Wish → List ℕ → Type 0
 Reads (World log audit script) path = script ≡ Some path
 Reads (Run workers tries stats audit results tell metrics trace log checkpoint over script) path = (log ≡ Some path) ⊎ (script ≡ Some path)
+Reads (Partitioned workers tries audit script) path = script ≡ Some path
 Reads (Log (Audit source script)) path = (source ≡ path) ⊎ (script ≡ Some path)
 Reads other path = ⊥
 

@@ -21,7 +21,9 @@ returns-in-world-clause-task c =
     c.flag_of-in-world.ensures c.flag_of-in-world-2.ensures c.text_of.ensures
 
 pub returns-in-run-clause-task : goal.returns-in-run-clause-task
-returns-in-run-clause-task c = wants_run c.args.name.now (rows_of (found_of c.args.matches.now)) c.run_task.result c.in-run.is c.run_task.ensures.task
+returns-in-run-clause-task c =
+    wants_run c.args.name.now (rows_of (found_of c.args.matches.now)) c.run_task.result c.in-run.is c.run_task.ensures.task
+    c.run_task.ensures.partitioned
 
 pub returns-in-log-clause-task : goal.returns-in-log-clause-task
 returns-in-log-clause-task c = wants_log c.args.name.now (rows_of (found_of c.args.matches.now)) c.log_task.result c.in-log.is c.log_task.ensures.task

@@ -1,0 +1,2 @@
+pub mod DividingLemmas
+pub mod ReportingLemmas

@@ -1,0 +1,316 @@
+-- The answers and the data components of all partitions together.
+use Rattle.std.proofs.Common.{arith, ◌≡◌, ◌∙◌, ◌<◌, ◌+◌, ◌==◌, ℕ, Bool, true, false, max, List, [], ◌∷◌, ◌++◌, length, map, take, get_or, refl, sym, ap, subst}
+use Rattle.std.specs.Prelude.{◌&&◌, if◌then◌else◌, Option, Some, None, option_map, slice_get, Result, Ok, Err, IfOk, All, count_by, codes, string_bytes}
+use Rattle.std.specs.List.{list_any}
+use Rattle.std.specs.Global.{Vec}
+use Rattle.std.proofs.lemmas.List.{length-map, length-take-le, map-append, take_more}
+use Rattle.std.proofs.lemmas.Option.{get_or_from_slice_get, slice_get-get_or, slice_get-map, slice_get_within}
+use Rattle.data_component.specs.Store.{Store}
+use Rattle.data_component.specs.Sorted.{Rows}
+use Rattle.data_component.specs.Keeping.{AreRowsOf}
+use Rattle.partitions.specs.Partitions.{ArePartitions}
+use Rattle.partitions.specs.Picking.{picked, FitsParts, IsMerged}
+use Rattle.partitions.proofs.Picks.{picked_long}
+use Rattle.scripts.specs.Reading.{Contents, contents_of}
+use Rattle.scripts.specs.declared.script.Dc.{Dc}
+use Rattle.scripts.specs.declared.script.Procedure.{Procedure}
+use Rattle.scripts.specs.declared.script.Step.{Step}
+use Rattle.scripts.specs.declared.script.Call as said
+use Rattle.script_loading.specs.Loading.{Beginning, empty_store, first_unverified, IsAccepted, IsAcceptanceOf}
+use Rattle.script_loading.specs.declared.loading.Acceptance.{Acceptance}
+use Rattle.script_loading.specs.declared.loading.Acceptance.TheVariants as accepted
+use Rattle.scripts.specs.declared.script.Script.{Script}
+use Rattle.script_loading.specs.declared.loading.Accepted.{Accepted as AcceptedScript}
+use Rattle.report_texts.specs.declared.report.Report.{Report}
+use Rattle.state_lines.specs.RowLines.{row_lines, AddsRowLines}
+use Rattle.state_lines.proofs.RowLemmas.{one_added}
+use Rattle.tc_core.specs.Admission.{call_of}
+use Rattle.tc_core.specs.Core.{Core}
+use Rattle.tc_core.specs.declared.state.Call.{Call}
+use Rattle.worker_pool.specs.declared.answer.Answer.{Answer}
+use Rattle.run_command.specs.declared.anew.Ground.{Ground}
+use Rattle.run_command.specs.Answered.{AreCallsOf, said_call}
+use Rattle.run_command.specs.AnswerLines.{answer_lines, fault_line}
+use Rattle.run_command.specs.Running.{begun, empty_stores, is_want_of_memory}
+use Rattle.run_command.specs.Stops.{Stops}
+use Rattle.run_command.specs.declared.answering.Unbegun.{Unbegun}
+use Rattle.worker_pool.specs.Faults.{InRange}
+use Rattle.partitioned_run.specs.declared.answering.Lack.{Lack}
+use Rattle.partitioned_run.specs.declared.answering.Ran.{Ran}
+use Rattle.partitioned_run.specs.declared.dividing.Division.{Division}
+use Rattle.partitioned_run.specs.declared.reporting.All.{All as Together}
+use Rattle.partitioned_run.specs.Partitioned.{decl_of, partition_of_call, IsAnsweredBy, AddsAuditOf, AddsAudits, kept_dc, kept_dcs, kept_from}
+use Rattle.partitioned_run.specs.Partitioned.{IsContentsRun, IsPartitionedBy, IsPartitionedRun, IsRunApart, Ran as Begun, Stopped}
+use Rattle.partitioned_run.specs.Joining.Dividing.{AreDivided, AreRun, IsPartitionRun}
+use Rattle.partitioned_run.specs.Joining.Reporting.{AreAll, AreAllOf, AreAllRun, MayBeRun}
+use Rattle.partitioned_run.proofs.DividingLemmas.{calls_low}
+
+-- ---- as many answers as calls
+
+as_many : (lines : List said.Call) (calls : List Call) → AreCallsOf lines calls → length calls ≡ length lines
+as_many lines calls are = sym (length-map calls call_of) ∙ (ap length are ∙ length-map lines said_call)
+
+answered_long : (start : Core) (dcs : List Store) (first calls : List said.Call) (first_answers other_answers : List Answer) (behind : Option Ground)
+    → IsAnsweredBy start dcs first calls first_answers other_answers behind
+    → (length first_answers ≡ length first) × (length other_answers ≡ length calls)
+answered_long start dcs first calls first_answers other_answers None h = (ap length h.2 ∙ sym (ap length h.0), ap length h.3 ∙ sym (ap length h.1))
+answered_long start dcs first calls first_answers other_answers (Some g) h = (
+  h.answered.first_run.tells.one_each ∙ as_many first h.first_calls h.first_are,
+  h.answered.calls_run.tells.one_each ∙ as_many calls h.other_calls h.others_are,
+)
+
+-- ---- the calls of all partitions
+
+pub one_run_more : (before : List (Result Ran Lack)) (ran : Ran) (old new : Together) → new.grounds.items ≡ old.grounds.items ++ ran.ground ∷ []
+    → new.first.items ≡ old.first.items ++ ran.answers.first ∷ [] → new.calls.items ≡ old.calls.items ++ ran.answers.calls ∷ []
+    → AreAllOf before old → AreAllOf (before ++ Ok ran ∷ []) new
+one_run_more before ran old new grounds firsts others all = record {
+  runs = all.runs ++ ran ∷ [];
+  oks = ap (λ (l : List (Result Ran Lack)). l ++ Ok ran ∷ []) all.oks ∙ sym (map-append Ok all.runs (ran ∷ []));
+  together = (
+    grounds ∙ (ap (λ (l : List (Option Ground)). l ++ ran.ground ∷ []) all.together.0 ∙ sym (map-append (λ (r : Ran). r.ground) all.runs (ran ∷ []))),
+    firsts ∙ (ap (λ (l : List (Vec Answer)). l ++ ran.answers.first ∷ []) all.together.1
+        ∙ sym (map-append (λ (r : Ran). r.answers.first) all.runs (ran ∷ []))),
+    others ∙ (ap (λ (l : List (Vec Answer)). l ++ ran.answers.calls ∷ []) all.together.2
+        ∙ sym (map-append (λ (r : Ran). r.answers.calls) all.runs (ran ∷ []))),
+  );
+}
+
+run_at : (c : Contents) (d : Division) (count : ℕ) (ran : List (Result Ran Lack)) (runs : List Ran) (p : ℕ) (found : Option Ran) (behind : Option Ground)
+    (first_answers other_answers : Vec Answer) → slice_get runs p ≡ found → AreRun c d count ran → ran ≡ map Ok runs
+    → Some behind ≡ option_map (λ (r : Ran). r.ground) found → Some first_answers ≡ option_map (λ (r : Ran). r.answers.first) found
+    → Some other_answers ≡ option_map (λ (r : Ran). r.answers.calls) found
+    → IsAnsweredBy (begun c) (empty_stores c) (picked p d.first.items c.first) (picked p d.calls.items c.calls)
+    first_answers.items other_answers.items behind
+run_at c d count ran runs p None behind first_answers other_answers is are all ground first calls = absurd (cc)
+run_at c d count ran runs p (Some r) behind first_answers other_answers is are all ground first calls =
+    let found : slice_get ran p ≡ Some (Ok r) =
+    ap (λ (l : List (Result Ran Lack)). slice_get l p) all ∙ (slice_get-map Ok runs p ∙ ap (option_map Ok) is) in
+    let lt : p < count = omega (arith, slice_get_within ran p (Ok r) found, are.0) in
+    let one : IsPartitionRun c d p r =
+    subst (λ (x : Result Ran Lack). IfOk x (IsPartitionRun c d p)) (get_or_from_slice_get ran p (Ok r) (Ok r) found) (are.1 p (Ok r) lt) in
+    let grounds : behind ≡ r.ground = cc in
+    let firsts : first_answers ≡ r.answers.first = cc in
+    let others : other_answers ≡ r.answers.calls = cc in
+    rw (grounds, firsts, others) one
+
+pub all_run : (c : Contents) (d : Division) (count : ℕ) (ran : List (Result Ran Lack)) (all : Together)
+    → count ≡ max (length (empty_stores c)) 1 → AreRun c d count ran → AreAllOf ran all → AreAllRun c d all
+all_run c d count ran all is are of =
+    let runs = of.runs in
+    let oks = of.oks in
+    let together = of.together in
+    let long : length runs ≡ count = sym (length-map runs (λ (r : Ran). Ok r)) ∙ (ap length (sym oks) ∙ are.0) in
+    let grounds : length all.grounds.items ≡ length runs = ap length together.0 ∙ length-map runs (λ (r : Ran). r.ground) in
+    let firsts : length all.first.items ≡ length runs = ap length together.1 ∙ length-map runs (λ (r : Ran). r.answers.first) in
+    let others : length all.calls.items ≡ length runs = ap length together.2 ∙ length-map runs (λ (r : Ran). r.answers.calls) in
+    record {
+      grounds = grounds ∙ (long ∙ is);
+      first = firsts ∙ sym grounds;
+      calls = others ∙ sym grounds;
+      each = λ p behind first_answers other_answers is_ground is_first is_calls.
+          run_at c d count ran runs p (slice_get runs p) behind first_answers other_answers refl are oks
+          (sym is_ground ∙ (ap (λ (l : List (Option Ground)). slice_get l p) together.0 ∙ slice_get-map (λ (r : Ran). r.ground) runs p))
+          (sym is_first ∙ (ap (λ (l : List (Vec Answer)). slice_get l p) together.1 ∙ slice_get-map (λ (r : Ran). r.answers.first) runs p))
+          (sym is_calls ∙ (ap (λ (l : List (Vec Answer)). slice_get l p) together.2 ∙ slice_get-map (λ (r : Ran). r.answers.calls) runs p));
+    }
+
+-- ---- their answers go back to the calls' places
+
+module _ (c : Contents) (d : Division) (all : Together) (numbered : AreDivided c d) (run : AreAllRun c d all) where
+  dcs_long : length (empty_stores c) ≡ length c.dcs
+  dcs_long = length-map c.dcs empty_store
+
+  pub first_long : length d.first.items ≡ length c.first
+  first_long = ap length numbered.first_are ∙ length-map c.first (partition_of_call d.partitions (begun c).procs)
+
+  pub calls_long : length d.calls.items ≡ length c.calls
+  calls_long = ap length numbered.calls_are ∙ length-map c.calls (partition_of_call d.partitions (begun c).procs)
+
+  -- what a list of as many as there are grounds has at a place
+  at_place : {X : Type 0} (xs : List X) (p : ℕ) (y : X) → length xs ≡ length all.grounds.items → p < length all.grounds.items → (x : X) × (slice_get xs p ≡ Some x)
+  at_place xs p y long lt = (get_or xs p y, slice_get-get_or xs p y (omega (arith, long, lt)))
+
+  pub first_fits : FitsParts d.first.items all.first.items
+  first_fits = record {
+    within = subst (All (λ (n : ℕ). n < length all.first.items)) (sym numbered.first_are)
+        (subst (λ (most : ℕ). All (λ (n : ℕ). n < most) (map (partition_of_call d.partitions (begun c).procs) c.first))
+        (ap (λ (n : ℕ). max n 1) (sym dcs_long) ∙ sym (run.first ∙ run.grounds))
+        (calls_low (length c.dcs) (map decl_of (begun c).procs) d.partitions (begun c).procs c.first
+        numbered.partitions));
+    as_many = λ p part is.
+        let lt : p < length all.grounds.items = omega (arith, slice_get_within all.first.items p part is, run.first) in
+        let ground = at_place all.grounds.items p None refl lt in
+        let other = at_place all.calls.items p part run.calls lt in
+        let each = run.each p ground.0 part other.0 ground.1 is other.1 in
+        (answered_long _ _ _ _ _ _ ground.0 each).0 ∙ picked_long p d.first.items c.first (sym first_long);
+  }
+
+  pub calls_fit : FitsParts d.calls.items all.calls.items
+  calls_fit = record {
+    within = subst (All (λ (n : ℕ). n < length all.calls.items)) (sym numbered.calls_are)
+        (subst (λ (most : ℕ). All (λ (n : ℕ). n < most) (map (partition_of_call d.partitions (begun c).procs) c.calls))
+        (ap (λ (n : ℕ). max n 1) (sym dcs_long) ∙ sym (run.calls ∙ run.grounds))
+        (calls_low (length c.dcs) (map decl_of (begun c).procs) d.partitions (begun c).procs c.calls
+        numbered.partitions));
+    as_many = λ p part is.
+        let lt : p < length all.grounds.items = omega (arith, slice_get_within all.calls.items p part is, run.calls) in
+        let ground = at_place all.grounds.items p None refl lt in
+        let other = at_place all.first.items p part run.first lt in
+        let each = run.each p ground.0 other.0 part ground.1 other.1 is in
+        (answered_long _ _ _ _ _ _ ground.0 each).1 ∙ picked_long p d.calls.items c.calls (sym calls_long);
+  }
+
+  -- the partitions are those of the data components that were empty
+  pub partitions_are : ArePartitions (length (empty_stores c)) (map decl_of (begun c).procs) d.partitions
+  partitions_are =
+      subst (λ (n : ℕ). ArePartitions n (map decl_of (begun c).procs) d.partitions) (sym dcs_long) numbered.partitions
+
+  pub answered_apart : (first_answers other_answers : List Answer) → IsMerged d.first.items all.first.items first_answers
+      → IsMerged d.calls.items all.calls.items other_answers → (p : ℕ) (behind : Option Ground) → slice_get all.grounds.items p ≡ Some behind
+      → IsAnsweredBy (begun c) (empty_stores c)
+      (picked p (map (partition_of_call d.partitions (begun c).procs) c.first) c.first)
+      (picked p (map (partition_of_call d.partitions (begun c).procs) c.calls) c.calls)
+      (picked p (map (partition_of_call d.partitions (begun c).procs) c.first) first_answers)
+      (picked p (map (partition_of_call d.partitions (begun c).procs) c.calls) other_answers) behind
+  answered_apart first_answers other_answers firsts others p behind is =
+      let lt : p < length all.grounds.items = slice_get_within all.grounds.items p behind is in
+      let first = some_part all.first.items p (omega (arith, run.first, lt)) in
+      let other = some_part all.calls.items p (omega (arith, run.calls, lt)) in
+      let each = run.each p behind first.0 other.0 is first.1 other.1 in
+      rw (
+        ← numbered.first_are,
+        ← numbered.calls_are,
+        firsts.own p first.0 first.1,
+        others.own p other.0 other.1,
+      ) each
+    where
+      some_part : (xs : List (Vec Answer)) (p : ℕ) → p < length xs → (x : Vec Answer) × (slice_get xs p ≡ Some x)
+      some_part [] p lt = absurd (omega (arith, lt))
+      some_part (x ∷ xs) p lt = (get_or (x ∷ xs) p x, slice_get-get_or (x ∷ xs) p x lt)
+
+  -- what is printed of them
+  pub run_apart : (first_answers other_answers : List Answer) (audit : Bool) (answered kept lines : List ℕ) (sound : Bool) (status : ℕ) (empty : List Store)
+      → IsMerged d.first.items all.first.items first_answers → IsMerged d.calls.items all.calls.items other_answers
+      → (list_any is_want_of_memory first_answers ≡ false) × (list_any is_want_of_memory other_answers ≡ false)
+      → answered ≡ answer_lines (codes "first") first_answers ++ answer_lines (codes "call") other_answers → empty ≡ empty_stores c
+      → AddsRowLines (kept_dcs d.partitions all.grounds.items empty) answered kept → AddsAudits audit all.grounds.items kept lines sound
+      → status ≡ (if sound then 0 else 1) → IsRunApart c audit status lines
+  run_apart first_answers other_answers audit answered kept lines sound status empty firsts others ample told empty_is rows found status_is = record {
+    numbers = d.partitions;
+    partitions = partitions_are;
+    first_answers = first_answers;
+    first_each = firsts.each ∙ first_long;
+    other_answers = other_answers;
+    others_each = others.each ∙ calls_long;
+    grounds = all.grounds.items;
+    each = run.grounds;
+    apart = answered_apart first_answers other_answers firsts others;
+    ample = ample;
+    kept = kept;
+    rows = subst (λ (dcs : List Store). AddsRowLines (kept_dcs d.partitions all.grounds.items dcs)
+        (answer_lines (codes "first") first_answers ++ answer_lines (codes "call") other_answers) kept) empty_is
+        (subst (λ (l : List ℕ). AddsRowLines (kept_dcs d.partitions all.grounds.items empty) l kept) told rows);
+    sound = sound;
+    found = found;
+    status_is = status_is;
+  }
+
+-- ---- the report of calls none of which is begun
+
+pub stopped_apart : {E : Type 0} (c : Contents) (workers tries : ℕ) (audit : Bool) (cause : Unbegun) (report : Result Report E) → Stops workers tries cause
+    → IfOk report (λ r. fault_line cause ≡ Some (string_bytes r.lines)) → IfOk report (λ r. r.status ≡ 1)
+    → IfOk report (λ r. IsContentsRun c workers tries audit r.status (string_bytes r.lines))
+stopped_apart c workers tries audit cause (Ok r) stops lines status = Stopped cause stops status lines
+stopped_apart c workers tries audit cause (Err e) stops lines status = tt
+
+pub ran_apart : {E : Type 0} (c : Contents) (workers tries : ℕ) (audit : Bool) (report : Result Report E) → InRange workers tries
+    → IfOk report (λ r. IsRunApart c audit r.status (string_bytes r.lines))
+    → IfOk report (λ r. IsContentsRun c workers tries audit r.status (string_bytes r.lines))
+ran_apart c workers tries audit (Ok r) range run = Begun range run
+ran_apart c workers tries audit (Err e) range run = tt
+
+-- ---- what was read is what the script says
+
+made : List Dc → List Procedure → List Step → (first calls : List said.Call) → Contents
+made dcs procedures steps first calls = record { dcs = dcs; procedures = procedures; steps = steps; first = first; calls = calls }
+
+contents_are : (object : Option (List ℕ)) (c : Contents) (a : AcceptedScript) → IsAccepted object c a → contents_of a.script ≡ c
+unfolding made
+contents_are object c a is =
+    let s = a.script in
+    ap (λ (l : List Dc). made l s.procedures.items s.steps.items s.first.items s.calls.items) is.dcs
+    ∙ (ap (λ (l : List Procedure). made c.dcs l s.steps.items s.first.items s.calls.items) is.procedures
+    ∙ (ap (λ (l : List Step). made c.dcs c.procedures l s.first.items s.calls.items) is.steps
+    ∙ (ap (λ (l : List said.Call). made c.dcs c.procedures c.steps l s.calls.items) is.first
+    ∙ ap (λ (l : List said.Call). made c.dcs c.procedures c.steps c.first l) is.calls)))
+
+pub may_be_run : (object : Option (List ℕ)) (b : Beginning) (a : Acceptance) → IsAcceptanceOf object b a → MayBeRun object b a
+may_be_run object b (accepted.Accepted a) is = (
+  ap (first_unverified object) is.1.procedures ∙ is.1.verified,
+  is.1.state ∙ ap begun (sym (contents_are object b.contents a is.1)),
+  is.0,
+  contents_are object b.contents a is.1,
+)
+may_be_run object b (accepted.Refused report) is = is
+
+pub accepted_run : (b : Beginning) (s : Script) (workers tries : ℕ) (audit : Bool) (status : ℕ) (lines : List ℕ) → b.refusal ≡ None
+    → contents_of s ≡ b.contents → IsContentsRun (contents_of s) workers tries audit status lines → IsPartitionedRun workers tries audit b status lines
+accepted_run b s workers tries audit status lines none is run =
+    subst (λ (refusal : Option (List ℕ)). IsPartitionedBy refusal b.contents workers tries audit status lines) (sym none)
+    (subst (λ (c : Contents). IsContentsRun c workers tries audit status lines) is run)
+
+-- ---- one data component more, and one audit more
+
+pub kept_push : (numbers : List ℕ) (grounds : List (Option Ground)) (dc : ℕ) (dcs : List Store) (empty : Store)
+    → kept_from numbers grounds dc (dcs ++ empty ∷ []) ≡ kept_from numbers grounds dc dcs ++ kept_dc numbers grounds (dc + length dcs) empty ∷ []
+kept_push numbers grounds dc [] empty = ap (λ (n : ℕ). kept_dc numbers grounds n empty ∷ []) (omega arith)
+kept_push numbers grounds dc (other ∷ dcs) empty =
+    let place : dc + 1 + length dcs ≡ dc + length (other ∷ dcs) = omega arith in
+    ap (λ (l : List Store). kept_dc numbers grounds dc other ∷ l)
+    (kept_push numbers grounds (dc + 1) dcs empty ∙ ap (λ (n : ℕ). kept_from numbers grounds (dc + 1) dcs ++ kept_dc numbers grounds n empty ∷ []) place)
+
+pub kept_more : (numbers : List ℕ) (grounds : List (Option Ground)) (dcs : List Store) (i : ℕ) (d kept : Store) (rows : Rows) (old lines new : List ℕ)
+    → i < length dcs → AddsRowLines (kept_dcs numbers grounds (take i dcs)) old lines → d ≡ get_or dcs i d → kept ≡ kept_dc numbers grounds i d
+    → AreRowsOf rows kept.base kept.list → new ≡ lines ++ row_lines rows → AddsRowLines (kept_dcs numbers grounds (take (i + 1) dcs)) old new
+kept_more numbers grounds dcs i d kept rows old lines new lt done here is are more =
+    let place : 0 + length (take i dcs) ≡ i = omega (arith, length-take-le i dcs (omega (arith, lt))) in
+    let added = one_added (kept_dcs numbers grounds (take i dcs)) kept rows old lines new done are more in
+    let next : kept_from numbers grounds 0 (take (i + 1) dcs) ≡ kept_from numbers grounds 0 (take i dcs) ++ kept ∷ [] =
+    ap (kept_from numbers grounds 0) (take_more dcs i d lt)
+    ∙ (kept_push numbers grounds 0 (take i dcs) (get_or dcs i d)
+    ∙ ap (λ (k : Store). kept_from numbers grounds 0 (take i dcs) ++ k ∷ []) (ap (λ (n : ℕ). kept_dc numbers grounds n (get_or dcs i d)) place
+    ∙ (ap (λ (empty : Store). kept_dc numbers grounds i empty) (sym here) ∙ sym is))) in
+    subst (λ (ds : List Store). AddsRowLines ds old new) (sym next) added
+
+and_assoc : (a b c : Bool) → (a && (b && c)) ≡ ((a && b) && c)
+and_assoc true b c = refl
+and_assoc false b c = refl
+
+and_true : (a : Bool) → (a && true) ≡ a
+and_true true = refl
+and_true false = refl
+
+pub audits_push : (audit : Bool) (grounds : List (Option Ground)) (ground : Option Ground) (old middle new : List ℕ) (sound one : Bool)
+    → AddsAudits audit grounds old middle sound → AddsAuditOf audit ground middle new one
+    → AddsAudits audit (grounds ++ ground ∷ []) old new (sound && one)
+audits_push audit [] ground old middle new sound one none adds =
+    (new, one, true, subst (λ (l : List ℕ). AddsAuditOf audit ground l new one) none.0 adds, (refl, refl), rw none.1 (sym (and_true one)))
+audits_push audit (g ∷ grounds) ground old middle new sound one h adds = (
+  h.0,
+  h.1,
+  h.2 && one,
+  h.3,
+  audits_push audit grounds ground h.0 middle new h.2 one h.4 adds,
+  ap (λ (s : Bool). s && one) h.5 ∙ sym (and_assoc h.1 h.2 one),
+)
+
+pub audits_more : (audit : Bool) (grounds : List (Option Ground)) (i : ℕ) (d : Option Ground) (old middle new : List ℕ) (sound one both : Bool)
+    → i < length grounds → AddsAudits audit (take i grounds) old middle sound → d ≡ get_or grounds i d → AddsAuditOf audit d middle new one
+    → both ≡ (sound && one)
+    → AddsAudits audit (take (i + 1) grounds) old new both
+audits_more audit grounds i d old middle new sound one both lt done here adds is =
+    subst (λ (b : Bool). AddsAudits audit (take (i + 1) grounds) old new b) (sym is)
+    (subst (λ (gs : List (Option Ground)). AddsAudits audit gs old new (sound && one)) (sym (take_more grounds i d lt))
+    (audits_push audit (take i grounds) (get_or grounds i d) old middle new sound one done
+    (subst (λ (ground : Option Ground). AddsAuditOf audit ground middle new one) here adds)))

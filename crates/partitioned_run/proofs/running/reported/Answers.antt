@@ -1,0 +1,26 @@
+use Rattle.std.specs.Prelude.{string_bytes}
+use Rattle.scripts.specs.Reading.{contents_of}
+use Rattle.partitioned_run.proofs.ReportingLemmas.{calls_fit, first_fits, run_apart}
+use Rattle.partitioned_run.proofs.running.reported.Goals as goal
+
+pub merged-requires : goal.merged-requires
+merged-requires c =
+    rw (c.as_slice.ensures.value, c.as_slice-2.ensures.value)
+    (first_fits (contents_of c.args.task.script.now) c.args.task.division.now c.args.all.now c.requires.divided c.requires.run)
+
+pub merged-requires-2 : goal.merged-requires-2
+merged-requires-2 c =
+    rw (c.as_slice-3.ensures.value, c.as_slice-4.ensures.value)
+    (calls_fit (contents_of c.args.task.script.now) c.args.task.division.now c.args.all.now c.requires.divided c.requires.run)
+
+pub returns : goal.returns
+returns c =
+    run_apart (contents_of c.args.task.script.now) c.args.task.division.now c.args.all.now c.requires.divided c.requires.run
+    c.in_ok-first.first.items c.in_ok-calls.calls.items c.args.task.manner.audit (string_bytes c.in_ok-lines.lines)
+    (string_bytes c.write_kept.new.lines) (string_bytes c.write_audits.new.lines) c.in_ok-sound.sound c.status_of.result c.args.empty.now
+    (rw (c.as_slice.ensures.value, c.as_slice-2.ensures.value) at c.in_ok-first.ensures)
+    (rw (c.as_slice-3.ensures.value, c.as_slice-4.ensures.value) at c.in_ok-calls.ensures)
+    (rw (c.as_slice-5.ensures.value, c.as_slice-6.ensures.value) at (c.lack_memory.ensures c.if-lack_memory.false))
+    (rw (c.as_slice-7.ensures.value, c.as_slice-8.ensures.value) at c.in_ok-lines.ensures) c.requires.empty
+    (rw c.as_slice-grounds.ensures.value at c.in_ok-write_kept.ensures) (rw c.as_slice-grounds.ensures.value at c.in_ok-sound.ensures)
+    c.status_of.ensures

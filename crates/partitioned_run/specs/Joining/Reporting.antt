@@ -1,0 +1,45 @@
+-- What the calls of all partitions came to, taken apart.
+use Rattle.std.specs.Prelude.{◌≡◌, ℕ, List, length, map, max, Option, Some, None, slice_get, string_bytes, Result, Ok}
+use Rattle.std.specs.Global.{Vec}
+use Rattle.run_command.specs.declared.anew.Ground.{Ground}
+use Rattle.worker_pool.specs.declared.answer.Answer.{Answer}
+use Rattle.scripts.specs.Reading.{Contents, contents_of}
+use Rattle.script_loading.specs.Loading.{Beginning, first_unverified}
+use Rattle.script_loading.specs.declared.loading.Acceptance.{Acceptance}
+use Rattle.script_loading.specs.declared.loading.Acceptance.TheVariants.{Accepted, Refused}
+use Rattle.run_command.specs.Running.{begun, empty_stores}
+use Rattle.partitions.specs.Picking.{picked}
+use Rattle.partitioned_run.specs.Partitioned.{IsAnsweredBy}
+use Rattle.partitioned_run.specs.declared.dividing.Division.{Division}
+use Rattle.partitioned_run.specs.declared.answering.Lack.{Lack}
+use Rattle.partitioned_run.specs.declared.answering.Ran.{Ran}
+use Rattle.partitioned_run.specs.declared.reporting.All.{All}
+
+-- each in the order of the partitions
+abbrev pub AreAll : List Ran → All → Type 0
+AreAll runs all =
+    (all.grounds.items ≡ map (λ (ran : Ran). ran.ground) runs) × (all.first.items ≡ map (λ (ran : Ran). ran.answers.first) runs)
+    × (all.calls.items ≡ map (λ (ran : Ran). ran.answers.calls) runs)
+
+-- what all runs came to, none of which lacks anything
+pub record AreAllOf (ran : List (Result Ran Lack)) (all : All) : Type 0 where
+  pub runs : List Ran
+  pub oks : ran ≡ map Ok runs
+  pub together : AreAll runs all
+
+-- a script may be run, all of whose procedures are loaded; else its refusal is there
+abbrev pub MayBeRun : Option (List ℕ) → Beginning → Acceptance → Type 0
+MayBeRun object b (Accepted a) =
+    (first_unverified object a.script.procedures.items ≡ None) × (a.state ≡ begun (contents_of a.script)) × (b.refusal ≡ None)
+    × (contents_of a.script ≡ b.contents)
+MayBeRun object b (Refused report) = (b.refusal ≡ Some (string_bytes report.lines)) × (report.status ≡ 1)
+
+-- those of each partition
+pub record AreAllRun (c : Contents) (d : Division) (all : All) : Type 0 where
+  pub grounds : length all.grounds.items ≡ max (length (empty_stores c)) 1
+  pub first : length all.first.items ≡ length all.grounds.items
+  pub calls : length all.calls.items ≡ length all.grounds.items
+  pub each : (p : ℕ) (behind : Option Ground) (first_answers other_answers : Vec Answer) → slice_get all.grounds.items p ≡ Some behind
+      → slice_get all.first.items p ≡ Some first_answers → slice_get all.calls.items p ≡ Some other_answers
+      → IsAnsweredBy (begun c) (empty_stores c) (picked p d.first.items c.first) (picked p d.calls.items c.calls)
+      first_answers.items other_answers.items behind

@@ -1,0 +1,2 @@
+pub mod Partitioned
+pub mod Joining

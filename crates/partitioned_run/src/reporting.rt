@@ -1,0 +1,191 @@
+//! What is printed of the calls of all partitions.
+
+ghost use Rattle.std.specs.Prelude.{◌≡◌, ◌++◌, ◌&&◌, [], ◌∷◌, List, Result, false, if◌then◌else◌, IfOk, OnOk, codes, string_bytes};
+ghost use Rattle.std.specs.List.{list_any};
+ghost use Rattle.run_command.specs.AnswerLines.{answer_lines};
+ghost use Rattle.state_lines.specs.RowLines.{AddsRowLines};
+ghost use Rattle.run_command.specs.Running.{is_want_of_memory};
+ghost use Rattle.partitioned_run.specs.Partitioned.{AddsAuditOf, AddsAudits, dc_behind, kept_dc, kept_dcs};
+ghost use Rattle.partitioned_run.specs.Joining.Reporting.{AreAllOf};
+ghost use Rattle.partitioned_run.specs.declared.answering.Lack.{Lack as LackValue};
+ghost use Rattle.partitioned_run.specs.declared.answering.Ran.{Ran as RanValue};
+
+use crate::answering::{Lack, Ran};
+use data_component::dc::Dc;
+use partitions::Partitions;
+use run_command::running::{Ground, has_want_of_memory, write_answers, write_found};
+use state_lines::row_lines::write_rows;
+use std::alloc::{AllocError, Global};
+use worker_pool::Answer;
+
+/// What the calls of each partition came to, in the order of their numbers: what they were run on, behind the last, if
+/// there are any, and what those of both lists were answered.
+#[derive(Drop)]
+pub struct All {
+    pub grounds: Vec<Option<Ground>>,
+    pub first: Vec<Vec<Answer>>,
+    pub calls: Vec<Vec<Answer>>,
+}
+
+impl All {
+    // Of so many partitions none yet.
+    fn with_capacity(alloc: Global, count: usize) -> Result<All, AllocError>
+        ensures { IfOk result (λ all. (all.grounds.items ≡ []) × (all.first.items ≡ []) × (all.calls.items ≡ [])) }
+    {
+        Ok(All {
+            grounds: Vec::with_capacity(alloc, count)?,
+            first: Vec::with_capacity(alloc, count)?,
+            calls: Vec::with_capacity(alloc, count)?,
+        })
+    }
+
+    // Adds what the calls of the next one came to.
+    fn add(&mut self, ran: Ran) -> Result<(), AllocError>
+        ensures grounds { OnOk result (self.new.grounds.items ≡ self.old.grounds.items ++ ran.ground ∷ []) }
+        ensures first { OnOk result (self.new.first.items ≡ self.old.first.items ++ ran.answers.first ∷ []) }
+        ensures calls { OnOk result (self.new.calls.items ≡ self.old.calls.items ++ ran.answers.calls ∷ []) }
+    {
+        let Ran { ground, answers } = ran;
+        self.grounds.push(ground)?;
+        self.first.push(answers.first)?;
+        self.calls.push(answers.calls)?;
+        Ok(())
+    }
+}
+
+// Adds what the calls of the next one came to, unless something lacked.
+#[tactic(auto, using(crate::proofs::ReportingLemmas::one_run_more))]
+fn add_next(all: &mut All, next: Result<Ran, Lack>) -> Result<(), Lack>
+    ensures { OnOk result ((before : List (Result RanValue LackValue)) → AreAllOf before all.old → AreAllOf (before ++ next ∷ []) all.new) }
+{
+    match next {
+        Ok(ran) => match all.add(ran) {
+            Ok(()) => Ok(()),
+            Err(error) => Err(Lack::from(error)),
+        },
+        Err(lack) => Err(lack),
+    }
+}
+
+/// What the calls of all partitions came to, unless something lacked for those of one.
+pub fn all_of(alloc: Global, ran: Vec<Result<Ran, Lack>>) -> Result<All, Lack>
+    ensures { IfOk result (AreAllOf ran.items) }
+{
+    let mut all = All::with_capacity(alloc, ran.len())?;
+    'runs: for next in ran {
+        if let Err(lack) = add_next(&mut all, next) {
+            drop(all);
+            return Err(lack);
+        }
+    }
+    Ok(all)
+}
+
+/// The lines of what calls of both lists were answered.
+pub fn answered_lines(
+    alloc: Global,
+    first: &[Answer],
+    calls: &[Answer],
+) -> Result<String, AllocError>
+    ensures { IfOk result (λ lines. string_bytes lines ≡ answer_lines (codes "first") first.now ++ answer_lines (codes "call") calls.now) }
+{
+    let mut lines = String::new(alloc);
+    write_answers(alloc, "first", first, &mut lines)?;
+    write_answers(alloc, "call", calls, &mut lines)?;
+    Ok(lines)
+}
+
+// The data component with this number behind a partition's calls: as it began where there are none.
+fn dc_behind<'a>(ground: &'a Option<Ground>, number: usize, empty: &'a Dc) -> &'a Dc
+    ensures { result.now ≡ dc_behind ground.entry.now number empty.entry.now }
+{
+    match ground {
+        Some(ground) => ground.dcs.get(number).unwrap_or(empty),
+        None => empty,
+    }
+}
+
+// The same behind the calls of its own partition.
+fn kept_dc<'a>(
+    partitions: &Partitions,
+    grounds: &'a [Option<Ground>],
+    number: usize,
+    empty: &'a Dc,
+) -> &'a Dc
+    ensures { result.now ≡ kept_dc partitions.now grounds.now number empty.entry.now }
+{
+    match grounds.get(partitions.number(number)) {
+        Some(ground) => dc_behind(ground, number, empty),
+        None => empty,
+    }
+}
+
+/// Adds a line for each record that the data components keep, each behind the calls of its partition.
+pub fn write_kept(
+    alloc: Global,
+    partitions: &Partitions,
+    grounds: &[Option<Ground>],
+    empty: &[Dc],
+    lines: &mut String,
+) -> Result<(), AllocError>
+    ensures { OnOk result (AddsRowLines (kept_dcs partitions.now grounds.now empty.now) (string_bytes lines.old) (string_bytes lines.new)) }
+{
+    for (number, dc) in empty.iter().enumerate() {
+        let kept = kept_dc(partitions, grounds, number, dc);
+        write_rows(alloc, kept.rows(), lines)?;
+    }
+    Ok(())
+}
+
+// Adds the line of an audit of a partition, where it has calls and that is wanted, and answers whether nothing is wrong.
+fn write_audit_of(
+    alloc: Global,
+    audit: bool,
+    ground: &Option<Ground>,
+    lines: &mut String,
+) -> Result<bool, AllocError>
+    ensures { IfOk result (AddsAuditOf audit ground.now (string_bytes lines.old) (string_bytes lines.new)) }
+{
+    match ground {
+        Some(ground) => write_found(alloc, audit, &ground.state, ground.dcs.as_slice(), lines),
+        None => Ok(true),
+    }
+}
+
+// Whether both are so.
+fn are_both(one: bool, other: bool) -> bool
+    ensures { result ≡ (one && other) }
+{
+    one && other
+}
+
+/// Adds the line of an audit of each partition with calls, where that is wanted, and answers whether nothing is wrong.
+pub fn write_audits(
+    alloc: Global,
+    audit: bool,
+    grounds: &[Option<Ground>],
+    lines: &mut String,
+) -> Result<bool, AllocError>
+    ensures { IfOk result (AddsAudits audit grounds.now (string_bytes lines.old) (string_bytes lines.new)) }
+{
+    let mut sound = true;
+    for ground in grounds {
+        let found = write_audit_of(alloc, audit, ground, lines)?;
+        sound = are_both(sound, found);
+    }
+    Ok(sound)
+}
+
+/// Whether a call of either list was refused for want of memory.
+pub fn lack_memory(first: &[Answer], calls: &[Answer]) -> bool
+    ensures { result ≡ false → (list_any is_want_of_memory first.now ≡ false) × (list_any is_want_of_memory calls.now ≡ false) }
+{
+    has_want_of_memory(first) || has_want_of_memory(calls)
+}
+
+/// The exit status.
+pub fn status_of(sound: bool) -> u8
+    ensures { result ≡ (if sound then 0 else 1) }
+{
+    u8::from(!sound)
+}

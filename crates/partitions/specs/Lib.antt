@@ -1,0 +1,4 @@
+pub mod Partitions
+pub mod Picking
+pub mod Spreading
+pub mod Joining
