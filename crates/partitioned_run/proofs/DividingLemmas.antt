@@ -27,7 +27,7 @@ use Rattle.run_command.specs.Answered.{AreAnswered, AreServed}
 use Rattle.run_command.specs.Running.{begun, empty_stores}
 use Rattle.run_command.specs.declared.anew.Ground.{Ground}
 use Rattle.run_command.specs.declared.answering.Answers.{Answers}
-use Rattle.run_command.specs.declared.parts.Stop.{Stop}
+use Rattle.run_command.specs.declared.stop.Stop.{Stop}
 use Rattle.partitioned_run.specs.declared.answering.Ran.{Ran}
 use Rattle.partitioned_run.specs.declared.dividing.Division.{Division}
 use Rattle.partitioned_run.specs.Partitioned.{decl_of, partition_of_call, partition_of_code}

@@ -33,9 +33,8 @@ use Rattle.run_command.specs.Answered.{AreCallsOf, said_call}
 use Rattle.run_command.specs.AnswerLines.{answer_lines, fault_line}
 use Rattle.run_command.specs.Running.{begun, empty_stores, is_want_of_memory}
 use Rattle.run_command.specs.Stops.{Stops}
-use Rattle.run_command.specs.declared.answering.Unbegun.{Unbegun}
+use Rattle.run_command.specs.declared.stop.Stop.{Stop}
 use Rattle.worker_pool.specs.Faults.{InRange}
-use Rattle.partitioned_run.specs.declared.answering.Lack.{Lack}
 use Rattle.partitioned_run.specs.declared.answering.Ran.{Ran}
 use Rattle.partitioned_run.specs.declared.dividing.Division.{Division}
 use Rattle.partitioned_run.specs.declared.reporting.All.{All as Together}
@@ -61,12 +60,12 @@ answered_long start dcs first calls first_answers other_answers (Some g) h = (
 
 -- ---- the calls of all partitions
 
-pub one_run_more : (before : List (Result Ran Lack)) (ran : Ran) (old new : Together) → new.grounds.items ≡ old.grounds.items ++ ran.ground ∷ []
+pub one_run_more : (before : List (Result Ran Stop)) (ran : Ran) (old new : Together) → new.grounds.items ≡ old.grounds.items ++ ran.ground ∷ []
     → new.first.items ≡ old.first.items ++ ran.answers.first ∷ [] → new.calls.items ≡ old.calls.items ++ ran.answers.calls ∷ []
     → AreAllOf before old → AreAllOf (before ++ Ok ran ∷ []) new
 one_run_more before ran old new grounds firsts others all = record {
   runs = all.runs ++ ran ∷ [];
-  oks = ap (λ (l : List (Result Ran Lack)). l ++ Ok ran ∷ []) all.oks ∙ sym (map-append Ok all.runs (ran ∷ []));
+  oks = ap (λ (l : List (Result Ran Stop)). l ++ Ok ran ∷ []) all.oks ∙ sym (map-append Ok all.runs (ran ∷ []));
   together = (
     grounds ∙ (ap (λ (l : List (Option Ground)). l ++ ran.ground ∷ []) all.together.0 ∙ sym (map-append (λ (r : Ran). r.ground) all.runs (ran ∷ []))),
     firsts ∙ (ap (λ (l : List (Vec Answer)). l ++ ran.answers.first ∷ []) all.together.1
@@ -76,7 +75,7 @@ one_run_more before ran old new grounds firsts others all = record {
   );
 }
 
-run_at : (c : Contents) (d : Division) (count : ℕ) (ran : List (Result Ran Lack)) (runs : List Ran) (p : ℕ) (found : Option Ran) (behind : Option Ground)
+run_at : (c : Contents) (d : Division) (count : ℕ) (ran : List (Result Ran Stop)) (runs : List Ran) (p : ℕ) (found : Option Ran) (behind : Option Ground)
     (first_answers other_answers : Vec Answer) → slice_get runs p ≡ found → AreRun c d count ran → ran ≡ map Ok runs
     → Some behind ≡ option_map (λ (r : Ran). r.ground) found → Some first_answers ≡ option_map (λ (r : Ran). r.answers.first) found
     → Some other_answers ≡ option_map (λ (r : Ran). r.answers.calls) found
@@ -85,16 +84,16 @@ run_at : (c : Contents) (d : Division) (count : ℕ) (ran : List (Result Ran Lac
 run_at c d count ran runs p None behind first_answers other_answers is are all ground first calls = absurd (cc)
 run_at c d count ran runs p (Some r) behind first_answers other_answers is are all ground first calls =
     let found : slice_get ran p ≡ Some (Ok r) =
-    ap (λ (l : List (Result Ran Lack)). slice_get l p) all ∙ (slice_get-map Ok runs p ∙ ap (option_map Ok) is) in
+    ap (λ (l : List (Result Ran Stop)). slice_get l p) all ∙ (slice_get-map Ok runs p ∙ ap (option_map Ok) is) in
     let lt : p < count = omega (arith, slice_get_within ran p (Ok r) found, are.0) in
     let one : IsPartitionRun c d p r =
-    subst (λ (x : Result Ran Lack). IfOk x (IsPartitionRun c d p)) (get_or_from_slice_get ran p (Ok r) (Ok r) found) (are.1 p (Ok r) lt) in
+    subst (λ (x : Result Ran Stop). IfOk x (IsPartitionRun c d p)) (get_or_from_slice_get ran p (Ok r) (Ok r) found) (are.1 p (Ok r) lt) in
     let grounds : behind ≡ r.ground = cc in
     let firsts : first_answers ≡ r.answers.first = cc in
     let others : other_answers ≡ r.answers.calls = cc in
     rw (grounds, firsts, others) one
 
-pub all_run : (c : Contents) (d : Division) (count : ℕ) (ran : List (Result Ran Lack)) (all : Together)
+pub all_run : (c : Contents) (d : Division) (count : ℕ) (ran : List (Result Ran Stop)) (all : Together)
     → count ≡ max (length (empty_stores c)) 1 → AreRun c d count ran → AreAllOf ran all → AreAllRun c d all
 all_run c d count ran all is are of =
     let runs = of.runs in
@@ -218,11 +217,12 @@ module _ (c : Contents) (d : Division) (all : Together) (numbered : AreDivided c
 
 -- ---- the report of calls none of which is begun
 
-pub stopped_apart : {E : Type 0} (c : Contents) (workers tries : ℕ) (audit : Bool) (cause : Unbegun) (report : Result Report E) → Stops workers tries cause
-    → IfOk report (λ r. fault_line cause ≡ Some (string_bytes r.lines)) → IfOk report (λ r. r.status ≡ 1)
+pub stopped_apart : {E : Type 0} (c : Contents) (workers tries : ℕ) (audit : Bool) (stop : Stop) (report : Result Report E)
+    → Stops false workers tries stop
+    → IfOk report (λ r. fault_line stop ≡ Some (string_bytes r.lines)) → IfOk report (λ r. r.status ≡ 1)
     → IfOk report (λ r. IsContentsRun c workers tries audit r.status (string_bytes r.lines))
-stopped_apart c workers tries audit cause (Ok r) stops lines status = Stopped cause stops status lines
-stopped_apart c workers tries audit cause (Err e) stops lines status = tt
+stopped_apart c workers tries audit stop (Ok r) stops lines status = Stopped stop stops status lines
+stopped_apart c workers tries audit stop (Err e) stops lines status = tt
 
 pub ran_apart : {E : Type 0} (c : Contents) (workers tries : ℕ) (audit : Bool) (report : Result Report E) → InRange workers tries
     → IfOk report (λ r. IsRunApart c audit r.status (string_bytes r.lines))

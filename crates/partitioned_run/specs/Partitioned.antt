@@ -17,7 +17,7 @@ use Rattle.verifier.specs.Checked.{Checked}
 use Rattle.worker_pool.specs.Faults.{InRange}
 use Rattle.worker_pool.specs.declared.answer.Answer.{Answer}
 use Rattle.run_command.specs.declared.anew.Ground.{Ground}
-use Rattle.run_command.specs.declared.answering.Unbegun.{Unbegun}
+use Rattle.run_command.specs.declared.stop.Stop.{Stop}
 use Rattle.run_command.specs.AnswerLines.{answer_lines, fault_line}
 use Rattle.run_command.specs.Answered.{AreCallsOf, AreAnswered, AreServed}
 use Rattle.run_command.specs.Running.{begun, empty_stores, is_want_of_memory}
@@ -117,7 +117,7 @@ pub data IsCallsRunApart (start : Core) (dcs : List Store) (first calls : List s
     (lines : List ℕ) : Type 0 where
   Ran : InRange workers tries → AreRunApart start dcs first calls audit status lines
       → IsCallsRunApart start dcs first calls workers tries audit status lines
-  Stopped : (cause : Unbegun) → Stops workers tries cause → status ≡ 1 → fault_line cause ≡ Some lines
+  Stopped : (stop : Stop) → Stops false workers tries stop → status ≡ 1 → fault_line stop ≡ Some lines
       → IsCallsRunApart start dcs first calls workers tries audit status lines
 
 -- those of a script

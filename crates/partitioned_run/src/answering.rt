@@ -12,7 +12,7 @@ ghost use Rattle.partitioned_run.specs.Joining.Dividing.{AreRun, IsDivided, IsPa
 
 use crate::dividing::Division;
 use run_command::running::{
-    Answers, Ground, Halt, Manner, Rings, Stop, Unbegun, Waits, Workload, answer_on, call_of,
+    Answers, Ground, Manner, Rings, Stop, Waits, Workload, answer_on, call_of,
 };
 use script_loading::loading::{Unloaded, empty_dcs, state_of};
 use scripts::script::{self, Script};
@@ -40,24 +40,6 @@ pub struct Task<'a> {
 pub struct Ran {
     pub ground: Option<Ground>,
     pub answers: Answers,
-}
-
-/// What lacks where calls have no answers.
-#[derive(Clone, Copy, Debug)]
-pub enum Lack {
-    Memory,
-    Thread,
-}
-
-impl From<AllocError> for Lack {
-    ghost use Rattle.std.specs.Prelude.{◌≡◌};
-    ghost use Rattle.partitioned_run.specs.declared.answering.Lack.TheVariants.{Memory};
-
-    ghost from_gives = { λ _ e. e ≡ Memory };
-
-    fn from(_: AllocError) -> Lack {
-        Lack::Memory
-    }
 }
 
 // Adds the call that a line says behind the others, where it is wanted.
@@ -148,16 +130,8 @@ fn prepare(
     Ok((workload, rings))
 }
 
-// What lacks where calls were not answered. Their number of workers and of tries is looked at before.
-fn lack_of(stop: Stop) -> Lack {
-    match stop {
-        Stop::Halted(Halt::Unbegun(Unbegun::NoThread)) => Lack::Thread,
-        _ => Lack::Memory,
-    }
-}
-
 // What calls came to that were answered.
-fn ran_of(answered: Result<(Ground, Answers), Stop>) -> Result<Ran, Lack>
+fn ran_of(answered: Result<(Ground, Answers), Stop>) -> Result<Ran, Stop>
     ensures { IfOk result (λ ran. IsOkAnd answered (λ a. (ran.ground ≡ Some a.0) × (ran.answers ≡ a.1))) }
 {
     match answered {
@@ -165,7 +139,7 @@ fn ran_of(answered: Result<(Ground, Answers), Stop>) -> Result<Ran, Lack>
             ground: Some(ground),
             answers,
         }),
-        Err(stop) => Err(lack_of(stop)),
+        Err(stop) => Err(stop),
     }
 }
 
@@ -176,7 +150,7 @@ fn answer_own<R: Clock + Threads + Wait + Sync>(
     task: Task,
     number: usize,
     workers: u64,
-) -> Result<Ran, Lack>
+) -> Result<Ran, Stop>
     requires { IsDivided (option_map (λ file. file.now) task.object) task.script.now task.division.now }
     ensures { IfOk result (IsPartitionRun (contents_of task.entry.script.now) task.entry.division.now number) }
 {
@@ -189,7 +163,7 @@ fn answer_own<R: Clock + Threads + Wait + Sync>(
         }
         Err(error) => {
             drop(ground);
-            Err(Lack::from(error))
+            Err(Stop::from(error))
         }
     }
 }
@@ -201,7 +175,7 @@ fn answer_partition<R: Clock + Threads + Wait + Sync>(
     task: Task,
     number: usize,
     count: usize,
-) -> Result<Ran, Lack>
+) -> Result<Ran, Stop>
     requires { IsDivided (option_map (λ file. file.now) task.object) task.script.now task.division.now }
     ensures { IfOk result (IsPartitionRun (contents_of task.entry.script.now) task.entry.division.now number) }
 {
@@ -222,7 +196,7 @@ pub fn answer_partitions<R: Clock + Threads + Wait + Sync>(
     alloc: Global,
     task: Task,
     count: usize,
-) -> Result<Vec<Result<Ran, Lack>>, AllocError>
+) -> Result<Vec<Result<Ran, Stop>>, AllocError>
     requires { IsDivided (option_map (λ file. file.now) task.object) task.script.now task.division.now }
     ensures { IfOk result (λ all. AreRun (contents_of task.entry.script.now) task.entry.division.now count all.items) }
 {
@@ -230,7 +204,7 @@ pub fn answer_partitions<R: Clock + Threads + Wait + Sync>(
         rt,
         alloc,
         count,
-        &|number| -> Result<Ran, Lack>
+        &|number| -> Result<Ran, Stop>
             requires { IsDivided (option_map (λ file. file.now) task.object) task.script.now task.division.now }
             ensures { IfOk result (IsPartitionRun (contents_of task.entry.script.now) task.entry.division.now number) }
         { answer_partition(rt, alloc, task, number, count) },

@@ -2,18 +2,18 @@
 
 ghost use Rattle.std.specs.Prelude.{◌≡◌, ◌++◌, ◌&&◌, [], ◌∷◌, List, Result, false, if◌then◌else◌, IfOk, OnOk, codes, string_bytes};
 ghost use Rattle.std.specs.List.{list_any};
+ghost use Rattle.run_command.specs.declared.stop.Stop.{Stop as StopValue};
 ghost use Rattle.run_command.specs.AnswerLines.{answer_lines};
 ghost use Rattle.state_lines.specs.RowLines.{AddsRowLines};
 ghost use Rattle.run_command.specs.Running.{is_want_of_memory};
 ghost use Rattle.partitioned_run.specs.Partitioned.{AddsAuditOf, AddsAudits, dc_behind, kept_dc, kept_dcs};
 ghost use Rattle.partitioned_run.specs.Joining.Reporting.{AreAllOf};
-ghost use Rattle.partitioned_run.specs.declared.answering.Lack.{Lack as LackValue};
 ghost use Rattle.partitioned_run.specs.declared.answering.Ran.{Ran as RanValue};
 
-use crate::answering::{Lack, Ran};
+use crate::answering::Ran;
 use data_component::dc::Dc;
 use partitions::Partitions;
-use run_command::running::{Ground, has_want_of_memory, write_answers, write_found};
+use run_command::running::{Ground, Stop, has_want_of_memory, write_answers, write_found};
 use state_lines::row_lines::write_rows;
 use std::alloc::{AllocError, Global};
 use worker_pool::Answer;
@@ -53,29 +53,29 @@ impl All {
     }
 }
 
-// Adds what the calls of the next one came to, unless something lacked.
+// Adds what the calls of the next one came to, unless something stopped them.
 #[tactic(auto, using(crate::proofs::ReportingLemmas::one_run_more))]
-fn add_next(all: &mut All, next: Result<Ran, Lack>) -> Result<(), Lack>
-    ensures { OnOk result ((before : List (Result RanValue LackValue)) → AreAllOf before all.old → AreAllOf (before ++ next ∷ []) all.new) }
+fn add_next(all: &mut All, next: Result<Ran, Stop>) -> Result<(), Stop>
+    ensures { OnOk result ((before : List (Result RanValue StopValue)) → AreAllOf before all.old → AreAllOf (before ++ next ∷ []) all.new) }
 {
     match next {
         Ok(ran) => match all.add(ran) {
             Ok(()) => Ok(()),
-            Err(error) => Err(Lack::from(error)),
+            Err(error) => Err(Stop::from(error)),
         },
-        Err(lack) => Err(lack),
+        Err(stop) => Err(stop),
     }
 }
 
-/// What the calls of all partitions came to, unless something lacked for those of one.
-pub fn all_of(alloc: Global, ran: Vec<Result<Ran, Lack>>) -> Result<All, Lack>
+/// What the calls of all partitions came to, unless something stopped those of one.
+pub fn all_of(alloc: Global, ran: Vec<Result<Ran, Stop>>) -> Result<All, Stop>
     ensures { IfOk result (AreAllOf ran.items) }
 {
     let mut all = All::with_capacity(alloc, ran.len())?;
     'runs: for next in ran {
-        if let Err(lack) = add_next(&mut all, next) {
+        if let Err(stop) = add_next(&mut all, next) {
             drop(all);
-            return Err(lack);
+            return Err(stop);
         }
     }
     Ok(all)

@@ -1,6 +1,6 @@
 //! `run --partitions`: the calls of a script by workers, those of each partition apart.
 
-ghost use Rattle.std.specs.Prelude.{◌≡◌, length, max, IfOk, IfSome, None, option_map, string_bytes};
+ghost use Rattle.std.specs.Prelude.{◌≡◌, length, max, IfOk, IfSome, None, false, option_map, string_bytes};
 ghost use Rattle.scripts.specs.Reading.{contents_of};
 ghost use Rattle.scripts.specs.declared.keyword.Command.TheVariants as command;
 ghost use Rattle.script_loading.specs.Loading.{beginning_of, first_unverified};
@@ -11,7 +11,7 @@ ghost use Rattle.partitioned_run.specs.Partitioned.{IsContentsRun, IsPartitioned
 ghost use Rattle.partitioned_run.specs.Joining.Dividing.{AreDivided, IsDivided};
 ghost use Rattle.partitioned_run.specs.Joining.Reporting.{AreAllRun, MayBeRun};
 
-use crate::answering::{Lack, Task, answer_partitions};
+use crate::answering::{Task, answer_partitions};
 use crate::dividing::Division;
 use crate::reporting::{
     All, all_of, answered_lines, lack_memory, status_of, write_audits, write_kept,
@@ -19,7 +19,7 @@ use crate::reporting::{
 use data_component::dc::Dc;
 use partitions::merged;
 use report_texts::report::Report;
-use run_command::running::{Listeners, Manner, Unbegun, Waits, stopped};
+use run_command::running::{Listeners, Manner, Stop, Waits, stopped};
 use script_loading::loading::{Acceptance, Accepted, Source, accept_source, empty_dcs};
 use scripts::keyword::Command;
 use std::alloc::{AllocError, Global};
@@ -28,14 +28,14 @@ use std::thread::Threads;
 use std::time::Clock;
 
 // Why no call is begun, if that is so by the numbers of workers and of tries. The tries are looked at first.
-fn unfit(manner: Manner) -> Option<Unbegun>
-    ensures unfit { IfSome result (Stops manner.workers manner.tries) }
+fn unfit(manner: Manner) -> Option<Stop>
+    ensures unfit { IfSome result (Stops false manner.workers manner.tries) }
     ensures fit { result ≡ None → InRange manner.workers manner.tries }
 {
     if !(1..=1000).contains(&manner.tries) {
-        Some(Unbegun::Tries)
+        Some(Stop::Tries)
     } else if !(1..=64).contains(&manner.workers) {
-        Some(Unbegun::Workers)
+        Some(Stop::Workers)
     } else {
         None
     }
@@ -91,8 +91,9 @@ fn run_divided<R: Clock + Threads + Wait + Sync>(
             drop(all);
             report
         }
-        Err(Lack::Memory) => Err(AllocError),
-        Err(Lack::Thread) => stopped(alloc, Unbegun::NoThread),
+        Err(Stop::NoThread) => stopped(alloc, Stop::NoThread),
+        // The numbers of workers and of tries are looked at before, and there is no journal.
+        Err(_) => Err(AllocError),
     }
 }
 
@@ -145,9 +146,9 @@ fn run_fit<R: Clock + Threads + Wait + Sync>(
         manner.workers manner.tries manner.audit r.status (string_bytes r.lines)) }
 {
     match unfit(manner) {
-        Some(cause) => {
+        Some(stop) => {
             drop(accepted);
-            stopped(alloc, cause)
+            stopped(alloc, stop)
         }
         None => run_accepted(rt, alloc, object, accepted, manner, listeners),
     }

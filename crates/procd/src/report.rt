@@ -23,8 +23,8 @@ use log_part::Part;
 use object_file::is_elf;
 use partitioned_run::running::running_partitioned;
 use report_texts::report::Report;
-use run_command::logged::{Unlogged, running_logged};
-use run_command::running::{Checkpoints, Listeners, Manner, RunOptions, running};
+use run_command::logged::running_logged;
+use run_command::running::{Checkpoints, Listeners, Manner, RunOptions, Stop, running};
 use script_loading::loading::Source;
 use std::alloc::{AllocError, Global};
 use std::fs::{self, File};
@@ -144,12 +144,10 @@ fn logged<'a, R: Files<File = File> + Clock + Threads + Wait + Sync>(
 {
     match running_logged(rt, alloc, path, source, options) {
         Ok(ran) => Ok(ran.report),
-        Err(Unlogged::Memory) => Err(ReportFault::Memory),
-        Err(Unlogged::Unread(fault)) => Err(ReportFault::Unread(path, Some(Reason::File(fault)))),
-        Err(Unlogged::Unwritten(fault)) => Err(ReportFault::Unwritten(
-            path,
-            fault.map(Reason::File),
-        )),
+        Err(Stop::Unread(fault)) => Err(ReportFault::Unread(path, Some(Reason::File(fault)))),
+        Err(Stop::NotKept(fault)) => Err(ReportFault::Unwritten(path, fault.map(Reason::File))),
+        // All others but this have a line.
+        Err(_) => Err(ReportFault::Memory),
     }
 }
 

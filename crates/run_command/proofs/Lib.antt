@@ -1,6 +1,6 @@
 pub mod AnswerLemmas
 pub mod FullLemmas
-pub mod HaltLemmas
+pub mod KeptLemmas
 pub mod RunLemmas
 pub mod ServerLemmas
 pub mod LoggedLemmas

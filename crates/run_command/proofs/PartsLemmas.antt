@@ -10,7 +10,7 @@ use Rattle.worker_pool.specs.declared.answer.Answer.{Answer}
 use Rattle.run_command.specs.declared.anew.Ground.{Ground}
 use Rattle.run_command.specs.declared.anew.Renewal.{Renewal}
 use Rattle.run_command.specs.declared.answering.Answers.{Answers}
-use Rattle.run_command.specs.declared.parts.Stop.{Stop}
+use Rattle.run_command.specs.declared.stop.Stop.{Stop}
 use Rattle.run_command.specs.declared.parts.Told.{Told}
 use Rattle.run_command.specs.Anew.{IsRenewal}
 use Rattle.run_command.specs.AnswerLines.{answer_lines, call_lines}

@@ -1,21 +1,80 @@
--- Why calls that are answered in parts have no report.
-use Rattle.std.proofs.Common.{◌≡◌, ℕ, true, false, Option, Some, None}
+-- What stops one list of calls, both lists, and a run.
+use Rattle.std.proofs.Common.{◌≡◌, ℕ, Bool, true, false, List, Option, Some, None, sym, subst, inl, inr, arith}
 use Rattle.std.specs.Prelude.{is_some}
-use Rattle.run_command.specs.declared.answering.Halt.TheVariants.{Unbegun, NotKept, Memory as NoMemory}
-use Rattle.run_command.specs.declared.parts.Stop.{Stop}
-use Rattle.run_command.specs.declared.parts.Stop.TheVariants.{Halted, Unreported as Untold}
-use Rattle.run_command.specs.declared.running.Unreported.TheVariants as unreported
+use Rattle.disk_file.specs.declared.fault.FileFault.{FileFault}
+use Rattle.journals.specs.declared.journal.NotKept.TheVariants as why
+use Rattle.journals.specs.Optional.{any_keeps}
+use Rattle.tc_core.specs.Core.{Core}
+use Rattle.worker_pool.specs.declared.running.RunFault.{RunFault}
+use Rattle.worker_pool.specs.declared.running.RunFault.TheVariants as fault
+use Rattle.worker_pool.specs.Faults.{FaultFits, InRange, TriesFit}
+use Rattle.run_command.specs.declared.stop.Stop.{Stop}
+use Rattle.run_command.specs.declared.stop.Stop.TheVariants.{Tries, Workers, NoThread, Memory, Unread, NotKept}
+use Rattle.run_command.specs.AnswerLines.{fault_line}
 use Rattle.run_command.specs.Kept.{FileJournal}
-use Rattle.run_command.specs.Parts.{StopFits}
+use Rattle.run_command.specs.Stops.{IsUnkept, Stops}
+use Rattle.run_command.specs.Joining.Stopping.{ListStops, stop_of}
+use Rattle.run_command.proofs.KeptLemmas.{keeps_if_there}
 
--- it depends on whether there is a journal alone
-pub stop_moves : (j k : Option FileJournal) (workers tries : ℕ) (stop : Stop) → is_some j ≡ is_some k → StopFits j workers tries stop
-    → StopFits k workers tries stop
-stop_moves None None workers tries stop same h = h
-stop_moves None (Some k) workers tries stop same h = absurd (let bad : false ≡ true = same in cc)
-stop_moves (Some j) None workers tries stop same h = absurd (let bad : true ≡ false = same in cc)
-stop_moves (Some j) (Some k) workers tries (Halted (Unbegun cause)) same h = h
-stop_moves (Some j) (Some k) workers tries (Halted (NotKept failure)) same h = h
-stop_moves (Some j) (Some k) workers tries (Halted NoMemory) same h = h
-stop_moves (Some j) (Some k) workers tries (Untold unreported.Memory) same h = tt
-stop_moves (Some j) (Some k) workers tries (Untold (unreported.NotKept failure)) same h = tt
+-- a run with this journal, if there is one
+pub list_stops : (journal : Option FileJournal) (start : Core) (workers tries : ℕ) (f : RunFault) (failure : Option FileFault) (stop : Stop)
+    → FaultFits start (any_keeps (λ (j : FileJournal). true) journal) workers tries f → stop ≡ stop_of f failure
+    → ListStops start (is_some journal) workers tries stop
+list_stops journal start workers tries f failure stop fits is =
+    (f, failure, subst (λ (keeps : Bool). FaultFits start keeps workers tries f) (keeps_if_there journal) fits, is)
+
+-- ---- both lists
+
+first_fault : (start : Core) (keeps : Bool) (workers tries : ℕ) (f : RunFault) (failure : Option FileFault) → FaultFits start keeps 1 tries f
+    → Stops keeps workers tries (stop_of f failure)
+first_fault start keeps workers tries (fault.Workers s) failure (same, inl none) = absurd (omega (arith, none))
+first_fault start keeps workers tries (fault.Workers s) failure (same, inr many) = absurd (omega (arith, many))
+first_fault start keeps workers tries (fault.Tries s) failure fits = fits.2
+first_fault start keeps workers tries (fault.Memory s) failure fits = tt
+first_fault start keeps workers tries (fault.NoThread s) failure fits = fits.1.1
+first_fault start keeps workers tries (fault.NotKept why.Failed s) failure fits = (fits.0, fits.1.1)
+first_fault start keeps workers tries (fault.NotKept why.Memory s) failure fits = tt
+
+-- the first, which one worker runs
+pub first_stops : (start : Core) (keeps : Bool) (workers tries : ℕ) (stop : Stop) → ListStops start keeps 1 tries stop → Stops keeps workers tries stop
+first_stops start keeps workers tries stop h =
+    subst (λ (s : Stop). Stops keeps workers tries s) (sym h.3) (first_fault start keeps workers tries h.0 h.1 h.2)
+
+then_fault : (start : Core) (keeps : Bool) (workers tries : ℕ) (f : RunFault) (failure : Option FileFault) → TriesFit tries
+    → FaultFits start keeps workers tries f → Stops keeps workers tries (stop_of f failure)
+then_fault start keeps workers tries (fault.Workers s) failure range fits = (range, fits.1)
+then_fault start keeps workers tries (fault.Tries s) failure range fits = fits.2
+then_fault start keeps workers tries (fault.Memory s) failure range fits = tt
+then_fault start keeps workers tries (fault.NoThread s) failure range fits = range
+then_fault start keeps workers tries (fault.NotKept why.Failed s) failure range fits = (fits.0, range)
+then_fault start keeps workers tries (fault.NotKept why.Memory s) failure range fits = tt
+
+-- the second, behind the first
+pub then_stops : (start : Core) (keeps : Bool) (workers tries : ℕ) (stop : Stop) → InRange 1 tries → ListStops start keeps workers tries stop
+    → Stops keeps workers tries stop
+then_stops start keeps workers tries stop range h =
+    subst (λ (s : Stop). Stops keeps workers tries s) (sym h.3) (then_fault start keeps workers tries h.0 h.1 range.1 h.2)
+
+-- ---- a run
+
+-- a log that begins anew behind calls
+pub unkept_stops : (keeps : Bool) (workers tries : ℕ) (stop : Stop) → TriesFit tries → IsUnkept keeps stop → Stops keeps workers tries stop
+unkept_stops keeps workers tries Tries range h = absurd h
+unkept_stops keeps workers tries Workers range h = absurd h
+unkept_stops keeps workers tries NoThread range h = absurd h
+unkept_stops keeps workers tries Memory range h = tt
+unkept_stops keeps workers tries (Unread fault) range h = absurd h
+unkept_stops keeps workers tries (NotKept failure) range h = (h, range)
+
+no_line : (lines : List ℕ) → None ≡ Some lines → ⊥
+no_line lines is = cc is
+
+-- what has a line stops a run without a journal too
+pub told_stops : (keeps : Bool) (workers tries : ℕ) (stop : Stop) (lines : List ℕ) → Stops keeps workers tries stop → fault_line stop ≡ Some lines
+    → Stops false workers tries stop
+told_stops keeps workers tries Tries lines h line = h
+told_stops keeps workers tries Workers lines h line = h
+told_stops keeps workers tries NoThread lines h line = h
+told_stops keeps workers tries Memory lines h line = tt
+told_stops keeps workers tries (Unread fault) lines h line = h
+told_stops keeps workers tries (NotKept failure) lines h line = absurd (no_line lines line)

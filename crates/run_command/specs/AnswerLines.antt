@@ -6,8 +6,8 @@ use Rattle.call_results.specs.Results.{result_at_end, slots_at_end}
 use Rattle.call_results.specs.declared.results.SlotResult.{SlotResult}
 use Rattle.worker_pool.specs.declared.answer.Answer.{Answer}
 use Rattle.worker_pool.specs.declared.answer.Answer.TheVariants.{Committed, Aborted, NoRoom, InDoubt, Blocked, Refused}
-use Rattle.run_command.specs.declared.answering.Unbegun.{Unbegun}
-use Rattle.run_command.specs.declared.answering.Unbegun.TheVariants.{Workers, Tries, Memory, NoThread}
+use Rattle.run_command.specs.declared.stop.Stop.{Stop}
+use Rattle.run_command.specs.declared.stop.Stop.TheVariants.{Tries, Workers, NoThread, Memory, Unread, NotKept}
 use Rattle.state_lines.specs.RecordTexts.{record_text, value_text}
 use Rattle.state_lines.specs.RefusalTexts.{refusal_text}
 
@@ -59,9 +59,11 @@ call_line results ps h place answer = answer_line (codes "call") place answer ++
 abbrev pub call_lines : Bool → List Checked → List Event → ℕ → List Answer → List ℕ
 call_lines results ps h place answers = lines_from (call_line results ps h) place answers
 
--- why no call was begun; want of memory has no line, it ends the program
-abbrev pub fault_line : Unbegun → Option (List ℕ)
+-- why no call was begun; what has no line ends the program
+abbrev pub fault_line : Stop → Option (List ℕ)
 fault_line Workers = Some (codes "refused G1 Workers\n")
 fault_line Tries = Some (codes "refused G2 Tries\n")
-fault_line Memory = None
 fault_line NoThread = Some (codes "refused G4 NoThread\n")
+fault_line Memory = None
+fault_line (Unread fault) = None
+fault_line (NotKept failure) = None

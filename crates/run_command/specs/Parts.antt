@@ -8,13 +8,10 @@ use Rattle.worker_pool.specs.declared.answer.Answer.{Answer}
 use Rattle.run_command.specs.declared.anew.Checkpoints.{Checkpoints}
 use Rattle.run_command.specs.declared.anew.Renewal.{Renewal}
 use Rattle.run_command.specs.declared.anew.Renewal.TheVariants.{Unwanted}
-use Rattle.run_command.specs.declared.answering.Halt.{Halt}
-use Rattle.run_command.specs.declared.parts.Stop.{Stop}
-use Rattle.run_command.specs.declared.parts.Stop.TheVariants.{Halted, Unreported as Untold}
 use Rattle.run_command.specs.Anew.{IsRenewal, IsHeeded}
 use Rattle.run_command.specs.AnswerLines.{answer_lines, call_lines}
 use Rattle.run_command.specs.Answered.{AreCallsOf, AreAnswered, AreServed}
-use Rattle.run_command.specs.Kept.{FileJournal, KeepsLog, HaltFits, UnreportedFits}
+use Rattle.run_command.specs.Kept.{FileJournal, KeepsLog}
 
 -- calls of the first list and then of the second one that were answered so, and their lines, or a log that may have begun anew
 pub data Stage : Type 0 where
@@ -96,8 +93,3 @@ over_at_end checkpoints = if checkpoints.at_end then Some 0 else checkpoints.ove
 -- the file has all of the last log on the disk, and that has begun anew where it is to, or is barred
 abbrev pub IsKeptSo : Option FileJournal → Checkpoints → Core → Renewal → Type 0
 IsKeptSo journal checkpoints last renewal = KeepsLog journal last.events × IsHeeded journal (over_at_end checkpoints) renewal
-
--- why calls have no report
-abbrev pub StopFits : Option FileJournal → ℕ → ℕ → Stop → Type 0
-StopFits journal workers tries (Halted halt) = HaltFits journal workers tries halt
-StopFits journal workers tries (Untold why) = UnreportedFits journal why

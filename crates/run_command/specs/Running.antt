@@ -11,7 +11,7 @@ use Rattle.worker_pool.specs.declared.answer.Answer.{Answer}
 use Rattle.worker_pool.specs.declared.answer.Answer.TheVariants.{Refused}
 use Rattle.run_command.specs.declared.anew.Checkpoints.{Checkpoints}
 use Rattle.run_command.specs.declared.anew.Renewal.{Renewal}
-use Rattle.run_command.specs.declared.answering.Unbegun.{Unbegun}
+use Rattle.run_command.specs.declared.stop.Stop.{Stop}
 use Rattle.run_command.specs.AnswerLines.{fault_line}
 use Rattle.run_command.specs.Anew.{IsRenewal, renewal_line}
 use Rattle.run_command.specs.Parts.{Stage, HaveLed, AreOne, IsWanted}
@@ -63,7 +63,7 @@ pub data IsCallsRun (Kept : Core → Renewal → Type 0) (checkpoints : Checkpoi
     (workers tries : ℕ) (audit results : Bool) (status : ℕ) (lines : List ℕ) : Type 0 where
   Ran : InRange workers tries → ArePrinted Kept checkpoints start dcs first calls audit results status lines
       → IsCallsRun Kept checkpoints start dcs first calls workers tries audit results status lines
-  Stopped : (cause : Unbegun) → Stops workers tries cause → status ≡ 1 → fault_line cause ≡ Some lines
+  Stopped : (stop : Stop) → Stops false workers tries stop → status ≡ 1 → fault_line stop ≡ Some lines
       → IsCallsRun Kept checkpoints start dcs first calls workers tries audit results status lines
 
 -- its procedures are loaded, and nothing has happened

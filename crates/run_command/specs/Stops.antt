@@ -1,12 +1,24 @@
--- Why no call of a run is begun.
-use Rattle.std.specs.Prelude.{◌≡◌, ◌⊎◌, ℕ, ◌<◌}
+-- What stops a run.
+use Rattle.std.specs.Prelude.{◌≡◌, ◌⊎◌, ℕ, ◌<◌, Bool, true}
 use Rattle.worker_pool.specs.Faults.{TriesFit}
-use Rattle.run_command.specs.declared.answering.Unbegun.{Unbegun}
-use Rattle.run_command.specs.declared.answering.Unbegun.TheVariants.{Workers, Tries, Memory, NoThread}
+use Rattle.run_command.specs.declared.stop.Stop.{Stop}
+use Rattle.run_command.specs.declared.stop.Stop.TheVariants.{Tries, Workers, NoThread, Memory, Unread, NotKept}
 
--- when none of the calls is begun, or those of the second list aren't: the first list has one worker
-abbrev pub Stops : ℕ → ℕ → Unbegun → Type 0
-Stops workers tries Tries = (tries ≡ 0) ⊎ (1000 < tries)
-Stops workers tries Workers = TriesFit tries × ((workers ≡ 0) ⊎ (64 < workers))
-Stops workers tries Memory = TriesFit tries
-Stops workers tries NoThread = TriesFit tries
+-- when each stops the calls of both lists, or those of the second, with a journal or without one: the tries are looked at before the workers, of
+-- whom the first list has one. Memory may run out before that, and something isn't kept only where there is a journal
+abbrev pub Stops : (keeps : Bool) → (workers tries : ℕ) → Stop → Type 0
+Stops keeps workers tries Tries = (tries ≡ 0) ⊎ (1000 < tries)
+Stops keeps workers tries Workers = TriesFit tries × ((workers ≡ 0) ⊎ (64 < workers))
+Stops keeps workers tries NoThread = TriesFit tries
+Stops keeps workers tries Memory = Unit {0}
+Stops keeps workers tries (Unread fault) = ⊥
+Stops keeps workers tries (NotKept failure) = (keeps ≡ true) × TriesFit tries
+
+-- those of which no line is printed
+abbrev pub IsUnkept : (keeps : Bool) → Stop → Type 0
+IsUnkept keeps Tries = ⊥
+IsUnkept keeps Workers = ⊥
+IsUnkept keeps NoThread = ⊥
+IsUnkept keeps Memory = Unit {0}
+IsUnkept keeps (Unread fault) = ⊥
+IsUnkept keeps (NotKept failure) = keeps ≡ true

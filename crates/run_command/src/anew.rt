@@ -6,15 +6,15 @@ ghost use Rattle.tc_core.specs.Core.{Core};
 ghost use Rattle.tc_world.specs.Cutting.{IsUncut};
 ghost use Rattle.run_command.specs.declared.anew.Renewal.TheVariants.{Unwanted};
 ghost use Rattle.run_command.specs.Anew.{AreAllRows, HasBegunAnew, IsBar, IsHeeded, IsRenewal, renewal_line};
-ghost use Rattle.run_command.specs.declared.running.Unreported.TheVariants as Unreported;
-ghost use Rattle.run_command.specs.Kept.{FileJournal as FileJournalValue, IsOver, KeepsLog, UnreportedFits};
+ghost use Rattle.run_command.specs.declared.stop.Stop.TheVariants as Stop;
+ghost use Rattle.run_command.specs.Kept.{IsOver, KeepsLog};
+ghost use Rattle.run_command.specs.Stops.{IsUnkept};
 ghost use Rattle.run_command.specs.Parts.{over_at_end};
 
 use crate::answering::FileJournal;
-use crate::running::Unreported;
+use crate::stop::Stop;
 use data_component::dc::Dc;
 use disk_file::{Beside, BesideError, DiskFile, FileFault, OpenError, PlaceError};
-use journals::NotKept;
 use log_file::{BaseRow, Header, may_be_left};
 use log_journal::LogJournal;
 use state_lines::refusal_texts::checkpoint_fault_text;
@@ -119,14 +119,14 @@ pub fn write_renewal(
 }
 
 // Why a log that isn't cut goes on as it is.
-fn bar_of(why: Illegal) -> Result<Bar, Unreported>
+fn bar_of(why: Illegal) -> Result<Bar, Stop>
     ensures bar { (c : Core) (dcs : List Store) → IsUncut c dcs why → IfOk result (IsBar c dcs) }
-    ensures fault { IfErr result (λ e. e ≡ Unreported.Memory) }
+    ensures fault { IfErr result (λ e. e ≡ Stop.Memory) }
 {
     match why {
         Illegal::NotCut(fault) => Ok(Bar::Fault(fault)),
         Illegal::Unforgettable(dc) => Ok(Bar::Unforgettable(dc)),
-        _ => Err(Unreported::Memory),
+        _ => Err(Stop::Memory),
     }
 }
 
@@ -172,24 +172,24 @@ fn open_beside<F: Files<File = File>>(
 }
 
 // Why a file that was to be written anew isn't.
-fn unopened(error: OpenError) -> Unreported
-    ensures { (journal : FileJournalValue) → UnreportedFits (Some journal) result }
+fn unopened(error: OpenError) -> Stop
+    ensures { IsUnkept true result }
 {
     match error {
-        OpenError::Unread(fault) => Unreported::NotKept(Some(fault)),
-        OpenError::Unwritten(error) => Unreported::NotKept(Some(FileFault::Io(error))),
-        OpenError::Memory => Unreported::Memory,
-        OpenError::Busy | OpenError::Kind(_) => Unreported::NotKept(None),
+        OpenError::Unread(fault) => Stop::NotKept(Some(fault)),
+        OpenError::Unwritten(error) => Stop::NotKept(Some(FileFault::Io(error))),
+        OpenError::Memory => Stop::Memory,
+        OpenError::Busy | OpenError::Kind(_) => Stop::NotKept(None),
     }
 }
 
 // Why the new file isn't in the old one's place.
-fn unplaced(error: PlaceError) -> Unreported
-    ensures { (journal : FileJournalValue) → UnreportedFits (Some journal) result }
+fn unplaced(error: PlaceError) -> Stop
+    ensures { IsUnkept true result }
 {
     match error {
-        PlaceError::Kept(fault) => Unreported::NotKept(Some(fault)),
-        PlaceError::Unsynced(error) => Unreported::NotKept(Some(FileFault::Io(error))),
+        PlaceError::Kept(fault) => Stop::NotKept(Some(fault)),
+        PlaceError::Unsynced(error) => Stop::NotKept(Some(FileFault::Io(error))),
     }
 }
 
@@ -202,9 +202,9 @@ fn write_beside<F: Files<File = File>>(
     journal: &FileJournal,
     log: &Log,
     dcs: &[Dc],
-) -> Result<FileJournal, Unreported>
+) -> Result<FileJournal, Stop>
     ensures kept { IfOk result (λ new. HasBegunAnew dcs.now log.now.events new) }
-    ensures fault { IfErr result (UnreportedFits (Some journal.now)) }
+    ensures fault { IfErr result (IsUnkept true) }
 {
     let base = base_of(alloc, dcs)?;
     let device = match beside.emptied(rt, alloc, path, journal.device()) {
@@ -219,10 +219,7 @@ fn write_beside<F: Files<File = File>>(
             new.device().give_up_place(rt, alloc, path);
             let failure = new.device().failure();
             drop(new);
-            Err(match why {
-                NotKept::Memory => Unreported::Memory,
-                NotKept::Failed => Unreported::NotKept(failure),
-            })
+            Err(Stop::unkept(why, failure))
         }
     }
 }
@@ -236,9 +233,9 @@ fn write_anew<F: Files<File = File>>(
     journal: &mut FileJournal,
     log: &Log,
     dcs: &[Dc],
-) -> Result<(), Unreported>
+) -> Result<(), Stop>
     ensures kept { OnOk result (HasBegunAnew dcs.now log.now.events journal.new) }
-    ensures fault { IfErr result (UnreportedFits (Some journal.old)) }
+    ensures fault { IfErr result (IsUnkept true) }
 {
     let new = write_beside(rt, alloc, path, beside, journal, log, dcs)?;
     match new.device().take_place(rt, alloc, path, journal.device()) {
@@ -277,11 +274,11 @@ fn begin_anew<F: Files<File = File>>(
     state: &mut TcState,
     dcs: &mut Vec<Dc>,
     journal: &mut FileJournal,
-) -> Result<Renewal, Unreported>
+) -> Result<Renewal, Stop>
     ensures goes { IfOk result (IsRenewal state.old dcs.old.items state.new dcs.new.items) }
     ensures kept { KeepsLog (Some journal.old) state.old.events → OnOk result (KeepsLog (Some journal.new) state.new.events) }
     ensures tried { IfOk result (λ renewal. renewal ≡ Unwanted → ⊥) }
-    ensures fault { IfErr result (UnreportedFits (Some journal.old)) }
+    ensures fault { IfErr result (IsUnkept true) }
 {
     let Some(beside) = open_beside(rt, alloc, path, journal)? else {
         return Ok(Renewal::Barred(Bar::InTheWay));
@@ -327,14 +324,14 @@ pub fn renew<F: Files<File = File>>(
     path: &str,
     over: Option<u64>,
     ground: &mut Ground,
-) -> Result<Renewal, Unreported>
+) -> Result<Renewal, Stop>
     ensures goes { IfOk result (IsRenewal ground.old.state ground.old.dcs.items ground.new.state ground.new.dcs.items) }
     ensures unwanted { IfOk result (λ renewal. over ≡ None → renewal ≡ Unwanted) }
     ensures heeded { IfOk result (IsHeeded ground.new.journal over) }
     ensures needless { IfOk result (λ renewal. (IsOver ground.old.journal over → ⊥) → renewal ≡ Unwanted) }
     ensures kept { KeepsLog ground.old.journal ground.old.state.events → OnOk result (KeepsLog ground.new.journal ground.new.state.events) }
     ensures same { is_some ground.new.journal ≡ is_some ground.old.journal }
-    ensures fault { IfErr result (UnreportedFits ground.old.journal) }
+    ensures fault { IfErr result (IsUnkept (is_some ground.old.journal)) }
 {
     if !is_over(&ground.journal, over) {
         return Ok(Renewal::Unwanted);

@@ -5,7 +5,7 @@ ghost use Rattle.call_results.specs.Results.{slots_at_end};
 ghost use Rattle.run_command.specs.AnswerLines.{answer_text, answer_line, answer_lines, fault_line};
 ghost use Rattle.run_command.specs.AnswerLines.{slot_line, slot_lines, call_line, call_lines};
 
-use crate::answering::Unbegun;
+use crate::stop::Stop;
 use call_results::{SlotResult, logged_result, logged_slot_count};
 use state_lines::record_texts::{record_text, value_text};
 use state_lines::refusal_texts::refusal_text;
@@ -145,15 +145,14 @@ pub fn write_calls(
     Ok(())
 }
 
-/// The line that says why no call was begun. There is none for want of memory, which ends the
-/// program.
-pub fn fault_line(fault: Unbegun) -> Option<&'static str>
-    ensures { option_map (λ s. s.now) result ≡ fault_line fault }
+/// The line that says why no call was begun. There is none of what ends the program.
+pub fn fault_line(stop: Stop) -> Option<&'static str>
+    ensures { option_map (λ s. s.now) result ≡ fault_line stop }
 {
-    match fault {
-        Unbegun::Workers => Some("refused G1 Workers\n"),
-        Unbegun::Tries => Some("refused G2 Tries\n"),
-        Unbegun::Memory => None,
-        Unbegun::NoThread => Some("refused G4 NoThread\n"),
+    match stop {
+        Stop::Workers => Some("refused G1 Workers\n"),
+        Stop::Tries => Some("refused G2 Tries\n"),
+        Stop::NoThread => Some("refused G4 NoThread\n"),
+        Stop::Memory | Stop::Unread(_) | Stop::NotKept(_) => None,
     }
 }

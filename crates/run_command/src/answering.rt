@@ -1,22 +1,22 @@
 //! Both lists of a script's calls, answered while each data component runs in a thread of its own, and kept
 //! in a journal where there is one.
 
-ghost use Rattle.std.specs.Prelude.{◌≡◌, ◌++◌, ℕ, List, [], length, is_some, IfOk, IfErr, OnOk};
+ghost use Rattle.std.specs.Prelude.{◌≡◌, ◌++◌, ℕ, Bool, List, [], length, is_some, IfOk, IfErr, OnOk};
 ghost use Rattle.data_component.specs.Store.{Store};
 ghost use Rattle.worker_pool.specs.Faults.{InRange};
 ghost use Rattle.worker_pool.specs.Reports.{Reports};
 ghost use Rattle.run_command.specs.Answered.{AreAnswered, AreServed};
 ghost use Rattle.run_command.specs.Stops.{Stops};
-ghost use Rattle.run_command.specs.Kept.{KeepsLog, HaltFits};
-ghost use Rattle.run_command.specs.Joining.Halts.{ListHalts, halt_of};
+ghost use Rattle.run_command.specs.Kept.{KeepsLog};
+ghost use Rattle.run_command.specs.Joining.Stopping.{ListStops};
 ghost use Rattle.run_command.specs.Joining.Servers.{ArePromised};
 
 use crate::anew::Ground;
+use crate::stop::Stop;
 use crate::watching::{Waits, Watch};
 use data_component::dc::Dc;
 use dc_links::{RingLink, ServedFrom};
 use disk_file::{DiskFile, FileFault};
-use journals::NotKept;
 use log_journal::LogJournal;
 use std::alloc::{AllocError, Global};
 use std::snapshot::Snapshot;
@@ -25,7 +25,7 @@ use std::thread;
 use std::thread::{PromisedHandle, Scope, Threads};
 use std::time::{Clock, Duration, Instant};
 use tc_core::state::{Call, TcState};
-use worker_pool::{Answer, Gate, OpenGate, Report, RunFault, run};
+use worker_pool::{Answer, Gate, OpenGate, Report, run};
 
 /// How the calls of a script are run: the second list by so many workers, each request sent so often
 /// at most; with the figures of that list as notes, with an audit behind the rows, and with what slots of
@@ -49,25 +49,6 @@ pub struct Workload {
     pub manner: Manner,
 }
 
-/// Why the calls of both lists, or those of the second, aren't begun.
-#[derive(Clone, Copy, Debug)]
-pub enum Unbegun {
-    Workers,
-    Tries,
-    Memory,
-    NoThread,
-}
-
-/// Why calls have no answers.
-#[derive(Clone, Copy, Debug)]
-pub enum Halt {
-    Unbegun(Unbegun),
-    /// The journal failed to keep what was logged, and what its file says of that. Nothing was told since.
-    NotKept(Option<FileFault>),
-    /// Memory ran out while what was logged was to be kept. Nothing was told since.
-    Memory,
-}
-
 /// A journal in a file.
 pub type FileJournal = LogJournal<DiskFile>;
 
@@ -77,22 +58,6 @@ fn failure_of(journal: &Option<FileJournal>) -> Option<FileFault> {
         None => None,
         Some(journal) => journal.device().failure(),
     }
-}
-
-// Why a run has no report, where its journal's file says this of it; the state that it hands back goes.
-fn halted(fault: RunFault, failure: Option<FileFault>) -> Halt
-    ensures { result ≡ halt_of fault failure }
-{
-    let halt = match &fault {
-        RunFault::Workers(_) => Halt::Unbegun(Unbegun::Workers),
-        RunFault::Tries(_) => Halt::Unbegun(Unbegun::Tries),
-        RunFault::Memory(_) => Halt::Unbegun(Unbegun::Memory),
-        RunFault::NoThread(_) => Halt::Unbegun(Unbegun::NoThread),
-        RunFault::NotKept(NotKept::Failed, _) => Halt::NotKept(failure),
-        RunFault::NotKept(NotKept::Memory, _) => Halt::Memory,
-    };
-    drop(fault.into_state());
-    halt
 }
 
 // One list of calls that was answered.
@@ -132,12 +97,12 @@ fn answer_list<R: Threads + Wait + Sync, G: Gate + Sync>(
     link: &RingLink,
     gate: &G,
     journal: Option<FileJournal>,
-) -> Result<Listed, Halt>
+) -> Result<Listed, Stop>
     ensures report { IfOk result (λ l. Reports state calls.now l.state l.answers.items) }
     ensures kept { KeepsLog journal state.events → IfOk result (λ l. KeepsLog l.journal l.state.events) }
     ensures same { IfOk result (λ l. is_some l.journal ≡ is_some journal) }
     ensures range { IfOk result (λ _. InRange crew.workers crew.tries) }
-    ensures fault { IfErr result (ListHalts journal crew.workers crew.tries) }
+    ensures fault { IfErr result (ListStops state (is_some journal) crew.workers crew.tries) }
 {
     let (journal, ran) = run(
         rt,
@@ -155,7 +120,7 @@ fn answer_list<R: Threads + Wait + Sync, G: Gate + Sync>(
         Err(fault) => {
             let failure = failure_of(&journal);
             drop(journal);
-            Err(halted(fault, failure))
+            Err(Stop::of(fault, failure))
         }
     }
 }
@@ -254,13 +219,13 @@ fn answer_all<R: Clock + Threads + Wait + Sync>(
     waits: &Waits,
     link: &RingLink,
     journal: Option<FileJournal>,
-) -> Result<Answered, Halt>
+) -> Result<Answered, Stop>
     ensures answered { IfOk result (λ a. AreAnswered state workload.now.first.items workload.now.calls.items
         a.answers.first.items a.answers.calls.items a.state) }
     ensures kept { KeepsLog journal state.events → IfOk result (λ a. KeepsLog a.journal a.state.events) }
     ensures same { IfOk result (λ a. is_some a.journal ≡ is_some journal) }
     ensures range { IfOk result (λ _. InRange workload.now.manner.workers workload.now.manner.tries) }
-    ensures fault { IfErr result (HaltFits journal workload.now.manner.workers workload.now.manner.tries) }
+    ensures fault { IfErr result (Stops (is_some journal) workload.now.manner.workers workload.now.manner.tries) }
 {
     let tries = workload.manner.tries;
     let first = workload.first.as_slice();
@@ -295,13 +260,13 @@ fn answer_all<R: Clock + Threads + Wait + Sync>(
 }
 
 // Why no call is begun where a component has no thread: the tries are looked at first.
-fn unserved(tries: u64) -> Unbegun
-    ensures { (workers : ℕ) → Stops workers tries result }
+fn unserved(tries: u64) -> Stop
+    ensures { (keeps : Bool) (workers : ℕ) → Stops keeps workers tries result }
 {
     if (1..=1000).contains(&tries) {
-        Unbegun::NoThread
+        Stop::NoThread
     } else {
-        Unbegun::Tries
+        Stop::Tries
     }
 }
 
@@ -377,13 +342,13 @@ pub fn answer_served<R: Clock + Threads + Wait + Sync>(
     waits: &Waits,
     rings: Rings,
     journal: Option<FileJournal>,
-) -> (Result<Answered, Halt>, Result<Vec<Dc>, AllocError>)
+) -> (Result<Answered, Stop>, Result<Vec<Dc>, AllocError>)
     ensures answered { IfOk result.0 (λ a. AreAnswered state workload.now.first.items workload.now.calls.items
         a.answers.first.items a.answers.calls.items a.state) }
     ensures kept { KeepsLog journal state.events → IfOk result.0 (λ a. KeepsLog a.journal a.state.events) }
     ensures same { IfOk result.0 (λ a. is_some a.journal ≡ is_some journal) }
     ensures range { IfOk result.0 (λ _. InRange workload.now.manner.workers workload.now.manner.tries) }
-    ensures fault { IfErr result.0 (HaltFits journal workload.now.manner.workers workload.now.manner.tries) }
+    ensures fault { IfErr result.0 (Stops (is_some journal) workload.now.manner.workers workload.now.manner.tries) }
     ensures dcs { OnOk result.0 (IfOk result.1 (λ back. AreServed dcs.items back.items)) }
 {
     let Rings { link, servers } = rings;
@@ -391,14 +356,14 @@ pub fn answer_served<R: Clock + Threads + Wait + Sync>(
     thread::scope(
         thread::scope_env(),
         rt,
-        |scope| -> (Result<Answered, Halt>, Result<Vec<Dc>, AllocError>)
+        |scope| -> (Result<Answered, Stop>, Result<Vec<Dc>, AllocError>)
             requires { servers.items ≡ [] }
             ensures answered { IfOk result.0 (λ a. AreAnswered state workload.entry.now.first.items workload.entry.now.calls.items
                 a.answers.first.items a.answers.calls.items a.state) }
             ensures kept { KeepsLog journal state.events → IfOk result.0 (λ a. KeepsLog a.journal a.state.events) }
             ensures same { IfOk result.0 (λ a. is_some a.journal ≡ is_some journal) }
             ensures range { IfOk result.0 (λ _. InRange workload.entry.now.manner.workers workload.entry.now.manner.tries) }
-            ensures fault { IfErr result.0 (HaltFits journal workload.entry.now.manner.workers workload.entry.now.manner.tries) }
+            ensures fault { IfErr result.0 (Stops (is_some journal) workload.entry.now.manner.workers workload.entry.now.manner.tries) }
             ensures dcs { OnOk result.0 (IfOk result.1 (λ back. AreServed dcs.items back.items)) }
         {
             let count = dcs.len();
@@ -411,10 +376,8 @@ pub fn answer_served<R: Clock + Threads + Wait + Sync>(
                 link.close();
                 drop(state);
                 drop(journal);
-                (
-                    Err(Halt::Unbegun(unserved(workload.manner.tries))),
-                    handed_back(rt, servers),
-                )
+                let stop = unserved(workload.manner.tries);
+                (Err(stop), handed_back(rt, servers))
             }
         },
     )

@@ -18,4 +18,5 @@ mod log_lines;
 pub mod logged;
 mod parts;
 pub mod running;
+mod stop;
 mod watching;

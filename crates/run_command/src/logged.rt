@@ -27,13 +27,13 @@ use crate::anew::{Ground, renew, write_renewal};
 use crate::answering::FileJournal;
 pub use crate::log_lines::kind_refusal;
 use crate::log_lines::{back_lines, back_refusal, open_refusal, other_refusal, overfull_refusal};
-use crate::running::{Calls, Ran, RunOptions, Unreported, ground_and_calls, run_from};
+use crate::running::{Calls, Ran, RunOptions, ground_and_calls, run_from};
+use crate::stop::Stop;
 use base_records::{base_fault_line, begin as begin_with};
 use coming_back::{ComeBackFault, Resumed, come_back};
 use data_component::dc::Dc;
 use disk_file::{DiskFile, FileFault, OpenError};
 use frame_file::{DeviceError, FrameFault};
-use journals::NotKept;
 use log_file::{BaseRow, Header, LogFile, OpenFault};
 use log_journal::{LogJournal, Restored};
 use procedure_digest::header_of;
@@ -48,23 +48,6 @@ use std::thread::Threads;
 use std::time::Clock;
 use tc_core::state::TcState;
 use tc_log::log::Log;
-
-/// Why a run whose log is kept has no report.
-#[derive(Clone, Copy, Debug)]
-pub enum Unlogged {
-    Memory,
-    /// The log's file can't be opened or read, and why.
-    Unread(FileFault),
-    /// The log's file can't be written or synced, or what would be cut off from it can't be kept, or its name
-    /// isn't its own when the run ends; and why, where the file says it. What it had stands in it.
-    Unwritten(Option<FileFault>),
-}
-
-impl From<AllocError> for Unlogged {
-    fn from(_: AllocError) -> Unlogged {
-        Unlogged::Memory
-    }
-}
 
 // A log's file that was opened.
 #[derive(Drop)]
@@ -103,7 +86,7 @@ fn unread(
     header: &Header,
     bytes: &[u8],
     device: &DiskFile,
-) -> Result<Option<Report>, Unlogged>
+) -> Result<Option<Report>, Stop>
     ensures { IfOk result (λ o. IfSome o (λ report.
         IsOpenRefusal header.now bytes.now fault.now (string_bytes report.lines) × (report.status ≡ 1))) }
 {
@@ -116,8 +99,8 @@ fn unread(
             Ok(Some(refusal(line)))
         }
         OpenFault::Frames(FrameFault::Device(DeviceError::Unkept)) => Ok(None),
-        OpenFault::Frames(FrameFault::Device(DeviceError::Memory)) => Err(Unlogged::Memory),
-        _ => Err(Unlogged::Unwritten(device.failure())),
+        OpenFault::Frames(FrameFault::Device(DeviceError::Memory)) => Err(Stop::Memory),
+        _ => Err(Stop::NotKept(device.failure())),
     }
 }
 
@@ -128,7 +111,7 @@ fn refused(
     header: &Header,
     bytes: &[u8],
     device: &DiskFile,
-) -> Result<Option<Opening>, Unlogged>
+) -> Result<Option<Opening>, Stop>
     ensures { (start : Core) → header.now ≡ header_of (loaded_in start) → IsOpenFault header.now bytes.now fault.now
         → IfOk result (λ o. IfSome o (λ x. (empties : List Store) → IsOpening start empties x)) }
 {
@@ -168,14 +151,14 @@ fn open_file<F: Files<File = File>>(
 }
 
 // Why a log's file isn't opened.
-fn unopened(alloc: Global, error: OpenError) -> Result<Report, Unlogged>
+fn unopened(alloc: Global, error: OpenError) -> Result<Report, Stop>
     ensures { (start : Core) (empties : List Store) → IfOk result (λ report.
         IsLogRefusal start empties (string_bytes report.lines) × (report.status ≡ 1)) }
 {
     match error {
-        OpenError::Unread(fault) => Err(Unlogged::Unread(fault)),
-        OpenError::Unwritten(error) => Err(Unlogged::Unwritten(Some(FileFault::Io(error)))),
-        OpenError::Memory => Err(Unlogged::Memory),
+        OpenError::Unread(fault) => Err(Stop::Unread(fault)),
+        OpenError::Unwritten(error) => Err(Stop::NotKept(Some(FileFault::Io(error)))),
+        OpenError::Memory => Err(Stop::Memory),
         OpenError::Busy => Ok(refusal(String::from_str(alloc, "refused log Busy\n")?)),
         OpenError::Kind(kind) => Ok(refusal(kind_refusal(alloc, kind)?)),
     }
@@ -188,7 +171,7 @@ fn read_log(
     file: DiskFile,
     header: Header,
     bytes: &[u8],
-) -> Result<Option<Opening>, Unlogged>
+) -> Result<Option<Opening>, Stop>
     requires bytes { bytes.now ≡ disk_bytes file }
     requires settled { Only (disk_bytes file) (left_of file) }
     ensures { (start : Core) → header ≡ header_of (loaded_in start)
@@ -221,7 +204,7 @@ fn try_log<F: Files<File = File>>(
     path: &str,
     state: &TcState,
     place: Dropped,
-) -> Result<Option<Opening>, Unlogged>
+) -> Result<Option<Opening>, Stop>
     ensures { IfOk result (λ o. IfSome o (λ x. (empties : List Store) → IsOpening state.now empties x)) }
 {
     let header = header_of(alloc, state.procs())?;
@@ -242,7 +225,7 @@ fn open_log<F: Files<File = File>>(
     alloc: Global,
     path: &str,
     state: &TcState,
-) -> Result<Opening, Unlogged>
+) -> Result<Opening, Stop>
     ensures { (empties : List Store) → IfOk result (IsOpening state.now empties) }
 {
     if let Some(opening) = try_log(rt, alloc, path, state, Dropped::Nowhere)? {
@@ -250,7 +233,7 @@ fn open_log<F: Files<File = File>>(
     }
     match try_log(rt, alloc, path, state, Dropped::Beside)? {
         Some(opening) => Ok(opening),
-        None => Err(Unlogged::Unwritten(None)),
+        None => Err(Stop::NotKept(None)),
     }
 }
 
@@ -279,7 +262,7 @@ enum Coming {
 }
 
 // Keeps what a log has behind this place, if anything.
-fn keep_behind(journal: &mut FileJournal, log: &Log, place: usize) -> Result<(), Unlogged>
+fn keep_behind(journal: &mut FileJournal, log: &Log, place: usize) -> Result<(), Stop>
     ensures { (start : List EventValue) → KeepsLog (Some journal.old) start → Begins start log.now.events → place ≡ length start
         → OnOk result (KeepsLog (Some journal.new) log.now.events) }
 {
@@ -288,8 +271,7 @@ fn keep_behind(journal: &mut FileJournal, log: &Log, place: usize) -> Result<(),
     }
     match journal.keep_from(log, place) {
         Ok(()) => Ok(()),
-        Err(NotKept::Memory) => Err(Unlogged::Memory),
-        Err(NotKept::Failed) => Err(Unlogged::Unwritten(journal.device().failure())),
+        Err(why) => Err(Stop::unkept(why, journal.device().failure())),
     }
 }
 
@@ -328,7 +310,7 @@ fn come(
     dropped: usize,
     path: &str,
     journal: &mut FileJournal,
-) -> Result<Coming, Unlogged>
+) -> Result<Coming, Stop>
     requires { All HasOnlyRows dcs.old }
     ensures { (file : List ℕ) → IsLogFor state.old file (base_in base.now) log.now.events → KeepsLog (Some journal.old) log.now.events
         → IfOk result (IsComing state.old dcs.old (base_in base.now) log.now.events state.new dcs.new journal.new) }
@@ -348,12 +330,12 @@ fn come(
 }
 
 // Why a log isn't gone on from.
-fn unfit(alloc: Global, fault: &ComeBackFault) -> Result<Coming, Unlogged>
+fn unfit(alloc: Global, fault: &ComeBackFault) -> Result<Coming, Stop>
     ensures { IfOk result (IsUnfit fault.now) }
 {
     match back_refusal(alloc, fault)? {
         Some(line) => Ok(Coming::Refused(refusal(line))),
-        None => Err(Unlogged::Memory),
+        None => Err(Stop::Memory),
     }
 }
 
@@ -365,7 +347,7 @@ fn go_back(
     dcs: &mut [Dc],
     opened: Opened,
     path: &str,
-) -> Result<GoingBack, Unlogged>
+) -> Result<GoingBack, Stop>
     requires { All HasOnlyRows dcs.old }
     ensures { IsOpened state.old opened → IfOk result (IsGoingBack state.old dcs.old (base_in opened.base) opened.log.events state.new dcs.new) }
 {
@@ -398,7 +380,7 @@ fn begin<F: Files<File = File>>(
     path: &str,
     state: &mut TcState,
     dcs: &mut [Dc],
-) -> Result<GoingBack, Unlogged>
+) -> Result<GoingBack, Stop>
     requires { All HasOnlyRows dcs.old }
     ensures { IfOk result (IsBegun state.old dcs.old state.new dcs.new) }
 {
@@ -409,7 +391,7 @@ fn begin<F: Files<File = File>>(
 }
 
 // Puts these lines before those of a report.
-fn put_before(alloc: Global, lines: &str, report: &mut Report) -> Result<(), Unlogged>
+fn put_before(alloc: Global, lines: &str, report: &mut Report) -> Result<(), Stop>
     ensures { OnOk result ((report.new.status ≡ report.old.status)
         × (string_bytes report.new.lines ≡ lines.now ++ string_bytes report.old.lines)) }
 {
@@ -420,21 +402,13 @@ fn put_before(alloc: Global, lines: &str, report: &mut Report) -> Result<(), Unl
 }
 
 // Whether the log's file of this run still has its name.
-fn check_name<F: Files<File = File>>(rt: &F, path: &str, ran: &Ran) -> Result<(), Unlogged> {
+fn check_name<F: Files<File = File>>(rt: &F, path: &str, ran: &Ran) -> Result<(), Stop> {
     let Some(journal) = &ran.journal else {
         return Ok(());
     };
     match journal.device().check_name(rt, path) {
         Ok(()) => Ok(()),
-        Err(fault) => Err(Unlogged::Unwritten(Some(fault))),
-    }
-}
-
-// Why a log that was to begin anew, or to be kept, isn't.
-fn why_unlogged(why: Unreported) -> Unlogged {
-    match why {
-        Unreported::Memory => Unlogged::Memory,
-        Unreported::NotKept(failure) => Unlogged::Unwritten(failure),
+        Err(fault) => Err(Stop::NotKept(Some(fault))),
     }
 }
 
@@ -446,13 +420,13 @@ fn renew_first<F: Files<File = File>>(
     over: Option<u64>,
     ground: &mut Ground,
     lines: &mut String,
-) -> Result<(), Unlogged>
+) -> Result<(), Stop>
     ensures renewed { OnOk result (IsRenewedFirst ground.old lines.old over ground.new lines.new) }
     ensures kept { KeepsLog ground.old.journal ground.old.state.events → OnOk result (KeepsLog ground.new.journal ground.new.state.events) }
 {
     match renew(rt, alloc, path, over, ground) {
         Ok(renewal) => Ok(write_renewal(alloc, renewal, &ground.state, lines)?),
-        Err(why) => Err(why_unlogged(why)),
+        Err(stop) => Err(stop),
     }
 }
 
@@ -463,7 +437,7 @@ fn behind<F: Files<File = File>>(
     path: &str,
     lines: &str,
     ran: Ran,
-) -> Result<Ran, Unlogged>
+) -> Result<Ran, Stop>
     ensures { IfOk result (λ r. (r.journal ≡ ran.journal) × (r.report.status ≡ ran.report.status)
         × (string_bytes r.report.lines ≡ lines.now ++ string_bytes ran.report.lines)) }
 {
@@ -489,7 +463,7 @@ fn run_after<R: Files<File = File> + Clock + Threads + Wait + Sync>(
     ground: Ground,
     calls: &Calls,
     lines: &str,
-) -> Result<Ran, Unlogged>
+) -> Result<Ran, Stop>
     ensures { KeepsLog ground.journal ground.state.events → IfOk result (λ r. (answers : List ℕ)
         × IsCallsRun (IsKeptSo r.journal calls.now.options.checkpoints) calls.now.options.checkpoints ground.state ground.dcs.items
         calls.now.first.items calls.now.calls.items calls.now.options.manner.workers calls.now.options.manner.tries
@@ -498,7 +472,7 @@ fn run_after<R: Files<File = File> + Clock + Threads + Wait + Sync>(
 {
     match run_from(rt, alloc, path, ground, calls) {
         Ok(ran) => behind(rt, alloc, path, lines, ran),
-        Err(why) => Err(why_unlogged(why)),
+        Err(stop) => Err(stop),
     }
 }
 
@@ -510,7 +484,7 @@ fn run_on<R: Files<File = File> + Clock + Threads + Wait + Sync>(
     ground: Ground,
     calls: &Calls,
     lines: &mut String,
-) -> Result<Ran, Unlogged>
+) -> Result<Ran, Stop>
     ensures { KeepsLog ground.journal ground.state.events → IfOk result (λ r.
         IsRunOn r.journal calls.now.options.checkpoints ground.state ground.dcs.items calls.now.first.items calls.now.calls.items
         calls.now.options.manner.workers calls.now.options.manner.tries calls.now.options.manner.audit calls.now.options.manner.results
@@ -535,7 +509,7 @@ fn run_back<R: Files<File = File> + Clock + Threads + Wait + Sync>(
     loaded: Loaded,
     back: Back,
     options: RunOptions,
-) -> Result<Ran, Unlogged>
+) -> Result<Ran, Stop>
     ensures { KeepsLog (Some back.journal) loaded.state.events → IfOk result (λ r.
         IsRunOn r.journal options.entry.checkpoints loaded.state loaded.dcs.items loaded.first.items loaded.calls.items
         options.entry.manner.workers options.entry.manner.tries options.entry.manner.audit options.entry.manner.results
@@ -553,7 +527,7 @@ fn run_behind<R: Files<File = File> + Clock + Threads + Wait + Sync>(
     path: &str,
     loaded: Loaded,
     options: RunOptions,
-) -> Result<Ran, Unlogged>
+) -> Result<Ran, Stop>
     requires { All HasOnlyRows loaded.dcs.items }
     ensures { IfOk result (λ r. IsLoggedRun r.journal options.entry.checkpoints loaded.state loaded.dcs.items loaded.first.items loaded.calls.items
         options.entry.manner.workers options.entry.manner.tries options.entry.manner.audit options.entry.manner.results r.report.status (string_bytes r.report.lines)) }
@@ -594,7 +568,7 @@ pub fn running_logged<R: Files<File = File> + Clock + Threads + Wait + Sync>(
     path: &str,
     source: Source,
     options: RunOptions,
-) -> Result<Ran, Unlogged>
+) -> Result<Ran, Stop>
     ensures { IfOk result (λ r. IsLogged r.journal options.entry.checkpoints options.entry.manner.workers options.entry.manner.tries options.entry.manner.audit options.entry.manner.results
         (beginning_of command.Run source.entry) r.report.status (string_bytes r.report.lines)) }
 {

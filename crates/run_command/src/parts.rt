@@ -1,21 +1,22 @@
 //! The calls of a script, answered in parts, between which the log may begin anew.
 
-ghost use Rattle.std.specs.Prelude.{◌≡◌, ◌++◌, ◌<◌, ℕ, List, [], length, None, Option, is_some, IfOk, IfErr, IsOkAnd, OnOk, codes, string_bytes};
-ghost use Rattle.worker_pool.specs.Faults.{InRange};
+ghost use Rattle.std.specs.Prelude.{◌≡◌, ◌++◌, ◌<◌, ℕ, Bool, List, [], length, None, is_some, IfOk, IfErr, IsOkAnd, OnOk, codes, string_bytes};
+ghost use Rattle.worker_pool.specs.Faults.{InRange, TriesFit};
 ghost use Rattle.run_command.specs.AnswerLines.{answer_lines, call_lines};
 ghost use Rattle.run_command.specs.Answered.{AreCallsOf, AreAnswered, AreServed};
-ghost use Rattle.run_command.specs.Kept.{FileJournal as FileJournalValue, KeepsLog};
+ghost use Rattle.run_command.specs.Kept.{KeepsLog};
 ghost use Rattle.run_command.specs.declared.anew.Renewal.TheVariants.{Unwanted};
 ghost use Rattle.run_command.specs.declared.anew.Ground.{Ground as GroundValue};
 ghost use Rattle.run_command.specs.declared.anew.Renewal.{Renewal};
 ghost use Rattle.run_command.specs.Anew.{IsHeeded, IsRenewal};
-ghost use Rattle.run_command.specs.Parts.{StopFits};
+ghost use Rattle.run_command.specs.Stops.{IsUnkept, Stops};
 ghost use Rattle.run_command.specs.Joining.Parts.{IsStep, HasCome, HasEnded};
 
 use crate::anew::{Ground, Renewal, renew};
 use crate::answer_lines::{write_answers, write_calls};
-use crate::answering::{Answers, Halt, Manner, Rings, Workload, answer_served, with_dcs};
-use crate::running::{Calls, Unreported, calls_of};
+use crate::answering::{Answers, Manner, Rings, Workload, answer_served, with_dcs};
+use crate::running::{Calls, calls_of};
+use crate::stop::Stop;
 use crate::watching::Waits;
 use scripts::script;
 use std::alloc::{AllocError, Global};
@@ -43,27 +44,6 @@ pub struct Outcome {
     pub ground: Ground,
     pub told: Told,
     pub renewal: Renewal,
-}
-
-/// Why calls have no report.
-#[derive(Clone, Copy, Debug)]
-pub enum Stop {
-    /// Those of a part weren't begun, or not kept.
-    Halted(Halt),
-    /// Memory ran out between two parts, or the log wasn't kept where it began anew.
-    Unreported(Unreported),
-}
-
-impl From<AllocError> for Stop {
-    ghost use Rattle.std.specs.Prelude.{◌≡◌};
-    ghost use Rattle.run_command.specs.declared.parts.Stop.TheVariants as Stop;
-    ghost use Rattle.run_command.specs.declared.running.Unreported.TheVariants as Unreported;
-
-    ghost from_gives = { λ _ e. e ≡ Stop.Unreported Unreported.Memory };
-
-    fn from(_: AllocError) -> Stop {
-        Stop::Unreported(Unreported::Memory)
-    }
 }
 
 // Calls of both lists, and the place of the second list's first one among all of that list.
@@ -112,7 +92,7 @@ pub fn answer_on<R: Clock + Threads + Wait + Sync>(
     ensures kept { KeepsLog ground.journal ground.state.events → IfOk result (λ r. KeepsLog r.0.journal r.0.state.events) }
     ensures same { IfOk result (λ r. is_some r.0.journal ≡ is_some ground.journal) }
     ensures range { IfOk result (λ _. InRange workload.now.manner.workers workload.now.manner.tries) }
-    ensures fault { IfErr result (StopFits ground.journal workload.now.manner.workers workload.now.manner.tries) }
+    ensures fault { IfErr result (Stops (is_some ground.journal) workload.now.manner.workers workload.now.manner.tries) }
 {
     let Ground {
         state,
@@ -128,9 +108,9 @@ pub fn answer_on<R: Clock + Threads + Wait + Sync>(
                 Err(Stop::from(error))
             }
         },
-        Err(halt) => {
+        Err(stop) => {
             drop(dcs);
-            Err(Stop::Halted(halt))
+            Err(stop)
         }
     }
 }
@@ -188,8 +168,8 @@ fn tell(
         × (told.new.answers.calls.items ≡ told.old.answers.calls.items ++ a.1.calls.items)
         × (string_bytes told.new.lines ≡ string_bytes told.old.lines ++ (answer_lines (codes "first") a.1.first.items
         ++ call_lines results g.state.procs g.state.events (length told.old.answers.calls.items) a.1.calls.items)))) }
-    ensures fault { (workers tries : ℕ) (journal : Option FileJournalValue) → IfErr answered (StopFits journal workers tries)
-        → IfErr result (StopFits journal workers tries) }
+    ensures fault { (keeps : Bool) (workers tries : ℕ) → IfErr answered (Stops keeps workers tries)
+        → IfErr result (Stops keeps workers tries) }
 {
     let (ground, more) = answered?;
     match told.add(alloc, results, &ground.state, more) {
@@ -215,7 +195,7 @@ fn answer_part<R: Clock + Threads + Wait + Sync>(
     ensures kept { KeepsLog ground.journal ground.state.events → IfOk result (λ g. KeepsLog g.journal g.state.events) }
     ensures same { IfOk result (λ g. is_some g.journal ≡ is_some ground.journal) }
     ensures range { IfOk result (λ _. InRange manner.workers manner.tries) }
-    ensures fault { IfErr result (StopFits ground.journal manner.workers manner.tries) }
+    ensures fault { IfErr result (Stops (is_some ground.journal) manner.workers manner.tries) }
 {
     match prepare(alloc, part, ground.dcs.len(), manner) {
         Ok((workload, rings)) => {
@@ -249,14 +229,14 @@ fn answer_next<R: Files<File = File> + Clock + Threads + Wait + Sync>(
     ensures kept { KeepsLog ground.journal ground.state.events → IfOk result (λ g. KeepsLog g.journal g.state.events) }
     ensures same { IfOk result (λ g. is_some g.journal ≡ is_some ground.journal) }
     ensures range { IfOk result (λ _. InRange manner.workers manner.tries) }
-    ensures fault { IfErr result (StopFits ground.journal manner.workers manner.tries) }
+    ensures fault { TriesFit manner.tries → IfErr result (Stops (is_some ground.journal) manner.workers manner.tries) }
 {
     let mut ground = ground;
     match renew(rt, alloc, path, over, &mut ground) {
         Ok(_renewal) => answer_part(rt, alloc, ground, part, manner, waits, told),
-        Err(why) => {
+        Err(stop) => {
             drop(ground);
-            Err(Stop::Unreported(why))
+            Err(stop)
         }
     }
 }
@@ -313,7 +293,7 @@ fn answer_all_parts<R: Files<File = File> + Clock + Threads + Wait + Sync>(
     ensures kept { KeepsLog ground.journal ground.state.events → IfOk result (λ g. KeepsLog g.journal g.state.events) }
     ensures same { IfOk result (λ g. is_some g.journal ≡ is_some ground.journal) }
     ensures range { IfOk result (λ _. InRange calls.now.options.manner.workers calls.now.options.manner.tries) }
-    ensures fault { IfErr result (StopFits ground.journal calls.now.options.manner.workers calls.now.options.manner.tries) }
+    ensures fault { IfErr result (Stops (is_some ground.journal) calls.now.options.manner.workers calls.now.options.manner.tries) }
 {
     let manner = calls.options.manner;
     let over = calls.options.checkpoints.over;
@@ -341,7 +321,7 @@ fn renew_last<F: Files<File = File>>(
     ensures unwanted { IfOk result (λ o. over ≡ None → o.renewal ≡ Unwanted) }
     ensures heeded { IfOk result (λ o. IsHeeded o.ground.journal over o.renewal) }
     ensures kept { KeepsLog ground.journal ground.state.events → IfOk result (λ o. KeepsLog o.ground.journal o.ground.state.events) }
-    ensures fault { (workers tries : ℕ) → IfErr result (StopFits ground.journal workers tries) }
+    ensures fault { IfErr result (IsUnkept (is_some ground.journal)) }
 {
     let mut ground = ground;
     match renew(rt, alloc, path, over, &mut ground) {
@@ -350,10 +330,10 @@ fn renew_last<F: Files<File = File>>(
             told,
             renewal,
         }),
-        Err(why) => {
+        Err(stop) => {
             drop(ground);
             drop(told);
-            Err(Stop::Unreported(why))
+            Err(stop)
         }
     }
 }
@@ -371,7 +351,7 @@ pub fn answer_parts<R: Files<File = File> + Clock + Threads + Wait + Sync>(
         calls.now.first.items calls.now.calls.items calls.now.options.checkpoints) }
     ensures kept { KeepsLog ground.journal ground.state.events → IfOk result (λ o. KeepsLog o.ground.journal o.ground.state.events) }
     ensures range { IfOk result (λ _. InRange calls.now.options.manner.workers calls.now.options.manner.tries) }
-    ensures fault { IfErr result (StopFits ground.journal calls.now.options.manner.workers calls.now.options.manner.tries) }
+    ensures fault { IfErr result (Stops (is_some ground.journal) calls.now.options.manner.workers calls.now.options.manner.tries) }
 {
     let mut told = Told::new(alloc);
     match answer_all_parts(rt, alloc, path, ground, calls, waits, &mut told) {

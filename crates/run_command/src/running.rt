@@ -1,7 +1,6 @@
 //! `run`: the calls of a script by workers, a line for each, and then what the data components keep.
 
-ghost use Rattle.std.specs.Prelude.{◌≡◌, ◌++◌, ℕ, List, Ok, IfOk, IfErr, IsOkAnd, Option, Some, codes, string_bytes};
-ghost use Rattle.disk_file.specs.declared.fault.FileFault.{FileFault as FileFaultValue};
+ghost use Rattle.std.specs.Prelude.{◌≡◌, ◌++◌, ℕ, Bool, Ok, IfOk, IfErr, Some, is_some, string_bytes};
 ghost use Rattle.std.specs.List.{list_any};
 ghost use Rattle.script_loading.specs.Loading.{beginning_of};
 ghost use Rattle.scripts.specs.declared.keyword.Command.TheVariants as command;
@@ -10,12 +9,11 @@ ghost use Rattle.tc_core.specs.Admission.{call_of};
 ghost use Rattle.run_command.specs.AnswerLines.{fault_line};
 ghost use Rattle.state_lines.specs.AuditLines.{AddsIf, AddsAudit};
 ghost use Rattle.state_lines.specs.RowLines.{AddsRowLines};
-ghost use Rattle.run_command.specs.Kept.{FileJournal as FileJournalValue, KeepsLog, UnreportedFits};
-ghost use Rattle.run_command.specs.Joining.Stopping.{StopsAt};
+ghost use Rattle.run_command.specs.Kept.{KeepsLog};
 ghost use Rattle.run_command.specs.Answered.{said_call, AreCallsOf};
-ghost use Rattle.run_command.specs.Parts.{StopFits, IsKeptSo};
-ghost use Rattle.run_command.specs.declared.answering.Halt.{Halt as HaltValue};
-ghost use Rattle.run_command.specs.declared.parts.Stop.TheVariants.{Halted};
+ghost use Rattle.run_command.specs.Parts.{IsKeptSo};
+ghost use Rattle.run_command.specs.Stops.{IsUnkept, Stops};
+ghost use Rattle.run_command.specs.declared.stop.Stop.TheVariants as Stop;
 ghost use Rattle.run_command.specs.Running.{is_want_of_memory, AreLinesOf, IsCallsRun, IsRun, never};
 
 pub use crate::anew::{Checkpoints, Ground};
@@ -23,15 +21,15 @@ use crate::anew::{Renewal, write_renewal};
 use crate::answer_lines::fault_line;
 pub use crate::answer_lines::write_answers;
 use crate::answering::FileJournal;
-pub use crate::answering::{Answers, Halt, Manner, Rings, Unbegun, Workload};
+pub use crate::answering::{Answers, Manner, Rings, Workload};
 use crate::figures::{
     Watched, delay_lines, figures, full_dcs, latency_lines, log_figures, procedure_lines, rate,
 };
+pub use crate::parts::answer_on;
 use crate::parts::{Outcome, Told, answer_parts};
-pub use crate::parts::{Stop, answer_on};
+pub use crate::stop::Stop;
 pub use crate::watching::{Listeners, Waits};
 use data_component::dc::Dc;
-use disk_file::FileFault;
 use report_texts::report::Report;
 use script_loading::loading::{Loaded, Loading, Source, load_source};
 use scripts::keyword::Command;
@@ -168,11 +166,11 @@ fn reported(
 }
 
 /// The report of calls none of which was begun.
-pub fn stopped(alloc: Global, fault: Unbegun) -> Result<Report, AllocError>
-    ensures lines { IfOk result (λ r. fault_line fault ≡ Some (string_bytes r.lines)) }
+pub fn stopped(alloc: Global, stop: Stop) -> Result<Report, AllocError>
+    ensures lines { IfOk result (λ r. fault_line stop ≡ Some (string_bytes r.lines)) }
     ensures status { IfOk result (λ r. r.status ≡ 1) }
 {
-    let line = fault_line(fault).ok_or(AllocError)?;
+    let line = fault_line(stop).ok_or(AllocError)?;
     Ok(Report {
         status: 1,
         lines: String::from_str(alloc, line)?,
@@ -185,25 +183,6 @@ pub fn stopped(alloc: Global, fault: Unbegun) -> Result<Report, AllocError>
 pub struct Ran {
     pub report: Report,
     pub journal: Option<FileJournal>,
-}
-
-/// Why there is no report of calls.
-#[derive(Clone, Copy, Debug)]
-pub enum Unreported {
-    Memory,
-    /// The journal didn't keep what was logged, and what its file says of that.
-    NotKept(Option<FileFault>),
-}
-
-impl From<AllocError> for Unreported {
-    ghost use Rattle.std.specs.Prelude.{◌≡◌};
-    ghost use Rattle.run_command.specs.declared.running.Unreported.TheVariants.{Memory};
-
-    ghost from_gives = { λ _ e. e ≡ Memory };
-
-    fn from(_: AllocError) -> Unreported {
-        Unreported::Memory
-    }
 }
 
 // The journal that has kept the log, if there is one; all else goes.
@@ -224,28 +203,16 @@ fn journal_of(ground: Ground) -> Option<FileJournal>
 fn with_journal(
     report: Result<Report, AllocError>,
     journal: Option<FileJournal>,
-) -> Result<Ran, Unreported>
+) -> Result<Ran, Stop>
     ensures ok { IfOk result (λ r. (report ≡ Ok r.report) × (r.journal ≡ journal)) }
-    ensures err { IfErr result (λ e. e ≡ Unreported.Memory) }
+    ensures err { IfErr result (λ e. e ≡ Stop.Memory) }
 {
     match report {
         Ok(report) => Ok(Ran { report, journal }),
         Err(AllocError) => {
             drop(journal);
-            Err(Unreported::Memory)
+            Err(Stop::Memory)
         }
-    }
-}
-
-// What is told of calls that have no answers.
-fn unanswered(alloc: Global, halt: Halt) -> Result<Ran, Unreported>
-    ensures ok { IfOk result (λ r. StopsAt halt r.report.status (string_bytes r.report.lines)) }
-    ensures err { IfErr result (λ e. (failure : Option FileFaultValue) → e ≡ Unreported.NotKept failure → halt ≡ Halt.NotKept failure) }
-{
-    match halt {
-        Halt::Unbegun(cause) => with_journal(stopped(alloc, cause), None),
-        Halt::NotKept(failure) => Err(Unreported::NotKept(failure)),
-        Halt::Memory => Err(Unreported::Memory),
     }
 }
 
@@ -265,15 +232,15 @@ fn tell_end(waits: &Waits, calls: &Calls, answers: &Answers, ground: &Ground) {
     }
 }
 
-// What is told of calls that have no report.
-fn stopped_at(alloc: Global, waits: &Waits, stop: Stop) -> Result<Ran, Unreported>
-    ensures ok { IfOk result (λ r. (halt : HaltValue) × (stop ≡ Halted halt) × StopsAt halt r.report.status (string_bytes r.report.lines)) }
-    ensures fault { (journal : Option FileJournalValue) (workers tries : ℕ) → StopFits journal workers tries stop → IfErr result (UnreportedFits journal) }
+// The report of calls that were stopped, or why there is none.
+fn stopped_at(alloc: Global, waits: &Waits, stop: Stop) -> Result<Ran, Stop>
+    ensures ok { IfOk result (λ r. (r.report.status ≡ 1) × (fault_line stop ≡ Some (string_bytes r.report.lines))) }
+    ensures fault { (keeps : Bool) (workers tries : ℕ) → Stops keeps workers tries stop → IfErr result (IsUnkept keeps) }
 {
     waits.end();
     match stop {
-        Stop::Halted(halt) => unanswered(alloc, halt),
-        Stop::Unreported(why) => Err(why),
+        Stop::NotKept(_) => Err(stop),
+        _ => with_journal(stopped(alloc, stop), None),
     }
 }
 
@@ -301,12 +268,12 @@ fn run_calls<R: Files<File = File> + Clock + Threads + Wait + Sync>(
     ground: Ground,
     calls: &Calls,
     waits: &Waits,
-) -> Result<Ran, Unreported>
+) -> Result<Ran, Stop>
     ensures run { KeepsLog ground.journal ground.state.events → IfOk result (λ r. IsCallsRun (IsKeptSo r.journal calls.now.options.checkpoints)
         calls.now.options.checkpoints ground.state ground.dcs.items calls.now.first.items calls.now.calls.items
         calls.now.options.manner.workers calls.now.options.manner.tries calls.now.options.manner.audit calls.now.options.manner.results
         r.report.status (string_bytes r.report.lines)) }
-    ensures fault { IfErr result (UnreportedFits ground.journal) }
+    ensures fault { IfErr result (IsUnkept (is_some ground.journal)) }
 {
     match answer_parts(rt, alloc, path, ground, calls, waits) {
         Ok(outcome) => {
@@ -340,12 +307,12 @@ pub fn run_from<R: Files<File = File> + Clock + Threads + Wait + Sync>(
     path: &str,
     ground: Ground,
     calls: &Calls,
-) -> Result<Ran, Unreported>
+) -> Result<Ran, Stop>
     ensures run { KeepsLog ground.journal ground.state.events → IfOk result (λ r. IsCallsRun (IsKeptSo r.journal calls.now.options.checkpoints)
         calls.now.options.checkpoints ground.state ground.dcs.items calls.now.first.items calls.now.calls.items
         calls.now.options.manner.workers calls.now.options.manner.tries calls.now.options.manner.audit calls.now.options.manner.results
         r.report.status (string_bytes r.report.lines)) }
-    ensures fault { IfErr result (UnreportedFits ground.journal) }
+    ensures fault { IfErr result (IsUnkept (is_some ground.journal)) }
 {
     let RunOptions {
         manner,
@@ -366,7 +333,7 @@ pub fn run_from<R: Files<File = File> + Clock + Threads + Wait + Sync>(
         }
         Err(AllocError) => {
             drop(ground);
-            Err(Unreported::Memory)
+            Err(Stop::Memory)
         }
     }
 }
@@ -419,8 +386,8 @@ fn run_loaded<R: Files<File = File> + Clock + Threads + Wait + Sync>(
     let (ground, calls) = ground_and_calls(loaded, None, options);
     match run_from(rt, alloc, "", ground, &calls) {
         Ok(Ran { report, journal: _ }) => Ok(report),
-        Err(Unreported::Memory) => Err(AllocError),
-        Err(Unreported::NotKept(_)) => unreachable!(),
+        // There is no journal that could fail.
+        Err(_) => Err(AllocError),
     }
 }
 

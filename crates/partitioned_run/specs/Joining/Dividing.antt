@@ -7,9 +7,9 @@ use Rattle.scripts.specs.declared.script.Call.{Call}
 use Rattle.scripts.specs.declared.script.Script.{Script}
 use Rattle.script_loading.specs.Loading.{first_unverified}
 use Rattle.verifier.specs.Checked.{Checked}
+use Rattle.run_command.specs.declared.stop.Stop.{Stop}
 use Rattle.run_command.specs.Running.{begun, empty_stores}
 use Rattle.partitioned_run.specs.declared.answering.Ran.{Ran}
-use Rattle.partitioned_run.specs.declared.answering.Lack.{Lack}
 use Rattle.partitioned_run.specs.declared.dividing.Division.{Division}
 use Rattle.partitioned_run.specs.Partitioned.{decl_of, partition_of_call, IsAnsweredBy}
 
@@ -35,6 +35,6 @@ IsPartitionRun c d number ran =
     ran.answers.first.items ran.answers.calls.items ran.ground
 
 -- those of so many partitions
-abbrev pub AreRun : Contents → Division → ℕ → List (Result Ran Lack) → Type 0
+abbrev pub AreRun : Contents → Division → ℕ → List (Result Ran Stop) → Type 0
 AreRun c d count all =
-    (length all ≡ count) × ((p : ℕ) (other : Result Ran Lack) → p < count → IfOk (get_or all p other) (IsPartitionRun c d p))
+    (length all ≡ count) × ((p : ℕ) (other : Result Ran Stop) → p < count → IfOk (get_or all p other) (IsPartitionRun c d p))

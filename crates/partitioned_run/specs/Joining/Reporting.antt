@@ -7,11 +7,11 @@ use Rattle.scripts.specs.Reading.{Contents, contents_of}
 use Rattle.script_loading.specs.Loading.{Beginning, first_unverified}
 use Rattle.script_loading.specs.declared.loading.Acceptance.{Acceptance}
 use Rattle.script_loading.specs.declared.loading.Acceptance.TheVariants.{Accepted, Refused}
+use Rattle.run_command.specs.declared.stop.Stop.{Stop}
 use Rattle.run_command.specs.Running.{begun, empty_stores}
 use Rattle.partitions.specs.Picking.{picked}
 use Rattle.partitioned_run.specs.Partitioned.{IsAnsweredBy}
 use Rattle.partitioned_run.specs.declared.dividing.Division.{Division}
-use Rattle.partitioned_run.specs.declared.answering.Lack.{Lack}
 use Rattle.partitioned_run.specs.declared.answering.Ran.{Ran}
 use Rattle.partitioned_run.specs.declared.reporting.All.{All}
 
@@ -21,8 +21,8 @@ AreAll runs all =
     (all.grounds.items ≡ map (λ (ran : Ran). ran.ground) runs) × (all.first.items ≡ map (λ (ran : Ran). ran.answers.first) runs)
     × (all.calls.items ≡ map (λ (ran : Ran). ran.answers.calls) runs)
 
--- what all runs came to, none of which lacks anything
-pub record AreAllOf (ran : List (Result Ran Lack)) (all : All) : Type 0 where
+-- what all runs came to, none of which was stopped
+pub record AreAllOf (ran : List (Result Ran Stop)) (all : All) : Type 0 where
   pub runs : List Ran
   pub oks : ran ≡ map Ok runs
   pub together : AreAll runs all

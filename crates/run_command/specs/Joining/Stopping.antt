@@ -1,13 +1,29 @@
--- What is told of calls that have no answers.
-use Rattle.std.specs.Prelude.{◌≡◌, ℕ, List, Some}
-use Rattle.run_command.specs.declared.answering.Halt.{Halt}
-use Rattle.run_command.specs.declared.answering.Halt.TheVariants.{Unbegun as UnbegunBy}
-use Rattle.run_command.specs.declared.answering.Unbegun.{Unbegun}
-use Rattle.run_command.specs.AnswerLines.{fault_line}
+-- What stops one list of calls.
+use Rattle.std.specs.Prelude.{◌≡◌, ℕ, Bool, Option}
+use Rattle.disk_file.specs.declared.fault.FileFault.{FileFault}
+use Rattle.journals.specs.declared.journal.NotKept.{NotKept as Why}
+use Rattle.journals.specs.declared.journal.NotKept.TheVariants as why
+use Rattle.tc_core.specs.Core.{Core}
+use Rattle.worker_pool.specs.declared.running.RunFault.{RunFault}
+use Rattle.worker_pool.specs.declared.running.RunFault.TheVariants as fault
+use Rattle.worker_pool.specs.Faults.{FaultFits}
+use Rattle.run_command.specs.declared.stop.Stop.{Stop}
+use Rattle.run_command.specs.declared.stop.Stop.TheVariants.{Tries, Workers, NoThread, Memory, NotKept}
 
--- none was begun, for this cause, whose line is told
-pub record StopsAt (halt : Halt) (status : ℕ) (lines : List ℕ) : Type 0 where
-  pub cause : Unbegun
-  pub is : halt ≡ UnbegunBy cause
-  pub status_is : status ≡ 1
-  pub line : fault_line cause ≡ Some lines
+-- a journal didn't keep something, whose file says this of it
+abbrev pub unkept_of : Why → Option FileFault → Stop
+unkept_of why.Failed failure = NotKept failure
+unkept_of why.Memory failure = Memory
+
+-- a run's fault, without the state
+abbrev pub stop_of : RunFault → Option FileFault → Stop
+stop_of (fault.Workers state) failure = Workers
+stop_of (fault.Tries state) failure = Tries
+stop_of (fault.Memory state) failure = Memory
+stop_of (fault.NoThread state) failure = NoThread
+stop_of (fault.NotKept why state) failure = unkept_of why failure
+
+-- it is that of a run that began with this state
+abbrev pub ListStops : Core → (keeps : Bool) → (workers tries : ℕ) → Stop → Type 0
+ListStops start keeps workers tries stop =
+    (fault : RunFault) × (failure : Option FileFault) × FaultFits start keeps workers tries fault × (stop ≡ stop_of fault failure)

@@ -2,7 +2,7 @@ use Rattle.std.proofs.Common.{◌∙◌, ap, length, map, List, max}
 use Rattle.data_component.specs.Store.{Store}
 use Rattle.scripts.specs.Reading.{contents_of}
 use Rattle.script_loading.specs.Loading.{empty_store}
-use Rattle.run_command.specs.declared.answering.Unbegun.TheVariants.{NoThread}
+use Rattle.run_command.specs.declared.stop.Stop.TheVariants.{NoThread}
 use Rattle.partitioned_run.proofs.ReportingLemmas.{all_run, ran_apart, stopped_apart}
 use Rattle.partitioned_run.proofs.running.run_divided.Goals as goal
 
@@ -17,8 +17,8 @@ returns-in-Ok g c = λ range.
     let m = c.args.task.manner in
     ran_apart (contents_of c.args.task.script.now) m.workers m.tries m.audit c.reported-report.result range c.reported-report.ensures
 
-pub returns : goal.returns
-returns g c = λ range.
+pub returns-in-Err-NoThread : goal.returns-in-Err-NoThread
+returns-in-Err-NoThread g c = λ range.
     let m = c.args.task.manner in
     stopped_apart (contents_of c.args.task.script.now) m.workers m.tries m.audit NoThread c.stopped.result range.1 c.stopped.ensures.lines
     c.stopped.ensures.status

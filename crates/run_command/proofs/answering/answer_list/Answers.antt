@@ -1,4 +1,5 @@
-use Rattle.run_command.proofs.HaltLemmas.{keeps_on, list_halts, still_there}
+use Rattle.run_command.proofs.KeptLemmas.{keeps_on, still_there}
+use Rattle.run_command.proofs.StopLemmas.{list_stops}
 use Rattle.run_command.proofs.answering.answer_list.Goals as goal
 
 pub returns-in-Ok-clause-kept : goal.returns-in-Ok-clause-kept
@@ -13,6 +14,5 @@ returns-in-Ok-clause-same g c =
 
 pub returns-in-Err-clause-fault : goal.returns-in-Err-clause-fault
 returns-in-Err-clause-fault g c =
-    rw c.halted.ensures
-    (list_halts c.args.journal c.args.state c.args.crew.workers c.args.crew.tries c.in-Err.fault c.failure_of-failure.result
-    (rw c.in-Err.is at c.run-journal.ensures.which))
+    list_stops c.args.journal c.args.state c.args.crew.workers c.args.crew.tries c.in-Err.fault c.failure_of-failure.result c.of.result
+    (rw c.in-Err.is at c.run-journal.ensures.which) c.of.ensures

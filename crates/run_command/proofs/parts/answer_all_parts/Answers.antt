@@ -1,7 +1,6 @@
 use Rattle.std.proofs.Common.{rules, ◌≡◌, ◌∙◌, ◌<◌, length}
 use Rattle.std.proofs.lemmas.Result.{err_from_is_err_and}
 use Rattle.run_command.proofs.PartsLemmas.{first_so_far, next_so_far, all_come}
-use Rattle.run_command.proofs.StopLemmas.{stop_moves}
 use Rattle.run_command.proofs.parts.answer_all_parts.Goals as goal
 
 pub parts-init : goal.parts-init
@@ -39,11 +38,10 @@ parts-preserved g c =
 
 pub returns-in_err-ground-2-clause-fault : goal.returns-in_err-ground-2-clause-fault
 returns-in_err-ground-2-clause-fault g c =
-    let m = c.args.calls.now.options.manner in
-    let fits = stop_moves c.parts.ground.journal c.args.ground.journal m.workers m.tries c.in_err-ground-2.field-0.0 c.parts.invariant.same
-    c.in_err-ground-2.ensures.fault in
+    let was = c.parts.invariant in
+    let stops = rw was.same at (c.in_err-ground-2.ensures.fault was.range.1) in
     let p = err_from_is_err_and c.from_residual-in_err-ground-2.result c.from_residual-in_err-ground-2.ensures.1 in
-    rw (p.1, p.2) fits
+    rw (p.1, p.2) stops
 
 pub returns-clause-come : goal.returns-clause-come
 returns-clause-come g c =

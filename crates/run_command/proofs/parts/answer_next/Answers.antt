@@ -1,6 +1,8 @@
-use Rattle.std.proofs.Common.{◌∙◌, sym}
-use Rattle.std.proofs.lemmas.Result.{IfOk-weaker, IfErr-weaker}
-use Rattle.run_command.proofs.StopLemmas.{stop_moves}
+use Rattle.std.proofs.Common.{◌∙◌, sym, subst}
+use Rattle.std.specs.Prelude.{Bool, IfErr, is_some}
+use Rattle.std.proofs.lemmas.Result.{IfOk-weaker}
+use Rattle.run_command.specs.Stops.{Stops}
+use Rattle.run_command.proofs.StopLemmas.{unkept_stops}
 use Rattle.run_command.proofs.parts.answer_next.Goals as goal
 
 pub returns-in-Ok-clause-step : goal.returns-in-Ok-clause-step
@@ -12,7 +14,11 @@ pub returns-in-Ok-clause-same : goal.returns-in-Ok-clause-same
 returns-in-Ok-clause-same g c = IfOk-weaker c.answer_part.result _ _ (λ now h. h ∙ c.renew.ensures.same) c.answer_part.ensures.same
 
 pub returns-in-Ok-clause-fault : goal.returns-in-Ok-clause-fault
-returns-in-Ok-clause-fault g c =
+returns-in-Ok-clause-fault g c = λ range.
     let m = c.args.manner in
-    IfErr-weaker c.answer_part.result _ _
-    (λ stop h. stop_moves c.renew.new.ground.journal c.args.ground.journal m.workers m.tries stop c.renew.ensures.same h) c.answer_part.ensures.fault
+    subst (λ (keeps : Bool). IfErr c.answer_part.result (Stops keeps m.workers m.tries)) c.renew.ensures.same c.answer_part.ensures.fault
+
+pub returns-in-Err-clause-fault : goal.returns-in-Err-clause-fault
+returns-in-Err-clause-fault g c = λ range.
+    let m = c.args.manner in
+    unkept_stops (is_some c.args.ground.journal) m.workers m.tries c.in-Err.stop range c.in-Err.ensures.fault

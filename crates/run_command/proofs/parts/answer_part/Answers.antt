@@ -1,8 +1,8 @@
 use Rattle.std.proofs.Common.{subst}
-use Rattle.std.specs.Prelude.{IfErr}
+use Rattle.std.specs.Prelude.{IfErr, is_some}
 use Rattle.std.proofs.lemmas.Result.{IfOk-weaker}
 use Rattle.run_command.specs.declared.answering.Manner.{Manner}
-use Rattle.run_command.specs.Parts.{StopFits}
+use Rattle.run_command.specs.Stops.{Stops}
 use Rattle.run_command.proofs.PartsLemmas.{stepped}
 use Rattle.run_command.proofs.parts.answer_part.Goals as goal
 
@@ -19,7 +19,7 @@ returns-in-Ok-clause-step g c =
 pub returns-in-Ok-clause-fault : goal.returns-in-Ok-clause-fault
 returns-in-Ok-clause-fault g c =
     let m = c.args.manner in
-    let journal = c.args.ground.journal in
+    let keeps = is_some c.args.ground.journal in
     let answered = c.answer_on-answered in
-    c.tell.ensures.fault m.workers m.tries journal
-    (subst (λ (n : Manner). IfErr answered.result (StopFits journal n.workers n.tries)) c.in-Ok.ensures.manner answered.ensures.fault)
+    c.tell.ensures.fault keeps m.workers m.tries
+    (subst (λ (n : Manner). IfErr answered.result (Stops keeps n.workers n.tries)) c.in-Ok.ensures.manner answered.ensures.fault)

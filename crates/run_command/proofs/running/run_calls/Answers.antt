@@ -1,12 +1,10 @@
-use Rattle.std.proofs.Common.{◌≡◌, ◌∙◌, ℕ, sym, subst}
-use Rattle.std.specs.Prelude.{string_bytes}
+use Rattle.std.proofs.Common.{◌∙◌, sym, subst}
+use Rattle.std.specs.Prelude.{is_some, string_bytes}
 use Rattle.std.proofs.lemmas.Result.{IfOk-weaker}
-use Rattle.run_command.specs.declared.answering.Halt.{Halt}
-use Rattle.run_command.specs.declared.parts.Stop.{Stop}
-use Rattle.run_command.specs.Kept.{HaltFits}
-use Rattle.run_command.specs.Parts.{StopFits, IsKeptSo}
+use Rattle.run_command.specs.Parts.{IsKeptSo}
 use Rattle.run_command.specs.Running.{Stopped}
 use Rattle.run_command.proofs.RunLemmas.{ran_run}
+use Rattle.run_command.proofs.StopLemmas.{told_stops}
 use Rattle.run_command.proofs.running.run_calls.Goals as goal
 
 pub returns-in-Ok-clause-run : goal.returns-in-Ok-clause-run
@@ -26,14 +24,13 @@ returns-in-Ok-clause-run g c = λ was.
 
 pub returns-in-Err-clause-run : goal.returns-in-Err-clause-run
 returns-in-Err-clause-run g c = λ was.
-    let journal = c.args.ground.journal in
     let m = c.args.calls.now.options.manner in
     IfOk-weaker c.stopped_at.result _ _ (λ r h.
-    let fits : HaltFits journal m.workers m.tries h.0 = subst (λ (stop : Stop). StopFits journal m.workers m.tries stop) h.1 c.in-Err.ensures.fault in
-    Stopped h.2.cause (subst (λ (halt : Halt). HaltFits journal m.workers m.tries halt) h.2.is fits) h.2.status_is h.2.line)
+    Stopped c.in-Err.stop
+    (told_stops (is_some c.args.ground.journal) m.workers m.tries c.in-Err.stop (string_bytes r.report.lines) c.in-Err.ensures.fault h.1) h.0 h.1)
     c.stopped_at.ensures.ok
 
 pub returns-in-Err-clause-fault : goal.returns-in-Err-clause-fault
 returns-in-Err-clause-fault g c =
     let m = c.args.calls.now.options.manner in
-    c.stopped_at.ensures.fault c.args.ground.journal m.workers m.tries c.in-Err.ensures.fault
+    c.stopped_at.ensures.fault (is_some c.args.ground.journal) m.workers m.tries c.in-Err.ensures.fault
