@@ -58,7 +58,7 @@ pub record ArePrinted (Kept : Core → Renewal → Type 0) (checkpoints : Checkp
   pub printed : AreLinesOf last last_dcs audit first_answers other_answers told renewal status lines
   pub kept : Kept last renewal
 
--- they are run, whatever they are answered, or it is printed why not
+-- they are run, whatever they are answered, or it is printed why not: what has a line stops a run without a journal too
 pub data IsCallsRun (Kept : Core → Renewal → Type 0) (checkpoints : Checkpoints) (start : Core) (dcs : List Store) (first calls : List said.Call)
     (workers tries : ℕ) (audit results : Bool) (status : ℕ) (lines : List ℕ) : Type 0 where
   Ran : InRange workers tries → ArePrinted Kept checkpoints start dcs first calls audit results status lines

@@ -14,7 +14,7 @@ Stops keeps workers tries Memory = Unit {0}
 Stops keeps workers tries (Unread fault) = ⊥
 Stops keeps workers tries (NotKept failure) = (keeps ≡ true) × TriesFit tries
 
--- those of which no line is printed
+-- a run ends so without a line: for want of memory, or because something wasn't kept, where there is a journal
 abbrev pub IsUnkept : (keeps : Bool) → Stop → Type 0
 IsUnkept keeps Tries = ⊥
 IsUnkept keeps Workers = ⊥

@@ -60,63 +60,37 @@ fn failure_of(journal: &Option<FileJournal>) -> Option<FileFault> {
     }
 }
 
-// One list of calls that was answered.
-#[derive(Drop)]
-struct Listed {
-    state: TcState,
-    answers: Vec<Answer>,
-    journal: Option<FileJournal>,
-}
-
-// The list of a report, and the journal that has kept its log, if there is one.
-fn listed_in(report: Report, journal: Option<FileJournal>) -> Listed
-    ensures { (result.state ≡ report.state) × (result.answers ≡ report.answers) × (result.journal ≡ journal) }
-{
-    let Report { state, answers } = report;
-    Listed {
-        state,
-        answers,
-        journal,
-    }
-}
-
-// Who makes the calls of a list, and how often each request is sent at most.
-#[derive(Clone, Copy)]
-struct Crew {
-    workers: usize,
-    tries: u64,
-}
-
-// Answers one list of calls, and keeps the log where there is a journal.
+// Answers one list of calls, and keeps the log where there is a journal, which is handed back with their report.
 fn answer_list<R: Threads + Wait + Sync, G: Gate + Sync>(
     rt: &R,
     alloc: Global,
     state: TcState,
     calls: &[Call],
-    crew: Crew,
+    manner: Manner,
     link: &RingLink,
     gate: &G,
     journal: Option<FileJournal>,
-) -> Result<Listed, Stop>
-    ensures report { IfOk result (λ l. Reports state calls.now l.state l.answers.items) }
-    ensures kept { KeepsLog journal state.events → IfOk result (λ l. KeepsLog l.journal l.state.events) }
-    ensures same { IfOk result (λ l. is_some l.journal ≡ is_some journal) }
-    ensures range { IfOk result (λ _. InRange crew.workers crew.tries) }
-    ensures fault { IfErr result (ListStops state (is_some journal) crew.workers crew.tries) }
+) -> Result<(Report, Option<FileJournal>), Stop>
+    ensures report { IfOk result (λ r. Reports state calls.now r.0.state r.0.answers.items) }
+    ensures kept { KeepsLog journal state.events → IfOk result (λ r. KeepsLog r.1 r.0.state.events) }
+    ensures same { IfOk result (λ r. is_some r.1 ≡ is_some journal) }
+    ensures range { IfOk result (λ _. InRange manner.workers manner.tries) }
+    ensures fault { IfErr result (ListStops state (is_some journal) manner.workers manner.tries) }
 {
+    let workers = manner.workers as usize;
     let (journal, ran) = run(
         rt,
         alloc,
         state,
         calls,
-        crew.workers,
-        crew.tries,
+        workers,
+        manner.tries,
         link,
         gate,
         journal,
     );
     match ran {
-        Ok(report) => Ok(listed_in(report, journal)),
+        Ok(report) => Ok((report, journal)),
         Err(fault) => {
             let failure = failure_of(&journal);
             drop(journal);
@@ -227,26 +201,22 @@ fn answer_all<R: Clock + Threads + Wait + Sync>(
     ensures range { IfOk result (λ _. InRange workload.now.manner.workers workload.now.manner.tries) }
     ensures fault { IfErr result (Stops (is_some journal) workload.now.manner.workers workload.now.manner.tries) }
 {
-    let tries = workload.manner.tries;
+    let all = workload.manner;
+    let alone = Manner { workers: 1, ..all };
     let first = workload.first.as_slice();
-    let alone = Crew { workers: 1, tries };
-    let Listed {
+    let (report, journal) = answer_list(rt, alloc, state, first, alone, link, &OpenGate, journal)?;
+    let Report {
         state,
         answers: first,
-        journal,
-    } = answer_list(rt, alloc, state, first, alone, link, &OpenGate, journal)?;
+    } = report;
     let start = Instant::now(rt).ok();
     let watch = Watch::new(rt, waits, workload.place);
-    let all = Crew {
-        workers: workload.manner.workers as usize,
-        tries,
-    };
     let calls = workload.calls.as_slice();
-    let Listed {
+    let (report, journal) = answer_list(rt, alloc, state, calls, all, link, &watch, journal)?;
+    let Report {
         state,
         answers: calls,
-        journal,
-    } = answer_list(rt, alloc, state, calls, all, link, &watch, journal)?;
+    } = report;
     let answers = Answers {
         first,
         calls,

@@ -386,7 +386,7 @@ fn run_loaded<R: Files<File = File> + Clock + Threads + Wait + Sync>(
     let (ground, calls) = ground_and_calls(loaded, None, options);
     match run_from(rt, alloc, "", ground, &calls) {
         Ok(Ran { report, journal: _ }) => Ok(report),
-        // There is no journal that could fail.
+        Err(Stop::NotKept(_)) => unreachable!(),
         Err(_) => Err(AllocError),
     }
 }

@@ -1,7 +1,6 @@
 use Rattle.std.proofs.Common.{sym, subst}
 use Rattle.std.proofs.lemmas.Result.{IfOk-weaker, IfErr-weaker}
 use Rattle.run_command.specs.declared.stop.Stop.{Stop}
-use Rattle.run_command.specs.declared.stop.Stop.TheVariants.{NotKept}
 use Rattle.run_command.specs.Stops.{IsUnkept, Stops}
 use Rattle.run_command.proofs.running.stopped_at.Goals as goal
 
