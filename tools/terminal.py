@@ -23,9 +23,12 @@ from built import PROCD
 from objects import named, object_of, unit
 from printed_rows.objects import GET, WITH_FIELD, with_lines
 
-PUT = "dc 65536 1048576\nproc put 2\nslot write 0 0 $0\nldxdw r6, [r1+8]\nmov r1, 0\ncall 5\nstxdw [r0+0], r6\n"
-PUT += "mov r1, 0\ncall 2\nmov r0, 0\nexit\nend\n"
-CALLS = 1_000_000
+DC = "dc 65536 1048576\n"
+PROC = "proc {0} 2\nslot write {1} 0 $0\nldxdw r6, [r1+8]\nmov r1, 0\ncall 5\nstxdw [r0+0], r6\n"
+PROC += "mov r1, 0\ncall 2\nmov r0, 0\nexit\nend\n"
+PUT = DC + PROC.format("put", 0)
+# So many calls take some seconds, on fast processors too; a data component performs a million.
+CALLS, DCS = 2_700_000, 3
 BEGINS = "is no word that a line outside of procedures begins with"
 # A command, a script, its line on standard output, and what the terminal is told.
 REFUSED = [
@@ -175,10 +178,15 @@ def quotes(procd):
             yield f"a pipe in the place of a source: {told!r}"
 
 
+def long_run():
+    """A script of so many calls."""
+    procedures = "".join(PROC.format(f"put{dc}", dc) for dc in range(DCS))
+    return (DC * DCS + procedures + "".join(f"call put{call % DCS} {call % 60000} 1\n" for call in range(CALLS))).encode()
+
+
 def progress(procd):
     """A long run, where it told no progress or told it otherwise."""
-    calls = "".join(f"call put {call % 60000} 1\n" for call in range(CALLS))
-    status, _, told = on_terminal([procd, "run", "--workers", "1", "-"], (PUT + calls).encode())
+    status, _, told = on_terminal([procd, "run", "--workers", "1", "-"], long_run())
     lines = told.rstrip("\n").split("\r")[1:]
     form = re.compile(rf"(\d+) of {CALLS} calls answered, (\d+) a second\x1b\[K")
     if status or not lines or not told.endswith("\n"):
@@ -197,11 +205,11 @@ def heeds_signals():
 
 def signals(procd):
     """A run that a signal meets, where it doesn't end at once and in silence."""
-    calls = "".join(f"call put {call % 60000} 1\n" for call in range(CALLS))
+    script_text = long_run()
     words = [procd, "run", "--tell", "--workers", "1", "-"]
     for number in (signal.SIGINT, signal.SIGTERM):
         with tempfile.TemporaryFile() as script, tempfile.TemporaryFile() as out:
-            script.write((PUT + calls).encode())
+            script.write(script_text)
             script.seek(0)
             with subprocess.Popen(words, stdin=script, stdout=out, stderr=subprocess.PIPE, preexec_fn=heeds_signals) as process:
                 process.stderr.readline()
