@@ -30,8 +30,12 @@ const ONE_CALL: MostCalls = MostCalls {
     of_a_taking: 1,
 };
 
-// So many calls are taken up, gone on with and end within one taking of the pool's lock, which takes some 0.1 ms then.
-const CALLS_OF_A_TAKING: usize = 64;
+// So many calls are taken up, gone on with and end while a worker holds the pool's lock, for about a millisecond then. To
+// hand the lock over, with the state to another processor's cache, takes as long as some fifteen calls.
+const CALLS_OF_A_TAKING: usize = 512;
+
+// So many calls of a worker wait for other transactions over a link that leaves wires on their way.
+const WAITING_CALLS: usize = 64;
 
 /// What is told of the calls, by their places in the list.
 pub trait Gate {
@@ -343,7 +347,7 @@ fn at_a_time<L: Link, G: Gate>(link: &L, gate: &G, is_kept: bool, workers: usize
         } else {
             window
         },
-        waiting: if is_prompt { 1 } else { CALLS_OF_A_TAKING },
+        waiting: if is_prompt { 1 } else { WAITING_CALLS },
         of_a_taking: CALLS_OF_A_TAKING,
     }
 }
