@@ -12,6 +12,7 @@
 #![tactic(auto)]
 
 mod cursor;
+mod filled;
 pub mod layout;
 pub mod machine;
 pub mod memory;

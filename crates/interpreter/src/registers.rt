@@ -5,6 +5,7 @@ ghost use Rattle.std.specs.List.{slice_index_or};
 ghost use Rattle.bpf_encoding.specs.Spelling.{number_of};
 ghost use Rattle.semantics.specs.Step.{after_call};
 
+use crate::filled::Filled;
 use bpf_encoding::insn::Register;
 use std::marker::Model;
 
@@ -13,7 +14,7 @@ use std::marker::Model;
 #[derive(Drop)]
 pub(crate) struct Registers {
     values: [u64; 11],
-    filled: [bool; 11],
+    filled: Filled,
 }
 
 impl Model for Registers {
@@ -22,9 +23,9 @@ impl Model for Registers {
 
     ghost Value = { List (Option ℕ) };
 
-    ghost view = { λ r. filled_ones r.values r.filled };
+    ghost view = { λ r. filled_ones r.values r.filled.marks };
 
-    ghost invariant = { λ r. AreEleven r.values r.filled };
+    ghost invariant = { λ r. AreEleven r.values r.filled.marks };
 }
 
 impl Registers {
@@ -34,7 +35,7 @@ impl Registers {
     {
         Registers {
             values: [0; 11],
-            filled: [false; 11],
+            filled: Filled::none(),
         }
     }
 
@@ -61,7 +62,7 @@ impl Registers {
         ensures { self.new ≡ slice_set self.old (number_of register) (Some value) }
     {
         self.values[register.index()] = value;
-        self.filled[register.index()] = true;
+        self.filled.fill(register.index());
     }
 
     /// The registers behind a call with its answer: registers 1 to 5 are empty.
@@ -69,11 +70,6 @@ impl Registers {
         ensures { self.new ≡ after_call self.old value }
     {
         self.values[0] = value;
-        self.filled[0] = true;
-        self.filled[1] = false;
-        self.filled[2] = false;
-        self.filled[3] = false;
-        self.filled[4] = false;
-        self.filled[5] = false;
+        self.filled.call();
     }
 }
