@@ -72,11 +72,12 @@ fn load(alloc: Global, bytes: &[u8], args: &[u64], slots: &[Slot]) -> Option<Ver
     }
 }
 
-// Runs the code to its end: its answer, and how many instructions it executed.
-fn run(verified: &Verified, args: &[u64]) -> Option<(u64, u32)>
+// Starts the machine over, as a transaction component does for each call, and runs the code to its end: its answer, and how
+// many instructions it executed.
+fn run(machine: &mut Machine, verified: &Verified, args: &[u64]) -> Option<(u64, u32)>
     requires { length args.now ≡ verified.now.decl.args }
 {
-    let mut machine = Machine::start(verified, args, Layout::plain());
+    machine.restart(verified, args, Layout::plain());
     match machine.resume(verified, None) {
         Pause::Exit(answer) => Some((answer, machine.executed())),
         Pause::Ask(_) => None,
@@ -95,8 +96,9 @@ impl Workload {
             let loaded = load(alloc, self.bytes.as_slice(), args, &[])?;
             done.slots = done.slots.wrapping_add(loaded.code().len() as u64);
         }
+        let mut machine = Machine::blank();
         for _ in 0..runs {
-            let (answer, executed) = run(&verified, args)?;
+            let (answer, executed) = run(&mut machine, &verified, args)?;
             done.instructions = done.instructions.wrapping_add(u64::from(executed));
             if answer != self.answer || executed != self.executed {
                 done.wrong = done.wrong.wrapping_add(1);
@@ -109,7 +111,7 @@ impl Workload {
 // mov r0, 0; exit
 const TWO: &[u8] = &[0xb7, 0, 0, 0, 0, 0, 0, 0, 0x95, 0, 0, 0, 0, 0, 0, 0];
 
-/// Starts a machine for code of two instructions with so many declared slots, and runs it to its
+/// Starts a machine over for code of two instructions with so many declared slots, and runs it to its
 /// end, so many times. How many instructions were executed; `None` for more than 16 slots.
 pub fn repeat_starts(alloc: Global, slots: u64, times: u64) -> Option<u64> {
     let mut declared = Vec::new(alloc);
@@ -124,9 +126,10 @@ pub fn repeat_starts(alloc: Global, slots: u64, times: u64) -> Option<u64> {
             .ok()?;
     }
     let verified = load(alloc, TWO, &[], declared.as_slice())?;
+    let mut machine = Machine::blank();
     let mut executed: u64 = 0;
     for _ in 0..times {
-        let (_, count) = run(&verified, &[])?;
+        let (_, count) = run(&mut machine, &verified, &[])?;
         executed = executed.wrapping_add(u64::from(count));
     }
     Some(executed)
