@@ -3,7 +3,7 @@ use Rattle.transactions.specs.InFlight.{site_at}
 use Rattle.tc_core.specs.declared.recovery.SiteNote.{SiteNote}
 use Rattle.tc_world.specs.Recovery.{note_of}
 use Rattle.tc_world.proofs.ComingBack.{noted_more}
-use Rattle.tc_world.proofs.noting.notes_of.Goals as goal
+use Rattle.tc_world.proofs.notes.notes_of.Goals as goal
 
 pub loop-dc-preserved : goal.loop-dc-preserved
 loop-dc-preserved c =

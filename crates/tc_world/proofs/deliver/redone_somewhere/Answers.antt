@@ -3,7 +3,7 @@ use Rattle.std.proofs.lemmas.Bool.{cases_eq}
 use Rattle.std.proofs.lemmas.Option.{slice_get_within}
 use Rattle.tc_core.specs.Core.{Core}
 use Rattle.tc_core.specs.Redo.{IsRedone, after_redone}
-use Rattle.tc_world.proofs.taking.redone_somewhere.Goals as goal
+use Rattle.tc_world.proofs.deliver.redone_somewhere.Goals as goal
 
 pub returns-in-Ok-clause-redone : goal.returns-in-Ok-clause-redone
 returns-in-Ok-clause-redone c =

@@ -1,7 +1,7 @@
 use Rattle.std.proofs.Common.{ℕ, ◌+◌, List, arith, refl, sym, ◌∙◌, subst}
 use Rattle.tc_core.specs.Core.{Asking}
 use Rattle.tc_world.proofs.MadeAgain.{AreMade, none_made, all_made, one_made}
-use Rattle.tc_world.proofs.again.make_again.Goals as goal
+use Rattle.tc_world.proofs.resumed_requests.make_again.Goals as goal
 
 pub loop-done-init : goal.loop-done-init
 loop-done-init c = (

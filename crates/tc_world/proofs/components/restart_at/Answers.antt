@@ -4,7 +4,7 @@ use Rattle.std.proofs.lemmas.Option.{slice_get_read}
 use Rattle.data_component.specs.Store.{Store, restarted, news_of}
 use Rattle.transactions.proofs.StandingLemmas.{some_same}
 use Rattle.tc_world.proofs.Performing.{not_le}
-use Rattle.tc_world.proofs.parts.restart_at.Goals as goal
+use Rattle.tc_world.proofs.components.restart_at.Goals as goal
 
 pub unreachable-requires : goal.unreachable-requires
 unreachable-requires c =
