@@ -49,7 +49,8 @@
  * is included, a call that finds another on its way on the same handle says so on standard error and aborts.
  *
  * MEMORY. A handle takes mazzulpe_size() bytes by malloc, and its tables more as they grow, by the three
- * functions of heap.c. The log grows by some 120 bytes an event, until mz_checkpoint. Once mz_admit has
+ * functions of heap.c. The log grows by some 130 bytes an event, until mz_checkpoint, of which an event writes
+ * 40, and 8 for each argument of a call or word of a value up to the last that isn't zero. Once mz_admit has
  * answered MZ_OK, no call on that transaction takes memory, but for mz_log_bytes and mz_log_at. mz_recover takes
  * memory as mz_admit does, and as much again as the rows have while it runs.
  *

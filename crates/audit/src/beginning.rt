@@ -1,6 +1,7 @@
 //! Where a log and the lists of data components begin.
 
 ghost use Rattle.std.specs.Prelude.{◌≡◌, OnOk, IfOk, IfSome, IfNone, if◌then◌else◌};
+ghost use Rattle.tc_log.specs.Entered.{seen};
 ghost use Rattle.indexmap.specs.IndexMap.{get};
 ghost use Rattle.access_slots.specs.declared.slot.Record.{Record as RecordValue};
 ghost use Rattle.access_slots.specs.Locks.{record_eq};
@@ -15,39 +16,39 @@ use access_slots::slot::{Record, Value};
 use data_component::dc::Dc;
 use indexmap::IndexMap;
 use std::alloc::{AllocError, Global};
-use tc_log::event::Event;
+use tc_log::event::Entry;
 use tc_log::log::Log;
 
 /// A record and its value.
 pub type Row = (Record, Value);
 
 // Behind which number the log begins, once this event is looked at.
-fn begun_with(begun: u64, event: &Event) -> u64
-    ensures { result ≡ begun_by event.now begun }
+fn begun_with(begun: u64, event: &Entry<'_>) -> u64
+    ensures { result ≡ begun_by (seen event.now) begun }
 {
     match event {
-        Event::Admit {
+        Entry::Admit {
             txn: _,
             proc: _,
             args: _,
         } => begun,
-        Event::Ask {
+        Entry::Ask {
             txn: _,
             number: _,
             op: _,
         } => begun,
-        Event::Answer {
+        Entry::Answer {
             txn: _,
             number: _,
             said: _,
         } => begun,
-        Event::Undo {
+        Entry::Undo {
             txn: _,
             number: _,
             op: _,
         } => begun,
-        Event::End { txn: _, outcome: _ } => begun,
-        Event::Checkpoint { admitted: _, given } => *given,
+        Entry::End { txn: _, outcome: _ } => begun,
+        Entry::Checkpoint { admitted: _, given } => *given,
     }
 }
 
@@ -57,7 +58,7 @@ pub(crate) fn begun_in(log: &Log) -> u64
 {
     let mut found = 0;
     for place in 0..log.len() {
-        found = begun_with(found, event_at(log, place));
+        found = begun_with(found, &event_at(log, place));
     }
     found
 }

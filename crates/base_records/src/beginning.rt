@@ -8,7 +8,7 @@ ghost use Rattle.base_records.specs.Beginning.{own_count, first_given, HaveBegun
 use data_component::{Dc, begin_all};
 use log_file::BaseRow;
 use std::alloc::{AllocError, Global};
-use tc_log::event::Event;
+use tc_log::event::Entry;
 use tc_log::log::Log;
 
 /// Why data components don't begin with the records with which a log begins.
@@ -73,7 +73,7 @@ fn first_given(log: &Log) -> u64
     ensures { result ≡ first_given (reverse log.now.events) }
 {
     match log.at(0) {
-        Some(Event::Checkpoint { given, .. }) => *given,
+        Some(Entry::Checkpoint { given, .. }) => given,
         _ => 0,
     }
 }

@@ -7,7 +7,7 @@ use script_loading::loading::{Loaded, Loading, load};
 use scripts::keyword::Command;
 use std::alloc::Global;
 use tc_core::procs::Procs;
-use tc_log::event::Event;
+use tc_log::event::Entry;
 use tc_log::log::Log;
 
 /// The line of an audit.
@@ -35,10 +35,10 @@ fn perform(dc: &mut Dc, number: u64, redo: bool, op: Op) {
 }
 
 // Puts an entry into a list: what is asked is performed, and what is undone is redone.
-fn enter(dc: &mut Dc, event: &Event) {
+fn enter(dc: &mut Dc, event: Entry<'_>) {
     match event {
-        Event::Ask { number, op, .. } => perform(dc, *number, false, *op),
-        Event::Undo { number, op, .. } => perform(dc, *number, true, *op),
+        Entry::Ask { number, op, .. } => perform(dc, number, false, op),
+        Entry::Undo { number, op, .. } => perform(dc, number, true, op),
         _ => {}
     }
 }
@@ -54,8 +54,8 @@ fn take_line(alloc: Global, dcs: &mut [Dc], line: &str) -> Option<()> {
         return Some(());
     }
     let log = events(alloc, words.next()?)?;
-    for event in log.events() {
-        enter(dc, event);
+    for place in 0..log.len() {
+        enter(dc, log.entry(place));
     }
     Some(())
 }

@@ -4,6 +4,7 @@ ghost use Rattle.std.specs.Prelude.{◌≡◌, ◌==◌, if◌then◌else◌, �
 ghost use Rattle.access_slots.specs.Access as Access;
 ghost use Rattle.access_slots.specs.declared.op.Said.{Said as SaidValue};
 ghost use Rattle.tc_log.specs.declared.event.Event.{Event as EventValue};
+ghost use Rattle.tc_log.specs.Entered.{seen};
 ghost use Rattle.semantics.specs.Step.{register};
 ghost use Rattle.verifier.specs.Checked.{Checked};
 ghost use Rattle.history.specs.Calls as Calls;
@@ -16,7 +17,7 @@ use interpreter::layout::Layout;
 use interpreter::machine::Machine;
 use interpreter::pause::Pause;
 use tc_core::procs::Procs;
-use tc_log::event::Event;
+use tc_log::event::Entry;
 
 /// The run of a transaction's procedure as far as the events of a log lead it, and whether one of its
 /// slots holds a record.
@@ -35,16 +36,16 @@ pub(crate) struct Rerun {
 }
 
 // The transaction that an event is of; 0 where it is of none.
-fn txn_of(event: &Event) -> u64
-    ensures { result ≡ Calls.txn_of event.now }
+fn txn_of(event: &Entry<'_>) -> u64
+    ensures { result ≡ Calls.txn_of (seen event.now) }
 {
     match event {
-        Event::Admit { txn, .. }
-        | Event::Ask { txn, .. }
-        | Event::Answer { txn, .. }
-        | Event::Undo { txn, .. }
-        | Event::End { txn, .. } => *txn,
-        Event::Checkpoint { .. } => 0,
+        Entry::Admit { txn, .. }
+        | Entry::Ask { txn, .. }
+        | Entry::Answer { txn, .. }
+        | Entry::Undo { txn, .. }
+        | Entry::End { txn, .. } => *txn,
+        Entry::Checkpoint { .. } => 0,
     }
 }
 
@@ -151,22 +152,22 @@ impl Rerun {
     }
 
     /// Takes the next event of the log in, which moves it where it is one of its transaction.
-    pub(crate) fn follow(&mut self, procs: &Procs, txn: u64, event: &Event)
-        requires { (h : List EventValue) × MayFollow procs.now.codes self.old h event.now txn }
-        ensures follows { (h : List EventValue) → MayFollow procs.now.codes self.old h event.now txn →
-            Follows procs.now.codes self.new (standing (event.now ∷ h) txn) }
+    pub(crate) fn follow(&mut self, procs: &Procs, txn: u64, event: &Entry<'_>)
+        requires { (h : List EventValue) × MayFollow procs.now.codes self.old h (seen event.now) txn }
+        ensures follows { (h : List EventValue) → MayFollow procs.now.codes self.old h (seen event.now) txn →
+            Follows procs.now.codes self.new (standing (seen event.now ∷ h) txn) }
         ensures slot { self.new.slot ≡ self.old.slot }
     {
         if txn_of(event) != txn {
             return;
         }
         match event {
-            Event::Admit { proc, args, .. } => self.begin(procs, *proc, args.as_slice()),
-            Event::Ask { .. } => self.is_undoing = false,
-            Event::Undo { .. } => self.is_undoing = true,
-            Event::Answer { said, .. } => self.hear(procs, said),
-            Event::End { .. } => self.is_open = false,
-            Event::Checkpoint { .. } => {}
+            Entry::Admit { proc, args, .. } => self.begin(procs, *proc, args),
+            Entry::Ask { .. } => self.is_undoing = false,
+            Entry::Undo { .. } => self.is_undoing = true,
+            Entry::Answer { said, .. } => self.hear(procs, said),
+            Entry::End { .. } => self.is_open = false,
+            Entry::Checkpoint { .. } => {}
         }
     }
 }

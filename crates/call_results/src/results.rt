@@ -1,6 +1,7 @@
 //! Results.
 
 ghost use Rattle.std.specs.Prelude.{◌≡◌, ◌↔◌, ◌≤◌, List, Option, None, IsTrue, length};
+ghost use Rattle.tc_log.specs.Entered.{seen};
 ghost use Rattle.verifier.specs.Checked.{Checked};
 ghost use Rattle.transactions.specs.Legal.{Legal};
 ghost use Rattle.transactions.specs.Standing.{Standing, standing};
@@ -14,7 +15,7 @@ use interpreter::pause::Pause;
 use tc_core::checking::event_at;
 use tc_core::procs::Procs;
 use tc_core::state::{TcState, TxnId};
-use tc_log::event::Event;
+use tc_log::event::Entry;
 use tc_log::log::Log;
 
 /// What a slot of a call holds where the call's run ended.
@@ -28,11 +29,11 @@ pub struct SlotResult {
 }
 
 // Whether an event admits this transaction.
-fn admits(event: &Event, txn: u64) -> bool
-    ensures { IsTrue result ↔ IsAdmission event.now txn }
+fn admits(event: &Entry<'_>, txn: u64) -> bool
+    ensures { IsTrue result ↔ IsAdmission (seen event.now) txn }
 {
     match event {
-        Event::Admit { txn: admitted, .. } => *admitted == txn,
+        Entry::Admit { txn: admitted, .. } => *admitted == txn,
         _ => false,
     }
 }
@@ -44,7 +45,7 @@ fn place_before(log: &Log, end: usize, txn: u64) -> usize
     ensures before { (ps : List Checked) → Legal ps log.now.events → standing (first_events result log.now.events) txn ≡ None }
 {
     for place in (0..end).rev() {
-        if admits(event_at(log, place), txn) {
+        if admits(&event_at(log, place), txn) {
             return place;
         }
     }
@@ -61,7 +62,7 @@ fn rerun(procs: &Procs, log: &Log, end: usize, txn: u64, slot: usize) -> Rerun
     procs.known();
     let mut run = Rerun::new(slot);
     for place in place_before(log, end, txn)..end {
-        run.follow(procs, txn, event_at(log, place));
+        run.follow(procs, txn, &event_at(log, place));
     }
     run
 }
@@ -130,7 +131,7 @@ pub fn logged_result(procs: &Procs, log: &Log, place: usize, slot: usize) -> Opt
     ensures { result ≡ result_at_end procs.now.codes log.now.events place slot }
 {
     let txn = match log.at(place)? {
-        Event::End { txn, .. } => *txn,
+        Entry::End { txn, .. } => txn,
         _ => return None,
     };
     held(procs, &rerun(procs, log, place, txn, slot))
@@ -142,7 +143,7 @@ pub fn logged_slot_count(procs: &Procs, log: &Log, place: usize) -> usize
     ensures { result ≡ slots_at_end procs.now.codes log.now.events place }
 {
     match log.at(place) {
-        Some(Event::End { txn, .. }) => declared(procs, &rerun(procs, log, place, *txn, 0)),
+        Some(Entry::End { txn, .. }) => declared(procs, &rerun(procs, log, place, txn, 0)),
         _ => 0,
     }
 }

@@ -8,7 +8,7 @@ use std::alloc::Global;
 use std::process::Abort;
 use tc_core::CheckpointFault;
 use tc_core::state::{NewsFault, TcState, TxnId};
-use tc_log::event::{Event, Outcome};
+use tc_log::event::{Entry, Outcome};
 
 const NEWS: News = News {
     incarnation: 1,
@@ -46,7 +46,7 @@ fn begins(rt: &impl Abort, tc: &mut TcState) {
     is_same(rt, (tc.log().len(), tc.low_water()), (1, 2));
     let is_first = matches!(
         tc.log().at(0),
-        Some(Event::Checkpoint {
+        Some(Entry::Checkpoint {
             admitted: 2,
             given: 2
         })

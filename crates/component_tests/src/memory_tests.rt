@@ -18,7 +18,7 @@ use samples::procedures::keyed;
 use samples::{PUT_AND_ABORT, log_bytes};
 use std::alloc::{AllocError, Global};
 use std::process::Abort;
-use tc_log::event::{Event, Outcome};
+use tc_log::event::{Entry, Event, Outcome};
 use tc_log::log::Log;
 use tc_log::read::LogFault;
 use verifier::verify::{Verified, VerifyFault, verify};
@@ -145,7 +145,7 @@ fn twenty_are_logged(rt: &impl Abort, log: &mut Log) {
             outcome: Outcome::Committed,
         });
     }
-    let is_eighth = matches!(log.at(7), Some(Event::End { txn: 7, .. }));
+    let is_eighth = matches!(log.at(7), Some(Entry::End { txn: 7, .. }));
     is_same(rt, (log.len(), is_eighth), (20, true));
 }
 

@@ -11,7 +11,7 @@ use std::process::Abort;
 use tc_core::checking::CheckFault;
 use tc_core::recovery::{RecoverFault, SiteNote};
 use tc_core::state::{Asked, Redo, Request, Stranger, TcState, TxnId};
-use tc_log::event::Event;
+use tc_log::event::Entry;
 use tc_log::log::Log;
 use tc_log::read::LogFault;
 use transactions::{Redoing, Site};
@@ -21,15 +21,15 @@ const RECORD: usize = 96;
 // Performs what the log sent.
 fn perform_sent(log: &Log, dc: &mut Dc) {
     for place in 0..log.len() {
-        if let Some(Event::Ask { number, op, .. } | Event::Undo { number, op, .. }) = log.at(
+        if let Some(Entry::Ask { number, op, .. } | Entry::Undo { number, op, .. }) = log.at(
             place,
         ) {
             let wire = Wire {
-                number: *number,
+                number,
                 low_water: 0,
                 incarnation: 0,
                 redo: false,
-                op: *op,
+                op,
             };
             let _ = dc.perform(&wire);
         }

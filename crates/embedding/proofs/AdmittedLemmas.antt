@@ -13,7 +13,7 @@ use Rattle.tc_log.specs.declared.event.Event.TheVariants.{Admit, Ask, Answer, Un
 use Rattle.history.specs.Calls.{Call, admitted, held, locks_by, locks_of, txn_of}
 use Rattle.history.proofs.Placing.{placed}
 use Rattle.tc_core.specs.Core.{Core}
-use Rattle.embedding.specs.Serving.{AreItsLocks}
+use Rattle.embedding.specs.Serving.{AreItsLocks, IsOpenAt}
 use Rattle.transactions.specs.Standing.{Standing, standing, moved}
 use Rattle.transactions.specs.Legal.{Legal, Allowed, CanAdmit}
 use Rattle.transactions.specs.Reached.{decls}
@@ -123,3 +123,12 @@ are_its_locks c place t p args serial said d q locks legal at is_t stands loaded
     subst (λ (n : ℕ). AreItsLocks c n locks) (sym is_t)
     (its_locks c place t p args q locks legal at (standing c.events t) refl stands loaded
     (subst (λ (e : Declaration). AreLocksOf args e.slots locks) is_decl (subst (λ (xs : List ℕ). AreLocksOf xs d.slots locks) is_args these)) rising)
+
+-- the transaction that an event admits, where it is open
+pub open_at : (c : Core) (place serial t p : ℕ) (args : List ℕ) → slice_get (reverse c.events) place ≡ Some (Admit t p args) → serial ≡ t
+    → IsSome (standing c.events t) → IsOpenAt c place serial p
+open_at c place serial t p args at same stands = record {
+  args = args;
+  at = at ∙ ap (λ (n : ℕ). Some (Admit n p args)) (sym same);
+  stands = subst (λ (n : ℕ). IsSome (standing c.events n)) (sym same) stands;
+}

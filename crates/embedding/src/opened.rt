@@ -6,19 +6,19 @@ ghost use Rattle.embedding.specs.Serving.{IsOpenAt, NoneIsOpen, WaitsAt, NoneWai
 
 use access_slots::lock::LockSet;
 use tc_core::state::{TcState, TxnId};
-use tc_log::event::Event;
+use tc_log::event::Entry;
 use tc_log::log::Log;
 use transactions::Sent;
 
 /// How many transactions a legal log leaves open.
 pub fn open_in(log: &Log) -> usize {
     let mut open: usize = 0;
-    for event in log.events() {
-        match event {
-            Event::Admit { .. } => open = open.saturating_add(1),
-            Event::End { .. } => open = open.saturating_sub(1),
-            Event::Ask { .. } | Event::Answer { .. } | Event::Undo { .. } => {}
-            Event::Checkpoint { .. } => {}
+    for place in 0..log.len() {
+        match log.entry(place) {
+            Entry::Admit { .. } => open = open.saturating_add(1),
+            Entry::End { .. } => open = open.saturating_sub(1),
+            Entry::Ask { .. } | Entry::Answer { .. } | Entry::Undo { .. } => {}
+            Entry::Checkpoint { .. } => {}
         }
     }
     open
@@ -38,15 +38,11 @@ fn opened_at(state: &TcState, place: usize) -> Option<Opened>
     ensures some { IfSome result (λ o. IsOpenAt state.now place o.txn.serial o.proc) }
     ensures none { IfNone result ((txn proc : ℕ) → IsOpenAt state.now place txn proc → ⊥) }
 {
-    let Some(Event::Admit { txn, proc, .. }) = state.log().at(place) else {
+    let Some(Entry::Admit { txn, proc, .. }) = state.log().at(place) else {
         return None;
     };
-    match state.find_txn(*txn) {
-        Some(txn) => Some(Opened {
-            place,
-            txn,
-            proc: *proc,
-        }),
+    match state.find_txn(txn) {
+        Some(txn) => Some(Opened { place, txn, proc }),
         None => None,
     }
 }
@@ -106,19 +102,15 @@ pub fn locks_at(state: &TcState, place: usize) -> Option<(Opened, LockSet)>
     ensures none { IfNone result ((txn proc : ℕ) → IsOpenAt state.now place txn proc → ⊥) }
 {
     state.known();
-    let Some(Event::Admit { txn, proc, args }) = state.log().at(place) else {
+    let Some(Entry::Admit { txn, proc, args }) = state.log().at(place) else {
         return None;
     };
-    let Some(txn) = state.find_txn(*txn) else {
+    let Some(txn) = state.find_txn(txn) else {
         return None;
     };
-    let Some(code) = state.procs().get(*proc) else {
+    let Some(code) = state.procs().get(proc) else {
         return None;
     };
-    let opened = Opened {
-        place,
-        txn,
-        proc: *proc,
-    };
-    Some((opened, code.decl().resolve(args.as_slice())))
+    let opened = Opened { place, txn, proc };
+    Some((opened, code.decl().resolve(args)))
 }

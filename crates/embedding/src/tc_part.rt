@@ -511,7 +511,7 @@ impl TcPart {
         let Some(event) = self.state.log().at(frame.place as usize) else {
             return NO_PLACE;
         };
-        match telling::bytes_of(self.alloc, event) {
+        match telling::bytes_of(self.alloc, &event) {
             Ok(bytes) => {
                 telling::put_bytes(frame, bytes.as_slice());
                 DONE

@@ -3,6 +3,7 @@
 ghost use Rattle.std.specs.Prelude.{◌≡◌, ◌≢◌, ◌<◌, ◌≤◌, ◌+◌, ◌++◌, [], ◌∷◌, length, min, take, vec_len, vec_capacity, Some, IfOk, OnOk, OnErr};
 ghost use Rattle.tc_core.specs.Lent.{wire_of};
 ghost use Rattle.tc_log.specs.Printed.{printed};
+ghost use Rattle.tc_log.specs.Entered.{seen};
 ghost use Rattle.embedding.specs.Frames.{IsOf, Names};
 ghost use Rattle.embedding.specs.Serving.{mode_number};
 ghost use Rattle.embedding.specs.Telling.{Sends, Tells, requests_of, EndsAs, TellsRedo, TellsSite, TellsRefusal, TellsLoading};
@@ -14,7 +15,7 @@ use access_slots::slot::Mode;
 use std::alloc::{AllocError, Global};
 use tc_core::procs::LoadRefusal;
 use tc_core::state::{Asked, Redo, Refusal, Request, TcState};
-use tc_log::event::{Event, Outcome};
+use tc_log::event::{Entry, Outcome};
 use tc_log::log::Log;
 use transactions::{Sent, Site};
 
@@ -195,8 +196,8 @@ pub fn put_site(site: &Site, frame: &mut Frame)
 }
 
 /// The bytes of an event, as a log with it alone has them.
-pub fn bytes_of(alloc: Global, event: &Event) -> Result<Vec<u8>, AllocError>
-    ensures { IfOk result (λ bytes. bytes.items ≡ printed event.now) }
+pub fn bytes_of(alloc: Global, event: &Entry<'_>) -> Result<Vec<u8>, AllocError>
+    ensures { IfOk result (λ bytes. bytes.items ≡ printed (seen event.now)) }
 {
     let event = event.copied(alloc)?;
     let mut log = Log::new(alloc);

@@ -1,17 +1,18 @@
 // Copies of events.
 
-ghost use Rattle.std.specs.Prelude.{◌≡◌, ◌++◌, ◌∷◌, reverse, OnOk};
+ghost use Rattle.std.specs.Prelude.{◌≡◌, ◌++◌, ◌∷◌, drop, reverse, OnOk};
 
 use std::alloc::{AllocError, Global};
 use tc_log::event::Event;
 use tc_log::log::Log;
 
-/// Adds copies of these events, the oldest first, to a log. Where there is no memory the log has some of them.
-pub fn copy_events(alloc: Global, events: &[Event], out: &mut Log) -> Result<(), AllocError>
-    ensures { OnOk result (reverse out.new.events ≡ reverse out.old.events ++ events.now) }
+/// Adds copies of a log's events from this place on, the oldest first, to another. Where there is no memory it
+/// has some of them.
+pub fn copy_events(alloc: Global, log: &Log, from: usize, out: &mut Log) -> Result<(), AllocError>
+    ensures { OnOk result (reverse out.new.events ≡ reverse out.old.events ++ drop from (reverse log.now.events)) }
 {
-    'events: for event in events {
-        add(out, event.copied(alloc)?)?;
+    'events: for place in from..log.len() {
+        add(out, log.entry(place).copied(alloc)?)?;
     }
     Ok(())
 }

@@ -7,7 +7,6 @@ use crate::copying::copy_events;
 use crate::journal::{Journal, NotKept};
 use std::alloc::{AllocError, Global};
 use std::marker::Model;
-use tc_log::event::Event;
 use tc_log::log::Log;
 
 /// A journal in memory, which outlasts a run and no crash. Contracts see it as what it has kept, the oldest
@@ -28,6 +27,8 @@ impl Model for MemoryJournal {
 }
 
 impl MemoryJournal {
+    ghost use Rattle.std.specs.Prelude.{◌≡◌, [], reverse};
+
     /// It has kept nothing yet. It takes no memory.
     pub fn new(alloc: Global) -> MemoryJournal
         ensures { result ≡ [] }
@@ -39,10 +40,10 @@ impl MemoryJournal {
     }
 
     /// What it has kept, the oldest event first.
-    pub fn events(&self) -> &[Event]
-        ensures { result.now ≡ self.now }
+    pub fn events(&self) -> &Log
+        ensures { reverse result.now.events ≡ self.now }
     {
-        self.log.events()
+        &self.log
     }
 }
 
@@ -68,7 +69,7 @@ impl Journal for MemoryJournal {
     }
 
     fn keep(&mut self, events: &Log) -> Result<(), NotKept> {
-        match copy_events(self.alloc, events.events(), &mut self.log) {
+        match copy_events(self.alloc, events, 0, &mut self.log) {
             Ok(()) => Ok(()),
             Err(AllocError) => Err(NotKept::Memory),
         }

@@ -1,7 +1,8 @@
 -- Lines one behind another.
-use Rattle.std.proofs.Common.{arith, ◌≡◌, ℕ, suc, ◌+◌, ◌<◌, List, [], ◌∷◌, ◌++◌, length, get_or, take, refl, sym, ◌∙◌, ap, ap₂, append_assoc, add-zero}
+use Rattle.std.proofs.Common.{arith, ◌≡◌, ℕ, suc, ◌+◌, List, [], ◌∷◌, ◌++◌, length, take, refl, sym, ◌∙◌, ap, ap₂, append_assoc, add-zero}
 use Rattle.std.proofs.lemmas.List.{append-nil, take_more, length-take-le}
-use Rattle.std.specs.Prelude.{codes, decimal}
+use Rattle.std.proofs.lemmas.Option.{get_or_from_slice_get, slice_get_within}
+use Rattle.std.specs.Prelude.{codes, decimal, slice_get, Some}
 use Rattle.tc_log.specs.declared.event.Event.{Event}
 use Rattle.tc_log.specs.declared.event.Event.TheVariants.{Admit}
 use Rattle.log_command.specs.EventLines.{arguments_text, event_line, event_lines}
@@ -17,26 +18,27 @@ event_lines-append place (x ∷ xs) ys =
     ∙ sym (append_assoc (event_line place x) (event_lines (place + 1) xs) (event_lines (place + suc (length xs)) ys))
 
 -- the lines of one event more
-one_more : (first : ℕ) (events : List Event) (place : ℕ) (e : Event) → place < length events → e ≡ get_or events place e
+one_more : (first : ℕ) (events : List Event) (place : ℕ) (e : Event) → slice_get events place ≡ Some e
     → event_lines first (take (place + 1) events) ≡ event_lines first (take place events) ++ event_line (first + place) e
-one_more first events place e inside at =
+one_more first events place e at =
     let front = take place events in
+    let inside = slice_get_within events place e at in
     let split : take (place + 1) events ≡ front ++ e ∷ []
-    = take_more events place e inside ∙ ap (λ (x : Event). take place events ++ x ∷ []) (sym at) in
+    = take_more events place e inside ∙ ap (λ (x : Event). take place events ++ x ∷ []) (get_or_from_slice_get events place e e at) in
     let there : first + length front ≡ first + place = omega (arith, length-take-le place events (omega (arith, inside))) in
     ap (event_lines first) split
     ∙ (event_lines-append first front (e ∷ [])
     ∙ ap (λ (n : ℕ). event_lines first (take place events) ++ (event_line n e ++ [])) there
     ∙ ap (λ (l : List ℕ). event_lines first (take place events) ++ l) (append-nil (event_line (first + place) e)))
 
-pub lines_more : (first : ℕ) (events : List Event) (place : ℕ) (e : Event) (old all new line : List ℕ) → place < length events
-    → e ≡ get_or events place e → all ≡ old ++ event_lines first (take place events) → line ≡ event_line (first + place) e → new ≡ all ++ line
+pub lines_more : (first : ℕ) (events : List Event) (place : ℕ) (e : Event) (old all new line : List ℕ) → slice_get events place ≡ Some e
+    → all ≡ old ++ event_lines first (take place events) → line ≡ event_line (first + place) e → new ≡ all ++ line
     → new ≡ old ++ event_lines first (take (place + 1) events)
-lines_more first events place e old all new line inside at so_far is grown =
+lines_more first events place e old all new line at so_far is grown =
     let lines = event_lines first (take place events) in
     grown
     ∙ (ap₂ (λ (x y : List ℕ). x ++ y) so_far is
-    ∙ (append_assoc old lines (event_line (first + place) e) ∙ ap (λ (l : List ℕ). old ++ l) (sym (one_more first events place e inside at))))
+    ∙ (append_assoc old lines (event_line (first + place) e) ∙ ap (λ (l : List ℕ). old ++ l) (sym (one_more first events place e at))))
 
 abbrev pub admit_text : ℕ → ℕ → ℕ → List ℕ → List ℕ
 admit_text place t p args =

@@ -3,6 +3,7 @@
 ghost use Rattle.std.specs.Prelude.{◌≡◌, ◌⊎◌, ◌+◌, ◌++◌, ℕ, List, length, drop, take, reverse, IfOk, OnOk, IfSome, IfNone, string_bytes};
 ghost use Rattle.std.specs.List.{fold};
 ghost use Rattle.frame_file.specs.Reading.{Reads};
+ghost use Rattle.tc_log.specs.Entered.{seen};
 ghost use Rattle.log_file.specs.Stored.{IsStored};
 ghost use Rattle.log_part.specs.declared.part.Part.{Part as PartValue};
 ghost use Rattle.log_part.specs.declared.part.Part.TheVariants.{Whole as WholeLog};
@@ -18,7 +19,8 @@ use log_file::{Header, Stored, read_file};
 use log_part::Part;
 use report_texts::report::Report;
 use std::alloc::{AllocError, Global};
-use tc_log::event::Event;
+use tc_log::event::Entry;
+use tc_log::events::Events;
 
 /// How far a log came: the serial number of the transaction that was admitted last, and the number that was given last.
 #[derive(Clone, Copy, Debug, PartialEq, Eq)]
@@ -29,23 +31,23 @@ pub struct Reached {
 
 impl Reached {
     // The same behind one event more.
-    fn after(self, event: &Event) -> Reached
-        ensures { result ≡ after self event.now }
+    fn after(self, event: &Entry<'_>) -> Reached
+        ensures { result ≡ after self (seen event.now) }
     {
         match event {
-            Event::Admit { txn, .. } => Reached {
+            Entry::Admit { txn, .. } => Reached {
                 serial: *txn,
                 number: self.number,
             },
-            Event::Ask { number, .. } | Event::Undo { number, .. } => Reached {
+            Entry::Ask { number, .. } | Entry::Undo { number, .. } => Reached {
                 serial: self.serial,
                 number: *number,
             },
-            Event::Checkpoint { admitted, given } => Reached {
+            Entry::Checkpoint { admitted, given } => Reached {
                 serial: *admitted,
                 number: *given,
             },
-            Event::Answer { .. } | Event::End { .. } => self,
+            Entry::Answer { .. } | Entry::End { .. } => self,
         }
     }
 }
@@ -116,13 +118,13 @@ fn read_own(alloc: Global, header: &Header, file: &[u8]) -> Option<Stored>
 }
 
 // What the checkpoint says with which a log of these events begins.
-fn origin_of(events: &[Event]) -> Option<Reached>
+fn origin_of(events: &Events<'_>) -> Option<Reached>
     ensures { result ≡ origin_of events.now }
 {
-    match events.first() {
-        Some(Event::Checkpoint { admitted, given }) => Some(Reached {
-            serial: *admitted,
-            number: *given,
+    match events.at(0) {
+        Some(Entry::Checkpoint { admitted, given }) => Some(Reached {
+            serial: admitted,
+            number: given,
         }),
         _ => None,
     }
@@ -144,13 +146,13 @@ pub fn begin(alloc: Global, file: &[u8], part: Part) -> Result<Begun, AllocError
         unfinished: stored.unfinished,
         events: 0,
         first: part.begin(events.len()),
-        origin: origin_of(events),
+        origin: origin_of(&events),
         reached: Reached {
             serial: 0,
             number: 0,
         },
     };
-    let lines = followed.take(alloc, events)?;
+    let lines = followed.take(alloc, &events)?;
     Ok(Begun::Followed(followed, lines))
 }
 
@@ -181,7 +183,7 @@ impl Followed {
     }
 
     // Takes events that stand behind those that were read; the lines of those that have one.
-    fn take(&mut self, alloc: Global, events: &[Event]) -> Result<String, AllocError>
+    fn take(&mut self, alloc: Global, events: &Events<'_>) -> Result<String, AllocError>
         ensures lines { IfOk result (λ lines. string_bytes lines ≡ lines_behind self.old.first self.old.events events.now) }
         ensures taken { OnOk result (IsTaken self.old events.now self.new) }
     {
@@ -190,10 +192,15 @@ impl Followed {
         };
         let skipped = self.first.saturating_sub(self.events).min(events.len());
         let mut lines = String::new(alloc);
-        write_events(alloc, self.events + skipped, &events[skipped..], &mut lines)?;
+        write_events(
+            alloc,
+            self.events + skipped,
+            &events.behind(skipped),
+            &mut lines,
+        )?;
         self.events = count;
-        'events: for event in events {
-            self.reached = self.reached.after(event);
+        'events: for place in 0..events.len() {
+            self.reached = self.reached.after(&events.entry(place));
         }
         Ok(lines)
     }
@@ -213,7 +220,7 @@ impl Followed {
         let Some(end) = self.bytes.checked_add(bytes.len() - further.unfinished) else {
             return Err(AllocError);
         };
-        let lines = self.take(alloc, stored.log.events())?;
+        let lines = self.take(alloc, &stored.log.events())?;
         self.frames = further.next;
         self.bytes = end;
         self.unfinished = further.unfinished;

@@ -11,7 +11,7 @@ use log_part::Part;
 use report_texts::report::Report;
 use state_lines::row_lines::write_rows;
 use std::alloc::{AllocError, Global};
-use tc_log::event::Event;
+use tc_log::events::Events;
 
 // A line for each row with which the log begins, where they are wanted.
 fn write_base(
@@ -31,14 +31,14 @@ fn write_base(
 // Adds a line for each event of a part.
 fn write_part(
     alloc: Global,
-    events: &[Event],
+    events: &Events<'_>,
     part: Part,
     lines: &mut String,
 ) -> Result<(), AllocError>
     ensures { OnOk result (string_bytes lines.new ≡ string_bytes lines.old ++ part_lines part events.now) }
 {
     let first = part.first(events.len());
-    write_events(alloc, first, &events[first..], lines)
+    write_events(alloc, first, &events.behind(first), lines)
 }
 
 // The events of a part, the rows with which the log begins, where they are wanted, and the end that isn't whole.
@@ -47,7 +47,7 @@ fn listed(alloc: Global, stored: &Stored, part: Part, rows: bool) -> Result<Repo
     ensures status { IfOk result (λ r. r.status ≡ 0) }
 {
     let mut lines = String::new(alloc);
-    write_part(alloc, stored.log.events(), part, &mut lines)?;
+    write_part(alloc, &stored.log.events(), part, &mut lines)?;
     write_base(alloc, stored, rows, &mut lines)?;
     write_unfinished(alloc, stored.unfinished, &mut lines)?;
     Ok(Report {

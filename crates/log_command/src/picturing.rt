@@ -11,7 +11,7 @@ use log_picture::drawing::{MOST_EVENTS, drawing};
 use log_picture::pictured;
 use report_texts::report::Report;
 use std::alloc::{AllocError, Global};
-use tc_log::event::Event;
+use tc_log::events::Events;
 
 /// A picture of a log's file, and what is said of it.
 #[derive(Drop)]
@@ -30,15 +30,15 @@ fn range_of(part: Part, count: usize) -> (usize, usize)
 }
 
 // The picture of these events, the oldest first, from a place up to another.
-fn drawn(alloc: Global, events: &[Event], from: usize, to: usize) -> Result<String, AllocError>
+fn drawn(alloc: Global, events: &Events<'_>, from: usize, to: usize) -> Result<String, AllocError>
     requires ordered { from ≤ to }
     requires few { to ≤ from + 1000 }
     requires within { to ≤ length events.now }
     ensures { IfOk result (λ svg. IsDrawing from to events.now (string_bytes svg)) }
 {
-    let shown = &events[..to];
-    let picture = pictured(alloc, shown, from)?;
-    drawing(alloc, shown, from, to, events.len(), &picture)
+    let shown = events.before(to);
+    let picture = pictured(alloc, &shown, from)?;
+    drawing(alloc, &shown, from, to, events.len(), &picture)
 }
 
 // What is said of a picture of so many bytes.
@@ -63,7 +63,7 @@ fn pictured_log(alloc: Global, stored: &Stored, part: Part) -> Result<Pictured, 
 {
     let events = stored.log.events();
     let (from, to) = range_of(part, events.len());
-    let svg = drawn(alloc, events, from, to)?;
+    let svg = drawn(alloc, &events, from, to)?;
     let mut lines = picture_line(alloc, from, to, events.len(), svg.len())?;
     write_unfinished(alloc, stored.unfinished, &mut lines)?;
     Ok(Pictured {

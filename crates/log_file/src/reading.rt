@@ -5,6 +5,7 @@ ghost use Rattle.frame_file.specs.Reading.{IsFound, payloads_in};
 ghost use Rattle.frame_file.specs.declared.device.DeviceError.TheVariants.{Memory};
 ghost use Rattle.frame_file.specs.declared.reading.FrameFault.TheVariants.{Device as DeviceFault};
 ghost use Rattle.tc_log.specs.Reading.{ArePrinted, AreOnlyOnes};
+ghost use Rattle.tc_log.specs.Entered.{seen};
 ghost use Rattle.log_file.specs.declared.reading.OpenFault.TheVariants.{Frames as FramesFault, Empty as EmptyFault};
 ghost use Rattle.log_file.specs.Bytes.{front_of};
 ghost use Rattle.log_file.specs.Found.{base_in};
@@ -17,7 +18,7 @@ use crate::header::{Header, base_count, is_begun, is_header};
 use frame_file::{DeviceError, Found, FrameFault};
 use std::alloc::{AllocError, AllocFailed, Global};
 use tc_core::SiteNote;
-use tc_log::event::Event;
+use tc_log::event::Entry;
 use tc_log::log::Log;
 use tc_log::read::LogFault;
 
@@ -99,10 +100,10 @@ fn log_of(alloc: Global, rows: &[u8]) -> Result<Log, OpenFault>
     }
 }
 
-fn is_checkpoint(event: &Event) -> bool
-    ensures { result ≡ is_checkpoint event.now }
+fn is_checkpoint(event: &Entry<'_>) -> bool
+    ensures { result ≡ is_checkpoint (seen event.now) }
 {
-    matches!(event, Event::Checkpoint { .. })
+    matches!(event, Entry::Checkpoint { .. })
 }
 
 /// Whether a log can stand behind base records: its oldest event is a checkpoint.
@@ -110,7 +111,7 @@ pub fn begins_anew(log: &Log) -> bool
     ensures { result ≡ begins_anew (reverse log.now.events) }
 {
     match log.at(0) {
-        Some(event) => is_checkpoint(event),
+        Some(event) => is_checkpoint(&event),
         None => false,
     }
 }

@@ -18,7 +18,7 @@ use crate::texts::{
 use crate::way::{Way, mode_of};
 use access_slots::slot::Mode;
 use std::alloc::{AllocError, Global};
-use tc_log::event::Event;
+use tc_log::events::Events;
 
 /// How many events are drawn at most.
 pub const MOST_EVENTS: usize = 1000;
@@ -123,7 +123,7 @@ fn write_name(
 fn write_life(
     alloc: Global,
     canvas: &Canvas,
-    events: &[Event],
+    events: &Events<'_>,
     y: usize,
     life: &Life,
     svg: &mut String,
@@ -149,7 +149,7 @@ fn write_life(
 fn write_track(
     alloc: Global,
     canvas: &Canvas,
-    events: &[Event],
+    events: &Events<'_>,
     track: &Track,
     svg: &mut String,
 ) -> Result<(), AllocError>
@@ -165,7 +165,7 @@ fn write_track(
 fn write_tracks(
     alloc: Global,
     canvas: &Canvas,
-    events: &[Event],
+    events: &Events<'_>,
     tracks: &[Track],
     svg: &mut String,
 ) -> Result<(), AllocError>
@@ -397,7 +397,7 @@ fn write_records(
 #[tactic(auto, unfolding(crate::specs::Drawing::svg_text))]
 pub fn drawing(
     alloc: Global,
-    events: &[Event],
+    events: &Events<'_>,
     from: usize,
     to: usize,
     count: usize,

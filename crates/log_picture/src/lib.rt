@@ -2,9 +2,9 @@
 //! plain model first, and its drawing in SVG.
 //!
 //! ```
-//! let picture = pictured(alloc, log.events(), 0)?;   // of a log of 78 events, from place 0 on
+//! let picture = pictured(alloc, &log.events(), 0)?;   // of a log of 78 events, from place 0 on
 //! picture.tracks[0].life.end;                              // Some: the place of its End, and its outcome
-//! let svg = drawing(alloc, log.events(), 0, 78, 78, &picture)?;
+//! let svg = drawing(alloc, &log.events(), 0, 78, 78, &picture)?;
 //! ```
 //!
 //! (`picture_tests` of `lower_tests` has the tests.)

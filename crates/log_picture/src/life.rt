@@ -1,10 +1,12 @@
 //! Transactions, from their Admit to their End.
 
 ghost use Rattle.std.specs.Prelude.{◌≡◌, ◌+◌, ◌<◌, ◌^◌, option_map, length, IfOk};
+ghost use Rattle.tc_log.specs.Entered.{seen};
 ghost use Rattle.log_picture.specs.Lives.{ending_of, is_over, life_of, lives_from, last_of};
 
 use std::alloc::{AllocError, Global};
-use tc_log::event::{Event, Outcome};
+use tc_log::event::{Entry, Outcome};
+use tc_log::events::Events;
 
 /// How a transaction ended, and the place of its End.
 #[derive(Clone, Copy, Debug, PartialEq, Eq)]
@@ -44,19 +46,19 @@ impl Life {
 }
 
 // The first End of a transaction among these events, of which the first is at this place.
-fn ending_of(txn: u64, first: usize, events: &[Event]) -> Option<Ending>
+fn ending_of(txn: u64, first: usize, events: &Events<'_>) -> Option<Ending>
     requires { first + length events.now < 2 ^ 64 }
     ensures { result ≡ ending_of txn first events.now }
 {
-    'events: for (index, event) in events.iter().enumerate() {
-        match event {
-            Event::End {
+    'events: for index in 0..events.len() {
+        match events.entry(index) {
+            Entry::End {
                 txn: ended,
                 outcome,
-            } if *ended == txn => {
+            } if ended == txn => {
                 return Some(Ending {
                     place: first + index,
-                    outcome: *outcome,
+                    outcome,
                 });
             }
             _ => {}
@@ -66,12 +68,12 @@ fn ending_of(txn: u64, first: usize, events: &[Event]) -> Option<Ending>
 }
 
 // The transaction that the event at this place admits, if it admits one.
-fn life_of(place: usize, event: &Event, later: &[Event]) -> Option<Life>
+fn life_of(place: usize, event: &Entry<'_>, later: &Events<'_>) -> Option<Life>
     requires { place + 1 + length later.now < 2 ^ 64 }
-    ensures { result ≡ life_of place event.now later.now }
+    ensures { result ≡ life_of place (seen event.now) later.now }
 {
     match event {
-        Event::Admit { txn, proc, .. } => Some(Life {
+        Entry::Admit { txn, proc, .. } => Some(Life {
             txn: *txn,
             proc: *proc,
             begin: place,
@@ -92,12 +94,13 @@ fn is_over(from: usize, life: &Life) -> bool
 }
 
 /// The transactions that these events, the oldest first, admit, but for those that end before a place.
-pub fn lives_in(alloc: Global, events: &[Event], from: usize) -> Result<Vec<Life>, AllocError>
+pub fn lives_in(alloc: Global, events: &Events<'_>, from: usize) -> Result<Vec<Life>, AllocError>
     ensures { IfOk result (λ lives. lives.items ≡ lives_from from 0 events.now) }
 {
     let mut lives = Vec::new(alloc);
-    'events: for (place, event) in events.iter().enumerate() {
-        match life_of(place, event, &events[place + 1..]) {
+    'events: for place in 0..events.len() {
+        let later = events.behind(place + 1);
+        match life_of(place, &events.entry(place), &later) {
             Some(life) if !is_over(from, &life) => lives.push(life)?,
             _ => {}
         }

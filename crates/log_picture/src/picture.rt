@@ -9,7 +9,7 @@ use crate::lanes::{Lanes, lanes_of};
 use crate::life::{Life, lives_in};
 use crate::way::{Way, ways_in};
 use std::alloc::{AllocError, Global};
-use tc_log::event::Event;
+use tc_log::events::Events;
 
 /// A transaction in its lane, with its numbers.
 #[derive(Drop)]
@@ -33,24 +33,23 @@ pub struct Picture {
 // The numbers of a transaction, but for those that are answered before the place `from`.
 fn ways_of(
     alloc: Global,
-    events: &[Event],
+    events: &Events<'_>,
     from: usize,
     life: &Life,
 ) -> Result<Vec<Way>, AllocError>
     ensures { IfOk result (λ ways. ways.items ≡ ways_of from events.now life.now) }
 {
-    match life.begin.checked_add(1) {
-        Some(first) if first <= events.len() => {
-            ways_in(alloc, life.txn, from, first, &events[first..])
-        }
-        _ => Ok(Vec::new(alloc)),
+    if life.begin >= events.len() {
+        return Ok(Vec::new(alloc));
     }
+    let first = life.begin + 1;
+    ways_in(alloc, life.txn, from, first, &events.behind(first))
 }
 
 // Each transaction with its numbers, in its lane.
 fn tracks_of(
     alloc: Global,
-    events: &[Event],
+    events: &Events<'_>,
     from: usize,
     lives: &[Life],
     lanes: &[usize],
@@ -72,7 +71,7 @@ fn tracks_of(
 
 /// The transactions that these events, the oldest first, leave open at the place `from` or behind it, in lanes, with
 /// their numbers that are on their way there; and the records that most of them use.
-pub fn pictured(alloc: Global, events: &[Event], from: usize) -> Result<Picture, AllocError>
+pub fn pictured(alloc: Global, events: &Events<'_>, from: usize) -> Result<Picture, AllocError>
     ensures { IfOk result (IsPicture events.now from 16) }
 {
     let lives = lives_in(alloc, events, from)?;

@@ -10,7 +10,8 @@ use crate::way::{Answering, Way};
 use access_slots::op::{Op, Said};
 use access_slots::slot::{Mode, Record};
 use std::alloc::{AllocError, Global};
-use tc_log::event::{Args, Event, Outcome};
+use tc_log::event::{Entry, Outcome};
+use tc_log::events::Events;
 
 /// A record: data component, table and key.
 pub(crate) fn record_text(alloc: Global, record: &Record) -> Result<String, AllocError>
@@ -23,11 +24,11 @@ pub(crate) fn record_text(alloc: Global, record: &Record) -> Result<String, Allo
 }
 
 /// Each argument behind a space.
-pub fn arguments_text(alloc: Global, args: &Args) -> Result<String, AllocError>
+pub fn arguments_text(alloc: Global, args: &[u64]) -> Result<String, AllocError>
     ensures { IfOk result (λ s. string_bytes s ≡ arguments_text args.now) }
 {
     let mut text = String::new(alloc);
-    'pieces: for arg in args.as_slice() {
+    'pieces: for arg in args {
         let piece = format!(in alloc; " {arg}")?;
         text.push_str(piece.as_str())?;
     }
@@ -35,11 +36,11 @@ pub fn arguments_text(alloc: Global, args: &Args) -> Result<String, AllocError>
 }
 
 // The arguments of the call that the event at this place admits.
-fn arguments_at(alloc: Global, events: &[Event], place: usize) -> Result<String, AllocError>
+fn arguments_at(alloc: Global, events: &Events<'_>, place: usize) -> Result<String, AllocError>
     ensures { IfOk result (λ s. string_bytes s ≡ arguments_at events.now place) }
 {
-    match events.get(place) {
-        Some(Event::Admit { args, .. }) => arguments_text(alloc, args),
+    match events.at(place) {
+        Some(Entry::Admit { args, .. }) => arguments_text(alloc, args),
         _ => Ok(String::new(alloc)),
     }
 }
@@ -113,7 +114,11 @@ fn behind_class(alloc: Global, end: Option<Ending>) -> Result<String, AllocError
 
 /// What is said of a transaction.
 #[tactic(auto, unfolding(crate::specs::Texts::life_title))]
-pub(crate) fn life_title(alloc: Global, events: &[Event], life: &Life) -> Result<String, AllocError>
+pub(crate) fn life_title(
+    alloc: Global,
+    events: &Events<'_>,
+    life: &Life,
+) -> Result<String, AllocError>
     ensures { IfOk result (λ s. string_bytes s ≡ life_title events.now life.now) }
 {
     let args = arguments_at(alloc, events, life.begin)?;

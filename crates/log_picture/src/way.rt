@@ -2,12 +2,14 @@
 
 ghost use Rattle.std.specs.Prelude.{◌≡◌, ◌+◌, ◌<◌, ◌^◌, option_map, length, IfOk};
 ghost use Rattle.std.specs.List.{list_any};
+ghost use Rattle.tc_log.specs.Entered.{seen};
 ghost use Rattle.log_picture.specs.Ways.{answering_of, way_of, is_back, ways_from, is_of, is_write_of, uses, mode_of};
 
 use access_slots::op::{Op, Said};
 use access_slots::slot::{Mode, Record};
 use std::alloc::{AllocError, Global};
-use tc_log::event::Event;
+use tc_log::event::Entry;
+use tc_log::events::Events;
 
 /// What a number was answered, and the place of its Answer.
 #[derive(Clone, Copy, Debug, PartialEq, Eq)]
@@ -39,20 +41,20 @@ impl Way {
 }
 
 // The first Answer to a number among these events, of which the first is at this place.
-fn answering_of(number: u64, first: usize, events: &[Event]) -> Option<Answering>
+fn answering_of(number: u64, first: usize, events: &Events<'_>) -> Option<Answering>
     requires { first + length events.now < 2 ^ 64 }
     ensures { result ≡ answering_of number first events.now }
 {
-    'events: for (index, event) in events.iter().enumerate() {
-        match event {
-            Event::Answer {
+    'events: for index in 0..events.len() {
+        match events.entry(index) {
+            Entry::Answer {
                 number: answered,
                 said,
                 ..
-            } if *answered == number => {
+            } if answered == number => {
                 return Some(Answering {
                     place: first + index,
-                    said: *said,
+                    said,
                 });
             }
             _ => {}
@@ -62,13 +64,13 @@ fn answering_of(number: u64, first: usize, events: &[Event]) -> Option<Answering
 }
 
 // The number that the event at this place gives out for a transaction, if it gives one out.
-fn way_of(txn: u64, place: usize, event: &Event, later: &[Event]) -> Option<Way>
+fn way_of(txn: u64, place: usize, event: &Entry<'_>, later: &Events<'_>) -> Option<Way>
     requires { place + 1 + length later.now < 2 ^ 64 }
-    ensures { result ≡ way_of txn place event.now later.now }
+    ensures { result ≡ way_of txn place (seen event.now) later.now }
 {
     let (asker, number, op, undo) = match event {
-        Event::Ask { txn, number, op } => (*txn, *number, *op, false),
-        Event::Undo { txn, number, op } => (*txn, *number, *op, true),
+        Entry::Ask { txn, number, op } => (*txn, *number, *op, false),
+        Entry::Undo { txn, number, op } => (*txn, *number, *op, true),
         _ => return None,
     };
     if asker != txn {
@@ -100,14 +102,15 @@ pub fn ways_in(
     txn: u64,
     from: usize,
     first: usize,
-    events: &[Event],
+    events: &Events<'_>,
 ) -> Result<Vec<Way>, AllocError>
     requires { first + length events.now < 2 ^ 64 }
     ensures { IfOk result (λ ways. ways.items ≡ ways_from txn from first events.now) }
 {
     let mut ways = Vec::new(alloc);
-    'events: for (index, event) in events.iter().enumerate() {
-        match way_of(txn, first + index, event, &events[index + 1..]) {
+    'events: for index in 0..events.len() {
+        let later = events.behind(index + 1);
+        match way_of(txn, first + index, &events.entry(index), &later) {
             Some(way) if !is_back(from, &way) => ways.push(way)?,
             _ => {}
         }

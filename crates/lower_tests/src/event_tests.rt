@@ -3,7 +3,7 @@ use access_slots::op::{Op, Said};
 use access_slots::slot::{Record, Value};
 use std::alloc::Global;
 use std::process::Abort;
-use tc_log::event::{Args, Event, Outcome};
+use tc_log::event::{Args, Entry, Event, Outcome};
 use tc_log::log::Log;
 use tc_log::read::LogFault;
 
@@ -95,7 +95,7 @@ fn their_bytes() -> [u8; 288] {
 }
 
 fn last_ends(log: &Log) -> bool {
-    matches!(log.at(2), Some(Event::End { txn: 7, .. }))
+    matches!(log.at(2), Some(Entry::End { txn: 7, .. }))
 }
 
 #[test]
@@ -148,15 +148,21 @@ fn each_kind(rt: &impl Abort, alloc: Global, log: &mut Log) {
 
 fn copies_of(rt: &impl Abort, alloc: Global, log: &Log) -> Log {
     let mut copies = Log::new(alloc);
-    for event in log.events() {
+    for place in 0..log.len() {
         copies.reserve(1).expect(rt, "not reserved");
-        copies.push(event.copied(alloc).expect(rt, "not copied"));
+        copies.push(log.entry(place).copied(alloc).expect(rt, "not copied"));
     }
     copies
 }
 
 fn text_of(rt: &impl Abort, alloc: Global, log: &Log) -> String {
-    format!(in alloc; "{:?}", log.events()).expect(rt, "no text")
+    let mut text = String::new(alloc);
+    for place in 0..log.len() {
+        let event = format!(in alloc; "{:?}\n", log.entry(place)).expect(rt, "no text");
+        text.push_str(event.as_str()).expect(rt, "no text");
+        drop(event);
+    }
+    text
 }
 
 // As bytes, and as text too: an answer Old is printed as zeros.
@@ -192,7 +198,7 @@ fn call() -> [u8; 96] {
 // The first event, where it is a call.
 fn first_call(log: &Log) -> Option<(u64, usize, &[u64])> {
     match log.at(0) {
-        Some(Event::Admit { txn, proc, args }) => Some((*txn, *proc, args.as_slice())),
+        Some(Entry::Admit { txn, proc, args }) => Some((txn, proc, args)),
         _ => None,
     }
 }

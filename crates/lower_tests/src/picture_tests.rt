@@ -92,7 +92,7 @@ fn life_is(rt: &impl Abort, picture: &Picture, index: usize, lane: usize, want: 
 fn three_transactions(rt: HostRuntime) {
     let alloc = rt.alloc();
     let log = three(alloc).expect(&rt, "no memory");
-    let picture = pictured(alloc, log.events(), 0).expect(&rt, "no memory");
+    let picture = pictured(alloc, &log.events(), 0).expect(&rt, "no memory");
     let first = Life {
         txn: 1,
         proc: 0,
@@ -128,7 +128,7 @@ fn three_transactions(rt: HostRuntime) {
 fn a_part(rt: HostRuntime) {
     let alloc = rt.alloc();
     let log = three(alloc).expect(&rt, "no memory");
-    let picture = pictured(alloc, log.events(), 7).expect(&rt, "no memory");
+    let picture = pictured(alloc, &log.events(), 7).expect(&rt, "no memory");
     let track = picture.tracks.get(0).expect(&rt, "no transaction");
     is_same(&rt, track.life.txn, 2);
     is_same(&rt, track.ways.len(), 1);
@@ -148,8 +148,8 @@ fn a_part(rt: HostRuntime) {
 fn its_drawing(rt: HostRuntime) {
     let alloc = rt.alloc();
     let log = three(alloc).expect(&rt, "no memory");
-    let picture = pictured(alloc, log.events(), 0).expect(&rt, "no memory");
-    let svg = drawing(alloc, log.events(), 0, 11, 11, &picture).expect(&rt, "no memory");
+    let picture = pictured(alloc, &log.events(), 0).expect(&rt, "no memory");
+    let svg = drawing(alloc, &log.events(), 0, 11, 11, &picture).expect(&rt, "no memory");
     let text = svg.as_str();
     for part in [
         "<svg xmlns='http://www.w3.org/2000/svg' width='960' height='200'>",

@@ -13,7 +13,7 @@ use std::alloc::Global;
 use std::process::Abort;
 use std::sync::Wait;
 use std::thread::Threads;
-use tc_log::event::Event;
+use tc_log::event::{Entry, Event};
 use tc_log::log::Log;
 use worker_pool::{OpenGate, Report, RunFault, run};
 
@@ -207,7 +207,7 @@ fn a_log_that_begins_anew_is_read_with_its_records(rt: HostRuntime) {
     assert!(&rt;
         matches!(
             log.at(0),
-            Some(Event::Checkpoint {
+            Some(Entry::Checkpoint {
                 admitted: 3,
                 given: 9
             })

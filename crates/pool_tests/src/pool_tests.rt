@@ -17,7 +17,7 @@ use std::sync::atomic::{AtomicU64, Ordering};
 use std::sync::{Mutex, Wait};
 use std::thread::Threads;
 use tc_core::state::{Call, Refusal, TcState};
-use tc_log::event::Event;
+use tc_log::event::Entry;
 use worker_pool::{Acknowledgement, Answer, Gate, OpenGate, RunFault, RunSpec, run};
 
 fn one_moved<R: Threads + Wait + Sync + Abort>(rt: &R, alloc: Global, workers: usize) {
@@ -359,10 +359,10 @@ impl Link for Records {
 }
 
 // Whether the event asks or undoes under the wire's number, with its operation.
-fn is_of(event: &Event, wire: &Wire) -> bool {
+fn is_of(event: &Entry<'_>, wire: &Wire) -> bool {
     match event {
-        Event::Ask { txn: _, number, op } => *number == wire.number && *op == wire.op,
-        Event::Undo { txn: _, number, op } => *number == wire.number && *op == wire.op,
+        Entry::Ask { txn: _, number, op } => *number == wire.number && *op == wire.op,
+        Entry::Undo { txn: _, number, op } => *number == wire.number && *op == wire.op,
         _ => false,
     }
 }
@@ -372,7 +372,7 @@ fn is_logged(state: &TcState, wire: &Wire) -> bool {
     let log = state.log();
     for place in 0..log.len() {
         if let Some(event) = log.at(place) {
-            if is_of(event, wire) {
+            if is_of(&event, wire) {
                 return true;
             }
         }

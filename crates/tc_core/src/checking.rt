@@ -3,6 +3,7 @@
 ghost use Rattle.std.specs.Prelude.{◌≡◌, ◌↔◌, ◌<◌, ◌≤◌, [], ◌∷◌, length, IsTrue, IsFalse, IsOk, IfOk, OnOk, IfErr};
 ghost use Rattle.lock_table.specs.Facts.{AreHeld};
 ghost use Rattle.tc_log.specs.declared.event.Event.TheVariants.{Admit, Ask, Answer, Undo, End, Checkpoint};
+ghost use Rattle.tc_log.specs.Entered.{seen};
 ghost use Rattle.history.specs.Calls.{held};
 ghost use Rattle.history.specs.Places.{StandsAt};
 ghost use Rattle.transactions.specs.Standing.{standing};
@@ -20,7 +21,7 @@ use crate::state::{Asked, Call, Refusal, Request, Stranger, TcState, TxnId};
 use access_slots::op::{Op, Reply, Said};
 use lock_table::table::LockTable;
 use std::alloc::Global;
-use tc_log::event::{Args, Event, Outcome};
+use tc_log::event::{Entry, Outcome};
 use tc_log::log::Log;
 use transactions::Sent;
 
@@ -174,7 +175,7 @@ impl TcState {
     }
 
     // Takes an Admit in, where it may come next.
-    fn follow_admit(&mut self, txn: u64, proc: usize, args: &Args) -> Result<(), Unlike>
+    fn follow_admit(&mut self, txn: u64, proc: usize, args: &[u64]) -> Result<(), Unlike>
         ensures rest { IsFurther self.old self.new }
         ensures follows { OnOk result (self.new.events ≡ Admit txn proc args.now ∷ self.old.events) }
         ensures why { IfErr result (IsUnlike self.old.procs self.old.events (Admit txn proc args.now)) }
@@ -182,7 +183,7 @@ impl TcState {
         if self.admitted().checked_add(1) != Some(txn) {
             return Err(Unlike::Illegal);
         }
-        let Ok(args) = Vec::from_slice(self.alloc, args.as_slice()) else {
+        let Ok(args) = Vec::from_slice(self.alloc, args) else {
             return Err(Unlike::Memory);
         };
         let call = Call { proc, args };
@@ -217,22 +218,22 @@ impl TcState {
     }
 
     // Takes an event in, where it may come next.
-    fn follow(&mut self, event: &Event) -> Result<(), Unlike>
+    fn follow(&mut self, event: &Entry<'_>) -> Result<(), Unlike>
         requires untold { AreUntold self.old.sites }
         requires given_up { self.old.given_up ≡ [] }
         ensures rest { IsFurther self.old self.new }
-        ensures follows { OnOk result (self.new.events ≡ event.now ∷ self.old.events) }
-        ensures why { IfErr result (IsUnlike self.old.procs self.old.events event.now) }
+        ensures follows { OnOk result (self.new.events ≡ seen event.now ∷ self.old.events) }
+        ensures why { IfErr result (IsUnlike self.old.procs self.old.events (seen event.now)) }
     {
         let follows = match event {
-            Event::Admit { txn, proc, args } => {
+            Entry::Admit { txn, proc, args } => {
                 return self.follow_admit(*txn, *proc, args);
             }
-            Event::Ask { txn, number, op } => self.follow_ask(*txn, *number, op),
-            Event::Answer { txn, number, said } => self.follow_answer(*txn, *number, *said),
-            Event::Undo { txn, number, op } => self.follow_undo(*txn, *number, op),
-            Event::End { txn, outcome } => self.follow_end(*txn, *outcome),
-            Event::Checkpoint { admitted, given } => {
+            Entry::Ask { txn, number, op } => self.follow_ask(*txn, *number, op),
+            Entry::Answer { txn, number, said } => self.follow_answer(*txn, *number, *said),
+            Entry::Undo { txn, number, op } => self.follow_undo(*txn, *number, op),
+            Entry::End { txn, outcome } => self.follow_end(*txn, *outcome),
+            Entry::Checkpoint { admitted, given } => {
                 return self.follow_checkpoint(*admitted, *given);
             }
         };
@@ -245,14 +246,11 @@ impl TcState {
 }
 
 /// The event at a place that the log has.
-pub fn event_at(log: &Log, place: usize) -> &Event
+pub fn event_at(log: &Log, place: usize) -> Entry<'_>
     requires { place < length log.now.events }
-    ensures { StandsAt log.now.events place result.now }
+    ensures { StandsAt log.now.events place (seen result) }
 {
-    match log.at(place) {
-        Some(event) => event,
-        None => unreachable!(),
-    }
+    log.entry(place)
 }
 
 // The state behind a log's first so many events, where each is allowed. Nothing is told of data
@@ -272,7 +270,7 @@ fn replayed(alloc: Global, procs: &Procs, log: &Log, events: usize) -> Result<Tc
     };
     for place in 0..events {
         state.known();
-        match state.follow(event_at(log, place)) {
+        match state.follow(&event_at(log, place)) {
             Ok(()) => {}
             Err(Unlike::Illegal) => return Err(CheckFault::LogIllegal(place)),
             Err(Unlike::Memory) => return Err(CheckFault::Memory),

@@ -1,6 +1,6 @@
 // Restarts of data components, and what is to be redone then, as the log has it.
 
-ghost use Rattle.std.specs.Prelude.{◌≡◌, ◌↔◌, ◌<◌, ◌≤◌, length, drop, Some, None, IfSome, IfNone};
+ghost use Rattle.std.specs.Prelude.{◌≡◌, ◌↔◌, ◌+◌, ◌^◌, ◌<◌, ◌≤◌, length, drop, reverse, Some, None, IfSome, IfNone};
 ghost use Rattle.std.specs.Prelude.{IsTrue, IsOk, OnOk, IfErr, OnErr};
 ghost use Rattle.history.specs.Redo.{is_done};
 ghost use Rattle.tc_core.specs.Redo.{news_fault, after_told, redo_wire, redo_reply, redo_behind, after_redo, IsRedone, after_redone};
@@ -10,22 +10,23 @@ use crate::sites::known;
 use crate::state::{NewsFault, Redo, Stranger2, TcState};
 use access_slots::op::{News, Reply, Said, Wire};
 use history::Answered;
-use tc_log::event::Event;
+use tc_log::event::Entry;
+use tc_log::log::Log;
 use transactions::{Redoing, Site};
 
-// The first answer to a number.
-fn said_in(events: &[Event], number: u64) -> Option<Said>
-    ensures { result ≡ said_in events.now number }
+// The first answer to a number, from a place on.
+fn said_in(log: &Log, from: usize, number: u64) -> Option<Said>
+    ensures { result ≡ said_in (drop from (reverse log.now.events)) number }
 {
-    for event in events {
-        if let Event::Answer {
+    for place in from..log.len() {
+        if let Entry::Answer {
             number: answered,
             said,
             ..
-        } = event
+        } = log.entry(place)
         {
-            if *answered == number {
-                return Some(*said);
+            if answered == number {
+                return Some(said);
             }
         }
     }
@@ -39,19 +40,19 @@ fn is_done(said: &Said) -> bool
 }
 
 // What is to be redone of the event at a place.
-fn at(events: &[Event], place: usize, dc: u16, after: u64) -> Option<Answered>
-    requires { place < length events.now }
-    ensures { result ≡ first_in dc after (drop place events.now) }
+fn at(log: &Log, place: usize, dc: u16, after: u64) -> Option<Answered>
+    requires { place < length log.now.events }
+    ensures { result ≡ first_in dc after (drop place (reverse log.now.events)) }
 {
-    let (txn, number, op) = match &events[place] {
-        Event::Ask { txn, number, op } => (*txn, *number, *op),
-        Event::Undo { txn, number, op } => (*txn, *number, *op),
+    let (txn, number, op) = match log.entry(place) {
+        Entry::Ask { txn, number, op } => (txn, number, op),
+        Entry::Undo { txn, number, op } => (txn, number, op),
         _ => return None,
     };
     if number <= after || op.record().dc != dc {
         return None;
     }
-    match said_in(&events[place + 1..], number) {
+    match said_in(log, place, number) {
         Some(said) if is_done(&said) => Some(Answered {
             txn,
             number,
@@ -64,14 +65,15 @@ fn at(events: &[Event], place: usize, dc: u16, after: u64) -> Option<Answered>
 
 // The first operation of the data component above the number that was done, looked for from a place
 // of the log on; and where it was sent.
-fn find_done(events: &[Event], from: usize, dc: u16, after: u64) -> Option<(usize, Answered)>
-    ensures inside { IfSome result (λ x. x.0 < length events.now) }
-    ensures there { IfSome result (λ x. first_in dc after (drop x.0 events.now) ≡ Some x.1) }
-    ensures found { IfSome result (λ x. scan dc after (drop from events.now) ≡ Some x.1) }
-    ensures none { IfNone result (scan dc after (drop from events.now) ≡ None) }
+fn find_done(log: &Log, from: usize, dc: u16, after: u64) -> Option<(usize, Answered)>
+    ensures inside { IfSome result (λ x. x.0 < length (reverse log.now.events)) }
+    ensures fits { IfSome result (λ x. x.0 + 1 < 2 ^ 64) }
+    ensures there { IfSome result (λ x. first_in dc after (drop x.0 (reverse log.now.events)) ≡ Some x.1) }
+    ensures found { IfSome result (λ x. scan dc after (drop from (reverse log.now.events)) ≡ Some x.1) }
+    ensures none { IfNone result (scan dc after (drop from (reverse log.now.events)) ≡ None) }
 {
-    for place in from..events.len() {
-        if let Some(answered) = at(events, place, dc, after) {
+    for place in from..log.len() {
+        if let Some(answered) = at(log, place, dc, after) {
             return Some((place, answered));
         }
     }
@@ -147,7 +149,7 @@ impl TcState {
         let Some(redo) = site.redo else {
             return Redo::NotDown;
         };
-        match find_done(self.book.log.events(), start, dc, redo.redone) {
+        match find_done(&self.book.log, start, dc, redo.redone) {
             Some((_, answered)) => Redo::Send(wire_of(&answered, site.incarnation, redo.mark)),
             None => {
                 let at = usize::from(dc);
@@ -173,7 +175,7 @@ impl TcState {
             return Redo::NotDown;
         };
         let after = redo.redone.max(number);
-        match find_done(self.book.log.events(), start, dc, after) {
+        match find_done(&self.book.log, start, dc, after) {
             Some((_, answered)) => Redo::Send(wire_of(&answered, site.incarnation, redo.mark)),
             None => Redo::Finished,
         }
@@ -193,8 +195,7 @@ impl TcState {
         let Some(redo) = site.redo else {
             return Err(Stranger2);
         };
-        let Some((place, answered)) = find_done(self.book.log.events(), start, dc, redo.redone)
-        else {
+        let Some((place, answered)) = find_done(&self.book.log, start, dc, redo.redone) else {
             return Err(Stranger2);
         };
         if !is_said(&answered, site.incarnation, reply) {

@@ -9,7 +9,7 @@ pub whole : (c : Cells) → length c.body ≡ 64 → length (cells_bytes c) ≡ 
 unfolding head_bytes number_bytes
 whole c long = omega (arith, long)
 
-numbers_long : (args : List ℕ) → length (flat_map (to_le_bytes w64) args) ≡ 8 * length args
+pub numbers_long : (args : List ℕ) → length (flat_map (to_le_bytes w64) args) ≡ 8 * length args
 numbers_long [] = refl
 numbers_long (n ∷ args) = omega (arith, numbers_long args)
 

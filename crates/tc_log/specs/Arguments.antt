@@ -5,4 +5,4 @@ use Rattle.tc_log.specs.declared.event.Numbers.TheVariants.{Few, Many}
 
 abbrev pub listed : Numbers → List ℕ
 listed (Few numbers) = numbers.items
-listed (Many numbers) = numbers.items
+listed (Many numbers) = numbers

@@ -1,17 +1,40 @@
 //! What happens to transactions.
 
 ghost use Rattle.std.specs.Prelude.{◌≡◌, IfOk};
+ghost use Rattle.tc_log.specs.Arguments.{listed};
 
 use access_slots::op::{Op, Said};
 use arrayvec::ArrayVec;
 use std::alloc::{AllocError, Global};
 use std::marker::Model;
 
+// Numbers with memory of their own, which contracts see as a list.
+#[derive(Debug, Drop)]
+pub(crate) struct Long {
+    numbers: Vec<u64>,
+}
+
+impl Model for Long {
+    ghost use Rattle.std.specs.Prelude.{ℕ, List};
+
+    ghost Value = { List ℕ };
+
+    ghost view = { λ l. l.numbers.items };
+}
+
+impl Long {
+    pub(crate) fn as_slice(&self) -> &[u64]
+        ensures { result.now ≡ self.now }
+    {
+        self.numbers.as_slice()
+    }
+}
+
 // The numbers of a call. Up to 8, the most that a procedure takes, lie in place and need no memory of their own.
 #[derive(Debug, Drop)]
-enum Numbers {
+pub(crate) enum Numbers {
     Few(ArrayVec<u64, 8>),
-    Many(Vec<u64>),
+    Many(Long),
 }
 
 /// The arguments of a call, which contracts see as a list.
@@ -36,7 +59,7 @@ impl Args {
     {
         let numbers = match ArrayVec::try_from(numbers.as_slice()) {
             Ok(few) => Numbers::Few(few),
-            Err(_) => Numbers::Many(numbers),
+            Err(_) => Numbers::Many(Long { numbers }),
         };
         Args { numbers }
     }
@@ -48,7 +71,9 @@ impl Args {
     {
         let numbers = match ArrayVec::try_from(numbers) {
             Ok(few) => Numbers::Few(few),
-            Err(_) => Numbers::Many(Vec::from_slice(alloc, numbers)?),
+            Err(_) => Numbers::Many(Long {
+                numbers: Vec::from_slice(alloc, numbers)?,
+            }),
         };
         Ok(Args { numbers })
     }
@@ -62,6 +87,14 @@ impl Args {
             Numbers::Few(few) => few.as_slice(),
             Numbers::Many(many) => many.as_slice(),
         }
+    }
+
+    // How they lie.
+    #[inline(always)]
+    pub(crate) fn numbers(self) -> Numbers
+        ensures { listed result ≡ self }
+    {
+        self.numbers
     }
 }
 
@@ -93,27 +126,91 @@ pub enum Event {
     Checkpoint { admitted: u64, given: u64 },
 }
 
+/// An event as a log shows it, with the arguments of a call that the log keeps.
+#[derive(Clone, Copy, Debug)]
+pub enum Entry<'a> {
+    Admit {
+        txn: u64,
+        proc: usize,
+        args: &'a [u64],
+    },
+    Ask {
+        txn: u64,
+        number: u64,
+        op: Op,
+    },
+    Answer {
+        txn: u64,
+        number: u64,
+        said: Said,
+    },
+    Undo {
+        txn: u64,
+        number: u64,
+        op: Op,
+    },
+    End {
+        txn: u64,
+        outcome: Outcome,
+    },
+    Checkpoint {
+        admitted: u64,
+        given: u64,
+    },
+}
+
 impl Event {
     ghost use Rattle.std.specs.Prelude.{◌≡◌, IfOk};
+    ghost use Rattle.tc_log.specs.Entered.{seen};
+
+    /// The event as a log would show it.
+    pub fn entry(&self) -> Entry<'_>
+        ensures { seen result ≡ self.now }
+    {
+        match *self {
+            Event::Admit {
+                txn,
+                proc,
+                ref args,
+            } => Entry::Admit {
+                txn,
+                proc,
+                args: args.as_slice(),
+            },
+            Event::Ask { txn, number, op } => Entry::Ask { txn, number, op },
+            Event::Answer { txn, number, said } => Entry::Answer { txn, number, said },
+            Event::Undo { txn, number, op } => Entry::Undo { txn, number, op },
+            Event::End { txn, outcome } => Entry::End { txn, outcome },
+            Event::Checkpoint { admitted, given } => Entry::Checkpoint { admitted, given },
+        }
+    }
 
     /// The same event once more. It takes memory only for a call with more than 8 arguments.
     pub fn copied(&self, alloc: Global) -> Result<Event, AllocError>
         ensures { IfOk result (λ copy. copy ≡ self.now) }
     {
+        self.entry().copied(alloc)
+    }
+}
+
+impl Entry<'_> {
+    ghost use Rattle.std.specs.Prelude.{◌≡◌, IfOk};
+    ghost use Rattle.tc_log.specs.Entered.{seen};
+
+    /// The event by itself. It takes memory only for a call with more than 8 arguments.
+    pub fn copied(&self, alloc: Global) -> Result<Event, AllocError>
+        ensures { IfOk result (λ copy. copy ≡ seen self.now) }
+    {
         Ok(match *self {
-            Event::Admit {
-                txn,
-                proc,
-                ref args,
-            } => {
-                let args = Args::copy_of(alloc, args.as_slice())?;
+            Entry::Admit { txn, proc, args } => {
+                let args = Args::copy_of(alloc, args)?;
                 Event::Admit { txn, proc, args }
             }
-            Event::Ask { txn, number, op } => Event::Ask { txn, number, op },
-            Event::Answer { txn, number, said } => Event::Answer { txn, number, said },
-            Event::Undo { txn, number, op } => Event::Undo { txn, number, op },
-            Event::End { txn, outcome } => Event::End { txn, outcome },
-            Event::Checkpoint { admitted, given } => Event::Checkpoint { admitted, given },
+            Entry::Ask { txn, number, op } => Event::Ask { txn, number, op },
+            Entry::Answer { txn, number, said } => Event::Answer { txn, number, said },
+            Entry::Undo { txn, number, op } => Event::Undo { txn, number, op },
+            Entry::End { txn, outcome } => Event::End { txn, outcome },
+            Entry::Checkpoint { admitted, given } => Event::Checkpoint { admitted, given },
         })
     }
 }

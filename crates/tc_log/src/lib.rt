@@ -12,10 +12,13 @@
 #![tactic(auto)]
 
 pub mod event;
+pub mod events;
+mod heads;
 pub mod log;
 mod print;
 pub mod read;
 
-pub use event::{Args, Event, Outcome};
+pub use event::{Args, Entry, Event, Outcome};
+pub use events::Events;
 pub use log::Log;
 pub use read::LogFault;

@@ -7,13 +7,14 @@
 //!  +------+-----+-----------+-------+---+-------------+------+-----+-----------------------+
 //! ```
 
-ghost use Rattle.std.specs.Prelude.{◌≡◌, true, ◌+◌, ◌*◌, ◌≤◌, ◌++◌, drop, length, IfOk, IfSome, OnOk};
+ghost use Rattle.std.specs.Prelude.{◌≡◌, true, ◌+◌, ◌-◌, ◌*◌, ◌≤◌, ◌++◌, drop, length, reverse, IfOk, IfSome, OnOk};
 ghost use Rattle.std.specs.List.{flat_map};
 ghost use Rattle.std.specs.Int.{w16, w64, to_le_bytes};
 ghost use Rattle.tc_log.specs.Printed.{op_cells, said_cells, outcome_cells, args_bytes, zeros, cells_of, cells_bytes, head_bytes, number_bytes, printed};
+ghost use Rattle.tc_log.specs.Entered.{seen};
 ghost use Rattle.tc_log.specs.Joining.Laid.{laid, laid_if, laid_parts, admit_cells, body_bytes, is_printable};
 
-use crate::event::{Args, Event, Outcome};
+use crate::event::{Entry, Outcome};
 use crate::log::Log;
 use access_slots::op::{Op, Said};
 use access_slots::slot::{Record, Value};
@@ -112,11 +113,10 @@ fn outcome_cells(txn: u64, outcome: Outcome) -> Option<Cells<'static>>
     Some(cells_at(5, sub, txn, word, &NO_RECORD, Body::Zeros))
 }
 
-fn admit_cells(txn: u64, proc: usize, args: &Args) -> Option<Cells<'_>>
+fn admit_cells(txn: u64, proc: usize, args: &[u64]) -> Option<Cells<'_>>
     ensures cells { laid_if result ≡ admit_cells txn proc args.now }
     ensures printable { IfSome result (λ c. is_printable c.body ≡ true) }
 {
-    let args = args.as_slice();
     if args.len() > 8 {
         return None;
     }
@@ -124,17 +124,17 @@ fn admit_cells(txn: u64, proc: usize, args: &Args) -> Option<Cells<'_>>
     Some(cells_at(1, args.len() as u8, txn, proc as u64, &NO_RECORD, body))
 }
 
-fn cells_of(event: &Event) -> Option<Cells<'_>>
-    ensures cells { laid_if result ≡ cells_of event.now }
+fn cells_of<'a>(event: &'a Entry<'a>) -> Option<Cells<'a>>
+    ensures cells { laid_if result ≡ cells_of (seen event.now) }
     ensures printable { IfSome result (λ c. is_printable c.body ≡ true) }
 {
     match event {
-        Event::Admit { txn, proc, args } => admit_cells(*txn, *proc, args),
-        Event::Ask { txn, number, op } => Some(op_cells(2, *txn, *number, op)),
-        Event::Answer { txn, number, said } => said_cells(*txn, *number, said),
-        Event::Undo { txn, number, op } => Some(op_cells(4, *txn, *number, op)),
-        Event::End { txn, outcome } => outcome_cells(*txn, *outcome),
-        Event::Checkpoint { admitted, given } => Some(cells_at(
+        Entry::Admit { txn, proc, args } => admit_cells(*txn, *proc, args),
+        Entry::Ask { txn, number, op } => Some(op_cells(2, *txn, *number, op)),
+        Entry::Answer { txn, number, said } => said_cells(*txn, *number, said),
+        Entry::Undo { txn, number, op } => Some(op_cells(4, *txn, *number, op)),
+        Entry::End { txn, outcome } => outcome_cells(*txn, *outcome),
+        Entry::Checkpoint { admitted, given } => Some(cells_at(
             6,
             0,
             *admitted,
@@ -230,8 +230,8 @@ fn write_cells(out: &mut Vec<u8>, cells: &Cells) -> Result<(), AllocError>
 }
 
 // One event's 96 bytes.
-pub(crate) fn write_event(out: &mut Vec<u8>, event: &Event) -> Result<(), AllocError>
-    ensures bytes { OnOk result (out.new.items ≡ out.old.items ++ printed event.now) }
+pub(crate) fn write_event(out: &mut Vec<u8>, event: &Entry<'_>) -> Result<(), AllocError>
+    ensures bytes { OnOk result (out.new.items ≡ out.old.items ++ printed (seen event.now)) }
     ensures long { OnOk result (length out.new.items ≡ length out.old.items + 96) }
 {
     match cells_of(event) {
@@ -259,29 +259,24 @@ impl Log {
         ensures bytes { IfOk result (λ bytes. bytes.items ≡ flat_map printed (drop place (reverse self.now.events))) }
         ensures rows { IfOk result (λ bytes. length bytes.items ≡ 96 * (length self.now.events - place)) }
     {
-        print_events(alloc, events_from(self.events(), place))
+        if place < self.len() {
+            print_events(alloc, self, place)
+        } else {
+            Ok(Vec::new(alloc))
+        }
     }
 }
 
 // The events from this place on.
-#[tactic(auto, using(std::proofs::lemmas::List::drop_all, std::proofs::lemmas::List::take_rest))]
-fn events_from(events: &[Event], place: usize) -> &[Event]
-    ensures { result.now ≡ drop place events.now }
+fn print_events(alloc: Global, log: &Log, place: usize) -> Result<Vec<u8>, AllocError>
+    requires { place ≤ length log.now.events }
+    ensures bytes { IfOk result (λ bytes. bytes.items ≡ flat_map printed (drop place (reverse log.now.events))) }
+    ensures rows { IfOk result (λ bytes. length bytes.items ≡ 96 * (length log.now.events - place)) }
 {
-    if place < events.len() {
-        &events[place..]
-    } else {
-        &[]
-    }
-}
-
-fn print_events(alloc: Global, events: &[Event]) -> Result<Vec<u8>, AllocError>
-    ensures bytes { IfOk result (λ bytes. bytes.items ≡ flat_map printed events.now) }
-    ensures rows { IfOk result (λ bytes. length bytes.items ≡ 96 * length events.now) }
-{
-    let mut out = Vec::with_capacity(alloc, events.len().saturating_mul(96))?;
-    'events: for event in events {
-        write_event(&mut out, event)?;
+    let count = log.len() - place;
+    let mut out = Vec::with_capacity(alloc, count.saturating_mul(96))?;
+    'events: for number in 0..count {
+        write_event(&mut out, &log.entry(place + number))?;
     }
     Ok(out)
 }

@@ -56,8 +56,9 @@ fn short(bytes: &[u8]) -> u16
 }
 
 // A number of eight bytes.
+#[inline(always)]
 #[tactic(auto, using(crate::proofs::Numbers::long_is))]
-fn long(bytes: &[u8]) -> u64
+pub(crate) fn long(bytes: &[u8]) -> u64
     requires { length bytes.now ≡ 8 }
     ensures { result ≡ from_le_bytes w64 bytes.now }
 {
@@ -192,7 +193,7 @@ fn prints(event: &Event, bytes: &[u8], again: &mut Vec<u8>) -> Result<bool, Allo
     ensures { IfOk result (λ b. (b ≡ true) ↔ (printed event.now ≡ bytes.now)) }
 {
     again.clear();
-    write_event(again, event)?;
+    write_event(again, &event.entry())?;
     Ok(again.as_slice() == bytes)
 }
 
@@ -214,25 +215,26 @@ fn read_event(alloc: Global, bytes: &[u8], again: &mut Vec<u8>) -> Result<Option
     }
 }
 
-fn events_in(alloc: Global, bytes: &[u8]) -> Result<Vec<Event>, LogFault>
+fn events_in(alloc: Global, bytes: &[u8]) -> Result<Log, LogFault>
     requires { length bytes.now % 96 ≡ 0 }
-    ensures ok { IfOk result (λ events. ArePrinted events.items bytes.now) }
-    ensures only { IfOk result (λ events. AreOnlyOnes events.items bytes.now) }
+    ensures ok { IfOk result (λ log. ArePrinted (reverse log.events) bytes.now) }
+    ensures only { IfOk result (λ log. AreOnlyOnes (reverse log.events) bytes.now) }
     ensures err { IfErr result (IsReadFault bytes.now) }
 {
     let count = bytes.len() / 96;
-    let mut events = Vec::with_capacity(alloc, count)?;
+    let mut log = Log::new(alloc);
+    log.reserve(count)?;
     let mut again = Vec::with_capacity(alloc, 96)?;
     let mut rest = bytes;
     'records: for place in 0..count {
         let (record, after) = rest.split_at(96);
         match read_event(alloc, record, &mut again)? {
-            Some(event) => events.push(event)?,
+            Some(event) => log.push(event),
             None => return Err(LogFault::Kind(place)),
         }
         rest = after;
     }
-    Ok(events)
+    Ok(log)
 }
 
 impl Log {
@@ -253,6 +255,6 @@ impl Log {
         if bytes.len() % 96 != 0 {
             return Err(LogFault::Length);
         }
-        Ok(Log::from_events(events_in(alloc, bytes)?))
+        events_in(alloc, bytes)
     }
 }

@@ -1,18 +1,19 @@
 //! What a log begins behind.
 
 ghost use Rattle.std.specs.Prelude.{◌≡◌, ◌-◌};
+ghost use Rattle.tc_log.specs.Entered.{seen};
 ghost use Rattle.history.specs.Calls.{admitted};
 ghost use Rattle.tc_world.specs.Beginning.{stands_for, admitted_before};
 
 use tc_core::state::TcState;
-use tc_log::event::Event;
+use tc_log::event::Entry;
 
 // For how many admissions the event stands.
-fn stands_for(event: &Event) -> u64
-    ensures { result ≡ stands_for event.now }
+fn stands_for(event: &Entry<'_>) -> u64
+    ensures { result ≡ stands_for (seen event.now) }
 {
     match event {
-        Event::Checkpoint { admitted, given: _ } => *admitted,
+        Entry::Checkpoint { admitted, given: _ } => *admitted,
         _ => 0,
     }
 }
@@ -23,7 +24,7 @@ pub fn admitted_before(state: &TcState) -> u64
 {
     state.known();
     match state.log().at(0) {
-        Some(event) => stands_for(event),
+        Some(event) => stands_for(&event),
         None => 0,
     }
 }

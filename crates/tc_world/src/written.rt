@@ -2,6 +2,7 @@
 
 ghost use Rattle.std.specs.Prelude.{ℕ, ◌≡◌, ◌↔◌, ◌≤◌, ◌^◌, ◌==◌, IsTrue, count_by, fold};
 ghost use Rattle.std.specs.List.{All, list_all, list_any};
+ghost use Rattle.tc_log.specs.Entered.{seen};
 ghost use Rattle.access_slots.specs.declared.op.Reply.{Reply as ReplyValue};
 ghost use Rattle.access_slots.specs.declared.op.News.{News as NewsValue};
 ghost use Rattle.transactions.specs.declared.Site.{Site as SiteValue};
@@ -15,37 +16,45 @@ ghost use Rattle.tc_core.specs.Core.{Asking};
 use access_slots::op::{News, Reply, Wire};
 use data_component::dc::Dc;
 use tc_core::state::{Request, TcState};
-use tc_log::event::Event;
+use tc_log::event::Entry;
+use tc_log::events::Events;
 use transactions::Site;
 
-fn gives(event: &Event) -> bool
-    ensures { result ≡ gives event.now }
+fn gives(event: &Entry<'_>) -> bool
+    ensures { result ≡ gives (seen event.now) }
 {
-    matches!(event, Event::Ask { .. } | Event::Undo { .. })
+    matches!(event, Entry::Ask { .. } | Entry::Undo { .. })
 }
 
 // How many numbers these events gave out.
-fn count_in(events: &[Event]) -> u64
+fn count_in(events: &Events<'_>) -> u64
     ensures { result ≡ count_by gives events.now }
 {
-    events.iter().filter(|event| gives(event)).count() as u64
+    let mut count = 0;
+    'events: for place in 0..events.len() {
+        if gives(&events.entry(place)) {
+            count += 1;
+        }
+    }
+    count
 }
 
 // How many numbers were given out up to these events, the first ones of a log that begins behind
 // `begun`.
-fn given_in(begun: u64, events: &[Event]) -> u64
+fn given_in(begun: u64, events: &Events<'_>) -> u64
     requires { begun ≤ 2 ^ 62 }
     ensures { result ≡ given_of begun events.now }
 {
+    events.known();
     let count = count_in(events);
     if events.len() > 0 { begun + count } else { 0 }
 }
 
-fn answers(event: &Event, number: u64) -> bool
-    ensures { result ≡ answers number event.now }
+fn answers(event: &Entry<'_>, number: u64) -> bool
+    ensures { result ≡ answers number (seen event.now) }
 {
     match event {
-        Event::Answer {
+        Entry::Answer {
             txn: _,
             number: answered,
             said: _,
@@ -60,14 +69,19 @@ fn is_asked(requests: &[Request], number: u64) -> bool
     requests.iter().any(|request| request.number() == number)
 }
 
-fn is_answered(events: &[Event], number: u64) -> bool
+fn is_answered(events: &Events<'_>, number: u64) -> bool
     ensures { result ≡ list_any (answers number) events.now }
 {
-    events.iter().any(|event| answers(event, number))
+    'events: for place in 0..events.len() {
+        if answers(&events.entry(place), number) {
+            return true;
+        }
+    }
+    false
 }
 
 // Whether a later event answers the number, or it is open still.
-fn is_left(later: &[Event], requests: &[Request], number: u64) -> bool
+fn is_left(later: &Events<'_>, requests: &[Request], number: u64) -> bool
     ensures { result ≡ is_left later.now requests.now number }
 {
     is_asked(requests, number) || is_answered(later, number)
@@ -88,11 +102,11 @@ fn below_requests(low_water: u64, requests: &[Request]) -> u64
         .fold(low_water, |low, request| below(low, request.number()))
 }
 
-fn below_event(low_water: u64, event: &Event) -> u64
-    ensures { result ≡ below_event low_water event.now }
+fn below_event(low_water: u64, event: &Entry<'_>) -> u64
+    ensures { result ≡ below_event low_water (seen event.now) }
 {
     match event {
-        Event::Answer {
+        Entry::Answer {
             txn: _,
             number,
             said: _,
@@ -101,16 +115,18 @@ fn below_event(low_water: u64, event: &Event) -> u64
     }
 }
 
-fn below_answers(low_water: u64, events: &[Event]) -> u64
+fn below_answers(low_water: u64, events: &Events<'_>) -> u64
     ensures { result ≡ fold below_event low_water events.now }
 {
-    events
-        .iter()
-        .fold(low_water, |low, event| below_event(low, event))
+    let mut low = low_water;
+    'events: for place in 0..events.len() {
+        low = below_event(low, &events.entry(place));
+    }
+    low
 }
 
 // Up to which number all were answered before the later events, where so many were given out.
-fn low_left(given: u64, later: &[Event], requests: &[Request]) -> u64
+fn low_left(given: u64, later: &Events<'_>, requests: &[Request]) -> u64
     ensures { result ≡ low_left given later.now requests.now }
 {
     below_answers(below_requests(given, requests), later)
@@ -119,7 +135,7 @@ fn low_left(given: u64, later: &[Event], requests: &[Request]) -> u64
 fn is_wire_told(
     given: u64,
     low_water: u64,
-    later: &[Event],
+    later: &Events<'_>,
     requests: &[Request],
     wire: &Wire,
 ) -> bool
@@ -135,7 +151,7 @@ fn is_wire_told(
 fn are_wires_told(
     given: u64,
     low_water: u64,
-    later: &[Event],
+    later: &Events<'_>,
     requests: &[Request],
     wires: &[Wire],
 ) -> bool
@@ -218,10 +234,11 @@ pub fn are_written(
     if events > log.len() {
         return false;
     }
-    let (first, later) = log.split_at(events);
-    let given = given_in(state.begun(), first);
-    let low_water = low_left(given, later, requests);
-    are_wires_told(given, low_water, later, requests, copies)
+    let first = log.before(events);
+    let later = log.behind(events);
+    let given = given_in(state.begun(), &first);
+    let low_water = low_left(given, &later, requests);
+    are_wires_told(given, low_water, &later, requests, copies)
         && are_replies_told(given, replies)
         && are_stores_told(given, low_water, dcs)
         && are_news_told(low_water, news)

@@ -1,11 +1,10 @@
 // Copies of events, which are written without the lock under which the events lie.
 
-ghost use Rattle.std.specs.Prelude.{◌≡◌, reverse, OnOk};
+ghost use Rattle.std.specs.Prelude.{◌≡◌, ◌≤◌, drop, length, reverse, OnOk};
 
 use journals::copy_events;
 use std::alloc::{AllocError, Global};
 use std::marker::Model;
-use tc_log::event::Event;
 use tc_log::log::Log;
 
 /// Copies of events, as a log of their own. Contracts see them as a list, the oldest event first.
@@ -40,12 +39,13 @@ impl Batch {
         &self.log
     }
 
-    /// Copies of these events in place of those that there are.
-    pub fn fill(&mut self, events: &[Event]) -> Result<(), AllocError>
-        ensures { OnOk result (self.new ≡ events.now) }
+    /// Copies of a log's events from this place on, in place of those that there are.
+    pub fn fill(&mut self, log: &Log, from: usize) -> Result<(), AllocError>
+        requires { from ≤ length log.now.events }
+        ensures { OnOk result (self.new ≡ drop from (reverse log.now.events)) }
     {
         self.log = Log::new(self.alloc);
-        self.log.reserve(events.len())?;
-        copy_events(self.alloc, events, &mut self.log)
+        self.log.reserve(log.len() - from)?;
+        copy_events(self.alloc, log, from, &mut self.log)
     }
 }

@@ -1,7 +1,7 @@
 // What lies under the lock: the state, how far each call has come, and what of the log was handed over
 // to be kept.
 
-ghost use Rattle.std.specs.Prelude.{◌≡◌, ◌↔◌, ◌+◌, ◌<◌, ◌≤◌, ◌++◌, ◌∷◌, true, List, ℕ, [], length, drop, replicate, reverse, Some, None, slice_get, OnOk, OnErr, IfOk, IfErr, IfSome, IfNone, IsSome, IsTrue, vec_capacity, map, false};
+ghost use Rattle.std.specs.Prelude.{◌≡◌, ◌↔◌, ◌+◌, ◌<◌, ◌≤◌, ◌++◌, ◌∷◌, true, List, ℕ, [], length, replicate, reverse, Some, None, slice_get, OnOk, OnErr, IfOk, IfErr, IfSome, IfNone, IsSome, IsTrue, vec_capacity, map, false};
 ghost use Rattle.tc_core.specs.AtOnce.{HasRunAtOnce};
 ghost use Rattle.tc_core.specs.Core.{Core, Asking};
 ghost use Rattle.tc_core.specs.Replies.{ask_reply, after_ask, end_of};
@@ -32,7 +32,6 @@ use tc_core::procs::Procs;
 use tc_core::state::{
     Asked, Call, Down, NotOver, Redo, Refusal, Request, Stranger, Stranger2, TcState, TxnId,
 };
-use tc_log::event::Event;
 
 /// What is to be done for a call without the lock.
 pub enum Next {
@@ -140,13 +139,13 @@ impl<J: RunSpec> PoolState<J> {
         if !self.handed.is_same(known) {
             return Ok(None);
         }
-        let events = self.state.log().events();
-        fill_behind(batch, events, self.copied)?;
+        let log = self.state.log();
+        batch.fill(log, self.copied)?;
         let mut handed = known.again();
         if !handed.add(count, batch) {
             return Ok(None);
         }
-        self.copied = events.len();
+        self.copied = log.len();
         self.handed = handed.again();
         Ok(Some((handed, self.copied)))
     }
@@ -792,12 +791,4 @@ fn untried(procs: &Procs, call: &Call) -> Refusal
         return Refusal::ArgumentCount;
     }
     Refusal::Memory
-}
-
-// Copies of the events from this place on.
-fn fill_behind(batch: &mut Batch, events: &[Event], from: usize) -> Result<(), AllocError>
-    requires { from ≤ length events.now }
-    ensures { OnOk result (batch.new ≡ drop from events.now) }
-{
-    batch.fill(&events[from..])
 }

@@ -1,4 +1,5 @@
 use Rattle.std.proofs.Common.{[], ◌∷◌, arith, refl, ◌∙◌, ap}
+use Rattle.tc_log.specs.Entered.{seen}
 use Rattle.tc_core.proofs.FollowLemmas.{begins_none, begins_more}
 use Rattle.audit.specs.Joining.Based.{begun_by}
 use Rattle.audit.proofs.BeginningLemmas.{begun_next}
@@ -10,7 +11,7 @@ loop-place-init c = record { before = []; begins = begins_none c.args.log.now.ev
 pub loop-place-preserved : goal.loop-place-preserved
 loop-place-preserved c =
     let so = c.loop-place.invariant in
-    let e = c.event_at.result.now in
+    let e = seen c.event_at.result in
     let places = so.places in
     record {
       before = e ∷ so.before;

@@ -1,4 +1,5 @@
 use Rattle.std.proofs.Common.{◌≡◌, ℕ, ◌+◌, List, ◌∷◌, arith, sym, ◌∙◌, ap, subst}
+use Rattle.tc_log.specs.Entered.{seen}
 use Rattle.tc_log.specs.declared.event.Event.{Event}
 use Rattle.transactions.specs.Standing.{standing}
 use Rattle.tc_core.specs.Recovery.{first_events}
@@ -18,7 +19,7 @@ follow-requires c =
       first_events c.loop-place.place h,
       record {
         good = c.known.ensures.good;
-        legal = legal_at c.args.procs.now.codes h c.loop-place.place c.event_at.result.now c.event_at.ensures c.requires.legal;
+        legal = legal_at c.args.procs.now.codes h c.loop-place.place (seen c.event_at.result) c.event_at.ensures c.requires.legal;
         follows = c.loop-place.invariant.0;
       },
     )
@@ -28,7 +29,7 @@ loop-place-preserved c =
     let h = c.args.log.now.events in
     let ps = c.args.procs.now.codes in
     let k = c.loop-place.place in
-    let e = c.event_at.result.now in
+    let e = seen c.event_at.result in
     let may : MayFollow ps c.loop-place.run (first_events k h) e c.args.txn = record {
       good = c.known.ensures.good;
       legal = legal_at ps h k e c.event_at.ensures c.requires.legal;

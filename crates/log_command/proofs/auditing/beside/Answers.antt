@@ -11,6 +11,6 @@ returns-then-eq c =
 
 pub returns : goal.returns
 returns c =
-    let differs : ¬ (c.in-Ok.stored.header ≡ header_of (loaded_in c.args.state.now)) = search rules in
+    let differs : ¬ (c.in-Ok.stored.header ≡ header_of (loaded_in c.args.state.now)) = search (rules, c.eq.ensures, c.if-eq.false) in
     let line = rw (c.in_ok-header.ensures, c.procs.ensures) at c.anothers.ensures.line in
     anothers_is c.args.file.now c.args.state.now c.args.dcs.now c.in-Ok.stored c.anothers.result c.in-Ok.ensures.says differs line c.anothers.ensures.status

@@ -3,4 +3,6 @@ use Rattle.log_command.proofs.picturing.drawn.Goals as goal
 
 pub returns : goal.returns
 returns c =
-    IfOk-weaker c.drawing.result _ _ (λ svg text. record { picture = c.in_ok-picture.picture; of = c.in_ok-picture.ensures; text = text }) c.drawing.ensures
+    let shown = rw (c.before-shown.ensures) at c.in_ok-picture.ensures in
+    let drawn = rw (c.before-shown.ensures, c.len.ensures) at c.drawing.ensures in
+    IfOk-weaker c.drawing.result _ _ (λ svg text. record { picture = c.in_ok-picture.picture; of = shown; text = text }) drawn

@@ -1,5 +1,6 @@
 use Rattle.std.proofs.Common.{◌≡◌, List, ◌∷◌, length, arith, sym, ◌∙◌, ap, subst}
 use Rattle.tc_log.specs.declared.event.Event.{Event}
+use Rattle.tc_log.specs.Entered.{seen}
 use Rattle.history.specs.Places.{Begins}
 use Rattle.verifier.specs.Checked.{Checked}
 use Rattle.transactions.specs.Legal.{Allowed, Legal}
@@ -24,7 +25,7 @@ pub loop-place-preserved : goal.loop-place-preserved
 loop-place-preserved c =
     let whole = c.args.log.now.events in
     let h = c.loop-place.state.events in
-    let e = c.event_at.result.now in
+    let e = seen c.event_at.result in
     let follows = c.in-Ok-follow.ensures.follows in
     let rest = c.follow.ensures.rest in
     let longer : length c.follow.new.self.events ≡ length (e ∷ h) = ap (length {A = Event}) follows in
@@ -40,7 +41,7 @@ pub returns-in-Err-Illegal-clause-fault : goal.returns-in-Err-Illegal-clause-fau
 returns-in-Err-Illegal-clause-fault c =
     let ps = c.args.procs.now.codes in
     let h = c.loop-place.state.events in
-    let e = c.event_at.result.now in
+    let e = seen c.event_at.result in
     let why = subst (λ (u : Unlike). IsUnlike c.loop-place.state.procs h e u) c.in-Err-Illegal.field-0-is c.in-Err-Illegal.ensures.why in
     let illegal : Allowed ps h e → ⊥ = subst (λ (xs : List Checked). Allowed xs h e → ⊥) c.loop-place.invariant.0 why in
     let legal = subst (λ (xs : List Checked). Legal xs h) c.loop-place.invariant.0 c.known.ensures.legal in

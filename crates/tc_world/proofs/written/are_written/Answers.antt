@@ -28,12 +28,12 @@ returns-then-are_news_told c =
       replies = c.args.replies.now;
       news = c.args.news.now;
     } in
-    let log : c.events-log.result.now ≡ reverse h = c.events-log.ensures ∙ ap reverse c.log.ensures in
-    let inside : c.args.events ≤ length h = omega (arith, c.if-events-log.false, ap (length {A = Event}) log, length-reverse h) in
+    let log : c.events-log.result ≡ reverse h = c.events-log.ensures ∙ ap reverse c.log.ensures in
+    let inside : c.args.events ≤ length h = omega (arith, c.if-events-len.false, c.len.ensures, ap (length {A = Event}) log, length-reverse h) in
     let x = looks w c.args.events c.args.requests.now c.given_in-given.result c.low_left-low_water.result
-    c.split_at.result.0.now c.split_at.result.1.now c.known.ensures.legal c.requires inside
-    (c.split_at.ensures.front ∙ ap (take c.args.events) log) (c.split_at.ensures.back ∙ ap (drop c.args.events) log)
-    (c.given_in-given.ensures ∙ ap (λ (b : ℕ). given_of b c.split_at.result.0.now) c.begun.ensures)
+    c.before-first.result c.behind-later.result c.known.ensures.legal c.requires inside
+    (c.before-first.ensures ∙ ap (take c.args.events) log) (c.behind-later.ensures ∙ ap (drop c.args.events) log)
+    (c.given_in-given.ensures ∙ ap (λ (b : ℕ). given_of b c.before-first.result) c.begun.ensures)
     c.low_left-low_water.ensures in
     let first = first_events c.args.events h in
     let copies : Type 0 = All (IsWrittenFor first) w.copies in
@@ -79,12 +79,12 @@ returns-else-are_news_told c =
       replies = c.args.replies.now;
       news = c.args.news.now;
     } in
-    let log : c.events-log.result.now ≡ reverse h = c.events-log.ensures ∙ ap reverse c.log.ensures in
-    let inside : c.args.events ≤ length h = omega (arith, c.if-events-log.false, ap (length {A = Event}) log, length-reverse h) in
+    let log : c.events-log.result ≡ reverse h = c.events-log.ensures ∙ ap reverse c.log.ensures in
+    let inside : c.args.events ≤ length h = omega (arith, c.if-events-len.false, c.len.ensures, ap (length {A = Event}) log, length-reverse h) in
     let x = looks w c.args.events c.args.requests.now c.given_in-given.result c.low_left-low_water.result
-    c.split_at.result.0.now c.split_at.result.1.now c.known.ensures.legal c.requires inside
-    (c.split_at.ensures.front ∙ ap (take c.args.events) log) (c.split_at.ensures.back ∙ ap (drop c.args.events) log)
-    (c.given_in-given.ensures ∙ ap (λ (b : ℕ). given_of b c.split_at.result.0.now) c.begun.ensures)
+    c.before-first.result c.behind-later.result c.known.ensures.legal c.requires inside
+    (c.before-first.ensures ∙ ap (take c.args.events) log) (c.behind-later.ensures ∙ ap (drop c.args.events) log)
+    (c.given_in-given.ensures ∙ ap (λ (b : ℕ). given_of b c.before-first.result) c.begun.ensures)
     c.low_left-low_water.ensures in
     let first = first_events c.args.events h in
     let copies : Type 0 = All (IsWrittenFor first) w.copies in

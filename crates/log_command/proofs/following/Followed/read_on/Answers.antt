@@ -10,7 +10,7 @@ use Rattle.log_command.proofs.following.Followed.read_on.Goals as goal
 pub returns : goal.returns
 returns c = λ part file printed has.
     let is = c.in_ok-lines.ensures.taken in
-    inl (read_further part file printed c.args.bytes.now c.args.self.now _ c.take.new.self c.in_ok-further.further c.in-Some.stored c.events.result.now
+    inl (read_further part file printed c.args.bytes.now c.args.self.now _ c.take.new.self c.in_ok-further.further c.in-Some.stored c.events.result
     (string_bytes c.in_ok-lines.lines) has c.in_ok-further.ensures (subst (λ (b : List ℕ). IsStored b c.in-Some.stored) c.deref.ensures.value (c.in-Some.ensures.some).0)
     (c.in-Some.ensures.some).1 c.events.ensures
     c.in_ok-lines.ensures.lines is refl refl refl refl refl (search rules))

@@ -1,6 +1,5 @@
 use Rattle.std.proofs.Common.{◌≡◌, ℕ, List, drop, Some, None, sym, ◌∙◌, ap}
-use Rattle.std.specs.Prelude.{max, slice_get}
-use Rattle.tc_log.specs.declared.event.Event.{Event}
+use Rattle.std.specs.Prelude.{max, reverse, slice_get}
 use Rattle.history.specs.Redo.{to_redo}
 use Rattle.transactions.specs.declared.Site.{Site}
 use Rattle.tc_core.specs.Core.{Core}
@@ -26,9 +25,8 @@ returns-in-Some-find_done c =
     let whole = looks_behind c.self.inside.procs.codes core.sites c.self.inside.book.starts.items h c.self.invariant.0.kept.legal
     c.self.invariant.0.starts c.args.dc start site r begin there c.in-Some-redo.is n in
     let next : to_redo h c.args.dc (max r.redone n) ≡ Some c.in-Some-find_done.answered = sym whole
-    ∙ (ap (λ (es : List Event). scan c.args.dc (max r.redone n) (drop start es)) (sym c.events.ensures)
-    ∙ (ap (λ (k : ℕ). scan c.args.dc k (drop start c.events.result.now)) (sym c.max-after.ensures)
-    ∙ c.in-Some-find_done.ensures.found)) in
+    ∙ (ap (λ (k : ℕ). scan c.args.dc k (drop start (reverse h))) (sym c.max-after.ensures)
+    ∙ c.in-Some-find_done.ensures.found) in
     ap Send c.wire_of.ensures
     ∙ (sym (behind_is core c.args.dc n site r (Some c.in-Some-find_done.answered) there c.in-Some-redo.is next)
     ∙ ap (λ (x : Core). redo_behind x c.args.dc n) c.self.view_is)
@@ -48,7 +46,6 @@ returns-in-None c =
     let whole = looks_behind c.self.inside.procs.codes core.sites c.self.inside.book.starts.items h c.self.invariant.0.kept.legal
     c.self.invariant.0.starts c.args.dc start site r begin there c.in-Some-redo.is n in
     let next : to_redo h c.args.dc (max r.redone n) ≡ None = sym whole
-    ∙ (ap (λ (es : List Event). scan c.args.dc (max r.redone n) (drop start es)) (sym c.events.ensures)
-    ∙ (ap (λ (k : ℕ). scan c.args.dc k (drop start c.events.result.now)) (sym c.max-after.ensures)
-    ∙ c.in-None.ensures.none)) in
+    ∙ (ap (λ (k : ℕ). scan c.args.dc k (drop start (reverse h))) (sym c.max-after.ensures)
+    ∙ c.in-None.ensures.none) in
     sym (behind_is core c.args.dc n site r None there c.in-Some-redo.is next) ∙ ap (λ (x : Core). redo_behind x c.args.dc n) c.self.view_is

@@ -1,11 +1,9 @@
-use Rattle.std.proofs.Common.{◌≡◌, ℕ, List, drop, Some, None, sym, ◌∙◌, ap}
+use Rattle.std.proofs.Common.{◌≡◌, ℕ, List, Some, None, sym, ◌∙◌, ap}
 use Rattle.std.specs.Prelude.{slice_get}
-use Rattle.tc_log.specs.declared.event.Event.{Event}
 use Rattle.history.specs.Redo.{to_redo}
 use Rattle.transactions.specs.declared.Site.{Site}
 use Rattle.tc_core.specs.Core.{Core}
 use Rattle.tc_core.specs.Kept.{core_of}
-use Rattle.tc_core.specs.Joining.Scanning.{scan}
 use Rattle.tc_core.specs.Redo.{redo_reply, up_again}
 use Rattle.tc_core.specs.declared.state.Redo.TheVariants.{Send}
 use Rattle.tc_core.proofs.StartLemmas.{looks, redo_is}
@@ -24,8 +22,7 @@ returns-in-Some-find_done-clause-reply c =
     ap (λ (xs : List ℕ). slice_get xs c.args.dc) (sym c.as_slice-2.ensures.value) ∙ c.in-Some.ensures.start in
     let whole = looks c.self.inside.procs.codes core.sites c.self.inside.book.starts.items h c.self.invariant.0.kept.legal c.self.invariant.0.starts c.args.dc start site r begin there c.in-Some-redo.is in
     let next : to_redo h c.args.dc r.redone ≡ Some c.in-Some-find_done.answered = sym whole
-    ∙ (ap (λ (es : List Event). scan c.args.dc r.redone (drop start es)) (sym c.events.ensures)
-    ∙ c.in-Some-find_done.ensures.found) in
+    ∙ c.in-Some-find_done.ensures.found in
     ap Send c.wire_of.ensures
     ∙ (sym (redo_is core c.args.dc site r (Some c.in-Some-find_done.answered) there c.in-Some-redo.is next)
     ∙ ap (λ (x : Core). redo_reply x c.args.dc) c.self.view_is)
@@ -43,8 +40,7 @@ returns-in-None-clause-reply c =
     ap (λ (xs : List ℕ). slice_get xs c.args.dc) (sym c.as_slice-2.ensures.value) ∙ c.in-Some.ensures.start in
     let whole = looks c.self.inside.procs.codes core.sites c.self.inside.book.starts.items h c.self.invariant.0.kept.legal c.self.invariant.0.starts c.args.dc start site r begin there c.in-Some-redo.is in
     let next : to_redo h c.args.dc r.redone ≡ None = sym whole
-    ∙ (ap (λ (es : List Event). scan c.args.dc r.redone (drop start es)) (sym c.events.ensures)
-    ∙ c.in-None.ensures.none) in
+    ∙ c.in-None.ensures.none in
     sym (redo_is core c.args.dc site r None there c.in-Some-redo.is next) ∙ ap (λ (x : Core). redo_reply x c.args.dc) c.self.view_is
 
 pub returns-in-None-clause-state : goal.returns-in-None-clause-state

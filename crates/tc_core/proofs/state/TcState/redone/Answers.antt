@@ -1,7 +1,6 @@
-use Rattle.std.proofs.Common.{◌≡◌, ℕ, List, drop, length, Some, None, true, arith, refl, sym, ◌∙◌, ap, subst, rules}
+use Rattle.std.proofs.Common.{◌≡◌, ℕ, List, drop, Some, None, true, arith, refl, sym, ◌∙◌, ap, subst, rules}
 use Rattle.std.specs.Prelude.{reverse, slice_get}
 use Rattle.std.proofs.lemmas.List.{length-reverse}
-use Rattle.tc_log.specs.declared.event.Event.{Event}
 use Rattle.history.specs.Redo.{to_redo}
 use Rattle.history.specs.declared.Answered.{Answered}
 use Rattle.transactions.specs.declared.Site.{Site}
@@ -9,7 +8,7 @@ use Rattle.transactions.proofs.StandingLemmas.{some_same, none_some}
 use Rattle.tc_core.specs.Core.{Core}
 use Rattle.tc_core.specs.Kept.{core_of}
 use Rattle.tc_core.specs.Redo.{IsRedone}
-use Rattle.tc_core.specs.Joining.Scanning.{scan, first_in}
+use Rattle.tc_core.specs.Joining.Scanning.{first_in}
 use Rattle.tc_core.proofs.ScanLemmas.{begin_behind}
 use Rattle.tc_core.proofs.StartLemmas.{looks, redone_said, starts_set}
 use Rattle.tc_core.proofs.state.TcState.redone.Goals as goal
@@ -27,8 +26,7 @@ returns-in_default-find_done-clause-accepted c =
     ap (λ (xs : List ℕ). slice_get xs c.args.dc) (sym c.as_slice-2.ensures.value) ∙ c.in-Some.ensures.start in
     let whole = looks c.self.inside.procs.codes core.sites c.self.inside.book.starts.items h c.self.invariant.0.kept.legal c.self.invariant.0.starts c.args.dc start site r begin there c.in-Some-redo.is in
     let next : to_redo h c.args.dc r.redone ≡ None = sym whole
-    ∙ (ap (λ (es : List Event). scan c.args.dc r.redone (drop start es)) (sym c.events.ensures)
-    ∙ c.in_default-find_done.ensures.none) in (
+    ∙ (c.in_default-find_done.ensures.none) in (
       λ e. absurd cc,
       λ here. absurd (let is = subst (λ (x : Core). IsRedone x c.args.dc c.args.reply.now)
           (sym c.self.view_is) here in let said =
@@ -49,8 +47,7 @@ returns-then-not-is_said-clause-accepted c =
     ap (λ (xs : List ℕ). slice_get xs c.args.dc) (sym c.as_slice-2.ensures.value) ∙ c.in-Some.ensures.start in
     let whole = looks c.self.inside.procs.codes core.sites c.self.inside.book.starts.items h c.self.invariant.0.kept.legal c.self.invariant.0.starts c.args.dc start site r begin there c.in-Some-redo.is in
     let next : to_redo h c.args.dc r.redone ≡ Some c.in-Some-find_done.answered = sym whole
-    ∙ (ap (λ (es : List Event). scan c.args.dc r.redone (drop start es)) (sym c.events.ensures)
-    ∙ c.in-Some-find_done.ensures.found) in (
+    ∙ c.in-Some-find_done.ensures.found in (
       λ e. absurd cc,
       λ here.
           let is = subst (λ (x : Core). IsRedone x c.args.dc c.args.reply.now) (sym c.self.view_is) here in
@@ -69,16 +66,14 @@ pub invariant_of-self : goal.invariant_of-self
 invariant_of-self c =
     let h = c.self.inside.book.log.events in
     let inside = c.in-Some-find_done.ensures.inside in
-    let many = ap length c.events.ensures in
     let first : first_in c.args.dc c.in-Some-redo.redo.redone (drop c.in-Some-find_done.place (reverse h)) ≡ Some c.in-Some-find_done.answered
-    = ap (λ (es : List Event). first_in c.args.dc c.in-Some-redo.redo.redone (drop c.in-Some-find_done.place es))
-    (sym c.events.ensures) ∙ c.in-Some-find_done.ensures.there in (
+    = c.in-Some-find_done.ensures.there in (
       record {
         kept = c.self.invariant.0.kept;
         from = c.self.invariant.0.from;
         doubts = c.self.invariant.0.doubts;
         marked = c.self.invariant.0.marked;
-        starts = starts_set _ _ _ _ _ _ c.self.invariant.0.starts (omega (arith, inside, many, length-reverse h))
+        starts = starts_set _ _ _ _ _ _ c.self.invariant.0.starts (omega (arith, inside, length-reverse h))
             (begin_behind c.self.inside.procs.codes h c.self.invariant.0.kept.legal c.args.dc c.in-Some-redo.redo.redone c.in-Some-find_done.place c.in-Some-find_done.answered first);
       },
       (search rules),
@@ -97,8 +92,7 @@ returns-clause-accepted c =
     ap (λ (xs : List ℕ). slice_get xs c.args.dc) (sym c.as_slice-2.ensures.value) ∙ c.in-Some.ensures.start in
     let whole = looks c.self.inside.procs.codes core.sites c.self.inside.book.starts.items h c.self.invariant.0.kept.legal c.self.invariant.0.starts c.args.dc start site r begin there c.in-Some-redo.is in
     let next : to_redo h c.args.dc r.redone ≡ Some c.in-Some-find_done.answered = sym whole
-    ∙ (ap (λ (es : List Event). scan c.args.dc r.redone (drop start es)) (sym c.events.ensures)
-    ∙ c.in-Some-find_done.ensures.found) in
+    ∙ c.in-Some-find_done.ensures.found in
     let said = c.is_said.ensures.0 c.if-not-is_said.false in (
       λ e. subst (λ (x : Core). IsRedone x c.args.dc c.args.reply.now) c.self.view_is (record {
         site = site;
