@@ -30,19 +30,25 @@ const MOST_INCARNATIONS: u64 = 1 << 62;
 /// from the rows with which it begins: those that it left when it was forgotten last.
 #[derive(Drop)]
 pub struct Dc {
+    // The rows, and the mark, with which the list begins.
     base: Vec<Row>,
     base_mark: u64,
     rows: Vec<Row>,
+    // Where a record's row stood that was looked for last.
     hints: Hints,
     performed: Entries,
     // The numbers of the values that records had last, as hints of where they stand in the list.
     numbers: Hints,
+    // The place in the list of each number above the mark that was performed.
     kept: Vec<Kept>,
+    // The highest low-water mark that came: numbers up to it are answered, and never sent again.
     mark: u64,
     // So many operations, and this mark, the last checkpoint kept.
     saved: usize,
     saved_mark: u64,
+    // How often it has restarted.
     incarnation: u64,
+    // How many rows, and how many operations in its list, it has room for.
     row_limit: usize,
     op_limit: usize,
 }

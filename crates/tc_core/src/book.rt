@@ -24,11 +24,15 @@ pub struct Book {
     pub numbers: Numbers,
     pub log: Log,
     pub given_up: GivenUp,
+    // What was told of each data component.
     pub sites: Vec<Site>,
     // For each data component a place of the log before which its redo needs not look.
     pub starts: Vec<usize>,
+    // The serial number of the transaction that was admitted last.
     pub serials: u64,
+    // How many events open transactions may still log.
     pub owed: usize,
+    // How many numbers they may still be given.
     pub promised: u64,
 }
 

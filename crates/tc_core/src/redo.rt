@@ -7,7 +7,7 @@ ghost use Rattle.tc_core.specs.Redo.{news_fault, after_told, redo_wire, redo_rep
 ghost use Rattle.tc_core.specs.Joining.Scanning.{said_in, first_in, scan};
 
 use crate::sites::known;
-use crate::state::{NewsFault, Redo, Stranger2, TcState};
+use crate::state::{NewsFault, Redo, RedoMismatch, TcState};
 use access_slots::op::{News, Reply, Said, Wire};
 use history::Answered;
 use tc_log::event::Entry;
@@ -183,23 +183,23 @@ impl TcState {
 
     /// Takes a reply in that says of the operation under redo what was said to it before. Another
     /// changes nothing.
-    pub fn redone(&mut self, dc: u16, reply: &Reply) -> Result<(), Stranger2>
+    pub fn redone(&mut self, dc: u16, reply: &Reply) -> Result<(), RedoMismatch>
         ensures accepted { IsOk result ↔ IsRedone self.old dc reply.now }
         ensures ok { OnOk result (self.new ≡ after_redone self.old dc reply.now.number) }
         ensures err { OnErr result (self.new ≡ self.old) }
     {
         let Some((site, start)) = known(self.book.sites.as_slice(), self.book.starts.as_slice(), dc)
         else {
-            return Err(Stranger2);
+            return Err(RedoMismatch);
         };
         let Some(redo) = site.redo else {
-            return Err(Stranger2);
+            return Err(RedoMismatch);
         };
         let Some((place, answered)) = find_done(&self.book.log, start, dc, redo.redone) else {
-            return Err(Stranger2);
+            return Err(RedoMismatch);
         };
         if !is_said(&answered, site.incarnation, reply) {
-            return Err(Stranger2);
+            return Err(RedoMismatch);
         }
         let at = usize::from(dc);
         self.book.sites[at] = Site {

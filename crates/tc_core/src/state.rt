@@ -170,7 +170,7 @@ pub enum Redo {
 
 /// A reply that isn't one to the operation under redo.
 #[derive(Clone, Copy, Debug, PartialEq, Eq)]
-pub struct Stranger2;
+pub struct RedoMismatch;
 
 /// The state of a transaction component.
 #[derive(Drop)]

@@ -33,15 +33,24 @@ use verifier::verify::Verified;
 #[derive(Drop)]
 pub struct Tx {
     pub serial: u64,
+    // The place of its procedure among those that are loaded.
     pub proc: usize,
     pub machine: Machine,
+    // Where its run stands: at a question, or at its end.
     pub pause: Pause,
+    // What it waits for an answer to.
     pub sent: Option<Sent>,
+    // Whether a data component had no room for a write: all its writes are then undone.
     pub full: bool,
+    // What undoes its writes that stand, the last one first.
     pub undo: Undos,
+    // How many numbers the undo at hand was sent under.
     pub tries: u64,
+    // The number that it was given last; 0 before the first.
     pub last: u64,
+    // How many numbers it may still be given.
     pub left: u64,
+    // Whether the number that it waits for was given up.
     pub in_doubt: bool,
 }
 

@@ -34,7 +34,7 @@ use Rattle.tc_core.specs.Redo.{redo_wire, redo_reply, redo_at, redo_by, sends_ag
 use Rattle.tc_core.specs.declared.state.Asked.TheVariants.{Request}
 use Rattle.tc_core.specs.declared.state.Down.{Down}
 use Rattle.tc_core.specs.declared.state.NewsFault.{NewsFault}
-use Rattle.tc_core.specs.declared.state.Stranger2.{Stranger2}
+use Rattle.tc_core.specs.declared.state.RedoMismatch.{RedoMismatch}
 use Rattle.tc_core.specs.declared.state.Redo.{Redo}
 use Rattle.tc_core.specs.declared.state.Redo.TheVariants as redo
 use Rattle.worker_pool.specs.Joining.Ups.{IsUpFor}
@@ -120,7 +120,7 @@ redone_at_logs_nothing : (c : Core) (d n : ℕ) (o : Option Site) → (redone_at
 redone_at_logs_nothing c d n None = refl
 redone_at_logs_nothing c d n (Some s) = refl
 
-pub redone_logs_nothing : (old new : Core) (d n : ℕ) (result : Result Unit Stranger2)
+pub redone_logs_nothing : (old new : Core) (d n : ℕ) (result : Result Unit RedoMismatch)
     → OnOk result (new ≡ after_redone old d n) → OnErr result (new ≡ old) → new.events ≡ old.events
 redone_logs_nothing old new d n (Ok x) ok err = ap (λ (c : Core). c.events) ok ∙ redone_at_logs_nothing old d n (slice_get old.sites d)
 redone_logs_nothing old new d n (Err s) ok err = ap (λ (c : Core). c.events) err

@@ -15,7 +15,7 @@ use Rattle.tc_core.specs.declared.state.Asked.{Asked}
 use Rattle.tc_core.specs.declared.state.NewsFault.{NewsFault}
 use Rattle.tc_core.specs.declared.state.Redo.{Redo}
 use Rattle.tc_core.specs.declared.state.Stranger.{Stranger}
-use Rattle.tc_core.specs.declared.state.Stranger2.{Stranger2}
+use Rattle.tc_core.specs.declared.state.RedoMismatch.{RedoMismatch}
 use Rattle.worker_pool.specs.Kept.{Keeps}
 use Rattle.worker_pool.specs.Joining.Handing.{IsHanded}
 use Rattle.worker_pool.proofs.AtOnceLemmas.{keeps_run}
@@ -60,7 +60,7 @@ module _ (start : Core) (bs : List (List Event)) (n : ℕ) (old : Core) where
   pub handed_redo : (d : ℕ) (reply : Redo) → IsHanded start.events bs n old.events → IsHanded start.events bs n (after_redo old d reply).events
   handed_redo d reply it = handed_same (after_redo old d reply) (redo_logs_nothing old d reply) it
 
-  pub handed_redone : (new : Core) (d m : ℕ) (result : Result Unit Stranger2)
+  pub handed_redone : (new : Core) (d m : ℕ) (result : Result Unit RedoMismatch)
       → OnOk result (new ≡ after_redone old d m) → OnErr result (new ≡ old)
       → IsHanded start.events bs n old.events → IsHanded start.events bs n new.events
   handed_redone new d m result ok err it = handed_same new (redone_logs_nothing old new d m result ok err) it

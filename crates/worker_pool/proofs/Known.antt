@@ -24,7 +24,7 @@ use Rattle.tc_core.specs.declared.state.NewsFault.{NewsFault}
 use Rattle.tc_core.specs.declared.state.NewsFault.TheVariants as fault
 use Rattle.tc_core.specs.declared.state.Redo.{Redo}
 use Rattle.tc_core.specs.declared.state.Redo.TheVariants as redo
-use Rattle.tc_core.specs.declared.state.Stranger2.{Stranger2}
+use Rattle.tc_core.specs.declared.state.RedoMismatch.{RedoMismatch}
 use Rattle.worker_pool.specs.Restarts.{IsRedoneTo, HasCome, StaysKnown, AreKnown, IsKnownRedone}
 use Rattle.worker_pool.proofs.Carrying.{set_up}
 
@@ -142,7 +142,7 @@ heard_by c d x (Some s) at it =
     subst (λ (y : Site). HasCome y x.incarnation x.number) (sym (site_there c.sites d s (record s { redo = redone_to x.number s.redo }) at))
     (inr (it.same_incarnation ∙ ap (λ (y : Site). y.incarnation) (sym same), redone_here x.number s.redo))
 
-pub now_redone : (old new : Core) (d : ℕ) (x : Reply) (result : Result Unit Stranger2) → (IsOk result ↔ IsRedone old d x)
+pub now_redone : (old new : Core) (d : ℕ) (x : Reply) (result : Result Unit RedoMismatch) → (IsOk result ↔ IsRedone old d x)
     → OnOk result (new ≡ after_redone old d x.number) → IsKnownRedone old new d x
 now_redone old new d x (Ok u) accepted ok = λ it.
     subst (λ (c : Core). HasCome (site_at c.sites d) x.incarnation x.number) (sym ok) (heard_by old d x (slice_get old.sites d) refl it)
@@ -167,7 +167,7 @@ heard_more c d x (Some s) at legal it =
     let up : it.r.redone ≤ x.number = (let above = least.0 in let number = it.same_number in omega (arith, above, number)) in
     sited c d s (record s { redo = redone_to x.number s.redo }) at (come_redone s it.r x.number down up)
 
-pub known_redone : (old new : Core) (d : ℕ) (x : Reply) (result : Result Unit Stranger2) → Legal old.procs old.events
+pub known_redone : (old new : Core) (d : ℕ) (x : Reply) (result : Result Unit RedoMismatch) → Legal old.procs old.events
     → (IsOk result ↔ IsRedone old d x) → OnOk result (new ≡ after_redone old d x.number) → OnErr result (new ≡ old) → StaysKnown old new
 known_redone old new d x (Ok u) legal accepted ok err =
     subst (λ (c : Core). StaysKnown old c) (sym ok) (heard_more old d x (slice_get old.sites d) refl legal (accepted.0 refl))

@@ -29,7 +29,7 @@ use Rattle.tc_core.specs.Redo.{after_told, up_again, after_redo, redone_at, afte
 use Rattle.tc_core.specs.declared.state.NewsFault.{NewsFault}
 use Rattle.tc_core.specs.declared.state.Redo.{Redo}
 use Rattle.tc_core.specs.declared.state.Redo.TheVariants as redo
-use Rattle.tc_core.specs.declared.state.Stranger2.{Stranger2}
+use Rattle.tc_core.specs.declared.state.RedoMismatch.{RedoMismatch}
 use Rattle.tc_core.specs.declared.state.Receipt.{Receipt}
 use Rattle.tc_core.specs.declared.state.Stranger.{Stranger}
 use Rattle.tc_core.specs.declared.state.Call.{Call}
@@ -397,7 +397,7 @@ redone_keeps : (start : Core) (calls : List Call) (old : Core) (ps : List Progre
 redone_keeps start calls old ps d n None known keeps = keeps
 redone_keeps start calls old ps d n (Some s) known keeps = sited start calls old ps (redone_at old d n (Some s)).sites known keeps
 
-pub redo_heard : (start : Core) (calls : List Call) (old new : Core) (ps : List Progress) (d n : ℕ) (result : Result Unit Stranger2)
+pub redo_heard : (start : Core) (calls : List Call) (old new : Core) (ps : List Progress) (d n : ℕ) (result : Result Unit RedoMismatch)
     → OnOk result (new ≡ after_redone old d n) → OnErr result (new ≡ old) → StaysKnown old new → Keeps start calls old ps → Keeps start calls new ps
 redo_heard start calls old new ps d n (Ok x) ok err known keeps =
     rw ok (redone_keeps start calls old ps d n (slice_get old.sites d) (subst (λ (s : Core). StaysKnown old s) ok known) keeps)

@@ -30,7 +30,7 @@ use std::alloc::AllocError;
 use std::marker::{Model, PhantomData};
 use tc_core::procs::Procs;
 use tc_core::state::{
-    Asked, Call, Down, NotOver, Redo, Refusal, Request, Stranger, Stranger2, TcState, TxnId,
+    Asked, Call, Down, NotOver, Redo, RedoMismatch, Refusal, Request, Stranger, TcState, TxnId,
 };
 
 /// What is to be done for a call without the lock.
@@ -574,7 +574,7 @@ impl<J: RunSpec> PoolState<J> {
     }
 
     // Takes in that an operation is redone.
-    fn redone(&mut self, dc: u16, reply: &Reply) -> Result<(), Stranger2>
+    fn redone(&mut self, dc: u16, reply: &Reply) -> Result<(), RedoMismatch>
         ensures redone { IsKnownRedone self.old.state self.new.state dc reply.now }
         ensures same { self.new.progress ≡ self.old.progress }
     {
