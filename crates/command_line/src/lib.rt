@@ -6,4 +6,5 @@
 //! ```
 #![tactic(auto)]
 
+mod commands;
 pub mod words;

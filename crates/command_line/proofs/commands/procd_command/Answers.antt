@@ -2,7 +2,7 @@ use Rattle.std.proofs.Common.{◌≡◌, ◌∙◌, ap}
 use Rattle.clap.specs.Words.{App, with_subcommand}
 use Rattle.clap.specs.Simple.{app_of_fields}
 use Rattle.command_line.specs.Said.{procd_app, exec_app, asm_app, dis_app, verify_app, world_app, run_app, log_app, with_version}
-use Rattle.command_line.proofs.words.procd_command.Goals as goal
+use Rattle.command_line.proofs.commands.procd_command.Goals as goal
 
 -- one subcommand more, behind those that are there
 behind : (sub one other : App) → one ≡ other → with_subcommand one sub.top ≡ with_subcommand other sub.top

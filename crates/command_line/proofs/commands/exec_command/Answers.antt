@@ -3,7 +3,7 @@ use Rattle.std.proofs.lemmas.Result.{IfOk-weaker}
 use Rattle.clap.specs.Words.{rule_of, with_rule}
 use Rattle.command_line.proofs.Options.{still_local}
 use Rattle.command_line.specs.Said.{arg_rule}
-use Rattle.command_line.proofs.words.exec_command.Goals as goal
+use Rattle.command_line.proofs.commands.exec_command.Goals as goal
 
 pub returns-clause-app : goal.returns-clause-app
 returns-clause-app c =

@@ -2,7 +2,7 @@ use Rattle.std.proofs.Common.{◌∙◌, ap₂}
 use Rattle.std.proofs.lemmas.Result.{IfOk-weaker}
 use Rattle.clap.specs.Words.{with_rule}
 use Rattle.command_line.proofs.Options.{still_local}
-use Rattle.command_line.proofs.words.kept_command.Goals as goal
+use Rattle.command_line.proofs.commands.kept_command.Goals as goal
 
 pub returns-clause-app : goal.returns-clause-app
 returns-clause-app c =

@@ -1,0 +1,414 @@
+//! The commands and their options, with what `--help` says of each.
+
+ghost use Rattle.std.specs.Prelude.{◌≡◌, true, false, IfOk};
+ghost use Rattle.clap.specs.Words.{App, app_of, with_subcommand, rule_of};
+ghost use Rattle.clap.specs.declared.builder.command.Command.TheViews.{out-Command};
+ghost use Rattle.command_line.specs.Task.{Run};
+ghost use Rattle.command_line.specs.Said.{procd_app, exec_app, asm_app, dis_app, verify_app, world_app, told_app, kept_app, run_app, log_app};
+ghost use Rattle.command_line.specs.Said.{file_rule, raw_rule, log_rule, audit_rule, rows_rule, follow_rule, source_rule, script_rule, option_rule, stats_rule, results_rule, tell_rule, checkpoint_rule, partitions_rule};
+
+use clap::{Arg, ArgAction, Command};
+use std::alloc::{AllocError, Global};
+
+// FILE
+fn file_arg<'a>(alloc: Global, help: &'a str) -> Arg<'a>
+    ensures rule { rule_of result ≡ file_rule }
+    ensures local { result.global ≡ false }
+{
+    Arg::new(alloc, "file")
+        .required(true)
+        .action(ArgAction::Set)
+        .value_name("FILE")
+        .help(help)
+}
+
+// --raw
+fn raw_arg<'a>(alloc: Global) -> Arg<'a>
+    ensures rule { rule_of result ≡ raw_rule }
+    ensures local { result.global ≡ false }
+{
+    Arg::new(alloc, "raw")
+        .long("raw")
+        .action(ArgAction::SetTrue)
+        .help("Read the code's bytes themselves, not hex text")
+}
+
+const CODE_HELP: &str = "The code: a path, or - for standard input. Hex text is pairs of digits";
+
+// `exec [--raw] FILE [ARG]...`
+fn exec_command<'a>(alloc: Global) -> Result<Command<'a>, AllocError>
+    ensures app { IfOk result (λ c. app_of c ≡ exec_app) }
+    ensures local { IfOk result (λ c. (out-Command c).has_globals ≡ false) }
+{
+    let arg = Arg::new(alloc, "arg")
+        .action(ArgAction::Append)
+        .value_name("ARG")
+        .help("The code's arguments, at most 8: numbers of 64 bits in decimal");
+    Command::new(alloc, "exec")
+        .arg(raw_arg(alloc))?
+        .arg(file_arg(alloc, CODE_HELP))?
+        .arg(arg)
+}
+
+// `asm FILE`
+fn asm_command<'a>(alloc: Global) -> Result<Command<'a>, AllocError>
+    ensures app { IfOk result (λ c. app_of c ≡ asm_app) }
+    ensures local { IfOk result (λ c. (out-Command c).has_globals ≡ false) }
+{
+    Command::new(alloc, "asm").arg(file_arg(alloc, "The text: a path, or - for standard input"))
+}
+
+// `dis [--raw] FILE`
+fn dis_command<'a>(alloc: Global) -> Result<Command<'a>, AllocError>
+    ensures app { IfOk result (λ c. app_of c ≡ dis_app) }
+    ensures local { IfOk result (λ c. (out-Command c).has_globals ≡ false) }
+{
+    Command::new(alloc, "dis")
+        .arg(raw_arg(alloc))?
+        .arg(file_arg(alloc, CODE_HELP))
+}
+
+const VERIFY_HELP: &str =
+    "The script, or an object file for BPF with procedures: a path, or - for standard input";
+
+const SCRIPT_HELP: &str =
+    "The script, or with SCRIPT an object file for BPF with procedures: a path, or - for standard input";
+
+// [SCRIPT]
+fn script_arg<'a>(alloc: Global, help: &'a str) -> Arg<'a>
+    ensures rule { rule_of result ≡ script_rule }
+    ensures local { result.global ≡ false }
+{
+    Arg::new(alloc, "script")
+        .action(ArgAction::Set)
+        .value_name("SCRIPT")
+        .help(help)
+}
+
+const BESIDE_HELP: &str = "The script that an object file's procedures are for: a path";
+
+// `verify FILE`
+fn verify_command<'a>(alloc: Global) -> Result<Command<'a>, AllocError>
+    ensures app { IfOk result (λ c. app_of c ≡ verify_app) }
+    ensures local { IfOk result (λ c. (out-Command c).has_globals ≡ false) }
+{
+    Command::new(alloc, "verify").arg(file_arg(alloc, VERIFY_HELP))
+}
+
+// --log
+fn log_arg<'a>(alloc: Global) -> Arg<'a>
+    ensures rule { rule_of result ≡ log_rule }
+    ensures local { result.global ≡ false }
+{
+    Arg::new(alloc, "log")
+        .long("log")
+        .action(ArgAction::SetTrue)
+        .help("Print each event of the log as well: 192 hex digits a line, the oldest first")
+}
+
+// --audit
+fn audit_arg<'a>(alloc: Global) -> Arg<'a>
+    ensures rule { rule_of result ≡ audit_rule }
+    ensures local { result.global ≡ false }
+{
+    Arg::new(alloc, "audit")
+        .long("audit")
+        .action(ArgAction::SetTrue)
+        .help(
+            "Print what an audit of the log and the data components finds: `audit ok ..`, or why not",
+        )
+}
+
+// `world [--log] [--audit] FILE [SCRIPT]`
+fn world_command<'a>(alloc: Global) -> Result<Command<'a>, AllocError>
+    ensures app { IfOk result (λ c. app_of c ≡ world_app) }
+    ensures local { IfOk result (λ c. (out-Command c).has_globals ≡ false) }
+{
+    Command::new(alloc, "world")
+        .arg(log_arg(alloc))?
+        .arg(audit_arg(alloc))?
+        .arg(file_arg(alloc, SCRIPT_HELP))?
+        .arg(script_arg(alloc, BESIDE_HELP))
+}
+
+// An option with a value.
+fn option_arg<'a>(alloc: Global, name: &'a str, value_name: &'a str, help: &'a str) -> Arg<'a>
+    ensures rule { rule_of result ≡ option_rule name.entry.now }
+    ensures local { result.global ≡ false }
+{
+    Arg::new(alloc, name)
+        .long(name)
+        .action(ArgAction::Set)
+        .value_name(value_name)
+        .help(help)
+}
+
+// --stats
+fn stats_arg<'a>(alloc: Global) -> Arg<'a>
+    ensures rule { rule_of result ≡ stats_rule }
+    ensures local { result.global ≡ false }
+{
+    Arg::new(alloc, "stats")
+        .long("stats")
+        .action(ArgAction::SetTrue)
+        .help(
+            "Tell on standard error how many calls were answered how, of each procedure too, how many a second, and how long they took",
+        )
+}
+
+// --results
+fn results_arg<'a>(alloc: Global) -> Arg<'a>
+    ensures rule { rule_of result ≡ results_rule }
+    ensures local { result.global ≡ false }
+{
+    Arg::new(alloc, "results")
+        .long("results")
+        .action(ArgAction::SetTrue)
+        .help(
+            "Print behind each `call` line that committed what its slots hold, as `result 5 0 100`: the call, the slot, the value",
+        )
+}
+
+// --tell
+fn tell_arg<'a>(alloc: Global) -> Arg<'a>
+    ensures rule { rule_of result ≡ tell_rule }
+    ensures local { result.global ≡ false }
+{
+    Arg::new(alloc, "tell")
+        .long("tell")
+        .action(ArgAction::SetTrue)
+        .help(
+            "Tell on standard error of each `call` line, as `told 5 committed`, as soon as its answer stands and is kept",
+        )
+}
+
+// --checkpoint
+fn checkpoint_arg<'a>(alloc: Global) -> Arg<'a>
+    ensures rule { rule_of result ≡ checkpoint_rule }
+    ensures local { result.global ≡ false }
+{
+    Arg::new(alloc, "checkpoint")
+        .long("checkpoint")
+        .action(ArgAction::SetTrue)
+        .help("Write LOG anew behind the last call: the rows, and the log from there on")
+}
+
+// --partitions
+fn partitions_arg<'a>(alloc: Global) -> Arg<'a>
+    ensures rule { rule_of result ≡ partitions_rule }
+    ensures local { result.global ≡ false }
+{
+    Arg::new(alloc, "partitions")
+        .long("partitions")
+        .action(ArgAction::SetTrue)
+        .help(
+            "Run calls apart whose data components no procedure joins, each part by some of the workers and with a log of its own",
+        )
+}
+
+// `run [--workers N] [--tries N] [--stats] [--audit] [--results] [--tell]`
+fn told_command<'a>(alloc: Global) -> Result<Command<'a>, AllocError>
+    ensures app { IfOk result (λ c. app_of c ≡ told_app) }
+    ensures local { IfOk result (λ c. (out-Command c).has_globals ≡ false) }
+{
+    let workers = option_arg(
+        alloc,
+        "workers",
+        "N",
+        "How many workers make the `call` lines' calls at once: 1 to 64, or 4 where it isn't said",
+    );
+    let tries = option_arg(
+        alloc,
+        "tries",
+        "N",
+        "How often a request is sent at most: 1 to 1000, or 3 where it isn't said",
+    );
+    Command::new(alloc, "run")
+        .arg(workers)?
+        .arg(tries)?
+        .arg(stats_arg(alloc))?
+        .arg(audit_arg(alloc))?
+        .arg(results_arg(alloc))?
+        .arg(tell_arg(alloc))
+}
+
+// The same with `[--metrics PROM] [--trace JSON] [--log LOG] [--partitions]` behind it.
+fn kept_command<'a>(alloc: Global) -> Result<Command<'a>, AllocError>
+    ensures app { IfOk result (λ c. app_of c ≡ kept_app) }
+    ensures local { IfOk result (λ c. (out-Command c).has_globals ≡ false) }
+{
+    let metrics = option_arg(
+        alloc,
+        "metrics",
+        "PROM",
+        "A file for Prometheus, written anew each second while the run lasts: how many calls were answered how, and how long they took",
+    );
+    let trace = option_arg(
+        alloc,
+        "trace",
+        "JSON",
+        "A file for a browser's trace viewer, written behind the last call: when each call began and was answered",
+    );
+    let log = option_arg(
+        alloc,
+        "log",
+        "LOG",
+        "A file that keeps the log: what it has is gone on from, and each answer waits for it",
+    );
+    told_command(alloc)?
+        .arg(metrics)?
+        .arg(trace)?
+        .arg(log)?
+        .arg(partitions_arg(alloc))
+}
+
+// The same with `[--checkpoint] [--checkpoint-over BYTES] FILE [SCRIPT]` behind it.
+fn run_command<'a>(alloc: Global) -> Result<Command<'a>, AllocError>
+    ensures app { IfOk result (λ c. app_of c ≡ run_app) }
+    ensures local { IfOk result (λ c. (out-Command c).has_globals ≡ false) }
+{
+    let over = option_arg(
+        alloc,
+        "checkpoint-over",
+        "BYTES",
+        "The same where LOG has more bytes than this: before the first call, between parts of 65536 and behind the last",
+    );
+    kept_command(alloc)?
+        .arg(checkpoint_arg(alloc))?
+        .arg(over)?
+        .arg(file_arg(alloc, SCRIPT_HELP))?
+        .arg(script_arg(alloc, BESIDE_HELP))
+}
+
+// --rows
+fn rows_arg<'a>(alloc: Global) -> Arg<'a>
+    ensures rule { rule_of result ≡ rows_rule }
+    ensures local { result.global ≡ false }
+{
+    Arg::new(alloc, "rows")
+        .long("rows")
+        .action(ArgAction::SetTrue)
+        .help("Print the rows as well with which a log begins that was cut, behind its events")
+}
+
+// --follow
+fn follow_arg<'a>(alloc: Global) -> Arg<'a>
+    ensures rule { rule_of result ≡ follow_rule }
+    ensures local { result.global ≡ false }
+{
+    Arg::new(alloc, "follow")
+        .long("follow")
+        .action(ArgAction::SetTrue)
+        .help("Go on, and print each further event as soon as it stands in the file")
+}
+
+// [SOURCE]
+fn source_arg<'a>(alloc: Global) -> Arg<'a>
+    ensures rule { rule_of result ≡ source_rule }
+    ensures local { result.global ≡ false }
+{
+    Arg::new(alloc, "source")
+        .action(ArgAction::Set)
+        .value_name("SOURCE")
+        .help(
+            "With --audit, the script whose procedures the log was written for, or with SCRIPT an object file for BPF with procedures: a path",
+        )
+}
+
+// `log [--rows] [--audit] [--follow] [--picture SVG] [--from P] [--tail N] FILE [SOURCE] [SCRIPT]`
+fn log_command<'a>(alloc: Global) -> Result<Command<'a>, AllocError>
+    ensures app { IfOk result (λ c. app_of c ≡ log_app) }
+    ensures local { IfOk result (λ c. (out-Command c).has_globals ≡ false) }
+{
+    let picture = option_arg(
+        alloc,
+        "picture",
+        "SVG",
+        "Draw the events as a picture, into a new file: its path",
+    );
+    let from = option_arg(
+        alloc,
+        "from",
+        "P",
+        "Only the events from place P on, from 0; of a picture the first ones there",
+    );
+    let tail = option_arg(alloc, "tail", "N", "Only the last N events");
+    Command::new(alloc, "log")
+        .arg(rows_arg(alloc))?
+        .arg(audit_arg(alloc))?
+        .arg(follow_arg(alloc))?
+        .arg(picture)?
+        .arg(from)?
+        .arg(tail)?
+        .arg(file_arg(alloc, "The log's file: a path, or - for standard input"))?
+        .arg(source_arg(alloc))?
+        .arg(script_arg(alloc, BESIDE_HELP))
+}
+
+// Adds a subcommand, once it is made, with what its help begins with.
+fn with_command<'a>(
+    procd: Command<'a>,
+    made: Result<Command<'a>, AllocError>,
+    about: &'a str,
+) -> Result<Command<'a>, AllocError>
+    ensures { (app : App) → IfOk made.entry (λ c. app_of c ≡ app) → IfOk made.entry (λ c. (out-Command c).has_globals ≡ false)
+        → IfOk result (λ r. app_of r ≡ with_subcommand (app_of procd.entry) app.top) }
+{
+    match made {
+        Ok(command) => procd.subcommand(command.about(about)),
+        Err(AllocError) => {
+            drop(procd);
+            Err(AllocError)
+        }
+    }
+}
+
+/// The release, which `--version` prints: `MZ_RELEASE` of the library for C.
+const RELEASE: &str = "0.1.0";
+
+// The command line of the program.
+pub(crate) fn procd_command<'a>(alloc: Global) -> Result<Command<'a>, AllocError>
+    ensures { IfOk result (λ c. app_of c ≡ procd_app) }
+{
+    let procd = Command::new(alloc, "procd");
+    let with_exec = with_command(
+        procd,
+        exec_command(alloc),
+        "Verify code and run it: prints `answer V` and `executed N`, or `refused ..` with status 1",
+    )?;
+    let with_asm = with_command(
+        with_exec,
+        asm_command(alloc),
+        "Assemble text, an instruction a line: prints its slots in hex, one a line",
+    )?;
+    let with_dis = with_command(
+        with_asm,
+        dis_command(alloc),
+        "Disassemble code: prints its text, an instruction a line",
+    )?;
+    let with_verify = with_command(
+        with_dis,
+        verify_command(alloc),
+        "Verify the procedures of a script or of an object file: prints `NAME accepted SLOTS` or `NAME V.. slot N` for each",
+    )?;
+    let with_world = with_command(
+        with_verify,
+        world_command(alloc),
+        "Take the steps of a script one by one: prints a line for each, then `row DC/TABLE/KEY VALUE` for what is kept",
+    )?;
+    let with_run = with_command(
+        with_world,
+        run_command(alloc),
+        "Run the calls of a script by workers: prints what each was answered, as `call I committed`, and then the rows",
+    )?;
+    let with_log = with_command(
+        with_run,
+        log_command(alloc),
+        "Print the events of a log's file, one a line, as `7 end 3 committed`; or draw them, or audit it beside a script",
+    )?;
+    Ok(
+        with_log
+            .about("A transaction component that runs verified BPF procedures")
+            .version(RELEASE),
+    )
+}
