@@ -12,7 +12,7 @@ use Rattle.access_slots.proofs.Records.{eq_same, eq_is}
 use Rattle.access_slots.proofs.Locking.{none_above}
 use Rattle.lock_table.specs.declared.row.Holder.{Holder}
 use Rattle.lock_table.specs.declared.row.Neighbours.{Neighbours}
-use Rattle.lock_table.specs.declared.table.Holding.{Holding}
+use Rattle.lock_table.specs.declared.maps.Holding.{Holding}
 use Rattle.lock_table.specs.Facts.{granted}
 use Rattle.lock_table.specs.Holds.{IsHeldAs, AreHeldAs, with_mode, IsFreeFor}
 use Rattle.lock_table.proofs.HoldLemmas.{excludes_none}

@@ -1,5 +1,5 @@
 -- How a record is held, as one holder comes or goes.
-use Rattle.std.proofs.Common.{arith, ◌≡◌, ◌≢◌, ℕ, ◌<◌, Bool, true, false, ◌||◌, ◌&&◌, not, if◌then◌else◌, is_some, List}
+use Rattle.std.proofs.Common.{arith, ◌≡◌, ◌≢◌, ℕ, ◌<◌, Bool, true, false, ◌||◌, ◌&&◌, not, is_some, List}
 use Rattle.std.proofs.Common.{refl, sym, ap, subst, ◌∙◌, inl, inr, true≢false}
 use Rattle.std.specs.Prelude.{Option, Some, None, unwrap_or}
 use Rattle.std.specs.Map.{lookup}
@@ -9,7 +9,7 @@ use Rattle.access_slots.specs.declared.slot.Mode.{Mode}
 use Rattle.access_slots.specs.declared.slot.Mode.TheVariants as mode
 use Rattle.access_slots.specs.Locks.{record_eq}
 use Rattle.access_slots.specs.Held.{excludes}
-use Rattle.lock_table.specs.declared.table.Holding.{Holding}
+use Rattle.lock_table.specs.declared.maps.Holding.{Holding}
 use Rattle.lock_table.specs.Rows.{IsRow, IsPrevious, IsNext, with_txn, without_txn}
 use Rattle.lock_table.specs.Holds.{IsHolding, IsFree, IsHeld, with_mode, IsFreeFor, IsLeastInTheWay}
 use Rattle.lock_table.proofs.RowLemmas.{apart, never}

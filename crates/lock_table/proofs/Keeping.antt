@@ -12,7 +12,7 @@ use Rattle.access_slots.specs.Held.{Held}
 use Rattle.lock_table.specs.declared.row.Holder.{Holder}
 use Rattle.lock_table.specs.declared.row.Neighbours.{Neighbours}
 use Rattle.lock_table.specs.declared.table.Busy.{Busy}
-use Rattle.lock_table.specs.declared.table.Holding.{Holding}
+use Rattle.lock_table.specs.declared.maps.Holding.{Holding}
 use Rattle.lock_table.specs.Clashes.{clashes}
 use Rattle.lock_table.specs.Facts.{held_in, mode_among, granted, released}
 use Rattle.lock_table.specs.Holds.{IsHeld, IsHeldAs, AreHeldAs, IsKept}
@@ -24,19 +24,6 @@ not_busy o free none says = subst (λ (x : Option Busy). IfNone x free) none say
 -- no set is ready
 pub not_ready : (o : Option (List Lock)) (P : List Lock → Type 0) → o ≡ None → IfSome o P
 not_ready o P none = subst (λ (x : Option (List Lock)). IfSome x P) (sym none) tt
-
--- the set that is ready is the one that was to be
-pub ready_is : (o : Option (List Lock)) (set kept : List Lock) → o ≡ Some set → o ≡ Some kept → kept ≡ set
-ready_is o set kept wanted is = let both : Some kept ≡ Some set = sym is ∙ wanted in cc
-
--- what is said where there is one
-pub if_some : {A : Type 0} (o : Option A) (P Q : A → Type 0) → ((x : A) → P x → Q x) → IfSome o P → IfSome o Q
-if_some None P Q f h = tt
-if_some (Some x) P Q f h = f x h
-
-pub if_none : {A : Type 0} (o : Option A) (P Q : Type 0) → (P → Q) → IfNone o P → IfNone o Q
-if_none None P Q f h = f h
-if_none (Some x) P Q f h = tt
 
 -- the same holders
 pub are_held : {S T : Type 0} (records : IndexMap Record Holding S) (links : IndexMap Holder Neighbours T) (held held' : Held)

@@ -9,7 +9,7 @@ use Rattle.std.proofs.lemmas.Option.{slice_get-get_or, slice_get-map}
 use Rattle.access_slots.specs.declared.slot.Record.{Record}
 use Rattle.access_slots.specs.Locks.{record_eq}
 use Rattle.access_slots.proofs.Records.{eq_same, eq_turned, eq_is}
-use Rattle.lock_table.specs.declared.table.Holding.{Holding}
+use Rattle.lock_table.specs.declared.maps.Holding.{Holding}
 
 pub record_laws : IsEquivalence record_eq
 record_laws = record { refl = eq_same; symm = eq_turned; congr = λ x y z same. ap (λ (r : Record). record_eq r z) (eq_is x y same) }

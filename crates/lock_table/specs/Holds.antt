@@ -9,7 +9,7 @@ use Rattle.access_slots.specs.Locks.{record_eq}
 use Rattle.access_slots.specs.Held.{Held, excludes}
 use Rattle.lock_table.specs.declared.row.Holder.{Holder}
 use Rattle.lock_table.specs.declared.row.Neighbours.{Neighbours}
-use Rattle.lock_table.specs.declared.table.Holding.{Holding}
+use Rattle.lock_table.specs.declared.maps.Holding.{Holding}
 use Rattle.lock_table.specs.Facts.{held_in}
 use Rattle.lock_table.specs.Rows.{IsLeast, IsRow, before_at, behind_at}
 

@@ -1,3 +1,4 @@
+pub mod Alone
 pub mod Clashes
 pub mod Facts
 pub mod Holds

@@ -66,12 +66,20 @@ impl HeldLocks {
         self.locks.as_slice() == set.locks()
     }
 
+    /// The mode in which the record is locked, where it is.
+    #[inline(always)]
+    pub(crate) fn mode_of(&self, name: &Record) -> Option<Mode>
+        ensures { result ≡ mode_in self.now name.now }
+    {
+        mode_in(self.locks.as_slice(), name)
+    }
+
     /// Whether one of these locks keeps that one out: it is on the same record, and one of the two is
     /// for writing.
     pub(crate) fn excludes(&self, lock: &Lock) -> bool
         ensures { result ≡ excludes (Some lock.now.mode) (mode_in self.now lock.now.«record») }
     {
-        match mode_in(self.locks.as_slice(), &lock.record) {
+        match self.mode_of(&lock.record) {
             Some(held) => lock.mode.excludes(held),
             None => false,
         }

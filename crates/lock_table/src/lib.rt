@@ -13,6 +13,7 @@
 #![tactic(auto)]
 
 mod held;
+mod maps;
 mod row;
 pub mod table;
 
