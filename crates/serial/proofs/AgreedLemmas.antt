@@ -10,7 +10,7 @@ use Rattle.access_slots.specs.declared.op.Said.TheVariants.{NoRoom}
 use Rattle.access_slots.specs.Locks.{record_eq, target}
 use Rattle.access_slots.proofs.Records.{eq_is}
 use Rattle.tc_log.specs.declared.event.Event.{Event}
-use Rattle.tc_log.specs.declared.event.Event.TheVariants.{Admit, Ask, Answer, Undo, End, Checkpoint}
+use Rattle.tc_log.specs.declared.event.Event.TheVariants.{Answer}
 use Rattle.verifier.specs.Checked.{Checked}
 use Rattle.history.specs.Flight.{Flight, open_op, given}
 use Rattle.data_component.specs.Performed.{Performed, RecordValue, value_over, said_under}
@@ -69,13 +69,9 @@ tells_event : (ps : List Checked) (base : Table) (later h : List Event) (e : Eve
     → AllGood ps → Legal ps (later ++ e ∷ h) → IsHonestFrom base h e
     → logged (later ++ e ∷ h) n ≡ Some o → said_under (done (e ∷ h)) n ≡ Some said
     → (said_under (done h) n ≡ Some said → Tells base (later ++ e ∷ h) n o said) → Tells base (later ++ e ∷ h) n o said
-tells_event ps base later h (Admit t p args) n o said good legal honest logs under before = before under
-tells_event ps base later h (Ask t m q) n o said good legal honest logs under before = before under
 tells_event ps base later h (Answer t m s) n o said good legal honest logs under before =
     tells_one ps base later h t m s n o said good legal honest logs under before
-tells_event ps base later h (Undo t m q) n o said good legal honest logs under before = before under
-tells_event ps base later h (End t ends) n o said good legal honest logs under before = before under
-tells_event ps base later h (Checkpoint admissions numbers) n o said good legal honest logs under before = before under
+tells_event ps base later h _ n o said good legal honest logs under before = before under
 
 -- where answers are honest, each is what the operations under lower numbers left
 tells_all : (ps : List Checked) (base : Table) (later h : List Event) (n : ℕ) (o : Op) (said : Said) → AllGood ps

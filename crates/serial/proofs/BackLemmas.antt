@@ -11,7 +11,7 @@ use Rattle.access_slots.specs.Access.{fits}
 use Rattle.access_slots.specs.Locks.{record_eq, target, is_read, conflict}
 use Rattle.access_slots.proofs.Records.{eq_is}
 use Rattle.tc_log.specs.declared.event.Event.{Event}
-use Rattle.tc_log.specs.declared.event.Event.TheVariants.{Admit, Ask, Answer, Undo, End, Checkpoint}
+use Rattle.tc_log.specs.declared.event.Event.TheVariants.{Ask, Answer, Undo, Checkpoint}
 use Rattle.verifier.specs.Checked.{Checked}
 use Rattle.history.specs.Flight.{Flight, open_op, given}
 use Rattle.history.specs.Anew.{begun}
@@ -461,7 +461,6 @@ tail_none (e ∷ later) first is = absurd cc
 pub earlier : (ps : List Checked) (base : Table) (later first : List Event) → AllGood ps → Legal ps (later ++ first)
     → HonestFrom base (later ++ first) → Before base (later ++ first) first
 earlier ps base [] first good legal honest = earlier_same base (logged first) (open_op first) (done first) (given first) (logged_below ps first legal)
-earlier ps base (Admit t p args ∷ later) first good legal honest = earlier ps base later first good legal.1 honest.1
 earlier ps base (Ask t n o ∷ later) first good legal honest =
     sent_back ps base (later ++ first) first t n o legal.1 legal.0.next (earlier ps base later first good legal.1 honest.1)
 earlier ps base (Answer t n said ∷ later) first good legal honest =
@@ -469,7 +468,6 @@ earlier ps base (Answer t n said ∷ later) first good legal honest =
     (earlier ps base later first good legal.1 honest.1)
 earlier ps base (Undo t n o ∷ later) first good legal honest =
     sent_back ps base (later ++ first) first t n o legal.1 legal.0.next (earlier ps base later first good legal.1 honest.1)
-earlier ps base (End t ends ∷ later) first good legal honest = earlier ps base later first good legal.1 honest.1
 earlier ps base (Checkpoint before numbers ∷ later) first good legal honest =
     let x = earlier ps base later first good legal.1 honest.1 in
     let none : given first ≡ 0 = ap given (tail_none later first legal.0.oldest) in
@@ -484,6 +482,7 @@ earlier ps base (Checkpoint before numbers ∷ later) first good legal honest =
       beside = x.beside;
       behind = x.behind;
     }
+earlier ps base (_ ∷ later) first good legal honest = earlier ps base later first good legal.1 honest.1
 
 -- what is allowed behind each event, and each honest answer, is so behind the first ones
 pub legal_first : (ps : List Checked) (later first : List Event) → Legal ps (later ++ first) → Legal ps first
@@ -496,25 +495,21 @@ honest_first base (e ∷ later) first honest = honest_first base later first hon
 
 pub given_more : (ps : List Checked) (later first : List Event) → Legal ps (later ++ first) → given first ≤ given (later ++ first)
 given_more ps [] first legal = omega arith
-given_more ps (Admit t p args ∷ later) first legal = given_more ps later first legal.1
 given_more ps (Ask t n o ∷ later) first legal = (let ih = given_more ps later first legal.1 in omega (arith, ih))
-given_more ps (Answer t n said ∷ later) first legal = given_more ps later first legal.1
 given_more ps (Undo t n o ∷ later) first legal = (let ih = given_more ps later first legal.1 in omega (arith, ih))
-given_more ps (End t o ∷ later) first legal = given_more ps later first legal.1
 given_more ps (Checkpoint before numbers ∷ later) first legal =
     let none : given first ≡ 0 = ap given (tail_none later first legal.0.oldest) in
     omega (arith, none)
+given_more ps (_ ∷ later) first legal = given_more ps later first legal.1
 
 -- ---- the number behind which a log begins
 
 pub begun_given : (ps : List Checked) (h : List Event) → Legal ps h → begun h ≤ given h
 begun_given ps [] legal = omega arith
-begun_given ps (Admit t p args ∷ h) legal = begun_given ps h legal.1
 begun_given ps (Ask t m q ∷ h) legal = (let few = begun_given ps h legal.1 in omega (arith, few))
-begun_given ps (Answer t m said ∷ h) legal = begun_given ps h legal.1
 begun_given ps (Undo t m q ∷ h) legal = (let few = begun_given ps h legal.1 in omega (arith, few))
-begun_given ps (End t ends ∷ h) legal = begun_given ps h legal.1
 begun_given ps (Checkpoint before numbers ∷ h) legal = omega arith
+begun_given ps (_ ∷ h) legal = begun_given ps h legal.1
 
 logged_new : (ps : List Checked) (h : List Event) (m n : ℕ) (q o : Op) → Legal ps h → m ≡ given h + 1 → (logged h n ≡ Some o → begun h < n)
     → (if m == n then Some q else logged h n) ≡ Some o → begun h < n
@@ -526,10 +521,8 @@ logged_new ps h m n q o legal next old e = elim (cases_eq m n) [
 -- the log's numbers are above it
 pub logged_above : (ps : List Checked) (h : List Event) → Legal ps h → (n : ℕ) (o : Op) → logged h n ≡ Some o → begun h < n
 logged_above ps [] legal n o e = absurd (none_some _ o refl e)
-logged_above ps (Admit t p args ∷ h) legal n o e = logged_above ps h legal.1 n o e
 logged_above ps (Ask t m q ∷ h) legal n o e = logged_new ps h m n q o legal.1 legal.0.next (logged_above ps h legal.1 n o) e
-logged_above ps (Answer t m said ∷ h) legal n o e = logged_above ps h legal.1 n o e
 logged_above ps (Undo t m q ∷ h) legal n o e = logged_new ps h m n q o legal.1 legal.0.next (logged_above ps h legal.1 n o) e
-logged_above ps (End t ends ∷ h) legal n o e = logged_above ps h legal.1 n o e
 logged_above ps (Checkpoint before numbers ∷ h) legal n o e =
     absurd (none_some _ o (ap (λ (x : List Event). logged x n) legal.0.oldest) e)
+logged_above ps (_ ∷ h) legal n o e = logged_above ps h legal.1 n o e

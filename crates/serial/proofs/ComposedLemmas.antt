@@ -2,7 +2,7 @@
 use Rattle.std.proofs.Common.{◌≡◌, ℕ, List, [], ◌∷◌, ◌++◌, Option, refl, sym, ap₂, subst}
 use Rattle.verifier.specs.Checked.{Checked}
 use Rattle.tc_log.specs.declared.event.Event.{Event}
-use Rattle.tc_log.specs.declared.event.Event.TheVariants.{Admit, Ask, Answer, Undo, End, Checkpoint}
+use Rattle.tc_log.specs.declared.event.Event.TheVariants.{End}
 use Rattle.history.specs.Calls.{Call, open_call}
 use Rattle.history.specs.Anew.{anew}
 use Rattle.transactions.specs.Legal.{Legal}
@@ -21,32 +21,20 @@ module _ (ps : List Checked) (base : Table) (h : List Event) (legal : Legal ps h
 
   pub composed : (later : List Event) → serial_from ps base (later ++ h) ≡ serial_from ps (serial_from ps base h) (later ++ anew h)
   composed [] = sym (anew_serial ps (serial_from ps base h) h)
-  composed (Admit t p args ∷ later) = composed later
-  composed (Ask t n o ∷ later) = composed later
-  composed (Answer t n said ∷ later) = composed later
-  composed (Undo t n o ∷ later) = composed later
   composed (End t ends ∷ later) = ap₂ (λ (c : Option Call) (m : Table). left_by ends (run_open ps c m) m) (same_call later t) (composed later)
-  composed (Checkpoint before numbers ∷ later) = composed later
+  composed (_ ∷ later) = composed later
 
   same_end : (later : List Event) (e : Event) → EndsSoFrom ps base (later ++ h) e → EndsSoFrom ps (serial_from ps base h) (later ++ anew h) e
-  same_end later (Admit t p args) is = tt
-  same_end later (Ask t n o) is = tt
-  same_end later (Answer t n said) is = tt
-  same_end later (Undo t n o) is = tt
   same_end later (End t ends) is =
       subst (λ (m : Table). EndsAs ends (run_open ps (open_call (later ++ anew h) t) m)) (composed later)
       (subst (λ (c : Option Call). EndsAs ends (run_open ps c (serial_from ps base (later ++ h)))) (same_call later t) is)
-  same_end later (Checkpoint before numbers) is = tt
+  same_end later _ is = tt
 
   long_end : (later : List Event) (e : Event) → EndsSoFrom ps (serial_from ps base h) (later ++ anew h) e → EndsSoFrom ps base (later ++ h) e
-  long_end later (Admit t p args) is = tt
-  long_end later (Ask t n o) is = tt
-  long_end later (Answer t n said) is = tt
-  long_end later (Undo t n o) is = tt
   long_end later (End t ends) is =
       subst (λ (m : Table). EndsAs ends (run_open ps (open_call (later ++ h) t) m)) (sym (composed later))
       (subst (λ (c : Option Call). EndsAs ends (run_open ps c (serial_from ps (serial_from ps base h) (later ++ anew h)))) (sym (same_call later t)) is)
-  long_end later (Checkpoint before numbers) is = tt
+  long_end later _ is = tt
 
   anew_ends : (k : List Event) → EndsAsSerialFrom ps (serial_from ps base h) (anew k)
   anew_ends [] = tt
