@@ -46,7 +46,7 @@ use Rattle.transactions.specs.Reached.{decls}
 use Rattle.transactions.specs.Room.{weighed, total_to, total}
 use Rattle.transactions.specs.Legal.{Legal, Allowed}
 use Rattle.transactions.specs.Alike.{IsAtRest, AreAlike}
-use Rattle.transactions.proofs.StandingLemmas.{none_some, standing-checkpoint}
+use Rattle.transactions.proofs.StandingLemmas.{none_some, standing-kept}
 use Rattle.transactions.proofs.Headline.{no_call, awaited}
 use Rattle.transactions.proofs.Restarts.{answered_given}
 
@@ -81,7 +81,7 @@ begins_alike ps [] legal rest =
 begins_alike ps (e ∷ h) legal rest = record {
   admissions = refl;
   numbers = refl;
-  standings = λ t. rest t ∙ sym (standing-checkpoint (admitted (e ∷ h)) (given (e ∷ h)) [] t);
+  standings = λ t. rest t ∙ sym (standing-kept (Checkpoint (admitted (e ∷ h)) (given (e ∷ h))) [] t (λ was. refl));
   calls = λ t. no_call ps (e ∷ h) t (rest t);
   flights = λ n. none_flies ps (e ∷ h) legal rest n;
   pending = none_pending ps (e ∷ h) legal rest;
@@ -103,52 +103,36 @@ turned from h k are = record {
 
 admissions_more : (e : Event) (h k : List Event) → admitted h ≡ admitted k → admitted (e ∷ h) ≡ admitted (e ∷ k)
 admissions_more (Admit t p args) h k same = ap (λ (n : ℕ). n + 1) same
-admissions_more (Ask t n o) h k same = same
-admissions_more (Answer t n said) h k same = same
-admissions_more (Undo t n o) h k same = same
-admissions_more (End t o) h k same = same
 admissions_more (Checkpoint before numbers) h k same = refl
+admissions_more _ h k same = same
 
 numbers_more : (e : Event) (h k : List Event) → given h ≡ given k → given (e ∷ h) ≡ given (e ∷ k)
-numbers_more (Admit t p args) h k same = same
 numbers_more (Ask t n o) h k same = ap (λ (i : ℕ). i + 1) same
-numbers_more (Answer t n said) h k same = same
 numbers_more (Undo t n o) h k same = ap (λ (i : ℕ). i + 1) same
-numbers_more (End t o) h k same = same
 numbers_more (Checkpoint before numbers) h k same = refl
+numbers_more _ h k same = same
 
 calls_more : (e : Event) (h k : List Event) (t : ℕ) → open_call h t ≡ open_call k t → open_call (e ∷ h) t ≡ open_call (e ∷ k) t
 calls_more (Admit u p args) h k t same = ap (λ (c : Option Call). if u == t then Some (record { proc = p; args = args }) else c) same
-calls_more (Ask u n o) h k t same = same
-calls_more (Answer u n said) h k t same = same
-calls_more (Undo u n o) h k t same = same
 calls_more (End u o) h k t same = ap (λ (c : Option Call). if u == t then None else c) same
-calls_more (Checkpoint before numbers) h k t same = same
+calls_more _ h k t same = same
 
 flights_more : (e : Event) (h k : List Event) (m : ℕ) → open_op h m ≡ open_op k m → open_op (e ∷ h) m ≡ open_op (e ∷ k) m
-flights_more (Admit t p args) h k m same = same
 flights_more (Ask t n o) h k m same = ap (λ (f : Option Flight). if n == m then Some (record { txn = t; op = o }) else f) same
 flights_more (Answer t n said) h k m same = ap (λ (f : Option Flight). if n == m then None else f) same
 flights_more (Undo t n o) h k m same = ap (λ (f : Option Flight). if n == m then Some (record { txn = t; op = o }) else f) same
-flights_more (End t o) h k m same = same
-flights_more (Checkpoint before numbers) h k m same = same
+flights_more _ h k m same = same
 
 pending_more : (e : Event) (h k : List Event) → open_numbers h ≡ open_numbers k → open_numbers (e ∷ h) ≡ open_numbers (e ∷ k)
-pending_more (Admit t p args) h k same = same
 pending_more (Ask t n o) h k same = ap (λ (ns : List ℕ). ns ++ n ∷ []) same
 pending_more (Answer t n said) h k same = ap (others n) same
 pending_more (Undo t n o) h k same = ap (λ (ns : List ℕ). ns ++ n ∷ []) same
-pending_more (End t o) h k same = same
-pending_more (Checkpoint before numbers) h k same = same
+pending_more _ h k same = same
 
 answers_more : (e : Event) (h k : List Event) (m : ℕ) → open_op h m ≡ open_op k m → answered h m ≡ answered k m → answered (e ∷ h) m ≡ answered (e ∷ k) m
-answers_more (Admit t p args) h k m flies same = same
-answers_more (Ask t n o) h k m flies same = same
 answers_more (Answer t n said) h k m flies same =
     ap₂ (λ (f : Option Flight) (a : Option Answered). if n == m then with_answer m said f else a) flies same
-answers_more (Undo t n o) h k m flies same = same
-answers_more (End t o) h k m flies same = same
-answers_more (Checkpoint before numbers) h k m flies same = same
+answers_more _ h k m flies same = same
 
 pub goes_on_alike : (from : ℕ) (e : Event) (h k : List Event) → AreAlike from h k → AreAlike from (e ∷ h) (e ∷ k)
 goes_on_alike from e h k are = record {
@@ -169,11 +153,7 @@ alike from (e ∷ later) h k are = goes_on_alike from e (later ++ h) (later ++ k
 
 abbrev pub is_checkpoint : Event → Bool
 is_checkpoint (Checkpoint before numbers) = true
-is_checkpoint (Admit t p args) = false
-is_checkpoint (Ask t n o) = false
-is_checkpoint (Answer t n said) = false
-is_checkpoint (Undo t n o) = false
-is_checkpoint (End t o) = false
+is_checkpoint _ = false
 
 pub held_alike : (procs : List Declaration) (from : ℕ) (h k : List Event) → AreAlike from h k → (t : ℕ) (r : Record) → held procs h t r ≡ held procs k t r
 held_alike procs from h k are t r = ap (λ (c : Option Call). held_for procs c r) (are.calls t)
@@ -200,12 +180,8 @@ some_left (x ∷ later) h e is = cc
 
 -- no log goes on with a checkpoint
 begins_none : (ps : List Checked) (later h : List Event) (e x : Event) → Allowed ps (later ++ e ∷ h) x → is_checkpoint x ≡ false
-begins_none ps later h e (Admit t p args) a = refl
-begins_none ps later h e (Ask t n o) a = refl
-begins_none ps later h e (Answer t n said) a = refl
-begins_none ps later h e (Undo t n o) a = refl
-begins_none ps later h e (End t o) a = refl
 begins_none ps later h e (Checkpoint before numbers) a = absurd (some_left later h e a.oldest)
+begins_none ps later h e _ a = refl
 
 -- both are legal with what follows, or neither is
 pub legal_on : (ps : List Checked) (from : ℕ) (later h k : List Event) (e x : Event) → AreAlike from (e ∷ h) (x ∷ k) → Legal ps (x ∷ k)

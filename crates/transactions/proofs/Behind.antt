@@ -4,7 +4,7 @@ use Rattle.std.proofs.Common.{Some, None, arith, refl, sym, ◌∙◌, ap, inl, 
 use Rattle.std.proofs.lemmas.Bool.{cases_eq}
 use Rattle.access_slots.specs.declared.op.Op.{Op}
 use Rattle.tc_log.specs.declared.event.Event.{Event}
-use Rattle.tc_log.specs.declared.event.Event.TheVariants.{Admit, Ask, Answer, Undo, End, Checkpoint}
+use Rattle.tc_log.specs.declared.event.Event.TheVariants.{Admit, Ask, Answer, Undo, End}
 use Rattle.history.specs.Calls.{txn_of}
 use Rattle.history.specs.Places.{StandsAt}
 use Rattle.transactions.specs.declared.Sent.{Sent}
@@ -40,7 +40,7 @@ sends_it (Answer u m said) (Some v) t s r own is waits = absurd (none_some _ r (
 sends_it (Undo u m q) None t s r own is waits = absurd (let bad : None ≡ Some s = is in cc)
 sends_it (Undo u m q) (Some v) t s r own is waits = (let it = sent_is m q true r (ap (λ (x : Standing). x.sent) (some_same _ s is) ∙ waits) in inl (own, it.0, it.1))
 sends_it (End u outcome) was t s r own is waits = absurd (let bad : None ≡ Some s = is in cc)
-sends_it (Checkpoint before numbers) was t s r own is waits = inr is
+sends_it _ was t s r own is waits = inr is
 
 behind : (later earlier : List Event) (t p : ℕ) (args : List ℕ) (s : Standing) (r : Sent)
     → standing (later ++ Admit t p args ∷ earlier) t ≡ Some s → s.sent ≡ Some r

@@ -5,7 +5,7 @@ use Rattle.std.proofs.lemmas.Bool.{cases_eq, cond-true, cond-false}
 use Rattle.access_slots.specs.declared.op.Op.{Op}
 use Rattle.verifier.specs.Checked.{Checked}
 use Rattle.tc_log.specs.declared.event.Event.{Event}
-use Rattle.tc_log.specs.declared.event.Event.TheVariants.{Admit, Ask, Answer, Undo, End, Checkpoint}
+use Rattle.tc_log.specs.declared.event.Event.TheVariants.{Admit, Ask, Answer, Undo, End}
 use Rattle.request_numbers.specs.Given.{holds}
 use Rattle.history.specs.Calls.{Call, admitted}
 use Rattle.history.specs.Flight.{Flight, given, open_op, is_flight, is_open, open_numbers}
@@ -13,7 +13,8 @@ use Rattle.history.proofs.Laws.{open_are_in_flight}
 use Rattle.transactions.specs.declared.Sent.{Sent}
 use Rattle.transactions.specs.Standing.{Standing, standing, moved, fresh, asked, undone, answered, sent_as}
 use Rattle.transactions.specs.Legal.{Legal, CanAsk, CanAnswer, CanUndo, CanEnd}
-use Rattle.transactions.proofs.StandingLemmas.{eq-true, eq-false, some_same, none_some, standing-same, standing-other, standing-checkpoint, standing-above}
+use Rattle.transactions.proofs.LowWater.{given_grows}
+use Rattle.transactions.proofs.StandingLemmas.{eq-true, eq-false, some_same, none_some, standing-same, standing-other, standing-kept, standing-above}
 
 abbrev pub flight : ℕ → Op → Flight
 flight t o = record { txn = t; op = o }
@@ -89,8 +90,10 @@ standing_flight ps (End u outcome ∷ h) legal t s r is waits =
       | inl same ↦ absurd (none_some _ s (standing-same (End u outcome) h t same) is)
       | inr other ↦ standing_flight ps h legal.1 t s r (sym (standing-other (End u outcome) h t other) ∙ is) waits
     ]
-standing_flight ps (Checkpoint before numbers ∷ h) legal t s r is waits =
-    absurd (none_some _ s (standing-checkpoint before numbers h t ∙ ap (λ (x : List Event). standing x t) legal.0.oldest) is)
+standing_flight ps (e ∷ h) legal t s r is waits =
+    let ih = standing_flight ps h legal.1 t s r (sym (standing-kept e h t (λ was. refl)) ∙ is) waits in
+    let more = given_grows ps h e legal.0 in
+    (omega (arith, ih.0, more), ih.1)
 
 pub open_flight : (ps : List Checked) (h : List Event) → Legal ps h → (t : ℕ) (s : Standing) (r : Sent) (n : ℕ)
     → standing h t ≡ Some s → s.sent ≡ Some r → r.number ≡ n → is_open h n ≡ true

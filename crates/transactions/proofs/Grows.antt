@@ -49,11 +49,8 @@ held_grows ps q [] legal t r = refl
 held_grows ps q (Admit u p args ∷ h) legal t r =
     held_choice ps q (u == t) (Some (record { proc = p; args = args })) (open_call h t) r (locks_grow ps q legal.0.q
     (record { proc = p; args = args }) r legal.0.loaded) (held_grows ps q h legal.1 t r)
-held_grows ps q (Ask u n o ∷ h) legal t r = held_grows ps q h legal.1 t r
-held_grows ps q (Answer u n said ∷ h) legal t r = held_grows ps q h legal.1 t r
-held_grows ps q (Undo u n o ∷ h) legal t r = held_grows ps q h legal.1 t r
-held_grows ps q (Checkpoint before numbers ∷ h) legal t r = held_grows ps q h legal.1 t r
 held_grows ps q (End u outcome ∷ h) legal t r = held_choice ps q (u == t) None (open_call h t) r refl (held_grows ps q h legal.1 t r)
+held_grows ps q (_ ∷ h) legal t r = held_grows ps q h legal.1 t r
 
 module _ (ps : List Checked) (q : Checked) (good : AllGood ps) where
   pub reached_grows : (h : List Event) → Legal ps h → (t : ℕ) (s : Standing) → standing h t ≡ Some s → reached (ps ++ q ∷ []) s ≡ reached ps s

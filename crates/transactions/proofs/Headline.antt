@@ -12,40 +12,33 @@ use Rattle.access_slots.specs.Held.{excludes, Compatible}
 use Rattle.access_slots.specs.Locks.{record_eq, allows, target, is_read, conflict}
 use Rattle.verifier.specs.Checked.{Checked}
 use Rattle.tc_log.specs.declared.event.Event.{Event}
-use Rattle.tc_log.specs.declared.event.Event.TheVariants.{Admit, Ask, Answer, Undo, End, Checkpoint}
+use Rattle.tc_log.specs.declared.event.Event.TheVariants.{Admit, Ask, Answer, Undo, End}
 use Rattle.history.specs.Calls.{Call, admitted, txn_of, held, held_for, open_call, locks_of}
 use Rattle.history.specs.Flight.{Flight, given, open_op}
 use Rattle.transactions.specs.declared.Sent.{Sent}
 use Rattle.transactions.specs.Standing.{Standing, standing, moved, fresh, asked, undone, answered, sent_as}
 use Rattle.transactions.specs.Reached.{decls, covers, AllGood}
 use Rattle.transactions.specs.Legal.{Legal, Allowed, CanAdmit, CanAsk, CanAnswer, CanUndo, CanEnd}
-use Rattle.transactions.proofs.StandingLemmas.{eq-true, eq-false, some_same, none_some, standing-same, standing-other, standing-checkpoint, standing-above}
+use Rattle.transactions.proofs.StandingLemmas.{eq-true, eq-false, some_same, none_some, standing-same, standing-other, standing-kept, standing-above}
 use Rattle.access_slots.proofs.Records.{eq_is}
 use Rattle.transactions.proofs.Sound.{Sound, standing_sound}
 use Rattle.transactions.proofs.Flights.{flight}
 
 -- ---- the open call is the standing's
 
-abbrev call_in : Option Standing → Option Call
+abbrev pub call_in : Option Standing → Option Call
 call_in None = None
 call_in (Some s) = Some s.call
 
-ask_call : (b : Bool) (t n : ℕ) (o : Op) (s : Option Standing) → call_in (cond b (moved (Ask t n o) s) s) ≡ call_in s
-ask_call true t n o None = refl
-ask_call true t n o (Some s) = refl
-ask_call false t n o s = refl
+-- an event that leaves a transaction its call
+same_call : (e : Event) (b : Bool) (s : Option Standing)
+    → ((x : Standing) → call_in (moved e (Some x)) ≡ Some x.call) → moved e None ≡ None
+    → call_in (cond b (moved e s) s) ≡ call_in s
+same_call e true None h none = ap call_in none
+same_call e true (Some x) h none = h x
+same_call e false s h none = refl
 
-answer_call : (b : Bool) (t n : ℕ) (said : Said) (s : Option Standing) → call_in (cond b (moved (Answer t n said) s) s) ≡ call_in s
-answer_call true t n said None = refl
-answer_call true t n said (Some s) = refl
-answer_call false t n said s = refl
-
-undo_call : (b : Bool) (t n : ℕ) (o : Op) (s : Option Standing) → call_in (cond b (moved (Undo t n o) s) s) ≡ call_in s
-undo_call true t n o None = refl
-undo_call true t n o (Some s) = refl
-undo_call false t n o s = refl
-
-calls_agree : (h : List Event) (t : ℕ) → call_in (standing h t) ≡ open_call h t
+pub calls_agree : (h : List Event) (t : ℕ) → call_in (standing h t) ≡ open_call h t
 calls_agree [] t = refl
 calls_agree (Admit u p args ∷ h) t = by (u == t) (calls_agree h t)
   where
@@ -53,15 +46,12 @@ calls_agree (Admit u p args ∷ h) t = by (u == t) (calls_agree h t)
         → call_in (cond b (Some (fresh (record { proc = p; args = args }))) (standing h t)) ≡ cond b (Some (record { proc = p; args = args })) (open_call h t)
     by true e = refl
     by false e = e
-calls_agree (Ask u n o ∷ h) t = ask_call (u == t) u n o (standing h t) ∙ calls_agree h t
-calls_agree (Answer u n said ∷ h) t = answer_call (u == t) u n said (standing h t) ∙ calls_agree h t
-calls_agree (Undo u n o ∷ h) t = undo_call (u == t) u n o (standing h t) ∙ calls_agree h t
-calls_agree (Checkpoint before numbers ∷ h) t = ap call_in (standing-checkpoint before numbers h t) ∙ calls_agree h t
 calls_agree (End u outcome ∷ h) t = by (u == t) (calls_agree h t)
   where
     by : (b : Bool) → call_in (standing h t) ≡ open_call h t → call_in (cond b None (standing h t)) ≡ cond b None (open_call h t)
     by true e = refl
     by false e = e
+calls_agree (e ∷ h) t = same_call e (txn_of e == t) (standing h t) (λ x. refl) refl ∙ calls_agree h t
 
 -- who isn't open has no call
 pub no_call : (ps : List Checked) (h : List Event) (t : ℕ) → standing h t ≡ None → open_call h t ≡ None
@@ -127,12 +117,9 @@ held_apart ps (Admit v p args ∷ h) legal t u r differ =
             ∙ (ap (excludes (held (decls ps) h t r)) (held_old ps h v p args u r other') ∙ held_apart ps h legal.1 t u r differ)
       ]
     ]
-held_apart ps (Ask v n o ∷ h) legal t u r differ = held_apart ps h legal.1 t u r differ
-held_apart ps (Answer v n said ∷ h) legal t u r differ = held_apart ps h legal.1 t u r differ
-held_apart ps (Undo v n o ∷ h) legal t u r differ = held_apart ps h legal.1 t u r differ
-held_apart ps (Checkpoint before numbers ∷ h) legal t u r differ = held_apart ps h legal.1 t u r differ
 held_apart ps (End v outcome ∷ h) legal t u r differ =
     end_new (v == t) ps (open_call h t) r (held (decls ps) (End v outcome ∷ h) u r) (end_old (v == u) ps (open_call h u) r (held (decls ps) h t r) (held_apart ps h legal.1 t u r differ))
+held_apart ps (_ ∷ h) legal t u r differ = held_apart ps h legal.1 t u r differ
 
 -- ---- what is in flight, a transaction waits for
 
@@ -209,12 +196,12 @@ awaited ps (Answer u m said ∷ h) legal n f is =
           differ (sym a.number ∙ (ap (λ (x : Sent). x.number) sent ∙ ih.number))) in
           still_awaits h (Answer u m said) n f other ih
     ]
-awaited ps (Checkpoint before numbers ∷ h) legal n f is =
-    let ih = awaited ps h legal.1 n f is in
-    record { s = ih.s; is = standing-checkpoint before numbers h f.txn ∙ ih.is; r = ih.r; waits = ih.waits; number = ih.number; op = ih.op }
 awaited ps (End u outcome ∷ h) legal n f is =
     let ih = awaited ps h legal.1 n f is in
     still_awaits h (End u outcome) n f (idle_other h u n f legal.0.s legal.0.is legal.0.idle ih) ih
+awaited ps (e ∷ h) legal n f is =
+    let ih = awaited ps h legal.1 n f is in
+    record { s = ih.s; is = standing-kept e h f.txn (λ was. refl) ∙ ih.is; r = ih.r; waits = ih.waits; number = ih.number; op = ih.op }
 
 -- ---- the headline
 

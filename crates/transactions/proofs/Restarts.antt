@@ -10,7 +10,7 @@ use Rattle.access_slots.specs.Locks.{record_eq, allows, target, is_read, conflic
 use Rattle.access_slots.proofs.Records.{eq_is}
 use Rattle.verifier.specs.Checked.{Checked}
 use Rattle.tc_log.specs.declared.event.Event.{Event}
-use Rattle.tc_log.specs.declared.event.Event.TheVariants.{Admit, Ask, Answer, Undo, End, Checkpoint}
+use Rattle.tc_log.specs.declared.event.Event.TheVariants.{Admit, Answer, End, Checkpoint}
 use Rattle.history.specs.declared.Answered.{Answered}
 use Rattle.history.specs.Calls.{Call, admitted, held, held_for, open_call, call_of, locks_of}
 use Rattle.history.specs.Flight.{Flight, given, open_op}
@@ -21,6 +21,7 @@ use Rattle.transactions.specs.Reached.{decls, AllGood}
 use Rattle.transactions.specs.Legal.{Legal, Allowed}
 use Rattle.transactions.specs.InFlight.{site_at, site_of, to_redo_by, under_redo, IsOpenAtSite, IsUnderRedo, InFlight, Open, Again}
 use Rattle.transactions.proofs.StandingLemmas.{eq-true, eq-false, some_same, none_some}
+use Rattle.transactions.proofs.LowWater.{given_grows}
 use Rattle.transactions.proofs.Flights.{standing_flight}
 use Rattle.transactions.proofs.Headline.{awaited, flight_covered, flights_apart}
 
@@ -57,30 +58,25 @@ flight_given ps h legal n f is =
 
 pub answered_number : (h : List Event) (n : ℕ) (a : Answered) → answered h n ≡ Some a → a.number ≡ n
 answered_number [] n a is = absurd cc
-answered_number (Admit t p args ∷ h) n a is = answered_number h n a is
-answered_number (Ask t m o ∷ h) n a is = answered_number h n a is
 answered_number (Answer t m said ∷ h) n a is = elim (cases_eq m n) [
   | inl same ↦ (answers_to (open_op h n) n said a (sym (cond-true _ _ _ (eq-true m n same)) ∙ is)).number
   | inr differ ↦ answered_number h n a (sym (cond-false _ _ _ (eq-false m n differ)) ∙ is)
 ]
-answered_number (Undo t m o ∷ h) n a is = answered_number h n a is
-answered_number (End t o ∷ h) n a is = answered_number h n a is
-answered_number (Checkpoint before numbers ∷ h) n a is = answered_number h n a is
+answered_number (_ ∷ h) n a is = answered_number h n a is
 
 -- only numbers that were given out are answered
 pub answered_given : (ps : List Checked) (h : List Event) → Legal ps h → (n : ℕ) (a : Answered) → answered h n ≡ Some a → n ≤ given h
 answered_given ps [] legal n a is = absurd cc
-answered_given ps (Admit t p args ∷ h) legal n a is = answered_given ps h legal.1 n a is
-answered_given ps (Ask t m o ∷ h) legal n a is = (let few = answered_given ps h legal.1 n a is in omega (arith, few))
 answered_given ps (Answer t m said ∷ h) legal n a is = elim (cases_eq m n) [
   | inl same ↦
       let it = answers_to (open_op h n) n said a (sym (cond-true _ _ _ (eq-true m n same)) ∙ is) in
       flight_given ps h legal.1 n it.flight it.is
   | inr differ ↦ answered_given ps h legal.1 n a (sym (cond-false _ _ _ (eq-false m n differ)) ∙ is)
 ]
-answered_given ps (Undo t m o ∷ h) legal n a is = (let few = answered_given ps h legal.1 n a is in omega (arith, few))
-answered_given ps (End t o ∷ h) legal n a is = answered_given ps h legal.1 n a is
-answered_given ps (Checkpoint before numbers ∷ h) legal n a is = absurd (none_some _ a (ap (λ (x : List Event). answered x n) legal.0.oldest) is)
+answered_given ps (e ∷ h) legal n a is =
+    let few = answered_given ps h legal.1 n a is in
+    let more = given_grows ps h e legal.0 in
+    omega (arith, few, more)
 
 -- ---- the least number that was done
 
@@ -203,15 +199,12 @@ open_called (Admit u p args ∷ h) t c is = by (u == t) (open_called h t c) is
         → cond b (Some (record { proc = p; args = args })) (open_call h t) ≡ Some c → cond b (Some (record { proc = p; args = args })) (call_of h t) ≡ Some c
     by true ih e = e
     by false ih e = ih e
-open_called (Ask u n o ∷ h) t c is = open_called h t c is
-open_called (Answer u n said ∷ h) t c is = open_called h t c is
-open_called (Undo u n o ∷ h) t c is = open_called h t c is
-open_called (Checkpoint before numbers ∷ h) t c is = open_called h t c is
 open_called (End u o ∷ h) t c is = by (u == t) (open_called h t c) is
   where
     by : (b : Bool) → (open_call h t ≡ Some c → call_of h t ≡ Some c) → cond b None (open_call h t) ≡ Some c → call_of h t ≡ Some c
     by true ih e = absurd cc
     by false ih e = ih e
+open_called (_ ∷ h) t c is = open_called h t c is
 
 -- transactions are numbered as they are admitted
 called_early : (ps : List Checked) (h : List Event) → Legal ps h → (t : ℕ) (c : Call) → call_of h t ≡ Some c → t ≤ admitted h
@@ -220,11 +213,8 @@ called_early ps (Admit u p args ∷ h) legal t c is = elim (cases_eq u t) [
   | inl same ↦ (let next = legal.0.next in omega (arith, next, same))
   | inr differ ↦ (let early = called_early ps h legal.1 t c (sym (cond-false _ _ _ (eq-false u t differ)) ∙ is) in omega (arith, early))
 ]
-called_early ps (Ask u n o ∷ h) legal t c is = called_early ps h legal.1 t c is
-called_early ps (Answer u n said ∷ h) legal t c is = called_early ps h legal.1 t c is
-called_early ps (Undo u n o ∷ h) legal t c is = called_early ps h legal.1 t c is
-called_early ps (End u o ∷ h) legal t c is = called_early ps h legal.1 t c is
 called_early ps (Checkpoint before numbers ∷ h) legal t c is = absurd (none_some _ c (ap (λ (x : List Event). call_of x t) legal.0.oldest) is)
+called_early ps (_ ∷ h) legal t c is = called_early ps h legal.1 t c is
 
 covered_flight : (ps : List Checked) (h : List Event) → AllGood ps → Legal ps h → (n : ℕ) (f : Flight) → open_op h n ≡ Some f → IsCovered ps h f.txn f.op
 covered_flight ps h good legal n f is = by (open_call h f.txn) refl (flight_covered ps h good legal n f is)
@@ -241,8 +231,6 @@ covered_answer ps (Admit u p args ∷ h) good legal n a is =
     let early = called_early ps h legal.1 a.txn c.call c.is in
     let other : u ≢ a.txn = omega (arith, next, early) in
     record { call = c.call; is = cond-false _ _ _ (eq-false u a.txn other) ∙ c.is; allowed = c.allowed }
-covered_answer ps (Ask u m o ∷ h) good legal n a is =
-    (let c = covered_answer ps h good legal.1 n a is in record { call = c.call; is = c.is; allowed = c.allowed })
 covered_answer ps (Answer u m said ∷ h) good legal n a is = elim (cases_eq m n) [
   | inl same ↦
       let it = answers_to (open_op h n) n said a (sym (cond-true _ _ _ (eq-true m n same)) ∙ is) in
@@ -256,11 +244,7 @@ covered_answer ps (Answer u m said ∷ h) good legal n a is = elim (cases_eq m n
       let c = covered_answer ps h good legal.1 n a (sym (cond-false _ _ _ (eq-false m n differ)) ∙ is) in
       record { call = c.call; is = c.is; allowed = c.allowed }
 ]
-covered_answer ps (Undo u m o ∷ h) good legal n a is =
-    (let c = covered_answer ps h good legal.1 n a is in record { call = c.call; is = c.is; allowed = c.allowed })
-covered_answer ps (Checkpoint before numbers ∷ h) good legal n a is =
-    (let c = covered_answer ps h good legal.1 n a is in record { call = c.call; is = c.is; allowed = c.allowed })
-covered_answer ps (End u o ∷ h) good legal n a is =
+covered_answer ps (_ ∷ h) good legal n a is =
     (let c = covered_answer ps h good legal.1 n a is in record { call = c.call; is = c.is; allowed = c.allowed })
 
 allowed_by : (ps : List Checked) (h : List Event) (t : ℕ) (o : Op) → IsCovered ps h t o → allows (held_for (decls ps) (call_of h t) (target o)) (is_read o) ≡ true

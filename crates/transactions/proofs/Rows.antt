@@ -10,7 +10,7 @@ use Rattle.access_slots.specs.declared.op.Op.TheVariants.{Read, Insert, Update, 
 use Rattle.access_slots.specs.declared.op.Said.{Said}
 use Rattle.access_slots.specs.declared.op.Said.TheVariants.{Value, Absent, Done, Duplicate, Missing, NoRoom, Old}
 use Rattle.tc_log.specs.declared.event.Event.{Event}
-use Rattle.tc_log.specs.declared.event.Event.TheVariants.{Admit, Ask, Answer, Undo, End, Checkpoint}
+use Rattle.tc_log.specs.declared.event.Event.TheVariants.{Admit, Answer, End}
 use Rattle.tc_log.specs.declared.event.Outcome.{Outcome}
 use Rattle.tc_log.specs.declared.event.Outcome.TheVariants as outcome
 use Rattle.tc_log.specs.Printed.{Cells, printed}
@@ -65,11 +65,9 @@ end_has t outcome.NoRoom full left at is = refl
 
 allowed_has : (ps : List Checked) (h : List Event) (e : Event) → AllTakeFew ps → Allowed ps h e → has_row e ≡ true
 allowed_has ps h (Admit t p args) few can = (let most = few p can.q can.loaded in let count = can.takes.count in few_have t p args (omega (arith, most, count)))
-allowed_has ps h (Ask t n o) few can = refl
 allowed_has ps h (Answer t n said) few can = answer_has t n can.r.op said can.fit
-allowed_has ps h (Undo t n o) few can = refl
-allowed_has ps h (Checkpoint before numbers) few can = refl
 allowed_has ps h (End t o) few can = end_has t o can.s.full (first_undo can.s.undo) (reached ps can.s) can.ends
+allowed_has ps h _ few can = refl
 
 -- ---- all of them
 

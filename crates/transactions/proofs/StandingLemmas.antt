@@ -34,12 +34,12 @@ standing-same e h t own = rw (eq-true (txn_of e) t own) refl
 pub standing-other : (e : Event) (h : List Event) (t : ℕ) → txn_of e ≢ t → standing (e ∷ h) t ≡ standing h t
 standing-other e h t other = rw (eq-false (txn_of e) t other) refl
 
--- where a log begins nobody stands otherwise
-pub standing-checkpoint : (before numbers : ℕ) (h : List Event) (t : ℕ) → standing (Checkpoint before numbers ∷ h) t ≡ standing h t
-standing-checkpoint before numbers h t = by (0 == t)
+-- an event that makes nothing of its transaction, as one with which a log begins, leaves each where it stood
+pub standing-kept : (e : Event) (h : List Event) (t : ℕ) → ((was : Option Standing) → moved e was ≡ was) → standing (e ∷ h) t ≡ standing h t
+standing-kept e h t nothing = by (txn_of e == t)
   where
-    by : (b : Bool) → (if b then standing h t else standing h t) ≡ standing h t
-    by true = refl
+    by : (b : Bool) → (if b then moved e (standing h t) else standing h t) ≡ standing h t
+    by true = nothing (standing h t)
     by false = refl
 
 -- an event that is no admission is of an open transaction, or the log begins with it
@@ -50,15 +50,12 @@ pub data Acts (ps : List Checked) (h : List Event) (e : Event) : Type 0 where
 
 pub acts : (ps : List Checked) (h : List Event) (e : Event) → Allowed ps h e → Acts ps h e
 acts ps h (Admit t p args) a = admits_one a.next refl
-acts ps h (Ask t n o) a = goes_on a.s a.is refl
-acts ps h (Answer t n said) a = goes_on a.s a.is refl
-acts ps h (Undo t n o) a = goes_on a.s a.is refl
-acts ps h (End t outcome) a = goes_on a.s a.is refl
 acts ps h (Checkpoint before numbers) a = begins before numbers refl a.oldest
+acts ps h _ a = goes_on a.s a.is refl
 
 -- and then nobody is open
 none_begun : (h : List Event) (e : Event) (before numbers t : ℕ) → e ≡ Checkpoint before numbers → h ≡ [] → standing (e ∷ h) t ≡ None
-none_begun h e before numbers t is none = rw (is, none) (standing-checkpoint before numbers [] t)
+none_begun h e before numbers t is none = rw (is, none) (standing-kept (Checkpoint before numbers) [] t (λ was. refl))
 
 above_by : (ps : List Checked) (h : List Event) (e : Event) (t : ℕ) → Acts ps h e → admitted (e ∷ h) < t
     → (admitted h < t → standing h t ≡ None) → standing (e ∷ h) t ≡ None
@@ -134,8 +131,8 @@ each_standing P ps admit ask answer undo (End u outcome ∷ h) legal t s is =
       | inl same ↦ absurd (none_some _ s (standing-same (End u outcome) h t same) is)
       | inr other ↦ each_standing P ps admit ask answer undo h legal.1 t s (sym (standing-other (End u outcome) h t other) ∙ is)
     ]
-each_standing P ps admit ask answer undo (Checkpoint before numbers ∷ h) legal t s is =
-    each_standing P ps admit ask answer undo h legal.1 t s (sym (standing-checkpoint before numbers h t) ∙ is)
+each_standing P ps admit ask answer undo (e ∷ h) legal t s is =
+    each_standing P ps admit ask answer undo h legal.1 t s (sym (standing-kept e h t (λ was. refl)) ∙ is)
 
 -- a sum below the event's transaction stays
 pub total_to-below : (w : Standing → ℕ) (e : Event) (h : List Event) (n : ℕ) → n < txn_of e → total_to w (e ∷ h) n ≡ total_to w h n

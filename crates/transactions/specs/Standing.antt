@@ -6,7 +6,7 @@ use Rattle.access_slots.specs.declared.op.Said.{Said}
 use Rattle.access_slots.specs.declared.op.Said.TheVariants.{Value, Absent, Done, Duplicate, Missing, NoRoom, Old}
 use Rattle.access_slots.specs.Access.{is_no_room}
 use Rattle.tc_log.specs.declared.event.Event.{Event}
-use Rattle.tc_log.specs.declared.event.Event.TheVariants.{Admit, Ask, Answer, Undo, End, Checkpoint}
+use Rattle.tc_log.specs.declared.event.Event.TheVariants.{Admit, Ask, Answer, Undo, End}
 use Rattle.history.specs.Calls.{Call, txn_of}
 use Rattle.transactions.specs.declared.Sent.{Sent}
 
@@ -107,7 +107,8 @@ moved (Answer t n said) (Some s) = Some (answered said s)
 moved (Undo t n o) None = None
 moved (Undo t n o) (Some s) = Some (undone n o s)
 moved (End t outcome) was = None
-moved (Checkpoint before numbers) was = was
+-- no other changes anything of it
+moved _ was = was
 
 -- where a transaction stands: None where it isn't open
 abbrev pub standing : List Event → ℕ → Option Standing
