@@ -20,6 +20,7 @@ use Rattle.data_component.specs.Performed.{Performed, RecordValue, said_under, v
 use Rattle.transactions.specs.Reached.{AllGood}
 use Rattle.transactions.specs.Legal.{Legal, CanAnswer}
 use Rattle.transactions.proofs.StandingLemmas.{some_same, none_some}
+use Rattle.transactions.proofs.LowWater.{given_more}
 use Rattle.transactions.proofs.Flights.{flight}
 use Rattle.serial.specs.Values.{Table, applied, told, said_freely}
 use Rattle.serial.specs.Serial.{done, now_from, HonestTo, HonestFrom}
@@ -453,11 +454,6 @@ sent_back ps base h first t n o legal next before =
     (logged_below ps h legal) (done_below ps h legal))
     before
 
--- a log begins with its checkpoint
-tail_none : (later first : List Event) → later ++ first ≡ [] → first ≡ []
-tail_none [] first is = is
-tail_none (e ∷ later) first is = absurd cc
-
 pub earlier : (ps : List Checked) (base : Table) (later first : List Event) → AllGood ps → Legal ps (later ++ first)
     → HonestFrom base (later ++ first) → Before base (later ++ first) first
 earlier ps base [] first good legal honest = earlier_same base (logged first) (open_op first) (done first) (given first) (logged_below ps first legal)
@@ -470,9 +466,8 @@ earlier ps base (Undo t n o ∷ later) first good legal honest =
     sent_back ps base (later ++ first) first t n o legal.1 legal.0.next (earlier ps base later first good legal.1 honest.1)
 earlier ps base (Checkpoint before numbers ∷ later) first good legal honest =
     let x = earlier ps base later first good legal.1 honest.1 in
-    let none : given first ≡ 0 = ap given (tail_none later first legal.0.oldest) in
     record {
-      fewer = omega (arith, none);
+      fewer = given_more ps (Checkpoint before numbers ∷ later) first legal;
       below = x.below;
       logs_on = x.logs_on;
       logs_back = x.logs_back;
@@ -492,15 +487,6 @@ legal_first ps (e ∷ later) first legal = legal_first ps later first legal.1
 pub honest_first : (base : Table) (later first : List Event) → HonestFrom base (later ++ first) → HonestFrom base first
 honest_first base [] first honest = honest
 honest_first base (e ∷ later) first honest = honest_first base later first honest.1
-
-pub given_more : (ps : List Checked) (later first : List Event) → Legal ps (later ++ first) → given first ≤ given (later ++ first)
-given_more ps [] first legal = omega arith
-given_more ps (Ask t n o ∷ later) first legal = (let ih = given_more ps later first legal.1 in omega (arith, ih))
-given_more ps (Undo t n o ∷ later) first legal = (let ih = given_more ps later first legal.1 in omega (arith, ih))
-given_more ps (Checkpoint before numbers ∷ later) first legal =
-    let none : given first ≡ 0 = ap given (tail_none later first legal.0.oldest) in
-    omega (arith, none)
-given_more ps (_ ∷ later) first legal = given_more ps later first legal.1
 
 -- ---- the number behind which a log begins
 

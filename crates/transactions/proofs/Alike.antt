@@ -1,34 +1,9 @@
 -- Behind a log that begins anew all is said as behind the long one.
-use Rattle.std.proofs.Common.{
-  ◌≡◌,
-  ◌≢◌,
-  ℕ,
-  zero,
-  suc,
-  ◌+◌,
-  ◌-◌,
-  ◌<◌,
-  ◌≤◌,
-  ◌^◌,
-  Bool,
-  true,
-  false,
-  not,
-  ◌&&◌,
-  ◌||◌,
-  List,
-  [],
-  ◌∷◌,
-  ◌++◌,
-  Option,
-  Some,
-  None,
-}
-use Rattle.std.proofs.Common.{arith, refl, sym, ◌∙◌, ap, ap₂, subst, inl, inr, ◌==◌}
+use Rattle.std.proofs.Common.{◌≡◌, ℕ, zero, suc, ◌+◌, ◌-◌, ◌<◌, ◌≤◌, ◌^◌, Bool, true, false, not, ◌&&◌, ◌||◌, List, [], ◌∷◌, ◌++◌, Option, Some, None}
+use Rattle.std.proofs.Common.{arith, refl, sym, ◌∙◌, ap, ap₂, ◌==◌}
 use Rattle.std.specs.Prelude.{if◌then◌else◌}
 use Rattle.std.proofs.lemmas.Bool.{eq-eqb}
 use Rattle.access_slots.specs.declared.slot.Record.{Record}
-use Rattle.access_slots.specs.declared.slot.Mode.{Mode}
 use Rattle.access_slots.specs.Declaration.{Declaration}
 use Rattle.access_slots.specs.Held.{excludes, Compatible}
 use Rattle.verifier.specs.Checked.{Checked}
@@ -36,12 +11,12 @@ use Rattle.tc_log.specs.declared.event.Event.{Event}
 use Rattle.tc_log.specs.declared.event.Event.TheVariants.{Admit, Ask, Answer, Undo, End, Checkpoint}
 use Rattle.request_numbers.specs.Given.{holds, others}
 use Rattle.history.specs.Calls.{Call, admitted, txn_of, held, held_for, open_call, locks_of}
-use Rattle.history.specs.Flight.{Flight, given, open_op, is_flight, is_open, open_numbers, mark_to, low_water}
-use Rattle.history.specs.Redo.{answered, with_answer, if_done_at, done_at, or_else, first_done, to_redo}
+use Rattle.history.specs.Flight.{Flight, given, open_op, is_flight, open_numbers, mark_to, low_water}
+use Rattle.history.specs.Redo.{answered, with_answer, if_done_at, or_else, first_done, to_redo}
 use Rattle.history.specs.Anew.{anew}
 use Rattle.history.specs.declared.Answered.{Answered}
 use Rattle.history.proofs.Laws.{open_are_in_flight}
-use Rattle.transactions.specs.Standing.{Standing, standing, moved}
+use Rattle.transactions.specs.Standing.{Standing, moved}
 use Rattle.transactions.specs.Reached.{decls}
 use Rattle.transactions.specs.Room.{weighed, total_to, total}
 use Rattle.transactions.specs.Legal.{Legal, Allowed}

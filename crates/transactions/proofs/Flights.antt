@@ -1,20 +1,19 @@
 -- Operations in flight, and the transactions that wait for them.
-use Rattle.std.proofs.Common.{◌≡◌, ◌≢◌, ℕ, ◌+◌, ◌≤◌, ◌<◌, Bool, true, false, cond, List, [], ◌∷◌, Option, Some, None}
-use Rattle.std.proofs.Common.{arith, refl, sym, ◌∙◌, ap, subst, inl, inr, ◌==◌}
+use Rattle.std.proofs.Common.{◌≡◌, ◌≢◌, ℕ, ◌+◌, ◌≤◌, Bool, true, false, cond, List, [], ◌∷◌, Option, Some}
+use Rattle.std.proofs.Common.{arith, refl, sym, ◌∙◌, ap, inl, inr, ◌==◌}
 use Rattle.std.proofs.lemmas.Bool.{cases_eq, cond-true, cond-false}
 use Rattle.access_slots.specs.declared.op.Op.{Op}
 use Rattle.verifier.specs.Checked.{Checked}
 use Rattle.tc_log.specs.declared.event.Event.{Event}
 use Rattle.tc_log.specs.declared.event.Event.TheVariants.{Admit, Ask, Answer, Undo, End}
 use Rattle.request_numbers.specs.Given.{holds}
-use Rattle.history.specs.Calls.{Call, admitted}
 use Rattle.history.specs.Flight.{Flight, given, open_op, is_flight, is_open, open_numbers}
 use Rattle.history.proofs.Laws.{open_are_in_flight}
 use Rattle.transactions.specs.declared.Sent.{Sent}
-use Rattle.transactions.specs.Standing.{Standing, standing, moved, fresh, asked, undone, answered, sent_as}
-use Rattle.transactions.specs.Legal.{Legal, CanAsk, CanAnswer, CanUndo, CanEnd}
+use Rattle.transactions.specs.Standing.{Standing, standing, moved, sent_as}
+use Rattle.transactions.specs.Legal.{Legal}
 use Rattle.transactions.proofs.LowWater.{given_grows}
-use Rattle.transactions.proofs.StandingLemmas.{eq-true, eq-false, some_same, none_some, standing-same, standing-other, standing-kept, standing-above}
+use Rattle.transactions.proofs.StandingLemmas.{eq-true, eq-false, some_same, none_some, standing-same, standing-other, standing-kept}
 
 abbrev pub flight : ℕ → Op → Flight
 flight t o = record { txn = t; op = o }

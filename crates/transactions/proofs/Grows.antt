@@ -1,7 +1,7 @@
 -- One more procedure leaves a legal history legal, and all that it says.
-use Rattle.std.proofs.Common.{◌≡◌, ◌⊎◌, ℕ, ◌+◌, ◌-◌, ◌*◌, Bool, true, false, cond, List, [], ◌∷◌, ◌++◌, Option, Some}
+use Rattle.std.proofs.Common.{◌≡◌, ◌⊎◌, ℕ, Bool, true, false, cond, List, [], ◌∷◌, ◌++◌, Option, Some}
 use Rattle.std.proofs.Common.{None, refl, sym, ◌∙◌, ap, subst, zero, suc, inl, inr, ◌==◌}
-use Rattle.std.specs.Prelude.{slice_get, map}
+use Rattle.std.specs.Prelude.{slice_get}
 use Rattle.access_slots.specs.Declaration.{Declaration}
 use Rattle.access_slots.specs.Held.{excludes, Compatible}
 use Rattle.access_slots.specs.declared.slot.Record.{Record}
@@ -11,10 +11,10 @@ use Rattle.tc_log.specs.declared.event.Event.{Event}
 use Rattle.tc_log.specs.declared.event.Event.TheVariants.{Admit, Ask, Answer, Undo, End, Checkpoint}
 use Rattle.history.specs.Calls.{Call, held, held_for, open_call, locks_by, locks_of}
 use Rattle.transactions.specs.Standing.{Standing, standing}
-use Rattle.transactions.specs.Reached.{Reached, reached, reached_by, decls, calls, calls_by, IsGood, AllGood}
+use Rattle.transactions.specs.Reached.{reached, reached_by, decls, calls, calls_by, IsGood, AllGood}
 use Rattle.transactions.specs.Legal.{Legal, is_stopped, ending, first_undo}
 use Rattle.transactions.proofs.Running.{get_decl}
-use Rattle.transactions.proofs.Sound.{Sound, standing_sound}
+use Rattle.transactions.proofs.Sound.{standing_sound}
 
 -- a procedure that is there stays there
 pub get_grows : (ps : List Checked) (q v : Checked) (p : ℕ) → slice_get ps p ≡ Some v → slice_get (ps ++ q ∷ []) p ≡ Some v

@@ -1,27 +1,25 @@
 -- Operations in flight are covered by their transactions' locks, and no two of them conflict.
-use Rattle.std.proofs.Common.{◌≡◌, ◌≢◌, ℕ, ◌+◌, ◌≤◌, ◌<◌, Bool, true, false, not, ◌&&◌, cond, List, [], ◌∷◌, Option}
+use Rattle.std.proofs.Common.{◌≡◌, ◌≢◌, ℕ, Bool, true, false, not, ◌&&◌, cond, List, [], ◌∷◌, Option}
 use Rattle.std.proofs.Common.{Some, None, arith, refl, sym, ◌∙◌, ap, subst, inl, inr, ◌==◌}
 use Rattle.std.proofs.lemmas.Bool.{cases_eq, cond-true, cond-false}
-use Rattle.std.proofs.lemmas.Bool.Decides.{nat_tests}
 use Rattle.access_slots.specs.declared.op.Op.{Op}
-use Rattle.access_slots.specs.declared.op.Said.{Said}
 use Rattle.access_slots.specs.declared.slot.Record.{Record}
 use Rattle.access_slots.specs.declared.slot.Mode.{Mode}
 use Rattle.access_slots.specs.declared.slot.Mode.TheVariants as mode
-use Rattle.access_slots.specs.Held.{excludes, Compatible}
+use Rattle.access_slots.specs.Held.{excludes}
 use Rattle.access_slots.specs.Locks.{record_eq, allows, target, is_read, conflict}
 use Rattle.verifier.specs.Checked.{Checked}
 use Rattle.tc_log.specs.declared.event.Event.{Event}
 use Rattle.tc_log.specs.declared.event.Event.TheVariants.{Admit, Ask, Answer, Undo, End}
-use Rattle.history.specs.Calls.{Call, admitted, txn_of, held, held_for, open_call, locks_of}
-use Rattle.history.specs.Flight.{Flight, given, open_op}
+use Rattle.history.specs.Calls.{Call, txn_of, held, held_for, open_call, locks_of}
+use Rattle.history.specs.Flight.{Flight, open_op}
 use Rattle.transactions.specs.declared.Sent.{Sent}
-use Rattle.transactions.specs.Standing.{Standing, standing, moved, fresh, asked, undone, answered, sent_as}
-use Rattle.transactions.specs.Reached.{decls, covers, AllGood}
-use Rattle.transactions.specs.Legal.{Legal, Allowed, CanAdmit, CanAsk, CanAnswer, CanUndo, CanEnd}
+use Rattle.transactions.specs.Standing.{Standing, standing, moved, fresh, asked, undone, sent_as}
+use Rattle.transactions.specs.Reached.{decls, AllGood}
+use Rattle.transactions.specs.Legal.{Legal}
 use Rattle.transactions.proofs.StandingLemmas.{eq-true, eq-false, some_same, none_some, standing-same, standing-other, standing-kept, standing-above}
 use Rattle.access_slots.proofs.Records.{eq_is}
-use Rattle.transactions.proofs.Sound.{Sound, standing_sound}
+use Rattle.transactions.proofs.Sound.{standing_sound}
 use Rattle.transactions.proofs.Flights.{flight}
 
 -- ---- the open call is the standing's

@@ -1,11 +1,11 @@
 -- The low-water mark as a log goes on.
-use Rattle.std.proofs.Common.{◌≡◌, ◌≢◌, ℕ, ◌+◌, ◌<◌, ◌≤◌, Bool, true, false, cond, List, [], ◌∷◌, ◌++◌, Option, Some, None}
-use Rattle.std.proofs.Common.{arith, refl, sym, ◌∙◌, ap, inl, inr, ◌==◌}
+use Rattle.std.proofs.Common.{◌≡◌, ◌≢◌, ℕ, ◌<◌, ◌≤◌, true, false, cond, List, [], ◌∷◌, ◌++◌, Option, Some, None}
+use Rattle.std.proofs.Common.{arith, sym, ◌∙◌, ap, inl, inr, ◌==◌}
 use Rattle.std.proofs.lemmas.Bool.{cases_eq, cond-true, cond-false, cases_lt}
 use Rattle.verifier.specs.Checked.{Checked}
 use Rattle.tc_log.specs.declared.event.Event.{Event}
 use Rattle.tc_log.specs.declared.event.Event.TheVariants.{Ask, Answer, Undo, Checkpoint}
-use Rattle.history.specs.Flight.{Flight, given, open_op, is_flight, is_open, AllAnswered, IsLowWater, low_water}
+use Rattle.history.specs.Flight.{Flight, given, open_op, is_flight, AllAnswered, low_water}
 use Rattle.history.proofs.Laws.{computed_is}
 use Rattle.transactions.specs.Legal.{Legal, Allowed}
 use Rattle.transactions.proofs.StandingLemmas.{eq-true, eq-false, none_some}

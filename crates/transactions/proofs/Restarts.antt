@@ -5,21 +5,20 @@ use Rattle.std.proofs.lemmas.Bool.{cases_eq, cases_lt, cond-true, cond-false, eq
 use Rattle.access_slots.specs.declared.op.Op.{Op}
 use Rattle.access_slots.specs.declared.op.Said.{Said}
 use Rattle.access_slots.specs.declared.slot.Record.{Record}
-use Rattle.access_slots.specs.declared.slot.Mode.{Mode}
 use Rattle.access_slots.specs.Locks.{record_eq, allows, target, is_read, conflict}
 use Rattle.access_slots.proofs.Records.{eq_is}
 use Rattle.verifier.specs.Checked.{Checked}
 use Rattle.tc_log.specs.declared.event.Event.{Event}
 use Rattle.tc_log.specs.declared.event.Event.TheVariants.{Admit, Answer, End, Checkpoint}
 use Rattle.history.specs.declared.Answered.{Answered}
-use Rattle.history.specs.Calls.{Call, admitted, held, held_for, open_call, call_of, locks_of}
+use Rattle.history.specs.Calls.{Call, admitted, held_for, open_call, call_of, locks_of}
 use Rattle.history.specs.Flight.{Flight, given, open_op}
 use Rattle.history.specs.Redo.{answered, with_answer, is_done, is_done_at, if_done_at, done_at, or_else, first_done, to_redo, IsToRedo}
 use Rattle.transactions.specs.declared.Redoing.{Redoing}
 use Rattle.transactions.specs.declared.Site.{Site}
 use Rattle.transactions.specs.Reached.{decls, AllGood}
-use Rattle.transactions.specs.Legal.{Legal, Allowed}
-use Rattle.transactions.specs.InFlight.{site_at, site_of, to_redo_by, under_redo, IsOpenAtSite, IsUnderRedo, InFlight, Open, Again}
+use Rattle.transactions.specs.Legal.{Legal}
+use Rattle.transactions.specs.InFlight.{site_at, to_redo_by, under_redo, IsOpenAtSite, IsUnderRedo, InFlight, Open, Again}
 use Rattle.transactions.proofs.StandingLemmas.{eq-true, eq-false, some_same, none_some}
 use Rattle.transactions.proofs.LowWater.{given_grows}
 use Rattle.transactions.proofs.Flights.{standing_flight}

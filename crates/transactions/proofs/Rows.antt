@@ -1,6 +1,6 @@
 -- Each event of a legal log has a row.
-use Rattle.std.proofs.Common.{◌≡◌, ℕ, ◌≤◌, nat_le, Bool, true, false, List, [], ◌∷◌, ◌++◌, length, Option, Some, None, arith, refl, sym, ◌∙◌, ap, subst}
-use Rattle.std.specs.Prelude.{◌==◌, if◌then◌else◌, reverse}
+use Rattle.std.proofs.Common.{◌≡◌, ℕ, ◌≤◌, Bool, true, false, List, [], ◌∷◌, ◌++◌, length, Option, Some, None, arith, refl, sym, ◌∙◌, ap, subst}
+use Rattle.std.specs.Prelude.{◌==◌, reverse}
 use Rattle.std.specs.List.{flat_map}
 use Rattle.std.proofs.lemmas.Bool.{cond-true, cond-false, le-leb}
 use Rattle.std.proofs.lemmas.List.{reverse-append}
@@ -13,10 +13,10 @@ use Rattle.tc_log.specs.declared.event.Event.{Event}
 use Rattle.tc_log.specs.declared.event.Event.TheVariants.{Admit, Answer, End}
 use Rattle.tc_log.specs.declared.event.Outcome.{Outcome}
 use Rattle.tc_log.specs.declared.event.Outcome.TheVariants as outcome
-use Rattle.tc_log.specs.Printed.{Cells, printed}
+use Rattle.tc_log.specs.Printed.{printed}
 use Rattle.tc_log.specs.Reading.{is_some, has_row, HaveRows, ArePrinted}
 use Rattle.verifier.specs.Checked.{Checked}
-use Rattle.transactions.specs.Legal.{Legal, Allowed, first_undo, ending, ending_with}
+use Rattle.transactions.specs.Legal.{Legal, Allowed, first_undo, ending}
 use Rattle.transactions.specs.Reached.{Reached, Asks, Ends, Nowhere, reached}
 use Rattle.transactions.specs.Rows.{AllTakeFew}
 

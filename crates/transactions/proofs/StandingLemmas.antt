@@ -1,5 +1,5 @@
 -- How one more event changes where the transactions stand.
-use Rattle.std.proofs.Common.{◌≡◌, ◌≢◌, ◌⊎◌, ℕ, ◌+◌, ◌<◌, ◌≤◌, Bool, true, false, List, [], ◌∷◌, length, Option, Some}
+use Rattle.std.proofs.Common.{◌≡◌, ◌≢◌, ℕ, ◌+◌, ◌<◌, ◌≤◌, Bool, true, false, List, [], ◌∷◌, Option, Some}
 use Rattle.std.specs.Prelude.{if◌then◌else◌}
 use Rattle.std.proofs.Common.{None, arith, refl, sym, ◌∙◌, ap, subst, zero, suc, inl, inr, ◌==◌}
 use Rattle.std.proofs.lemmas.Bool.Decides.{nat_tests}
@@ -12,7 +12,7 @@ use Rattle.tc_log.specs.declared.event.Event.TheVariants.{Admit, Ask, Answer, Un
 use Rattle.history.specs.Calls.{Call, admitted, txn_of}
 use Rattle.transactions.specs.Standing.{Standing, standing, moved, fresh, asked, undone, answered}
 use Rattle.transactions.specs.Room.{weighed, total_to, total}
-use Rattle.transactions.specs.Legal.{Legal, Allowed, CanAdmit, CanAsk, CanAnswer, CanUndo, CanEnd}
+use Rattle.transactions.specs.Legal.{Legal, Allowed, CanAdmit, CanAsk, CanAnswer, CanUndo}
 
 pub eq-true : (a b : ℕ) → a ≡ b → (a == b) ≡ true
 eq-true a b e = grind (arith, nat_tests)

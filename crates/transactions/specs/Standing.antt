@@ -3,7 +3,7 @@ use Rattle.std.specs.Prelude.{ℕ, ◌+◌, Bool, true, false, ◌||◌, ◌==�
 use Rattle.access_slots.specs.declared.op.Op.{Op}
 use Rattle.access_slots.specs.declared.op.Op.TheVariants.{Read, Insert, Update, Delete}
 use Rattle.access_slots.specs.declared.op.Said.{Said}
-use Rattle.access_slots.specs.declared.op.Said.TheVariants.{Value, Absent, Done, Duplicate, Missing, NoRoom, Old}
+use Rattle.access_slots.specs.declared.op.Said.TheVariants.{Done}
 use Rattle.access_slots.specs.Access.{is_no_room}
 use Rattle.tc_log.specs.declared.event.Event.{Event}
 use Rattle.tc_log.specs.declared.event.Event.TheVariants.{Admit, Ask, Answer, Undo, End}
