@@ -5,7 +5,7 @@ use Rattle.std.specs.Prelude.{Option, Some, None, ◌==◌}
 use Rattle.std.proofs.lemmas.Bool.{cond-true, cond-false, eqb-true, eq-eqb}
 use Rattle.std.proofs.lemmas.Bool.Decides.{nat_tests}
 use Rattle.tc_log.specs.declared.event.Event.{Event}
-use Rattle.tc_log.specs.declared.event.Event.TheVariants.{Admit, Ask, Answer, Undo, End, Checkpoint}
+use Rattle.tc_log.specs.declared.event.Event.TheVariants.{Ask, Answer, Undo}
 use Rattle.request_numbers.specs.Given.{holds, others}
 use Rattle.request_numbers.specs.LowWater as mark
 use Rattle.history.specs.Flight.{Flight, given, open_op, is_flight, is_open, open_numbers, mark_to, low_water, AllAnswered, IsLowWater}
@@ -57,12 +57,10 @@ answered false m n ns o is was = holds_others m n ns is ∙ was ∙ sym (ap is_f
 
 pub open_are_in_flight : (h : List Event) (n : ℕ) → holds n (open_numbers h) ≡ is_open h n
 open_are_in_flight [] n = refl
-open_are_in_flight (Admit t p args ∷ h) n = open_are_in_flight h n
 open_are_in_flight (Ask t m o ∷ h) n = asked (m == n) n m (open_numbers h) (record { txn = t; op = o }) (open_op h n) refl (open_are_in_flight h n)
 open_are_in_flight (Answer t m said ∷ h) n = answered (m == n) n m (open_numbers h) (open_op h n) refl (open_are_in_flight h n)
 open_are_in_flight (Undo t m o ∷ h) n = asked (m == n) n m (open_numbers h) (record { txn = t; op = o }) (open_op h n) refl (open_are_in_flight h n)
-open_are_in_flight (End t o ∷ h) n = open_are_in_flight h n
-open_are_in_flight (Checkpoint before numbers ∷ h) n = open_are_in_flight h n
+open_are_in_flight (_ ∷ h) n = open_are_in_flight h n
 
 -- ---- the low-water mark
 

@@ -47,6 +47,7 @@ answered_stay ps h e n a all =
     let few = all.given_out in
     let more = given_grows ps h e a in
     record { given_out = omega (arith, few, more); answered = all.answered }
+
 -- the mark never falls
 pub mark_rises : (ps : List Checked) (h : List Event) (e : Event) → Allowed ps h e → low_water h ≤ low_water (e ∷ h)
 mark_rises ps h e a = (computed_is (e ∷ h)).greatest (low_water h) (answered_stay ps h e (low_water h) a (computed_is h).all)

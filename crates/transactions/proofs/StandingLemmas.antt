@@ -1,5 +1,5 @@
 -- How one more event changes where the transactions stand.
-use Rattle.std.proofs.Common.{◌≡◌, ◌≢◌, ℕ, ◌+◌, ◌<◌, ◌≤◌, Bool, true, false, List, [], ◌∷◌, Option, Some}
+use Rattle.std.proofs.Common.{◌≡◌, ◌≢◌, ℕ, ◌+◌, ◌-◌, ◌<◌, ◌≤◌, Bool, true, false, List, [], ◌∷◌, Option, Some}
 use Rattle.std.specs.Prelude.{if◌then◌else◌}
 use Rattle.std.proofs.Common.{None, arith, refl, sym, ◌∙◌, ap, subst, zero, suc, inl, inr, ◌==◌}
 use Rattle.std.proofs.lemmas.Bool.Decides.{nat_tests}
@@ -204,6 +204,34 @@ total-admit w h t p args next =
     let now' : weighed w (standing (Admit t p args ∷ h) (suc (admitted h))) ≡ w (fresh (record { proc = p; args = args })) = ap (weighed w) now in
     let one : admitted h + 1 ≡ suc (admitted h) = omega arith in
     rw one (omega (arith, below, now'))
+
+total_to-kept : (w : Standing → ℕ) (e : Event) (h : List Event) → ((was : Option Standing) → moved e was ≡ was) → (n : ℕ)
+    → total_to w (e ∷ h) n ≡ total_to w h n
+total_to-kept w e h nothing zero = refl
+total_to-kept w e h nothing (suc n) =
+    rw (standing-kept e h (suc n) nothing) (ap (λ k. k + weighed w (standing h (suc n))) (total_to-kept w e h nothing n))
+
+total_to-more : (w : Standing → ℕ) (ps : List Checked) (h : List Event) → Legal ps h → (n more : ℕ) → n ≡ admitted h + more
+    → total_to w h n ≡ total_to w h (admitted h)
+total_to-more w ps h legal n zero is = ap (total_to w h) (omega (arith, is))
+total_to-more w ps h legal zero (suc more) is = absurd (omega (arith, is))
+total_to-more w ps h legal (suc n) (suc more) is =
+    let none : weighed w (standing h (suc n)) ≡ 0 = ap (weighed w) (standing-above ps h legal (suc n) (omega (arith, is))) in
+    omega (arith, none, total_to-more w ps h legal n more (omega (arith, is)))
+
+-- no event takes back an admission
+pub admitted_grows : (ps : List Checked) (h : List Event) (e : Event) → Allowed ps h e → admitted h ≤ admitted (e ∷ h)
+admitted_grows ps h (Checkpoint before numbers) a = (let none : admitted h ≡ 0 = ap admitted a.oldest in omega (arith, none))
+admitted_grows ps h _ a = omega arith
+
+-- an event that makes nothing of its transaction changes no sum
+pub total-kept : (w : Standing → ℕ) (ps : List Checked) (h : List Event) (e : Event) → Legal ps h → Allowed ps h e
+    → ((was : Option Standing) → moved e was ≡ was) → total w (e ∷ h) ≡ total w h
+unfolding total
+total-kept w ps h e legal a nothing =
+    let grows = admitted_grows ps h e a in
+    total_to-kept w e h nothing (admitted (e ∷ h))
+    ∙ total_to-more w ps h legal (admitted (e ∷ h)) (admitted (e ∷ h) - admitted h) (omega (arith, grows))
 
 pub total-none : (w : Standing → ℕ) → total w [] ≡ 0
 unfolding total
