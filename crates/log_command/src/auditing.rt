@@ -1,11 +1,12 @@
 //! `log --audit`: whether a file is a log of the procedures of a script, or of an object file with one, and data components
 //! that are redone from it agree with it.
 
-ghost use Rattle.std.specs.Prelude.{◌≡◌, [], length, IfOk, string_bytes};
+ghost use Rattle.std.specs.Prelude.{◌≡◌, ℕ, List, [], length, IfOk, string_bytes};
 ghost use Rattle.std.specs.List.{All};
 ghost use Rattle.script_loading.specs.Loading.{beginning_of};
 ghost use Rattle.scripts.specs.declared.keyword.Command.TheVariants as command;
 ghost use Rattle.coming_back.specs.Coming.{HasOnlyRows};
+ghost use Rattle.log_file.specs.Stored.{IsStored};
 ghost use Rattle.log_command.specs.LogReport.{AreAuditLines, IsUnfit, IsChecked, IsBeside, IsAudit};
 ghost use Rattle.log_command.specs.Joining.Beginning.{IsOfLog};
 
@@ -71,7 +72,27 @@ fn checked(
     }
 }
 
-// A file beside a state in which the script's procedures are loaded, and its data components.
+// A file that was read beside a state in which the script's procedures are loaded, and its data components.
+fn stored_beside(
+    alloc: Global,
+    state: &mut TcState,
+    dcs: &mut [Dc],
+    stored: &Stored,
+) -> Result<Report, AllocError>
+    requires begun { state.old.events ≡ [] }
+    requires count { length dcs.old ≡ state.old.dcs }
+    requires empty { All HasOnlyRows dcs.old }
+    ensures { (file : List ℕ) → IsStored file stored.now → IfOk result (λ r. IsBeside file state.old dcs.old r.status (string_bytes r.lines)) }
+{
+    let header = header_of(alloc, state.procs())?;
+    if stored.header == header {
+        checked(alloc, state, dcs, stored)
+    } else {
+        anothers(alloc, &stored.header, &header)
+    }
+}
+
+// The same of its bytes.
 fn beside(
     alloc: Global,
     state: &mut TcState,
@@ -83,15 +104,13 @@ fn beside(
     requires empty { All HasOnlyRows dcs.old }
     ensures { IfOk result (λ r. IsBeside file.now state.old dcs.old r.status (string_bytes r.lines)) }
 {
-    let stored = match read_file(alloc, file) {
-        Ok(stored) => stored,
-        Err(fault) => return refused(alloc, fault),
-    };
-    let header = header_of(alloc, state.procs())?;
-    if stored.header == header {
-        checked(alloc, state, dcs, &stored)
-    } else {
-        anothers(alloc, &stored.header, &header)
+    match read_file(alloc, file) {
+        Ok(stored) => {
+            let report = stored_beside(alloc, state, dcs, &stored);
+            drop(stored);
+            report
+        }
+        Err(fault) => refused(alloc, fault),
     }
 }
 
