@@ -3,11 +3,11 @@ use Rattle.std.proofs.Common.{◌≡◌, ℕ, zero, suc, ◌+◌, ◌≤◌, Boo
 use Rattle.std.proofs.Common.{is_some, IsSome, count_by, cond, refl, sym, ◌∙◌, ap, subst, arith}
 use Rattle.std.specs.Prelude.{Box, Vec}
 use Rattle.std.proofs.lemmas.List.Sums.{sum_by-cons, sum_by-set}
-use Rattle.indexmap.specs.IndexMap.{IndexMap}
 use Rattle.slab.specs.Slab.{Slab, get, slab_len, ContainsKey, HasRoomFor, Updates, with_value}
 use Rattle.slab.proofs.SlabLemmas.{Updates-with_value, ContainsKey-within}
 use Rattle.transactions.proofs.StandingLemmas.{some_same, none_some}
 use Rattle.tc_core.specs.Joining.Boxes.{AreKeys, AreBoxed, ready, in_box, unboxed}
+use Rattle.tc_core.specs.Joining.Keys.{Keys}
 use Rattle.tc_core.specs.declared.transaction.Tx.{Tx}
 use Rattle.tc_core.proofs.KeyLemmas.{keys-moved}
 
@@ -131,7 +131,7 @@ module _ {A : Type 0} where
 
   -- ---- what is kept
 
-  pub written-keys : {S : Type 0} (keys : IndexMap ℕ ℕ S) (n : ℕ) (txns : Slab (Box Tx A)) (key : ℕ) (b b' : Box Tx A)
+  pub written-keys : (keys : Keys) (n : ℕ) (txns : Slab (Box Tx A)) (key : ℕ) (b b' : Box Tx A)
       → AreKeys keys (unboxed n txns) → get txns key ≡ Some b → b'.value.serial ≡ b.value.serial
       → AreKeys keys (unboxed n (with_value txns key b'))
   written-keys keys n txns key b b' are at same =

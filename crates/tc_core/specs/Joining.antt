@@ -5,6 +5,7 @@ pub mod Boxes
 pub mod Follows
 pub mod Hearing
 pub mod Holders
+pub mod Keys
 pub mod Numbered
 pub mod Rooms
 pub mod Scanning

@@ -1,11 +1,10 @@
 // The open transactions.
 
-ghost use Rattle.std.specs.Prelude.{◌≡◌, ◌≢◌, ◌↔◌, ◌+◌, ◌<◌, ◌≤◌, ℕ, [], length, Some, None, true, false, nat_eq};
+ghost use Rattle.std.specs.Prelude.{◌≡◌, ◌≢◌, ◌↔◌, ◌+◌, ◌<◌, ◌≤◌, ℕ, [], length, Some, None, true, false};
 ghost use Rattle.std.specs.Prelude.{IsTrue, IfSome, IfNone, IfOk, OnOk, vec_len, vec_capacity};
 ghost use Rattle.lock_table.specs.Clashes.{keeps_out};
 ghost use Rattle.lock_table.specs.Facts.{held_by};
 ghost use Rattle.slab.specs.Slab.{get, slab_len, Updates, ContainsKey, HasRoomFor};
-ghost use Rattle.indexmap.specs.IndexMap.{spare, Updates as KeyUpdates};
 ghost use Rattle.transactions.specs.Standing.{Standing};
 ghost use Rattle.tc_core.specs.Running.{does};
 ghost use Rattle.tc_core.specs.Replies.{over_in};
@@ -19,10 +18,10 @@ ghost use Rattle.tc_core.specs.Joining.Holders.{AllStandStill, HoldsUp, Moves, I
 ghost use Rattle.tc_core.specs.declared.transaction.Tx.{Tx as TxValue};
 
 use crate::transaction::Tx;
+use crate::txn_keys::TxnKeys;
 use crate::undos::Undos;
 use access_slots::lock::{Lock, LockSet};
 use access_slots::op::{Op, Reply, Said};
-use indexmap::IndexMap;
 use lock_table::table::LockTable;
 use slab::Slab;
 use std::alloc::{AllocError, Global};
@@ -39,7 +38,7 @@ use verifier::verify::Verified;
 pub struct OpenTxns {
     alloc: Global,
     txns: Slab<Box<Tx>>,
-    keys: IndexMap<u64, usize>,
+    keys: TxnKeys,
     // For serial numbers in a row a key each: that of the one that began last. It is looked at before
     // `keys`, and holds where that one stands there.
     hints: [usize; HINTS],
@@ -51,16 +50,15 @@ const HINTS: usize = 64;
 
 impl Model for OpenTxns {
     ghost use Rattle.std.specs.Prelude.{vec_len};
-    ghost use Rattle.indexmap.specs.IndexMap.{spare};
     ghost use Rattle.slab.specs.Slab.{Slab};
     ghost use Rattle.tc_core.specs.declared.transaction.Tx.{Tx};
     ghost use Rattle.tc_core.specs.Joining.Boxes.{unboxed, ready, AreKeys, AreBoxed};
 
     ghost Value = { Slab Tx };
 
-    ghost view = { λ o. unboxed (ready (vec_len o.boxes) (spare o.keys)) o.txns };
+    ghost view = { λ o. unboxed (ready (vec_len o.boxes) o.keys.room) o.txns };
 
-    ghost invariant = { λ o. AreKeys o.keys (unboxed (ready (vec_len o.boxes) (spare o.keys)) o.txns) × AreBoxed o.txns o.boxes };
+    ghost invariant = { λ o. AreKeys o.keys (unboxed (ready (vec_len o.boxes) o.keys.room) o.txns) × AreBoxed o.txns o.boxes };
 }
 
 // One of the boxes, of which there are some.
@@ -97,18 +95,6 @@ fn add_box(
     Ok(())
 }
 
-// A new transaction is found at this key. There has to be room.
-#[inline(always)]
-fn list_key(keys: &mut IndexMap<u64, usize>, serial: u64, key: usize)
-    requires { 0 < spare keys.old }
-    ensures { KeyUpdates nat_eq keys.old keys.new serial (Some key) }
-{
-    match keys.insert(serial, key) {
-        Ok(_before) => {}
-        Err(_) => unreachable!(),
-    }
-}
-
 // The transaction with this serial number stands at the key.
 #[inline(always)]
 fn give_hint(hints: &mut [usize], serial: u64, key: usize) {
@@ -135,7 +121,7 @@ impl OpenTxns {
         OpenTxns {
             alloc,
             txns: Slab::new(alloc),
-            keys: IndexMap::new(alloc),
+            keys: TxnKeys::new(alloc),
             hints: [0; HINTS],
             boxes: Vec::new(alloc),
         }
@@ -161,7 +147,7 @@ impl OpenTxns {
         ensures slots { self.new.slots ≡ self.old.slots }
         ensures room { OnOk result (HasRoomFor self.new 1) }
     {
-        self.keys.reserve(1)?;
+        self.keys.reserve()?;
         add_box(self.alloc, &mut self.txns, &mut self.boxes)
     }
 
@@ -201,7 +187,7 @@ impl OpenTxns {
         let mut tx = take_box(&mut self.boxes);
         tx.begin(code, serial, proc, args, undo);
         let key = self.txns.insert_reserved(tx);
-        list_key(&mut self.keys, serial, key);
+        self.keys.put(serial, key);
         give_hint(&mut self.hints, serial, key);
         key
     }
@@ -214,7 +200,7 @@ impl OpenTxns {
         ensures len { slab_len self.new + 1 ≡ slab_len self.old }
     {
         let tx = self.txns.remove(key);
-        self.keys.swap_remove(&tx.serial);
+        self.keys.take_out(tx.serial);
         self.boxes.push_reserved(tx);
     }
 
@@ -224,7 +210,7 @@ impl OpenTxns {
         ensures found { IfSome result (λ key. StandsAt self.now key serial) }
         ensures absent { IfNone result ((key : ℕ) (tx : TxValue) → get self.now key ≡ Some tx → tx.serial ≢ serial) }
     {
-        self.keys.get(&serial).copied()
+        self.keys.get(serial)
     }
 
     /// The key of the transaction with this serial number: by one look where its hint holds, else by two.

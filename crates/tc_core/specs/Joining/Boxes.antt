@@ -1,14 +1,14 @@
 -- Open transactions in boxes, each at a key, and their keys by serial number.
-use Rattle.std.specs.Prelude.{◌≡◌, ℕ, zero, suc, ◌+◌, ◌≤◌, nat_eq, map, Option, Some, None, Box, Vec, vec_len, vec_capacity}
-use Rattle.indexmap.specs.IndexMap.{IndexMap, get as key_of}
+use Rattle.std.specs.Prelude.{◌≡◌, ℕ, zero, suc, ◌+◌, ◌≤◌, map, Option, Some, None, Box, Vec, vec_len, vec_capacity}
 use Rattle.slab.specs.Slab.{Slab, get, slab_len}
 use Rattle.tc_core.specs.AtKey.{StandsAt}
+use Rattle.tc_core.specs.Joining.Keys.{Keys, key_of}
 use Rattle.tc_core.specs.declared.transaction.Tx.{Tx}
 
 -- the keys by serial number are those of the transactions
-pub record AreKeys {S : Type 0} (keys : IndexMap ℕ ℕ S) (txns : Slab Tx) : Type 0 where
-  pub keyed : (key : ℕ) (tx : Tx) → get txns key ≡ Some tx → key_of nat_eq keys tx.serial ≡ Some key
-  pub listed : (t key : ℕ) → key_of nat_eq keys t ≡ Some key → StandsAt txns key t
+pub record AreKeys (keys : Keys) (txns : Slab Tx) : Type 0 where
+  pub keyed : (key : ℕ) (tx : Tx) → get txns key ≡ Some tx → key_of keys tx.serial ≡ Some key
+  pub listed : (t key : ℕ) → key_of keys t ≡ Some key → StandsAt txns key t
 
 -- one more may begin, where there is a box for it and room for its key
 abbrev pub ready : ℕ → ℕ → ℕ

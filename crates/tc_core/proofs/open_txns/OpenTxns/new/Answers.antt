@@ -5,7 +5,7 @@ pub invariant_of-result : goal.invariant_of-result
 invariant_of-result c = (
   record {
     keyed = λ key tx at. absurd (let none : None ≡ Some tx = rw c.new.ensures.empty at at in cc);
-    listed = λ t key at. absurd (let none : None ≡ Some key = rw c.new-2.ensures.empty at at in cc);
+    listed = λ t key at. absurd (let none : None ≡ Some key = rw c.new-2.ensures at at in cc);
   },
   (let len = c.new-3.ensures.len in record { begin = rw c.new.ensures.empty (omega (arith, len)); end = rw c.new.ensures.empty (omega (arith, len)) }),
 )

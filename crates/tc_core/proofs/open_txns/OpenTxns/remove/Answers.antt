@@ -1,7 +1,7 @@
 use Rattle.std.proofs.Common.{None, arith, subst}
-use Rattle.std.specs.Prelude.{nat_eq, vec_len}
-use Rattle.indexmap.specs.IndexMap.{spare, Updates as Keys}
+use Rattle.std.specs.Prelude.{vec_len}
 use Rattle.tc_core.specs.Joining.Boxes.{ready}
+use Rattle.tc_core.specs.Joining.Keys.{Changes}
 use Rattle.tc_core.specs.declared.transaction.Tx.{Tx}
 use Rattle.tc_core.proofs.KeyLemmas.{keys-ended}
 use Rattle.tc_core.proofs.BoxLemmas.{has-box, seen-len, seen-updates, unboxed-len, unboxed-some, unboxed-updates}
@@ -24,13 +24,13 @@ invariant_of-self c =
     let capacity = c.remove-tx.ensures.capacity in
     let more = c.push_reserved.ensures.len in
     let same = c.push_reserved.ensures.capacity in (
-      keys-ended c.self.inside.keys c.swap_remove.new.self _ _ c.args.key c.remove-tx.result.value c.self.invariant.0
+      keys-ended c.self.inside.keys c.take_out.new.self _ _ c.args.key c.remove-tx.result.value c.self.invariant.0
           (unboxed-some (ready (vec_len c.self.inside.boxes)
-          (spare c.self.inside.keys)) c.self.inside.txns c.args.key c.remove-tx.result c.remove-tx.ensures.value)
-          (unboxed-updates (ready (vec_len c.self.inside.boxes) (spare c.self.inside.keys))
+          c.self.inside.keys.room) c.self.inside.txns c.args.key c.remove-tx.result c.remove-tx.ensures.value)
+          (unboxed-updates (ready (vec_len c.self.inside.boxes) c.self.inside.keys.room)
           (ready (vec_len c.push_reserved.new.self)
-          (spare c.swap_remove.new.self)) c.self.inside.txns c.remove-tx.new.self c.args.key None c.remove-tx.ensures.updates)
-          (subst (λ (x : Tx). Keys nat_eq c.self.inside.keys c.swap_remove.new.self x.serial None) c.deref.ensures c.swap_remove.ensures.updates),
+          c.take_out.new.self.room) c.self.inside.txns c.remove-tx.new.self c.args.key None c.remove-tx.ensures.updates)
+          (subst (λ (x : Tx). Changes c.self.inside.keys c.take_out.new.self x.serial None) c.deref.ensures c.take_out.ensures),
       record { begin = omega (arith, begin, len, capacity, more); end = omega (arith, end, len, more, same) },
     )
 
@@ -40,6 +40,6 @@ returns-clause-updates c = seen-updates _ c.self.inside.txns c.args.self.now c.s
 pub returns-clause-len : goal.returns-clause-len
 returns-clause-len c =
     let len = c.remove-tx.ensures.len in
-    let old = seen-len (ready (vec_len c.self.inside.boxes) (spare c.self.inside.keys)) c.self.inside.txns c.args.self.now c.self.view_is in
-    let new = unboxed-len (ready (vec_len c.push_reserved.new.self) (spare c.swap_remove.new.self)) c.remove-tx.new.self in
+    let old = seen-len (ready (vec_len c.self.inside.boxes) c.self.inside.keys.room) c.self.inside.txns c.args.self.now c.self.view_is in
+    let new = unboxed-len (ready (vec_len c.push_reserved.new.self) c.take_out.new.self.room) c.remove-tx.new.self in
     omega (arith, len, old, new)

@@ -1,6 +1,5 @@
 use Rattle.std.proofs.Common.{◌<◌, refl, ◌∙◌, ap, arith, map}
 use Rattle.std.specs.Prelude.{OnOk, Ok, Err, vec_len}
-use Rattle.indexmap.specs.IndexMap.{spare}
 use Rattle.slab.specs.Slab.{Slab, HasRoomFor}
 use Rattle.tc_core.specs.Joining.Boxes.{ready, in_box, unboxed}
 use Rattle.tc_core.specs.declared.transaction.Tx.{Tx}
@@ -26,10 +25,10 @@ returns-clause-slots c = ap (map in_box) c.add_box.ensures.slots ∙ ap (λ (s :
 pub returns-clause-room : goal.returns-clause-room
 returns-clause-room c =
     let boxes = vec_len c.add_box.new.boxes in
-    let room = spare c.reserve.new.self in
+    let room = c.reserve.new.self.room in
     let txns = c.add_box.new.txns in
     (elim c.add_box.result as (λ r. OnOk r (0 < boxes) → OnOk r (HasRoomFor (unboxed (ready boxes room) txns) 1)) [
-      | Ok _ ↦ λ some. (let one = ready-one boxes room (omega (arith, some)) c.in_ok-reserve.ensures.ok in
+      | Ok _ ↦ λ some. (let one = ready-one boxes room (omega (arith, some)) c.in_ok-reserve.ensures.room in
           let len = unboxed-len (ready boxes room) txns in omega (arith, one, len))
       | Err e ↦ λ some. tt
     ])
