@@ -16,7 +16,7 @@ use Rattle.verifier.specs.Checked.{Checked}
 use Rattle.lock_table.specs.Facts.{Table, AreHeld, held_by, granted}
 use Rattle.request_numbers.specs.Given.{Given}
 use Rattle.tc_log.specs.declared.event.Event.{Event}
-use Rattle.tc_log.specs.declared.event.Event.TheVariants.{Admit, Ask, Answer, Undo, End, Checkpoint}
+use Rattle.tc_log.specs.declared.event.Event.TheVariants.{Admit, Checkpoint}
 use Rattle.tc_log.specs.History.{History}
 use Rattle.history.specs.Calls.{Call, admitted, held, held_for, locks_by, locks_of}
 use Rattle.transactions.proofs.Running.{get_decl}
@@ -243,12 +243,8 @@ nothing_new ps h t claims claims' legal next are same r =
 
 pub admitted-length : (ps : List Checked) (h : List Event) → Legal ps h → admitted h ≤ 2 ^ 62 + length h
 admitted-length ps [] legal = omega arith
-admitted-length ps (Admit t p args ∷ h) legal = omega (arith, admitted-length ps h legal.1)
-admitted-length ps (Ask t n o ∷ h) legal = omega (arith, admitted-length ps h legal.1)
-admitted-length ps (Answer t n said ∷ h) legal = omega (arith, admitted-length ps h legal.1)
-admitted-length ps (Undo t n o ∷ h) legal = omega (arith, admitted-length ps h legal.1)
-admitted-length ps (End t outcome ∷ h) legal = omega (arith, admitted-length ps h legal.1)
 admitted-length ps (Checkpoint before numbers ∷ h) legal = (let few = legal.0.few_admitted in omega (arith, few))
+admitted-length ps (_ ∷ h) legal = omega (arith, admitted-length ps h legal.1)
 
 pub within-from : (a b : ℕ) → true ≡ nat_lt a b → a < b
 within-from a b e = grind (arith, nat_tests)

@@ -14,7 +14,7 @@ use Rattle.transactions.specs.Legal.{Legal}
 use Rattle.transactions.specs.Reached.{decls}
 use Rattle.transactions.specs.Room.{numbers_left, events_left, places_left, each_one, weighed, total_to, total}
 use Rattle.transactions.specs.Standing.{Standing, standing}
-use Rattle.transactions.proofs.StandingLemmas.{eq-false, none_some, standing-checkpoint, total-part}
+use Rattle.transactions.proofs.StandingLemmas.{eq-false, none_some, standing-kept, total-part}
 use Rattle.transactions.proofs.Headline.{no_call}
 use Rattle.transactions.proofs.Alike.{begins_alike}
 use Rattle.slab.specs.Slab.{get, slab_len}
@@ -46,7 +46,7 @@ abbrev pub beginning : ℕ → ℕ → List Event
 beginning before numbers = Checkpoint before numbers ∷ []
 
 pub beginning_rests : (before numbers : ℕ) → IsAtRest (beginning before numbers)
-beginning_rests before numbers t = standing-checkpoint before numbers [] t
+beginning_rests before numbers t = standing-kept (Checkpoint before numbers) [] t (λ was. refl)
 
 -- a book of no open transaction, whose log begins anew
 pub book-anew : (ps : List Checked) (b b' : Book) (before numbers : ℕ) → IsBook ps b → slab_len b.txns ≡ 0 → before ≤ 2 ^ 62 → numbers ≤ 2 ^ 62

@@ -4,7 +4,7 @@ use Rattle.std.proofs.Common.{arith, refl, sym, ◌∙◌, ap, subst, cond, zero
 use Rattle.std.proofs.lemmas.Bool.{cases_eq, cond-true, cond-false, eqb-true}
 use Rattle.request_numbers.specs.Given.{holds, others}
 use Rattle.tc_log.specs.declared.event.Event.{Event}
-use Rattle.tc_log.specs.declared.event.Event.TheVariants.{Admit, Ask, Answer, Undo, End, Checkpoint}
+use Rattle.tc_log.specs.declared.event.Event.TheVariants.{Answer}
 use Rattle.transactions.specs.Room.{one_if}
 use Rattle.transactions.proofs.StandingLemmas.{eq-true, eq-false}
 use Rattle.tc_core.specs.Doubts.{with_number_by, given_up_behind, marks, AreOnce}
@@ -128,12 +128,8 @@ others_within ns ms n within m held = elim (cases_eq n m) [
 
 -- what is given up behind an event was given up before it
 pub given_up_before : (e : Event) (ns : List ℕ) (m : ℕ) → holds m (given_up_behind e ns) ≡ true → holds m ns ≡ true
-given_up_before (Admit t p args) ns m held = held
-given_up_before (Ask t n o) ns m held = held
 given_up_before (Answer t n said) ns m held = others_held ns n m held
-given_up_before (Undo t n o) ns m held = held
-given_up_before (End t o) ns m held = held
-given_up_before (Checkpoint before numbers) ns m held = held
+given_up_before _ ns m held = held
 
 few_by : (b : Bool) (x : ℕ) (ns rest : List ℕ) → length rest ≤ length ns → length (cond b (x ∷ rest) rest) ≤ length (x ∷ ns)
 few_by true x ns rest few = omega (arith, few)

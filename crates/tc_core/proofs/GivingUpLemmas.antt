@@ -5,13 +5,13 @@ use Rattle.request_numbers.specs.Given.{holds}
 use Rattle.slab.specs.Slab.{Slab, get}
 use Rattle.verifier.specs.Checked.{Checked}
 use Rattle.tc_log.specs.declared.event.Event.{Event}
-use Rattle.tc_log.specs.declared.event.Event.TheVariants.{Admit, Ask, Answer, Undo, End, Checkpoint}
+use Rattle.tc_log.specs.declared.event.Event.TheVariants.{Admit, Ask, Answer, Undo, End}
 use Rattle.history.specs.Calls.{admitted, txn_of}
 use Rattle.history.specs.Flight.{given, open_numbers}
 use Rattle.transactions.specs.Legal.{Legal}
 use Rattle.transactions.specs.Room.{places_left, each_one, weighed, total}
 use Rattle.transactions.specs.Standing.{Standing, standing, moved, asked, undone}
-use Rattle.transactions.proofs.StandingLemmas.{some_same, total-moved, total-admit, total-none}
+use Rattle.transactions.proofs.StandingLemmas.{some_same, total-moved, total-kept, total-admit, total-none}
 use Rattle.transactions.proofs.Flights.{standing_flight, flight, open_flight, flight_holds}
 use Rattle.transactions.proofs.LowWater.{flight_some}
 use Rattle.tc_core.specs.Core.{Core, Asking}
@@ -21,7 +21,6 @@ use Rattle.tc_core.specs.Kept.{Marked, IsBook, is_doubted}
 use Rattle.tc_core.specs.declared.book.Book.{Book}
 use Rattle.tc_core.specs.declared.transaction.Tx.{Tx}
 use Rattle.tc_core.proofs.KeptLemmas.{Seen}
-use Rattle.tc_core.proofs.Anewing.{total_rest, beginning, beginning_rests}
 use Rattle.tc_core.proofs.DoubtLemmas.{others_fewer, fewer_than}
 
 pub open-awaits : (c : Core) (r : Asking) (tx : Tx) (w : Seen c.procs c.events r.txn tx) → IsOpenHere c r → Awaits tx r.number r.op
@@ -83,9 +82,10 @@ opens_few ps (End t o ∷ h) legal =
     let places = total-moved places_left ps h legal.1 (End t o) a.s a.is refl in
     let count = total-moved each_one ps h legal.1 (End t o) a.s a.is refl in
     omega (arith, opens_few ps h legal.1, one, places, count)
-opens_few ps (Checkpoint before numbers ∷ h) legal =
-    subst (λ (l : List Event). AreFew (Checkpoint before numbers ∷ l)) (sym legal.0.oldest)
-    (let none = total_rest places_left (beginning before numbers) (beginning_rests before numbers) in omega (arith, none))
+opens_few ps (e ∷ h) legal =
+    let places = total-kept places_left ps h e legal.1 legal.0 (λ was. refl) in
+    let count = total-kept each_one ps h e legal.1 legal.0 (λ was. refl) in
+    omega (arith, opens_few ps h legal.1, places, count)
 
 -- there is room for one that is open and wasn't given up
 pub room-for : (ps : List Checked) (b : Book) (n : ℕ) → IsBook ps b → 0 < n → n ≤ given b.log.events

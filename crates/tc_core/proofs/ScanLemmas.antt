@@ -10,12 +10,13 @@ use Rattle.access_slots.specs.declared.op.Op.{Op}
 use Rattle.access_slots.specs.declared.op.Said.{Said}
 use Rattle.verifier.specs.Checked.{Checked}
 use Rattle.tc_log.specs.declared.event.Event.{Event}
-use Rattle.tc_log.specs.declared.event.Event.TheVariants.{Admit, Ask, Answer, Undo, End, Checkpoint}
+use Rattle.tc_log.specs.declared.event.Event.TheVariants.{Ask, Answer, Undo, Checkpoint}
 use Rattle.history.specs.declared.Answered.{Answered}
 use Rattle.history.specs.Flight.{Flight, given, open_op}
 use Rattle.history.specs.Redo.{answered, with_answer, is_done, is_done_at, if_done_at, done_at, or_else, to_redo, IsToRedo}
 use Rattle.transactions.specs.Legal.{Legal, Allowed}
 use Rattle.transactions.proofs.StandingLemmas.{eq-true, eq-false, some_same, none_some}
+use Rattle.transactions.proofs.LowWater.{given_grows}
 use Rattle.transactions.proofs.Flights.{standing_flight}
 use Rattle.transactions.proofs.Restarts.{done_number, to_redo_is, to_redo_only}
 use Rattle.tc_core.specs.Kept.{AreSentUpTo}
@@ -41,43 +42,33 @@ pick_more false x o p = refl
 
 said_more : (es : List Event) (e : Event) (n : ℕ) → said_in (es ++ e ∷ []) n ≡ orelse (said_in es n) (said_in (e ∷ []) n)
 said_more [] e n = refl
-said_more (Admit t p args ∷ es) e n = said_more es e n
-said_more (Ask t m o ∷ es) e n = said_more es e n
 said_more (Answer t m said ∷ es) e n = ap (cond (m == n) (Some said)) (said_more es e n) ∙ pick_more (m == n) said (said_in es n) (said_in (e ∷ []) n)
-said_more (Undo t m o ∷ es) e n = said_more es e n
-said_more (End t o ∷ es) e n = said_more es e n
-said_more (Checkpoint before numbers ∷ es) e n = said_more es e n
+said_more (_ ∷ es) e n = said_more es e n
 
 abbrev flight : ℕ → Op → Flight
 flight t o = record { txn = t; op = o }
 
 sent_more : (es : List Event) (e : Event) (n : ℕ) → sent_in (es ++ e ∷ []) n ≡ orelse (sent_in es n) (sent_in (e ∷ []) n)
 sent_more [] e n = refl
-sent_more (Admit t p args ∷ es) e n = sent_more es e n
 sent_more (Ask t m o ∷ es) e n = ap (cond (m == n) (Some (flight t o))) (sent_more es e n) ∙ pick_more (m == n) (flight t o) (sent_in es n) (sent_in (e ∷ []) n)
-sent_more (Answer t m said ∷ es) e n = sent_more es e n
 sent_more (Undo t m o ∷ es) e n = ap (cond (m == n) (Some (flight t o))) (sent_more es e n)
     ∙ pick_more (m == n) (flight t o) (sent_in es n) (sent_in (e ∷ []) n)
-sent_more (End t o ∷ es) e n = sent_more es e n
-sent_more (Checkpoint before numbers ∷ es) e n = sent_more es e n
+sent_more (_ ∷ es) e n = sent_more es e n
 
 sent_by_more : (k : ℕ) (es : List Event) (e : Event) → sent_by k (es ++ e ∷ []) ≡ sent_by (sent_by k es) (e ∷ [])
 sent_by_more k [] e = refl
-sent_by_more k (Admit t p args ∷ es) e = sent_by_more k es e
 sent_by_more k (Ask t n o ∷ es) e = sent_by_more (k + 1) es e
-sent_by_more k (Answer t n said ∷ es) e = sent_by_more k es e
 sent_by_more k (Undo t n o ∷ es) e = sent_by_more (k + 1) es e
-sent_by_more k (End t o ∷ es) e = sent_by_more k es e
 sent_by_more k (Checkpoint before numbers ∷ es) e = sent_by_more numbers es e
+sent_by_more k (_ ∷ es) e = sent_by_more k es e
 
 numbered_more : (k : ℕ) (es : List Event) (e : Event) → AreNumbered k es → AreNumbered (sent_by k es) (e ∷ []) → AreNumbered k (es ++ e ∷ [])
 numbered_more k [] e are is = is
-numbered_more k (Admit t p args ∷ es) e are is = numbered_more k es e are is
 numbered_more k (Ask t n o ∷ es) e are is = (are.0, numbered_more (k + 1) es e are.1 is)
 numbered_more k (Answer t n said ∷ es) e are is = (are.0, numbered_more k es e are.1 is)
 numbered_more k (Undo t n o ∷ es) e are is = (are.0, numbered_more (k + 1) es e are.1 is)
-numbered_more k (End t o ∷ es) e are is = numbered_more k es e are is
 numbered_more k (Checkpoint before numbers ∷ es) e are is = (are.0, numbered_more numbers es e are.1 is)
+numbered_more k (_ ∷ es) e are is = numbered_more k es e are is
 
 -- ---- the numbers of a legal log
 
@@ -92,12 +83,11 @@ answered_few ps h t n said legal a =
 
 last_fits : (ps : List Checked) (h : List Event) (e : Event) → Legal ps h → Allowed ps h e
     → AreNumbered (given h) (e ∷ []) × (sent_by (given h) (e ∷ []) ≡ given (e ∷ h))
-last_fits ps h (Admit t p args) legal a = (tt, refl)
 last_fits ps h (Ask t n o) legal a = ((a.next, tt), refl)
 last_fits ps h (Answer t n said) legal a = ((answered_few ps h t n said legal a, tt), refl)
 last_fits ps h (Undo t n o) legal a = ((a.next, tt), refl)
-last_fits ps h (End t o) legal a = (tt, refl)
 last_fits ps h (Checkpoint before numbers) legal a = (let none : given h ≡ 0 = ap given a.oldest in ((omega (arith, none), tt), refl))
+last_fits ps h _ legal a = (tt, refl)
 
 is_numbered : (ps : List Checked) (h : List Event) → Legal ps h → IsNumbered h (reverse h)
 is_numbered ps [] legal = record { numbered = tt; count = refl }
@@ -168,7 +158,6 @@ answers_it h es e n f said a is few sends says flight_is answer_is =
     }
 
 agrees_more : (ps : List Checked) (h es : List Event) (e : Event) (n : ℕ) → Legal ps h → Allowed ps h e → Agrees h es n → Agrees (e ∷ h) (es ++ e ∷ []) n
-agrees_more ps h es (Admit t p args) n legal allowed a = still h es (Admit t p args) n a refl refl refl refl (omega arith)
 agrees_more ps h es (Ask t m o) n legal allowed a =
     let next = allowed.next in
     elim (cases_eq m n) [
@@ -202,10 +191,7 @@ agrees_more ps h es (Undo t m o) n legal allowed a =
           let e = eq-false m n differ in
           still h es (Undo t m o) n a (cond-false _ _ _ e) refl (cond-false _ _ _ e) refl (omega arith)
     ]
-agrees_more ps h es (End t o) n legal allowed a = still h es (End t o) n a refl refl refl refl (omega arith)
-agrees_more ps h es (Checkpoint before numbers) n legal allowed a =
-    let none : given h ≡ 0 = ap given allowed.oldest in
-    still h es (Checkpoint before numbers) n a refl refl refl refl (omega (arith, none))
+agrees_more ps h es e n legal allowed a = still h es e n a refl refl refl refl (given_grows ps h e allowed)
 
 agrees : (ps : List Checked) (h : List Event) → Legal ps h → (n : ℕ) → Agrees h (reverse h) n
 agrees ps [] legal n = record { open_sent = λ f is. absurd cc; open_unsaid = λ f is. refl; same = refl; late_unsent = λ late. refl; late_unsaid = λ late. refl }
@@ -236,7 +222,6 @@ unsent_done es d n is = ap (λ (f : Option Flight). if_done_at d (with_said n f 
 -- numbers up to the first ones aren't sent again
 unsent_below : (k : ℕ) (es : List Event) → AreNumbered k es → (n : ℕ) → n ≤ k → sent_in es n ≡ None
 unsent_below k [] are n few = refl
-unsent_below k (Admit t p args ∷ es) are n few = unsent_below k es are n few
 unsent_below k (Ask t m o ∷ es) are n few =
     let next = are.0 in
     cond-false _ _ _ (eq-false m n (omega (arith, next, few))) ∙ unsent_below (k + 1) es are.1 n (omega (arith, few))
@@ -244,8 +229,8 @@ unsent_below k (Answer t m said ∷ es) are n few = unsent_below k es are.1 n fe
 unsent_below k (Undo t m o ∷ es) are n few =
     let next = are.0 in
     cond-false _ _ _ (eq-false m n (omega (arith, next, few))) ∙ unsent_below (k + 1) es are.1 n (omega (arith, few))
-unsent_below k (End t o ∷ es) are n few = unsent_below k es are n few
 unsent_below k (Checkpoint before numbers ∷ es) are n few = unsent_below numbers es are.1 n (omega (arith, are.0, few))
+unsent_below k (_ ∷ es) are n few = unsent_below k es are n few
 
 -- the one that is sent first, and those behind it
 and_parts : (x y : Bool) → (x && y) ≡ true → (x ≡ true) × (y ≡ true)
@@ -363,7 +348,6 @@ said_apart k d m said es few are n = elim (cases_eq m n) [
 
 scan_least : (d after k : ℕ) (es : List Event) → AreNumbered k es → IsLeast (λ n. done_in es d n) after (scan d after es)
 scan_least d after k [] are = λ m above. refl
-scan_least d after k (Admit t p args ∷ es) are = scan_least d after k es are
 scan_least d after k (Ask t n o ∷ es) are = least_here d after k t n o es are.0 are.1
     (done_behind d after t n o es) refl (scan d after es) (scan_least d after (k + 1) es are.1)
 scan_least d after k (Answer t n said ∷ es) are =
@@ -371,8 +355,8 @@ scan_least d after k (Answer t n said ∷ es) are =
     (scan_least d after k es are.1)
 scan_least d after k (Undo t n o ∷ es) are = least_here d after k t n o es are.0 are.1
     (done_behind d after t n o es) refl (scan d after es) (scan_least d after (k + 1) es are.1)
-scan_least d after k (End t o ∷ es) are = scan_least d after k es are
 scan_least d after k (Checkpoint before numbers ∷ es) are = scan_least d after numbers es are.1
+scan_least d after k (_ ∷ es) are = scan_least d after k es are
 
 -- a look through the whole log finds what is to be redone
 pub scan_is : (ps : List Checked) (h : List Event) → Legal ps h → (d redone : ℕ) → scan d redone (reverse h) ≡ to_redo h d redone
@@ -392,14 +376,11 @@ scan_is ps h legal d redone =
 pub scan_from : (d after place : ℕ) (es : List Event) → AreSentUpTo after (take place es) → scan d after (drop place es) ≡ scan d after es
 scan_from d after zero es are = refl
 scan_from d after (suc place) [] are = refl
-scan_from d after (suc place) (Admit t p args ∷ es) are = scan_from d after place es are
 scan_from d after (suc place) (Ask t n o ∷ es) are =
     scan_from d after place es are.1 ∙ ap (λ (x : Option Answered). or_else x (scan d after es)) (sym (behind_low d after t n o es are.0))
-scan_from d after (suc place) (Answer t n said ∷ es) are = scan_from d after place es are
 scan_from d after (suc place) (Undo t n o ∷ es) are =
     scan_from d after place es are.1 ∙ ap (λ (x : Option Answered). or_else x (scan d after es)) (sym (behind_low d after t n o es are.0))
-scan_from d after (suc place) (End t o ∷ es) are = scan_from d after place es are
-scan_from d after (suc place) (Checkpoint before numbers ∷ es) are = scan_from d after place es are
+scan_from d after (suc place) (_ ∷ es) are = scan_from d after place es are
 
 behind_number : (d after t n : ℕ) (o : Op) (es : List Event) (a : Answered) → done_behind d after t n o es ≡ Some a → a.number ≡ n
 behind_number d after t n o es a is = elim (cases_lt after n) [
@@ -414,20 +395,16 @@ record AreUpTo (k place : ℕ) (es : List Event) (n : ℕ) : Type 0 where
 
 up_to : (d after k place : ℕ) (es : List Event) (a : Answered) → AreNumbered k es → first_in d after (drop place es) ≡ Some a → AreUpTo k place es a.number
 up_to d after k zero [] a are is = absurd cc
-up_to d after k zero (Admit t p args ∷ es) a are is = absurd cc
 up_to d after k zero (Ask t n o ∷ es) a are is =
     let number = behind_number d after t n o es a is in
     let next = are.0 in
     record { below = omega (arith, next, number); sent = (omega (arith, number), tt) }
-up_to d after k zero (Answer t n said ∷ es) a are is = absurd cc
 up_to d after k zero (Undo t n o ∷ es) a are is =
     let number = behind_number d after t n o es a is in
     let next = are.0 in
     record { below = omega (arith, next, number); sent = (omega (arith, number), tt) }
-up_to d after k zero (End t o ∷ es) a are is = absurd cc
-up_to d after k zero (Checkpoint before numbers ∷ es) a are is = absurd cc
+up_to d after k zero (_ ∷ es) a are is = absurd cc
 up_to d after k (suc place) [] a are is = absurd cc
-up_to d after k (suc place) (Admit t p args ∷ es) a are is = (let rest = up_to d after k place es a are is in record { below = rest.below; sent = rest.sent })
 up_to d after k (suc place) (Ask t n o ∷ es) a are is =
     let rest = up_to d after (k + 1) place es a are.1 is in
     let next = are.0 in
@@ -440,11 +417,11 @@ up_to d after k (suc place) (Undo t n o ∷ es) a are is =
     let next = are.0 in
     let low = rest.below in
     record { below = omega (arith, low); sent = (omega (arith, low, next), rest.sent) }
-up_to d after k (suc place) (End t o ∷ es) a are is = (let rest = up_to d after k place es a are is in record { below = rest.below; sent = rest.sent })
 up_to d after k (suc place) (Checkpoint before numbers ∷ es) a are is =
     let rest = up_to d after numbers place es a are.1 is in
     let low = rest.below in
     record { below = omega (arith, are.0, low); sent = rest.sent }
+up_to d after k (suc place) (_ ∷ es) a are is = (let rest = up_to d after k place es a are is in record { below = rest.below; sent = rest.sent })
 
 pub begin_behind : (ps : List Checked) (h : List Event) → Legal ps h → (d after place : ℕ) (a : Answered)
     → first_in d after (drop place (reverse h)) ≡ Some a → AreSentUpTo a.number (take (place + 1) (reverse h))

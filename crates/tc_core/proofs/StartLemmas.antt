@@ -5,7 +5,7 @@ use Rattle.std.specs.Prelude.{max, reverse, replicate, slice_get, slice_set}
 use Rattle.std.proofs.lemmas.Bool.{cases_eq}
 use Rattle.std.proofs.lemmas.List.{length-replicate, length-reverse, length-set, take-append-le}
 use Rattle.tc_log.specs.declared.event.Event.{Event}
-use Rattle.tc_log.specs.declared.event.Event.TheVariants.{Admit, Ask, Answer, Undo, End, Checkpoint}
+use Rattle.tc_log.specs.declared.event.Event.TheVariants.{Ask, Undo}
 use Rattle.transactions.specs.declared.Redoing.{Redoing}
 use Rattle.transactions.specs.declared.Site.{Site}
 use Rattle.transactions.specs.InFlight.{untold}
@@ -164,12 +164,9 @@ redone_said c d x s r o there down next is =
 
 sent_up_to_more : (m n : ℕ) (es : List Event) → m ≤ n → AreSentUpTo m es → AreSentUpTo n es
 sent_up_to_more m n [] few are = tt
-sent_up_to_more m n (Admit t p args ∷ es) few are = sent_up_to_more m n es few are
 sent_up_to_more m n (Ask t k o ∷ es) few are = (omega (arith, few, are.0), sent_up_to_more m n es few are.1)
-sent_up_to_more m n (Answer t k said ∷ es) few are = sent_up_to_more m n es few are
 sent_up_to_more m n (Undo t k o ∷ es) few are = (omega (arith, few, are.0), sent_up_to_more m n es few are.1)
-sent_up_to_more m n (End t o ∷ es) few are = sent_up_to_more m n es few are
-sent_up_to_more m n (Checkpoint before numbers ∷ es) few are = sent_up_to_more m n es few are
+sent_up_to_more m n (_ ∷ es) few are = sent_up_to_more m n es few are
 
 pub looks_behind : (ps : List Checked) (sites : List Site) (starts : List ℕ) (h : List Event) → Legal ps h → AreStarts sites starts h
     → (d place : ℕ) (s : Site) (r : Redoing) → slice_get starts d ≡ Some place → slice_get sites d ≡ Some s → s.redo ≡ Some r
