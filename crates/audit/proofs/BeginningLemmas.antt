@@ -8,7 +8,7 @@ use Rattle.access_slots.specs.declared.slot.Record.{Record}
 use Rattle.access_slots.specs.Locks.{record_eq}
 use Rattle.access_slots.proofs.Records.{eq_is}
 use Rattle.tc_log.specs.declared.event.Event.{Event}
-use Rattle.tc_log.specs.declared.event.Event.TheVariants.{Admit, Ask, Answer, Undo, End, Checkpoint}
+use Rattle.tc_log.specs.declared.event.Event.TheVariants.{Checkpoint}
 use Rattle.history.specs.Anew.{begun}
 use Rattle.data_component.specs.Performed.{RecordValue}
 use Rattle.data_component.specs.Sorted.{Rows, row_of}
@@ -19,12 +19,8 @@ use Rattle.audit.specs.Joining.Based.{begun_by, or_value, row_here, rows_here}
 use Rattle.audit.proofs.ListedLemmas.{within}
 
 pub begun_next : (e : Event) (h : List Event) → begun_by e (begun h) ≡ begun (e ∷ h)
-begun_next (Admit t p args) h = refl
-begun_next (Ask t n o) h = refl
-begun_next (Answer t n said) h = refl
-begun_next (Undo t n o) h = refl
-begun_next (End t ends) h = refl
 begun_next (Checkpoint before numbers) h = refl
+begun_next _ h = refl
 
 -- ---- values, the first that there is
 

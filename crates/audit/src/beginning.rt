@@ -27,28 +27,8 @@ fn begun_with(begun: u64, event: &Entry<'_>) -> u64
     ensures { result ≡ begun_by (seen event.now) begun }
 {
     match event {
-        Entry::Admit {
-            txn: _,
-            proc: _,
-            args: _,
-        } => begun,
-        Entry::Ask {
-            txn: _,
-            number: _,
-            op: _,
-        } => begun,
-        Entry::Answer {
-            txn: _,
-            number: _,
-            said: _,
-        } => begun,
-        Entry::Undo {
-            txn: _,
-            number: _,
-            op: _,
-        } => begun,
-        Entry::End { txn: _, outcome: _ } => begun,
-        Entry::Checkpoint { admitted: _, given } => *given,
+        Entry::Checkpoint { given, .. } => *given,
+        _ => begun,
     }
 }
 

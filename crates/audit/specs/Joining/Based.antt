@@ -3,7 +3,7 @@ use Rattle.std.specs.Prelude.{◌≡◌, ℕ, ◌==◌, ◌&&◌, if◌then◌el
 use Rattle.access_slots.specs.declared.slot.Record.{Record}
 use Rattle.access_slots.specs.Locks.{record_eq}
 use Rattle.tc_log.specs.declared.event.Event.{Event}
-use Rattle.tc_log.specs.declared.event.Event.TheVariants.{Admit, Ask, Answer, Undo, End, Checkpoint}
+use Rattle.tc_log.specs.declared.event.Event.TheVariants.{Checkpoint}
 use Rattle.history.specs.Anew.{begun}
 use Rattle.history.specs.Places.{Begins}
 use Rattle.data_component.specs.Performed.{RecordValue}
@@ -11,12 +11,8 @@ use Rattle.data_component.specs.Sorted.{Rows, row_of}
 
 -- behind which number the log begins, with an event more
 abbrev pub begun_by : Event → ℕ → ℕ
-begun_by (Admit t p args) n = n
-begun_by (Ask t m o) n = n
-begun_by (Answer t m said) n = n
-begun_by (Undo t m o) n = n
-begun_by (End t ends) n = n
 begun_by (Checkpoint before numbers) n = numbers
+begun_by _ n = n
 
 pub record HasBegun (place : ℕ) (events : List Event) (found : ℕ) : Type 0 where
   pub before : List Event
