@@ -71,7 +71,6 @@ LegalCore c = Legal c.procs c.events
 
 closed : (ps : List Checked) (h : List Event) (n : ℕ) (a : Answered) → Legal ps h → answered h n ≡ Some a → is_open h n ≡ false
 closed ps [] n a legal is = refl
-closed ps (event.Admit t p args ∷ h) n a legal is = closed ps h n a legal.1 is
 closed ps (event.Ask t m q ∷ h) n a legal is =
     closed_sent (given h) n m (record { txn = t; op = q }) (open_op h n) (answered_given ps h legal.1 n a is) legal.0.next (closed ps h n a legal.1 is)
 closed ps (event.Answer t m said ∷ h) n a legal is = elim (cases_eq m n) [
@@ -80,8 +79,7 @@ closed ps (event.Answer t m said ∷ h) n a legal is = elim (cases_eq m n) [
 ]
 closed ps (event.Undo t m q ∷ h) n a legal is =
     closed_sent (given h) n m (record { txn = t; op = q }) (open_op h n) (answered_given ps h legal.1 n a is) legal.0.next (closed ps h n a legal.1 is)
-closed ps (event.End t o ∷ h) n a legal is = closed ps h n a legal.1 is
-closed ps (event.Checkpoint before numbers ∷ h) n a legal is = absurd (none_some _ a (ap (λ (x : List Event). answered x n) legal.0.oldest) is)
+closed ps (_ ∷ h) n a legal is = closed ps h n a legal.1 is
 
 done_is : (d : ℕ) (o : Option Answered) (a : Answered) → if_done_at d o ≡ Some a → o ≡ Some a
 done_is d None a is = absurd cc

@@ -8,7 +8,7 @@ use Rattle.access_slots.specs.declared.op.Said.{Said}
 use Rattle.access_slots.specs.declared.op.Wire.{Wire}
 use Rattle.access_slots.specs.Locks.{target}
 use Rattle.tc_log.specs.declared.event.Event.{Event}
-use Rattle.tc_log.specs.declared.event.Event.TheVariants.{Admit, Ask, Answer, Undo, End, Checkpoint}
+use Rattle.tc_log.specs.declared.event.Event.TheVariants.{Answer, Checkpoint}
 use Rattle.verifier.specs.Checked.{Checked}
 use Rattle.history.specs.Flight.{Flight, open_op, is_flight, low_water}
 use Rattle.history.specs.Anew.{begun}
@@ -122,28 +122,20 @@ none_behind (e ∷ later) first is = absurd cc
 -- a log's first events begin behind the same number, or there are none
 pub begun_either : (ps : List Checked) (later first : List Event) → Legal ps (later ++ first) → (begun (later ++ first) ≡ begun first) ⊎ (first ≡ [])
 begun_either ps [] first legal = inl refl
-begun_either ps (Admit t p args ∷ later) first legal = begun_either ps later first legal.1
-begun_either ps (Ask t n o ∷ later) first legal = begun_either ps later first legal.1
-begun_either ps (Answer t n said ∷ later) first legal = begun_either ps later first legal.1
-begun_either ps (Undo t n o ∷ later) first legal = begun_either ps later first legal.1
-begun_either ps (End t ends ∷ later) first legal = begun_either ps later first legal.1
 begun_either ps (Checkpoint before numbers ∷ later) first legal = inr (none_behind later first legal.0.oldest)
+begun_either ps (_ ∷ later) first legal = begun_either ps later first legal.1
 
 -- a log's first events begin behind the same number, where their mark isn't below it: they have the Checkpoint, or
 -- there is none
 pub begun_first : (ps : List Checked) (later first : List Event) → Legal ps (later ++ first)
     → begun (later ++ first) ≤ low_water first → begun (later ++ first) ≡ begun first
 begun_first ps [] first legal low = refl
-begun_first ps (Admit t p args ∷ later) first legal low = begun_first ps later first legal.1 low
-begun_first ps (Ask t n o ∷ later) first legal low = begun_first ps later first legal.1 low
-begun_first ps (Answer t n said ∷ later) first legal low = begun_first ps later first legal.1 low
-begun_first ps (Undo t n o ∷ later) first legal low = begun_first ps later first legal.1 low
-begun_first ps (End t ends ∷ later) first legal low = begun_first ps later first legal.1 low
 begun_first ps (Checkpoint before numbers ∷ later) first legal low =
     let none : first ≡ [] = none_behind later first legal.0.oldest in
     let few : numbers ≤ 0 = subst (λ (x : List Event). numbers ≤ low_water x) none low in
     let zero : begun first ≡ 0 = ap begun none in
     omega (arith, few, zero)
+begun_first ps (_ ∷ later) first legal low = begun_first ps later first legal.1 low
 
 -- ---- a log that has just begun
 
@@ -167,12 +159,8 @@ module _ (base other : Table) (same : (r : Record) → base r ≡ other r) where
 
   pub honest_same : (h : List Event) → HonestFrom base h → HonestFrom other h
   honest_same [] honest = tt
-  honest_same (Admit t p args ∷ h) honest = (tt, honest_same h honest.1)
-  honest_same (Ask t n o ∷ h) honest = (tt, honest_same h honest.1)
   honest_same (Answer t n said ∷ h) honest = (to_same (open_op h n) said (now_from base h) (now_from other h) (over (done h)) honest.0, honest_same h honest.1)
-  honest_same (Undo t n o ∷ h) honest = (tt, honest_same h honest.1)
-  honest_same (End t ends ∷ h) honest = (tt, honest_same h honest.1)
-  honest_same (Checkpoint before numbers ∷ h) honest = (tt, honest_same h honest.1)
+  honest_same (_ ∷ h) honest = (tt, honest_same h honest.1)
 
   pub beside_same : (lg : ℕ → Option Op) (fl : ℕ → Option Flight) (dn : List Performed) (d : ℕ) (list : List Performed)
       → Beside base lg fl dn d list → Beside other lg fl dn d list

@@ -5,22 +5,19 @@ use Rattle.std.proofs.lemmas.Bool.{cases_eq}
 use Rattle.std.proofs.lemmas.List.{reverse-append, length-reverse}
 use Rattle.verifier.specs.Checked.{Checked}
 use Rattle.tc_log.specs.declared.event.Event.{Event}
-use Rattle.tc_log.specs.declared.event.Event.TheVariants.{Admit, Ask, Answer, Undo, End, Checkpoint}
+use Rattle.tc_log.specs.declared.event.Event.TheVariants.{Admit, Checkpoint}
 use Rattle.history.specs.Calls.{admitted, txn_of}
 use Rattle.transactions.specs.Legal.{Legal}
 use Rattle.transactions.specs.Standing.{Standing, standing}
-use Rattle.transactions.proofs.StandingLemmas.{none_some, standing-other, standing-checkpoint}
+use Rattle.transactions.proofs.StandingLemmas.{none_some, standing-other, standing-kept}
 use Rattle.tc_world.specs.Beginning.{stands_for, admitted_before}
 use Rattle.tc_world.proofs.Bases.{none_behind}
 
 pub before_admitted : (ps : List Checked) (h : List Event) → Legal ps h → admitted_before h ≤ admitted h
 before_admitted ps [] legal = omega arith
 before_admitted ps (Admit t p args ∷ h) legal = (let few = before_admitted ps h legal.1 in omega (arith, few))
-before_admitted ps (Ask t n o ∷ h) legal = before_admitted ps h legal.1
-before_admitted ps (Answer t n said ∷ h) legal = before_admitted ps h legal.1
-before_admitted ps (Undo t n o ∷ h) legal = before_admitted ps h legal.1
-before_admitted ps (End t ends ∷ h) legal = before_admitted ps h legal.1
 before_admitted ps (Checkpoint before numbers ∷ h) legal = omega arith
+before_admitted ps (_ ∷ h) legal = before_admitted ps h legal.1
 
 still_none : (h : List Event) (e : Event) (t : ℕ) (s : Standing) → standing h (txn_of e) ≡ Some s → standing h t ≡ None
     → standing (e ∷ h) t ≡ None
@@ -37,29 +34,19 @@ none_before ps (Admit u p args ∷ h) legal t low =
     let few = before_admitted ps h legal.1 in
     standing-other (Admit u p args) h t (λ own. absurd (omega (arith, next, few, low, own)))
     ∙ none_before ps h legal.1 t low
-none_before ps (Ask u n o ∷ h) legal t low =
-    still_none h (Ask u n o) t legal.0.s legal.0.is (none_before ps h legal.1 t low)
-none_before ps (Answer u n said ∷ h) legal t low =
-    still_none h (Answer u n said) t legal.0.s legal.0.is (none_before ps h legal.1 t low)
-none_before ps (Undo u n o ∷ h) legal t low =
-    still_none h (Undo u n o) t legal.0.s legal.0.is (none_before ps h legal.1 t low)
-none_before ps (End u ends ∷ h) legal t low =
-    still_none h (End u ends) t legal.0.s legal.0.is (none_before ps h legal.1 t low)
 none_before ps (Checkpoint before numbers ∷ h) legal t low =
-    standing-checkpoint before numbers h t ∙ ap (λ (x : List Event). standing x t) legal.0.oldest
+    standing-kept (Checkpoint before numbers) h t (λ was. refl) ∙ ap (λ (x : List Event). standing x t) legal.0.oldest
+none_before ps (e ∷ h) legal t low = still_none h e t legal.0.s legal.0.is (none_before ps h legal.1 t low)
 
 -- a log's first events admitted no more since it began
 pub fewer_since : (ps : List Checked) (later first : List Event) → Legal ps (later ++ first)
     → admitted first + admitted_before (later ++ first) ≤ admitted (later ++ first) + admitted_before first
 fewer_since ps [] first legal = omega arith
 fewer_since ps (Admit t p args ∷ later) first legal = (let ih = fewer_since ps later first legal.1 in omega (arith, ih))
-fewer_since ps (Ask t n o ∷ later) first legal = fewer_since ps later first legal.1
-fewer_since ps (Answer t n said ∷ later) first legal = fewer_since ps later first legal.1
-fewer_since ps (Undo t n o ∷ later) first legal = fewer_since ps later first legal.1
-fewer_since ps (End t ends ∷ later) first legal = fewer_since ps later first legal.1
 fewer_since ps (Checkpoint before numbers ∷ later) first legal =
     let none : admitted first ≡ 0 = ap admitted (none_behind later first legal.0.oldest) in
     omega (arith, none)
+fewer_since ps (_ ∷ later) first legal = fewer_since ps later first legal.1
 
 -- ---- the oldest event
 
@@ -74,18 +61,10 @@ oldest (e ∷ d ∷ h) = oldest (d ∷ h)
 
 oldest_before : (ps : List Checked) (h : List Event) → Legal ps h → admitted_before h ≡ before_in (oldest h)
 oldest_before ps [] legal = refl
-oldest_before ps (Admit t p args ∷ []) legal = refl
-oldest_before ps (Ask t n o ∷ []) legal = refl
-oldest_before ps (Answer t n said ∷ []) legal = refl
-oldest_before ps (Undo t n o ∷ []) legal = refl
-oldest_before ps (End t ends ∷ []) legal = refl
 oldest_before ps (Checkpoint before numbers ∷ []) legal = refl
-oldest_before ps (Admit t p args ∷ d ∷ h) legal = oldest_before ps (d ∷ h) legal.1
-oldest_before ps (Ask t n o ∷ d ∷ h) legal = oldest_before ps (d ∷ h) legal.1
-oldest_before ps (Answer t n said ∷ d ∷ h) legal = oldest_before ps (d ∷ h) legal.1
-oldest_before ps (Undo t n o ∷ d ∷ h) legal = oldest_before ps (d ∷ h) legal.1
-oldest_before ps (End t ends ∷ d ∷ h) legal = oldest_before ps (d ∷ h) legal.1
+oldest_before ps (_ ∷ []) legal = refl
 oldest_before ps (Checkpoint before numbers ∷ d ∷ h) legal = absurd (let bad : d ∷ h ≡ [] = legal.0.oldest in cc)
+oldest_before ps (_ ∷ d ∷ h) legal = oldest_before ps (d ∷ h) legal.1
 
 front_of : (xs ys : List Event) → 0 < length xs → slice_get (xs ++ ys) 0 ≡ slice_get xs 0
 front_of [] ys some = absurd (omega (arith, some))

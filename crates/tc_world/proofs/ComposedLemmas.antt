@@ -8,7 +8,7 @@ use Rattle.access_slots.specs.declared.op.Said.{Said}
 use Rattle.access_slots.proofs.Records.{eq_is}
 use Rattle.verifier.specs.Checked.{Checked}
 use Rattle.tc_log.specs.declared.event.Event.{Event}
-use Rattle.tc_log.specs.declared.event.Event.TheVariants.{Admit, Ask, Answer, Undo, End, Checkpoint}
+use Rattle.tc_log.specs.declared.event.Event.TheVariants.{End}
 use Rattle.tc_log.specs.declared.event.Outcome.{Outcome as Ending}
 use Rattle.tc_log.specs.declared.event.Outcome.TheVariants as ending
 use Rattle.history.specs.Calls.{Call, open_call, held}
@@ -91,14 +91,10 @@ module _ (ps : List Checked) (base other : Table) (same : (r : Record) → base 
 
   pub serial_same : (h : List Event) (r : Record) → serial_from ps base h r ≡ serial_from ps other h r
   serial_same [] r = same r
-  serial_same (Admit t p args ∷ h) r = serial_same h r
-  serial_same (Ask t n o ∷ h) r = serial_same h r
-  serial_same (Answer t n said ∷ h) r = serial_same h r
-  serial_same (Undo t n o ∷ h) r = serial_same h r
   serial_same (End t how ∷ h) r =
       left_same how _ _ (serial_from ps base h) (serial_from ps other h)
       (call_same (open_call h t) (serial_from ps base h) (serial_from ps other h) (serial_same h)) (serial_same h) r
-  serial_same (Checkpoint before numbers ∷ h) r = serial_same h r
+  serial_same (_ ∷ h) r = serial_same h r
 
   end_by : (how : Ending) (a b : Ran) → SameRan a b → EndsAs how a → EndsAs how b
   end_by ending.Committed a b ran is = sym ran.value ∙ is
@@ -106,12 +102,8 @@ module _ (ps : List Checked) (base other : Table) (same : (r : Record) → base 
   end_by ending.NoRoom a b ran is = tt
 
   end_same : (h : List Event) (e : Event) → EndsSoFrom ps base h e → EndsSoFrom ps other h e
-  end_same h (Admit t p args) is = tt
-  end_same h (Ask t n o) is = tt
-  end_same h (Answer t n said) is = tt
-  end_same h (Undo t n o) is = tt
   end_same h (End t how) is = end_by how _ _ (call_same (open_call h t) (serial_from ps base h) (serial_from ps other h) (serial_same h)) is
-  end_same h (Checkpoint before numbers) is = tt
+  end_same h _ is = tt
 
   pub ends_same : (h : List Event) → EndsAsSerialFrom ps base h → EndsAsSerialFrom ps other h
   ends_same [] ends = tt

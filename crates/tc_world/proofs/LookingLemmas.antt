@@ -10,16 +10,15 @@ use Rattle.std.proofs.lemmas.List.{reverse-append, length-reverse}
 use Rattle.std.proofs.lemmas.List.Folds.{list_all-append, list_any-append}
 use Rattle.std.proofs.lemmas.List.Sums.{sum_by-append}
 use Rattle.tc_log.specs.declared.event.Event.{Event}
-use Rattle.tc_log.specs.declared.event.Event.TheVariants.{Admit, Ask, Answer, Undo, End, Checkpoint}
+use Rattle.tc_log.specs.declared.event.Event.TheVariants.{Ask, Answer, Undo, Checkpoint}
 use Rattle.verifier.specs.Checked.{Checked}
 use Rattle.history.specs.Flight.{Flight, given, open_op, is_flight, is_open, low_water, AllAnswered}
 use Rattle.history.proofs.Laws.{low_water_is}
 use Rattle.transactions.specs.Legal.{Legal}
 use Rattle.transactions.proofs.StandingLemmas.{eq-true, eq-false}
 use Rattle.transactions.proofs.Flights.{standing_flight}
-use Rattle.transactions.proofs.LowWater.{flight_some}
+use Rattle.transactions.proofs.LowWater.{given_more, flight_some}
 use Rattle.serial.proofs.ListLemmas.{if_none, if_some}
-use Rattle.serial.proofs.BackLemmas.{given_more}
 use Rattle.tc_core.specs.Core.{Asking}
 use Rattle.tc_world.specs.Waiting.{asking_by, request_of, AreWaiting}
 use Rattle.history.specs.Anew.{begun}
@@ -74,15 +73,11 @@ count_last h e = ap (count_by gives) (reverse-append (e ∷ []) h) ∙ sum_by-ap
 
 pub given_is : (ps : List Checked) (h : List Event) → Legal ps h → count_by gives (reverse h) + begun h ≡ given h
 given_is ps [] legal = refl
-given_is ps (Admit t p args ∷ h) legal = (let one = count_last h (Admit t p args) in let ih = given_is ps h legal.1 in omega (arith, one, ih))
-given_is ps (Ask t n o ∷ h) legal = (let one = count_last h (Ask t n o) in let ih = given_is ps h legal.1 in omega (arith, one, ih))
-given_is ps (Answer t n said ∷ h) legal = (let one = count_last h (Answer t n said) in let ih = given_is ps h legal.1 in omega (arith, one, ih))
-given_is ps (Undo t n o ∷ h) legal = (let one = count_last h (Undo t n o) in let ih = given_is ps h legal.1 in omega (arith, one, ih))
-given_is ps (End t o ∷ h) legal = (let one = count_last h (End t o) in let ih = given_is ps h legal.1 in omega (arith, one, ih))
 given_is ps (Checkpoint before numbers ∷ h) legal =
     let one = count_last h (Checkpoint before numbers) in
     let none : count_by gives (reverse h) ≡ 0 = ap (λ (x : List Event). count_by gives (reverse x)) legal.0.oldest in
     omega (arith, one, none)
+given_is ps (e ∷ h) legal = (let one = count_last h e in let ih = given_is ps h legal.1 in omega (arith, one, ih))
 
 given_some : (b : ℕ) (es : List Event) → 0 < length es → given_of b es ≡ b + count_by gives es
 given_some b [] some = absurd (omega (arith, some))
@@ -90,14 +85,10 @@ given_some b (e ∷ es) some = refl
 
 begun_same : (ps : List Checked) (later first : List Event) → Legal ps (later ++ first) → 0 < length first → begun (later ++ first) ≡ begun first
 begun_same ps [] first legal some = refl
-begun_same ps (Admit t p args ∷ later) first legal some = begun_same ps later first legal.1 some
-begun_same ps (Ask t n o ∷ later) first legal some = begun_same ps later first legal.1 some
-begun_same ps (Answer t n said ∷ later) first legal some = begun_same ps later first legal.1 some
-begun_same ps (Undo t n o ∷ later) first legal some = begun_same ps later first legal.1 some
-begun_same ps (End t o ∷ later) first legal some = begun_same ps later first legal.1 some
 begun_same ps (Checkpoint before numbers ∷ later) first legal some =
     let none : length first ≡ 0 = ap (λ (x : List Event). length x) (none_behind later first legal.0.oldest) in
     absurd (omega (arith, none, some))
+begun_same ps (_ ∷ later) first legal some = begun_same ps later first legal.1 some
 
 pub given_first : (ps : List Checked) (later first : List Event) → Legal ps (later ++ first) → given_of (begun (later ++ first)) (reverse first) ≡ given first
 given_first ps later [] legal = refl
@@ -131,7 +122,6 @@ answered_later n m o b c flies ih = elim (cases_eq m n) [
 open_first : (ps : List Checked) (later first : List Event) (n : ℕ) → Legal ps (later ++ first) → n ≤ given first
     → is_open first n ≡ (is_open (later ++ first) n || list_any (answers n) later)
 open_first ps [] first n legal low = sym (or-false (is_open first n))
-open_first ps (Admit t p args ∷ later) first n legal low = open_first ps later first n legal.1 low
 open_first ps (Ask t m q ∷ later) first n legal low =
     let more = given_more ps later first legal.1 in
     sent_later n m (given (later ++ first)) (record { txn = t; op = q }) (open_op (later ++ first) n) (is_open first n) (list_any (answers n) later)
@@ -147,8 +137,7 @@ open_first ps (Undo t m q ∷ later) first n legal low =
     let more = given_more ps later first legal.1 in
     sent_later n m (given (later ++ first)) (record { txn = t; op = q }) (open_op (later ++ first) n) (is_open first n) (list_any (answers n) later)
     (omega (arith, low, more)) legal.0.next (open_first ps later first n legal.1 low)
-open_first ps (End t o ∷ later) first n legal low = open_first ps later first n legal.1 low
-open_first ps (Checkpoint before numbers ∷ later) first n legal low = open_first ps later first n legal.1 low
+open_first ps (_ ∷ later) first n legal low = open_first ps later first n legal.1 low
 
 abbrev is_asking : Option Asking → Bool
 is_asking None = false
@@ -192,12 +181,8 @@ above_less : (m low n : ℕ) → m ≤ low → m < n → m ≤ below low n
 above_less m low n le less = le-min le (omega (arith, less))
 
 pub event_le : (low : ℕ) (e : Event) → below_event low e ≤ low
-event_le low (Admit t p args) = omega arith
-event_le low (Ask t n o) = omega arith
 event_le low (Answer t n said) = below_le low n
-event_le low (Undo t n o) = omega arith
-event_le low (End t o) = omega arith
-event_le low (Checkpoint before numbers) = omega arith
+event_le low _ = omega arith
 
 events_le : (es : List Event) (low : ℕ) → fold below_event low es ≤ low
 events_le [] low = omega arith
@@ -208,15 +193,11 @@ requests_le [] low = omega arith
 requests_le (r ∷ rs) low = (let ih = requests_le rs (below_request low r) in let one = below_le low r.number in omega (arith, ih, one))
 
 event_less : (low n : ℕ) (e : Event) → answers n e ≡ true → 0 < n → below_event low e < n
-event_less low n (Admit t p args) is some = absurd cc
-event_less low n (Ask t m o) is some = absurd cc
 event_less low n (Answer t m said) is some = elim (cases_eq m n) [
   | inl same ↦ (let less = below_less low m (omega (arith, same, some)) in omega (arith, less, same))
   | inr other ↦ absurd (let bad : true ≡ false = sym is ∙ eq-false m n other in cc)
 ]
-event_less low n (Undo t m o) is some = absurd cc
-event_less low n (End t o) is some = absurd cc
-event_less low n (Checkpoint before numbers) is some = absurd cc
+event_less low n _ is some = absurd cc
 
 events_less : (es : List Event) (low n : ℕ) → list_any (answers n) es ≡ true → 0 < n → fold below_event low es < n
 events_less [] low n is some = absurd cc
@@ -237,12 +218,8 @@ requests_less (r ∷ rs) low n is some = elim (cases_eq r.number n) [
 ]
 
 event_above : (m low : ℕ) (e : Event) → m ≤ low → ((n : ℕ) → answers n e ≡ true → m < n) → m ≤ below_event low e
-event_above m low (Admit t p args) le above = le
-event_above m low (Ask t n o) le above = le
 event_above m low (Answer t n said) le above = above_less m low n le (above n (eq-true n n refl))
-event_above m low (Undo t n o) le above = le
-event_above m low (End t o) le above = le
-event_above m low (Checkpoint before numbers) le above = le
+event_above m low _ le above = le
 
 or_left : (a b : Bool) → a ≡ true → (a || b) ≡ true
 or_left a b is = ap (λ (x : Bool). x || b) is

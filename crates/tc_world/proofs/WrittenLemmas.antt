@@ -25,13 +25,13 @@ use Rattle.transactions.specs.declared.Site.{Site}
 use Rattle.transactions.specs.InFlight.{site_of}
 use Rattle.transactions.specs.Standing.{Standing, standing}
 use Rattle.transactions.specs.Legal.{Legal}
-use Rattle.transactions.proofs.LowWater.{mark_rises}
+use Rattle.transactions.proofs.LowWater.{given_more, mark_rises}
 use Rattle.data_component.specs.Performed.{Performed}
 use Rattle.data_component.specs.Store.{Store, Fate as Becomes, IsOld, Again, Silent, New, marked, fate_of, store_by, replied, performed, checkpointed, restarted, news_of}
 use Rattle.serial.proofs.ListLemmas.{if_none, if_some}
 use Rattle.serial.proofs.StoreLemmas.{PerformCase, old, silent, again, news, perform_case, says}
 use Rattle.serial.proofs.WireLemmas.{reply_facts}
-use Rattle.serial.proofs.BackLemmas.{given_more, legal_first}
+use Rattle.serial.proofs.BackLemmas.{legal_first}
 use Rattle.tc_core.specs.Core.{Core}
 use Rattle.tc_core.specs.Replies.{with_event, ask_reply, after_ask, undo_reply, after_undo, end_of, is_heard}
 use Rattle.tc_core.specs.Lent.{wire_of}
@@ -381,7 +381,6 @@ closed_answered n m o closed = elim (cases_eq m n) [
 closed_more : (ps : List Checked) (later first : List Event) (n : ℕ) → Legal ps (later ++ first) → n ≤ given first
     → is_open first n ≡ false → is_open (later ++ first) n ≡ false
 closed_more ps [] first n legal low closed = closed
-closed_more ps (event.Admit t p args ∷ later) first n legal low closed = closed_more ps later first n legal.1 low closed
 closed_more ps (event.Ask t m q ∷ later) first n legal low closed =
     let more = given_more ps later first legal.1 in
     closed_sent (given (later ++ first)) n m (record { txn = t; op = q }) (open_op (later ++ first) n)
@@ -392,8 +391,7 @@ closed_more ps (event.Undo t m q ∷ later) first n legal low closed =
     let more = given_more ps later first legal.1 in
     closed_sent (given (later ++ first)) n m (record { txn = t; op = q }) (open_op (later ++ first) n)
     (omega (arith, low, more)) legal.0.next (closed_more ps later first n legal.1 low closed)
-closed_more ps (event.End t o ∷ later) first n legal low closed = closed_more ps later first n legal.1 low closed
-closed_more ps (event.Checkpoint before numbers ∷ later) first n legal low closed = closed_more ps later first n legal.1 low closed
+closed_more ps (_ ∷ later) first n legal low closed = closed_more ps later first n legal.1 low closed
 
 pub wire_more : (ps : List Checked) (first more : List Event) (x : Wire) → Legal ps more → Begins first more → IsWrittenFor first x → IsWrittenFor more x
 wire_more ps first more x legal begins ready =
