@@ -3,7 +3,7 @@ use Rattle.std.proofs.Common.{◌≡◌, ◌⊎◌, ℕ, Bool, true, false, not,
 use Rattle.std.proofs.lemmas.Bool.{cases_eq}
 use Rattle.request_numbers.specs.Given.{holds, others}
 use Rattle.tc_log.specs.declared.event.Event.{Event}
-use Rattle.tc_log.specs.declared.event.Event.TheVariants.{Admit, Ask, Answer, Undo, End, Checkpoint}
+use Rattle.tc_log.specs.declared.event.Event.TheVariants.{Answer}
 use Rattle.tc_core.specs.Core.{Core, Asking}
 use Rattle.tc_core.specs.Doubts.{with_number_by, given_up_behind}
 use Rattle.tc_core.specs.GivingUp.{IsOpenHere, with_given_up}
@@ -38,12 +38,8 @@ others_join n (m ∷ a) b = by (not (m == n)) (others n (a ++ b)) (others n a) (
 
 -- what begins with others does so behind an event
 pub begin_behind : (e : Event) (first ns : List ℕ) → BeginWith first ns → BeginWith (given_up_behind e first) (given_up_behind e ns)
-begin_behind (Admit t p args) first ns b = b
-begin_behind (Ask t n o) first ns b = b
 begin_behind (Answer t n said) first ns b = record { later = others n b.later; is = ap (others n) b.is ∙ others_join n first b.later }
-begin_behind (Undo t n o) first ns b = b
-begin_behind (End t o) first ns b = b
-begin_behind (Checkpoint before numbers) first ns b = b
+begin_behind _ first ns b = b
 
 -- ---- a request that is given up
 

@@ -7,7 +7,7 @@ use Rattle.std.proofs.lemmas.Bool.{cases_eq}
 use Rattle.access_slots.specs.Held.{excludes}
 use Rattle.access_slots.specs.declared.slot.Mode.{Mode}
 use Rattle.tc_log.specs.declared.event.Event.{Event}
-use Rattle.tc_log.specs.declared.event.Event.TheVariants.{Admit, Ask, Answer, Undo, End, Checkpoint}
+use Rattle.tc_log.specs.declared.event.Event.TheVariants.{Admit, End}
 use Rattle.history.specs.Calls.{Call, admitted, open_call, locks_of, held_for}
 use Rattle.history.specs.Flight.{given}
 use Rattle.history.specs.Places.{StandsAt, Begins}
@@ -52,15 +52,12 @@ open_admitted (Admit u p args ∷ h) t call is =
           (record { place = length h; at = stands_here h (Admit u p args) }))
       | inr other ↦ later_admitted h (Admit u p args) t call (open_admitted h t call (rw (eq-false u t other) at is))
     ]
-open_admitted (Ask u n o ∷ h) t call is = later_admitted h (Ask u n o) t call (open_admitted h t call is)
-open_admitted (Answer u n said ∷ h) t call is = later_admitted h (Answer u n said) t call (open_admitted h t call is)
-open_admitted (Undo u n o ∷ h) t call is = later_admitted h (Undo u n o) t call (open_admitted h t call is)
-open_admitted (Checkpoint before numbers ∷ h) t call is = later_admitted h (Checkpoint before numbers) t call (open_admitted h t call is)
 open_admitted (End u o ∷ h) t call is =
     elim (cases_eq u t) [
       | inl own ↦ absurd (let bad : None ≡ Some call = rw (eq-true u t own) at is in cc)
       | inr other ↦ later_admitted h (End u o) t call (open_admitted h t call (rw (eq-false u t other) at is))
     ]
+open_admitted (e ∷ h) t call is = later_admitted h e t call (open_admitted h t call is)
 
 no_exclude : (wanted : Option Mode) → excludes wanted None ≡ true → ⊥
 no_exclude None is = cc
