@@ -2,7 +2,7 @@
 use Rattle.std.proofs.Common.{◌≡◌, ℕ, ◌+◌, ◌<◌, List, [], ◌∷◌, ◌++◌, length, Option, Some, None, arith, refl, sym, ◌∙◌, ap, subst, append_assoc}
 use Rattle.std.proofs.lemmas.List.{append-nil}
 use Rattle.tc_log.specs.declared.event.Event.{Event}
-use Rattle.tc_log.specs.declared.event.Event.TheVariants.{Admit, Ask, Answer, Undo, End, Checkpoint}
+use Rattle.tc_log.specs.declared.event.Event.TheVariants.{Admit}
 use Rattle.verifier.specs.Checked.{Checked}
 use Rattle.history.specs.Places.{StandsAt, Begins}
 use Rattle.transactions.specs.Legal.{Legal}
@@ -41,8 +41,4 @@ before_admission ps h place e t at admits legal = by e (legal_at ps h place e at
     by : (x : Event) → Legal ps (x ∷ first_events place h) → IsAdmission x t → standing (first_events place h) t ≡ None
     by (Admit u p args) legal' same =
         standing-above ps (first_events place h) legal'.1 t (let next = legal'.0.next in omega (arith, next, same))
-    by (Ask u n o) legal' admits = absurd admits
-    by (Answer u n said) legal' admits = absurd admits
-    by (Undo u n o) legal' admits = absurd admits
-    by (End u o) legal' admits = absurd admits
-    by (Checkpoint before numbers) legal' admits = absurd admits
+    by _ legal' admits = absurd admits
