@@ -7,7 +7,7 @@ use Rattle.std.proofs.lemmas.Bool.Decides.{nat_tests}
 use Rattle.access_slots.specs.declared.op.Op.{Op}
 use Rattle.access_slots.specs.declared.op.Said.{Said}
 use Rattle.tc_log.specs.declared.event.Event.{Event}
-use Rattle.tc_log.specs.declared.event.Event.TheVariants.{Admit, Ask, Answer, Undo, End, Checkpoint}
+use Rattle.tc_log.specs.declared.event.Event.TheVariants.{Admit, Ask, Answer, Undo, End}
 use Rattle.tc_log.specs.declared.event.Outcome.{Outcome}
 use Rattle.tc_log.specs.declared.event.Outcome.TheVariants as outcome
 use Rattle.history.specs.Calls.{Call, txn_of}
@@ -99,8 +99,8 @@ spoke_moved first h (Undo u n o) t (Some q) s low own is before =
     subst (λ (v : ℕ). StandsBehind first (Undo u n o ∷ h) (length h) (Undo v s.last o)) own
     (subst (λ (m : ℕ). StandsBehind first (Undo u n o ∷ h) (length h) (Undo u m o)) last (record { behind = low; stands = stands_here h (Undo u n o) })) in
     Sent_last (Undoes (length h) o here) (λ r waits. some_number _ r (ap (λ (x : Standing). x.sent) same ∙ waits) ∙ last)
-spoke_moved first h (Checkpoint admissions numbers) t was s low own is before = spoke_more first h (Checkpoint admissions numbers) t s (before s is)
 spoke_moved first h (End u o) t was s low own is before = absurd (let bad : None ≡ Some s = is in cc)
+spoke_moved first h e t was s low own is before = spoke_more first h e t s (before s is)
 
 -- the events behind an admission
 spoke_behind : (first later earlier : List Event) (t p : ℕ) (args : List ℕ) (s : Standing) → length first ≤ length earlier
