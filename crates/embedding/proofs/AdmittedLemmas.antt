@@ -9,7 +9,7 @@ use Rattle.access_slots.specs.Declaration.{Declaration}
 use Rattle.access_slots.specs.Locks.{mode_in, AreLocksOf, Rising}
 use Rattle.verifier.specs.Checked.{Checked}
 use Rattle.tc_log.specs.declared.event.Event.{Event}
-use Rattle.tc_log.specs.declared.event.Event.TheVariants.{Admit, Ask, Answer, Undo, End, Checkpoint}
+use Rattle.tc_log.specs.declared.event.Event.TheVariants.{Admit, Ask, Answer, Undo, End}
 use Rattle.history.specs.Calls.{Call, admitted, held, locks_by, locks_of, txn_of}
 use Rattle.history.proofs.Placing.{placed}
 use Rattle.tc_core.specs.Core.{Core}
@@ -19,7 +19,7 @@ use Rattle.transactions.specs.Legal.{Legal, Allowed, CanAdmit}
 use Rattle.transactions.specs.Reached.{decls}
 use Rattle.transactions.proofs.Headline.{held_is}
 use Rattle.transactions.proofs.Running.{get_decl}
-use Rattle.transactions.proofs.StandingLemmas.{some_same, none_some, standing-same, standing-other}
+use Rattle.transactions.proofs.StandingLemmas.{some_same, none_some, standing-same, standing-other, admitted_grows}
 
 -- each event was allowed where it stands
 allowed_at : (ps : List Checked) (later earlier : List Event) (e : Event) → Legal ps (later ++ e ∷ earlier) → Allowed ps earlier e
@@ -36,16 +36,10 @@ admitted_so ps h legal place t p args at =
 numbered : (ps : List Checked) (later earlier : List Event) (t p : ℕ) (args : List ℕ)
     → Legal ps (later ++ Admit t p args ∷ earlier) → t ≤ admitted (later ++ Admit t p args ∷ earlier)
 numbered ps [] earlier t p args legal = let next = legal.0.next in omega (arith, next)
-numbered ps (Admit u q xs ∷ later) earlier t p args legal = let before = numbered ps later earlier t p args legal.1 in omega (arith, before)
-numbered ps (Ask u n o ∷ later) earlier t p args legal = numbered ps later earlier t p args legal.1
-numbered ps (Answer u n said ∷ later) earlier t p args legal = numbered ps later earlier t p args legal.1
-numbered ps (Undo u n o ∷ later) earlier t p args legal = numbered ps later earlier t p args legal.1
-numbered ps (End u o ∷ later) earlier t p args legal = numbered ps later earlier t p args legal.1
-numbered ps (Checkpoint before numbers ∷ later) earlier t p args legal = by later legal.0.oldest
-  where
-    by : (xs : List Event) → xs ++ Admit t p args ∷ earlier ≡ [] → t ≤ admitted (Checkpoint before numbers ∷ xs ++ Admit t p args ∷ earlier)
-    by [] bad = absurd (let nothing : Admit t p args ∷ earlier ≡ [] = bad in cc)
-    by (x ∷ xs) bad = absurd (let nothing : x ∷ (xs ++ Admit t p args ∷ earlier) ≡ [] = bad in cc)
+numbered ps (e ∷ later) earlier t p args legal =
+    let before = numbered ps later earlier t p args legal.1 in
+    let more = admitted_grows ps (later ++ Admit t p args ∷ earlier) e legal.0 in
+    omega (arith, before, more)
 
 -- what an event other than an admission leaves of a transaction's call
 same_call : (e : Event) (was : Option Standing) (s : Standing) → ((u q : ℕ) (xs : List ℕ) → e ≢ Admit u q xs) → moved e was ≡ Some s
@@ -58,7 +52,7 @@ same_call (Answer u n said) (Some v) s apart is = (v, refl, ap (λ (x : Standing
 same_call (Undo u n o) None s apart is = absurd (let bad : None ≡ Some s = is in cc)
 same_call (Undo u n o) (Some v) s apart is = (v, refl, ap (λ (x : Standing). x.call) (some_same _ s is))
 same_call (End u o) was s apart is = absurd (let bad : None ≡ Some s = is in cc)
-same_call (Checkpoint before numbers) was s apart is = (s, is, refl)
+same_call _ was s apart is = (s, is, refl)
 
 -- an admission behind it is of another transaction
 is_other : (ps : List Checked) (e : Event) (later earlier : List Event) (t p : ℕ) (args : List ℕ)
