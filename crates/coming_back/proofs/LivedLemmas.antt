@@ -259,7 +259,6 @@ answered_done h n m a is = done_answered n (answered h m) a is
 -- what was answered isn't open
 pub closed_by : (ps : List Checked) (h : List Event) → Legal ps h → (n : ℕ) (a : Answered) → answered h n ≡ Some a → open_op h n ≡ None
 closed_by ps [] legal n a is = absurd cc
-closed_by ps (event.Admit t p args ∷ h) legal n a is = closed_by ps h legal.1 n a is
 closed_by ps (event.Ask t m o ∷ h) legal n a is =
     let few = answered_given ps h legal.1 n a is in
     let next = legal.0.next in
@@ -272,8 +271,7 @@ closed_by ps (event.Undo t m o ∷ h) legal n a is =
     let few = answered_given ps h legal.1 n a is in
     let next = legal.0.next in
     cond-false _ _ _ (eq-false m n (λ same. absurd (omega (arith, few, next, same)))) ∙ closed_by ps h legal.1 n a is
-closed_by ps (event.End t o ∷ h) legal n a is = closed_by ps h legal.1 n a is
-closed_by ps (event.Checkpoint a g ∷ h) legal n b is = closed_by ps h legal.1 n b is
+closed_by ps (_ ∷ h) legal n a is = closed_by ps h legal.1 n a is
 
 redone_closed : (c : Core) (d : ℕ) (z : Reply) → Legal c.procs c.events → IsRedone c d z → open_op c.events z.number ≡ None
 redone_closed c d z legal it =
