@@ -28,7 +28,7 @@ use Rattle.run_command.specs.Running.{begun, empty_stores}
 use Rattle.run_command.specs.declared.anew.Ground.{Ground}
 use Rattle.run_command.specs.declared.answering.Answers.{Answers}
 use Rattle.run_command.specs.declared.stop.Stop.{Stop}
-use Rattle.partitioned_run.specs.declared.answering.Ran.{Ran}
+use Rattle.partitioned_run.specs.declared.answering.PartitionOutcome.{PartitionOutcome}
 use Rattle.partitioned_run.specs.declared.dividing.Division.{Division}
 use Rattle.partitioned_run.specs.Partitioned.{decl_of, partition_of_call, partition_of_code}
 use Rattle.partitioned_run.specs.Joining.Dividing.{AreNumbered, IsDivided, IsPartitionRun}
@@ -124,7 +124,7 @@ calls_more p numbers lines other k own new long lt are here_is is =
 
 -- ---- the calls of one partition are answered
 
-pub own_run : (c : Contents) (d : Division) (number : ℕ) (ground : Ground) (first others : List Made) (answered : Result (Ground × Answers) Stop) (ran : Ran)
+pub own_run : (c : Contents) (d : Division) (number : ℕ) (ground : Ground) (first others : List Made) (answered : Result (Ground × Answers) Stop) (ran : PartitionOutcome)
     → ground.state ≡ begun c → ground.dcs.items ≡ empty_stores c → AreCallsOf (picked number d.first.items c.first) first
     → AreCallsOf (picked number d.calls.items c.calls) others
     → IfOk answered (λ r. AreAnswered ground.state first others r.1.first.items r.1.calls.items r.0.state)

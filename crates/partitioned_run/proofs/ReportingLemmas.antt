@@ -35,7 +35,7 @@ use Rattle.run_command.specs.Running.{begun, empty_stores, is_want_of_memory}
 use Rattle.run_command.specs.Stops.{Stops}
 use Rattle.run_command.specs.declared.stop.Stop.{Stop}
 use Rattle.worker_pool.specs.Faults.{InRange}
-use Rattle.partitioned_run.specs.declared.answering.Ran.{Ran}
+use Rattle.partitioned_run.specs.declared.answering.PartitionOutcome.{PartitionOutcome}
 use Rattle.partitioned_run.specs.declared.dividing.Division.{Division}
 use Rattle.partitioned_run.specs.declared.reporting.All.{All as Together}
 use Rattle.partitioned_run.specs.Partitioned.{decl_of, partition_of_call, IsAnsweredBy, AddsAuditOf, AddsAudits, kept_dc, kept_dcs, kept_from}
@@ -60,58 +60,58 @@ answered_long start dcs first calls first_answers other_answers (Some g) h = (
 
 -- ---- the calls of all partitions
 
-pub one_run_more : (before : List (Result Ran Stop)) (ran : Ran) (old new : Together) → new.grounds.items ≡ old.grounds.items ++ ran.ground ∷ []
+pub one_run_more : (before : List (Result PartitionOutcome Stop)) (ran : PartitionOutcome) (old new : Together) → new.grounds.items ≡ old.grounds.items ++ ran.ground ∷ []
     → new.first.items ≡ old.first.items ++ ran.answers.first ∷ [] → new.calls.items ≡ old.calls.items ++ ran.answers.calls ∷ []
     → AreAllOf before old → AreAllOf (before ++ Ok ran ∷ []) new
 one_run_more before ran old new grounds firsts others all = record {
   runs = all.runs ++ ran ∷ [];
-  oks = ap (λ (l : List (Result Ran Stop)). l ++ Ok ran ∷ []) all.oks ∙ sym (map-append Ok all.runs (ran ∷ []));
+  oks = ap (λ (l : List (Result PartitionOutcome Stop)). l ++ Ok ran ∷ []) all.oks ∙ sym (map-append Ok all.runs (ran ∷ []));
   together = (
-    grounds ∙ (ap (λ (l : List (Option Ground)). l ++ ran.ground ∷ []) all.together.0 ∙ sym (map-append (λ (r : Ran). r.ground) all.runs (ran ∷ []))),
+    grounds ∙ (ap (λ (l : List (Option Ground)). l ++ ran.ground ∷ []) all.together.0 ∙ sym (map-append (λ (r : PartitionOutcome). r.ground) all.runs (ran ∷ []))),
     firsts ∙ (ap (λ (l : List (Vec Answer)). l ++ ran.answers.first ∷ []) all.together.1
-        ∙ sym (map-append (λ (r : Ran). r.answers.first) all.runs (ran ∷ []))),
+        ∙ sym (map-append (λ (r : PartitionOutcome). r.answers.first) all.runs (ran ∷ []))),
     others ∙ (ap (λ (l : List (Vec Answer)). l ++ ran.answers.calls ∷ []) all.together.2
-        ∙ sym (map-append (λ (r : Ran). r.answers.calls) all.runs (ran ∷ []))),
+        ∙ sym (map-append (λ (r : PartitionOutcome). r.answers.calls) all.runs (ran ∷ []))),
   );
 }
 
-run_at : (c : Contents) (d : Division) (count : ℕ) (ran : List (Result Ran Stop)) (runs : List Ran) (p : ℕ) (found : Option Ran) (behind : Option Ground)
+run_at : (c : Contents) (d : Division) (count : ℕ) (ran : List (Result PartitionOutcome Stop)) (runs : List PartitionOutcome) (p : ℕ) (found : Option PartitionOutcome) (behind : Option Ground)
     (first_answers other_answers : Vec Answer) → slice_get runs p ≡ found → AreRun c d count ran → ran ≡ map Ok runs
-    → Some behind ≡ option_map (λ (r : Ran). r.ground) found → Some first_answers ≡ option_map (λ (r : Ran). r.answers.first) found
-    → Some other_answers ≡ option_map (λ (r : Ran). r.answers.calls) found
+    → Some behind ≡ option_map (λ (r : PartitionOutcome). r.ground) found → Some first_answers ≡ option_map (λ (r : PartitionOutcome). r.answers.first) found
+    → Some other_answers ≡ option_map (λ (r : PartitionOutcome). r.answers.calls) found
     → IsAnsweredBy (begun c) (empty_stores c) (picked p d.first.items c.first) (picked p d.calls.items c.calls)
     first_answers.items other_answers.items behind
 run_at c d count ran runs p None behind first_answers other_answers is are all ground first calls = absurd (cc)
 run_at c d count ran runs p (Some r) behind first_answers other_answers is are all ground first calls =
     let found : slice_get ran p ≡ Some (Ok r) =
-    ap (λ (l : List (Result Ran Stop)). slice_get l p) all ∙ (slice_get-map Ok runs p ∙ ap (option_map Ok) is) in
+    ap (λ (l : List (Result PartitionOutcome Stop)). slice_get l p) all ∙ (slice_get-map Ok runs p ∙ ap (option_map Ok) is) in
     let lt : p < count = omega (arith, slice_get_within ran p (Ok r) found, are.0) in
     let one : IsPartitionRun c d p r =
-    subst (λ (x : Result Ran Stop). IfOk x (IsPartitionRun c d p)) (get_or_from_slice_get ran p (Ok r) (Ok r) found) (are.1 p (Ok r) lt) in
+    subst (λ (x : Result PartitionOutcome Stop). IfOk x (IsPartitionRun c d p)) (get_or_from_slice_get ran p (Ok r) (Ok r) found) (are.1 p (Ok r) lt) in
     let grounds : behind ≡ r.ground = cc in
     let firsts : first_answers ≡ r.answers.first = cc in
     let others : other_answers ≡ r.answers.calls = cc in
     rw (grounds, firsts, others) one
 
-pub all_run : (c : Contents) (d : Division) (count : ℕ) (ran : List (Result Ran Stop)) (all : Together)
+pub all_run : (c : Contents) (d : Division) (count : ℕ) (ran : List (Result PartitionOutcome Stop)) (all : Together)
     → count ≡ max (length (empty_stores c)) 1 → AreRun c d count ran → AreAllOf ran all → AreAllRun c d all
 all_run c d count ran all is are of =
     let runs = of.runs in
     let oks = of.oks in
     let together = of.together in
-    let long : length runs ≡ count = sym (length-map runs (λ (r : Ran). Ok r)) ∙ (ap length (sym oks) ∙ are.0) in
-    let grounds : length all.grounds.items ≡ length runs = ap length together.0 ∙ length-map runs (λ (r : Ran). r.ground) in
-    let firsts : length all.first.items ≡ length runs = ap length together.1 ∙ length-map runs (λ (r : Ran). r.answers.first) in
-    let others : length all.calls.items ≡ length runs = ap length together.2 ∙ length-map runs (λ (r : Ran). r.answers.calls) in
+    let long : length runs ≡ count = sym (length-map runs (λ (r : PartitionOutcome). Ok r)) ∙ (ap length (sym oks) ∙ are.0) in
+    let grounds : length all.grounds.items ≡ length runs = ap length together.0 ∙ length-map runs (λ (r : PartitionOutcome). r.ground) in
+    let firsts : length all.first.items ≡ length runs = ap length together.1 ∙ length-map runs (λ (r : PartitionOutcome). r.answers.first) in
+    let others : length all.calls.items ≡ length runs = ap length together.2 ∙ length-map runs (λ (r : PartitionOutcome). r.answers.calls) in
     record {
       grounds = grounds ∙ (long ∙ is);
       first = firsts ∙ sym grounds;
       calls = others ∙ sym grounds;
       each = λ p behind first_answers other_answers is_ground is_first is_calls.
           run_at c d count ran runs p (slice_get runs p) behind first_answers other_answers refl are oks
-          (sym is_ground ∙ (ap (λ (l : List (Option Ground)). slice_get l p) together.0 ∙ slice_get-map (λ (r : Ran). r.ground) runs p))
-          (sym is_first ∙ (ap (λ (l : List (Vec Answer)). slice_get l p) together.1 ∙ slice_get-map (λ (r : Ran). r.answers.first) runs p))
-          (sym is_calls ∙ (ap (λ (l : List (Vec Answer)). slice_get l p) together.2 ∙ slice_get-map (λ (r : Ran). r.answers.calls) runs p));
+          (sym is_ground ∙ (ap (λ (l : List (Option Ground)). slice_get l p) together.0 ∙ slice_get-map (λ (r : PartitionOutcome). r.ground) runs p))
+          (sym is_first ∙ (ap (λ (l : List (Vec Answer)). slice_get l p) together.1 ∙ slice_get-map (λ (r : PartitionOutcome). r.answers.first) runs p))
+          (sym is_calls ∙ (ap (λ (l : List (Vec Answer)). slice_get l p) together.2 ∙ slice_get-map (λ (r : PartitionOutcome). r.answers.calls) runs p));
     }
 
 -- ---- their answers go back to the calls' places

@@ -12,7 +12,7 @@ ghost use Rattle.partitioned_run.specs.Joining.Dividing.{AreRun, IsDivided, IsPa
 
 use crate::dividing::Division;
 use run_command::running::{
-    Answers, Ground, Manner, Rings, Stop, Waits, Workload, answer_on, call_of,
+    Answers, Checkpoints, Ground, Manner, Rings, RunInput, Stop, Waits, answer_on, call_of,
 };
 use script_loading::loading::{Unloaded, empty_dcs, state_of};
 use scripts::script::{self, Script};
@@ -37,7 +37,7 @@ pub struct Task<'a> {
 /// What the calls of a partition came to: what they were run on, behind the last, if there are any, and what they were
 /// answered.
 #[derive(Drop)]
-pub struct Ran {
+pub struct PartitionOutcome {
     pub ground: Option<Ground>,
     pub answers: Answers,
 }
@@ -98,19 +98,19 @@ fn own_ground(alloc: Global, object: Option<&[u8]>, script: &Script) -> Result<G
     }
 }
 
-// What the calls of one partition are answered with, by so many workers.
+// What the calls of one partition are answered with: those of both lists, and rings for so many workers.
 fn prepare(
     alloc: Global,
     task: Task,
     number: usize,
     workers: u64,
-) -> Result<(Workload, Rings), AllocError>
+) -> Result<(Vec<Call>, Vec<Call>, Rings), AllocError>
     requires first { length task.division.now.first.items ≡ length task.script.now.first.items }
     requires calls { length task.division.now.calls.items ≡ length task.script.now.calls.items }
     ensures first { IfOk result (λ r.
-        AreCallsOf (picked number task.entry.division.now.first.items task.entry.script.now.first.items) r.0.first.items) }
+        AreCallsOf (picked number task.entry.division.now.first.items task.entry.script.now.first.items) r.0.items) }
     ensures calls { IfOk result (λ r.
-        AreCallsOf (picked number task.entry.division.now.calls.items task.entry.script.now.calls.items) r.0.calls.items) }
+        AreCallsOf (picked number task.entry.division.now.calls.items task.entry.script.now.calls.items) r.1.items) }
 {
     let script = task.script;
     let numbers = task.division.first.as_slice();
@@ -118,24 +118,15 @@ fn prepare(
     let numbers = task.division.calls.as_slice();
     let calls = own_calls(alloc, numbers, script.calls.as_slice(), number)?;
     let rings = Rings::new(alloc, script.dcs.len(), workers)?;
-    let workload = Workload {
-        first,
-        calls,
-        place: 0,
-        manner: Manner {
-            workers,
-            ..task.manner
-        },
-    };
-    Ok((workload, rings))
+    Ok((first, calls, rings))
 }
 
 // What calls came to that were answered.
-fn ran_of(answered: Result<(Ground, Answers), Stop>) -> Result<Ran, Stop>
+fn ran_of(answered: Result<(Ground, Answers), Stop>) -> Result<PartitionOutcome, Stop>
     ensures { IfOk result (λ ran. IsOkAnd answered (λ a. (ran.ground ≡ Some a.0) × (ran.answers ≡ a.1))) }
 {
     match answered {
-        Ok((ground, answers)) => Ok(Ran {
+        Ok((ground, answers)) => Ok(PartitionOutcome {
             ground: Some(ground),
             answers,
         }),
@@ -150,15 +141,26 @@ fn answer_own<R: Clock + Threads + Wait + Sync>(
     task: Task,
     number: usize,
     workers: u64,
-) -> Result<Ran, Stop>
+) -> Result<PartitionOutcome, Stop>
     requires { IsDivided (option_map (λ file. file.now) task.object) task.script.now task.division.now }
     ensures { IfOk result (IsPartitionRun (contents_of task.entry.script.now) task.entry.division.now number) }
 {
     let ground = own_ground(alloc, task.object, task.script)?;
     match prepare(alloc, task, number, workers) {
-        Ok((workload, rings)) => {
-            let answered = answer_on(rt, alloc, ground, &workload, task.waits, rings);
-            drop(workload);
+        Ok((first, calls, rings)) => {
+            let input = RunInput {
+                first: first.as_slice(),
+                calls: calls.as_slice(),
+                place: 0,
+                manner: Manner {
+                    workers,
+                    ..task.manner
+                },
+                checkpoints: Checkpoints::NONE,
+            };
+            let answered = answer_on(rt, alloc, ground, input, task.waits, rings);
+            drop(first);
+            drop(calls);
             ran_of(answered)
         }
         Err(error) => {
@@ -175,7 +177,7 @@ fn answer_partition<R: Clock + Threads + Wait + Sync>(
     task: Task,
     number: usize,
     count: usize,
-) -> Result<Ran, Stop>
+) -> Result<PartitionOutcome, Stop>
     requires { IsDivided (option_map (λ file. file.now) task.object) task.script.now task.division.now }
     ensures { IfOk result (IsPartitionRun (contents_of task.entry.script.now) task.entry.division.now number) }
 {
@@ -184,7 +186,7 @@ fn answer_partition<R: Clock + Threads + Wait + Sync>(
         let workers = division.workers_of(task.manner.workers, number, count);
         return answer_own(rt, alloc, task, number, workers);
     }
-    Ok(Ran {
+    Ok(PartitionOutcome {
         ground: None,
         answers: Answers::new(alloc),
     })
@@ -196,7 +198,7 @@ pub fn answer_partitions<R: Clock + Threads + Wait + Sync>(
     alloc: Global,
     task: Task,
     count: usize,
-) -> Result<Vec<Result<Ran, Stop>>, AllocError>
+) -> Result<Vec<Result<PartitionOutcome, Stop>>, AllocError>
     requires { IsDivided (option_map (λ file. file.now) task.object) task.script.now task.division.now }
     ensures { IfOk result (λ all. AreRun (contents_of task.entry.script.now) task.entry.division.now count all.items) }
 {
@@ -204,7 +206,7 @@ pub fn answer_partitions<R: Clock + Threads + Wait + Sync>(
         rt,
         alloc,
         count,
-        &|number| -> Result<Ran, Stop>
+        &|number| -> Result<PartitionOutcome, Stop>
             requires { IsDivided (option_map (λ file. file.now) task.object) task.script.now task.division.now }
             ensures { IfOk result (IsPartitionRun (contents_of task.entry.script.now) task.entry.division.now number) }
         { answer_partition(rt, alloc, task, number, count) },

@@ -8,9 +8,9 @@ ghost use Rattle.state_lines.specs.RowLines.{AddsRowLines};
 ghost use Rattle.run_command.specs.Running.{is_want_of_memory};
 ghost use Rattle.partitioned_run.specs.Partitioned.{AddsAuditOf, AddsAudits, dc_behind, kept_dc, kept_dcs};
 ghost use Rattle.partitioned_run.specs.Joining.Reporting.{AreAllOf};
-ghost use Rattle.partitioned_run.specs.declared.answering.Ran.{Ran as RanValue};
+ghost use Rattle.partitioned_run.specs.declared.answering.PartitionOutcome.{PartitionOutcome as OutcomeValue};
 
-use crate::answering::Ran;
+use crate::answering::PartitionOutcome;
 use data_component::dc::Dc;
 use partitions::Partitions;
 use run_command::running::{Ground, Stop, has_want_of_memory, write_answers, write_found};
@@ -40,12 +40,12 @@ impl All {
     }
 
     // Adds what the calls of the next one came to.
-    fn add(&mut self, ran: Ran) -> Result<(), AllocError>
+    fn add(&mut self, ran: PartitionOutcome) -> Result<(), AllocError>
         ensures grounds { OnOk result (self.new.grounds.items ≡ self.old.grounds.items ++ ran.ground ∷ []) }
         ensures first { OnOk result (self.new.first.items ≡ self.old.first.items ++ ran.answers.first ∷ []) }
         ensures calls { OnOk result (self.new.calls.items ≡ self.old.calls.items ++ ran.answers.calls ∷ []) }
     {
-        let Ran { ground, answers } = ran;
+        let PartitionOutcome { ground, answers } = ran;
         self.grounds.push(ground)?;
         self.first.push(answers.first)?;
         self.calls.push(answers.calls)?;
@@ -55,8 +55,8 @@ impl All {
 
 // Adds what the calls of the next one came to, unless something stopped them.
 #[tactic(auto, using(crate::proofs::ReportingLemmas::one_run_more))]
-fn add_next(all: &mut All, next: Result<Ran, Stop>) -> Result<(), Stop>
-    ensures { OnOk result ((before : List (Result RanValue StopValue)) → AreAllOf before all.old → AreAllOf (before ++ next ∷ []) all.new) }
+fn add_next(all: &mut All, next: Result<PartitionOutcome, Stop>) -> Result<(), Stop>
+    ensures { OnOk result ((before : List (Result OutcomeValue StopValue)) → AreAllOf before all.old → AreAllOf (before ++ next ∷ []) all.new) }
 {
     match next {
         Ok(ran) => match all.add(ran) {
@@ -68,7 +68,7 @@ fn add_next(all: &mut All, next: Result<Ran, Stop>) -> Result<(), Stop>
 }
 
 /// What the calls of all partitions came to, unless something stopped those of one.
-pub fn all_of(alloc: Global, ran: Vec<Result<Ran, Stop>>) -> Result<All, Stop>
+pub fn all_of(alloc: Global, ran: Vec<Result<PartitionOutcome, Stop>>) -> Result<All, Stop>
     ensures { IfOk result (AreAllOf ran.items) }
 {
     let mut all = All::with_capacity(alloc, ran.len())?;

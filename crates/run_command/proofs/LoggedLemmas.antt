@@ -12,11 +12,12 @@ use Rattle.tc_core.specs.Core.{Core}
 use Rattle.coming_back.specs.declared.coming.ComeBackFault.{ComeBackFault}
 use Rattle.coming_back.specs.Coming.{HasOnlyRows}
 use Rattle.coming_back.specs.Faults.{IsFaultOf}
-use Rattle.run_command.specs.declared.logged.Opened.{Opened}
-use Rattle.run_command.specs.declared.logged.Coming.{Coming}
-use Rattle.run_command.specs.declared.logged.Coming.TheVariants as coming
-use Rattle.run_command.specs.declared.logged.GoingBack.{GoingBack}
-use Rattle.run_command.specs.declared.logged.GoingBack.TheVariants as going
+use Rattle.std.specs.declared.alloc.Global.{Global}
+use Rattle.std.specs.declared.string.String.{String}
+use Rattle.run_command.specs.declared.logged.OpenLog.{OpenLog}
+use Rattle.run_command.specs.declared.logged.Recovered.{Recovered}
+use Rattle.run_command.specs.declared.logged.Recovery.{Recovery}
+use Rattle.run_command.specs.declared.logged.Recovery.TheVariants.{Ready, Refused}
 use Rattle.log_file.specs.declared.header.Header.{Header}
 use Rattle.log_file.specs.declared.reading.OpenFault.{OpenFault}
 use Rattle.log_file.specs.Reading.{IsRefusal}
@@ -35,30 +36,30 @@ use Rattle.run_command.specs.Joining.Opening.{IsOpened, IsUnfit, IsComing, IsGoi
 pub baseless_comes : (start : Core) (empties : List Store) (file : List ℕ) (base : Option Rows) (log : List Event) (after : Core) (dcs : List Store)
     (journal : FileJournal) (report : Report) (fault : BaseFault) → IsLogFor start file base log → IsUnbegun base empties fault
     → string_bytes report.lines ≡ base_fault_line fault → report.status ≡ 1
-    → IsComing start empties base log after dcs journal (coming.Refused report)
+    → IsComing start empties base log after dcs journal (Refused report)
 baseless_comes start empties file base log after dcs journal report fault is_log why line status = (Baseless file base log fault is_log why line, status)
 
 pub unfit_comes : (start : Core) (empties : List Store) (file : List ℕ) (base : Option Rows) (log : List Event) (begun : List Store) (after : Core)
-    (dcs : List Store) (journal : FileJournal) (fault : ComeBackFault) (x : Coming) → IsLogFor start file base log
+    (dcs : List Store) (journal : FileJournal) (fault : ComeBackFault) (x : Recovery (String Global)) → IsLogFor start file base log
     → HaveBegun base (reverse log) empties begun → IsFaultOf start log (length begun) after dcs fault → IsUnfit fault x
     → IsComing start empties base log after dcs journal x
-unfit_comes start empties file base log begun after dcs journal fault (coming.Lines lines) is_log begins why h = absurd h
-unfit_comes start empties file base log begun after dcs journal fault (coming.Refused report) is_log begins why h =
+unfit_comes start empties file base log begun after dcs journal fault (Ready lines) is_log begins why h = absurd h
+unfit_comes start empties file base log begun after dcs journal fault (Refused report) is_log begins why h =
     (Unfit file base log begun after dcs fault is_log begins why h.0, h.1)
 
 pub overfull_comes : (start : Core) (empties : List Store) (file : List ℕ) (base : Option Rows) (log : List Event) (begun : List Store) (back : Core)
     (dcs : List Store) (resumed : List Resumed) (journal : FileJournal) (report : Report) (d : ℕ) → IsLogFor start file base log
     → HaveBegun base (reverse log) empties begun → HasComeBack start begun log back dcs resumed → overfull dcs resumed ≡ Some d
     → string_bytes report.lines ≡ overfull_refusal d → report.status ≡ 1
-    → IsComing start empties base log back dcs journal (coming.Refused report)
+    → IsComing start empties base log back dcs journal (Refused report)
 overfull_comes start empties file base log begun back dcs resumed journal report d is_log begins came over line status =
     (Overfull file base log begun back dcs resumed is_log begins came d over line, status)
 
-pub begun_by : (start : Core) (empties : List Store) (back : Core) (dcs : List Store) (opened : Opened) (x : GoingBack) → IsOpened start opened
+pub begun_by : (start : Core) (empties : List Store) (back : Core) (dcs : List Store) (opened : OpenLog) (x : Recovery Recovered) → IsOpened start opened
     → IsGoingBack start empties (base_in opened.base) opened.log.events back dcs x → IsBegun start empties back dcs x
-begun_by start empties back dcs opened (going.Back b) o h =
+begun_by start empties back dcs opened (Ready b) o h =
     record { file = o.file; base = base_in opened.base; log = opened.log.events; is_log = o.is_log; from = h }
-begun_by start empties back dcs opened (going.Refused report) o h = h
+begun_by start empties back dcs opened (Refused report) o h = h
 
 -- a slice that is as long as the vector that lent it is all of it
 pub lent_whole : (new old : List Store) (len : ℕ) → len ≡ length old → length new ≡ length old → take len (new ++ drop (length new) old) ≡ new

@@ -9,20 +9,20 @@ use Rattle.tc_core.specs.Core.{Core}
 use Rattle.worker_pool.specs.Faults.{InRange}
 use Rattle.run_command.specs.declared.anew.Checkpoints.{Checkpoints}
 use Rattle.run_command.specs.declared.anew.Renewal.{Renewal}
-use Rattle.run_command.specs.declared.parts.Outcome.{Outcome}
+use Rattle.run_command.specs.declared.parts.RunOutcome.{RunOutcome}
 use Rattle.run_command.specs.Joining.Parts.{HasEnded}
 use Rattle.run_command.specs.Running.{AreLinesOf, IsCallsRun, Ran, Stopped}
 
 pub ran_run : (Kept : Core → Renewal → Type 0) (checkpoints : Checkpoints) (start : Core) (dcs : List Store) (first calls : List Call) (workers tries : ℕ)
-    (audit results : Bool) (status : ℕ) (lines : List ℕ) (o : Outcome) → InRange workers tries → HasEnded results start dcs first calls checkpoints o
-    → AreLinesOf o.ground.state o.ground.dcs.items audit o.told.answers.first.items o.told.answers.calls.items (string_bytes o.told.lines) o.renewal
+    (audit results : Bool) (status : ℕ) (lines : List ℕ) (o : RunOutcome) → InRange workers tries → HasEnded results start dcs first calls checkpoints o
+    → AreLinesOf o.ground.state o.ground.dcs.items audit o.answers.first.items o.answers.calls.items (string_bytes o.lines) o.renewal
     status lines
     → Kept o.ground.state o.renewal → IsCallsRun Kept checkpoints start dcs first calls workers tries audit results status lines
 ran_run Kept checkpoints start dcs first calls workers tries audit results status lines o range ended printed kept =
     Ran range (record {
-      first_answers = o.told.answers.first.items;
-      other_answers = o.told.answers.calls.items;
-      told = string_bytes o.told.lines;
+      first_answers = o.answers.first.items;
+      other_answers = o.answers.calls.items;
+      told = string_bytes o.lines;
       behind = ended.behind;
       behind_dcs = ended.behind_dcs;
       stages = ended.stages;

@@ -1,12 +1,13 @@
 -- What stops one list of calls, both lists, and a run.
 use Rattle.std.proofs.Common.{◌≡◌, ℕ, Bool, true, false, List, Option, Some, None, sym, subst, inl, inr, arith}
-use Rattle.std.specs.Prelude.{is_some}
+use Rattle.std.specs.Prelude.{is_some, Result, Ok, Err, IsErrAnd, MatchResult}
 use Rattle.disk_file.specs.declared.fault.FileFault.{FileFault}
 use Rattle.journals.specs.declared.journal.NotKept.TheVariants as why
 use Rattle.journals.specs.Optional.{any_keeps}
 use Rattle.tc_core.specs.Core.{Core}
 use Rattle.worker_pool.specs.declared.running.RunFault.{RunFault}
 use Rattle.worker_pool.specs.declared.running.RunFault.TheVariants as fault
+use Rattle.worker_pool.specs.declared.report.Report.{Report}
 use Rattle.worker_pool.specs.Faults.{FaultFits, InRange, TriesFit}
 use Rattle.run_command.specs.declared.stop.Stop.{Stop}
 use Rattle.run_command.specs.declared.stop.Stop.TheVariants.{Tries, Workers, NoThread, Memory, Unread, NotKept}
@@ -17,11 +18,18 @@ use Rattle.run_command.specs.Joining.Stopping.{ListStops, stop_of}
 use Rattle.run_command.proofs.KeptLemmas.{keeps_if_there}
 
 -- a run with this journal, if there is one
-pub list_stops : (journal : Option FileJournal) (start : Core) (workers tries : ℕ) (f : RunFault) (failure : Option FileFault) (stop : Stop)
+list_stops : (journal : Option FileJournal) (start : Core) (workers tries : ℕ) (f : RunFault) (failure : Option FileFault) (stop : Stop)
     → FaultFits start (any_keeps (λ (j : FileJournal). true) journal) workers tries f → stop ≡ stop_of f failure
     → ListStops start (is_some journal) workers tries stop
 list_stops journal start workers tries f failure stop fits is =
     (f, failure, subst (λ (keeps : Bool). FaultFits start keeps workers tries f) (keeps_if_there journal) fits, is)
+
+-- the same of what came of it
+pub listed_stops : (journal : Option FileJournal) (start : Core) (workers tries : ℕ) (ran : Result Report RunFault) (stop : Stop)
+    → MatchResult ran (λ _. InRange workers tries) (λ f. FaultFits start (any_keeps (λ (j : FileJournal). true) journal) workers tries f)
+    → IsErrAnd ran (λ f. (failure : Option FileFault) × (stop ≡ stop_of f failure)) → ListStops start (is_some journal) workers tries stop
+listed_stops journal start workers tries (Ok report) stop which is = absurd is
+listed_stops journal start workers tries (Err f) stop which is = list_stops journal start workers tries f is.0 stop which is.1
 
 -- ---- both lists
 

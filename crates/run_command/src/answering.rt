@@ -1,17 +1,17 @@
 //! Both lists of a script's calls, answered while each data component runs in a thread of its own, and kept
 //! in a journal where there is one.
 
-ghost use Rattle.std.specs.Prelude.{◌≡◌, ◌++◌, ℕ, Bool, List, [], length, is_some, IfOk, IfErr, OnOk};
+ghost use Rattle.std.specs.Prelude.{◌≡◌, ◌++◌, ℕ, Bool, List, [], length, Option, is_some, Ok, IfOk, IfErr, IsErrAnd, OnOk};
 ghost use Rattle.data_component.specs.Store.{Store};
 ghost use Rattle.worker_pool.specs.Faults.{InRange};
-ghost use Rattle.worker_pool.specs.Reports.{Reports};
 ghost use Rattle.run_command.specs.Answered.{AreAnswered, AreServed};
 ghost use Rattle.run_command.specs.Stops.{Stops};
 ghost use Rattle.run_command.specs.Kept.{KeepsLog};
-ghost use Rattle.run_command.specs.Joining.Stopping.{ListStops};
+ghost use Rattle.run_command.specs.Joining.Stopping.{stop_of};
+ghost use Rattle.disk_file.specs.declared.fault.FileFault.{FileFault as FaultValue};
 ghost use Rattle.run_command.specs.Joining.Servers.{ArePromised};
 
-use crate::anew::Ground;
+use crate::anew::{Checkpoints, Ground};
 use crate::stop::Stop;
 use crate::watching::{Waits, Watch};
 use data_component::dc::Dc;
@@ -25,7 +25,7 @@ use std::thread;
 use std::thread::{PromisedHandle, Scope, Threads};
 use std::time::{Clock, Duration, Instant};
 use tc_core::state::{Call, TcState};
-use worker_pool::{Answer, Gate, OpenGate, Report, run};
+use worker_pool::{Answer, OpenGate, Report, RunFault, run};
 
 /// How the calls of a script are run: the second list by so many workers, each request sent so often
 /// at most; with the figures of that list as notes, with an audit behind the rows, and with what slots of
@@ -39,15 +39,23 @@ pub struct Manner {
     pub results: bool,
 }
 
-/// Calls of both lists of a script, and how they are run.
-#[derive(Drop)]
-pub struct Workload {
-    pub first: Vec<Call>,
-    pub calls: Vec<Call>,
+/// Calls of both lists of a script, how they are run, and when the log begins anew meanwhile.
+pub struct RunInput<'a, C> {
+    pub first: &'a [C],
+    pub calls: &'a [C],
     /// The place of the second list's first one among all of that list.
     pub place: usize,
     pub manner: Manner,
+    pub checkpoints: Checkpoints,
 }
+
+impl<C> Clone for RunInput<'_, C> {
+    fn clone(&self) -> Result<Self, AllocError> {
+        Ok(*self)
+    }
+}
+
+impl<C> Copy for RunInput<'_, C> {}
 
 /// A journal in a file.
 pub type FileJournal = LogJournal<DiskFile>;
@@ -60,35 +68,14 @@ fn failure_of(journal: &Option<FileJournal>) -> Option<FileFault> {
     }
 }
 
-// Answers one list of calls, and keeps the log where there is a journal, which is handed back with their report.
-fn answer_list<R: Threads + Wait + Sync, G: Gate + Sync>(
-    rt: &R,
-    alloc: Global,
-    state: TcState,
-    calls: &[Call],
-    manner: Manner,
-    link: &RingLink,
-    gate: &G,
+// What came of one list of calls, with the journal that has kept the log; or what stopped them.
+fn listed(
     journal: Option<FileJournal>,
+    ran: Result<Report, RunFault>,
 ) -> Result<(Report, Option<FileJournal>), Stop>
-    ensures report { IfOk result (λ r. Reports state calls.now r.0.state r.0.answers.items) }
-    ensures kept { KeepsLog journal state.events → IfOk result (λ r. KeepsLog r.1 r.0.state.events) }
-    ensures same { IfOk result (λ r. is_some r.1 ≡ is_some journal) }
-    ensures range { IfOk result (λ _. InRange manner.workers manner.tries) }
-    ensures fault { IfErr result (ListStops state (is_some journal) manner.workers manner.tries) }
+    ensures report { IfOk result (λ r. (ran ≡ Ok r.0) × (r.1 ≡ journal)) }
+    ensures fault { IfErr result (λ stop. IsErrAnd ran (λ fault. (failure : Option FaultValue) × (stop ≡ stop_of fault failure))) }
 {
-    let workers = manner.workers as usize;
-    let (journal, ran) = run(
-        rt,
-        alloc,
-        state,
-        calls,
-        workers,
-        manner.tries,
-        link,
-        gate,
-        journal,
-    );
     match ran {
         Ok(report) => Ok((report, journal)),
         Err(fault) => {
@@ -152,31 +139,38 @@ impl Answers {
     }
 }
 
-/// What calls of both lists were answered, the state behind them, and the journal that has kept its log, if there is
-/// one.
-#[derive(Drop)]
-pub struct Answered {
-    pub state: TcState,
-    pub journal: Option<FileJournal>,
-    pub answers: Answers,
-}
-
-/// What they left, with the data components behind them, and their answers.
-pub fn with_dcs(answered: Answered, dcs: Vec<Dc>) -> (Ground, Answers)
-    ensures { (result.0.state ≡ answered.state) × (result.0.dcs ≡ dcs) × (result.0.journal ≡ answered.journal)
-        × (result.1 ≡ answered.answers) }
+// What both lists left, with the data components behind them, and their answers.
+fn with_dcs(
+    answered: Result<(TcState, Option<FileJournal>, Answers), Stop>,
+    dcs: Result<Vec<Dc>, AllocError>,
+) -> Result<(Ground, Answers), Stop>
+    ensures answered { IfOk result (λ r. answered ≡ Ok (r.0.state, r.0.journal, r.1)) }
+    ensures dcs { IfOk result (λ r. dcs ≡ Ok r.0.dcs) }
+    ensures fault { (keeps : Bool) (workers tries : ℕ) → IfErr answered (Stops keeps workers tries)
+        → IfErr result (Stops keeps workers tries) }
 {
-    let Answered {
-        state,
-        journal,
-        answers,
-    } = answered;
-    let ground = Ground {
-        state,
-        dcs,
-        journal,
-    };
-    (ground, answers)
+    match answered {
+        Ok((state, journal, answers)) => match dcs {
+            Ok(dcs) => {
+                let ground = Ground {
+                    state,
+                    dcs,
+                    journal,
+                };
+                Ok((ground, answers))
+            }
+            Err(error) => {
+                drop(state);
+                drop(journal);
+                drop(answers);
+                Err(Stop::from(error))
+            }
+        },
+        Err(stop) => {
+            drop(dcs);
+            Err(stop)
+        }
+    }
 }
 
 // How long ago that was, if the clock can be read.
@@ -189,30 +183,35 @@ fn answer_all<R: Clock + Threads + Wait + Sync>(
     rt: &R,
     alloc: Global,
     state: TcState,
-    workload: &Workload,
+    input: RunInput<Call>,
     waits: &Waits,
     link: &RingLink,
     journal: Option<FileJournal>,
-) -> Result<Answered, Stop>
-    ensures answered { IfOk result (λ a. AreAnswered state workload.now.first.items workload.now.calls.items
-        a.answers.first.items a.answers.calls.items a.state) }
-    ensures kept { KeepsLog journal state.events → IfOk result (λ a. KeepsLog a.journal a.state.events) }
-    ensures same { IfOk result (λ a. is_some a.journal ≡ is_some journal) }
-    ensures range { IfOk result (λ _. InRange workload.now.manner.workers workload.now.manner.tries) }
-    ensures fault { IfErr result (Stops (is_some journal) workload.now.manner.workers workload.now.manner.tries) }
+) -> Result<(TcState, Option<FileJournal>, Answers), Stop>
+    ensures answered { IfOk result (λ r. AreAnswered state input.entry.first.now input.entry.calls.now
+        r.2.first.items r.2.calls.items r.0) }
+    ensures kept { KeepsLog journal state.events → IfOk result (λ r. KeepsLog r.1 r.0.events) }
+    ensures same { IfOk result (λ r. is_some r.1 ≡ is_some journal) }
+    ensures range { IfOk result (λ _. InRange input.entry.manner.workers input.entry.manner.tries) }
+    ensures fault { IfErr result (Stops (is_some journal) input.entry.manner.workers input.entry.manner.tries) }
 {
-    let all = workload.manner;
-    let alone = Manner { workers: 1, ..all };
-    let first = workload.first.as_slice();
-    let (report, journal) = answer_list(rt, alloc, state, first, alone, link, &OpenGate, journal)?;
+    let manner = input.manner;
+    let workers = manner.workers as usize;
+    let tries = manner.tries;
+    let first = input.first;
+    let (journal, ran) = run(rt, alloc, state, first, 1, tries, link, &OpenGate, journal);
+    let (report, journal) = listed(journal, ran)?;
     let Report {
         state,
         answers: first,
     } = report;
     let start = Instant::now(rt).ok();
-    let watch = Watch::new(rt, waits, workload.place);
-    let calls = workload.calls.as_slice();
-    let (report, journal) = answer_list(rt, alloc, state, calls, all, link, &watch, journal)?;
+    let gate = Watch::new(rt, waits, input.place);
+    let calls = input.calls;
+    let (journal, ran) = run(
+        rt, alloc, state, calls, workers, tries, link, &gate, journal,
+    );
+    let (report, journal) = listed(journal, ran)?;
     let Report {
         state,
         answers: calls,
@@ -222,11 +221,7 @@ fn answer_all<R: Clock + Threads + Wait + Sync>(
         calls,
         elapsed: since(rt, start),
     };
-    Ok(Answered {
-        state,
-        journal,
-        answers,
-    })
+    Ok((state, journal, answers))
 }
 
 // Why no call is begun where a component has no thread: the tries are looked at first.
@@ -300,54 +295,61 @@ fn handed_back<R: Threads>(rt: &R, servers: Vec<Server>) -> Result<Vec<Dc>, Allo
     Ok(thread::join_promised(rt, servers)?)
 }
 
-/// Answers both lists while a thread for each component serves it, and hands the components back as
-/// they are then. Where a thread can't be started, no call is begun. Where there is a journal, no answer is
-/// told before it is kept.
-pub fn answer_served<R: Clock + Threads + Wait + Sync>(
+/// Answers calls on this ground while a thread for each component serves it, and hands back what they left with what they
+/// were answered. Where a thread can't be started, no call is begun. Where there is a journal, no answer is told before it
+/// is kept.
+pub fn answer_on<R: Clock + Threads + Wait + Sync>(
     rt: &R,
     alloc: Global,
-    state: TcState,
-    dcs: Vec<Dc>,
-    workload: &Workload,
+    ground: Ground,
+    input: RunInput<Call>,
     waits: &Waits,
     rings: Rings,
-    journal: Option<FileJournal>,
-) -> (Result<Answered, Stop>, Result<Vec<Dc>, AllocError>)
-    ensures answered { IfOk result.0 (λ a. AreAnswered state workload.now.first.items workload.now.calls.items
-        a.answers.first.items a.answers.calls.items a.state) }
-    ensures kept { KeepsLog journal state.events → IfOk result.0 (λ a. KeepsLog a.journal a.state.events) }
-    ensures same { IfOk result.0 (λ a. is_some a.journal ≡ is_some journal) }
-    ensures range { IfOk result.0 (λ _. InRange workload.now.manner.workers workload.now.manner.tries) }
-    ensures fault { IfErr result.0 (Stops (is_some journal) workload.now.manner.workers workload.now.manner.tries) }
-    ensures dcs { OnOk result.0 (IfOk result.1 (λ back. AreServed dcs.items back.items)) }
+) -> Result<(Ground, Answers), Stop>
+    ensures answered { IfOk result (λ r. AreAnswered ground.state input.entry.first.now input.entry.calls.now
+        r.1.first.items r.1.calls.items r.0.state) }
+    ensures served { IfOk result (λ r. AreServed ground.dcs.items r.0.dcs.items) }
+    ensures kept { KeepsLog ground.journal ground.state.events → IfOk result (λ r. KeepsLog r.0.journal r.0.state.events) }
+    ensures same { IfOk result (λ r. is_some r.0.journal ≡ is_some ground.journal) }
+    ensures range { IfOk result (λ _. InRange input.entry.manner.workers input.entry.manner.tries) }
+    ensures fault { IfErr result (Stops (is_some ground.journal) input.entry.manner.workers input.entry.manner.tries) }
 {
+    let (state, dcs, journal) = (ground.state, ground.dcs, ground.journal);
+    let (first, calls) = (input.first, input.calls);
+    let (place, manner, checkpoints) = (input.place, input.manner, input.checkpoints);
     let Rings { link, servers } = rings;
     let link = &link;
     thread::scope(
         thread::scope_env(),
         rt,
-        |scope| -> (Result<Answered, Stop>, Result<Vec<Dc>, AllocError>)
+        |scope| -> Result<(Ground, Answers), Stop>
             requires { servers.items ≡ [] }
-            ensures answered { IfOk result.0 (λ a. AreAnswered state workload.entry.now.first.items workload.entry.now.calls.items
-                a.answers.first.items a.answers.calls.items a.state) }
-            ensures kept { KeepsLog journal state.events → IfOk result.0 (λ a. KeepsLog a.journal a.state.events) }
-            ensures same { IfOk result.0 (λ a. is_some a.journal ≡ is_some journal) }
-            ensures range { IfOk result.0 (λ _. InRange workload.entry.now.manner.workers workload.entry.now.manner.tries) }
-            ensures fault { IfErr result.0 (Stops (is_some journal) workload.entry.now.manner.workers workload.entry.now.manner.tries) }
-            ensures dcs { OnOk result.0 (IfOk result.1 (λ back. AreServed dcs.items back.items)) }
+            ensures answered { IfOk result (λ r. AreAnswered state first.entry.now calls.entry.now r.1.first.items r.1.calls.items r.0.state) }
+            ensures served { IfOk result (λ r. AreServed dcs.items r.0.dcs.items) }
+            ensures kept { KeepsLog journal state.events → IfOk result (λ r. KeepsLog r.0.journal r.0.state.events) }
+            ensures same { IfOk result (λ r. is_some r.0.journal ≡ is_some journal) }
+            ensures range { IfOk result (λ _. InRange manner.workers manner.tries) }
+            ensures fault { IfErr result (Stops (is_some journal) manner.workers manner.tries) }
         {
             let count = dcs.len();
             let servers = serve_all(scope, rt, link, dcs, servers);
             if servers.len() == count {
-                let answered = answer_all(rt, alloc, state, workload, waits, link, journal);
+                let input = RunInput {
+                    first,
+                    calls,
+                    place,
+                    manner,
+                    checkpoints,
+                };
+                let answered = answer_all(rt, alloc, state, input, waits, link, journal);
                 link.close();
-                (answered, handed_back(rt, servers))
+                with_dcs(answered, handed_back(rt, servers))
             } else {
                 link.close();
                 drop(state);
                 drop(journal);
-                let stop = unserved(workload.manner.tries);
-                (Err(stop), handed_back(rt, servers))
+                drop(handed_back(rt, servers));
+                Err(unserved(manner.tries))
             }
         },
     )

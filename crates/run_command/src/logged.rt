@@ -19,15 +19,13 @@ ghost use Rattle.log_file.specs.Found.{base_in};
 ghost use Rattle.run_command.specs.Logged.{is_in_doubt, overfull, IsLogFor, IsLogRefusal, IsRunOn, IsLoggedRun, IsLogged};
 ghost use Rattle.run_command.specs.Joining.Renewing.{IsRenewedFirst};
 ghost use Rattle.run_command.specs.Kept.{KeepsLog};
-ghost use Rattle.run_command.specs.Parts.{IsKeptSo};
-ghost use Rattle.run_command.specs.Running.{IsCallsRun};
 ghost use Rattle.run_command.specs.Joining.Opening.{IsOpened, IsOpening, IsUnfit, IsComing, IsGoingBack, IsBegun};
 
 use crate::anew::{Ground, renew, write_renewal};
-use crate::answering::FileJournal;
+use crate::answering::{FileJournal, RunInput};
 pub use crate::log_lines::kind_refusal;
 use crate::log_lines::{back_lines, back_refusal, open_refusal, other_refusal, overfull_refusal};
-use crate::running::{Calls, Ran, RunOptions, ground_and_calls, run_from};
+use crate::running::{RunOptions, RunReport, run_from};
 use crate::stop::Stop;
 use base_records::{base_fault_line, begin as begin_with};
 use coming_back::{ComeBackFault, Resumed, come_back};
@@ -49,9 +47,16 @@ use std::time::Clock;
 use tc_core::state::TcState;
 use tc_log::log::Log;
 
+// What a step of recovery comes to: what the run goes on with, or its refusal.
+#[derive(Drop)]
+enum Recovery<T> {
+    Ready(T),
+    Refused(Report),
+}
+
 // A log's file that was opened.
 #[derive(Drop)]
-struct Opened {
+struct OpenLog {
     journal: FileJournal,
     // The records with which its log begins, where that was cut.
     base: Option<Vec<BaseRow>>,
@@ -60,12 +65,11 @@ struct Opened {
     dropped: usize,
 }
 
-// What opening it comes to.
+// What a run goes on from: what keeps its log, and the lines of what came back.
 #[derive(Drop)]
-enum Opening {
-    Open(Opened),
-    // The run is refused.
-    Refused(Report),
+struct Recovered {
+    journal: FileJournal,
+    lines: String,
 }
 
 // The report of a run that is refused.
@@ -111,12 +115,12 @@ fn refused(
     header: &Header,
     bytes: &[u8],
     device: &DiskFile,
-) -> Result<Option<Opening>, Stop>
+) -> Result<Option<Recovery<OpenLog>>, Stop>
     ensures { (start : Core) → header.now ≡ header_of (loaded_in start) → IsOpenFault header.now bytes.now fault.now
         → IfOk result (λ o. IfSome o (λ x. (empties : List Store) → IsOpening start empties x)) }
 {
     match unread(alloc, fault, header, bytes, device)? {
-        Some(report) => Ok(Some(Opening::Refused(report))),
+        Some(report) => Ok(Some(Recovery::Refused(report))),
         None => Ok(None),
     }
 }
@@ -171,7 +175,7 @@ fn read_log(
     file: DiskFile,
     header: Header,
     bytes: &[u8],
-) -> Result<Option<Opening>, Stop>
+) -> Result<Option<Recovery<OpenLog>>, Stop>
     requires bytes { bytes.now ≡ disk_bytes file }
     requires settled { Only (disk_bytes file) (left_of file) }
     ensures { (start : Core) → header ≡ header_of (loaded_in start)
@@ -181,7 +185,7 @@ fn read_log(
     match LogJournal::begin(alloc, &mut file, &header, bytes) {
         Ok(Restored { base, log }) => {
             let dropped = file.device().cut_off();
-            Ok(Some(Opening::Open(Opened {
+            Ok(Some(Recovery::Ready(OpenLog {
                 journal: LogJournal::over(alloc, file, header),
                 base,
                 log,
@@ -204,7 +208,7 @@ fn try_log<F: Files<File = File>>(
     path: &str,
     state: &TcState,
     place: Dropped,
-) -> Result<Option<Opening>, Stop>
+) -> Result<Option<Recovery<OpenLog>>, Stop>
     ensures { IfOk result (λ o. IfSome o (λ x. (empties : List Store) → IsOpening state.now empties x)) }
 {
     let header = header_of(alloc, state.procs())?;
@@ -214,7 +218,7 @@ fn try_log<F: Files<File = File>>(
             drop(bytes);
             opening
         }
-        Err(error) => Ok(Some(Opening::Refused(unopened(alloc, error)?))),
+        Err(error) => Ok(Some(Recovery::Refused(unopened(alloc, error)?))),
     }
 }
 
@@ -225,7 +229,7 @@ fn open_log<F: Files<File = File>>(
     alloc: Global,
     path: &str,
     state: &TcState,
-) -> Result<Opening, Stop>
+) -> Result<Recovery<OpenLog>, Stop>
     ensures { (empties : List Store) → IfOk result (IsOpening state.now empties) }
 {
     if let Some(opening) = try_log(rt, alloc, path, state, Dropped::Nowhere)? {
@@ -235,30 +239,6 @@ fn open_log<F: Files<File = File>>(
         Some(opening) => Ok(opening),
         None => Err(Stop::NotKept(None)),
     }
-}
-
-// What a run goes on from.
-#[derive(Drop)]
-struct Back {
-    journal: FileJournal,
-    lines: String,
-}
-
-// What going back to a log comes to.
-#[derive(Drop)]
-enum GoingBack {
-    Back(Back),
-    // The run is refused.
-    Refused(Report),
-}
-
-// What coming back from a log comes to, beside the state and the data components.
-#[derive(Drop)]
-enum Coming {
-    // The lines of what came back.
-    Lines(String),
-    // The run is refused.
-    Refused(Report),
 }
 
 // Keeps what a log has behind this place, if anything.
@@ -310,31 +290,31 @@ fn come(
     dropped: usize,
     path: &str,
     journal: &mut FileJournal,
-) -> Result<Coming, Stop>
+) -> Result<Recovery<String>, Stop>
     requires { All HasOnlyRows dcs.old }
     ensures { (file : List ℕ) → IsLogFor state.old file (base_in base.now) log.now.events → KeepsLog (Some journal.old) log.now.events
         → IfOk result (IsComing state.old dcs.old (base_in base.now) log.now.events state.new dcs.new journal.new) }
 {
     if let Some(fault) = begin_with(dcs, base, log)? {
-        return Ok(Coming::Refused(refusal(base_fault_line(alloc, fault)?)));
+        return Ok(Recovery::Refused(refusal(base_fault_line(alloc, fault)?)));
     }
     let resumed = match come_back(alloc, state, dcs, log) {
         Ok(resumed) => resumed,
         Err(fault) => return unfit(alloc, &fault),
     };
     if let Some(dc) = overfull(dcs, resumed.as_slice()) {
-        return Ok(Coming::Refused(refusal(overfull_refusal(alloc, dc)?)));
+        return Ok(Recovery::Refused(refusal(overfull_refusal(alloc, dc)?)));
     }
     keep_behind(journal, state.log(), log.len())?;
-    Ok(Coming::Lines(back_lines(alloc, log.len(), dropped, path, resumed.as_slice())?))
+    Ok(Recovery::Ready(back_lines(alloc, log.len(), dropped, path, resumed.as_slice())?))
 }
 
 // Why a log isn't gone on from.
-fn unfit(alloc: Global, fault: &ComeBackFault) -> Result<Coming, Stop>
+fn unfit(alloc: Global, fault: &ComeBackFault) -> Result<Recovery<String>, Stop>
     ensures { IfOk result (IsUnfit fault.now) }
 {
     match back_refusal(alloc, fault)? {
-        Some(line) => Ok(Coming::Refused(refusal(line))),
+        Some(line) => Ok(Recovery::Refused(refusal(line))),
         None => Err(Stop::Memory),
     }
 }
@@ -345,13 +325,13 @@ fn go_back(
     alloc: Global,
     state: &mut TcState,
     dcs: &mut [Dc],
-    opened: Opened,
+    opened: OpenLog,
     path: &str,
-) -> Result<GoingBack, Stop>
+) -> Result<Recovery<Recovered>, Stop>
     requires { All HasOnlyRows dcs.old }
     ensures { IsOpened state.old opened → IfOk result (IsGoingBack state.old dcs.old (base_in opened.base) opened.log.events state.new dcs.new) }
 {
-    let Opened {
+    let OpenLog {
         mut journal,
         base,
         log,
@@ -361,10 +341,10 @@ fn go_back(
     drop(base);
     drop(log);
     match coming {
-        Ok(Coming::Lines(lines)) => Ok(GoingBack::Back(Back { journal, lines })),
-        Ok(Coming::Refused(report)) => {
+        Ok(Recovery::Ready(lines)) => Ok(Recovery::Ready(Recovered { journal, lines })),
+        Ok(Recovery::Refused(report)) => {
             drop(journal);
-            Ok(GoingBack::Refused(report))
+            Ok(Recovery::Refused(report))
         }
         Err(fault) => {
             drop(journal);
@@ -380,13 +360,13 @@ fn begin<F: Files<File = File>>(
     path: &str,
     state: &mut TcState,
     dcs: &mut [Dc],
-) -> Result<GoingBack, Stop>
+) -> Result<Recovery<Recovered>, Stop>
     requires { All HasOnlyRows dcs.old }
     ensures { IfOk result (IsBegun state.old dcs.old state.new dcs.new) }
 {
     match open_log(rt, alloc, path, state)? {
-        Opening::Open(opened) => go_back(alloc, state, dcs, opened, path),
-        Opening::Refused(report) => Ok(GoingBack::Refused(report)),
+        Recovery::Ready(opened) => go_back(alloc, state, dcs, opened, path),
+        Recovery::Refused(report) => Ok(Recovery::Refused(report)),
     }
 }
 
@@ -402,7 +382,7 @@ fn put_before(alloc: Global, lines: &str, report: &mut Report) -> Result<(), Sto
 }
 
 // Whether the log's file of this run still has its name.
-fn check_name<F: Files<File = File>>(rt: &F, path: &str, ran: &Ran) -> Result<(), Stop> {
+fn check_name<F: Files<File = File>>(rt: &F, path: &str, ran: &RunReport) -> Result<(), Stop> {
     let Some(journal) = &ran.journal else {
         return Ok(());
     };
@@ -436,8 +416,8 @@ fn behind<F: Files<File = File>>(
     alloc: Global,
     path: &str,
     lines: &str,
-    ran: Ran,
-) -> Result<Ran, Stop>
+    ran: RunReport,
+) -> Result<RunReport, Stop>
     ensures { IfOk result (λ r. (r.journal ≡ ran.journal) × (r.report.status ≡ ran.report.status)
         × (string_bytes r.report.lines ≡ lines.now ++ string_bytes ran.report.lines)) }
 {
@@ -455,69 +435,58 @@ fn behind<F: Files<File = File>>(
     }
 }
 
-// Runs calls, and puts these lines before theirs.
-fn run_after<R: Files<File = File> + Clock + Threads + Wait + Sync>(
-    rt: &R,
-    alloc: Global,
-    path: &str,
-    ground: Ground,
-    calls: &Calls,
-    lines: &str,
-) -> Result<Ran, Stop>
-    ensures { KeepsLog ground.journal ground.state.events → IfOk result (λ r. (answers : List ℕ)
-        × IsCallsRun (IsKeptSo r.journal calls.now.options.checkpoints) calls.now.options.checkpoints ground.state ground.dcs.items
-        calls.now.first.items calls.now.calls.items calls.now.options.manner.workers calls.now.options.manner.tries
-        calls.now.options.manner.audit calls.now.options.manner.results r.report.status answers
-        × (string_bytes r.report.lines ≡ lines.now ++ answers)) }
-{
-    match run_from(rt, alloc, path, ground, calls) {
-        Ok(ran) => behind(rt, alloc, path, lines, ran),
-        Err(stop) => Err(stop),
-    }
-}
-
-// Runs calls on what came back, behind a log that may begin anew first, and puts these lines before theirs.
+// Runs the calls of a script that is loaded on what came back, behind a log that may begin anew first, and puts the lines
+// of that before theirs.
 fn run_on<R: Files<File = File> + Clock + Threads + Wait + Sync>(
     rt: &R,
     alloc: Global,
     path: &str,
-    ground: Ground,
-    calls: &Calls,
-    lines: &mut String,
-) -> Result<Ran, Stop>
-    ensures { KeepsLog ground.journal ground.state.events → IfOk result (λ r.
-        IsRunOn r.journal calls.now.options.checkpoints ground.state ground.dcs.items calls.now.first.items calls.now.calls.items
-        calls.now.options.manner.workers calls.now.options.manner.tries calls.now.options.manner.audit calls.now.options.manner.results
-        r.report.status (string_bytes lines.old) (string_bytes r.report.lines)) }
-{
-    let mut ground = ground;
-    let over = calls.options.checkpoints.over;
-    match renew_first(rt, alloc, path, over, &mut ground, lines) {
-        Ok(()) => run_after(rt, alloc, path, ground, calls, lines.as_str()),
-        Err(why) => {
-            drop(ground);
-            Err(why)
-        }
-    }
-}
-
-// Runs the calls of a script that is loaded from what came back.
-fn run_back<R: Files<File = File> + Clock + Threads + Wait + Sync>(
-    rt: &R,
-    alloc: Global,
-    path: &str,
     loaded: Loaded,
-    back: Back,
+    back: Recovered,
     options: RunOptions,
-) -> Result<Ran, Stop>
+) -> Result<RunReport, Stop>
     ensures { KeepsLog (Some back.journal) loaded.state.events → IfOk result (λ r.
         IsRunOn r.journal options.entry.checkpoints loaded.state loaded.dcs.items loaded.first.items loaded.calls.items
         options.entry.manner.workers options.entry.manner.tries options.entry.manner.audit options.entry.manner.results
         r.report.status (string_bytes back.lines) (string_bytes r.report.lines)) }
 {
-    let Back { journal, mut lines } = back;
-    let (ground, calls) = ground_and_calls(loaded, Some(journal), options);
-    run_on(rt, alloc, path, ground, &calls, &mut lines)
+    let Recovered { journal, mut lines } = back;
+    let Loaded {
+        state,
+        dcs,
+        steps: _,
+        first,
+        calls,
+    } = loaded;
+    let mut ground = Ground {
+        state,
+        dcs,
+        journal: Some(journal),
+    };
+    let input = RunInput {
+        first: first.as_slice(),
+        calls: calls.as_slice(),
+        place: 0,
+        manner: options.manner,
+        checkpoints: options.checkpoints,
+    };
+    match renew_first(
+        rt,
+        alloc,
+        path,
+        options.checkpoints.over,
+        &mut ground,
+        &mut lines,
+    ) {
+        Ok(()) => match run_from(rt, alloc, path, ground, input, options.listeners) {
+            Ok(ran) => behind(rt, alloc, path, lines.as_str(), ran),
+            Err(stop) => Err(stop),
+        },
+        Err(why) => {
+            drop(ground);
+            Err(why)
+        }
+    }
 }
 
 // Runs the calls of a script that is loaded behind what the log's file has.
@@ -527,7 +496,7 @@ fn run_behind<R: Files<File = File> + Clock + Threads + Wait + Sync>(
     path: &str,
     loaded: Loaded,
     options: RunOptions,
-) -> Result<Ran, Stop>
+) -> Result<RunReport, Stop>
     requires { All HasOnlyRows loaded.dcs.items }
     ensures { IfOk result (λ r. IsLoggedRun r.journal options.entry.checkpoints loaded.state loaded.dcs.items loaded.first.items loaded.calls.items
         options.entry.manner.workers options.entry.manner.tries options.entry.manner.audit options.entry.manner.results r.report.status (string_bytes r.report.lines)) }
@@ -540,10 +509,10 @@ fn run_behind<R: Files<File = File> + Clock + Threads + Wait + Sync>(
         &mut loaded.state,
         loaded.dcs.as_mut_slice(),
     ) {
-        Ok(GoingBack::Back(back)) => run_back(rt, alloc, path, loaded, back, options),
-        Ok(GoingBack::Refused(report)) => {
+        Ok(Recovery::Ready(back)) => run_on(rt, alloc, path, loaded, back, options),
+        Ok(Recovery::Refused(report)) => {
             drop(loaded);
-            Ok(Ran {
+            Ok(RunReport {
                 report,
                 journal: None,
             })
@@ -568,13 +537,13 @@ pub fn running_logged<R: Files<File = File> + Clock + Threads + Wait + Sync>(
     path: &str,
     source: Source,
     options: RunOptions,
-) -> Result<Ran, Stop>
+) -> Result<RunReport, Stop>
     ensures { IfOk result (λ r. IsLogged r.journal options.entry.checkpoints options.entry.manner.workers options.entry.manner.tries options.entry.manner.audit options.entry.manner.results
         (beginning_of command.Run source.entry) r.report.status (string_bytes r.report.lines)) }
 {
     match load_source(alloc, Command::Run, source)? {
         Loading::Ready(loaded) => run_behind(rt, alloc, path, loaded, options),
-        Loading::Refused(report) => Ok(Ran {
+        Loading::Refused(report) => Ok(RunReport {
             report,
             journal: None,
         }),

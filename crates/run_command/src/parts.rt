@@ -1,21 +1,22 @@
 //! The calls of a script, answered in parts, between which the log may begin anew.
 
-ghost use Rattle.std.specs.Prelude.{◌≡◌, ◌++◌, ◌<◌, ℕ, Bool, List, [], length, None, is_some, IfOk, IfErr, IsOkAnd, OnOk, codes, string_bytes};
+ghost use Rattle.std.specs.Prelude.{◌≡◌, ◌++◌, ◌<◌, ℕ, Bool, List, [], length, None};
+ghost use Rattle.std.specs.Prelude.{is_some, IfOk, IfErr, IsOkAnd, OnOk, codes, string_bytes};
 ghost use Rattle.worker_pool.specs.Faults.{InRange, TriesFit};
 ghost use Rattle.run_command.specs.AnswerLines.{answer_lines, call_lines};
-ghost use Rattle.run_command.specs.Answered.{AreCallsOf, AreAnswered, AreServed};
+ghost use Rattle.run_command.specs.Answered.{AreCallsOf};
 ghost use Rattle.run_command.specs.Kept.{KeepsLog};
 ghost use Rattle.run_command.specs.declared.anew.Renewal.TheVariants.{Unwanted};
 ghost use Rattle.run_command.specs.declared.anew.Ground.{Ground as GroundValue};
 ghost use Rattle.run_command.specs.declared.anew.Renewal.{Renewal};
 ghost use Rattle.run_command.specs.Anew.{IsHeeded, IsRenewal};
 ghost use Rattle.run_command.specs.Stops.{IsUnkept, Stops};
-ghost use Rattle.run_command.specs.Joining.Parts.{IsStep, HasCome, HasEnded};
+ghost use Rattle.run_command.specs.Joining.Parts.{IsStep, HasEnded, with_ground};
 
 use crate::anew::{Ground, Renewal, renew};
 use crate::answer_lines::{write_answers, write_calls};
-use crate::answering::{Answers, Manner, Rings, Workload, answer_served, with_dcs};
-use crate::running::{Calls, calls_of};
+use crate::answering::{Answers, Rings, RunInput, answer_on};
+use crate::running::calls_of;
 use crate::stop::Stop;
 use crate::watching::Waits;
 use scripts::script;
@@ -25,119 +26,60 @@ use std::rt::Files;
 use std::sync::Wait;
 use std::thread::Threads;
 use std::time::Clock;
-use tc_core::state::TcState;
+use tc_core::state::Call;
 
 // So many calls of the second list a part has, where the log may begin anew between two: what lies between two
 // checkpoints is in memory.
 const PART: usize = 65_536;
 
-/// What calls were answered so far, and the lines of that.
+/// What calls came to: what they were run on, behind the last, what they were answered, the lines of that, and what came
+/// of the log behind the last.
 #[derive(Drop)]
-pub struct Told {
+pub struct RunOutcome {
+    pub ground: Ground,
     pub answers: Answers,
     pub lines: String,
-}
-
-/// What calls came to: what they were run on, behind the last, what they were answered, and what came of the log then.
-#[derive(Drop)]
-pub struct Outcome {
-    pub ground: Ground,
-    pub told: Told,
     pub renewal: Renewal,
 }
 
-// Calls of both lists, and the place of the second list's first one among all of that list.
-#[derive(Clone, Copy)]
-struct Part<'a> {
-    first: &'a [script::Call],
-    calls: &'a [script::Call],
-    place: usize,
-}
-
-// What a part is answered with.
+// What a part is answered with: the calls of both lists, and rings to so many data components.
 fn prepare(
     alloc: Global,
-    part: Part,
+    part: RunInput<script::Call>,
     dcs: usize,
-    manner: Manner,
-) -> Result<(Workload, Rings), AllocError>
-    ensures first { IfOk result (λ r. AreCallsOf part.entry.first.now r.0.first.items) }
-    ensures calls { IfOk result (λ r. AreCallsOf part.entry.calls.now r.0.calls.items) }
-    ensures manner { IfOk result (λ r. r.0.manner ≡ manner) }
+) -> Result<(Vec<Call>, Vec<Call>, Rings), AllocError>
+    ensures first { IfOk result (λ r. AreCallsOf part.entry.first.now r.0.items) }
+    ensures calls { IfOk result (λ r. AreCallsOf part.entry.calls.now r.1.items) }
 {
     let first = calls_of(alloc, part.first)?;
     let calls = calls_of(alloc, part.calls)?;
-    let rings = Rings::new(alloc, dcs, manner.workers)?;
-    let workload = Workload {
-        first,
-        calls,
-        place: part.place,
-        manner,
-    };
-    Ok((workload, rings))
+    let rings = Rings::new(alloc, dcs, part.manner.workers)?;
+    Ok((first, calls, rings))
 }
 
-/// Answers calls on this ground, and hands back what they left with what they were answered.
-pub fn answer_on<R: Clock + Threads + Wait + Sync>(
-    rt: &R,
-    alloc: Global,
-    ground: Ground,
-    workload: &Workload,
-    waits: &Waits,
-    rings: Rings,
-) -> Result<(Ground, Answers), Stop>
-    ensures answered { IfOk result (λ r. AreAnswered ground.state workload.now.first.items workload.now.calls.items
-        r.1.first.items r.1.calls.items r.0.state) }
-    ensures served { IfOk result (λ r. AreServed ground.dcs.items r.0.dcs.items) }
-    ensures kept { KeepsLog ground.journal ground.state.events → IfOk result (λ r. KeepsLog r.0.journal r.0.state.events) }
-    ensures same { IfOk result (λ r. is_some r.0.journal ≡ is_some ground.journal) }
-    ensures range { IfOk result (λ _. InRange workload.now.manner.workers workload.now.manner.tries) }
-    ensures fault { IfErr result (Stops (is_some ground.journal) workload.now.manner.workers workload.now.manner.tries) }
-{
-    let Ground {
-        state,
-        dcs,
-        journal,
-    } = ground;
-    let (answered, dcs) = answer_served(rt, alloc, state, dcs, workload, waits, rings, journal);
-    match answered {
-        Ok(answered) => match dcs {
-            Ok(dcs) => Ok(with_dcs(answered, dcs)),
-            Err(error) => {
-                drop(answered);
-                Err(Stop::from(error))
-            }
-        },
-        Err(stop) => {
-            drop(dcs);
-            Err(stop)
-        }
-    }
-}
-
-impl Told {
-    // Nothing.
-    fn new(alloc: Global) -> Told
-        ensures { (result.answers.first.items ≡ []) × (result.answers.calls.items ≡ []) × (string_bytes result.lines ≡ []) }
+impl RunOutcome {
+    // Of no call yet.
+    fn new(alloc: Global, ground: Ground) -> RunOutcome
+        ensures { (result.ground ≡ ground) × (result.answers.first.items ≡ []) × (result.answers.calls.items ≡ [])
+            × (string_bytes result.lines ≡ []) }
     {
-        Told {
+        RunOutcome {
+            ground,
             answers: Answers::new(alloc),
             lines: String::new(alloc),
+            renewal: Renewal::Unwanted,
         }
     }
 
     // Adds what more calls were answered, and their lines, by the state behind them.
-    fn add(
-        &mut self,
-        alloc: Global,
-        results: bool,
-        state: &TcState,
-        more: Answers,
-    ) -> Result<(), AllocError>
+    fn add(&mut self, alloc: Global, results: bool, more: Answers) -> Result<(), AllocError>
+        ensures ground { OnOk result (self.new.ground ≡ self.old.ground) }
         ensures first { OnOk result (self.new.answers.first.items ≡ self.old.answers.first.items ++ more.first.items) }
         ensures calls { OnOk result (self.new.answers.calls.items ≡ self.old.answers.calls.items ++ more.calls.items) }
-        ensures lines { OnOk result (string_bytes self.new.lines ≡ string_bytes self.old.lines ++ (answer_lines (codes "first") more.first.items
-            ++ call_lines results state.now.procs state.now.events (length self.old.answers.calls.items) more.calls.items)) }
+        ensures lines { OnOk result (string_bytes self.new.lines ≡ string_bytes self.old.lines
+            ++ (answer_lines (codes "first") more.first.items
+            ++ call_lines results self.old.ground.state.procs self.old.ground.state.events
+            (length self.old.answers.calls.items) more.calls.items)) }
     {
         if write_answers(alloc, "first", more.first.as_slice(), &mut self.lines).is_err() {
             drop(more);
@@ -148,7 +90,7 @@ impl Told {
         write_calls(
             alloc,
             results,
-            state,
+            &self.ground.state,
             self.answers.calls.as_slice(),
             before,
             &mut self.lines,
@@ -156,27 +98,42 @@ impl Told {
     }
 }
 
-// Adds what calls were answered, and hands back what they left.
-fn tell(
+// Adds what calls were answered behind what others were.
+fn add_answered(
     alloc: Global,
     results: bool,
     answered: Result<(Ground, Answers), Stop>,
-    told: &mut Told,
-) -> Result<Ground, Stop>
-    ensures ok { IfOk result (λ g. IsOkAnd answered (λ a. (g ≡ a.0)
-        × (told.new.answers.first.items ≡ told.old.answers.first.items ++ a.1.first.items)
-        × (told.new.answers.calls.items ≡ told.old.answers.calls.items ++ a.1.calls.items)
-        × (string_bytes told.new.lines ≡ string_bytes told.old.lines ++ (answer_lines (codes "first") a.1.first.items
-        ++ call_lines results g.state.procs g.state.events (length told.old.answers.calls.items) a.1.calls.items)))) }
+    answers: Answers,
+    lines: String,
+) -> Result<RunOutcome, Stop>
+    ensures ok { IfOk result (λ o. IsOkAnd answered (λ a. (o.ground ≡ a.0)
+        × (o.answers.first.items ≡ answers.first.items ++ a.1.first.items)
+        × (o.answers.calls.items ≡ answers.calls.items ++ a.1.calls.items)
+        × (string_bytes o.lines ≡ string_bytes lines ++ (answer_lines (codes "first") a.1.first.items
+        ++ call_lines results a.0.state.procs a.0.state.events (length answers.calls.items) a.1.calls.items)))) }
     ensures fault { (keeps : Bool) (workers tries : ℕ) → IfErr answered (Stops keeps workers tries)
         → IfErr result (Stops keeps workers tries) }
 {
-    let (ground, more) = answered?;
-    match told.add(alloc, results, &ground.state, more) {
-        Ok(()) => Ok(ground),
-        Err(error) => {
-            drop(ground);
-            Err(Stop::from(error))
+    match answered {
+        Ok((ground, more)) => {
+            let mut outcome = RunOutcome {
+                ground,
+                answers,
+                lines,
+                renewal: Renewal::Unwanted,
+            };
+            match outcome.add(alloc, results, more) {
+                Ok(()) => Ok(outcome),
+                Err(error) => {
+                    drop(outcome);
+                    Err(Stop::from(error))
+                }
+            }
+        }
+        Err(stop) => {
+            drop(answers);
+            drop(lines);
+            Err(stop)
         }
     }
 }
@@ -185,26 +142,39 @@ fn tell(
 fn answer_part<R: Clock + Threads + Wait + Sync>(
     rt: &R,
     alloc: Global,
-    ground: Ground,
-    part: Part,
-    manner: Manner,
+    so_far: RunOutcome,
+    part: RunInput<script::Call>,
     waits: &Waits,
-    told: &mut Told,
-) -> Result<Ground, Stop>
-    ensures step { IfOk result (IsStep manner.results ground told.old part.entry.first.now part.entry.calls.now told.new) }
-    ensures kept { KeepsLog ground.journal ground.state.events → IfOk result (λ g. KeepsLog g.journal g.state.events) }
-    ensures same { IfOk result (λ g. is_some g.journal ≡ is_some ground.journal) }
-    ensures range { IfOk result (λ _. InRange manner.workers manner.tries) }
-    ensures fault { IfErr result (Stops (is_some ground.journal) manner.workers manner.tries) }
+) -> Result<RunOutcome, Stop>
+    ensures step { IfOk result (IsStep part.entry.manner.results so_far part.entry.first.now part.entry.calls.now) }
+    ensures kept { KeepsLog so_far.ground.journal so_far.ground.state.events
+        → IfOk result (λ o. KeepsLog o.ground.journal o.ground.state.events) }
+    ensures same { IfOk result (λ o. is_some o.ground.journal ≡ is_some so_far.ground.journal) }
+    ensures range { IfOk result (λ _. InRange part.entry.manner.workers part.entry.manner.tries) }
+    ensures fault { IfErr result (Stops (is_some so_far.ground.journal) part.entry.manner.workers part.entry.manner.tries) }
 {
-    match prepare(alloc, part, ground.dcs.len(), manner) {
-        Ok((workload, rings)) => {
-            let answered = answer_on(rt, alloc, ground, &workload, waits, rings);
-            drop(workload);
-            tell(alloc, manner.results, answered, told)
+    match prepare(alloc, part, so_far.ground.dcs.len()) {
+        Ok((first, calls, rings)) => {
+            let RunOutcome {
+                ground,
+                answers,
+                lines,
+                renewal: _,
+            } = so_far;
+            let input = RunInput {
+                first: first.as_slice(),
+                calls: calls.as_slice(),
+                place: part.place,
+                manner: part.manner,
+                checkpoints: part.checkpoints,
+            };
+            let answered = answer_on(rt, alloc, ground, input, waits, rings);
+            drop(first);
+            drop(calls);
+            add_answered(alloc, part.manner.results, answered, answers, lines)
         }
         Err(error) => {
-            drop(ground);
+            drop(so_far);
             Err(Stop::from(error))
         }
     }
@@ -216,95 +186,69 @@ fn answer_next<R: Files<File = File> + Clock + Threads + Wait + Sync>(
     rt: &R,
     alloc: Global,
     path: &str,
-    over: Option<u64>,
-    ground: Ground,
-    part: Part,
-    manner: Manner,
+    so_far: RunOutcome,
+    part: RunInput<script::Call>,
     waits: &Waits,
-    told: &mut Told,
-) -> Result<Ground, Stop>
-    ensures step { IfOk result (λ g. (anew : GroundValue) × (renewal : Renewal)
-        × IsRenewal ground.state ground.dcs.items anew.state anew.dcs.items renewal × IsHeeded anew.journal over renewal
-        × IsStep manner.results anew told.old part.entry.first.now part.entry.calls.now told.new g) }
-    ensures kept { KeepsLog ground.journal ground.state.events → IfOk result (λ g. KeepsLog g.journal g.state.events) }
-    ensures same { IfOk result (λ g. is_some g.journal ≡ is_some ground.journal) }
-    ensures range { IfOk result (λ _. InRange manner.workers manner.tries) }
-    ensures fault { TriesFit manner.tries → IfErr result (Stops (is_some ground.journal) manner.workers manner.tries) }
+) -> Result<RunOutcome, Stop>
+    ensures step { IfOk result (λ o. (anew : GroundValue) × (renewal : Renewal)
+        × IsRenewal so_far.ground.state so_far.ground.dcs.items anew.state anew.dcs.items renewal
+        × IsHeeded anew.journal part.entry.checkpoints.over renewal
+        × IsStep part.entry.manner.results (with_ground so_far anew) part.entry.first.now part.entry.calls.now o) }
+    ensures kept { KeepsLog so_far.ground.journal so_far.ground.state.events
+        → IfOk result (λ o. KeepsLog o.ground.journal o.ground.state.events) }
+    ensures same { IfOk result (λ o. is_some o.ground.journal ≡ is_some so_far.ground.journal) }
+    ensures range { IfOk result (λ _. InRange part.entry.manner.workers part.entry.manner.tries) }
+    ensures fault { TriesFit part.entry.manner.tries
+        → IfErr result (Stops (is_some so_far.ground.journal) part.entry.manner.workers part.entry.manner.tries) }
 {
-    let mut ground = ground;
-    match renew(rt, alloc, path, over, &mut ground) {
-        Ok(_renewal) => answer_part(rt, alloc, ground, part, manner, waits, told),
+    let mut so_far = so_far;
+    match renew(rt, alloc, path, part.checkpoints.over, &mut so_far.ground) {
+        Ok(_renewal) => answer_part(rt, alloc, so_far, part, waits),
         Err(stop) => {
-            drop(ground);
+            drop(so_far);
             Err(stop)
         }
     }
 }
 
-// The first part: all calls, where the log isn't to begin anew between two.
-fn first_part<'a>(calls: &'a Calls) -> (Part<'a>, &'a [script::Call])
-    ensures first { result.0.first.now ≡ calls.now.first.items }
-    ensures calls { calls.now.calls.items ≡ result.0.calls.now ++ result.1.now }
-    ensures one { calls.now.options.checkpoints.over ≡ None → (result.0.calls.now ≡ calls.now.calls.items) × (result.1.now ≡ []) }
+// The first part: all calls, where the log isn't to begin anew between two. And what is left of the second list then.
+fn first_part<'a>(
+    input: RunInput<'a, script::Call>,
+) -> (RunInput<'a, script::Call>, &'a [script::Call])
+    ensures first { result.0.first.now ≡ input.entry.first.now }
+    ensures calls { input.entry.calls.now ≡ result.0.calls.now ++ result.1.now }
+    ensures one { input.entry.checkpoints.over ≡ None → (result.0.calls.now ≡ input.entry.calls.now) × (result.1.now ≡ []) }
+    ensures manner { (result.0.manner ≡ input.entry.manner) × (result.0.checkpoints ≡ input.entry.checkpoints) }
 {
-    let all = calls.calls.as_slice();
-    let most = match calls.options.checkpoints.over {
+    let all = input.calls;
+    let most = match input.checkpoints.over {
         Some(_) => PART.min(all.len()),
         None => all.len(),
     };
-    let (calls_of_part, rest) = all.split_at(most);
-    let part = Part {
-        first: calls.first.as_slice(),
-        calls: calls_of_part,
-        place: 0,
-    };
-    (part, rest)
+    let (calls, rest) = all.split_at(most);
+    (RunInput { calls, ..input }, rest)
 }
 
 // The next part of those that are left, behind so many, and what is left then.
-fn next_part<'a>(rest: &'a [script::Call], place: usize) -> (Part<'a>, &'a [script::Call])
+fn next_part<'a>(
+    input: RunInput<'a, script::Call>,
+    rest: &'a [script::Call],
+    place: usize,
+) -> (RunInput<'a, script::Call>, &'a [script::Call])
     requires { 0 < length rest.now }
     ensures first { result.0.first.now ≡ [] }
-    ensures calls { rest.now ≡ result.0.calls.now ++ result.1.now }
-    ensures fewer { length result.1.now < length rest.now }
+    ensures calls { rest.entry.now ≡ result.0.calls.now ++ result.1.now }
+    ensures fewer { length result.1.now < length rest.entry.now }
+    ensures manner { (result.0.manner ≡ input.entry.manner) × (result.0.checkpoints ≡ input.entry.checkpoints) }
 {
     let (calls, rest) = rest.split_at(PART.min(rest.len()));
-    let part = Part {
+    let part = RunInput {
         first: &[],
         calls,
         place,
+        ..input
     };
     (part, rest)
-}
-
-// Answers all calls, in parts between which the log begins anew where its file has grown.
-fn answer_all_parts<R: Files<File = File> + Clock + Threads + Wait + Sync>(
-    rt: &R,
-    alloc: Global,
-    path: &str,
-    ground: Ground,
-    calls: &Calls,
-    waits: &Waits,
-    told: &mut Told,
-) -> Result<Ground, Stop>
-    requires { (told.old.answers.first.items ≡ []) × (told.old.answers.calls.items ≡ []) × (string_bytes told.old.lines ≡ []) }
-    ensures come { IfOk result (HasCome calls.now.options.manner.results ground.state ground.dcs.items calls.now.options.checkpoints.over
-        calls.now.first.items calls.now.calls.items told.new) }
-    ensures kept { KeepsLog ground.journal ground.state.events → IfOk result (λ g. KeepsLog g.journal g.state.events) }
-    ensures same { IfOk result (λ g. is_some g.journal ≡ is_some ground.journal) }
-    ensures range { IfOk result (λ _. InRange calls.now.options.manner.workers calls.now.options.manner.tries) }
-    ensures fault { IfErr result (Stops (is_some ground.journal) calls.now.options.manner.workers calls.now.options.manner.tries) }
-{
-    let manner = calls.options.manner;
-    let over = calls.options.checkpoints.over;
-    let (part, mut rest) = first_part(calls);
-    let mut ground = answer_part(rt, alloc, ground, part, manner, waits, told)?;
-    'parts: while !rest.is_empty() {
-        let (part, behind) = next_part(rest, calls.calls.len() - rest.len());
-        ground = answer_next(rt, alloc, path, over, ground, part, manner, waits, told)?;
-        rest = behind;
-    }
-    Ok(ground)
 }
 
 // Begins the log anew behind the last call, where that is wanted.
@@ -313,26 +257,25 @@ fn renew_last<F: Files<File = File>>(
     alloc: Global,
     path: &str,
     over: Option<u64>,
-    ground: Ground,
-    told: Told,
-) -> Result<Outcome, Stop>
-    ensures renewed { IfOk result (λ o. IsRenewal ground.state ground.dcs.items o.ground.state o.ground.dcs.items o.renewal) }
-    ensures told { IfOk result (λ o. o.told ≡ told) }
+    outcome: RunOutcome,
+) -> Result<RunOutcome, Stop>
+    ensures renewed { IfOk result (λ o. IsRenewal outcome.ground.state outcome.ground.dcs.items
+        o.ground.state o.ground.dcs.items o.renewal) }
+    ensures answers { IfOk result (λ o. (o.answers ≡ outcome.answers) × (o.lines ≡ outcome.lines)) }
     ensures unwanted { IfOk result (λ o. over ≡ None → o.renewal ≡ Unwanted) }
     ensures heeded { IfOk result (λ o. IsHeeded o.ground.journal over o.renewal) }
-    ensures kept { KeepsLog ground.journal ground.state.events → IfOk result (λ o. KeepsLog o.ground.journal o.ground.state.events) }
-    ensures fault { IfErr result (IsUnkept (is_some ground.journal)) }
+    ensures kept { KeepsLog outcome.ground.journal outcome.ground.state.events
+        → IfOk result (λ o. KeepsLog o.ground.journal o.ground.state.events) }
+    ensures fault { IfErr result (IsUnkept (is_some outcome.ground.journal)) }
 {
-    let mut ground = ground;
-    match renew(rt, alloc, path, over, &mut ground) {
-        Ok(renewal) => Ok(Outcome {
-            ground,
-            told,
-            renewal,
-        }),
+    let mut outcome = outcome;
+    match renew(rt, alloc, path, over, &mut outcome.ground) {
+        Ok(renewal) => {
+            outcome.renewal = renewal;
+            Ok(outcome)
+        }
         Err(stop) => {
-            drop(ground);
-            drop(told);
+            drop(outcome);
             Err(stop)
         }
     }
@@ -344,24 +287,22 @@ pub fn answer_parts<R: Files<File = File> + Clock + Threads + Wait + Sync>(
     alloc: Global,
     path: &str,
     ground: Ground,
-    calls: &Calls,
+    input: RunInput<script::Call>,
     waits: &Waits,
-) -> Result<Outcome, Stop>
-    ensures ended { IfOk result (HasEnded calls.now.options.manner.results ground.state ground.dcs.items
-        calls.now.first.items calls.now.calls.items calls.now.options.checkpoints) }
+) -> Result<RunOutcome, Stop>
+    ensures ended { IfOk result (HasEnded input.entry.manner.results ground.state ground.dcs.items
+        input.entry.first.now input.entry.calls.now input.entry.checkpoints) }
     ensures kept { KeepsLog ground.journal ground.state.events → IfOk result (λ o. KeepsLog o.ground.journal o.ground.state.events) }
-    ensures range { IfOk result (λ _. InRange calls.now.options.manner.workers calls.now.options.manner.tries) }
-    ensures fault { IfErr result (Stops (is_some ground.journal) calls.now.options.manner.workers calls.now.options.manner.tries) }
+    ensures range { IfOk result (λ _. InRange input.entry.manner.workers input.entry.manner.tries) }
+    ensures fault { IfErr result (Stops (is_some ground.journal) input.entry.manner.workers input.entry.manner.tries) }
 {
-    let mut told = Told::new(alloc);
-    match answer_all_parts(rt, alloc, path, ground, calls, waits, &mut told) {
-        Ok(ground) => {
-            let over = calls.options.checkpoints.over_at_end();
-            renew_last(rt, alloc, path, over, ground, told)
-        }
-        Err(stop) => {
-            drop(told);
-            Err(stop)
-        }
+    let (part, mut rest) = first_part(input);
+    let mut outcome = answer_part(rt, alloc, RunOutcome::new(alloc, ground), part, waits)?;
+    'parts: while !rest.is_empty() {
+        let (part, behind) = next_part(input, rest, input.calls.len() - rest.len());
+        outcome = answer_next(rt, alloc, path, outcome, part, waits)?;
+        rest = behind;
     }
+    let over = input.checkpoints.over_at_end();
+    renew_last(rt, alloc, path, over, outcome)
 }

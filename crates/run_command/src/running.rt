@@ -14,19 +14,18 @@ ghost use Rattle.run_command.specs.Answered.{said_call, AreCallsOf};
 ghost use Rattle.run_command.specs.Parts.{IsKeptSo};
 ghost use Rattle.run_command.specs.Stops.{IsUnkept, Stops};
 ghost use Rattle.run_command.specs.declared.stop.Stop.TheVariants as Stop;
-ghost use Rattle.run_command.specs.Running.{is_want_of_memory, AreLinesOf, IsCallsRun, IsRun, never};
+ghost use Rattle.run_command.specs.Running.{is_want_of_memory, AreLinesOf, IsCallsRun, IsRun};
 
 pub use crate::anew::{Checkpoints, Ground};
 use crate::anew::{Renewal, write_renewal};
 use crate::answer_lines::fault_line;
 pub use crate::answer_lines::write_answers;
 use crate::answering::FileJournal;
-pub use crate::answering::{Answers, Manner, Rings, Workload};
+pub use crate::answering::{Answers, Manner, Rings, RunInput, answer_on};
 use crate::figures::{
     Watched, delay_lines, figures, full_dcs, latency_lines, log_figures, procedure_lines, rate,
 };
-pub use crate::parts::answer_on;
-use crate::parts::{Outcome, Told, answer_parts};
+use crate::parts::{RunOutcome, answer_parts};
 pub use crate::stop::Stop;
 pub use crate::watching::{Listeners, Waits};
 use data_component::dc::Dc;
@@ -134,14 +133,13 @@ pub fn write_found(
 fn reported(
     alloc: Global,
     ground: &Ground,
-    said: &[script::Call],
+    input: RunInput<script::Call>,
     answers: &Answers,
     lines: String,
     renewal: Renewal,
-    manner: Manner,
     watched: Watched,
 ) -> Result<Report, AllocError>
-    ensures { IfOk result (λ r. AreLinesOf ground.now.state ground.now.dcs.items manner.audit
+    ensures { IfOk result (λ r. AreLinesOf ground.now.state ground.now.dcs.items input.entry.manner.audit
         answers.now.first.items answers.now.calls.items (string_bytes lines) renewal r.status (string_bytes r.lines)) }
 {
     let first = answers.first.as_slice();
@@ -153,12 +151,12 @@ fn reported(
     let mut lines = lines;
     write_renewal(alloc, renewal, &ground.state, &mut lines)?;
     write_all_rows(alloc, dcs, &mut lines)?;
-    let sound = write_found(alloc, manner.audit, &ground.state, dcs, &mut lines)?;
+    let sound = write_found(alloc, input.manner.audit, &ground.state, dcs, &mut lines)?;
     Ok(Report {
         status: u8::from(!sound),
         lines,
-        notes: if manner.stats {
-            Some(notes(alloc, ground, said, answers, watched)?)
+        notes: if input.manner.stats {
+            Some(notes(alloc, ground, input.calls, answers, watched)?)
         } else {
             None
         },
@@ -180,7 +178,7 @@ pub fn stopped(alloc: Global, stop: Stop) -> Result<Report, AllocError>
 
 /// The report of calls, and the journal that has kept the log behind them, if there is one.
 #[derive(Drop)]
-pub struct Ran {
+pub struct RunReport {
     pub report: Report,
     pub journal: Option<FileJournal>,
 }
@@ -203,12 +201,12 @@ fn journal_of(ground: Ground) -> Option<FileJournal>
 fn with_journal(
     report: Result<Report, AllocError>,
     journal: Option<FileJournal>,
-) -> Result<Ran, Stop>
+) -> Result<RunReport, Stop>
     ensures ok { IfOk result (λ r. (report ≡ Ok r.report) × (r.journal ≡ journal)) }
     ensures err { IfErr result (λ e. e ≡ Stop.Memory) }
 {
     match report {
-        Ok(report) => Ok(Ran { report, journal }),
+        Ok(report) => Ok(RunReport { report, journal }),
         Err(AllocError) => {
             drop(journal);
             Err(Stop::Memory)
@@ -218,26 +216,28 @@ fn with_journal(
 
 // Ends what is told of calls while they last: with the metrics, the trace and, unless that stands among the figures, which
 // data components are full.
-fn tell_end(waits: &Waits, calls: &Calls, answers: &Answers, ground: &Ground) {
+fn tell_end(waits: &Waits, input: RunInput<script::Call>, outcome: &RunOutcome) {
     waits.end();
-    let journal = ground.journal.as_ref();
+    let journal = outcome.ground.journal.as_ref();
     waits.write_metrics(journal.map(|journal| journal.device().syncs()));
     waits.write_trace(
-        ground.state.procs(),
-        calls.calls.as_slice(),
-        answers.calls.as_slice(),
+        outcome.ground.state.procs(),
+        input.calls,
+        outcome.answers.calls.as_slice(),
     );
-    if !calls.options.manner.stats {
-        waits.tell_full(ground.dcs.as_slice());
+    if !input.manner.stats {
+        waits.tell_full(outcome.ground.dcs.as_slice());
     }
 }
 
 // The report of calls that were stopped, or why there is none.
-fn stopped_at(alloc: Global, waits: &Waits, stop: Stop) -> Result<Ran, Stop>
+fn stopped_at(alloc: Global, waits: Waits, stop: Stop) -> Result<RunReport, Stop>
     ensures ok { IfOk result (λ r. (r.report.status ≡ 1) × (fault_line stop ≡ Some (string_bytes r.report.lines))) }
     ensures fault { (keeps : Bool) (workers tries : ℕ) → Stops keeps workers tries stop → IfErr result (IsUnkept keeps) }
 {
+    waits.write_metrics(None);
     waits.end();
+    drop(waits);
     match stop {
         Stop::NotKept(_) => Err(stop),
         _ => with_journal(stopped(alloc, stop), None),
@@ -252,142 +252,63 @@ pub struct RunOptions<'a> {
     pub listeners: Listeners<'a>,
 }
 
-/// Both lists of calls of a loaded script, and how they are run.
-#[derive(Drop)]
-pub struct Calls<'a> {
-    pub first: Vec<script::Call>,
-    pub calls: Vec<script::Call>,
-    pub options: RunOptions<'a>,
-}
-
-// Runs both lists of calls.
-fn run_calls<R: Files<File = File> + Clock + Threads + Wait + Sync>(
-    rt: &R,
+// The report of calls that were answered, behind what is told of them in the end.
+fn ended(
     alloc: Global,
-    path: &str,
-    ground: Ground,
-    calls: &Calls,
-    waits: &Waits,
-) -> Result<Ran, Stop>
-    ensures run { KeepsLog ground.journal ground.state.events → IfOk result (λ r. IsCallsRun (IsKeptSo r.journal calls.now.options.checkpoints)
-        calls.now.options.checkpoints ground.state ground.dcs.items calls.now.first.items calls.now.calls.items
-        calls.now.options.manner.workers calls.now.options.manner.tries calls.now.options.manner.audit calls.now.options.manner.results
+    waits: Waits,
+    input: RunInput<script::Call>,
+    outcome: RunOutcome,
+) -> Result<RunReport, Stop>
+    ensures ok { IfOk result (λ r. (r.journal ≡ outcome.ground.journal)
+        × AreLinesOf outcome.ground.state outcome.ground.dcs.items input.entry.manner.audit
+        outcome.answers.first.items outcome.answers.calls.items (string_bytes outcome.lines) outcome.renewal
         r.report.status (string_bytes r.report.lines)) }
-    ensures fault { IfErr result (IsUnkept (is_some ground.journal)) }
+    ensures err { IfErr result (λ e. e ≡ Stop.Memory) }
 {
-    match answer_parts(rt, alloc, path, ground, calls, waits) {
-        Ok(outcome) => {
-            let Outcome {
-                ground,
-                told,
-                renewal,
-            } = outcome;
-            let Told { answers, lines } = told;
-            let manner = calls.options.manner;
-            tell_end(waits, calls, &answers, &ground);
-            let watched = waits.watched();
-            let said = calls.calls.as_slice();
-            let report = reported(
-                alloc, &ground, said, &answers, lines, renewal, manner, watched,
-            );
-            drop(answers);
-            with_journal(report, journal_of(ground))
-        }
-        Err(stop) => {
-            waits.write_metrics(None);
-            stopped_at(alloc, waits, stop)
-        }
-    }
+    tell_end(&waits, input, &outcome);
+    let RunOutcome {
+        ground,
+        answers,
+        lines,
+        renewal,
+    } = outcome;
+    let watched = waits.watched();
+    let report = reported(alloc, &ground, input, &answers, lines, renewal, watched);
+    drop(waits);
+    drop(answers);
+    with_journal(report, journal_of(ground))
 }
 
-/// Runs the calls on this ground, and keeps the log where there is a journal, in the file of this path.
+/// Runs the calls on this ground, and keeps the log where there is a journal, in the file of this path. The listeners are
+/// told of the second list's calls meanwhile.
 pub fn run_from<R: Files<File = File> + Clock + Threads + Wait + Sync>(
     rt: &R,
     alloc: Global,
     path: &str,
     ground: Ground,
-    calls: &Calls,
-) -> Result<Ran, Stop>
-    ensures run { KeepsLog ground.journal ground.state.events → IfOk result (λ r. IsCallsRun (IsKeptSo r.journal calls.now.options.checkpoints)
-        calls.now.options.checkpoints ground.state ground.dcs.items calls.now.first.items calls.now.calls.items
-        calls.now.options.manner.workers calls.now.options.manner.tries calls.now.options.manner.audit calls.now.options.manner.results
+    input: RunInput<script::Call>,
+    listeners: Listeners,
+) -> Result<RunReport, Stop>
+    ensures run { KeepsLog ground.journal ground.state.events → IfOk result (λ r. IsCallsRun (IsKeptSo r.journal input.entry.checkpoints)
+        input.entry.checkpoints ground.state ground.dcs.items input.entry.first.now input.entry.calls.now
+        input.entry.manner.workers input.entry.manner.tries input.entry.manner.audit input.entry.manner.results
         r.report.status (string_bytes r.report.lines)) }
     ensures fault { IfErr result (IsUnkept (is_some ground.journal)) }
 {
-    let RunOptions {
-        manner,
-        listeners,
-        checkpoints: _,
-    } = calls.options;
-    let log = if ground.journal.is_some() {
-        Some(path)
-    } else {
-        None
-    };
-    match Waits::new(rt, alloc, calls.calls.len(), manner.stats, listeners, log) {
+    let RunInput { calls, manner, .. } = input;
+    let log = ground.journal.is_some().then_some(path);
+    match Waits::new(rt, alloc, calls.len(), manner.stats, listeners, log) {
         Ok(waits) => {
             waits.begin();
-            let ran = run_calls(rt, alloc, path, ground, calls, &waits);
-            drop(waits);
-            ran
+            match answer_parts(rt, alloc, path, ground, input, &waits) {
+                Ok(outcome) => ended(alloc, waits, input, outcome),
+                Err(stop) => stopped_at(alloc, waits, stop),
+            }
         }
         Err(AllocError) => {
             drop(ground);
             Err(Stop::Memory)
         }
-    }
-}
-
-/// What calls are run on, of a script that is loaded, with a journal if there is one, and its calls.
-pub fn ground_and_calls<'a>(
-    loaded: Loaded,
-    journal: Option<FileJournal>,
-    options: RunOptions<'a>,
-) -> (Ground, Calls<'a>)
-    ensures ground { (result.0.state ≡ loaded.state) × (result.0.dcs ≡ loaded.dcs) × (result.0.journal ≡ journal) }
-    ensures calls { (result.1.first ≡ loaded.first) × (result.1.calls ≡ loaded.calls) × (result.1.options ≡ options.entry) }
-{
-    let Loaded {
-        state,
-        dcs,
-        steps: _,
-        first,
-        calls,
-    } = loaded;
-    let ground = Ground {
-        state,
-        dcs,
-        journal,
-    };
-    let calls = Calls {
-        first,
-        calls,
-        options,
-    };
-    (ground, calls)
-}
-
-// Runs the calls of a script that is loaded, without a journal.
-fn run_loaded<R: Files<File = File> + Clock + Threads + Wait + Sync>(
-    rt: &R,
-    alloc: Global,
-    loaded: Loaded,
-    manner: Manner,
-    listeners: Listeners,
-) -> Result<Report, AllocError>
-    ensures { IfOk result (λ r. IsCallsRun (λ _ _. Unit {0}) never loaded.state loaded.dcs.items loaded.first.items loaded.calls.items
-        manner.workers manner.tries manner.audit manner.results r.status (string_bytes r.lines)) }
-{
-    let options = RunOptions {
-        manner,
-        checkpoints: Checkpoints::NONE,
-        listeners,
-    };
-    let (ground, calls) = ground_and_calls(loaded, None, options);
-    match run_from(rt, alloc, "", ground, &calls) {
-        Ok(Ran { report, journal: _ }) => Ok(report),
-        Err(Stop::NotKept(_)) => unreachable!(),
-        Err(_) => Err(AllocError),
     }
 }
 
@@ -404,8 +325,32 @@ pub fn running<R: Files<File = File> + Clock + Threads + Wait + Sync>(
     ensures { IfOk result (λ r. IsRun manner.workers manner.tries manner.audit manner.results (beginning_of command.Run source.entry)
         r.status (string_bytes r.lines)) }
 {
-    match load_source(alloc, Command::Run, source)? {
-        Loading::Ready(loaded) => run_loaded(rt, alloc, loaded, manner, listeners),
-        Loading::Refused(report) => Ok(report),
+    let loaded = match load_source(alloc, Command::Run, source)? {
+        Loading::Ready(loaded) => loaded,
+        Loading::Refused(report) => return Ok(report),
+    };
+    let Loaded {
+        state,
+        dcs,
+        steps: _,
+        first,
+        calls,
+    } = loaded;
+    let ground = Ground {
+        state,
+        dcs,
+        journal: None,
+    };
+    let input = RunInput {
+        first: first.as_slice(),
+        calls: calls.as_slice(),
+        place: 0,
+        manner,
+        checkpoints: Checkpoints::NONE,
+    };
+    match run_from(rt, alloc, "", ground, input, listeners) {
+        Ok(RunReport { report, journal: _ }) => Ok(report),
+        Err(Stop::NotKept(_)) => unreachable!(),
+        Err(_) => Err(AllocError),
     }
 }

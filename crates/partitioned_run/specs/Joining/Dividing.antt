@@ -9,7 +9,7 @@ use Rattle.script_loading.specs.Loading.{first_unverified}
 use Rattle.verifier.specs.Checked.{Checked}
 use Rattle.run_command.specs.declared.stop.Stop.{Stop}
 use Rattle.run_command.specs.Running.{begun, empty_stores}
-use Rattle.partitioned_run.specs.declared.answering.Ran.{Ran}
+use Rattle.partitioned_run.specs.declared.answering.PartitionOutcome.{PartitionOutcome}
 use Rattle.partitioned_run.specs.declared.dividing.Division.{Division}
 use Rattle.partitioned_run.specs.Partitioned.{decl_of, partition_of_call, IsAnsweredBy}
 
@@ -29,12 +29,12 @@ pub record IsDivided (object : Option (List ℕ)) (s : Script) (d : Division) : 
   pub numbered : AreDivided (contents_of s) d
 
 -- those of one partition are answered
-abbrev pub IsPartitionRun : Contents → Division → ℕ → Ran → Type 0
+abbrev pub IsPartitionRun : Contents → Division → ℕ → PartitionOutcome → Type 0
 IsPartitionRun c d number ran =
     IsAnsweredBy (begun c) (empty_stores c) (picked number d.first.items c.first) (picked number d.calls.items c.calls)
     ran.answers.first.items ran.answers.calls.items ran.ground
 
 -- those of so many partitions
-abbrev pub AreRun : Contents → Division → ℕ → List (Result Ran Stop) → Type 0
+abbrev pub AreRun : Contents → Division → ℕ → List (Result PartitionOutcome Stop) → Type 0
 AreRun c d count all =
-    (length all ≡ count) × ((p : ℕ) (other : Result Ran Stop) → p < count → IfOk (get_or all p other) (IsPartitionRun c d p))
+    (length all ≡ count) × ((p : ℕ) (other : Result PartitionOutcome Stop) → p < count → IfOk (get_or all p other) (IsPartitionRun c d p))

@@ -12,18 +12,18 @@ use Rattle.run_command.specs.Running.{begun, empty_stores}
 use Rattle.partitions.specs.Picking.{picked}
 use Rattle.partitioned_run.specs.Partitioned.{IsAnsweredBy}
 use Rattle.partitioned_run.specs.declared.dividing.Division.{Division}
-use Rattle.partitioned_run.specs.declared.answering.Ran.{Ran}
+use Rattle.partitioned_run.specs.declared.answering.PartitionOutcome.{PartitionOutcome}
 use Rattle.partitioned_run.specs.declared.reporting.All.{All}
 
 -- each in the order of the partitions
-abbrev pub AreAll : List Ran → All → Type 0
+abbrev pub AreAll : List PartitionOutcome → All → Type 0
 AreAll runs all =
-    (all.grounds.items ≡ map (λ (ran : Ran). ran.ground) runs) × (all.first.items ≡ map (λ (ran : Ran). ran.answers.first) runs)
-    × (all.calls.items ≡ map (λ (ran : Ran). ran.answers.calls) runs)
+    (all.grounds.items ≡ map (λ (ran : PartitionOutcome). ran.ground) runs) × (all.first.items ≡ map (λ (ran : PartitionOutcome). ran.answers.first) runs)
+    × (all.calls.items ≡ map (λ (ran : PartitionOutcome). ran.answers.calls) runs)
 
 -- what all runs came to, none of which was stopped
-pub record AreAllOf (ran : List (Result Ran Stop)) (all : All) : Type 0 where
-  pub runs : List Ran
+pub record AreAllOf (ran : List (Result PartitionOutcome Stop)) (all : All) : Type 0 where
+  pub runs : List PartitionOutcome
   pub oks : ran ≡ map Ok runs
   pub together : AreAll runs all
 

@@ -7,31 +7,29 @@ use Rattle.log_file.specs.Bytes.{Rows}
 use Rattle.log_file.specs.Found.{base_in}
 use Rattle.tc_core.specs.Core.{Core}
 use Rattle.coming_back.specs.declared.resumed.Resumed.{Resumed}
-use Rattle.run_command.specs.declared.logged.Opened.{Opened}
-use Rattle.run_command.specs.declared.logged.Opening.{Opening}
-use Rattle.run_command.specs.declared.logged.Opening.TheVariants as opening
-use Rattle.run_command.specs.declared.logged.Back.{Back}
-use Rattle.run_command.specs.declared.logged.Coming.{Coming}
-use Rattle.run_command.specs.declared.logged.Coming.TheVariants as coming
+use Rattle.std.specs.declared.alloc.Global.{Global}
+use Rattle.std.specs.declared.string.String.{String}
+use Rattle.run_command.specs.declared.logged.OpenLog.{OpenLog}
+use Rattle.run_command.specs.declared.logged.Recovered.{Recovered}
+use Rattle.run_command.specs.declared.logged.Recovery.{Recovery}
+use Rattle.run_command.specs.declared.logged.Recovery.TheVariants.{Ready, Refused}
 use Rattle.coming_back.specs.declared.coming.ComeBackFault.{ComeBackFault}
-use Rattle.run_command.specs.declared.logged.GoingBack.{GoingBack}
-use Rattle.run_command.specs.declared.logged.GoingBack.TheVariants as going
 use Rattle.run_command.specs.LogLines.{back_lines, back_refusal}
 use Rattle.run_command.specs.Kept.{FileJournal, KeepsLog}
 use Rattle.run_command.specs.Logged.{IsLogFor, HasComeBack, GoesOn, IsLogRefusal}
 
 -- the file has this log, which the journal keeps
-pub record IsOpened (start : Core) (o : Opened) : Type 0 where
+pub record IsOpened (start : Core) (o : OpenLog) : Type 0 where
   pub file : List ℕ
   pub is_log : IsLogFor start file (base_in o.base) o.log.events
   pub kept : KeepsLog (Some o.journal) o.log.events
 
-abbrev pub IsOpening : Core → List Store → Opening → Type 0
-IsOpening start empties (opening.Open o) = IsOpened start o
-IsOpening start empties (opening.Refused report) = IsLogRefusal start empties (string_bytes report.lines) × (report.status ≡ 1)
+abbrev pub IsOpening : Core → List Store → Recovery OpenLog → Type 0
+IsOpening start empties (Ready o) = IsOpened start o
+IsOpening start empties (Refused report) = IsLogRefusal start empties (string_bytes report.lines) × (report.status ≡ 1)
 
 -- what came back from the log, with its lines, and the journal that keeps its log
-pub record IsBack (start : Core) (empties : List Store) (log : List Event) (back : Core) (dcs : List Store) (b : Back) : Type 0 where
+pub record IsBack (start : Core) (empties : List Store) (log : List Event) (back : Core) (dcs : List Store) (b : Recovered) : Type 0 where
   pub resumed : List Resumed
   pub came_back : HasComeBack start empties log back dcs resumed
   pub goes_on : GoesOn start empties log back dcs
@@ -41,37 +39,37 @@ pub record IsBack (start : Core) (empties : List Store) (log : List Event) (back
   pub lines : string_bytes b.lines ≡ back_lines (length log) dropped path resumed
 
 -- why the log isn't gone on from
-abbrev pub IsUnfit : ComeBackFault → Coming → Type 0
-IsUnfit fault (coming.Lines lines) = ⊥
-IsUnfit fault (coming.Refused report) = (back_refusal fault ≡ Some (string_bytes report.lines)) × (report.status ≡ 1)
+abbrev pub IsUnfit : ComeBackFault → Recovery (String Global) → Type 0
+IsUnfit fault (Ready lines) = ⊥
+IsUnfit fault (Refused report) = (back_refusal fault ≡ Some (string_bytes report.lines)) × (report.status ≡ 1)
 
 -- data components began with the records before the log, and what came back from it then, with its lines, and the journal that keeps its log
-pub record IsBackFrom (start : Core) (empties : List Store) (base : Option Rows) (log : List Event) (back : Core) (dcs : List Store) (b : Back)
+pub record IsBackFrom (start : Core) (empties : List Store) (base : Option Rows) (log : List Event) (back : Core) (dcs : List Store) (b : Recovered)
     : Type 0 where
   pub begun : List Store
   pub begins : HaveBegun base (reverse log) empties begun
   pub is_back : IsBack start begun log back dcs b
 
 -- the same as lines, and a journal
-abbrev pub IsComing : Core → List Store → Option Rows → List Event → Core → List Store → FileJournal → Coming → Type 0
-IsComing start empties base log back dcs journal (coming.Lines lines) =
+abbrev pub IsComing : Core → List Store → Option Rows → List Event → Core → List Store → FileJournal → Recovery (String Global) → Type 0
+IsComing start empties base log back dcs journal (Ready lines) =
     IsBackFrom start empties base log back dcs (record { journal = journal; lines = lines })
-IsComing start empties base log back dcs journal (coming.Refused report) =
+IsComing start empties base log back dcs journal (Refused report) =
     IsLogRefusal start empties (string_bytes report.lines) × (report.status ≡ 1)
 
-abbrev pub IsGoingBack : Core → List Store → Option Rows → List Event → Core → List Store → GoingBack → Type 0
-IsGoingBack start empties base log back dcs (going.Back b) = IsBackFrom start empties base log back dcs b
-IsGoingBack start empties base log back dcs (going.Refused report) =
+abbrev pub IsGoingBack : Core → List Store → Option Rows → List Event → Core → List Store → Recovery Recovered → Type 0
+IsGoingBack start empties base log back dcs (Ready b) = IsBackFrom start empties base log back dcs b
+IsGoingBack start empties base log back dcs (Refused report) =
     IsLogRefusal start empties (string_bytes report.lines) × (report.status ≡ 1)
 
 -- a log was opened and gone on from
-pub record IsBackTo (start : Core) (empties : List Store) (back : Core) (dcs : List Store) (b : Back) : Type 0 where
+pub record IsBackTo (start : Core) (empties : List Store) (back : Core) (dcs : List Store) (b : Recovered) : Type 0 where
   pub file : List ℕ
   pub base : Option Rows
   pub log : List Event
   pub is_log : IsLogFor start file base log
   pub from : IsBackFrom start empties base log back dcs b
 
-abbrev pub IsBegun : Core → List Store → Core → List Store → GoingBack → Type 0
-IsBegun start empties back dcs (going.Back b) = IsBackTo start empties back dcs b
-IsBegun start empties back dcs (going.Refused report) = IsLogRefusal start empties (string_bytes report.lines) × (report.status ≡ 1)
+abbrev pub IsBegun : Core → List Store → Core → List Store → Recovery Recovered → Type 0
+IsBegun start empties back dcs (Ready b) = IsBackTo start empties back dcs b
+IsBegun start empties back dcs (Refused report) = IsLogRefusal start empties (string_bytes report.lines) × (report.status ≡ 1)

@@ -6,45 +6,47 @@ use Rattle.tc_core.specs.Core.{Core}
 use Rattle.worker_pool.specs.declared.answer.Answer.{Answer}
 use Rattle.run_command.specs.declared.anew.Checkpoints.{Checkpoints}
 use Rattle.run_command.specs.declared.anew.Ground.{Ground}
-use Rattle.run_command.specs.declared.parts.Outcome.{Outcome}
-use Rattle.run_command.specs.declared.parts.Told.{Told}
+use Rattle.run_command.specs.declared.parts.RunOutcome.{RunOutcome}
 use Rattle.run_command.specs.Anew.{IsRenewal, IsHeeded}
 use Rattle.run_command.specs.Parts.{Stage, IsPart, HaveLed, AreOne, IsWanted, over_at_end}
 
+-- the same on another ground
+abbrev pub with_ground : (o : RunOutcome) (ground : Ground) → RunOutcome
+with_ground o ground = record o { ground = ground }
+
 -- one part more is answered, and its lines stand behind the others
-pub record IsStep (results : Bool) (was : Ground) (told : Told) (first calls : List Call) (all : Told) (now : Ground) : Type 0 where
+pub record IsStep (results : Bool) (was : RunOutcome) (first calls : List Call) (now : RunOutcome) : Type 0 where
   pub first_answers : List Answer
   pub other_answers : List Answer
   pub lines : List ℕ
-  pub part : IsPart results (length told.answers.calls.items) was.state was.dcs.items first calls first_answers other_answers lines
-      now.state now.dcs.items
-  pub first_told : all.answers.first.items ≡ told.answers.first.items ++ first_answers
-  pub calls_told : all.answers.calls.items ≡ told.answers.calls.items ++ other_answers
-  pub lines_are : string_bytes all.lines ≡ string_bytes told.lines ++ lines
+  pub part : IsPart results (length was.answers.calls.items) was.ground.state was.ground.dcs.items first calls first_answers other_answers lines
+      now.ground.state now.ground.dcs.items
+  pub first_told : now.answers.first.items ≡ was.answers.first.items ++ first_answers
+  pub calls_told : now.answers.calls.items ≡ was.answers.calls.items ++ other_answers
+  pub lines_are : string_bytes now.lines ≡ string_bytes was.lines ++ lines
 
 -- these calls were answered
-pub record HasCome (results : Bool) (start : Core) (dcs : List Store) (over : Option ℕ) (first calls : List Call) (told : Told) (now : Ground)
-    : Type 0 where
+pub record HasCome (results : Bool) (start : Core) (dcs : List Store) (over : Option ℕ) (first calls : List Call) (o : RunOutcome) : Type 0 where
   pub stages : List Stage
-  pub led : HaveLed results start dcs first calls told.answers.first.items told.answers.calls.items (string_bytes told.lines) now.state now.dcs.items
+  pub led : HaveLed results start dcs first calls o.answers.first.items o.answers.calls.items (string_bytes o.lines) o.ground.state o.ground.dcs.items
       stages
-  pub one : AreOne over first calls told.answers.first.items told.answers.calls.items (string_bytes told.lines) stages
+  pub one : AreOne over first calls o.answers.first.items o.answers.calls.items (string_bytes o.lines) stages
 
 -- all calls but these were answered; where the log isn't to begin anew between two parts there are no others
-pub record AreSoFar (results : Bool) (start : Ground) (over : Option ℕ) (first calls rest : List Call) (told : Told) (now : Ground) : Type 0 where
+pub record AreSoFar (results : Bool) (start : Ground) (over : Option ℕ) (first calls rest : List Call) (o : RunOutcome) : Type 0 where
   pub done : List Call
   pub all : calls ≡ done ++ rest
-  pub come : HasCome results start.state start.dcs.items over first done told now
+  pub come : HasCome results start.state start.dcs.items over first done o
   pub none : over ≡ None → rest ≡ []
 
 -- all are answered, and the log may have begun anew behind the last
-pub record HasEnded (results : Bool) (start : Core) (dcs : List Store) (first calls : List Call) (checkpoints : Checkpoints) (o : Outcome) : Type 0 where
+pub record HasEnded (results : Bool) (start : Core) (dcs : List Store) (first calls : List Call) (checkpoints : Checkpoints) (o : RunOutcome)
+    : Type 0 where
   pub behind : Core
   pub behind_dcs : List Store
   pub stages : List Stage
-  pub led : HaveLed results start dcs first calls o.told.answers.first.items o.told.answers.calls.items (string_bytes o.told.lines) behind behind_dcs
-      stages
-  pub one : AreOne checkpoints.over first calls o.told.answers.first.items o.told.answers.calls.items (string_bytes o.told.lines) stages
+  pub led : HaveLed results start dcs first calls o.answers.first.items o.answers.calls.items (string_bytes o.lines) behind behind_dcs stages
+  pub one : AreOne checkpoints.over first calls o.answers.first.items o.answers.calls.items (string_bytes o.lines) stages
   pub renewed : IsRenewal behind behind_dcs o.ground.state o.ground.dcs.items o.renewal
   pub wanted : IsWanted checkpoints o.renewal
   pub heeded : IsHeeded o.ground.journal (over_at_end checkpoints) o.renewal

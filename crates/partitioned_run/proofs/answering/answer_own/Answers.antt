@@ -6,8 +6,8 @@ use Rattle.partitioned_run.proofs.answering.answer_own.Goals as goal
 pub returns-in-Ok : goal.returns-in-Ok
 returns-in-Ok g c =
     let task = c.args.task in
-    let w = c.in-Ok.workload in
+    let answered = rw (c.as_slice.ensures.value, c.as_slice-in-Ok.ensures.value) at c.answer_on-answered.ensures in
     IfOk-weaker c.ran_of.result _ _
-    (λ ran is. own_run (contents_of task.script.now) task.division.now c.args.number c.in_ok-ground.ground w.first.items w.calls.items
+    (λ ran is. own_run (contents_of task.script.now) task.division.now c.args.number c.in_ok-ground.ground c.in-Ok.first.items c.in-Ok.calls.items
     c.answer_on-answered.result ran c.in_ok-ground.ensures.state c.in_ok-ground.ensures.dcs c.in-Ok.ensures.first c.in-Ok.ensures.calls
-    c.answer_on-answered.ensures.answered c.answer_on-answered.ensures.served is) c.ran_of.ensures
+    answered.answered answered.served is) c.ran_of.ensures

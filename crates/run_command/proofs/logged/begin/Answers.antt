@@ -3,10 +3,10 @@ use Rattle.run_command.specs.Joining.Opening.{IsOpened}
 use Rattle.run_command.proofs.LoggedLemmas.{begun_by}
 use Rattle.run_command.proofs.logged.begin.Goals as goal
 
-pub returns-in-Open : goal.returns-in-Open
-returns-in-Open g c =
-    let opened : IsOpened c.args.state.now c.in-Open.opened = rw c.in-Open.is at (c.in_ok-opened.ensures c.args.dcs.now) in
-    IfOk-weaker c.go_back.result _ _ (λ x h. begun_by c.args.state.now c.args.dcs.now c.go_back.new.state c.go_back.new.dcs c.in-Open.opened x opened h)
+pub returns-in-Ready : goal.returns-in-Ready
+returns-in-Ready g c =
+    let opened : IsOpened c.args.state.now c.in-Ready.opened = rw c.in-Ready.is at (c.in_ok-opened.ensures c.args.dcs.now) in
+    IfOk-weaker c.go_back.result _ _ (λ x h. begun_by c.args.state.now c.args.dcs.now c.go_back.new.state c.go_back.new.dcs c.in-Ready.opened x opened h)
     (c.go_back.ensures opened)
 
 pub returns-in-Refused : goal.returns-in-Refused

@@ -9,20 +9,20 @@ use Rattle.run_command.specs.Logged.{IsLogRefusal, IsRunOn, Refused, Behind}
 use Rattle.run_command.specs.Joining.Opening.{IsBackTo}
 use Rattle.run_command.proofs.logged.run_behind.Goals as goal
 
-pub returns-in-Ok-Back : goal.returns-in-Ok-Back
-returns-in-Ok-Back g c =
+pub returns-in-Ok-Ready : goal.returns-in-Ok-Ready
+returns-in-Ok-Ready g c =
     let loaded = c.args.loaded in
     let options = c.args.options in
     let same : c.as_mut_slice.result.now ≡ loaded.dcs.items = search rules in
-    let to = subst (λ (dcs : List Store). IsBackTo loaded.state dcs c.begin.new.state c.begin.new.dcs c.in-Ok-Back.back)
-    same (rw c.in-Ok-Back.field-0-is at c.in-Ok-Back.ensures) in
+    let to = subst (λ (dcs : List Store). IsBackTo loaded.state dcs c.begin.new.state c.begin.new.dcs c.in-Ok-Ready.back)
+    same (rw c.in-Ok-Ready.field-0-is at c.in-Ok-Ready.ensures) in
     let from = to.from in
     let b = from.is_back in
     let len : loaded.dcs.len ≡ length loaded.dcs.items = search rules in
     let count : length c.begin.new.dcs ≡ length loaded.dcs.items =
     b.came_back.served.count ∙ (length-map from.begun restarted ∙ begun_count to.base _ loaded.dcs.items from.begun from.begins) in
     let whole = lent_whole c.begin.new.dcs loaded.dcs.items loaded.dcs.len len count in
-    IfOk-weaker c.run_back.result _ _ (λ r h. Behind (record {
+    IfOk-weaker c.run_on.result _ _ (λ r h. Behind (record {
       file = to.file;
       base = to.base;
       log = to.log;
@@ -41,8 +41,8 @@ returns-in-Ok-Back g c =
           options.manner.results r.report.status lines (string_bytes r.report.lines)) b.lines
           (subst (λ (dcs : List Store). IsRunOn r.journal options.checkpoints c.begin.new.state dcs loaded.first.items
           loaded.calls.items options.manner.workers options.manner.tries options.manner.audit options.manner.results
-          r.report.status (string_bytes c.in-Ok-Back.back.lines) (string_bytes r.report.lines)) whole h);
-    })) (c.run_back.ensures b.kept)
+          r.report.status (string_bytes c.in-Ok-Ready.back.lines) (string_bytes r.report.lines)) whole h);
+    })) (c.run_on.ensures b.kept)
 
 pub returns-in-Ok-Refused : goal.returns-in-Ok-Refused
 returns-in-Ok-Refused g c =

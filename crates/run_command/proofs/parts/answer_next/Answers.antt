@@ -15,10 +15,10 @@ returns-in-Ok-clause-same g c = IfOk-weaker c.answer_part.result _ _ (λ now h. 
 
 pub returns-in-Ok-clause-fault : goal.returns-in-Ok-clause-fault
 returns-in-Ok-clause-fault g c = λ range.
-    let m = c.args.manner in
+    let m = c.args.part.manner in
     subst (λ (keeps : Bool). IfErr c.answer_part.result (Stops keeps m.workers m.tries)) c.renew.ensures.same c.answer_part.ensures.fault
 
 pub returns-in-Err-clause-fault : goal.returns-in-Err-clause-fault
 returns-in-Err-clause-fault g c = λ range.
-    let m = c.args.manner in
-    unkept_stops (is_some c.args.ground.journal) m.workers m.tries c.in-Err.stop range c.in-Err.ensures.fault
+    let m = c.args.part.manner in
+    unkept_stops (is_some c.args.so_far.ground.journal) m.workers m.tries c.in-Err.stop range c.in-Err.ensures.fault
