@@ -4,7 +4,7 @@ use Rattle.std.specs.Prelude.{IfSome, ◌≤◌, ◌⊎◌}
 use Rattle.disk_file.specs.declared.opening.FileKind.{FileKind}
 use Rattle.run_command.specs.LogLines.{kind_refusal}
 use Rattle.log_part.specs.declared.part.Part.{Part}
-use Rattle.procd.specs.Streams.{Stream, stream, IsKept, Begins, Ends, EndsOn, Runs, IsLog, IsRefusedBy, FurtherFails, ScriptFails, LogFails, followed_part}
+use Rattle.procd.specs.Streams.{Stream, stream, IsKept, Begins, Ends, Runs, IsLog, IsRefusedBy, FurtherFails, ScriptFails, LogFails, followed_part}
 use Rattle.procd.specs.Streams.{IsFollowed, StopsBehind, Refused, RefusedInPart, NotPrinted, NotRead, OutOfMemory}
 use Rattle.procd.specs.Streams.{TellsUnread, TellsUnwritten, IsToldOrNoMemory}
 use Rattle.procd.specs.Joining.Further.{Reads, Writes}
@@ -22,25 +22,21 @@ known_is None = tt
 known_is (Some text) = refl
 
 module _ (file : List ℕ) (wish : Wish) (input : Option (List ℕ)) (out err : Stream) (status : ℕ) where
-  pub no_memory_fits : status ≡ 4 → IsKept out → Begins err (codes "memory\n") → EndsOn file wish input out err status
-  no_memory_fits is kept told = (known input, known_is input, inr (inl (is, kept, told)))
-
-  pub cannot_read_fits : IsToldOrNoMemory (TellsUnread file err) err status → IsKept out → EndsOn file wish input out err status
-  cannot_read_fits fault kept =
-      elim fault [
-        | inl told ↦ (known input, known_is input, inl (told.0, kept, told.1))
-        | inr memory ↦ no_memory_fits memory.0 kept memory.1
-      ]
-
   pub no_memory_runs : status ≡ 4 → IsKept out → Begins err (codes "memory\n") → Runs file wish input out err status
   no_memory_runs is kept told = inl (known input, (λ e. known_is input), inr (inl (is, kept, told)), inr (inr (is, kept, told)))
 
-  -- what is read is standard input, or a file; or it isn't a file of bytes, or it is followed
-  pub read_runs : file ≡ codes "-" → EndsOn file wish input out err status → Runs file wish input out err status
-  read_runs same h = inl (h.0, (λ _. h.1), h.2, inr (inl same))
+  -- what is read is standard input, or a file that isn't followed; or it isn't a file of bytes, or it is followed
+  pub read_runs : (followed_part wish ≡ None) ⊎ (file ≡ codes "-") → (text : List ℕ) → (file ≡ codes "-" → IfSome input (λ known. text ≡ known))
+      → Ends file wish text out err status → Runs file wish input out err status
+  read_runs way text same h = inl (text, same, h, elim way [ inl whole ↦ inl whole | inr is ↦ inr (inl is) ])
 
-  pub opened_runs : ¬ (file ≡ codes "-") → followed_part wish ≡ None → EndsOn file wish None out err status → Runs file wish input out err status
-  opened_runs differs whole h = inl (h.0, (λ is. absurd (differs is)), h.2, inl whole)
+  pub unread_runs : (followed_part wish ≡ None) ⊎ (file ≡ codes "-") → IsToldOrNoMemory (TellsUnread file err) err status → IsKept out
+      → Runs file wish input out err status
+  unread_runs way fault kept =
+      elim fault [
+        | inl told ↦ read_runs way (known input) (λ e. known_is input) (inl (told.0, kept, told.1))
+        | inr memory ↦ no_memory_runs memory.0 kept memory.1
+      ]
 
   pub kind_runs : ¬ (file ≡ codes "-") → IsLog wish → (kind : FileKind) → IsRefusedBy (kind_refusal kind) out err status
       → Runs file wish input out err status

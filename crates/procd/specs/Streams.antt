@@ -112,10 +112,6 @@ Ends file wish text out err status =
     ⊎ (IsMemoryFault out err status
     ⊎ (IsFurtherFault wish out err status ⊎ (IsWriteFault wish text out err status ⊎ IsDone wish text out err status)))
 
--- the same of some text, which is what is there to be read, where that is known
-abbrev pub EndsOn : List ℕ → Wish → Option (List ℕ) → Stream → Stream → ℕ → Type 0
-EndsOn file wish input out err status = (text : List ℕ) × IfSome input (λ known. text ≡ known) × Ends file wish text out err status
-
 -- the events of a log's file, or an audit of it
 abbrev pub IsLog : Wish → Type 0
 IsLog (Log wanted) = Unit {0}

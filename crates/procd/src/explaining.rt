@@ -1,6 +1,6 @@
 //! What a terminal is told behind a report: what is wrong with a script, and which lines of C the verifier refuses.
 
-use crate::reading::{most_of, read_all, text_of};
+use crate::reading::{read_file, text_of};
 use command_line::words::{Task, Wanted};
 use disk_file::FileKind;
 use object_file::is_elf;
@@ -57,9 +57,7 @@ fn source_text<R: Files<File = File>>(rt: &R, alloc: Global, path: &str) -> Opti
     if FileKind::of(&known.file_type()).is_some() || known.len() > MOST_SOURCE {
         return None;
     }
-    let mut file = File::open(rt, path).ok()?;
-    let most = most_of(&file);
-    read_all(alloc, &mut file, most).ok()
+    read_file(rt, alloc, path).ok()
 }
 
 // The folder of a path, with the slash behind it.

@@ -7,6 +7,7 @@ ghost use Rattle.procd.specs.Streams.{stream, TellsSeams};
 ghost use Rattle.procd.specs.Joining.Followed.{IsReadEnd, EndsBehind};
 
 use crate::reading::{ReadFault, Reason, most_of, read_all};
+use crate::streams::Streams;
 use crate::writing::tell;
 use log_command::following::{Begun, Followed, begin, seam_line, unread};
 use log_part::Part;
@@ -215,21 +216,21 @@ pub fn follow<F: Files<File = File> + Clock + Wait, W: Write, E: Write>(
     alloc: Global,
     path: &str,
     part: Part,
-    out: &mut W,
-    err: &mut E,
+    streams: &mut Streams<W, E>,
 ) -> End
-    ensures { EndsBehind part (stream (W.contents out.old) (W.contents out.new)) (stream (E.contents err.old) (E.contents err.new)) result }
+    ensures { EndsBehind part (stream (W.contents streams.old.out) (W.contents streams.new.out))
+        (stream (E.contents streams.old.err) (E.contents streams.new.err)) result }
 {
     let (mut source, mut lines) = match begun(rt, alloc, path, part) {
         Ok(begun) => begun,
         Err(end) => return end,
     };
     'looks: for _ in rt.forever() {
-        if let Err(error) = tell(out, lines.as_str()) {
+        if let Err(error) = tell(&mut streams.out, lines.as_str()) {
             return End::Unwritten(error);
         }
         thread::sleep(rt, Duration::from_millis(PAUSE));
-        lines = match look(rt, alloc, path, &mut source, err) {
+        lines = match look(rt, alloc, path, &mut source, &mut streams.err) {
             Ok(lines) => lines,
             Err(end) => return end,
         };

@@ -18,18 +18,18 @@ mod following;
 mod program;
 mod reading;
 mod report;
+mod streams;
 mod writing;
 
 use program::{no_memory, not_text, program};
-use report::Meanwhile;
 use std::env;
 use std::io::{ErrorKind, IsTerminal};
 use std::process::ExitCode;
+use streams::{Meanwhile, Streams};
 
 fn main(rt: HostRuntime) -> ExitCode {
     let alloc = rt.alloc();
     let mut input = rt.stdin();
-    let mut out = rt.stdout();
     let mut err = rt.stderr();
     let args = match env::args(&rt) {
         Ok(args) => args,
@@ -41,18 +41,15 @@ fn main(rt: HostRuntime) -> ExitCode {
     let Ok(words) = args.collect::<Vec<String>>(alloc) else {
         return ExitCode::from(no_memory(&mut err));
     };
-    let meanwhile = Meanwhile {
+    let progress = Meanwhile {
         terminal: err.is_terminal().then_some(err),
         error: err,
         system: rt,
     };
-    ExitCode::from(program(
-        &rt,
-        alloc,
-        words.as_slice(),
-        &mut input,
-        &mut out,
-        &mut err,
-        meanwhile,
-    ))
+    let mut streams = Streams {
+        out: rt.stdout(),
+        err,
+        progress,
+    };
+    ExitCode::from(program(&rt, alloc, words.as_slice(), &mut input, &mut streams))
 }

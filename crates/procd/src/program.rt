@@ -4,16 +4,18 @@ ghost use Rattle.std.specs.Prelude.{◌≡◌, ◌++◌, ℕ, List, Option, IfOk
 ghost use Rattle.std.specs.Prelude.{codes, map, string_bytes};
 ghost use Rattle.command_line.specs.Said.{Says, IsWrong, shows};
 ghost use Rattle.command_line.specs.Wanted.{WantsOrNoMemory, IsWrongOrNoMemory};
-ghost use Rattle.procd.specs.Streams.{stream, TellsIf, IsKept, Begins, Ends, EndsOn, Runs, IsMisuse, followed_part};
+ghost use Rattle.procd.specs.Streams.{stream, TellsIf, IsKept, Begins, Ends, Runs, IsMisuse, followed_part};
 ghost use Rattle.run_command.specs.LogLines.{kind_refusal};
 ghost use Rattle.procd.specs.Streams.{IsLog, IsFollowed, IsRefusedBy, IsFaultLine, TellsUnread, TellsUnwritten, TellsNotPrinted, IsToldOrNoMemory};
+ghost use Rattle.procd.specs.Joining.Ways.{IsWay};
 ghost use Rattle.command_line.specs.Task.{Wish, wish_of};
 ghost use Rattle.clap.specs.Words.{kind_of};
 
 use crate::explaining::explain;
 use crate::following::{End, follow};
-use crate::reading::{MOST_BYTES, ReadFault, Reason, most_of, read_all};
-use crate::report::{Meanwhile, ReportFault, report_on};
+use crate::reading::{ReadFault, Reason, read_given};
+use crate::report::{ReportFault, report_on};
+use crate::streams::Streams;
 use crate::writing::tell;
 use clap::Error;
 use clap::error::ErrorKind;
@@ -138,94 +140,43 @@ fn tell_notes<E: Write>(err: &mut E, may_tell: bool, report: &Report)
     }
 }
 
-// Does the task with what was read, and writes its lines.
+// Does the task with what was read, and writes its lines, or says why there are none.
 fn run_text<F: Files<File = File> + Clock + Threads + Wait + Sync, W: Write, E: Write>(
     rt: &F,
     alloc: Global,
     wanted: &Wanted,
     text: &[u8],
-    out: &mut W,
-    err: &mut E,
-    meanwhile: Meanwhile,
+    streams: &mut Streams<W, E>,
 ) -> u8
     ensures { Ends wanted.now.file.now (wish_of wanted.now.task) text.now
-        (stream (W.contents out.old) (W.contents out.new))
-        (stream (E.contents err.old) (E.contents err.new)) result }
+        (stream (W.contents streams.old.out) (W.contents streams.new.out))
+        (stream (E.contents streams.old.err) (E.contents streams.new.err)) result }
 {
-    let report = match report_on(rt, alloc, &wanted.task, text, meanwhile) {
+    let report = match report_on(rt, alloc, &wanted.task, text, streams.progress) {
         Ok(report) => report,
-        Err(ReportFault::Memory) => return no_memory(err),
+        Err(ReportFault::Memory) => return no_memory(&mut streams.err),
         Err(ReportFault::NotText(fault)) => {
-            return cannot_read(alloc, err, wanted.file, Some(&Reason::Text(fault)));
+            let reason = Reason::Text(fault);
+            return cannot_read(alloc, &mut streams.err, wanted.file, Some(&reason));
         }
-        Err(ReportFault::Unread(path, reason)) => return cannot_read(
-            alloc,
-            err,
-            path,
-            reason.as_ref(),
-        ),
-        Err(ReportFault::Unwritten(path, reason)) => return cannot_write_file(
-            alloc,
-            err,
-            path,
-            reason.as_ref(),
-        ),
+        Err(ReportFault::Unread(path, reason)) => {
+            return cannot_read(alloc, &mut streams.err, path, reason.as_ref());
+        }
+        Err(ReportFault::Unwritten(path, reason)) => {
+            return cannot_write_file(alloc, &mut streams.err, path, reason.as_ref());
+        }
     };
-    if let Err(error) = tell(out, report.lines.as_str()) {
+    if let Err(error) = tell(&mut streams.out, report.lines.as_str()) {
         drop(report);
-        return cannot_write(alloc, err, error);
+        return cannot_write(alloc, &mut streams.err, error);
     }
-    if let Some(terminal) = meanwhile.terminal {
+    if let Some(terminal) = streams.progress.terminal {
         explain(rt, alloc, terminal, wanted, text, report.status);
     }
-    tell_notes(err, wanted.task.may_tell(), &report);
+    tell_notes(&mut streams.err, wanted.task.may_tell(), &report);
     let status = report.status;
     drop(report);
     status
-}
-
-// Reads all that is there, up to so many bytes, and does the task with it.
-fn run_input<F: Files<File = File> + Clock + Threads + Wait + Sync, R: Read, W: Write, E: Write>(
-    rt: &F,
-    alloc: Global,
-    wanted: &Wanted,
-    input: &mut R,
-    most: usize,
-    out: &mut W,
-    err: &mut E,
-    meanwhile: Meanwhile,
-) -> u8
-    ensures { EndsOn wanted.now.file.now (wish_of wanted.now.task) (R.remaining input.old)
-        (stream (W.contents out.old) (W.contents out.new))
-        (stream (E.contents err.old) (E.contents err.new)) result }
-{
-    match read_all(alloc, input, most) {
-        Ok(text) => run_text(rt, alloc, wanted, text.as_slice(), out, err, meanwhile),
-        Err(ReadFault::Memory) => no_memory(err),
-        Err(ReadFault::Unread(reason)) => cannot_read(alloc, err, wanted.file, Some(&reason)),
-    }
-}
-
-// Opens the file, and does the task with what is in it.
-fn run_file<F: Files<File = File> + Clock + Threads + Wait + Sync, W: Write, E: Write>(
-    rt: &F,
-    alloc: Global,
-    wanted: &Wanted,
-    out: &mut W,
-    err: &mut E,
-    meanwhile: Meanwhile,
-) -> u8
-    ensures { EndsOn wanted.now.file.now (wish_of wanted.now.task) None
-        (stream (W.contents out.old) (W.contents out.new))
-        (stream (E.contents err.old) (E.contents err.new)) result }
-{
-    match File::open(rt, wanted.file) {
-        Ok(mut file) => {
-            let most = most_of(&file);
-            run_input(rt, alloc, wanted, &mut file, most, out, err, meanwhile)
-        }
-        Err(error) => cannot_read(alloc, err, wanted.file, Some(&Reason::System(error))),
-    }
 }
 
 // What stands in the place of a log's file that isn't a file of bytes, if anything does.
@@ -242,16 +193,16 @@ fn kind_of_log<F: Files<File = File>>(rt: &F, wanted: &Wanted) -> Option<FileKin
 }
 
 // Refuses what isn't a file of bytes.
-fn refuse_kind<W: Write, E: Write>(alloc: Global, kind: FileKind, out: &mut W, err: &mut E) -> u8
-    ensures { IsRefusedBy (kind_refusal kind) (stream (W.contents out.old) (W.contents out.new))
-        (stream (E.contents err.old) (E.contents err.new)) result }
+fn refuse_kind<W: Write, E: Write>(alloc: Global, kind: FileKind, streams: &mut Streams<W, E>) -> u8
+    ensures { IsRefusedBy (kind_refusal kind) (stream (W.contents streams.old.out) (W.contents streams.new.out))
+        (stream (E.contents streams.old.err) (E.contents streams.new.err)) result }
 {
     match kind_refusal(alloc, kind) {
-        Ok(line) => match tell(out, line.as_str()) {
+        Ok(line) => match tell(&mut streams.out, line.as_str()) {
             Ok(()) => REFUSED,
-            Err(error) => cannot_write(alloc, err, error),
+            Err(error) => cannot_write(alloc, &mut streams.err, error),
         },
-        Err(AllocError) => no_memory(err),
+        Err(AllocError) => no_memory(&mut streams.err),
     }
 }
 
@@ -261,20 +212,19 @@ fn run_on<F: Files<File = File> + Clock + Wait, W: Write, E: Write>(
     alloc: Global,
     path: &str,
     part: Part,
-    out: &mut W,
-    err: &mut E,
+    streams: &mut Streams<W, E>,
 ) -> u8
-    ensures { IsFollowed path.now part (stream (W.contents out.old) (W.contents out.new))
-        (stream (E.contents err.old) (E.contents err.new)) result }
+    ensures { IsFollowed path.now part (stream (W.contents streams.old.out) (W.contents streams.new.out))
+        (stream (E.contents streams.old.err) (E.contents streams.new.err)) result }
 {
-    match follow(rt, alloc, path, part, out, err) {
-        End::Refused(report) => match tell(out, report.lines.as_str()) {
+    match follow(rt, alloc, path, part, streams) {
+        End::Refused(report) => match tell(&mut streams.out, report.lines.as_str()) {
             Ok(()) => report.status,
-            Err(error) => cannot_write(alloc, err, error),
+            Err(error) => cannot_write(alloc, &mut streams.err, error),
         },
-        End::Unread(reason) => cannot_read(alloc, err, path, Some(&reason)),
-        End::Unwritten(error) => cannot_write(alloc, err, error),
-        End::Memory => no_memory(err),
+        End::Unread(reason) => cannot_read(alloc, &mut streams.err, path, Some(&reason)),
+        End::Unwritten(error) => cannot_write(alloc, &mut streams.err, error),
+        End::Memory => no_memory(&mut streams.err),
     }
 }
 
@@ -288,29 +238,55 @@ fn followed_part(task: &Task) -> Option<Part>
     }
 }
 
+// What is done with a file.
+#[derive(Clone, Copy)]
+enum Way {
+    // It is no file of bytes, and refused.
+    Refused(FileKind),
+    // It is followed, from this part of its events on.
+    Followed(Part),
+    // It is read to its end.
+    Read,
+}
+
+// What is done with the file that is wanted, or with standard input.
+fn way_of<F: Files<File = File>>(rt: &F, wanted: &Wanted) -> Way
+    ensures { IsWay wanted.now.file.now (wish_of wanted.now.task) result }
+{
+    if wanted.file == "-" {
+        return Way::Read;
+    }
+    if let Some(kind) = kind_of_log(rt, wanted) {
+        return Way::Refused(kind);
+    }
+    match followed_part(&wanted.task) {
+        Some(part) => Way::Followed(part),
+        None => Way::Read,
+    }
+}
+
 // Does what the words want.
 fn run_wanted<F: Files<File = File> + Clock + Threads + Wait + Sync, R: Read, W: Write, E: Write>(
     rt: &F,
     alloc: Global,
     wanted: &Wanted,
     input: &mut R,
-    out: &mut W,
-    err: &mut E,
-    meanwhile: Meanwhile,
+    streams: &mut Streams<W, E>,
 ) -> u8
     ensures { Runs wanted.now.file.now (wish_of wanted.now.task) (R.remaining input.old)
-        (stream (W.contents out.old) (W.contents out.new))
-        (stream (E.contents err.old) (E.contents err.new)) result }
+        (stream (W.contents streams.old.out) (W.contents streams.new.out))
+        (stream (E.contents streams.old.err) (E.contents streams.new.err)) result }
 {
-    if wanted.file == "-" {
-        return run_input(rt, alloc, wanted, input, MOST_BYTES, out, err, meanwhile);
-    }
-    if let Some(kind) = kind_of_log(rt, wanted) {
-        return refuse_kind(alloc, kind, out, err);
-    }
-    match followed_part(&wanted.task) {
-        Some(part) => run_on(rt, alloc, wanted.file, part, out, err),
-        None => run_file(rt, alloc, wanted, out, err, meanwhile),
+    match way_of(rt, wanted) {
+        Way::Refused(kind) => refuse_kind(alloc, kind, streams),
+        Way::Followed(part) => run_on(rt, alloc, wanted.file, part, streams),
+        Way::Read => match read_given(rt, alloc, wanted.file, input) {
+            Ok(text) => run_text(rt, alloc, wanted, text.as_slice(), streams),
+            Err(ReadFault::Memory) => no_memory(&mut streams.err),
+            Err(ReadFault::Unread(reason)) => {
+                cannot_read(alloc, &mut streams.err, wanted.file, Some(&reason))
+            }
+        },
     }
 }
 
@@ -343,23 +319,23 @@ fn told_misuse<E: Write>(alloc: Global, error: &Error, err: &mut E) -> u8
 }
 
 // A command line that asks for help, or is wrong.
-fn misuse<W: Write, E: Write>(alloc: Global, error: &Error, out: &mut W, err: &mut E) -> u8
+fn misuse<W: Write, E: Write>(alloc: Global, error: &Error, streams: &mut Streams<W, E>) -> u8
     ensures memory { kind_of error.now ≡ ErrorKind.OutOfMemory → (result ≡ 4)
-        × (W.contents out.new ≡ W.contents out.old)
-        × Begins (stream (E.contents err.old) (E.contents err.new)) (codes "memory\n") }
+        × (W.contents streams.new.out ≡ W.contents streams.old.out)
+        × Begins (stream (E.contents streams.old.err) (E.contents streams.new.err)) (codes "memory\n") }
     ensures refused { shows (kind_of error.now) ≡ false
-        → IsMisuse (stream (W.contents out.old) (W.contents out.new)) result }
-    ensures wrong { result ≡ 2 → W.contents out.new ≡ W.contents out.old }
+        → IsMisuse (stream (W.contents streams.old.out) (W.contents streams.new.out)) result }
+    ensures wrong { result ≡ 2 → W.contents streams.new.out ≡ W.contents streams.old.out }
 {
     if error.kind() == ErrorKind::OutOfMemory {
-        return no_memory(err);
+        return no_memory(&mut streams.err);
     }
     if error.use_stderr() {
-        return told_misuse(alloc, error, err);
+        return told_misuse(alloc, error, &mut streams.err);
     }
-    match write!(out, "{error}") {
+    match write!(&mut streams.out, "{error}") {
         Ok(()) => 0,
-        Err(error) => cannot_write(alloc, err, error),
+        Err(error) => cannot_write(alloc, &mut streams.err, error),
     }
 }
 
@@ -372,59 +348,53 @@ fn wrong_words<E: Write>(err: &mut E, text: &str) -> u8
     MISUSE
 }
 
+// Why words are wrong.
+const NO_NUMBER: &str = "error: an ARG, N or P is no number of 64 bits in decimal";
+
+const AUDIT_ALONE: &str =
+    "error: log --audit takes a SCRIPT as well: the one whose procedures the log was written for";
+
+const SCRIPT_ALONE: &str = "error: log takes a SCRIPT with --audit alone";
+
+const TWO_PURPOSES: &str = "error: log takes one of --rows, --audit, --picture and --follow";
+
+const TWO_PARTS: &str = "error: log takes one of --from and --tail";
+
+const PART_UNWANTED: &str = "error: log takes --from and --tail with neither --rows nor --audit";
+
+const CHECKPOINT_ALONE: &str =
+    "error: run takes --checkpoint and --checkpoint-over with --log alone: what begins anew is its file";
+
+const PARTITIONS_BESIDE: &str =
+    "error: run takes --partitions with none of --stats, --results, --tell, --metrics, --trace, --log, --checkpoint and --checkpoint-over: no log has all calls";
+
+const NO_COMMAND: &str = "error: a command is missing: exec, asm, dis, verify, world, run or log";
+
 // Refuses a wrong command line, or shows the help that it asks for.
 fn refuse_words<W: Write, E: Write>(
     alloc: Global,
     fault: &WordFault,
-    out: &mut W,
-    err: &mut E,
+    streams: &mut Streams<W, E>,
 ) -> u8
     ensures runs { (file : List ℕ) (wish : Wish) (input : Option (List ℕ)) → WantsOrNoMemory file wish (Err fault.now)
-        → Runs file wish input (stream (W.contents out.old) (W.contents out.new))
-        (stream (E.contents err.old) (E.contents err.new)) result }
+        → Runs file wish input (stream (W.contents streams.old.out) (W.contents streams.new.out))
+        (stream (E.contents streams.old.err) (E.contents streams.new.err)) result }
     ensures misuse { IsWrongOrNoMemory (Err fault.now)
-        → IsMisuse (stream (W.contents out.old) (W.contents out.new)) result }
-    ensures wrong { result ≡ 2 → W.contents out.new ≡ W.contents out.old }
+        → IsMisuse (stream (W.contents streams.old.out) (W.contents streams.new.out)) result }
+    ensures wrong { result ≡ 2 → W.contents streams.new.out ≡ W.contents streams.old.out }
 {
     match fault {
-        WordFault::Clap(error) => misuse(alloc, error, out, err),
-        WordFault::Memory => no_memory(err),
-        WordFault::NotNumber => {
-            wrong_words(
-                err,
-                "error: an ARG, N or P is no number of 64 bits in decimal",
-            )
-        }
-        WordFault::AuditAlone => wrong_words(
-            err,
-            "error: log --audit takes a SCRIPT as well: the one whose procedures the log was written for",
-        ),
-        WordFault::ScriptAlone => {
-            wrong_words(err, "error: log takes a SCRIPT with --audit alone")
-        }
-        WordFault::TwoPurposes => {
-            wrong_words(
-                err,
-                "error: log takes one of --rows, --audit, --picture and --follow",
-            )
-        }
-        WordFault::TwoParts => wrong_words(err, "error: log takes one of --from and --tail"),
-        WordFault::PartUnwanted => wrong_words(
-            err,
-            "error: log takes --from and --tail with neither --rows nor --audit",
-        ),
-        WordFault::CheckpointAlone => wrong_words(
-            err,
-            "error: run takes --checkpoint and --checkpoint-over with --log alone: what begins anew is its file",
-        ),
-        WordFault::PartitionsBeside => wrong_words(
-            err,
-            "error: run takes --partitions with none of --stats, --results, --tell, --metrics, --trace, --log, --checkpoint and --checkpoint-over: no log has all calls",
-        ),
-        WordFault::NoCommand => wrong_words(
-            err,
-            "error: a command is missing: exec, asm, dis, verify, world, run or log",
-        ),
+        WordFault::Clap(error) => misuse(alloc, error, streams),
+        WordFault::Memory => no_memory(&mut streams.err),
+        WordFault::NotNumber => wrong_words(&mut streams.err, NO_NUMBER),
+        WordFault::AuditAlone => wrong_words(&mut streams.err, AUDIT_ALONE),
+        WordFault::ScriptAlone => wrong_words(&mut streams.err, SCRIPT_ALONE),
+        WordFault::TwoPurposes => wrong_words(&mut streams.err, TWO_PURPOSES),
+        WordFault::TwoParts => wrong_words(&mut streams.err, TWO_PARTS),
+        WordFault::PartUnwanted => wrong_words(&mut streams.err, PART_UNWANTED),
+        WordFault::CheckpointAlone => wrong_words(&mut streams.err, CHECKPOINT_ALONE),
+        WordFault::PartitionsBeside => wrong_words(&mut streams.err, PARTITIONS_BESIDE),
+        WordFault::NoCommand => wrong_words(&mut streams.err, NO_COMMAND),
     }
 }
 
@@ -437,40 +407,32 @@ pub fn not_text<E: Write>(err: &mut E) -> u8
 
 /// Runs the program with these words, its name first, and answers its exit status: 0 done, 1
 /// refused, 2 wrong command line, 3 file fault, 4 want of memory. What a long run tells of itself
-/// meanwhile stands beside what is written to `err`.
+/// meanwhile stands beside what is written to `streams.err`.
 pub fn program<
     F: Files<File = File> + Clock + Threads + Wait + Sync,
     S: AsStr,
     R: Read,
     W: Write,
     E: Write,
->(
-    rt: &F,
-    alloc: Global,
-    words: &[S],
-    input: &mut R,
-    out: &mut W,
-    err: &mut E,
-    meanwhile: Meanwhile,
-) -> u8
+>(rt: &F, alloc: Global, words: &[S], input: &mut R, streams: &mut Streams<W, E>) -> u8
     // What is written is what the command makes of the text of its file or of standard input.
     ensures runs { (file : List ℕ) (wish : Wish) → Says (map S.text words.now) file wish
         → Runs file wish (R.remaining input.old)
-        (stream (W.contents out.old) (W.contents out.new))
-        (stream (E.contents err.old) (E.contents err.new)) result }
+        (stream (W.contents streams.old.out) (W.contents streams.new.out))
+        (stream (E.contents streams.old.err) (E.contents streams.new.err)) result }
     // A wrong command line is told on standard error alone, and its status is 2, or 4 where memory ran out.
     ensures misuse { IsWrong (map S.text words.now)
-        → IsMisuse (stream (W.contents out.old) (W.contents out.new)) result }
-    ensures wrong { result ≡ 2 → W.contents out.new ≡ W.contents out.old }
+        → IsMisuse (stream (W.contents streams.old.out) (W.contents streams.new.out)) result }
+    ensures wrong { result ≡ 2 → W.contents streams.new.out ≡ W.contents streams.old.out }
 {
     match wanted_of(alloc, words) {
         Ok(wanted) => {
-            let status = run_wanted(rt, alloc, &wanted, input, out, err, meanwhile);
+            let status = run_wanted(rt, alloc, &wanted, input, streams);
             drop(wanted);
             status
         }
         Err(fault) => {
-            let status = refuse_words(alloc, &fault, out, err);
+            let status = refuse_words(alloc, &fault, streams);
             drop(fault);
             status
         }

@@ -3,17 +3,16 @@
 ghost use Rattle.std.specs.Prelude.{◌≡◌, true, Some, None, not, is_none, option_map, IfOk, IfErr, string_bytes};
 ghost use Rattle.object_file.specs.Elf.{is_elf};
 ghost use Rattle.text_commands.specs.ObjectVerification.{IsVerification};
-ghost use Rattle.script_loading.specs.Loading.{beginning, beginning_of};
-ghost use Rattle.world_command.specs.WorldReport.{IsWorld};
+ghost use Rattle.script_loading.specs.Loading.{beginning_of};
 ghost use Rattle.scripts.specs.declared.keyword.Command.TheVariants as command;
-ghost use Rattle.partitioned_run.specs.Partitioned.{IsPartitionedRun};
-ghost use Rattle.procd.specs.Report.{IsReport, IsKeptRun, IsRunReport, IsRunOf, IsPartitionedOf, IsWorldOf, IsLogReport, IsAuditBeside};
+ghost use Rattle.procd.specs.Report.{IsReport, IsKeptRun, IsRunOf, IsPartitionedOf, IsWorldOf, IsLogReport, IsAuditBeside};
 ghost use Rattle.procd.specs.Joining.Further.{IsScriptFault, IsLogFault, IsTaskFault, IsNoTextOf, IsOfText, IsOfFile, wants_text};
 ghost use Rattle.procd.specs.Joining.Further.{IsBesideFault, IsRunFault};
-ghost use Rattle.procd.specs.Joining.Further.{IsPictureFault};
+ghost use Rattle.procd.specs.Joining.Further.{IsPictureFault, IsSourceOf};
 ghost use Rattle.command_line.specs.Task.{Log, Audit, Picture, log_wish, wish_of};
 
-use crate::reading::{ReadFault, Reason, TextFault, most_of, read_all, text_of};
+use crate::reading::{ReadFault, Reason, TextFault, read_file, text_of};
+use crate::streams::Meanwhile;
 use crate::writing::tell;
 use command_line::words::{LogTask, Task};
 use log_command::auditing::auditing;
@@ -28,7 +27,6 @@ use run_command::running::{Checkpoints, Listeners, Manner, RunOptions, Stop, run
 use script_loading::loading::Source;
 use std::alloc::{AllocError, Global};
 use std::fs::{self, File};
-use std::io::Stderr;
 use std::rt::Files;
 use std::sync::Wait;
 use std::thread::Threads;
@@ -38,29 +36,6 @@ use text_commands::lines::execution;
 use text_commands::object_verification::object_verification;
 use text_commands::verification::verification;
 use world_command::world::{Behind, world};
-
-/// Where a long run tells of itself meanwhile, beside its report.
-#[derive(Clone, Copy)]
-pub struct Meanwhile {
-    /// The terminal, if standard error is one.
-    pub terminal: Option<Stderr>,
-    pub error: Stderr,
-    /// What writes files from the threads of a run.
-    pub system: HostRuntime,
-}
-
-impl Meanwhile {
-    // Who is told of the calls of a run where nothing more is asked for.
-    fn listeners<'a>(&self) -> Listeners<'a> {
-        Listeners {
-            terminal: self.terminal,
-            each: None,
-            metrics: None,
-            trace: None,
-            system: self.system,
-        }
-    }
-}
 
 /// Why there is no report.
 #[derive(Clone, Copy, Debug)]
@@ -104,15 +79,48 @@ fn read_script<'a, R: Files>(
 ) -> Result<Vec<u8>, ReportFault<'a>>
     ensures { IfErr result (IsScriptFault path.entry.now) }
 {
-    let mut file = match File::open(rt, path) {
-        Ok(file) => file,
-        Err(error) => return Err(ReportFault::Unread(path, Some(Reason::System(error)))),
-    };
-    let most = most_of(&file);
-    match read_all(alloc, &mut file, most) {
+    match read_file(rt, alloc, path) {
         Ok(text) => Ok(text),
         Err(ReadFault::Memory) => Err(ReportFault::Memory),
         Err(ReadFault::Unread(reason)) => Err(ReportFault::Unread(path, Some(reason))),
+    }
+}
+
+// What is read beside FILE: the script that this path names, if there is one.
+fn read_beside<'a, R: Files>(
+    rt: &R,
+    alloc: Global,
+    path: Option<&'a str>,
+) -> Result<Vec<u8>, ReportFault<'a>>
+    ensures text { IfErr result IsOfText }
+    ensures script { IfErr result (IsBesideFault (option_map (λ path. path.now) path.entry)) }
+{
+    match path {
+        Some(path) => read_script(rt, alloc, path),
+        None => Ok(Vec::new(alloc)),
+    }
+}
+
+// FILE as a script; or as an object file, with the script of this path, which has what was read beside it.
+fn source_of<'t, 'a>(
+    file: &'t [u8],
+    path: Option<&'a str>,
+    beside: &'t [u8],
+) -> Result<Source<'t>, ReportFault<'a>>
+    ensures ok { IfOk result (IsSourceOf (option_map (λ path. path.now) path.entry) file.entry.now) }
+    ensures not_text { IfErr result (IsNoTextOf (is_none path.entry) file.entry.now) }
+    ensures script { IfErr result (IsBesideFault (option_map (λ path. path.now) path.entry)) }
+{
+    let Some(path) = path else {
+        let text = text_of(file)?;
+        return Ok(Source { object: None, text });
+    };
+    match text_of(beside) {
+        Ok(text) => Ok(Source {
+            object: Some(file),
+            text,
+        }),
+        Err(fault) => Err(ReportFault::Unread(path, Some(Reason::Text(fault)))),
     }
 }
 
@@ -151,90 +159,8 @@ fn logged<'a, R: Files<File = File> + Clock + Threads + Wait + Sync>(
     }
 }
 
-// The report of a run, whose log is kept where there is a path for it.
-fn run_report<'a, R: Files<File = File> + Clock + Threads + Wait + Sync>(
-    rt: &R,
-    alloc: Global,
-    source: Source,
-    options: RunOptions,
-    log: Option<&'a str>,
-) -> Result<Report, ReportFault<'a>>
-    ensures ok { IfOk result (λ r. IsRunReport options.entry.checkpoints options.entry.manner.workers options.entry.manner.tries
-        options.entry.manner.audit options.entry.manner.results (option_map (λ path. path.now) log.entry)
-        (beginning_of command.Run source.entry) r.status (string_bytes r.lines)) }
-    ensures log { IfErr result (IsLogFault (option_map (λ path. path.now) log.entry)) }
-    ensures text { IfErr result IsOfText }
-{
-    match log {
-        Some(path) => logged(rt, alloc, path, source, options),
-        None => match running(rt, alloc, source, options.manner, options.listeners) {
-            Ok(report) => Ok(report),
-            Err(AllocError) => Err(ReportFault::Memory),
-        },
-    }
-}
-
-// The report of a run of a script with the procedures of an object file.
-fn run_both<'a, R: Files<File = File> + Clock + Threads + Wait + Sync>(
-    rt: &R,
-    alloc: Global,
-    file: &[u8],
-    text: &str,
-    options: RunOptions,
-    log: Option<&'a str>,
-) -> Result<Report, ReportFault<'a>>
-    ensures ok { IfOk result (λ r. IsRunReport options.entry.checkpoints options.entry.manner.workers options.entry.manner.tries
-        options.entry.manner.audit options.entry.manner.results (option_map (λ path. path.now) log.entry)
-        (beginning command.Run (Some file.now) text.now) r.status (string_bytes r.lines)) }
-    ensures log { IfErr result (IsLogFault (option_map (λ path. path.now) log.entry)) }
-    ensures text { IfErr result IsOfText }
-{
-    let object = Some(file);
-    run_report(rt, alloc, Source { object, text }, options, log)
-}
-
-// The same of the script that the file with this path has.
-fn run_beside<'a, R: Files<File = File> + Clock + Threads + Wait + Sync>(
-    rt: &R,
-    alloc: Global,
-    file: &[u8],
-    path: &'a str,
-    options: RunOptions,
-    log: Option<&'a str>,
-) -> Result<Report, ReportFault<'a>>
-    ensures ok { IfOk result (λ r. IsRunOf options.entry.checkpoints options.entry.manner.workers options.entry.manner.tries
-        options.entry.manner.audit options.entry.manner.results (option_map (λ path. path.now) log.entry)
-        (Some path.entry.now) file.now r.status (string_bytes r.lines)) }
-    ensures text { IfErr result IsOfText }
-    ensures further { IfErr result (IsRunFault (option_map (λ path. path.now) log.entry) (Some path.entry.now)) }
-{
-    let script = read_script(rt, alloc, path)?;
-    match text_of(script.as_slice()) {
-        Ok(text) => run_both(rt, alloc, file, text, options, log),
-        Err(fault) => Err(ReportFault::Unread(path, Some(Reason::Text(fault)))),
-    }
-}
-
-// The report of a run of the script that the file has.
-fn run_script<'a, R: Files<File = File> + Clock + Threads + Wait + Sync>(
-    rt: &R,
-    alloc: Global,
-    file: &[u8],
-    options: RunOptions,
-    log: Option<&'a str>,
-) -> Result<Report, ReportFault<'a>>
-    ensures ok { IfOk result (λ r. IsRunReport options.entry.checkpoints options.entry.manner.workers options.entry.manner.tries
-        options.entry.manner.audit options.entry.manner.results (option_map (λ path. path.now) log.entry)
-        (beginning command.Run None file.now) r.status (string_bytes r.lines)) }
-    ensures log { IfErr result (IsLogFault (option_map (λ path. path.now) log.entry)) }
-    ensures text { IfErr result (IsNoTextOf true file.now) }
-{
-    let text = text_of(file)?;
-    let source = Source { object: None, text };
-    run_report(rt, alloc, source, options, log)
-}
-
-// The report of a run of either.
+// The report of a run of a script, or of one with the procedures of an object file, whose log is kept where there is a path
+// for it.
 fn run_of<'a, R: Files<File = File> + Clock + Threads + Wait + Sync>(
     rt: &R,
     alloc: Global,
@@ -249,65 +175,15 @@ fn run_of<'a, R: Files<File = File> + Clock + Threads + Wait + Sync>(
     ensures not_text { IfErr result (IsNoTextOf (is_none script.entry) file.now) }
     ensures further { IfErr result (IsRunFault (option_map (λ path. path.now) log.entry) (option_map (λ path. path.now) script.entry)) }
 {
-    match script {
-        Some(path) => run_beside(rt, alloc, file, path, options, log),
-        None => run_script(rt, alloc, file, options, log),
+    let beside = read_beside(rt, alloc, script)?;
+    let source = source_of(file, script, beside.as_slice())?;
+    match log {
+        Some(path) => logged(rt, alloc, path, source, options),
+        None => match running(rt, alloc, source, options.manner, options.listeners) {
+            Ok(report) => Ok(report),
+            Err(AllocError) => Err(ReportFault::Memory),
+        },
     }
-}
-
-// The report of a run by partitions of a script with the procedures of an object file.
-fn partitioned_both<R: Clock + Threads + Wait + Sync>(
-    rt: &R,
-    alloc: Global,
-    file: &[u8],
-    text: &str,
-    manner: Manner,
-    listeners: Listeners,
-) -> Result<Report, AllocError>
-    ensures { IfOk result (λ r. IsPartitionedRun manner.workers manner.tries manner.audit (beginning command.Run (Some file.now) text.now)
-        r.status (string_bytes r.lines)) }
-{
-    let object = Some(file);
-    running_partitioned(rt, alloc, Source { object, text }, manner, listeners)
-}
-
-// The same of the script that the file with this path has.
-fn partitioned_beside<'a, R: Files<File = File> + Clock + Threads + Wait + Sync>(
-    rt: &R,
-    alloc: Global,
-    file: &[u8],
-    path: &'a str,
-    manner: Manner,
-    listeners: Listeners,
-) -> Result<Report, ReportFault<'a>>
-    ensures ok { IfOk result (λ r. IsPartitionedOf manner.workers manner.tries manner.audit (Some path.entry.now) file.now
-        r.status (string_bytes r.lines)) }
-    ensures text { IfErr result IsOfText }
-    ensures script { IfErr result (IsScriptFault path.entry.now) }
-{
-    let script = read_script(rt, alloc, path)?;
-    match text_of(script.as_slice()) {
-        Ok(text) => Ok(partitioned_both(rt, alloc, file, text, manner, listeners)?),
-        Err(fault) => Err(ReportFault::Unread(path, Some(Reason::Text(fault)))),
-    }
-}
-
-// The report of a run by partitions of the script that the file has.
-fn partitioned_script<'a, R: Clock + Threads + Wait + Sync>(
-    rt: &R,
-    alloc: Global,
-    file: &[u8],
-    manner: Manner,
-    listeners: Listeners,
-) -> Result<Report, ReportFault<'a>>
-    ensures ok { IfOk result (λ r. IsPartitionedRun manner.workers manner.tries manner.audit (beginning command.Run None file.now)
-        r.status (string_bytes r.lines)) }
-    ensures not_text { IfErr result (IsNoTextOf true file.now) }
-    ensures further { IfErr result IsOfFile }
-{
-    let text = text_of(file)?;
-    let source = Source { object: None, text };
-    Ok(running_partitioned(rt, alloc, source, manner, listeners)?)
 }
 
 // The report of a run by partitions of either.
@@ -324,47 +200,9 @@ fn partitioned_of<'a, R: Files<File = File> + Clock + Threads + Wait + Sync>(
     ensures not_text { IfErr result (IsNoTextOf (is_none script.entry) file.now) }
     ensures further { IfErr result (IsBesideFault (option_map (λ path. path.now) script.entry)) }
 {
-    match script {
-        Some(path) => partitioned_beside(rt, alloc, file, path, manner, listeners),
-        None => partitioned_script(rt, alloc, file, manner, listeners),
-    }
-}
-
-// The report of the steps of a script with the procedures of an object file.
-fn world_both(alloc: Global, file: &[u8], text: &str, behind: Behind) -> Result<Report, AllocError>
-    ensures { IfOk result (λ r. IsWorld behind (beginning command.World (Some file.now) text.now) r.status (string_bytes r.lines)) }
-{
-    let object = Some(file);
-    world(alloc, behind, Source { object, text })
-}
-
-// The same of the script that the file with this path has.
-fn world_beside<'a, R: Files>(
-    rt: &R,
-    alloc: Global,
-    file: &[u8],
-    path: &'a str,
-    behind: Behind,
-) -> Result<Report, ReportFault<'a>>
-    ensures ok { IfOk result (λ r. IsWorldOf behind (Some path.entry.now) file.now r.status (string_bytes r.lines)) }
-    ensures text { IfErr result IsOfText }
-    ensures script { IfErr result (IsScriptFault path.entry.now) }
-{
-    let script = read_script(rt, alloc, path)?;
-    match text_of(script.as_slice()) {
-        Ok(text) => Ok(world_both(alloc, file, text, behind)?),
-        Err(fault) => Err(ReportFault::Unread(path, Some(Reason::Text(fault)))),
-    }
-}
-
-// The report of the steps of the script that the file has.
-fn world_script<'a>(alloc: Global, file: &[u8], behind: Behind) -> Result<Report, ReportFault<'a>>
-    ensures ok { IfOk result (λ r. IsWorld behind (beginning command.World None file.now) r.status (string_bytes r.lines)) }
-    ensures not_text { IfErr result (IsNoTextOf true file.now) }
-    ensures further { IfErr result IsOfFile }
-{
-    let text = text_of(file)?;
-    Ok(world(alloc, behind, Source { object: None, text })?)
+    let beside = read_beside(rt, alloc, script)?;
+    let source = source_of(file, script, beside.as_slice())?;
+    Ok(running_partitioned(rt, alloc, source, manner, listeners)?)
 }
 
 // The report of the steps of either.
@@ -379,10 +217,9 @@ fn world_of<'a, R: Files>(
     ensures not_text { IfErr result (IsNoTextOf (is_none script.entry) file.now) }
     ensures further { IfErr result (IsBesideFault (option_map (λ path. path.now) script.entry)) }
 {
-    match script {
-        Some(path) => world_beside(rt, alloc, file, path, behind),
-        None => world_script(alloc, file, behind),
-    }
+    let beside = read_beside(rt, alloc, script)?;
+    let source = source_of(file, script, beside.as_slice())?;
+    Ok(world(alloc, behind, source)?)
 }
 
 // What an audit finds of a log's file beside the script of this path, and an object file, if there is one.
@@ -485,7 +322,7 @@ pub fn report_on<'a, R: Files<File = File> + Clock + Threads + Wait + Sync>(
     alloc: Global,
     task: &Task<'a>,
     text: &[u8],
-    meanwhile: Meanwhile,
+    progress: Meanwhile,
 ) -> Result<Report, ReportFault<'a>>
     ensures ok { IfOk result (λ r. IsReport (wish_of task.now) text.now r.status (string_bytes r.lines)) }
     // Only assembly text and scripts have to be UTF-8, and without a byte order mark; an object file is no script.
@@ -531,10 +368,10 @@ pub fn report_on<'a, R: Files<File = File> + Clock + Threads + Wait + Sync>(
                     over: *over,
                 },
                 listeners: Listeners {
-                    each: tell.then_some(meanwhile.error),
+                    each: tell.then_some(progress.error),
                     metrics: *metrics,
                     trace: *trace,
-                    ..meanwhile.listeners()
+                    ..progress.listeners()
                 },
             };
             run_of(rt, alloc, text, *script, options, *log)
@@ -552,7 +389,7 @@ pub fn report_on<'a, R: Files<File = File> + Clock + Threads + Wait + Sync>(
                 audit: *audit,
                 results: false,
             };
-            partitioned_of(rt, alloc, text, *script, manner, meanwhile.listeners())
+            partitioned_of(rt, alloc, text, *script, manner, progress.listeners())
         }
         Task::Dis { raw } => Ok(disassembly(alloc, *raw, text)?),
         Task::Log(wanted) => log_report(rt, alloc, text, *wanted),

@@ -1,9 +1,10 @@
 -- Why there is no report: no text was read, or a further file isn't read or written, which keeps a run's log, has procedures beside FILE or
 -- is to have a picture.
-use Rattle.std.specs.Prelude.{◌≡◌, ◌⊎◌, true, Bool, not, List, ℕ, Option, Some}
+use Rattle.std.specs.Prelude.{◌≡◌, ◌⊎◌, true, Bool, not, List, ℕ, Option, Some, None, option_map}
 use Rattle.procd.specs.Report.{IsTextFault}
 use Rattle.command_line.specs.Task.{Wish, Verify, World, Run, Partitioned, Log, Audit, Picture, reads_text}
 use Rattle.object_file.specs.Elf.{is_elf}
+use Rattle.script_loading.specs.declared.loading.Source.{Source}
 use Rattle.procd.specs.declared.report.ReportFault.{ReportFault}
 use Rattle.procd.specs.declared.report.ReportFault.TheVariants.{NotText, Unread, Unwritten, Memory}
 
@@ -83,3 +84,8 @@ abbrev pub IsOfFile : ReportFault → Type 0
 IsOfFile (Unread path reason) = ⊥
 IsOfFile (Unwritten path reason) = ⊥
 IsOfFile other = Unit {0}
+
+-- FILE as a script; or as an object file, with the script of a path
+abbrev pub IsSourceOf : (script : Option (List ℕ)) → List ℕ → Source → Type 0
+IsSourceOf None file source = (option_map (λ object. object.now) source.object ≡ None) × (source.text.now ≡ file)
+IsSourceOf (Some path) file source = option_map (λ object. object.now) source.object ≡ Some file

@@ -8,5 +8,5 @@ use Rattle.procd.proofs.following.follow.Given as goal
 abbrev pub invariant-looks : goal.invariant-looks
 invariant-looks g l =
     (file : List ℕ) × (printed : List ℕ) × HasPrinted l.fn.part file l.source.followed (printed ++ string_bytes l.lines)
-    × Gets (stream (g.W.Write.contents l.fn.out) (g.W.Write.contents l.out)) printed
-    × TellsSeams (stream (g.E.Write.contents l.fn.err) (g.E.Write.contents l.err))
+    × Gets (stream (g.W.Write.contents l.fn.streams.out) (g.W.Write.contents l.streams.out)) printed
+    × TellsSeams (stream (g.E.Write.contents l.fn.streams.err) (g.E.Write.contents l.streams.err))

@@ -10,9 +10,9 @@ pub returns : goal.returns
 returns g c =
     let lines = string_bytes c.in-Ok.report.lines in
     let said : IsReport (wish_of c.args.wanted.now.task) c.args.text.now c.in-Ok.report.status lines = search rules in
-    let written : Gets (stream (g.W.Write.contents c.args.out.now) (g.W.Write.contents c.tell.new.to)) lines = search rules in
-    let told : TellsIf (may_tell (wish_of c.args.wanted.now.task)) (stream (g.E.Write.contents c.args.err.now) (g.E.Write.contents c.tell_notes.new.err))
-    = subst (λ (b : Bool). TellsIf b (stream (g.E.Write.contents c.args.err.now)
+    let written : Gets (stream (g.W.Write.contents c.args.streams.now.out) (g.W.Write.contents c.tell.new.to)) lines = search rules in
+    let told : TellsIf (may_tell (wish_of c.args.wanted.now.task)) (stream (g.E.Write.contents c.args.streams.now.err) (g.E.Write.contents c.tell_notes.new.err))
+    = subst (λ (b : Bool). TellsIf b (stream (g.E.Write.contents c.args.streams.now.err)
     (g.E.Write.contents c.tell_notes.new.err))) c.may_tell.ensures c.tell_notes.ensures in
     inr (inr (inr (inr (lines, said, written, told))))
 
@@ -20,16 +20,16 @@ pub returns-in-Err : goal.returns-in-Err
 returns-in-Err g c =
     let lines = string_bytes c.in-Ok.report.lines in
     let said : IsReport (wish_of c.args.wanted.now.task) c.args.text.now c.in-Ok.report.status lines = search rules in
-    let begun : Begins (stream (g.W.Write.contents c.args.out.now) (g.W.Write.contents c.tell.new.to)) lines
-    = subst (Begins (stream (g.W.Write.contents c.args.out.now) (g.W.Write.contents c.tell.new.to))) c.as_str.ensures.value c.tell.ensures.part in
+    let begun : Begins (stream (g.W.Write.contents c.args.streams.now.out) (g.W.Write.contents c.tell.new.to)) lines
+    = subst (Begins (stream (g.W.Write.contents c.args.streams.now.out) (g.W.Write.contents c.tell.new.to))) c.as_str.ensures.value c.tell.ensures.part in
     inr (inr (inr (inl (c.in-Ok.report.status, lines, said, c.cannot_write.ensures.status, begun, c.cannot_write.ensures.told))))
 
 pub returns-in-Err-Unread : goal.returns-in-Err-Unread
 returns-in-Err-Unread g c =
     unread_ends c.args.wanted.now.file.now (wish_of c.args.wanted.now.task) c.args.text.now _ _ _ c.in-Err-Unread.path.now
-    (rw c.in-Err-Unread.field-0-is at c.in-Err-Unread.ensures.further) (rw c.in-Err-Unread.field-0-is at c.cannot_read-in-Err-Unread.ensures) refl
+    (rw c.in-Err-Unread.field-0-is at c.in-Err-Unread.ensures.further) c.cannot_read-in-Err-Unread.ensures refl
 
 pub returns-in-Err-Unwritten : goal.returns-in-Err-Unwritten
 returns-in-Err-Unwritten g c =
     unwritten_ends c.args.wanted.now.file.now (wish_of c.args.wanted.now.task) c.args.text.now _ _ _ c.in-Err-Unwritten.path.now
-    (rw c.in-Err-Unwritten.field-0-is at c.in-Err-Unwritten.ensures.further) (rw c.in-Err-Unwritten.field-0-is at c.cannot_write_file.ensures) refl
+    (rw c.in-Err-Unwritten.field-0-is at c.in-Err-Unwritten.ensures.further) c.cannot_write_file.ensures refl

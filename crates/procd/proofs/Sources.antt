@@ -1,0 +1,29 @@
+-- What is made of FILE as a script, or as an object file with a script beside it.
+use Rattle.std.proofs.Common.{ℕ, Bool, List, Option, Some, None}
+use Rattle.scripts.specs.declared.keyword.Command.TheVariants as command
+use Rattle.script_loading.specs.declared.loading.Source.{Source}
+use Rattle.script_loading.specs.Loading.{beginning_of}
+use Rattle.run_command.specs.declared.anew.Checkpoints.{Checkpoints}
+use Rattle.partitioned_run.specs.Partitioned.{IsPartitionedRun}
+use Rattle.world_command.specs.WorldReport.{IsWorld}
+use Rattle.world_command.specs.declared.world.Behind.{Behind}
+use Rattle.procd.specs.Report.{IsRunReport, IsRunOf, IsPartitionedOf, IsWorldOf}
+use Rattle.procd.specs.Joining.Further.{IsSourceOf}
+
+pub run_of_source : (checkpoints : Checkpoints) (workers tries : ℕ) (audit results : Bool) (log script : Option (List ℕ)) (file : List ℕ) (source : Source)
+    (status : ℕ) (lines : List ℕ) → IsSourceOf script file source
+    → IsRunReport checkpoints workers tries audit results log (beginning_of command.Run source) status lines
+    → IsRunOf checkpoints workers tries audit results log script file status lines
+run_of_source checkpoints workers tries audit results log None file source status lines is run = rw (is.0, is.1) at run
+run_of_source checkpoints workers tries audit results log (Some path) file source status lines is run = (source.text.now, rw is at run)
+
+pub partitioned_of_source : (workers tries : ℕ) (audit : Bool) (script : Option (List ℕ)) (file : List ℕ) (source : Source) (status : ℕ) (lines : List ℕ)
+    → IsSourceOf script file source → IsPartitionedRun workers tries audit (beginning_of command.Run source) status lines
+    → IsPartitionedOf workers tries audit script file status lines
+partitioned_of_source workers tries audit None file source status lines is run = rw (is.0, is.1) at run
+partitioned_of_source workers tries audit (Some path) file source status lines is run = (source.text.now, rw is at run)
+
+pub world_of_source : (behind : Behind) (script : Option (List ℕ)) (file : List ℕ) (source : Source) (status : ℕ) (lines : List ℕ)
+    → IsSourceOf script file source → IsWorld behind (beginning_of command.World source) status lines → IsWorldOf behind script file status lines
+world_of_source behind None file source status lines is run = rw (is.0, is.1) at run
+world_of_source behind (Some path) file source status lines is run = (source.text.now, rw is at run)
