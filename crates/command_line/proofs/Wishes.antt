@@ -36,7 +36,7 @@ use Rattle.command_line.specs.Said.{
   shows,
 }
 use Rattle.command_line.specs.Said.{IsFlag, SaysCount, SaysLog, SaysNumber, SaysNumberIf, SaysNumbers, SaysPart, SaysPartOf, SaysRun, SaysPartitioned, SaysMore, SaysNoMore, SaysWish, value_of}
-use Rattle.command_line.specs.Said.{Stats, Results, Tell, Metrics, Trace, Kept, Checkpoint, Over}
+use Rattle.command_line.specs.Said.{Stats, Results, Tell, Metrics, Trace, Checkpoint, Over}
 use Rattle.command_line.specs.Task.{LogWish, Events, EventsAndRows, Follow, Audit, Picture}
 use Rattle.command_line.specs.Joining.LogWanted.{shown_wanted, audit_wanted}
 use Rattle.log_part.specs.declared.part.Part.{Part}
@@ -121,7 +121,7 @@ wants_exec name rows raw numbers is flag all (Dis r) named says = absurd (exec_n
 wants_exec name rows raw numbers is flag all Verify named says = absurd (exec_not_verify (sym is ∙ named))
 wants_exec name rows raw numbers is flag all (World log audit script) named says = absurd (exec_not_world (sym is ∙ named))
 wants_exec name rows raw numbers is flag all (Run workers tries stats audit results tell metrics trace log checkpoint over script) named says = absurd (exec_not_run (sym is ∙ named))
-wants_exec name rows raw numbers is flag all (Partitioned workers tries a s) named says = absurd (exec_not_run (sym is ∙ named))
+wants_exec name rows raw numbers is flag all (Partitioned workers tries a l s) named says = absurd (exec_not_run (sym is ∙ named))
 wants_exec name rows raw numbers is flag all (Log script) named says = absurd (exec_not_log (sym is ∙ named))
 
 pub wants_dis : (name : List ℕ) (rows : List Row) (raw : Bool) → name ≡ codes "dis" → ((r : Bool) → IsFlag r (one_of (codes "raw") rows) → raw ≡ r)
@@ -132,7 +132,7 @@ wants_dis name rows raw is flag (Dis r) named says = ap Dis (flag r says)
 wants_dis name rows raw is flag Verify named says = absurd (dis_not_verify (sym is ∙ named))
 wants_dis name rows raw is flag (World log audit script) named says = absurd (dis_not_world (sym is ∙ named))
 wants_dis name rows raw is flag (Run workers tries stats audit results tell metrics trace log checkpoint over script) named says = absurd (dis_not_run (sym is ∙ named))
-wants_dis name rows raw is flag (Partitioned workers tries a s) named says = absurd (dis_not_run (sym is ∙ named))
+wants_dis name rows raw is flag (Partitioned workers tries a l s) named says = absurd (dis_not_run (sym is ∙ named))
 wants_dis name rows raw is flag (Log script) named says = absurd (dis_not_log (sym is ∙ named))
 
 pub wants_world : (name : List ℕ) (rows : List Row) (log audit : Bool) (script : Option (List ℕ)) → name ≡ codes "world"
@@ -147,15 +147,15 @@ wants_world name rows log audit script is flag other path Verify named says = ab
 wants_world name rows log audit script is flag other path (World l a s) named says =
     ap₂ (λ (x y : Bool). World x y script) (flag l says.0) (other a says.1) ∙ ap (λ (o : Option (List ℕ)). World l a o) (path ∙ says.2)
 wants_world name rows log audit script is flag other path (Run workers tries stats a results tell metrics trace kept checkpoint over beside) named says = absurd (world_not_run (sym is ∙ named))
-wants_world name rows log audit script is flag other path (Partitioned workers tries a s) named says = absurd (world_not_run (sym is ∙ named))
+wants_world name rows log audit script is flag other path (Partitioned workers tries a l s) named says = absurd (world_not_run (sym is ∙ named))
 wants_world name rows log audit script is flag other path (Log beside) named says = absurd (world_not_log (sym is ∙ named))
 
 pub wants_run : (name : List ℕ) (rows : List Row) (result : Result Task WordFault) → name ≡ codes "run"
     → ((workers tries : ℕ) (stats audit results tell : Bool) (metrics trace log : Option (List ℕ)) (checkpoint : Bool) (over : Option ℕ) (script : Option (List ℕ))
     → SaysRun rows workers tries stats audit results tell metrics trace log checkpoint over script
     → IsTaskOrNoMemory (Run workers tries stats audit results tell metrics trace log checkpoint over script) result)
-    → ((workers tries : ℕ) (audit : Bool) (script : Option (List ℕ)) → SaysPartitioned rows workers tries audit script
-    → IsTaskOrNoMemory (Partitioned workers tries audit script) result)
+    → ((workers tries : ℕ) (audit : Bool) (log script : Option (List ℕ)) → SaysPartitioned rows workers tries audit log script
+    → IsTaskOrNoMemory (Partitioned workers tries audit log script) result)
     → (wish : Wish) → name ≡ command_name wish → SaysWish rows wish → IsTaskOrNoMemory wish result
 wants_run name rows result is all divides (Exec r ns) named says = absurd (exec_not_run (sym named ∙ is))
 wants_run name rows result is all divides Asm named says = absurd (asm_not_run (sym named ∙ is))
@@ -164,7 +164,7 @@ wants_run name rows result is all divides Verify named says = absurd (verify_not
 wants_run name rows result is all divides (World log audit script) named says = absurd (world_not_run (sym named ∙ is))
 wants_run name rows result is all divides (Run workers tries stats audit results tell metrics trace log checkpoint over script) named says =
     all workers tries stats audit results tell metrics trace log checkpoint over script says
-wants_run name rows result is all divides (Partitioned workers tries audit script) named says = divides workers tries audit script says
+wants_run name rows result is all divides (Partitioned workers tries audit log script) named says = divides workers tries audit log script says
 wants_run name rows result is all divides (Log script) named says = absurd (log_not_run (sym named ∙ is))
 
 pub wants_log : (name : List ℕ) (rows : List Row) (result : Result Task WordFault) → name ≡ codes "log"
@@ -176,7 +176,7 @@ wants_log name rows result is all (Dis r) named says = absurd (dis_not_log (sym 
 wants_log name rows result is all Verify named says = absurd (verify_not_log (sym named ∙ is))
 wants_log name rows result is all (World log audit script) named says = absurd (world_not_log (sym named ∙ is))
 wants_log name rows result is all (Run workers tries stats audit results tell metrics trace log checkpoint over script) named says = absurd (log_not_run (sym is ∙ named))
-wants_log name rows result is all (Partitioned workers tries a s) named says = absurd (log_not_run (sym is ∙ named))
+wants_log name rows result is all (Partitioned workers tries a l s) named says = absurd (log_not_run (sym is ∙ named))
 wants_log name rows result is all (Log wanted) named says = all wanted says
 
 -- ---- a log's file
@@ -386,16 +386,16 @@ logged_so f rows log checkpoint over log_is flag says not none wanted =
           true_false (sym yes ∙ not)
     ]
 
--- whether something is asked for that is of one log
-module _ (rows : List Row) (stats results tell checkpoint : Bool) (metrics trace log over : Option Text) (set there : Bool)
+-- whether something is asked for that is of all calls, or of the one log of all
+module _ (rows : List Row) (stats results tell checkpoint : Bool) (metrics trace over : Option Text) (set there : Bool)
     (stats_is : (b : Bool) → IsFlag b (one_of (codes "stats") rows) → stats ≡ b)
     (results_is : (b : Bool) → IsFlag b (one_of (codes "results") rows) → results ≡ b)
     (tell_is : (b : Bool) → IsFlag b (one_of (codes "tell") rows) → tell ≡ b)
     (checkpoint_is : (b : Bool) → IsFlag b (one_of (codes "checkpoint") rows) → checkpoint ≡ b)
     (metrics_is : metrics ≡ first_of (codes "metrics") rows) (trace_is : trace ≡ first_of (codes "trace") rows)
-    (log_is : log ≡ first_of (codes "log") rows) (over_is : over ≡ first_of (codes "checkpoint-over") rows)
+    (over_is : over ≡ first_of (codes "checkpoint-over") rows)
     (set_is : set ≡ (stats || (results || (tell || checkpoint))))
-    (there_is : there ≡ (set || (is_some metrics || (is_some trace || (is_some log || is_some over))))) where
+    (there_is : there ≡ (set || (is_some metrics || (is_some trace || is_some over)))) where
   pub says_none : SaysNoMore rows → there ≡ false
   says_none says =
       rw (
@@ -406,29 +406,26 @@ module _ (rows : List Row) (stats results tell checkpoint : Bool) (metrics trace
         tell_is false says.2,
         metrics_is ∙ says.3,
         trace_is ∙ says.4,
-        log_is ∙ says.5,
-        checkpoint_is false says.6,
-        over_is ∙ says.7,
+        checkpoint_is false says.5,
+        over_is ∙ says.6,
       ) refl
 
   pub says_some : there ≡ false → SaysMore rows → ⊥
   says_some off more =
-      let both = or_parts set (is_some metrics || (is_some trace || (is_some log || is_some over))) (sym there_is ∙ off) in
+      let both = or_parts set (is_some metrics || (is_some trace || is_some over)) (sym there_is ∙ off) in
       let first = or_parts stats (results || (tell || checkpoint)) (sym set_is ∙ both.0) in
       let second = or_parts results (tell || checkpoint) first.1 in
       let third = or_parts tell checkpoint second.1 in
-      let fourth = or_parts (is_some metrics) (is_some trace || (is_some log || is_some over)) both.1 in
-      let fifth = or_parts (is_some trace) (is_some log || is_some over) fourth.1 in
-      let sixth = or_parts (is_some log) (is_some over) fifth.1 in
+      let fourth = or_parts (is_some metrics) (is_some trace || is_some over) both.1 in
+      let fifth = or_parts (is_some trace) (is_some over) fourth.1 in
       elim more [
         | Stats flag ↦ true_false (sym (stats_is true flag) ∙ first.0)
         | Results flag ↦ true_false (sym (results_is true flag) ∙ second.0)
         | Tell flag ↦ true_false (sym (tell_is true flag) ∙ third.0)
         | Metrics some ↦ true_false (sym some ∙ (ap is_some (sym metrics_is) ∙ fourth.0))
         | Trace some ↦ true_false (sym some ∙ (ap is_some (sym trace_is) ∙ fifth.0))
-        | Kept some ↦ true_false (sym some ∙ (ap is_some (sym log_is) ∙ sixth.0))
         | Checkpoint flag ↦ true_false (sym (checkpoint_is true flag) ∙ third.1)
-        | Over some ↦ true_false (sym some ∙ (ap is_some (sym over_is) ∙ sixth.1))
+        | Over some ↦ true_false (sym some ∙ (ap is_some (sym over_is) ∙ fifth.1))
       ]
 
 -- only these three commands have more to say than a file and flags

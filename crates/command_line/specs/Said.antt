@@ -172,11 +172,11 @@ SaysRun rows workers tries stats audit results tell metrics trace log checkpoint
     × SaysNumberIf (first_of (codes "checkpoint-over") rows) over × (first_of (codes "script") rows ≡ script)
     × (log ≡ None → wants_checkpoint checkpoint over ≡ false) × IsFlag false (one_of (codes "partitions") rows)
 
--- nothing is asked for that is of one log
+-- nothing is asked for that is of all calls, or of the one log of all
 abbrev pub SaysNoMore : List Row → Type 0
 SaysNoMore rows =
     IsFlag false (one_of (codes "stats") rows) × IsFlag false (one_of (codes "results") rows) × IsFlag false (one_of (codes "tell") rows)
-    × (first_of (codes "metrics") rows ≡ None) × (first_of (codes "trace") rows ≡ None) × (first_of (codes "log") rows ≡ None)
+    × (first_of (codes "metrics") rows ≡ None) × (first_of (codes "trace") rows ≡ None)
     × IsFlag false (one_of (codes "checkpoint") rows) × (first_of (codes "checkpoint-over") rows ≡ None)
 
 -- something is
@@ -186,15 +186,14 @@ pub data SaysMore (rows : List Row) : Type 0 where
   Tell : IsFlag true (one_of (codes "tell") rows) → SaysMore rows
   Metrics : is_some (first_of (codes "metrics") rows) ≡ true → SaysMore rows
   Trace : is_some (first_of (codes "trace") rows) ≡ true → SaysMore rows
-  Kept : is_some (first_of (codes "log") rows) ≡ true → SaysMore rows
   Checkpoint : IsFlag true (one_of (codes "checkpoint") rows) → SaysMore rows
   Over : is_some (first_of (codes "checkpoint-over") rows) ≡ true → SaysMore rows
 
--- what a run by partitions takes, which has no log that is told of or kept
-abbrev pub SaysPartitioned : List Row → (workers tries : ℕ) → (audit : Bool) → (script : Option Text) → Type 0
-SaysPartitioned rows workers tries audit script =
+-- what a run by partitions takes, each of which may have a log of its own
+abbrev pub SaysPartitioned : List Row → (workers tries : ℕ) → (audit : Bool) → (log script : Option Text) → Type 0
+SaysPartitioned rows workers tries audit log script =
     SaysCount (first_of (codes "workers") rows) 4 workers × SaysCount (first_of (codes "tries") rows) 3 tries
-    × IsFlag audit (one_of (codes "audit") rows) × (first_of (codes "script") rows ≡ script)
+    × IsFlag audit (one_of (codes "audit") rows) × (first_of (codes "log") rows ≡ log) × (first_of (codes "script") rows ≡ script)
     × IsFlag true (one_of (codes "partitions") rows) × SaysNoMore rows
 
 -- from which place on, or how many at the end: one of both at most, and the whole log where neither is said
@@ -232,7 +231,7 @@ SaysWish rows Verify = Unit {0}
 SaysWish rows (World log audit script) =
     IsFlag log (one_of (codes "log") rows) × IsFlag audit (one_of (codes "audit") rows) × (first_of (codes "script") rows ≡ script)
 SaysWish rows (Run workers tries stats audit results tell metrics trace log checkpoint over script) = SaysRun rows workers tries stats audit results tell metrics trace log checkpoint over script
-SaysWish rows (Partitioned workers tries audit script) = SaysPartitioned rows workers tries audit script
+SaysWish rows (Partitioned workers tries audit log script) = SaysPartitioned rows workers tries audit log script
 SaysWish rows (Log wanted) = SaysLog rows wanted
 
 -- the words are a command line of the program, and say this command with this file
@@ -270,7 +269,7 @@ IsOfWhole rows = IsFlag true (one_of (codes "rows") rows) ⊎ IsFlag true (one_o
 
 -- what is to be a number isn't one, an audit has no script, or a script no audit; rows are asked for beside an audit, or a picture or a
 -- part of the events beside one of these; a log is followed beside one of these or a picture; a checkpoint without a log; or partitions beside
--- what is of one log
+-- what is of all calls, or of the one log of all
 pub data IsUnfit (name : Text) (rows : List Row) : Type 0 where
   Argument : name ≡ codes "exec" → ¬ AllNumbers (unwrap_or (all_of (codes "arg") rows) []) → IsUnfit name rows
   Workers : name ≡ codes "run" → IsNoCount (first_of (codes "workers") rows) → IsUnfit name rows

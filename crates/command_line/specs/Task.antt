@@ -24,7 +24,7 @@ pub data Wish : Type 0 where
   Verify : Wish
   World : (log audit : Bool) (script : Option (List ℕ)) → Wish
   Run : (workers tries : ℕ) (stats audit results tell : Bool) (metrics trace log : Option (List ℕ)) (checkpoint : Bool) (over : Option ℕ) (script : Option (List ℕ)) → Wish
-  Partitioned : (workers tries : ℕ) (audit : Bool) (script : Option (List ℕ)) → Wish
+  Partitioned : (workers tries : ℕ) (audit : Bool) (log script : Option (List ℕ)) → Wish
   Log : (wanted : LogWish) → Wish
 
 abbrev pub command_name : Wish → List ℕ
@@ -34,7 +34,7 @@ command_name (Dis raw) = codes "dis"
 command_name Verify = codes "verify"
 command_name (World log audit script) = codes "world"
 command_name (Run workers tries stats audit results tell metrics trace log checkpoint over script) = codes "run"
-command_name (Partitioned workers tries audit script) = codes "run"
+command_name (Partitioned workers tries audit log script) = codes "run"
 command_name (Log wanted) = codes "log"
 
 abbrev pub log_wish : LogTask → LogWish
@@ -53,7 +53,8 @@ wish_of (task.World log audit script) = World log audit (option_map (λ path. pa
 wish_of (task.Run workers tries stats audit results tell metrics trace log checkpoint over script) =
     Run workers tries stats audit results tell (option_map (λ path. path.now) metrics) (option_map (λ path. path.now) trace)
     (option_map (λ path. path.now) log) checkpoint over (option_map (λ path. path.now) script)
-wish_of (task.Partitioned workers tries audit script) = Partitioned workers tries audit (option_map (λ path. path.now) script)
+wish_of (task.Partitioned workers tries audit log script) =
+    Partitioned workers tries audit (option_map (λ path. path.now) log) (option_map (λ path. path.now) script)
 wish_of (task.Log wanted) = Log (log_wish wanted)
 
 -- whether what FILE has is to be UTF-8: an object file isn't, beside which a script stands
@@ -64,7 +65,7 @@ reads_text (Dis raw) = false
 reads_text Verify = true
 reads_text (World log audit script) = is_none script
 reads_text (Run workers tries stats audit results tell metrics trace log checkpoint over script) = is_none script
-reads_text (Partitioned workers tries audit script) = is_none script
+reads_text (Partitioned workers tries audit log script) = is_none script
 reads_text (Log wanted) = false
 
 -- whether there may be something to tell on standard error: a run that is asked for its figures

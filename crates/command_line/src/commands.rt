@@ -202,7 +202,7 @@ fn partitions_arg<'a>(alloc: Global) -> Arg<'a>
         .long("partitions")
         .action(ArgAction::SetTrue)
         .help(
-            "Run calls apart whose data components no procedure joins, each part by some of the workers and with a log of its own",
+            "Run calls apart whose data components no procedure joins, each part by some of the workers and with a log of its own: with --log in LOG.N, N its first component",
         )
 }
 

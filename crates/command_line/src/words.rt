@@ -61,12 +61,13 @@ pub enum Task<'a> {
         over: Option<u64>,
         script: Option<&'a str>,
     },
-    /// Run the calls of a script, those of each partition of its data components apart, by so many workers in all. The rest is
-    /// as of `Run`.
+    /// Run the calls of a script, those of each partition of its data components apart, by so many workers in all; `log` is
+    /// the path of the files that keep their logs, but for the partition's number behind it. The rest is as of `Run`.
     Partitioned {
         workers: u64,
         tries: u64,
         audit: bool,
+        log: Option<&'a str>,
         script: Option<&'a str>,
     },
     /// Read a log's file.
@@ -139,7 +140,7 @@ pub enum WordFault {
     PartUnwanted,
     /// `run --checkpoint` or `--checkpoint-over` without `--log`.
     CheckpointAlone,
-    /// `run --partitions` beside what is of one log.
+    /// `run --partitions` beside what is of all calls, or of the one log of all.
     PartitionsBeside,
     NoCommand,
     Memory,
@@ -236,13 +237,12 @@ fn is_any_there(
     is_set: bool,
     metrics: Option<&str>,
     trace: Option<&str>,
-    log: Option<&str>,
     over: Option<&str>,
 ) -> bool
     ensures { result ≡ (is_set || (is_some (option_map (λ s. s.now) metrics.entry) || (is_some (option_map (λ s. s.now) trace.entry)
-        || (is_some (option_map (λ s. s.now) log.entry) || is_some (option_map (λ s. s.now) over.entry))))) }
+        || is_some (option_map (λ s. s.now) over.entry)))) }
 {
-    is_set || metrics.is_some() || trace.is_some() || log.is_some() || over.is_some()
+    is_set || metrics.is_some() || trace.is_some() || over.is_some()
 }
 
 // Whether one of these is so.
@@ -252,8 +252,8 @@ fn is_any_set(stats: bool, results: bool, tell: bool, checkpoint: bool) -> bool
     stats || results || tell || checkpoint
 }
 
-// Whether something is asked for that is of one log: figures, times and answers of all calls as they come, what its places
-// hold, and its file.
+// Whether something is asked for that is of all calls, or of the one log of all: figures, times and answers as they come, what
+// its places hold, and where it begins anew.
 fn says_more(matches: &ArgMatches) -> bool
     ensures silent { SaysNoMore (rows_of (found_of matches.now)) → result ≡ false }
     ensures more { result ≡ false → ¬ SaysMore (rows_of (found_of matches.now)) }
@@ -264,10 +264,9 @@ fn says_more(matches: &ArgMatches) -> bool
     let checkpoint = flag_of(matches, "checkpoint");
     let metrics = text_of(matches, "metrics");
     let trace = text_of(matches, "trace");
-    let file = text_of(matches, "log");
     let over = text_of(matches, "checkpoint-over");
     let is_set = is_any_set(stats, results, tell, checkpoint);
-    is_any_there(is_set, metrics, trace, file, over)
+    is_any_there(is_set, metrics, trace, over)
 }
 
 // How calls are to be run apart.
@@ -276,8 +275,9 @@ fn partitioned_task<'a>(
     workers: u64,
     tries: u64,
 ) -> Result<Task<'a>, WordFault>
-    ensures task { (audit : Bool) (script : Option (List ℕ)) → SaysPartitioned (rows_of (found_of matches.now)) workers tries audit script
-        → IsTaskOrNoMemory (Partitioned workers tries audit script) result }
+    ensures task { (audit : Bool) (log script : Option (List ℕ))
+        → SaysPartitioned (rows_of (found_of matches.now)) workers tries audit log script
+        → IsTaskOrNoMemory (Partitioned workers tries audit log script) result }
     ensures wrong { IfOk result (λ task. ¬ SaysMore (rows_of (found_of matches.now))) }
     ensures err { IfErr result IsWordFault }
 {
@@ -288,6 +288,7 @@ fn partitioned_task<'a>(
         workers,
         tries,
         audit: flag_of(matches, "audit"),
+        log: text_of(matches, "log"),
         script: text_of(matches, "script"),
     })
 }
@@ -297,9 +298,9 @@ fn run_task<'a>(matches: &ArgMatches<'a>) -> Result<Task<'a>, WordFault>
     ensures task { (workers tries : ℕ) (stats audit results tell : Bool) (metrics trace log : Option (List ℕ)) (checkpoint : Bool) (over : Option ℕ)
         (script : Option (List ℕ)) → SaysRun (rows_of (found_of matches.now)) workers tries stats audit results tell metrics trace log checkpoint over script
         → IsTaskOrNoMemory (Run workers tries stats audit results tell metrics trace log checkpoint over script) result }
-    ensures partitioned { (workers tries : ℕ) (audit : Bool) (script : Option (List ℕ))
-        → SaysPartitioned (rows_of (found_of matches.now)) workers tries audit script
-        → IsTaskOrNoMemory (Partitioned workers tries audit script) result }
+    ensures partitioned { (workers tries : ℕ) (audit : Bool) (log script : Option (List ℕ))
+        → SaysPartitioned (rows_of (found_of matches.now)) workers tries audit log script
+        → IsTaskOrNoMemory (Partitioned workers tries audit log script) result }
     ensures wrong { IfOk result (λ task. ¬ IsUnfit (codes "run") (rows_of (found_of matches.now))) }
     ensures err { IfErr result IsWordFault }
 {
