@@ -1,8 +1,8 @@
 -- Procedures and calls of partitions.
-use Rattle.std.proofs.Common.{arith, ◌≡◌, ◌∙◌, ◌<◌, ◌≤◌, ◌+◌, ◌==◌, ℕ, zero, suc, Bool, true, false, not, max, List, [], ◌∷◌, ◌++◌, length, map, take, get_or, refl, sym, ap, ap₂, subst}
-use Rattle.std.specs.Prelude.{◌||◌, cond, nat_lt, Option, Some, None, slice_get, unwrap_or, All, Result, Ok, Err, IfOk, IsOkAnd}
+use Rattle.std.proofs.Common.{arith, inl, inr, ◌≡◌, ◌∙◌, ◌<◌, ◌≤◌, ◌+◌, ◌==◌, ℕ, zero, suc, Bool, true, false, not, max, List, [], ◌∷◌, ◌++◌, length, map, take, get_or, refl, sym, ap, ap₂, subst}
+use Rattle.std.specs.Prelude.{◌||◌, is_some, cond, nat_lt, Option, Some, None, slice_get, unwrap_or, All, Result, Ok, Err, IfOk, IsOkAnd}
 use Rattle.std.specs.List.{list_any, position_from}
-use Rattle.std.proofs.lemmas.List.{map_more, map-append, length-map, length-take-le, take_more}
+use Rattle.std.proofs.lemmas.List.{map_more, map-append, length-take-le, take_more}
 use Rattle.std.proofs.lemmas.List.Elements.{All-map, All-take}
 use Rattle.std.proofs.lemmas.Option.{get_or_from_slice_get, slice_get-get_or, slice_get_within, unwrap_or-slice_get}
 use Rattle.std.proofs.lemmas.Bool.{or_parts}
@@ -16,7 +16,7 @@ use Rattle.scripts.specs.declared.script.Call.{Call}
 use Rattle.run_command.specs.Answered.{AreCallsOf, said_call}
 use Rattle.tc_core.specs.Admission.{call_of}
 use Rattle.tc_core.specs.declared.state.Call.{Call as Made}
-use Rattle.tc_core.specs.Loaded.{unknown_dc, Loaded, AllReach as CodesReach}
+use Rattle.tc_core.specs.Loaded.{Loaded, AllReach as CodesReach}
 use Rattle.verifier.specs.Checked.{Checked}
 use Rattle.data_component.specs.Store.{Store}
 use Rattle.scripts.specs.Reading.{Contents, contents_of}
@@ -31,7 +31,11 @@ use Rattle.run_command.specs.declared.stop.Stop.{Stop}
 use Rattle.partitioned_run.specs.declared.answering.PartitionOutcome.{PartitionOutcome}
 use Rattle.partitioned_run.specs.declared.dividing.Division.{Division}
 use Rattle.partitioned_run.specs.Partitioned.{decl_of, partition_of_call, partition_of_code}
-use Rattle.partitioned_run.specs.Joining.Dividing.{AreNumbered, IsDivided, IsPartitionRun}
+use Rattle.worker_pool.specs.declared.answer.Answer.{Answer}
+use Rattle.run_command.specs.Kept.{KeepsLog}
+use Rattle.partitioned_run.specs.Partitioned.{IsAnsweredBy, IsAnsweredPart}
+use Rattle.partitioned_run.specs.Logged.{IsKeptBy, IsRunFrom}
+use Rattle.partitioned_run.specs.Joining.Dividing.{AreNumbered, IsAnsweredOn, IsDivided, IsGroundRun, IsKeptIf, IsRunOf}
 
 -- ---- slots of procedures that are loaded
 
@@ -124,22 +128,52 @@ calls_more p numbers lines other k own new long lt are here_is is =
 
 -- ---- the calls of one partition are answered
 
-pub own_run : (c : Contents) (d : Division) (number : ℕ) (ground : Ground) (first others : List Made) (answered : Result (Ground × Answers) Stop) (ran : PartitionOutcome)
-    → ground.state ≡ begun c → ground.dcs.items ≡ empty_stores c → AreCallsOf (picked number d.first.items c.first) first
-    → AreCallsOf (picked number d.calls.items c.calls) others
+pub own_run : (c : Contents) (d : Division) (number : ℕ) (ground : Ground) (first others : List Made) (answered : Result (Ground × Answers) Stop)
+    (ran : PartitionOutcome) → AreCallsOf (picked number d.first.items c.first) first → AreCallsOf (picked number d.calls.items c.calls) others
     → IfOk answered (λ r. AreAnswered ground.state first others r.1.first.items r.1.calls.items r.0.state)
     → IfOk answered (λ r. AreServed ground.dcs.items r.0.dcs.items)
-    → IsOkAnd answered (λ r. (ran.ground ≡ Some r.0) × (ran.answers ≡ r.1)) → IsPartitionRun c d number ran
-own_run c d number ground first others (Ok r) ran state dcs first_are others_are told served is =
+    → IsOkAnd answered (λ r. (ran.ground ≡ Some r.0) × (ran.answers ≡ r.1)) → IsGroundRun c d number ground ran
+own_run c d number ground first others (Ok r) ran first_are others_are told served is =
     rw (is.0, is.1) (record {
       first_calls = first;
       first_are = first_are;
       other_calls = others;
       others_are = others_are;
-      answered = subst (λ (s : Core). AreAnswered s first others r.1.first.items r.1.calls.items r.0.state) state told;
-      served = subst (λ (l : List Store). AreServed l r.0.dcs.items) dcs served;
+      answered = told;
+      served = served;
     })
-own_run c d number ground first others (Err stop) ran state dcs first_are others_are told served is = absurd is
+own_run c d number ground first others (Err stop) ran first_are others_are told served is = absurd is
+
+-- and kept
+pub own_kept : (ground : Ground) (answered : Result (Ground × Answers) Stop) (ran : PartitionOutcome)
+    → (KeepsLog ground.journal ground.state.events → IfOk answered (λ r. KeepsLog r.0.journal r.0.state.events))
+    → IfOk answered (λ r. is_some r.0.journal ≡ is_some ground.journal)
+    → IsOkAnd answered (λ r. (ran.ground ≡ Some r.0) × (ran.answers ≡ r.1)) → IsKeptBy ground → IsKeptIf ran.ground
+own_kept ground (Ok r) ran kept same is by = rw is.0 (same ∙ by.0, kept by.1)
+own_kept ground (Err stop) ran kept same is by = absurd is
+
+-- on a ground that is new
+pub answered_anew : (start : Core) (dcs : List Store) (g : Ground) (first calls : List Call) (first_answers other_answers : List Answer)
+    (behind : Option Ground) → g.state ≡ start → g.dcs.items ≡ dcs → IsAnsweredOn g first calls first_answers other_answers behind
+    → IsAnsweredBy start dcs first calls first_answers other_answers behind
+answered_anew start dcs g first calls first_answers other_answers None state_is dcs_is on = absurd on
+answered_anew start dcs g first calls first_answers other_answers (Some b) state_is dcs_is on =
+    subst (λ (s : Core). IsAnsweredPart s dcs first calls first_answers other_answers b) state_is
+    (subst (λ (l : List Store). IsAnsweredPart g.state l first calls first_answers other_answers b) dcs_is on)
+
+-- on what came back
+pub answered_behind : (start : Core) (dcs : List Store) (g : Ground) (first calls : List Call) (first_answers other_answers : List Answer)
+    (behind : Option Ground) → IsAnsweredOn g first calls first_answers other_answers behind → IsKeptIf behind
+    → IsRunFrom start dcs (Some g) first calls first_answers other_answers behind
+answered_behind start dcs g first calls first_answers other_answers None on kept = absurd on
+answered_behind start dcs g first calls first_answers other_answers (Some b) on kept = record { run = inl on; kept = kept }
+
+pub run_behind : {E : Type 0} (c : Contents) (d : Division) (number : ℕ) (g : Ground) (result : Result PartitionOutcome E)
+    → IfOk result (IsGroundRun c d number g) → IfOk result (λ ran. IsKeptIf ran.ground) → IfOk result (IsRunOf c d number (Some g))
+run_behind c d number g (Ok ran) run kept =
+    answered_behind (begun c) (empty_stores c) g (picked number d.first.items c.first) (picked number d.calls.items c.calls)
+    ran.answers.first.items ran.answers.calls.items ran.ground run kept
+run_behind c d number g (Err e) run kept = tt
 
 -- ---- a partition without calls
 
@@ -150,6 +184,11 @@ pub none_run : (c : Contents) (d : Division) (p : ℕ) (answers : Answers)
 none_run c d p answers off none =
     let both = or_parts (list_any (λ (n : ℕ). n == p) d.first.items) (list_any (λ (n : ℕ). n == p) d.calls.items) off in
     (picked_none p d.first.items c.first both.0, picked_none p d.calls.items c.calls both.1, none.0, none.1)
+
+pub idle_run : (start : Core) (dcs : List Store) (g : Ground) (first calls : List Call) (first_answers other_answers : List Answer)
+    → (first ≡ []) × (calls ≡ []) × (first_answers ≡ []) × (other_answers ≡ []) → IsKeptBy g
+    → IsRunFrom start dcs (Some g) first calls first_answers other_answers (Some g)
+idle_run start dcs g first calls first_answers other_answers none kept = record { run = inr (none.0, none.1, none.2, none.3, refl); kept = kept }
 
 -- ---- a script whose calls are divided by the state that its procedures are loaded in
 

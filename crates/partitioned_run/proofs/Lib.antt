@@ -1,2 +1,3 @@
 pub mod DividingLemmas
+pub mod RecoveringLemmas
 pub mod ReportingLemmas

@@ -1,10 +1,10 @@
 -- The answers and the data components of all partitions together.
-use Rattle.std.proofs.Common.{arith, ◌≡◌, ◌∙◌, ◌<◌, ◌+◌, ◌==◌, ℕ, Bool, true, false, max, List, [], ◌∷◌, ◌++◌, length, map, take, get_or, refl, sym, ap, subst}
-use Rattle.std.specs.Prelude.{◌&&◌, if◌then◌else◌, Option, Some, None, option_map, slice_get, Result, Ok, Err, IfOk, All, count_by, codes, string_bytes}
+use Rattle.std.proofs.Common.{arith, inl, inr, ◌≡◌, ◌∙◌, ◌<◌, ◌+◌, ℕ, Bool, true, false, max, List, [], ◌∷◌, ◌++◌, length, map, take, get_or, refl, sym, ap, subst}
+use Rattle.std.specs.Prelude.{◌&&◌, if◌then◌else◌, Option, Some, None, option_map, slice_get, Result, Ok, Err, IfOk, All, codes, string_bytes}
 use Rattle.std.specs.List.{list_any}
 use Rattle.std.specs.Global.{Vec}
 use Rattle.std.proofs.lemmas.List.{length-map, length-take-le, map-append, take_more}
-use Rattle.std.proofs.lemmas.Option.{get_or_from_slice_get, slice_get-get_or, slice_get-map, slice_get_within}
+use Rattle.std.proofs.lemmas.Option.{get_or_from_slice_get, slice_get-map, slice_get_within}
 use Rattle.data_component.specs.Store.{Store}
 use Rattle.data_component.specs.Sorted.{Rows}
 use Rattle.data_component.specs.Keeping.{AreRowsOf}
@@ -39,10 +39,14 @@ use Rattle.partitioned_run.specs.declared.answering.PartitionOutcome.{PartitionO
 use Rattle.partitioned_run.specs.declared.dividing.Division.{Division}
 use Rattle.partitioned_run.specs.declared.reporting.All.{All as Together}
 use Rattle.partitioned_run.specs.Partitioned.{decl_of, partition_of_call, IsAnsweredBy, AddsAuditOf, AddsAudits, kept_dc, kept_dcs, kept_from}
-use Rattle.partitioned_run.specs.Partitioned.{IsContentsRun, IsPartitionedBy, IsPartitionedRun, IsRunApart, Ran as Begun, Stopped}
-use Rattle.partitioned_run.specs.Joining.Dividing.{AreDivided, AreRun, IsPartitionRun}
-use Rattle.partitioned_run.specs.Joining.Reporting.{AreAll, AreAllOf, AreAllRun, MayBeRun}
+use Rattle.partitioned_run.specs.Partitioned.{AreRunApart, Ran as Begun, Stopped}
+use Rattle.partitioned_run.specs.Logged.{front_lines, AreRunFrom, Behind, IsContentsRun, IsPartitionedBy, IsPartitionedRun, IsRunFrom, Refused}
+use Rattle.partitioned_run.specs.declared.grounds.Start.{Start}
+use Rattle.partitioned_run.specs.Joining.Dividing.{AreDivided, AreRun, IsRunOf, IsStartRun}
+use Rattle.partitioned_run.specs.Joining.Recovering.{IsRefusedAt}
+use Rattle.partitioned_run.specs.Joining.Reporting.{AreAllOf, AreAllRun, HaveRun, IsRunSo, MayBeRun}
 use Rattle.partitioned_run.proofs.DividingLemmas.{calls_low}
+use Rattle.partitioned_run.proofs.RecoveringLemmas.{found_at, no_fronts, no_start}
 
 -- ---- as many answers as calls
 
@@ -57,6 +61,17 @@ answered_long start dcs first calls first_answers other_answers (Some g) h = (
   h.answered.first_run.tells.one_each ∙ as_many first h.first_calls h.first_are,
   h.answered.calls_run.tells.one_each ∙ as_many calls h.other_calls h.others_are,
 )
+
+from_long : (start : Core) (dcs : List Store) (ground : Option Ground) (first calls : List said.Call) (first_answers other_answers : List Answer)
+    (behind : Option Ground) → IsRunFrom start dcs ground first calls first_answers other_answers behind
+    → (length first_answers ≡ length first) × (length other_answers ≡ length calls)
+from_long start dcs None first calls first_answers other_answers behind h = answered_long start dcs first calls first_answers other_answers behind h
+from_long start dcs (Some g) first calls first_answers other_answers None h = absurd h
+from_long start dcs (Some g) first calls first_answers other_answers (Some b) h =
+    elim h.run [
+      | inl part ↦ answered_long g.state g.dcs.items first calls first_answers other_answers (Some b) part
+      | inr idle ↦ answered_long g.state g.dcs.items first calls first_answers other_answers None (idle.0, idle.1, idle.2, idle.3)
+    ]
 
 -- ---- the calls of all partitions
 
@@ -75,40 +90,44 @@ one_run_more before ran old new grounds firsts others all = record {
   );
 }
 
-run_at : (c : Contents) (d : Division) (count : ℕ) (ran : List (Result PartitionOutcome Stop)) (runs : List PartitionOutcome) (p : ℕ) (found : Option PartitionOutcome) (behind : Option Ground)
-    (first_answers other_answers : Vec Answer) → slice_get runs p ≡ found → AreRun c d count ran → ran ≡ map Ok runs
-    → Some behind ≡ option_map (λ (r : PartitionOutcome). r.ground) found → Some first_answers ≡ option_map (λ (r : PartitionOutcome). r.answers.first) found
+run_at : (c : Contents) (d : Division) (starts : List Start) (ran : List (Result PartitionOutcome Stop)) (runs : List PartitionOutcome) (p : ℕ)
+    (s : Start) (found : Option PartitionOutcome) (behind : Option Ground) (first_answers other_answers : Vec Answer) → slice_get runs p ≡ found
+    → slice_get starts p ≡ Some s → s.number ≡ p → AreRun c d starts ran → ran ≡ map Ok runs
+    → Some behind ≡ option_map (λ (r : PartitionOutcome). r.ground) found
+    → Some first_answers ≡ option_map (λ (r : PartitionOutcome). r.answers.first) found
     → Some other_answers ≡ option_map (λ (r : PartitionOutcome). r.answers.calls) found
-    → IsAnsweredBy (begun c) (empty_stores c) (picked p d.first.items c.first) (picked p d.calls.items c.calls)
+    → IsRunFrom (begun c) (empty_stores c) s.ground (picked p d.first.items c.first) (picked p d.calls.items c.calls)
     first_answers.items other_answers.items behind
-run_at c d count ran runs p None behind first_answers other_answers is are all ground first calls = absurd (cc)
-run_at c d count ran runs p (Some r) behind first_answers other_answers is are all ground first calls =
+run_at c d starts ran runs p s None behind first_answers other_answers is s_is named are all ground first calls = absurd (cc)
+run_at c d starts ran runs p s (Some r) behind first_answers other_answers is s_is named are all ground first calls =
     let found : slice_get ran p ≡ Some (Ok r) =
     ap (λ (l : List (Result PartitionOutcome Stop)). slice_get l p) all ∙ (slice_get-map Ok runs p ∙ ap (option_map Ok) is) in
-    let lt : p < count = omega (arith, slice_get_within ran p (Ok r) found, are.0) in
-    let one : IsPartitionRun c d p r =
-    subst (λ (x : Result PartitionOutcome Stop). IfOk x (IsPartitionRun c d p)) (get_or_from_slice_get ran p (Ok r) (Ok r) found) (are.1 p (Ok r) lt) in
+    let one : IsStartRun c d s r =
+    subst (λ (x : Result PartitionOutcome Stop). IfOk x (IsStartRun c d s)) (get_or_from_slice_get ran p (Ok r) (Ok r) found) (are.1 p s (Ok r) s_is) in
+    let at : IsRunOf c d p s.ground r = subst (λ (n : ℕ). IsRunOf c d n s.ground r) named one in
     let grounds : behind ≡ r.ground = cc in
     let firsts : first_answers ≡ r.answers.first = cc in
     let others : other_answers ≡ r.answers.calls = cc in
-    rw (grounds, firsts, others) one
+    rw (grounds, firsts, others) at
 
-pub all_run : (c : Contents) (d : Division) (count : ℕ) (ran : List (Result PartitionOutcome Stop)) (all : Together)
-    → count ≡ max (length (empty_stores c)) 1 → AreRun c d count ran → AreAllOf ran all → AreAllRun c d all
-all_run c d count ran all is are of =
+pub all_run : (c : Contents) (d : Division) (starts : List Start) (ran : List (Result PartitionOutcome Stop)) (all : Together)
+    → length starts ≡ max (length (empty_stores c)) 1 → ((p : ℕ) (s : Start) → slice_get starts p ≡ Some s → s.number ≡ p)
+    → AreRun c d starts ran → AreAllOf ran all → AreAllRun c d starts all
+all_run c d starts ran all is named are of =
     let runs = of.runs in
     let oks = of.oks in
     let together = of.together in
-    let long : length runs ≡ count = sym (length-map runs (λ (r : PartitionOutcome). Ok r)) ∙ (ap length (sym oks) ∙ are.0) in
+    let long : length runs ≡ length starts = sym (length-map runs (λ (r : PartitionOutcome). Ok r)) ∙ (ap length (sym oks) ∙ are.0) in
     let grounds : length all.grounds.items ≡ length runs = ap length together.0 ∙ length-map runs (λ (r : PartitionOutcome). r.ground) in
     let firsts : length all.first.items ≡ length runs = ap length together.1 ∙ length-map runs (λ (r : PartitionOutcome). r.answers.first) in
     let others : length all.calls.items ≡ length runs = ap length together.2 ∙ length-map runs (λ (r : PartitionOutcome). r.answers.calls) in
     record {
-      grounds = grounds ∙ (long ∙ is);
+      count = is;
+      grounds = grounds ∙ long;
       first = firsts ∙ sym grounds;
       calls = others ∙ sym grounds;
-      each = λ p behind first_answers other_answers is_ground is_first is_calls.
-          run_at c d count ran runs p (slice_get runs p) behind first_answers other_answers refl are oks
+      each = λ p behind first_answers other_answers is_ground is_first is_calls s s_is.
+          run_at c d starts ran runs p s (slice_get runs p) behind first_answers other_answers refl s_is (named p s s_is) are oks
           (sym is_ground ∙ (ap (λ (l : List (Option Ground)). slice_get l p) together.0 ∙ slice_get-map (λ (r : PartitionOutcome). r.ground) runs p))
           (sym is_first ∙ (ap (λ (l : List (Vec Answer)). slice_get l p) together.1 ∙ slice_get-map (λ (r : PartitionOutcome). r.answers.first) runs p))
           (sym is_calls ∙ (ap (λ (l : List (Vec Answer)). slice_get l p) together.2 ∙ slice_get-map (λ (r : PartitionOutcome). r.answers.calls) runs p));
@@ -116,7 +135,7 @@ all_run c d count ran all is are of =
 
 -- ---- their answers go back to the calls' places
 
-module _ (c : Contents) (d : Division) (all : Together) (numbered : AreDivided c d) (run : AreAllRun c d all) where
+module _ (c : Contents) (d : Division) (starts : List Start) (all : Together) (numbered : AreDivided c d) (run : AreAllRun c d starts all) where
   dcs_long : length (empty_stores c) ≡ length c.dcs
   dcs_long = length-map c.dcs empty_store
 
@@ -126,38 +145,36 @@ module _ (c : Contents) (d : Division) (all : Together) (numbered : AreDivided c
   pub calls_long : length d.calls.items ≡ length c.calls
   calls_long = ap length numbered.calls_are ∙ length-map c.calls (partition_of_call d.partitions (begun c).procs)
 
-  -- what a list of as many as there are grounds has at a place
-  at_place : {X : Type 0} (xs : List X) (p : ℕ) (y : X) → length xs ≡ length all.grounds.items → p < length all.grounds.items → (x : X) × (slice_get xs p ≡ Some x)
-  at_place xs p y long lt = (get_or xs p y, slice_get-get_or xs p y (omega (arith, long, lt)))
-
   pub first_fits : FitsParts d.first.items all.first.items
   first_fits = record {
     within = subst (All (λ (n : ℕ). n < length all.first.items)) (sym numbered.first_are)
         (subst (λ (most : ℕ). All (λ (n : ℕ). n < most) (map (partition_of_call d.partitions (begun c).procs) c.first))
-        (ap (λ (n : ℕ). max n 1) (sym dcs_long) ∙ sym (run.first ∙ run.grounds))
+        (ap (λ (n : ℕ). max n 1) (sym dcs_long) ∙ sym (run.first ∙ (run.grounds ∙ run.count)))
         (calls_low (length c.dcs) (map decl_of (begun c).procs) d.partitions (begun c).procs c.first
         numbered.partitions));
     as_many = λ p part is.
         let lt : p < length all.grounds.items = omega (arith, slice_get_within all.first.items p part is, run.first) in
-        let ground = at_place all.grounds.items p None refl lt in
-        let other = at_place all.calls.items p part run.calls lt in
-        let each = run.each p ground.0 part other.0 ground.1 is other.1 in
-        (answered_long _ _ _ _ _ _ ground.0 each).0 ∙ picked_long p d.first.items c.first (sym first_long);
+        let ground = found_at all.grounds.items p lt in
+        let other = found_at all.calls.items p (omega (arith, run.calls, lt)) in
+        let s = found_at starts p (omega (arith, run.grounds, lt)) in
+        let each = run.each p ground.0 part other.0 ground.1 is other.1 s.0 s.1 in
+        (from_long _ _ s.0.ground _ _ _ _ ground.0 each).0 ∙ picked_long p d.first.items c.first (sym first_long);
   }
 
   pub calls_fit : FitsParts d.calls.items all.calls.items
   calls_fit = record {
     within = subst (All (λ (n : ℕ). n < length all.calls.items)) (sym numbered.calls_are)
         (subst (λ (most : ℕ). All (λ (n : ℕ). n < most) (map (partition_of_call d.partitions (begun c).procs) c.calls))
-        (ap (λ (n : ℕ). max n 1) (sym dcs_long) ∙ sym (run.calls ∙ run.grounds))
+        (ap (λ (n : ℕ). max n 1) (sym dcs_long) ∙ sym (run.calls ∙ (run.grounds ∙ run.count)))
         (calls_low (length c.dcs) (map decl_of (begun c).procs) d.partitions (begun c).procs c.calls
         numbered.partitions));
     as_many = λ p part is.
         let lt : p < length all.grounds.items = omega (arith, slice_get_within all.calls.items p part is, run.calls) in
-        let ground = at_place all.grounds.items p None refl lt in
-        let other = at_place all.first.items p part run.first lt in
-        let each = run.each p ground.0 other.0 part ground.1 other.1 is in
-        (answered_long _ _ _ _ _ _ ground.0 each).1 ∙ picked_long p d.calls.items c.calls (sym calls_long);
+        let ground = found_at all.grounds.items p lt in
+        let other = found_at all.first.items p (omega (arith, run.first, lt)) in
+        let s = found_at starts p (omega (arith, run.grounds, lt)) in
+        let each = run.each p ground.0 other.0 part ground.1 other.1 is s.0 s.1 in
+        (from_long _ _ s.0.ground _ _ _ _ ground.0 each).1 ∙ picked_long p d.calls.items c.calls (sym calls_long);
   }
 
   -- the partitions are those of the data components that were empty
@@ -167,15 +184,15 @@ module _ (c : Contents) (d : Division) (all : Together) (numbered : AreDivided c
 
   pub answered_apart : (first_answers other_answers : List Answer) → IsMerged d.first.items all.first.items first_answers
       → IsMerged d.calls.items all.calls.items other_answers → (p : ℕ) (behind : Option Ground) → slice_get all.grounds.items p ≡ Some behind
-      → IsAnsweredBy (begun c) (empty_stores c)
+      → AreRunFrom (begun c) (empty_stores c) starts p
       (picked p (map (partition_of_call d.partitions (begun c).procs) c.first) c.first)
       (picked p (map (partition_of_call d.partitions (begun c).procs) c.calls) c.calls)
       (picked p (map (partition_of_call d.partitions (begun c).procs) c.first) first_answers)
       (picked p (map (partition_of_call d.partitions (begun c).procs) c.calls) other_answers) behind
   answered_apart first_answers other_answers firsts others p behind is =
       let lt : p < length all.grounds.items = slice_get_within all.grounds.items p behind is in
-      let first = some_part all.first.items p (omega (arith, run.first, lt)) in
-      let other = some_part all.calls.items p (omega (arith, run.calls, lt)) in
+      let first = found_at all.first.items p (omega (arith, run.first, lt)) in
+      let other = found_at all.calls.items p (omega (arith, run.calls, lt)) in
       let each = run.each p behind first.0 other.0 is first.1 other.1 in
       rw (
         ← numbered.first_are,
@@ -183,19 +200,28 @@ module _ (c : Contents) (d : Division) (all : Together) (numbered : AreDivided c
         firsts.own p first.0 first.1,
         others.own p other.0 other.1,
       ) each
-    where
-      some_part : (xs : List (Vec Answer)) (p : ℕ) → p < length xs → (x : Vec Answer) × (slice_get xs p ≡ Some x)
-      some_part [] p lt = absurd (omega (arith, lt))
-      some_part (x ∷ xs) p lt = (get_or (x ∷ xs) p x, slice_get-get_or (x ∷ xs) p x lt)
 
   -- what is printed of them
-  pub run_apart : (first_answers other_answers : List Answer) (audit : Bool) (answered kept lines : List ℕ) (sound : Bool) (status : ℕ) (empty : List Store)
+  pub run_apart : (IsAnswered : ℕ → (first calls : List said.Call) → (first_answers other_answers : List Answer) → Option Ground → Type 0)
+      (front : List ℕ) (first_answers other_answers : List Answer) (audit : Bool) (answered kept lines : List ℕ) (sound : Bool) (status : ℕ)
+      (empty : List Store)
+      → ((p : ℕ) (behind : Option Ground) → slice_get all.grounds.items p ≡ Some behind
+      → AreRunFrom (begun c) (empty_stores c) starts p
+      (picked p (map (partition_of_call d.partitions (begun c).procs) c.first) c.first)
+      (picked p (map (partition_of_call d.partitions (begun c).procs) c.calls) c.calls)
+      (picked p (map (partition_of_call d.partitions (begun c).procs) c.first) first_answers)
+      (picked p (map (partition_of_call d.partitions (begun c).procs) c.calls) other_answers) behind
+      → IsAnswered p (picked p (map (partition_of_call d.partitions (begun c).procs) c.first) c.first)
+      (picked p (map (partition_of_call d.partitions (begun c).procs) c.calls) c.calls)
+      (picked p (map (partition_of_call d.partitions (begun c).procs) c.first) first_answers)
+      (picked p (map (partition_of_call d.partitions (begun c).procs) c.calls) other_answers) behind)
       → IsMerged d.first.items all.first.items first_answers → IsMerged d.calls.items all.calls.items other_answers
       → (list_any is_want_of_memory first_answers ≡ false) × (list_any is_want_of_memory other_answers ≡ false)
-      → answered ≡ answer_lines (codes "first") first_answers ++ answer_lines (codes "call") other_answers → empty ≡ empty_stores c
+      → answered ≡ front ++ (answer_lines (codes "first") first_answers ++ answer_lines (codes "call") other_answers) → empty ≡ empty_stores c
       → AddsRowLines (kept_dcs d.partitions all.grounds.items empty) answered kept → AddsAudits audit all.grounds.items kept lines sound
-      → status ≡ (if sound then 0 else 1) → IsRunApart c audit status lines
-  run_apart first_answers other_answers audit answered kept lines sound status empty firsts others ample told empty_is rows found status_is = record {
+      → status ≡ (if sound then 0 else 1)
+      → AreRunApart IsAnswered front (begun c).procs (empty_stores c) c.first c.calls audit status lines
+  run_apart IsAnswered front first_answers other_answers audit answered kept lines sound status empty so firsts others ample told empty_is rows found status_is = record {
     numbers = d.partitions;
     partitions = partitions_are;
     first_answers = first_answers;
@@ -203,32 +229,80 @@ module _ (c : Contents) (d : Division) (all : Together) (numbered : AreDivided c
     other_answers = other_answers;
     others_each = others.each ∙ calls_long;
     grounds = all.grounds.items;
-    each = run.grounds;
-    apart = answered_apart first_answers other_answers firsts others;
+    each = run.grounds ∙ run.count;
+    apart = λ p behind is. so p behind is (answered_apart first_answers other_answers firsts others p behind is);
     ample = ample;
     kept = kept;
     rows = subst (λ (dcs : List Store). AddsRowLines (kept_dcs d.partitions all.grounds.items dcs)
-        (answer_lines (codes "first") first_answers ++ answer_lines (codes "call") other_answers) kept) empty_is
+        (front ++ (answer_lines (codes "first") first_answers ++ answer_lines (codes "call") other_answers)) kept) empty_is
         (subst (λ (l : List ℕ). AddsRowLines (kept_dcs d.partitions all.grounds.items empty) l kept) told rows);
     sound = sound;
     found = found;
     status_is = status_is;
   }
 
+-- a partition without a file
+plain_from : (start : Core) (dcs : List Store) (ground : Option Ground) (first calls : List said.Call) (first_answers other_answers : List Answer)
+    (behind : Option Ground) → ground ≡ None → IsRunFrom start dcs ground first calls first_answers other_answers behind
+    → IsAnsweredBy start dcs first calls first_answers other_answers behind
+plain_from start dcs ground first calls first_answers other_answers behind none from =
+    subst (λ (g : Option Ground). IsRunFrom start dcs g first calls first_answers other_answers behind) none from
+
+-- with files or without any
+pub run_so : (keeps : Bool) (c : Contents) (d : Division) (front : List ℕ) (all : Together) (first_answers other_answers : List Answer) (audit : Bool)
+    (answered kept lines : List ℕ) (sound : Bool) (status : ℕ) (empty : List Store) → AreDivided c d → HaveRun keeps c d front all
+    → IsMerged d.first.items all.first.items first_answers → IsMerged d.calls.items all.calls.items other_answers
+    → (list_any is_want_of_memory first_answers ≡ false) × (list_any is_want_of_memory other_answers ≡ false)
+    → answered ≡ front ++ (answer_lines (codes "first") first_answers ++ answer_lines (codes "call") other_answers) → empty ≡ empty_stores c
+    → AddsRowLines (kept_dcs d.partitions all.grounds.items empty) answered kept → AddsAudits audit all.grounds.items kept lines sound
+    → status ≡ (if sound then 0 else 1) → IsRunSo keeps c audit status lines
+unfolding run_apart
+run_so true c d front all first_answers other_answers audit answered kept lines sound status empty numbered h firsts others ample told empty_is rows found status_is =
+    let said = answer_lines (codes "first") first_answers ++ answer_lines (codes "call") other_answers in
+    record {
+      starts = h.starts;
+      run = run_apart c d h.starts all numbered h.run (AreRunFrom (begun c) (empty_stores c) h.starts) (front_lines h.starts) first_answers other_answers
+          audit answered kept lines sound status empty (λ p behind is from. from) firsts others ample
+          (told ∙ ap (λ (f : List ℕ). f ++ said) h.told) empty_is rows found status_is;
+      each = sym h.run.grounds;
+      back = h.are;
+    }
+run_so false c d front all first_answers other_answers audit answered kept lines sound status empty numbered h firsts others ample told empty_is rows found status_is =
+    let said = answer_lines (codes "first") first_answers ++ answer_lines (codes "call") other_answers in
+    run_apart c d h.starts all numbered h.run (λ _. IsAnsweredBy (begun c) (empty_stores c)) [] first_answers other_answers
+    audit answered kept lines sound status empty
+    (λ p behind is from.
+    let s = found_at h.starts p (omega (arith, slice_get_within all.grounds.items p behind is, h.run.grounds)) in
+    plain_from _ _ s.0.ground _ _ _ _ behind (no_start (begun c) (empty_stores c) s.0.ground s.0.lines (h.are p s.0 s.1).1).0 (from s.0 s.1))
+    firsts others ample
+    (told ∙ ap (λ (f : List ℕ). f ++ said) (h.told ∙ no_fronts (begun c) (empty_stores c) d.partitions h.starts h.are)) empty_is rows found status_is
+
 -- ---- the report of calls none of which is begun
 
-pub stopped_apart : {E : Type 0} (c : Contents) (workers tries : ℕ) (audit : Bool) (stop : Stop) (report : Result Report E)
-    → Stops false workers tries stop
-    → IfOk report (λ r. fault_line stop ≡ Some (string_bytes r.lines)) → IfOk report (λ r. r.status ≡ 1)
-    → IfOk report (λ r. IsContentsRun c workers tries audit r.status (string_bytes r.lines))
-stopped_apart c workers tries audit stop (Ok r) stops lines status = Stopped stop stops status lines
-stopped_apart c workers tries audit stop (Err e) stops lines status = tt
+pub stopped_so : (keeps : Bool) (c : Contents) (workers tries : ℕ) (audit : Bool) (stop : Stop) (status : ℕ) (lines : List ℕ) → Stops false workers tries stop
+    → fault_line stop ≡ Some lines → status ≡ 1 → IsContentsRun keeps c workers tries audit status lines
+stopped_so false c workers tries audit stop status lines stops line is = Stopped stop stops is line
+stopped_so true c workers tries audit stop status lines stops line is = Behind (Stopped stop stops is line)
 
-pub ran_apart : {E : Type 0} (c : Contents) (workers tries : ℕ) (audit : Bool) (report : Result Report E) → InRange workers tries
-    → IfOk report (λ r. IsRunApart c audit r.status (string_bytes r.lines))
-    → IfOk report (λ r. IsContentsRun c workers tries audit r.status (string_bytes r.lines))
-ran_apart c workers tries audit (Ok r) range run = Begun range run
-ran_apart c workers tries audit (Err e) range run = tt
+ran_so : (keeps : Bool) (c : Contents) (workers tries : ℕ) (audit : Bool) (status : ℕ) (lines : List ℕ) → InRange workers tries
+    → IsRunSo keeps c audit status lines → IsContentsRun keeps c workers tries audit status lines
+ran_so false c workers tries audit status lines range run = Begun range run
+ran_so true c workers tries audit status lines range run = Behind (Begun range run)
+
+pub ran_apart : {E : Type 0} (keeps : Bool) (c : Contents) (workers tries : ℕ) (audit : Bool) (report : Result Report E) → InRange workers tries
+    → IfOk report (λ r. IsRunSo keeps c audit r.status (string_bytes r.lines))
+    → IfOk report (λ r. IsContentsRun keeps c workers tries audit r.status (string_bytes r.lines))
+ran_apart keeps c workers tries audit (Ok r) range run = ran_so keeps c workers tries audit r.status (string_bytes r.lines) range run
+ran_apart keeps c workers tries audit (Err e) range run = tt
+
+-- the log of a partition is refused
+pub refused_apart : (keeps : Bool) (c : Contents) (workers tries : ℕ) (audit : Bool) (report : Report)
+    → (keeps ≡ true) × ((p : ℕ) × IsRefusedAt (begun c) (empty_stores c) p report)
+    → IsContentsRun keeps c workers tries audit report.status (string_bytes report.lines)
+refused_apart true c workers tries audit report h =
+    let at = h.1.1 in
+    Refused h.1.0 at.1.0 at.1.1 at.0 at.1.2
+refused_apart false c workers tries audit report h = absurd (cc)
 
 -- ---- what was read is what the script says
 
@@ -254,11 +328,12 @@ may_be_run object b (accepted.Accepted a) is = (
 )
 may_be_run object b (accepted.Refused report) is = is
 
-pub accepted_run : (b : Beginning) (s : Script) (workers tries : ℕ) (audit : Bool) (status : ℕ) (lines : List ℕ) → b.refusal ≡ None
-    → contents_of s ≡ b.contents → IsContentsRun (contents_of s) workers tries audit status lines → IsPartitionedRun workers tries audit b status lines
-accepted_run b s workers tries audit status lines none is run =
-    subst (λ (refusal : Option (List ℕ)). IsPartitionedBy refusal b.contents workers tries audit status lines) (sym none)
-    (subst (λ (c : Contents). IsContentsRun c workers tries audit status lines) is run)
+pub accepted_run : (keeps : Bool) (b : Beginning) (s : Script) (workers tries : ℕ) (audit : Bool) (status : ℕ) (lines : List ℕ) → b.refusal ≡ None
+    → contents_of s ≡ b.contents → IsContentsRun keeps (contents_of s) workers tries audit status lines
+    → IsPartitionedRun keeps workers tries audit b status lines
+accepted_run keeps b s workers tries audit status lines none is run =
+    subst (λ (refusal : Option (List ℕ)). IsPartitionedBy keeps refusal b.contents workers tries audit status lines) (sym none)
+    (subst (λ (c : Contents). IsContentsRun keeps c workers tries audit status lines) is run)
 
 -- ---- one data component more, and one audit more
 

@@ -1,3 +1,4 @@
 -- Definitions that only join bodies to those beside this folder: no contract that others see speaks of them.
 pub mod Dividing
+pub mod Recovering
 pub mod Reporting

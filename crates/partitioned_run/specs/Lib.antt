@@ -1,2 +1,3 @@
 pub mod Partitioned
+pub mod Logged
 pub mod Joining

@@ -1,5 +1,5 @@
 -- What the calls of a script print when those of each partition are run apart, and the exit status.
-use Rattle.std.specs.Prelude.{◌≡◌, ℕ, ◌+◌, ◌<◌, Bool, true, false, ◌&&◌, if◌then◌else◌, List, [], ◌∷◌, ◌++◌, length, map, get_or, max, slice_get}
+use Rattle.std.specs.Prelude.{◌≡◌, ℕ, ◌+◌, Bool, true, false, ◌&&◌, if◌then◌else◌, List, [], ◌∷◌, ◌++◌, length, map, get_or, max, slice_get}
 use Rattle.std.specs.Prelude.{Option, Some, None, codes}
 use Rattle.std.specs.List.{list_any}
 use Rattle.access_slots.specs.Declaration.{Declaration}
@@ -8,7 +8,6 @@ use Rattle.partitions.specs.Partitions.{ArePartitions, partition_at, partition_o
 use Rattle.partitions.specs.Picking.{picked}
 use Rattle.scripts.specs.Reading.{Contents}
 use Rattle.scripts.specs.declared.script.Call as said
-use Rattle.script_loading.specs.Loading.{Beginning}
 use Rattle.state_lines.specs.AuditLines.{AddsIf, AddsAudit}
 use Rattle.state_lines.specs.RowLines.{AddsRowLines}
 use Rattle.tc_core.specs.Core.{Core}
@@ -88,12 +87,14 @@ AddsAudits audit (behind ∷ grounds) old new sound =
 
 -- ---- the report
 
--- the calls of each partition are answered apart, whose answers are those of the calls' places; the lines of all answers are printed in the
--- order of the calls, none of which is want of memory, then the rows of each data component behind the calls of its partition, and then, where
--- it is wanted, what an audit finds of each partition with calls
-pub record AreRunApart (start : Core) (dcs : List Store) (first calls : List said.Call) (audit : Bool) (status : ℕ) (lines : List ℕ) : Type 0 where
+-- the calls of each partition are answered apart, as this says of each, and their answers are those of the calls' places; behind the lines in
+-- front those of all answers are printed in the order of the calls, none of which is want of memory, then the rows of each data component behind
+-- the calls of its partition, and then, where it is wanted, what an audit finds of each partition that came to something
+pub record AreRunApart (IsAnswered : ℕ → (first calls : List said.Call) → (first_answers other_answers : List Answer) → Option Ground → Type 0)
+    (front : List ℕ) (procs : List Checked) (dcs : List Store) (first calls : List said.Call) (audit : Bool) (status : ℕ) (lines : List ℕ)
+    : Type 0 where
   pub numbers : List ℕ
-  pub partitions : ArePartitions (length dcs) (map decl_of start.procs) numbers
+  pub partitions : ArePartitions (length dcs) (map decl_of procs) numbers
   pub first_answers : List Answer
   pub first_each : length first_answers ≡ length first
   pub other_answers : List Answer
@@ -101,37 +102,25 @@ pub record AreRunApart (start : Core) (dcs : List Store) (first calls : List sai
   pub grounds : List (Option Ground)
   pub each : length grounds ≡ max (length dcs) 1
   pub apart : (p : ℕ) (behind : Option Ground) → slice_get grounds p ≡ Some behind
-      → IsAnsweredBy start dcs (picked p (map (partition_of_call numbers start.procs) first) first)
-      (picked p (map (partition_of_call numbers start.procs) calls) calls)
-      (picked p (map (partition_of_call numbers start.procs) first) first_answers)
-      (picked p (map (partition_of_call numbers start.procs) calls) other_answers) behind
+      → IsAnswered p (picked p (map (partition_of_call numbers procs) first) first)
+      (picked p (map (partition_of_call numbers procs) calls) calls)
+      (picked p (map (partition_of_call numbers procs) first) first_answers)
+      (picked p (map (partition_of_call numbers procs) calls) other_answers) behind
   pub ample : (list_any is_want_of_memory first_answers ≡ false) × (list_any is_want_of_memory other_answers ≡ false)
   pub kept : List ℕ
-  pub rows : AddsRowLines (kept_dcs numbers grounds dcs) (answer_lines (codes "first") first_answers ++ answer_lines (codes "call") other_answers) kept
+  pub rows : AddsRowLines (kept_dcs numbers grounds dcs)
+      (front ++ (answer_lines (codes "first") first_answers ++ answer_lines (codes "call") other_answers)) kept
   pub sound : Bool
   pub found : AddsAudits audit grounds kept lines sound
   pub status_is : status ≡ (if sound then 0 else 1)
 
--- they are run, whatever they are answered, or it is printed why not
-pub data IsCallsRunApart (start : Core) (dcs : List Store) (first calls : List said.Call) (workers tries : ℕ) (audit : Bool) (status : ℕ)
-    (lines : List ℕ) : Type 0 where
-  Ran : InRange workers tries → AreRunApart start dcs first calls audit status lines
-      → IsCallsRunApart start dcs first calls workers tries audit status lines
+-- they are run so, whatever they are answered, or it is printed why not
+pub data IsCallsRunApart (Run : Type 0) (workers tries status : ℕ) (lines : List ℕ) : Type 0 where
+  Ran : InRange workers tries → Run → IsCallsRunApart Run workers tries status lines
   Stopped : (stop : Stop) → Stops false workers tries stop → status ≡ 1 → fault_line stop ≡ Some lines
-      → IsCallsRunApart start dcs first calls workers tries audit status lines
+      → IsCallsRunApart Run workers tries status lines
 
--- those of a script
+-- those of a script, none of whose partitions has a log's file: each begins with a state in which nothing has happened
 abbrev pub IsRunApart : Contents → Bool → ℕ → List ℕ → Type 0
-IsRunApart c audit status lines = AreRunApart (begun c) (empty_stores c) c.first c.calls audit status lines
-
-abbrev pub IsContentsRun : Contents → ℕ → ℕ → Bool → ℕ → List ℕ → Type 0
-IsContentsRun c workers tries audit status lines =
-    IsCallsRunApart (begun c) (empty_stores c) c.first c.calls workers tries audit status lines
-
-abbrev pub IsPartitionedBy : Option (List ℕ) → Contents → ℕ → ℕ → Bool → ℕ → List ℕ → Type 0
-IsPartitionedBy (Some refusal) contents workers tries audit status lines = (status ≡ 1) × (lines ≡ refusal)
-IsPartitionedBy None contents workers tries audit status lines = IsContentsRun contents workers tries audit status lines
-
--- of a script that is refused no call is made
-abbrev pub IsPartitionedRun : ℕ → ℕ → Bool → Beginning → ℕ → List ℕ → Type 0
-IsPartitionedRun workers tries audit b status lines = IsPartitionedBy b.refusal b.contents workers tries audit status lines
+IsRunApart c audit status lines =
+    AreRunApart (λ _. IsAnsweredBy (begun c) (empty_stores c)) [] (begun c).procs (empty_stores c) c.first c.calls audit status lines

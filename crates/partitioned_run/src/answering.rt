@@ -1,38 +1,26 @@
 //! The calls of one partition, answered on a state, a log and data components of their own; and those of all, at the same
 //! time.
 
-ghost use Rattle.std.specs.Prelude.{◌≡◌, ◌++◌, length, map, option_map, None, Some, IfOk, IsOkAnd, OnOk};
+ghost use Rattle.std.specs.Prelude.{◌≡◌, ◌++◌, length, map, option_map, All, Some, IfOk, IsOkAnd, OnOk};
 ghost use Rattle.scripts.specs.Reading.{contents_of};
-ghost use Rattle.script_loading.specs.Loading.{first_unverified};
 ghost use Rattle.tc_core.specs.Admission.{call_of};
 ghost use Rattle.partitions.specs.Picking.{own_item, picked};
 ghost use Rattle.run_command.specs.Answered.{AreCallsOf, said_call};
-ghost use Rattle.run_command.specs.Running.{begun, empty_stores};
-ghost use Rattle.partitioned_run.specs.Joining.Dividing.{AreRun, IsDivided, IsPartitionRun};
+ghost use Rattle.partitioned_run.specs.Logged.{IsKeptBy};
+ghost use Rattle.partitioned_run.specs.Joining.Dividing.{AreRun, IsDivided, IsGroundRun, IsKeptIf, IsPartitionRun, IsRunOf, IsStartRun};
+ghost use Rattle.partitioned_run.specs.declared.grounds.Start.{Start as StartValue};
 
-use crate::dividing::Division;
+use crate::grounds::{Start, Task, own_ground};
 use run_command::running::{
-    Answers, Checkpoints, Ground, Manner, Rings, RunInput, Stop, Waits, answer_on, call_of,
+    Answers, Checkpoints, Ground, Manner, Rings, RunInput, Stop, answer_on, call_of,
 };
-use script_loading::loading::{Unloaded, empty_dcs, state_of};
-use scripts::script::{self, Script};
+use scripts::script;
 use std::alloc::{AllocError, Global};
 use std::sync::Wait;
 use std::thread;
 use std::thread::Threads;
 use std::time::Clock;
 use tc_core::state::Call;
-
-/// A script that isn't refused, and the object file beside it, if there is one; which partitions its calls are of, how
-/// they are run, and who watches them.
-#[derive(Clone, Copy)]
-pub struct Task<'a> {
-    pub object: Option<&'a [u8]>,
-    pub script: &'a Script<'a>,
-    pub division: &'a Division,
-    pub manner: Manner,
-    pub waits: &'a Waits,
-}
 
 /// What the calls of a partition came to: what they were run on, behind the last, if there are any, and what they were
 /// answered.
@@ -74,30 +62,6 @@ fn own_calls(
     Ok(own)
 }
 
-// What calls of a script are run on, where it is accepted.
-fn own_ground(alloc: Global, object: Option<&[u8]>, script: &Script) -> Result<Ground, AllocError>
-    requires { first_unverified (option_map (λ file. file.now) object) script.now.procedures.items ≡ None }
-    ensures state { IfOk result (λ g. g.state ≡ begun (contents_of script.now)) }
-    ensures dcs { IfOk result (λ g. g.dcs.items ≡ empty_stores (contents_of script.now)) }
-{
-    let procedures = script.procedures.as_slice();
-    match state_of(alloc, object, script.dcs.len(), procedures) {
-        Ok(state) => match empty_dcs(alloc, script.dcs.as_slice()) {
-            Ok(dcs) => Ok(Ground {
-                state,
-                dcs,
-                journal: None,
-            }),
-            Err(AllocError) => {
-                drop(state);
-                Err(AllocError)
-            }
-        },
-        Err(Unloaded::Memory) => Err(AllocError),
-        Err(Unloaded::Refused(_)) => unreachable!(),
-    }
-}
-
 // What the calls of one partition are answered with: those of both lists, and rings for so many workers.
 fn prepare(
     alloc: Global,
@@ -134,18 +98,20 @@ fn ran_of(answered: Result<(Ground, Answers), Stop>) -> Result<PartitionOutcome,
     }
 }
 
-// Answers the calls of the partition with this number, by so many workers.
+// Answers the calls of the partition with this number on this ground, which has some of the workers of so many partitions.
 fn answer_own<R: Clock + Threads + Wait + Sync>(
     rt: &R,
     alloc: Global,
     task: Task,
+    ground: Ground,
     number: usize,
-    workers: u64,
+    count: usize,
 ) -> Result<PartitionOutcome, Stop>
     requires { IsDivided (option_map (λ file. file.now) task.object) task.script.now task.division.now }
-    ensures { IfOk result (IsPartitionRun (contents_of task.entry.script.now) task.entry.division.now number) }
+    ensures run { IfOk result (IsGroundRun (contents_of task.entry.script.now) task.entry.division.now number ground) }
+    ensures kept { IsKeptBy ground → IfOk result (λ ran. IsKeptIf ran.ground) }
 {
-    let ground = own_ground(alloc, task.object, task.script)?;
+    let workers = task.division.workers_of(task.manner.workers, number, count);
     match prepare(alloc, task, number, workers) {
         Ok((first, calls, rings)) => {
             let input = RunInput {
@@ -170,8 +136,8 @@ fn answer_own<R: Clock + Threads + Wait + Sync>(
     }
 }
 
-// Answers the calls of the partition with this number, of so many, where there are any.
-fn answer_partition<R: Clock + Threads + Wait + Sync>(
+// Answers the calls of the partition with this number, where there are any, on a ground that is new.
+fn answer_anew<R: Clock + Threads + Wait + Sync>(
     rt: &R,
     alloc: Global,
     task: Task,
@@ -181,10 +147,9 @@ fn answer_partition<R: Clock + Threads + Wait + Sync>(
     requires { IsDivided (option_map (λ file. file.now) task.object) task.script.now task.division.now }
     ensures { IfOk result (IsPartitionRun (contents_of task.entry.script.now) task.entry.division.now number) }
 {
-    let division = task.division;
-    if division.is_called(number) {
-        let workers = division.workers_of(task.manner.workers, number, count);
-        return answer_own(rt, alloc, task, number, workers);
+    if task.division.is_called(number) {
+        let ground = own_ground(alloc, task.object, task.script)?;
+        return answer_own(rt, alloc, task, ground, number, count);
     }
     Ok(PartitionOutcome {
         ground: None,
@@ -192,23 +157,70 @@ fn answer_partition<R: Clock + Threads + Wait + Sync>(
     })
 }
 
-/// Answers the calls of all partitions, of so many, at the same time.
+// Answers the calls of the partition with this number, where there are any, on what came back from its file.
+fn answer_behind<R: Clock + Threads + Wait + Sync>(
+    rt: &R,
+    alloc: Global,
+    task: Task,
+    ground: Ground,
+    number: usize,
+    count: usize,
+) -> Result<PartitionOutcome, Stop>
+    requires divided { IsDivided (option_map (λ file. file.now) task.object) task.script.now task.division.now }
+    requires kept { IsKeptBy ground }
+    ensures { IfOk result (IsRunOf (contents_of task.entry.script.now) task.entry.division.now number (Some ground)) }
+{
+    if task.division.is_called(number) {
+        return answer_own(rt, alloc, task, ground, number, count);
+    }
+    Ok(PartitionOutcome {
+        ground: Some(ground),
+        answers: Answers::new(alloc),
+    })
+}
+
+// Answers the calls of one partition, of so many, by what it goes on from.
+fn answer_partition<R: Clock + Threads + Wait + Sync>(
+    rt: &R,
+    alloc: Global,
+    task: Task,
+    start: Start,
+    count: usize,
+) -> Result<PartitionOutcome, Stop>
+    requires divided { IsDivided (option_map (λ file. file.now) task.object) task.script.now task.division.now }
+    requires kept { IsKeptIf start.ground }
+    ensures { IfOk result (IsStartRun (contents_of task.entry.script.now) task.entry.division.now start) }
+{
+    let Start {
+        number,
+        ground,
+        lines,
+    } = start;
+    drop(lines);
+    match ground {
+        Some(ground) => answer_behind(rt, alloc, task, ground, number, count),
+        None => answer_anew(rt, alloc, task, number, count),
+    }
+}
+
+/// Answers the calls of all partitions at the same time, by what each goes on from.
 pub fn answer_partitions<R: Clock + Threads + Wait + Sync>(
     rt: &R,
     alloc: Global,
     task: Task,
-    count: usize,
+    starts: Vec<Start>,
 ) -> Result<Vec<Result<PartitionOutcome, Stop>>, AllocError>
-    requires { IsDivided (option_map (λ file. file.now) task.object) task.script.now task.division.now }
-    ensures { IfOk result (λ all. AreRun (contents_of task.entry.script.now) task.entry.division.now count all.items) }
+    requires divided { IsDivided (option_map (λ file. file.now) task.object) task.script.now task.division.now }
+    requires kept { All (λ (s : StartValue). IsKeptIf s.ground) starts.items }
+    ensures { IfOk result (λ all. AreRun (contents_of task.entry.script.now) task.entry.division.now starts.items all.items) }
 {
-    thread::map_indices(
+    let count = starts.len();
+    thread::map_vec(
         rt,
-        alloc,
-        count,
-        &|number| -> Result<PartitionOutcome, Stop>
-            requires { IsDivided (option_map (λ file. file.now) task.object) task.script.now task.division.now }
-            ensures { IfOk result (IsPartitionRun (contents_of task.entry.script.now) task.entry.division.now number) }
-        { answer_partition(rt, alloc, task, number, count) },
+        starts,
+        &|start| -> Result<PartitionOutcome, Stop>
+            requires { IsDivided (option_map (λ file. file.now) task.object) task.script.now task.division.now × IsKeptIf start.ground }
+            ensures { IfOk result (IsStartRun (contents_of task.entry.script.now) task.entry.division.now start) }
+        { answer_partition(rt, alloc, task, start, count) },
     )
 }

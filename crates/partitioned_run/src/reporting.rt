@@ -11,11 +11,15 @@ ghost use Rattle.partitioned_run.specs.Joining.Reporting.{AreAllOf};
 ghost use Rattle.partitioned_run.specs.declared.answering.PartitionOutcome.{PartitionOutcome as OutcomeValue};
 
 use crate::answering::PartitionOutcome;
+use crate::fault::Fault;
+use crate::recovering::file_of;
 use data_component::dc::Dc;
 use partitions::Partitions;
 use run_command::running::{Ground, Stop, has_want_of_memory, write_answers, write_found};
 use state_lines::row_lines::write_rows;
 use std::alloc::{AllocError, Global};
+use std::fs::File;
+use std::rt::Files;
 use worker_pool::Answer;
 
 /// What the calls of each partition came to, in the order of their numbers: what they were run on, behind the last, if
@@ -55,41 +59,43 @@ impl All {
 
 // Adds what the calls of the next one came to, unless something stopped them.
 #[tactic(auto, using(crate::proofs::ReportingLemmas::one_run_more))]
-fn add_next(all: &mut All, next: Result<PartitionOutcome, Stop>) -> Result<(), Stop>
+fn add_next(all: &mut All, next: Result<PartitionOutcome, Stop>) -> Result<(), Fault>
     ensures { OnOk result ((before : List (Result OutcomeValue StopValue)) → AreAllOf before all.old → AreAllOf (before ++ next ∷ []) all.new) }
 {
     match next {
         Ok(ran) => match all.add(ran) {
             Ok(()) => Ok(()),
-            Err(error) => Err(Stop::from(error)),
+            Err(error) => Err(Fault::from(error)),
         },
-        Err(stop) => Err(stop),
+        Err(stop) => Err(Fault::Stopped(all.grounds.len(), stop)),
     }
 }
 
 /// What the calls of all partitions came to, unless something stopped those of one.
-pub fn all_of(alloc: Global, ran: Vec<Result<PartitionOutcome, Stop>>) -> Result<All, Stop>
+pub fn all_of(alloc: Global, ran: Vec<Result<PartitionOutcome, Stop>>) -> Result<All, Fault>
     ensures { IfOk result (AreAllOf ran.items) }
 {
     let mut all = All::with_capacity(alloc, ran.len())?;
     'runs: for next in ran {
-        if let Err(stop) = add_next(&mut all, next) {
+        if let Err(fault) = add_next(&mut all, next) {
             drop(all);
-            return Err(stop);
+            return Err(fault);
         }
     }
     Ok(all)
 }
 
-/// The lines of what calls of both lists were answered.
+/// The lines of what calls of both lists were answered, behind those in front.
 pub fn answered_lines(
     alloc: Global,
+    front: String,
     first: &[Answer],
     calls: &[Answer],
 ) -> Result<String, AllocError>
-    ensures { IfOk result (λ lines. string_bytes lines ≡ answer_lines (codes "first") first.now ++ answer_lines (codes "call") calls.now) }
+    ensures { IfOk result (λ lines. string_bytes lines
+        ≡ string_bytes front ++ (answer_lines (codes "first") first.now ++ answer_lines (codes "call") calls.now)) }
 {
-    let mut lines = String::new(alloc);
+    let mut lines = front;
     write_answers(alloc, "first", first, &mut lines)?;
     write_answers(alloc, "call", calls, &mut lines)?;
     Ok(lines)
@@ -181,6 +187,43 @@ pub fn lack_memory(first: &[Answer], calls: &[Answer]) -> bool
     ensures { result ≡ false → (list_any is_want_of_memory first.now ≡ false) × (list_any is_want_of_memory calls.now ≡ false) }
 {
     has_want_of_memory(first) || has_want_of_memory(calls)
+}
+
+// Whether the file of the partition with this number still has its name, if it has one.
+fn check_name<F: Files<File = File>>(
+    rt: &F,
+    alloc: Global,
+    log: &str,
+    number: usize,
+    ground: &Option<Ground>,
+) -> Result<(), Fault> {
+    let Some(
+        Ground {
+            journal: Some(journal),
+            ..
+        },
+    ) = ground
+    else {
+        return Ok(());
+    };
+    let path = file_of(alloc, log, number)?;
+    match journal.device().check_name(rt, path.as_str()) {
+        Ok(()) => Ok(()),
+        Err(fault) => Err(Fault::Stopped(number, Stop::NotKept(Some(fault)))),
+    }
+}
+
+/// Whether the file of each partition still has its name.
+pub fn check_names<F: Files<File = File>>(
+    rt: &F,
+    alloc: Global,
+    log: &str,
+    grounds: &[Option<Ground>],
+) -> Result<(), Fault> {
+    for (number, ground) in grounds.iter().enumerate() {
+        check_name(rt, alloc, log, number, ground)?;
+    }
+    Ok(())
 }
 
 /// The exit status.

@@ -9,4 +9,5 @@ pub mod Parts
 pub mod Running
 pub mod LogLines
 pub mod Logged
+pub mod Recovering
 pub mod Joining

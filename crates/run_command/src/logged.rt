@@ -19,7 +19,8 @@ ghost use Rattle.log_file.specs.Found.{base_in};
 ghost use Rattle.run_command.specs.Logged.{is_in_doubt, overfull, IsLogFor, IsLogRefusal, IsRunOn, IsLoggedRun, IsLogged};
 ghost use Rattle.run_command.specs.Joining.Renewing.{IsRenewedFirst};
 ghost use Rattle.run_command.specs.Kept.{KeepsLog};
-ghost use Rattle.run_command.specs.Joining.Opening.{IsOpened, IsOpening, IsUnfit, IsComing, IsGoingBack, IsBegun};
+ghost use Rattle.run_command.specs.Joining.Opening.{IsOpened, IsOpening, IsUnfit, IsComing, IsGoingBack};
+ghost use Rattle.run_command.specs.Recovering.{IsBegun};
 
 use crate::anew::{Ground, renew, write_renewal};
 use crate::answering::{FileJournal, RunInput};
@@ -47,9 +48,9 @@ use std::time::Clock;
 use tc_core::state::TcState;
 use tc_log::log::Log;
 
-// What a step of recovery comes to: what the run goes on with, or its refusal.
+/// What a step of recovery comes to: what the run goes on with, or its refusal.
 #[derive(Drop)]
-enum Recovery<T> {
+pub enum Recovery<T> {
     Ready(T),
     Refused(Report),
 }
@@ -65,11 +66,11 @@ struct OpenLog {
     dropped: usize,
 }
 
-// What a run goes on from: what keeps its log, and the lines of what came back.
+/// What a run goes on from: what keeps its log, and the lines of what came back.
 #[derive(Drop)]
-struct Recovered {
-    journal: FileJournal,
-    lines: String,
+pub struct Recovered {
+    pub journal: FileJournal,
+    pub lines: String,
 }
 
 // The report of a run that is refused.
@@ -353,8 +354,9 @@ fn go_back(
     }
 }
 
-// Opens the log's file, and goes on from its log.
-fn begin<F: Files<File = File>>(
+/// Opens the log's file of a state in which nothing has happened, and goes on from its log with new data components. The
+/// file is begun where it is missing or empty.
+pub fn begin<F: Files<File = File>>(
     rt: &F,
     alloc: Global,
     path: &str,

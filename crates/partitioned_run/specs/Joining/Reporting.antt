@@ -1,5 +1,5 @@
 -- What the calls of all partitions came to, taken apart.
-use Rattle.std.specs.Prelude.{◌≡◌, ℕ, List, length, map, max, Option, Some, None, slice_get, string_bytes, Result, Ok}
+use Rattle.std.specs.Prelude.{◌≡◌, ℕ, Bool, true, false, List, length, map, max, Option, Some, None, slice_get, string_bytes, Result, Ok}
 use Rattle.std.specs.Global.{Vec}
 use Rattle.run_command.specs.declared.anew.Ground.{Ground}
 use Rattle.worker_pool.specs.declared.answer.Answer.{Answer}
@@ -10,7 +10,9 @@ use Rattle.script_loading.specs.declared.loading.Acceptance.TheVariants.{Accepte
 use Rattle.run_command.specs.declared.stop.Stop.{Stop}
 use Rattle.run_command.specs.Running.{begun, empty_stores}
 use Rattle.partitions.specs.Picking.{picked}
-use Rattle.partitioned_run.specs.Partitioned.{IsAnsweredBy}
+use Rattle.partitioned_run.specs.declared.grounds.Start.{Start}
+use Rattle.partitioned_run.specs.Logged.{front_lines, AreRunBehind, AreRunFrom, AreStarts}
+use Rattle.partitioned_run.specs.Partitioned.{IsRunApart}
 use Rattle.partitioned_run.specs.declared.dividing.Division.{Division}
 use Rattle.partitioned_run.specs.declared.answering.PartitionOutcome.{PartitionOutcome}
 use Rattle.partitioned_run.specs.declared.reporting.All.{All}
@@ -34,12 +36,25 @@ MayBeRun object b (Accepted a) =
     × (contents_of a.script ≡ b.contents)
 MayBeRun object b (Refused report) = (b.refusal ≡ Some (string_bytes report.lines)) × (report.status ≡ 1)
 
--- those of each partition
-pub record AreAllRun (c : Contents) (d : Division) (all : All) : Type 0 where
-  pub grounds : length all.grounds.items ≡ max (length (empty_stores c)) 1
+-- those of each partition, by what it goes on from
+pub record AreAllRun (c : Contents) (d : Division) (starts : List Start) (all : All) : Type 0 where
+  pub count : length starts ≡ max (length (empty_stores c)) 1
+  pub grounds : length all.grounds.items ≡ length starts
   pub first : length all.first.items ≡ length all.grounds.items
   pub calls : length all.calls.items ≡ length all.grounds.items
   pub each : (p : ℕ) (behind : Option Ground) (first_answers other_answers : Vec Answer) → slice_get all.grounds.items p ≡ Some behind
       → slice_get all.first.items p ≡ Some first_answers → slice_get all.calls.items p ≡ Some other_answers
-      → IsAnsweredBy (begun c) (empty_stores c) (picked p d.first.items c.first) (picked p d.calls.items c.calls)
+      → AreRunFrom (begun c) (empty_stores c) starts p (picked p d.first.items c.first) (picked p d.calls.items c.calls)
       first_answers.items other_answers.items behind
+
+-- those of each partition, behind the lines of what came back
+pub record HaveRun (keeps : Bool) (c : Contents) (d : Division) (front : List ℕ) (all : All) : Type 0 where
+  pub starts : List Start
+  pub are : AreStarts keeps (begun c) (empty_stores c) d.partitions starts
+  pub told : front ≡ front_lines starts
+  pub run : AreAllRun c d starts all
+
+-- with or without files
+abbrev pub IsRunSo : (keeps : Bool) → Contents → Bool → ℕ → List ℕ → Type 0
+IsRunSo false c audit status lines = IsRunApart c audit status lines
+IsRunSo true c audit status lines = AreRunBehind c audit status lines

@@ -1,9 +1,11 @@
+use Rattle.std.specs.Prelude.{is_some, string_bytes}
 use Rattle.scripts.specs.Reading.{contents_of}
-use Rattle.partitioned_run.proofs.ReportingLemmas.{stopped_apart}
+use Rattle.partitioned_run.proofs.ReportingLemmas.{stopped_so}
 use Rattle.partitioned_run.proofs.running.run_fit.Goals as goal
 
-pub returns-in-Some : goal.returns-in-Some
-returns-in-Some g c =
+pub returns-in_ok-stopped-in-Some : goal.returns-in_ok-stopped-in-Some
+returns-in_ok-stopped-in-Some g c =
     let m = c.args.manner in
-    stopped_apart (contents_of c.args.accepted.script) m.workers m.tries m.audit c.in-Some.stop c.stopped.result c.in-Some.ensures.unfit
-    c.stopped.ensures.lines c.stopped.ensures.status
+    let r = c.in_ok-stopped-in-Some.field-0 in
+    stopped_so (is_some c.args.log) (contents_of c.args.accepted.script) m.workers m.tries m.audit c.in-Some.stop r.status (string_bytes r.lines)
+    c.in-Some.ensures.unfit c.in_ok-stopped-in-Some.ensures.lines c.in_ok-stopped-in-Some.ensures.status

@@ -1,5 +1,5 @@
 use Rattle.std.proofs.Common.{subst}
-use Rattle.std.specs.Prelude.{option_map, string_bytes}
+use Rattle.std.specs.Prelude.{is_some, option_map, string_bytes}
 use Rattle.std.proofs.lemmas.Result.{IfOk-weaker}
 use Rattle.scripts.specs.declared.keyword.Command.TheVariants as command
 use Rattle.script_loading.specs.Loading.{beginning_of}
@@ -14,4 +14,4 @@ returns-in-Accepted g c =
     let is = subst (MayBeRun object b) c.in-Accepted.is c.in_ok-acceptance.ensures in
     let m = c.args.manner in
     IfOk-weaker c.run_fit.result _ _
-    (λ r run. accepted_run b c.in-Accepted.accepted.script m.workers m.tries m.audit r.status (string_bytes r.lines) is.2 is.3 run) c.run_fit.ensures
+    (λ r run. accepted_run (is_some c.args.log) b c.in-Accepted.accepted.script m.workers m.tries m.audit r.status (string_bytes r.lines) is.2 is.3 run) c.run_fit.ensures

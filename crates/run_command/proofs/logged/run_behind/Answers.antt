@@ -6,7 +6,7 @@ use Rattle.run_command.proofs.LoggedLemmas.{lent_whole}
 use Rattle.std.proofs.lemmas.List.{length-map}
 use Rattle.std.proofs.lemmas.Result.{IfOk-weaker}
 use Rattle.run_command.specs.Logged.{IsLogRefusal, IsRunOn, Refused, Behind}
-use Rattle.run_command.specs.Joining.Opening.{IsBackTo}
+use Rattle.run_command.specs.Recovering.{IsBackTo}
 use Rattle.run_command.proofs.logged.run_behind.Goals as goal
 
 pub returns-in-Ok-Ready : goal.returns-in-Ok-Ready

@@ -1,0 +1,111 @@
+-- What the calls of a script print when those of each partition are run apart, behind what a file of its own has.
+use Rattle.std.specs.Prelude.{◌≡◌, ◌⊎◌, ℕ, ◌==◌, Bool, true, false, ◌&&◌, List, [], ◌∷◌, ◌++◌, slice_get, length}
+use Rattle.std.specs.Prelude.{Option, Some, None, is_some, codes, decimal, string_bytes}
+use Rattle.std.specs.List.{flat_map}
+use Rattle.std.specs.declared.alloc.Global.{Global}
+use Rattle.std.specs.declared.string.String.{String}
+use Rattle.data_component.specs.Store.{Store}
+use Rattle.partitions.specs.Partitions.{partition_at}
+use Rattle.scripts.specs.Reading.{Contents}
+use Rattle.scripts.specs.declared.script.Call as said
+use Rattle.script_loading.specs.Loading.{Beginning}
+use Rattle.tc_core.specs.Core.{Core}
+use Rattle.worker_pool.specs.declared.answer.Answer.{Answer}
+use Rattle.run_command.specs.declared.anew.Ground.{Ground}
+use Rattle.run_command.specs.Kept.{FileJournal, KeepsLog}
+use Rattle.run_command.specs.Logged.{IsLogRefusal}
+use Rattle.run_command.specs.Recovering.{IsBackTo}
+use Rattle.run_command.specs.Running.{begun, empty_stores}
+use Rattle.partitioned_run.specs.declared.grounds.Start.{Start}
+use Rattle.partitioned_run.specs.Partitioned.{AreRunApart, IsAnsweredBy, IsAnsweredPart, IsCallsRunApart, IsRunApart}
+
+-- ---- what comes back
+
+-- a line that names a partition
+abbrev pub partition_line : ℕ → List ℕ
+partition_line number = codes "partition " ++ (decimal number ++ codes "\n")
+
+-- the lines of what came back stand behind it; of a file that was new there is nothing to tell
+abbrev pub front_by : ℕ → List ℕ → List ℕ
+front_by number [] = []
+front_by number (byte ∷ lines) = partition_line number ++ (byte ∷ lines)
+
+abbrev pub front_of : Start → List ℕ
+front_of s = front_by s.number (string_bytes s.lines)
+
+abbrev pub front_lines : List Start → List ℕ
+front_lines starts = flat_map front_of starts
+
+-- this came back from a file, with these lines, and its journal has kept its log
+pub record IsBackAt (start : Core) (empties : List Store) (g : Ground) (lines : String Global) : Type 0 where
+  pub journal : FileJournal
+  pub journal_is : g.journal ≡ Some journal
+  pub back : IsBackTo start empties g.state g.dcs.items (record { journal = journal; lines = lines })
+
+-- where a partition has a file, something came back from there, and else nothing
+abbrev pub IsStart : (start : Core) → (empties : List Store) → (has_file : Bool) → Option Ground → String Global → Type 0
+IsStart start empties false None lines = string_bytes lines ≡ []
+IsStart start empties false (Some g) lines = ⊥
+IsStart start empties true None lines = ⊥
+IsStart start empties true (Some g) lines = IsBackAt start empties g lines
+
+-- each partition of these numbers has a file, where logs are kept
+abbrev pub AreStarts : (keeps : Bool) → Core → List Store → (numbers : List ℕ) → List Start → Type 0
+AreStarts keeps start empties numbers starts = (p : ℕ) (s : Start) → slice_get starts p ≡ Some s
+    → (s.number ≡ p) × IsStart start empties (keeps && (partition_at numbers p == p)) s.ground s.lines
+
+-- ---- the calls of one partition
+
+-- there is a journal, whose file has the log
+abbrev pub IsKeptBy : Ground → Type 0
+IsKeptBy g = (is_some g.journal ≡ true) × KeepsLog g.journal g.state.events
+
+abbrev pub IsIdle : Ground → (first calls : List said.Call) → (first_answers other_answers : List Answer) → Ground → Type 0
+IsIdle g first calls first_answers other_answers behind =
+    (first ≡ []) × (calls ≡ []) × (first_answers ≡ []) × (other_answers ≡ []) × (behind ≡ g)
+
+-- calls are answered on what came back, or there are none, and it stays as it is; its file has the log behind the last
+pub record HasGoneOn (g : Ground) (first calls : List said.Call) (first_answers other_answers : List Answer) (behind : Ground) : Type 0 where
+  pub run : IsAnsweredPart g.state g.dcs.items first calls first_answers other_answers behind ⊎ IsIdle g first calls first_answers other_answers behind
+  pub kept : IsKeptBy behind
+
+-- what came back goes on; where nothing did, calls are answered as without a file
+abbrev pub IsRunFrom : Core → List Store → Option Ground → (first calls : List said.Call) → (first_answers other_answers : List Answer) → Option Ground
+    → Type 0
+IsRunFrom start dcs None first calls first_answers other_answers behind = IsAnsweredBy start dcs first calls first_answers other_answers behind
+IsRunFrom start dcs (Some g) first calls first_answers other_answers None = ⊥
+IsRunFrom start dcs (Some g) first calls first_answers other_answers (Some behind) = HasGoneOn g first calls first_answers other_answers behind
+
+-- each partition's, by what it goes on from
+abbrev pub AreRunFrom : Core → List Store → List Start → ℕ → (first calls : List said.Call) → (first_answers other_answers : List Answer) → Option Ground
+    → Type 0
+AreRunFrom start dcs starts p first calls first_answers other_answers behind =
+    (s : Start) → slice_get starts p ≡ Some s → IsRunFrom start dcs s.ground first calls first_answers other_answers behind
+
+-- ---- the report
+
+-- each partition comes back from its file, which is told before the answers, and its calls are run from there
+pub record AreRunBehind (c : Contents) (audit : Bool) (status : ℕ) (lines : List ℕ) : Type 0 where
+  pub starts : List Start
+  pub run : AreRunApart (AreRunFrom (begun c) (empty_stores c) starts) (front_lines starts) (begun c).procs (empty_stores c) c.first c.calls audit status lines
+  pub each : length starts ≡ length run.grounds
+  pub back : AreStarts true (begun c) (empty_stores c) run.numbers starts
+
+-- no call is begun, since the log of a partition is refused; or they are run
+pub data IsRunBehind (c : Contents) (workers tries : ℕ) (audit : Bool) (status : ℕ) (lines : List ℕ) : Type 0 where
+  Refused : (p : ℕ) (refusal : List ℕ) → IsLogRefusal (begun c) (empty_stores c) refusal → status ≡ 1 → lines ≡ partition_line p ++ refusal
+      → IsRunBehind c workers tries audit status lines
+  Behind : IsCallsRunApart (AreRunBehind c audit status lines) workers tries status lines → IsRunBehind c workers tries audit status lines
+
+-- the calls of a script, with files or without any
+abbrev pub IsContentsRun : (keeps : Bool) → Contents → ℕ → ℕ → Bool → ℕ → List ℕ → Type 0
+IsContentsRun false c workers tries audit status lines = IsCallsRunApart (IsRunApart c audit status lines) workers tries status lines
+IsContentsRun true c workers tries audit status lines = IsRunBehind c workers tries audit status lines
+
+abbrev pub IsPartitionedBy : (keeps : Bool) → Option (List ℕ) → Contents → ℕ → ℕ → Bool → ℕ → List ℕ → Type 0
+IsPartitionedBy keeps (Some refusal) contents workers tries audit status lines = (status ≡ 1) × (lines ≡ refusal)
+IsPartitionedBy keeps None contents workers tries audit status lines = IsContentsRun keeps contents workers tries audit status lines
+
+-- of a script that is refused no file is opened, and no call is made
+abbrev pub IsPartitionedRun : (keeps : Bool) → ℕ → ℕ → Bool → Beginning → ℕ → List ℕ → Type 0
+IsPartitionedRun keeps workers tries audit b status lines = IsPartitionedBy keeps b.refusal b.contents workers tries audit status lines

@@ -1,0 +1,44 @@
+-- What comes back from a log's file.
+use Rattle.std.specs.Prelude.{◌≡◌, ℕ, List, length, reverse, Option, Some, string_bytes}
+use Rattle.tc_log.specs.declared.event.Event.{Event}
+use Rattle.base_records.specs.Beginning.{HaveBegun}
+use Rattle.data_component.specs.Store.{Store}
+use Rattle.log_file.specs.Bytes.{Rows}
+use Rattle.tc_core.specs.Core.{Core}
+use Rattle.coming_back.specs.declared.resumed.Resumed.{Resumed}
+use Rattle.run_command.specs.declared.logged.Recovered.{Recovered}
+use Rattle.run_command.specs.declared.logged.Recovery.{Recovery}
+use Rattle.run_command.specs.declared.logged.Recovery.TheVariants.{Ready, Refused}
+use Rattle.run_command.specs.LogLines.{back_lines}
+use Rattle.run_command.specs.Kept.{KeepsLog}
+use Rattle.run_command.specs.Logged.{IsLogFor, HasComeBack, GoesOn, IsLogRefusal}
+
+-- what came back from the log, with its lines, and the journal that keeps its log
+pub record IsBack (start : Core) (empties : List Store) (log : List Event) (back : Core) (dcs : List Store) (b : Recovered) : Type 0 where
+  pub resumed : List Resumed
+  pub came_back : HasComeBack start empties log back dcs resumed
+  pub goes_on : GoesOn start empties log back dcs
+  pub kept : KeepsLog (Some b.journal) back.events
+  pub dropped : ℕ
+  pub path : List ℕ
+  pub lines : string_bytes b.lines ≡ back_lines (length log) dropped path resumed
+
+-- data components began with the records before the log, and what came back from it then, with its lines, and the journal that keeps its log
+pub record IsBackFrom (start : Core) (empties : List Store) (base : Option Rows) (log : List Event) (back : Core) (dcs : List Store) (b : Recovered)
+    : Type 0 where
+  pub begun : List Store
+  pub begins : HaveBegun base (reverse log) empties begun
+  pub is_back : IsBack start begun log back dcs b
+
+-- a log was opened and gone on from
+pub record IsBackTo (start : Core) (empties : List Store) (back : Core) (dcs : List Store) (b : Recovered) : Type 0 where
+  pub file : List ℕ
+  pub base : Option Rows
+  pub log : List Event
+  pub is_log : IsLogFor start file base log
+  pub from : IsBackFrom start empties base log back dcs b
+
+-- or it is refused
+abbrev pub IsBegun : Core → List Store → Core → List Store → Recovery Recovered → Type 0
+IsBegun start empties back dcs (Ready b) = IsBackTo start empties back dcs b
+IsBegun start empties back dcs (Refused report) = IsLogRefusal start empties (string_bytes report.lines) × (report.status ≡ 1)
