@@ -1,13 +1,13 @@
 -- A fault is always among what a run may give.
 use Rattle.std.proofs.Common.{arith, ◌≡◌, ℕ, List, Option, Some, None, Bool, [], refl, sym, subst, inl, inr, codes}
-use Rattle.std.specs.Prelude.{IfSome, ◌≤◌, ◌⊎◌}
+use Rattle.std.specs.Prelude.{IfSome, ◌≤◌, ◌⊎◌, ◌++◌, decimal}
 use Rattle.disk_file.specs.declared.opening.FileKind.{FileKind}
 use Rattle.run_command.specs.LogLines.{kind_refusal}
 use Rattle.log_part.specs.declared.part.Part.{Part}
-use Rattle.procd.specs.Streams.{Stream, stream, IsKept, Begins, Ends, Runs, IsLog, IsRefusedBy, FurtherFails, ScriptFails, LogFails, followed_part}
+use Rattle.procd.specs.Streams.{Stream, stream, IsKept, Begins, Ends, Runs, IsLog, IsRefusedBy, FurtherFails, ScriptFails, LogFails, PartFails, followed_part}
 use Rattle.procd.specs.Streams.{IsFollowed, StopsBehind, Refused, RefusedInPart, NotPrinted, NotRead, OutOfMemory}
 use Rattle.procd.specs.Streams.{TellsUnread, TellsUnwritten, IsToldOrNoMemory}
-use Rattle.procd.specs.Joining.Further.{Reads, Writes}
+use Rattle.procd.specs.Joining.Further.{Keeps, Reads, Writes}
 use Rattle.command_line.specs.Task.{Wish, Exec, Asm, Dis, Verify, World, Run, Partitioned, Log}
 use Rattle.command_line.specs.Task.{Events, EventsAndRows, Follow, Audit, Picture}
 use Rattle.procd.proofs.Statuses.{report_low}
@@ -61,7 +61,7 @@ read_fails Verify path err is told = absurd is
 read_fails (World log audit script) path err is told = script_fails script path err is told
 read_fails (Run workers tries stats audit results tell metrics trace log checkpoint over script) path err is told =
     elim is [ inl keeps ↦ inl (log_fails log path err keeps (inl told)) | inr beside ↦ inr (script_fails script path err beside told) ]
-read_fails (Partitioned workers tries audit script) path err is told = script_fails script path err is told
+read_fails (Partitioned workers tries audit log script) path err is told = inr (script_fails script path err is told)
 read_fails (Log (Events part)) path err is told = absurd is
 read_fails (Log EventsAndRows) path err is told = absurd is
 read_fails (Log (Follow part)) path err is told = absurd is
@@ -79,12 +79,33 @@ write_fails (Dis raw) path err is told = absurd is
 write_fails Verify path err is told = absurd is
 write_fails (World log audit script) path err is told = absurd is
 write_fails (Run workers tries stats audit results tell metrics trace log checkpoint over script) path err is told = inl (log_fails log path err is (inr told))
-write_fails (Partitioned workers tries audit script) path err is told = absurd is
+write_fails (Partitioned workers tries audit log script) path err is told = absurd is
 write_fails (Log (Events part)) path err is told = absurd is
 write_fails (Log EventsAndRows) path err is told = absurd is
 write_fails (Log (Follow part)) path err is told = absurd is
 write_fails (Log (Audit source script)) path err is told = absurd is
 write_fails (Log (Picture file part)) path err is told = subst (λ (s : List ℕ). FurtherFails (Log (Picture s part)) err) (sym is) told
+
+-- the file of a partition
+pub part_unread : (log path : List ℕ) (number : ℕ) (err : Stream) (status : ℕ) → path ≡ log ++ (codes "." ++ decimal number)
+    → IsToldOrNoMemory (TellsUnread path err) err status → IsToldOrNoMemory (PartFails (Some log) err) err status
+part_unread log path number err status is told =
+    elim told [ inl t ↦ inl (t.0, (number, inl (subst (λ (p : List ℕ). TellsUnread p err) is t.1))) | inr memory ↦ inr memory ]
+
+pub part_unwritten : (log path : List ℕ) (number : ℕ) (err : Stream) (status : ℕ) → path ≡ log ++ (codes "." ++ decimal number)
+    → IsToldOrNoMemory (TellsUnwritten path err) err status → IsToldOrNoMemory (PartFails (Some log) err) err status
+part_unwritten log path number err status is told =
+    elim told [ inl t ↦ inl (t.0, (number, inr (subst (λ (p : List ℕ). TellsUnwritten p err) is t.1))) | inr memory ↦ inr memory ]
+
+keep_fails : (wish : Wish) (log : List ℕ) (err : Stream) → Keeps wish log → PartFails (Some log) err → FurtherFails wish err
+keep_fails (Exec raw numbers) log err is told = absurd is
+keep_fails Asm log err is told = absurd is
+keep_fails (Dis raw) log err is told = absurd is
+keep_fails Verify log err is told = absurd is
+keep_fails (World l audit script) log err is told = absurd is
+keep_fails (Run workers tries stats audit results tell metrics trace l checkpoint over script) log err is told = absurd is
+keep_fails (Partitioned workers tries audit l script) log err is told = inl (subst (λ (o : Option (List ℕ)). PartFails o err) (sym is) told)
+keep_fails (Log wanted) log err is told = absurd is
 
 module _ (file : List ℕ) (wish : Wish) (text : List ℕ) (out err : Stream) (status : ℕ) where
   no_memory_ends : status ≡ 4 → IsKept out → Begins err (codes "memory\n") → Ends file wish text out err status
@@ -107,6 +128,14 @@ module _ (file : List ℕ) (wish : Wish) (text : List ℕ) (out err : Stream) (s
   unwritten_ends path of fault kept =
       elim fault [
         | inl told ↦ inr (inr (inl (told.0, kept, write_fails wish path err of told.1)))
+        | inr memory ↦ no_memory_ends memory.0 kept memory.1
+      ]
+
+  pub unkept_ends : (log : List ℕ) → Keeps wish log → IsToldOrNoMemory (PartFails (Some log) err) err status → IsKept out
+      → Ends file wish text out err status
+  unkept_ends log of fault kept =
+      elim fault [
+        | inl told ↦ inr (inr (inl (told.0, kept, keep_fails wish log err of told.1)))
         | inr memory ↦ no_memory_ends memory.0 kept memory.1
       ]
 

@@ -1,10 +1,11 @@
 -- What is made of FILE as a script, or as an object file with a script beside it.
-use Rattle.std.proofs.Common.{ℕ, Bool, List, Option, Some, None}
+use Rattle.std.proofs.Common.{◌≡◌, ℕ, Bool, List, Option, Some, None, refl}
+use Rattle.std.specs.Prelude.{is_some, option_map}
 use Rattle.scripts.specs.declared.keyword.Command.TheVariants as command
 use Rattle.script_loading.specs.declared.loading.Source.{Source}
 use Rattle.script_loading.specs.Loading.{beginning_of}
 use Rattle.run_command.specs.declared.anew.Checkpoints.{Checkpoints}
-use Rattle.partitioned_run.specs.Partitioned.{IsPartitionedRun}
+use Rattle.partitioned_run.specs.Logged.{IsPartitionedRun}
 use Rattle.world_command.specs.WorldReport.{IsWorld}
 use Rattle.world_command.specs.declared.world.Behind.{Behind}
 use Rattle.procd.specs.Report.{IsRunReport, IsRunOf, IsPartitionedOf, IsWorldOf}
@@ -17,11 +18,15 @@ pub run_of_source : (checkpoints : Checkpoints) (workers tries : ℕ) (audit res
 run_of_source checkpoints workers tries audit results log None file source status lines is run = rw (is.0, is.1) at run
 run_of_source checkpoints workers tries audit results log (Some path) file source status lines is run = (source.text.now, rw is at run)
 
-pub partitioned_of_source : (workers tries : ℕ) (audit : Bool) (script : Option (List ℕ)) (file : List ℕ) (source : Source) (status : ℕ) (lines : List ℕ)
-    → IsSourceOf script file source → IsPartitionedRun workers tries audit (beginning_of command.Run source) status lines
-    → IsPartitionedOf workers tries audit script file status lines
-partitioned_of_source workers tries audit None file source status lines is run = rw (is.0, is.1) at run
-partitioned_of_source workers tries audit (Some path) file source status lines is run = (source.text.now, rw is at run)
+pub as_there : {X Y : Type 0} (f : X → Y) (o : Option X) → is_some o ≡ is_some (option_map f o)
+as_there f None = refl
+as_there f (Some x) = refl
+
+pub partitioned_of_source : (keeps : Bool) (workers tries : ℕ) (audit : Bool) (script : Option (List ℕ)) (file : List ℕ) (source : Source) (status : ℕ) (lines : List ℕ)
+    → IsSourceOf script file source → IsPartitionedRun keeps workers tries audit (beginning_of command.Run source) status lines
+    → IsPartitionedOf keeps workers tries audit script file status lines
+partitioned_of_source keeps workers tries audit None file source status lines is run = rw (is.0, is.1) at run
+partitioned_of_source keeps workers tries audit (Some path) file source status lines is run = (source.text.now, rw is at run)
 
 pub world_of_source : (behind : Behind) (script : Option (List ℕ)) (file : List ℕ) (source : Source) (status : ℕ) (lines : List ℕ)
     → IsSourceOf script file source → IsWorld behind (beginning_of command.World source) status lines → IsWorldOf behind script file status lines

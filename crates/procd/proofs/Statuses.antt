@@ -1,7 +1,7 @@
 -- A command's status is 0 or 1.
 use Rattle.std.proofs.Common.{arith, ℕ, Bool, List, length, map, Option, Some, None}
 use Rattle.std.proofs.Common.{true, false}
-use Rattle.std.specs.Prelude.{Result, Ok, Err, ◌≤◌, ◌&&◌, if◌then◌else◌}
+use Rattle.std.specs.Prelude.{Result, Ok, Err, is_some, ◌≡◌, ◌≤◌, ◌&&◌, if◌then◌else◌}
 use Rattle.text_commands.specs.Execution.{status_of}
 use Rattle.report_texts.specs.Hex.{Hex, hex_of}
 use Rattle.command_line.specs.Task.{Wish, Exec, Asm, Dis, Verify, World, Run, Partitioned, Log}
@@ -26,7 +26,8 @@ use Rattle.run_command.specs.Kept.{FileJournal}
 use Rattle.run_command.specs.Parts.{IsKeptSo}
 use Rattle.run_command.specs.Running.{IsRunBy, IsCallsRun, Ran, Stopped, never, begun, empty_stores}
 use Rattle.run_command.specs.Logged.{IsLoggedRun, Refused, Behind as GoneOn, IsLoggedBy}
-use Rattle.partitioned_run.specs.Partitioned.{IsCallsRunApart, IsPartitionedBy, Ran as RanApart, Stopped as StoppedApart}
+use Rattle.partitioned_run.specs.Partitioned.{IsCallsRunApart, IsRunApart, Ran as RanApart, Stopped as StoppedApart}
+use Rattle.partitioned_run.specs.Logged.{AreRunBehind, IsPartitionedBy, IsRunBehind as IsApartBehind, Refused as RefusedApart, Behind as BehindApart}
 use Rattle.world_command.specs.WorldReport.{IsWorldBy, status_of_steps}
 use Rattle.world_command.specs.declared.world.Behind.{Behind}
 use Rattle.scripts.specs.declared.keyword.Command.TheVariants as command
@@ -109,16 +110,25 @@ logged_low journal checkpoints (Some refusal) contents workers tries audit resul
 logged_low journal checkpoints None contents workers tries audit results status lines h =
     behind_low journal checkpoints (begun contents) (empty_stores contents) contents.first contents.calls workers tries audit results status lines h
 
-apart_low : (start : Core) (dcs : List Store) (first calls : List Call) (workers tries : ℕ) (audit : Bool) (status : ℕ) (lines : List ℕ)
-    → IsCallsRunApart start dcs first calls workers tries audit status lines → status ≤ 1
-apart_low start dcs first calls workers tries audit status lines (RanApart fit run) = let is = run.status_is in omega (arith, is, sound_low run.sound)
-apart_low start dcs first calls workers tries audit status lines (StoppedApart fault when is line) = omega (arith, is)
+apart_low : (Told : Type 0) (workers tries status : ℕ) (lines : List ℕ) → (Told → status ≤ 1) → IsCallsRunApart Told workers tries status lines → status ≤ 1
+apart_low Told workers tries status lines low (RanApart fit run) = low run
+apart_low Told workers tries status lines low (StoppedApart fault when is line) = omega (arith, is)
 
-partitioned_low : (refusal : Option (List ℕ)) (contents : Contents) (workers tries : ℕ) (audit : Bool) (status : ℕ) (lines : List ℕ)
-    → IsPartitionedBy refusal contents workers tries audit status lines → status ≤ 1
-partitioned_low (Some refusal) contents workers tries audit status lines h = omega (arith, h.0)
-partitioned_low None contents workers tries audit status lines h =
-    apart_low (begun contents) (empty_stores contents) contents.first contents.calls workers tries audit status lines h
+told_low : (sound : Bool) (status : ℕ) → status ≡ (if sound then 0 else 1) → status ≤ 1
+told_low sound status is = omega (arith, is, sound_low sound)
+
+apart_behind_low : (contents : Contents) (workers tries : ℕ) (audit : Bool) (status : ℕ) (lines : List ℕ)
+    → IsApartBehind contents workers tries audit status lines → status ≤ 1
+apart_behind_low contents workers tries audit status lines (RefusedApart p refusal why is line) = omega (arith, is)
+apart_behind_low contents workers tries audit status lines (BehindApart h) =
+    apart_low (AreRunBehind contents audit status lines) workers tries status lines (λ all. told_low all.run.sound status all.run.status_is) h
+
+partitioned_low : (keeps : Bool) (refusal : Option (List ℕ)) (contents : Contents) (workers tries : ℕ) (audit : Bool) (status : ℕ) (lines : List ℕ)
+    → IsPartitionedBy keeps refusal contents workers tries audit status lines → status ≤ 1
+partitioned_low keeps (Some refusal) contents workers tries audit status lines h = omega (arith, h.0)
+partitioned_low false None contents workers tries audit status lines h =
+    apart_low (IsRunApart contents audit status lines) workers tries status lines (λ all. told_low all.sound status all.status_is) h
+partitioned_low true None contents workers tries audit status lines h = apart_behind_low contents workers tries audit status lines h
 
 steps_low : (all : Bool) → status_of_steps all ≤ 1
 steps_low true = omega arith
@@ -185,12 +195,12 @@ run_of_low checkpoints workers tries audit results log None text status lines h 
 run_of_low checkpoints workers tries audit results log (Some path) file status lines h =
     run_report_low checkpoints workers tries audit results log (beginning command.Run (Some file) h.0) status lines h.1
 
-partitioned_of_low : (workers tries : ℕ) (audit : Bool) (script : Option (List ℕ)) (file : List ℕ) (status : ℕ) (lines : List ℕ)
-    → IsPartitionedOf workers tries audit script file status lines → status ≤ 1
-partitioned_of_low workers tries audit None text status lines h =
-    let b = beginning command.Run None text in partitioned_low b.refusal b.contents workers tries audit status lines h
-partitioned_of_low workers tries audit (Some path) file status lines h =
-    let b = beginning command.Run (Some file) h.0 in partitioned_low b.refusal b.contents workers tries audit status lines h.1
+partitioned_of_low : (keeps : Bool) (workers tries : ℕ) (audit : Bool) (script : Option (List ℕ)) (file : List ℕ) (status : ℕ) (lines : List ℕ)
+    → IsPartitionedOf keeps workers tries audit script file status lines → status ≤ 1
+partitioned_of_low keeps workers tries audit None text status lines h =
+    let b = beginning command.Run None text in partitioned_low keeps b.refusal b.contents workers tries audit status lines h
+partitioned_of_low keeps workers tries audit (Some path) file status lines h =
+    let b = beginning command.Run (Some file) h.0 in partitioned_low keeps b.refusal b.contents workers tries audit status lines h.1
 
 beside_audit_low : (object : Option (List ℕ)) (file : List ℕ) (status : ℕ) (lines : List ℕ) → IsAuditBeside object file status lines → status ≤ 1
 beside_audit_low object file status lines h =
@@ -204,7 +214,7 @@ report_low Verify file status lines h = verification_low (is_elf file) file stat
 report_low (World log audit script) file status lines h = world_of_low (record { audit = audit; log = log }) script file status lines h
 report_low (Run workers tries stats audit results tell metrics trace log checkpoint over script) file status lines h =
     run_of_low (record { at_end = checkpoint; over = over }) workers tries audit results log script file status lines h
-report_low (Partitioned workers tries audit script) file status lines h = partitioned_of_low workers tries audit script file status lines h
+report_low (Partitioned workers tries audit log script) file status lines h = partitioned_of_low (is_some log) workers tries audit script file status lines h
 report_low (Log (Events part)) text status lines h = listing_low part false text status lines h
 report_low (Log EventsAndRows) text status lines h = listing_low Whole true text status lines h
 report_low (Log (Picture path part)) text status lines h = picturing_low part text h.0 status lines h.1

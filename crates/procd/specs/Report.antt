@@ -1,5 +1,5 @@
 -- What is printed, and the exit status.
-use Rattle.std.specs.Prelude.{◌≡◌, ℕ, Bool, true, false, List, [], ◌∷◌, take, Option, Some, None}
+use Rattle.std.specs.Prelude.{◌≡◌, ℕ, Bool, true, false, List, [], ◌∷◌, take, Option, Some, None, is_some}
 use Rattle.std.specs.Str.{IsUtf8}
 use Rattle.procd.specs.declared.reading.TextFault.{TextFault}
 use Rattle.procd.specs.declared.reading.TextFault.TheVariants.{NotUtf8, Marked}
@@ -19,7 +19,7 @@ use Rattle.run_command.specs.declared.anew.Checkpoints.{Checkpoints}
 use Rattle.run_command.specs.Kept.{FileJournal}
 use Rattle.run_command.specs.Running.{IsRun}
 use Rattle.run_command.specs.Logged.{IsLogged}
-use Rattle.partitioned_run.specs.Partitioned.{IsPartitionedRun}
+use Rattle.partitioned_run.specs.Logged.{IsPartitionedRun}
 use Rattle.log_command.specs.LogReport.{IsListing, IsAudit}
 use Rattle.log_command.specs.PictureReport.{IsPicturing}
 
@@ -48,10 +48,11 @@ IsRunOf checkpoints workers tries audit results log None text status lines =
 IsRunOf checkpoints workers tries audit results log (Some path) file status lines =
     (text : List ℕ) × IsRunReport checkpoints workers tries audit results log (beginning command.Run (Some file) text) status lines
 
-abbrev pub IsPartitionedOf : ℕ → ℕ → Bool → (script : Option (List ℕ)) → List ℕ → ℕ → List ℕ → Type 0
-IsPartitionedOf workers tries audit None text status lines = IsPartitionedRun workers tries audit (beginning command.Run None text) status lines
-IsPartitionedOf workers tries audit (Some path) file status lines =
-    (text : List ℕ) × IsPartitionedRun workers tries audit (beginning command.Run (Some file) text) status lines
+abbrev pub IsPartitionedOf : (keeps : Bool) → ℕ → ℕ → Bool → (script : Option (List ℕ)) → List ℕ → ℕ → List ℕ → Type 0
+IsPartitionedOf keeps workers tries audit None text status lines =
+    IsPartitionedRun keeps workers tries audit (beginning command.Run None text) status lines
+IsPartitionedOf keeps workers tries audit (Some path) file status lines =
+    (text : List ℕ) × IsPartitionedRun keeps workers tries audit (beginning command.Run (Some file) text) status lines
 
 abbrev pub IsWorldOf : Behind → (script : Option (List ℕ)) → List ℕ → ℕ → List ℕ → Type 0
 IsWorldOf behind None text status lines = IsWorld behind (beginning command.World None text) status lines
@@ -80,5 +81,5 @@ IsReport Verify file status lines = IsVerification (is_elf file) file status lin
 IsReport (World log audit script) file status lines = IsWorldOf (record { audit = audit; log = log }) script file status lines
 IsReport (Run workers tries stats audit results tell metrics trace log checkpoint over script) file status lines =
     IsRunOf (record { at_end = checkpoint; over = over }) workers tries audit results log script file status lines
-IsReport (Partitioned workers tries audit script) file status lines = IsPartitionedOf workers tries audit script file status lines
+IsReport (Partitioned workers tries audit log script) file status lines = IsPartitionedOf (is_some log) workers tries audit script file status lines
 IsReport (Log wanted) file status lines = IsLogReport wanted file status lines

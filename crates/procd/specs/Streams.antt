@@ -1,5 +1,5 @@
 -- What a run gives for a command line: the exit status, and what stands on standard output and standard error.
-use Rattle.std.specs.Prelude.{◌≡◌, ◌⊎◌, ℕ, Bool, true, false, List, [], ◌∷◌, ◌++◌, take, Option, Some, None, IfSome, Result, Ok, Err, codes}
+use Rattle.std.specs.Prelude.{◌≡◌, ◌⊎◌, ℕ, Bool, true, false, List, [], ◌∷◌, ◌++◌, take, Option, Some, None, IfSome, Result, Ok, Err, codes, decimal}
 use Rattle.std.specs.Io.KnownBytes.{Appends}
 use Rattle.disk_file.specs.declared.opening.FileKind.{FileKind}
 use Rattle.run_command.specs.LogLines.{kind_refusal}
@@ -79,11 +79,16 @@ abbrev pub LogFails : Option (List ℕ) → Stream → Type 0
 LogFails None err = ⊥
 LogFails (Some path) err = TellsUnread path err ⊎ TellsUnwritten path err
 
+-- that of a partition's log can't
+abbrev pub PartFails : Option (List ℕ) → Stream → Type 0
+PartFails None err = ⊥
+PartFails (Some log) err = (number : ℕ) × LogFails (Some (log ++ (codes "." ++ decimal number))) err
+
 -- a further file can't be read or written
 abbrev pub FurtherFails : Wish → Stream → Type 0
 FurtherFails (World log audit script) err = ScriptFails script err
 FurtherFails (Run workers tries stats audit results tell metrics trace log checkpoint over script) err = LogFails log err ⊎ ScriptFails script err
-FurtherFails (Partitioned workers tries audit script) err = ScriptFails script err
+FurtherFails (Partitioned workers tries audit log script) err = PartFails log err ⊎ ScriptFails script err
 FurtherFails (Log (Audit source script)) err = TellsUnread source err ⊎ ScriptFails script err
 FurtherFails (Log (Picture path part)) err = TellsUnwritten path err
 FurtherFails other err = ⊥

@@ -6,7 +6,7 @@ ghost use Rattle.command_line.specs.Said.{Says, IsWrong, shows};
 ghost use Rattle.command_line.specs.Wanted.{WantsOrNoMemory, IsWrongOrNoMemory};
 ghost use Rattle.procd.specs.Streams.{stream, TellsIf, IsKept, Begins, Ends, Runs, IsMisuse, followed_part};
 ghost use Rattle.run_command.specs.LogLines.{kind_refusal};
-ghost use Rattle.procd.specs.Streams.{IsLog, IsFollowed, IsRefusedBy, IsFaultLine, TellsUnread, TellsUnwritten, TellsNotPrinted, IsToldOrNoMemory};
+ghost use Rattle.procd.specs.Streams.{IsLog, IsFollowed, IsRefusedBy, IsFaultLine, TellsUnread, TellsUnwritten, TellsNotPrinted, IsToldOrNoMemory, PartFails};
 ghost use Rattle.procd.specs.Joining.Ways.{IsWay};
 ghost use Rattle.command_line.specs.Task.{Wish, wish_of};
 ghost use Rattle.clap.specs.Words.{kind_of};
@@ -22,8 +22,10 @@ use clap::error::ErrorKind;
 use command_line::words::{LogTask, Task, Wanted, WordFault, wanted_of};
 use disk_file::FileKind;
 use log_part::Part;
+use partitioned_run::running::file_of;
 use report_texts::report::Report;
 use run_command::logged::kind_refusal;
+use run_command::running::Stop;
 use std::alloc::{AllocError, Global};
 use std::convert::AsStr;
 use std::fs::{self, File};
@@ -131,6 +133,26 @@ fn cannot_write_file<E: Write>(
     }
 }
 
+// Says that the file of a partition's log isn't read or written, and why.
+fn cannot_keep<E: Write>(alloc: Global, err: &mut E, log: &str, number: usize, stop: Stop) -> u8
+    ensures { IsToldOrNoMemory (PartFails (Some log.now) (stream (E.contents err.old) (E.contents err.new)))
+        (stream (E.contents err.old) (E.contents err.new)) result }
+{
+    let Ok(path) = file_of(alloc, log, number) else {
+        return no_memory(err);
+    };
+    let path = path.as_str();
+    match stop {
+        Stop::Unread(fault) => { cannot_read(alloc, err, path, Some(&Reason::File(fault))) }
+        Stop::NotKept(fault) => {
+            let reason = fault.map(Reason::File);
+            cannot_write_file(alloc, err, path, reason.as_ref())
+        }
+        // All others but this have a line.
+        _ => no_memory(err),
+    }
+}
+
 // Tells the figures, where they are asked for and there are some.
 fn tell_notes<E: Write>(err: &mut E, may_tell: bool, report: &Report)
     ensures { TellsIf may_tell (stream (E.contents err.old) (E.contents err.new)) }
@@ -164,6 +186,9 @@ fn run_text<F: Files<File = File> + Clock + Threads + Wait + Sync, W: Write, E: 
         }
         Err(ReportFault::Unwritten(path, reason)) => {
             return cannot_write_file(alloc, &mut streams.err, path, reason.as_ref());
+        }
+        Err(ReportFault::Partition(log, number, stop)) => {
+            return cannot_keep(alloc, &mut streams.err, log, number, stop);
         }
     };
     if let Err(error) = tell(&mut streams.out, report.lines.as_str()) {
@@ -366,7 +391,7 @@ const CHECKPOINT_ALONE: &str =
     "error: run takes --checkpoint and --checkpoint-over with --log alone: what begins anew is its file";
 
 const PARTITIONS_BESIDE: &str =
-    "error: run takes --partitions with none of --stats, --results, --tell, --metrics, --trace, --log, --checkpoint and --checkpoint-over: no log has all calls";
+    "error: run takes --partitions with none of --stats, --results, --tell, --metrics, --trace, --checkpoint and --checkpoint-over: no log has all calls";
 
 const NO_COMMAND: &str = "error: a command is missing: exec, asm, dis, verify, world, run or log";
 

@@ -1,13 +1,13 @@
 //! What a command says of the text that was read.
 
-ghost use Rattle.std.specs.Prelude.{◌≡◌, true, Some, None, not, is_none, option_map, IfOk, IfErr, string_bytes};
+ghost use Rattle.std.specs.Prelude.{◌≡◌, ℕ, List, Option, true, Some, None, not, is_none, is_some, option_map, IfOk, IfErr, string_bytes};
 ghost use Rattle.object_file.specs.Elf.{is_elf};
 ghost use Rattle.text_commands.specs.ObjectVerification.{IsVerification};
 ghost use Rattle.script_loading.specs.Loading.{beginning_of};
 ghost use Rattle.scripts.specs.declared.keyword.Command.TheVariants as command;
 ghost use Rattle.procd.specs.Report.{IsReport, IsKeptRun, IsRunOf, IsPartitionedOf, IsWorldOf, IsLogReport, IsAuditBeside};
 ghost use Rattle.procd.specs.Joining.Further.{IsScriptFault, IsLogFault, IsTaskFault, IsNoTextOf, IsOfText, IsOfFile, wants_text};
-ghost use Rattle.procd.specs.Joining.Further.{IsBesideFault, IsRunFault};
+ghost use Rattle.procd.specs.Joining.Further.{IsApartFault, IsBesideFault, IsRunFault};
 ghost use Rattle.procd.specs.Joining.Further.{IsPictureFault, IsSourceOf};
 ghost use Rattle.command_line.specs.Task.{Log, Audit, Picture, log_wish, wish_of};
 
@@ -20,6 +20,7 @@ use log_command::listing::listing;
 use log_command::picturing::{Pictured, picturing};
 use log_part::Part;
 use object_file::is_elf;
+use partitioned_run::fault::Fault;
 use partitioned_run::running::running_partitioned;
 use report_texts::report::Report;
 use run_command::logged::running_logged;
@@ -46,6 +47,8 @@ pub enum ReportFault<'a> {
     Unread(&'a str, Option<Reason>),
     /// The file with this path, which is to keep a run's log or a picture, can't be written, and why.
     Unwritten(&'a str, Option<Reason>),
+    /// This stopped the partition with this number, whose file has this path, but for the number behind it.
+    Partition(&'a str, usize, Stop),
     Memory,
 }
 
@@ -186,23 +189,38 @@ fn run_of<'a, R: Files<File = File> + Clock + Threads + Wait + Sync>(
     }
 }
 
+// Why there is no report of a run by partitions, whose logs are kept in files of this path.
+fn apart_fault<'a>(log: Option<&'a str>, fault: Fault) -> ReportFault<'a>
+    ensures further { (script : Option (List ℕ)) → IsApartFault (option_map (λ path. path.now) log.entry) script result }
+    ensures text { IsOfText result }
+{
+    match (log, fault) {
+        (Some(path), Fault::Stopped(number, stop)) => ReportFault::Partition(path, number, stop),
+        _ => ReportFault::Memory,
+    }
+}
+
 // The report of a run by partitions of either.
 fn partitioned_of<'a, R: Files<File = File> + Clock + Threads + Wait + Sync>(
     rt: &R,
     alloc: Global,
     file: &[u8],
     script: Option<&'a str>,
+    log: Option<&'a str>,
     manner: Manner,
     listeners: Listeners,
 ) -> Result<Report, ReportFault<'a>>
-    ensures ok { IfOk result (λ r. IsPartitionedOf manner.workers manner.tries manner.audit (option_map (λ path. path.now) script.entry)
-        file.now r.status (string_bytes r.lines)) }
+    ensures ok { IfOk result (λ r. IsPartitionedOf (is_some (option_map (λ path. path.now) log.entry)) manner.workers manner.tries manner.audit
+        (option_map (λ path. path.now) script.entry) file.now r.status (string_bytes r.lines)) }
     ensures not_text { IfErr result (IsNoTextOf (is_none script.entry) file.now) }
-    ensures further { IfErr result (IsBesideFault (option_map (λ path. path.now) script.entry)) }
+    ensures further { IfErr result (IsApartFault (option_map (λ path. path.now) log.entry) (option_map (λ path. path.now) script.entry)) }
 {
     let beside = read_beside(rt, alloc, script)?;
     let source = source_of(file, script, beside.as_slice())?;
-    Ok(running_partitioned(rt, alloc, source, manner, listeners)?)
+    match running_partitioned(rt, alloc, source, log, manner, listeners) {
+        Ok(report) => Ok(report),
+        Err(fault) => Err(apart_fault(log, fault)),
+    }
 }
 
 // The report of the steps of either.
@@ -380,6 +398,7 @@ pub fn report_on<'a, R: Files<File = File> + Clock + Threads + Wait + Sync>(
             workers,
             tries,
             audit,
+            log,
             script,
         } => {
             let manner = Manner {
@@ -389,7 +408,7 @@ pub fn report_on<'a, R: Files<File = File> + Clock + Threads + Wait + Sync>(
                 audit: *audit,
                 results: false,
             };
-            partitioned_of(rt, alloc, text, *script, manner, progress.listeners())
+            partitioned_of(rt, alloc, text, *script, *log, manner, progress.listeners())
         }
         Task::Dis { raw } => Ok(disassembly(alloc, *raw, text)?),
         Task::Log(wanted) => log_report(rt, alloc, text, *wanted),

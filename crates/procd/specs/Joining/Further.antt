@@ -6,13 +6,13 @@ use Rattle.command_line.specs.Task.{Wish, Verify, World, Run, Partitioned, Log, 
 use Rattle.object_file.specs.Elf.{is_elf}
 use Rattle.script_loading.specs.declared.loading.Source.{Source}
 use Rattle.procd.specs.declared.report.ReportFault.{ReportFault}
-use Rattle.procd.specs.declared.report.ReportFault.TheVariants.{NotText, Unread, Unwritten, Memory}
+use Rattle.procd.specs.declared.report.ReportFault.TheVariants.{NotText, Unread, Unwritten, Partition, Memory}
 
 -- the command reads the further file with this path
 abbrev pub Reads : Wish → List ℕ → Type 0
 Reads (World log audit script) path = script ≡ Some path
 Reads (Run workers tries stats audit results tell metrics trace log checkpoint over script) path = (log ≡ Some path) ⊎ (script ≡ Some path)
-Reads (Partitioned workers tries audit script) path = script ≡ Some path
+Reads (Partitioned workers tries audit log script) path = script ≡ Some path
 Reads (Log (Audit source script)) path = (source ≡ path) ⊎ (script ≡ Some path)
 Reads other path = ⊥
 
@@ -22,10 +22,16 @@ Writes (Run workers tries stats audit results tell metrics trace log checkpoint 
 Writes (Log (Picture file part)) path = file ≡ path
 Writes other path = ⊥
 
+-- it keeps the logs of partitions in files of this path, but for their numbers behind it
+abbrev pub Keeps : Wish → List ℕ → Type 0
+Keeps (Partitioned workers tries audit log script) path = log ≡ Some path
+Keeps other path = ⊥
+
 -- where a further file isn't read or written, it is the command's
 abbrev pub IsTaskFault : Wish → ReportFault → Type 0
 IsTaskFault wish (Unread path reason) = Reads wish path.now
 IsTaskFault wish (Unwritten path reason) = Writes wish path.now
+IsTaskFault wish (Partition log number stop) = Keeps wish log.now
 IsTaskFault wish (NotText fault) = Unit {0}
 IsTaskFault wish Memory = Unit {0}
 
@@ -33,6 +39,7 @@ IsTaskFault wish Memory = Unit {0}
 abbrev pub IsScriptFault : List ℕ → ReportFault → Type 0
 IsScriptFault path (Unread other reason) = Some path ≡ Some other.now
 IsScriptFault path (Unwritten other reason) = ⊥
+IsScriptFault path (Partition log number stop) = ⊥
 IsScriptFault path (NotText fault) = ⊥
 IsScriptFault path Memory = Unit {0}
 
@@ -40,6 +47,7 @@ IsScriptFault path Memory = Unit {0}
 abbrev pub IsPictureFault : List ℕ → ReportFault → Type 0
 IsPictureFault path (Unread other reason) = ⊥
 IsPictureFault path (Unwritten other reason) = path ≡ other.now
+IsPictureFault path (Partition log number stop) = ⊥
 IsPictureFault path (NotText fault) = ⊥
 IsPictureFault path Memory = Unit {0}
 
@@ -47,6 +55,7 @@ IsPictureFault path Memory = Unit {0}
 abbrev pub IsBesideFault : Option (List ℕ) → ReportFault → Type 0
 IsBesideFault script (Unread path reason) = script ≡ Some path.now
 IsBesideFault script (Unwritten path reason) = ⊥
+IsBesideFault script (Partition log number stop) = ⊥
 IsBesideFault script (NotText fault) = Unit {0}
 IsBesideFault script Memory = Unit {0}
 
@@ -54,13 +63,23 @@ IsBesideFault script Memory = Unit {0}
 abbrev pub IsRunFault : (log script : Option (List ℕ)) → ReportFault → Type 0
 IsRunFault log script (Unread path reason) = (log ≡ Some path.now) ⊎ (script ≡ Some path.now)
 IsRunFault log script (Unwritten path reason) = log ≡ Some path.now
+IsRunFault log script (Partition path number stop) = ⊥
 IsRunFault log script (NotText fault) = Unit {0}
 IsRunFault log script Memory = Unit {0}
+
+-- or that of a partition is
+abbrev pub IsApartFault : (log script : Option (List ℕ)) → ReportFault → Type 0
+IsApartFault log script (Unread path reason) = script ≡ Some path.now
+IsApartFault log script (Unwritten path reason) = ⊥
+IsApartFault log script (Partition path number stop) = log ≡ Some path.now
+IsApartFault log script (NotText fault) = Unit {0}
+IsApartFault log script Memory = Unit {0}
 
 -- the log of this path isn't read or kept
 abbrev pub IsLogFault : Option (List ℕ) → ReportFault → Type 0
 IsLogFault log (Unread path reason) = log ≡ Some path.now
 IsLogFault log (Unwritten path reason) = log ≡ Some path.now
+IsLogFault log (Partition path number stop) = ⊥
 IsLogFault log (NotText fault) = Unit {0}
 IsLogFault log Memory = Unit {0}
 
@@ -83,6 +102,7 @@ IsOfText other = Unit {0}
 abbrev pub IsOfFile : ReportFault → Type 0
 IsOfFile (Unread path reason) = ⊥
 IsOfFile (Unwritten path reason) = ⊥
+IsOfFile (Partition log number stop) = ⊥
 IsOfFile other = Unit {0}
 
 -- FILE as a script; or as an object file, with the script of a path
