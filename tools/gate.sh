@@ -41,6 +41,7 @@ tries() {
     cat << 'END'
 tools/hostile.py --every 25 code texts objects worlds memory
 tools/storms.py --runs 5 --calls 1000 --cuts
+tools/partition_crashes.py --kills 20
 tools/tampered.py --every 25
 tools/explore.py --audit --seconds 20
 tools/believed.py

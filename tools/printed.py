@@ -12,12 +12,12 @@ import pathlib
 import sys
 
 from dist import release
-from printed_rows import checkpoints, code, commands, logs, objects, parts, restarts, runs, scripts, worlds
+from printed_rows import checkpoints, code, commands, logs, objects, partitioned, parts, restarts, runs, scripts, worlds
 from trying import Program
 
 TOP = pathlib.Path(__file__).resolve().parent.parent
 BUILT = [TOP / "crates" / "procd" / "out" / name for name in ("procd", "procd.by-rattle")]
-TABLES = [code, scripts, objects, worlds, restarts, runs, logs, checkpoints, parts, commands]
+TABLES = [code, scripts, objects, worlds, restarts, runs, logs, checkpoints, partitioned, parts, commands]
 
 
 def differs(ran, row):

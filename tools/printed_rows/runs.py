@@ -251,8 +251,8 @@ slot read 3 0 $0
 end
 """
 
-# What is of one log goes with no partitions.
-BESIDE_PARTITIONS = ["--stats", "--results", "--tell", "--metrics m", "--trace t", "--log l", "--log l --checkpoint", "--log l --checkpoint-over 1"]
+# What is of all calls, or of one log of all, goes with no partitions.
+BESIDE_PARTITIONS = ["--stats", "--results", "--tell", "--metrics m", "--trace t", "--log l --checkpoint", "--log l --checkpoint-over 1", "--log l --stats"]
 
 # Words, what stands behind the four procedures, and why that is refused.
 REFUSED = [
