@@ -74,7 +74,13 @@ fn answered_lines(alloc: Global, outcomes: Outcomes) -> Result<String, AllocErro
         refused,
     } = outcomes;
     format!(in alloc;
-        "# HELP procd_calls_answered_total Calls that were answered, by outcome.\n# TYPE procd_calls_answered_total counter\nprocd_calls_answered_total{{outcome=\"committed\"}} {committed}\nprocd_calls_answered_total{{outcome=\"aborted\"}} {aborted}\nprocd_calls_answered_total{{outcome=\"in_doubt\"}} {in_doubt}\nprocd_calls_answered_total{{outcome=\"blocked\"}} {blocked}\nprocd_calls_answered_total{{outcome=\"refused\"}} {refused}\n"
+        "# HELP procd_calls_answered_total Calls that were answered, by outcome.\n\
+         # TYPE procd_calls_answered_total counter\n\
+         procd_calls_answered_total{{outcome=\"committed\"}} {committed}\n\
+         procd_calls_answered_total{{outcome=\"aborted\"}} {aborted}\n\
+         procd_calls_answered_total{{outcome=\"in_doubt\"}} {in_doubt}\n\
+         procd_calls_answered_total{{outcome=\"blocked\"}} {blocked}\n\
+         procd_calls_answered_total{{outcome=\"refused\"}} {refused}\n"
     )
 }
 
@@ -125,7 +131,12 @@ fn delay_lines(alloc: Global, delays: Delays) -> Result<String, AllocError>
         resends,
     } = delays;
     format!(in alloc;
-        "# HELP procd_lock_waits_total Calls that had to wait for a lock.\n# TYPE procd_lock_waits_total counter\nprocd_lock_waits_total {lock_waits}\n# HELP procd_resends_total Wires that were sent again.\n# TYPE procd_resends_total counter\nprocd_resends_total {resends}\n"
+        "# HELP procd_lock_waits_total Calls that had to wait for a lock.\n\
+         # TYPE procd_lock_waits_total counter\n\
+         procd_lock_waits_total {lock_waits}\n\
+         # HELP procd_resends_total Wires that were sent again.\n\
+         # TYPE procd_resends_total counter\n\
+         procd_resends_total {resends}\n"
     )
 }
 
