@@ -1,7 +1,7 @@
 -- What the locked value keeps of the calls, of the log and of the state handed in.
 use Rattle.std.specs.Prelude.{◌≡◌, ◌+◌, ◌<◌, ◌≤◌, ℕ, List, [], ◌∷◌, Bool, length, count_by, Option, Some, None, slice_get}
 use Rattle.tc_log.specs.declared.event.Event.{Event}
-use Rattle.tc_log.specs.declared.event.Event.TheVariants.{Admit, Ask, Answer as Answers, Undo, End, Checkpoint}
+use Rattle.tc_log.specs.declared.event.Event.TheVariants.{Admit, End}
 use Rattle.history.specs.Calls.{admitted}
 use Rattle.history.specs.Calls as named
 use Rattle.history.specs.Places.{StandsAt, Begins}
@@ -18,12 +18,8 @@ use Rattle.worker_pool.specs.Restarts.{StaysKnown}
 -- how many transactions ended
 abbrev pub ends : List Event → ℕ
 ends [] = 0
-ends (Admit t p args ∷ h) = ends h
-ends (Ask t n o ∷ h) = ends h
-ends (Answers t n said ∷ h) = ends h
-ends (Undo t n o ∷ h) = ends h
 ends (End t o ∷ h) = ends h + 1
-ends (Checkpoint before numbers ∷ h) = ends h
+ends (_ ∷ h) = ends h
 
 abbrev pub serial_of : Option TxnId → Option ℕ
 serial_of None = None

@@ -1,7 +1,9 @@
 // What lies under the lock: the state, how far each call has come, and what of the log was handed over
 // to be kept.
 
-ghost use Rattle.std.specs.Prelude.{◌≡◌, ◌↔◌, ◌+◌, ◌<◌, ◌≤◌, ◌++◌, ◌∷◌, true, List, ℕ, [], length, replicate, reverse, Some, None, slice_get, OnOk, OnErr, IfOk, IfErr, IfSome, IfNone, IsSome, IsTrue, vec_capacity, map, false};
+ghost use Rattle.std.specs.Prelude.{◌≡◌, ◌↔◌, ◌+◌, ◌<◌, ◌≤◌, ◌++◌, ◌∷◌, true, List, ℕ, [], length};
+ghost use Rattle.std.specs.Prelude.{replicate, reverse, Some, None, slice_get, OnOk, OnErr, IfOk};
+ghost use Rattle.std.specs.Prelude.{IfErr, IfSome, IfNone, IsSome, IsTrue, vec_capacity, map, false};
 ghost use Rattle.tc_core.specs.AtOnce.{HasRunAtOnce};
 ghost use Rattle.tc_core.specs.Core.{Core, Asking};
 ghost use Rattle.tc_core.specs.Replies.{ask_reply, after_ask, end_of};
