@@ -1,5 +1,6 @@
 -- Logs that are read on, and their lines.
-use Rattle.std.proofs.Common.{arith, ◌≡◌, ℕ, zero, suc, ◌+◌, ◌-◌, ◌<◌, ◌≤◌, List, [], ◌∷◌, ◌++◌, length, take, drop, map, reverse, refl, sym, ◌∙◌, ap, ap₂, subst, append_assoc, length-append, inl, inr}
+use Rattle.std.proofs.Common.{arith, ◌≡◌, ℕ, zero, suc, ◌+◌, ◌-◌, ◌<◌, ◌≤◌, List, [], ◌∷◌, ◌++◌, length, take, drop}
+use Rattle.std.proofs.Common.{map, reverse, refl, sym, ◌∙◌, ap, ap₂, subst, append_assoc, length-append, inl, inr}
 use Rattle.std.specs.Prelude.{min, ◌⊎◌, Option, Some, None, IfOk, Result, Ok, Err, string_bytes}
 use Rattle.std.specs.List.{flat_map, fold}
 use Rattle.std.proofs.lemmas.List.{append-nil, map-append}
@@ -25,7 +26,9 @@ use Rattle.log_part.specs.declared.part.Part.TheVariants.{Whole}
 use Rattle.log_part.specs.Part.{begin_of}
 use Rattle.log_command.specs.declared.following.Followed.{Followed}
 use Rattle.log_command.specs.EventLines.{event_lines}
-use Rattle.log_command.specs.Following.{after, nothing_reached, lines_from, lines_behind, lines_of, HasEvents, IsFound, AreFound, IsReadUpTo, IsTaken, IsUnlike, IsWaiting, first_behind, HasPrinted, IsBegun, IsAnew, AreLines}
+use Rattle.log_command.specs.Following.{after, nothing_reached, lines_from, lines_behind, lines_of}
+use Rattle.log_command.specs.Following.{HasEvents, IsFound, AreFound, IsReadUpTo, IsTaken, IsUnlike}
+use Rattle.log_command.specs.Following.{IsWaiting, first_behind, HasPrinted, IsBegun, IsAnew, AreLines}
 use Rattle.log_command.specs.declared.further.Further.{Further}
 use Rattle.log_command.specs.declared.following.Begun.{Begun}
 use Rattle.log_command.specs.declared.following.Begun.TheVariants as begun

@@ -47,7 +47,7 @@ impl Reached {
                 serial: *admitted,
                 number: *given,
             },
-            Entry::Answer { .. } | Entry::End { .. } => self,
+            _ => self,
         }
     }
 }
