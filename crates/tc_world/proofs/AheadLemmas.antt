@@ -1,5 +1,6 @@
 -- An engine that writes ahead is found to have written all that was carried, wherever it is killed.
-use Rattle.std.proofs.Common.{◌≡◌, ℕ, zero, suc, ◌+◌, ◌≤◌, Bool, true, false, ◌&&◌, ◌-◌, List, [], ◌∷◌, ◌++◌, length, length-append, drop, Option, Some, None, arith, refl, sym, ◌∙◌, subst, ap, inl, inr}
+use Rattle.std.proofs.Common.{◌≡◌, ℕ, zero, suc, ◌+◌, ◌≤◌, Bool, true, false, ◌&&◌, ◌-◌, List, [], ◌∷◌, ◌++◌, length}
+use Rattle.std.proofs.Common.{length-append, drop, Option, Some, None, arith, refl, sym, ◌∙◌, subst, ap, inl, inr}
 use Rattle.std.specs.Prelude.{◌^◌, slice_get, nat_le, Result, Ok, Err}
 use Rattle.std.specs.List.{All}
 use Rattle.std.proofs.lemmas.Bool.{cases_eq, cond-true, cond-false}
@@ -61,7 +62,8 @@ use Rattle.tc_world.proofs.ComingBack.{all_at, noted_at}
 use Rattle.tc_world.proofs.Marks.{went, stopped}
 use Rattle.tc_world.proofs.Listed.{Known}
 use Rattle.tc_world.proofs.Recovering.{among_all, start_over_low}
-use Rattle.tc_world.proofs.WrittenLemmas.{Rest, rest_of, stay_rest, acted, cut_written, whole_rest, wire_more, fresh_written, again_written, closed_sent, closed_answered}
+use Rattle.tc_world.proofs.WrittenLemmas.{Rest, rest_of, stay_rest, acted, cut_written, whole_rest, wire_more}
+use Rattle.tc_world.proofs.WrittenLemmas.{fresh_written, again_written, closed_sent, closed_answered}
 use Rattle.tc_world.proofs.LivingLemmas.{living_legal, living_low, step_lived, loss_lived, crash_lived, over_lived, fresh_lived}
 
 abbrev LegalCore : Core → Type 0

@@ -1,5 +1,6 @@
 -- A world whose transaction component comes back from what was written: its marks are low, and its lists stand beside the log.
-use Rattle.std.proofs.Common.{◌≡◌, ◌⊎◌, ℕ, zero, suc, ◌≤◌, ◌<◌, true, false, List, [], ◌∷◌, ◌++◌, ◌+◌, length, take, map, Option, Some, None, arith, refl, sym, ◌∙◌, ap, subst, inl, inr, ◌==◌, if◌then◌else◌}
+use Rattle.std.proofs.Common.{◌≡◌, ◌⊎◌, ℕ, zero, suc, ◌≤◌, ◌<◌, true, false, List, [], ◌∷◌, ◌++◌, ◌+◌, length, take}
+use Rattle.std.proofs.Common.{map, Option, Some, None, arith, refl, sym, ◌∙◌, ap, subst, inl, inr, ◌==◌, if◌then◌else◌}
 use Rattle.std.specs.Prelude.{slice_get, slice_index_or}
 use Rattle.std.specs.List.{All}
 use Rattle.std.proofs.lemmas.Bool.{cases_eq, cases_lt, cond-true, cond-false}
@@ -30,7 +31,8 @@ use Rattle.tc_core.specs.Recovery.{site_noted}
 use Rattle.tc_core.proofs.KeptLemmas.{slice_get-index, slice_get-short}
 use Rattle.tc_world.specs.Whole.{Whole}
 use Rattle.tc_world.specs.Marks.{IsLow, AreMarksLow}
-use Rattle.tc_world.specs.Recovery.{IsWrittenFor, IsWrittenAt, IsNotYetUp, IsNoted, Noted, NotYetUp, IsWritten, begun_anew, anew, come_back, note_by, note_of, notes_of}
+use Rattle.tc_world.specs.Recovery.{IsWrittenFor, IsWrittenAt, IsNotYetUp, IsNoted, Noted, NotYetUp}
+use Rattle.tc_world.specs.Recovery.{IsWritten, begun_anew, anew, come_back, note_by, note_of, notes_of}
 use Rattle.tc_world.specs.Joining.Listed.{BeginsBehind, EachBeginsBehind, ArePast, above, wires_since, replies_since, IsListed}
 use Rattle.serial.specs.Joining.Sites.{CopyOk, ReplyOk, AreOk}
 use Rattle.tc_world.proofs.Passing.{above_in, above_from}

@@ -1,5 +1,6 @@
 -- Each step but a forged reply keeps the lists beside the log, and then calls run one after another.
-use Rattle.std.proofs.Common.{◌≡◌, ◌≢◌, ◌⊎◌, ℕ, ◌+◌, ◌<◌, ◌≤◌, Bool, true, false, List, [], ◌∷◌, ◌++◌, length, Option, Some, None, arith, refl, sym, ◌∙◌, ap, subst}
+use Rattle.std.proofs.Common.{◌≡◌, ◌≢◌, ◌⊎◌, ℕ, ◌+◌, ◌<◌, ◌≤◌, Bool, true, false, List, [], ◌∷◌}
+use Rattle.std.proofs.Common.{◌++◌, length, Option, Some, None, arith, refl, sym, ◌∙◌, ap, subst}
 use Rattle.std.proofs.Common.{inl, inr, ◌==◌, ◌&&◌, if◌then◌else◌}
 use Rattle.std.specs.Prelude.{slice_get, slice_set, slice_index_or, nat_lt, nat_le, ◌^◌, Result, Ok, Err}
 use Rattle.std.proofs.lemmas.Bool.Decides.{nat_tests}
@@ -26,7 +27,8 @@ use Rattle.transactions.proofs.StandingLemmas.{some_same, none_some}
 use Rattle.transactions.proofs.Flights.{flight, standing_flight}
 use Rattle.tc_core.specs.Core.{Core, Asking}
 use Rattle.tc_core.specs.Replies.{with_event, ask_reply, after_ask, undo_reply, after_undo, end_of, is_heard, is_up}
-use Rattle.tc_core.specs.Redo.{with_site, news_fault_by, lost_fault, IsRedone, after_told, redo_wire, redo_at, redo_by, sends_again, after_redo, after_redone, redone_to, redone_at, up_again}
+use Rattle.tc_core.specs.Redo.{with_site, news_fault_by, lost_fault, IsRedone, after_told, redo_wire, redo_at}
+use Rattle.tc_core.specs.Redo.{redo_by, sends_again, after_redo, after_redone, redone_to, redone_at, up_again}
 use Rattle.tc_core.specs.declared.state.Down.{Down}
 use Rattle.tc_core.specs.declared.state.NewsFault.TheVariants as fault
 use Rattle.tc_core.specs.declared.state.Redo.TheVariants as redo
@@ -122,7 +124,8 @@ asked ps base w e t n o legal next lg fl dn top k =
     let new : (m : ℕ) (q : Op) → logged h m ≡ Some q → n ≢ m = (λ m q is. let b = logged_below ps h legal m q is in omega (arith, next, b)) in
     let now = ok_sent base (logged h) (open_op h) (done h) (given h) w.core.sites w.dcs (wires_since w) (replies_since w) w.news n (flight t o)
     (omega (arith, next)) new (λ m said is. done_logged ps h legal m said is) k in
-    subst (λ (g : ℕ → Option Op). AreOk base g (open_op (e ∷ h)) (done (e ∷ h)) (given (e ∷ h)) w.core.sites w.dcs (wires_since w) (replies_since w) w.news) (sym lg)
+    subst (λ (g : ℕ → Option Op). AreOk base g (open_op (e ∷ h)) (done (e ∷ h)) (given (e ∷ h)) w.core.sites w.dcs
+    (wires_since w) (replies_since w) w.news) (sym lg)
     (subst (λ (g : ℕ → Option Flight). AreOk base (λ m. if n == m then Some o else logged h m) g (done (e ∷ h)) (given (e ∷ h)) w.core.sites w.dcs
     (wires_since w) (replies_since w) w.news) (sym fl)
     (subst (λ (g : List Performed). AreOk base (λ m. if n == m then Some o else logged h m) (λ m. if n == m then Some (flight t o) else open_op h m) g
@@ -140,7 +143,8 @@ copied w x legal s y =
       base = s.base;
       based = s.based;
       behind = s.behind;
-      past = pushed (λ (z : Wire). z.number ≤ begun w.core.events → z.low_water ≤ begun w.core.events) w.copies x s.past (λ old. absurd (omega (arith, up, old)));
+      past = pushed (λ (z : Wire). z.number ≤ begun w.core.events → z.low_water ≤ begun w.core.events) w.copies x s.past
+          (λ old. absurd (omega (arith, up, old)));
       ok = subst (λ (xs : List Wire). AreOk s.base (logged w.core.events) (open_op w.core.events) (done w.core.events) (given w.core.events)
           w.core.sites w.dcs xs (replies_since w) w.news) (sym more)
           (ok_copy s.base (logged w.core.events) (open_op w.core.events) (done w.core.events) (given w.core.events) w.core.sites w.dcs (wires_since w)
@@ -200,8 +204,12 @@ asks_listed w v t (reply.Request r) o known s goes = by (wire_of c r) refl goes
     flies = if_some r.number r.number (Some (flight r.txn r.op)) (open_op w.core.events r.number) refl
 
     by : (x : Result Wire Down) → x ≡ wire_of c r → sends_or_holds (with_core w c) r x ≡ Goes o v → IsListed v
-    by (Ok x) is goes' = sent_listed (with_core w c) v r (flight r.txn r.op) (Ok x) o known is logs flies (mid (known_behind _ o (with_copy (with_core w c) x) v known goes')) goes'
-    by (Err down) is goes' = sent_listed (with_core w c) v r (flight r.txn r.op) (Err down) o known is logs flies (mid (known_behind _ o (with_core w c) v known goes')) goes'
+    by (Ok x) is goes' =
+        sent_listed (with_core w c) v r (flight r.txn r.op) (Ok x) o known is logs flies
+        (mid (known_behind _ o (with_copy (with_core w c) x) v known goes')) goes'
+    by (Err down) is goes' =
+        sent_listed (with_core w c) v r (flight r.txn r.op) (Err down) o known is logs flies
+        (mid (known_behind _ o (with_core w c) v known goes')) goes'
 asks_listed w v t reply.Undoing o known s goes = behind _ o w v s goes
 asks_listed w v t reply.Over o known s goes = behind _ o w v s goes
 asks_listed w v t (reply.Stuck n) o known s goes = behind _ o w v s goes
@@ -233,8 +241,12 @@ undoes_listed w v t (reply.Request r) o known s goes = by (wire_of c r) refl goe
     flies = if_some r.number r.number (Some (flight r.txn r.op)) (open_op w.core.events r.number) refl
 
     by : (x : Result Wire Down) → x ≡ wire_of c r → sends_or_holds (with_core w c) r x ≡ Goes o v → IsListed v
-    by (Ok x) is goes' = sent_listed (with_core w c) v r (flight r.txn r.op) (Ok x) o known is logs flies (mid (known_behind _ o (with_copy (with_core w c) x) v known goes')) goes'
-    by (Err down) is goes' = sent_listed (with_core w c) v r (flight r.txn r.op) (Err down) o known is logs flies (mid (known_behind _ o (with_core w c) v known goes')) goes'
+    by (Ok x) is goes' =
+        sent_listed (with_core w c) v r (flight r.txn r.op) (Ok x) o known is logs flies
+        (mid (known_behind _ o (with_copy (with_core w c) x) v known goes')) goes'
+    by (Err down) is goes' =
+        sent_listed (with_core w c) v r (flight r.txn r.op) (Err down) o known is logs flies
+        (mid (known_behind _ o (with_core w c) v known goes')) goes'
 undoes_listed w v t reply.Undoing o known s goes = behind _ o w v s goes
 undoes_listed w v t reply.Over o known s goes = behind _ o w v s goes
 undoes_listed w v t (reply.Stuck n) o known s goes = behind _ o w v s goes
@@ -248,7 +260,8 @@ ends_listed w v t (Some s) None o kept goes = absurd (stopped _ o v goes)
 ends_listed w v t (Some s) (Some e) o kept goes = behind _ o (with_core w (with_event w.core (event.End t e))) v
     (record { honest = (tt, kept.honest); base = kept.base; based = kept.based; behind = kept.behind; past = kept.past; ok = kept.ok }) goes
 
-resends_listed : (w v : Whole) (t : ℕ) (s : Option Standing) (o : Outcome) → Known v.core → standing w.core.events t ≡ s → IsListed w → resends_by w t s ≡ Goes o v → IsListed v
+resends_listed : (w v : Whole) (t : ℕ) (s : Option Standing) (o : Outcome) → Known v.core → standing w.core.events t ≡ s
+    → IsListed w → resends_by w t s ≡ Goes o v → IsListed v
 resends_listed w v t None o known is kept goes = absurd (stopped _ o v goes)
 resends_listed w v t (Some s) o known is kept goes = by s.sent refl goes
   where
@@ -313,7 +326,8 @@ gets_listed : (w v : Whole) (x : Option Reply) (o : Outcome) → Known w.core �
 gets_listed w v None o known s said goes = behind _ o w v s goes
 gets_listed w v (Some x) o known s said goes = behind _ o (with_reply w x) v (replied_listed w x known.legal s (said x refl)) goes
 
-gets_old : (w v : Whole) (x : Option Reply) (o : Outcome) → ((y : Reply) → x ≡ Some y → y.number ≤ begun w.core.events) → IsListed w → gets_reply w x ≡ Goes o v → IsListed v
+gets_old : (w v : Whole) (x : Option Reply) (o : Outcome) → ((y : Reply) → x ≡ Some y → y.number ≤ begun w.core.events)
+    → IsListed w → gets_reply w x ≡ Goes o v → IsListed v
 gets_old w v None o old s goes = behind _ o w v s goes
 gets_old w v (Some x) o old s goes = behind _ o (with_reply w x) v (old_reply w x (old x refl) s) goes
 
@@ -382,7 +396,8 @@ performs_old w v x (Some d) o at old low s goes =
     gets_old w v (replied d x) o (λ y is. (let number = (reply_facts d x y is).number in omega (arith, number, old))) s
     (subst (λ (xs : List Store). gets_reply (with_dcs w xs) (replied d x) ≡ Goes o v) stays goes)
 
-performs_copy_listed : (w v : Whole) (i : ℕ) (x : Option Wire) (o : Outcome) → Known v.core → slice_get w.copies i ≡ x → IsListed w → performs_copy w x ≡ Goes o v → IsListed v
+performs_copy_listed : (w v : Whole) (i : ℕ) (x : Option Wire) (o : Outcome) → Known v.core → slice_get w.copies i ≡ x
+    → IsListed w → performs_copy w x ≡ Goes o v → IsListed v
 performs_copy_listed w v i None o known at s goes = absurd (stopped _ o v goes)
 performs_copy_listed w v i (Some x) o known at s goes = elim (cases_lt (begun w.core.events) x.number) [
   | inl up ↦
@@ -405,7 +420,8 @@ up_by (Some r) b e = absurd cc
 
 took : (w : Whole) (f : Flight) (x : Reply) → Known (with_event w.core (event.Answer f.txn x.number x.said)) → open_op w.core.events x.number ≡ Some f
     → is_heard (site_of w.core.sites f.op) x ≡ true → fits f.op x.said ≡ true
-    → (s : IsListed w) → ReplyOk (logged w.core.events) w.core.sites w.dcs s.ok.v x → IsListed (with_core w (with_event w.core (event.Answer f.txn x.number x.said)))
+    → (s : IsListed w) → ReplyOk (logged w.core.events) w.core.sites w.dcs s.ok.v x
+    → IsListed (with_core w (with_event w.core (event.Answer f.txn x.number x.said)))
 took w f x known flies heard fit s y =
     let h = w.core.events in
     let legal = known.legal.1 in
@@ -524,7 +540,8 @@ redone_listed w x d known is s y =
     now_ok = ok_resited s.base (logged h) (open_op h) (done h) (given h) w.core.sites w.dcs (wires_since w) (replies_since w) w.news d is.site t'
         is.there refl (λ up. absurd (none_some _ is.r up is.down)) s.ok
         (λ r down. (y.s, subst (λ (i : ℕ). slice_get w.dcs i ≡ Some y.s) here y.at))
-        (λ z ok. site_redone s.base (logged h) (open_op h) (done h) (given h) d z is.site (s.ok.v d) is.r x.number is.a.op is.a.said is.down next rises there ok)
+        (λ z ok. site_redone s.base (logged h) (open_op h) (done h) (given h) d z is.site (s.ok.v d)
+        is.r x.number is.a.op is.a.said is.down next rises there ok)
 
 redone_above : (w : Whole) (x : Reply) (d : ℕ) → Known w.core → IsRedone w.core d x → begun w.core.events < x.number
 redone_above w x d known is =
@@ -612,7 +629,8 @@ restarts_listed w v d (Some x) o at s goes = by (nat_le (2 ^ 62) x.incarnation) 
           based = based_set s.base w.dcs d x (restarted x) at refl s.based;
           behind = behind_set (begun h) w.dcs d x (restarted x) at (restarted_behind (begun h) x) s.behind;
           past = s.past;
-          ok = ok_news s.base (logged h) (open_op h) (done h) (given h) w.core.sites (slice_set w.dcs d (restarted x)) (wires_since w) (replies_since w) w.news n both.0
+          ok = ok_news s.base (logged h) (open_op h) (done h) (given h) w.core.sites
+              (slice_set w.dcs d (restarted x)) (wires_since w) (replies_since w) w.news n both.0
               (record { s = restarted x; at = set_same w.dcs d x (restarted x) at; over = was.saved_over; made = omega arith; later = λ less. was.saved_to });
         }) goes'
 
@@ -633,7 +651,8 @@ told_by w v x (Some t) o at s y goes = by (nat_lt t.incarnation x.1.incarnation)
     by false less goes' = absurd (stopped _ o v goes')
     by true less goes' = taken (nat_lt x.1.mark (begun w.core.events)) less goes'
       where
-        taken : (b : Bool) → nat_lt t.incarnation x.1.incarnation ≡ true → tells_unless w x.0 x.1 (if b then Some fault.Forgotten else None) ≡ Goes o v → IsListed v
+        taken : (b : Bool) → nat_lt t.incarnation x.1.incarnation ≡ true
+            → tells_unless w x.0 x.1 (if b then Some fault.Forgotten else None) ≡ Goes o v → IsListed v
         taken true less goes' = absurd (stopped _ o v goes')
         taken false less goes' =
             let later : t.incarnation < x.1.incarnation = lt_true t.incarnation x.1.incarnation less in
@@ -653,7 +672,8 @@ tells_listed : (w v : Whole) (i : ℕ) (x : Option (ℕ × News)) (o : Outcome) 
 tells_listed w v i None o at s goes = absurd (stopped _ o v goes)
 tells_listed w v i (Some x) o at s goes =
     told_by w v x (slice_get w.core.sites x.0) o refl s
-    (all_at (NewsOk s.base (logged w.core.events) (open_op w.core.events) (done w.core.events) (given w.core.events) w.core.sites w.dcs) w.news i x at s.ok.news) goes
+    (all_at (NewsOk s.base (logged w.core.events) (open_op w.core.events) (done w.core.events)
+    (given w.core.events) w.core.sites w.dcs) w.news i x at s.ok.news) goes
 
 redoes_listed : (w v : Whole) (d : ℕ) (x : Option Site) (o : Outcome) → Known v.core → slice_get w.core.sites d ≡ x → IsListed w
     → redoes_by w d (redo_at w.core d x) ≡ Goes o v → IsListed v
@@ -673,7 +693,8 @@ redoes_listed w v d (Some x) o known at s goes = by x.redo refl goes
         store : (z : Store) × (slice_get w.dcs d ≡ Some z)
         store = s.ok.there d r down
 
-        site : SiteOk s.base (logged w.core.events) (open_op w.core.events) (done w.core.events) (given w.core.events) d store.0 (site_at w.core.sites d) (s.ok.v d)
+        site : SiteOk s.base (logged w.core.events) (open_op w.core.events) (done w.core.events)
+            (given w.core.events) d store.0 (site_at w.core.sites d) (s.ok.v d)
         site = s.ok.stores d store.0 store.1
 
         sends : (a : Option Answered) → to_redo w.core.events d r.redone ≡ a → redoes_by w d (sends_again x.incarnation r.mark a) ≡ Goes o v → IsListed v
@@ -693,7 +714,8 @@ redoes_listed w v d (Some x) o known at s goes = by x.redo refl goes
               logs = so.0;
               known = subst (λ (i : ℕ). x.incarnation ≤ (site_at w.core.sites i).incarnation) (sym dc)
                   (let e = ap (λ (z : Option Site). (site_by z).incarnation) at in omega (arith, e));
-              ahead = λ z is less. subst (λ (i : ℕ). x.incarnation ≡ (site_at w.core.sites i).incarnation) (sym dc) (sym (ap (λ (z : Option Site). (site_by z).incarnation) at));
+              ahead = λ z is less. subst (λ (i : ℕ). x.incarnation ≡ (site_at w.core.sites i).incarnation)
+                  (sym dc) (sym (ap (λ (z : Option Site). (site_by z).incarnation) at));
               over = redone.told_over;
               now = λ now. inr (record {
                 redo = refl;
@@ -709,9 +731,11 @@ redoes_listed w v d (Some x) o known at s goes = by x.redo refl goes
             })) goes''
         sends None next goes'' =
             let t' : Site = record x { redo = None } in
-            let was : Known w.core = known_up w d (slice_get w.core.sites d) (known_behind _ o (with_core w (after_redo w.core d redo.Finished)) v known goes'') in
+            let was : Known w.core = known_up w d (slice_get w.core.sites d)
+            (known_behind _ o (with_core w (after_redo w.core d redo.Finished)) v known goes'') in
             let facts = log_facts w.core.procs s.base h was.good was.legal s.honest in
-            let ok = ok_resited s.base (logged h) (open_op h) (done h) (given h) w.core.sites w.dcs (wires_since w) (replies_since w) w.news d x t' at refl (λ up. refl) s.ok
+            let ok = ok_resited s.base (logged h) (open_op h) (done h) (given h) w.core.sites w.dcs
+            (wires_since w) (replies_since w) w.news d x t' at refl (λ up. refl) s.ok
             (λ q e. absurd (none_some _ q refl e))
             (λ z k. site_up s.base (logged h) (open_op h) (done h) (given h) d z x (s.ok.v d) r facts is
             (λ n q said logs dc was' did. none_left w.core.procs h was.legal d r.redone next n q said logs dc was' did) k) in
@@ -771,7 +795,10 @@ one_at_a_time w known s =
     }
   where
     cut : (d : ℕ) (x : Store) → slice_get w.dcs d ≡ Some x → Behind s.base (logged w.core.events) (open_op w.core.events) (done w.core.events) d x.list
-    cut d x at = (let k = s.ok.stores d x at in behind_end s.base (logged w.core.events) (open_op w.core.events) (done w.core.events) d (s.ok.v d) x.list k.cut k.behind)
+    cut d x at =
+        let k = s.ok.stores d x at in
+        behind_end s.base (logged w.core.events) (open_op w.core.events) (done w.core.events) d (s.ok.v d) x.list
+        k.cut k.behind
 
 -- and where each is, an audit finds nothing
 pub agrees : (w : Whole) → Known w.core → IsListed w → EachIsKnown w → IsAgreed w.core.procs w.core.events w.dcs

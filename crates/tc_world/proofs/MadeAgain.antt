@@ -1,5 +1,6 @@
 -- The requests of a state that came back, made again, one transaction after another.
-use Rattle.std.proofs.Common.{◌≡◌, ◌≢◌, ℕ, ◌+◌, ◌<◌, ◌≤◌, true, false, List, [], ◌∷◌, ◌++◌, length, length-append, Option, Some, None, arith, refl, sym, ◌∙◌, ap, subst, inl, inr, if◌then◌else◌}
+use Rattle.std.proofs.Common.{◌≡◌, ◌≢◌, ℕ, ◌+◌, ◌<◌, ◌≤◌, true, false, List, [], ◌∷◌, ◌++◌, length, length-append}
+use Rattle.std.proofs.Common.{Option, Some, None, arith, refl, sym, ◌∙◌, ap, subst, inl, inr, if◌then◌else◌}
 use Rattle.std.specs.Prelude.{nat_lt, option_to_list}
 use Rattle.std.proofs.lemmas.Bool.{cases_eq, cases_lt, cond-true, cond-false}
 use Rattle.std.proofs.lemmas.Bool.Decides.{nat_tests}

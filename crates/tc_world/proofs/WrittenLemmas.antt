@@ -1,6 +1,7 @@
 -- The rule of writing ahead: where each wire that a step sends was written for, and what it makes known of a data component was noted, what
 -- was written tells of all that was carried, step after step.
-use Rattle.std.proofs.Common.{◌≡◌, ℕ, ◌+◌, ◌≤◌, Bool, true, false, ◌&&◌, ◌==◌, List, [], ◌∷◌, ◌++◌, append_assoc, Option, Some, None, arith, refl, sym, ◌∙◌, subst, ap, if◌then◌else◌, inl, inr}
+use Rattle.std.proofs.Common.{◌≡◌, ℕ, ◌+◌, ◌≤◌, Bool, true, false, ◌&&◌, ◌==◌, List, [], ◌∷◌, ◌++◌, append_assoc}
+use Rattle.std.proofs.Common.{Option, Some, None, arith, refl, sym, ◌∙◌, subst, ap, if◌then◌else◌, inl, inr}
 use Rattle.std.specs.Prelude.{◌^◌, slice_get, slice_set, nat_le, Result, Ok, Err}
 use Rattle.std.specs.List.{All}
 use Rattle.std.proofs.lemmas.Bool.{cases_eq}
@@ -27,7 +28,8 @@ use Rattle.transactions.specs.Standing.{Standing, standing}
 use Rattle.transactions.specs.Legal.{Legal}
 use Rattle.transactions.proofs.LowWater.{given_more, mark_rises}
 use Rattle.data_component.specs.Performed.{Performed}
-use Rattle.data_component.specs.Store.{Store, Fate as Becomes, IsOld, Again, Silent, New, marked, fate_of, store_by, replied, performed, checkpointed, restarted, news_of}
+use Rattle.data_component.specs.Store.{Store, Fate as Becomes, IsOld, Again, Silent, New, marked, fate_of}
+use Rattle.data_component.specs.Store.{store_by, replied, performed, checkpointed, restarted, news_of}
 use Rattle.serial.proofs.ListLemmas.{if_none, if_some}
 use Rattle.serial.proofs.StoreLemmas.{PerformCase, old, silent, again, news, perform_case, says}
 use Rattle.serial.proofs.WireLemmas.{reply_facts}

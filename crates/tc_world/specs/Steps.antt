@@ -1,5 +1,6 @@
 -- The steps of a world: what each does, or why it isn't possible.
-use Rattle.std.specs.Prelude.{◌≡◌, ◌≢◌, ℕ, ◌+◌, ◌^◌, nat_le, take, Bool, true, false, ◌&&◌, List, [], ◌∷◌, ◌++◌, length, Option, Some, None, Result, Ok, Err, slice_get, slice_set}
+use Rattle.std.specs.Prelude.{◌≡◌, ◌≢◌, ℕ, ◌+◌, ◌^◌, nat_le, take, Bool, true, false, ◌&&◌, List, [], ◌∷◌}
+use Rattle.std.specs.Prelude.{◌++◌, length, Option, Some, None, Result, Ok, Err, slice_get, slice_set}
 use Rattle.access_slots.specs.Access.{fits}
 use Rattle.access_slots.specs.Locks.{target}
 use Rattle.access_slots.specs.declared.op.Op.{Op}

@@ -13,7 +13,8 @@ use Rattle.tc_world.specs.Joining.Written.{given_of}
 use Rattle.audit.proofs.GivenLemmas.{begun_few}
 use Rattle.tc_world.proofs.CrashLemmas.{looks, copies_so, replies_so, stores_so, news_so, sites_so, both_so, not_so, lacking, may_crash}
 use Rattle.tc_world.proofs.written.are_written.Goals as goal
-use Rattle.tc_world.proofs.written.are_written.Goals.{then-are_wires_told, else-are_wires_told, then-are_replies_told, else-are_replies_told, then-are_stores_told, else-are_stores_told}
+use Rattle.tc_world.proofs.written.are_written.Goals.{then-are_wires_told, else-are_wires_told, then-are_replies_told}
+use Rattle.tc_world.proofs.written.are_written.Goals.{else-are_replies_told, then-are_stores_told, else-are_stores_told}
 
 pub given_in-given-requires : goal.given_in-given-requires
 given_in-given-requires c = (let few = begun_few _ _ c.known.ensures.legal in let is = c.begun.ensures in omega (arith, few, is))
