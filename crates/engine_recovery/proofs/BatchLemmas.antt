@@ -1,5 +1,6 @@
 -- A batch of all that is new, behind a file that tells of all.
-use Rattle.std.proofs.Common.{◌≡◌, ℕ, suc, true, false, List, [], ◌∷◌, ◌++◌, length, reverse, length-append, append-nil, append_assoc, refl, sym, ◌∙◌, ap, ap₂, subst, arith, Option, Some, None}
+use Rattle.std.proofs.Common.{◌≡◌, ℕ, suc, true, false, List, [], ◌∷◌, ◌++◌, length, reverse, length-append}
+use Rattle.std.proofs.Common.{append-nil, append_assoc, refl, sym, ◌∙◌, ap, ap₂, subst, arith, Option, Some, None}
 use Rattle.std.specs.Prelude.{◌^◌, ◌<◌, replicate, slice_set}
 use Rattle.std.specs.List.{fold}
 use Rattle.std.proofs.Math.Seq.{set-append_seam}

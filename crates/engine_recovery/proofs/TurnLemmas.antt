@@ -28,7 +28,9 @@ use Rattle.tc_world.proofs.WrittenLemmas.{rest_of, again_written}
 use Rattle.tc_world.proofs.LivingLemmas.{crash_lived}
 use Rattle.tc_world.proofs.AheadLemmas.{ahead_lived, ahead_told, living_whole, whole_turn as world_turn}
 use Rattle.engine_recovery.specs.Telling.{Contents, payloads_in, FileTells}
-use Rattle.engine_recovery.specs.Engine.{Engine, MayBeKilled, Writing, written_on, TakesInMemory, GoesAhead, IsBeingWritten, IsCutShort, ComesBack, Turn, Goes, Killed, KilledWriting, Turns}
+use Rattle.engine_recovery.specs.Engine.{Engine, MayBeKilled, Writing, written_on}
+use Rattle.engine_recovery.specs.Engine.{TakesInMemory, GoesAhead, IsBeingWritten, IsCutShort}
+use Rattle.engine_recovery.specs.Engine.{ComesBack, Turn, Goes, Killed, KilledWriting, Turns}
 use Rattle.engine_recovery.proofs.MemoryLemmas.{InMemory, one_in_memory, in_memory, told_in_memory}
 use Rattle.engine_recovery.proofs.ReadingLemmas.{read_tells, at_rest, while_writing}
 
