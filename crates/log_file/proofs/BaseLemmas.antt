@@ -1,5 +1,7 @@
 -- What a log begins with, in parts.
-use Rattle.std.proofs.Common.{arith, ◌≡◌, ⊎_elim, ℕ, zero, suc, ◌+◌, ◌-◌, ◌*◌, ◌/◌, ◌%◌, ◌<◌, ◌≤◌, ◌^◌, min, Bool, true, List, [], ◌∷◌, ◌++◌, length, get_or, take, drop, map, Option, Some, None, refl, slice_get, sym, ◌∙◌, ap, ap₂, subst, append_assoc, length-append, take-append-drop}
+use Rattle.std.proofs.Common.{arith, ◌≡◌, ⊎_elim, ℕ, zero, suc, ◌+◌, ◌-◌, ◌*◌, ◌/◌, ◌%◌, ◌<◌, ◌≤◌, ◌^◌, min, Bool}
+use Rattle.std.proofs.Common.{true, List, [], ◌∷◌, ◌++◌, length, get_or, take, drop, map, Option, Some, None, refl}
+use Rattle.std.proofs.Common.{slice_get, sym, ◌∙◌, ap, ap₂, subst, append_assoc, length-append, take-append-drop}
 use Rattle.std.specs.Int.{w64, to_le_bytes, from_le_bytes}
 use Rattle.std.proofs.lemmas.List.{take_at, take_more, drop_at, take_all, take-append-le, drop-append-le, length-drop, length-take, length-map, map-append}
 use Rattle.std.proofs.lemmas.Bool.{cases_lt}

@@ -1,5 +1,6 @@
 -- Why a file isn't read, from why its frames or its payloads aren't.
-use Rattle.std.proofs.Common.{arith, ◌≡◌, inl, inr, ℕ, ◌+◌, ◌-◌, ◌<◌, ◌≤◌, ◌^◌, false, List, [], ◌∷◌, ◌++◌, length, map, slice_get, Option, Some, None, Vec, refl, sym, ◌∙◌, ap, ap₂, subst, length-append}
+use Rattle.std.proofs.Common.{arith, ◌≡◌, inl, inr, ℕ, ◌+◌, ◌-◌, ◌<◌, ◌≤◌, ◌^◌, false, List, [], ◌∷◌, ◌++◌, length}
+use Rattle.std.proofs.Common.{map, slice_get, Option, Some, None, Vec, refl, sym, ◌∙◌, ap, ap₂, subst, length-append}
 use Rattle.std.proofs.lemmas.List.{length-map}
 use Rattle.std.specs.declared.alloc.Global.{Global}
 use Rattle.tc_core.specs.declared.recovery.SiteNote.{SiteNote}
