@@ -15,4 +15,5 @@ returns c =
     let grown : OnOk c.extend_from_slice.result (c.extend_from_slice.new.self.items ≡ c.write_long.new.out.items ++ c.deref.result.now) = search rules in
     let first : c.write_decl.new.out.items ≡ c.args.out.now.items ++ decl_bytes c.args.procedure.now.decl = search rules in
     on_ok_weaker c.extend_from_slice.result
-    (procedure_written p code _ c.args.out.now.items c.write_decl.new.out.items c.write_long.new.out.items c.extend_from_slice.new.self.items fit spells (search rules) first c.in_ok-write_long.ensures) grown
+    (procedure_written p code _ c.args.out.now.items c.write_decl.new.out.items c.write_long.new.out.items
+    c.extend_from_slice.new.self.items fit spells (search rules) first c.in_ok-write_long.ensures) grown
