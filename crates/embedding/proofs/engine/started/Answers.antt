@@ -21,4 +21,10 @@ returns-in-Ok-clause-ok c = begun_as c.args.frame.now (Tc c.in-Ok.part) 1 c.in-1
     })
 
 pub returns-in-3-clause-ok : goal.returns-in-3-clause-ok
-returns-in-3-clause-ok c = begun_as c.args.frame.now (Code c.new-in-3.result) 3 c.in-3.is (record { part = c.new-in-3.result; is = refl; program = c.new-in-3.ensures.program; gathered = c.new-in-3.ensures.gathered })
+returns-in-3-clause-ok c = begun_as c.args.frame.now (Code c.new-in-3.result) 3 c.in-3.is
+    (record {
+      part = c.new-in-3.result;
+      is = refl;
+      program = c.new-in-3.ensures.program;
+      gathered = c.new-in-3.ensures.gathered;
+    })

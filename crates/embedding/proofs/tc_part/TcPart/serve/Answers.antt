@@ -86,7 +86,9 @@ returns-in-32 c = served_as _ _ _ _ _ _ c.in-32.is refl (c.told.ensures.refused)
     (λ _. c.told.ensures.gathered) (λ _. c.told.ensures.gathered) (λ _. c.told.ensures.kept) (λ _ _. c.told.ensures.kept)
 
 pub returns-in-33 : goal.returns-in-33
-returns-in-33 c = served_as _ _ _ _ _ _ c.in-33.is refl (c.redo_next.ensures.refused) (c.redo_next.ensures.why) (λ z. subst (λ (n : ℕ). Redoes c.args.self.now c.args.frame.now n c.redo_next.new.self c.redo_next.new.frame) z (c.redo_next.ensures.done z)) (λ _. tt)
+returns-in-33 c = served_as _ _ _ _ _ _ c.in-33.is refl (c.redo_next.ensures.refused) (c.redo_next.ensures.why)
+    (λ z. subst (λ (n : ℕ). Redoes c.args.self.now c.args.frame.now n c.redo_next.new.self c.redo_next.new.frame) z
+    (c.redo_next.ensures.done z)) (λ _. tt)
     (λ _. c.redo_next.ensures.gathered) (λ _. c.redo_next.ensures.gathered) (λ _. c.redo_next.ensures.kept) (λ _ _. c.redo_next.ensures.kept)
 
 pub returns-in-34 : goal.returns-in-34
