@@ -1,5 +1,7 @@
 -- How many calls were answered how, as lines.
-use Rattle.std.specs.Prelude.{ℕ, zero, suc, ◌+◌, ◌-◌, ◌*◌, ◌/◌, ◌==◌, max, get_or, Bool, true, false, if◌then◌else◌, List, [], ◌∷◌, ◌++◌, length, count_by, filter, map, zip, slice_get, unwrap_or, codes, decimal}
+use Rattle.std.specs.Prelude.{ℕ, zero, suc, ◌+◌, ◌-◌, ◌*◌, ◌/◌, ◌==◌, max, get_or, Bool, true}
+use Rattle.std.specs.Prelude.{false, if◌then◌else◌, List, [], ◌∷◌, ◌++◌, length, count_by}
+use Rattle.std.specs.Prelude.{filter, map, zip, slice_get, unwrap_or, codes, decimal}
 use Rattle.data_component.specs.Store.{Store}
 use Rattle.scripts.specs.declared.script.Call.{Call}
 use Rattle.tc_core.specs.Loaded.{Loaded}
