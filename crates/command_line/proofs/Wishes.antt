@@ -35,7 +35,8 @@ use Rattle.command_line.specs.Said.{
   procd_app,
   shows,
 }
-use Rattle.command_line.specs.Said.{IsFlag, SaysCount, SaysLog, SaysNumber, SaysNumberIf, SaysNumbers, SaysPart, SaysPartOf, SaysRun, SaysPartitioned, SaysMore, SaysNoMore, SaysWish, value_of}
+use Rattle.command_line.specs.Said.{IsFlag, SaysCount, SaysLog, SaysNumber, SaysNumberIf, SaysNumbers, SaysPart}
+use Rattle.command_line.specs.Said.{SaysPartOf, SaysRun, SaysPartitioned, SaysMore, SaysNoMore, SaysWish, value_of}
 use Rattle.command_line.specs.Said.{Stats, Results, Tell, Metrics, Trace, Checkpoint, Over}
 use Rattle.command_line.specs.Task.{LogWish, Events, EventsAndRows, Follow, Audit, Picture}
 use Rattle.command_line.specs.Joining.LogWanted.{shown_wanted, audit_wanted}
@@ -120,7 +121,9 @@ wants_exec name rows raw numbers is flag all Asm named says = absurd (exec_not_a
 wants_exec name rows raw numbers is flag all (Dis r) named says = absurd (exec_not_dis (sym is ∙ named))
 wants_exec name rows raw numbers is flag all Verify named says = absurd (exec_not_verify (sym is ∙ named))
 wants_exec name rows raw numbers is flag all (World log audit script) named says = absurd (exec_not_world (sym is ∙ named))
-wants_exec name rows raw numbers is flag all (Run workers tries stats audit results tell metrics trace log checkpoint over script) named says = absurd (exec_not_run (sym is ∙ named))
+wants_exec name rows raw numbers is flag all
+    (Run workers tries stats audit results tell metrics trace log checkpoint over script) named says =
+    absurd (exec_not_run (sym is ∙ named))
 wants_exec name rows raw numbers is flag all (Partitioned workers tries a l s) named says = absurd (exec_not_run (sym is ∙ named))
 wants_exec name rows raw numbers is flag all (Log script) named says = absurd (exec_not_log (sym is ∙ named))
 
@@ -131,7 +134,9 @@ wants_dis name rows raw is flag Asm named says = absurd (asm_not_dis (sym named 
 wants_dis name rows raw is flag (Dis r) named says = ap Dis (flag r says)
 wants_dis name rows raw is flag Verify named says = absurd (dis_not_verify (sym is ∙ named))
 wants_dis name rows raw is flag (World log audit script) named says = absurd (dis_not_world (sym is ∙ named))
-wants_dis name rows raw is flag (Run workers tries stats audit results tell metrics trace log checkpoint over script) named says = absurd (dis_not_run (sym is ∙ named))
+wants_dis name rows raw is flag
+    (Run workers tries stats audit results tell metrics trace log checkpoint over script) named says =
+    absurd (dis_not_run (sym is ∙ named))
 wants_dis name rows raw is flag (Partitioned workers tries a l s) named says = absurd (dis_not_run (sym is ∙ named))
 wants_dis name rows raw is flag (Log script) named says = absurd (dis_not_log (sym is ∙ named))
 
@@ -146,12 +151,15 @@ wants_world name rows log audit script is flag other path (Dis r) named says = a
 wants_world name rows log audit script is flag other path Verify named says = absurd (verify_not_world (sym named ∙ is))
 wants_world name rows log audit script is flag other path (World l a s) named says =
     ap₂ (λ (x y : Bool). World x y script) (flag l says.0) (other a says.1) ∙ ap (λ (o : Option (List ℕ)). World l a o) (path ∙ says.2)
-wants_world name rows log audit script is flag other path (Run workers tries stats a results tell metrics trace kept checkpoint over beside) named says = absurd (world_not_run (sym is ∙ named))
+wants_world name rows log audit script is flag other path
+    (Run workers tries stats a results tell metrics trace kept checkpoint over beside) named says =
+    absurd (world_not_run (sym is ∙ named))
 wants_world name rows log audit script is flag other path (Partitioned workers tries a l s) named says = absurd (world_not_run (sym is ∙ named))
 wants_world name rows log audit script is flag other path (Log beside) named says = absurd (world_not_log (sym is ∙ named))
 
 pub wants_run : (name : List ℕ) (rows : List Row) (result : Result Task WordFault) → name ≡ codes "run"
-    → ((workers tries : ℕ) (stats audit results tell : Bool) (metrics trace log : Option (List ℕ)) (checkpoint : Bool) (over : Option ℕ) (script : Option (List ℕ))
+    → ((workers tries : ℕ) (stats audit results tell : Bool)
+    (metrics trace log : Option (List ℕ)) (checkpoint : Bool) (over : Option ℕ) (script : Option (List ℕ))
     → SaysRun rows workers tries stats audit results tell metrics trace log checkpoint over script
     → IsTaskOrNoMemory (Run workers tries stats audit results tell metrics trace log checkpoint over script) result)
     → ((workers tries : ℕ) (audit : Bool) (log script : Option (List ℕ)) → SaysPartitioned rows workers tries audit log script
@@ -175,7 +183,9 @@ wants_log name rows result is all Asm named says = absurd (asm_not_log (sym name
 wants_log name rows result is all (Dis r) named says = absurd (dis_not_log (sym named ∙ is))
 wants_log name rows result is all Verify named says = absurd (verify_not_log (sym named ∙ is))
 wants_log name rows result is all (World log audit script) named says = absurd (world_not_log (sym named ∙ is))
-wants_log name rows result is all (Run workers tries stats audit results tell metrics trace log checkpoint over script) named says = absurd (log_not_run (sym is ∙ named))
+wants_log name rows result is all
+    (Run workers tries stats audit results tell metrics trace log checkpoint over script) named says =
+    absurd (log_not_run (sym is ∙ named))
 wants_log name rows result is all (Partitioned workers tries a l s) named says = absurd (log_not_run (sym is ∙ named))
 wants_log name rows result is all (Log wanted) named says = all wanted says
 
@@ -265,7 +275,15 @@ module _ (rows : List Row) (base audit follow : Bool) (source picture : Option T
   log_said (Follow p) says =
       rw (is ∙ says.3, audits false says.1, asks false says.0, follows true says.2, drawn ∙ says.4, part_same _ _ part p parted says.5) refl
   log_said (Audit path script) says =
-      rw (is ∙ says.0.3, audits true says.0.1, asks false says.0.0, follows false says.0.2, drawn ∙ says.0.4, part_same _ _ part Whole parted says.0.5, says.1) refl
+      rw (
+        is ∙ says.0.3,
+        audits true says.0.1,
+        asks false says.0.0,
+        follows false says.0.2,
+        drawn ∙ says.0.4,
+        part_same _ _ part Whole parted says.0.5,
+        says.1,
+      ) refl
   log_said (Picture path p) says =
       rw (is ∙ says.3, audits false says.1, asks false says.0, follows false says.2, drawn ∙ says.4, part_same _ _ part p parted says.5) refl
 

@@ -162,7 +162,8 @@ abbrev pub wants_checkpoint : Bool → Option ℕ → Bool
 wants_checkpoint checkpoint over = checkpoint || is_some over
 
 -- 4 workers and 3 tries, where nothing is said of them; a checkpoint is that of a log, and nothing is partitioned
-abbrev pub SaysRun : List Row → (workers tries : ℕ) → (stats audit results tell : Bool) → (metrics trace log : Option Text) → Bool → Option ℕ → Option Text → Type 0
+abbrev pub SaysRun : List Row → (workers tries : ℕ) → (stats audit results tell : Bool)
+    → (metrics trace log : Option Text) → Bool → Option ℕ → Option Text → Type 0
 SaysRun rows workers tries stats audit results tell metrics trace log checkpoint over script =
     SaysCount (first_of (codes "workers") rows) 4 workers × SaysCount (first_of (codes "tries") rows) 3 tries
     × IsFlag stats (one_of (codes "stats") rows) × IsFlag audit (one_of (codes "audit") rows)
@@ -230,7 +231,8 @@ SaysWish rows (Dis raw) = IsFlag raw (one_of (codes "raw") rows)
 SaysWish rows Verify = Unit {0}
 SaysWish rows (World log audit script) =
     IsFlag log (one_of (codes "log") rows) × IsFlag audit (one_of (codes "audit") rows) × (first_of (codes "script") rows ≡ script)
-SaysWish rows (Run workers tries stats audit results tell metrics trace log checkpoint over script) = SaysRun rows workers tries stats audit results tell metrics trace log checkpoint over script
+SaysWish rows (Run workers tries stats audit results tell metrics trace log checkpoint over script) =
+    SaysRun rows workers tries stats audit results tell metrics trace log checkpoint over script
 SaysWish rows (Partitioned workers tries audit log script) = SaysPartitioned rows workers tries audit log script
 SaysWish rows (Log wanted) = SaysLog rows wanted
 

@@ -5,7 +5,9 @@ ghost use Rattle.clap.specs.Words.{App, app_of, with_subcommand, rule_of};
 ghost use Rattle.clap.specs.declared.builder.command.Command.TheViews.{out-Command};
 ghost use Rattle.command_line.specs.Task.{Run};
 ghost use Rattle.command_line.specs.Said.{procd_app, exec_app, asm_app, dis_app, verify_app, world_app, told_app, kept_app, run_app, log_app};
-ghost use Rattle.command_line.specs.Said.{file_rule, raw_rule, log_rule, audit_rule, rows_rule, follow_rule, source_rule, script_rule, option_rule, stats_rule, results_rule, tell_rule, checkpoint_rule, partitions_rule};
+ghost use Rattle.command_line.specs.Said.{file_rule, raw_rule, log_rule, audit_rule, rows_rule};
+ghost use Rattle.command_line.specs.Said.{follow_rule, source_rule, script_rule, option_rule, stats_rule};
+ghost use Rattle.command_line.specs.Said.{results_rule, tell_rule, checkpoint_rule, partitions_rule};
 
 use clap::{Arg, ArgAction, Command};
 use std::alloc::{AllocError, Global};
@@ -202,7 +204,8 @@ fn partitions_arg<'a>(alloc: Global) -> Arg<'a>
         .long("partitions")
         .action(ArgAction::SetTrue)
         .help(
-            "Run calls apart whose data components no procedure joins, each part by some of the workers and with a log of its own: with --log in LOG.N, N its first component",
+            "Run calls apart whose data components no procedure joins, each part by some of the workers and with a log of \
+             its own: with --log in LOG.N, N its first component",
         )
 }
 

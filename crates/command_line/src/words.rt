@@ -1,13 +1,16 @@
 //! The command line.
 
-ghost use Rattle.std.specs.Prelude.{◌≡◌, ℕ, Bool, List, Option, [], true, false, Some, map, unwrap_or, IfOk, IfErr, IfSome, is_none, is_some, ◌&&◌, ◌||◌, option_map, codes};
+ghost use Rattle.std.specs.Prelude.{◌≡◌, ℕ, Bool, List, Option, [], true, false, Some, map, unwrap_or};
+ghost use Rattle.std.specs.Prelude.{IfOk, IfErr, IfSome, is_none, is_some, ◌&&◌, ◌||◌, option_map, codes};
 ghost use Rattle.clap.specs.Words.{kind_of, subcommand_of};
 ghost use Rattle.clap.specs.Words.{subcommand_rows_of, takes, rows_of, found_of, first_of, one_of, all_of, fault_of, FailsBy};
 ghost use Rattle.command_line.specs.Wanted.{WantsOrNoMemory, IsTaskOrNoMemory, IsNumbersOrNoMemory, IsWordFault, IsWrongOrNoMemory};
 ghost use Rattle.command_line.specs.Task.{Wish, LogWish, Run, Partitioned, Log, command_name, log_wish};
 ghost use Rattle.command_line.specs.Joining.LogWanted.{shown_wanted, audit_wanted};
 ghost use Rattle.command_line.specs.Said.{procd_app};
-ghost use Rattle.command_line.specs.Said.{Says, SaysWish, SaysRun, SaysPartitioned, SaysMore, SaysNoMore, SaysLog, SaysPart, SaysCount, SaysNumberIf, SaysNumbers, AllNumbers, IsFlag, value_of, wants_checkpoint};
+ghost use Rattle.command_line.specs.Said.{Says, SaysWish, SaysRun, SaysPartitioned, SaysMore};
+ghost use Rattle.command_line.specs.Said.{SaysNoMore, SaysLog, SaysPart, SaysCount, SaysNumberIf};
+ghost use Rattle.command_line.specs.Said.{SaysNumbers, AllNumbers, IsFlag, value_of, wants_checkpoint};
 ghost use Rattle.command_line.specs.Said.{IsWrong, IsNoCount, IsNoPart, IsUnfit};
 
 use crate::commands::procd_command;

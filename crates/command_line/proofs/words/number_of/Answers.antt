@@ -25,5 +25,6 @@ pub returns-in-None-clause-ok : goal.returns-in-None-clause-ok
 returns-in-None-clause-ok c =
     let found = found_of c.args.matches.now in
     let name = c.args.name.now in
-    let at : None ≡ first_of name (rows_of found) = ap (option_map (λ (s : Bor (List ℕ)). s.now)) (sym c.in-None.is) ∙ c.get_str.ensures ∙ first_value-rows found name in
+    let at : None ≡ first_of name (rows_of found) = ap (option_map (λ (s : Bor (List ℕ)). s.now)) (sym c.in-None.is)
+    ∙ c.get_str.ensures ∙ first_value-rows found name in
     number_silent (first_of name (rows_of found)) at

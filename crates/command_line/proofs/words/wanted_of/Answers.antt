@@ -12,7 +12,8 @@ returns-in_default-get_str-clause-wanted g c = λ file wish says.
     let found = found_of c.in-Some.inner.now in
     let entered = c.in-Ok.ensures.ok ∙ says.entered in
     let rows_is : rows_of found ≡ says.rows = some_some _ _
-    (ap (option_map (λ p. rows_of (found_of p.1.now))) (sym c.in-Some.is) ∙ c.subcommand.ensures.rows ∙ ap (option_map (λ (p : Text × List Row). p.1)) entered) in
+    (ap (option_map (λ p. rows_of (found_of p.1.now))) (sym c.in-Some.is) ∙ c.subcommand.ensures.rows
+    ∙ ap (option_map (λ (p : Text × List Row). p.1)) entered) in
     none_some file (ap (option_map (λ s. s.now)) (sym c.in_default-get_str.is) ∙ c.get_str.ensures ∙ first_value-rows
     found (codes "file") ∙ ap (first_of (codes "file")) rows_is ∙ says.file_is)
 
@@ -22,9 +23,11 @@ returns-clause-wanted g c = λ file wish says.
     let m = c.in-Ok.matches in
     let entered = c.in-Ok.ensures.ok ∙ says.entered in
     let rows_is : rows_of found ≡ says.rows = some_some _ _
-    (ap (option_map (λ p. rows_of (found_of p.1.now))) (sym c.in-Some.is) ∙ c.subcommand.ensures.rows ∙ ap (option_map (λ (p : Text × List Row). p.1)) entered) in
+    (ap (option_map (λ p. rows_of (found_of p.1.now))) (sym c.in-Some.is) ∙ c.subcommand.ensures.rows
+    ∙ ap (option_map (λ (p : Text × List Row). p.1)) entered) in
     let name_is : c.in-Some.name.now ≡ command_name wish = some_some _ _
-    (ap (option_map (λ p. p.0.now)) (sym c.in-Some.is) ∙ c.subcommand.ensures.name ∙ name_of_rows m ∙ ap (option_map (λ (p : Text × List Row). p.0)) entered) in (
+    (ap (option_map (λ p. p.0.now)) (sym c.in-Some.is) ∙ c.subcommand.ensures.name ∙ name_of_rows m
+    ∙ ap (option_map (λ (p : Text × List Row). p.0)) entered) in (
       some_some _ _ (ap (option_map (λ s. s.now)) (sym c.in-Some-get_str.is) ∙ c.get_str.ensures ∙ first_value-rows
           found (codes "file") ∙ ap (first_of (codes "file")) rows_is ∙ says.file_is),
       c.in_ok-task.ensures.task wish name_is (subst (λ (rs : List Row). SaysWish rs wish) (sym rows_is) says.wish_is),
@@ -44,8 +47,10 @@ returns-clause-wrong g c = λ wrong.
       | Unfit accepted name rows entered unfit ↦
           let entered = c.in-Ok.ensures.ok ∙ entered in
           let rows_is : rows_of found ≡ rows = some_some _ _
-          (ap (option_map (λ p. rows_of (found_of p.1.now))) (sym c.in-Some.is) ∙ c.subcommand.ensures.rows ∙ ap (option_map (λ (p : Text × List Row). p.1)) entered) in
+          (ap (option_map (λ p. rows_of (found_of p.1.now))) (sym c.in-Some.is) ∙ c.subcommand.ensures.rows
+          ∙ ap (option_map (λ (p : Text × List Row). p.1)) entered) in
           let name_is : c.in-Some.name.now ≡ name = some_some _ _
-          (ap (option_map (λ p. p.0.now)) (sym c.in-Some.is) ∙ c.subcommand.ensures.name ∙ name_of_rows m ∙ ap (option_map (λ (p : Text × List Row). p.0)) entered) in
+          (ap (option_map (λ p. p.0.now)) (sym c.in-Some.is) ∙ c.subcommand.ensures.name ∙ name_of_rows m
+          ∙ ap (option_map (λ (p : Text × List Row). p.0)) entered) in
           c.in_ok-task.ensures.wrong (subst (λ (n : Text). IsUnfit n (rows_of found)) (sym name_is) (subst (IsUnfit name) (sym rows_is) unfit))
     ]
