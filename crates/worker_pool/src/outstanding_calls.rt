@@ -300,7 +300,7 @@ fn note(waiting: &mut Vec<WaitingCall>, at: usize, call: usize, waits: bool) -> 
 
 // What becomes of a call's place behind a step of the call.
 #[derive(Clone, Copy)]
-enum Settled {
+enum Standing {
     // Its wire is to be carried.
     Ready,
     // Nothing came back that answers its wire.
@@ -311,13 +311,13 @@ enum Settled {
     Waits,
 }
 
-// Settles what a step of an outstanding call leads to.
+// Where an outstanding call stands behind a step.
 #[inline(always)]
-fn settle<J: RunSpec>(
+fn stand<J: RunSpec>(
     outstanding: &mut OutstandingCall<J>,
     over: &mut Vec<ReadyAnswer<J>>,
     course: Course<J>,
-) -> Settled
+) -> Standing
     requires room { vec_len over.old < vec_capacity over.old }
     ensures one { vec_len over.new ≤ vec_len over.old + 1 }
     ensures over { vec_capacity over.new ≡ vec_capacity over.old }
@@ -325,25 +325,25 @@ fn settle<J: RunSpec>(
     match course {
         Course::Carry => {
             outstanding.ready();
-            Settled::Ready
+            Standing::Ready
         }
         Course::Unanswered => {
             outstanding.unanswered();
-            Settled::Back
+            Standing::Back
         }
         Course::Answered(mut ready) => {
             ready.is_begun = outstanding.is_begun;
             outstanding.is_free = true;
             over.push_reserved(ready);
-            Settled::Free
+            Standing::Free
         }
         Course::Over => {
             outstanding.is_free = true;
-            Settled::Free
+            Standing::Free
         }
         Course::Waits => {
             outstanding.is_free = true;
-            Settled::Waits
+            Standing::Waits
         }
     }
 }
@@ -352,7 +352,7 @@ fn settle<J: RunSpec>(
 #[inline(always)]
 fn put(
     place: usize,
-    settled: Settled,
+    standing: Standing,
     ready: &mut Vec<usize>,
     back: &mut Vec<usize>,
     free: &mut Vec<usize>,
@@ -366,10 +366,10 @@ fn put(
     ensures back { vec_capacity back.new ≡ vec_capacity back.old }
     ensures free { vec_capacity free.new ≡ vec_capacity free.old }
 {
-    match settled {
-        Settled::Ready => ready.push_reserved(place),
-        Settled::Back => back.push_reserved(place),
-        Settled::Free | Settled::Waits => free.push_reserved(place),
+    match standing {
+        Standing::Ready => ready.push_reserved(place),
+        Standing::Back => back.push_reserved(place),
+        Standing::Free | Standing::Waits => free.push_reserved(place),
     }
 }
 
@@ -521,10 +521,10 @@ impl<J: RunSpec> OutstandingCalls<J> {
                 return;
             };
             let course = step(pool_state, calls, outstanding, performer);
-            let settled = settle(outstanding, &mut self.over, course);
+            let standing = stand(outstanding, &mut self.over, course);
             put(
                 place,
-                settled,
+                standing,
                 &mut self.ready,
                 &mut self.back,
                 &mut self.free,
@@ -559,15 +559,20 @@ impl<J: RunSpec> OutstandingCalls<J> {
                 return;
             };
             let course = begin(pool_state, calls, k, outstanding, performer);
-            let settled = settle(outstanding, &mut self.over, course);
+            let standing = stand(outstanding, &mut self.over, course);
             put(
                 place,
-                settled,
+                standing,
                 &mut self.ready,
                 &mut self.back,
                 &mut self.free,
             );
-            at = note(&mut self.waiting, at, k, matches!(settled, Settled::Waits));
+            at = note(
+                &mut self.waiting,
+                at,
+                k,
+                matches!(standing, Standing::Waits),
+            );
         }
         self.is_cut = has_room(self.away.len(), self.free.len(), self.most.away);
     }

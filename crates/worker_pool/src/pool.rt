@@ -122,7 +122,7 @@ fn carry_alone<R: Wait, L: Link, G: Gate>(
 }
 
 // Runs a call to its answer, where no other worker is left.
-fn finish<J: RunSpec, K: Journal, R: Wait, L: Link, G: Gate>(
+fn run_alone<J: RunSpec, K: Journal, R: Wait, L: Link, G: Gate>(
     rt: &R,
     pool_state: &mut PoolState<J>,
     k: usize,
@@ -176,7 +176,7 @@ fn finish<J: RunSpec, K: Journal, R: Wait, L: Link, G: Gate>(
 }
 
 // Runs every call that has no answer to its answer: first those that were begun.
-fn finish_all<J: RunSpec, K: Journal, R: Wait, L: Link, G: Gate>(
+fn run_all_alone<J: RunSpec, K: Journal, R: Wait, L: Link, G: Gate>(
     rt: &R,
     pool_state: &mut PoolState<J>,
     calls: &[Call],
@@ -189,19 +189,19 @@ fn finish_all<J: RunSpec, K: Journal, R: Wait, L: Link, G: Gate>(
 {
     for (k, call) in calls.iter().enumerate() {
         if pool_state.is_begun(k) {
-            finish(rt, pool_state, k, call, worker, group_commit)?;
+            run_alone(rt, pool_state, k, call, worker, group_commit)?;
         }
     }
     for (k, call) in calls.iter().enumerate() {
         if !pool_state.is_answered(k) {
-            finish(rt, pool_state, k, call, worker, group_commit)?;
+            run_alone(rt, pool_state, k, call, worker, group_commit)?;
         }
     }
     Ok(())
 }
 
 // The same, in a run that didn't stop before, and then keeps what is left of the log.
-fn finish_and_keep<J: RunSpec, K: Journal, R: Wait, L: Link, G: Gate>(
+fn run_and_keep<J: RunSpec, K: Journal, R: Wait, L: Link, G: Gate>(
     rt: &R,
     pool_state: &mut PoolState<J>,
     calls: &[Call],
@@ -214,7 +214,7 @@ fn finish_and_keep<J: RunSpec, K: Journal, R: Wait, L: Link, G: Gate>(
     ensures stopped { IfErr result (λ stopped. group_commit.new.fault ≡ Some stopped.why) }
 {
     group_commit.check()?;
-    finish_all(rt, pool_state, calls, worker, group_commit)?;
+    run_all_alone(rt, pool_state, calls, worker, group_commit)?;
     group_commit.keep_rest(rt, pool_state)
 }
 
@@ -247,7 +247,7 @@ fn conclude<J: RunSpec, K: Journal, R: Wait, G: Gate>(
 // has another transaction in its way, waits for a change, once the gate is told. Whether anything is on its way then, or
 // ready.
 #[inline(always)]
-fn settle<J: RunSpec, K: Journal, R: Wait, P: RunPerformer<J>, G: Gate>(
+fn schedule<J: RunSpec, K: Journal, R: Wait, P: RunPerformer<J>, G: Gate>(
     rt: &R,
     pool: &Pool<J, K>,
     calls: &[Call],
@@ -284,7 +284,7 @@ fn settle<J: RunSpec, K: Journal, R: Wait, P: RunPerformer<J>, G: Gate>(
 
 // Runs calls, each to its answer, until none is left or the run stops. Gate, link and journal are called
 // without the lock.
-fn serve<J: RunSpec, K: Journal, R: Wait, L: Link, G: Gate>(
+fn run_calls<J: RunSpec, K: Journal, R: Wait, L: Link, G: Gate>(
     rt: &R,
     pool: &Pool<J, K>,
     calls: &[Call],
@@ -296,7 +296,7 @@ fn serve<J: RunSpec, K: Journal, R: Wait, L: Link, G: Gate>(
     let performer = AtOnce::new(rt, worker.link, worker.gate.is_silent());
     for _ in rt.forever() {
         if pool.commit_lock.is_stopped()
-            || !settle(rt, pool, calls, outstanding_calls, &performer, worker.gate)
+            || !schedule(rt, pool, calls, outstanding_calls, &performer, worker.gate)
         {
             return;
         }
@@ -327,7 +327,7 @@ fn work<J: RunSpec, K: Journal, R: Wait, L: Link, G: Gate>(
 {
     let mut outstanding_calls = OutstandingCalls::new(alloc);
     if outstanding_calls.reserve(worker.most).is_ok() {
-        serve(rt, pool, calls, worker, &mut outstanding_calls);
+        run_calls(rt, pool, calls, worker, &mut outstanding_calls);
     }
     let mut pool_state = acquire(rt, &pool.state);
     outstanding_calls.close(&mut *pool_state);
@@ -460,12 +460,12 @@ pub(crate) fn run_over<
         gate,
         most: ONE_CALL,
     };
-    let ran = finished(rt, pool_state, calls, answers, &worker, &mut group_commit);
+    let ran = completed(rt, pool_state, calls, answers, &worker, &mut group_commit);
     (group_commit, ran)
 }
 
 // The report, once each call that has no answer yet has one, and all is kept.
-fn finished<J: RunSpec, K: Journal, R: Wait, L: Link, G: Gate>(
+fn completed<J: RunSpec, K: Journal, R: Wait, L: Link, G: Gate>(
     rt: &R,
     mut pool_state: PoolState<J>,
     calls: &[Call],
@@ -479,7 +479,7 @@ fn finished<J: RunSpec, K: Journal, R: Wait, L: Link, G: Gate>(
     ensures ran { RanFits J.start J.calls J.keeps result }
     ensures kept { RanKeeps K.has_kept J.before J.start.events J.keeps result group_commit.new }
 {
-    match finish_and_keep(rt, &mut pool_state, calls, worker, group_commit) {
+    match run_and_keep(rt, &mut pool_state, calls, worker, group_commit) {
         Ok(()) => Ran::Done(pool_state.close(answers)),
         Err(stopped) => Ran::Stopped(stopped.why, halted_by(pool_state, stopped)),
     }

@@ -200,7 +200,7 @@ impl<J: RunSpec> PoolState<J> {
 
     // Answers a call that waits: no event is its.
     #[inline(always)]
-    fn tell(&mut self, k: usize, call: &Call, answer: Answer)
+    fn answer_waiting(&mut self, k: usize, call: &Call, answer: Answer)
         requires call { slice_get J.calls k ≡ Some call.now }
         requires waits { slice_get self.old.progress k ≡ Some Progress.Waiting }
         requires fits { AnswerFits J.start self.old.state (call_of call.now) answer None }
@@ -228,7 +228,7 @@ impl<J: RunSpec> PoolState<J> {
         ensures same { (self.new.state ≡ self.old.state) × (self.new.is_out_of_memory ≡ self.old.is_out_of_memory) }
     {
         let refusal = self.refusal_untried(call);
-        self.tell(k, call, Answer::Refused(refusal));
+        self.answer_waiting(k, call, Answer::Refused(refusal));
         Next::LeftOut
     }
 
@@ -251,11 +251,11 @@ impl<J: RunSpec> PoolState<J> {
                 if !self.is_blocked(call, busy) {
                     return Next::Busy;
                 }
-                self.tell(k, call, Answer::Blocked(busy));
+                self.answer_waiting(k, call, Answer::Blocked(busy));
                 Next::Over
             }
             Err(refusal) => {
-                self.tell(k, call, Answer::Refused(refusal));
+                self.answer_waiting(k, call, Answer::Refused(refusal));
                 Next::Over
             }
         }

@@ -86,20 +86,20 @@ fn are_tries(tries: u64) -> bool
 }
 
 // What a run takes with it.
-struct Prepared {
+struct RunRoom {
     state: TcState,
     answers: Vec<Answer>,
     progress: Vec<Progress>,
 }
 
 // The state, and room for what becomes of each call.
-fn prepare(
+fn room_for_run(
     alloc: Global,
     state: TcState,
     calls: &[Call],
     workers: usize,
     tries: u64,
-) -> Result<Prepared, RunFault>
+) -> Result<RunRoom, RunFault>
     ensures state { IfOk result (λ p. p.state ≡ state) }
     ensures answers { IfOk result (λ p. (p.answers.items ≡ []) × (length calls.now ≤ vec_capacity p.answers)) }
     ensures progress { IfOk result (λ p. p.progress.items ≡ replicate (length calls.now) Progress.Waiting) }
@@ -117,7 +117,7 @@ fn prepare(
     let Ok(progress) = all_waiting(alloc, calls.len()) else {
         return Err(RunFault::Memory(state));
     };
-    Ok(Prepared {
+    Ok(RunRoom {
         state,
         answers,
         progress,
@@ -164,15 +164,15 @@ fn run_named<
 {
     state.known();
     let (count, handed) = opened.named::<J>();
-    let prepared = match prepare(alloc, state, calls, workers, tries) {
-        Ok(prepared) => prepared,
+    let room = match room_for_run(alloc, state, calls, workers, tries) {
+        Ok(room) => room,
         Err(fault) => return (journal, Err(fault)),
     };
-    let Prepared {
+    let RunRoom {
         state,
         answers,
         progress,
-    } = prepared;
+    } = room;
     let events = state.log().len();
     let batch = Batch::new(alloc);
     let keeps = journal.keeps();

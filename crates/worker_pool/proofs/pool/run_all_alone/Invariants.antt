@@ -1,6 +1,6 @@
 use Rattle.std.proofs.Common.{◌<◌, ℕ}
 use Rattle.worker_pool.specs.Joining.Seen.{IsAnswered}
-use Rattle.worker_pool.proofs.pool.finish_all.Given as goal
+use Rattle.worker_pool.proofs.pool.run_all_alone.Given as goal
 
 abbrev pub invariant-loop-k : goal.invariant-loop-k
 invariant-loop-k g l = Unit {0}

@@ -4,7 +4,7 @@ use Rattle.tc_core.specs.Admission.{call_of}
 use Rattle.worker_pool.specs.Answers.{AnswerFits}
 use Rattle.worker_pool.specs.declared.answer.Progress.TheVariants.{Waiting, Answered}
 use Rattle.worker_pool.proofs.Steps.{told, answers_stay, now_answered}
-use Rattle.worker_pool.proofs.pool_state.PoolState.tell.Goals as goal
+use Rattle.worker_pool.proofs.pool_state.PoolState.answer_waiting.Goals as goal
 
 pub invariant_of-self : goal.invariant_of-self
 invariant_of-self g c =
