@@ -50,11 +50,11 @@ wish_of task.Asm = Asm
 wish_of (task.Dis raw) = Dis raw
 wish_of task.Verify = Verify
 wish_of (task.World log audit script) = World log audit (option_map (λ path. path.now) script)
-wish_of (task.Run workers tries stats audit results tell metrics trace log checkpoint over script) =
-    Run workers tries stats audit results tell (option_map (λ path. path.now) metrics) (option_map (λ path. path.now) trace)
-    (option_map (λ path. path.now) log) checkpoint over (option_map (λ path. path.now) script)
-wish_of (task.Partitioned workers tries audit log script) =
-    Partitioned workers tries audit (option_map (λ path. path.now) log) (option_map (λ path. path.now) script)
+wish_of (task.Run r) =
+    Run r.workers r.tries r.stats r.audit r.results r.tell (option_map (λ path. path.now) r.metrics) (option_map (λ path. path.now) r.trace)
+    (option_map (λ path. path.now) r.log) r.checkpoint r.over (option_map (λ path. path.now) r.script)
+wish_of (task.Partitioned r) =
+    Partitioned r.workers r.tries r.audit (option_map (λ path. path.now) r.log) (option_map (λ path. path.now) r.script)
 wish_of (task.Log wanted) = Log (log_wish wanted)
 
 -- whether what FILE has is to be UTF-8: an object file isn't, beside which a script stands

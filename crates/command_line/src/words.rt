@@ -43,38 +43,52 @@ pub enum Task<'a> {
         audit: bool,
         script: Option<&'a str>,
     },
-    /// Run the calls of a script by so many workers, and send each request so often at most. With
-    /// `stats` the figures of the run are told on standard error; with `audit` what an audit finds is
-    /// printed behind the rows; with `results` what the slots of each call that committed hold is printed
-    /// behind its line; with `tell` standard error is told of each answer as soon as it stands;
-    /// `metrics` and `trace` are the paths of the files that tell of the run, while it lasts and behind it;
-    /// `log` is the path of the file that keeps the log, if one does, which begins anew behind the last call with
-    /// `checkpoint`, and where its file has more bytes than `over`. `script` is as of `World`.
-    Run {
-        workers: u64,
-        tries: u64,
-        stats: bool,
-        audit: bool,
-        results: bool,
-        tell: bool,
-        metrics: Option<&'a str>,
-        trace: Option<&'a str>,
-        log: Option<&'a str>,
-        checkpoint: bool,
-        over: Option<u64>,
-        script: Option<&'a str>,
-    },
-    /// Run the calls of a script, those of each partition of its data components apart, by so many workers in all; `log` is
-    /// the path of the files that keep their logs, but for the partition's number behind it. The rest is as of `Run`.
-    Partitioned {
-        workers: u64,
-        tries: u64,
-        audit: bool,
-        log: Option<&'a str>,
-        script: Option<&'a str>,
-    },
+    /// Run the calls of a script.
+    Run(RunTask<'a>),
+    /// Run the calls of a script, those of each partition of its data components apart.
+    Partitioned(PartitionedTask<'a>),
     /// Read a log's file.
     Log(LogTask<'a>),
+}
+
+/// How the calls of a script are to be run.
+#[derive(Clone, Copy)]
+pub struct RunTask<'a> {
+    /// By so many workers.
+    pub workers: u64,
+    /// So often each request is sent at most.
+    pub tries: u64,
+    /// Whether the figures of the run are told on standard error.
+    pub stats: bool,
+    /// Whether what an audit finds is printed behind the rows.
+    pub audit: bool,
+    /// Whether what the slots of each call that committed hold is printed behind its line.
+    pub results: bool,
+    /// Whether standard error is told of each answer as soon as it stands.
+    pub tell: bool,
+    /// The path of the file that tells of the run, while it lasts and behind it.
+    pub metrics: Option<&'a str>,
+    /// That of the file with the phases of its calls.
+    pub trace: Option<&'a str>,
+    /// The path of the file that keeps the log, if one does.
+    pub log: Option<&'a str>,
+    /// Whether the log begins anew behind the last call.
+    pub checkpoint: bool,
+    /// Where its file has more bytes than this, it begins anew.
+    pub over: Option<u64>,
+    /// As of `World`.
+    pub script: Option<&'a str>,
+}
+
+/// How the calls of a script are to be run by partitions, by so many workers in all. What isn't said here is as of `RunTask`.
+#[derive(Clone, Copy)]
+pub struct PartitionedTask<'a> {
+    pub workers: u64,
+    pub tries: u64,
+    pub audit: bool,
+    /// The path of the files that keep the logs, but for the partition's number behind it.
+    pub log: Option<&'a str>,
+    pub script: Option<&'a str>,
 }
 
 /// What is wanted of a log's file.
@@ -105,7 +119,7 @@ impl Task<'_> {
         ensures { result ≡ may_tell (wish_of self.now) }
     {
         match self {
-            Task::Run { stats, .. } => *stats,
+            Task::Run(task) => task.stats,
             _ => false,
         }
     }
@@ -287,13 +301,13 @@ fn partitioned_task<'a>(
     if says_more(matches) {
         return Err(WordFault::PartitionsBeside);
     }
-    Ok(Task::Partitioned {
+    Ok(Task::Partitioned(PartitionedTask {
         workers,
         tries,
         audit: flag_of(matches, "audit"),
         log: text_of(matches, "log"),
         script: text_of(matches, "script"),
-    })
+    }))
 }
 
 // How calls are to be run.
@@ -318,7 +332,7 @@ fn run_task<'a>(matches: &ArgMatches<'a>) -> Result<Task<'a>, WordFault>
     if flag_of(matches, "partitions") {
         return partitioned_task(matches, workers, tries);
     }
-    Ok(Task::Run {
+    Ok(Task::Run(RunTask {
         workers,
         tries,
         stats: flag_of(matches, "stats"),
@@ -331,7 +345,7 @@ fn run_task<'a>(matches: &ArgMatches<'a>) -> Result<Task<'a>, WordFault>
         checkpoint,
         over,
         script: text_of(matches, "script"),
-    })
+    }))
 }
 
 // Which of a log's events are wanted.

@@ -1,7 +1,7 @@
 //! What a terminal is told behind a report: what is wrong with a script, and which lines of C the verifier refuses.
 
 use crate::reading::{read_file, text_of};
-use command_line::words::{Task, Wanted};
+use command_line::words::{PartitionedTask, RunTask, Task, Wanted};
 use disk_file::FileKind;
 use object_file::is_elf;
 use report_texts::explanation::explanation;
@@ -24,9 +24,8 @@ fn script_command(task: &Task) -> Option<Command> {
     match task {
         Task::Verify => Some(Command::Verify),
         Task::World { script: None, .. } => Some(Command::World),
-        Task::Run { script: None, .. } | Task::Partitioned { script: None, .. } => Some(
-            Command::Run,
-        ),
+        Task::Run(RunTask { script: None, .. })
+        | Task::Partitioned(PartitionedTask { script: None, .. }) => Some(Command::Run),
         _ => None,
     }
 }
@@ -40,14 +39,14 @@ fn takes_object(task: &Task) -> bool {
                 script: Some(_),
                 ..
             }
-            | Task::Run {
+            | Task::Run(RunTask {
                 script: Some(_),
                 ..
-            }
-            | Task::Partitioned {
+            })
+            | Task::Partitioned(PartitionedTask {
                 script: Some(_),
                 ..
-            }
+            })
     )
 }
 

@@ -1,6 +1,6 @@
 //! The program, over readers and writers that are handed in.
 
-ghost use Rattle.std.specs.Prelude.{◌≡◌, ◌++◌, ℕ, List, Option, IfOk, IfSome, None, Some, Ok, Err, true, false};
+ghost use Rattle.std.specs.Prelude.{◌≡◌, ◌++◌, ℕ, List, Option, IfOk, IfErr, IfSome, None, Some, Ok, Err, true, false};
 ghost use Rattle.std.specs.Prelude.{codes, map, string_bytes};
 ghost use Rattle.command_line.specs.Said.{Says, IsWrong, shows};
 ghost use Rattle.command_line.specs.Wanted.{WantsOrNoMemory, IsWrongOrNoMemory};
@@ -8,6 +8,8 @@ ghost use Rattle.procd.specs.Streams.{stream, TellsIf, IsKept, Begins, Ends, Run
 ghost use Rattle.run_command.specs.LogLines.{kind_refusal};
 ghost use Rattle.procd.specs.Streams.{IsLog, IsFollowed, IsRefusedBy, IsFaultLine, TellsUnread, TellsUnwritten, TellsNotPrinted, IsToldOrNoMemory, PartFails};
 ghost use Rattle.procd.specs.Joining.Ways.{IsWay};
+ghost use Rattle.procd.specs.Joining.Further.{IsTaskFault};
+ghost use Rattle.procd.specs.Report.{IsReport};
 ghost use Rattle.command_line.specs.Task.{Wish, wish_of};
 ghost use Rattle.clap.specs.Words.{kind_of};
 
@@ -162,19 +164,22 @@ fn tell_notes<E: Write>(err: &mut E, may_tell: bool, report: &Report)
     }
 }
 
-// Does the task with what was read, and writes its lines, or says why there are none.
-fn run_text<F: Files<File = File> + Clock + Threads + Wait + Sync, W: Write, E: Write>(
+// Writes the lines of what the task made of the text, or says why there are none.
+fn tell_report<F: Files<File = File>, W: Write, E: Write>(
     rt: &F,
     alloc: Global,
     wanted: &Wanted,
     text: &[u8],
+    report: Result<Report, ReportFault>,
     streams: &mut Streams<W, E>,
 ) -> u8
+    requires ok { IfOk report (λ r. IsReport (wish_of wanted.now.task) text.now r.status (string_bytes r.lines)) }
+    requires further { IfErr report (IsTaskFault (wish_of wanted.now.task)) }
     ensures { Ends wanted.now.file.now (wish_of wanted.now.task) text.now
         (stream (W.contents streams.old.out) (W.contents streams.new.out))
         (stream (E.contents streams.old.err) (E.contents streams.new.err)) result }
 {
-    let report = match report_on(rt, alloc, &wanted.task, text, streams.progress) {
+    let report = match report {
         Ok(report) => report,
         Err(ReportFault::Memory) => return no_memory(&mut streams.err),
         Err(ReportFault::NotText(fault)) => {
@@ -306,7 +311,11 @@ fn run_wanted<F: Files<File = File> + Clock + Threads + Wait + Sync, R: Read, W:
         Way::Refused(kind) => refuse_kind(alloc, kind, streams),
         Way::Followed(part) => run_on(rt, alloc, wanted.file, part, streams),
         Way::Read => match read_given(rt, alloc, wanted.file, input) {
-            Ok(text) => run_text(rt, alloc, wanted, text.as_slice(), streams),
+            Ok(text) => {
+                let text = text.as_slice();
+                let report = report_on(rt, alloc, &wanted.task, text, streams.progress);
+                tell_report(rt, alloc, wanted, text, report, streams)
+            }
             Err(ReadFault::Memory) => no_memory(&mut streams.err),
             Err(ReadFault::Unread(reason)) => {
                 cannot_read(alloc, &mut streams.err, wanted.file, Some(&reason))

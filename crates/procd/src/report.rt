@@ -14,7 +14,7 @@ ghost use Rattle.command_line.specs.Task.{Log, Audit, Picture, log_wish, wish_of
 use crate::reading::{ReadFault, Reason, TextFault, read_file, text_of};
 use crate::streams::Meanwhile;
 use crate::writing::tell;
-use command_line::words::{LogTask, Task};
+use command_line::words::{LogTask, PartitionedTask, RunTask, Task};
 use log_command::auditing::auditing;
 use log_command::listing::listing;
 use log_command::picturing::{Pictured, picturing};
@@ -334,6 +334,46 @@ fn log_report<'a, R: Files>(
     }
 }
 
+// How the calls of a run are run, when its log begins anew, and who is told of the calls meanwhile.
+fn options_of<'a>(wanted: &RunTask<'a>, progress: Meanwhile) -> RunOptions<'a>
+    ensures manner { (result.manner.workers ≡ wanted.now.workers) × (result.manner.tries ≡ wanted.now.tries)
+        × (result.manner.audit ≡ wanted.now.audit) × (result.manner.results ≡ wanted.now.results) }
+    ensures checkpoints { result.checkpoints ≡ record { at_end = wanted.now.checkpoint; over = wanted.now.over } }
+{
+    RunOptions {
+        manner: Manner {
+            workers: wanted.workers,
+            tries: wanted.tries,
+            stats: wanted.stats,
+            audit: wanted.audit,
+            results: wanted.results,
+        },
+        checkpoints: Checkpoints {
+            at_end: wanted.checkpoint,
+            over: wanted.over,
+        },
+        listeners: Listeners {
+            each: wanted.tell.then_some(progress.error),
+            metrics: wanted.metrics,
+            trace: wanted.trace,
+            ..progress.listeners()
+        },
+    }
+}
+
+// How the calls of a run by partitions are run.
+fn manner_apart(wanted: &PartitionedTask) -> Manner
+    ensures { (result.workers ≡ wanted.now.workers) × (result.tries ≡ wanted.now.tries) × (result.audit ≡ wanted.now.audit) }
+{
+    Manner {
+        workers: wanted.workers,
+        tries: wanted.tries,
+        stats: false,
+        audit: wanted.audit,
+        results: false,
+    }
+}
+
 /// What the task makes of the text.
 pub fn report_on<'a, R: Files<File = File> + Clock + Threads + Wait + Sync>(
     rt: &R,
@@ -359,56 +399,21 @@ pub fn report_on<'a, R: Files<File = File> + Clock + Threads + Wait + Sync>(
             };
             world_of(rt, alloc, text, *script, behind)
         }
-        Task::Run {
-            workers,
-            tries,
-            stats,
-            audit,
-            results,
-            tell,
-            metrics,
-            trace,
-            log,
-            checkpoint,
-            over,
-            script,
-        } => {
-            let options = RunOptions {
-                manner: Manner {
-                    workers: *workers,
-                    tries: *tries,
-                    stats: *stats,
-                    audit: *audit,
-                    results: *results,
-                },
-                checkpoints: Checkpoints {
-                    at_end: *checkpoint,
-                    over: *over,
-                },
-                listeners: Listeners {
-                    each: tell.then_some(progress.error),
-                    metrics: *metrics,
-                    trace: *trace,
-                    ..progress.listeners()
-                },
-            };
-            run_of(rt, alloc, text, *script, options, *log)
+        Task::Run(wanted) => {
+            let options = options_of(wanted, progress);
+            run_of(rt, alloc, text, wanted.script, options, wanted.log)
         }
-        Task::Partitioned {
-            workers,
-            tries,
-            audit,
-            log,
-            script,
-        } => {
-            let manner = Manner {
-                workers: *workers,
-                tries: *tries,
-                stats: false,
-                audit: *audit,
-                results: false,
-            };
-            partitioned_of(rt, alloc, text, *script, *log, manner, progress.listeners())
+        Task::Partitioned(wanted) => {
+            let (manner, listeners) = (manner_apart(wanted), progress.listeners());
+            partitioned_of(
+                rt,
+                alloc,
+                text,
+                wanted.script,
+                wanted.log,
+                manner,
+                listeners,
+            )
         }
         Task::Dis { raw } => Ok(disassembly(alloc, *raw, text)?),
         Task::Log(wanted) => log_report(rt, alloc, text, *wanted),

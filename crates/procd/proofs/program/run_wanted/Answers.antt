@@ -17,7 +17,7 @@ pub returns-in-Ok : goal.returns-in-Ok
 returns-in-Ok g c =
     let way = rw c.in-Read.is at c.way_of.ensures in
     read_runs c.args.wanted.now.file.now (wish_of c.args.wanted.now.task) _ _ _ _ way c.in-Ok.text.items c.in-Ok.ensures
-    (rw c.as_slice.ensures.value at c.run_text.ensures)
+    (rw c.as_slice-text.ensures.value at c.tell_report.ensures)
 
 pub returns-in-Err-Memory : goal.returns-in-Err-Memory
 returns-in-Err-Memory g c =

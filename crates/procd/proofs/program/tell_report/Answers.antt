@@ -4,7 +4,7 @@ use Rattle.command_line.specs.Task.{wish_of, may_tell}
 use Rattle.procd.specs.Report.{IsReport}
 use Rattle.procd.specs.Streams.{stream, Gets, Begins, TellsIf}
 use Rattle.procd.proofs.Faults.{unkept_ends, unread_ends, unwritten_ends}
-use Rattle.procd.proofs.program.run_text.Goals as goal
+use Rattle.procd.proofs.program.tell_report.Goals as goal
 
 pub returns : goal.returns
 returns g c =
@@ -27,14 +27,14 @@ returns-in-Err g c =
 pub returns-in-Err-Unread : goal.returns-in-Err-Unread
 returns-in-Err-Unread g c =
     unread_ends c.args.wanted.now.file.now (wish_of c.args.wanted.now.task) c.args.text.now _ _ _ c.in-Err-Unread.path.now
-    (rw c.in-Err-Unread.field-0-is at c.in-Err-Unread.ensures.further) c.cannot_read-in-Err-Unread.ensures refl
+    (rw c.in-Err-Unread.field-0-is at c.requires.further) c.cannot_read-in-Err-Unread.ensures refl
 
 pub returns-in-Err-Unwritten : goal.returns-in-Err-Unwritten
 returns-in-Err-Unwritten g c =
     unwritten_ends c.args.wanted.now.file.now (wish_of c.args.wanted.now.task) c.args.text.now _ _ _ c.in-Err-Unwritten.path.now
-    (rw c.in-Err-Unwritten.field-0-is at c.in-Err-Unwritten.ensures.further) c.cannot_write_file.ensures refl
+    (rw c.in-Err-Unwritten.field-0-is at c.requires.further) c.cannot_write_file.ensures refl
 
 pub returns-in-Err-Partition : goal.returns-in-Err-Partition
 returns-in-Err-Partition g c =
     unkept_ends c.args.wanted.now.file.now (wish_of c.args.wanted.now.task) c.args.text.now _ _ _ c.in-Err-Partition.log.now
-    (rw c.in-Err-Partition.field-0-is at c.in-Err-Partition.ensures.further) c.cannot_keep.ensures refl
+    (rw c.in-Err-Partition.field-0-is at c.requires.further) c.cannot_keep.ensures refl
