@@ -12,7 +12,8 @@ looked at:
   inserts ended there or are ended now, each of its own component, and none that no call inserts;
 - all records whose calls a run printed as committed are among them.
 
-A run is refused, with no call begun, while another process has one of the files, or where one is another's.
+A run is refused, with no call begun, while another process has one of the files, or where one is another's. So it is where two
+of the files are exchanged, whether their logs have calls or begin with records; of files without either it isn't.
 The status is 1 where something was wrong; the files are then kept.
 """
 import argparse
@@ -164,11 +165,40 @@ class Runs:
             ran = self.program.run(self.words(self.script))
         wanted("a file that another process has", ran, Ran(1, b"partition 2\nrefused log Busy\n", b""))
         wanted("files behind it", begun(), before)
+        self.exchanged("logs")
+        for part in (0, 2):
+            words = ["run", "--log", f"{self.log}.{part}", "--checkpoint", self.none]
+            wanted("a log that begins anew", self.program.run(words).status, 0)
+        self.exchanged("logs that begin anew")
+        before = begun()
         pathlib.Path(f"{self.log}.3").write_bytes(b"somebody else's")
         ran = self.program.run(self.words(self.script))
         wanted("another's file", ran, Ran(1, b"partition 3\nrefused log Other\n", b""))
         wanted("files behind that", begun()[:3], before[:3])
         self.begin()
+        wanted("files without calls", self.program.run(self.words(self.none)), Ran(0, b"", b""))
+        self.exchange()
+        wanted("exchanged files without calls", self.program.run(self.words(self.none)), Ran(0, b"", b""))
+        self.begin()
+
+    def exchange(self):
+        """Exchanges the files of partitions 0 and 2."""
+        one, other, aside = (pathlib.Path(f"{self.log}.{part}") for part in (0, 2, "aside"))
+        one.rename(aside)
+        other.rename(one)
+        aside.rename(other)
+
+    def exchanged(self, what):
+        """Files of two partitions that are exchanged refuse the run, and stay; exchanged back they don't."""
+        def begun():
+            return [pathlib.Path(f"{self.log}.{part}").read_bytes() for part in range(PARTS)]
+        self.exchange()
+        before = begun()
+        ran = self.program.run(self.words(self.script))
+        wanted(f"exchanged {what}", ran, Ran(1, b"partition 0\nrefused log Other partition 2\n", b""))
+        wanted(f"{what} behind that", begun(), before)
+        self.exchange()
+        wanted(f"{what} that are not exchanged", self.program.run(self.words(self.none)).status, 0)
 
 
 def main():

@@ -23,6 +23,14 @@ LOG_1 = """\
 """
 
 
+def exchange(one, other):
+    """Exchanges two files."""
+    aside = one.with_name("aside")
+    one.rename(aside)
+    other.rename(one)
+    aside.rename(other)
+
+
 def rows(_program):
     """What is printed of runs behind one another, on files of their own."""
     folder = tempfile.TemporaryDirectory(prefix="partitioned-")
@@ -46,6 +54,24 @@ def rows(_program):
     checkpoint = ["run", "--log", str(place / "two.0"), "--checkpoint", str(none)]
     yield Row(checkpoint, b"", ("recovered 26 events, 0 open\ncheckpoint 5 8\n" + ROWS_OF_0).encode(), 0)
     yield run("two", "partition 0\nrecovered 1 events, 0 open\n" + FRONT_1 + ROWS)
+    # two files that are exchanged are told apart by their calls and operations, and by the records with which a log begins
+    for one, another, printed in ((0, 1, "partition 0\nrefused log Other partition 1\n"), (0, 3, "partition 3\nrefused log Other partition 0\n")):
+        exchange(place / f"three.{one}", place / f"three.{another}")
+        yield run("three", printed, text=calls, status=1)
+        yield run("three", printed, text=calls, status=1)
+        exchange(place / f"three.{one}", place / f"three.{another}")
+        yield run("three", FRONT_0 + FRONT_1 + ROWS)
+    exchange(place / "two.0", place / "two.3")
+    yield run("two", "partition 3\nrefused log Other partition 0\n", text=calls, status=1)
+    idle = place / "idle"
+    idle.write_text(NONE + "call none\n")
+    yield run("eleven", "call 0 aborted 7\n", text=idle)
+    exchange(place / "eleven.0", place / "eleven.1")
+    yield run("eleven", "partition 1\nrefused log Other partition 0\n", text=idle, status=1)
+    # where there is none of them any file will do
+    yield run("twelve", "")
+    exchange(place / "twelve.0", place / "twelve.1")
+    yield run("twelve", "call 0 aborted 7\n", text=idle)
     # only the calls of one partition: the others' files are begun all the same
     first = place / "first"
     first.write_text(NONE + "first alone 5\n")

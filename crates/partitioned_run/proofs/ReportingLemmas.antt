@@ -135,6 +135,11 @@ all_run c d starts ran all is named are of =
 
 -- ---- their answers go back to the calls' places
 
+-- the partitions are those of the data components that were empty
+partitions_are : (c : Contents) (d : Division) → AreDivided c d → ArePartitions (length (empty_stores c)) (map decl_of (begun c).procs) d.partitions
+partitions_are c d numbered =
+    subst (λ (n : ℕ). ArePartitions n (map decl_of (begun c).procs) d.partitions) (sym (length-map c.dcs empty_store)) numbered.partitions
+
 module _ (c : Contents) (d : Division) (starts : List Start) (all : Together) (numbered : AreDivided c d) (run : AreAllRun c d starts all) where
   dcs_long : length (empty_stores c) ≡ length c.dcs
   dcs_long = length-map c.dcs empty_store
@@ -177,11 +182,6 @@ module _ (c : Contents) (d : Division) (starts : List Start) (all : Together) (n
         (from_long _ _ s.0.ground _ _ _ _ ground.0 each).1 ∙ picked_long p d.calls.items c.calls (sym calls_long);
   }
 
-  -- the partitions are those of the data components that were empty
-  pub partitions_are : ArePartitions (length (empty_stores c)) (map decl_of (begun c).procs) d.partitions
-  partitions_are =
-      subst (λ (n : ℕ). ArePartitions n (map decl_of (begun c).procs) d.partitions) (sym dcs_long) numbered.partitions
-
   pub answered_apart : (first_answers other_answers : List Answer) → IsMerged d.first.items all.first.items first_answers
       → IsMerged d.calls.items all.calls.items other_answers → (p : ℕ) (behind : Option Ground) → slice_get all.grounds.items p ≡ Some behind
       → AreRunFrom (begun c) (empty_stores c) starts p
@@ -223,7 +223,7 @@ module _ (c : Contents) (d : Division) (starts : List Start) (all : Together) (n
       → AreRunApart IsAnswered front (begun c).procs (empty_stores c) c.first c.calls audit status lines
   run_apart IsAnswered front first_answers other_answers audit answered kept lines sound status empty so firsts others ample told empty_is rows found status_is = record {
     numbers = d.partitions;
-    partitions = partitions_are;
+    partitions = partitions_are c d numbered;
     first_answers = first_answers;
     first_each = firsts.each ∙ first_long;
     other_answers = other_answers;
@@ -273,7 +273,7 @@ run_so false c d front all first_answers other_answers audit answered kept lines
     audit answered kept lines sound status empty
     (λ p behind is from.
     let s = found_at h.starts p (omega (arith, slice_get_within all.grounds.items p behind is, h.run.grounds)) in
-    plain_from _ _ s.0.ground _ _ _ _ behind (no_start (begun c) (empty_stores c) s.0.ground s.0.lines (h.are p s.0 s.1).1).0 (from s.0 s.1))
+    plain_from _ _ s.0.ground _ _ _ _ behind (no_start (begun c) (empty_stores c) d.partitions p s.0.ground s.0.lines (h.are p s.0 s.1).1).0 (from s.0 s.1))
     firsts others ample
     (told ∙ ap (λ (f : List ℕ). f ++ said) (h.told ∙ no_fronts (begun c) (empty_stores c) d.partitions h.starts h.are)) empty_is rows found status_is
 
@@ -295,14 +295,14 @@ pub ran_apart : {E : Type 0} (keeps : Bool) (c : Contents) (workers tries : ℕ)
 ran_apart keeps c workers tries audit (Ok r) range run = ran_so keeps c workers tries audit r.status (string_bytes r.lines) range run
 ran_apart keeps c workers tries audit (Err e) range run = tt
 
--- the log of a partition is refused
-pub refused_apart : (keeps : Bool) (c : Contents) (workers tries : ℕ) (audit : Bool) (report : Report)
-    → (keeps ≡ true) × ((p : ℕ) × IsRefusedAt (begun c) (empty_stores c) p report)
+-- the file of a partition is refused
+pub refused_apart : (keeps : Bool) (c : Contents) (d : Division) (workers tries : ℕ) (audit : Bool) (report : Report) → AreDivided c d
+    → (keeps ≡ true) × ((p : ℕ) × IsRefusedAt (begun c) (empty_stores c) d.partitions p report)
     → IsContentsRun keeps c workers tries audit report.status (string_bytes report.lines)
-refused_apart true c workers tries audit report h =
+refused_apart true c d workers tries audit report numbered h =
     let at = h.1.1 in
-    Refused h.1.0 at.1.0 at.1.1 at.0 at.1.2
-refused_apart false c workers tries audit report h = absurd (cc)
+    Refused d.partitions (partitions_are c d numbered) h.1.0 at.1.0 at.1.1 at.0 at.1.2
+refused_apart false c d workers tries audit report numbered h = absurd (cc)
 
 -- ---- what was read is what the script says
 

@@ -1,3 +1,4 @@
 pub mod Partitioned
+pub mod Belonging
 pub mod Logged
 pub mod Joining

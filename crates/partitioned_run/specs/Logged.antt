@@ -1,23 +1,26 @@
 -- What the calls of a script print when those of each partition are run apart, behind what a file of its own has.
-use Rattle.std.specs.Prelude.{◌≡◌, ◌⊎◌, ℕ, ◌==◌, Bool, true, false, ◌&&◌, List, [], ◌∷◌, ◌++◌, slice_get, length}
+use Rattle.std.specs.Prelude.{◌≡◌, ◌⊎◌, ℕ, ◌==◌, Bool, true, false, ◌&&◌, List, [], ◌∷◌, ◌++◌, map, slice_get, length}
 use Rattle.std.specs.Prelude.{Option, Some, None, is_some, codes, decimal, string_bytes}
 use Rattle.std.specs.List.{flat_map}
 use Rattle.std.specs.declared.alloc.Global.{Global}
 use Rattle.std.specs.declared.string.String.{String}
 use Rattle.data_component.specs.Store.{Store}
-use Rattle.partitions.specs.Partitions.{partition_at}
+use Rattle.log_file.specs.Bytes.{Rows}
+use Rattle.partitions.specs.Partitions.{partition_at, ArePartitions}
 use Rattle.scripts.specs.Reading.{Contents}
 use Rattle.scripts.specs.declared.script.Call as said
 use Rattle.script_loading.specs.Loading.{Beginning}
 use Rattle.tc_core.specs.Core.{Core}
+use Rattle.tc_log.specs.declared.event.Event.{Event}
 use Rattle.worker_pool.specs.declared.answer.Answer.{Answer}
 use Rattle.run_command.specs.declared.anew.Ground.{Ground}
 use Rattle.run_command.specs.Kept.{FileJournal, KeepsLog}
-use Rattle.run_command.specs.Logged.{IsLogRefusal}
+use Rattle.run_command.specs.Logged.{IsLogFor, IsLogRefusal}
 use Rattle.run_command.specs.Recovering.{IsBackTo}
 use Rattle.run_command.specs.Running.{begun, empty_stores}
 use Rattle.partitioned_run.specs.declared.grounds.Start.{Start}
-use Rattle.partitioned_run.specs.Partitioned.{AreRunApart, IsAnsweredBy, IsAnsweredPart, IsCallsRunApart, IsRunApart}
+use Rattle.partitioned_run.specs.Belonging.{other_line, IsLogOfPartition, IsLogOfOther}
+use Rattle.partitioned_run.specs.Partitioned.{decl_of, AreRunApart, IsAnsweredBy, IsAnsweredPart, IsCallsRunApart, IsRunApart}
 
 -- ---- what comes back
 
@@ -36,23 +39,31 @@ front_of s = front_by s.number (string_bytes s.lines)
 abbrev pub front_lines : List Start → List ℕ
 front_lines starts = flat_map front_of starts
 
--- this came back from a file, with these lines, and its journal has kept its log
-pub record IsBackAt (start : Core) (empties : List Store) (g : Ground) (lines : String Global) : Type 0 where
+-- this came back from a file whose log is that of this partition, with these lines, and its journal has kept its log
+pub record IsBackAt (start : Core) (empties : List Store) (numbers : List ℕ) (partition : ℕ) (g : Ground) (lines : String Global) : Type 0 where
   pub journal : FileJournal
   pub journal_is : g.journal ≡ Some journal
   pub back : IsBackTo start empties g.state g.dcs.items (record { journal = journal; lines = lines })
+  pub own : IsLogOfPartition numbers start.procs partition back.base back.log
 
 -- where a partition has a file, something came back from there, and else nothing
-abbrev pub IsStart : (start : Core) → (empties : List Store) → (has_file : Bool) → Option Ground → String Global → Type 0
-IsStart start empties false None lines = string_bytes lines ≡ []
-IsStart start empties false (Some g) lines = ⊥
-IsStart start empties true None lines = ⊥
-IsStart start empties true (Some g) lines = IsBackAt start empties g lines
+abbrev pub IsStart : (start : Core) → (empties : List Store) → (numbers : List ℕ) → (partition : ℕ) → (has_file : Bool) → Option Ground → String Global
+    → Type 0
+IsStart start empties numbers partition false None lines = string_bytes lines ≡ []
+IsStart start empties numbers partition false (Some g) lines = ⊥
+IsStart start empties numbers partition true None lines = ⊥
+IsStart start empties numbers partition true (Some g) lines = IsBackAt start empties numbers partition g lines
 
 -- each partition of these numbers has a file, where logs are kept
 abbrev pub AreStarts : (keeps : Bool) → Core → List Store → (numbers : List ℕ) → List Start → Type 0
 AreStarts keeps start empties numbers starts = (p : ℕ) (s : Start) → slice_get starts p ≡ Some s
-    → (s.number ≡ p) × IsStart start empties (keeps && (partition_at numbers p == p)) s.ground s.lines
+    → (s.number ≡ p) × IsStart start empties numbers p (keeps && (partition_at numbers p == p)) s.ground s.lines
+
+-- the file of a partition is refused as a log's file is by itself, or since its log is that of another partition
+pub data IsFileRefusal (start : Core) (empties : List Store) (numbers : List ℕ) (partition : ℕ) (lines : List ℕ) : Type 0 where
+  Itself : IsLogRefusal start empties lines → IsFileRefusal start empties numbers partition lines
+  Others : (file : List ℕ) (base : Option Rows) (log : List Event) (other : ℕ) → IsLogFor start file base log
+      → IsLogOfOther numbers start.procs partition base log other → lines ≡ other_line other → IsFileRefusal start empties numbers partition lines
 
 -- ---- the calls of one partition
 
@@ -91,9 +102,10 @@ pub record AreRunBehind (c : Contents) (audit : Bool) (status : ℕ) (lines : Li
   pub each : length starts ≡ length run.grounds
   pub back : AreStarts true (begun c) (empty_stores c) run.numbers starts
 
--- no call is begun, since the log of a partition is refused; or they are run
+-- no call is begun, since the file of a partition is refused; or they are run
 pub data IsRunBehind (c : Contents) (workers tries : ℕ) (audit : Bool) (status : ℕ) (lines : List ℕ) : Type 0 where
-  Refused : (p : ℕ) (refusal : List ℕ) → IsLogRefusal (begun c) (empty_stores c) refusal → status ≡ 1 → lines ≡ partition_line p ++ refusal
+  Refused : (numbers : List ℕ) → ArePartitions (length (empty_stores c)) (map decl_of (begun c).procs) numbers → (p : ℕ) (refusal : List ℕ)
+      → IsFileRefusal (begun c) (empty_stores c) numbers p refusal → status ≡ 1 → lines ≡ partition_line p ++ refusal
       → IsRunBehind c workers tries audit status lines
   Behind : IsCallsRunApart (AreRunBehind c audit status lines) workers tries status lines → IsRunBehind c workers tries audit status lines
 

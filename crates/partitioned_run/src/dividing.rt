@@ -1,9 +1,9 @@
 //! Which calls of a script are of which partition.
 
-ghost use Rattle.std.specs.Prelude.{◌≡◌, ◌+◌, ◌<◌, length, map, take, IfOk, ◌==◌, ◌||◌};
+ghost use Rattle.std.specs.Prelude.{◌≡◌, ◌+◌, ◌<◌, length, map, take, slice_get, IfOk, ◌==◌, ◌||◌};
 ghost use Rattle.std.specs.List.{list_any};
 ghost use Rattle.partitions.specs.Partitions.{ArePartitions};
-ghost use Rattle.partitioned_run.specs.Partitioned.{decl_of, partition_of_call};
+ghost use Rattle.partitioned_run.specs.Partitioned.{decl_of, partition_of_call, partition_of_code};
 ghost use Rattle.partitioned_run.specs.Joining.Dividing.{AreNumbered};
 
 use partitions::{Partitions, workers_of};
@@ -45,14 +45,21 @@ fn partitions_of(alloc: Global, procs: &Procs) -> Result<Partitions, AllocError>
     Ok(partitions)
 }
 
-// The number of the partition of a call's procedure.
-fn partition_of_call(partitions: &Partitions, procs: &Procs, call: &Call) -> usize
-    ensures { result ≡ partition_of_call partitions.now procs.now.codes call.now }
+/// The number of the partition of the procedure with this number.
+pub fn partition_of_procedure(partitions: &Partitions, procs: &Procs, number: usize) -> usize
+    ensures { result ≡ partition_of_code partitions.now (slice_get procs.now.codes number) }
 {
-    match procs.get(call.procedure) {
+    match procs.get(number) {
         Some(code) => partitions.of(code.decl()),
         None => 0,
     }
+}
+
+// That of a call's procedure.
+fn partition_of_call(partitions: &Partitions, procs: &Procs, call: &Call) -> usize
+    ensures { result ≡ partition_of_call partitions.now procs.now.codes call.now }
+{
+    partition_of_procedure(partitions, procs, call.procedure)
 }
 
 // Of each of these calls.

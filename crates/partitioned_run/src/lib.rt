@@ -10,6 +10,7 @@
 #![tactic(auto)]
 
 mod answering;
+mod belonging;
 mod dividing;
 pub mod fault;
 mod grounds;

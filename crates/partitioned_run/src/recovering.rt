@@ -3,15 +3,18 @@
 ghost use Rattle.std.specs.Prelude.{◌≡◌, ◌++◌, is_some, option_map, codes, decimal, IfOk, OnOk, string_bytes};
 ghost use Rattle.std.specs.List.{All};
 ghost use Rattle.coming_back.specs.Coming.{HasOnlyRows};
+ghost use Rattle.run_command.specs.Recovering.{IsOpened};
 ghost use Rattle.scripts.specs.Reading.{contents_of};
 ghost use Rattle.partitioned_run.specs.Logged.{front_lines, front_of, partition_line};
 ghost use Rattle.partitioned_run.specs.Joining.Dividing.{IsDivided};
 ghost use Rattle.partitioned_run.specs.Joining.Recovering.{AreRecovered, IsRecovered, IsRecoveredFrom};
 
+use crate::belonging::{other_line, other_of};
 use crate::fault::Fault;
 use crate::grounds::{Start, Task, own_ground};
+use partitions::Partitions;
 use report_texts::report::Report;
-use run_command::logged::{Recovered, Recovery, begin};
+use run_command::logged::{OpenLog, Recovered, Recovery, go_back, open_log};
 use run_command::running::Ground;
 use std::alloc::{AllocError, Global};
 use std::fs::File;
@@ -44,25 +47,27 @@ fn refused(alloc: Global, number: usize, lines: &str) -> Result<Report, AllocErr
     })
 }
 
-// Comes back from a partition's file, on a state and data components to which nothing has happened.
-fn recover<F: Files<File = File>>(
-    rt: &F,
+// Goes on from the log of a partition's file, unless it is another partition's.
+fn go_on(
     alloc: Global,
+    partitions: &Partitions,
     path: &str,
     number: usize,
     ground: Ground,
+    opened: OpenLog,
 ) -> Result<Recovery<Start>, Fault>
     requires { All HasOnlyRows ground.dcs.items }
-    ensures { IfOk result (IsRecoveredFrom ground.state ground.dcs.items number) }
+    ensures { IsOpened ground.state opened → IfOk result (IsRecoveredFrom ground.state ground.dcs.items partitions.now number) }
 {
+    if let Some(other) = other_of(partitions, ground.state.procs(), &opened, number) {
+        drop(opened);
+        drop(ground);
+        let line = other_line(alloc, other)?;
+        return Ok(Recovery::Refused(refused(alloc, number, line.as_str())?));
+    }
     let mut ground = ground;
-    match begin(
-        rt,
-        alloc,
-        path,
-        &mut ground.state,
-        ground.dcs.as_mut_slice(),
-    ) {
+    let dcs = ground.dcs.as_mut_slice();
+    match go_back(alloc, &mut ground.state, dcs, opened, path) {
         Ok(Recovery::Ready(Recovered { journal, lines })) => {
             ground.journal = Some(journal);
             Ok(Recovery::Ready(Start {
@@ -71,6 +76,31 @@ fn recover<F: Files<File = File>>(
                 lines,
             }))
         }
+        Ok(Recovery::Refused(report)) => {
+            drop(ground);
+            Ok(Recovery::Refused(refused(alloc, number, report.lines.as_str())?))
+        }
+        Err(stop) => {
+            drop(ground);
+            Err(Fault::Stopped(number, stop))
+        }
+    }
+}
+
+// Comes back from a partition's file, on a state and data components to which nothing has happened.
+fn recover<F: Files<File = File>>(
+    rt: &F,
+    alloc: Global,
+    partitions: &Partitions,
+    path: &str,
+    number: usize,
+    ground: Ground,
+) -> Result<Recovery<Start>, Fault>
+    requires { All HasOnlyRows ground.dcs.items }
+    ensures { IfOk result (IsRecoveredFrom ground.state ground.dcs.items partitions.now number) }
+{
+    match open_log(rt, alloc, path, &ground.state) {
+        Ok(Recovery::Ready(opened)) => go_on(alloc, partitions, path, number, ground, opened),
         Ok(Recovery::Refused(report)) => {
             drop(ground);
             Ok(Recovery::Refused(refused(alloc, number, report.lines.as_str())?))
@@ -96,7 +126,8 @@ fn start_of<F: Files<File = File>>(
         Some(log) if task.division.partitions.number(number) == number => {
             let path = file_of(alloc, log, number)?;
             let ground = own_ground(alloc, task.object, task.script)?;
-            recover(rt, alloc, path.as_str(), number, ground)
+            let partitions = &task.division.partitions;
+            recover(rt, alloc, partitions, path.as_str(), number, ground)
         }
         _ => Ok(Recovery::Ready(Start {
             number,

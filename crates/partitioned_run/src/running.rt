@@ -230,8 +230,8 @@ fn accept<'a>(alloc: Global, source: Source<'a>) -> Result<Acceptance<'a>, Alloc
 /// kept, and then, where it is wanted, what an audit finds of each partition with calls.
 ///
 /// With `log` each partition keeps its log in the file of this path, with the partition's number behind a dot, and comes back
-/// from there before any call is begun, as `running_logged` does. Then each has a line of what an audit finds. No answer is
-/// told before what it names is on the disk, in a file that has a name.
+/// from there before any call is begun, as `running_logged` does; a file with another partition's log is refused. Then each
+/// has a line of what an audit finds. No answer is told before what it names is on the disk, in a file that has a name.
 pub fn running_partitioned<R: Files<File = File> + Clock + Threads + Wait + Sync>(
     rt: &R,
     alloc: Global,

@@ -119,7 +119,7 @@ told_low sound status is = omega (arith, is, sound_low sound)
 
 apart_behind_low : (contents : Contents) (workers tries : ℕ) (audit : Bool) (status : ℕ) (lines : List ℕ)
     → IsApartBehind contents workers tries audit status lines → status ≤ 1
-apart_behind_low contents workers tries audit status lines (RefusedApart p refusal why is line) = omega (arith, is)
+apart_behind_low contents workers tries audit status lines (RefusedApart numbers partitions p refusal why is line) = omega (arith, is)
 apart_behind_low contents workers tries audit status lines (BehindApart h) =
     apart_low (AreRunBehind contents audit status lines) workers tries status lines (λ all. told_low all.run.sound status all.run.status_is) h
 

@@ -31,8 +31,8 @@ use Rattle.base_records.specs.Beginning.{HaveBegun, IsUnbegun}
 use Rattle.base_records.specs.Lines.{base_fault_line}
 use Rattle.log_file.specs.Bytes.{Rows}
 use Rattle.log_file.specs.Found.{base_in}
-use Rattle.run_command.specs.Joining.Opening.{IsOpened, IsUnfit, IsComing, IsGoingBack}
-use Rattle.run_command.specs.Recovering.{IsBegun}
+use Rattle.run_command.specs.Joining.Opening.{IsUnfit, IsComing}
+use Rattle.run_command.specs.Recovering.{IsBegun, IsGoingBack, IsOpened}
 
 pub baseless_comes : (start : Core) (empties : List Store) (file : List ℕ) (base : Option Rows) (log : List Event) (after : Core) (dcs : List Store)
     (journal : FileJournal) (report : Report) (fault : BaseFault) → IsLogFor start file base log → IsUnbegun base empties fault

@@ -19,8 +19,8 @@ ghost use Rattle.log_file.specs.Found.{base_in};
 ghost use Rattle.run_command.specs.Logged.{is_in_doubt, overfull, IsLogFor, IsLogRefusal, IsRunOn, IsLoggedRun, IsLogged};
 ghost use Rattle.run_command.specs.Joining.Renewing.{IsRenewedFirst};
 ghost use Rattle.run_command.specs.Kept.{KeepsLog};
-ghost use Rattle.run_command.specs.Joining.Opening.{IsOpened, IsOpening, IsUnfit, IsComing, IsGoingBack};
-ghost use Rattle.run_command.specs.Recovering.{IsBegun};
+ghost use Rattle.run_command.specs.Joining.Opening.{IsUnfit, IsComing};
+ghost use Rattle.run_command.specs.Recovering.{IsBegun, IsGoingBack, IsOpened, IsOpening};
 
 use crate::anew::{Ground, renew, write_renewal};
 use crate::answering::{FileJournal, RunInput};
@@ -55,15 +55,15 @@ pub enum Recovery<T> {
     Refused(Report),
 }
 
-// A log's file that was opened.
+/// A log's file that was opened.
 #[derive(Drop)]
-struct OpenLog {
-    journal: FileJournal,
-    // The records with which its log begins, where that was cut.
-    base: Option<Vec<BaseRow>>,
-    log: Log,
-    // How many bytes at its end were cut off.
-    dropped: usize,
+pub struct OpenLog {
+    pub journal: FileJournal,
+    /// The records with which its log begins, where that was cut.
+    pub base: Option<Vec<BaseRow>>,
+    pub log: Log,
+    /// How many bytes at its end were cut off.
+    pub dropped: usize,
 }
 
 /// What a run goes on from: what keeps its log, and the lines of what came back.
@@ -223,9 +223,9 @@ fn try_log<F: Files<File = File>>(
     }
 }
 
-// Opens the log's file of a state in which nothing has happened, and begins it where it is empty. The file
-// beside it is made only where something is cut off.
-fn open_log<F: Files<File = File>>(
+/// Opens the log's file of a state in which nothing has happened, and begins it where it is empty. The file
+/// beside it is made only where something is cut off.
+pub fn open_log<F: Files<File = File>>(
     rt: &F,
     alloc: Global,
     path: &str,
@@ -320,9 +320,9 @@ fn unfit(alloc: Global, fault: &ComeBackFault) -> Result<Recovery<String>, Stop>
     }
 }
 
-// Goes on from the log in a state in which nothing has happened, with new data components, and keeps what
-// that adds to the log.
-fn go_back(
+/// Goes on from the log in a state in which nothing has happened, with new data components, and keeps what
+/// that adds to the log.
+pub fn go_back(
     alloc: Global,
     state: &mut TcState,
     dcs: &mut [Dc],
@@ -354,9 +354,8 @@ fn go_back(
     }
 }
 
-/// Opens the log's file of a state in which nothing has happened, and goes on from its log with new data components. The
-/// file is begun where it is missing or empty.
-pub fn begin<F: Files<File = File>>(
+// Does both.
+fn begin<F: Files<File = File>>(
     rt: &F,
     alloc: Global,
     path: &str,

@@ -1,31 +1,18 @@
 -- The steps towards a run behind what a log's file has.
-use Rattle.std.specs.Prelude.{◌≡◌, ℕ, List, length, reverse, Option, Some, string_bytes}
+use Rattle.std.specs.Prelude.{◌≡◌, List, Option, Some, string_bytes}
 use Rattle.tc_log.specs.declared.event.Event.{Event}
 use Rattle.data_component.specs.Store.{Store}
 use Rattle.log_file.specs.Bytes.{Rows}
-use Rattle.log_file.specs.Found.{base_in}
 use Rattle.tc_core.specs.Core.{Core}
 use Rattle.std.specs.declared.alloc.Global.{Global}
 use Rattle.std.specs.declared.string.String.{String}
-use Rattle.run_command.specs.declared.logged.OpenLog.{OpenLog}
-use Rattle.run_command.specs.declared.logged.Recovered.{Recovered}
 use Rattle.run_command.specs.declared.logged.Recovery.{Recovery}
 use Rattle.run_command.specs.declared.logged.Recovery.TheVariants.{Ready, Refused}
 use Rattle.coming_back.specs.declared.coming.ComeBackFault.{ComeBackFault}
 use Rattle.run_command.specs.LogLines.{back_refusal}
-use Rattle.run_command.specs.Kept.{FileJournal, KeepsLog}
-use Rattle.run_command.specs.Logged.{IsLogFor, IsLogRefusal}
+use Rattle.run_command.specs.Kept.{FileJournal}
+use Rattle.run_command.specs.Logged.{IsLogRefusal}
 use Rattle.run_command.specs.Recovering.{IsBackFrom}
-
--- the file has this log, which the journal keeps
-pub record IsOpened (start : Core) (o : OpenLog) : Type 0 where
-  pub file : List ℕ
-  pub is_log : IsLogFor start file (base_in o.base) o.log.events
-  pub kept : KeepsLog (Some o.journal) o.log.events
-
-abbrev pub IsOpening : Core → List Store → Recovery OpenLog → Type 0
-IsOpening start empties (Ready o) = IsOpened start o
-IsOpening start empties (Refused report) = IsLogRefusal start empties (string_bytes report.lines) × (report.status ≡ 1)
 
 -- why the log isn't gone on from
 abbrev pub IsUnfit : ComeBackFault → Recovery (String Global) → Type 0
@@ -37,9 +24,4 @@ abbrev pub IsComing : Core → List Store → Option Rows → List Event → Cor
 IsComing start empties base log back dcs journal (Ready lines) =
     IsBackFrom start empties base log back dcs (record { journal = journal; lines = lines })
 IsComing start empties base log back dcs journal (Refused report) =
-    IsLogRefusal start empties (string_bytes report.lines) × (report.status ≡ 1)
-
-abbrev pub IsGoingBack : Core → List Store → Option Rows → List Event → Core → List Store → Recovery Recovered → Type 0
-IsGoingBack start empties base log back dcs (Ready b) = IsBackFrom start empties base log back dcs b
-IsGoingBack start empties base log back dcs (Refused report) =
     IsLogRefusal start empties (string_bytes report.lines) × (report.status ≡ 1)

@@ -27,14 +27,14 @@ returns-in-Err g c =
 pub returns-in-Err-Unread : goal.returns-in-Err-Unread
 returns-in-Err-Unread g c =
     unread_ends c.args.wanted.now.file.now (wish_of c.args.wanted.now.task) c.args.text.now _ _ _ c.in-Err-Unread.path.now
-    (rw c.in-Err-Unread.field-0-is at c.requires.further) c.cannot_read-in-Err-Unread.ensures refl
+    (rw (c.in-Err-Unread.is, c.in-Err-Unread.field-0-is) at c.requires.further) c.cannot_read-in-Err-Unread.ensures refl
 
 pub returns-in-Err-Unwritten : goal.returns-in-Err-Unwritten
 returns-in-Err-Unwritten g c =
     unwritten_ends c.args.wanted.now.file.now (wish_of c.args.wanted.now.task) c.args.text.now _ _ _ c.in-Err-Unwritten.path.now
-    (rw c.in-Err-Unwritten.field-0-is at c.requires.further) c.cannot_write_file.ensures refl
+    (rw (c.in-Err-Unwritten.is, c.in-Err-Unwritten.field-0-is) at c.requires.further) c.cannot_write_file.ensures refl
 
 pub returns-in-Err-Partition : goal.returns-in-Err-Partition
 returns-in-Err-Partition g c =
     unkept_ends c.args.wanted.now.file.now (wish_of c.args.wanted.now.task) c.args.text.now _ _ _ c.in-Err-Partition.log.now
-    (rw c.in-Err-Partition.field-0-is at c.requires.further) c.cannot_keep.ensures refl
+    (rw (c.in-Err-Partition.is, c.in-Err-Partition.field-0-is) at c.requires.further) c.cannot_keep.ensures refl

@@ -1,5 +1,5 @@
 use Rattle.std.proofs.lemmas.Result.{IfOk-weaker}
-use Rattle.run_command.specs.Joining.Opening.{IsOpened}
+use Rattle.run_command.specs.Recovering.{IsOpened}
 use Rattle.run_command.proofs.LoggedLemmas.{begun_by}
 use Rattle.run_command.proofs.logged.begin.Goals as goal
 
