@@ -1,6 +1,7 @@
 use Rattle.std.proofs.Common.{Bool, refl, rules, inl, inr, subst}
 use Rattle.std.specs.Prelude.{string_bytes}
 use Rattle.command_line.specs.Task.{wish_of, may_tell}
+use Rattle.procd.specs.Joining.Further.{Keeps, Reads, Writes}
 use Rattle.procd.specs.Report.{IsReport}
 use Rattle.procd.specs.Streams.{stream, Gets, Begins, TellsIf}
 use Rattle.procd.proofs.Faults.{unkept_ends, unread_ends, unwritten_ends}
@@ -26,15 +27,18 @@ returns-in-Err g c =
 
 pub returns-in-Err-Unread : goal.returns-in-Err-Unread
 returns-in-Err-Unread g c =
+    let of_task : Reads (wish_of c.args.wanted.now.task) c.in-Err-Unread.path.now = search rules in
     unread_ends c.args.wanted.now.file.now (wish_of c.args.wanted.now.task) c.args.text.now _ _ _ c.in-Err-Unread.path.now
-    (rw (c.in-Err-Unread.is, c.in-Err-Unread.field-0-is) at c.requires.further) c.cannot_read-in-Err-Unread.ensures refl
+    of_task c.cannot_read-in-Err-Unread.ensures refl
 
 pub returns-in-Err-Unwritten : goal.returns-in-Err-Unwritten
 returns-in-Err-Unwritten g c =
+    let of_task : Writes (wish_of c.args.wanted.now.task) c.in-Err-Unwritten.path.now = search rules in
     unwritten_ends c.args.wanted.now.file.now (wish_of c.args.wanted.now.task) c.args.text.now _ _ _ c.in-Err-Unwritten.path.now
-    (rw (c.in-Err-Unwritten.is, c.in-Err-Unwritten.field-0-is) at c.requires.further) c.cannot_write_file.ensures refl
+    of_task c.cannot_write_file.ensures refl
 
 pub returns-in-Err-Partition : goal.returns-in-Err-Partition
 returns-in-Err-Partition g c =
+    let of_task : Keeps (wish_of c.args.wanted.now.task) c.in-Err-Partition.log.now = search rules in
     unkept_ends c.args.wanted.now.file.now (wish_of c.args.wanted.now.task) c.args.text.now _ _ _ c.in-Err-Partition.log.now
-    (rw (c.in-Err-Partition.is, c.in-Err-Partition.field-0-is) at c.requires.further) c.cannot_keep.ensures refl
+    of_task c.cannot_keep.ensures refl
