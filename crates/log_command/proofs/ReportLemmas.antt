@@ -6,7 +6,7 @@ use Rattle.std.proofs.lemmas.Result.{IfOk-weaker}
 use Rattle.std.proofs.lemmas.List.{length-map}
 use Rattle.std.proofs.lemmas.List.Elements.{All-cons, All-nil}
 use Rattle.tc_log.specs.declared.event.Event.{Event}
-use Rattle.report_texts.specs.declared.report.Report.{Report}
+use Rattle.report_texts.specs.declared.output.Output.{Output}
 use Rattle.log_file.specs.declared.stored.Stored.{Stored}
 use Rattle.log_file.specs.Stored.{IsStored}
 use Rattle.log_file.specs.Found.{base_in}
@@ -39,20 +39,20 @@ use Rattle.log_command.specs.LogReport.{stored_lines, IsListing, Listed, AreBrou
 use Rattle.log_command.specs.LogReport.{IsChecked, NotBegun, NotBrought, Audited}
 use Rattle.log_command.specs.LogReport.{IsBeside, Anothers, Own, IsAudit, IsAuditBy}
 
-pub listed_is : {E : Type 0} (part : Part) (rows : Bool) (file : List ℕ) (s : Stored) (result : Result Report E) → IsStored file s
+pub listed_is : {E : Type 0} (part : Part) (rows : Bool) (file : List ℕ) (s : Stored) (result : Result Output E) → IsStored file s
     → IfOk result (λ r. string_bytes r.lines ≡ stored_lines part rows s) → IfOk result (λ r. r.status ≡ 0)
     → IfOk result (λ r. IsListing part rows file r.status (string_bytes r.lines))
 listed_is part rows file s (Ok r) is lines status = Listed s is lines status
 listed_is part rows file s (Err e) is lines status = tt
 
-pub anothers_is : {E : Type 0} (file : List ℕ) (start : Core) (empties : List Store) (s : Stored) (result : Result Report E) → IsStored file s
+pub anothers_is : {E : Type 0} (file : List ℕ) (start : Core) (empties : List Store) (s : Stored) (result : Result Output E) → IsStored file s
     → ¬ (s.header ≡ header_of (loaded_in start)) → IfOk result (λ r. string_bytes r.lines ≡ other_line s.header (header_of (loaded_in start)))
     → IfOk result (λ r. r.status ≡ 1)
     → IfOk result (λ r. IsBeside file start empties r.status (string_bytes r.lines))
 anothers_is file start empties s (Ok r) is differs line status = Anothers s is differs line status
 anothers_is file start empties s (Err e) is differs line status = tt
 
-pub own_is : {E : Type 0} (file : List ℕ) (start : Core) (empties : List Store) (s : Stored) (result : Result Report E) → IsStored file s
+pub own_is : {E : Type 0} (file : List ℕ) (start : Core) (empties : List Store) (s : Stored) (result : Result Output E) → IsStored file s
     → s.header ≡ header_of (loaded_in start) → IfOk result (λ r. IsChecked start empties s r.status (string_bytes r.lines))
     → IfOk result (λ r. IsBeside file start empties r.status (string_bytes r.lines))
 own_is file start empties s result is same checked = IfOk-weaker result _ _ (λ r c. Own s is same c) checked
@@ -76,7 +76,7 @@ ready_count contents script ready =
 pub ready_begun : (contents : Contents) (script : Script) → IsReady contents script → script.state.events ≡ []
 ready_begun contents script ready = ap (λ (c : Core). c.events) ready.state
 
-pub audit_is : {E : Type 0} (file : List ℕ) (b : Beginning) (script : Script) (result : Result Report E) → (b.refusal ≡ None) × IsReady b.contents script
+pub audit_is : {E : Type 0} (file : List ℕ) (b : Beginning) (script : Script) (result : Result Output E) → (b.refusal ≡ None) × IsReady b.contents script
     → IfOk result (λ x. IsBeside file script.state script.dcs.items x.status (string_bytes x.lines))
     → IfOk result (λ x. IsAudit file b x.status (string_bytes x.lines))
 audit_is file b script result ready beside =
@@ -89,7 +89,7 @@ audit_is file b script result ready beside =
 
 -- ---- data components that begin with the rows with which the log begins, and are brought to where it left them
 
-pub unbegun_is : {E : Type 0} (start : Core) (empties : List Store) (s : Stored) (fault : BaseFault) (result : Result Report E)
+pub unbegun_is : {E : Type 0} (start : Core) (empties : List Store) (s : Stored) (fault : BaseFault) (result : Result Output E)
     → IsUnbegun (base_in s.base) empties fault → IfOk result (λ r. string_bytes r.lines ≡ base_fault_line fault) → IfOk result (λ r. r.status ≡ 1)
     → IfOk result (λ r. IsChecked start empties s r.status (string_bytes r.lines))
 unbegun_is start empties s fault (Ok r) why line status = NotBegun fault why line status
@@ -109,7 +109,7 @@ brought start back empties log dcs legal has known redone agreed = record {
       (subst (λ (es : List Event). IsAgreed back.procs es dcs) (ap (λ (x : Core). x.events) has) (agreed w from));
 }
 
-pub audited_is : {E : Type 0} (start back : Core) (empties begun : List Store) (s : Stored) (dcs : List Store) (result : Result Report E)
+pub audited_is : {E : Type 0} (start back : Core) (empties begun : List Store) (s : Stored) (dcs : List Store) (result : Result Output E)
     → HaveBegun (base_in s.base) (reverse s.log.events) empties begun → AreBrought start begun s.log.events dcs
     → HasLog start s.log.events back
     → IfOk result (λ r. AreAuditLines back.procs s dcs r.status (string_bytes r.lines))
@@ -131,7 +131,7 @@ of_log start log count back dcs (Otherwise d) why none same = tt
 of_log start log count back dcs Memory why none same = tt
 
 pub unfit_is : {E : Type 0} (start back : Core) (empties begun : List Store) (s : Stored) (dcs : List Store) (fault : ComeBackFault)
-    (result : Result Report E) → HaveBegun (base_in s.base) (reverse s.log.events) empties begun
+    (result : Result Output E) → HaveBegun (base_in s.base) (reverse s.log.events) empties begun
     → IsFaultOf start s.log.events (length begun) back dcs fault → IfOk result (λ r. IsUnfit fault r.status (string_bytes r.lines))
     → IfOk result (λ r. IsChecked start empties s r.status (string_bytes r.lines))
 unfit_is start back empties begun s dcs fault result from why told = IfOk-weaker result _ _ (λ r u. NotBrought begun from back dcs fault why u) told

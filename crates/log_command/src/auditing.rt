@@ -16,7 +16,7 @@ use coming_back::{ComeBackFault, bring_back};
 use data_component::dc::Dc;
 use log_file::{Stored, read_file};
 use procedure_digest::header_of;
-use report_texts::report::Report;
+use report_texts::output::Output;
 use script_loading::loading::{Loading, Source, load_source};
 use scripts::keyword::Command;
 use state_lines::audit_lines::write_audit;
@@ -25,11 +25,11 @@ use tc_core::procs::Procs;
 use tc_core::state::TcState;
 
 // Why data components aren't brought to where the log left them.
-fn unfit(alloc: Global, fault: &ComeBackFault) -> Result<Report, AllocError>
+fn unfit(alloc: Global, fault: &ComeBackFault) -> Result<Output, AllocError>
     requires { IsOfLog fault.now }
     ensures { IfOk result (λ r. IsUnfit fault.now r.status (string_bytes r.lines)) }
 {
-    Ok(Report {
+    Ok(Output {
         status: 1,
         lines: unfit_line(alloc, fault)?,
         notes: None,
@@ -37,13 +37,13 @@ fn unfit(alloc: Global, fault: &ComeBackFault) -> Result<Report, AllocError>
 }
 
 // What an audit of the log and of these data components finds, and the end that isn't whole.
-fn audited(alloc: Global, procs: &Procs, stored: &Stored, dcs: &[Dc]) -> Result<Report, AllocError>
+fn audited(alloc: Global, procs: &Procs, stored: &Stored, dcs: &[Dc]) -> Result<Output, AllocError>
     ensures { IfOk result (λ r. AreAuditLines procs.now.codes stored.now dcs.now r.status (string_bytes r.lines)) }
 {
     let mut lines = String::new(alloc);
     let sound = write_audit(alloc, procs, &stored.log, dcs, &mut lines)?;
     write_unfinished(alloc, stored.unfinished, &mut lines)?;
-    Ok(Report {
+    Ok(Output {
         status: u8::from(!sound),
         lines,
         notes: None,
@@ -57,7 +57,7 @@ fn checked(
     state: &mut TcState,
     dcs: &mut [Dc],
     stored: &Stored,
-) -> Result<Report, AllocError>
+) -> Result<Output, AllocError>
     requires begun { state.old.events ≡ [] }
     requires count { length dcs.old ≡ state.old.dcs }
     requires empty { All HasOnlyRows dcs.old }
@@ -78,7 +78,7 @@ fn stored_beside(
     state: &mut TcState,
     dcs: &mut [Dc],
     stored: &Stored,
-) -> Result<Report, AllocError>
+) -> Result<Output, AllocError>
     requires begun { state.old.events ≡ [] }
     requires count { length dcs.old ≡ state.old.dcs }
     requires empty { All HasOnlyRows dcs.old }
@@ -98,7 +98,7 @@ fn beside(
     state: &mut TcState,
     dcs: &mut [Dc],
     file: &[u8],
-) -> Result<Report, AllocError>
+) -> Result<Output, AllocError>
     requires begun { state.old.events ≡ [] }
     requires count { length dcs.old ≡ state.old.dcs }
     requires empty { All HasOnlyRows dcs.old }
@@ -117,7 +117,7 @@ fn beside(
 /// Whether a file is a log of these procedures, each event allowed behind the ones before it, and what an audit finds of
 /// it and of the script's data components, which begin with the rows with which it does, and are redone from it: nothing
 /// is sent for transactions that are open.
-pub fn auditing(alloc: Global, file: &[u8], source: Source) -> Result<Report, AllocError>
+pub fn auditing(alloc: Global, file: &[u8], source: Source) -> Result<Output, AllocError>
     ensures { IfOk result (λ r. IsAudit file.now (beginning_of command.Run source.entry) r.status (string_bytes r.lines)) }
 {
     match load_source(alloc, Command::Run, source)? {

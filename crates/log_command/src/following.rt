@@ -17,7 +17,7 @@ use crate::refusing::refused;
 use frame_file::read_frames;
 use log_file::{Header, Stored, read_file};
 use log_part::Part;
-use report_texts::report::Report;
+use report_texts::output::Output;
 use std::alloc::{AllocError, Global};
 use tc_log::event::Entry;
 use tc_log::events::Events;
@@ -87,7 +87,7 @@ pub struct Followed {
 pub enum Begun {
     /// A log, and the lines of its events.
     Followed(Followed, String),
-    Unread(Report),
+    Unread(Output),
 }
 
 // The number of the frame that isn't there yet.
@@ -157,7 +157,7 @@ pub fn begin(alloc: Global, file: &[u8], part: Part) -> Result<Begun, AllocError
 }
 
 /// The report of a file that isn't read as a log, if it isn't.
-pub fn unread(alloc: Global, file: &[u8]) -> Result<Option<Report>, AllocError>
+pub fn unread(alloc: Global, file: &[u8]) -> Result<Option<Output>, AllocError>
     ensures some { IfOk result (λ o. IfSome o (λ r. IsUnread file.now r.status (string_bytes r.lines))) }
     ensures none { IfOk result (λ o. IfNone o (IsReadable file.now)) }
 {

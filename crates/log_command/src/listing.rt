@@ -8,7 +8,7 @@ use crate::event_lines::write_events;
 use crate::refusing::{refused, write_unfinished};
 use log_file::{Stored, read_file};
 use log_part::Part;
-use report_texts::report::Report;
+use report_texts::output::Output;
 use state_lines::row_lines::write_rows;
 use std::alloc::{AllocError, Global};
 use tc_log::events::Events;
@@ -42,7 +42,7 @@ fn write_part(
 }
 
 // The events of a part, the rows with which the log begins, where they are wanted, and the end that isn't whole.
-fn listed(alloc: Global, stored: &Stored, part: Part, rows: bool) -> Result<Report, AllocError>
+fn listed(alloc: Global, stored: &Stored, part: Part, rows: bool) -> Result<Output, AllocError>
     ensures lines { IfOk result (λ r. string_bytes r.lines ≡ stored_lines part rows stored.now) }
     ensures status { IfOk result (λ r. r.status ≡ 0) }
 {
@@ -50,7 +50,7 @@ fn listed(alloc: Global, stored: &Stored, part: Part, rows: bool) -> Result<Repo
     write_part(alloc, &stored.log.events(), part, &mut lines)?;
     write_base(alloc, stored, rows, &mut lines)?;
     write_unfinished(alloc, stored.unfinished, &mut lines)?;
-    Ok(Report {
+    Ok(Output {
         status: 0,
         lines,
         notes: None,
@@ -59,7 +59,7 @@ fn listed(alloc: Global, stored: &Stored, part: Part, rows: bool) -> Result<Repo
 
 /// A line for each event of a part of a log's file, the oldest first, whoever wrote it; with `rows` then one for each
 /// record with which data components begin, where the log was cut.
-pub fn listing(alloc: Global, file: &[u8], part: Part, rows: bool) -> Result<Report, AllocError>
+pub fn listing(alloc: Global, file: &[u8], part: Part, rows: bool) -> Result<Output, AllocError>
     ensures { IfOk result (λ r. IsListing part rows file.now r.status (string_bytes r.lines)) }
 {
     match read_file(alloc, file) {

@@ -9,7 +9,7 @@ use log_file::{Stored, read_file};
 use log_part::Part;
 use log_picture::drawing::{MOST_EVENTS, drawing};
 use log_picture::pictured;
-use report_texts::report::Report;
+use report_texts::output::Output;
 use std::alloc::{AllocError, Global};
 use tc_log::events::Events;
 
@@ -18,7 +18,7 @@ use tc_log::events::Events;
 pub struct Pictured {
     /// In SVG; none of a file that isn't read.
     pub svg: Option<String>,
-    pub report: Report,
+    pub report: Output,
 }
 
 // From which event on and up to which a part is shown, of a log of so many.
@@ -68,7 +68,7 @@ fn pictured_log(alloc: Global, stored: &Stored, part: Part) -> Result<Pictured, 
     write_unfinished(alloc, stored.unfinished, &mut lines)?;
     Ok(Pictured {
         svg: Some(svg),
-        report: Report {
+        report: Output {
             status: 0,
             lines,
             notes: None,

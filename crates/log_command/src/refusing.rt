@@ -12,7 +12,7 @@ use coming_back::ComeBackFault;
 use frame_file::FrameFault;
 use log_file::{Header, OpenFault};
 use procedure_digest::other_line;
-use report_texts::report::Report;
+use report_texts::output::Output;
 use std::alloc::{AllocError, Global};
 use tc_core::checking::CheckFault;
 use tc_core::recovery::RecoverFault;
@@ -35,10 +35,10 @@ fn refusal_line(alloc: Global, fault: OpenFault) -> Result<String, AllocError>
 }
 
 // The report of a refusal with this line.
-fn refusal(lines: String) -> Report
+fn refusal(lines: String) -> Output
     ensures { (result.status ≡ 1) × (result.lines ≡ lines) }
 {
-    Report {
+    Output {
         status: 1,
         lines,
         notes: None,
@@ -46,7 +46,7 @@ fn refusal(lines: String) -> Report
 }
 
 /// The report of a file that isn't read.
-pub(crate) fn refused(alloc: Global, fault: OpenFault) -> Result<Report, AllocError>
+pub(crate) fn refused(alloc: Global, fault: OpenFault) -> Result<Output, AllocError>
     ensures line { IfOk result (λ r. refusal_line fault ≡ Some (string_bytes r.lines)) }
     ensures status { IfOk result (λ r. r.status ≡ 1) }
 {
@@ -54,7 +54,7 @@ pub(crate) fn refused(alloc: Global, fault: OpenFault) -> Result<Report, AllocEr
 }
 
 /// The report of a log that has another header than the script's.
-pub(crate) fn anothers(alloc: Global, log: &Header, script: &Header) -> Result<Report, AllocError>
+pub(crate) fn anothers(alloc: Global, log: &Header, script: &Header) -> Result<Output, AllocError>
     ensures line { IfOk result (λ r. string_bytes r.lines ≡ other_line log.now script.now) }
     ensures status { IfOk result (λ r. r.status ≡ 1) }
 {
@@ -84,7 +84,7 @@ pub(crate) fn unfit_line(alloc: Global, fault: &ComeBackFault) -> Result<String,
 }
 
 /// The report of data components that don't begin with the rows with which the log begins.
-pub(crate) fn unbegun(alloc: Global, fault: BaseFault) -> Result<Report, AllocError>
+pub(crate) fn unbegun(alloc: Global, fault: BaseFault) -> Result<Output, AllocError>
     ensures line { IfOk result (λ r. string_bytes r.lines ≡ base_fault_line fault) }
     ensures status { IfOk result (λ r. r.status ≡ 1) }
 {

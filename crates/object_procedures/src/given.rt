@@ -12,14 +12,14 @@ use crate::source_place::Origin;
 use bpf_encoding::decode::DecodeFault;
 use object_file::{LineSections, line_sections};
 use report_texts::fault_names::fault_name;
-use report_texts::report::Report;
+use report_texts::output::Output;
 use scripts::script::Procedure;
 use std::alloc::{AllocError, AllocFailed, Global};
 
 /// Why no procedures are given: the report that says why, or want of memory.
 #[derive(Drop)]
 pub enum Ungiven {
-    Refused(Report),
+    Refused(Output),
     Memory,
 }
 
@@ -51,14 +51,14 @@ fn code_refusal(
     name: &str,
     fault: &DecodeFault,
     origin: &Origin<'_>,
-) -> Result<Report, AllocError>
+) -> Result<Output, AllocError>
     ensures lines { IfOk result (λ r. string_bytes r.lines
         ≡ code_refusal name.now fault.now (fault_text (option_map line_bytes origin.now.lines) origin.now.section fault.now)) }
     ensures status { IfOk result (λ r. r.status ≡ 1) }
 {
     let place = origin.fault_text(alloc, fault)?;
     let fault = fault_name(alloc, fault)?;
-    Ok(Report {
+    Ok(Output {
         status: 1,
         lines: format!(in alloc; "refused object {name} {fault}{place}\n")?,
         notes: None,

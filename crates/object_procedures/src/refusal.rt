@@ -7,7 +7,7 @@ use crate::finding::ObjectRefusal;
 use access_slots::decl::DeclFault;
 use object_file::ObjectFault;
 use report_texts::fault_names::decl_fault_name;
-use report_texts::report::Report;
+use report_texts::output::Output;
 use std::alloc::{AllocError, Global};
 
 // What is wrong with an entry of a section of accesses.
@@ -60,12 +60,12 @@ fn refusal_name(alloc: Global, why: ObjectRefusal) -> Result<String, AllocError>
 }
 
 /// The report of an object file that is refused: why, in a line, with status 1.
-pub fn refusal(alloc: Global, why: ObjectRefusal) -> Result<Report, AllocError>
+pub fn refusal(alloc: Global, why: ObjectRefusal) -> Result<Output, AllocError>
     ensures lines { IfOk result (λ r. string_bytes r.lines ≡ object_refusal why) }
     ensures status { IfOk result (λ r. r.status ≡ 1) }
 {
     let name = refusal_name(alloc, why)?;
-    Ok(Report {
+    Ok(Output {
         status: 1,
         lines: format!(in alloc; "refused object {name}\n")?,
         notes: None,

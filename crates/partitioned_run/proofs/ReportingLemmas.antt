@@ -21,7 +21,7 @@ use Rattle.script_loading.specs.declared.loading.Acceptance.{Acceptance}
 use Rattle.script_loading.specs.declared.loading.Acceptance.TheVariants as accepted
 use Rattle.scripts.specs.declared.script.Script.{Script}
 use Rattle.script_loading.specs.declared.loading.Accepted.{Accepted as AcceptedScript}
-use Rattle.report_texts.specs.declared.report.Report.{Report}
+use Rattle.report_texts.specs.declared.output.Output.{Output}
 use Rattle.state_lines.specs.RowLines.{row_lines, AddsRowLines}
 use Rattle.state_lines.proofs.RowLemmas.{one_added}
 use Rattle.tc_core.specs.Admission.{call_of}
@@ -289,14 +289,14 @@ ran_so : (keeps : Bool) (c : Contents) (workers tries : ℕ) (audit : Bool) (sta
 ran_so false c workers tries audit status lines range run = Begun range run
 ran_so true c workers tries audit status lines range run = Behind (Begun range run)
 
-pub ran_apart : {E : Type 0} (keeps : Bool) (c : Contents) (workers tries : ℕ) (audit : Bool) (report : Result Report E) → InRange workers tries
+pub ran_apart : {E : Type 0} (keeps : Bool) (c : Contents) (workers tries : ℕ) (audit : Bool) (report : Result Output E) → InRange workers tries
     → IfOk report (λ r. IsRunSo keeps c audit r.status (string_bytes r.lines))
     → IfOk report (λ r. IsContentsRun keeps c workers tries audit r.status (string_bytes r.lines))
 ran_apart keeps c workers tries audit (Ok r) range run = ran_so keeps c workers tries audit r.status (string_bytes r.lines) range run
 ran_apart keeps c workers tries audit (Err e) range run = tt
 
 -- the file of a partition is refused
-pub refused_apart : (keeps : Bool) (c : Contents) (d : Division) (workers tries : ℕ) (audit : Bool) (report : Report) → AreDivided c d
+pub refused_apart : (keeps : Bool) (c : Contents) (d : Division) (workers tries : ℕ) (audit : Bool) (report : Output) → AreDivided c d
     → (keeps ≡ true) × ((p : ℕ) × IsRefusedAt (begun c) (empty_stores c) d.partitions p report)
     → IsContentsRun keeps c workers tries audit report.status (string_bytes report.lines)
 refused_apart true c d workers tries audit report numbered h =

@@ -13,7 +13,7 @@ use crate::belonging::{other_line, other_of};
 use crate::fault::Fault;
 use crate::grounds::{Start, Task, own_ground};
 use partitions::Partitions;
-use report_texts::report::Report;
+use report_texts::output::Output;
 use run_command::logged::{OpenLog, Recovered, Recovery, go_back, open_log};
 use run_command::running::Ground;
 use std::alloc::{AllocError, Global};
@@ -35,12 +35,12 @@ fn partition_line(alloc: Global, number: usize) -> Result<String, AllocError>
 }
 
 // The report of a run that is refused by these lines of a partition.
-fn refused(alloc: Global, number: usize, lines: &str) -> Result<Report, AllocError>
+fn refused(alloc: Global, number: usize, lines: &str) -> Result<Output, AllocError>
     ensures { IfOk result (λ r. (r.status ≡ 1) × (string_bytes r.lines ≡ partition_line number ++ lines.now)) }
 {
     let mut all = partition_line(alloc, number)?;
     all.push_str(lines)?;
-    Ok(Report {
+    Ok(Output {
         status: 1,
         lines: all,
         notes: None,

@@ -22,7 +22,7 @@ use crate::reporting::{
 };
 use data_component::dc::Dc;
 use partitions::merged;
-use report_texts::report::Report;
+use report_texts::output::Output;
 use run_command::logged::Recovery;
 use run_command::running::{Listeners, Manner, Stop, Waits, stopped};
 use script_loading::loading::{Acceptance, Accepted, Source, accept_source, empty_dcs};
@@ -55,7 +55,7 @@ fn reported(
     front: String,
     empty: &[Dc],
     all: &All,
-) -> Result<Report, AllocError>
+) -> Result<Output, AllocError>
     requires divided { AreDivided (contents_of task.script.now) task.division.now }
     requires empty { empty.now ≡ empty_stores (contents_of task.script.now) }
     requires run { HaveRun (is_some task.log) (contents_of task.script.now) task.division.now (string_bytes front) all.now }
@@ -72,7 +72,7 @@ fn reported(
     let grounds = all.grounds.as_slice();
     write_kept(alloc, &division.partitions, grounds, empty, &mut lines)?;
     let sound = write_audits(alloc, task.manner.audit, grounds, &mut lines)?;
-    Ok(Report {
+    Ok(Output {
         status: status_of(sound),
         lines,
         notes: None,
@@ -86,7 +86,7 @@ fn told<F: Files<File = File>>(
     task: Task,
     front: String,
     all: &All,
-) -> Result<Report, Fault>
+) -> Result<Output, Fault>
     requires divided { AreDivided (contents_of task.script.now) task.division.now }
     requires run { HaveRun (is_some task.log) (contents_of task.script.now) task.division.now (string_bytes front) all.now }
     ensures { IfOk result (λ r. IsRunSo (is_some task.entry.log) (contents_of task.entry.script.now) task.entry.manner.audit
@@ -105,7 +105,7 @@ fn run_started<R: Files<File = File> + Clock + Threads + Wait + Sync>(
     alloc: Global,
     task: Task,
     starts: Vec<Start>,
-) -> Result<Report, Fault>
+) -> Result<Output, Fault>
     requires divided { IsDivided (option_map (λ file. file.now) task.object) task.script.now task.division.now }
     requires each { length starts.items ≡ max (length task.script.now.dcs.items) 1 }
     requires starts { AreStarts (is_some task.log) (begun (contents_of task.script.now)) (empty_stores (contents_of task.script.now))
@@ -146,7 +146,7 @@ fn run_divided<R: Files<File = File> + Clock + Threads + Wait + Sync>(
     rt: &R,
     alloc: Global,
     task: Task,
-) -> Result<Report, Fault>
+) -> Result<Output, Fault>
     requires { IsDivided (option_map (λ file. file.now) task.object) task.script.now task.division.now }
     ensures { InRange task.entry.manner.workers task.entry.manner.tries → IfOk result (λ r. IsContentsRun (is_some task.entry.log)
         (contents_of task.entry.script.now) task.entry.manner.workers task.entry.manner.tries task.entry.manner.audit
@@ -168,7 +168,7 @@ fn run_accepted<R: Files<File = File> + Clock + Threads + Wait + Sync>(
     log: Option<&str>,
     manner: Manner,
     listeners: Listeners,
-) -> Result<Report, Fault>
+) -> Result<Output, Fault>
     requires verified { first_unverified (option_map (λ file. file.now) object) accepted.script.procedures.items ≡ None }
     requires state { accepted.state ≡ begun (contents_of accepted.script) }
     ensures { InRange manner.workers manner.tries → IfOk result (λ r. IsContentsRun (is_some log.entry) (contents_of accepted.entry.script)
@@ -203,7 +203,7 @@ fn run_fit<R: Files<File = File> + Clock + Threads + Wait + Sync>(
     log: Option<&str>,
     manner: Manner,
     listeners: Listeners,
-) -> Result<Report, Fault>
+) -> Result<Output, Fault>
     requires verified { first_unverified (option_map (λ file. file.now) object) accepted.script.procedures.items ≡ None }
     requires state { accepted.state ≡ begun (contents_of accepted.script) }
     ensures { IfOk result (λ r. IsContentsRun (is_some log.entry) (contents_of accepted.entry.script)
@@ -239,7 +239,7 @@ pub fn running_partitioned<R: Files<File = File> + Clock + Threads + Wait + Sync
     log: Option<&str>,
     manner: Manner,
     listeners: Listeners,
-) -> Result<Report, Fault>
+) -> Result<Output, Fault>
     ensures { IfOk result (λ r. IsPartitionedRun (is_some log.entry) manner.workers manner.tries manner.audit (beginning_of command.Run source.entry)
         r.status (string_bytes r.lines)) }
 {

@@ -11,7 +11,7 @@ use crate::streams::Streams;
 use crate::writing::tell;
 use log_command::following::{Begun, Followed, begin, seam_line, unread};
 use log_part::Part;
-use report_texts::report::Report;
+use report_texts::output::Output;
 use std::alloc::{AllocError, Global};
 use std::fs::{self, File, OpenFile};
 use std::io::{self, Seek, SeekFrom, Write};
@@ -28,7 +28,7 @@ const PAUSE: u64 = 200;
 #[derive(Drop)]
 pub enum End {
     /// What stands in its file is no log, or no longer one.
-    Refused(Report),
+    Refused(Output),
     /// Its file can't be read.
     Unread(Reason),
     /// Standard output can't be written.

@@ -7,7 +7,7 @@
 //! balance accepted 7
 //! ```
 //!
-//! `command_line` says what the words ask for. A command makes a whole `Report` of its file's text, and only
+//! `command_line` says what the words ask for. A command makes a whole `Output` of its file's text, and only
 //! then are its lines written, so where memory runs out nothing is printed; those of a followed log's events
 //! alone are written as they come. What `program` ensures begins with the words; `main` hands them on.
 //! `docs/FORMATS.md` has all lines and statuses.

@@ -25,7 +25,7 @@ use command_line::words::{LogTask, Task, Wanted, WordFault, wanted_of};
 use disk_file::FileKind;
 use log_part::Part;
 use partitioned_run::running::file_of;
-use report_texts::report::Report;
+use report_texts::output::Output;
 use run_command::logged::kind_refusal;
 use run_command::running::Stop;
 use std::alloc::{AllocError, Global};
@@ -156,7 +156,7 @@ fn cannot_keep<E: Write>(alloc: Global, err: &mut E, log: &str, number: usize, s
 }
 
 // Tells the figures, where they are asked for and there are some.
-fn tell_notes<E: Write>(err: &mut E, may_tell: bool, report: &Report)
+fn tell_notes<E: Write>(err: &mut E, may_tell: bool, report: &Output)
     ensures { TellsIf may_tell (stream (E.contents err.old) (E.contents err.new)) }
 {
     if let (true, Some(notes)) = (may_tell, &report.notes) {
@@ -170,7 +170,7 @@ fn tell_report<F: Files<File = File>, W: Write, E: Write>(
     alloc: Global,
     wanted: &Wanted,
     text: &[u8],
-    report: Result<Report, ReportFault>,
+    report: Result<Output, ReportFault>,
     streams: &mut Streams<W, E>,
 ) -> u8
     requires ok { IfOk report (λ r. IsReport (wish_of wanted.now.task) text.now r.status (string_bytes r.lines)) }

@@ -22,7 +22,7 @@ use log_part::Part;
 use object_file::is_elf;
 use partitioned_run::fault::Fault;
 use partitioned_run::running::running_partitioned;
-use report_texts::report::Report;
+use report_texts::output::Output;
 use run_command::logged::running_logged;
 use run_command::running::{Checkpoints, Listeners, Manner, RunOptions, Stop, running};
 use script_loading::loading::Source;
@@ -128,7 +128,7 @@ fn source_of<'t, 'a>(
 }
 
 // What the verifier says of an object file's procedures, or of a script's.
-fn verify_report<'a>(alloc: Global, file: &[u8]) -> Result<Report, ReportFault<'a>>
+fn verify_report<'a>(alloc: Global, file: &[u8]) -> Result<Output, ReportFault<'a>>
     ensures ok { IfOk result (λ r. IsVerification (is_elf file.now) file.now r.status (string_bytes r.lines)) }
     ensures not_text { IfErr result (IsNoTextOf (not (is_elf file.now)) file.now) }
     ensures further { IfErr result IsOfFile }
@@ -146,7 +146,7 @@ fn logged<'a, R: Files<File = File> + Clock + Threads + Wait + Sync>(
     path: &'a str,
     source: Source,
     options: RunOptions,
-) -> Result<Report, ReportFault<'a>>
+) -> Result<Output, ReportFault<'a>>
     ensures ok { IfOk result (λ r. IsKeptRun options.entry.checkpoints options.entry.manner.workers options.entry.manner.tries
         options.entry.manner.audit options.entry.manner.results (beginning_of command.Run source.entry) r.status
         (string_bytes r.lines)) }
@@ -171,7 +171,7 @@ fn run_of<'a, R: Files<File = File> + Clock + Threads + Wait + Sync>(
     script: Option<&'a str>,
     options: RunOptions,
     log: Option<&'a str>,
-) -> Result<Report, ReportFault<'a>>
+) -> Result<Output, ReportFault<'a>>
     ensures ok { IfOk result (λ r. IsRunOf options.entry.checkpoints options.entry.manner.workers options.entry.manner.tries
         options.entry.manner.audit options.entry.manner.results (option_map (λ path. path.now) log.entry)
         (option_map (λ path. path.now) script.entry) file.now r.status (string_bytes r.lines)) }
@@ -209,7 +209,7 @@ fn partitioned_of<'a, R: Files<File = File> + Clock + Threads + Wait + Sync>(
     log: Option<&'a str>,
     manner: Manner,
     listeners: Listeners,
-) -> Result<Report, ReportFault<'a>>
+) -> Result<Output, ReportFault<'a>>
     ensures ok { IfOk result (λ r. IsPartitionedOf (is_some (option_map (λ path. path.now) log.entry)) manner.workers manner.tries manner.audit
         (option_map (λ path. path.now) script.entry) file.now r.status (string_bytes r.lines)) }
     ensures not_text { IfErr result (IsNoTextOf (is_none script.entry) file.now) }
@@ -230,7 +230,7 @@ fn world_of<'a, R: Files>(
     file: &[u8],
     script: Option<&'a str>,
     behind: Behind,
-) -> Result<Report, ReportFault<'a>>
+) -> Result<Output, ReportFault<'a>>
     ensures ok { IfOk result (λ r. IsWorldOf behind (option_map (λ path. path.now) script.entry) file.now r.status (string_bytes r.lines)) }
     ensures not_text { IfErr result (IsNoTextOf (is_none script.entry) file.now) }
     ensures further { IfErr result (IsBesideFault (option_map (λ path. path.now) script.entry)) }
@@ -247,7 +247,7 @@ fn audit_beside<'a, R: Files>(
     file: &[u8],
     object: Option<&[u8]>,
     path: &'a str,
-) -> Result<Report, ReportFault<'a>>
+) -> Result<Output, ReportFault<'a>>
     ensures ok { IfOk result (λ r. IsAuditBeside (option_map (λ object. object.now) object.entry) file.now r.status (string_bytes r.lines)) }
     ensures text { IfErr result IsOfText }
     ensures script { IfErr result (IsScriptFault path.entry.now) }
@@ -266,7 +266,7 @@ fn audit_report<'a, R: Files>(
     file: &[u8],
     source: &'a str,
     script: Option<&'a str>,
-) -> Result<Report, ReportFault<'a>>
+) -> Result<Output, ReportFault<'a>>
     ensures ok { IfOk result (λ r. IsLogReport (Audit source.entry.now (option_map (λ path. path.now) script.entry)) file.now r.status (string_bytes r.lines)) }
     ensures text { IfErr result IsOfText }
     ensures script { IfErr result (IsTaskFault (Log (Audit source.entry.now (option_map (λ path. path.now) script.entry)))) }
@@ -302,7 +302,7 @@ fn picture_report<'a, R: Files>(
     file: &[u8],
     path: &'a str,
     part: Part,
-) -> Result<Report, ReportFault<'a>>
+) -> Result<Output, ReportFault<'a>>
     ensures ok { IfOk result (λ r. IsLogReport (Picture path.entry.now part) file.now r.status (string_bytes r.lines)) }
     ensures text { IfErr result IsOfText }
     ensures picture { IfErr result (IsPictureFault path.entry.now) }
@@ -320,7 +320,7 @@ fn log_report<'a, R: Files>(
     alloc: Global,
     file: &[u8],
     wanted: LogTask<'a>,
-) -> Result<Report, ReportFault<'a>>
+) -> Result<Output, ReportFault<'a>>
     ensures ok { IfOk result (λ r. IsLogReport (log_wish wanted.entry) file.now r.status (string_bytes r.lines)) }
     ensures text { IfErr result IsOfText }
     ensures script { IfErr result (IsTaskFault (Log (log_wish wanted.entry))) }
@@ -381,7 +381,7 @@ pub fn report_on<'a, R: Files<File = File> + Clock + Threads + Wait + Sync>(
     task: &Task<'a>,
     text: &[u8],
     progress: Meanwhile,
-) -> Result<Report, ReportFault<'a>>
+) -> Result<Output, ReportFault<'a>>
     ensures ok { IfOk result (λ r. IsReport (wish_of task.now) text.now r.status (string_bytes r.lines)) }
     // Only assembly text and scripts have to be UTF-8, and without a byte order mark; an object file is no script.
     ensures not_text { IfErr result (IsNoTextOf (wants_text (wish_of task.now) text.now) text.now) }

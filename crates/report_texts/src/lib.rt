@@ -1,5 +1,5 @@
-//! What reports are made of, whichever command makes them: the report, hex text, the printed name of each
-//! fault, and the report of a script that is refused.
+//! What a command prints, whichever it is: the output, hex text, the printed name of each
+//! fault, and the output of a script that is refused.
 //!
 //! ```
 //! let bytes = bytes_of(alloc, b"b7 00 00 00 07 00 00 00")?; // eight, or HexFault::NotHex(place)
@@ -11,5 +11,5 @@
 pub mod explanation;
 pub mod fault_names;
 pub mod hex;
-pub mod report;
+pub mod output;
 pub mod script_refusal;

@@ -22,7 +22,7 @@ use Rattle.log_file.specs.declared.header.Header.{Header}
 use Rattle.log_file.specs.declared.reading.OpenFault.{OpenFault}
 use Rattle.log_file.specs.Reading.{IsRefusal}
 use Rattle.coming_back.specs.declared.resumed.Resumed.{Resumed}
-use Rattle.report_texts.specs.declared.report.Report.{Report}
+use Rattle.report_texts.specs.declared.output.Output.{Output}
 use Rattle.run_command.specs.LogLines.{IsOtherRefusal, IsOpenRefusal, overfull_refusal}
 use Rattle.run_command.specs.Kept.{FileJournal}
 use Rattle.run_command.specs.Logged.{IsLogFor, HasComeBack, overfull, Baseless, Unfit, Overfull}
@@ -35,7 +35,7 @@ use Rattle.run_command.specs.Joining.Opening.{IsUnfit, IsComing}
 use Rattle.run_command.specs.Recovering.{IsBegun, IsGoingBack, IsOpened}
 
 pub baseless_comes : (start : Core) (empties : List Store) (file : List ℕ) (base : Option Rows) (log : List Event) (after : Core) (dcs : List Store)
-    (journal : FileJournal) (report : Report) (fault : BaseFault) → IsLogFor start file base log → IsUnbegun base empties fault
+    (journal : FileJournal) (report : Output) (fault : BaseFault) → IsLogFor start file base log → IsUnbegun base empties fault
     → string_bytes report.lines ≡ base_fault_line fault → report.status ≡ 1
     → IsComing start empties base log after dcs journal (Refused report)
 baseless_comes start empties file base log after dcs journal report fault is_log why line status = (Baseless file base log fault is_log why line, status)
@@ -49,7 +49,7 @@ unfit_comes start empties file base log begun after dcs journal fault (Refused r
     (Unfit file base log begun after dcs fault is_log begins why h.0, h.1)
 
 pub overfull_comes : (start : Core) (empties : List Store) (file : List ℕ) (base : Option Rows) (log : List Event) (begun : List Store) (back : Core)
-    (dcs : List Store) (resumed : List Resumed) (journal : FileJournal) (report : Report) (d : ℕ) → IsLogFor start file base log
+    (dcs : List Store) (resumed : List Resumed) (journal : FileJournal) (report : Output) (d : ℕ) → IsLogFor start file base log
     → HaveBegun base (reverse log) empties begun → HasComeBack start begun log back dcs resumed → overfull dcs resumed ≡ Some d
     → string_bytes report.lines ≡ overfull_refusal d → report.status ≡ 1
     → IsComing start empties base log back dcs journal (Refused report)

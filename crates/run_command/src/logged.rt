@@ -36,7 +36,7 @@ use frame_file::{DeviceError, FrameFault};
 use log_file::{BaseRow, Header, LogFile, OpenFault};
 use log_journal::{LogJournal, Restored};
 use procedure_digest::header_of;
-use report_texts::report::Report;
+use report_texts::output::Output;
 use script_loading::loading::{Loaded, Loading, Source, load_source};
 use scripts::keyword::Command;
 use std::alloc::{AllocError, Global};
@@ -52,7 +52,7 @@ use tc_log::log::Log;
 #[derive(Drop)]
 pub enum Recovery<T> {
     Ready(T),
-    Refused(Report),
+    Refused(Output),
 }
 
 /// A log's file that was opened.
@@ -74,10 +74,10 @@ pub struct Recovered {
 }
 
 // The report of a run that is refused.
-fn refusal(lines: String) -> Report
+fn refusal(lines: String) -> Output
     ensures { (result.status ≡ 1) × (result.lines ≡ lines) }
 {
-    Report {
+    Output {
         status: 1,
         lines,
         notes: None,
@@ -91,7 +91,7 @@ fn unread(
     header: &Header,
     bytes: &[u8],
     device: &DiskFile,
-) -> Result<Option<Report>, Stop>
+) -> Result<Option<Output>, Stop>
     ensures { IfOk result (λ o. IfSome o (λ report.
         IsOpenRefusal header.now bytes.now fault.now (string_bytes report.lines) × (report.status ≡ 1))) }
 {
@@ -156,7 +156,7 @@ fn open_file<F: Files<File = File>>(
 }
 
 // Why a log's file isn't opened.
-fn unopened(alloc: Global, error: OpenError) -> Result<Report, Stop>
+fn unopened(alloc: Global, error: OpenError) -> Result<Output, Stop>
     ensures { (start : Core) (empties : List Store) → IfOk result (λ report.
         IsLogRefusal start empties (string_bytes report.lines) × (report.status ≡ 1)) }
 {
@@ -372,7 +372,7 @@ fn begin<F: Files<File = File>>(
 }
 
 // Puts these lines before those of a report.
-fn put_before(alloc: Global, lines: &str, report: &mut Report) -> Result<(), Stop>
+fn put_before(alloc: Global, lines: &str, report: &mut Output) -> Result<(), Stop>
     ensures { OnOk result ((report.new.status ≡ report.old.status)
         × (string_bytes report.new.lines ≡ lines.now ++ string_bytes report.old.lines)) }
 {

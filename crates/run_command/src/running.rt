@@ -29,7 +29,7 @@ use crate::parts::{RunOutcome, answer_parts};
 pub use crate::stop::Stop;
 pub use crate::watching::{Listeners, Waits};
 use data_component::dc::Dc;
-use report_texts::report::Report;
+use report_texts::output::Output;
 use script_loading::loading::{Loaded, Loading, Source, load_source};
 use scripts::keyword::Command;
 use scripts::script;
@@ -138,7 +138,7 @@ fn reported(
     lines: String,
     renewal: Renewal,
     watched: Watched,
-) -> Result<Report, AllocError>
+) -> Result<Output, AllocError>
     ensures { IfOk result (λ r. AreLinesOf ground.now.state ground.now.dcs.items input.entry.manner.audit
         answers.now.first.items answers.now.calls.items (string_bytes lines) renewal r.status (string_bytes r.lines)) }
 {
@@ -152,7 +152,7 @@ fn reported(
     write_renewal(alloc, renewal, &ground.state, &mut lines)?;
     write_all_rows(alloc, dcs, &mut lines)?;
     let sound = write_found(alloc, input.manner.audit, &ground.state, dcs, &mut lines)?;
-    Ok(Report {
+    Ok(Output {
         status: u8::from(!sound),
         lines,
         notes: if input.manner.stats {
@@ -164,12 +164,12 @@ fn reported(
 }
 
 /// The report of calls none of which was begun.
-pub fn stopped(alloc: Global, stop: Stop) -> Result<Report, AllocError>
+pub fn stopped(alloc: Global, stop: Stop) -> Result<Output, AllocError>
     ensures lines { IfOk result (λ r. fault_line stop ≡ Some (string_bytes r.lines)) }
     ensures status { IfOk result (λ r. r.status ≡ 1) }
 {
     let line = fault_line(stop).ok_or(AllocError)?;
-    Ok(Report {
+    Ok(Output {
         status: 1,
         lines: String::from_str(alloc, line)?,
         notes: None,
@@ -179,7 +179,7 @@ pub fn stopped(alloc: Global, stop: Stop) -> Result<Report, AllocError>
 /// The report of calls, and the journal that has kept the log behind them, if there is one.
 #[derive(Drop)]
 pub struct RunReport {
-    pub report: Report,
+    pub report: Output,
     pub journal: Option<FileJournal>,
 }
 
@@ -199,7 +199,7 @@ fn journal_of(ground: Ground) -> Option<FileJournal>
 
 // The report with the journal, which goes where memory ran out.
 fn with_journal(
-    report: Result<Report, AllocError>,
+    report: Result<Output, AllocError>,
     journal: Option<FileJournal>,
 ) -> Result<RunReport, Stop>
     ensures ok { IfOk result (λ r. (report ≡ Ok r.report) × (r.journal ≡ journal)) }
@@ -321,7 +321,7 @@ pub fn running<R: Files<File = File> + Clock + Threads + Wait + Sync>(
     source: Source,
     manner: Manner,
     listeners: Listeners,
-) -> Result<Report, AllocError>
+) -> Result<Output, AllocError>
     ensures { IfOk result (λ r. IsRun manner.workers manner.tries manner.audit manner.results (beginning_of command.Run source.entry)
         r.status (string_bytes r.lines)) }
 {

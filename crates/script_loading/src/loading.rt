@@ -16,7 +16,7 @@ use object_procedures::given::{Ungiven, given};
 use object_procedures::named_place::named_place;
 use register_kinds::kind::Violation;
 use report_texts::fault_names::violation_name;
-use report_texts::report::Report;
+use report_texts::output::Output;
 use report_texts::script_refusal::refusal;
 use scripts::keyword::Command;
 use scripts::reading::{Fault, Parsed, parse, parse_behind};
@@ -35,7 +35,7 @@ pub struct Source<'a> {
 /// Why procedures aren't loaded: the report of the first that the verifier refuses, or want of memory.
 #[derive(Drop)]
 pub enum Unloaded {
-    Refused(Report),
+    Refused(Output),
     Memory,
 }
 
@@ -74,7 +74,7 @@ pub struct Accepted<'a> {
 pub enum Acceptance<'a> {
     Accepted(Accepted<'a>),
     /// As below.
-    Refused(Report),
+    Refused(Output),
 }
 
 /// What a script comes to before its first step or call.
@@ -82,7 +82,7 @@ pub enum Acceptance<'a> {
 pub enum Loading {
     Ready(Loaded),
     /// The line of the first procedure that the verifier refuses, or else of the text's fault.
-    Refused(Report),
+    Refused(Output),
 }
 
 // Where a procedure stands.
@@ -120,7 +120,7 @@ fn unverified_report(
     name: &str,
     slot: usize,
     violation: Violation,
-) -> Result<Report, AllocError>
+) -> Result<Output, AllocError>
     ensures lines { IfOk result (λ r. string_bytes r.lines
         ≡ unverified_line (option_map (λ file. file.now) object.entry) line name.now slot violation) }
     ensures status { IfOk result (λ r. r.status ≡ 1) }
@@ -128,7 +128,7 @@ fn unverified_report(
     let place = place_name(alloc, line, name)?;
     let behind = place_behind(alloc, object, line, name, slot)?;
     let violation = violation_name(violation);
-    Ok(Report {
+    Ok(Output {
         status: 1,
         lines: format!(in alloc; "refused {place} F7 Verify {violation} slot {slot}{behind}\n")?,
         notes: None,
@@ -284,7 +284,7 @@ fn refused_access<'a>(
 {
     match fault {
         Some(fault) => refused_text(alloc, fault),
-        None => Ok(Acceptance::Refused(Report {
+        None => Ok(Acceptance::Refused(Output {
             status: 1,
             lines: format!(in alloc; "refused object {name} F8 DcUnknown\n")?,
             notes: None,

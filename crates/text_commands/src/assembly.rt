@@ -14,7 +14,7 @@ use bpf_encoding::decode::{DecodeFault, decode};
 use bpf_encoding::encode::encode;
 use report_texts::fault_names::asm_fault_name;
 use report_texts::hex::{HexFault, bytes_of, hex_lines};
-use report_texts::report::Report;
+use report_texts::output::Output;
 use std::alloc::{AllocError, Global};
 
 fn asm_refusal(alloc: Global, fault: AsmFault) -> Result<String, AllocError>
@@ -25,17 +25,17 @@ fn asm_refusal(alloc: Global, fault: AsmFault) -> Result<String, AllocError>
 }
 
 /// Assembles the text, and says its slots in hex or why it is refused.
-pub fn assembly(alloc: Global, text: &str) -> Result<Report, AllocError>
+pub fn assembly(alloc: Global, text: &str) -> Result<Output, AllocError>
     ensures { IfOk result (λ r. IsAssembly (assembled text.now) r.status (string_bytes r.lines)) }
 {
     match assemble(alloc, text) {
-        Ok(code) => Ok(Report {
+        Ok(code) => Ok(Output {
             status: 0,
             lines: hex_lines(alloc, encode(alloc, &code)?.as_slice())?,
             notes: None,
         }),
         Err(AsmFault::Memory) => Err(AllocError),
-        Err(fault) => Ok(Report {
+        Err(fault) => Ok(Output {
             status: 1,
             lines: asm_refusal(alloc, fault)?,
             notes: None,
@@ -43,21 +43,21 @@ pub fn assembly(alloc: Global, text: &str) -> Result<Report, AllocError>
     }
 }
 
-fn refused(alloc: Global, why: Execution) -> Result<Report, AllocError>
+fn refused(alloc: Global, why: Execution) -> Result<Output, AllocError>
     ensures { IfOk result (λ r. (r.status ≡ 1) × (string_bytes r.lines ≡ lines_of why)) }
 {
-    Ok(Report {
+    Ok(Output {
         status: 1,
         lines: lines(alloc, &why)?,
         notes: None,
     })
 }
 
-fn disassembly_of(alloc: Global, bytes: &[u8]) -> Result<Report, AllocError>
+fn disassembly_of(alloc: Global, bytes: &[u8]) -> Result<Output, AllocError>
     ensures { IfOk result (λ r. IsDisassemblyOf (fault_in bytes.now) bytes.now r.status (string_bytes r.lines)) }
 {
     match decode(alloc, bytes) {
-        Ok(code) => Ok(Report {
+        Ok(code) => Ok(Output {
             status: 0,
             lines: disassemble(alloc, &code)?,
             notes: None,
@@ -68,7 +68,7 @@ fn disassembly_of(alloc: Global, bytes: &[u8]) -> Result<Report, AllocError>
 }
 
 /// Disassembles the code, and says its text or why it is refused.
-pub fn disassembly(alloc: Global, raw: bool, text: &[u8]) -> Result<Report, AllocError>
+pub fn disassembly(alloc: Global, raw: bool, text: &[u8]) -> Result<Output, AllocError>
     ensures { IfOk result (λ r. IsDisassembly raw text.now r.status (string_bytes r.lines)) }
 {
     if raw {

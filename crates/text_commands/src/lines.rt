@@ -6,7 +6,7 @@ ghost use Rattle.text_commands.specs.Execution.{answer_lines, lines_of, status_o
 
 use crate::execute::{Execution, execute_text};
 use report_texts::fault_names::{fault_name, violation_name};
-use report_texts::report::Report;
+use report_texts::output::Output;
 use std::alloc::{AllocError, Global};
 
 fn answer_lines(alloc: Global, value: u64, executed: u32) -> Result<String, AllocError>
@@ -54,11 +54,11 @@ pub fn execution(
     raw: bool,
     text: &[u8],
     numbers: &[u64],
-) -> Result<Report, AllocError>
+) -> Result<Output, AllocError>
     ensures { IfOk result (λ r. IsExecution (text_execution raw text.now numbers.now) r.status (string_bytes r.lines)) }
 {
     let execution = execute_text(alloc, raw, text, numbers)?;
-    Ok(Report {
+    Ok(Output {
         status: status(&execution),
         lines: lines(alloc, &execution)?,
         notes: None,

@@ -12,7 +12,7 @@ use object_procedures::finding::{FindError, Found, find};
 use object_procedures::refusal::refusal;
 use object_procedures::source_place::Origin;
 use report_texts::fault_names::fault_name;
-use report_texts::report::Report;
+use report_texts::output::Output;
 use std::alloc::{AllocError, Global};
 
 // What is said of a procedure's code, and whether it is refused.
@@ -50,7 +50,7 @@ fn all_verified<'a>(
     alloc: Global,
     table: Option<LineSections<'a>>,
     found: Vec<Found<'a>>,
-) -> Result<Report, AllocError>
+) -> Result<Output, AllocError>
     ensures lines { IfOk result (λ r. string_bytes r.lines ≡ flat_map (found_line (option_map line_bytes table.entry)) found.entry.items) }
     ensures status { IfOk result (λ r. r.status ≡ (if list_any is_found_refused found.entry.items then 1 else 0)) }
 {
@@ -61,7 +61,7 @@ fn all_verified<'a>(
         lines.push_str(said.line.as_str())?;
         has_refused = has_refused || said.is_refused;
     }
-    Ok(Report {
+    Ok(Output {
         status: u8::from(has_refused),
         lines,
         notes: None,
@@ -70,7 +70,7 @@ fn all_verified<'a>(
 
 /// Verifies the procedures of an object file: a line for each, or why the file is refused. Where the file has a line
 /// table, the line of a slot stands behind it.
-pub fn object_verification(alloc: Global, file: &[u8]) -> Result<Report, AllocError>
+pub fn object_verification(alloc: Global, file: &[u8]) -> Result<Output, AllocError>
     ensures { IfOk result (λ r. IsVerification true file.now r.status (string_bytes r.lines)) }
 {
     match find(alloc, file) {

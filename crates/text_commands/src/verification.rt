@@ -12,7 +12,7 @@ use access_slots::decl::Decl;
 use bpf_encoding::code::Code;
 use object_procedures::source_place::Origin;
 use report_texts::fault_names::violation_name;
-use report_texts::report::Report;
+use report_texts::output::Output;
 use report_texts::script_refusal::refusal;
 use scripts::keyword::Command;
 use scripts::reading::parse;
@@ -71,7 +71,7 @@ fn procedure_line(alloc: Global, procedure: Procedure) -> Result<Said, AllocErro
 }
 
 // A line for each procedure, and 1 where one is refused.
-fn verified(alloc: Global, procedures: Vec<Procedure>) -> Result<Report, AllocError>
+fn verified(alloc: Global, procedures: Vec<Procedure>) -> Result<Output, AllocError>
     ensures lines { IfOk result (λ r. string_bytes r.lines ≡ flat_map procedure_line procedures.entry.items) }
     ensures status { IfOk result (λ r. r.status ≡ (if list_any is_refused procedures.entry.items then 1 else 0)) }
 {
@@ -82,7 +82,7 @@ fn verified(alloc: Global, procedures: Vec<Procedure>) -> Result<Report, AllocEr
         lines.push_str(said.line.as_str())?;
         has_refused = has_refused || said.is_refused;
     }
-    Ok(Report {
+    Ok(Output {
         status: u8::from(has_refused),
         lines,
         notes: None,
@@ -91,7 +91,7 @@ fn verified(alloc: Global, procedures: Vec<Procedure>) -> Result<Report, AllocEr
 
 /// Verifies the procedures of a script: a line for each, or the script's first fault with its
 /// line.
-pub fn verification(alloc: Global, text: &str) -> Result<Report, AllocError>
+pub fn verification(alloc: Global, text: &str) -> Result<Output, AllocError>
     ensures lines { IfOk result (λ r. string_bytes r.lines ≡ verification_lines text.now) }
     ensures status { IfOk result (λ r. r.status ≡ verification_status text.now) }
 {

@@ -11,7 +11,7 @@ use Rattle.world_command.specs.Stepping.{AreTaken}
 use Rattle.world_command.specs.WorldReport.{begun, IsLeft, IsStepped}
 use Rattle.script_loading.specs.declared.loading.Loaded.{Loaded}
 use Rattle.world_command.specs.declared.world.Behind.{Behind}
-use Rattle.report_texts.specs.declared.report.Report.{Report}
+use Rattle.report_texts.specs.declared.output.Output.{Output}
 
 abbrev unsent : Core → List Store → Whole
 unsent core dcs = record { core = core; dcs = dcs; copies = []; replies = []; news = [] }
@@ -35,11 +35,11 @@ stepped_from contents loaded behind all start end stepped lines status ready is 
     record { end = end; all = all; stepped = stepped; taken = all_taken; left = left }
 
 -- the report of a script's steps
-abbrev pub Reported : Loaded → Behind → Report → Type 0
+abbrev pub Reported : Loaded → Behind → Output → Type 0
 Reported loaded behind r = (contents : Contents) → IsReady contents loaded → IsStepped contents behind r.status (string_bytes r.lines)
 
 -- the steps were taken, and behind their lines stands what is left
-pub stepped_report : {E : Type 0} (told result : Result Report E) (loaded : Loaded) (behind : Behind) (all : Bool)
+pub stepped_report : {E : Type 0} (told result : Result Output E) (loaded : Loaded) (behind : Behind) (all : Bool)
     (start end : Whole) (stepped : List ℕ) (core : Core) (dcs : List Store)
     → told ≡ result → dcs ≡ end.dcs → core ≡ record end.core { given_up = core.given_up }
     → start ≡ record { core = loaded.state; dcs = loaded.dcs.items; copies = []; replies = []; news = [] }
@@ -48,10 +48,10 @@ pub stepped_report : {E : Type 0} (told result : Result Report E) (loaded : Load
 stepped_report told (Ok r) loaded behind all start end stepped core dcs told_is dcs_are core_is is taken left =
     let here = left_as core end.core dcs behind all stepped r.status (string_bytes r.lines) core_is left in
     let there = subst (λ (ds : List Store). IsLeft end.core ds behind all stepped r.status (string_bytes r.lines)) dcs_are here in
-    subst (λ (x : Result Report _). IfOk x (Reported loaded behind)) (sym told_is)
+    subst (λ (x : Result Output _). IfOk x (Reported loaded behind)) (sym told_is)
     (λ contents ready. stepped_from contents loaded behind all start end stepped (string_bytes r.lines) r.status ready is taken there)
 stepped_report told (Err e) loaded behind all start end stepped core dcs told_is dcs_are core_is is taken left =
-    subst (λ (x : Result Report _). IfOk x (Reported loaded behind)) (sym told_is) tt
+    subst (λ (x : Result Output _). IfOk x (Reported loaded behind)) (sym told_is) tt
 
-pub none_reported : {E : Type 0} (told : Result Report E) (loaded : Loaded) (behind : Behind) (e : E) → told ≡ Err e → IfOk told (Reported loaded behind)
-none_reported told loaded behind e told_is = subst (λ (x : Result Report _). IfOk x (Reported loaded behind)) (sym told_is) tt
+pub none_reported : {E : Type 0} (told : Result Output E) (loaded : Loaded) (behind : Behind) (e : E) → told ≡ Err e → IfOk told (Reported loaded behind)
+none_reported told loaded behind e told_is = subst (λ (x : Result Output _). IfOk x (Reported loaded behind)) (sym told_is) tt

@@ -9,7 +9,7 @@ ghost use Rattle.world_command.specs.WorldReport.{logged, IsLeft, IsStepped, IsW
 
 use crate::stepping::{take_steps, write_log};
 use data_component::dc::Dc;
-use report_texts::report::Report;
+use report_texts::output::Output;
 use script_loading::loading::{Loaded, Loading, Source, load_source};
 use scripts::keyword::Command;
 use state_lines::audit_lines::write_state_audit;
@@ -67,13 +67,13 @@ fn report_of(
     state: &TcState,
     dcs: &[Dc],
     mut lines: String,
-) -> Result<Report, AllocError>
+) -> Result<Output, AllocError>
     ensures { IfOk result (λ r. IsLeft state.now dcs.now behind all (string_bytes lines) r.status (string_bytes r.lines)) }
 {
     write_all_rows(alloc, dcs, &mut lines)?;
     let sound = write_found(alloc, behind.audit, state, dcs, &mut lines)?;
     write_events(alloc, behind.log, state.log(), &mut lines)?;
-    Ok(Report {
+    Ok(Output {
         status: u8::from(!(all && sound)),
         lines,
         notes: None,
@@ -81,7 +81,7 @@ fn report_of(
 }
 
 // Takes the steps, and says what they did and what is left.
-fn stepped(alloc: Global, behind: Behind, loaded: Loaded) -> Result<Report, AllocError>
+fn stepped(alloc: Global, behind: Behind, loaded: Loaded) -> Result<Output, AllocError>
     requires { loaded.state.events ≡ [] }
     ensures { IfOk result (λ r. (contents : Contents) → IsReady contents loaded
         → IsStepped contents behind r.status (string_bytes r.lines)) }
@@ -107,7 +107,7 @@ fn stepped(alloc: Global, behind: Behind, loaded: Loaded) -> Result<Report, Allo
 
 /// Takes the steps of a script one after another, also behind one that isn't possible: a line for
 /// each, then a line for each record that is kept, and then what is wanted behind these.
-pub fn world(alloc: Global, behind: Behind, source: Source) -> Result<Report, AllocError>
+pub fn world(alloc: Global, behind: Behind, source: Source) -> Result<Output, AllocError>
     ensures { IfOk result (λ r. IsWorld behind (beginning_of command.World source.entry) r.status (string_bytes r.lines)) }
 {
     match load_source(alloc, Command::World, source)? {

@@ -3,7 +3,7 @@ use Rattle.std.specs.Prelude.{◌≡◌, ℕ, ◌==◌, Bool, true, ◌&&◌, Li
 use Rattle.std.specs.Global.{Vec}
 use Rattle.data_component.specs.Store.{Store}
 use Rattle.partitions.specs.Partitions.{partition_at}
-use Rattle.report_texts.specs.declared.report.Report.{Report}
+use Rattle.report_texts.specs.declared.output.Output.{Output}
 use Rattle.run_command.specs.Running.{begun, empty_stores}
 use Rattle.run_command.specs.declared.logged.Recovery.{Recovery}
 use Rattle.run_command.specs.declared.logged.Recovery.TheVariants.{Ready, Refused}
@@ -13,7 +13,7 @@ use Rattle.partitioned_run.specs.declared.grounds.Start.{Start}
 use Rattle.partitioned_run.specs.Logged.{partition_line, AreStarts, IsFileRefusal, IsStart}
 
 -- the file of a partition is refused
-abbrev pub IsRefusedAt : Core → List Store → (numbers : List ℕ) → ℕ → Report → Type 0
+abbrev pub IsRefusedAt : Core → List Store → (numbers : List ℕ) → ℕ → Output → Type 0
 IsRefusedAt start empties numbers number report = (report.status ≡ 1)
     × ((refusal : List ℕ) × IsFileRefusal start empties numbers number refusal × (string_bytes report.lines ≡ partition_line number ++ refusal))
 

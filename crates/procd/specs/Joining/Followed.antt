@@ -1,6 +1,6 @@
 -- Why a log is not followed any further, and what was written before that.
 use Rattle.std.specs.Prelude.{ℕ, List, string_bytes}
-use Rattle.report_texts.specs.declared.report.Report.{Report}
+use Rattle.report_texts.specs.declared.output.Output.{Output}
 use Rattle.log_part.specs.declared.part.Part.{Part}
 use Rattle.log_command.specs.LogReport.{IsUnread}
 use Rattle.log_command.specs.Following.{AreLines}
@@ -9,7 +9,7 @@ use Rattle.procd.specs.declared.following.End.{End}
 use Rattle.procd.specs.declared.following.End.TheVariants.{Refused, Unread, Unwritten, Memory}
 
 -- the report is that of some file that isn't read as a log
-abbrev pub IsRefusal : Report → Type 0
+abbrev pub IsRefusal : Output → Type 0
 IsRefusal report = (file : List ℕ) × IsUnread file report.status (string_bytes report.lines)
 
 -- it ends while a file is read
