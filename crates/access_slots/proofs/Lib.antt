@@ -1,3 +1,4 @@
 pub mod Records
 pub mod Locking
 pub mod AnswerRows
+pub mod KindLemmas

@@ -12,11 +12,13 @@
 #![tactic(auto)]
 
 pub mod decl;
+pub mod kind;
 pub mod lock;
 pub mod op;
 pub mod slot;
 
 pub use decl::{Decl, DeclFault};
+pub use kind::{OpKind, SaidKind};
 pub use lock::{Lock, LockSet};
 pub use op::{News, Op, Reply, Said, Wire};
 pub use slot::{Key, Mode, Record, Slot};

@@ -4,6 +4,7 @@ ghost use Rattle.std.specs.Prelude.{◌≡◌};
 ghost use Rattle.access_slots.specs.Access.{fits};
 ghost use Rattle.access_slots.specs.Locks.{target, is_read, conflict};
 
+use crate::kind::{OpKind, SaidKind};
 use crate::slot::{Record, Value};
 
 /// An operation on one record, as a transaction component sends it (Lomet, Fekete, Weikum,
@@ -77,8 +78,9 @@ pub fn fits(op: &Op, said: &Said) -> bool
 }
 
 impl Op {
-    ghost use Rattle.std.specs.Prelude.{◌≡◌};
+    ghost use Rattle.std.specs.Prelude.{◌≡◌, option_copied};
     ghost use Rattle.access_slots.specs.Locks.{target, is_read};
+    ghost use Rattle.access_slots.specs.Kinds.{op_kind, op_value, IsOpAgain};
 
     /// The record that it is for.
     #[inline(always)]
@@ -97,6 +99,67 @@ impl Op {
         ensures { result ≡ is_read self.now }
     {
         matches!(self, Op::Read(_))
+    }
+
+    /// What it does.
+    #[inline(always)]
+    #[tactic(auto, using(crate::proofs::KindLemmas::op_again))]
+    pub fn kind(&self) -> OpKind
+        ensures kind { result ≡ op_kind self.now }
+        ensures again { IsOpAgain self.now result }
+    {
+        match self {
+            Op::Read(_) => OpKind::Read,
+            Op::Insert(..) => OpKind::Insert,
+            Op::Update(..) => OpKind::Update,
+            Op::Delete(_) => OpKind::Delete,
+        }
+    }
+
+    /// The value that it writes, if it does.
+    #[inline(always)]
+    pub fn value(&self) -> Option<&Value>
+        ensures { option_copied result ≡ op_value self.now }
+    {
+        match self {
+            Op::Read(_) | Op::Delete(_) => None,
+            Op::Insert(_, value) | Op::Update(_, value) => Some(value),
+        }
+    }
+}
+
+impl Said {
+    ghost use Rattle.std.specs.Prelude.{◌≡◌, option_copied};
+    ghost use Rattle.access_slots.specs.Kinds.{said_kind, said_value, IsSaidAgain};
+
+    /// What is said, without the value.
+    #[inline(always)]
+    #[tactic(auto, using(crate::proofs::KindLemmas::said_again))]
+    pub fn kind(&self) -> SaidKind
+        ensures kind { result ≡ said_kind self.now }
+        ensures again { IsSaidAgain self.now result }
+    {
+        match self {
+            Said::Value(_) => SaidKind::Value,
+            Said::Absent => SaidKind::Absent,
+            Said::Done(None) => SaidKind::Done,
+            Said::Done(Some(_)) => SaidKind::DoneWithFormer,
+            Said::Duplicate => SaidKind::Duplicate,
+            Said::Missing => SaidKind::Missing,
+            Said::NoRoom => SaidKind::NoRoom,
+            Said::Old => SaidKind::Old,
+        }
+    }
+
+    /// The value that goes with it, if one does.
+    #[inline(always)]
+    pub fn value(&self) -> Option<&Value>
+        ensures { option_copied result ≡ said_value self.now }
+    {
+        match self {
+            Said::Value(value) | Said::Done(Some(value)) => Some(value),
+            _ => None,
+        }
     }
 }
 

@@ -1,21 +1,19 @@
 -- One entry more, and fewer, in a list of heads and values.
-use Rattle.std.proofs.Common.{arith, ◌≡◌, ℕ, zero, suc, ◌+◌, ◌*◌, ◌<◌, ◌≤◌, nat_le, Bool, List, [], ◌∷◌, ◌++◌, length, take, drop, map}
+use Rattle.std.proofs.Common.{arith, ◌≡◌, ℕ, zero, suc, ◌+◌, ◌*◌, ◌<◌, ◌≤◌, nat_le, Bool}
+use Rattle.std.proofs.Common.{List, [], ◌∷◌, ◌++◌, length, take, drop, map}
 use Rattle.std.proofs.Common.{sym, refl, ap, ap₂, subst, ◌∙◌}
-use Rattle.std.specs.Prelude.{Some, slice_index_or, ◌&&◌}
+use Rattle.std.specs.Prelude.{Option, Some, None, slice_index_or, ◌&&◌}
 use Rattle.std.proofs.lemmas.List.{length-append, length-take-le, take-append-drop, take-map, get_or_append_left}
 use Rattle.access_slots.specs.declared.slot.Record.{Record}
 use Rattle.access_slots.specs.declared.op.Op.{Op}
-use Rattle.access_slots.specs.declared.op.Op.TheVariants.{Read, Insert, Update, Delete}
 use Rattle.access_slots.specs.declared.op.Said.{Said}
-use Rattle.access_slots.specs.declared.op.Said.TheVariants.{Value, Done}
 use Rattle.access_slots.specs.Locks.{target}
-use Rattle.data_component.specs.declared.entries.Kind.{Kind}
-use Rattle.data_component.specs.declared.entries.Kind.TheVariants.{Reads, Inserts, Updates, Deletes}
-use Rattle.data_component.specs.declared.entries.Told.{Told}
-use Rattle.data_component.specs.declared.entries.Told.TheVariants.{Found, Replaced}
+use Rattle.access_slots.specs.Kinds.{op_of, op_value, IsOpAgain, said_of, said_value, IsSaidAgain}
+use Rattle.access_slots.proofs.KindLemmas.{op_made, said_made}
 use Rattle.data_component.specs.declared.entries.Head.{Head}
 use Rattle.data_component.specs.Performed.{Performed as Entry, all_at_most}
-use Rattle.data_component.specs.Listed.{Values, no_value, numbered, op_of, said_of, record_of, entry_of, entries_of, IsWithin, AllWithin, IsNumbered, IsWritten, IsTold, heads_at_most}
+use Rattle.data_component.specs.Listed.{Values, no_value, numbered, record_of, entry_of, entries_of, heads_at_most}
+use Rattle.data_component.specs.Listed.{IsWithin, AllWithin, IsNumbered}
 
 -- ---- values
 
@@ -27,7 +25,8 @@ last_is : {X : Type 0} (xs : List X) (y d : X) → slice_index_or (xs ++ y ∷ [
 last_is [] y d = refl
 last_is (x ∷ xs) y d = last_is xs y d
 
-pub one_more : (old new : Values) (v : List ℕ) (n : ℕ) → new ≡ old ++ v ∷ [] → n ≡ length new → IsNumbered old new v n
+pub one_more : (old new : Values) (v : List ℕ) (n : ℕ) → new ≡ old ++ v ∷ [] → n ≡ length new
+    → IsNumbered old new (Some v) n
 one_more old new v n is at = record {
   more = v ∷ [];
   is = is;
@@ -39,8 +38,8 @@ one_more old new v n is at = record {
     count : length (old ++ v ∷ []) ≡ suc (length old)
     count = omega (arith, length-append old (v ∷ []))
 
-pub none_more : (values : Values) (v : List ℕ) (n place : ℕ) (d : List ℕ) → n ≡ place + 1 → place < length values → slice_index_or values place d ≡ v
-    → IsNumbered values values v n
+pub none_more : (values : Values) (v : List ℕ) (n place : ℕ) (d : List ℕ) → n ≡ place + 1 → place < length values
+    → slice_index_or values place d ≡ v → IsNumbered values values (Some v) n
 none_more values v n place d at inside is = record {
   more = [];
   is = append_nothing values;
@@ -57,41 +56,26 @@ none_more values v n place d at inside is = record {
     same (x ∷ vs) zero inside = refl
     same (x ∷ vs) (suc i) inside = same vs i (omega (arith, inside))
 
+pub no_value_more : (values : Values) → IsNumbered values values None 0
+no_value_more values = record {
+  more = [];
+  is = append_nothing values;
+  few = omega arith;
+  within = omega arith;
+  names = tt;
+}
+
 pub numbered_kept : (values more : Values) (n : ℕ) → n ≤ length values → numbered (values ++ more) n ≡ numbered values n
 numbered_kept values more zero inside = refl
 numbered_kept values more (suc i) inside = get_or_append_left values more no_value i (omega (arith, inside))
 
--- ---- what is written and told
-
-nothing_written : (values : Values) (o : Op) (k : Kind) → op_of k (target o) no_value ≡ o → IsWritten values values o k 0
-nothing_written values o k does = record { more = []; is = append_nothing values; few = omega arith; within = omega arith; does = does }
-
-pub reads : (values : Values) (r : Record) → IsWritten values values (Read r) Reads 0
-reads values r = nothing_written values (Read r) Reads refl
-
-pub deletes : (values : Values) (r : Record) → IsWritten values values (Delete r) Deletes 0
-deletes values r = nothing_written values (Delete r) Deletes refl
-
-pub inserts : (old new : Values) (r : Record) (v : List ℕ) (n : ℕ) → IsNumbered old new v n → IsWritten old new (Insert r v) Inserts n
-inserts old new r v n at = record { more = at.more; is = at.is; few = at.few; within = at.within; does = ap (λ w. Insert r w) at.names }
-
-pub updates : (old new : Values) (r : Record) (v : List ℕ) (n : ℕ) → IsNumbered old new v n → IsWritten old new (Update r v) Updates n
-updates old new r v n at = record { more = at.more; is = at.is; few = at.few; within = at.within; does = ap (λ w. Update r w) at.names }
-
-pub found : (old new : Values) (v : List ℕ) (n : ℕ) → IsNumbered old new v n → IsTold old new (Value v) Found n
-found old new v n at = record { more = at.more; is = at.is; few = at.few; within = at.within; says = ap (λ w. Value w) at.names }
-
-pub replaced : (old new : Values) (v : List ℕ) (n : ℕ) → IsNumbered old new v n → IsTold old new (Done (Some v)) Replaced n
-replaced old new v n at = record { more = at.more; is = at.is; few = at.few; within = at.within; says = ap (λ w. Done (Some w)) at.names }
-
-pub told_plainly : (values : Values) (said : Said) (t : Told) → said_of t no_value ≡ said → IsTold values values said t 0
-told_plainly values said t says = record { more = []; is = append_nothing values; few = omega arith; within = omega arith; says = says }
-
 -- ---- entries
 
-entry_kept : (values more : Values) (h : Head) → h.written ≤ length values → h.said ≤ length values → entry_of (values ++ more) h ≡ entry_of values h
+entry_kept : (values more : Values) (h : Head) → h.written ≤ length values → h.said ≤ length values
+    → entry_of (values ++ more) h ≡ entry_of values h
 entry_kept values more h written said =
-    ap₂ (λ (v w : List ℕ). (h.number, op_of h.kind (record_of h) v, said_of h.told w)) (numbered_kept values more h.written written) (numbered_kept values more h.said said)
+    ap₂ (λ (v w : List ℕ). (h.number, op_of h.kind (record_of h) v, said_of h.told w))
+    (numbered_kept values more h.written written) (numbered_kept values more h.said said)
 
 pub entries_kept : (values more : Values) (place : ℕ) (heads : List Head) → AllWithin (length values) place heads
     → entries_of (values ++ more) heads ≡ entries_of values heads
@@ -126,51 +110,58 @@ longer old new more is = let count = ap length is in omega (arith, count, length
 at_most : (old new more : Values) → new ≡ old ++ more → length more ≤ 1 → length new ≤ length old + 1
 at_most old new more is few = let count = ap length is in omega (arith, count, few, length-append old more)
 
-pub pushed_items : (old mid new : Values) (heads behind : List Head) (h : Head) (o : Op) (said : Said) → AllWithin (length old) 0 heads
-    → IsTold old mid said h.told h.said → IsWritten mid new o h.kind h.written → record_of h ≡ target o → behind ≡ heads ++ h ∷ []
-    → entries_of new behind ≡ entries_of old heads ++ (h.number, o, said) ∷ []
-pushed_items old mid new heads behind h o said all told written named is =
-    ap (entries_of new) is ∙ map_append (entry_of new) heads h ∙ ap₂ (λ (es : List Entry) (e : Entry). es ++ e ∷ []) before last
+pub pushed_items : (old mid new : Values) (heads behind : List Head) (h : Head) (o : Op) (a : Said)
+    (told written : Option (List ℕ)) → AllWithin (length old) 0 heads
+    → IsNumbered old mid told h.said → told ≡ said_value a → IsSaidAgain a h.told
+    → IsNumbered mid new written h.written → written ≡ op_value o → IsOpAgain o h.kind → record_of h ≡ target o
+    → behind ≡ heads ++ h ∷ [] → entries_of new behind ≡ entries_of old heads ++ (h.number, o, a) ∷ []
+pushed_items old mid new heads behind h o a told written all said told_is a_again wrote written_is o_again named is =
+    ap (entries_of new) is
+    ∙ map_append (entry_of new) heads h
+    ∙ ap₂ (λ (es : List Entry) (e : Entry). es ++ e ∷ []) before last
   where
     before : entries_of new heads ≡ entries_of old heads
     before =
-        ap (λ (vs : Values). entries_of vs heads) written.is
-        ∙ entries_kept mid written.more 0 heads (within_more (length old) (length mid) 0 heads (longer old mid told.more told.is) all)
-        ∙ ap (λ (vs : Values). entries_of vs heads) told.is
-        ∙ entries_kept old told.more 0 heads all
+        ap (λ (vs : Values). entries_of vs heads) wrote.is
+        ∙ entries_kept mid wrote.more 0 heads
+        (within_more (length old) (length mid) 0 heads (longer old mid said.more said.is) all)
+        ∙ ap (λ (vs : Values). entries_of vs heads) said.is
+        ∙ entries_kept old said.more 0 heads all
 
-    said_is : said_of h.told (numbered new h.said) ≡ said
+    said_is : said_of h.told (numbered new h.said) ≡ a
     said_is =
-        ap (λ (vs : Values). said_of h.told (numbered vs h.said)) written.is
-        ∙ ap (said_of h.told) (numbered_kept mid written.more h.said told.within)
-        ∙ told.says
+        ap (λ (vs : Values). said_of h.told (numbered vs h.said)) wrote.is
+        ∙ ap (said_of h.told) (numbered_kept mid wrote.more h.said said.within)
+        ∙ said_made a h.told told (numbered mid h.said) a_again told_is said.names
 
     op_is : op_of h.kind (record_of h) (numbered new h.written) ≡ o
-    op_is = ap (λ (r : Record). op_of h.kind r (numbered new h.written)) named ∙ written.does
+    op_is = op_made o h.kind (record_of h) written (numbered new h.written) o_again named written_is wrote.names
 
-    last : entry_of new h ≡ (h.number, o, said)
+    last : entry_of new h ≡ (h.number, o, a)
     last = ap₂ (λ (p : Op) (s : Said). (h.number, p, s)) op_is said_is
 
-pub pushed_few : (old mid new : Values) (heads behind : List Head) (h : Head) (o : Op) (said : Said) → length old ≤ 2 * length heads
-    → IsTold old mid said h.told h.said → IsWritten mid new o h.kind h.written → behind ≡ heads ++ h ∷ [] → length new ≤ 2 * length behind
-pushed_few old mid new heads behind h o said few told written is =
-    let one = at_most old mid told.more told.is told.few in
-    let two = at_most mid new written.more written.is written.few in
+pub pushed_few : (old mid new : Values) (heads behind : List Head) (h : Head) (told written : Option (List ℕ))
+    → length old ≤ 2 * length heads → IsNumbered old mid told h.said → IsNumbered mid new written h.written
+    → behind ≡ heads ++ h ∷ [] → length new ≤ 2 * length behind
+pushed_few old mid new heads behind h told written few said wrote is =
+    let one = at_most old mid said.more said.is said.few in
+    let two = at_most mid new wrote.more wrote.is wrote.few in
     let count = ap length is in
     omega (arith, few, one, two, count, length-append heads (h ∷ []))
 
-pub pushed_within : (old mid new : Values) (heads behind : List Head) (h : Head) (o : Op) (said : Said) → AllWithin (length old) 0 heads
-    → length old ≤ 2 * length heads → IsTold old mid said h.told h.said → IsWritten mid new o h.kind h.written → behind ≡ heads ++ h ∷ []
-    → AllWithin (length new) 0 behind
-pushed_within old mid new heads behind h o said all few told written is =
-    let one = at_most old mid told.more told.is told.few in
-    let two = at_most mid new written.more written.is written.few in
-    let first = longer old mid told.more told.is in
-    let then_more = longer mid new written.more written.is in
-    let below = told.within in
-    let inside = written.within in
+pub pushed_within : (old mid new : Values) (heads behind : List Head) (h : Head) (told written : Option (List ℕ))
+    → AllWithin (length old) 0 heads → length old ≤ 2 * length heads → IsNumbered old mid told h.said
+    → IsNumbered mid new written h.written → behind ≡ heads ++ h ∷ [] → AllWithin (length new) 0 behind
+pushed_within old mid new heads behind h told written all few said wrote is =
+    let one = at_most old mid said.more said.is said.few in
+    let two = at_most mid new wrote.more wrote.is wrote.few in
+    let first = longer old mid said.more said.is in
+    let then_more = longer mid new wrote.more wrote.is in
+    let below = said.within in
+    let inside = wrote.within in
     subst (λ (hs : List Head). AllWithin (length new) 0 hs) (sym is)
-    (within_pushed (length new) 0 (length heads) heads h (within_more (length old) (length new) 0 heads (omega (arith, first, then_more)) all) (omega arith)
+    (within_pushed (length new) 0 (length heads) heads h
+    (within_more (length old) (length new) 0 heads (omega (arith, first, then_more)) all) (omega arith)
     (record {
       written = inside;
       said = omega (arith, below, then_more);

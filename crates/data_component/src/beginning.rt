@@ -33,8 +33,9 @@ fn begin_at(dcs: &mut [Dc], dc: usize, own: &[Row], mark: u64) -> bool
 
 /// Each data component, of which nothing was performed, begins with the rows that are its own, behind a mark
 /// up to which all was performed before. The rows rise, as a log has them that was cut. `Err` names the
-/// first data component that can't: its rows don't rise, are more than there may be, or something was performed
-/// there; or that isn't there. Those before it have begun then.
+/// first data component that can't: its rows don't rise or are more than there may be, or something was performed
+/// there or a higher mark was told. It has the number of data components where rows are left behind them all, for one
+/// that isn't there or out of order. Those before it have begun then.
 pub fn begin_all(dcs: &mut [Dc], rows: &[Row], mark: u64) -> Result<(), usize>
     ensures { OnOk result (AreBegun rows.now mark dcs.old dcs.new) }
 {

@@ -43,7 +43,7 @@ pub struct Dc {
     kept: Vec<Kept>,
     // The highest low-water mark that came: numbers up to it are answered, and never sent again.
     mark: u64,
-    // So many operations, and this mark, the last checkpoint kept.
+    // The last checkpoint: how many of the operations performed it has, and its low-water mark.
     saved: usize,
     saved_mark: u64,
     // How often it has restarted.
@@ -443,6 +443,7 @@ fn rebuild(
     ensures kept { AreKept kept.new.items mark performed.now.items }
     ensures capacity { (vec_capacity rows.old ≤ vec_capacity rows.new) × (vec_capacity kept.new ≡ vec_capacity kept.old) }
 {
+    // Contracts alone speak of the limit.
     let _ = row_limit;
     put_all(rows, base);
     'performed: for place in 0..performed.len() {

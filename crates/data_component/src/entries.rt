@@ -1,10 +1,12 @@
 //! What was performed, the oldest first. An entry's operation and answer name their values by number, and a
 //! value that was written or said before mostly isn't kept again.
 
-ghost use Rattle.std.specs.Prelude.{◌≡◌, ◌+◌, ◌<◌, ◌≤◌, [], ◌∷◌, ◌++◌, length, take, slice_get, Some, true, IfOk, vec_capacity};
+ghost use Rattle.std.specs.Prelude.{◌≡◌, ◌+◌, ◌<◌, ◌≤◌, [], ◌∷◌, ◌++◌, length, take, slice_get, option_copied, Some, true};
+ghost use Rattle.std.specs.Prelude.{IfOk, vec_capacity};
 ghost use Rattle.data_component.specs.Performed.{all_at_most};
-ghost use Rattle.data_component.specs.Listed.{numbered, entry_of, op_of, said_of, record_of, IsNumbered, IsWritten, IsTold, heads_at_most};
+ghost use Rattle.data_component.specs.Listed.{numbered, entry_of, record_of, IsNumbered, heads_at_most};
 
+use access_slots::kind::{OpKind, SaidKind};
 use access_slots::op::{Op, Said};
 use access_slots::slot::{Record, Value};
 use std::alloc::{AllocError, Global};
@@ -13,26 +15,6 @@ use std::marker::Model;
 /// A number, its operation and what was said to it.
 pub type Performed = (u64, Op, Said);
 
-#[derive(Clone, Copy)]
-pub(crate) enum Kind {
-    Reads,
-    Inserts,
-    Updates,
-    Deletes,
-}
-
-#[derive(Clone, Copy)]
-pub(crate) enum Told {
-    Found,
-    NotFound,
-    Performed,
-    Replaced,
-    ThereAlready,
-    NotThere,
-    Full,
-    LongAgo,
-}
-
 // An entry without its values, which it names by number, from 1; 0 where it has none.
 #[derive(Clone, Copy)]
 pub(crate) struct Head {
@@ -40,8 +22,8 @@ pub(crate) struct Head {
     key: u64,
     dc: u16,
     table: u16,
-    kind: Kind,
-    told: Told,
+    kind: OpKind,
+    told: SaidKind,
     written: usize,
     said: usize,
 }
@@ -69,17 +51,20 @@ impl Model for Entries {
 
 const NO_VALUE: Value = [0; 64];
 
+// No value's number.
+const NO_HINT: usize = 0;
+
 // The value of this number.
 #[inline(always)]
-fn numbered(values: &[Value], number: usize) -> Value
-    ensures { result ≡ numbered values.now number }
+fn numbered(values: &[Value], number: usize) -> &Value
+    ensures { result.now ≡ numbered values.now number }
 {
     match number.checked_sub(1) {
         Some(place) => match values.get(place) {
-            Some(value) => *value,
-            None => NO_VALUE,
+            Some(value) => value,
+            None => &NO_VALUE,
         },
-        None => NO_VALUE,
+        None => &NO_VALUE,
     }
 }
 
@@ -88,7 +73,7 @@ fn numbered(values: &[Value], number: usize) -> Value
 #[tactic(auto, using(crate::proofs::Entering::one_more))]
 fn keep(values: &mut Vec<Value>, value: &Value) -> usize
     requires room { length values.old.items < vec_capacity values.old }
-    ensures numbered { IsNumbered values.old.items values.new.items value.now result }
+    ensures numbered { IsNumbered values.old.items values.new.items (Some value.now) result }
     ensures capacity { vec_capacity values.new ≡ vec_capacity values.old }
 {
     values.push_reserved(*value);
@@ -99,7 +84,7 @@ fn keep(values: &mut Vec<Value>, value: &Value) -> usize
 #[inline(always)]
 fn share(values: &mut Vec<Value>, value: &Value, hint: usize) -> usize
     requires room { length values.old.items < vec_capacity values.old }
-    ensures numbered { IsNumbered values.old.items values.new.items value.now result }
+    ensures numbered { IsNumbered values.old.items values.new.items (Some value.now) result }
     ensures capacity { vec_capacity values.new ≡ vec_capacity values.old }
 {
     if is_numbered(values.as_slice(), value, hint) {
@@ -112,7 +97,7 @@ fn share(values: &mut Vec<Value>, value: &Value, hint: usize) -> usize
 #[inline(always)]
 #[tactic(auto, using(crate::proofs::Entering::none_more))]
 fn is_numbered(values: &[Value], value: &Value, number: usize) -> bool
-    ensures { result ≡ true → IsNumbered values.now values.now value.now number }
+    ensures { result ≡ true → IsNumbered values.now values.now (Some value.now) number }
 {
     let Some(place) = number.checked_sub(1) else {
         return false;
@@ -123,39 +108,17 @@ fn is_numbered(values: &[Value], value: &Value, number: usize) -> bool
     }
 }
 
-// Keeps the value that an operation writes.
+// The value's number, if there is one: this one where it is the value's, else that of one value more.
 #[inline(always)]
-#[tactic(auto, using(crate::proofs::Entering::reads, crate::proofs::Entering::inserts, crate::proofs::Entering::updates, crate::proofs::Entering::deletes))]
-fn write(values: &mut Vec<Value>, op: &Op) -> (Kind, usize)
+#[tactic(auto, using(crate::proofs::Entering::no_value_more))]
+fn share_any(values: &mut Vec<Value>, value: Option<&Value>, hint: usize) -> usize
     requires room { length values.old.items < vec_capacity values.old }
-    ensures written { IsWritten values.old.items values.new.items op.now result.0 result.1 }
+    ensures numbered { IsNumbered values.old.items values.new.items (option_copied value.entry) result }
     ensures capacity { vec_capacity values.new ≡ vec_capacity values.old }
 {
-    match op {
-        Op::Read(_) => (Kind::Reads, 0),
-        Op::Insert(_, value) => (Kind::Inserts, keep(values, value)),
-        Op::Update(_, value) => (Kind::Updates, keep(values, value)),
-        Op::Delete(_) => (Kind::Deletes, 0),
-    }
-}
-
-// Keeps the value that was said, if it doesn't have this number.
-#[inline(always)]
-#[tactic(auto, using(crate::proofs::Entering::found, crate::proofs::Entering::replaced, crate::proofs::Entering::told_plainly))]
-fn tell(values: &mut Vec<Value>, said: &Said, hint: usize) -> (Told, usize)
-    requires room { length values.old.items < vec_capacity values.old }
-    ensures told { IsTold values.old.items values.new.items said.now result.0 result.1 }
-    ensures capacity { vec_capacity values.new ≡ vec_capacity values.old }
-{
-    match said {
-        Said::Value(value) => (Told::Found, share(values, value, hint)),
-        Said::Absent => (Told::NotFound, 0),
-        Said::Done(None) => (Told::Performed, 0),
-        Said::Done(Some(value)) => (Told::Replaced, share(values, value, hint)),
-        Said::Duplicate => (Told::ThereAlready, 0),
-        Said::Missing => (Told::NotThere, 0),
-        Said::NoRoom => (Told::Full, 0),
-        Said::Old => (Told::LongAgo, 0),
+    match value {
+        Some(value) => share(values, value, hint),
+        None => 0,
     }
 }
 
@@ -168,7 +131,8 @@ fn are_at_most(heads: &[Head], mark: u64) -> bool
 
 impl Head {
     ghost use Rattle.std.specs.Prelude.{◌≡◌};
-    ghost use Rattle.data_component.specs.Listed.{record_of, op_of, said_of, numbered};
+    ghost use Rattle.access_slots.specs.Kinds.{op_of, said_of};
+    ghost use Rattle.data_component.specs.Listed.{record_of, numbered};
 
     #[inline(always)]
     fn record(&self) -> Record
@@ -185,29 +149,15 @@ impl Head {
     fn op(&self, values: &[Value]) -> Op
         ensures { result ≡ op_of self.now.kind (record_of self.now) (numbered values.now self.now.written) }
     {
-        let record = self.record();
-        match self.kind {
-            Kind::Reads => Op::Read(record),
-            Kind::Inserts => Op::Insert(record, numbered(values, self.written)),
-            Kind::Updates => Op::Update(record, numbered(values, self.written)),
-            Kind::Deletes => Op::Delete(record),
-        }
+        self.kind
+            .with(self.record(), numbered(values, self.written))
     }
 
     // What was said, with its value among these.
     fn said(&self, values: &[Value]) -> Said
         ensures { result ≡ said_of self.now.told (numbered values.now self.now.said) }
     {
-        match self.told {
-            Told::Found => Said::Value(numbered(values, self.said)),
-            Told::NotFound => Said::Absent,
-            Told::Performed => Said::Done(None),
-            Told::Replaced => Said::Done(Some(numbered(values, self.said))),
-            Told::ThereAlready => Said::Duplicate,
-            Told::NotThere => Said::Missing,
-            Told::Full => Said::NoRoom,
-            Told::LongAgo => Said::Old,
-        }
+        self.told.with(numbered(values, self.said))
     }
 }
 
@@ -257,15 +207,16 @@ impl Entries {
         ensures items { self.new.items ≡ self.old.items ++ (number, op.now, said.now) ∷ [] }
         ensures most { self.new.most ≡ self.old.most }
     {
-        let (told, said) = tell(&mut self.values, said, hint);
-        let (kind, written) = write(&mut self.values, op);
+        let told = said.kind();
+        let said = share_any(&mut self.values, said.value(), hint);
+        let written = share_any(&mut self.values, op.value(), NO_HINT);
         let record = op.record();
         self.heads.push_reserved(Head {
             number,
             key: record.key,
             dc: record.dc,
             table: record.table,
-            kind,
+            kind: op.kind(),
             told,
             written,
             said,

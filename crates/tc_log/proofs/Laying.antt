@@ -1,34 +1,39 @@
 -- One event more in a log of heads and words.
-use Rattle.std.proofs.Common.{arith, ◌≡◌, ℕ, zero, suc, ◌+◌, ◌-◌, ◌*◌, ◌<◌, ◌≤◌, List, [], ◌∷◌, ◌++◌, length, take, drop, replicate, reverse}
+use Rattle.std.proofs.Common.{arith, ◌≡◌, ℕ, zero, suc, ◌+◌, ◌-◌, ◌*◌, ◌<◌, ◌≤◌}
+use Rattle.std.proofs.Common.{List, [], ◌∷◌, ◌++◌, length, take, drop, replicate, reverse}
 use Rattle.std.proofs.Common.{sym, refl, ap, ap₂, subst, ◌∙◌}
-use Rattle.std.specs.Prelude.{Some, None, slice_index_or}
+use Rattle.std.specs.Prelude.{Option, Some, None, slice_index_or}
 use Rattle.std.specs.List.{slice_get, flat_map}
 use Rattle.std.specs.Int.{w64, to_le_bytes, from_le_bytes}
 use borrow.Rule.Slice.PartMut.{put_mid}
-use Rattle.std.proofs.lemmas.List.{length-append, length-take-le, length-drop, take-append-drop, take_at, drop_at, nil_from_length, take_more, get_or-drop, reverse-reverse, length-reverse, drop-drop, drop-append-le, take-append-le, take_all, reverse-append, map-append, append_assoc, get_or_append_left, replicate-append-replicate}
+use Rattle.std.proofs.lemmas.List.{length-append, length-take-le, length-drop, length-reverse, nil_from_length}
+use Rattle.std.proofs.lemmas.List.{take-append-drop, take-append-le, take_at, take_more, take_all}
+use Rattle.std.proofs.lemmas.List.{drop_at, drop-drop, drop-append-le, get_or-drop, get_or_append_left}
+use Rattle.std.proofs.lemmas.List.{append_assoc, map-append, reverse-append, reverse-reverse}
+use Rattle.std.proofs.lemmas.List.{replicate-append-replicate}
 use Rattle.std.proofs.lemmas.List.Concat.{flat_map-append}
 use Rattle.std.proofs.lemmas.Nat.{le_bytes_8}
 use Rattle.std.proofs.Math.Seq.{take-add}
 use Rattle.access_slots.specs.declared.slot.Record.{Record}
 use Rattle.access_slots.specs.declared.op.Op.{Op}
-use Rattle.access_slots.specs.declared.op.Op.TheVariants.{Read, Insert, Update, Delete}
 use Rattle.access_slots.specs.declared.op.Said.{Said}
-use Rattle.access_slots.specs.declared.op.Said.TheVariants.{Value, Done}
+use Rattle.access_slots.specs.declared.kind.OpKind.{OpKind}
+use Rattle.access_slots.specs.declared.kind.SaidKind.{SaidKind}
 use Rattle.access_slots.specs.Locks.{target}
+use Rattle.access_slots.specs.Kinds.{op_value, IsOpAgain, said_value, IsSaidAgain}
+use Rattle.access_slots.proofs.KindLemmas.{op_made, said_made}
 use Rattle.tc_log.specs.declared.event.Event.{Event}
 use Rattle.tc_log.specs.declared.event.Event.TheVariants.{Admit, Ask, Answer, Undo, End, Checkpoint}
 use Rattle.tc_log.specs.declared.event.Outcome.{Outcome}
 use Rattle.tc_log.specs.declared.event.Outcome.TheVariants as outcome
-use Rattle.tc_log.specs.declared.heads.Does.{Does}
-use Rattle.tc_log.specs.declared.heads.Does.TheVariants.{Reads, Inserts, Updates, Deletes}
-use Rattle.tc_log.specs.declared.heads.Told.{Told}
-use Rattle.tc_log.specs.declared.heads.Told.TheVariants.{Found, Replaced}
 use Rattle.tc_log.specs.declared.heads.Kind.{Kind}
-use Rattle.tc_log.specs.declared.heads.Kind.TheVariants.{Admits, AdmitsMany, Asks, Answers, Undoes, Commits, Aborts, LacksRoom, Begins}
+use Rattle.tc_log.specs.declared.heads.Kind.TheVariants.{Admits, AdmitsMany, Asks, Answers, Undoes}
+use Rattle.tc_log.specs.declared.heads.Kind.TheVariants.{Commits, Aborts, LacksRoom, Begins}
 use Rattle.tc_log.specs.declared.heads.Head.{Head}
 use Rattle.tc_log.specs.Printed.{printed}
 use Rattle.tc_log.proofs.Lengths.{numbers_long}
-use Rattle.tc_log.specs.Heads.{head_with, Words, Calls, filled, value_at, words_in, op_of, said_of, event_by, event_of, events_of, IsCallWithin, IsWithin, AllWithin, IsKept, IsWritten, IsTold, IsEnd, IsLaid}
+use Rattle.tc_log.specs.Heads.{Words, Calls, filled, value_at, words_in, head_with, event_by, event_of, events_of}
+use Rattle.tc_log.specs.Heads.{IsCallWithin, IsWithin, AllWithin, IsKept, IsEnd, IsLaid}
 
 append_nothing : {X : Type 0} (xs : List X) → xs ≡ xs ++ []
 append_nothing [] = refl
@@ -38,7 +43,11 @@ append_nothing (x ∷ xs) = ap (λ ys. x ∷ ys) (append_nothing xs)
 
 one_more : (n : ℕ) (v : List ℕ) → words_in (suc n) v ≡ words_in n v ++ from_le_bytes w64 (take 8 (drop (8 * n) v)) ∷ []
 one_more zero v = refl
-one_more (suc n) v = ap (λ (ws : Words). from_le_bytes w64 (take 8 v) ∷ ws) (one_more n (drop 8 v) ∙ ap (λ (b : List ℕ). words_in n (drop 8 v) ++ from_le_bytes w64 (take 8 b) ∷ []) (drop-drop (8 * n) 8 v ∙ ap (λ (k : ℕ). drop k v) (eight n)))
+one_more (suc n) v =
+    ap (λ (ws : Words). from_le_bytes w64 (take 8 v) ∷ ws)
+    (one_more n (drop 8 v)
+    ∙ ap (λ (b : List ℕ). words_in n (drop 8 v) ++ from_le_bytes w64 (take 8 b) ∷ [])
+    (drop-drop (8 * n) 8 v ∙ ap (λ (k : ℕ). drop k v) (eight n)))
   where
     eight : (k : ℕ) → 8 + 8 * k ≡ 8 * suc k
     eight k = omega arith
@@ -78,19 +87,23 @@ words_joined (suc n) v small long =
     eight : (k : ℕ) → 8 + 8 * k ≡ 8 * suc k
     eight k = omega arith
 
-kept : (old new : Words) (v : List ℕ) (n : ℕ) → AreSmall v → length v ≡ 64 → new ≡ old ++ words_in n v → n ≤ 8 → drop (8 * n) v ≡ replicate (64 - 8 * n) 0 → IsKept old new v n
+kept : (old new : Words) (v : List ℕ) (n : ℕ) → AreSmall v → length v ≡ 64 → new ≡ old ++ words_in n v → n ≤ 8
+    → drop (8 * n) v ≡ replicate (64 - 8 * n) 0 → IsKept old new (Some v) n
 kept old new v n small long is few zeros = record {
   more = words_in n v;
   is = is;
   counts = words_count n v;
   few = few;
-  fills = ap₂ (λ (a b : List ℕ). a ++ b) (words_joined n v small (omega (arith, long, few))) (sym zeros) ∙ take-append-drop (8 * n) v;
+  fills =
+      ap₂ (λ (a b : List ℕ). a ++ b) (words_joined n v small (omega (arith, long, few))) (sym zeros)
+      ∙ take-append-drop (8 * n) v;
 }
 
 pub none_left : (v : List ℕ) → length v ≡ 64 → drop 64 v ≡ []
 none_left v long = nil_from_length (drop 64 v) (length-drop 64 v ∙ omega (arith, long))
 
-pub keep_further : (old mid new : Words) (v : List ℕ) (word n m : ℕ) → mid ≡ old ++ words_in n v → new ≡ mid ++ word ∷ [] → word ≡ from_le_bytes w64 (take m (drop (8 * n) v)) → m ≡ 8
+pub keep_further : (old mid new : Words) (v : List ℕ) (word n m : ℕ) → mid ≡ old ++ words_in n v → new ≡ mid ++ word ∷ []
+    → word ≡ from_le_bytes w64 (take m (drop (8 * n) v)) → m ≡ 8
     → new ≡ old ++ words_in (n + 1) v
 keep_further old mid new v word n m before is cut eight =
     is
@@ -101,9 +114,13 @@ keep_further old mid new v word n m before is cut eight =
 pub kept_count : (old mid : Words) (v : List ℕ) (n : ℕ) → mid ≡ old ++ words_in n v → length mid ≡ length old + n
 kept_count old mid v n is = ap length is ∙ length-append old (words_in n v) ∙ ap (λ (k : ℕ). length old + k) (words_count n v)
 
-pub kept_all : (old new : Words) (v : List ℕ) (n last : ℕ) → AreSmall v → length v ≡ 64 → new ≡ old ++ words_in last v → last ≡ n → n ≤ 8 → drop (8 * n) v ≡ replicate (64 - 8 * n) 0
-    → IsKept old new v n
-kept_all old new v n last small long is at few zeros = kept old new v n small long (is ∙ ap (λ (k : ℕ). old ++ words_in k v) at) few zeros
+pub kept_all : (old new : Words) (v : List ℕ) (n last : ℕ) → AreSmall v → length v ≡ 64 → new ≡ old ++ words_in last v
+    → last ≡ n → n ≤ 8 → drop (8 * n) v ≡ replicate (64 - 8 * n) 0 → IsKept old new (Some v) n
+kept_all old new v n last small long is at few zeros =
+    kept old new v n small long (is ∙ ap (λ (k : ℕ). old ++ words_in k v) at) few zeros
+
+pub none_kept : (words : Words) → IsKept words words None 0
+none_kept words = record { more = []; is = append_nothing words; counts = refl; few = omega arith; fills = tt }
 
 pub zero_word : (v : List ℕ) (n m word : ℕ) → AreSmall v → 8 * n + 8 ≤ length v → m ≡ 8 → word ≡ from_le_bytes w64 (take m (drop (8 * n) v)) → word ≡ 0
     → take m (drop (8 * n) v) ≡ replicate 8 0
@@ -117,42 +134,19 @@ pub one_word_fewer : (v front : List ℕ) (n less m : ℕ) → n ≤ 8 → n ≡
     → front ≡ take m (drop (8 * less) v) → m ≡ 8 → front ≡ replicate 8 0 → drop (8 * less) v ≡ replicate (64 - 8 * less) 0
 one_word_fewer v front n less m few is zeros cut eight none =
     sym (take-append-drop 8 (drop (8 * less) v))
-    ∙ ap₂ (λ (a b : List ℕ). a ++ b) (ap (λ (k : ℕ). take k (drop (8 * less) v)) (sym eight) ∙ sym cut ∙ none) (drop-drop 8 (8 * less) v ∙ ap (λ (k : ℕ). drop k v) (omega (arith, is)) ∙ zeros)
+    ∙ ap₂ (λ (a b : List ℕ). a ++ b) (ap (λ (k : ℕ). take k (drop (8 * less) v)) (sym eight) ∙ sym cut ∙ none)
+    (drop-drop 8 (8 * less) v ∙ ap (λ (k : ℕ). drop k v) (omega (arith, is)) ∙ zeros)
     ∙ replicate-append-replicate 8 (64 - 8 * n) 0
     ∙ ap (λ (k : ℕ). replicate k 0) (omega (arith, is, few))
-
--- ---- what is written and told
-
-nothing_written : (words : Words) (o : Op) (does : Does) → op_of does (target o) (replicate 64 0) ≡ o → IsWritten words words o does 0
-nothing_written words o does means = record { more = []; is = append_nothing words; counts = refl; few = omega arith; means = means }
-
-pub reads : (words : Words) (r : Record) → IsWritten words words (Read r) Reads 0
-reads words r = nothing_written words (Read r) Reads refl
-
-pub deletes : (words : Words) (r : Record) → IsWritten words words (Delete r) Deletes 0
-deletes words r = nothing_written words (Delete r) Deletes refl
-
-pub inserts : (old new : Words) (r : Record) (v : List ℕ) (n : ℕ) → IsKept old new v n → IsWritten old new (Insert r v) Inserts n
-inserts old new r v n at = record { more = at.more; is = at.is; counts = at.counts; few = at.few; means = ap (λ w. Insert r w) at.fills }
-
-pub updates : (old new : Words) (r : Record) (v : List ℕ) (n : ℕ) → IsKept old new v n → IsWritten old new (Update r v) Updates n
-updates old new r v n at = record { more = at.more; is = at.is; counts = at.counts; few = at.few; means = ap (λ w. Update r w) at.fills }
-
-pub found : (old new : Words) (v : List ℕ) (n : ℕ) → IsKept old new v n → IsTold old new (Value v) Found n
-found old new v n at = record { more = at.more; is = at.is; counts = at.counts; few = at.few; means = ap (λ w. Value w) at.fills }
-
-pub replaced : (old new : Words) (v : List ℕ) (n : ℕ) → IsKept old new v n → IsTold old new (Done (Some v)) Replaced n
-replaced old new v n at = record { more = at.more; is = at.is; counts = at.counts; few = at.few; means = ap (λ w. Done (Some w)) at.fills }
-
-pub told_plainly : (words : Words) (said : Said) (t : Told) → said_of t (replicate 64 0) ≡ said → IsTold words words said t 0
-told_plainly words said t means = record { more = []; is = append_nothing words; counts = refl; few = omega arith; means = means }
 
 -- ---- a value from its words
 
 joined_further : (words : Words) (place at word d : ℕ) → word ≡ slice_index_or words (place + at) d → place + at < length words
     → flat_map (to_le_bytes w64) (take (at + 1) (drop place words)) ≡ flat_map (to_le_bytes w64) (take at (drop place words)) ++ to_le_bytes w64 word
 joined_further words place at word d is inside =
-    ap (flat_map (to_le_bytes w64)) (take_more (drop place words) at d (let left = length-drop place words in omega (arith, left, inside)) ∙ ap (λ (w : ℕ). take at (drop place words) ++ w ∷ []) (get_or-drop place words at d ∙ sym is))
+    ap (flat_map (to_le_bytes w64))
+    (take_more (drop place words) at d (let left = length-drop place words in omega (arith, left, inside))
+    ∙ ap (λ (w : ℕ). take at (drop place words) ++ w ∷ []) (get_or-drop place words at d ∙ sym is))
     ∙ flat_map-append (to_le_bytes w64) (take at (drop place words)) (word ∷ [])
     ∙ ap (λ (b : List ℕ). flat_map (to_le_bytes w64) (take at (drop place words)) ++ b) (sym (append_nothing (to_le_bytes w64 word)))
 
@@ -209,32 +203,42 @@ laid_words words new calls e h more is count few at call means = record {
   calls_is = append_nothing calls;
   one = omega arith;
   within = record { named = (let all = ap length is in omega (arith, all, at, count, length-append words more)); few = few; call = call };
-  means = ap (λ (v : Words). event_by h.kind h v (slice_index_or calls h.key [])) (ap₂ (λ (ws : Words) (p : ℕ). take h.count (drop p ws)) is at ∙ words_there words more h.count count) ∙ means;
+  means = ap (λ (v : Words). event_by h.kind h v (slice_index_or calls h.key []))
+      (ap₂ (λ (ws : Words) (p : ℕ). take h.count (drop p ws)) is at ∙ words_there words more h.count count) ∙ means;
 }
 
-pub laid_ask : (words new : Words) (calls : Calls) (e : Event) (h : Head) (txn number place count : ℕ) (o : Op) (r : Record) (does : Does)
-    → IsWritten words new o does count → r ≡ target o → place ≡ length words → h ≡ head_with (Asks does) txn number r place count → e ≡ Ask txn number o
-    → IsLaid words new calls calls e h
-laid_ask words new calls e h txn number place count o r does written named at parts is =
+pub laid_ask : (words new : Words) (calls : Calls) (e : Event) (h : Head) (txn number place count : ℕ) (o : Op)
+    (r : Record) (k : OpKind) (value : Option (List ℕ)) → IsKept words new value count → value ≡ op_value o
+    → IsOpAgain o k → r ≡ target o → place ≡ length words → h ≡ head_with (Asks k) txn number r place count
+    → e ≡ Ask txn number o → IsLaid words new calls calls e h
+laid_ask words new calls e h txn number place count o r k value kept written again named at parts is =
     subst (λ (g : Head). IsLaid words new calls calls e g) (sym parts)
-    (laid_words words new calls e (head_with (Asks does) txn number r place count) written.more written.is written.counts written.few at tt
-    (ap (λ (q : Record). Ask txn number (op_of does q (filled count written.more))) named ∙ ap (λ (p : Op). Ask txn number p) written.means ∙ sym is))
+    (laid_words words new calls e (head_with (Asks k) txn number r place count) kept.more kept.is kept.counts kept.few
+    at tt
+    (ap (λ (p : Op). Ask txn number p) (op_made o k r value (filled count kept.more) again named written kept.fills)
+    ∙ sym is))
 
-pub laid_undo : (words new : Words) (calls : Calls) (e : Event) (h : Head) (txn number place count : ℕ) (o : Op) (r : Record) (does : Does)
-    → IsWritten words new o does count → r ≡ target o → place ≡ length words → h ≡ head_with (Undoes does) txn number r place count → e ≡ Undo txn number o
-    → IsLaid words new calls calls e h
-laid_undo words new calls e h txn number place count o r does written named at parts is =
+pub laid_undo : (words new : Words) (calls : Calls) (e : Event) (h : Head) (txn number place count : ℕ) (o : Op)
+    (r : Record) (k : OpKind) (value : Option (List ℕ)) → IsKept words new value count → value ≡ op_value o
+    → IsOpAgain o k → r ≡ target o → place ≡ length words → h ≡ head_with (Undoes k) txn number r place count
+    → e ≡ Undo txn number o → IsLaid words new calls calls e h
+laid_undo words new calls e h txn number place count o r k value kept written again named at parts is =
     subst (λ (g : Head). IsLaid words new calls calls e g) (sym parts)
-    (laid_words words new calls e (head_with (Undoes does) txn number r place count) written.more written.is written.counts written.few at tt
-    (ap (λ (q : Record). Undo txn number (op_of does q (filled count written.more))) named ∙ ap (λ (p : Op). Undo txn number p) written.means ∙ sym is))
+    (laid_words words new calls e (head_with (Undoes k) txn number r place count) kept.more kept.is kept.counts
+    kept.few at tt
+    (ap (λ (p : Op). Undo txn number p) (op_made o k r value (filled count kept.more) again named written kept.fills)
+    ∙ sym is))
 
-pub laid_answer : (words new : Words) (calls : Calls) (e : Event) (h : Head) (txn number place count : ℕ) (said : Said) (r : Record) (told : Told)
-    → IsTold words new said told count → place ≡ length words → h ≡ head_with (Answers told) txn number r place count → e ≡ Answer txn number said
-    → IsLaid words new calls calls e h
-laid_answer words new calls e h txn number place count said r told is_told at parts is =
+pub laid_answer : (words new : Words) (calls : Calls) (e : Event) (h : Head) (txn number place count : ℕ) (a : Said)
+    (r : Record) (k : SaidKind) (value : Option (List ℕ)) → IsKept words new value count → value ≡ said_value a
+    → IsSaidAgain a k → place ≡ length words → h ≡ head_with (Answers k) txn number r place count
+    → e ≡ Answer txn number a → IsLaid words new calls calls e h
+laid_answer words new calls e h txn number place count a r k value kept told again at parts is =
     subst (λ (g : Head). IsLaid words new calls calls e g) (sym parts)
-    (laid_words words new calls e (head_with (Answers told) txn number r place count) is_told.more is_told.is is_told.counts is_told.few at tt
-    (ap (λ (s : Said). Answer txn number s) is_told.means ∙ sym is))
+    (laid_words words new calls e (head_with (Answers k) txn number r place count) kept.more kept.is kept.counts
+    kept.few at tt
+    (ap (λ (s : Said). Answer txn number s) (said_made a k value (filled count kept.more) again told kept.fills)
+    ∙ sym is))
 
 -- of an event that has no words
 laid_plainly : (words : Words) (calls : Calls) (e : Event) (h : Head) → h.count ≡ 0
@@ -290,9 +294,9 @@ call_kept : (calls more : Calls) (kind : Kind) (h : Head) (ws : Words) → IsCal
     → event_by kind h ws (slice_index_or (calls ++ more) h.key []) ≡ event_by kind h ws (slice_index_or calls h.key [])
 call_kept calls more Admits h ws call = refl
 call_kept calls more AdmitsMany h ws call = ap (λ (a : List ℕ). Admit h.txn h.number a) (get_or_append_left calls more [] h.key call)
-call_kept calls more (Asks does) h ws call = refl
-call_kept calls more (Answers told) h ws call = refl
-call_kept calls more (Undoes does) h ws call = refl
+call_kept calls more (Asks k) h ws call = refl
+call_kept calls more (Answers k) h ws call = refl
+call_kept calls more (Undoes k) h ws call = refl
 call_kept calls more Commits h ws call = refl
 call_kept calls more Aborts h ws call = refl
 call_kept calls more LacksRoom h ws call = refl
@@ -318,9 +322,9 @@ events_kept words more calls calls_more (h ∷ heads) all =
 call_more : (n m : ℕ) (kind : Kind) (key : ℕ) → n ≤ m → IsCallWithin n kind key → IsCallWithin m kind key
 call_more n m Admits key more call = tt
 call_more n m AdmitsMany key more call = omega (arith, more, call)
-call_more n m (Asks does) key more call = tt
-call_more n m (Answers told) key more call = tt
-call_more n m (Undoes does) key more call = tt
+call_more n m (Asks k) key more call = tt
+call_more n m (Answers k) key more call = tt
+call_more n m (Undoes k) key more call = tt
 call_more n m Commits key more call = tt
 call_more n m Aborts key more call = tt
 call_more n m LacksRoom key more call = tt

@@ -1,21 +1,15 @@
 -- The events of a log, the oldest first, as heads and what they name: the words of values, and the arguments of calls.
-use Rattle.std.specs.Prelude.{◌≡◌, ℕ, zero, suc, ◌+◌, ◌-◌, ◌*◌, ◌≤◌, ◌<◌, List, [], ◌∷◌, ◌++◌, length, take, drop, map, replicate, slice_index_or, Some, None}
+use Rattle.std.specs.Prelude.{◌≡◌, ℕ, zero, suc, ◌+◌, ◌-◌, ◌*◌, ◌≤◌, ◌<◌, Option, IfSome}
+use Rattle.std.specs.Prelude.{List, [], ◌∷◌, ◌++◌, length, take, drop, map, replicate, slice_index_or}
 use Rattle.std.specs.List.{flat_map}
 use Rattle.std.specs.Int.{w64, to_le_bytes, from_le_bytes}
 use Rattle.access_slots.specs.declared.slot.Record.{Record}
-use Rattle.access_slots.specs.declared.op.Op.{Op}
-use Rattle.access_slots.specs.declared.op.Op.TheVariants.{Read, Insert, Update, Delete}
-use Rattle.access_slots.specs.declared.op.Said.{Said}
-use Rattle.access_slots.specs.declared.op.Said.TheVariants.{Value, Absent, Done, Duplicate, Missing, NoRoom, Old}
-use Rattle.access_slots.specs.Locks.{target}
+use Rattle.access_slots.specs.Kinds.{op_of, said_of}
 use Rattle.tc_log.specs.declared.event.Event.{Event}
 use Rattle.tc_log.specs.declared.event.Event.TheVariants.{Admit, Ask, Answer, Undo, End, Checkpoint}
-use Rattle.tc_log.specs.declared.heads.Does.{Does}
-use Rattle.tc_log.specs.declared.heads.Does.TheVariants.{Reads, Inserts, Updates, Deletes}
-use Rattle.tc_log.specs.declared.heads.Told.{Told}
-use Rattle.tc_log.specs.declared.heads.Told.TheVariants.{Found, NotFound, Performed, Replaced, ThereAlready, NotThere, Full, LongAgo}
 use Rattle.tc_log.specs.declared.heads.Kind.{Kind}
-use Rattle.tc_log.specs.declared.heads.Kind.TheVariants.{Admits, AdmitsMany, Asks, Answers, Undoes, Commits, Aborts, LacksRoom, Begins}
+use Rattle.tc_log.specs.declared.heads.Kind.TheVariants.{Admits, AdmitsMany, Asks, Answers, Undoes}
+use Rattle.tc_log.specs.declared.heads.Kind.TheVariants.{Commits, Aborts, LacksRoom, Begins}
 use Rattle.tc_log.specs.declared.heads.Head.{Head}
 use Rattle.tc_log.specs.declared.event.Outcome.{Outcome}
 use Rattle.tc_log.specs.declared.event.Outcome.TheVariants as outcome
@@ -40,34 +34,27 @@ abbrev pub words_in : ℕ → List ℕ → Words
 words_in zero bytes = []
 words_in (suc n) bytes = from_le_bytes w64 (take 8 bytes) ∷ words_in n (drop 8 bytes)
 
-abbrev pub op_of : Does → Record → List ℕ → Op
-op_of Reads r v = Read r
-op_of Inserts r v = Insert r v
-op_of Updates r v = Update r v
-op_of Deletes r v = Delete r
-
-abbrev pub said_of : Told → List ℕ → Said
-said_of Found v = Value v
-said_of NotFound v = Absent
-said_of Performed v = Done None
-said_of Replaced v = Done (Some v)
-said_of ThereAlready v = Duplicate
-said_of NotThere v = Missing
-said_of Full v = NoRoom
-said_of LongAgo v = Old
-
 abbrev pub record_of : Head → Record
 record_of h = record { dc = h.dc; table = h.table; key = h.key }
 
 abbrev pub head_with : Kind → ℕ → ℕ → Record → ℕ → ℕ → Head
-head_with kind txn number r place count = record { txn = txn; number = number; key = r.key; place = place; dc = r.dc; table = r.table; kind = kind; count = count }
+head_with kind txn number r place count = record {
+  txn = txn;
+  number = number;
+  key = r.key;
+  place = place;
+  dc = r.dc;
+  table = r.table;
+  kind = kind;
+  count = count;
+}
 
 abbrev pub event_by : Kind → Head → Words → List ℕ → Event
 event_by Admits h words args = Admit h.txn h.number words
 event_by AdmitsMany h words args = Admit h.txn h.number args
-event_by (Asks does) h words args = Ask h.txn h.number (op_of does (record_of h) (filled h.count words))
-event_by (Answers told) h words args = Answer h.txn h.number (said_of told (filled h.count words))
-event_by (Undoes does) h words args = Undo h.txn h.number (op_of does (record_of h) (filled h.count words))
+event_by (Asks kind) h words args = Ask h.txn h.number (op_of kind (record_of h) (filled h.count words))
+event_by (Answers kind) h words args = Answer h.txn h.number (said_of kind (filled h.count words))
+event_by (Undoes kind) h words args = Undo h.txn h.number (op_of kind (record_of h) (filled h.count words))
 event_by Commits h words args = End h.txn outcome.Committed
 event_by Aborts h words args = End h.txn (outcome.Aborted h.number)
 event_by LacksRoom h words args = End h.txn outcome.NoRoom
@@ -94,29 +81,13 @@ abbrev pub AllWithin : ℕ → ℕ → List Head → Type 0
 AllWithin words calls [] = Unit {0}
 AllWithin words calls (h ∷ heads) = IsWithin words calls h × AllWithin words calls heads
 
--- so many words more, which are this value's
-pub record IsKept (old new : Words) (value : List ℕ) (count : ℕ) : Type 0 where
+-- so many words more, which are this value's, if there is one
+pub record IsKept (old new : Words) (value : Option (List ℕ)) (count : ℕ) : Type 0 where
   pub more : Words
   pub is : new ≡ old ++ more
   pub counts : length more ≡ count
   pub few : count ≤ 8
-  pub fills : filled count more ≡ value
-
--- so many words more, and what an operation does
-pub record IsWritten (old new : Words) (o : Op) (does : Does) (count : ℕ) : Type 0 where
-  pub more : Words
-  pub is : new ≡ old ++ more
-  pub counts : length more ≡ count
-  pub few : count ≤ 8
-  pub means : op_of does (target o) (filled count more) ≡ o
-
--- the same of what was said
-pub record IsTold (old new : Words) (said : Said) (told : Told) (count : ℕ) : Type 0 where
-  pub more : Words
-  pub is : new ≡ old ++ more
-  pub counts : length more ≡ count
-  pub few : count ≤ 8
-  pub means : said_of told (filled count more) ≡ said
+  pub fills : IfSome value (λ v. filled count more ≡ v)
 
 -- the kind and the number of an end
 abbrev pub IsEnd : Outcome → Kind → ℕ → Type 0

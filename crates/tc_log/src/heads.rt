@@ -1,43 +1,24 @@
 //! Events as heads, and apart from them the words of their values and calls. Of a value's eight words only those up
 //! to the last that isn't zero are kept. A call's words are its arguments, up to eight; more lie elsewhere.
 
-ghost use Rattle.std.specs.Prelude.{◌≡◌, ◌+◌, ◌-◌, ◌*◌, ◌≤◌, ◌<◌, ◌++◌, drop, replicate, length, vec_capacity};
-ghost use Rattle.tc_log.specs.Heads.{event_of, op_of, said_of, record_of, head_with, value_at, IsWithin, IsKept, IsWritten, IsTold, IsEnd, IsLaid};
+ghost use Rattle.std.specs.Prelude.{◌≡◌, ◌+◌, ◌-◌, ◌*◌, ◌≤◌, ◌<◌, ◌++◌, drop, replicate, length, option_copied, Some, vec_capacity};
+ghost use Rattle.tc_log.specs.Heads.{event_of, record_of, head_with, value_at, IsWithin, IsKept, IsEnd, IsLaid};
 ghost use Rattle.tc_log.specs.Entered.{seen};
 ghost use Rattle.tc_log.specs.declared.event.Event.TheVariants.{End};
 
 use crate::event::{Entry, Event, Long, Numbers, Outcome};
 use crate::read::long;
+use access_slots::kind::{OpKind, SaidKind};
 use access_slots::op::{Op, Said};
 use access_slots::slot::{Record, Value};
-
-#[derive(Clone, Copy)]
-pub(crate) enum Does {
-    Reads,
-    Inserts,
-    Updates,
-    Deletes,
-}
-
-#[derive(Clone, Copy)]
-pub(crate) enum Told {
-    Found,
-    NotFound,
-    Performed,
-    Replaced,
-    ThereAlready,
-    NotThere,
-    Full,
-    LongAgo,
-}
 
 #[derive(Clone, Copy)]
 pub(crate) enum Kind {
     Admits,
     AdmitsMany,
-    Asks(Does),
-    Answers(Told),
-    Undoes(Does),
+    Asks(OpKind),
+    Answers(SaidKind),
+    Undoes(OpKind),
     Commits,
     Aborts,
     LacksRoom,
@@ -58,11 +39,13 @@ pub(crate) struct Head {
     count: u8,
 }
 
-const NO_RECORD: Record = Record {
+pub(crate) const NO_RECORD: Record = Record {
     dc: 0,
     table: 0,
     key: 0,
 };
+
+const NO_VALUE: Value = [0; 64];
 
 // How many words there are up to the last that isn't zero.
 #[inline(always)]
@@ -81,7 +64,7 @@ fn count_of(value: &Value) -> usize
 #[inline(always)]
 fn keep(words: &mut Vec<u64>, value: &Value) -> u8
     requires room { length words.old.items + 8 ≤ vec_capacity words.old }
-    ensures kept { IsKept words.old.items words.new.items value.now result }
+    ensures kept { IsKept words.old.items words.new.items (Some value.now) result }
     ensures capacity { vec_capacity words.new ≡ vec_capacity words.old }
 {
     let count = count_of(value);
@@ -120,39 +103,29 @@ fn value_at(words: &[u64], place: usize, count: usize) -> Value
     value
 }
 
-// Keeps the value that an operation writes.
+// Keeps a value, if there is one, and says in how many words.
 #[inline(always)]
-#[tactic(auto, using(crate::proofs::Laying::reads, crate::proofs::Laying::inserts, crate::proofs::Laying::updates, crate::proofs::Laying::deletes))]
-fn write(words: &mut Vec<u64>, op: &Op) -> (Does, u8)
+#[tactic(auto, using(crate::proofs::Laying::none_kept))]
+fn keep_any(words: &mut Vec<u64>, value: Option<&Value>) -> u8
     requires room { length words.old.items + 8 ≤ vec_capacity words.old }
-    ensures written { IsWritten words.old.items words.new.items op.now result.0 result.1 }
+    ensures kept { IsKept words.old.items words.new.items (option_copied value.entry) result }
     ensures capacity { vec_capacity words.new ≡ vec_capacity words.old }
 {
-    match op {
-        Op::Read(_) => (Does::Reads, 0),
-        Op::Insert(_, value) => (Does::Inserts, keep(words, value)),
-        Op::Update(_, value) => (Does::Updates, keep(words, value)),
-        Op::Delete(_) => (Does::Deletes, 0),
+    match value {
+        Some(value) => keep(words, value),
+        None => 0,
     }
 }
 
-// Keeps the value that was said.
+// What stands in a head for where a call's arguments are.
 #[inline(always)]
-#[tactic(auto, using(crate::proofs::Laying::found, crate::proofs::Laying::replaced, crate::proofs::Laying::told_plainly))]
-fn tell(words: &mut Vec<u64>, said: &Said) -> (Told, u8)
-    requires room { length words.old.items + 8 ≤ vec_capacity words.old }
-    ensures told { IsTold words.old.items words.new.items said.now result.0 result.1 }
-    ensures capacity { vec_capacity words.new ≡ vec_capacity words.old }
+const fn keyed(key: u64) -> Record
+    ensures { result ≡ record { dc = 0; table = 0; key = key } }
 {
-    match said {
-        Said::Value(value) => (Told::Found, keep(words, value)),
-        Said::Absent => (Told::NotFound, 0),
-        Said::Done(None) => (Told::Performed, 0),
-        Said::Done(Some(value)) => (Told::Replaced, keep(words, value)),
-        Said::Duplicate => (Told::ThereAlready, 0),
-        Said::Missing => (Told::NotThere, 0),
-        Said::NoRoom => (Told::Full, 0),
-        Said::Old => (Told::LongAgo, 0),
+    Record {
+        dc: 0,
+        table: 0,
+        key,
     }
 }
 
@@ -175,25 +148,24 @@ pub(crate) fn lay(words: &mut Vec<u64>, calls: &mut Vec<Long>, event: Event) -> 
             Numbers::Many(many) => {
                 let key = calls.len() as u64;
                 calls.push_reserved(many);
-                let named = Record {
-                    dc: 0,
-                    table: 0,
-                    key,
-                };
-                head_of(Kind::AdmitsMany, txn, proc as u64, &named, place, 0)
+                let kind = Kind::AdmitsMany;
+                head_of(kind, txn, proc as u64, &keyed(key), place, 0)
             }
         },
         Event::Ask { txn, number, op } => {
-            let (does, count) = write(words, &op);
-            head_of(Kind::Asks(does), txn, number, op.record(), place, count)
+            let count = keep_any(words, op.value());
+            let kind = Kind::Asks(op.kind());
+            head_of(kind, txn, number, op.record(), place, count)
         }
         Event::Answer { txn, number, said } => {
-            let (told, count) = tell(words, &said);
-            head_of(Kind::Answers(told), txn, number, &NO_RECORD, place, count)
+            let count = keep_any(words, said.value());
+            let kind = Kind::Answers(said.kind());
+            head_of(kind, txn, number, &NO_RECORD, place, count)
         }
         Event::Undo { txn, number, op } => {
-            let (does, count) = write(words, &op);
-            head_of(Kind::Undoes(does), txn, number, op.record(), place, count)
+            let count = keep_any(words, op.value());
+            let kind = Kind::Undoes(op.kind());
+            head_of(kind, txn, number, op.record(), place, count)
         }
         Event::End { txn, outcome } => {
             let (kind, number) = end(outcome);
@@ -234,7 +206,8 @@ fn head_of(kind: Kind, txn: u64, number: u64, record: &Record, place: usize, cou
 
 impl Head {
     ghost use Rattle.std.specs.Prelude.{◌≡◌, ◌+◌, ◌≤◌, length};
-    ghost use Rattle.tc_log.specs.Heads.{event_of, op_of, said_of, record_of, value_at, IsWithin};
+    ghost use Rattle.access_slots.specs.Kinds.{op_of, said_of};
+    ghost use Rattle.tc_log.specs.Heads.{event_of, record_of, value_at, IsWithin};
     ghost use Rattle.tc_log.specs.Entered.{seen};
 
     #[inline(always)]
@@ -259,36 +232,31 @@ impl Head {
 
     // The operation, with the value that it writes.
     #[inline(always)]
-    fn op(&self, does: Does, words: &[u64]) -> Op
+    #[tactic(auto, using(access_slots::proofs::KindLemmas::any_value))]
+    fn op(&self, kind: OpKind, words: &[u64]) -> Op
         requires named { self.now.place + self.now.count ≤ length words.now }
         requires few { self.now.count ≤ 8 }
-        ensures { result ≡ op_of does (record_of self.now) (value_at words.now self.now.place self.now.count) }
+        ensures { result ≡ op_of kind (record_of self.now) (value_at words.now self.now.place self.now.count) }
     {
-        let record = self.record();
-        match does {
-            Does::Reads => Op::Read(record),
-            Does::Inserts => Op::Insert(record, self.value(words)),
-            Does::Updates => Op::Update(record, self.value(words)),
-            Does::Deletes => Op::Delete(record),
+        if kind.has_value() {
+            kind.with(self.record(), &self.value(words))
+        } else {
+            kind.with(self.record(), &NO_VALUE)
         }
     }
 
     // What was said, with its value.
     #[inline(always)]
-    fn said(&self, told: Told, words: &[u64]) -> Said
+    #[tactic(auto, using(access_slots::proofs::KindLemmas::any_value_said))]
+    fn said(&self, kind: SaidKind, words: &[u64]) -> Said
         requires named { self.now.place + self.now.count ≤ length words.now }
         requires few { self.now.count ≤ 8 }
-        ensures { result ≡ said_of told (value_at words.now self.now.place self.now.count) }
+        ensures { result ≡ said_of kind (value_at words.now self.now.place self.now.count) }
     {
-        match told {
-            Told::Found => Said::Value(self.value(words)),
-            Told::NotFound => Said::Absent,
-            Told::Performed => Said::Done(None),
-            Told::Replaced => Said::Done(Some(self.value(words))),
-            Told::ThereAlready => Said::Duplicate,
-            Told::NotThere => Said::Missing,
-            Told::Full => Said::NoRoom,
-            Told::LongAgo => Said::Old,
+        if kind.has_value() {
+            kind.with(&self.value(words))
+        } else {
+            kind.with(&NO_VALUE)
         }
     }
 
@@ -310,20 +278,20 @@ impl Head {
                 proc: number as usize,
                 args: calls[self.key as usize].as_slice(),
             },
-            Kind::Asks(does) => Entry::Ask {
+            Kind::Asks(kind) => Entry::Ask {
                 txn,
                 number,
-                op: self.op(does, words),
+                op: self.op(kind, words),
             },
-            Kind::Answers(told) => Entry::Answer {
+            Kind::Answers(kind) => Entry::Answer {
                 txn,
                 number,
-                said: self.said(told, words),
+                said: self.said(kind, words),
             },
-            Kind::Undoes(does) => Entry::Undo {
+            Kind::Undoes(kind) => Entry::Undo {
                 txn,
                 number,
-                op: self.op(does, words),
+                op: self.op(kind, words),
             },
             Kind::Commits => ended(txn, Outcome::Committed),
             Kind::Aborts => ended(txn, Outcome::Aborted(number)),

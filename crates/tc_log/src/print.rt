@@ -15,6 +15,7 @@ ghost use Rattle.tc_log.specs.Entered.{seen};
 ghost use Rattle.tc_log.specs.Joining.Laid.{laid, laid_if, laid_parts, admit_cells, body_bytes, is_printable};
 
 use crate::event::{Entry, Outcome};
+use crate::heads::NO_RECORD;
 use crate::log::Log;
 use access_slots::op::{Op, Said};
 use access_slots::slot::{Record, Value};
@@ -41,12 +42,6 @@ struct Cells<'a> {
     key: u64,
     body: Body<'a>,
 }
-
-const NO_RECORD: Record = Record {
-    dc: 0,
-    table: 0,
-    key: 0,
-};
 
 fn cells_at<'a>(
     kind: u8,

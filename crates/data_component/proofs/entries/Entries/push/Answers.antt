@@ -5,16 +5,21 @@ use Rattle.data_component.proofs.entries.Entries.push.Goals as goal
 
 pub invariant_of-self : goal.invariant_of-self
 invariant_of-self c = (
-  pushed_within c.self.inside.values.items c.tell-told.new.values.items c.write-kind.new.values.items c.self.inside.heads.items c.push_reserved.new.self.items _ c.args.op.now c.args.said.now
-      c.self.invariant.0 c.self.invariant.1 c.tell-told.ensures.told c.write-kind.ensures.written c.push_reserved.ensures.items,
-  pushed_few c.self.inside.values.items c.tell-told.new.values.items c.write-kind.new.values.items c.self.inside.heads.items c.push_reserved.new.self.items _ c.args.op.now c.args.said.now
-      c.self.invariant.1 c.tell-told.ensures.told c.write-kind.ensures.written c.push_reserved.ensures.items,
+  pushed_within c.self.inside.values.items c.share_any-said.new.values.items c.share_any-written.new.values.items
+      c.self.inside.heads.items c.push_reserved.new.self.items _ _ _ c.self.invariant.0 c.self.invariant.1
+      c.share_any-said.ensures.numbered c.share_any-written.ensures.numbered c.push_reserved.ensures.items,
+  pushed_few c.self.inside.values.items c.share_any-said.new.values.items c.share_any-written.new.values.items
+      c.self.inside.heads.items c.push_reserved.new.self.items _ _ _ c.self.invariant.1
+      c.share_any-said.ensures.numbered c.share_any-written.ensures.numbered c.push_reserved.ensures.items,
   search rules,
   search rules,
 )
 
 pub returns-clause-items : goal.returns-clause-items
 returns-clause-items c =
-    pushed_items c.self.inside.values.items c.tell-told.new.values.items c.write-kind.new.values.items c.self.inside.heads.items c.push_reserved.new.self.items _ c.args.op.now c.args.said.now
-    c.self.invariant.0 c.tell-told.ensures.told c.write-kind.ensures.written (search rules) c.push_reserved.ensures.items
+    pushed_items c.self.inside.values.items c.share_any-said.new.values.items c.share_any-written.new.values.items
+    c.self.inside.heads.items c.push_reserved.new.self.items _ c.args.op.now c.args.said.now _ _ c.self.invariant.0
+    c.share_any-said.ensures.numbered c.value.ensures c.kind-told.ensures.again
+    c.share_any-written.ensures.numbered c.value-2.ensures c.kind.ensures.again
+    (search rules) c.push_reserved.ensures.items
     ∙ ap (λ (s : Listed). s.items ++ (c.args.number, c.args.op.now, c.args.said.now) ∷ []) c.self.view_is
