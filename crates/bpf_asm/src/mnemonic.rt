@@ -3,7 +3,9 @@
 ghost use Rattle.std.specs.Prelude.{◌≡◌, ◌++◌, codes};
 ghost use Rattle.std.specs.Str.{bytes_eq};
 ghost use Rattle.bpf_asm.specs.declared.line.LineFault.TheVariants.{UnknownWord};
-ghost use Rattle.bpf_asm.specs.Mnemonics.{named, mnemonics, mnemonic_name, mnemonic_said, operand_count, operation_name, condition_name, width_suffix, extension_name, order_name, order_suffix, size_suffix, signed_size_suffix, atomic_name, atomic_suffix};
+ghost use Rattle.bpf_asm.specs.Mnemonics.{named, mnemonics, mnemonic_name, mnemonic_said, operand_count};
+ghost use Rattle.bpf_asm.specs.Mnemonics.{operation_name, condition_name, width_suffix, extension_name, order_name};
+ghost use Rattle.bpf_asm.specs.Mnemonics.{order_suffix, size_suffix, signed_size_suffix, atomic_name, atomic_suffix};
 
 use crate::line::LineFault;
 use bpf_encoding::insn::{

@@ -2,7 +2,9 @@
 
 ghost use Rattle.std.specs.Prelude.{◌≡◌, ◌<◌, ◌≤◌, ◌+◌, ◌*◌, Some, pos, not, false, true, IfOk, IfErr, IfSome, IfNone};
 ghost use Rattle.bpf_encoding.specs.Fields.{class_of, code_of, takes_register};
-ghost use Rattle.bpf_encoding.specs.Spelling.{number_of, fields_of, operation_code, operation_offset, condition_code, alu_class, jump_class, size_code, signed_size_code, atomic_opcode, atomic_imm, extension_opcode, extension_bits, order_opcode, order_bits};
+ghost use Rattle.bpf_encoding.specs.Spelling.{number_of, fields_of, operation_code, operation_offset, condition_code};
+ghost use Rattle.bpf_encoding.specs.Spelling.{alu_class, jump_class, size_code, signed_size_code, atomic_opcode};
+ghost use Rattle.bpf_encoding.specs.Spelling.{atomic_imm, extension_opcode, extension_bits, order_opcode, order_bits};
 ghost use Rattle.bpf_encoding.specs.Faults.{outside_of, uses, uses_of, fault_of, fault_by, alu_uses, order_uses, jump_uses, jump32_uses, load_uses, store_imm_uses, store_uses, atomic_uses, wide_uses};
 ghost use Rattle.bpf_encoding.specs.Joining.Viewed.{viewed};
 ghost use Rattle.bpf_encoding.specs.Reading.{is_64, selects_offset, jump_uses_of};

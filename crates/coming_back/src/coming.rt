@@ -18,7 +18,7 @@ ghost use Rattle.coming_back.specs.Done.{EachHasWhatWasDone};
 ghost use Rattle.coming_back.specs.Faults.{restart_notes, HasLog, IsFaultOf};
 
 use crate::redoing::{RedoFault, redo_all};
-use crate::renewing::{notes_of, restart_all};
+use crate::restarting::{notes_of, restart_all};
 use crate::resumed::Resumed;
 use crate::resuming::resume_all;
 use data_component::dc::Dc;

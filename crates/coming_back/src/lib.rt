@@ -20,7 +20,7 @@ pub mod coming;
 pub mod examples;
 mod performing;
 mod redoing;
-mod renewing;
+mod restarting;
 pub mod resumed;
 mod resuming;
 

@@ -16,13 +16,13 @@ use data_component::dc::Dc;
 use tc_core::state::{Asked, NotOver, Receipt, Request, Stranger, TcState, TxnId};
 use tc_world::beginning::admitted_before;
 
-// What is next for an open transaction.
+/// What is next for an open transaction.
 pub enum Next {
-    // The operation that it waits for is to be sent.
+    /// The operation that it waits for is to be sent.
     Send(Request),
-    // It has ended.
+    /// It has ended.
     Ended(Receipt),
-    // A write wasn't undone under four numbers, of which this is the last.
+    /// A write wasn't undone under four numbers, of which this is the last.
     Stuck(u64),
 }
 
@@ -65,6 +65,7 @@ fn again(state: &TcState, txn: TxnId, number: u64) -> Request
     ensures own { result.txn ≡ txn.serial }
     ensures open { IsOpenHere state.now result }
 {
+    // Contracts alone speak of the number.
     let _ = number;
     match state.request(txn) {
         Some(request) => request,

@@ -93,7 +93,9 @@ writer = refl
 -- ---- an abort: its undo has a number of its own
 
 undoing : List Event
-undoing = Undo 2 4 (op.Update five (value 100)) ∷ Answer 2 3 (said.Done (Some (value 100))) ∷ Ask 2 3 (op.Update five (value 7)) ∷ Answer 2 2 (said.Value (value 100)) ∷ Ask 2 2 (op.Read five) ∷ Admit 2 1 (5 ∷ []) ∷ ended
+undoing =
+    Undo 2 4 (op.Update five (value 100)) ∷ Answer 2 3 (said.Done (Some (value 100))) ∷ Ask 2 3 (op.Update five (value 7))
+    ∷ Answer 2 2 (said.Value (value 100)) ∷ Ask 2 2 (op.Read five) ∷ Admit 2 1 (5 ∷ []) ∷ ended
 
 undo_given : given undoing ≡ 4
 unfolding undoing ended asked_for

@@ -1,6 +1,8 @@
 //! The locks of several transactions at a time, in maps.
 
-ghost use Rattle.std.specs.Prelude.{ℕ, Bool, ◌≡◌, ◌≢◌, nat_eq, false, ◌↔◌, ◌+◌, ◌*◌, ◌≤◌, ◌<◌, [], Option, Some, None, true, length, vec_len, vec_capacity, ◌++◌, option_to_list, IfOk, OnErr, OnOk, IsTrue, IsFalse, is_some};
+ghost use Rattle.std.specs.Prelude.{ℕ, Bool, ◌≡◌, ◌≢◌, nat_eq, false, ◌↔◌, ◌+◌, ◌*◌, ◌≤◌, ◌<◌, []};
+ghost use Rattle.std.specs.Prelude.{Option, Some, None, true, length, vec_len, vec_capacity, ◌++◌};
+ghost use Rattle.std.specs.Prelude.{option_to_list, IfOk, OnErr, OnOk, IsTrue, IsFalse, is_some};
 ghost use Rattle.indexmap.specs.IndexMap.{get, spare, insert_entry, Updates, IsUnique};
 ghost use Rattle.access_slots.specs.declared.slot.Record.{Record};
 ghost use Rattle.access_slots.specs.declared.slot.Mode.{Mode as ModeValue};

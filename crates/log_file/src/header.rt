@@ -19,13 +19,14 @@ const PLAIN: u64 = 1;
 
 const BASED: u64 = 2;
 
-// The bytes of a header's frame, of layout 1, and the first 16 of them: its number and its length.
+// The bytes of a header's frame, of layout 1.
 const FRAME: usize = 88;
 
 /// The first bytes of a file that [`crate::LogFile::begin_anew`] writes: the number of its first frame, and the
 /// length.
 pub const BASED_FRONT: [u8; 16] = [0, 0, 0, 0, 0, 0, 0, 0, 72, 0, 0, 0, 0, 0, 0, 0];
 
+// The first 16 of them: its number and its length.
 const HEAD_FRONT: [u8; 16] = [0, 0, 0, 0, 0, 0, 0, 0, 64, 0, 0, 0, 0, 0, 0, 0];
 
 /// Whose log it is: one that was written for others isn't read.

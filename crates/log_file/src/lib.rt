@@ -31,7 +31,7 @@ pub use base::{BaseRow, is_base};
 pub use batch::batch_bytes;
 pub use file::LogFile;
 pub use gathering::take_notes;
-pub use header::{BASED_FRONT, Header, based_header_bytes, header_bytes};
+pub use header::{Header, based_header_bytes, header_bytes};
 pub use laws::{
     acknowledged_are_read, crashes_are_read, crashes_may_be_left, headers_tell,
     legal_logs_are_read, read_as_written,

@@ -2,7 +2,7 @@
 use Rattle.std.specs.Prelude.{◌≡◌, ℕ, ◌+◌, zero, suc, Bool, true, false, List, [], ◌∷◌, ◌++◌, length}
 use Rattle.request_numbers.specs.Given.{holds, others}
 use Rattle.tc_log.specs.declared.event.Event.{Event}
-use Rattle.tc_log.specs.declared.event.Event.TheVariants.{Admit, Ask, Answer, Undo, End, Checkpoint}
+use Rattle.tc_log.specs.declared.event.Event.TheVariants.{Answer}
 use Rattle.transactions.specs.Room.{one_if}
 
 -- the numbers, in the order in which they were given up, how many of them fit with no allocation, and the number behind which the log
@@ -22,12 +22,8 @@ with_number n ns = with_number_by (holds n ns) n ns
 
 -- those that are given up behind an event: one that is answered isn't any more
 abbrev pub given_up_behind : Event → List ℕ → List ℕ
-given_up_behind (Admit t p args) ns = ns
-given_up_behind (Ask t n o) ns = ns
 given_up_behind (Answer t n said) ns = others n ns
-given_up_behind (Undo t n o) ns = ns
-given_up_behind (End t o) ns = ns
-given_up_behind (Checkpoint before numbers) ns = ns
+given_up_behind _ ns = ns
 
 -- how many of the numbers 1 to n are among them
 abbrev pub marks : List ℕ → ℕ → ℕ

@@ -5,7 +5,7 @@ use Rattle.verifier.specs.Checked.{Checked}
 use Rattle.lock_table.specs.Facts.{Table, AreHeld}
 use Rattle.request_numbers.specs.Given.{Given}
 use Rattle.tc_log.specs.declared.event.Event.{Event}
-use Rattle.tc_log.specs.declared.event.Event.TheVariants.{Admit, Ask, Answer, Undo, End, Checkpoint}
+use Rattle.tc_log.specs.declared.event.Event.TheVariants.{Ask, Undo}
 use Rattle.tc_log.specs.History.{History}
 use Rattle.history.specs.Calls.{admitted, held}
 use Rattle.history.specs.Flight.{given, open_numbers}
@@ -96,12 +96,10 @@ pub record Marked (numbers : List ℕ) (h : List Event) (txns : Slab Tx) : Type 
 -- each number sent in these events is at most this one
 abbrev pub AreSentUpTo : ℕ → List Event → Type 0
 AreSentUpTo n [] = Unit {0}
-AreSentUpTo n (Admit t p args ∷ es) = AreSentUpTo n es
 AreSentUpTo n (Ask t m o ∷ es) = (m ≤ n) × AreSentUpTo n es
-AreSentUpTo n (Answer t m said ∷ es) = AreSentUpTo n es
 AreSentUpTo n (Undo t m o ∷ es) = (m ≤ n) × AreSentUpTo n es
-AreSentUpTo n (End t o ∷ es) = AreSentUpTo n es
-AreSentUpTo n (Checkpoint before numbers ∷ es) = AreSentUpTo n es
+-- no other sends one
+AreSentUpTo n (_ ∷ es) = AreSentUpTo n es
 
 -- a data component's redo needs not look at the log, oldest event first, before its place
 abbrev pub MayBegin : List Event → ℕ → Option Redoing → Type 0

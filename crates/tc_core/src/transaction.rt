@@ -54,7 +54,7 @@ pub struct Tx {
     pub in_doubt: bool,
 }
 
-// How many call slots the code has, at most as many as slots.
+/// How many call slots the code has, at most as many as slots.
 #[inline(always)]
 pub fn calls_of(code: &Verified) -> usize
     ensures calls { result ≡ calls_in code.now }

@@ -1,8 +1,8 @@
--- Each step but a forged reply keeps the lists beside the log, and then calls run one after another.
+-- Each step but a forged reply keeps the lists beside the log.
 use Rattle.std.proofs.Common.{◌≡◌, ◌≢◌, ◌⊎◌, ℕ, ◌+◌, ◌<◌, ◌≤◌, Bool, true, false, List, [], ◌∷◌}
-use Rattle.std.proofs.Common.{◌++◌, length, Option, Some, None, arith, refl, sym, ◌∙◌, ap, subst}
+use Rattle.std.proofs.Common.{◌++◌, Option, Some, None, arith, refl, sym, ◌∙◌, ap, subst}
 use Rattle.std.proofs.Common.{inl, inr, ◌==◌, ◌&&◌, if◌then◌else◌}
-use Rattle.std.specs.Prelude.{slice_get, slice_set, slice_index_or, nat_lt, nat_le, ◌^◌, Result, Ok, Err}
+use Rattle.std.specs.Prelude.{slice_get, slice_set, nat_lt, nat_le, ◌^◌, Result, Ok, Err}
 use Rattle.std.proofs.lemmas.Bool.Decides.{nat_tests}
 use Rattle.std.proofs.lemmas.Bool.{cases_lt}
 use Rattle.access_slots.specs.Access.{fits}
@@ -45,7 +45,6 @@ use Rattle.tc_core.specs.declared.state.Asked.TheVariants as reply
 use Rattle.tc_core.specs.Recovery.{first_events}
 use Rattle.tc_world.specs.Recovery.{notes_of}
 use Rattle.tc_world.proofs.ComingBack.{all_at, come_back_listed}
-use Rattle.tc_world.proofs.JustBegun.{own_rows}
 use Rattle.tc_world.proofs.CutListed.{cuts_listed}
 use Rattle.tc_world.specs.Whole.{Whole}
 use Rattle.tc_world.specs.Steps.{Goes, Stops, Steps, with_core, with_dcs, with_copy, with_reply, told, sends_or_holds, ends_by, resends_wire, resends_sent}
@@ -55,32 +54,26 @@ use Rattle.tc_world.specs.declared.step.Step.{Step}
 use Rattle.tc_world.specs.declared.step.Step.TheVariants as step
 use Rattle.tc_world.specs.declared.step.Outcome.{Outcome}
 use Rattle.tc_world.specs.declared.step.Illegal.{Illegal}
-use Rattle.tc_world.specs.OneAtATime.{is_forge, NoForge, IsKnown, EachIsKnown, IsOneAtATime}
+use Rattle.tc_world.specs.OneAtATime.{is_forge}
 use Rattle.tc_world.specs.Joining.Listed.{IsListed, wires_since, replies_since}
 use Rattle.serial.specs.Values.{Table}
-use Rattle.serial.specs.Serial.{done, now_from, HonestTo, HonestFrom}
+use Rattle.serial.specs.Serial.{done, now_from, HonestTo}
 use Rattle.serial.specs.Lists.{logged, dc_of}
-use Rattle.serial.specs.Audit.{IsAgreed, base_of}
 use Rattle.history.specs.Anew.{begun}
-use Rattle.data_component.specs.Sorted.{row_of}
 use Rattle.tc_world.proofs.Passing.{pushed, above_in, above_more, above_same, past_performed, set_back}
 use Rattle.serial.proofs.BackLemmas.{logged_above}
-use Rattle.tc_world.proofs.Bases.{based_set, behind_set, performed_base, performed_behind, checkpointed_behind, restarted_behind, honest_same, beside_same}
-use Rattle.serial.specs.Joining.Beside.{Beside}
-use Rattle.serial.specs.Joining.Behind.{Behind, StandsTo, IsNext}
+use Rattle.tc_world.proofs.Bases.{based_set, behind_set, performed_base, performed_behind, checkpointed_behind, restarted_behind}
+use Rattle.serial.specs.Joining.Behind.{StandsTo, IsNext}
 use Rattle.serial.specs.Joining.Site.{SiteOk}
 use Rattle.serial.specs.Joining.Sites.{CopyOk, ReplyOk, NewsOk, AreOk}
 use Rattle.serial.proofs.LockLemmas.{both_left, both_right}
-use Rattle.serial.proofs.KeepLemmas.{ends_as_serial_from}
-use Rattle.serial.proofs.ListLemmas.{if_some, over_same}
+use Rattle.serial.proofs.ListLemmas.{if_some}
 use Rattle.serial.proofs.NumberLemmas.{logged_below, flight_logged, done_answer, done_logged, flights, flight_absent}
 use Rattle.serial.proofs.StoreLemmas.{reply_case, ReplyCase, is_old, listed}
-use Rattle.serial.proofs.OrderLemmas.{list_serial, in_step}
-use Rattle.serial.proofs.AgreedLemmas.{agreed}
 use Rattle.serial.proofs.AnsweredLemmas.{IsSo, answered_so}
 use Rattle.serial.proofs.RedoLemmas.{LogFacts}
 use Rattle.serial.proofs.LogLemmas.{log_facts}
-use Rattle.serial.proofs.SiteLemmas.{behind_end, stands_less, site_checkpoint, site_restart, site_redone, site_up}
+use Rattle.serial.proofs.SiteLemmas.{stands_less, site_checkpoint, site_restart, site_redone, site_up}
 use Rattle.serial.proofs.SitesLemmas.{set_same, ok_sent, ok_copy, ok_reply, ok_news, ok_stored, ok_resited, ok_told, ok_answered}
 use Rattle.serial.proofs.WireLemmas.{Becomes, equal, performs_ok, reply_facts}
 use Rattle.serial.proofs.RedoneLemmas.{found_done, none_left, before_next, next_above, one_less, over_low}
@@ -765,46 +758,3 @@ stay_listed w v (step.Redo d) o was known honest goes s = redoes_listed w v d (s
 stay_listed w v (step.Crash n) o was known honest goes s =
     subst IsListed (sym goes.next) (come_back_listed w (first_events n w.core.events) (notes_of w) was.good was.legal goes.may.written s)
 stay_listed w v step.Cut o was known honest goes s = cuts_listed w v o was.legal known.legal goes s
-
--- ---- what follows
-
--- beside the records with which data components begin now
-honest_now : (w : Whole) → (s : IsListed w) → HonestFrom (base_of w.dcs) w.core.events
-honest_now w s = honest_same s.base (base_of w.dcs) s.based w.core.events s.honest
-
--- the list of a data component that is up, and of the incarnation that is known, stands beside the log
-beside_known : (w : Whole) → IsListed w → (d : ℕ) (x : Store) → slice_get w.dcs d ≡ Some x → IsKnown w d x
-    → Beside (base_of w.dcs) (logged w.core.events) (open_op w.core.events) (done w.core.events) d x.list
-beside_known w s d x at is =
-    let k = s.ok.stores d x at in
-    beside_same s.base (base_of w.dcs) s.based (logged w.core.events) (open_op w.core.events) (done w.core.events) d x.list
-    (subst (Beside s.base (logged w.core.events) (open_op w.core.events) (done w.core.events) d) (sym (k.same is.now)) (k.up is.up))
-
-pub one_at_a_time : (w : Whole) → Known w.core → IsListed w → IsOneAtATime w
-one_at_a_time w known s =
-    record {
-      answers = ends_as_serial_from w.core.procs (base_of w.dcs) w.core.events known.good known.legal (honest_now w s);
-      values = λ d x r at is dc un.
-          over_same (row_of x.base) (base_of w.dcs) x.list r (own_rows w.dcs d x r at dc)
-          ∙ list_serial w.core.procs (base_of w.dcs) w.core.events d x.list known.good known.legal (honest_now w s) (beside_known w s d x at is) r dc un;
-      there = λ n o said logs was. s.ok.said n o said logs was;
-      stands = λ d x n o said at is dc logs was did. (beside_known w s d x at is).answers n o said logs dc was did;
-      once = λ d x at. (cut d x at).once;
-      asked = λ d x k e at is. (cut d x at).entries k e is;
-      between = λ d x r at is dc. in_step w.core.procs (base_of w.dcs) w.core.events d x.list known.good known.legal (beside_known w s d x at is) r dc;
-    }
-  where
-    cut : (d : ℕ) (x : Store) → slice_get w.dcs d ≡ Some x → Behind s.base (logged w.core.events) (open_op w.core.events) (done w.core.events) d x.list
-    cut d x at =
-        let k = s.ok.stores d x at in
-        behind_end s.base (logged w.core.events) (open_op w.core.events) (done w.core.events) d (s.ok.v d) x.list
-        k.cut k.behind
-
--- and where each is, an audit finds nothing
-pub agrees : (w : Whole) → Known w.core → IsListed w → EachIsKnown w → IsAgreed w.core.procs w.core.events w.dcs
-agrees w known s each =
-    agreed w.core.procs w.core.events w.dcs known.good known.legal (honest_now w s)
-    (λ d x at. (beside_known w s d x at (each d x at), (s.ok.stores d x at).whole)) s.ok.said (λ d x at. (s.behind d x at).base_mark)
-
-pub honest_at : (xs : List Step) (k : ℕ) (x : Step) → NoForge xs → k < length xs → x ≡ slice_index_or xs k x → is_forge x ≡ false
-honest_at xs k x none inside is = ap is_forge is ∙ none k x inside

@@ -27,7 +27,8 @@ use Rattle.tc_world.specs.declared.step.Outcome.{Outcome}
 use Rattle.tc_world.proofs.Bases.{just_legal}
 use Rattle.tc_world.proofs.Marks.{stay_low, fresh_low}
 use Rattle.tc_world.proofs.JustBegun.{fresh_listed}
-use Rattle.tc_world.proofs.Listed.{Known, stay_listed, one_at_a_time, agrees}
+use Rattle.tc_world.proofs.Listed.{Known, stay_listed}
+use Rattle.tc_world.proofs.OneByOne.{one_at_a_time, agrees}
 use Rattle.tc_world.proofs.ComingBack.{come_back_legal, come_back_low, come_back_listed}
 use Rattle.tc_world.proofs.Recovering.{lost_low, lost_listed, IsThere, new_listed, start_over_low, start_over_listed}
 

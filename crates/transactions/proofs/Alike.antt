@@ -141,11 +141,26 @@ allowed_alike ps from (Admit t p args) h k are later a =
     sym (ap (excludes (locks_of (decls ps) (record { proc = p; args = args }) r)) (held_alike (decls ps) from h k are u r)) ∙ a.free r u) in
     record { next = same; q = a.q; loaded = a.loaded; takes = a.takes; free = free }
 allowed_alike ps from (Ask t n o) h k are later a =
-    record { s = a.s; is = sym (are.standings t) ∙ a.is; idle = a.idle; not_full = a.not_full; asks = a.asks; next = a.next ∙ ap (λ (i : ℕ). i + 1) are.numbers }
+    record {
+      s = a.s;
+      is = sym (are.standings t) ∙ a.is;
+      idle = a.idle;
+      not_full = a.not_full;
+      asks = a.asks;
+      next = a.next ∙ ap (λ (i : ℕ). i + 1) are.numbers;
+    }
 allowed_alike ps from (Answer t n said) h k are later a =
     record { s = a.s; is = sym (are.standings t) ∙ a.is; r = a.r; waits = a.waits; number = a.number; fit = a.fit }
 allowed_alike ps from (Undo t n o) h k are later a =
-    record { s = a.s; is = sym (are.standings t) ∙ a.is; idle = a.idle; stopped = a.stopped; top = a.top; few = a.few; next = a.next ∙ ap (λ (i : ℕ). i + 1) are.numbers }
+    record {
+      s = a.s;
+      is = sym (are.standings t) ∙ a.is;
+      idle = a.idle;
+      stopped = a.stopped;
+      top = a.top;
+      few = a.few;
+      next = a.next ∙ ap (λ (i : ℕ). i + 1) are.numbers;
+    }
 allowed_alike ps from (End t o) h k are later a = record { s = a.s; is = sym (are.standings t) ∙ a.is; idle = a.idle; ends = a.ends }
 allowed_alike ps from (Checkpoint before numbers) h k are later a = absurd (cc)
 
@@ -175,7 +190,8 @@ pub legal_anew : (ps : List Checked) (later h : List Event) → Legal ps h → I
     → Legal ps (later ++ h) → Legal ps (later ++ anew h)
 legal_anew ps later [] legal rest few numbers whole = whole
 legal_anew ps later (e ∷ h) legal rest few numbers whole =
-    legal_on ps (given (e ∷ h)) later h [] e (Checkpoint (admitted (e ∷ h)) (given (e ∷ h))) (begins_alike ps (e ∷ h) legal rest) (anew_legal ps (e ∷ h) few numbers) whole
+    legal_on ps (given (e ∷ h)) later h [] e (Checkpoint (admitted (e ∷ h)) (given (e ∷ h)))
+    (begins_alike ps (e ∷ h) legal rest) (anew_legal ps (e ∷ h) few numbers) whole
 
 pub legal_back : (ps : List Checked) (later h : List Event) → Legal ps h → IsAtRest h → Legal ps (later ++ anew h) → Legal ps (later ++ h)
 legal_back ps later [] legal rest whole = whole

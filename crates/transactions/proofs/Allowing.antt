@@ -26,7 +26,9 @@ next_asks : (sent : Option Sent) (full : Bool) (left : Option Op) (tries last : 
 next_asks sent full left tries last at o idle room asks = rw (idle, room, asks) refl
 
 undoes_few : (w : Op) (tries last : ℕ) (e : Outcome) → tries < 4 → Some (ends_or_undoes (Some w) tries last e) ≡ Some (next.Undoes w)
-undoes_few w tries last e few = (let yes_few : nat_lt tries 4 ≡ true = grind (arith, nat_tests) in ap (λ (b : Bool). Some (cond b (next.Undoes w) (next.Stuck last))) yes_few)
+undoes_few w tries last e few =
+    let yes_few : nat_lt tries 4 ≡ true = grind (arith, nat_tests) in
+    ap (λ (b : Bool). Some (cond b (next.Undoes w) (next.Stuck last))) yes_few
 
 next_undoes : (full : Bool) (w : Op) (tries last : ℕ) (at : Reached) → is_stopped full at ≡ true → tries < 4
     → next_by None full (Some w) tries last at ≡ Some (next.Undoes w)
@@ -37,7 +39,10 @@ next_undoes false w tries last (Ends v) stopped few = by (v == 0) refl
   where
     by : (b : Bool) → (v == 0) ≡ b → next_by None false (Some w) tries last (Ends v) ≡ Some (next.Undoes w)
     by true e = absurd (let bad : false ≡ true = sym (ap not e) ∙ stopped in cc)
-    by false e = ap (λ (b : Bool). Some (cond b (next.Over outcome.Committed) (ends_or_undoes (Some w) tries last (outcome.Aborted v)))) e ∙ undoes_few w tries last (outcome.Aborted v) few
+    by false e =
+        ap (λ (b : Bool). Some (cond b (next.Over outcome.Committed)
+        (ends_or_undoes (Some w) tries last (outcome.Aborted v)))) e
+        ∙ undoes_few w tries last (outcome.Aborted v) few
 
 over_with : (left : Option Op) (tries last : ℕ) (e o : Outcome) → ending_with left e ≡ Some o
     → Some (ends_or_undoes left tries last e) ≡ Some (next.Over o)
@@ -54,10 +59,15 @@ next_ends false left tries last (Ends v) o is = by (v == 0) refl
     by : (b : Bool) → (v == 0) ≡ b → next_by None false left tries last (Ends v) ≡ Some (next.Over o)
     by true e =
         let now : Some outcome.Committed ≡ Some o = sym (ap (λ (b : Bool). cond b (Some outcome.Committed) (ending_with left (outcome.Aborted v))) e) ∙ is in
-        ap (λ (b : Bool). Some (cond b (next.Over outcome.Committed) (ends_or_undoes left tries last (outcome.Aborted v)))) e ∙ ap (λ (x : Outcome). Some (next.Over x)) (some_same _ o now)
+        ap (λ (b : Bool). Some (cond b (next.Over outcome.Committed)
+        (ends_or_undoes left tries last (outcome.Aborted v)))) e
+        ∙ ap (λ (x : Outcome). Some (next.Over x)) (some_same _ o now)
     by false e =
-        let now : ending_with left (outcome.Aborted v) ≡ Some o = sym (ap (λ (b : Bool). cond b (Some outcome.Committed) (ending_with left (outcome.Aborted v))) e) ∙ is in
-        ap (λ (b : Bool). Some (cond b (next.Over outcome.Committed) (ends_or_undoes left tries last (outcome.Aborted v)))) e ∙ over_with left tries last (outcome.Aborted v) o now
+        let now : ending_with left (outcome.Aborted v) ≡ Some o =
+        sym (ap (λ (b : Bool). cond b (Some outcome.Committed) (ending_with left (outcome.Aborted v))) e) ∙ is in
+        ap (λ (b : Bool). Some (cond b (next.Over outcome.Committed)
+        (ends_or_undoes left tries last (outcome.Aborted v)))) e
+        ∙ over_with left tries last (outcome.Aborted v) o now
 
 -- ---- both ways
 
@@ -96,7 +106,8 @@ undoes_allowed ps h t o = (
       let s = can.s in
       ap (next_in ps) can.is
       ∙ (ap (λ (x : Option Sent). next_by x s.full (first_undo s.undo) s.tries s.last (reached ps s)) can.idle
-      ∙ (ap (λ (x : Option Op). next_by None s.full x s.tries s.last (reached ps s)) can.top ∙ next_undoes s.full o s.tries s.last (reached ps s) can.stopped can.few)),
+      ∙ (ap (λ (x : Option Op). next_by None s.full x s.tries s.last (reached ps s)) can.top
+      ∙ next_undoes s.full o s.tries s.last (reached ps s) can.stopped can.few)),
 )
 
 pub ends_allowed : (ps : List Checked) (h : List Event) (t : ℕ) (o : Outcome) → (next_in ps (standing h t) ≡ Some (next.Over o)) ↔ CanEnd ps h t o
@@ -109,5 +120,6 @@ ends_allowed ps h t o = (
   λ can.
       let s = can.s in
       ap (next_in ps) can.is
-      ∙ (ap (λ (x : Option Sent). next_by x s.full (first_undo s.undo) s.tries s.last (reached ps s)) can.idle ∙ next_ends s.full (first_undo s.undo) s.tries s.last (reached ps s) o can.ends),
+      ∙ (ap (λ (x : Option Sent). next_by x s.full (first_undo s.undo) s.tries s.last (reached ps s)) can.idle
+      ∙ next_ends s.full (first_undo s.undo) s.tries s.last (reached ps s) o can.ends),
 )

@@ -24,7 +24,13 @@ later_still e h place t n o b = record {
 
 -- the newest event sends it
 sent_now : (e : Event) (h : List Event) (place t n : ℕ) (o : Op) → place < length h → SendsOperation e t n o → IsSentBehind (e ∷ h) place t n o
-sent_now e h place t n o before sends = record { at = length h; behind = before; event = e; stands = record { later = []; earlier = h; is = refl; count = refl }; sends = sends }
+sent_now e h place t n o before sends = record {
+  at = length h;
+  behind = before;
+  event = e;
+  stands = record { later = []; earlier = h; is = refl; count = refl };
+  sends = sends;
+}
 
 sent_is : (m : ℕ) (q : Op) (b : Bool) (r : Sent) → sent_as m q b ≡ Some r → (m ≡ r.number) × (q ≡ r.op)
 sent_is m q b r e = (let it = some_same _ r e in (ap (λ (x : Sent). x.number) it, ap (λ (x : Sent). x.op) it))
@@ -34,18 +40,22 @@ sends_it : (e : Event) (was : Option Standing) (t : ℕ) (s : Standing) (r : Sen
     → s.sent ≡ Some r → SendsOperation e t r.number r.op ⊎ (was ≡ Some s)
 sends_it (Admit u p args) was t s r own is waits = absurd (none_some _ r (ap (λ (x : Standing). x.sent) (sym (some_same _ s is))) waits)
 sends_it (Ask u m q) None t s r own is waits = absurd (let bad : None ≡ Some s = is in cc)
-sends_it (Ask u m q) (Some v) t s r own is waits = (let it = sent_is m q false r (ap (λ (x : Standing). x.sent) (some_same _ s is) ∙ waits) in inl (own, it.0, it.1))
+sends_it (Ask u m q) (Some v) t s r own is waits =
+    (let it = sent_is m q false r (ap (λ (x : Standing). x.sent) (some_same _ s is) ∙ waits) in inl (own, it.0, it.1))
 sends_it (Answer u m said) None t s r own is waits = absurd (let bad : None ≡ Some s = is in cc)
 sends_it (Answer u m said) (Some v) t s r own is waits = absurd (none_some _ r (ap (λ (x : Standing). x.sent) (sym (some_same _ s is))) waits)
 sends_it (Undo u m q) None t s r own is waits = absurd (let bad : None ≡ Some s = is in cc)
-sends_it (Undo u m q) (Some v) t s r own is waits = (let it = sent_is m q true r (ap (λ (x : Standing). x.sent) (some_same _ s is) ∙ waits) in inl (own, it.0, it.1))
+sends_it (Undo u m q) (Some v) t s r own is waits =
+    (let it = sent_is m q true r (ap (λ (x : Standing). x.sent) (some_same _ s is) ∙ waits) in inl (own, it.0, it.1))
 sends_it (End u outcome) was t s r own is waits = absurd (let bad : None ≡ Some s = is in cc)
 sends_it _ was t s r own is waits = inr is
 
 behind : (later earlier : List Event) (t p : ℕ) (args : List ℕ) (s : Standing) (r : Sent)
     → standing (later ++ Admit t p args ∷ earlier) t ≡ Some s → s.sent ≡ Some r
     → IsSentBehind (later ++ Admit t p args ∷ earlier) (length earlier) t r.number r.op
-behind [] earlier t p args s r is waits = absurd (none_some _ r (ap (λ (x : Standing). x.sent) (sym (some_same _ s (sym (standing-same (Admit t p args) earlier t refl) ∙ is)))) waits)
+behind [] earlier t p args s r is waits =
+    absurd (none_some _ r (ap (λ (x : Standing). x.sent)
+    (sym (some_same _ s (sym (standing-same (Admit t p args) earlier t refl) ∙ is)))) waits)
 behind (e ∷ later) earlier t p args s r is waits =
     let rest = later ++ Admit t p args ∷ earlier in
     elim (cases_eq (txn_of e) t) [

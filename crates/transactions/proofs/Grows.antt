@@ -72,8 +72,17 @@ module _ (ps : List Checked) (q : Checked) (good : AllGood ps) where
       (ap (excludes (locks_of (decls ps) call r)) (held_grows ps q h legal.1 u r) ∙ a.free r u)) in
       (record { next = a.next; q = a.q; loaded = get_grows ps q a.q p a.loaded; takes = a.takes; free = free }, legal_grows h legal.1)
   legal_grows (Ask t n o ∷ h) legal =
-      let a = legal.0 in
-      (record { s = a.s; is = a.is; idle = a.idle; not_full = a.not_full; asks = reached_grows h legal.1 t a.s a.is ∙ a.asks; next = a.next }, legal_grows h legal.1)
+      let a = legal.0 in (
+        record {
+          s = a.s;
+          is = a.is;
+          idle = a.idle;
+          not_full = a.not_full;
+          asks = reached_grows h legal.1 t a.s a.is ∙ a.asks;
+          next = a.next;
+        },
+        legal_grows h legal.1,
+      )
   legal_grows (Answer t n said ∷ h) legal =
       let a = legal.0 in
       (record { s = a.s; is = a.is; r = a.r; waits = a.waits; number = a.number; fit = a.fit }, legal_grows h legal.1)
@@ -92,8 +101,15 @@ module _ (ps : List Checked) (q : Checked) (good : AllGood ps) where
         legal_grows h legal.1,
       )
   legal_grows (End t outcome ∷ h) legal =
-      let a = legal.0 in
-      (record { s = a.s; is = a.is; idle = a.idle; ends = ap (ending a.s.full (first_undo a.s.undo)) (reached_grows h legal.1 t a.s a.is) ∙ a.ends }, legal_grows h legal.1)
+      let a = legal.0 in (
+        record {
+          s = a.s;
+          is = a.is;
+          idle = a.idle;
+          ends = ap (ending a.s.full (first_undo a.s.undo)) (reached_grows h legal.1 t a.s a.is) ∙ a.ends;
+        },
+        legal_grows h legal.1,
+      )
   legal_grows (Checkpoint before numbers ∷ h) legal =
       let a = legal.0 in
       (record { oldest = a.oldest; few_admitted = a.few_admitted; few_given = a.few_given }, legal_grows h legal.1)

@@ -79,11 +79,15 @@ nothing_excludes (Some mode.Write) = refl
 
 held_new : (ps : List Checked) (h : List Event) (v p : ℕ) (args : List ℕ) (t : ℕ) (r : Record) → v ≡ t
     → held (decls ps) (Admit v p args ∷ h) t r ≡ locks_of (decls ps) (record { proc = p; args = args }) r
-held_new ps h v p args t r same = ap (λ (c : Option Call). held_for (decls ps) c r) (cond-true _ (Some (record { proc = p; args = args })) (open_call h t) (eq-true v t same))
+held_new ps h v p args t r same =
+    ap (λ (c : Option Call). held_for (decls ps) c r)
+    (cond-true _ (Some (record { proc = p; args = args })) (open_call h t) (eq-true v t same))
 
 held_old : (ps : List Checked) (h : List Event) (v p : ℕ) (args : List ℕ) (t : ℕ) (r : Record) → v ≢ t
     → held (decls ps) (Admit v p args ∷ h) t r ≡ held (decls ps) h t r
-held_old ps h v p args t r other = ap (λ (c : Option Call). held_for (decls ps) c r) (cond-false _ (Some (record { proc = p; args = args })) (open_call h t) (eq-false v t other))
+held_old ps h v p args t r other =
+    ap (λ (c : Option Call). held_for (decls ps) c r)
+    (cond-false _ (Some (record { proc = p; args = args })) (open_call h t) (eq-false v t other))
 
 end_new : (b : Bool) (ps : List Checked) (c : Option Call) (r : Record) (m : Option Mode)
     → excludes (held_for (decls ps) c r) m ≡ false → excludes (held_for (decls ps) (cond b None c) r) m ≡ false
@@ -116,7 +120,8 @@ held_apart ps (Admit v p args ∷ h) legal t u r differ =
       ]
     ]
 held_apart ps (End v outcome ∷ h) legal t u r differ =
-    end_new (v == t) ps (open_call h t) r (held (decls ps) (End v outcome ∷ h) u r) (end_old (v == u) ps (open_call h u) r (held (decls ps) h t r) (held_apart ps h legal.1 t u r differ))
+    end_new (v == t) ps (open_call h t) r (held (decls ps) (End v outcome ∷ h) u r)
+    (end_old (v == u) ps (open_call h u) r (held (decls ps) h t r) (held_apart ps h legal.1 t u r differ))
 held_apart ps (_ ∷ h) legal t u r differ = held_apart ps h legal.1 t u r differ
 
 -- ---- what is in flight, a transaction waits for

@@ -38,7 +38,10 @@ answered_stay ps h (Ask t m o) n a all = (let few = all.given_out in let next = 
   given_out = omega (arith, few);
   answered = λ k some most. above m k (open_op h k) (record { txn = t; op = o }) (omega (arith, few, next, most)) (all.answered k some most);
 })
-answered_stay ps h (Answer t m said) n a all = record { given_out = all.given_out; answered = λ k some most. closed_still m k (open_op h k) (all.answered k some most) }
+answered_stay ps h (Answer t m said) n a all = record {
+  given_out = all.given_out;
+  answered = λ k some most. closed_still m k (open_op h k) (all.answered k some most);
+}
 answered_stay ps h (Undo t m o) n a all = (let few = all.given_out in let next = a.next in record {
   given_out = omega (arith, few);
   answered = λ k some most. above m k (open_op h k) (record { txn = t; op = o }) (omega (arith, few, next, most)) (all.answered k some most);

@@ -63,7 +63,9 @@ undoes (Some w) tries last e o is = by (nat_lt tries 4) refl is
 pub may_undo : (sent : Option Sent) (full : Bool) (left : Option Op) (tries last : ℕ) (at : Reached) (o : Op)
     → next_by sent full left tries last at ≡ Some (next.Undoes o) → MayUndo sent full left tries at o
 may_undo (Some r) full left tries last at o is = absurd cc
-may_undo None true left tries last at o is = (let u = undoes left tries last outcome.NoRoom o is in record { idle = refl; stopped = refl; top = u.top; few = u.few })
+may_undo None true left tries last at o is =
+    let u = undoes left tries last outcome.NoRoom o is in
+    record { idle = refl; stopped = refl; top = u.top; few = u.few }
 may_undo None false left tries last (Asks p) o is = absurd cc
 may_undo None false left tries last Nowhere o is = absurd cc
 may_undo None false left tries last (Ends v) o is = by (v == 0) refl is
@@ -104,4 +106,8 @@ may_end None false left tries last (Ends v) o is = by (v == 0) refl is
       ends = ap (λ (b : Bool). cond b (Some outcome.Committed) (ending_with left
           (outcome.Aborted v))) t ∙ (let same : outcome.Committed ≡ o = cc in ap (λ (x : Outcome). Some x) same);
     }
-    by false t h = record { idle = refl; ends = ap (λ (b : Bool). cond b (Some outcome.Committed) (ending_with left (outcome.Aborted v))) t ∙ over left tries last (outcome.Aborted v) o h }
+    by false t h = record {
+      idle = refl;
+      ends = ap (λ (b : Bool). cond b (Some outcome.Committed) (ending_with left (outcome.Aborted v))) t
+          ∙ over left tries last (outcome.Aborted v) o h;
+    }

@@ -161,7 +161,8 @@ pub record IsRedo (h : List Event) (sites : List Site) (d : ℕ) (a : Answered) 
   pub down : (site_at sites d).redo ≡ Some r
   pub next : to_redo h d r.redone ≡ Some a
 
-pub redo_is : (ps : List Checked) (h : List Event) → Legal ps h → (sites : List Site) (d : ℕ) (a : Answered) → under_redo h sites d ≡ Some a → IsRedo h sites d a
+pub redo_is : (ps : List Checked) (h : List Event) → Legal ps h → (sites : List Site) (d : ℕ) (a : Answered)
+    → under_redo h sites d ≡ Some a → IsRedo h sites d a
 redo_is ps h legal sites d a is = by (site_at sites d).redo refl is
   where
     by : (r : Option Redoing) → (site_at sites d).redo ≡ r → to_redo_by h d r ≡ Some a → IsRedo h sites d a
@@ -179,7 +180,8 @@ at_dc d a is = by (is_done a.said) ((target a.op).dc == d) refl is
     by true false e both = absurd cc
     by false y e both = absurd cc
 
-pub redo_dc : (ps : List Checked) (h : List Event) → Legal ps h → (sites : List Site) (d : ℕ) (a : Answered) → under_redo h sites d ≡ Some a → (target a.op).dc ≡ d
+pub redo_dc : (ps : List Checked) (h : List Event) → Legal ps h → (sites : List Site) (d : ℕ) (a : Answered)
+    → under_redo h sites d ≡ Some a → (target a.op).dc ≡ d
 redo_dc ps h legal sites d a is = at_dc d a (redo_is ps h legal sites d a is).done
 
 -- ---- covered
@@ -246,7 +248,8 @@ covered_answer ps (Answer u m said ∷ h) good legal n a is = elim (cases_eq m n
 covered_answer ps (_ ∷ h) good legal n a is =
     (let c = covered_answer ps h good legal.1 n a is in record { call = c.call; is = c.is; allowed = c.allowed })
 
-allowed_by : (ps : List Checked) (h : List Event) (t : ℕ) (o : Op) → IsCovered ps h t o → allows (held_for (decls ps) (call_of h t) (target o)) (is_read o) ≡ true
+allowed_by : (ps : List Checked) (h : List Event) (t : ℕ) (o : Op) → IsCovered ps h t o
+    → allows (held_for (decls ps) (call_of h t) (target o)) (is_read o) ≡ true
 allowed_by ps h t o c = rw c.is c.allowed
 
 pub in_flight_covered : (ps : List Checked) (h : List Event) (sites : List Site) → AllGood ps → Legal ps h → (n : ℕ) (f : Flight) → InFlight h sites n f

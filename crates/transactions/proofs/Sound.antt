@@ -293,7 +293,8 @@ standing_sound ps good =
       fit = old.fit;
       own = λ r e u. absurd (let bad : true ≡ false = ap (λ (x : Sent). x.undoing) (some_same _ r e) ∙ u in cc);
       undoes = λ r e u. first_some a.s.undo o a.top;
-      within = λ r e. subst (covers (locks_of (decls ps) a.s.call)) (ap (λ (x : Sent). x.op) (some_same _ r e)) (first_covered (locks_of (decls ps) a.s.call) a.s.undo o a.top old.undo_within);
+      within = λ r e. subst (covers (locks_of (decls ps) a.s.call)) (ap (λ (x : Sent). x.op) (some_same _ r e))
+          (first_covered (locks_of (decls ps) a.s.call) a.s.undo o a.top old.undo_within);
       undo_within = old.undo_within;
       few = omega (arith, old.few, none);
       spent = omega (arith, old.spent, none);

@@ -106,7 +106,8 @@ each_standing P ps admit ask answer undo (Ask u n o ∷ h) legal t s is =
       | inl same ↦
           let a = legal.0 in
           let was : standing h t ≡ Some a.s = ap (standing h) (sym same) ∙ a.is in
-          subst P (some_same _ s (sym (standing-same (Ask u n o) h t same ∙ ap (moved (Ask u n o)) was) ∙ is)) (ask h u n o a (each_standing P ps admit ask answer undo h legal.1 t a.s was))
+          subst P (some_same _ s (sym (standing-same (Ask u n o) h t same ∙ ap (moved (Ask u n o)) was) ∙ is))
+          (ask h u n o a (each_standing P ps admit ask answer undo h legal.1 t a.s was))
       | inr other ↦ each_standing P ps admit ask answer undo h legal.1 t s (sym (standing-other (Ask u n o) h t other) ∙ is)
     ]
 each_standing P ps admit ask answer undo (Answer u n said ∷ h) legal t s is =
@@ -123,7 +124,8 @@ each_standing P ps admit ask answer undo (Undo u n o ∷ h) legal t s is =
       | inl same ↦
           let a = legal.0 in
           let was : standing h t ≡ Some a.s = ap (standing h) (sym same) ∙ a.is in
-          subst P (some_same _ s (sym (standing-same (Undo u n o) h t same ∙ ap (moved (Undo u n o)) was) ∙ is)) (undo h u n o a (each_standing P ps admit ask answer undo h legal.1 t a.s was))
+          subst P (some_same _ s (sym (standing-same (Undo u n o) h t same ∙ ap (moved (Undo u n o)) was) ∙ is))
+          (undo h u n o a (each_standing P ps admit ask answer undo h legal.1 t a.s was))
       | inr other ↦ each_standing P ps admit ask answer undo h legal.1 t s (sym (standing-other (Undo u n o) h t other) ∙ is)
     ]
 each_standing P ps admit ask answer undo (End u outcome ∷ h) legal t s is =
@@ -152,7 +154,8 @@ total_to-at w e h (suc n) low high =
           let ih = total_to-below w e h n (omega arith) in
           let now : standing (e ∷ h) (suc n) ≡ moved e (standing h (suc n)) = standing-same e h (suc n) same in
           let now' : weighed w (standing (e ∷ h) (suc n)) ≡ weighed w (moved e (standing h (suc n))) = ap (weighed w) now in
-          subst (λ (k : ℕ). total_to w (e ∷ h) (suc n) + weighed w (standing h k) ≡ total_to w h (suc n) + weighed w (moved e (standing h k))) (sym same) (omega (arith, ih, now'))
+          subst (λ (k : ℕ). total_to w (e ∷ h) (suc n) + weighed w (standing h k)
+          ≡ total_to w h (suc n) + weighed w (moved e (standing h k))) (sym same) (omega (arith, ih, now'))
       | inr other ↦
           let ih = total_to-at w e h n low (omega arith) in
           let kept : weighed w (standing (e ∷ h) (suc n)) ≡ weighed w (standing h (suc n)) = ap (weighed w) (standing-other e h (suc n) other) in
@@ -180,7 +183,9 @@ pub total-part : (w : Standing → ℕ) (ps : List Checked) (h : List Event) →
 unfolding total
 total-part w ps h legal t s is =
     let b = open-serial ps h legal t s is in
-    let part : weighed w (Some s) ≤ total_to w h (admitted h) = subst (λ (x : Option Standing). weighed w x ≤ total_to w h (admitted h)) is (total_to-part w h (admitted h) t b.0 b.1) in
+    let part : weighed w (Some s) ≤ total_to w h (admitted h) =
+    subst (λ (x : Option Standing). weighed w x ≤ total_to w h (admitted h)) is
+    (total_to-part w h (admitted h) t b.0 b.1) in
     part
 
 -- an event of an open transaction changes a sum by its part
@@ -191,7 +196,8 @@ unfolding total
 total-moved w ps h legal e s is same =
     let b = open-serial ps h legal (txn_of e) s is in
     let at : total_to w (e ∷ h) (admitted h) + weighed w (Some s) ≡ total_to w h (admitted h) + weighed w (moved e (Some s)) =
-    subst (λ (x : Option Standing). total_to w (e ∷ h) (admitted h) + weighed w x ≡ total_to w h (admitted h) + weighed w (moved e x)) is (total_to-at w e h (admitted h) b.0 b.1) in
+    subst (λ (x : Option Standing). total_to w (e ∷ h) (admitted h) + weighed w x
+    ≡ total_to w h (admitted h) + weighed w (moved e x)) is (total_to-at w e h (admitted h) b.0 b.1) in
     subst (λ (k : ℕ). total_to w (e ∷ h) k + w s ≡ total_to w h (admitted h) + weighed w (moved e (Some s))) (sym same) at
 
 -- an admission adds the new transaction's part
@@ -199,8 +205,10 @@ pub total-admit : (w : Standing → ℕ) (h : List Event) (t p : ℕ) (args : Li
     → total w (Admit t p args ∷ h) ≡ total w h + w (fresh (record { proc = p; args = args }))
 unfolding total
 total-admit w h t p args next =
-    let below : total_to w (Admit t p args ∷ h) (admitted h) ≡ total_to w h (admitted h) = total_to-below w (Admit t p args) h (admitted h) (omega (arith, next)) in
-    let now : standing (Admit t p args ∷ h) (suc (admitted h)) ≡ Some (fresh (record { proc = p; args = args })) = standing-same (Admit t p args) h (suc (admitted h)) (omega (arith, next)) in
+    let below : total_to w (Admit t p args ∷ h) (admitted h) ≡ total_to w h (admitted h) =
+    total_to-below w (Admit t p args) h (admitted h) (omega (arith, next)) in
+    let now : standing (Admit t p args ∷ h) (suc (admitted h)) ≡ Some (fresh (record { proc = p; args = args })) =
+    standing-same (Admit t p args) h (suc (admitted h)) (omega (arith, next)) in
     let now' : weighed w (standing (Admit t p args ∷ h) (suc (admitted h))) ≡ w (fresh (record { proc = p; args = args })) = ap (weighed w) now in
     let one : admitted h + 1 ≡ suc (admitted h) = omega arith in
     rw one (omega (arith, below, now'))

@@ -4,19 +4,16 @@ use Rattle.access_slots.specs.Locks.{target}
 use Rattle.access_slots.specs.declared.op.Op.{Op}
 use Rattle.access_slots.specs.declared.op.Said.{Said}
 use Rattle.tc_log.specs.declared.event.Event.{Event}
-use Rattle.tc_log.specs.declared.event.Event.TheVariants.{Admit, Ask, Answer, Undo, End, Checkpoint}
+use Rattle.tc_log.specs.declared.event.Event.TheVariants.{Ask, Answer, Undo}
 use Rattle.history.specs.Redo.{is_done, or_else}
 use Rattle.history.specs.declared.Answered.{Answered}
 
 -- the first answer to the number
 abbrev pub said_in : List Event → ℕ → Option Said
 said_in [] n = None
-said_in (Admit t p args ∷ es) n = said_in es n
-said_in (Ask t m o ∷ es) n = said_in es n
 said_in (Answer t m said ∷ es) n = if m == n then Some said else said_in es n
-said_in (Undo t m o ∷ es) n = said_in es n
-said_in (End t o ∷ es) n = said_in es n
-said_in (Checkpoint before numbers ∷ es) n = said_in es n
+-- no other answers one
+said_in (_ ∷ es) n = said_in es n
 
 -- the operation is for the data component, under a number above this one
 abbrev pub is_sought : ℕ → ℕ → ℕ → Op → Bool
@@ -33,12 +30,10 @@ done_behind d after t n o es = if is_sought d after n o then if_done t n o (said
 -- what is to be redone of the first of these events
 abbrev pub first_in : ℕ → ℕ → List Event → Option Answered
 first_in d after [] = None
-first_in d after (Admit t p args ∷ es) = None
 first_in d after (Ask t n o ∷ es) = done_behind d after t n o es
-first_in d after (Answer t n said ∷ es) = None
 first_in d after (Undo t n o ∷ es) = done_behind d after t n o es
-first_in d after (End t o ∷ es) = None
-first_in d after (Checkpoint before numbers ∷ es) = None
+-- no other sends one
+first_in d after (_ ∷ es) = None
 
 -- the first operation of the data component above the number that was done
 abbrev pub scan : ℕ → ℕ → List Event → Option Answered

@@ -98,7 +98,8 @@ invariant_of-self c =
     let silent : heard.after.sent ≡ None = (heard.keeps w.s hears).sent in (
       record {
         kept =
-            kept-answer _ _ _ _ _ _ _ _ _ _ _ _ c.request.inside.number c.args.reply.number tx c.request.inside.op c.at-code.result.now c.args.reply.said c.self.invariant.0.kept c.at-tx.ensures w a loaded hears
+            kept-answer _ _ _ _ _ _ _ _ _ _ _ _ c.request.inside.number c.args.reply.number tx c.request.inside.op
+            c.at-code.result.now c.args.reply.said c.self.invariant.0.kept c.at-tx.ensures w a loaded hears
             heard c.hear.ensures.len (rw (← serial) at c.push.ensures.events) c.push.ensures.room c.answered.ensures.last c.answered.ensures.pending c.answered.ensures.room;
         doubts = omega (arith, c.self.invariant.0.doubts, c.hear.ensures.len, c.remove.ensures.room);
         marked = rw c.remove.ensures.numbers

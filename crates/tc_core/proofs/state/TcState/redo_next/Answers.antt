@@ -20,7 +20,8 @@ returns-in-Some-find_done-clause-reply c =
     ap (λ (xs : List Site). slice_get xs c.args.dc) (sym c.as_slice.ensures.value) ∙ c.in-Some.ensures.site in
     let begin : slice_get c.self.inside.book.starts.items c.args.dc ≡ Some start =
     ap (λ (xs : List ℕ). slice_get xs c.args.dc) (sym c.as_slice-2.ensures.value) ∙ c.in-Some.ensures.start in
-    let whole = looks c.self.inside.procs.codes core.sites c.self.inside.book.starts.items h c.self.invariant.0.kept.legal c.self.invariant.0.starts c.args.dc start site r begin there c.in-Some-redo.is in
+    let whole = looks c.self.inside.procs.codes core.sites c.self.inside.book.starts.items h
+    c.self.invariant.0.kept.legal c.self.invariant.0.starts c.args.dc start site r begin there c.in-Some-redo.is in
     let next : to_redo h c.args.dc r.redone ≡ Some c.in-Some-find_done.answered = sym whole
     ∙ c.in-Some-find_done.ensures.found in
     ap Send c.wire_of.ensures
@@ -38,7 +39,8 @@ returns-in-None-clause-reply c =
     ap (λ (xs : List Site). slice_get xs c.args.dc) (sym c.as_slice.ensures.value) ∙ c.in-Some.ensures.site in
     let begin : slice_get c.self.inside.book.starts.items c.args.dc ≡ Some start =
     ap (λ (xs : List ℕ). slice_get xs c.args.dc) (sym c.as_slice-2.ensures.value) ∙ c.in-Some.ensures.start in
-    let whole = looks c.self.inside.procs.codes core.sites c.self.inside.book.starts.items h c.self.invariant.0.kept.legal c.self.invariant.0.starts c.args.dc start site r begin there c.in-Some-redo.is in
+    let whole = looks c.self.inside.procs.codes core.sites c.self.inside.book.starts.items h
+    c.self.invariant.0.kept.legal c.self.invariant.0.starts c.args.dc start site r begin there c.in-Some-redo.is in
     let next : to_redo h c.args.dc r.redone ≡ None = sym whole
     ∙ c.in-None.ensures.none in
     sym (redo_is core c.args.dc site r None there c.in-Some-redo.is next) ∙ ap (λ (x : Core). redo_reply x c.args.dc) c.self.view_is

@@ -24,7 +24,8 @@ returns-in_default-find_done-clause-accepted c =
     ap (λ (xs : List Site). slice_get xs c.args.dc) (sym c.as_slice.ensures.value) ∙ c.in-Some.ensures.site in
     let begin : slice_get c.self.inside.book.starts.items c.args.dc ≡ Some start =
     ap (λ (xs : List ℕ). slice_get xs c.args.dc) (sym c.as_slice-2.ensures.value) ∙ c.in-Some.ensures.start in
-    let whole = looks c.self.inside.procs.codes core.sites c.self.inside.book.starts.items h c.self.invariant.0.kept.legal c.self.invariant.0.starts c.args.dc start site r begin there c.in-Some-redo.is in
+    let whole = looks c.self.inside.procs.codes core.sites c.self.inside.book.starts.items h
+    c.self.invariant.0.kept.legal c.self.invariant.0.starts c.args.dc start site r begin there c.in-Some-redo.is in
     let next : to_redo h c.args.dc r.redone ≡ None = sym whole
     ∙ (c.in_default-find_done.ensures.none) in (
       λ e. absurd cc,
@@ -45,7 +46,8 @@ returns-then-not-is_said-clause-accepted c =
     ap (λ (xs : List Site). slice_get xs c.args.dc) (sym c.as_slice.ensures.value) ∙ c.in-Some.ensures.site in
     let begin : slice_get c.self.inside.book.starts.items c.args.dc ≡ Some start =
     ap (λ (xs : List ℕ). slice_get xs c.args.dc) (sym c.as_slice-2.ensures.value) ∙ c.in-Some.ensures.start in
-    let whole = looks c.self.inside.procs.codes core.sites c.self.inside.book.starts.items h c.self.invariant.0.kept.legal c.self.invariant.0.starts c.args.dc start site r begin there c.in-Some-redo.is in
+    let whole = looks c.self.inside.procs.codes core.sites c.self.inside.book.starts.items h
+    c.self.invariant.0.kept.legal c.self.invariant.0.starts c.args.dc start site r begin there c.in-Some-redo.is in
     let next : to_redo h c.args.dc r.redone ≡ Some c.in-Some-find_done.answered = sym whole
     ∙ c.in-Some-find_done.ensures.found in (
       λ e. absurd cc,
@@ -90,7 +92,8 @@ returns-clause-accepted c =
     ap (λ (xs : List Site). slice_get xs c.args.dc) (sym c.as_slice.ensures.value) ∙ c.in-Some.ensures.site in
     let begin : slice_get c.self.inside.book.starts.items c.args.dc ≡ Some start =
     ap (λ (xs : List ℕ). slice_get xs c.args.dc) (sym c.as_slice-2.ensures.value) ∙ c.in-Some.ensures.start in
-    let whole = looks c.self.inside.procs.codes core.sites c.self.inside.book.starts.items h c.self.invariant.0.kept.legal c.self.invariant.0.starts c.args.dc start site r begin there c.in-Some-redo.is in
+    let whole = looks c.self.inside.procs.codes core.sites c.self.inside.book.starts.items h
+    c.self.invariant.0.kept.legal c.self.invariant.0.starts c.args.dc start site r begin there c.in-Some-redo.is in
     let next : to_redo h c.args.dc r.redone ≡ Some c.in-Some-find_done.answered = sym whole
     ∙ c.in-Some-find_done.ensures.found in
     let said = c.is_said.ensures.0 c.if-not-is_said.false in (

@@ -5,7 +5,7 @@ use Rattle.data_component.specs.Store.{Store, restarted}
 use Rattle.tc_core.proofs.KeptLemmas.{slice_get-index}
 use Rattle.coming_back.specs.Coming.{HasOnlyRows}
 use Rattle.coming_back.proofs.RenewLemmas.{mapped, mapped_none, mapped_all, mapped_get, mapped_next}
-use Rattle.coming_back.proofs.renewing.restart_all.Goals as goal
+use Rattle.coming_back.proofs.restarting.restart_all.Goals as goal
 
 pub loop-dc-init : goal.loop-dc-init
 loop-dc-init c = sym (mapped_none restarted c.args.dcs.now)
