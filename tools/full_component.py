@@ -1,33 +1,40 @@
 #!/usr/bin/env python3
 """Runs reads over a data component that is full, ten times as many the second time: each call beyond its room is in doubt
-by the rule, `--stats` names the component and its count, and the run takes its time in proportion.
+by the rule, `--stats` names the component and its count, and the run takes a processor's time in proportion.
 
 usage: tools/full_component.py [--procd PATH] [--reads N]
 
-Where the time grew with the square of the calls, the second run would take a hundred times as long. The status is 1
-where something was wrong.
+Where the time grew with the square of the calls, the second run would take a hundred times as much. It is counted in
+processors' time, which other work on the machine doesn't lengthen as it does the clock's. The status is 1 where something
+was wrong.
 """
 import argparse
 import re
+import resource
 import sys
-import time
 
 from built import PROCD
 from trying import Program
 
 ROOM = 1000  # operations that it has room for
-MOST = 40  # times as long at most: four times what proportion asks for, on a machine that does other work too
+MOST = 40  # times as much at most: four times what proportion asks for
 SCRIPT = f"dc 10 {ROOM}\nproc look 1\nslot read 0 0 $0\n mov r1, 0\n call 1\n mov r0, 0\n exit\nend\n"
 
 
+def spent():
+    """The processors' time, in seconds, that programs which have ended took."""
+    it = resource.getrusage(resource.RUSAGE_CHILDREN)
+    return it.ru_utime + it.ru_stime
+
+
 def seconds_of(program, reads, faults):
-    """How long so many reads took, the least of two runs."""
+    """The processors' time that so many reads took, the least of two runs."""
     script = (SCRIPT + "".join(f"call look {i % 7}\n" for i in range(reads))).encode()
     least = float("inf")
     for _ in range(2):
-        began = time.monotonic()
+        before = spent()
         ran = program.run(["run", "--stats", "--workers", "4", "-"], script)
-        least = min(least, time.monotonic() - began)
+        least = min(least, spent() - before)
         full = b"full dc 0 %d operations\n" % ROOM
         if ran.status != 0 or not ran.err.endswith(full):
             faults.append(f"{reads} reads: status {ran.status}, and {ran.err!r} doesn't end with {full!r}")
@@ -48,10 +55,11 @@ def main():
     faults, program = [], Program(asked.procd, None)
     few, many = (seconds_of(program, n, faults) for n in (asked.reads, 10 * asked.reads))
     if many > MOST * few:
-        faults.append(f"{asked.reads} reads took {few:.2f} s and {10 * asked.reads} took {many:.2f} s")
+        faults.append(f"{asked.reads} reads took a processor {few:.2f} s and {10 * asked.reads} took {many:.2f} s")
     for fault in faults:
         print(fault)
-    print(f"full_component: {asked.reads} reads in {few:.2f} s, ten times as many in {many:.2f} s, {'nothing' if not faults else len(faults)} wrong")
+    wrong = len(faults) if faults else "nothing"
+    print(f"full_component: {asked.reads} reads in {few:.2f} s of a processor, ten times as many in {many:.2f} s, {wrong} wrong")
     return bool(faults)
 
 
